@@ -1,0 +1,4 @@
+pub mod Grammar
+pub mod Parsed
+pub mod Tokens
+pub mod Trees

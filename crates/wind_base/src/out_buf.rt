@@ -1,0 +1,93 @@
+//! A buffer of bytes whose room is taken ahead.
+
+ghost use Rattle.std.specs.Prelude.{◌≡◌, ◌+◌, ◌^◌, ◌<◌, ◌≤◌, ◌↔◌, [], ◌++◌, length, IfOk, OnOk, OnErr, IsErr};
+ghost use Rattle.wind_base.specs.OutBuf.{appended};
+
+use crate::{Full, NoMemory};
+use std::alloc::Global;
+use std::marker::Model;
+
+/// Bytes, and room for more. What fits the room is added without taking memory.
+#[derive(Drop)]
+pub struct OutBuf {
+    bytes: Vec<u8>,
+    room: usize,
+}
+
+impl Model for OutBuf {
+    ghost use Rattle.std.specs.Prelude.{◌+◌, ◌≤◌, vec_capacity, vec_len};
+    ghost use Rattle.wind_base.specs.OutBuf.{Output};
+
+    ghost Value = { Output };
+
+    ghost view = { λ o. record { bytes = o.bytes.items; room = o.room } };
+
+    ghost invariant = { λ o. vec_len o.bytes + o.room ≤ vec_capacity o.bytes };
+}
+
+impl OutBuf {
+    /// An empty buffer with room for this many bytes.
+    pub fn reserved(alloc: Global, room: u32) -> Result<OutBuf, NoMemory>
+        ensures { IfOk result (λ out. out ≡ record { bytes = []; room = room }) }
+    {
+        let Ok(bytes) = Vec::with_capacity(alloc, room as usize) else {
+            return Err(NoMemory);
+        };
+        Ok(OutBuf {
+            bytes,
+            room: room as usize,
+        })
+    }
+
+    /// Adds the piece. Nothing changes where it exceeds the room left.
+    pub fn put(&mut self, piece: &[u8]) -> Result<(), Full>
+        ensures full { IsErr result ↔ (self.old.room < length piece.now) }
+        ensures ok { OnOk result (self.new ≡ appended self.old piece.now) }
+        ensures err { OnErr result (self.new ≡ self.old) }
+    {
+        if piece.len() > self.room {
+            return Err(Full);
+        }
+        if self.bytes.extend_from_slice(piece).is_err() {
+            return Err(Full);
+        }
+        self.room -= piece.len();
+        Ok(())
+    }
+
+    /// Makes room for this many more bytes.
+    pub fn grow(&mut self, more: u32) -> Result<(), NoMemory>
+        requires { self.old.room + more < 2 ^ 63 }
+        ensures ok { OnOk result (self.new ≡ record self.old { room = self.old.room + more }) }
+        ensures err { OnErr result (self.new ≡ self.old) }
+    {
+        let room = self.room + more as usize;
+        if self.bytes.reserve(room).is_err() {
+            return Err(NoMemory);
+        }
+        self.room = room;
+        Ok(())
+    }
+
+    /// Drops the bytes, whose room is free again.
+    pub fn clear(&mut self)
+        ensures { self.new ≡ record { bytes = []; room = self.old.room + length self.old.bytes } }
+    {
+        self.room += self.bytes.len();
+        self.bytes.clear();
+    }
+
+    /// The bytes held.
+    pub fn bytes(&self) -> &[u8]
+        ensures { result.now ≡ self.now.bytes }
+    {
+        &self.bytes
+    }
+
+    /// How many more bytes fit.
+    pub fn room(&self) -> usize
+        ensures { result ≡ self.now.room }
+    {
+        self.room
+    }
+}

@@ -1,0 +1,7 @@
+pub mod Calls
+pub mod Counts
+pub mod Devices
+pub mod Files
+pub mod MemFolder
+pub mod MemSink
+pub mod Told

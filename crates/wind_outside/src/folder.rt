@@ -1,0 +1,40 @@
+//! Folders of files.
+
+ghost use Rattle.std.specs.Prelude.{◌≡◌, ℕ, ◌≤◌, Option, IfSome};
+ghost use Rattle.wind_outside.specs.Counts.{Rose};
+ghost use Rattle.wind_outside.specs.Files.{Files, IsFetchOf};
+ghost use Rattle.wind_outside.specs.declared.folder.Fetched.TheVariants as fetched;
+
+use std::alloc::Global;
+
+/// What a fetch answers.
+#[derive(Debug, Drop)]
+pub enum Fetched {
+    /// The file's bytes.
+    Found(Vec<u8>),
+    /// There is no such file.
+    Missing,
+    /// The file is longer than the limit.
+    TooLong,
+    /// Reading failed, and was counted as a fault.
+    Failed,
+    /// Host memory ran out.
+    NoMemory,
+}
+
+/// A folder of files.
+///
+/// A contract sees its files, which it may leave untold, and a count of its faults. The count never
+/// falls, and stands still at 2^64 - 1.
+pub trait Folder {
+    ghost files: { Self → Option Files };
+
+    ghost faults: { Self → ℕ };
+
+    /// Fetches a whole file of at most `limit` bytes.
+    fn fetch(&mut self, alloc: Global, name: &str, limit: u32) -> Fetched
+        ensures kept { files self.new ≡ files self.old }
+        ensures told { IfSome (files self.old) (λ held. IsFetchOf (held name.now) limit result) }
+        ensures failed { result ≡ fetched.Failed → Rose (faults self.old) (faults self.new) }
+        ensures never_falls { faults self.old ≤ faults self.new };
+}
