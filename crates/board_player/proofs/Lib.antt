@@ -1,0 +1,4 @@
+pub mod FeedLemmas
+pub mod Hex
+pub mod Kept
+pub mod Lines

@@ -1,0 +1,33 @@
+-- How the console file comes in chunks.
+use Rattle.std.specs.Prelude.{ℕ, ◌+◌, List, [], ◌∷◌, ◌++◌, Option, Some, None, Bool, true, false, ◌==◌, ◌||◌, nat_lt, if◌then◌else◌, take, drop, length}
+use Rattle.std.specs.List.{position}
+
+-- a byte that ends a line: 0x0A or 0x0D
+abbrev pub is_end : ℕ → Bool
+is_end b = b == 10 || b == 13
+
+-- the first end of a line among the next 4096 bytes
+abbrev pub first_end : List ℕ → Option ℕ
+first_end left = position is_end (take 4096 left)
+
+-- how many bytes of the file a chunk takes: through the first end of a line, else as many as may come at once
+abbrev pub taken_by : Option ℕ → ℕ
+taken_by (Some k) = k + 1
+taken_by None = 4096
+
+-- whether the last byte of the file is taken without an end of its line
+abbrev pub is_unended : Option ℕ → List ℕ → Bool
+is_unended (Some k) left = false
+is_unended None left = if nat_lt 4096 (length left) then false else true
+
+-- the end that is supplied then
+abbrev pub supplied : Bool → List ℕ
+supplied true = 10 ∷ []
+supplied false = []
+
+-- the next chunk of these bytes, and the bytes left behind it
+abbrev pub chunk : List ℕ → List ℕ
+chunk left = take (taken_by (first_end left)) left ++ supplied (is_unended (first_end left) left)
+
+abbrev pub after_chunk : List ℕ → List ℕ
+after_chunk left = drop (taken_by (first_end left)) left

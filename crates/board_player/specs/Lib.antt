@@ -1,0 +1,10 @@
+pub mod Console
+pub mod Feed
+pub mod Good
+pub mod Inside
+pub mod Machine
+pub mod Run
+pub mod Seen
+pub mod Shell
+pub mod State
+pub mod Text

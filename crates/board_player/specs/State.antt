@@ -1,0 +1,30 @@
+-- The state of the wind machine, as plain data.
+use Rattle.std.specs.Prelude.{ℕ, List, Option, Bool}
+use Rattle.wind_outside.specs.Devices.{DeviceState}
+use Rattle.shell_parse.specs.Trees.{PlainStmt}
+use Rattle.board_player.specs.declared.phase.Phase.{Phase}
+
+-- the console: the line that is edited, the mark that the last byte was 0x0D, and the finished lines, each with its 0x0A
+pub record ConsoleState : Type 0 where
+  pub edited : List ℕ
+  pub after_return : Bool
+  pub finished : List ℕ
+
+-- the shell: its phase, whether it waits for the console, and the statements left, of which the first is evaluated next
+pub record ShellState : Type 0 where
+  pub phase : Phase
+  pub waits : Bool
+  pub stmts : List PlainStmt
+
+-- the wind machine
+pub record State : Type 0 where
+  -- the bytes of the console file that have not come yet
+  pub left : List ℕ
+  pub console : ConsoleState
+  pub shell : ShellState
+  -- board time, and how many steps were made
+  pub time : ℕ
+  pub steps : ℕ
+  -- the bytes that the last step wrote
+  pub output : List ℕ
+  pub slots : List (Option DeviceState)

@@ -1,0 +1,37 @@
+//! Board time, and the count of steps.
+
+ghost use Rattle.std.specs.Prelude.{◌≡◌, ◌+◌, ◌<◌, ◌^◌};
+
+/// Board time, and how many steps were made.
+#[derive(Clone, Copy, Debug, PartialEq, Eq)]
+pub struct Clock {
+    pub(crate) time: u128,
+    pub(crate) steps: u64,
+}
+
+impl Clock {
+    /// Board time before the first step.
+    pub(crate) fn new() -> Clock
+        ensures { result ≡ record { time = 0; steps = 0 } }
+    {
+        Clock { time: 0, steps: 0 }
+    }
+
+    /// A step that takes board time.
+    pub(crate) fn step(&mut self)
+        requires time { self.old.time < 10 ^ 12 }
+        requires steps { self.old.steps < 10 ^ 12 }
+        ensures { self.new ≡ record { time = self.old.time + 1; steps = self.old.steps + 1 } }
+    {
+        self.time += 1;
+        self.steps += 1;
+    }
+
+    /// An event, which is a step that leaves board time.
+    pub(crate) fn event(&mut self)
+        requires { self.old.steps < 10 ^ 12 }
+        ensures { self.new ≡ record self.old { steps = self.old.steps + 1 } }
+    {
+        self.steps += 1;
+    }
+}

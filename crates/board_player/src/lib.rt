@@ -1,0 +1,27 @@
+//! The board: the wind machine's state, and one step of it at a time.
+#![tactic(auto)]
+
+mod arrival;
+mod board;
+mod clock;
+mod console;
+mod feed;
+mod machine;
+mod phase;
+mod shell;
+mod text;
+
+pub use board::Board;
+pub use machine::{Machine, step_law};
+pub use phase::Phase;
+
+/// What a call for the next step answers.
+#[derive(Clone, Copy, Debug, PartialEq, Eq)]
+pub enum Step {
+    /// The step was made.
+    Stepped,
+    /// There is no further step.
+    Quiet,
+    /// Host memory ran out. The board is as it was before.
+    NoMemory,
+}

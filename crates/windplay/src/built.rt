@@ -1,0 +1,63 @@
+//! Which consoles are built.
+
+ghost use Rattle.std.specs.Prelude.{◌≡◌, ◌≤◌, IfOk, length};
+ghost use Rattle.std.specs.List.{list_all};
+ghost use Rattle.shell_parse.specs.Grammar.{read_line};
+ghost use Rattle.board_player.specs.Console.{line_length};
+ghost use Rattle.windplay.specs.Built.{is_printable, has_tree as has_tree_lem, is_built as is_built_lem, unbuilt_line};
+
+use shell_parse::{ParseErr, parse};
+use std::alloc::Global;
+use wind_base::NoMemory;
+use wind_base::limits::LINE_BYTES;
+
+// Whether the grammar that is built has a tree of the line.
+fn has_tree(alloc: Global, line: &[u8]) -> Result<bool, NoMemory>
+    requires { length line.now ≤ 255 }
+    ensures { IfOk result (λ built. built ≡ has_tree_lem (read_line line.now)) }
+{
+    match parse(alloc, line) {
+        Ok(_) => Ok(true),
+        Err(ParseErr::Syntax(_)) => Ok(false),
+        Err(ParseErr::NoMemory) => Err(NoMemory),
+    }
+}
+
+fn all_printable(line: &[u8]) -> bool
+    ensures { result ≡ list_all is_printable line.now }
+{
+    line.iter().all(|byte| 0x20 <= *byte && *byte <= 0x7e)
+}
+
+// Whether a line is built.
+fn is_built(alloc: Global, line: &[u8]) -> Result<bool, NoMemory>
+    ensures { IfOk result (λ built. built ≡ is_built_lem line.now) }
+{
+    if line.len() > LINE_BYTES || !all_printable(line) {
+        return Ok(false);
+    }
+    has_tree(alloc, line)
+}
+
+// How many bytes come before the first end of a line.
+fn line_len(bytes: &[u8]) -> usize
+    ensures exact { result ≡ line_length bytes.now }
+    ensures inside { result ≤ length bytes.now }
+{
+    bytes.iter().take_while(|byte| **byte != b'\n').count()
+}
+
+/// The first line of a console that is not built, counted from 1.
+#[tactic(auto, unfolding(crate::specs::Built::unbuilt_line))]
+pub(crate) fn first_unbuilt(alloc: Global, console: &[u8]) -> Result<Option<u64>, NoMemory>
+    ensures { IfOk result (λ line. line ≡ unbuilt_line console.now) }
+{
+    let len = line_len(console);
+    if !is_built(alloc, &console[..len])? {
+        return Ok(Some(1));
+    }
+    if len + 1 < console.len() {
+        return Ok(Some(2));
+    }
+    Ok(None)
+}

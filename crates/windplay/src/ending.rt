@@ -1,0 +1,80 @@
+//! How a session ends.
+
+ghost use Rattle.std.specs.Prelude.{◌≡◌};
+
+use board_player::Board;
+use wind_outside::Slots;
+
+/// The files that a session names.
+#[derive(Clone, Copy, Debug, PartialEq, Eq)]
+pub enum Which {
+    /// The console file.
+    Console,
+}
+
+/// What is not built yet.
+#[derive(Clone, Copy, Debug, PartialEq, Eq)]
+pub enum Unbuilt {
+    /// A line of the console file, counted from 1.
+    Line(u64),
+}
+
+/// The status of a session.
+#[derive(Clone, Copy, Debug, PartialEq, Eq)]
+pub enum Status {
+    /// The run ended with no step left.
+    Quiet,
+    /// The words are not the command's.
+    Usage,
+    /// A file is not there.
+    Absent(Which),
+    /// The limit of steps was reached.
+    Limit,
+    /// Reading failed.
+    ReadFault,
+    /// Writing failed.
+    WriteFault,
+    /// Host memory ran out.
+    NoMemory,
+    /// A file is too long.
+    TooLong(Which),
+    /// A file asks for what is not built yet.
+    NotBuilt(Unbuilt),
+}
+
+impl Status {
+    ghost use Rattle.windplay.specs.Status.{number_of};
+
+    /// The number with which the program ends.
+    pub fn number(self) -> u8
+        ensures { result ≡ number_of self }
+    {
+        match self {
+            Status::Quiet => 0,
+            Status::Usage => 1,
+            Status::Absent(_) => 2,
+            Status::Limit => 3,
+            Status::ReadFault => 4,
+            Status::WriteFault => 5,
+            Status::NoMemory => 6,
+            Status::TooLong(_) => 8,
+            Status::NotBuilt(_) => 9,
+        }
+    }
+}
+
+/// What is left of the board.
+#[derive(Drop)]
+pub enum Stand {
+    /// No board was booted; the devices as they were.
+    NotBooted(Slots),
+    /// The board, as the run left it.
+    Booted(Board),
+}
+
+/// How a session ended.
+#[derive(Drop)]
+pub struct Ending {
+    pub status: Status,
+    pub stand: Stand,
+}
