@@ -20,6 +20,11 @@ IsFetchOf file limit fetched.TooLong = IsSomeAnd file (λ bytes. limit < length 
 IsFetchOf file limit fetched.Failed = Unit {0}
 IsFetchOf file limit fetched.NoMemory = Unit {0}
 
+-- a file that is found has at most so many bytes, also where the files are untold
+abbrev pub IsWithin : ℕ → Fetched → Type 0
+IsWithin limit (fetched.Found bytes) = length bytes.items ≤ limit
+IsWithin limit _ = Unit {0}
+
 -- whether a fetch failed
 abbrev pub is_failed : Fetched → Bool
 is_failed fetched.Failed = true

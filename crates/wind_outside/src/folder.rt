@@ -2,7 +2,7 @@
 
 ghost use Rattle.std.specs.Prelude.{◌≡◌, ℕ, ◌≤◌, Option, IfSome};
 ghost use Rattle.wind_outside.specs.Counts.{Rose};
-ghost use Rattle.wind_outside.specs.Files.{Files, IsFetchOf};
+ghost use Rattle.wind_outside.specs.Files.{Files, IsFetchOf, IsWithin};
 ghost use Rattle.wind_outside.specs.declared.folder.Fetched.TheVariants as fetched;
 
 use std::alloc::Global;
@@ -35,6 +35,7 @@ pub trait Folder {
     fn fetch(&mut self, alloc: Global, name: &str, limit: u32) -> Fetched
         ensures kept { files self.new ≡ files self.old }
         ensures told { IfSome (files self.old) (λ held. IsFetchOf (held name.now) limit result) }
+        ensures within { IsWithin limit result }
         ensures failed { result ≡ fetched.Failed → Rose (faults self.old) (faults self.new) }
         ensures never_falls { faults self.old ≤ faults self.new };
 }

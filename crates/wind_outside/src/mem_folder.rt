@@ -3,7 +3,7 @@
 ghost use Rattle.std.specs.Prelude.{◌≡◌, ◌≤◌, ◌↔◌, ℕ, List, Some, None, IfSome, OnOk, OnErr, Contains};
 ghost use Rattle.wind_outside.specs.Calls.{counted};
 ghost use Rattle.wind_outside.specs.Counts.{Rose};
-ghost use Rattle.wind_outside.specs.Files.{IsFetchOf, is_failed, with_file};
+ghost use Rattle.wind_outside.specs.Files.{IsFetchOf, IsWithin, is_failed, with_file};
 ghost use Rattle.wind_outside.specs.declared.folder.Fetched.TheVariants as fetched;
 
 use crate::calls::Calls;
@@ -62,6 +62,7 @@ impl Folder for MemFolder {
     fn fetch(&mut self, alloc: Global, name: &str, limit: u32) -> Fetched
         ensures kept { Some (files_of self.new) ≡ Some (files_of self.old) }
         ensures told { IfSome (Some (files_of self.old)) (λ held. IsFetchOf (held name.now) limit result) }
+        ensures within { IsWithin limit result }
         ensures failed { result ≡ fetched.Failed → Rose (calls_of self.old).faults (calls_of self.new).faults }
         ensures never_falls { (calls_of self.old).faults ≤ (calls_of self.new).faults }
 
