@@ -9,6 +9,8 @@ mod feed;
 mod machine;
 mod phase;
 mod shell;
+#[cfg(test)]
+mod tests;
 mod text;
 
 pub use board::Board;

@@ -8,7 +8,7 @@ ghost use Rattle.shell_parse.specs.Parsed.{IsReading, IsFirstRefused};
 
 use crate::token::{Placed, Token, tokens};
 use crate::tree::{Stmt, Tree};
-use std::alloc::{AllocError, Global};
+use std::alloc::{AllocError, AllocFailed, Global};
 use wind_base::NoMemory;
 
 /// Why a line has no statements.
@@ -27,6 +27,16 @@ impl From<AllocError> for ParseErr {
     ghost from_gives = { λ _ e. e ≡ NoMemory };
 
     fn from(_: AllocError) -> ParseErr {
+        ParseErr::NoMemory
+    }
+}
+
+impl<T: Drop> From<AllocFailed<T>> for ParseErr {
+    ghost use Rattle.shell_parse.specs.declared.grammar.ParseErr.TheVariants.{NoMemory};
+
+    ghost from_gives = { λ _ e. e ≡ NoMemory };
+
+    fn from(_: AllocFailed<T>) -> ParseErr {
         ParseErr::NoMemory
     }
 }
@@ -127,13 +137,48 @@ pub fn parse(alloc: Global, line: &[u8]) -> Result<Vec<Stmt>, ParseErr>
 {
     let tokens = tokens(alloc, line)?;
     match statement(alloc, &tokens)? {
-        Some(stmt) => {
-            let mut stmts = Vec::new(alloc);
-            if stmts.push(stmt).is_err() {
-                return Err(ParseErr::NoMemory);
-            }
-            Ok(stmts)
-        }
+        Some(stmt) => Ok(vec![in alloc; stmt]?),
         None => Err(ParseErr::Syntax(column(line, &tokens, begun_len(&tokens)))),
+    }
+}
+
+#[cfg(test)]
+mod tests {
+    use super::*;
+    use std::test::Fail;
+
+    // What is refused, and at which column.
+    #[test]
+    fn refuses_the_first_wrong_token(rt: HostRuntime) -> Result<(), Fail> {
+        for (line, column) in [
+            ("1+", 3),
+            ("1 2", 3),
+            (" +1", 2),
+            ("01", 1),
+            ("1a", 1),
+            ("1 + x", 5),
+            ("1++2", 2),
+            ("1 + 2 - 3", 7),
+            ("4294967296", 1),
+            ("\"1\"", 1),
+        ] {
+            match parse(rt.alloc(), line.as_bytes()) {
+                Err(error) => assert_eq!(rt; error, ParseErr::Syntax(column), "{line}"),
+                Ok(_) => assert!(rt; false, "{line}"),
+            }
+        }
+        Ok(())
+    }
+
+    #[test]
+    fn reads_with_ample_memory(rt: HostRuntime) -> Result<(), Fail> {
+        for line in ["", " \t", "0", "4294967295", "1+2", " 7\t- 9 "] {
+            assert_eq!(rt;
+                parse(rt.alloc(), line.as_bytes()).map(|stmts| stmts.len()),
+                Ok(1),
+                "{line}"
+            );
+        }
+        Ok(())
     }
 }

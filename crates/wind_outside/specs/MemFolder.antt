@@ -1,5 +1,4 @@
 -- What a folder in memory shows.
-use Rattle.std.specs.Prelude.{List, ℕ, Option}
 use Rattle.std.specs.Option.{option_map}
 use Rattle.std.specs.BTreeMap.{get_by_text}
 use Rattle.wind_outside.specs.Calls.{CallLog}

@@ -103,3 +103,30 @@ impl<P: Print + Drop> Sink for HostSink<P> {
         Put::Done
     }
 }
+
+#[cfg(test)]
+mod tests {
+    use super::*;
+    use std::env;
+    use std::test::Fail;
+
+    // The answers of a real directory: a file at its limit and above it, none, and a directory.
+    #[test]
+    fn fetches_real_files(rt: HostRuntime) -> Result<(), Fail> {
+        let alloc = rt.alloc();
+        let directory = env::temp_dir(&rt)?;
+        let directory = directory.as_path().to_str().ok_or("no text")?;
+        let file = format!(in alloc; "{directory}/windplay_fetches_real_files")?;
+        fs::write(&rt, file.as_str(), b"hello".as_slice())?;
+        let mut folder = HostFolder::new(rt);
+        match folder.fetch(alloc, &file, 5) {
+            Fetched::Found(bytes) => assert_eq!(rt; bytes.as_slice(), b"hello".as_slice()),
+            _ => assert!(rt; false, "not found"),
+        }
+        assert!(rt; matches!(folder.fetch(alloc, &file, 4), Fetched::TooLong));
+        assert!(rt; matches!(folder.fetch(alloc, directory, 5), Fetched::Failed));
+        fs::remove_file(&rt, file.as_str())?;
+        assert!(rt; matches!(folder.fetch(alloc, &file, 5), Fetched::Missing));
+        Ok(())
+    }
+}

@@ -84,3 +84,25 @@ impl Folder for MemFolder {
         }
     }
 }
+
+#[cfg(test)]
+mod tests {
+    use super::*;
+    use std::test::Fail;
+
+    #[test]
+    fn keeps_files_with_ample_memory(rt: HostRuntime) -> Result<(), Fail> {
+        let alloc = rt.alloc();
+        let mut folder = MemFolder::new(alloc, [2].to_vec(alloc)?);
+        folder.add("a", b"old".to_vec(alloc)?).or(Err("memory"))?;
+        folder.add("a", b"new".to_vec(alloc)?).or(Err("memory"))?;
+        match folder.fetch(alloc, "a", 3) {
+            Fetched::Found(bytes) => assert_eq!(rt; bytes.as_slice(), b"new".as_slice()),
+            _ => assert!(rt; false, "not found"),
+        }
+        assert!(rt; matches!(folder.fetch(alloc, "a", 3), Fetched::Failed));
+        assert!(rt; matches!(folder.fetch(alloc, "a", 2), Fetched::TooLong));
+        assert!(rt; matches!(folder.fetch(alloc, "b", 3), Fetched::Missing));
+        Ok(())
+    }
+}

@@ -33,8 +33,8 @@ impl MemSink {
     /// 1, that fail.
     pub fn reserved(alloc: Global, room: u32, failing: Vec<u64>) -> Result<MemSink, NoMemory>
         ensures { IfOk result (λ s. s ≡ record {
-            out = record { bytes = []; room = room };
-            calls = record { failing = failing.items; made = 0; faults = 0 }
+          out = record { bytes = []; room = room };
+          calls = record { failing = failing.items; made = 0; faults = 0 };
         }) }
     {
         let out = OutBuf::reserved(alloc, room)?;

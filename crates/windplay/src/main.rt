@@ -6,6 +6,8 @@ mod built;
 mod ending;
 mod play;
 mod run;
+#[cfg(test)]
+mod tests;
 
 use ending::Status;
 use play::play;
