@@ -1,5 +1,5 @@
 -- What the words and the console file ask for.
-use Rattle.std.proofs.Common.{◌≡◌, ◌≢◌, ℕ, zero, suc, ◌<◌, ◌≤◌, List, [], ◌∷◌, Option, Some, None, true, false, refl, sym, ◌∙◌, ap, arith, length}
+use Rattle.std.proofs.Common.{◌≡◌, ℕ, zero, suc, ◌<◌, ◌≤◌, List, [], ◌∷◌, Option, Some, None, true, false, refl, sym, ◌∙◌, ap, arith, length}
 use Rattle.std.specs.Prelude.{IfSome, IsSomeAnd, nat_lt, if◌then◌else◌}
 use Rattle.std.proofs.lemmas.Bool.Decides.{nat_tests}
 use Rattle.wind_outside.specs.Files.{Files, IsFetchOf}
@@ -18,27 +18,15 @@ some_entry (Some held) name = (held name, refl)
 pub some_plan : (files : Option Files) (words : List (List ℕ)) → (plan : Plan) × IsPlan files words plan
 some_plan files words = let entry = some_entry files console_name in (plan_of words entry.0, record { file = entry.0; told = entry.1; plan_is = refl })
 
--- one word is the command's, and no other number of words
-command_one : (words : List (List ℕ)) → length words ≡ 1 → is_command words ≡ true
-command_one [] e = absurd (omega arith)
-command_one (w ∷ []) e = refl
-command_one (w ∷ v ∷ ws) e = absurd (omega arith)
-
-command_other : (words : List (List ℕ)) → length words ≢ 1 → is_command words ≡ false
-command_other [] e = refl
-command_other (w ∷ []) e = absurd (e refl)
-command_other (w ∷ v ∷ ws) e = refl
-
 -- other words are refused, whatever the folder holds
-pub plan_usage : (files : Option Files) (words : List (List ℕ)) → length words ≢ 1 → IsPlan files words (Refuse status.Usage)
+pub plan_usage : (files : Option Files) (words : List (List ℕ)) → is_command words ≡ false → IsPlan files words (Refuse status.Usage)
 plan_usage files words e =
     let entry = some_entry files console_name in
-    record { file = entry.0; told = entry.1; plan_is = sym (ap (λ t. if t then plan_file entry.0 else Refuse status.Usage) (command_other words e)) }
+    record { file = entry.0; told = entry.1; plan_is = sym (ap (λ t. if t then plan_file entry.0 else Refuse status.Usage) e) }
 
 -- with the command's words, the plan is that of the file
-plan_with : (files : Option Files) (words : List (List ℕ)) (file : Option (List ℕ)) (plan : Plan) → length words ≡ 1 → IsEntry files console_name file → plan ≡ plan_file file → IsPlan files words plan
-plan_with files words file plan e told is =
-    record { file = file; told = told; plan_is = is ∙ sym (ap (λ t. if t then plan_file file else Refuse status.Usage) (command_one words e)) }
+plan_with : (files : Option Files) (words : List (List ℕ)) (file : Option (List ℕ)) (plan : Plan) → is_command words ≡ true → IsEntry files console_name file → plan ≡ plan_file file → IsPlan files words plan
+plan_with files words file plan e told is = record { file = file; told = told; plan_is = is ∙ sym (ap (λ t. if t then plan_file file else Refuse status.Usage) e) }
 
 -- the file that a fetch found is the folder's, where it tells
 found_entry : (files : Option Files) (bytes : List ℕ) → IfSome files (λ held. (held console_name ≡ Some bytes) × (length bytes ≤ 1048576)) → IsEntry files console_name (Some bytes)
@@ -64,14 +52,14 @@ long_entry : (files : Option Files) → IfSome files (λ held. IsSomeAnd (held c
 long_entry None h = let xs = some_list 1048577 in (Some xs.0, tt, omega (arith, xs.1))
 long_entry (Some held) h = (held console_name, refl, h)
 
-pub plan_missing : (files : Option Files) (words : List (List ℕ)) → length words ≡ 1 → IfSome files (λ held. IsFetchOf (held console_name) 1048576 fetched.Missing) → IsPlan files words (Refuse (status.Absent which.Console))
+pub plan_missing : (files : Option Files) (words : List (List ℕ)) → is_command words ≡ true → IfSome files (λ held. IsFetchOf (held console_name) 1048576 fetched.Missing) → IsPlan files words (Refuse (status.Absent which.Console))
 plan_missing files words e h = plan_with files words None _ e (missing_entry files h) refl
 
-pub plan_too_long : (files : Option Files) (words : List (List ℕ)) → length words ≡ 1 → IfSome files (λ held. IsFetchOf (held console_name) 1048576 fetched.TooLong) → IsPlan files words (Refuse (status.TooLong which.Console))
+pub plan_too_long : (files : Option Files) (words : List (List ℕ)) → is_command words ≡ true → IfSome files (λ held. IsFetchOf (held console_name) 1048576 fetched.TooLong) → IsPlan files words (Refuse (status.TooLong which.Console))
 plan_too_long files words e h = let entry = long_entry files h in plan_with files words entry.0 _ e entry.1 (long_file entry.0 entry.2)
 
 -- a file within the limit is planned by its first line that is not built; here the fetch tells that limit also for a file that is untold
-pub plan_found : (files : Option Files) (words : List (List ℕ)) (bytes : List ℕ) → length words ≡ 1 → length bytes ≤ 1048576 → IfSome files (λ held. (held console_name ≡ Some bytes) × (length bytes ≤ 1048576))
+pub plan_found : (files : Option Files) (words : List (List ℕ)) (bytes : List ℕ) → is_command words ≡ true → length bytes ≤ 1048576 → IfSome files (λ held. (held console_name ≡ Some bytes) × (length bytes ≤ 1048576))
     → IsPlan files words (plan_built bytes (unbuilt_line bytes))
 plan_found files words bytes e short h =
     let within : nat_lt 1048576 (length bytes) ≡ false = grind (arith, nat_tests) in

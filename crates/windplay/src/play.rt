@@ -1,9 +1,9 @@
 //! Plays a session.
 
-ghost use Rattle.std.specs.Prelude.{◌≡◌, ◌≢◌, ◌≤◌, Some, None, IfOk, IfErr, map, length};
+ghost use Rattle.std.specs.Prelude.{◌≡◌, ◌≤◌, ◌↔◌, true, false, IfOk, IfErr, MatchResult, map, length};
 ghost use Rattle.wind_outside.specs.Counts.{Rose};
 ghost use Rattle.wind_outside.specs.Devices.{slots_of};
-ghost use Rattle.windplay.specs.Plan.{Start, IsPlan};
+ghost use Rattle.windplay.specs.Plan.{Start, IsPlan, is_command as is_command_lem};
 ghost use Rattle.windplay.specs.Headline.{Plays, Refuses, IsComplete, status_of as status_of_lem};
 ghost use Rattle.windplay.specs.declared.ending.Status.TheVariants as status;
 ghost use Rattle.windplay.specs.declared.ending.Stand.TheVariants as stands;
@@ -41,14 +41,22 @@ fn status_of(end: RunEnd) -> Status
     }
 }
 
+// Whether the words are the command's: the program's name alone.
+fn is_command(words: &[&str]) -> bool
+    ensures { result ≡ is_command_lem (map (λ w. w.now) words.now) }
+{
+    matches!(words, [_])
+}
+
 // The console to play, or why none is played.
 fn console_of<F: Folder>(alloc: Global, words: &[&str], folder: &mut F) -> Result<Vec<u8>, Status>
     ensures start { IfOk result (λ console. IsPlan (F.files folder.old) (map (λ w. w.now) words.now) (Start console.items)) }
     ensures refused { IfErr result (λ s. Refuses s (F.files folder.old) (map (λ w. w.now) words.now) (Rose (F.faults folder.old) (F.faults folder.new))) }
+    ensures usage { MatchResult result (λ _. is_command_lem (map (λ w. w.now) words.now) ≡ true) (λ s. (s ≡ status.Usage) ↔ (is_command_lem (map (λ w. w.now) words.now) ≡ false)) }
     ensures files { F.files folder.new ≡ F.files folder.old }
     ensures faults { F.faults folder.old ≤ F.faults folder.new }
 {
-    if words.len() != 1 {
+    if !is_command(words) {
         return Err(Status::Usage);
     }
     match folder.fetch(alloc, "console.txt", TEXT_FILE_BYTES) {
@@ -77,6 +85,7 @@ pub fn play<'a, F: Folder, O: Sink, E: Sink>(
 ) -> Ending
     requires { length devices.items ≤ 16 }
     ensures machine { Plays ⟦<Board as Machine>⟧.state result (map (λ w. w.now) words.now) (F.files folder.old) (Rose (F.faults folder.old) (F.faults folder.new)) devices (slots_of kind_of words_of devices.items) (O.bytes out.old) (O.bytes out.new) }
+    ensures usage { (result.status ≡ status.Usage) ↔ (is_command_lem (map (λ w. w.now) words.now) ≡ false) }
     ensures complete { IsComplete result.status (map (λ w. w.now) words.now) (F.files folder.old) (Rose (F.faults folder.old) (F.faults folder.new)) (Rose (O.faults out.old) (O.faults out.new)) }
     ensures write_fault { result.status ≡ status.WriteFault → Rose (O.faults out.old) (O.faults out.new) }
     ensures files { F.files folder.new ≡ F.files folder.old }

@@ -1,5 +1,4 @@
-use Rattle.std.proofs.Common.{◌≡◌, ◌≢◌, ℕ, List, Bor, map, length, refl, sym, ◌∙◌, ap}
-use Rattle.std.proofs.lemmas.List.{length-map}
+use Rattle.std.proofs.Common.{ℕ, List, Bor, map, refl, sym, ◌∙◌, ap}
 use Rattle.windplay.specs.Built.{unbuilt_line}
 use Rattle.windplay.specs.Plan.{Refuse, plan_built}
 use Rattle.windplay.specs.declared.ending.Status.TheVariants as status
@@ -11,27 +10,22 @@ use Rattle.windplay.proofs.play.console_of.Goals as goal
 abbrev texts : List (Bor (List ℕ)) → List (List ℕ)
 texts words = map (λ w. w.now) words
 
-one_text : (words : List (Bor (List ℕ))) → length words ≡ 1 → length (texts words) ≡ 1
-one_text words e = length-map words (λ (w : Bor (List ℕ)). w.now) ∙ e
-
-other_texts : (words : List (Bor (List ℕ))) → length words ≢ 1 → length (texts words) ≢ 1
-other_texts words e = λ h. e (sym (length-map words (λ (w : Bor (List ℕ)). w.now)) ∙ h)
-
-pub returns-then-words-ne1-clause-refused : goal.returns-then-words-ne1-clause-refused
-returns-then-words-ne1-clause-refused g c = (Refuse status.Usage, plan_usage (g.F.Folder.files c.args.folder.now) (texts c.args.words.now) (other_texts c.args.words.now c.if-words-ne1.true), refl)
+pub returns-then-not-is_command-clause-refused : goal.returns-then-not-is_command-clause-refused
+returns-then-not-is_command-clause-refused g c =
+    (Refuse status.Usage, plan_usage (g.F.Folder.files c.args.folder.now) (texts c.args.words.now) (sym c.if-not-is_command.ensures), refl)
 
 pub returns-in-Ok-None-clause-start : goal.returns-in-Ok-None-clause-start
 returns-in-Ok-None-clause-start g c =
     let line = sym c.in-Ok-None.field-0-is ∙ c.in-Ok-None.ensures ∙ ap unbuilt_line c.deref.ensures.value in
     rw (ap (plan_built c.in-Found.console.items) line)
-    (plan_found (g.F.Folder.files c.args.folder.now) (texts c.args.words.now) c.in-Found.console.items (one_text c.args.words.now c.if-words-ne1.false) c.in-Found.ensures.within c.in-Found.ensures.told)
+    (plan_found (g.F.Folder.files c.args.folder.now) (texts c.args.words.now) c.in-Found.console.items (sym c.if-not-is_command.ensures) c.in-Found.ensures.within c.in-Found.ensures.told)
 
 pub returns-in-Ok-Some-clause-refused : goal.returns-in-Ok-Some-clause-refused
 returns-in-Ok-Some-clause-refused g c =
     let line = sym c.in-Ok-Some.field-0-is ∙ c.in-Ok-Some.ensures ∙ ap unbuilt_line c.deref.ensures.value in
     let bytes = c.in-Found.console.items in (
       plan_built bytes (unbuilt_line bytes),
-      plan_found (g.F.Folder.files c.args.folder.now) (texts c.args.words.now) bytes (one_text c.args.words.now c.if-words-ne1.false) c.in-Found.ensures.within c.in-Found.ensures.told,
+      plan_found (g.F.Folder.files c.args.folder.now) (texts c.args.words.now) bytes (sym c.if-not-is_command.ensures) c.in-Found.ensures.within c.in-Found.ensures.told,
       sym (ap (plan_built bytes) line),
     )
 
@@ -40,11 +34,11 @@ returns-in-Err-clause-refused g c = let plan = some_plan (g.F.Folder.files c.arg
 
 pub returns-in-Missing-clause-refused : goal.returns-in-Missing-clause-refused
 returns-in-Missing-clause-refused g c =
-    (Refuse (status.Absent which.Console), plan_missing (g.F.Folder.files c.args.folder.now) (texts c.args.words.now) (one_text c.args.words.now c.if-words-ne1.false) c.in-Missing.ensures.told, refl)
+    (Refuse (status.Absent which.Console), plan_missing (g.F.Folder.files c.args.folder.now) (texts c.args.words.now) (sym c.if-not-is_command.ensures) c.in-Missing.ensures.told, refl)
 
 pub returns-in-TooLong-clause-refused : goal.returns-in-TooLong-clause-refused
 returns-in-TooLong-clause-refused g c =
-    (Refuse (status.TooLong which.Console), plan_too_long (g.F.Folder.files c.args.folder.now) (texts c.args.words.now) (one_text c.args.words.now c.if-words-ne1.false) c.in-TooLong.ensures.told, refl)
+    (Refuse (status.TooLong which.Console), plan_too_long (g.F.Folder.files c.args.folder.now) (texts c.args.words.now) (sym c.if-not-is_command.ensures) c.in-TooLong.ensures.told, refl)
 
 pub returns-in-Failed-clause-refused : goal.returns-in-Failed-clause-refused
 returns-in-Failed-clause-refused g c = let plan = some_plan (g.F.Folder.files c.args.folder.now) (texts c.args.words.now) in (plan.0, plan.1, c.in-Failed.ensures.failed refl)
