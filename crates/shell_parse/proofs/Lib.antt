@@ -1,3 +1,2 @@
 pub mod Lexing
-pub mod Numerals
 pub mod Refusal

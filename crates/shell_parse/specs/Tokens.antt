@@ -1,8 +1,8 @@
 -- The tokens of a line. This is the project's own narrowing of the shell's lexical rules.
-use Rattle.std.specs.Prelude.{ℕ, zero, suc, ◌+◌, ◌^◌, List, [], ◌∷◌, Option, Some, None, Bool, false, ◌==◌, ◌&&◌, ◌||◌, not, nat_lt, if◌then◌else◌, length, take}
-use Rattle.std.specs.Char.{is_ascii_alphanumeric, is_ascii_digit}
-use Rattle.std.specs.Str.Parse.{digits_value}
-use Rattle.std.specs.List.{prefix_len, list_all}
+use Rattle.std.specs.Prelude.{ℕ, zero, suc, ◌+◌, List, [], ◌∷◌, Option, Some, None, Bool, false, ◌==◌, ◌||◌, if◌then◌else◌, take}
+use Rattle.std.specs.Char.{is_ascii_alphanumeric}
+use Rattle.std.specs.List.{prefix_len}
+use Rattle.wind_base.specs.Decimal.{decimal_value}
 use Rattle.shell_parse.specs.declared.tree.BinOp.{BinOp}
 use Rattle.shell_parse.specs.declared.tree.BinOp.TheVariants.{Plus, Minus}
 use Rattle.shell_parse.specs.declared.token.Token.{Token}
@@ -22,17 +22,9 @@ abbrev pub has_leading_zero : List ℕ → Bool
 has_leading_zero (b ∷ c ∷ bs) = b == 48
 has_leading_zero _ = false
 
--- a decimal numeral: some digits, without a leading zero
-abbrev pub is_numeral : List ℕ → Bool
-is_numeral word = not (length word == 0) && (not (has_leading_zero word) && list_all is_ascii_digit word)
-
--- the number that digits write, where it is one of 32 bits
-abbrev pub number_of : List ℕ → Option ℕ
-number_of digits = if nat_lt (digits_value 10 digits) (2 ^ 32) then Some (digits_value 10 digits) else None
-
--- the number that a word writes
-abbrev pub decimal_value : List ℕ → Option ℕ
-decimal_value word = if is_numeral word then number_of word else None
+-- the number that a word writes, if it is one of 32 bits without a leading zero
+abbrev pub word_value : List ℕ → Option ℕ
+word_value word = if has_leading_zero word then None else decimal_value 0xffffffff word
 
 -- a word is its number, if it writes one
 abbrev pub number_token : Option ℕ → Token
@@ -40,7 +32,7 @@ number_token (Some n) = Number n
 number_token None = Unknown
 
 abbrev pub word_token : List ℕ → Token
-word_token word = number_token (decimal_value word)
+word_token word = number_token (word_value word)
 
 -- an operator of the byte b, unless the byte or a `=` follows: `++`, `--`, `+=` and `-=` are other tokens
 abbrev pub operator_token : ℕ → BinOp → List ℕ → Token

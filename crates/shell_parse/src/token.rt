@@ -1,13 +1,12 @@
 //! The tokens of a line.
 
-ghost use Rattle.std.specs.Prelude.{◌≡◌, ◌<◌, ◌≤◌, ◌+◌, ◌∷◌, IfOk, IsTrue, length, drop};
-ghost use Rattle.std.specs.Char.{is_ascii_digit};
-ghost use Rattle.std.specs.List.{prefix_len, list_all};
-ghost use Rattle.shell_parse.specs.Tokens.{is_blank as is_blank_lem, is_word_byte as is_word_byte_lem, has_leading_zero as has_leading_zero_lem, is_numeral as is_numeral_lem, number_of as number_of_lem, decimal_value, operator_token, word_token, token_at, token_rest, tokens_of};
+ghost use Rattle.std.specs.Prelude.{◌≡◌, ◌<◌, ◌≤◌, ◌+◌, ◌∷◌, IfOk, length, drop};
+ghost use Rattle.std.specs.List.{prefix_len};
+ghost use Rattle.shell_parse.specs.Tokens.{is_blank as is_blank_lem, is_word_byte as is_word_byte_lem, has_leading_zero as has_leading_zero_lem, word_value, operator_token, word_token, token_at, token_rest, tokens_of};
 
 use crate::tree::BinOp;
 use std::alloc::{AllocError, Global};
-use std::str;
+use wind_base::decimal;
 
 /// A token.
 #[derive(Clone, Copy, Debug, PartialEq, Eq)]
@@ -48,12 +47,6 @@ fn word_len(bytes: &[u8]) -> usize
     bytes.iter().take_while(|byte| is_word_byte(**byte)).count()
 }
 
-fn all_digits(word: &[u8]) -> bool
-    ensures { result ≡ list_all is_ascii_digit word.now }
-{
-    word.iter().all(|byte| byte.is_ascii_digit())
-}
-
 fn has_leading_zero(word: &[u8]) -> bool
     ensures { result ≡ has_leading_zero_lem word.now }
 {
@@ -63,32 +56,16 @@ fn has_leading_zero(word: &[u8]) -> bool
     }
 }
 
-// Whether a word is a decimal numeral without a leading zero.
-fn is_numeral(word: &[u8]) -> bool
-    ensures { result ≡ is_numeral_lem word.now }
+// The number that a word writes, if it is one of 32 bits without a leading zero.
+fn number(word: &[u8]) -> Option<u32>
+    ensures { result ≡ word_value word.now }
 {
-    !word.is_empty() && !has_leading_zero(word) && all_digits(word)
-}
-
-// The number of a numeral, where it is one of 32 bits.
-fn number_of(numeral: &[u8]) -> Option<u32>
-    requires { IsTrue (is_numeral_lem numeral.now) }
-    ensures { result ≡ number_of_lem numeral.now }
-{
-    match str::from_utf8(numeral) {
-        Ok(text) => text.parse::<u32>().ok(),
-        Err(_) => None,
+    if has_leading_zero(word) {
+        return None;
     }
-}
-
-// The number that a word writes.
-fn decimal(word: &[u8]) -> Option<u32>
-    ensures { result ≡ decimal_value word.now }
-{
-    if is_numeral(word) {
-        number_of(word)
-    } else {
-        None
+    match decimal(word, u32::MAX as u64) {
+        Some(n) => Some(n as u32),
+        None => None,
     }
 }
 
@@ -106,7 +83,7 @@ fn operator(byte: u8, op: BinOp, rest: &[u8]) -> Token
 fn word(word: &[u8]) -> Token
     ensures { result ≡ word_token word.now }
 {
-    match decimal(word) {
+    match number(word) {
         Some(n) => Token::Number(n),
         None => Token::Unknown,
     }

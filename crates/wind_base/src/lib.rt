@@ -3,8 +3,10 @@
 #![tactic(auto)]
 
 pub mod limits;
+mod number;
 mod out_buf;
 
+pub use number::decimal;
 pub use out_buf::OutBuf;
 use std::fmt;
 

@@ -1,2 +1,4 @@
+pub mod LineLemmas
 pub mod PlanLemmas
 pub mod RunLemmas
+pub mod ToldLemmas

@@ -1,18 +1,13 @@
 -- Laws on the runs of the wind machine.
-use Rattle.std.proofs.Common.{◌≡◌, ◌≢◌, ℕ, suc, ◌+◌, ◌<◌, List, [], ◌++◌, Option, Some, None, refl, sym, ◌∙◌, ap, subst, append_assoc, arith, below_more, add-one}
+use Rattle.std.proofs.Common.{◌≡◌, ◌≢◌, ℕ, suc, ◌+◌, ◌<◌, List, [], ◌++◌, Option, Some, refl, sym, ◌∙◌, ap, subst, arith, below_more, add-one}
 use Rattle.std.specs.Prelude.{unwrap_or, IsSome, take}
-use Rattle.std.specs.Option.{option_map}
 use Rattle.wind_outside.specs.Told.{Appended, AppendedFront}
 use Rattle.board_player.specs.State.{State}
 use Rattle.board_player.specs.Machine.{machine_step}
 use Rattle.board_player.specs.Run.{after, text, IsPart}
 use Rattle.windplay.specs.Runs.{Ran}
+use Rattle.windplay.proofs.ToldLemmas.{appended_both}
 use Rattle.windplay.specs.declared.run.RunEnd.TheVariants as ends
-
--- two pieces, one after the other
-pub appended_both : (old mid new : Option (List ℕ)) (a b : List ℕ) → Appended old mid a → Appended mid new b → Appended old new (a ++ b)
-appended_both None mid new a b p q = q ∙ ap (option_map (λ bytes. bytes ++ b)) p
-appended_both (Some x) mid new a b p q = q ∙ ap (option_map (λ bytes. bytes ++ b)) p ∙ ap Some (append_assoc x a b)
 
 -- the state after one more step
 pub after_more : (s t : State) (i : ℕ) → machine_step (after s i) ≡ Some t → t ≡ after s (suc i)

@@ -1,8 +1,16 @@
 -- Which consoles are built.
-use Rattle.std.specs.Prelude.{ℕ, ◌+◌, List, Option, Some, None, Bool, true, false, ◌&&◌, nat_lt, nat_le, if◌then◌else◌, length, take}
+use Rattle.std.specs.Prelude.{ℕ, ◌+◌, List, [], ◌∷◌, Option, Some, None, Bool, true, false, ◌&&◌, ◌==◌, nat_le, if◌then◌else◌, length}
 use Rattle.std.specs.List.{list_all}
 use Rattle.shell_parse.specs.Grammar.{Reading, Statements, Refused, read_line}
-use Rattle.board_player.specs.Console.{line_length}
+
+-- the lines of a console, split at each 0x0A
+abbrev pub byte_before : ℕ → List (List ℕ) → List (List ℕ)
+byte_before b [] = (b ∷ []) ∷ []
+byte_before b (line ∷ lines) = (b ∷ line) ∷ lines
+
+abbrev pub split_lines : List ℕ → List (List ℕ)
+split_lines [] = [] ∷ []
+split_lines (b ∷ bs) = if b == 10 then [] ∷ split_lines bs else byte_before b (split_lines bs)
 
 -- a byte from 0x20 to 0x7E
 abbrev pub is_printable : ℕ → Bool
@@ -14,11 +22,14 @@ has_tree (Statements stmts) = true
 has_tree (Refused column) = false
 
 -- a built line: at most 255 printable bytes, which the grammar reads
-abbrev pub is_built : List ℕ → Bool
+unfoldable pub is_built : List ℕ → Bool
 is_built line = nat_le (length line) 255 && (list_all is_printable line && has_tree (read_line line))
 
--- the first line of a console that is not built, counted from 1: the first line where it is not; else the second, where a byte stands behind the first 0x0A
+-- the number of the first of these lines that is not built, where the first has number n
+abbrev pub unbuilt_from : ℕ → List (List ℕ) → Option ℕ
+unbuilt_from n [] = None
+unbuilt_from n (line ∷ lines) = if is_built line then unbuilt_from (n + 1) lines else Some n
+
+-- the first line of a console that is not built, counted from 1
 unfoldable pub unbuilt_line : List ℕ → Option ℕ
-unbuilt_line console = if is_built (take (line_length console) console)
-    then (if nat_lt (line_length console + 1) (length console) then Some 2 else None)
-    else Some 1
+unbuilt_line console = unbuilt_from 1 (split_lines console)

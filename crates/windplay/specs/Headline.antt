@@ -8,7 +8,8 @@ use Rattle.board_player.specs.State.{State}
 use Rattle.board_player.specs.declared.board.Board.{Board}
 use Rattle.board_player.specs.Machine.{opening}
 use Rattle.windplay.specs.Runs.{Ran}
-use Rattle.windplay.specs.Plan.{Plan, Refuse, Start, IsPlan, plan_of, console_name}
+use Rattle.windplay.specs.Command.{CommandState}
+use Rattle.windplay.specs.Plan.{Plan, Refuse, Start, IsFilePlan, IsPlan, plan_of}
 use Rattle.windplay.specs.declared.run.RunEnd.{RunEnd}
 use Rattle.windplay.specs.declared.run.RunEnd.TheVariants as ends
 use Rattle.windplay.specs.declared.ending.Status.{Status}
@@ -26,9 +27,9 @@ IsRefusal status.Limit plan rose = ⊥
 IsRefusal status.WriteFault plan rose = ⊥
 IsRefusal s plan rose = plan ≡ Refuse s
 
--- the status refuses what the words and the console file ask for
-abbrev pub Refuses : Status → Option Files → List (List ℕ) → Type 0 → Type 0
-Refuses s files words rose = (plan : Plan) × IsPlan files words plan × IsRefusal s plan rose
+-- the status refuses what a command and its console file ask for
+abbrev pub Refuses : Status → Option Files → CommandState → Type 0 → Type 0
+Refuses s files command rose = (plan : Plan) × IsFilePlan files command plan × IsRefusal s plan rose
 
 -- the status of a run
 abbrev pub status_of : RunEnd → Status
@@ -38,27 +39,28 @@ status_of ends.WriteFault = status.WriteFault
 status_of ends.NoMemory = status.NoMemory
 
 -- how many steps a session makes at most
-abbrev pub step_limit : ℕ
-step_limit = 1000000
+abbrev pub limit_of : Option CommandState → ℕ
+limit_of None = 0
+limit_of (Some command) = command.limit
 
 -- a board was played: it is that of the wind machine, started with the console and these devices
-pub record Played (s : Status) (plan : Plan) (devices : List (Option DeviceState)) (board : State) (old new : Option (List ℕ)) : Type 0 where
+pub record Played (s : Status) (plan : Plan) (limit : ℕ) (devices : List (Option DeviceState)) (board : State) (old new : Option (List ℕ)) : Type 0 where
   pub end : RunEnd
   pub status_is : s ≡ status_of end
   pub console : List ℕ
   pub planned : plan ≡ Start console
-  pub ran : Ran end (opening console devices) step_limit board old new
+  pub ran : Ran end (opening console devices) limit board old new
 
 -- what is left: the slots as they were and nothing written, or the board of a run
-abbrev pub Leaves : {I : Type 0} {X : I → Type 0} → (Board I X → State) → Status → Stand I X → Plan → Type 0 → Vec (Option (DynBox I Global X)) Global → List (Option DeviceState) → Option (List ℕ) → Option (List ℕ) → Type 0
-Leaves state s (stands.NotBooted back) plan rose slots devices old new = (back ≡ slots) × (new ≡ old) × IsRefusal s plan rose
-Leaves state s (stands.Booted board) plan rose slots devices old new = Played s plan devices (state board) old new
+abbrev pub Leaves : {I : Type 0} {X : I → Type 0} → (Board I X → State) → Status → Stand I X → Plan → ℕ → Type 0 → Vec (Option (DynBox I Global X)) Global → List (Option DeviceState) → Option (List ℕ) → Option (List ℕ) → Type 0
+Leaves state s (stands.NotBooted back) plan limit rose slots devices old new = (back ≡ slots) × (new ≡ old) × IsRefusal s plan rose
+Leaves state s (stands.Booted board) plan limit rose slots devices old new = Played s plan limit devices (state board) old new
 
--- playing these words leaves what the wind machine leaves; `rose` says that the folder's count of faults rose
-pub record Plays {I : Type 0} {X : I → Type 0} (state : Board I X → State) (ending : Ending I X) (words : List (List ℕ)) (files : Option Files) (rose : Type 0) (slots : Vec (Option (DynBox I Global X)) Global) (devices : List (Option DeviceState)) (old new : Option (List ℕ)) : Type 0 where
+-- playing a command leaves what the wind machine leaves; `rose` says that the folder's count of faults rose
+pub record Plays {I : Type 0} {X : I → Type 0} (state : Board I X → State) (ending : Ending I X) (command : Option CommandState) (files : Option Files) (rose : Type 0) (slots : Vec (Option (DynBox I Global X)) Global) (devices : List (Option DeviceState)) (old new : Option (List ℕ)) : Type 0 where
   pub plan : Plan
-  pub planned : IsPlan files words plan
-  pub leaves : Leaves state ending.status ending.stand plan rose slots devices old new
+  pub planned : IsPlan files command plan
+  pub leaves : Leaves state ending.status ending.stand plan (limit_of command) rose slots devices old new
 
 -- a status of a session that was played, or for which memory was short
 abbrev pub IsPlayed : Status → Type 0
@@ -67,7 +69,9 @@ IsPlayed status.Limit = Unit {0}
 IsPlayed status.NoMemory = Unit {0}
 IsPlayed s = ⊥
 
--- with a told folder that holds a console to play, and no fault, the session is played
-abbrev pub IsComplete : Status → List (List ℕ) → Option Files → Type 0 → Type 0 → Type 0
-IsComplete s words None folder_rose out_rose = Unit {0}
-IsComplete s words (Some held) folder_rose out_rose = (console : List ℕ) → plan_of words (held console_name) ≡ Start console → (folder_rose → ⊥) → (out_rose → ⊥) → IsPlayed s
+-- with a command, a told folder that holds a console to play, and no fault, the session is played
+abbrev pub IsComplete : Status → Option CommandState → Option Files → Type 0 → Type 0 → Type 0
+IsComplete s None files folder_rose out_rose = Unit {0}
+IsComplete s (Some command) None folder_rose out_rose = Unit {0}
+IsComplete s (Some command) (Some held) folder_rose out_rose =
+    (console : List ℕ) → plan_of (held command.console) ≡ Start console → (folder_rose → ⊥) → (out_rose → ⊥) → IsPlayed s

@@ -1,5 +1,8 @@
 pub mod Built
+pub mod Command
 pub mod Headline
 pub mod Plan
 pub mod Runs
 pub mod Status
+pub mod Texts
+pub mod Words

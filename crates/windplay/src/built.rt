@@ -1,6 +1,6 @@
 //! Which consoles are built.
 
-ghost use Rattle.std.specs.Prelude.{◌≡◌, ◌≤◌, IfOk, length};
+ghost use Rattle.std.specs.Prelude.{◌≡◌, ◌≤◌, ◌<◌, ◌^◌, ◌+◌, IfOk, length, drop};
 ghost use Rattle.std.specs.List.{list_all};
 ghost use Rattle.shell_parse.specs.Grammar.{read_line};
 ghost use Rattle.board_player.specs.Console.{line_length};
@@ -30,6 +30,7 @@ fn all_printable(line: &[u8]) -> bool
 }
 
 // Whether a line is built.
+#[tactic(auto, unfolding(crate::specs::Built::is_built))]
 fn is_built(alloc: Global, line: &[u8]) -> Result<bool, NoMemory>
     ensures { IfOk result (λ built. built ≡ is_built_lem line.now) }
 {
@@ -47,17 +48,32 @@ fn line_len(bytes: &[u8]) -> usize
     bytes.iter().take_while(|byte| **byte != b'\n').count()
 }
 
+// The bytes behind the first n.
+fn behind(bytes: &[u8], n: usize) -> &[u8]
+    requires { n ≤ length bytes.now }
+    ensures value { result.now ≡ drop n bytes.now }
+    ensures len { length result.now + n ≡ length bytes.now }
+{
+    &bytes[n..]
+}
+
 /// The first line of a console that is not built, counted from 1.
 #[tactic(auto, unfolding(crate::specs::Built::unbuilt_line))]
 pub(crate) fn first_unbuilt(alloc: Global, console: &[u8]) -> Result<Option<u64>, NoMemory>
+    requires { length console.now < 2 ^ 63 }
     ensures { IfOk result (λ line. line ≡ unbuilt_line console.now) }
 {
-    let len = line_len(console);
-    if !is_built(alloc, &console[..len])? {
-        return Ok(Some(1));
+    let mut left = console;
+    let mut number = 1;
+    loop {
+        let len = line_len(left);
+        if !is_built(alloc, &left[..len])? {
+            return Ok(Some(number));
+        }
+        if len == left.len() {
+            return Ok(None);
+        }
+        left = behind(left, len + 1);
+        number += 1;
     }
-    if len + 1 < console.len() {
-        return Ok(Some(2));
-    }
-    Ok(None)
 }

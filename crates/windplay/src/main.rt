@@ -3,57 +3,56 @@
 #![tactic(auto)]
 
 mod built;
+mod command;
 mod ending;
 mod play;
+mod report;
 mod run;
 #[cfg(test)]
 mod tests;
 
 use ending::Status;
 use play::play;
+use report::tell_no_memory;
 use std::env;
 use std::io::ErrorKind;
 use std::process::ExitCode;
-use wind_outside::{HostFolder, HostSink};
+use wind_base::NoMemory;
+use wind_outside::{HostFolder, HostSink, Sink};
 
-// The words of the command line; where they are no text, they are not the command's.
-fn words(rt: &HostRuntime) -> Result<Vec<String>, Status> {
+// The words of the command line; none at all, which is no command, where they are no text.
+fn words(rt: &HostRuntime) -> Result<Vec<String>, NoMemory> {
     match env::args(rt) {
-        Ok(args) => args.collect(rt.alloc()).or(Err(Status::NoMemory)),
-        Err(error) if error.kind() == ErrorKind::OutOfMemory => Err(Status::NoMemory),
-        Err(_) => Err(Status::Usage),
+        Ok(args) => args.collect(rt.alloc()).or(Err(NoMemory)),
+        Err(error) if error.kind() == ErrorKind::OutOfMemory => Err(NoMemory),
+        Err(_) => Ok(Vec::new(rt.alloc())),
     }
 }
 
 // Plays the session in the directory that the program runs in, with the standard streams and no
 // device.
-fn session(rt: HostRuntime) -> Status {
+fn session<E: Sink>(rt: HostRuntime, err: &mut E) -> Result<Status, NoMemory> {
     let alloc = rt.alloc();
-    let args = match words(&rt) {
-        Ok(args) => args,
-        Err(status) => return status,
-    };
-    let Ok(words) = args
+    let args = words(&rt)?;
+    let words = args
         .iter()
         .map(|word| word.as_str())
         .collect::<Vec<&str>>(alloc)
-    else {
-        return Status::NoMemory;
-    };
+        .or(Err(NoMemory))?;
     let mut out = HostSink::new(rt.stdout());
-    let mut err = HostSink::new(rt.stderr());
     let mut folder = HostFolder::new(rt);
-    play(
-        alloc,
-        &words,
-        &mut folder,
-        &mut out,
-        &mut err,
-        Vec::new(alloc),
-    )
-    .status
+    let ending = play(alloc, &words, &mut folder, &mut out, err, Vec::new(alloc));
+    Ok(ending.status)
 }
 
 fn main(rt: HostRuntime) -> ExitCode {
-    ExitCode::from(session(rt).number())
+    let mut err = HostSink::new(rt.stderr());
+    let status = match session(rt, &mut err) {
+        Ok(status) => status,
+        Err(NoMemory) => {
+            tell_no_memory(&mut err);
+            Status::NoMemory
+        }
+    };
+    ExitCode::from(status.number())
 }

@@ -1,23 +1,25 @@
 //! Plays a session.
 
-ghost use Rattle.std.specs.Prelude.{◌≡◌, ◌≤◌, ◌↔◌, true, false, IfOk, IfErr, MatchResult, map, length};
+ghost use Rattle.std.specs.Prelude.{◌≡◌, ◌≢◌, ◌≤◌, ◌^◌, ◌↔◌, Some, None, IfOk, IfErr, map, length};
 ghost use Rattle.wind_outside.specs.Counts.{Rose};
 ghost use Rattle.wind_outside.specs.Devices.{slots_of};
-ghost use Rattle.windplay.specs.Plan.{Start, IsPlan, is_command as is_command_lem};
+ghost use Rattle.windplay.specs.Command.{command_of as command_of_lem};
+ghost use Rattle.windplay.specs.Words.{command_state};
+ghost use Rattle.windplay.specs.Plan.{Start, IsFilePlan};
 ghost use Rattle.windplay.specs.Headline.{Plays, Refuses, IsComplete, status_of as status_of_lem};
+ghost use Rattle.windplay.specs.Texts.{text_of, IsTold};
 ghost use Rattle.windplay.specs.declared.ending.Status.TheVariants as status;
 ghost use Rattle.windplay.specs.declared.ending.Stand.TheVariants as stands;
 
 use crate::built::first_unbuilt;
+use crate::command::{Command, command_of};
 use crate::ending::{Ending, Stand, Status, Unbuilt, Which};
+use crate::report::{tell, tell_usage};
 use crate::run::{RunEnd, run_machine};
 use board_player::{Board, Machine};
 use std::alloc::Global;
 use wind_base::limits::TEXT_FILE_BYTES;
 use wind_outside::{Device, Fetched, Folder, Sink, Slots};
-
-/// How many steps a session makes at most.
-pub const STEPS: u64 = 1_000_000;
 
 // A session without a board.
 fn refused(status: Status, devices: Slots) -> Ending
@@ -41,25 +43,19 @@ fn status_of(end: RunEnd) -> Status
     }
 }
 
-// Whether the words are the command's: the program's name alone.
-fn is_command(words: &[&str]) -> bool
-    ensures { result ≡ is_command_lem (map (λ w. w.now) words.now) }
-{
-    matches!(words, [_])
-}
-
 // The console to play, or why none is played.
-fn console_of<F: Folder>(alloc: Global, words: &[&str], folder: &mut F) -> Result<Vec<u8>, Status>
-    ensures start { IfOk result (λ console. IsPlan (F.files folder.old) (map (λ w. w.now) words.now) (Start console.items)) }
-    ensures refused { IfErr result (λ s. Refuses s (F.files folder.old) (map (λ w. w.now) words.now) (Rose (F.faults folder.old) (F.faults folder.new))) }
-    ensures usage { MatchResult result (λ _. is_command_lem (map (λ w. w.now) words.now) ≡ true) (λ s. (s ≡ status.Usage) ↔ (is_command_lem (map (λ w. w.now) words.now) ≡ false)) }
+fn console_of<F: Folder>(
+    alloc: Global,
+    command: &Command,
+    folder: &mut F,
+) -> Result<Vec<u8>, Status>
+    ensures start { IfOk result (λ console. IsFilePlan (F.files folder.old) (command_state command.now) (Start console.items)) }
+    ensures refused { IfErr result (λ s. Refuses s (F.files folder.old) (command_state command.now) (Rose (F.faults folder.old) (F.faults folder.new))) }
+    ensures known { IfErr result (λ s. s ≢ status.Usage) }
     ensures files { F.files folder.new ≡ F.files folder.old }
     ensures faults { F.faults folder.old ≤ F.faults folder.new }
 {
-    if !is_command(words) {
-        return Err(Status::Usage);
-    }
-    match folder.fetch(alloc, "console.txt", TEXT_FILE_BYTES) {
+    match folder.fetch(alloc, command.console, TEXT_FILE_BYTES) {
         Fetched::Found(console) => match first_unbuilt(alloc, &console) {
             Ok(None) => Ok(console),
             Ok(Some(line)) => Err(Status::NotBuilt(Unbuilt::Line(line))),
@@ -72,9 +68,40 @@ fn console_of<F: Folder>(alloc: Global, words: &[&str], folder: &mut F) -> Resul
     }
 }
 
+// Plays the session of a command.
+fn session<F: Folder, O: Sink>(
+    alloc: Global,
+    command: &Command,
+    folder: &mut F,
+    out: &mut O,
+    devices: Slots,
+) -> Ending
+    requires devices { length devices.items ≤ 16 }
+    requires limit { command.now.limit ≤ 10 ^ 12 }
+    ensures machine { Plays ⟦<Board as Machine>⟧.state result (Some (command_state command.now)) (F.files folder.old) (Rose (F.faults folder.old) (F.faults folder.new)) devices (slots_of kind_of words_of devices.items) (O.bytes out.old) (O.bytes out.new) }
+    ensures complete { IsComplete result.status (Some (command_state command.now)) (F.files folder.old) (Rose (F.faults folder.old) (F.faults folder.new)) (Rose (O.faults out.old) (O.faults out.new)) }
+    ensures known { result.status ≢ status.Usage }
+    ensures write_fault { result.status ≡ status.WriteFault → Rose (O.faults out.old) (O.faults out.new) }
+    ensures files { F.files folder.new ≡ F.files folder.old }
+{
+    let console = match console_of(alloc, command, folder) {
+        Ok(console) => console,
+        Err(status) => return refused(status, devices),
+    };
+    let mut board = match Board::boot(alloc, devices, console) {
+        Ok(board) => board,
+        Err(devices) => return refused(Status::NoMemory, devices),
+    };
+    let end = run_machine(&mut board, out, command.limit);
+    Ending {
+        status: status_of(end),
+        stand: Stand::Booted(board),
+    }
+}
+
 /// Plays the session that the words ask for: fetches the console file from the folder, boots a board
 /// with the devices, and runs it until there is no further step, the limit is reached or a put fails.
-/// What the steps write goes to `out`.
+/// What the steps write goes to `out`, and a text that tells how the session ended to `err`.
 pub fn play<'a, F: Folder, O: Sink, E: Sink>(
     alloc: Global,
     words: &'a [&'a str],
@@ -84,25 +111,18 @@ pub fn play<'a, F: Folder, O: Sink, E: Sink>(
     devices: Slots,
 ) -> Ending
     requires { length devices.items ≤ 16 }
-    ensures machine { Plays ⟦<Board as Machine>⟧.state result (map (λ w. w.now) words.now) (F.files folder.old) (Rose (F.faults folder.old) (F.faults folder.new)) devices (slots_of kind_of words_of devices.items) (O.bytes out.old) (O.bytes out.new) }
-    ensures usage { (result.status ≡ status.Usage) ↔ (is_command_lem (map (λ w. w.now) words.now) ≡ false) }
-    ensures complete { IsComplete result.status (map (λ w. w.now) words.now) (F.files folder.old) (Rose (F.faults folder.old) (F.faults folder.new)) (Rose (O.faults out.old) (O.faults out.new)) }
+    ensures machine { Plays ⟦<Board as Machine>⟧.state result (command_of_lem (map (λ w. w.now) words.now)) (F.files folder.old) (Rose (F.faults folder.old) (F.faults folder.new)) devices (slots_of kind_of words_of devices.items) (O.bytes out.old) (O.bytes out.new) }
+    ensures usage { (result.status ≡ status.Usage) ↔ (command_of_lem (map (λ w. w.now) words.now) ≡ None) }
+    ensures complete { IsComplete result.status (command_of_lem (map (λ w. w.now) words.now)) (F.files folder.old) (Rose (F.faults folder.old) (F.faults folder.new)) (Rose (O.faults out.old) (O.faults out.new)) }
     ensures write_fault { result.status ≡ status.WriteFault → Rose (O.faults out.old) (O.faults out.new) }
     ensures files { F.files folder.new ≡ F.files folder.old }
-    ensures err { err.new ≡ err.old }
+    ensures err { IsTold (E.bytes err.old) (E.bytes err.new) (text_of (command_of_lem (map (λ w. w.now) words.now)) result.status) (Rose (E.faults err.old) (E.faults err.new)) }
 {
-    let _ = err;
-    let console = match console_of(alloc, words, folder) {
-        Ok(console) => console,
-        Err(status) => return refused(status, devices),
+    let Some(command) = command_of(words) else {
+        tell_usage(err);
+        return refused(Status::Usage, devices);
     };
-    let mut board = match Board::boot(alloc, devices, console) {
-        Ok(board) => board,
-        Err(devices) => return refused(Status::NoMemory, devices),
-    };
-    let end = run_machine(&mut board, out, STEPS);
-    Ending {
-        status: status_of(end),
-        stand: Stand::Booted(board),
-    }
+    let ending = session(alloc, &command, folder, out, devices);
+    tell(err, &command, ending.status);
+    ending
 }

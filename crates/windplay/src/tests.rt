@@ -10,29 +10,45 @@ use wind_outside::{Device, DeviceKind, MemFolder, MemSink, Slots};
 
 const COMMAND: [&str; 1] = ["windplay"];
 
+const CONSOLE: &[u8] = b"1+2\n";
+
+const OUTPUT: &[u8] = b"-> 1+2\nvalue = 3 = 0x3\n-> ";
+
+// Which calls of the folder and of the two sinks fail.
+#[derive(Clone, Copy)]
+struct Failing {
+    fetches: &'static [u64],
+    puts: &'static [u64],
+    texts: &'static [u64],
+}
+
+const NONE: Failing = Failing {
+    fetches: &[],
+    puts: &[],
+    texts: &[],
+};
+
 // A session that was played, and what it wrote.
 #[derive(Drop)]
 struct Session {
     ending: Ending,
     out: MemSink,
+    err: MemSink,
 }
 
-// Plays over a folder with this console file, where the calls of these numbers fail.
+// Plays over a folder that holds this file, if any.
 fn played(
     alloc: Global,
     words: &[&str],
-    console: Option<&[u8]>,
-    failing_fetches: &[u64],
-    failing_puts: &[u64],
+    file: Option<(&str, &[u8])>,
+    failing: Failing,
 ) -> Result<Session, Fail> {
-    let mut folder = MemFolder::new(alloc, failing_fetches.to_vec(alloc)?);
-    if let Some(bytes) = console {
-        folder
-            .add("console.txt", bytes.to_vec(alloc)?)
-            .or(Err("memory"))?;
+    let mut folder = MemFolder::new(alloc, failing.fetches.to_vec(alloc)?);
+    if let Some((name, bytes)) = file {
+        folder.add(name, bytes.to_vec(alloc)?).or(Err("memory"))?;
     }
-    let mut out = MemSink::reserved(alloc, 1000, failing_puts.to_vec(alloc)?).or(Err("memory"))?;
-    let mut err = MemSink::reserved(alloc, 1000, Vec::new(alloc)).or(Err("memory"))?;
+    let mut out = MemSink::reserved(alloc, 1000, failing.puts.to_vec(alloc)?).or(Err("memory"))?;
+    let mut err = MemSink::reserved(alloc, 1000, failing.texts.to_vec(alloc)?).or(Err("memory"))?;
     let ending = play(
         alloc,
         words,
@@ -41,7 +57,7 @@ fn played(
         &mut err,
         Vec::new(alloc),
     );
-    Ok(Session { ending, out })
+    Ok(Session { ending, out, err })
 }
 
 // How many steps the board made, if there is one.
@@ -60,11 +76,11 @@ struct Row {
     steps: Option<u64>,
 }
 
-const ROWS: [Row; 10] = [
+const PLAYED: [Row; 8] = [
     Row {
-        console: b"1+2\n",
+        console: CONSOLE,
         status: Status::Quiet,
-        output: b"-> 1+2\nvalue = 3 = 0x3\n-> ",
+        output: OUTPUT,
         steps: Some(5),
     },
     Row {
@@ -98,51 +114,165 @@ const ROWS: [Row; 10] = [
         steps: Some(4),
     },
     Row {
-        console: b"x = 7\n",
-        status: Status::NotBuilt(Unbuilt::Line(1)),
-        output: b"",
-        steps: None,
+        console: b"1+2\n\n7",
+        status: Status::Quiet,
+        output: b"-> 1+2\nvalue = 3 = 0x3\n-> \n-> 7\nvalue = 7 = 0x7\n-> ",
+        steps: Some(12),
     },
     Row {
-        console: b"1\t+ 2\n",
-        status: Status::NotBuilt(Unbuilt::Line(1)),
-        output: b"",
-        steps: None,
-    },
-    Row {
-        console: b"1+2\n3\n",
-        status: Status::NotBuilt(Unbuilt::Line(2)),
-        output: b"",
-        steps: None,
-    },
-    Row {
-        console: b"1 2\n3\n",
-        status: Status::NotBuilt(Unbuilt::Line(1)),
-        output: b"",
-        steps: None,
+        console: b"\n \n1+2\n",
+        status: Status::Quiet,
+        output: b"-> \n->  \n-> 1+2\nvalue = 3 = 0x3\n-> ",
+        steps: Some(11),
     },
 ];
 
 // The worked consoles. With ample memory no session ends for want of it.
 #[test]
 fn plays_the_worked_consoles(rt: HostRuntime) -> Result<(), Fail> {
-    for row in ROWS {
-        let session = played(rt.alloc(), &COMMAND, Some(row.console), &[], &[])?;
+    for row in PLAYED {
+        let session = played(
+            rt.alloc(),
+            &COMMAND,
+            Some(("console.txt", row.console)),
+            NONE,
+        )?;
         assert_eq!(rt; session.ending.status, row.status);
         assert_eq!(rt; session.out.bytes(), row.output);
         assert_eq!(rt; steps(&session.ending), row.steps);
+        assert_eq!(rt; session.err.bytes(), "".as_bytes());
+    }
+    Ok(())
+}
+
+// Consoles whose first line that is not built has this number.
+const NOT_BUILT: [(&[u8], u64); 7] = [
+    (b"x = 7\n", 1),
+    (b"1\t+ 2\n", 1),
+    (b"1+2\r\n", 1),
+    (b"1+2\n3\r\n", 2),
+    (b"1 2\n3\n", 1),
+    (b"1+2\n\n4294967296", 3),
+    (b"1+2\n7\n\nsp 1\nx\n", 4),
+];
+
+#[test]
+fn refuses_lines_that_are_not_built(rt: HostRuntime) -> Result<(), Fail> {
+    for (console, line) in NOT_BUILT {
+        let session = played(rt.alloc(), &COMMAND, Some(("console.txt", console)), NONE)?;
+        assert_eq!(rt;
+            session.ending.status,
+            Status::NotBuilt(Unbuilt::Line(line))
+        );
+        assert_eq!(rt; session.out.bytes(), "".as_bytes());
+        assert_eq!(rt; session.err.bytes(), "windplay: not built yet\n".as_bytes());
+    }
+    Ok(())
+}
+
+// Words that are no command.
+const REFUSED: [&[&str]; 18] = [
+    &[],
+    &["windplay", "x"],
+    &["windplay", "--help"],
+    &["windplay", "--console"],
+    &["windplay", "--limit", "5", "--ticks"],
+    &["windplay", "--limit=5"],
+    &["windplay", "--modules", "."],
+    &["windplay", "x", "--limit", "5"],
+    &["windplay", "--limit", "5", "--limit", "5"],
+    &["windplay", "--console", "a", "--console", "a"],
+    &["windplay", "--ticks", "a", "--limit", "5", "--ticks", "b"],
+    &["windplay", "--limit", ""],
+    &["windplay", "--limit", "-1"],
+    &["windplay", "--limit", "+1"],
+    &["windplay", "--limit", "0x10"],
+    &["windplay", "--limit", " 1"],
+    &["windplay", "--limit", "00000000000005"],
+    &["windplay", "--limit", "1000000000001"],
+];
+
+const USAGE: &str = "usage: windplay [--console FILE] [--ticks FILE] [--limit N]
+  --console FILE  the console file (default: console.txt)
+  --ticks FILE    the tick file (default: ticks.txt); not used yet
+  --limit N       the most steps to make, up to 1000000000000 (default: 1000000)
+";
+
+#[test]
+fn refuses_other_words(rt: HostRuntime) -> Result<(), Fail> {
+    for words in REFUSED {
+        let session = played(rt.alloc(), words, Some(("console.txt", CONSOLE)), NONE)?;
+        assert_eq!(rt; session.ending.status, Status::Usage);
+        assert_eq!(rt; session.out.bytes(), "".as_bytes());
+        assert_eq!(rt; session.err.bytes(), USAGE.as_bytes());
+    }
+    Ok(())
+}
+
+// Limits with the status, the output and the text that they give.
+const LIMITS: [(&str, Status, &[u8], &[u8]); 6] = [
+    (
+        "0",
+        Status::Limit,
+        b"",
+        b"windplay: limit of 0 steps reached\n",
+    ),
+    (
+        "4",
+        Status::Limit,
+        b"-> 1+2\nvalue = 3 = 0x3\n",
+        b"windplay: limit of 4 steps reached\n",
+    ),
+    (
+        "5",
+        Status::Limit,
+        OUTPUT,
+        b"windplay: limit of 5 steps reached\n",
+    ),
+    (
+        "0000000000005",
+        Status::Limit,
+        OUTPUT,
+        b"windplay: limit of 5 steps reached\n",
+    ),
+    ("6", Status::Quiet, OUTPUT, b""),
+    ("1000000000000", Status::Quiet, OUTPUT, b""),
+];
+
+#[test]
+fn stops_at_the_limit(rt: HostRuntime) -> Result<(), Fail> {
+    for (limit, status, output, text) in LIMITS {
+        let session = played(
+            rt.alloc(),
+            &["windplay", "--limit", limit],
+            Some(("console.txt", CONSOLE)),
+            NONE,
+        )?;
+        assert_eq!(rt; session.ending.status, status);
+        assert_eq!(rt; session.out.bytes(), output);
+        assert_eq!(rt; session.err.bytes(), text);
     }
     Ok(())
 }
 
 #[test]
-fn refuses_other_words(rt: HostRuntime) -> Result<(), Fail> {
-    let alloc = rt.alloc();
-    for words in [[].as_slice(), &["windplay", "x"], &["windplay", "--help"]] {
-        let session = played(alloc, words, Some(b"1+2\n"), &[], &[])?;
-        assert_eq!(rt; session.ending.status, Status::Usage);
-        assert_eq!(rt; session.out.bytes().len(), 0);
-    }
+fn plays_the_file_that_is_named(rt: HostRuntime) -> Result<(), Fail> {
+    let session = played(
+        rt.alloc(),
+        &[
+            "windplay",
+            "--ticks",
+            "t",
+            "--console",
+            "--limit",
+            "--limit",
+            "9",
+        ],
+        Some(("--limit", CONSOLE)),
+        NONE,
+    )?;
+    assert_eq!(rt; session.ending.status, Status::Quiet);
+    assert_eq!(rt; session.out.bytes(), OUTPUT);
     Ok(())
 }
 
@@ -150,12 +280,21 @@ fn refuses_other_words(rt: HostRuntime) -> Result<(), Fail> {
 #[test]
 fn refuses_files(rt: HostRuntime) -> Result<(), Fail> {
     let alloc = rt.alloc();
-    let absent = played(alloc, &COMMAND, None, &[], &[])?;
+    let words = ["windplay", "--console", "c.txt"];
+    let absent = played(alloc, &words, Some(("console.txt", CONSOLE)), NONE)?;
     assert_eq!(rt; absent.ending.status, Status::Absent(Which::Console));
+    assert_eq!(rt;
+        absent.err.bytes(),
+        "windplay: c.txt: not found\n".as_bytes()
+    );
     let long = vec![in alloc; b' '; 1_048_577]?;
-    let too_long = played(alloc, &COMMAND, Some(&long), &[], &[])?;
+    let too_long = played(alloc, &words, Some(("c.txt", &long)), NONE)?;
     assert_eq!(rt; too_long.ending.status, Status::TooLong(Which::Console));
-    let within = played(alloc, &COMMAND, long.get(1..), &[], &[])?;
+    assert_eq!(rt;
+        too_long.err.bytes(),
+        "windplay: c.txt: too long\n".as_bytes()
+    );
+    let within = played(alloc, &words, Some(("c.txt", &long[1..])), NONE)?;
     assert_eq!(rt; within.ending.status, Status::NotBuilt(Unbuilt::Line(1)));
     Ok(())
 }
@@ -165,23 +304,66 @@ fn refuses_files(rt: HostRuntime) -> Result<(), Fail> {
 #[test]
 fn ends_at_a_failing_call(rt: HostRuntime) -> Result<(), Fail> {
     let alloc = rt.alloc();
-    let console = Some(b"1+2\n".as_slice());
-    let unread = played(alloc, &COMMAND, console, &[1], &[])?;
+    let file = Some(("console.txt", CONSOLE));
+    let unread = played(
+        alloc,
+        &COMMAND,
+        file,
+        Failing {
+            fetches: &[1],
+            ..NONE
+        },
+    )?;
     assert_eq!(rt; unread.ending.status, Status::ReadFault);
+    assert_eq!(rt; unread.err.bytes(), "windplay: reading failed\n".as_bytes());
     assert_eq!(rt; steps(&unread.ending), None);
-    for (put, output, made) in [
-        (1, "", 1),
-        (2, "-> ", 2),
-        (3, "-> 1+2\n", 4),
-        (4, "-> 1+2\nvalue = 3 = 0x3\n", 5),
+    for (puts, output, made) in [
+        ([1].as_slice(), "", 1),
+        (&[2], "-> ", 2),
+        (&[3], "-> 1+2\n", 4),
+        (&[4], "-> 1+2\nvalue = 3 = 0x3\n", 5),
     ] {
-        let cut_off = played(alloc, &COMMAND, console, &[], &[put])?;
+        let cut_off = played(alloc, &COMMAND, file, Failing { puts, ..NONE })?;
         assert_eq!(rt; cut_off.ending.status, Status::WriteFault);
         assert_eq!(rt; cut_off.out.bytes(), output.as_bytes());
+        assert_eq!(rt;
+            cut_off.err.bytes(),
+            "windplay: writing failed\n".as_bytes()
+        );
         assert_eq!(rt; steps(&cut_off.ending), Some(made));
     }
-    let whole = played(alloc, &COMMAND, console, &[2], &[5])?;
+    let whole = played(
+        alloc,
+        &COMMAND,
+        file,
+        Failing {
+            fetches: &[2],
+            puts: &[5],
+            texts: &[1],
+        },
+    )?;
     assert_eq!(rt; whole.ending.status, Status::Quiet);
+    Ok(())
+}
+
+// A text that cannot be put is cut off, and nothing else changes.
+#[test]
+fn goes_on_where_a_text_fails(rt: HostRuntime) -> Result<(), Fail> {
+    for (texts, text) in [
+        ([1].as_slice(), ""),
+        (&[2], "windplay: limit of "),
+        (&[3], "windplay: limit of 5"),
+    ] {
+        let session = played(
+            rt.alloc(),
+            &["windplay", "--limit", "5"],
+            Some(("console.txt", CONSOLE)),
+            Failing { texts, ..NONE },
+        )?;
+        assert_eq!(rt; session.ending.status, Status::Limit);
+        assert_eq!(rt; session.out.bytes(), OUTPUT);
+        assert_eq!(rt; session.err.bytes(), text.as_bytes());
+    }
     Ok(())
 }
 

@@ -1,8 +1,9 @@
-use Rattle.std.proofs.Common.{ap}
-use Rattle.board_player.specs.State.{State}
-use Rattle.board_player.specs.Machine.{opening}
+use Rattle.std.proofs.Common.{refl}
+use Rattle.windplay.specs.Plan.{Refuse}
+use Rattle.windplay.specs.declared.ending.Status.TheVariants as status
 use Rattle.windplay.proofs.play.play.Goals as goal
 
-pub run_machine-end-requires-clause-fresh : goal.run_machine-end-requires-clause-fresh
-unfolding opening
-run_machine-end-requires-clause-fresh g c = ap (λ (s : State). s.steps) c.in-Ok-boot.ensures.ok
+-- words that are no command
+pub returns-in_default-clause-machine : goal.returns-in_default-clause-machine
+returns-in_default-clause-machine g c =
+    rw c.refused.ensures (rw (← c.in_default.ensures.value) (record { plan = Refuse status.Usage; planned = refl; leaves = (refl, refl, refl) }))

@@ -1,0 +1,54 @@
+-- Texts that are put in pieces.
+use Rattle.std.proofs.Common.{ℕ, ◌≤◌, List, [], ◌++◌, Option, Some, None, refl, ap, sym, ◌∙◌, subst, arith, append_assoc, take, drop, ◌^◌, ◌-◌, inl, inr}
+use Rattle.std.specs.Option.{option_map}
+use Rattle.std.proofs.lemmas.Bool.{cases_eq}
+use Rattle.std.proofs.lemmas.List.{append-nil, take-append-drop}
+use Rattle.wind_outside.specs.Counts.{Rose}
+use Rattle.wind_outside.specs.Told.{Appended, AppendedFront}
+use Rattle.windplay.specs.Texts.{IsTold}
+
+-- a count that rose has risen also later, and from an earlier one
+pub rose_later : (a b c : ℕ) → Rose a b → b ≤ c → Rose a c
+rose_later a b c (inl less) h = inl (omega arith)
+rose_later a b c (inr most) h = inr most
+
+pub rose_earlier : (a b c : ℕ) → a ≤ b → b ≤ c → Rose b c → Rose a c
+rose_earlier a b c h k (inl less) = inl (omega arith)
+rose_earlier a b c h k (inr most) =
+    elim (cases_eq a (2 ^ 64 - 1)) [
+      | inl same ↦ inr same
+      | inr below ↦ inl (omega arith)
+    ]
+
+-- nothing was added
+pub appended_none : (old : Option (List ℕ)) → Appended old old []
+appended_none None = refl
+appended_none (Some x) = ap Some (sym (append-nil x))
+
+-- two pieces, one after the other
+pub appended_both : (old mid new : Option (List ℕ)) (a b : List ℕ) → Appended old mid a → Appended mid new b → Appended old new (a ++ b)
+appended_both None mid new a b p q = q ∙ ap (option_map (λ bytes. bytes ++ b)) p
+appended_both (Some x) mid new a b p q = q ∙ ap (option_map (λ bytes. bytes ++ b)) p ∙ ap Some (append_assoc x a b)
+
+-- behind what was put, a put failed inside a piece, before the rest of the text
+pub cut_short : (old mid new : Option (List ℕ)) (before piece behind : List ℕ) (rose : Type 0) → Appended old mid before → AppendedFront mid new piece → rose → IsTold old new ((before ++ piece) ++ behind) rose
+cut_short old mid new before piece behind rose p q fault =
+    inr (record {
+      front = before ++ take q.0 piece;
+      rest = drop q.0 piece ++ behind;
+      whole =
+          append_assoc before (take q.0 piece) (drop q.0 piece ++ behind)
+          ∙ ap (λ bytes. before ++ bytes) (sym (append_assoc (take q.0 piece) (drop q.0 piece) behind) ∙ ap (λ bytes. bytes ++ behind) (take-append-drop q.0 piece))
+          ∙ sym (append_assoc before piece behind);
+      gained = appended_both old mid new before (take q.0 piece) p q.1;
+      fault = fault;
+    })
+
+-- a put failed inside the last piece
+pub cut_last : (old mid new : Option (List ℕ)) (before piece : List ℕ) (rose : Type 0) → Appended old mid before → AppendedFront mid new piece → rose → IsTold old new (before ++ piece) rose
+cut_last old mid new before piece rose p q fault = subst (λ text. IsTold old new text rose) (append-nil (before ++ piece)) (cut_short old mid new before piece [] rose p q fault)
+
+-- a put failed inside the first of three pieces, and inside the second
+pub cut_first : (old new : Option (List ℕ)) (first second third : List ℕ) (rose : Type 0) → AppendedFront old new first → rose → IsTold old new (first ++ second ++ third) rose
+cut_first old new first second third rose q fault =
+    subst (λ text. IsTold old new text rose) (sym (append_assoc first second third)) (cut_short old old new [] first (second ++ third) rose (appended_none old) q fault)

@@ -1,0 +1,50 @@
+-- The texts on the second sink, one for each status. They are this project's own.
+use Rattle.std.specs.Prelude.{◌≡◌, ℕ, List, [], ◌++◌, Option, Some, None, ◌⊎◌, codes}
+use Rattle.std.specs.Fmt.{decimal}
+use Rattle.wind_outside.specs.Told.{Appended}
+use Rattle.windplay.specs.Command.{CommandState}
+use Rattle.windplay.specs.declared.ending.Status.{Status}
+use Rattle.windplay.specs.declared.ending.Status.TheVariants as status
+
+-- how the command is used
+unfoldable pub usage_text : List ℕ
+usage_text = codes "usage: windplay [--console FILE] [--ticks FILE] [--limit N]\n"
+    ++ codes "  --console FILE  the console file (default: console.txt)\n  --ticks FILE    the tick file (default: ticks.txt); not used yet\n"
+    ++ codes "  --limit N       the most steps to make, up to 1000000000000 (default: 1000000)\n"
+
+-- a text of one line that names the program
+abbrev pub line_text : List ℕ → List ℕ → List ℕ
+line_text middle rest = codes "windplay: " ++ middle ++ rest
+
+-- the text where memory ran out
+abbrev pub memory_text : List ℕ
+memory_text = line_text (codes "out of memory") (codes "\n")
+
+-- the text for a status of a command
+unfoldable pub status_text : CommandState → Status → List ℕ
+status_text c status.Quiet = []
+status_text c status.Usage = usage_text
+status_text c (status.Absent which) = line_text c.console (codes ": not found\n")
+status_text c status.Limit = codes "windplay: limit of " ++ decimal c.limit ++ codes " steps reached\n"
+status_text c status.ReadFault = line_text (codes "reading failed") (codes "\n")
+status_text c status.WriteFault = line_text (codes "writing failed") (codes "\n")
+status_text c status.NoMemory = memory_text
+status_text c (status.TooLong which) = line_text c.console (codes ": too long\n")
+status_text c (status.NotBuilt what) = line_text (codes "not built yet") (codes "\n")
+
+-- the text for a status of the words; words that are no command have the usage
+abbrev pub text_of : Option CommandState → Status → List ℕ
+text_of None s = usage_text
+text_of (Some c) s = status_text c s
+
+-- a front of the text was added, at which the count of faults rose
+pub record IsCutShort (old new : Option (List ℕ)) (text : List ℕ) (rose : Type 0) : Type 0 where
+  pub front : List ℕ
+  pub rest : List ℕ
+  pub whole : front ++ rest ≡ text
+  pub gained : Appended old new front
+  pub fault : rose
+
+-- the text was added, or a front of it where the count of faults rose
+abbrev pub IsTold : Option (List ℕ) → Option (List ℕ) → List ℕ → Type 0 → Type 0
+IsTold old new text rose = Appended old new text ⊎ IsCutShort old new text rose
