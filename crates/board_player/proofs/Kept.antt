@@ -9,7 +9,8 @@ use Rattle.shell_parse.specs.Grammar.{Reading, Statements, Refused, read_line}
 use Rattle.board_player.specs.State.{ConsoleState, ShellState, State}
 use Rattle.board_player.specs.Good.{are_lines, KeepsLines, Good}
 use Rattle.board_player.specs.Feed.{chunk}
-use Rattle.board_player.specs.Console.{key_of, is_kept, has_room, ended_line, line_ended, line_done, after_key, done_by, after_byte, byte_done, front_line, line_length}
+use Rattle.board_player.specs.Console.{key_of, is_kept, has_room, ended_line, line_ended, line_done, after_key, done_by, after_byte, byte_done, front_line}
+use Rattle.wind_base.specs.Lines.{line_length}
 use Rattle.board_player.specs.Shell.{at_prompt, prompted, woken, heard, is_nothing, shell_read, evaluated}
 use Rattle.board_player.specs.Machine.{Heard, hear, heard_all, heard_from, arrival, prompt_step, read_step, eval_step, shell_step, console_is_due, machine_step}
 use Rattle.board_player.specs.declared.phase.Phase.{Phase}

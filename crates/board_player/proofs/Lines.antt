@@ -1,10 +1,11 @@
 -- Laws on finished lines.
 use Rattle.std.proofs.Common.{◌≡◌, ◌≢◌, ℕ, suc, ◌+◌, ◌≤◌, List, [], ◌∷◌, ◌++◌, Bool, true, false, refl, ap, sym, ◌∙◌, arith, length, drop, inl, inr}
-use Rattle.std.specs.Prelude.{◌==◌, ◌&&◌, not, nat_le, if◌then◌else◌, All}
+use Rattle.std.specs.Prelude.{◌==◌, ◌&&◌, nat_le, if◌then◌else◌, All}
 use Rattle.std.proofs.lemmas.Bool.{cases_eq}
 use Rattle.std.proofs.lemmas.Bool.Decides.{nat_tests}
 use Rattle.std.proofs.lemmas.List.Elements.{All-head, All-tail}
-use Rattle.board_player.specs.Console.{line_length}
+use Rattle.wind_base.specs.Lines.{line_length}
+use Rattle.wind_base.proofs.LineLength.{length_end, length_more}
 use Rattle.board_player.specs.Good.{are_lines}
 
 -- the two halves of a test
@@ -41,13 +42,6 @@ lines_more n (b ∷ bs) line h plain short =
           line_end n b (bs ++ (line ++ 10 ∷ [])) e ∙ ap (λ x. x && are_lines 0 (bs ++ (line ++ 10 ∷ []))) front ∙ rest
       | inr e ↦ line_more n b (bs ++ (line ++ 10 ∷ [])) e ∙ lines_more (n + 1) bs line (sym (line_more n b bs e) ∙ h) plain short
     ]
-
--- where the first end stands, by whether the first byte is one
-length_end : (b : ℕ) (bs : List ℕ) → b ≡ 10 → line_length (b ∷ bs) ≡ 0
-length_end b bs e = let t : (b == 10) ≡ true = grind (arith, nat_tests) in ap (λ x. if not x then 1 + line_length bs else 0) t
-
-length_more : (b : ℕ) (bs : List ℕ) → b ≢ 10 → line_length (b ∷ bs) ≡ 1 + line_length bs
-length_more b bs e = let t : (b == 10) ≡ false = grind (arith, nat_tests) in ap (λ x. if not x then 1 + line_length bs else 0) t
 
 -- a finished line has at most 255 bytes
 pub line_within : (n : ℕ) (finished : List ℕ) → are_lines n finished ≡ true → n + line_length finished ≤ 255

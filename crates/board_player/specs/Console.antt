@@ -1,6 +1,6 @@
 -- What each byte does that comes from the console. The rules are this project's own; the names of the keys are those of POSIX terminals.
 use Rattle.std.specs.Prelude.{ℕ, ◌+◌, ◌-◌, List, [], ◌∷◌, ◌++◌, Bool, ◌==◌, ◌||◌, not, nat_lt, nat_le, if◌then◌else◌, take, drop, length}
-use Rattle.std.specs.List.{position_or_len}
+use Rattle.wind_base.specs.Lines.{line_length}
 use Rattle.board_player.specs.State.{ConsoleState}
 use Rattle.board_player.specs.declared.console.Key.{Key}
 use Rattle.board_player.specs.declared.console.Key.TheVariants as keys
@@ -77,14 +77,6 @@ byte_echo c b = echo_of (key_of b) c b
 
 abbrev pub byte_done : ConsoleState → ℕ → ByteDone
 byte_done c b = done_by (key_of b) c
-
--- a byte that ends a finished line
-abbrev pub is_newline : ℕ → Bool
-is_newline b = b == 10
-
--- how many bytes stand before the first end of a line
-abbrev pub line_length : List ℕ → ℕ
-line_length bytes = position_or_len is_newline bytes
 
 -- the first finished line without its end, and the console without that line and its end
 abbrev pub front_line : ConsoleState → List ℕ

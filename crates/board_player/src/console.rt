@@ -2,13 +2,13 @@
 
 ghost use Rattle.std.specs.Prelude.{◌≡◌, ◌+◌, ◌-◌, ◌<◌, ◌≤◌, ◌∷◌, [], ◌++◌, ◌==◌, nat_lt, nat_le, if◌then◌else◌, false, length, take};
 ghost use Rattle.board_player.specs.declared.console.ByteDone.TheVariants as done;
-ghost use Rattle.board_player.specs.Console.{key_of as key_of_lem, after_key, after_byte, echo_of, byte_echo, done_by, byte_done, line_ended, line_done, line_length, front_line as front_line_of, line_dropped, has_line as has_line_lem};
+ghost use Rattle.board_player.specs.Console.{key_of as key_of_lem, after_key, after_byte, echo_of, byte_echo, done_by, byte_done, line_ended, line_done, front_line as front_line_of, line_dropped, has_line as has_line_lem};
 
 use crate::text::add;
 use arrayvec::ArrayVec;
 use std::marker::Model;
-use wind_base::OutBuf;
 use wind_base::limits::{KEPT_BYTES, LINE_BYTES};
+use wind_base::{OutBuf, line_len};
 
 /// What a byte of the console is for. The names are those of the special characters of POSIX
 /// terminals.
@@ -217,12 +217,4 @@ fn keep(finished: &mut ArrayVec<u8, KEPT_BYTES>, line: &[u8]) -> ByteDone
     let _ = finished.try_extend_from_slice(line);
     finished.push(b'\n');
     ByteDone::Line
-}
-
-// How many bytes come before the first end of a line.
-fn line_len(bytes: &[u8]) -> usize
-    ensures exact { result ≡ line_length bytes.now }
-    ensures inside { result ≤ length bytes.now }
-{
-    bytes.iter().take_while(|byte| **byte != b'\n').count()
 }

@@ -6,7 +6,7 @@ ghost use Rattle.shell_parse.specs.Tokens.{is_blank as is_blank_lem, is_word_byt
 
 use crate::tree::BinOp;
 use std::alloc::{AllocError, Global};
-use wind_base::decimal;
+use wind_base::{behind, decimal};
 
 /// A token.
 #[derive(Clone, Copy, Debug, PartialEq, Eq)]
@@ -106,15 +106,6 @@ fn front(first: u8, rest: &[u8], bytes: &[u8]) -> (Token, usize)
         b'-' => (operator(first, BinOp::Minus, rest), 0),
         _ => (Token::Unknown, 0),
     }
-}
-
-// The bytes behind the first n.
-fn behind(bytes: &[u8], n: usize) -> &[u8]
-    requires { n ≤ length bytes.now }
-    ensures value { result.now ≡ drop n bytes.now }
-    ensures len { length result.now + n ≡ length bytes.now }
-{
-    &bytes[n..]
 }
 
 /// The tokens of a line, each with its column.

@@ -1,1 +1,2 @@
+pub mod LineLength
 pub mod Numerals

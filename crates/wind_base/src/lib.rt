@@ -1,11 +1,13 @@
-//! Values that every crate of windplay shares: the limits of the board, a buffer of bytes whose
-//! room is taken ahead, and the answers for want of memory and of room.
+//! What every crate of windplay shares: the limits of the board, a buffer of bytes whose room is taken
+//! ahead, lines and decimal numbers, and the answers for want of memory and of room.
 #![tactic(auto)]
 
 pub mod limits;
+mod line;
 mod number;
 mod out_buf;
 
+pub use line::{behind, line_len};
 pub use number::decimal;
 pub use out_buf::OutBuf;
 use std::fmt;

@@ -1,9 +1,10 @@
 -- The lines of a console, one after the other.
 use Rattle.std.proofs.Common.{◌≡◌, ◌≢◌, ℕ, suc, ◌+◌, ◌<◌, ◌≤◌, List, [], ◌∷◌, Some, None, true, false, refl, ap, sym, ◌∙◌, arith, length, take, drop, inl, inr}
-use Rattle.std.specs.Prelude.{◌==◌, not, if◌then◌else◌}
+use Rattle.std.specs.Prelude.{◌==◌, if◌then◌else◌}
 use Rattle.std.proofs.lemmas.Bool.{cases_eq}
 use Rattle.std.proofs.lemmas.Bool.Decides.{nat_tests}
-use Rattle.board_player.specs.Console.{line_length}
+use Rattle.wind_base.specs.Lines.{line_length}
+use Rattle.wind_base.proofs.LineLength.{length_end, length_more}
 use Rattle.windplay.specs.Built.{byte_before, split_lines, is_built, unbuilt_from}
 
 -- a byte that ends a line, and one that does not
@@ -13,12 +14,6 @@ split_end b bs e = let t : (b == 10) ≡ true = grind (arith, nat_tests) in ap (
 split_on : (b : ℕ) (bs : List ℕ) → b ≢ 10 → split_lines (b ∷ bs) ≡ byte_before b (split_lines bs)
 split_on b bs e = let t : (b == 10) ≡ false = grind (arith, nat_tests) in ap (λ x. if x then [] ∷ split_lines bs else byte_before b (split_lines bs)) t
 
-length_end : (b : ℕ) (bs : List ℕ) → b ≡ 10 → line_length (b ∷ bs) ≡ 0
-length_end b bs e = let t : (b == 10) ≡ true = grind (arith, nat_tests) in ap (λ x. if not x then 1 + line_length bs else 0) t
-
-length_on : (b : ℕ) (bs : List ℕ) → b ≢ 10 → line_length (b ∷ bs) ≡ suc (line_length bs)
-length_on b bs e = let t : (b == 10) ≡ false = grind (arith, nat_tests) in ap (λ x. if not x then 1 + line_length bs else 0) t ∙ omega arith
-
 -- the last line
 split_last : (left : List ℕ) → line_length left ≡ length left → split_lines left ≡ take (line_length left) left ∷ []
 split_last [] e = refl
@@ -27,8 +22,8 @@ split_last (b ∷ bs) e =
       | inl ten ↦ absurd (omega (arith, length_end b bs ten))
       | inr other ↦
           split_on b bs other
-          ∙ ap (byte_before b) (split_last bs (omega (arith, length_on b bs other)))
-          ∙ ap (λ k. take k (b ∷ bs) ∷ []) (sym (length_on b bs other))
+          ∙ ap (byte_before b) (split_last bs (omega (arith, length_more b bs other)))
+          ∙ ap (λ k. take k (b ∷ bs) ∷ []) (sym (length_more b bs other))
     ]
 
 -- a line with an end, and the lines behind it
@@ -38,10 +33,10 @@ split_more (b ∷ bs) h =
     elim (cases_eq b 10) [
       | inl ten ↦ split_end b bs ten ∙ ap (λ k. take k (b ∷ bs) ∷ split_lines (drop (k + 1) (b ∷ bs))) (sym (length_end b bs ten))
       | inr other ↦
-          let more : line_length (b ∷ bs) + 1 ≡ suc (line_length bs + 1) = omega (arith, length_on b bs other) in
+          let more : line_length (b ∷ bs) + 1 ≡ suc (line_length bs + 1) = omega (arith, length_more b bs other) in
           split_on b bs other
-          ∙ ap (byte_before b) (split_more bs (omega (arith, length_on b bs other)))
-          ∙ ap (λ k. take k (b ∷ bs) ∷ split_lines (drop (line_length bs + 1) bs)) (sym (length_on b bs other))
+          ∙ ap (byte_before b) (split_more bs (omega (arith, length_more b bs other)))
+          ∙ ap (λ k. take k (b ∷ bs) ∷ split_lines (drop (line_length bs + 1) bs)) (sym (length_more b bs other))
           ∙ ap (λ k. take (line_length (b ∷ bs)) (b ∷ bs) ∷ split_lines (drop k (b ∷ bs))) (sym more)
     ]
 

@@ -1,15 +1,14 @@
 //! Which consoles are built.
 
-ghost use Rattle.std.specs.Prelude.{◌≡◌, ◌≤◌, ◌<◌, ◌^◌, ◌+◌, IfOk, length, drop};
+ghost use Rattle.std.specs.Prelude.{◌≡◌, ◌≤◌, ◌<◌, ◌^◌, IfOk, length};
 ghost use Rattle.std.specs.List.{list_all};
 ghost use Rattle.shell_parse.specs.Grammar.{read_line};
-ghost use Rattle.board_player.specs.Console.{line_length};
 ghost use Rattle.windplay.specs.Built.{is_printable, has_tree as has_tree_lem, is_built as is_built_lem, unbuilt_line};
 
 use shell_parse::{ParseErr, parse};
 use std::alloc::Global;
-use wind_base::NoMemory;
 use wind_base::limits::LINE_BYTES;
+use wind_base::{NoMemory, behind, line_len};
 
 // Whether the grammar that is built has a tree of the line.
 fn has_tree(alloc: Global, line: &[u8]) -> Result<bool, NoMemory>
@@ -38,23 +37,6 @@ fn is_built(alloc: Global, line: &[u8]) -> Result<bool, NoMemory>
         return Ok(false);
     }
     has_tree(alloc, line)
-}
-
-// How many bytes come before the first end of a line.
-fn line_len(bytes: &[u8]) -> usize
-    ensures exact { result ≡ line_length bytes.now }
-    ensures inside { result ≤ length bytes.now }
-{
-    bytes.iter().take_while(|byte| **byte != b'\n').count()
-}
-
-// The bytes behind the first n.
-fn behind(bytes: &[u8], n: usize) -> &[u8]
-    requires { n ≤ length bytes.now }
-    ensures value { result.now ≡ drop n bytes.now }
-    ensures len { length result.now + n ≡ length bytes.now }
-{
-    &bytes[n..]
 }
 
 /// The first line of a console that is not built, counted from 1.

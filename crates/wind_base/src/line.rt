@@ -1,0 +1,21 @@
+//! Lines of bytes.
+
+ghost use Rattle.std.specs.Prelude.{◌≡◌, ◌≤◌, ◌+◌, length, drop};
+ghost use Rattle.wind_base.specs.Lines.{line_length};
+
+/// How many bytes come before the first 0x0A; all of them, where there is none.
+pub fn line_len(bytes: &[u8]) -> usize
+    ensures exact { result ≡ line_length bytes.now }
+    ensures inside { result ≤ length bytes.now }
+{
+    bytes.iter().take_while(|byte| **byte != b'\n').count()
+}
+
+/// The bytes behind the first n, of which there are as many at least.
+pub fn behind(bytes: &[u8], n: usize) -> &[u8]
+    requires { n ≤ length bytes.now }
+    ensures value { result.now ≡ drop n bytes.now }
+    ensures len { length result.now + n ≡ length bytes.now }
+{
+    &bytes[n..]
+}
