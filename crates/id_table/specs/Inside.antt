@@ -1,0 +1,26 @@
+-- How a table is kept: a list of ids with the key of each in the slab.
+use Rattle.std.specs.Prelude.{slice_index_or, ◌≡◌, ℕ, ◌<◌, ◌≤◌, List, length, Option, IsSome}
+use Rattle.std.specs.List.{AllPairs, All, filter_map}
+use Rattle.std.specs.Option.{option_map}
+use Rattle.slab.specs.Slab.{Slab, get, slab_len}
+use Rattle.id_table.specs.declared.entry.Entry.{Entry}
+
+-- the entry of this id stands at this place
+pub record EntryAt (order : List Entry) (id place : ℕ) : Type 0 where
+  pub within : place < length order
+  pub same : (d : Entry) → (slice_index_or order place d).id ≡ id
+
+module _ {T : Type 0} where
+  abbrev pub row_at : Slab T → Entry → Option (ℕ × T)
+  row_at slots e = option_map (λ v. (e.id, v)) (get slots e.key)
+
+  abbrev pub rows_in : List Entry → Slab T → List (ℕ × T)
+  rows_in order slots = filter_map (row_at slots) order
+
+  pub record IsKept (order : List Entry) (slots : Slab T) (room : ℕ) : Type 0 where
+    pub present : All (λ e. IsSome (get slots e.key)) order
+    pub apart : AllPairs (λ d e. d.key ≡ e.key → ⊥) order
+    pub rising : AllPairs (λ d e. d.id < e.id) order
+    pub all : slab_len slots ≡ length order
+    pub fits : length order ≤ room
+    pub space : room ≤ slots.capacity

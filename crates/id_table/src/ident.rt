@@ -1,0 +1,55 @@
+//! The numbers of kernel objects.
+
+ghost use Rattle.std.specs.Prelude.{◌≡◌, ◌<◌, ◌≤◌, SomeIff};
+
+use std::marker::Model;
+use wind_base::limits::IDS;
+
+/// The number of a kernel object, from 1 to 1,048,576.
+#[derive(Clone, Copy, Debug, PartialEq, Eq)]
+pub struct Ident {
+    number: u32,
+}
+
+impl Model for Ident {
+    ghost use Rattle.std.specs.Prelude.{ℕ, ◌<◌, ◌≤◌};
+
+    ghost Value = { ℕ };
+
+    ghost view = { λ i. i.number };
+
+    ghost invariant = { λ i. (0 < i.number) × (i.number ≤ 1048576) };
+
+    ghost inverse = { λ n. record { number = n } };
+}
+
+impl Ident {
+    /// The id of this number. None where it is 0 or above 1,048,576.
+    pub fn new(n: u32) -> Option<Ident>
+        ensures { SomeIff result ((0 < n) × (n ≤ 1048576)) n }
+    {
+        if n > 0 && n <= IDS {
+            Some(Ident { number: n })
+        } else {
+            None
+        }
+    }
+
+    /// Its number.
+    pub fn get(self) -> u32
+        ensures same { result ≡ self }
+        ensures least { 0 < result }
+        ensures greatest { result ≤ 1048576 }
+    {
+        self.number
+    }
+}
+
+/// What a task waits for: an object, and at which of its sides.
+#[derive(Clone, Copy, Debug, PartialEq, Eq)]
+pub struct Place {
+    /// The side of the object.
+    pub side: u8,
+    /// The object.
+    pub id: Ident,
+}

@@ -1,0 +1,13 @@
+//! Tables of kernel objects, by ids that are never used again.
+#![tactic(auto)]
+
+mod entry;
+mod ident;
+mod source;
+mod table;
+#[cfg(test)]
+mod tests;
+
+pub use ident::{Ident, Place};
+pub use source::IdSource;
+pub use table::Table;

@@ -1,0 +1,153 @@
+//! Objects by id.
+
+ghost use Rattle.std.specs.Prelude.{◌≡◌, ◌<◌, ◌≤◌, ◌+◌, [], length, IfOk, IfErr, IsOk, ◌↔◌, Some, IsSome, is_some, option_copied, slice_index_or};
+ghost use Rattle.std.specs.Option.{option_copied_mut};
+ghost use Rattle.std.specs.Borrow.{sem};
+ghost use Rattle.id_table.specs.Rows.{object_of, objects, added, removed, IdsBelow, next_above};
+
+use crate::entry::{Entry, entry_above, place_of};
+use crate::ident::Ident;
+use crate::source::IdSource;
+use slab::Slab;
+use std::alloc::Global;
+use std::marker::Model;
+use wind_base::NoMemory;
+
+/// Objects by id, at most so many.
+#[derive(Drop)]
+pub struct Table<T> {
+    room: usize,
+    // by rising id
+    order: Vec<Entry>,
+    slots: Slab<T>,
+}
+
+impl<T> Model for Table<T> {
+    ghost use Rattle.std.specs.Prelude.{◌≤◌, vec_capacity};
+    ghost use Rattle.id_table.specs.Rows.{Rows, rows_code};
+
+    ghost Value = { Rows T };
+
+    ghost coded = { rows_code T.code };
+
+    ghost use Rattle.id_table.specs.Inside.{rows_in, IsKept};
+
+    ghost view = { λ t. record { rows = rows_in t.order.items t.slots; room = t.room } };
+
+    ghost invariant = { λ t. (t.room ≤ vec_capacity t.order) × IsKept t.order.items t.slots t.room };
+}
+
+impl<T> Table<T> {
+    ghost use Rattle.id_table.specs.Lends.{lends_object, lends_found};
+
+    /// An empty table with room for `n` objects.
+    pub fn reserved(alloc: Global, n: u32) -> Result<Table<T>, NoMemory>
+        ensures { IfOk result (λ t. t ≡ record { rows = []; room = n }) }
+    {
+        let room = n as usize;
+        let Ok(order) = Vec::with_capacity(alloc, room) else {
+            return Err(NoMemory)
+        };
+        let Ok(slots) = Slab::with_capacity(alloc, room) else {
+            return Err(NoMemory)
+        };
+        Ok(Table { room, order, slots })
+    }
+
+    /// How many objects there are.
+    pub fn len(&self) -> usize
+        ensures { result ≡ length self.now.rows }
+    {
+        self.order.len()
+    }
+
+    /// The object at this place, by rising id.
+    pub fn value_at(&self, place: usize) -> &T
+        requires { place < length self.now.rows }
+        ensures { result.now ≡ slice_index_or (objects self.now.rows) place result.now }
+    {
+        let key = self.order[place].key;
+        &self.slots[key]
+    }
+
+    /// The object of this id.
+    pub fn get(&self, id: Ident) -> Option<&T>
+        ensures { option_copied result ≡ object_of self.now.rows id }
+    {
+        let at = place_of(&self.order, id)?;
+        self.slots.get(self.order[at].key)
+    }
+
+    /// Whether there is an object of this id.
+    pub fn contains(&self, id: Ident) -> bool
+        ensures { result ≡ is_some (object_of self.now.rows id) }
+    {
+        self.get(id).is_some()
+    }
+
+    /// The least live id above a number.
+    pub fn next_after(&self, id: u32) -> Option<Ident>
+        ensures { result ≡ next_above self.now.rows id }
+    {
+        match entry_above(&self.order, id) {
+            Some(entry) => Some(entry.id),
+            None => None,
+        }
+    }
+
+    /// The object of this id, which there is, to be written.
+    pub fn object_mut(&mut self, id: Ident) -> &mut T
+        requires { IsSome (object_of self.old.rows id) }
+        ensures* writes_back { sem 𝓛 (lends_object T.row self.entry id result) }
+        ensures value { object_of self.old.rows id ≡ Some result.now }
+    {
+        match place_of(&self.order, id) {
+            Some(at) => {
+                let key = self.order[at].key;
+                &mut self.slots[key]
+            }
+            None => unreachable!(),
+        }
+    }
+
+    /// The object of this id, to be written.
+    pub fn get_mut(&mut self, id: Ident) -> Option<&mut T>
+        ensures* writes_back { sem 𝓛 (lends_found T.row self.entry id result) }
+        ensures value { option_copied_mut result ≡ object_of self.old.rows id }
+    {
+        if self.contains(id) {
+            Some(self.object_mut(id))
+        } else {
+            None
+        }
+    }
+
+    /// Takes the object of this id out.
+    pub fn remove(&mut self, id: Ident) -> Option<T>
+        ensures value { result ≡ object_of self.old.rows id }
+        ensures rows { self.new ≡ removed self.old id }
+    {
+        let at = place_of(&self.order, id)?;
+        let Entry { id: _, key } = self.order.remove(at);
+        Some(self.slots.remove(key))
+    }
+
+    /// Adds an object under the next id.
+    pub fn add(&mut self, ids: &mut IdSource, value: T) -> Result<Ident, T>
+        requires { IdsBelow ids.old self.old.rows }
+        ensures id { IfOk result (λ id. (id ≡ ids.old) × (ids.new ≡ ids.old + 1)) }
+        ensures rows { IfOk result (λ id. self.new ≡ added self.old id value) }
+        ensures err { IfErr result (λ v. (v ≡ value) × (self.new ≡ self.old) × (ids.new ≡ ids.old)) }
+        ensures when { IsOk result ↔ (length self.old.rows < self.old.room) × (ids.old ≤ 1048576) }
+    {
+        if self.order.len() >= self.room {
+            return Err(value);
+        }
+        let Some(id) = ids.draw() else {
+            return Err(value)
+        };
+        let key = self.slots.insert_reserved(value);
+        self.order.push_reserved(Entry { id, key });
+        Ok(id)
+    }
+}
