@@ -40,7 +40,7 @@ impl<T> Model for Table<T> {
 impl<T> Table<T> {
     ghost use Rattle.id_table.specs.Lends.{lends_object, lends_found};
 
-    /// An empty table with room for `n` objects.
+    /// An empty table with room for `n` objects. No other call takes memory.
     pub fn reserved(alloc: Global, n: u32) -> Result<Table<T>, NoMemory>
         ensures { IfOk result (λ t. t ≡ record { rows = []; room = n }) }
     {
@@ -61,7 +61,7 @@ impl<T> Table<T> {
         self.order.len()
     }
 
-    /// The object at this place, by rising id.
+    /// The object at this place, counted from 0 by rising id.
     pub fn value_at(&self, place: usize) -> &T
         requires { place < length self.now.rows }
         ensures { result.now ≡ slice_index_or (objects self.now.rows) place result.now }
@@ -70,7 +70,7 @@ impl<T> Table<T> {
         &self.slots[key]
     }
 
-    /// The object of this id.
+    /// The object of this id. None where the id is not live here.
     pub fn get(&self, id: Ident) -> Option<&T>
         ensures { option_copied result ≡ object_of self.now.rows id }
     {
@@ -78,14 +78,14 @@ impl<T> Table<T> {
         self.slots.get(self.order[at].key)
     }
 
-    /// Whether there is an object of this id.
+    /// Whether this id is live here.
     pub fn contains(&self, id: Ident) -> bool
         ensures { result ≡ is_some (object_of self.now.rows id) }
     {
         self.get(id).is_some()
     }
 
-    /// The least live id above a number.
+    /// The least live id above a number. None where there is none.
     pub fn next_after(&self, id: u32) -> Option<Ident>
         ensures { result ≡ next_above self.now.rows id }
     {
@@ -110,7 +110,7 @@ impl<T> Table<T> {
         }
     }
 
-    /// The object of this id, to be written.
+    /// The object of this id, to be written. None where the id is not live here.
     pub fn get_mut(&mut self, id: Ident) -> Option<&mut T>
         ensures* writes_back { sem 𝓛 (lends_found T.row self.entry id result) }
         ensures value { option_copied_mut result ≡ object_of self.old.rows id }
@@ -122,7 +122,7 @@ impl<T> Table<T> {
         }
     }
 
-    /// Takes the object of this id out.
+    /// Takes the object of this id out. None where the id is not live here.
     pub fn remove(&mut self, id: Ident) -> Option<T>
         ensures value { result ≡ object_of self.old.rows id }
         ensures rows { self.new ≡ removed self.old id }
@@ -132,7 +132,8 @@ impl<T> Table<T> {
         Some(self.slots.remove(key))
     }
 
-    /// Adds an object under the next id.
+    /// Adds an object under the next id of the source; each id that is live here is below that. Gives the
+    /// object back, and changes nothing, where the room is full or no id is left.
     pub fn add(&mut self, ids: &mut IdSource, value: T) -> Result<Ident, T>
         requires { IdsBelow ids.old self.old.rows }
         ensures id { IfOk result (λ id. (id ≡ ids.old) × (ids.new ≡ ids.old + 1)) }
