@@ -55,3 +55,9 @@ pub const KEPT_BYTES: usize = 4096;
 
 /// The most bytes of the console file that arrive at once, without a supplied end.
 pub const CHUNK_BYTES: usize = 4096;
+
+/// The most bytes of the name of a task or of another short name.
+pub const SHORT_NAME_BYTES: usize = 31;
+
+/// The most bytes of the name of a module or of a symbol.
+pub const NAME_BYTES: usize = 255;

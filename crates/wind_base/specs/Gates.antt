@@ -1,0 +1,60 @@
+-- The names of the kernel's calls by their gates: this project's own table.
+use Rattle.std.specs.Prelude.{ℕ, ◌-◌, List, [], ◌∷◌, Option, None, nat_le, if◌then◌else◌, codes}
+use Rattle.std.specs.List.{slice_get}
+
+-- the names in the order of the gates, from gate 3 on
+unfoldable pub names : List (List ℕ)
+names = codes "taskSpawn"
+    ∷ codes "sp"
+    ∷ codes "taskDelete"
+    ∷ codes "taskSuspend"
+    ∷ codes "taskResume"
+    ∷ codes "taskPrioritySet"
+    ∷ codes "taskPriorityGet"
+    ∷ codes "taskDelay"
+    ∷ codes "taskLock"
+    ∷ codes "taskUnlock"
+    ∷ codes "taskSafe"
+    ∷ codes "taskUnsafe"
+    ∷ codes "taskIdSelf"
+    ∷ codes "taskIdVerify"
+    ∷ codes "taskNameToId"
+    ∷ codes "kernelTimeSlice"
+    ∷ codes "tickGet"
+    ∷ codes "semBCreate"
+    ∷ codes "semCCreate"
+    ∷ codes "semMCreate"
+    ∷ codes "semTake"
+    ∷ codes "semGive"
+    ∷ codes "semFlush"
+    ∷ codes "semDelete"
+    ∷ codes "msgQCreate"
+    ∷ codes "msgQSend"
+    ∷ codes "msgQReceive"
+    ∷ codes "msgQDelete"
+    ∷ codes "msgQNumMsgs"
+    ∷ codes "wdCreate"
+    ∷ codes "wdStart"
+    ∷ codes "wdCancel"
+    ∷ codes "wdDelete"
+    ∷ codes "intLock"
+    ∷ codes "intUnlock"
+    ∷ codes "intContext"
+    ∷ codes "malloc"
+    ∷ codes "free"
+    ∷ codes "memalign"
+    ∷ codes "symAdd"
+    ∷ codes "printf"
+    ∷ codes "errnoGet"
+    ∷ codes "errnoSet"
+    ∷ codes "ld"
+    ∷ codes "unld"
+    ∷ codes "i"
+    ∷ codes "lkup"
+    ∷ codes "moduleShow"
+    ∷ codes "d"
+    ∷ []
+
+-- the name of the call of a gate; gates 0 to 2 and those above 51 have none
+unfoldable pub gate_name : ℕ → Option (List ℕ)
+gate_name gate = if nat_le 3 gate then slice_get names (gate - 3) else None

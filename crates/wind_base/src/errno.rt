@@ -1,0 +1,100 @@
+//! The error numbers of the kernel's calls.
+
+ghost use Rattle.std.specs.Prelude.{◌≡◌};
+
+/// Why a call of the kernel is refused, or what a wait ended with. The numbers are this project's own
+/// table.
+#[derive(Clone, Copy, Debug, PartialEq, Eq)]
+pub enum Errno {
+    /// No live object of the wanted kind has this id.
+    ObjIdError,
+    /// The object can't be had now, and the caller doesn't wait.
+    ObjUnavailable,
+    /// The object was deleted while the caller waited for it.
+    ObjDeleted,
+    /// The time of the wait ran out.
+    ObjTimeout,
+    /// The memory partition has no room for a block of this size.
+    NotEnoughMemory,
+    /// No block of the memory partition begins at this address.
+    NotABlock,
+    /// The wanted alignment of a block is none that the memory partition allows.
+    BadAlign,
+    /// A range of bytes, a word or a string that the call names is not wholly in memory, or a name is
+    /// empty or above 255 bytes.
+    BadAddress,
+    /// The priority is above 255.
+    IllegalPriority,
+    /// The caller ends a protection from deletion and has none.
+    NotSafe,
+    /// As many objects of this kind live as the board allows.
+    TooMany,
+    /// No id is left for a new object.
+    IdsSpent,
+    /// No live task has this name.
+    TaskNotFound,
+    /// The first state of a binary semaphore is above 1.
+    InvalidState,
+    /// The options of a new object are none that its kind allows.
+    InvalidOption,
+    /// This kind of semaphore allows no such call, or not by this caller.
+    InvalidOperation,
+    /// The count of a semaphore would exceed the largest count.
+    CountOver,
+    /// The message is longer than the queue takes.
+    InvalidMsgLength,
+    /// An interrupt routine sends a message with a timeout other than 0.
+    NonZeroTimeout,
+    /// A count, a size or a width is outside its limits.
+    BadSize,
+    /// The call is not allowed to an interrupt routine.
+    NotIsrCallable,
+    /// The call is allowed to the shell's task alone.
+    NotShell,
+    /// The symbol table is full.
+    SymbolsFull,
+    /// The kind of a symbol is outside 1 to 4.
+    BadKind,
+    /// A module was not loaded.
+    LoadFailed,
+    /// No live module has this id or this name.
+    NoSuchModule,
+}
+
+impl Errno {
+    ghost use Rattle.wind_base.specs.Errno.{number_of};
+
+    /// The error number.
+    pub fn number(self) -> u32
+        ensures { result ≡ number_of self }
+    {
+        match self {
+            Errno::ObjIdError => 0x3d_0001,
+            Errno::ObjUnavailable => 0x3d_0002,
+            Errno::ObjDeleted => 0x3d_0003,
+            Errno::ObjTimeout => 0x3d_0004,
+            Errno::NotEnoughMemory => 0x11_0001,
+            Errno::NotABlock => 0x11_0002,
+            Errno::BadAlign => 0x11_0003,
+            Errno::BadAddress => 0x11_0004,
+            Errno::IllegalPriority => 0x3_0001,
+            Errno::NotSafe => 0x3_0002,
+            Errno::TooMany => 0x3_0003,
+            Errno::IdsSpent => 0x3_0004,
+            Errno::TaskNotFound => 0x3_0005,
+            Errno::InvalidState => 0x16_0001,
+            Errno::InvalidOption => 0x16_0002,
+            Errno::InvalidOperation => 0x16_0003,
+            Errno::CountOver => 0x16_0004,
+            Errno::InvalidMsgLength => 0x41_0001,
+            Errno::NonZeroTimeout => 0x41_0002,
+            Errno::BadSize => 0x41_0003,
+            Errno::NotIsrCallable => 0x43_0001,
+            Errno::NotShell => 0x43_0002,
+            Errno::SymbolsFull => 0x1c_0001,
+            Errno::BadKind => 0x1c_0002,
+            Errno::LoadFailed => 0x1d_0001,
+            Errno::NoSuchModule => 0x1d_0002,
+        }
+    }
+}

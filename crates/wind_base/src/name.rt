@@ -1,0 +1,116 @@
+//! Names of tasks, modules and symbols.
+
+ghost use Rattle.std.specs.Prelude.{◌≡◌, ◌<◌, ◌≤◌, ◌↔◌, Err, IfOk, length, take};
+ghost use Rattle.wind_base.specs.declared.name.NameErr.TheVariants as errors;
+
+use crate::limits::{NAME_BYTES, SHORT_NAME_BYTES};
+use arrayvec::ArrayVec;
+use std::alloc::Global;
+use std::marker::Model;
+
+/// A name of at most 31 bytes. It takes no memory.
+#[derive(Drop)]
+pub struct ShortName {
+    kept: ArrayVec<u8, SHORT_NAME_BYTES>,
+}
+
+impl Model for ShortName {
+    ghost use Rattle.std.specs.Prelude.{ℕ, List, ◌≤◌, length};
+
+    ghost Value = { List ℕ };
+
+    ghost view = { λ n. n.kept.items };
+
+    ghost invariant = { λ n. length n.kept.items ≤ 31 };
+}
+
+// So many of the first bytes; all of them, where there are fewer.
+fn front(bytes: &[u8], most: usize) -> &[u8]
+    ensures value { result.now ≡ take most bytes.now }
+    ensures within { length result.now ≤ most }
+{
+    if bytes.len() <= most {
+        bytes
+    } else {
+        &bytes[..most]
+    }
+}
+
+// A copy of bytes that fit.
+fn copied(bytes: &[u8]) -> ArrayVec<u8, SHORT_NAME_BYTES>
+    requires { length bytes.now ≤ 31 }
+    ensures { result.items ≡ bytes.now }
+{
+    let mut kept = ArrayVec::new();
+    let _ = kept.try_extend_from_slice(bytes);
+    kept
+}
+
+impl ShortName {
+    /// The name of these bytes, cut after the first 31.
+    pub fn cut(bytes: &[u8]) -> ShortName
+        ensures value { result ≡ take 31 bytes.now }
+        ensures within { length result ≤ 31 }
+    {
+        ShortName {
+            kept: copied(front(bytes, SHORT_NAME_BYTES)),
+        }
+    }
+
+    /// The bytes of the name.
+    pub fn bytes(&self) -> &[u8]
+        ensures value { result.now ≡ self.now }
+        ensures within { length result.now ≤ 31 }
+    {
+        self.kept.as_slice()
+    }
+}
+
+/// Why no name was made.
+#[derive(Clone, Copy, Debug, PartialEq, Eq)]
+pub enum NameErr {
+    /// There are more than 255 bytes.
+    TooLong,
+    /// Host memory ran out.
+    NoMemory,
+}
+
+/// A name of at most 255 bytes.
+#[derive(Drop)]
+pub struct Name {
+    kept: Vec<u8>,
+}
+
+impl Model for Name {
+    ghost use Rattle.std.specs.Prelude.{ℕ, List, ◌≤◌, length};
+
+    ghost Value = { List ℕ };
+
+    ghost view = { λ n. n.kept.items };
+
+    ghost invariant = { λ n. length n.kept.items ≤ 255 };
+}
+
+impl Name {
+    /// The name of exactly these bytes.
+    pub fn new(alloc: Global, bytes: &[u8]) -> Result<Name, NameErr>
+        ensures value { IfOk result (λ name. name ≡ bytes.now) }
+        ensures too_long { (result ≡ Err errors.TooLong) ↔ (255 < length bytes.now) }
+    {
+        if bytes.len() > NAME_BYTES {
+            return Err(NameErr::TooLong);
+        }
+        let Ok(kept) = bytes.to_vec(alloc) else {
+            return Err(NameErr::NoMemory);
+        };
+        Ok(Name { kept })
+    }
+
+    /// The bytes of the name.
+    pub fn bytes(&self) -> &[u8]
+        ensures value { result.now ≡ self.now }
+        ensures within { length result.now ≤ 255 }
+    {
+        &self.kept
+    }
+}
