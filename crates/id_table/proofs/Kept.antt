@@ -5,14 +5,14 @@ use Rattle.std.specs.Option.{MatchOption, IsSome, option_map}
 use Rattle.std.specs.List.{AllPairs, All, find, cons_option, position, remove}
 use Rattle.std.proofs.lemmas.Grind.{common_steps}
 use Rattle.std.proofs.lemmas.Bool.{cases_eq, eqb-true, eq-eqb, ne_eqb}
-use Rattle.std.proofs.lemmas.List.{get_or_default, length_push, length-append, length-take, length-drop, get_or-take, get_or-drop}
+use Rattle.std.proofs.lemmas.List.{get_or_default, get_or-map, length-map, length_push, length-append, length-take, length-drop, get_or-take, get_or-drop}
 use Rattle.std.proofs.lemmas.List.Elements.{All-push, All-append, filter_map-append}
 use Rattle.std.proofs.lemmas.List.Quantifiers.{position-Some, all_pairs_push, all_pairs_remove}
 use Rattle.std.proofs.lemmas.Option.{same_Some}
 use Rattle.slab.proofs.SlabLemmas.{Updates-with_value}
 use Rattle.slab.specs.Slab.{Slab, get, slab_len, with_value, Updates}
 use Rattle.id_table.specs.declared.entry.Entry.{Entry}
-use Rattle.id_table.specs.Rows.{Rows, ids, next_above, objects, object_of, with_object, without, IdsBelow}
+use Rattle.id_table.specs.Rows.{Rows, Rises, ids, next_above, objects, object_of, with_object, without, IdsBelow}
 use Rattle.id_table.specs.Inside.{row_at, rows_in, IsKept, EntryAt}
 
 -- ---- a search by id
@@ -67,6 +67,15 @@ above_ids (e ∷ es) n =
       | true ↦ refl
       | false ↦ above_ids es n
     ]
+
+-- the ids of entries rise
+rises_map : (order : List Entry) → AllPairs (λ c e. c.id < e.id) order → AllPairs (λ i j. i < j) (map (λ e. e.id) order)
+rises_map [] up i j d hij hj = absurd (omega arith)
+rises_map (x ∷ xs) up i j d hij hj =
+    let within : j < length (x ∷ xs) = omega (arith, length-map (x ∷ xs) (λ (e : Entry). e.id)) in
+    let at_i = get_or-map (λ (e : Entry). e.id) (x ∷ xs) i x d (omega arith) in
+    let at_j = get_or-map (λ (e : Entry). e.id) (x ∷ xs) j x d within in
+    omega (arith, at_i, at_j, up i j x hij within)
 
 -- ---- rows
 abbrev pub Present : {T : Type 0} → List Entry → Slab T → Type 0
@@ -123,6 +132,9 @@ module _ {T : Type 0} where
   ids_rows (e ∷ es) slots h =
       let row = row_is slots e es (h 0 e (omega arith)) in
       ap ids row.2 ∙ ap (λ is. e.id ∷ is) (ids_rows es slots (rest_present slots e es h))
+
+  pub rows_rise : (order : List Entry) (slots : Slab T) → Present order slots → AllPairs (λ c e. c.id < e.id) order → Rises (rows_in order slots)
+  rows_rise order slots h up = subst (λ is. AllPairs (λ i j. i < j) is) (sym (ids_rows order slots h)) (rises_map order up)
 
   pub above_rows : (order : List Entry) (slots : Slab T) (n : ℕ) → Present order slots → next_above (rows_in order slots) n ≡ option_map (λ e. e.id) (find (λ (e : Entry). nat_lt n e.id) order)
   above_rows order slots n h = ap (find (λ id. nat_lt n id)) (ids_rows order slots h) ∙ above_ids order n

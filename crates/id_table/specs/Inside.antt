@@ -11,12 +11,15 @@ pub record EntryAt (order : List Entry) (id place : ℕ) : Type 0 where
   pub same : (d : Entry) → (slice_index_or order place d).id ≡ id
 
 module _ {T : Type 0} where
+  -- an entry's id, with the object that its key has
   abbrev pub row_at : Slab T → Entry → Option (ℕ × T)
   row_at slots e = option_map (λ v. (e.id, v)) (get slots e.key)
 
+  -- the entries' ids with their objects, in the order of the entries
   abbrev pub rows_in : List Entry → Slab T → List (ℕ × T)
   rows_in order slots = filter_map (row_at slots) order
 
+  -- each entry has an object of its own, and there is no other; the ids rise; the room is there
   pub record IsKept (order : List Entry) (slots : Slab T) (room : ℕ) : Type 0 where
     pub present : All (λ e. IsSome (get slots e.key)) order
     pub apart : AllPairs (λ d e. d.key ≡ e.key → ⊥) order

@@ -1,12 +1,14 @@
 -- What a contract sees of a table: its objects by rising id, and how many it may have.
 use Rattle.std.specs.Prelude.{ℕ, ◌<◌, not, ◌==◌, nat_lt, if◌then◌else◌, List, [], ◌∷◌, ◌++◌, map, Option, None, Some, refl}
-use Rattle.std.specs.List.{All, filter, find}
+use Rattle.std.specs.List.{All, AllPairs, filter, find}
 use Rattle.std.specs.Coded.{Coded, code_by, coded×, coded_ℕ, coded_list}
 
+-- the ids with their objects, and the room
 pub record Rows (T : Type 0) : Type 0 where
   pub rows : List (ℕ × T)
   pub room : ℕ
 
+-- such a table, as a pair
 abbrev pub rows_code : {T : Type 0} → Coded T → Coded (Rows T)
 rows_code {T} code =
     code_by
@@ -26,6 +28,7 @@ module _ {T : Type 0} where
   abbrev pub with_object : List (ℕ × T) → ℕ → T → List (ℕ × T)
   with_object rs id value = map (λ r. if r.0 == id then (r.0, value) else r) rs
 
+  -- the objects without that of this id
   abbrev pub without : List (ℕ × T) → ℕ → List (ℕ × T)
   without rs id = filter (λ r. not (r.0 == id)) rs
 
@@ -33,9 +36,13 @@ module _ {T : Type 0} where
   abbrev pub ids : List (ℕ × T) → List ℕ
   ids rs = map (λ r. r.0) rs
 
-  -- the least live id above this number
+  -- the first of the live ids above this number: the least, since they rise
   abbrev pub next_above : List (ℕ × T) → ℕ → Option ℕ
   next_above rs n = find (λ id. nat_lt n id) (ids rs)
+
+  -- the live ids rise along the list
+  abbrev pub Rises : List (ℕ × T) → Type 0
+  Rises rs = AllPairs (λ i j. i < j) (ids rs)
 
   -- each id is below the next that is given out
   abbrev pub IdsBelow : ℕ → List (ℕ × T) → Type 0

@@ -3,7 +3,7 @@
 ghost use Rattle.std.specs.Prelude.{◌≡◌, ◌<◌, ◌≤◌, ◌+◌, [], length, IfOk, IfErr, IsOk, ◌↔◌, Some, IsSome, is_some, option_copied, slice_index_or};
 ghost use Rattle.std.specs.Option.{option_copied_mut};
 ghost use Rattle.std.specs.Borrow.{sem};
-ghost use Rattle.id_table.specs.Rows.{object_of, objects, added, removed, IdsBelow, next_above};
+ghost use Rattle.id_table.specs.Rows.{object_of, objects, added, removed, IdsBelow, Rises, next_above};
 
 use crate::entry::{Entry, entry_above, place_of};
 use crate::ident::Ident;
@@ -87,7 +87,8 @@ impl<T> Table<T> {
 
     /// The least live id above a number. None where there is none.
     pub fn next_after(&self, id: u32) -> Option<Ident>
-        ensures { result ≡ next_above self.now.rows id }
+        ensures value { result ≡ next_above self.now.rows id }
+        ensures rising { Rises self.now.rows }
     {
         match entry_above(&self.order, id) {
             Some(entry) => Some(entry.id),

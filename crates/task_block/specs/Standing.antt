@@ -13,12 +13,13 @@ suspended_mark suspended = if suspended then codes "+S" else []
 abbrev pub timed_mark : Bool → List ℕ
 timed_mark wakes = if wakes then codes "+T" else []
 
--- the word, by whether the task waits, has a tick to wake at, and is suspended; the words are those of the real system's task table
+-- the word, by whether the task waits, has a tick to wake at, and is suspended; the words are this project's own
 abbrev pub word_of : Bool → Bool → Bool → List ℕ
 word_of true wakes suspended = codes "PEND" ++ timed_mark wakes ++ suspended_mark suspended
 word_of false true suspended = codes "DELAY" ++ suspended_mark suspended
 word_of false false true = codes "SUSPEND"
 word_of false false false = codes "READY"
 
+-- the word of a task
 abbrev pub status_word : Task → List ℕ
 status_word t = word_of (is_some t.wait) (is_some t.wake) t.suspended

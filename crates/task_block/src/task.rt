@@ -73,7 +73,7 @@ impl Task {
         self.wait.is_none() && self.wake.is_none() && !self.suspended
     }
 
-    /// The word that tells how it stands, as the task table of the shell has it.
+    /// The word that tells how it stands, for the task table of the shell.
     pub fn status(&self) -> Status10
         ensures { result ≡ status_word self.now }
     {
