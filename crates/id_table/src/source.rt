@@ -30,6 +30,20 @@ impl IdSource {
         IdSource { next: 1 }
     }
 
+    /// A source with no id left.
+    pub fn spent() -> IdSource
+        ensures { result ≡ 1048577 }
+    {
+        IdSource { next: IDS + 1 }
+    }
+
+    /// The id that is given next. None where none is left.
+    pub fn peek(&self) -> Option<Ident>
+        ensures { SomeIff result (self.now ≤ 1048576) self.now }
+    {
+        Ident::new(self.next)
+    }
+
     /// How many ids are left.
     pub fn left(&self) -> u32
         ensures value { result ≡ 1048577 - self.now }

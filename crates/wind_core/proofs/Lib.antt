@@ -1,0 +1,9 @@
+pub mod Tables
+pub mod Writes
+pub mod Passes
+pub mod Comings
+pub mod Waking
+pub mod Ticks
+pub mod Keeping
+pub mod Lawful
+pub mod Ticking

@@ -1,0 +1,88 @@
+-- A tick keeps the kept facts, and leaves no wake behind.
+use Rattle.std.proofs.Common.{◌≡◌, ℕ, ◌+◌, true, false, cond, eqb, leb, List, [], ◌∷◌, Option, None, Some, is_some, refl, sym, ap, ◌∙◌, subst, arith}
+use Rattle.std.specs.List.{All, fold}
+use Rattle.std.proofs.lemmas.Option.{same_Some}
+use Rattle.task_block.specs.declared.task.Task.{Task}
+use Rattle.wind_lists.specs.Sorting.{first}
+use Rattle.wind_core.specs.State.{KernState, IsKern, WakesAhead, task_of}
+use Rattle.wind_core.specs.Orders.{running, due}
+use Rattle.wind_core.specs.Moves.{move_found, answered}
+use Rattle.wind_core.specs.Tick.{turn_task, turn_found, turn_of, take_turn, late_answer, late_errno, time_out, counted, tick}
+use Rattle.wind_core.specs.Laws.{TickLaw, AheadLaw}
+use Rattle.wind_core.proofs.Writes.{MayFollow}
+use Rattle.wind_core.proofs.Waking.{due-end_wait}
+use Rattle.wind_core.proofs.Ticks.{running_found, at_tick, turn_follows, tick-take_turn, none_due}
+use Rattle.wind_core.proofs.Keeping.{change_keeps, end_wait_keeps}
+
+-- ---- the runner's turn
+turn_found_keeps : (n : ℕ) (s : KernState) (t : Task) → IsKern (at_tick n s) → running s ≡ Some t → IsKern (at_tick n (turn_found s t))
+turn_found_keeps n s t is runs =
+    change_keeps (at_tick n s) t.id (s.next_since + cond (leb s.slice (t.turns + 1)) 1 0) (turn_task s.slice s.next_since) is (omega arith)
+    (λ x found.
+    subst (λ v. MayFollow (at_tick n s) v (turn_task s.slice s.next_since v) (s.next_since + cond (leb s.slice (t.turns + 1)) 1 0))
+    (same_Some t x (sym (running_found s t is.rising runs) ∙ found))
+    (turn_follows (at_tick n s) s.slice t))
+
+turn_keeps : (n : ℕ) (s : KernState) → IsKern (at_tick n s) → IsKern (at_tick n (take_turn s))
+turn_keeps n s is =
+    elim (eqb s.slice 0) as (λ b. IsKern (at_tick n (cond b s (turn_of s (running s))))) [
+      | true ↦ is
+      | false ↦
+          elim (running s) as (λ o. running s ≡ o → IsKern (at_tick n (turn_of s o))) [
+            | None ↦ λ e. is
+            | Some t ↦ λ e. elim (eqb t.locks 0) as (λ b. IsKern (at_tick n (cond b (turn_found s t) s))) [ true ↦ turn_found_keeps n s t is e | false ↦ is ]
+          ] refl
+    ]
+
+-- ---- whose tick has come goes on
+move_at_tick : (n : ℕ) (s : KernState) (who : ℕ) (f : Task → Task) (o : Option Task) → move_found (at_tick n s) who f o ≡ at_tick n (move_found s who f o)
+move_at_tick n s who f None = refl
+move_at_tick n s who f (Some t) = refl
+
+move_tick : (s : KernState) (who : ℕ) (f : Task → Task) (o : Option Task) → (move_found s who f o).tick ≡ s.tick
+move_tick s who f None = refl
+move_tick s who f (Some t) = refl
+
+time_out_keeps : (n : ℕ) (s : KernState) (x : Task) → IsKern (at_tick n s) → IsKern (at_tick n (time_out s x))
+time_out_keeps n s x is =
+    let f : Task → Task = answered (late_answer (is_some x.wait)) (late_errno (is_some x.wait)) in
+    subst IsKern (move_at_tick n s x.id f (task_of s.tasks x.id)) (end_wait_keeps (at_tick n s) x.id (late_answer (is_some x.wait)) (late_errno (is_some x.wait)) is)
+
+-- what is left, after whose tick had come has gone on
+record IsPast (n now : ℕ) (s : KernState) : Type 0 where
+  kept : IsKern (at_tick n s)
+  none : due s.tasks now ≡ []
+  count : s.tick ≡ now
+
+past_each : (n now : ℕ) (ds : List Task) (s : KernState) → IsKern (at_tick n s) → s.tick ≡ now → due s.tasks now ≡ ds → IsPast n now (fold time_out s ds)
+past_each n now [] s is count e = record { kept = is; none = e; count = count }
+past_each n now (x ∷ ds) s is count e =
+    past_each n now ds (time_out s x) (time_out_keeps n s x is)
+    (move_tick s x.id (answered (late_answer (is_some x.wait)) (late_errno (is_some x.wait))) (task_of s.tasks x.id) ∙ count)
+    (due-end_wait s now (late_answer (is_some x.wait)) (late_errno (is_some x.wait)) x ds is.rising e)
+
+past_ahead : (n now : ℕ) (s : KernState) → IsPast n now s → All (WakesAhead now) s.tasks
+past_ahead n now s past = none_due s.tasks now (ap first past.none)
+
+past_kept : (n now : ℕ) (s : KernState) → IsPast n now s → IsKern s
+past_kept n now s past = record {
+  few = past.kept.few;
+  rising = past.kept.rising;
+  ids = past.kept.ids;
+  first_id = past.kept.first_id;
+  last_id = past.kept.last_id;
+  distinct = past.kept.distinct;
+  sinces = past.kept.sinces;
+  ahead = subst (λ k. All (WakesAhead k) s.tasks) (sym past.count) (past_ahead n now s past);
+}
+
+-- ---- a tick
+ticked : (s : KernState) → IsKern s → IsPast s.tick (s.tick + 1) (tick s)
+ticked s is =
+    past_each s.tick (s.tick + 1) (due (take_turn (counted s)).tasks (s.tick + 1)) (take_turn (counted s)) (turn_keeps s.tick (counted s) is) (tick-take_turn (counted s)) refl
+
+pub tick_keeps : TickLaw
+tick_keeps s is = past_kept s.tick (s.tick + 1) (tick s) (ticked s is)
+
+pub tick_ahead : AheadLaw
+tick_ahead s is = let past = ticked s is in (past.count, past_ahead s.tick (s.tick + 1) (tick s) past)

@@ -1,0 +1,22 @@
+use Rattle.std.proofs.Common.{ap, ◌∙◌, sym, subst, cond}
+use Rattle.std.proofs.lemmas.Bool.{ne_eqb}
+use Rattle.wind_lists.specs.Records.{Rising}
+use Rattle.wind_core.specs.State.{task_id}
+use Rattle.wind_core.specs.Orders.{running}
+use Rattle.wind_core.specs.Tick.{turn_of}
+use Rattle.wind_core.proofs.Ticks.{runs, runner_lives}
+use Rattle.wind_core.proofs.kern.Kern.take_turn.Goals as goal
+
+pub turn-requires-clause-live : goal.turn-requires-clause-live
+turn-requires-clause-live c = runner_lives c.args.self.now c.in-Some.who (subst (λ s. Rising task_id s.tasks) c.self.view_is c.self.invariant.2.rising) c.in-Some.ensures
+
+pub returns : goal.returns
+returns c =
+    let s = c.args.self.now in
+    let up = subst (λ s. Rising task_id s.tasks) c.self.view_is c.self.invariant.2.rising in
+    let counted = ne_eqb s.slice 0 (λ e. c.if-self-eq0.false (ap (λ s. s.slice) c.self.view_is ∙ e)) in
+    record {
+      turn = c.turn.ensures
+          ∙ ap (turn_of s) (sym (runs s c.in-Some.who up c.in-Some.ensures))
+          ∙ ap (λ b. cond b s (turn_of s (running s))) (sym counted);
+    }

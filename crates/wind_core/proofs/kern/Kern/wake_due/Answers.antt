@@ -1,0 +1,24 @@
+use Rattle.std.proofs.Common.{◌∙◌, arith, ap, length}
+use Rattle.wind_core.proofs.Waking.{length-due}
+use Rattle.wind_core.proofs.Ticks.{late_turn}
+use Rattle.wind_core.proofs.kern.Kern.wake_due.Goals as goal
+
+pub time_out-requires-clause-live : goal.time_out-requires-clause-live
+time_out-requires-clause-live c = (late_turn c.loop-late.self c.args.tick c.in-Some.late c.in-Some.ensures.sound.rising c.in-Some.ensures.first).lives
+
+pub time_out-requires-clause-since : goal.time_out-requires-clause-since
+time_out-requires-clause-since c =
+    omega (arith, length-due c.args.self.now.tasks c.args.tick, c.self.invariant.2.few, ap (λ s. length s.tasks) c.self.view_is, c.loop-late.invariant.room, c.requires)
+
+pub loop-late-smaller : goal.loop-late-smaller
+loop-late-smaller c =
+    let turn = late_turn c.loop-late.self c.args.tick c.in-Some.late c.in-Some.ensures.sound.rising c.in-Some.ensures.first in
+    rw c.time_out.ensures (omega (arith, turn.fewer))
+
+pub loop-late-preserved : goal.loop-late-preserved
+loop-late-preserved c =
+    let turn = late_turn c.loop-late.self c.args.tick c.in-Some.late c.in-Some.ensures.sound.rising c.in-Some.ensures.first in
+    rw c.time_out.ensures (record {
+      same = turn.same ∙ c.loop-late.invariant.same;
+      room = omega (arith, turn.fewer, turn.sinces, c.loop-late.invariant.room);
+    })

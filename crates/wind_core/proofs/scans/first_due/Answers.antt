@@ -1,0 +1,9 @@
+use Rattle.std.proofs.Common.{option_copied}
+use Rattle.wind_core.specs.Orders.{arrives_before, is_due}
+use Rattle.wind_core.proofs.Passes.{arrives_before-order, pass_more}
+use Rattle.wind_core.proofs.scans.first_due.Goals as goal
+
+pub loop-index-preserved : goal.loop-index-preserved
+loop-index-preserved c =
+    pass_more arrives_before arrives_before-order (is_due c.args.tick) c.args.tasks.now.rows c.loop-index.index c.len-index-end.result c.value_at.result.now (option_copied c.loop-index.best) (option_copied c.better_due-best.result)
+    c.len-index-end.ensures c.loop-index-test.true c.value_at.ensures c.loop-index.invariant c.better_due-best.ensures

@@ -1,0 +1,21 @@
+-- How the kernel's tasks are kept: a table by id, of records that have their ids too.
+use Rattle.std.specs.Prelude.{◌≡◌, ℕ, List, Option}
+use Rattle.std.specs.List.{All}
+use Rattle.id_table.specs.Rows.{objects}
+use Rattle.task_block.specs.declared.task.Task.{Task}
+use Rattle.wind_core.specs.State.{KernState}
+
+-- each record has the id under which it is kept
+abbrev pub SameIds : List (ℕ × Task) → Type 0
+SameIds rs = All (λ r. r.1.id ≡ r.0) rs
+
+-- the kernel's state, from a table's rows and the counters
+abbrev pub kern_state : List (ℕ × Task) → ℕ → ℕ → ℕ → ℕ → Option ℕ → KernState
+kern_state rows next_id next_since tick slice last = record {
+  tasks = objects rows;
+  tick = tick;
+  slice = slice;
+  next_id = next_id;
+  next_since = next_since;
+  last = last;
+}

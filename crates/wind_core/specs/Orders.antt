@@ -1,0 +1,98 @@
+-- The orders in which tasks stand: who runs, who is handed what it waits for, whose time is up.
+use Rattle.std.specs.Prelude.{ℕ, Bool, false, ◌&&◌, ◌==◌, nat_lt, nat_le, if◌then◌else◌, List, [], ◌∷◌, Option, None, Some}
+use Rattle.std.specs.Cmp.Lexicographic.{slice_cmp}
+use Rattle.std.specs.Ordering.{is_lt, nat_cmp}
+use Rattle.std.specs.Option.{option_map}
+use Rattle.id_table.specs.declared.ident.Place.{Place}
+use Rattle.task_block.specs.declared.task.Task.{Task}
+use Rattle.task_block.specs.Standing.{is_ready}
+use Rattle.wind_lists.specs.Sorting.{first, in_line}
+use Rattle.wind_core.specs.State.{KernState, task_id, task_of}
+
+-- one list of numbers is before another: the first numbers that differ decide
+abbrev pub is_less : List ℕ → List ℕ → Bool
+is_less a b = is_lt (slice_cmp nat_cmp a b)
+
+-- the urgency order: by priority, then by order number, then by id (Programmer's Guide, preemptive priority scheduling)
+abbrev pub urgency : Task → List ℕ
+urgency t = t.pri ∷ t.since ∷ t.id ∷ []
+
+abbrev pub is_before : Task → Task → Bool
+is_before t u = is_less (urgency t) (urgency u)
+
+-- by order number alone, then by id
+abbrev pub arrival : Task → List ℕ
+arrival t = t.since ∷ t.id ∷ []
+
+abbrev pub arrives_before : Task → Task → Bool
+arrives_before t u = is_less (arrival t) (arrival u)
+
+-- a waiter stands by urgency, or by arrival where it has the mark `fifo`
+abbrev pub wait_pri : Task → ℕ
+wait_pri t = if t.fifo then 0 else t.pri
+
+abbrev pub wait_key : Task → List ℕ
+wait_key t = wait_pri t ∷ t.since ∷ t.id ∷ []
+
+abbrev pub waits_before : Task → Task → Bool
+waits_before t u = is_less (wait_key t) (wait_key u)
+
+abbrev pub same_place : Place → Place → Bool
+same_place p q = p.side == q.side && p.id == q.id
+
+abbrev pub is_place : Place → Option Place → Bool
+is_place place None = false
+is_place place (Some p) = same_place p place
+
+-- the task waits at this place
+abbrev pub waits_at : Place → Task → Bool
+waits_at place t = is_place place t.wait
+
+-- the tasks that wait at a place, in order
+abbrev pub waiters : List Task → Place → List Task
+waiters ts place = in_line waits_before (waits_at place) ts
+
+abbrev pub first_waiter : List Task → Place → Option Task
+first_waiter ts place = first (waiters ts place)
+
+-- the ready task that is before all others
+abbrev pub most_urgent : List Task → Option Task
+most_urgent ts = first (in_line is_before is_ready ts)
+
+-- the task is ready, and holds the lock that keeps others from running
+abbrev pub keeps_running : Task → Bool
+keeps_running t = is_ready t && nat_lt 0 t.locks
+
+abbrev pub keeper : Option Task → Option Task
+keeper None = None
+keeper (Some t) = if keeps_running t then Some t else None
+
+abbrev pub last_task : List Task → Option ℕ → Option Task
+last_task ts None = None
+last_task ts (Some id) = task_of ts id
+
+abbrev pub or_else : Option Task → Option Task → Option Task
+or_else None o = o
+or_else (Some t) o = Some t
+
+-- who runs: the task that ran last, where it is ready and holds the lock; else the ready task before all others
+abbrev pub running : KernState → Option Task
+running s = or_else (keeper (last_task s.tasks s.last)) (most_urgent s.tasks)
+
+abbrev pub runner : KernState → Option ℕ
+runner s = option_map task_id (running s)
+
+abbrev pub has_come : ℕ → Option ℕ → Bool
+has_come tick None = false
+has_come tick (Some wake) = nat_le wake tick
+
+-- the tick at which the task wakes has come
+abbrev pub is_due : ℕ → Task → Bool
+is_due tick t = has_come tick t.wake
+
+-- the tasks whose tick has come, by arrival
+abbrev pub due : List Task → ℕ → List Task
+due ts tick = in_line arrives_before (is_due tick) ts
+
+abbrev pub first_due : List Task → ℕ → Option Task
+first_due ts tick = first (due ts tick)

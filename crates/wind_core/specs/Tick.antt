@@ -1,0 +1,62 @@
+-- A tick of the clock: the count, the runner's turn, the tasks whose time is up.
+use Rattle.std.specs.Prelude.{ℕ, ◌+◌, Bool, false, ◌==◌, nat_le, if◌then◌else◌, Option, None, Some, is_some}
+use Rattle.std.specs.List.{fold}
+use Rattle.wind_base.specs.declared.errno.Errno.{Errno}
+use Rattle.wind_base.specs.declared.errno.Errno.TheVariants as errors
+use Rattle.task_block.specs.declared.task.Task.{Task}
+use Rattle.wind_lists.specs.Records.{change}
+use Rattle.wind_core.specs.declared.clock.Late.{Late}
+use Rattle.wind_core.specs.State.{KernState, task_id}
+use Rattle.wind_core.specs.Orders.{running, due}
+use Rattle.wind_core.specs.Moves.{renewed, end_wait}
+
+-- one more tick of a turn; one that is over begins anew, and the task goes behind its equals
+abbrev pub turn_task : ℕ → ℕ → Task → Task
+turn_task slice since t =
+    if nat_le slice (t.turns + 1) then renewed since (record t { turns = 0 })
+    else record t { turns = t.turns + 1 }
+
+abbrev pub turn_found : KernState → Task → KernState
+turn_found s t = record s {
+  tasks = change task_id s.tasks t.id (turn_task s.slice s.next_since);
+  next_since = s.next_since + (if nat_le s.slice (t.turns + 1) then 1 else 0);
+}
+
+-- a task that holds no lock
+abbrev pub is_free : Option Task → Bool
+is_free None = false
+is_free (Some t) = t.locks == 0
+
+-- the turn of a task that holds the lock is not counted
+abbrev pub turn_of : KernState → Option Task → KernState
+turn_of s None = s
+turn_of s (Some t) = if t.locks == 0 then turn_found s t else s
+
+-- the turn of whoever runs; with a slice of 0, turns are not counted (reference manual, kernelTimeSlice)
+abbrev pub take_turn : KernState → KernState
+take_turn s = if s.slice == 0 then s else turn_of s (running s)
+
+-- a wait that ends by time is answered with ERROR and OBJ_TIMEOUT, a delay with 0
+abbrev pub late_answer : Bool → ℕ
+late_answer waits = if waits then 4294967295 else 0
+
+abbrev pub late_errno : Bool → Option Errno
+late_errno waits = if waits then Some errors.ObjTimeout else None
+
+abbrev pub time_out : KernState → Task → KernState
+time_out s t = end_wait s t.id (late_answer (is_some t.wait)) (late_errno (is_some t.wait))
+
+-- who a late task is, and whether it waits for something
+abbrev pub late_of : Task → Late
+late_of t = record { who = t.id; waits = is_some t.wait }
+
+-- the tasks whose tick has come go on, by arrival
+abbrev pub wake_due : KernState → ℕ → KernState
+wake_due s tick = fold time_out s (due s.tasks tick)
+
+abbrev pub counted : KernState → KernState
+counted s = record s { tick = s.tick + 1 }
+
+-- a tick: the count rises, the runner's turn is one tick longer, and whose tick has come goes on
+abbrev pub tick : KernState → KernState
+tick s = wake_due (take_turn (counted s)) (s.tick + 1)

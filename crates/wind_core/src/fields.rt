@@ -1,0 +1,125 @@
+//! Suspension, priorities, and the fields of a task that are set one by one.
+
+ghost use Rattle.std.specs.Prelude.{◌≡◌, ◌<◌, ◌+◌, ◌^◌};
+ghost use Rattle.wind_core.specs.State.{Lives, task_of};
+ghost use Rattle.wind_core.specs.Moves.{suspend, resume, change_pri, set_locks, set_normal, set_safe, set_held, set_errno, set_int_locked, set_again, is_suspended as is_suspended_lem, has_pri as has_pri_lem};
+
+use crate::kern::Kern;
+use crate::tasks::{set_pri, settle, suspend_task, take_suspension};
+use id_table::Ident;
+use wind_base::Pri;
+
+impl Kern {
+    /// Suspends the task, whatever else it waits for. Its turn is over.
+    pub fn suspend(&mut self, who: Ident)
+        requires { Lives self.old who }
+        ensures { self.new ≡ suspend self.old who }
+    {
+        suspend_task(self.tasks.object_mut(who));
+    }
+
+    // Whether the task of this id is suspended.
+    fn is_suspended(&self, who: Ident) -> bool
+        ensures { result ≡ is_suspended_lem (task_of self.now.tasks who) }
+    {
+        match self.task(who) {
+            Some(task) => task.suspended,
+            None => false,
+        }
+    }
+
+    /// Ends the task's suspension. Where it is then ready, it stands behind its equals. Nothing changes
+    /// where it is not suspended.
+    pub fn resume(&mut self, who: Ident)
+        requires live { Lives self.old who }
+        requires since { self.old.next_since + 1 < 2 ^ 64 }
+        ensures { self.new ≡ resume self.old who }
+    {
+        if !self.is_suspended(who) {
+            return;
+        }
+        let task = self.tasks.object_mut(who);
+        take_suspension(task);
+        settle(task, &mut self.next_since);
+    }
+
+    // Whether the task of this id has this priority.
+    fn has_pri(&self, who: Ident, pri: Pri) -> bool
+        ensures { result ≡ has_pri_lem pri (task_of self.now.tasks who) }
+    {
+        match self.task(who) {
+            Some(task) => task.pri == pri,
+            None => false,
+        }
+    }
+
+    /// Gives the task a priority. A ready task whose priority changes stands behind its new equals.
+    pub fn change_pri(&mut self, who: Ident, pri: Pri)
+        requires live { Lives self.old who }
+        requires since { self.old.next_since + 1 < 2 ^ 64 }
+        ensures { self.new ≡ change_pri self.old who pri }
+    {
+        if self.has_pri(who, pri) {
+            return;
+        }
+        let task = self.tasks.object_mut(who);
+        set_pri(task, pri);
+        settle(task, &mut self.next_since);
+    }
+
+    /// Sets how often the task has locked the scheduler and not unlocked it.
+    pub fn set_locks(&mut self, who: Ident, n: u64)
+        requires { Lives self.old who }
+        ensures { self.new ≡ set_locks self.old who n }
+    {
+        self.tasks.object_mut(who).locks = n;
+    }
+
+    /// Sets the priority that the task was given, apart from what it inherits.
+    pub fn set_normal(&mut self, who: Ident, pri: Pri)
+        requires { Lives self.old who }
+        ensures { self.new ≡ set_normal self.old who pri }
+    {
+        self.tasks.object_mut(who).normal = pri;
+    }
+
+    /// Sets how often the task has been made safe from deletion and not unsafe again.
+    pub fn set_safe(&mut self, who: Ident, n: u64)
+        requires { Lives self.old who }
+        ensures { self.new ≡ set_safe self.old who n }
+    {
+        self.tasks.object_mut(who).safe = n;
+    }
+
+    /// Sets how many inversion-safe mutexes the task owns.
+    pub fn set_held(&mut self, who: Ident, n: u64)
+        requires { Lives self.old who }
+        ensures { self.new ≡ set_held self.old who n }
+    {
+        self.tasks.object_mut(who).held = n;
+    }
+
+    /// Sets the number of the task's last error.
+    pub fn set_errno(&mut self, who: Ident, n: u32)
+        requires { Lives self.old who }
+        ensures { self.new ≡ set_errno self.old who n }
+    {
+        self.tasks.object_mut(who).errno = n;
+    }
+
+    /// Sets whether the task holds interrupts back.
+    pub fn set_int_locked(&mut self, who: Ident, on: bool)
+        requires { Lives self.old who }
+        ensures { self.new ≡ set_int_locked self.old who on }
+    {
+        self.tasks.object_mut(who).int_locked = on;
+    }
+
+    /// Sets whether the task's next call repeats one that pended.
+    pub fn set_again(&mut self, who: Ident, on: bool)
+        requires { Lives self.old who }
+        ensures { self.new ≡ set_again self.old who on }
+    {
+        self.tasks.object_mut(who).again = on;
+    }
+}

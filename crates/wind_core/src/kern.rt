@@ -1,0 +1,159 @@
+//! The kernel's tasks and counters.
+
+ghost use Rattle.std.specs.Prelude.{◌≡◌, ◌<◌, ◌≤◌, ◌+◌, ◌^◌, [], length, Some, None, IfOk, IfErr, option_copied};
+ghost use Rattle.std.specs.Borrow.{sem};
+ghost use Rattle.std.specs.List.{All};
+ghost use Rattle.std.specs.Option.{option_map, option_copied_mut};
+ghost use Rattle.wind_core.specs.State.{Lives, IsKern, task_of, task_above};
+ghost use Rattle.wind_core.specs.Moves.{spawn, spawn_refusal, remove};
+
+use crate::tasks::made;
+use id_table::{IdSource, Ident, Table};
+use std::alloc::Global;
+use std::marker::Model;
+use std::mem;
+use task_block::{NewTask, Task};
+use wind_base::limits::TASKS;
+use wind_base::{Errno, NoMemory, Regs};
+
+/// The kernel's tasks and counters.
+#[derive(Drop)]
+pub struct Kern {
+    pub(crate) tasks: Table<Task>,
+    pub(crate) ids: IdSource,
+    pub(crate) next_since: u64,
+    pub(crate) tick: u64,
+    pub(crate) slice: u32,
+    pub(crate) last: Option<Ident>,
+}
+
+impl Model for Kern {
+    ghost use Rattle.std.specs.Prelude.{◌≡◌};
+    ghost use Rattle.wind_core.specs.State.{KernState, IsKern};
+    ghost use Rattle.wind_core.specs.Inside.{kern_state, SameIds};
+
+    ghost Value = { KernState };
+
+    ghost view = { λ k. kern_state k.tasks.rows k.ids k.next_since k.tick k.slice k.last };
+
+    ghost invariant = { λ k. (k.tasks.room ≡ 256) × SameIds k.tasks.rows × IsKern (kern_state k.tasks.rows k.ids k.next_since k.tick k.slice k.last) };
+}
+
+impl Kern {
+    ghost use Rattle.wind_core.specs.Lends.{lends_regs, lends_found};
+
+    /// A kernel without tasks, at tick 0. No other call takes memory.
+    pub fn new(alloc: Global) -> Result<Kern, NoMemory>
+        ensures { IfOk result (λ k. k ≡ record { tasks = []; tick = 0; slice = 0; next_id = 1; next_since = 0; last = None }) }
+    {
+        Ok(Kern {
+            tasks: Table::reserved(alloc, TASKS)?,
+            ids: IdSource::new(),
+            next_since: 0,
+            tick: 0,
+            slice: 0,
+            last: None,
+        })
+    }
+
+    /// How many ticks have come.
+    pub fn ticks(&self) -> u64
+        ensures { result ≡ self.now.tick }
+    {
+        self.tick
+    }
+
+    /// How many tasks live, 256 at most.
+    pub fn live(&self) -> u32
+        ensures value { result ≡ length self.now.tasks }
+        ensures sound { IsKern self.now }
+    {
+        self.tasks.len() as u32
+    }
+
+    /// The least live id above a number. None where there is none.
+    pub fn next_task(&self, id: u32) -> Option<Ident>
+        ensures { result ≡ task_above self.now.tasks id }
+    {
+        self.tasks.next_after(id)
+    }
+
+    /// The task of this id. None where it doesn't live.
+    pub fn task(&self, id: Ident) -> Option<&Task>
+        ensures { option_copied result ≡ task_of self.now.tasks id }
+    {
+        self.tasks.get(id)
+    }
+
+    // The registers of a task that lives, to be written.
+    fn regs_of(&mut self, who: Ident) -> &mut Regs
+        requires { Lives self.old who }
+        ensures* writes_back { sem 𝓛 (lends_regs self.entry who result) }
+        ensures value { option_map (λ t. t.regs) (task_of self.old.tasks who) ≡ Some result.now }
+    {
+        &mut self.tasks.object_mut(who).regs
+    }
+
+    /// The registers of the task of this id, to be written. None where it doesn't live.
+    pub fn regs_mut(&mut self, who: Ident) -> Option<&mut Regs>
+        ensures* writes_back { sem 𝓛 (lends_found self.entry who result) }
+        ensures value { option_copied_mut result ≡ option_map (λ t. t.regs) (task_of self.old.tasks who) }
+    {
+        if self.task(who).is_some() {
+            Some(self.regs_of(who))
+        } else {
+            None
+        }
+    }
+
+    /// Makes a new task, which is ready and stands behind its equals.
+    ///
+    /// # Errors
+    ///
+    /// `TooMany` where 256 tasks live, else `IdsSpent` where no id is left. Nothing changes then.
+    pub fn spawn_record(&mut self, task: NewTask) -> Result<Ident, Errno>
+        requires { self.old.next_since + 1 < 2 ^ 64 }
+        ensures ok { IfOk result (λ id. (spawn_refusal self.old ≡ None) × (id ≡ self.old.next_id) × (self.new ≡ spawn self.old task)) }
+        ensures err { IfErr result (λ e. (spawn_refusal self.old ≡ Some e) × (self.new ≡ self.old)) }
+    {
+        if self.tasks.len() >= TASKS as usize {
+            return Err(Errno::TooMany);
+        }
+        let Some(id) = self.ids.peek() else {
+            return Err(Errno::IdsSpent);
+        };
+        let Ok(id) = self
+            .tasks
+            .add(&mut self.ids, made(task, id, self.next_since))
+        else {
+            unreachable!()
+        };
+        self.next_since += 1;
+        Ok(id)
+    }
+
+    /// Takes the task of this id out. None where it doesn't live.
+    pub fn remove(&mut self, who: Ident) -> Option<Task>
+        ensures value { result ≡ task_of self.old.tasks who }
+        ensures tasks { self.new ≡ remove self.old who }
+    {
+        self.tasks.remove(who)
+    }
+
+    /// Takes the ids out, so that another table may draw from them. Until they are put back, none is left
+    /// for a task.
+    pub fn take_ids(&mut self) -> IdSource
+        ensures value { result ≡ self.old.next_id }
+        ensures spent { self.new ≡ record self.old { next_id = 1048577 } }
+    {
+        mem::replace(&mut self.ids, IdSource::spent())
+    }
+
+    /// Puts ids back. Those of all live tasks were given before.
+    pub fn put_ids(&mut self, ids: IdSource)
+        requires { All (λ t. t.id < ids) self.old.tasks }
+        ensures { self.new ≡ record self.old { next_id = ids } }
+    {
+        self.ids = ids;
+    }
+}

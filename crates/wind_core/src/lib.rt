@@ -1,0 +1,15 @@
+//! The kernel's tasks: who runs, who waits, and what its calls and a tick make of them.
+#![tactic(auto)]
+
+mod clock;
+mod fields;
+mod kern;
+mod laws;
+mod scans;
+mod tasks;
+#[cfg(test)]
+mod tests;
+mod waits;
+
+pub use kern::Kern;
+pub use laws::{kept_law, runner_law, tick_law, waiters_law, wake_all_law};

@@ -1,0 +1,162 @@
+//! What is done to one task.
+
+ghost use Rattle.std.specs.Prelude.{◌≡◌, ◌<◌, ◌+◌, ◌^◌, nat_le, if◌then◌else◌};
+ghost use Rattle.task_block.specs.Standing.{is_ready};
+ghost use Rattle.wind_core.specs.Moves.{new_task, renewed, pended, delayed, wake_at, is_endless as is_endless_lem, released, answered, settled, suspended, resumed, with_pri};
+ghost use Rattle.wind_core.specs.Tick.{turn_task};
+
+use id_table::{Ident, Place};
+use task_block::{NewTask, Task};
+use wind_base::{Errno, Pri};
+
+// The record of a new task.
+pub(crate) fn made(new: NewTask, id: Ident, since: u64) -> Task
+    ensures { result ≡ new_task id since new }
+{
+    let NewTask {
+        name,
+        entry,
+        stack,
+        pri,
+        regs,
+    } = new;
+    Task {
+        id,
+        name,
+        entry,
+        stack,
+        pri,
+        normal: pri,
+        since,
+        wait: None,
+        fifo: false,
+        wake: None,
+        suspended: false,
+        locks: 0,
+        safe: 0,
+        held: 0,
+        int_locked: false,
+        turns: 0,
+        regs,
+        errno: 0,
+        again: false,
+    }
+}
+
+// Whether a wait at this side of an object has no end by time, and goes by urgency.
+pub(crate) fn is_endless(side: u8) -> bool
+    ensures { result ≡ is_endless_lem side }
+{
+    side == 2 || side == 3
+}
+
+// The tick at which a wait at this side ends that lasts so many ticks. None where it has no end.
+pub(crate) fn wake_tick(side: u8, tick: u64, timeout: u32) -> Option<u64>
+    requires { tick < 2 ^ 63 }
+    ensures { result ≡ wake_at side tick timeout }
+{
+    if is_endless(side) || timeout == u32::MAX {
+        None
+    } else {
+        Some(tick + u64::from(timeout))
+    }
+}
+
+// The task begins to wait.
+pub(crate) fn begin_wait(task: &mut Task, place: Place, fifo: bool, wake: Option<u64>)
+    ensures { task.new ≡ pended place fifo wake task.old }
+{
+    let side = place.side;
+    task.wait = Some(place);
+    task.fifo = fifo && !is_endless(side);
+    task.wake = wake;
+    task.turns = 0;
+}
+
+// The task begins to sleep for so many ticks.
+pub(crate) fn begin_delay(task: &mut Task, tick: u64, ticks: u32)
+    requires { tick < 2 ^ 63 }
+    ensures { task.new ≡ delayed tick ticks task.old }
+{
+    if ticks != 0 {
+        task.wake = Some(tick + u64::from(ticks));
+        task.turns = 0;
+    }
+}
+
+// The task's wait or delay ends.
+pub(crate) fn end(task: &mut Task)
+    ensures { task.new ≡ released task.old }
+{
+    task.wait = None;
+    task.wake = None;
+}
+
+// The task's wait or delay ends with an answer.
+pub(crate) fn answer_wait(task: &mut Task, answer: u32, errno: Option<Errno>)
+    ensures { task.new ≡ answered answer errno task.old }
+{
+    end(task);
+    task.regs.gpr[3] = answer;
+    if let Some(e) = errno {
+        task.errno = e.number();
+    }
+}
+
+// The task gets a new order number, where it is ready.
+pub(crate) fn settle(task: &mut Task, next_since: &mut u64)
+    requires { next_since.old + 1 < 2 ^ 64 }
+    ensures task { task.new ≡ settled next_since.old task.old }
+    ensures next { next_since.new ≡ next_since.old + (if is_ready task.old then 1 else 0) }
+{
+    if task.ready() {
+        task.since = *next_since;
+        *next_since += 1;
+    }
+}
+
+// The task is suspended, and its turn is over.
+pub(crate) fn suspend_task(task: &mut Task)
+    ensures { task.new ≡ suspended task.old }
+{
+    task.suspended = true;
+    task.turns = 0;
+}
+
+// The task's suspension ends.
+pub(crate) fn take_suspension(task: &mut Task)
+    ensures { task.new ≡ resumed task.old }
+{
+    task.suspended = false;
+}
+
+// The task's priority is this one.
+pub(crate) fn set_pri(task: &mut Task, pri: Pri)
+    ensures { task.new ≡ with_pri pri task.old }
+{
+    task.pri = pri;
+}
+
+// The task gets a new order number.
+pub(crate) fn renew(task: &mut Task, next_since: &mut u64)
+    requires { next_since.old + 1 < 2 ^ 64 }
+    ensures task { task.new ≡ renewed next_since.old task.old }
+    ensures next { next_since.new ≡ next_since.old + 1 }
+{
+    task.since = *next_since;
+    *next_since += 1;
+}
+
+// One more tick of the task's turn. A turn that is over begins anew, behind the task's equals.
+pub(crate) fn count_turn(task: &mut Task, next_since: &mut u64, slice: u32)
+    requires { next_since.old + 1 < 2 ^ 64 }
+    ensures task { task.new ≡ turn_task slice next_since.old task.old }
+    ensures next { next_since.new ≡ next_since.old + (if nat_le slice (task.old.turns + 1) then 1 else 0) }
+{
+    if u64::from(task.turns) + 1 >= u64::from(slice) {
+        task.turns = 0;
+        renew(task, next_since);
+    } else {
+        task.turns += 1;
+    }
+}

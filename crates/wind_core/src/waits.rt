@@ -1,0 +1,93 @@
+//! Waits and delays.
+
+ghost use Rattle.std.specs.Prelude.{◌≡◌, ◌<◌, ◌+◌, ◌^◌};
+ghost use Rattle.std.specs.Option.{option_map};
+ghost use Rattle.wind_core.specs.State.{Lives, IsKern, task_id};
+ghost use Rattle.wind_core.specs.Orders.{first_waiter as first_waiter_lem};
+ghost use Rattle.wind_core.specs.Moves.{pend, delay, release, end_wait, wake_all};
+
+use crate::kern::Kern;
+use crate::scans::first_waiter;
+use crate::tasks::{answer_wait, begin_delay, begin_wait, end, renew, settle, wake_tick};
+use id_table::{Ident, Place};
+use wind_base::Errno;
+
+impl Kern {
+    /// The task begins to wait at a place, behind its equals, for so many ticks, or without end where
+    /// `timeout` is `u32::MAX`. It waits in order of arrival where `fifo` is set, else by priority. At
+    /// sides 2 (the deletion of a task) and 3 (the console) it waits by priority and without end.
+    pub fn pend(&mut self, who: Ident, place: Place, fifo: bool, timeout: u32)
+        requires live { Lives self.old who }
+        requires timeout { 0 < timeout }
+        requires since { self.old.next_since + 1 < 2 ^ 64 }
+        requires tick { self.old.tick < 2 ^ 63 }
+        ensures { self.new ≡ pend self.old who place fifo timeout }
+    {
+        let wake = wake_tick(place.side, self.tick, timeout);
+        let task = self.tasks.object_mut(who);
+        begin_wait(task, place, fifo, wake);
+        renew(task, &mut self.next_since);
+    }
+
+    /// The task sleeps for so many ticks. With 0 it only goes behind its equals.
+    pub fn delay(&mut self, who: Ident, ticks: u32)
+        requires live { Lives self.old who }
+        requires since { self.old.next_since + 1 < 2 ^ 64 }
+        requires tick { self.old.tick < 2 ^ 63 }
+        ensures { self.new ≡ delay self.old who ticks }
+    {
+        let tick = self.tick;
+        let task = self.tasks.object_mut(who);
+        begin_delay(task, tick, ticks);
+        renew(task, &mut self.next_since);
+    }
+
+    /// The task's wait or delay ends. Where it is then ready, it stands behind its equals.
+    pub fn release(&mut self, who: Ident)
+        requires live { Lives self.old who }
+        requires since { self.old.next_since + 1 < 2 ^ 64 }
+        ensures { self.new ≡ release self.old who }
+    {
+        let task = self.tasks.object_mut(who);
+        end(task);
+        settle(task, &mut self.next_since);
+    }
+
+    /// The task's wait or delay ends, and its call is answered: by `answer` in r3, and by an error number
+    /// where one is named. Where it is then ready, it stands behind its equals.
+    pub fn end_wait(&mut self, who: Ident, answer: u32, errno: Option<Errno>)
+        requires live { Lives self.old who }
+        requires since { self.old.next_since + 1 < 2 ^ 64 }
+        ensures { self.new ≡ end_wait self.old who answer errno }
+    {
+        let task = self.tasks.object_mut(who);
+        answer_wait(task, answer, errno);
+        settle(task, &mut self.next_since);
+    }
+
+    /// The first of the tasks that wait at a place. None where none waits there.
+    pub fn first_waiter(&self, place: Place) -> Option<Ident>
+        ensures { result ≡ option_map task_id (first_waiter_lem self.now.tasks place) }
+    {
+        first_waiter(&self.tasks, &place).map(|task| task.id)
+    }
+
+    // The same, with the kept facts.
+    fn front(&self, place: &Place) -> Option<Ident>
+        ensures first { result ≡ option_map task_id (first_waiter_lem self.now.tasks place.now) }
+        ensures sound { IsKern self.now }
+    {
+        first_waiter(&self.tasks, place).map(|task| task.id)
+    }
+
+    /// The waits of all tasks at a place end with the same answer, in the order in which they stand there.
+    pub fn wake_all(&mut self, place: Place, answer: u32, errno: Option<Errno>)
+        requires { self.old.next_since < 2 ^ 63 }
+        ensures { self.new ≡ wake_all self.old place answer errno }
+    {
+        let _ = &self.tasks;
+        while let Some(who) = self.front(&place) {
+            self.end_wait(who, answer, errno);
+        }
+    }
+}

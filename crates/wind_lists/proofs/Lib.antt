@@ -1,0 +1,4 @@
+pub mod Sorting
+pub mod Orders
+pub mod Records
+pub mod Passing
