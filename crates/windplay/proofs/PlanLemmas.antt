@@ -1,23 +1,22 @@
--- What the words and the console file ask for.
-use Rattle.std.proofs.Common.{◌≡◌, ℕ, zero, suc, ◌<◌, ◌≤◌, List, [], ◌∷◌, Option, Some, None, true, false, refl, sym, ap, arith, length}
-use Rattle.std.specs.Prelude.{IfSome, IsSomeAnd, nat_lt, if◌then◌else◌}
+-- What the words and the two files ask for.
+use Rattle.std.proofs.Common.{◌≡◌, ℕ, zero, suc, ◌<◌, ◌≤◌, List, [], ◌∷◌, Option, Some, None, true, false, cond, refl, sym, ap, ◌∙◌, arith, length}
+use Rattle.std.specs.Prelude.{IfSome, IsSomeAnd, nat_lt}
 use Rattle.std.proofs.lemmas.Bool.Decides.{nat_tests}
 use Rattle.wind_outside.specs.Files.{Files, IsFetchOf}
 use Rattle.wind_outside.specs.declared.folder.Fetched.TheVariants as fetched
-use Rattle.windplay.specs.Built.{unbuilt_line}
+use Rattle.tick_file.specs.Schedule.{Timetable}
 use Rattle.windplay.specs.Command.{CommandState}
-use Rattle.windplay.specs.Plan.{Plan, Refuse, IsFilePlan, IsEntry, plan_of, plan_built}
+use Rattle.windplay.specs.Plan.{Plan, Refuse, Start, IsFilePlan, IsEntry, IsHeld, plan_file, plan_ticks, plan_of}
+use Rattle.windplay.specs.Headline.{IsRefusal, IsUnread, Refuses, IsPlayed, IsComplete}
+use Rattle.windplay.specs.declared.ending.Status.{Status}
 use Rattle.windplay.specs.declared.ending.Status.TheVariants as status
+use Rattle.windplay.specs.declared.ending.Which.{Which}
 use Rattle.windplay.specs.declared.ending.Which.TheVariants as which
 
 -- a folder has some file of a name, or none
 some_entry : (files : Option Files) (name : List ℕ) → (file : Option (List ℕ)) × IsEntry files name file
 some_entry None name = (None, tt)
 some_entry (Some held) name = (held name, refl)
-
--- some plan
-pub some_plan : (files : Option Files) (command : CommandState) → (plan : Plan) × IsFilePlan files command plan
-some_plan files command = let entry = some_entry files command.console in (plan_of entry.0, record { file = entry.0; told = entry.1; plan_is = refl })
 
 -- the file that a fetch found is the folder's, where it tells
 found_entry : (files : Option Files) (name bytes : List ℕ) → IfSome files (λ held. (held name ≡ Some bytes) × (length bytes ≤ 1048576)) → IsEntry files name (Some bytes)
@@ -27,11 +26,6 @@ found_entry (Some held) name bytes h = sym h.0
 missing_entry : (files : Option Files) (name : List ℕ) → IfSome files (λ held. held name ≡ None) → IsEntry files name None
 missing_entry None name h = tt
 missing_entry (Some held) name h = sym h
-
--- a file that is too long
-long_file : (file : Option (List ℕ)) → IsSomeAnd file (λ bytes. 1048576 < length bytes) → Refuse (status.TooLong which.Console) ≡ plan_of file
-long_file None h = elim h [ ]
-long_file (Some bytes) h = let long : nat_lt 1048576 (length bytes) ≡ true = grind (arith, nat_tests, h) in sym (ap (λ t. if t then Refuse (status.TooLong which.Console) else plan_built bytes (unbuilt_line bytes)) long)
 
 some_list : (n : ℕ) → (xs : List ℕ) × (length xs ≡ n)
 some_list zero = ([], refl)
@@ -43,19 +37,108 @@ long_entry : (files : Option Files) (name : List ℕ) → IfSome files (λ held.
 long_entry None name h = let xs = some_list 1048577 in (Some xs.0, tt, omega (arith, xs.1))
 long_entry (Some held) name h = (held name, refl, h)
 
-pub plan_missing : (files : Option Files) (command : CommandState) → IfSome files (λ held. IsFetchOf (held command.console) 1048576 fetched.Missing) → IsFilePlan files command (Refuse (status.Absent which.Console))
-plan_missing files command h = record { file = None; told = missing_entry files command.console h; plan_is = refl }
+-- a file that is too long, and one that is not
+long_file : (file : Which) (next : List ℕ → Plan) (bytes : Option (List ℕ)) → IsSomeAnd bytes (λ b. 1048576 < length b) → plan_file file next bytes ≡ Refuse (status.TooLong file)
+long_file file next None h = elim h [ ]
+long_file file next (Some b) h = let long : nat_lt 1048576 (length b) ≡ true = grind (arith, nat_tests, h) in ap (λ t. cond t (Refuse (status.TooLong file)) (next b)) long
 
-pub plan_too_long : (files : Option Files) (command : CommandState) → IfSome files (λ held. IsFetchOf (held command.console) 1048576 fetched.TooLong) → IsFilePlan files command (Refuse (status.TooLong which.Console))
-plan_too_long files command h = let entry = long_entry files command.console h in record { file = entry.0; told = entry.1; plan_is = long_file entry.0 entry.2 }
+short_file : (file : Which) (next : List ℕ → Plan) (bytes : List ℕ) → length bytes ≤ 1048576 → plan_file file next (Some bytes) ≡ next bytes
+short_file file next bytes h = let short : nat_lt 1048576 (length bytes) ≡ false = grind (arith, nat_tests) in ap (λ t. cond t (Refuse (status.TooLong file)) (next bytes)) short
 
--- a file within the limit is planned by its first line that is not built
-pub plan_found : (files : Option Files) (command : CommandState) (bytes : List ℕ) → length bytes ≤ 1048576 → IfSome files (λ held. (held command.console ≡ Some bytes) × (length bytes ≤ 1048576))
-    → IsFilePlan files command (plan_built bytes (unbuilt_line bytes))
-plan_found files command bytes short h =
-    let within : nat_lt 1048576 (length bytes) ≡ false = grind (arith, nat_tests) in
-    record {
-      file = Some bytes;
-      told = found_entry files command.console bytes h;
-      plan_is = sym (ap (λ t. if t then Refuse (status.TooLong which.Console) else plan_built bytes (unbuilt_line bytes)) within);
+-- a refusal whose fault was counted is one where the count rose by more
+refusal_up : (s : Status) (plan : Plan) (rose later : Type 0) → (rose → later) → IsRefusal s plan rose → IsRefusal s plan later
+refusal_up status.NoMemory plan rose later up h = tt
+refusal_up status.ReadFault plan rose later up h = up h
+refusal_up status.Quiet plan rose later up h = h
+refusal_up status.Limit plan rose later up h = h
+refusal_up status.WriteFault plan rose later up h = h
+refusal_up status.Usage plan rose later up h = h
+refusal_up (status.Absent file) plan rose later up h = h
+refusal_up (status.BadTicks line) plan rose later up h = h
+refusal_up (status.TooLong file) plan rose later up h = h
+refusal_up (status.NotBuilt what) plan rose later up h = h
+
+module _ (files : Option Files) (name : List ℕ) where
+  -- the file that a fetch found
+  pub held_found : (bytes : List ℕ) → length bytes ≤ 1048576 → IfSome files (λ held. (held name ≡ Some bytes) × (length bytes ≤ 1048576)) → IsHeld files name bytes
+  held_found bytes within h = record { told = found_entry files name bytes h; within = within }
+
+  module _ (file : Which) (rose : Type 0) where
+    -- no file, and one that is too long
+    pub unread_missing : IfSome files (λ held. IsFetchOf (held name) 1048576 fetched.Missing) → IsUnread (status.Absent file) file files name rose
+    unread_missing h = record { file = None; told = missing_entry files name h; refused = λ next. refl }
+
+    pub unread_long : IfSome files (λ held. IsFetchOf (held name) 1048576 fetched.TooLong) → IsUnread (status.TooLong file) file files name rose
+    unread_long h = let long = long_entry files name h in record { file = long.0; told = long.1; refused = λ next. long_file file next long.0 long.2 }
+
+    -- a fault of reading, and want of memory
+    pub unread_fault : rose → IsUnread status.ReadFault file files name rose
+    unread_fault h = let some = some_entry files name in record { file = some.0; told = some.1; refused = λ next. h }
+
+    pub unread_memory : IsUnread status.NoMemory file files name rose
+    unread_memory = let some = some_entry files name in record { file = some.0; told = some.1; refused = λ next. tt }
+
+module _ (files : Option Files) (command : CommandState) where
+  -- the console file is refused
+  pub refuses_console : (s : Status) (rose : Type 0) → IsUnread s which.Console files command.console rose → Refuses s files command rose
+  refuses_console s rose unread =
+      let ticks = some_entry files command.ticks in (
+        plan_of unread.file ticks.0,
+        record { console = unread.file; ticks = ticks.0; console_told = unread.told; ticks_told = ticks.1; plan_is = refl },
+        unread.refused (λ bytes. plan_file which.Ticks (plan_ticks bytes) ticks.0),
+      )
+
+  module _ (console : List ℕ) (first : IsHeld files command.console console) where
+    -- the tick file is refused
+    pub refuses_ticks : (s : Status) (rose later : Type 0) → (rose → later) → IsUnread s which.Ticks files command.ticks rose → Refuses s files command later
+    refuses_ticks s rose later up unread = (
+      plan_file which.Ticks (plan_ticks console) unread.file,
+      record {
+        console = Some console;
+        ticks = unread.file;
+        console_told = first.told;
+        ticks_told = unread.told;
+        plan_is = sym (short_file which.Console (λ bytes. plan_file which.Ticks (plan_ticks bytes) unread.file) console first.within);
+      },
+      refusal_up s (plan_file which.Ticks (plan_ticks console) unread.file) rose later up (unread.refused (plan_ticks console)),
+    )
+
+    -- both files are there
+    pub both_held : (ticks : List ℕ) (plan : Plan) → IsHeld files command.ticks ticks → plan ≡ plan_ticks console ticks → IsFilePlan files command plan
+    both_held ticks plan second e = record {
+      console = Some console;
+      ticks = Some ticks;
+      console_told = first.told;
+      ticks_told = second.told;
+      plan_is =
+          e
+          ∙ sym (short_file which.Ticks (plan_ticks console) ticks second.within)
+          ∙ sym (short_file which.Console (λ bytes. plan_file which.Ticks (plan_ticks bytes) (Some ticks)) console first.within);
     }
+
+    -- and what they ask for is refused
+    pub refuses_both : (s : Status) (ticks : List ℕ) (plan : Plan) (rose : Type 0) → IsHeld files command.ticks ticks → plan ≡ plan_ticks console ticks → IsRefusal s plan ⊥ → Refuses s files command rose
+    refuses_both s ticks plan rose second e h = (plan, both_held ticks plan second e, refusal_up s plan ⊥ rose (λ never. absurd never) h)
+
+-- a refusal of a plan to start comes of a fault, or for want of memory
+refusal_played : (s : Status) (plan : Plan) (console : List ℕ) (schedule : Timetable) (rose : Type 0) → plan ≡ Start console schedule → (rose → ⊥) → IsRefusal s plan rose → IsPlayed s
+refusal_played status.NoMemory plan console schedule rose e fine h = tt
+refusal_played status.ReadFault plan console schedule rose e fine h = fine h
+refusal_played status.Quiet plan console schedule rose e fine h = tt
+refusal_played status.Limit plan console schedule rose e fine h = tt
+refusal_played status.WriteFault plan console schedule rose e fine h = h
+refusal_played status.Usage plan console schedule rose e fine h = let bad : Refuse status.Usage ≡ Start console schedule = sym h ∙ e in cc
+refusal_played (status.Absent file) plan console schedule rose e fine h = let bad : Refuse (status.Absent file) ≡ Start console schedule = sym h ∙ e in cc
+refusal_played (status.BadTicks line) plan console schedule rose e fine h = let bad : Refuse (status.BadTicks line) ≡ Start console schedule = sym h ∙ e in cc
+refusal_played (status.TooLong file) plan console schedule rose e fine h = let bad : Refuse (status.TooLong file) ≡ Start console schedule = sym h ∙ e in cc
+refusal_played (status.NotBuilt what) plan console schedule rose e fine h = let bad : Refuse (status.NotBuilt what) ≡ Start console schedule = sym h ∙ e in cc
+
+-- so what is refused without a fault had no plan to start
+pub complete_refused : (s : Status) (files : Option Files) (command : CommandState) (rose out_rose : Type 0) → Refuses s files command rose → IsComplete s (Some command) files rose out_rose
+complete_refused s None command rose out_rose h = tt
+complete_refused s (Some held) command rose out_rose h =
+    λ console schedule e fine out_fine.
+    refusal_played s h.0 console schedule rose
+    (h.1.plan_is ∙ ap (λ file. plan_of file h.1.ticks) h.1.console_told ∙ ap (plan_of (held command.console)) h.1.ticks_told ∙ e)
+    fine
+    h.2

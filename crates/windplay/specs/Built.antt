@@ -1,16 +1,8 @@
 -- Which consoles are built.
-use Rattle.std.specs.Prelude.{ℕ, ◌+◌, List, [], ◌∷◌, Option, Some, None, Bool, true, false, ◌&&◌, ◌==◌, nat_le, if◌then◌else◌, length}
+use Rattle.std.specs.Prelude.{ℕ, ◌+◌, List, [], ◌∷◌, Option, Some, None, Bool, true, false, ◌&&◌, nat_le, if◌then◌else◌, length}
 use Rattle.std.specs.List.{list_all}
 use Rattle.shell_parse.specs.Grammar.{Reading, Statements, Refused, read_line}
-
--- the lines of a console, split at each 0x0A
-abbrev pub byte_before : ℕ → List (List ℕ) → List (List ℕ)
-byte_before b [] = (b ∷ []) ∷ []
-byte_before b (line ∷ lines) = (b ∷ line) ∷ lines
-
-abbrev pub split_lines : List ℕ → List (List ℕ)
-split_lines [] = [] ∷ []
-split_lines (b ∷ bs) = if b == 10 then [] ∷ split_lines bs else byte_before b (split_lines bs)
+use Rattle.tick_file.specs.Lines.{pieces}
 
 -- a byte from 0x20 to 0x7E
 abbrev pub is_printable : ℕ → Bool
@@ -30,6 +22,6 @@ abbrev pub unbuilt_from : ℕ → List (List ℕ) → Option ℕ
 unbuilt_from n [] = None
 unbuilt_from n (line ∷ lines) = if is_built line then unbuilt_from (n + 1) lines else Some n
 
--- the first line of a console that is not built, counted from 1
+-- the first line of a console that is not built, counted from 1; the lines are the pieces between the 0x0A
 unfoldable pub unbuilt_line : List ℕ → Option ℕ
-unbuilt_line console = unbuilt_from 1 (split_lines console)
+unbuilt_line console = unbuilt_from 1 (pieces console)

@@ -9,11 +9,13 @@ use Rattle.board_player.specs.declared.board.Board.{Board}
 use Rattle.board_player.specs.Machine.{opening}
 use Rattle.windplay.specs.Runs.{Ran}
 use Rattle.windplay.specs.Command.{CommandState}
-use Rattle.windplay.specs.Plan.{Plan, Refuse, Start, IsFilePlan, IsPlan, plan_of}
+use Rattle.tick_file.specs.Schedule.{Timetable}
+use Rattle.windplay.specs.Plan.{Plan, Refuse, Start, IsEntry, IsFilePlan, IsPlan, plan_file, plan_of}
 use Rattle.windplay.specs.declared.run.RunEnd.{RunEnd}
 use Rattle.windplay.specs.declared.run.RunEnd.TheVariants as ends
 use Rattle.windplay.specs.declared.ending.Status.{Status}
 use Rattle.windplay.specs.declared.ending.Status.TheVariants as status
+use Rattle.windplay.specs.declared.ending.Which.{Which}
 use Rattle.windplay.specs.declared.ending.Stand.{Stand}
 use Rattle.windplay.specs.declared.ending.Stand.TheVariants as stands
 use Rattle.windplay.specs.declared.ending.Ending.{Ending}
@@ -27,7 +29,13 @@ IsRefusal status.Limit plan rose = ⊥
 IsRefusal status.WriteFault plan rose = ⊥
 IsRefusal s plan rose = plan ≡ Refuse s
 
--- the status refuses what a command and its console file ask for
+-- the status refuses a file of that name, whatever would follow it
+pub record IsUnread (s : Status) (which : Which) (files : Option Files) (name : List ℕ) (rose : Type 0) : Type 0 where
+  pub file : Option (List ℕ)
+  pub told : IsEntry files name file
+  pub refused : (next : List ℕ → Plan) → IsRefusal s (plan_file which next file) rose
+
+-- the status refuses what a command and its files ask for
 abbrev pub Refuses : Status → Option Files → CommandState → Type 0 → Type 0
 Refuses s files command rose = (plan : Plan) × IsFilePlan files command plan × IsRefusal s plan rose
 
@@ -43,12 +51,13 @@ abbrev pub limit_of : Option CommandState → ℕ
 limit_of None = 0
 limit_of (Some command) = command.limit
 
--- a board was played: it is that of the wind machine, started with the console and these devices
+-- a board was played: it is that of the wind machine, started with the console and these devices; the schedule waits for ticks to be built
 pub record Played (s : Status) (plan : Plan) (limit : ℕ) (devices : List (Option DeviceState)) (board : State) (old new : Option (List ℕ)) : Type 0 where
   pub end : RunEnd
   pub status_is : s ≡ status_of end
   pub console : List ℕ
-  pub planned : plan ≡ Start console
+  pub schedule : Timetable
+  pub planned : plan ≡ Start console schedule
   pub ran : Ran end (opening console devices) limit board old new
 
 -- what is left: the slots as they were and nothing written, or the board of a run
@@ -69,9 +78,9 @@ IsPlayed status.Limit = Unit {0}
 IsPlayed status.NoMemory = Unit {0}
 IsPlayed s = ⊥
 
--- with a command, a told folder that holds a console to play, and no fault, the session is played
+-- with a command, a told folder whose files are a console and a tick file to play, and no fault, the session is played
 abbrev pub IsComplete : Status → Option CommandState → Option Files → Type 0 → Type 0 → Type 0
 IsComplete s None files folder_rose out_rose = Unit {0}
 IsComplete s (Some command) None folder_rose out_rose = Unit {0}
 IsComplete s (Some command) (Some held) folder_rose out_rose =
-    (console : List ℕ) → plan_of (held command.console) ≡ Start console → (folder_rose → ⊥) → (out_rose → ⊥) → IsPlayed s
+    (console : List ℕ) (schedule : Timetable) → plan_of (held command.console) (held command.ticks) ≡ Start console schedule → (folder_rose → ⊥) → (out_rose → ⊥) → IsPlayed s

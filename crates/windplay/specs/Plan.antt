@@ -1,38 +1,65 @@
--- What a command and its console file ask for.
-use Rattle.std.specs.Prelude.{◌≡◌, ℕ, List, Option, Some, None, nat_lt, if◌then◌else◌, length}
+-- What a command and its files ask for.
+use Rattle.std.specs.Prelude.{◌≡◌, ℕ, ◌≤◌, List, Option, Some, None, nat_lt, if◌then◌else◌, length}
 use Rattle.wind_outside.specs.Files.{Files}
+use Rattle.tick_file.specs.Lines.{first_bad_line}
+use Rattle.tick_file.specs.Schedule.{Timetable, timetable_of}
 use Rattle.windplay.specs.Built.{unbuilt_line}
 use Rattle.windplay.specs.Command.{CommandState}
 use Rattle.windplay.specs.declared.ending.Status.{Status}
 use Rattle.windplay.specs.declared.ending.Status.TheVariants as status
+use Rattle.windplay.specs.declared.ending.Which.{Which}
 use Rattle.windplay.specs.declared.ending.Which.TheVariants as which
 use Rattle.windplay.specs.declared.ending.Unbuilt.TheVariants as unbuilt
 
--- a refusal, or a console to play
+-- a refusal, or a console to play with the events of a tick file
 pub data Plan : Type 0 where
   Refuse : Status → Plan
-  Start : List ℕ → Plan
+  Start : List ℕ → Timetable → Plan
 
 -- a console is played, unless a line of it is not built
-abbrev pub plan_built : List ℕ → Option ℕ → Plan
-plan_built console None = Start console
-plan_built console (Some n) = Refuse (status.NotBuilt (unbuilt.Line n))
+abbrev pub plan_built : List ℕ → Timetable → Option ℕ → Plan
+plan_built console schedule None = Start console schedule
+plan_built console schedule (Some n) = Refuse (status.NotBuilt (unbuilt.Line n))
 
--- the order of refusals: the console file is there, it has at most 1 MiB, and each of its lines is built
-abbrev pub plan_of : Option (List ℕ) → Plan
-plan_of None = Refuse (status.Absent which.Console)
-plan_of (Some console) = if nat_lt 1048576 (length console) then Refuse (status.TooLong which.Console) else plan_built console (unbuilt_line console)
+-- a tick file that was read is built, unless it has a line of `rx`
+abbrev pub plan_read : List ℕ → Timetable → Plan
+plan_read console schedule = if schedule.on_demand then plan_built console schedule (unbuilt_line console) else Refuse (status.NotBuilt unbuilt.Ticks)
+
+-- a tick file is read, unless a line of it is outside the grammar
+abbrev pub plan_lines : List ℕ → List ℕ → Option ℕ → Plan
+plan_lines console ticks None = plan_read console (timetable_of ticks)
+plan_lines console ticks (Some n) = Refuse (status.BadTicks n)
+
+-- a tick file, by its first line outside the grammar
+abbrev pub plan_ticks : List ℕ → List ℕ → Plan
+plan_ticks console ticks = plan_lines console ticks (first_bad_line ticks)
+
+-- a file goes on to the next plan, unless it is not there or has more than 1 MiB
+abbrev pub plan_file : Which → (List ℕ → Plan) → Option (List ℕ) → Plan
+plan_file file next None = Refuse (status.Absent file)
+plan_file file next (Some bytes) = if nat_lt 1048576 (length bytes) then Refuse (status.TooLong file) else next bytes
+
+-- the order of refusals: the console file, the tick file, its lines, a line of `rx`, and the console's lines
+abbrev pub plan_of : Option (List ℕ) → Option (List ℕ) → Plan
+plan_of console ticks = plan_file which.Console (λ bytes. plan_file which.Ticks (plan_ticks bytes) ticks) console
 
 -- the file of that name, in a folder that may leave its files untold
 abbrev pub IsEntry : Option Files → List ℕ → Option (List ℕ) → Type 0
 IsEntry None name file = Unit {0}
 IsEntry (Some held) name file = file ≡ held name
 
--- what a command asks for, with the console file of the folder
+-- the file of that name has these bytes, at most 1 MiB of them
+pub record IsHeld (files : Option Files) (name bytes : List ℕ) : Type 0 where
+  pub told : IsEntry files name (Some bytes)
+  pub within : length bytes ≤ 1048576
+
+-- what a command asks for, with the two files of the folder
 pub record IsFilePlan (files : Option Files) (command : CommandState) (plan : Plan) : Type 0 where
-  pub file : Option (List ℕ)
-  pub told : IsEntry files command.console file
-  pub plan_is : plan ≡ plan_of file
+  pub console : Option (List ℕ)
+  pub ticks : Option (List ℕ)
+  pub console_told : IsEntry files command.console console
+  pub ticks_told : IsEntry files command.ticks ticks
+  pub plan_is : plan ≡ plan_of console ticks
 
 -- words that are no command are refused before any file
 abbrev pub IsPlan : Option Files → Option CommandState → Plan → Type 0

@@ -11,5 +11,6 @@ number_of status.Limit = 3
 number_of status.ReadFault = 4
 number_of status.WriteFault = 5
 number_of status.NoMemory = 6
+number_of (status.BadTicks line) = 7
 number_of (status.TooLong which) = 8
 number_of (status.NotBuilt what) = 9

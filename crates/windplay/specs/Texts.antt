@@ -5,12 +5,19 @@ use Rattle.wind_outside.specs.Told.{Appended}
 use Rattle.windplay.specs.Command.{CommandState}
 use Rattle.windplay.specs.declared.ending.Status.{Status}
 use Rattle.windplay.specs.declared.ending.Status.TheVariants as status
+use Rattle.windplay.specs.declared.ending.Which.{Which}
+use Rattle.windplay.specs.declared.ending.Which.TheVariants as which
 
 -- how the command is used
 unfoldable pub usage_text : List ℕ
 usage_text = codes "usage: windplay [--console FILE] [--ticks FILE] [--limit N]\n"
-    ++ codes "  --console FILE  the console file (default: console.txt)\n  --ticks FILE    the tick file (default: ticks.txt); not used yet\n"
+    ++ codes "  --console FILE  the console file (default: console.txt)\n  --ticks FILE    the tick file (default: ticks.txt)\n"
     ++ codes "  --limit N       the most steps to make, up to 1000000000000 (default: 1000000)\n"
+
+-- the name that the words give for a file
+abbrev pub name_of : CommandState → Which → List ℕ
+name_of c which.Console = c.console
+name_of c which.Ticks = c.ticks
 
 -- a text of one line that names the program
 abbrev pub line_text : List ℕ → List ℕ → List ℕ
@@ -24,12 +31,13 @@ memory_text = line_text (codes "out of memory") (codes "\n")
 unfoldable pub status_text : CommandState → Status → List ℕ
 status_text c status.Quiet = []
 status_text c status.Usage = usage_text
-status_text c (status.Absent which) = line_text c.console (codes ": not found\n")
+status_text c (status.Absent file) = line_text (name_of c file) (codes ": not found\n")
 status_text c status.Limit = codes "windplay: limit of " ++ decimal c.limit ++ codes " steps reached\n"
 status_text c status.ReadFault = line_text (codes "reading failed") (codes "\n")
 status_text c status.WriteFault = line_text (codes "writing failed") (codes "\n")
 status_text c status.NoMemory = memory_text
-status_text c (status.TooLong which) = line_text c.console (codes ": too long\n")
+status_text c (status.BadTicks line) = line_text c.ticks (codes ": line " ++ decimal line ++ codes " is not understood\n")
+status_text c (status.TooLong file) = line_text (name_of c file) (codes ": too long\n")
 status_text c (status.NotBuilt what) = line_text (codes "not built yet") (codes "\n")
 
 -- the text for a status of the words; words that are no command have the usage

@@ -10,6 +10,8 @@ use wind_outside::Slots;
 pub enum Which {
     /// The console file.
     Console,
+    /// The tick file.
+    Ticks,
 }
 
 /// What is not built yet.
@@ -17,6 +19,8 @@ pub enum Which {
 pub enum Unbuilt {
     /// A line of the console file, counted from 1.
     Line(u64),
+    /// A line `rx` of the tick file.
+    Ticks,
 }
 
 /// The status of a session.
@@ -36,6 +40,8 @@ pub enum Status {
     WriteFault,
     /// Host memory ran out.
     NoMemory,
+    /// A line of the tick file is outside its grammar; the first one, counted from 1.
+    BadTicks(u64),
     /// A file is too long.
     TooLong(Which),
     /// A file asks for what is not built yet.
@@ -57,6 +63,7 @@ impl Status {
             Status::ReadFault => 4,
             Status::WriteFault => 5,
             Status::NoMemory => 6,
+            Status::BadTicks(_) => 7,
             Status::TooLong(_) => 8,
             Status::NotBuilt(_) => 9,
         }

@@ -1,12 +1,14 @@
 //! Plays a session.
 
-ghost use Rattle.std.specs.Prelude.{◌≡◌, ◌≢◌, ◌≤◌, ◌^◌, ◌↔◌, Some, None, IfOk, IfErr, map, length};
+ghost use Rattle.std.specs.Prelude.{◌≡◌, ◌≢◌, ℕ, ◌<◌, ◌≤◌, ◌^◌, ◌↔◌, List, Some, None, OnOk, IfOk, IfErr, map, length};
+ghost use Rattle.tick_file.specs.Schedule.{Timetable};
 ghost use Rattle.wind_outside.specs.Counts.{Rose};
 ghost use Rattle.wind_outside.specs.Devices.{slots_of};
 ghost use Rattle.windplay.specs.Command.{command_of as command_of_lem};
 ghost use Rattle.windplay.specs.Words.{command_state};
-ghost use Rattle.windplay.specs.Plan.{Start, IsFilePlan};
-ghost use Rattle.windplay.specs.Headline.{Plays, Refuses, IsComplete, status_of as status_of_lem};
+ghost use Rattle.windplay.specs.Built.{unbuilt_line};
+ghost use Rattle.windplay.specs.Plan.{Start, IsFilePlan, IsHeld, plan_ticks, plan_read, plan_built};
+ghost use Rattle.windplay.specs.Headline.{Plays, IsRefusal, IsUnread, Refuses, IsComplete, status_of as status_of_lem};
 ghost use Rattle.windplay.specs.Texts.{text_of, IsTold};
 ghost use Rattle.windplay.specs.declared.ending.Status.TheVariants as status;
 ghost use Rattle.windplay.specs.declared.ending.Stand.TheVariants as stands;
@@ -18,6 +20,7 @@ use crate::report::{tell, tell_usage};
 use crate::run::{RunEnd, run_machine};
 use board_player::{Board, Machine};
 use std::alloc::Global;
+use tick_file::{Schedule, TickErr, read_ticks};
 use wind_base::limits::TEXT_FILE_BYTES;
 use wind_outside::{Device, Fetched, Folder, Sink, Slots};
 
@@ -43,29 +46,79 @@ fn status_of(end: RunEnd) -> Status
     }
 }
 
-// The console to play, or why none is played.
-fn console_of<F: Folder>(
+// The file of this name, or why it is not read.
+fn fetched<F: Folder>(
     alloc: Global,
-    command: &Command,
     folder: &mut F,
+    name: &str,
+    file: Which,
 ) -> Result<Vec<u8>, Status>
-    ensures start { IfOk result (λ console. IsFilePlan (F.files folder.old) (command_state command.now) (Start console.items)) }
+    ensures held { IfOk result (λ bytes. IsHeld (F.files folder.old) name.now bytes.items) }
+    ensures refused { IfErr result (λ s. IsUnread s file (F.files folder.old) name.now (Rose (F.faults folder.old) (F.faults folder.new))) }
+    ensures known { IfErr result (λ s. s ≢ status.Usage) }
+    ensures files { F.files folder.new ≡ F.files folder.old }
+    ensures faults { F.faults folder.old ≤ F.faults folder.new }
+{
+    match folder.fetch(alloc, name, TEXT_FILE_BYTES) {
+        Fetched::Found(bytes) => Ok(bytes),
+        Fetched::Missing => Err(Status::Absent(file)),
+        Fetched::TooLong => Err(Status::TooLong(file)),
+        Fetched::Failed => Err(Status::ReadFault),
+        Fetched::NoMemory => Err(Status::NoMemory),
+    }
+}
+
+// The schedule of a tick file, or why it is not played.
+fn schedule_of(alloc: Global, ticks: &[u8]) -> Result<Schedule, Status>
+    ensures read { IfOk result (λ schedule. (console : List ℕ) → plan_ticks console ticks.now ≡ plan_built console schedule (unbuilt_line console)) }
+    ensures refused { IfErr result (λ s. (console : List ℕ) → IsRefusal s (plan_ticks console ticks.now) ⊥) }
+    ensures known { IfErr result (λ s. s ≢ status.Usage) }
+{
+    let schedule = match read_ticks(alloc, ticks) {
+        Ok(schedule) => schedule,
+        Err(TickErr::BadLine(line)) => return Err(Status::BadTicks(line)),
+        Err(TickErr::NoMemory) => return Err(Status::NoMemory),
+    };
+    if !schedule.on_demand() {
+        return Err(Status::NotBuilt(Unbuilt::Ticks));
+    }
+    Ok(schedule)
+}
+
+// Nothing where each line of a console is built, or why the console is not played.
+fn all_built(alloc: Global, console: &[u8]) -> Result<(), Status>
+    requires { length console.now < 2 ^ 63 }
+    ensures built { OnOk result (unbuilt_line console.now ≡ None) }
+    ensures refused { IfErr result (λ s. (schedule : Timetable) → IsRefusal s (plan_built console.now schedule (unbuilt_line console.now)) ⊥) }
+    ensures known { IfErr result (λ s. s ≢ status.Usage) }
+{
+    match first_unbuilt(alloc, console) {
+        Ok(None) => Ok(()),
+        Ok(Some(line)) => Err(Status::NotBuilt(Unbuilt::Line(line))),
+        Err(_) => Err(Status::NoMemory),
+    }
+}
+
+// What a session plays.
+#[derive(Drop)]
+struct Inputs {
+    console: Vec<u8>,
+    schedule: Schedule,
+}
+
+// What to play, or why nothing is played.
+fn inputs_of<F: Folder>(alloc: Global, command: &Command, folder: &mut F) -> Result<Inputs, Status>
+    ensures start { IfOk result (λ inputs. IsFilePlan (F.files folder.old) (command_state command.now) (Start inputs.console.items inputs.schedule)) }
     ensures refused { IfErr result (λ s. Refuses s (F.files folder.old) (command_state command.now) (Rose (F.faults folder.old) (F.faults folder.new))) }
     ensures known { IfErr result (λ s. s ≢ status.Usage) }
     ensures files { F.files folder.new ≡ F.files folder.old }
     ensures faults { F.faults folder.old ≤ F.faults folder.new }
 {
-    match folder.fetch(alloc, command.console, TEXT_FILE_BYTES) {
-        Fetched::Found(console) => match first_unbuilt(alloc, &console) {
-            Ok(None) => Ok(console),
-            Ok(Some(line)) => Err(Status::NotBuilt(Unbuilt::Line(line))),
-            Err(_) => Err(Status::NoMemory),
-        },
-        Fetched::Missing => Err(Status::Absent(Which::Console)),
-        Fetched::TooLong => Err(Status::TooLong(Which::Console)),
-        Fetched::Failed => Err(Status::ReadFault),
-        Fetched::NoMemory => Err(Status::NoMemory),
-    }
+    let console = fetched(alloc, folder, command.console, Which::Console)?;
+    let ticks = fetched(alloc, folder, command.ticks, Which::Ticks)?;
+    let schedule = schedule_of(alloc, &ticks)?;
+    all_built(alloc, &console)?;
+    Ok(Inputs { console, schedule })
 }
 
 // Plays the session of a command.
@@ -84,10 +137,13 @@ fn session<F: Folder, O: Sink>(
     ensures write_fault { result.status ≡ status.WriteFault → Rose (O.faults out.old) (O.faults out.new) }
     ensures files { F.files folder.new ≡ F.files folder.old }
 {
-    let console = match console_of(alloc, command, folder) {
-        Ok(console) => console,
+    let inputs = match inputs_of(alloc, command, folder) {
+        Ok(inputs) => inputs,
         Err(status) => return refused(status, devices),
     };
+    let Inputs { console, schedule } = inputs;
+    // no step takes an event yet
+    drop(schedule);
     let mut board = match Board::boot(alloc, devices, console) {
         Ok(board) => board,
         Err(devices) => return refused(Status::NoMemory, devices),
@@ -99,9 +155,9 @@ fn session<F: Folder, O: Sink>(
     }
 }
 
-/// Plays the session that the words ask for: fetches the console file from the folder, boots a board
-/// with the devices, and runs it until there is no further step, the limit is reached or a put fails.
-/// What the steps write goes to `out`, and a text that tells how the session ended to `err`.
+/// Plays the session that the words ask for: fetches the console file and the tick file from the folder,
+/// boots a board with the devices, and runs it until there is no further step, the limit is reached or
+/// a put fails. What the steps write goes to `out`, and a text that tells how the session ended to `err`.
 pub fn play<'a, F: Folder, O: Sink, E: Sink>(
     alloc: Global,
     words: &'a [&'a str],

@@ -12,6 +12,9 @@ const COMMAND: [&str; 1] = ["windplay"];
 
 const CONSOLE: &[u8] = b"1+2\n";
 
+// A tick file without a line.
+const NO_TICKS: (&str, &[u8]) = ("ticks.txt", b"");
+
 const OUTPUT: &[u8] = b"-> 1+2\nvalue = 3 = 0x3\n-> ";
 
 // Which calls of the folder and of the two sinks fail.
@@ -36,15 +39,15 @@ struct Session {
     err: MemSink,
 }
 
-// Plays over a folder that holds this file, if any.
+// Plays over a folder that holds these files.
 fn played(
     alloc: Global,
     words: &[&str],
-    file: Option<(&str, &[u8])>,
+    files: &[(&str, &[u8])],
     failing: Failing,
 ) -> Result<Session, Fail> {
     let mut folder = MemFolder::new(alloc, failing.fetches.to_vec(alloc)?);
-    if let Some((name, bytes)) = file {
+    for (name, bytes) in files {
         folder.add(name, bytes.to_vec(alloc)?).or(Err("memory"))?;
     }
     let mut out = MemSink::reserved(alloc, 1000, failing.puts.to_vec(alloc)?).or(Err("memory"))?;
@@ -134,7 +137,7 @@ fn plays_the_worked_consoles(rt: HostRuntime) -> Result<(), Fail> {
         let session = played(
             rt.alloc(),
             &COMMAND,
-            Some(("console.txt", row.console)),
+            &[("console.txt", row.console), NO_TICKS],
             NONE,
         )?;
         assert_eq!(rt; session.ending.status, row.status);
@@ -159,7 +162,12 @@ const NOT_BUILT: [(&[u8], u64); 7] = [
 #[test]
 fn refuses_lines_that_are_not_built(rt: HostRuntime) -> Result<(), Fail> {
     for (console, line) in NOT_BUILT {
-        let session = played(rt.alloc(), &COMMAND, Some(("console.txt", console)), NONE)?;
+        let session = played(
+            rt.alloc(),
+            &COMMAND,
+            &[("console.txt", console), NO_TICKS],
+            NONE,
+        )?;
         assert_eq!(rt;
             session.ending.status,
             Status::NotBuilt(Unbuilt::Line(line))
@@ -194,14 +202,19 @@ const REFUSED: [&[&str]; 18] = [
 
 const USAGE: &str = "usage: windplay [--console FILE] [--ticks FILE] [--limit N]
   --console FILE  the console file (default: console.txt)
-  --ticks FILE    the tick file (default: ticks.txt); not used yet
+  --ticks FILE    the tick file (default: ticks.txt)
   --limit N       the most steps to make, up to 1000000000000 (default: 1000000)
 ";
 
 #[test]
 fn refuses_other_words(rt: HostRuntime) -> Result<(), Fail> {
     for words in REFUSED {
-        let session = played(rt.alloc(), words, Some(("console.txt", CONSOLE)), NONE)?;
+        let session = played(
+            rt.alloc(),
+            words,
+            &[("console.txt", CONSOLE), NO_TICKS],
+            NONE,
+        )?;
         assert_eq!(rt; session.ending.status, Status::Usage);
         assert_eq!(rt; session.out.bytes(), "".as_bytes());
         assert_eq!(rt; session.err.bytes(), USAGE.as_bytes());
@@ -245,7 +258,7 @@ fn stops_at_the_limit(rt: HostRuntime) -> Result<(), Fail> {
         let session = played(
             rt.alloc(),
             &["windplay", "--limit", limit],
-            Some(("console.txt", CONSOLE)),
+            &[("console.txt", CONSOLE), NO_TICKS],
             NONE,
         )?;
         assert_eq!(rt; session.ending.status, status);
@@ -256,7 +269,7 @@ fn stops_at_the_limit(rt: HostRuntime) -> Result<(), Fail> {
 }
 
 #[test]
-fn plays_the_file_that_is_named(rt: HostRuntime) -> Result<(), Fail> {
+fn plays_the_files_that_are_named(rt: HostRuntime) -> Result<(), Fail> {
     let session = played(
         rt.alloc(),
         &[
@@ -268,7 +281,7 @@ fn plays_the_file_that_is_named(rt: HostRuntime) -> Result<(), Fail> {
             "--limit",
             "9",
         ],
-        Some(("--limit", CONSOLE)),
+        &[("--limit", CONSOLE), ("t", b"every 5 3\ntick 7\r\n")],
         NONE,
     )?;
     assert_eq!(rt; session.ending.status, Status::Quiet);
@@ -276,54 +289,87 @@ fn plays_the_file_that_is_named(rt: HostRuntime) -> Result<(), Fail> {
     Ok(())
 }
 
-// No file, a file of one byte too many, and one of exactly 1 MiB, whose line is not built.
+// Files that are not there, that have one byte too many, or whose lines are not taken, in the order in
+// which they are refused. Two have exactly 1 MiB: a console whose line is not built, and a blank tick file
+// beside it.
 #[test]
 fn refuses_files(rt: HostRuntime) -> Result<(), Fail> {
     let alloc = rt.alloc();
-    let words = ["windplay", "--console", "c.txt"];
-    let absent = played(alloc, &words, Some(("console.txt", CONSOLE)), NONE)?;
-    assert_eq!(rt; absent.ending.status, Status::Absent(Which::Console));
-    assert_eq!(rt;
-        absent.err.bytes(),
-        "windplay: c.txt: not found\n".as_bytes()
-    );
+    let words = ["windplay", "--console", "c"];
     let long = vec![in alloc; b' '; 1_048_577]?;
-    let too_long = played(alloc, &words, Some(("c.txt", &long)), NONE)?;
-    assert_eq!(rt; too_long.ending.status, Status::TooLong(Which::Console));
-    assert_eq!(rt;
-        too_long.err.bytes(),
-        "windplay: c.txt: too long\n".as_bytes()
-    );
-    let within = played(alloc, &words, Some(("c.txt", &long[1..])), NONE)?;
-    assert_eq!(rt; within.ending.status, Status::NotBuilt(Unbuilt::Line(1)));
+    let bad = b"tick 5\n# a\ntock 3\n".as_slice();
+    for (console, ticks, status, text) in [
+        (
+            ("console.txt", CONSOLE),
+            ("ticks.txt", bad),
+            Status::Absent(Which::Console),
+            "windplay: c: not found\n",
+        ),
+        (
+            ("c", &long),
+            ("ticks.txt", bad),
+            Status::TooLong(Which::Console),
+            "windplay: c: too long\n",
+        ),
+        (
+            ("c", &long[1..]),
+            ("t", bad),
+            Status::Absent(Which::Ticks),
+            "windplay: ticks.txt: not found\n",
+        ),
+        (
+            ("c", CONSOLE),
+            ("ticks.txt", &long),
+            Status::TooLong(Which::Ticks),
+            "windplay: ticks.txt: too long\n",
+        ),
+        (
+            ("c", b"1+2\nx\n"),
+            ("ticks.txt", bad),
+            Status::BadTicks(3),
+            "windplay: ticks.txt: line 3 is not understood\n",
+        ),
+        (
+            ("c", b"x\n"),
+            ("ticks.txt", b"tick 5\nrx 0 32\n"),
+            Status::NotBuilt(Unbuilt::Ticks),
+            "windplay: not built yet\n",
+        ),
+        (
+            ("c", &long[1..]),
+            ("ticks.txt", &long[1..]),
+            Status::NotBuilt(Unbuilt::Line(1)),
+            "windplay: not built yet\n",
+        ),
+    ] {
+        let session = played(alloc, &words, &[console, ticks], NONE)?;
+        assert_eq!(rt; session.ending.status, status);
+        assert_eq!(rt; steps(&session.ending), None);
+        assert_eq!(rt; session.out.bytes(), "".as_bytes());
+        assert_eq!(rt; session.err.bytes(), text.as_bytes());
+    }
     Ok(())
 }
 
-// Each call of the folder and of the sink fails in turn; a run makes one of the first and four of the
+// Each call of the folder and of the sink fails in turn; a run makes two of the first and four of the
 // second.
 #[test]
 fn ends_at_a_failing_call(rt: HostRuntime) -> Result<(), Fail> {
     let alloc = rt.alloc();
-    let file = Some(("console.txt", CONSOLE));
-    let unread = played(
-        alloc,
-        &COMMAND,
-        file,
-        Failing {
-            fetches: &[1],
-            ..NONE
-        },
-    )?;
-    assert_eq!(rt; unread.ending.status, Status::ReadFault);
-    assert_eq!(rt; unread.err.bytes(), "windplay: reading failed\n".as_bytes());
-    assert_eq!(rt; steps(&unread.ending), None);
+    let files = [("console.txt", CONSOLE), NO_TICKS];
+    for fetches in [[1].as_slice(), &[2]] {
+        let unread = played(alloc, &COMMAND, &files, Failing { fetches, ..NONE })?;
+        assert_eq!(rt; unread.ending.status, Status::ReadFault);
+        assert_eq!(rt; unread.err.bytes(), "windplay: reading failed\n".as_bytes());
+        assert_eq!(rt; steps(&unread.ending), None);
+    }
     for (puts, output, made) in [
         ([1].as_slice(), "", 1),
         (&[2], "-> ", 2),
         (&[3], "-> 1+2\n", 4),
         (&[4], "-> 1+2\nvalue = 3 = 0x3\n", 5),
     ] {
-        let cut_off = played(alloc, &COMMAND, file, Failing { puts, ..NONE })?;
+        let cut_off = played(alloc, &COMMAND, &files, Failing { puts, ..NONE })?;
         assert_eq!(rt; cut_off.ending.status, Status::WriteFault);
         assert_eq!(rt; cut_off.out.bytes(), output.as_bytes());
         assert_eq!(rt;
@@ -335,9 +381,9 @@ fn ends_at_a_failing_call(rt: HostRuntime) -> Result<(), Fail> {
     let whole = played(
         alloc,
         &COMMAND,
-        file,
+        &files,
         Failing {
-            fetches: &[2],
+            fetches: &[3],
             puts: &[5],
             texts: &[1],
         },
@@ -357,7 +403,7 @@ fn goes_on_where_a_text_fails(rt: HostRuntime) -> Result<(), Fail> {
         let session = played(
             rt.alloc(),
             &["windplay", "--limit", "5"],
-            Some(("console.txt", CONSOLE)),
+            &[("console.txt", CONSOLE), NO_TICKS],
             Failing { texts, ..NONE },
         )?;
         assert_eq!(rt; session.ending.status, Status::Limit);

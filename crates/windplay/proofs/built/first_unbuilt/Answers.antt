@@ -1,5 +1,6 @@
 use Rattle.std.proofs.Common.{◌+◌, ◌∙◌, List, ℕ, ap, sym, arith, take, drop}
-use Rattle.windplay.specs.Built.{split_lines, unbuilt_from, unbuilt_line, is_built}
+use Rattle.tick_file.specs.Lines.{pieces}
+use Rattle.windplay.specs.Built.{unbuilt_from, unbuilt_line, is_built}
 use Rattle.windplay.proofs.LineLemmas.{unbuilt_here, unbuilt_none, unbuilt_next}
 use Rattle.windplay.proofs.built.first_unbuilt.Goals as goal
 
@@ -26,7 +27,7 @@ loop-left-preserved c =
     record {
       counted = omega (arith, c.behind-left.ensures.len, c.loop-left.invariant.counted);
       made =
-          ap (λ (bytes : List ℕ). unbuilt_from (c.loop-left.number + 1) (split_lines bytes)) (c.behind-left.ensures.value ∙ ap (λ k. drop (k + 1) left) exact)
+          ap (λ (bytes : List ℕ). unbuilt_from (c.loop-left.number + 1) (pieces bytes)) (c.behind-left.ensures.value ∙ ap (λ k. drop (k + 1) left) exact)
           ∙ sym more
           ∙ c.loop-left.invariant.made;
     }

@@ -1,7 +1,19 @@
 use Rattle.std.proofs.Common.{ap}
 use Rattle.board_player.specs.State.{State}
 use Rattle.board_player.specs.Machine.{opening}
+use Rattle.wind_outside.specs.Counts.{Rose}
+use Rattle.windplay.specs.Words.{command_state}
+use Rattle.windplay.proofs.PlanLemmas.{complete_refused}
 use Rattle.windplay.proofs.play.session.Goals as goal
+
+-- what is refused had no plan to start, or a fault came
+pub returns-in-Err-clause-complete : goal.returns-in-Err-clause-complete
+returns-in-Err-clause-complete g c =
+    rw c.refused.ensures
+    (complete_refused c.in-Err.status (g.F.Folder.files c.args.folder.now) (command_state c.args.command.now)
+    (Rose (g.F.Folder.faults c.args.folder.now) (g.F.Folder.faults c.inputs_of.new.folder))
+    (Rose (g.O.Sink.faults c.args.out.now) (g.O.Sink.faults c.args.out.now))
+    c.in-Err.ensures.refused)
 
 -- a machine that booted has made no step
 pub run_machine-end-requires-clause-fresh : goal.run_machine-end-requires-clause-fresh

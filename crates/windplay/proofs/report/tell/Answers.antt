@@ -4,7 +4,7 @@ use Rattle.windplay.proofs.report.tell.Goals as goal
 
 pub returns-in-Absent : goal.returns-in-Absent
 unfolding status_text
-returns-in-Absent g c = rw c.in-Absent.is (rw c.as_bytes-name.ensures.value at c.put_pieces.ensures.told)
+returns-in-Absent g c = rw c.in-Absent.is (rw c.name_of-name.ensures at c.put_pieces.ensures.told)
 
 pub returns-in-Limit : goal.returns-in-Limit
 unfolding status_text
@@ -22,9 +22,13 @@ pub returns-in-NoMemory : goal.returns-in-NoMemory
 unfolding status_text
 returns-in-NoMemory g c = rw c.in-NoMemory.is c.tell_no_memory.ensures
 
+pub returns-in-BadTicks : goal.returns-in-BadTicks
+unfolding status_text
+returns-in-BadTicks g c = rw c.in-BadTicks.is (rw c.name_of.ensures at c.tell_bad_line.ensures)
+
 pub returns-in-TooLong : goal.returns-in-TooLong
 unfolding status_text
-returns-in-TooLong g c = rw c.in-TooLong.is (rw c.as_bytes-name.ensures.value at c.put_pieces-in-TooLong.ensures.told)
+returns-in-TooLong g c = rw c.in-TooLong.is (rw c.name_of-name-in-TooLong.ensures at c.put_pieces-in-TooLong.ensures.told)
 
 pub returns-in-NotBuilt : goal.returns-in-NotBuilt
 unfolding status_text

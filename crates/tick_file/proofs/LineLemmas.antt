@@ -1,0 +1,146 @@
+-- The lines of a text, taken from its front one after another.
+use Rattle.std.proofs.Common.{◌≡◌, ◌≢◌, ℕ, suc, ◌+◌, ◌<◌, ◌≤◌, true, false, cond, List, [], ◌∷◌, ◌++◌, length, take, drop, map, Option, None, refl, sym, ap, ◌∙◌, subst, arith, nat_lt}
+use Rattle.std.specs.Prelude.{◌==◌}
+use Rattle.std.proofs.lemmas.List.{append_assoc, map-append, drop_all}
+use Rattle.std.proofs.lemmas.Bool.{cases_eq, cases_lt}
+use Rattle.std.proofs.lemmas.Bool.Decides.{nat_tests}
+use mathlib.Core.Logic.{⊎_elim}
+use Rattle.wind_base.specs.Lines.{line_length}
+use Rattle.wind_base.proofs.LineLength.{length_end, length_more}
+use Rattle.tick_file.specs.Grammar.{said}
+use Rattle.std.specs.declared.cmp.Reverse.{Reverse}
+use Rattle.tick_file.specs.declared.event.Said.{Said}
+use Rattle.tick_file.specs.declared.event.Said.TheVariants.{Nothing}
+use Rattle.tick_file.specs.declared.reading.TickErr.{TickErr}
+use Rattle.tick_file.specs.declared.pending.Pending.{Pending}
+use Rattle.tick_file.specs.Lines.{pieces, onto_first, without_return, lines_of, tick_lines, front_line, behind_line, rule_at, rules_from, bad_or, bad_from, Tells}
+use Rattle.tick_file.specs.Inside.{waiting_of}
+
+-- a blank line says nothing
+said_none : said [] ≡ Nothing
+unfolding said
+said_none = refl
+
+pub pieces_end : (b : ℕ) (bs : List ℕ) → b ≡ 10 → pieces (b ∷ bs) ≡ [] ∷ pieces bs
+pieces_end b bs e = let t : (b == 10) ≡ true = grind (arith, nat_tests) in ap (λ x. cond x ([] ∷ pieces bs) (onto_first b (pieces bs))) t
+
+pub pieces_on : (b : ℕ) (bs : List ℕ) → b ≢ 10 → pieces (b ∷ bs) ≡ onto_first b (pieces bs)
+pieces_on b bs e = let t : (b == 10) ≡ false = grind (arith, nat_tests) in ap (λ x. cond x ([] ∷ pieces bs) (onto_first b (pieces bs))) t
+
+-- there is always a first piece
+pub first_piece : (bs : List ℕ) → (p : List ℕ) × (ps : List (List ℕ)) × (pieces bs ≡ p ∷ ps)
+first_piece [] = ([], [], refl)
+first_piece (b ∷ bs) =
+    ⊎_elim
+    (λ e. ([], pieces bs, pieces_end b bs e))
+    (λ e. let k = first_piece bs in (b ∷ k.0, k.1, pieces_on b bs e ∙ ap (onto_first b) k.2))
+    (cases_eq b 10)
+
+-- a text without an end of a line is one piece
+one_piece : (bs : List ℕ) → length bs ≤ line_length bs → pieces bs ≡ bs ∷ []
+one_piece [] h = refl
+one_piece (b ∷ bs) h =
+    ⊎_elim
+    (λ e. absurd (omega (arith, length_end b bs e)))
+    (λ e. pieces_on b bs e ∙ ap (onto_first b) (one_piece bs (omega (arith, length_more b bs e))))
+    (cases_eq b 10)
+
+-- else the first piece stands before the first end
+more_pieces : (bs : List ℕ) → line_length bs < length bs → pieces bs ≡ take (line_length bs) bs ∷ pieces (drop (suc (line_length bs)) bs)
+more_pieces [] h = absurd (omega arith)
+more_pieces (b ∷ bs) h =
+    ⊎_elim
+    (λ e. pieces_end b bs e ∙ ap (λ n. take n (b ∷ bs) ∷ pieces (drop (suc n) (b ∷ bs))) (sym (length_end b bs e)))
+    (λ e.
+    pieces_on b bs e
+    ∙ ap (onto_first b) (more_pieces bs (omega (arith, length_more b bs e)))
+    ∙ ap (λ n. take n (b ∷ bs) ∷ pieces (drop (suc n) (b ∷ bs))) (sym (length_more b bs e)))
+    (cases_eq b 10)
+
+lines_more : (piece : List ℕ) (bs : List ℕ) → lines_of (piece ∷ pieces bs) ≡ without_return piece ∷ lines_of (pieces bs)
+lines_more piece bs =
+    let k = first_piece bs in ap (λ ps. lines_of (piece ∷ ps)) k.2 ∙ ap (λ ps. without_return piece ∷ lines_of ps) (sym k.2)
+
+-- where the first line has an end, the other lines stand behind it
+first_line : (bs : List ℕ) → line_length bs < length bs → tick_lines bs ≡ front_line bs ∷ tick_lines (behind_line bs)
+unfolding tick_lines
+first_line bs h =
+    let t : nat_lt (line_length bs) (length bs) ≡ true = grind (arith, nat_tests) in
+    let e : suc (line_length bs) ≡ line_length bs + 1 = omega arith in
+    ap lines_of (more_pieces bs h)
+    ∙ lines_more (take (line_length bs) bs) (drop (suc (line_length bs)) bs)
+    ∙ ap (λ b. cond b (without_return (take (line_length bs) bs)) bs ∷ lines_of (pieces (drop (suc (line_length bs)) bs))) (sym t)
+    ∙ ap (λ n. front_line bs ∷ lines_of (pieces (drop n bs))) e
+
+-- else it is the only one, and nothing stands behind it
+last_line : (bs : List ℕ) → length bs ≤ line_length bs → (tick_lines bs ≡ front_line bs ∷ []) × (tick_lines (behind_line bs) ≡ [] ∷ [])
+unfolding tick_lines
+last_line bs h =
+    let t : nat_lt (line_length bs) (length bs) ≡ false = grind (arith, nat_tests) in (
+      ap lines_of (one_piece bs h) ∙ ap (λ b. cond b (without_return (take (line_length bs) bs)) bs ∷ []) (sym t),
+      ap (λ xs. lines_of (pieces xs)) (drop_all (line_length bs + 1) bs (omega arith)),
+    )
+
+-- a blank line has no rule and is not bad
+rules_blank : (n : ℕ) → rules_from n ([] ∷ []) ≡ []
+rules_blank n = ap (λ s. rule_at n s ++ []) said_none
+
+bad_blank : (n : ℕ) → bad_from n ([] ∷ []) ≡ None
+bad_blank n = ap (bad_or n None) said_none
+
+-- nothing left: no rule, and no bad line
+pub rules_done : (n : ℕ) → rules_from n (tick_lines []) ≡ []
+unfolding tick_lines
+rules_done n = rules_blank n
+
+pub bad_done : (n : ℕ) → bad_from n (tick_lines []) ≡ None
+unfolding tick_lines
+bad_done n = bad_blank n
+
+-- the rules of a text are that of its first line and those behind it
+pub rules_step : (n : ℕ) (bs : List ℕ) → rules_from n (tick_lines bs) ≡ rule_at n (said (front_line bs)) ++ rules_from (n + 1) (tick_lines (behind_line bs))
+rules_step n bs =
+    ⊎_elim
+    (λ h. ap (rules_from n) (first_line bs h))
+    (λ h.
+    ap (rules_from n) (last_line bs h).0
+    ∙ ap (λ rs. rule_at n (said (front_line bs)) ++ rs) (sym (rules_blank (n + 1)) ∙ ap (rules_from (n + 1)) (sym (last_line bs h).1)))
+    (cases_lt (line_length bs) (length bs))
+
+-- and its first bad line is its first one, or the first behind that
+pub bad_step : (n : ℕ) (bs : List ℕ) → bad_from n (tick_lines bs) ≡ bad_or n (bad_from (n + 1) (tick_lines (behind_line bs))) (said (front_line bs))
+bad_step n bs =
+    ⊎_elim
+    (λ h. ap (bad_from n) (first_line bs h))
+    (λ h.
+    ap (bad_from n) (last_line bs h).0
+    ∙ ap (λ o. bad_or n o (said (front_line bs))) (sym (bad_blank (n + 1)) ∙ ap (bad_from (n + 1)) (sym (last_line bs h).1)))
+    (cases_lt (line_length bs) (length bs))
+
+module _ (n : ℕ) (bs front after : List ℕ) (s : Said) (says : s ≡ said front) (first : front ≡ front_line bs) where
+  front_says : s ≡ said (front_line bs)
+  front_says = says ∙ ap said first
+
+  -- once the rule of line n is kept, what is kept and what is to come are the same rules together
+  pub kept_step : (ks more : List (Reverse Pending)) → after ≡ behind_line bs → more ≡ ks ++ map waiting_of (rule_at n s)
+      → more ++ map waiting_of (rules_from (n + 1) (tick_lines after)) ≡ ks ++ map waiting_of (rules_from n (tick_lines bs))
+  kept_step ks more rest e =
+      ap (λ (xs : List (Reverse Pending)). xs ++ map waiting_of (rules_from (n + 1) (tick_lines after))) e
+      ∙ append_assoc ks (map waiting_of (rule_at n s)) (map waiting_of (rules_from (n + 1) (tick_lines after)))
+      ∙ ap (λ (xs : List (Reverse Pending)). ks ++ xs) (sym (map-append waiting_of (rule_at n s) (rules_from (n + 1) (tick_lines after))))
+      ∙ ap (λ t. ks ++ map waiting_of (rule_at n t ++ rules_from (n + 1) (tick_lines after))) front_says
+      ∙ ap (λ (b : List ℕ). ks ++ map waiting_of (rule_at n (said (front_line bs)) ++ rules_from (n + 1) (tick_lines b))) rest
+      ∙ ap (λ rs. ks ++ map waiting_of rs) (sym (rules_step n bs))
+
+  -- where line n is not bad, the first bad line is behind it
+  pub good_step : after ≡ behind_line bs → ((o : Option ℕ) → bad_or n o s ≡ o) → bad_from (n + 1) (tick_lines after) ≡ bad_from n (tick_lines bs)
+  good_step rest good =
+      sym (good (bad_from (n + 1) (tick_lines after)))
+      ∙ ap (λ t. bad_or n (bad_from (n + 1) (tick_lines after)) t) front_says
+      ∙ ap (λ (b : List ℕ). bad_or n (bad_from (n + 1) (tick_lines b)) (said (front_line bs))) rest
+      ∙ sym (bad_step n bs)
+
+  -- and an error of line n tells of the first bad line
+  pub told : (e : TickErr) → ((o : Option ℕ) → Tells (bad_or n o s) e) → Tells (bad_from n (tick_lines bs)) e
+  told e tells =
+      subst (λ o. Tells o e) (ap (λ t. bad_or n (bad_from (n + 1) (tick_lines (behind_line bs))) t) front_says ∙ sym (bad_step n bs)) (tells (bad_from (n + 1) (tick_lines (behind_line bs))))

@@ -1,0 +1,57 @@
+-- The grammar of a line in its own words, apart from how a line is read.
+use Rattle.std.specs.Prelude.{◌≡◌, ℕ, ◌<◌, ◌≤◌, ◌⊎◌, ◌↔◌, true, List, ◌∷◌, ◌++◌, length, codes}
+use Rattle.std.specs.Char.{is_ascii_digit}
+use Rattle.std.specs.List.{list_all}
+use Rattle.std.specs.Str.Parse.{digits_value}
+use Rattle.tick_file.specs.declared.event.Event.TheVariants.{Tick, Rx}
+use Rattle.tick_file.specs.declared.event.Rule.{Rule}
+use Rattle.tick_file.specs.declared.event.Rule.TheVariants.{At, Every}
+use Rattle.tick_file.specs.declared.event.Said.TheVariants.{Nothing, Says}
+use Rattle.tick_file.specs.Grammar.{is_blank, said}
+
+-- blanks and tabs, one at least
+pub record IsGap (gap : List ℕ) : Type 0 where
+  pub some : 0 < length gap
+  pub blank : list_all is_blank gap ≡ true
+
+-- 1 to 10 decimal digits that write n, which is at most 4,294,967,295
+pub record IsNumber (n : ℕ) (digits : List ℕ) : Type 0 where
+  pub some : 1 ≤ length digits
+  pub few : length digits ≤ 10
+  pub decimal : list_all is_ascii_digit digits ≡ true
+  pub value : digits_value 10 digits ≡ n
+  pub small : n ≤ 4294967295
+
+-- a word, a gap and a number
+pub record HasOne (word : List ℕ) (n : ℕ) (line : List ℕ) : Type 0 where
+  pub gap : List ℕ
+  pub digits : List ℕ
+  pub apart : IsGap gap
+  pub number : IsNumber n digits
+  pub is : line ≡ word ++ (gap ++ digits)
+
+-- a word and two numbers, with a gap before each
+pub record HasTwo (word : List ℕ) (n m : ℕ) (line : List ℕ) : Type 0 where
+  pub gap : List ℕ
+  pub digits : List ℕ
+  pub next_gap : List ℕ
+  pub next_digits : List ℕ
+  pub apart : IsGap gap
+  pub number : IsNumber n digits
+  pub next_apart : IsGap next_gap
+  pub next_number : IsNumber m next_digits
+  pub is : line ≡ word ++ (gap ++ (digits ++ (next_gap ++ next_digits)))
+
+-- the lines that have a rule
+abbrev pub IsLineOf : Rule → List ℕ → Type 0
+IsLineOf (At time Tick) line = HasOne (codes "tick") time line
+IsLineOf (At time (Rx bytes)) line = HasTwo (codes "rx") time bytes line × (1 ≤ bytes) × (bytes ≤ 4096)
+IsLineOf (Every period count) line = HasTwo (codes "every") period count line × (1 ≤ period) × (1 ≤ count)
+
+-- a line of blanks and tabs alone, or one that begins with `#`
+abbrev pub IsSilent : List ℕ → Type 0
+IsSilent line = (list_all is_blank line ≡ true) ⊎ ((more : List ℕ) × (line ≡ 35 ∷ more))
+
+-- a line says a rule where it is a line of that rule, and nothing where it is silent
+abbrev pub GrammarLaw : Type 0
+GrammarLaw = (line : List ℕ) → ((rule : Rule) → (said line ≡ Says rule) ↔ IsLineOf rule line) × ((said line ≡ Nothing) ↔ IsSilent line)

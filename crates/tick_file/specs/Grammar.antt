@@ -1,0 +1,86 @@
+-- What one line of a tick file says.
+use Rattle.std.specs.Prelude.{ℕ, Bool, false, ◌==◌, ◌&&◌, ◌||◌, nat_le, if◌then◌else◌, List, [], ◌∷◌, length, take, drop, Option, None, Some, codes}
+use Rattle.std.specs.List.{list_all, position_or_len, prefix_len}
+use Rattle.std.specs.Str.{bytes_eq}
+use Rattle.wind_base.specs.Decimal.{decimal_value}
+use Rattle.tick_file.specs.declared.event.Event.TheVariants.{Tick, Rx}
+use Rattle.tick_file.specs.declared.event.Rule.{Rule}
+use Rattle.tick_file.specs.declared.event.Rule.TheVariants.{At, Every}
+use Rattle.tick_file.specs.declared.event.Said.{Said}
+use Rattle.tick_file.specs.declared.event.Said.TheVariants.{Nothing, Says, Outside}
+
+-- a byte that parts words: a blank or a tab
+abbrev pub is_blank : ℕ → Bool
+is_blank b = b == 32 || b == 9
+
+-- how many bytes the word at the front has, and how many blanks stand there
+abbrev pub word_length : List ℕ → ℕ
+word_length text = position_or_len is_blank text
+
+abbrev pub gap_length : List ℕ → ℕ
+gap_length text = prefix_len is_blank text
+
+-- the word at the front
+abbrev pub first_word : List ℕ → List ℕ
+first_word text = take (word_length text) text
+
+-- what stands behind the blanks at the front
+abbrev pub behind_gap : List ℕ → List ℕ
+behind_gap text = drop (gap_length text) text
+
+-- what stands behind the word at the front and the blanks after it
+abbrev pub behind_word : List ℕ → List ℕ
+behind_word text = behind_gap (drop (word_length text) text)
+
+-- the number that a text writes in 1 to 10 digits
+abbrev pub number_of : List ℕ → Option ℕ
+number_of text = if nat_le (length text) 10 then decimal_value 4294967295 text else None
+
+-- what is made of two numbers, where there are both
+abbrev pub of_both : (ℕ → ℕ → Option Rule) → Option ℕ → Option ℕ → Option Rule
+of_both f (Some a) (Some b) = f a b
+of_both f _ _ = None
+
+-- behind `tick`: the time
+abbrev pub tick_at : Option ℕ → Option Rule
+tick_at (Some time) = Some (At time Tick)
+tick_at None = None
+
+abbrev pub tick_rule : List ℕ → Option Rule
+tick_rule text = tick_at (number_of text)
+
+-- behind `rx`: the time, and how many bytes, 1 to 4,096
+abbrev pub rx_at : ℕ → ℕ → Option Rule
+rx_at time bytes = if nat_le 1 bytes && nat_le bytes 4096 then Some (At time (Rx bytes)) else None
+
+abbrev pub rx_rule : List ℕ → Option Rule
+rx_rule text = of_both rx_at (number_of (first_word text)) (number_of (behind_word text))
+
+-- behind `every`: the period and how many ticks, 1 at least of each
+abbrev pub every_at : ℕ → ℕ → Option Rule
+every_at period count = if nat_le 1 period && nat_le 1 count then Some (Every period count) else None
+
+abbrev pub every_rule : List ℕ → Option Rule
+every_rule text = of_both every_at (number_of (first_word text)) (number_of (behind_word text))
+
+-- the rule of a line that is neither blank nor a comment
+abbrev pub rule_of : List ℕ → Option Rule
+rule_of line =
+    if bytes_eq (first_word line) (codes "tick") then tick_rule (behind_word line)
+    else if bytes_eq (first_word line) (codes "rx") then rx_rule (behind_word line)
+    else if bytes_eq (first_word line) (codes "every") then every_rule (behind_word line)
+    else None
+
+-- the line begins with `#`
+abbrev pub is_comment : List ℕ → Bool
+is_comment [] = false
+is_comment (b ∷ bs) = b == 35
+
+-- what a line says that has such a rule, or none
+abbrev pub by_rule : Option Rule → Said
+by_rule (Some rule) = Says rule
+by_rule None = Outside
+
+-- what a line says
+unfoldable pub said : List ℕ → Said
+said line = if list_all is_blank line || is_comment line then Nothing else by_rule (rule_of line)

@@ -1,0 +1,66 @@
+-- The events that a tick file asks for.
+use Rattle.std.specs.Prelude.{ℕ, zero, suc, ◌*◌, Bool, true, false, List, [], ◌∷◌}
+use Rattle.std.specs.List.{flat_map, list_all}
+use Rattle.std.specs.Ordering.{is_lt, nat_cmp}
+use Rattle.std.specs.Cmp.Lexicographic.{slice_cmp}
+use Rattle.wind_lists.specs.Sorting.{sorted}
+use Rattle.tick_file.specs.declared.event.Event.{Event}
+use Rattle.tick_file.specs.declared.event.Event.TheVariants.{Tick, Rx}
+use Rattle.tick_file.specs.declared.event.Rule.{Rule}
+use Rattle.tick_file.specs.declared.event.Rule.TheVariants.{At, Every}
+use Rattle.tick_file.specs.Lines.{Numbered, rules_of}
+
+-- an event: when it comes, the line that asks for it, and which of that line's it is, from 1
+pub record Timed : Type 0 where
+  pub time : ℕ
+  pub line : ℕ
+  pub number : ℕ
+  pub event : Event
+
+-- the ticks of line n from number k on, so many: the k-th comes at k periods
+abbrev pub ticks_from : ℕ → ℕ → ℕ → ℕ → List Timed
+ticks_from n period k zero = []
+ticks_from n period k (suc count) = record { time = k * period; line = n; number = k; event = Tick } ∷ ticks_from n period (suc k) count
+
+-- the events of line n, where it has this rule
+abbrev pub events_at : ℕ → Rule → List Timed
+events_at n (At time event) = record { time = time; line = n; number = 1; event = event } ∷ []
+events_at n (Every period count) = ticks_from n period 1 count
+
+abbrev pub events_of : Numbered → List Timed
+events_of r = events_at r.line r.rule
+
+-- what events are ordered by
+abbrev pub place_of : Timed → List ℕ
+place_of t = t.time ∷ t.line ∷ t.number ∷ []
+
+-- a comes before b: by time, then by line, then by number in the line
+unfoldable pub before : Timed → Timed → Bool
+before a b = is_lt (slice_cmp nat_cmp (place_of a) (place_of b))
+
+-- all events of some rules, in order
+abbrev pub in_order : List Numbered → List Timed
+in_order rules = sorted before (flat_map events_of rules)
+
+-- a tick interrupt
+abbrev pub is_tick : Event → Bool
+is_tick Tick = true
+is_tick (Rx bytes) = false
+
+-- a rule for ticks
+abbrev pub asks_ticks : Rule → Bool
+asks_ticks (At time event) = is_tick event
+asks_ticks (Every period count) = true
+
+-- what a contract sees of a schedule: the events to come, and whether input comes on demand
+pub record Timetable : Type 0 where
+  pub events : List Timed
+  pub on_demand : Bool
+
+-- when an event comes, with the event
+abbrev pub at : Timed → ℕ × Event
+at t = (t.time, t.event)
+
+-- what a text asks for; input comes on demand where no line is one of `rx`
+unfoldable pub timetable_of : List ℕ → Timetable
+timetable_of text = record { events = in_order (rules_of text); on_demand = list_all (λ r. asks_ticks r.rule) (rules_of text) }

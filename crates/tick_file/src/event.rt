@@ -1,0 +1,30 @@
+//! What the lines of a tick file ask for.
+
+/// What comes at one time.
+#[derive(Clone, Copy, Debug, PartialEq, Eq)]
+pub enum Event {
+    /// A tick interrupt.
+    Tick,
+    /// So many further bytes arrive at the console.
+    Rx(u32),
+}
+
+/// The rule of one line. Times and periods are of board time.
+#[derive(Clone, Copy)]
+pub(crate) enum Rule {
+    /// One event, at this time.
+    At(u64, Event),
+    /// Ticks a period apart, the first one period from 0: the period, and how many there are.
+    Every(u64, u64),
+}
+
+/// What a line says.
+#[derive(Clone, Copy)]
+pub(crate) enum Said {
+    /// The line is blank or a comment.
+    Nothing,
+    /// The line has this rule.
+    Says(Rule),
+    /// The line is outside the grammar.
+    Outside,
+}

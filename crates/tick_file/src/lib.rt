@@ -1,0 +1,43 @@
+//! The tick file: a text that says when tick interrupts come and when console bytes arrive. `read_ticks`
+//! reads it, and a `Schedule` tells its events, one after another.
+#![tactic(auto)]
+
+ghost use Rattle.tick_file.specs.Forms.{GrammarLaw};
+ghost use Rattle.tick_file.specs.Laws.{PiecesLaw, LinesLaw, TimetableLaw};
+
+mod event;
+mod line;
+mod lines;
+mod pending;
+mod reading;
+mod schedule;
+#[cfg(test)]
+mod tests;
+
+pub use event::Event;
+pub use reading::{TickErr, read_ticks};
+pub use schedule::Schedule;
+
+/// The law of the grammar: a line says a rule exactly where it is a word, gaps and numbers as that rule is
+/// written, and it says nothing exactly where it is blank or a comment.
+pub fn grammar_law()
+    ensures { GrammarLaw }
+{}
+
+/// The law of the pieces that a text's lines are made of: with an 0x0A between each two they are the text,
+/// and none has an 0x0A.
+pub fn pieces_law()
+    ensures { PiecesLaw }
+{}
+
+/// The law of a text's lines: its rules are those that its lines say, each with the number of its line from
+/// 1 on, and its first bad line is the first one that is outside the grammar.
+pub fn lines_law()
+    ensures { LinesLaw }
+{}
+
+/// The law of a text's timetable: each event is before all that follow, by time, line and number in the
+/// line, and its events are exactly those that a rule of the text asks for.
+pub fn timetable_law()
+    ensures { TimetableLaw }
+{}

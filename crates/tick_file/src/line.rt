@@ -1,0 +1,146 @@
+//! One line of a tick file.
+
+ghost use Rattle.std.specs.Prelude.{◌≡◌, ◌≤◌, length};
+ghost use Rattle.std.specs.List.{list_all};
+ghost use Rattle.tick_file.specs.Grammar.{is_blank as is_blank_lem, word_length, gap_length, first_word as first_word_lem, behind_word as behind_word_lem, number_of, tick_rule as tick_rule_lem, rx_rule as rx_rule_lem, every_rule as every_rule_lem, rule_of as rule_of_lem, is_comment as is_comment_lem, said as said_lem};
+
+use crate::event::{Event, Rule, Said};
+use wind_base::{behind, decimal};
+
+// The largest number of a tick file.
+const MOST: u64 = 4_294_967_295;
+
+// The most bytes that arrive at one time.
+const BYTES_MOST: u64 = 4_096;
+
+// The most digits of a number.
+const DIGITS: usize = 10;
+
+// Whether a byte parts words: a blank or a tab.
+fn is_blank(byte: u8) -> bool
+    ensures { result ≡ is_blank_lem byte }
+{
+    byte == b' ' || byte == b'\t'
+}
+
+// How many bytes the word at the front has.
+fn word_len(text: &[u8]) -> usize
+    ensures exact { result ≡ word_length text.now }
+    ensures inside { result ≤ length text.now }
+{
+    text.iter().take_while(|byte| !is_blank(**byte)).count()
+}
+
+// How many blanks stand at the front.
+fn gap_len(text: &[u8]) -> usize
+    ensures exact { result ≡ gap_length text.now }
+    ensures inside { result ≤ length text.now }
+{
+    text.iter().take_while(|byte| is_blank(**byte)).count()
+}
+
+// The word at the front.
+fn first_word(text: &[u8]) -> &[u8]
+    ensures { result.now ≡ first_word_lem text.now }
+{
+    &text[..word_len(text)]
+}
+
+// What stands behind the word at the front and the blanks after it.
+fn behind_word(text: &[u8]) -> &[u8]
+    ensures { result.now ≡ behind_word_lem text.now }
+{
+    let rest = behind(text, word_len(text));
+    behind(rest, gap_len(rest))
+}
+
+// The number that a text writes.
+fn number(text: &[u8]) -> Option<u64>
+    ensures { result ≡ number_of text.now }
+{
+    if text.len() > DIGITS {
+        return None;
+    }
+    decimal(text, MOST)
+}
+
+// The rule that stands behind `tick`.
+fn tick_rule(text: &[u8]) -> Option<Rule>
+    ensures { result ≡ tick_rule_lem text.now }
+{
+    let time = number(text)?;
+    Some(Rule::At(time, Event::Tick))
+}
+
+// The rule that stands behind `rx`.
+fn rx_rule(text: &[u8]) -> Option<Rule>
+    ensures { result ≡ rx_rule_lem text.now }
+{
+    let time = number(first_word(text))?;
+    let bytes = number(behind_word(text))?;
+    if bytes < 1 || bytes > BYTES_MOST {
+        return None;
+    }
+    Some(Rule::At(time, Event::Rx(bytes as u32)))
+}
+
+// The rule that stands behind `every`.
+fn every_rule(text: &[u8]) -> Option<Rule>
+    ensures { result ≡ every_rule_lem text.now }
+{
+    let period = number(first_word(text))?;
+    let count = number(behind_word(text))?;
+    if period < 1 || count < 1 {
+        return None;
+    }
+    Some(Rule::Every(period, count))
+}
+
+// The rule of a line that is neither blank nor a comment.
+fn rule_of(line: &[u8]) -> Option<Rule>
+    ensures { result ≡ rule_of_lem line.now }
+{
+    let word = first_word(line);
+    let rest = behind_word(line);
+    if word == b"tick".as_slice() {
+        return tick_rule(rest);
+    }
+    if word == b"rx".as_slice() {
+        return rx_rule(rest);
+    }
+    if word == b"every".as_slice() {
+        return every_rule(rest);
+    }
+    None
+}
+
+// Whether a line has no other bytes than blanks and tabs.
+fn is_empty(line: &[u8]) -> bool
+    ensures { result ≡ list_all is_blank_lem line.now }
+{
+    line.iter().all(|byte| is_blank(*byte))
+}
+
+// Whether a line begins with `#`.
+fn is_comment(line: &[u8]) -> bool
+    ensures { result ≡ is_comment_lem line.now }
+{
+    match line {
+        [first, ..] => *first == b'#',
+        [] => false,
+    }
+}
+
+/// What a line says.
+#[tactic(auto, unfolding(crate::specs::Grammar::said))]
+pub(crate) fn said(line: &[u8]) -> Said
+    ensures { result ≡ said_lem line.now }
+{
+    if is_empty(line) || is_comment(line) {
+        return Said::Nothing;
+    }
+    match rule_of(line) {
+        Some(rule) => Said::Says(rule),
+        None => Said::Outside,
+    }
+}

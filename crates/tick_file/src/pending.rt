@@ -1,0 +1,65 @@
+//! The rules of a tick file that have events to come.
+
+ghost use Rattle.std.specs.Prelude.{◌≡◌, ◌<◌};
+ghost use Rattle.tick_file.specs.Inside.{pending_at, moved_on as moved_on_lem, IsSound};
+
+use crate::event::{Event, Rule};
+
+/// A rule with events to come. It is ordered by its next event.
+#[derive(Clone, Copy)]
+#[derive_where(PartialEq, Eq, PartialOrd, Ord)]
+pub(crate) struct Pending {
+    /// When the next event comes.
+    pub time: u64,
+    /// The number of the line.
+    pub line: u64,
+    /// Which of the line's events is the next one, from 1.
+    pub number: u64,
+    /// The next event.
+    #[derive_where(skip(EqHashOrd))]
+    pub event: Event,
+    /// How many events are to come.
+    #[derive_where(skip(EqHashOrd))]
+    pub left: u64,
+    /// How far apart they are.
+    #[derive_where(skip(EqHashOrd))]
+    pub period: u64,
+}
+
+/// The rule of a line, before its first event.
+pub(crate) fn at_start(line: u64, rule: Rule) -> Pending
+    ensures { result ≡ pending_at line rule }
+{
+    match rule {
+        Rule::At(time, event) => Pending {
+            time,
+            line,
+            number: 1,
+            event,
+            left: 1,
+            period: 0,
+        },
+        Rule::Every(period, count) => Pending {
+            time: period,
+            line,
+            number: 1,
+            event: Event::Tick,
+            left: count,
+            period,
+        },
+    }
+}
+
+/// The rule after its next event, where it is not the last one.
+pub(crate) fn moved_on(rule: Pending) -> Pending
+    requires sound { IsSound rule }
+    requires more { 1 < rule.left }
+    ensures { result ≡ moved_on_lem rule }
+{
+    Pending {
+        time: rule.time + rule.period,
+        number: rule.number + 1,
+        left: rule.left - 1,
+        ..rule
+    }
+}

@@ -1,0 +1,87 @@
+//! Reading a tick file.
+
+ghost use Rattle.std.specs.Prelude.{◌≡◌, ℕ, ◌++◌, None, Option, map, OnOk, IfOk, IfErr};
+ghost use Rattle.std.specs.List.{list_all};
+ghost use Rattle.tick_file.specs.Lines.{rule_at, bad_or, rules_of, first_bad_line, Tells};
+ghost use Rattle.tick_file.specs.Schedule.{timetable_of, is_tick as is_tick_lem};
+ghost use Rattle.tick_file.specs.Inside.{waiting_of};
+
+use crate::event::{Event, Said};
+use crate::line::said;
+use crate::lines::{behind_line, front_line};
+use crate::pending::{Pending, at_start};
+use crate::schedule::Schedule;
+use std::alloc::Global;
+use std::cmp::Reverse;
+
+/// Why a tick file was not read.
+#[derive(Clone, Copy, Debug, PartialEq, Eq)]
+pub enum TickErr {
+    /// The number of the first line that is outside the grammar, counted from 1.
+    BadLine(u64),
+    /// Host memory ran out.
+    NoMemory,
+}
+
+// Keeps the rule of a line, if it has one.
+fn keep(kept: &mut Vec<Reverse<Pending>>, line: u64, said: Said) -> Result<(), TickErr>
+    ensures rule { OnOk result (kept.new.items ≡ kept.old.items ++ map waiting_of (rule_at line said)) }
+    ensures good { OnOk result ((after : Option ℕ) → bad_or line after said ≡ after) }
+    ensures bad { IfErr result (λ e. (after : Option ℕ) → Tells (bad_or line after said) e) }
+{
+    let rule = match said {
+        Said::Outside => return Err(TickErr::BadLine(line)),
+        Said::Nothing => return Ok(()),
+        Said::Says(rule) => rule,
+    };
+    match kept.push(Reverse(at_start(line, rule))) {
+        Ok(()) => Ok(()),
+        Err(_) => Err(TickErr::NoMemory),
+    }
+}
+
+// The rules of a text, each before its first event.
+fn kept_rules(alloc: Global, text: &[u8]) -> Result<Vec<Reverse<Pending>>, TickErr>
+    ensures rules { IfOk result (λ kept. kept.items ≡ map waiting_of (rules_of text.now)) }
+    ensures good { OnOk result (first_bad_line text.now ≡ None) }
+    ensures bad { IfErr result (Tells (first_bad_line text.now)) }
+{
+    let mut kept = Vec::new(alloc);
+    let mut line = 0;
+    let mut rest = text;
+    while !rest.is_empty() {
+        line += 1;
+        keep(&mut kept, line, said(front_line(rest)))?;
+        rest = behind_line(rest);
+    }
+    Ok(kept)
+}
+
+// Whether an event is a tick.
+fn is_tick(event: Event) -> bool
+    ensures { result ≡ is_tick_lem event }
+{
+    match event {
+        Event::Tick => true,
+        Event::Rx(_) => false,
+    }
+}
+
+// Whether all rules are for ticks.
+fn all_ticks(rules: &[Reverse<Pending>]) -> bool
+    ensures { result ≡ list_all (λ p. is_tick_lem p.0.event) rules.now }
+{
+    rules.iter().all(|rule| is_tick(rule.0.event))
+}
+
+/// Reads a tick file: the schedule of all events that its lines ask for. Only this call takes memory, so
+/// much for each line, however many events the line asks for.
+pub fn read_ticks(alloc: Global, text: &[u8]) -> Result<Schedule, TickErr>
+    ensures value { IfOk result (λ schedule. schedule ≡ timetable_of text.now) }
+    ensures good { OnOk result (first_bad_line text.now ≡ None) }
+    ensures bad { IfErr result (Tells (first_bad_line text.now)) }
+{
+    let kept = kept_rules(alloc, text)?;
+    let on_demand = all_ticks(&kept);
+    Ok(Schedule::of_rules(kept, on_demand))
+}
