@@ -1,4 +1,11 @@
 pub mod FeedLemmas
 pub mod Hex
-pub mod Kept
 pub mod Lines
+pub mod Kept
+pub mod TaskLemmas
+pub mod Goes
+pub mod Hearing
+pub mod Rows
+pub mod Steps
+pub mod Lives
+pub mod Landings

@@ -1,5 +1,5 @@
 -- How the console file comes in chunks.
-use Rattle.std.specs.Prelude.{ℕ, ◌+◌, List, [], ◌∷◌, ◌++◌, Option, Some, None, Bool, true, false, ◌==◌, ◌||◌, nat_lt, if◌then◌else◌, take, drop, length}
+use Rattle.std.specs.Prelude.{ℕ, min, ◌+◌, List, [], ◌∷◌, ◌++◌, Option, Some, None, Bool, true, false, ◌==◌, ◌||◌, nat_lt, if◌then◌else◌, take, drop, length}
 use Rattle.std.specs.List.{position}
 
 -- a byte that ends a line: 0x0A or 0x0D
@@ -31,3 +31,7 @@ chunk left = take (taken_by (first_end left)) left ++ supplied (is_unended (firs
 
 abbrev pub after_chunk : List ℕ → List ℕ
 after_chunk left = drop (taken_by (first_end left)) left
+
+-- how many bytes an event of the tick file brings: so many, at most 4096, and fewer where fewer are left
+abbrev pub brought : ℕ → ℕ
+brought n = min n 4096

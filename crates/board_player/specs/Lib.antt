@@ -2,9 +2,12 @@ pub mod Console
 pub mod Feed
 pub mod Good
 pub mod Inside
+pub mod Laws
 pub mod Machine
 pub mod Run
 pub mod Seen
 pub mod Shell
 pub mod State
+pub mod Task
+pub mod Calls
 pub mod Text

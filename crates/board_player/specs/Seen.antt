@@ -11,7 +11,7 @@ use Rattle.board_player.specs.declared.board.Board.{Board}
 
 -- a board, where a device is seen by these
 abbrev pub board_by : {I : Type 0} {X : I → Type 0} → (DynBox I Global X → DeviceKind) → (DynBox I Global X → List ℕ) → Board I X → State
-board_by kind_of words_of b = record (inside b.feed b.console b.shell b.clock b.out.bytes) { slots = slots_of kind_of words_of b.slots.items }
+board_by kind_of words_of b = record (inside b.feed b.console b.shell b.kern b.schedule b.clock b.out.bytes) { slots = slots_of kind_of words_of b.slots.items }
 
 -- a board, where a device is seen as its kind and its words
 abbrev pub seen : {I : Type 0} {X : I → Type 0} → ((i : I) → Ghosts (X i)) → Board I X → State

@@ -2,6 +2,8 @@
 use Rattle.std.specs.Prelude.{ℕ, List, Option, Bool}
 use Rattle.wind_outside.specs.Devices.{DeviceState}
 use Rattle.shell_parse.specs.Trees.{PlainStmt}
+use Rattle.tick_file.specs.Schedule.{Timetable}
+use Rattle.wind_core.specs.State.{KernState}
 use Rattle.board_player.specs.declared.phase.Phase.{Phase}
 
 -- the console: the line that is edited, the mark that the last byte was 0x0D, and the finished lines, each with its 0x0A
@@ -10,10 +12,9 @@ pub record ConsoleState : Type 0 where
   pub after_return : Bool
   pub finished : List ℕ
 
--- the shell: its phase, whether it waits for the console, and the statements left, of which the first is evaluated next
+-- the shell: its phase, and the statements left, of which the first is under evaluation
 pub record ShellState : Type 0 where
   pub phase : Phase
-  pub waits : Bool
   pub stmts : List PlainStmt
 
 -- the wind machine
@@ -22,6 +23,10 @@ pub record State : Type 0 where
   pub left : List ℕ
   pub console : ConsoleState
   pub shell : ShellState
+  -- the kernel's tasks and counters
+  pub kern : KernState
+  -- the events of the tick file that are to come
+  pub schedule : Timetable
   -- board time, and how many steps were made
   pub time : ℕ
   pub steps : ℕ

@@ -22,3 +22,7 @@ value_text v = codes "value = " ++ signed_decimal (cast_signed w32 v) ++ codes "
 -- the line that tells the column of the first token that is refused
 unfoldable pub syntax_text : ℕ → List ℕ
 syntax_text column = codes "syntax error at column " ++ decimal column ++ codes "\n"
+
+-- the line that tells a name that means no call
+unfoldable pub undefined_text : List ℕ → List ℕ
+undefined_text name = codes "undefined symbol: " ++ name ++ codes "\n"

@@ -1,6 +1,6 @@
 //! A board: all of the wind machine.
 
-ghost use Rattle.std.specs.Prelude.{◌≡◌, ◌≤◌, ◌+◌, length, OnOk, OnErr};
+ghost use Rattle.std.specs.Prelude.{◌≡◌, ◌≤◌, ◌+◌, length, OnOk, OnErr, Some, None, nat_le, if◌then◌else◌};
 ghost use Rattle.board_player.specs.declared.Step.TheVariants as steps;
 ghost use Rattle.std.proofs.Props.{props};
 ghost use Rattle.board_player.specs.Inside.{inside};
@@ -10,14 +10,17 @@ use crate::Step;
 use crate::arrival::hear_chunk;
 use crate::clock::Clock;
 use crate::console::Console;
-use crate::feed::{Feed, chunk_len};
+use crate::evaluate::{evaluate, go_on, prompt};
+use crate::feed::{Feed, brought, chunk_len};
 use crate::machine::Machine;
 use crate::phase::Phase;
 use crate::shell::Shell;
-use crate::text::add;
+use crate::task::{is_open, shell_id, shell_record, waits_for_console};
 use std::alloc::Global;
+use tick_file::{Event, Schedule};
 use wind_base::limits::CHUNK_BYTES;
 use wind_base::{NoMemory, OutBuf};
+use wind_core::Kern;
 use wind_outside::{Device, Slots};
 
 // The room for what one step writes: a byte of the console echoes three bytes at most, and an end may
@@ -30,36 +33,51 @@ pub struct Board {
     feed: Feed,
     console: Console,
     shell: Shell,
+    kern: Kern,
+    schedule: Schedule,
     clock: Clock,
     out: OutBuf,
     slots: Slots,
-    ghost good: { Good (inside feed console shell clock out.bytes) } by { Prim.hlevel props },
+    ghost good: { Good (inside feed console shell kern schedule clock out.bytes) } by { Prim.hlevel props },
     ghost room: { 12291 ≤ out.room + length out.bytes },
 }
 
 impl Board {
-    ghost use Rattle.std.specs.Prelude.{◌≡◌, ◌<◌, ◌^◌, true, false, IfOk, IfErr, OnOk, OnErr};
+    ghost use Rattle.std.specs.Prelude.{◌≡◌, ◌<◌, ◌^◌, true, false, Some, None, IfOk, IfErr, OnOk, OnErr, option_map};
     ghost use Rattle.wind_outside.specs.Devices.{slots_of};
     ghost use Rattle.board_player.specs.Seen.{seen};
     ghost use Rattle.board_player.specs.Console.{has_line};
-    ghost use Rattle.board_player.specs.Machine.{opening, prompt_step, read_step, eval_step, arrival, console_is_due};
+    ghost use Rattle.board_player.specs.Machine.{opening, prompt_step, read_step, eval_step, call_step, arrival, ticked, received, without_next, jump};
     ghost use Rattle.board_player.specs.declared.phase.Phase.TheVariants as phases;
 
-    /// A board in the opening state, over this console file and these devices. For want of memory the
-    /// slots come back as they were.
+    /// A board in the opening state, over this console file, these events and these devices. For want of
+    /// memory the slots come back as they were.
     #[tactic(auto, unfolding(crate::specs::Machine::opening))]
-    pub fn boot(alloc: Global, slots: Slots, console: Vec<u8>) -> Result<Board, Slots>
+    pub fn boot(
+        alloc: Global,
+        slots: Slots,
+        console: Vec<u8>,
+        schedule: Schedule,
+    ) -> Result<Board, Slots>
         requires { length slots.items ≤ 16 }
-        ensures ok { IfOk result (λ board. seen ⟦<dyn Device as Device>⟧ board ≡ opening console.items (slots_of kind_of words_of slots.items)) }
+        ensures ok { IfOk result (λ board. seen ⟦<dyn Device as Device>⟧ board ≡ opening console.items schedule (slots_of kind_of words_of slots.items)) }
         ensures err { IfErr result (λ back. back ≡ slots) }
     {
         let Ok(out) = OutBuf::reserved(alloc, OUTPUT_BYTES) else {
             return Err(slots);
         };
+        let Ok(mut kern) = Kern::new(alloc) else {
+            return Err(slots);
+        };
+        let Ok(_) = kern.spawn_record(shell_record()) else {
+            unreachable!()
+        };
         Ok(Board {
             feed: Feed::new(console),
             console: Console::new(),
             shell: Shell::new(alloc),
+            kern,
+            schedule,
             clock: Clock::new(),
             out,
             slots,
@@ -69,13 +87,12 @@ impl Board {
     // The shell writes its prompt.
     fn prompt(&mut self)
         requires few { (seen ⟦<dyn Device as Device>⟧ self.old).steps < 10 ^ 12 }
-        requires runs { (seen ⟦<dyn Device as Device>⟧ self.old).shell.waits ≡ false }
         requires phase { (seen ⟦<dyn Device as Device>⟧ self.old).shell.phase ≡ phases.Prompt }
         ensures { seen ⟦<dyn Device as Device>⟧ self.new ≡ prompt_step (seen ⟦<dyn Device as Device>⟧ self.old) }
     {
-        self.out.clear();
-        add(&mut self.out, b"-> ");
-        self.shell.prompt(self.console.has_line());
+        let kept = self.console.has_line();
+        prompt(&mut self.shell, &mut self.kern, kept, &mut self.out);
+        self.kern.ran(shell_id());
         self.clock.step();
     }
 
@@ -87,18 +104,35 @@ impl Board {
     {
         self.shell.read(self.console.front_line(), &mut self.out)?;
         self.console.drop_line();
+        self.kern.ran(shell_id());
         self.clock.step();
         Ok(())
     }
 
-    // The shell evaluates the current statement.
+    // The shell goes on with the current statement.
     fn evaluate(&mut self)
         requires few { (seen ⟦<dyn Device as Device>⟧ self.old).steps < 10 ^ 12 }
-        requires runs { (seen ⟦<dyn Device as Device>⟧ self.old).shell.waits ≡ false }
         ensures { seen ⟦<dyn Device as Device>⟧ self.new ≡ eval_step (seen ⟦<dyn Device as Device>⟧ self.old) }
     {
-        self.shell.evaluate(&mut self.out);
+        evaluate(&mut self.shell, &mut self.kern, &mut self.out);
+        self.kern.ran(shell_id());
         self.clock.step();
+    }
+
+    // The shell's task, which is in a call, goes on. False where it has no step.
+    fn go_on(&mut self) -> bool
+        requires few { (seen ⟦<dyn Device as Device>⟧ self.old).steps < 10 ^ 12 }
+        requires phase { (seen ⟦<dyn Device as Device>⟧ self.old).shell.phase ≡ phases.Call }
+        ensures made { result ≡ true → call_step (seen ⟦<dyn Device as Device>⟧ self.old) ≡ Some (seen ⟦<dyn Device as Device>⟧ self.new) }
+        ensures none { result ≡ false → call_step (seen ⟦<dyn Device as Device>⟧ self.old) ≡ None }
+        ensures same { result ≡ false → seen ⟦<dyn Device as Device>⟧ self.new ≡ seen ⟦<dyn Device as Device>⟧ self.old }
+    {
+        if !go_on(&mut self.shell, &mut self.kern, &mut self.out) {
+            return false;
+        }
+        self.kern.ran(shell_id());
+        self.clock.step();
+        true
     }
 
     // The next chunk of the console arrives.
@@ -113,10 +147,122 @@ impl Board {
             is_unended,
             &mut self.console,
             &mut self.shell,
+            &mut self.kern,
             &mut self.out,
         );
         self.feed.advance(len);
         self.clock.event();
+    }
+
+    // A tick comes.
+    fn tick(&mut self)
+        requires few { (seen ⟦<dyn Device as Device>⟧ self.old).steps < 10 ^ 12 }
+        ensures { seen ⟦<dyn Device as Device>⟧ self.new ≡ ticked (record (seen ⟦<dyn Device as Device>⟧ self.old) { schedule = without_next (seen ⟦<dyn Device as Device>⟧ self.old).schedule }) }
+    {
+        self.out.clear();
+        self.kern.tick();
+        self.schedule.advance();
+        self.clock.event();
+    }
+
+    // So many bytes arrive, as the tick file asks.
+    fn receive(&mut self, n: u32)
+        requires few { (seen ⟦<dyn Device as Device>⟧ self.old).steps < 10 ^ 12 }
+        ensures { seen ⟦<dyn Device as Device>⟧ self.new ≡ received (record (seen ⟦<dyn Device as Device>⟧ self.old) { schedule = without_next (seen ⟦<dyn Device as Device>⟧ self.old).schedule }) n }
+    {
+        let len = brought(self.feed.left(), n);
+        self.out.clear();
+        hear_chunk(
+            &self.feed.left()[..len],
+            false,
+            &mut self.console,
+            &mut self.shell,
+            &mut self.kern,
+            &mut self.out,
+        );
+        self.feed.advance(len);
+        self.schedule.advance();
+        self.clock.event();
+    }
+}
+
+impl Board {
+    ghost use Rattle.std.specs.Prelude.{◌≡◌, ◌≢◌, ◌↔◌, ◌<◌, ◌^◌, true, false, Some, None, option_map, IsSome};
+    ghost use Rattle.board_player.specs.Seen.{seen};
+    ghost use Rattle.board_player.specs.Machine.{due_event as due_event_lem, event_of, event_comes, without_next, console_is_due as console_is_due_lem, jump_to, next_event, shell_step, run_step, quiet_step, is_read};
+    ghost use Rattle.board_player.specs.declared.Step.TheVariants as steps;
+    ghost use Rattle.wind_core.specs.Orders.{running};
+
+    // The event that is due, if one is.
+    fn due_event(&self) -> Option<Event>
+        ensures { result ≡ option_map event_of (due_event_lem (seen ⟦<dyn Device as Device>⟧ self.now)) }
+    {
+        if !is_open(&self.kern) {
+            return None;
+        }
+        match self.schedule.next() {
+            Some(next) => when_due(next, self.clock.time),
+            None => None,
+        }
+    }
+
+    // The event that is due comes.
+    fn come(&mut self, event: Event)
+        requires few { (seen ⟦<dyn Device as Device>⟧ self.old).steps < 10 ^ 12 }
+        ensures { seen ⟦<dyn Device as Device>⟧ self.new ≡ event_comes (record (seen ⟦<dyn Device as Device>⟧ self.old) { schedule = without_next (seen ⟦<dyn Device as Device>⟧ self.old).schedule }) event }
+    {
+        match event {
+            Event::Tick => self.tick(),
+            Event::Rx(n) => self.receive(n),
+        }
+    }
+
+    // Whether the next chunk of the console is due.
+    fn console_is_due(&self) -> bool
+        ensures { result ≡ console_is_due_lem (seen ⟦<dyn Device as Device>⟧ self.now) }
+    {
+        is_open(&self.kern)
+            && self.schedule.on_demand()
+            && waits_for_console(&self.kern)
+            && !self.console.has_line()
+            && !self.feed.left().is_empty()
+    }
+
+    // Board time becomes that of the next event. False, and nothing changes, where there is none.
+    fn jump(&mut self) -> bool
+        requires few { (seen ⟦<dyn Device as Device>⟧ self.old).steps < 10 ^ 12 }
+        ensures made { result ≡ true → jump_to (seen ⟦<dyn Device as Device>⟧ self.old) (next_event (seen ⟦<dyn Device as Device>⟧ self.old)) ≡ Some (seen ⟦<dyn Device as Device>⟧ self.new) }
+        ensures none { result ≡ false → jump_to (seen ⟦<dyn Device as Device>⟧ self.old) (next_event (seen ⟦<dyn Device as Device>⟧ self.old)) ≡ None }
+        ensures same { result ≡ false → seen ⟦<dyn Device as Device>⟧ self.new ≡ seen ⟦<dyn Device as Device>⟧ self.old }
+    {
+        let Some(next) = self.schedule.next() else {
+            return false;
+        };
+        self.out.clear();
+        self.clock.jump(next.0);
+        true
+    }
+
+    // Whoever runs, which so far is the shell's task, makes a step.
+    fn run(&mut self) -> Step
+        requires few { (seen ⟦<dyn Device as Device>⟧ self.old).steps < 10 ^ 12 }
+        ensures stepped { result ≡ steps.Stepped → shell_step (seen ⟦<dyn Device as Device>⟧ self.old).shell.phase (seen ⟦<dyn Device as Device>⟧ self.old) ≡ Some (seen ⟦<dyn Device as Device>⟧ self.new) }
+        ensures quiet { (result ≡ steps.Quiet) ↔ (shell_step (seen ⟦<dyn Device as Device>⟧ self.old).shell.phase (seen ⟦<dyn Device as Device>⟧ self.old) ≡ None) }
+        ensures no_memory { result ≡ steps.NoMemory → is_read (seen ⟦<dyn Device as Device>⟧ self.old).shell.phase ≡ true }
+        ensures unchanged { result ≢ steps.Stepped → seen ⟦<dyn Device as Device>⟧ self.new ≡ seen ⟦<dyn Device as Device>⟧ self.old }
+    {
+        match self.shell.phase() {
+            Phase::Prompt => {
+                self.prompt();
+                Step::Stepped
+            }
+            Phase::Read => step_of(self.read()),
+            Phase::Eval => {
+                self.evaluate();
+                Step::Stepped
+            }
+            Phase::Call => stepped_if(self.go_on()),
+        }
     }
 }
 
@@ -130,24 +276,18 @@ impl Machine for Board {
 
     #[tactic(auto, unfolding(crate::specs::Machine::machine_step))]
     fn step(&mut self) -> Step {
-        if self.shell.waits() {
-            if self.feed.left().is_empty() {
-                return Step::Quiet;
-            }
+        if let Some(event) = self.due_event() {
+            self.come(event);
+            return Step::Stepped;
+        }
+        if self.console_is_due() {
             self.arrive();
             return Step::Stepped;
         }
-        match self.shell.phase() {
-            Phase::Prompt => {
-                self.prompt();
-                Step::Stepped
-            }
-            Phase::Read => step_of(self.read()),
-            Phase::Eval => {
-                self.evaluate();
-                Step::Stepped
-            }
-        }
+        let Some(_) = self.kern.runner() else {
+            return stepped_if(self.jump());
+        };
+        self.run()
     }
 
     fn output(&self) -> &[u8] {
@@ -167,5 +307,23 @@ fn step_of(made: Result<(), NoMemory>) -> Step
     match made {
         Ok(()) => Step::Stepped,
         Err(NoMemory) => Step::NoMemory,
+    }
+}
+
+// The answer of a step that may be none.
+fn stepped_if(made: bool) -> Step
+    ensures { result ≡ (if made then steps.Stepped else steps.Quiet) }
+{
+    if made { Step::Stepped } else { Step::Quiet }
+}
+
+// The event, where its time has come.
+fn when_due(next: (u64, Event), time: u128) -> Option<Event>
+    ensures { result ≡ (if nat_le next.0 time then Some next.1 else None) }
+{
+    if u128::from(next.0) <= time {
+        Some(next.1)
+    } else {
+        None
     }
 }

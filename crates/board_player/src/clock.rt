@@ -19,7 +19,7 @@ impl Clock {
 
     /// A step that takes board time.
     pub(crate) fn step(&mut self)
-        requires time { self.old.time < 10 ^ 12 }
+        requires time { self.old.time < 2 ^ 65 }
         requires steps { self.old.steps < 10 ^ 12 }
         ensures { self.new ≡ record { time = self.old.time + 1; steps = self.old.steps + 1 } }
     {
@@ -32,6 +32,15 @@ impl Clock {
         requires { self.old.steps < 10 ^ 12 }
         ensures { self.new ≡ record self.old { steps = self.old.steps + 1 } }
     {
+        self.steps += 1;
+    }
+
+    /// Board time becomes this, which is a step.
+    pub(crate) fn jump(&mut self, time: u64)
+        requires { self.old.steps < 10 ^ 12 }
+        ensures { self.new ≡ record { time = time; steps = self.old.steps + 1 } }
+    {
+        self.time = u128::from(time);
         self.steps += 1;
     }
 }

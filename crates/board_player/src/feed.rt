@@ -1,7 +1,7 @@
 //! The console file, as far as it has not come yet.
 
 ghost use Rattle.std.specs.Prelude.{◌≡◌, ◌<◌, ◌≤◌, ◌++◌, IfSome, take, drop, length};
-ghost use Rattle.board_player.specs.Feed.{is_end as is_end_lem, first_end as first_end_lem, chunk, after_chunk, supplied};
+ghost use Rattle.board_player.specs.Feed.{is_end as is_end_lem, first_end as first_end_lem, chunk, after_chunk, supplied, brought as brought_by};
 
 use std::marker::Model;
 use wind_base::limits::CHUNK_BYTES;
@@ -74,4 +74,14 @@ pub(crate) fn chunk_len(left: &[u8]) -> (usize, bool)
         None if left.len() > CHUNK_BYTES => (CHUNK_BYTES, false),
         None => (left.len(), true),
     }
+}
+
+/// How many bytes an event of the tick file takes: so many, at most 4096, and fewer where fewer are left.
+pub(crate) fn brought(left: &[u8], n: u32) -> usize
+    ensures taken { take result left.now ≡ take (brought_by n) left.now }
+    ensures after { drop result left.now ≡ drop (brought_by n) left.now }
+    ensures inside { result ≤ length left.now }
+    ensures short { result ≤ 4096 }
+{
+    (n as usize).min(CHUNK_BYTES).min(left.len())
 }

@@ -3,18 +3,25 @@
 
 mod arrival;
 mod board;
+mod calls;
 mod clock;
 mod console;
+mod evaluate;
 mod feed;
+mod gate;
+mod laws;
 mod machine;
 mod phase;
 mod shell;
+mod task;
 #[cfg(test)]
 mod tests;
 mod text;
 
 pub use board::Board;
-pub use machine::{Machine, step_law};
+pub use gate::Gate;
+pub use laws::{gates_law, step_law, urgency_law};
+pub use machine::Machine;
 pub use phase::Phase;
 
 /// What a call for the next step answers.

@@ -1,10 +1,9 @@
 //! What plays as the wind machine.
 
-ghost use Rattle.std.specs.Prelude.{◌≡◌, ◌≢◌, ℕ, ◌+◌, ◌^◌, ◌<◌, ◌↔◌, List, Option, Some, None, true};
-ghost use Rattle.wind_outside.specs.Devices.{DeviceState};
+ghost use Rattle.std.specs.Prelude.{◌≡◌, ◌≢◌, ◌+◌, ◌^◌, ◌<◌, ◌↔◌, Some, None, true};
 ghost use Rattle.board_player.specs.State.{State};
 ghost use Rattle.board_player.specs.Good.{Good};
-ghost use Rattle.board_player.specs.Machine.{machine_step, opening, reads_line};
+ghost use Rattle.board_player.specs.Machine.{machine_step, reads_line};
 ghost use Rattle.board_player.specs.declared.Step.TheVariants as steps;
 
 use crate::Step;
@@ -33,11 +32,3 @@ pub trait Machine {
 
     ghost sound: { (machine : Self) → Good (state machine) };
 }
-
-/// The law of the kept facts: the opening state has them, and every step of the wind machine keeps
-/// them.
-#[tactic(auto, unfolding(crate::specs::Machine::opening))]
-pub fn step_law()
-    ensures start { (console : List ℕ) (slots : List (Option DeviceState)) → Good (opening console slots) }
-    ensures step { (s t : State) → Good s → machine_step s ≡ Some t → Good t }
-{}

@@ -2,13 +2,15 @@
 
 ghost use Rattle.std.specs.Prelude.{◌≡◌, ◌+◌, ◌≤◌, [], ◌++◌, OnOk, OnErr, map, drop, length};
 ghost use Rattle.shell_parse.specs.Grammar.{read_line};
-ghost use Rattle.shell_parse.specs.Trees.{plain_tree, plain_stmt};
-ghost use Rattle.board_player.specs.Shell.{apply as apply_lem, value_of, at_prompt, prompted, woken, heard, is_nothing as is_nothing_lem, begun, shell_read, read_text, phase_with, evaluated, eval_text, stmt_text};
+ghost use Rattle.shell_parse.specs.Trees.{plain_stmt};
+ghost use Rattle.shell_eval.specs.Due.{plain_due};
+ghost use Rattle.board_player.specs.declared.phase.Phase.TheVariants as phases;
+ghost use Rattle.board_player.specs.Shell.{at_prompt, prompted, is_nothing as is_nothing_lem, begun, shell_read, read_text, phase_with, rest_of, moved_on, first_due, fill_first as fill_first_lem, returned};
 
-use crate::console::ByteDone;
 use crate::phase::Phase;
-use crate::text::{add_syntax, add_value};
-use shell_parse::{BinOp, ParseErr, Stmt, Tree, parse};
+use crate::text::add_syntax;
+use shell_eval::{Due, due, fill};
+use shell_parse::{ParseErr, Stmt, parse};
 use std::alloc::Global;
 use std::marker::Model;
 use wind_base::{NoMemory, OutBuf};
@@ -18,7 +20,6 @@ use wind_base::{NoMemory, OutBuf};
 pub(crate) struct Shell {
     alloc: Global,
     phase: Phase,
-    waits: bool,
     stmts: Vec<Stmt>,
 }
 
@@ -34,7 +35,7 @@ impl Model for Shell {
 
     ghost coded = { Prim.hlevel (codes, coded_stmt) };
 
-    ghost view = { λ s. record { phase = s.phase; waits = s.waits; stmts = map plain_stmt s.stmts.items } };
+    ghost view = { λ s. record { phase = s.phase; stmts = map plain_stmt s.stmts.items } };
 }
 
 impl Shell {
@@ -45,7 +46,6 @@ impl Shell {
         Shell {
             alloc,
             phase: Phase::Prompt,
-            waits: false,
             stmts: Vec::new(alloc),
         }
     }
@@ -57,52 +57,28 @@ impl Shell {
         self.phase
     }
 
-    /// Whether it waits for the console.
-    pub(crate) fn waits(&self) -> bool
-        ensures { result ≡ self.now.waits }
-    {
-        self.waits
-    }
-
     /// It has written its prompt.
     pub(crate) fn prompt(&mut self, has_line: bool)
         ensures { self.new ≡ prompted has_line self.old }
     {
         if has_line {
             self.phase = Phase::Read;
-        } else {
-            self.waits = true;
         }
     }
 
-    /// A byte of the console did this.
-    pub(crate) fn hear(&mut self, done: ByteDone)
-        ensures { self.new ≡ heard done self.old }
+    /// A line is kept, which it reads next.
+    pub(crate) fn take_line(&mut self)
+        ensures { self.new ≡ record self.old { phase = phases.Read } }
     {
-        match done {
-            ByteDone::Abort => self.abort(),
-            ByteDone::Line => self.wake(),
-            ByteDone::Kept => {}
-        }
+        self.phase = Phase::Read;
     }
 
-    // The line under evaluation goes.
-    fn abort(&mut self)
+    /// The line under evaluation goes.
+    pub(crate) fn abort(&mut self)
         ensures { self.new ≡ at_prompt }
     {
         self.phase = Phase::Prompt;
-        self.waits = false;
         self.stmts.clear();
-    }
-
-    // A line is kept.
-    fn wake(&mut self)
-        ensures { self.new ≡ woken self.old }
-    {
-        if self.waits {
-            self.waits = false;
-            self.phase = Phase::Read;
-        }
     }
 
     /// Reads a line. For want of memory nothing changes.
@@ -140,20 +116,40 @@ impl Shell {
             return;
         }
         self.phase = Phase::Eval;
-        self.waits = false;
         self.stmts = stmts;
     }
 
-    /// Evaluates the current statement.
-    pub(crate) fn evaluate(&mut self, out: &mut OutBuf)
-        requires { 64 ≤ out.old.room + length out.old.bytes }
-        ensures shell { self.new ≡ evaluated self.old self.old.stmts }
-        ensures text { out.new.bytes ≡ eval_text self.old.stmts }
-        ensures total { out.new.room + length out.new.bytes ≡ out.old.room + length out.old.bytes }
+    /// What its first statement goes on to.
+    pub(crate) fn due(&self) -> Due<'_>
+        ensures { plain_due result ≡ first_due self.now.stmts }
     {
-        out.clear();
-        evaluate_first(&mut self.stmts, out);
+        match self.stmts.first() {
+            Some(stmt) => due(stmt),
+            None => Due::Nothing,
+        }
+    }
+
+    /// The first statement is at its end.
+    pub(crate) fn move_on(&mut self)
+        ensures { self.new ≡ moved_on self.old }
+    {
+        drop_first(&mut self.stmts);
         self.phase = phase_of(&self.stmts);
+    }
+
+    /// Its task begins a call.
+    pub(crate) fn call(&mut self)
+        ensures { self.new ≡ record self.old { phase = phases.Call } }
+    {
+        self.phase = Phase::Call;
+    }
+
+    /// A call has returned with this value.
+    pub(crate) fn give_value(&mut self, value: u32)
+        ensures { self.new ≡ returned value self.old }
+    {
+        fill_first(&mut self.stmts, value);
+        self.phase = Phase::Eval;
     }
 }
 
@@ -175,38 +171,21 @@ fn phase_of(stmts: &[Stmt]) -> Phase
     }
 }
 
-// Evaluates the first statement, which goes, and adds what it writes.
-fn evaluate_first(stmts: &mut Vec<Stmt>, out: &mut OutBuf)
-    requires { 64 ≤ out.old.room }
-    ensures stmts { map plain_stmt stmts.new.items ≡ drop 1 (map plain_stmt stmts.old.items) }
-    ensures text { out.new.bytes ≡ out.old.bytes ++ eval_text (map plain_stmt stmts.old.items) }
-    ensures total { out.new.room + length out.new.bytes ≡ out.old.room + length out.old.bytes }
+// Drops the first statement, if there is one.
+fn drop_first(stmts: &mut Vec<Stmt>)
+    ensures { map plain_stmt stmts.new.items ≡ rest_of (map plain_stmt stmts.old.items) }
 {
-    if stmts.is_empty() {
-        return;
-    }
-    match stmts.remove(0) {
-        Stmt::Nothing => {}
-        Stmt::Expr(tree) => add_value(out, value(&tree)),
+    if !stmts.is_empty() {
+        stmts.remove(0);
     }
 }
 
-// The value of an expression.
-fn value(tree: &Tree) -> u32
-    ensures { result ≡ value_of (plain_tree tree.now) }
+// Gives the due call of the first statement its value.
+fn fill_first(stmts: &mut [Stmt], value: u32)
+    ensures { map plain_stmt stmts.new ≡ fill_first_lem value (map plain_stmt stmts.old) }
 {
-    match tree {
-        Tree::Number(n) => *n,
-        Tree::Binary(op, left, right) => apply(*op, value(left), value(right)),
-    }
-}
-
-// The value of an operator between two words.
-fn apply(op: BinOp, a: u32, b: u32) -> u32
-    ensures { result ≡ apply_lem op a b }
-{
-    match op {
-        BinOp::Plus => a.wrapping_add(b),
-        BinOp::Minus => a.wrapping_sub(b),
+    match stmts {
+        [] => {}
+        [stmt, ..] => fill(stmt, value),
     }
 }

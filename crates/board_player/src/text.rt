@@ -3,7 +3,7 @@
 ghost use Rattle.std.specs.Prelude.{◌≡◌, ◌+◌, ◌^◌, ◌<◌, ◌≤◌, ◌++◌, false, length};
 ghost use Rattle.std.specs.Fmt.{decimal, signed_decimal, digit_glyph, digits};
 ghost use Rattle.std.specs.Int.{cast_signed, w32};
-ghost use Rattle.board_player.specs.Text.{hex_within, character_text, value_text, syntax_text};
+ghost use Rattle.board_player.specs.Text.{hex_within, character_text, value_text, syntax_text, undefined_text};
 
 use itoa::Buffer;
 use wind_base::OutBuf;
@@ -106,7 +106,6 @@ pub(crate) fn add_value(out: &mut OutBuf, v: u32)
 }
 
 /// Adds the line that tells the column of a syntax error.
-
 pub(crate) fn add_syntax(out: &mut OutBuf, column: u32)
     requires { 64 ≤ out.old.room }
     ensures bytes { out.new.bytes ≡ out.old.bytes ++ syntax_text column }
@@ -114,5 +113,17 @@ pub(crate) fn add_syntax(out: &mut OutBuf, column: u32)
 {
     add(out, b"syntax error at column ");
     add_decimal(out, column);
+    add(out, b"\n");
+}
+
+/// Adds the line that tells a name that means no call.
+#[tactic(auto, unfolding(crate::specs::Text::undefined_text))]
+pub(crate) fn add_undefined(out: &mut OutBuf, name: &[u8])
+    requires { 32 + length name.now ≤ out.old.room }
+    ensures bytes { out.new.bytes ≡ out.old.bytes ++ undefined_text name.now }
+    ensures total { out.new.room + length out.new.bytes ≡ out.old.room + length out.old.bytes }
+{
+    add(out, b"undefined symbol: ");
+    add(out, name);
     add(out, b"\n");
 }

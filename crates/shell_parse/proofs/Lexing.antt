@@ -11,12 +11,12 @@ tokens_passed column (suc k) [] = refl
 tokens_passed column (suc k) (b ∷ bs) = tokens_passed (column + 1) k bs ∙ ap (λ n. tokens_from n 0 (drop k bs)) (omega arith)
 
 -- a word at the front is its bytes as far as they may stand in a word
-pub word_front : (b : ℕ) (bs bytes : List ℕ) (n : ℕ) → is_word_byte b ≡ true → bytes ≡ b ∷ bs → n ≡ prefix_len is_word_byte bs → word_token (take (n + 1) bytes) ≡ token_at b bs
+pub word_front : (b : ℕ) (bs bytes : List ℕ) (n : ℕ) → is_word_byte b ≡ true → bytes ≡ b ∷ bs → n ≡ prefix_len is_word_byte bs → word_token b (take (n + 1) bytes) ≡ token_at b bs
 word_front b bs bytes n t e h =
     let len : 1 + prefix_len is_word_byte bs ≡ prefix_len is_word_byte (b ∷ bs) = ap (λ x. if x then 1 + prefix_len is_word_byte bs else 0) (sym t) in
     let more : n + 1 ≡ 1 + prefix_len is_word_byte bs = omega (arith, h) in
-    ap word_token (ap (λ k. take k bytes) (more ∙ len) ∙ ap (take (prefix_len is_word_byte (b ∷ bs))) e)
-    ∙ sym (ap (λ x. if x then word_token (take (prefix_len is_word_byte (b ∷ bs)) (b ∷ bs)) else other_token b bs) t)
+    ap (word_token b) (ap (λ k. take k bytes) (more ∙ len) ∙ ap (take (prefix_len is_word_byte (b ∷ bs))) e)
+    ∙ sym (ap (λ x. if x then word_token b (take (prefix_len is_word_byte (b ∷ bs)) (b ∷ bs)) else other_token b bs) t)
 
 -- a blank is passed over
 pub blank_passed : (column b : ℕ) (bs : List ℕ) → is_blank b ≡ true → tokens_from column 0 (b ∷ bs) ≡ tokens_from (column + 1) 0 bs

@@ -1,19 +1,75 @@
--- The first token that no line goes on with.
-use Rattle.std.proofs.Common.{◌≡◌, List, [], ◌∷◌, None, refl}
+-- The first token that the automaton does not allow is the first that no line goes on with.
+use Rattle.std.proofs.Common.{◌≡◌, ℕ, suc, Bool, true, false, List, [], ◌∷◌, ◌++◌, take, Option, Some, None, ◌⊎◌, inl, inr, refl, sym, subst}
+use Rattle.std.specs.Prelude.{slice_get}
 use Rattle.shell_parse.specs.declared.token.Token.{Token}
-use Rattle.shell_parse.specs.declared.token.Token.TheVariants.{Number, Operator, Unknown}
-use Rattle.shell_parse.specs.Grammar.{stmt_of, begun, IsRefusedAt}
+use Rattle.shell_parse.specs.declared.allowed.Mode.{Mode}
+use Rattle.shell_parse.specs.declared.allowed.Mode.TheVariants.{Start}
+use Rattle.shell_parse.specs.declared.frames.Frame.{Frame}
+use Rattle.shell_parse.specs.Grammar.{MayCome, IsRefusedAt}
+use Rattle.shell_parse.specs.Descent.{stmts_of}
+use Rattle.shell_parse.specs.Allowed.{Place, step, begun_after, begun_from, begun}
+use Rattle.shell_parse.proofs.Next.{Lang, LangOf, word, completes, back, forth, may_end, ends, ends_back}
+use Rattle.shell_parse.proofs.Complete.{stmts_complete}
 
--- where tokens are no line, the one behind those that begin some line is refused
-pub begun_refused : (ts : List Token) → stmt_of ts ≡ None → IsRefusedAt ts (begun ts)
-begun_refused [] e = cc
-begun_refused (Number a ∷ []) e = cc
-begun_refused (Number a ∷ Operator op ∷ []) e = record { begins = (Number 0 ∷ [], refl); refused = λ h. cc }
-begun_refused (Number a ∷ Operator op ∷ Number b ∷ []) e = cc
-begun_refused (Number a ∷ Operator op ∷ Number b ∷ t ∷ ts) e = record { begins = ([], refl); refused = λ h. let bad = h.1 in cc }
-begun_refused (Number a ∷ Operator op ∷ Operator o ∷ ts) e = record { begins = (Number 0 ∷ [], refl); refused = λ h. let bad = h.1 in cc }
-begun_refused (Number a ∷ Operator op ∷ Unknown ∷ ts) e = record { begins = (Number 0 ∷ [], refl); refused = λ h. let bad = h.1 in cc }
-begun_refused (Number a ∷ Number b ∷ ts) e = record { begins = ([], refl); refused = λ h. let bad = h.1 in cc }
-begun_refused (Number a ∷ Unknown ∷ ts) e = record { begins = ([], refl); refused = λ h. let bad = h.1 in cc }
-begun_refused (Operator op ∷ ts) e = record { begins = ([], refl); refused = λ h. let bad = h.1 in cc }
-begun_refused (Unknown ∷ ts) e = record { begins = ([], refl); refused = λ h. let bad = h.1 in cc }
+-- these tokens, and then what may follow
+abbrev pub GoesOn : Mode → List Frame → List Token → Option Token → Type 0
+GoesOn mode fs front (Some t) = (more : List Token) × Lang mode fs (front ++ t ∷ more)
+GoesOn mode fs front None = Lang mode fs front
+
+-- token number i behind this place is the first that is refused
+pub record Stops (mode : Mode) (fs : List Frame) (ts : List Token) (i : ℕ) : Type 0 where
+  pub begins : (more : List Token) × Lang mode fs (take i ts ++ more)
+  pub refused : GoesOn mode fs (take i ts) (slice_get ts i) → ⊥
+
+-- these tokens may follow to the end, or the one behind those that are allowed is refused
+abbrev pub Outcome : Mode → List Frame → List Token → ℕ → Type 0
+Outcome mode fs ts i = Lang mode fs ts ⊎ Stops mode fs ts i
+
+at_end : (mode : Mode) (fs : List Frame) (b : Bool) → may_end mode fs ≡ b → Outcome mode fs [] 0
+at_end mode fs true h = inl (ends_back mode fs h)
+at_end mode fs false h = inr (record { begins = (word mode fs, completes mode fs); refused = λ l. let e : may_end mode fs ≡ true = ends mode fs l in cc })
+
+onward : (mode : Mode) (fs : List Frame) (t : Token) (p : Place) → step mode fs t ≡ Some p → (us : List Token) → Lang p.mode p.frames us → Lang mode fs (t ∷ us)
+onward mode fs t p e us h = back mode fs t us (subst (λ o. LangOf o us) (sym e) h)
+
+inward : (mode : Mode) (fs : List Frame) (t : Token) (p : Place) → step mode fs t ≡ Some p → (us : List Token) → Lang mode fs (t ∷ us) → Lang p.mode p.frames us
+inward mode fs t p e us h = subst (λ o. LangOf o us) e (forth mode fs t us h)
+
+goes_inward : (mode : Mode) (fs : List Frame) (t : Token) (p : Place) → step mode fs t ≡ Some p → (front : List Token) (o : Option Token) → GoesOn mode fs (t ∷ front) o → GoesOn p.mode p.frames front o
+goes_inward mode fs t p e front (Some u) (more, h) = (more, inward mode fs t p e (front ++ u ∷ more) h)
+goes_inward mode fs t p e front None h = inward mode fs t p e front h
+
+later : (mode : Mode) (fs : List Frame) (t : Token) (ts : List Token) (p : Place) (i : ℕ) → step mode fs t ≡ Some p → Outcome p.mode p.frames ts i → Outcome mode fs (t ∷ ts) (suc i)
+later mode fs t ts p i e (inl h) = inl (onward mode fs t p e ts h)
+later mode fs t ts p i e (inr stops) = inr (record {
+  begins = (stops.begins.0, onward mode fs t p e (take i ts ++ stops.begins.0) stops.begins.1);
+  refused = λ g. stops.refused (goes_inward mode fs t p e (take i ts) (slice_get ts i) g);
+})
+
+by_step : (mode : Mode) (fs : List Frame) (t : Token) (ts : List Token) (s : Option Place) → step mode fs t ≡ s
+    → ((m : Mode) (gs : List Frame) → Outcome m gs ts (begun_from ts m gs)) → Outcome mode fs (t ∷ ts) (begun_after s (λ m gs. begun_from ts m gs))
+by_step mode fs t ts None e go = inr (record {
+  begins = (word mode fs, completes mode fs);
+  refused = λ g. subst (λ o. LangOf o g.0) e (forth mode fs t g.0 g.1);
+})
+by_step mode fs t ts (Some p) e go = later mode fs t ts p (begun_from ts p.mode p.frames) e (go p.mode p.frames)
+
+outcome : (ts : List Token) (mode : Mode) (fs : List Frame) → Outcome mode fs ts (begun_from ts mode fs)
+outcome [] mode fs = at_end mode fs (may_end mode fs) refl
+outcome (t ∷ ts) mode fs = by_step mode fs t ts (step mode fs t) refl (λ m gs. outcome ts m gs)
+
+at_start : (ts : List Token) (i : ℕ) → Stops Start [] ts i → IsRefusedAt ts i
+at_start ts i stops = record { begins = stops.begins; refused = λ m. stops.refused (by_token (take i ts) (slice_get ts i) m) }
+  where
+    by_token : (front : List Token) (o : Option Token) → MayCome front o → GoesOn Start [] front o
+    by_token front (Some t) m = m
+    by_token front None m = m
+
+no_line : (ts : List Token) → stmts_of ts ≡ None → Outcome Start [] ts (begun_from ts Start []) → IsRefusedAt ts (begun_from ts Start [])
+no_line ts h (inl (ss, line)) = let found : stmts_of ts ≡ Some ss = stmts_complete ts ss line in cc
+no_line ts h (inr stops) = at_start ts (begun_from ts Start []) stops
+
+-- where tokens have no statements, the one behind those that begin some line is refused
+pub begun_refused : (ts : List Token) → stmts_of ts ≡ None → IsRefusedAt ts (begun ts)
+unfolding begun
+begun_refused ts h = no_line ts h (outcome ts Start [])

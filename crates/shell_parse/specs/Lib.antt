@@ -1,4 +1,9 @@
+pub mod Allowed
+pub mod Descent
+pub mod Gives
 pub mod Grammar
 pub mod Parsed
+pub mod Stack
+pub mod Steps
 pub mod Tokens
 pub mod Trees

@@ -2,8 +2,8 @@
 use Rattle.std.specs.Prelude.{◌≡◌, ℕ, List, Result, Ok, Err, Vec, map}
 use Rattle.std.specs.declared.alloc.Global.{Global}
 use Rattle.shell_parse.specs.Trees.{plain_stmt}
-use Rattle.shell_parse.specs.Tokens.{tokens_of}
-use Rattle.shell_parse.specs.Grammar.{Reading, Statements, Refused, bare, column_of, IsRefusedAt}
+use Rattle.shell_parse.specs.Tokens.{tokens_of, bare}
+use Rattle.shell_parse.specs.Grammar.{Reading, Statements, Refused, column_of, IsRefusedAt}
 use Rattle.shell_parse.specs.declared.tree.Stmt.{Stmt}
 use Rattle.shell_parse.specs.declared.grammar.ParseErr.{ParseErr}
 use Rattle.shell_parse.specs.declared.grammar.ParseErr.TheVariants as errors

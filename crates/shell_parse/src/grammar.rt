@@ -1,15 +1,17 @@
 //! The grammar of a line.
 
-ghost use Rattle.std.specs.Prelude.{◌≡◌, ◌<◌, ◌≤◌, IfOk, IfErr, map, option_map, length};
-ghost use Rattle.shell_parse.specs.Trees.{plain_stmt};
-ghost use Rattle.shell_parse.specs.Tokens.{tokens_of};
-ghost use Rattle.shell_parse.specs.Grammar.{stmt_of, read_line, begun, column_of};
+ghost use Rattle.std.specs.Prelude.{◌≡◌, ◌≤◌, ◌+◌, ◌↔◌, ℕ, List, IfErr, length, slice_get, unwrap_or};
+ghost use Rattle.shell_parse.specs.declared.token.Token.{Token};
+ghost use Rattle.shell_parse.specs.Tokens.{tokens_of, bare};
+ghost use Rattle.shell_parse.specs.Trees.{PlainStmt};
+ghost use Rattle.shell_parse.specs.Grammar.{IsLine, IsRefusedAt, Statements, Refused, read_line, column_of};
 ghost use Rattle.shell_parse.specs.Parsed.{IsReading, IsFirstRefused};
 
-use crate::token::{Placed, Token, tokens};
-use crate::tree::{Stmt, Tree};
-use std::alloc::{AllocError, AllocFailed, Global};
-use wind_base::NoMemory;
+use crate::allowed::begun_len;
+use crate::descent::{ReadErr, statements};
+use crate::token::tokens;
+use crate::tree::Stmt;
+use std::alloc::{AllocError, Global};
 
 /// Why a line has no statements.
 #[derive(Clone, Copy, Debug, PartialEq, Eq)]
@@ -31,116 +33,43 @@ impl From<AllocError> for ParseErr {
     }
 }
 
-impl<T: Drop> From<AllocFailed<T>> for ParseErr {
-    ghost use Rattle.shell_parse.specs.declared.grammar.ParseErr.TheVariants.{NoMemory};
-
-    ghost from_gives = { λ _ e. e ≡ NoMemory };
-
-    fn from(_: AllocFailed<T>) -> ParseErr {
-        ParseErr::NoMemory
-    }
-}
-
-// The statement of these tokens; None where the grammar has no tree of them.
-fn statement(alloc: Global, tokens: &[Placed]) -> Result<Option<Stmt>, AllocError>
-    ensures { IfOk result (λ stmt. option_map plain_stmt stmt ≡ stmt_of (map (λ t. t.token) tokens.now)) }
-{
-    match tokens {
-        [] => Ok(Some(Stmt::Nothing)),
-        [
-            Placed {
-                token: Token::Number(n),
-                ..
-            },
-        ] => Ok(Some(Stmt::Expr(Tree::Number(*n)))),
-        [
-            Placed {
-                token: Token::Number(a),
-                ..
-            },
-            Placed {
-                token: Token::Operator(op),
-                ..
-            },
-            Placed {
-                token: Token::Number(b),
-                ..
-            },
-        ] => {
-            let left = Box::new(alloc, Tree::Number(*a))?;
-            let right = Box::new(alloc, Tree::Number(*b))?;
-            Ok(Some(Stmt::Expr(Tree::Binary(*op, left, right))))
-        }
-        _ => Ok(None),
-    }
-}
-
-// How many tokens at the front begin some line.
-fn begun_len(tokens: &[Placed]) -> usize
-    ensures { result ≡ begun (map (λ t. t.token) tokens.now) }
-{
-    match tokens {
-        [
-            Placed {
-                token: Token::Number(_),
-                ..
-            },
-            Placed {
-                token: Token::Operator(_),
-                ..
-            },
-            Placed {
-                token: Token::Number(_),
-                ..
-            },
-            ..
-        ] => 3,
-        [
-            Placed {
-                token: Token::Number(_),
-                ..
-            },
-            Placed {
-                token: Token::Operator(_),
-                ..
-            },
-            ..
-        ] => 2,
-        [
-            Placed {
-                token: Token::Number(_),
-                ..
-            },
-            ..
-        ] => 1,
-        _ => 0,
-    }
-}
-
 // The column of a token by its number, counted from 0; the end of the line stands behind the last.
-fn column(line: &[u8], tokens: &[Placed], number: usize) -> u32
+fn column(line: &[u8], columns: &[u32], number: usize) -> u32
     requires { length line.now ≤ 255 }
-    ensures { result ≡ column_of line.now tokens.now number }
+    ensures { result ≡ unwrap_or (slice_get columns.now number) (length line.now + 1) }
 {
-    match tokens.get(number) {
-        Some(token) => token.column,
+    match columns.get(number) {
+        Some(column) => *column,
         None => line.len() as u32 + 1,
     }
 }
 
 /// The statements of a line.
-#[tactic(auto, unfolding(crate::specs::Grammar::read_line))]
+#[tactic(auto, using(crate::proofs::Refusal::begun_refused), unfolding(crate::specs::Grammar::read_line))]
 pub fn parse(alloc: Global, line: &[u8]) -> Result<Vec<Stmt>, ParseErr>
     requires { length line.now ≤ 255 }
     ensures read { IsReading result (read_line line.now) }
     ensures refused { IfErr result (λ e. IsFirstRefused e line.now) }
 {
-    let tokens = tokens(alloc, line)?;
-    match statement(alloc, &tokens)? {
-        Some(stmt) => Ok(vec![in alloc; stmt]?),
-        None => Err(ParseErr::Syntax(column(line, &tokens, begun_len(&tokens)))),
+    let lexed = tokens(alloc, line)?;
+    match statements(alloc, &lexed.tokens) {
+        Ok(stmts) => Ok(stmts),
+        Err(ReadErr::NoMemory) => Err(ParseErr::NoMemory),
+        Err(ReadErr::NoTree) => {
+            let number = begun_len(alloc, &lexed.tokens)?;
+            Err(ParseErr::Syntax(column(line, &lexed.columns, number)))
+        }
     }
 }
+
+/// The law of reading: what `read_line` computes is what the grammar says. A line has the statements
+/// that are read, and no others; and where none are read, the column is that of the first token that
+/// no line of the grammar goes on with.
+pub fn grammar_law()
+    ensures read { (line : List ℕ) (stmts : List PlainStmt) → (read_line line ≡ Statements stmts) ↔ IsLine (bare (tokens_of line)) stmts }
+    ensures refused { (line : List ℕ) (column : ℕ) → read_line line ≡ Refused column → (k : ℕ) × IsRefusedAt (bare (tokens_of line)) k × (column ≡ column_of line (tokens_of line) k) }
+    ensures only { (tokens : List Token) (stmts others : List PlainStmt) → IsLine tokens stmts → IsLine tokens others → stmts ≡ others }
+{}
 
 #[cfg(test)]
 mod tests {
@@ -153,13 +82,21 @@ mod tests {
         for (line, column) in [
             ("1+", 3),
             ("1 2", 3),
-            (" +1", 2),
             ("01", 1),
             ("1a", 1),
-            ("1 + x", 5),
             ("1++2", 2),
-            ("1 + 2 - 3", 7),
             ("4294967296", 1),
+            (" +1", 2),
+            ("f(", 3),
+            ("f(1,)", 5),
+            ("1;2)", 4),
+            ("f -1", 3),
+            ("1+x", 4),
+            ("x y", 4),
+            ("f 1,2,3,4,5,6,7,8,9,10,11", 23),
+            ("f(1,2,3,4,5,6,7,8,9,10,11)", 23),
+            ("(1)", 1),
+            ("x = 7", 3),
             ("\"1\"", 1),
         ] {
             match parse(rt.alloc(), line.as_bytes()) {
@@ -170,12 +107,23 @@ mod tests {
         Ok(())
     }
 
+    // How many statements are read.
     #[test]
     fn reads_with_ample_memory(rt: HostRuntime) -> Result<(), Fail> {
-        for line in ["", " \t", "0", "4294967295", "1+2", " 7\t- 9 "] {
+        for (line, count) in [
+            ("", 1),
+            (" \t", 1),
+            (";", 2),
+            ("4294967295", 1),
+            (" 7\t- 9 + - -1", 1),
+            ("f", 1),
+            ("f 1, g(), -h(2) - 3; 4;", 3),
+            ("_f9()+1", 1),
+            ("f(1,2,3,4,5,6,7,8,9,g(1,2,3,4,5,6,7,8,9,10))", 1),
+        ] {
             assert_eq!(rt;
                 parse(rt.alloc(), line.as_bytes()).map(|stmts| stmts.len()),
-                Ok(1),
+                Ok(count),
                 "{line}"
             );
         }

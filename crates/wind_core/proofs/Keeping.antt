@@ -11,7 +11,7 @@ use Rattle.task_block.specs.Standing.{is_ready}
 use Rattle.wind_lists.specs.Records.{of_id, change}
 use Rattle.wind_lists.proofs.Records.{replace-change}
 use Rattle.wind_core.specs.State.{KernState, IsKern, WakesAhead, task_id, task_of}
-use Rattle.wind_core.specs.Moves.{renewed, settled, change_task, renew_task, move_found, move_task, new_task, spawn, spawn_refusal, wake_at, pended, delayed, released, answered, end_wait, end_waits, suspended, resumed, resume, is_suspended, with_pri, has_pri, change_pri}
+use Rattle.wind_core.specs.Moves.{renewed, settled, change_task, renew_task, move_found, move_task, new_task, spawn, spawn_refusal, wake_at, pended, delayed, released, answered, end_wait, end_waits, suspended, resumed, resume, is_suspended, unmarked, with_pri, has_pri, change_pri, past_gate, with_answer, with_refusal}
 use Rattle.wind_core.specs.Orders.{waiters}
 use Rattle.wind_core.specs.Laws.{KeptLaw}
 use Rattle.wind_core.proofs.Writes.{MayFollow, IsKern-replace, settled_follows, wake_ahead, delayed_id, delayed_ahead}
@@ -142,6 +142,7 @@ every_call_keeps s is = record {
   waking = λ place answer errno. end_waits_keep s (waiters s.tasks place) answer errno is;
   suspending = λ who. writes s who suspended is (λ t. refl) (λ t. refl) (λ t. refl);
   resuming = λ who. resume_keeps s who is;
+  resetting = λ who. renew_task_keeps s who unmarked is (λ t. refl) (λ t h. h);
   changing_pri = λ who pri. change_pri_keeps s who pri is;
   setting_locks = λ who n. writes s who (λ t. record t { locks = n }) is (λ t. refl) (λ t. refl) (λ t. refl);
   setting_normal = λ who pri. writes s who (λ t. record t { normal = pri }) is (λ t. refl) (λ t. refl) (λ t. refl);
@@ -151,6 +152,9 @@ every_call_keeps s is = record {
   setting_int_locked = λ who on. writes s who (λ t. record t { int_locked = on }) is (λ t. refl) (λ t. refl) (λ t. refl);
   setting_again = λ who on. writes s who (λ t. record t { again = on }) is (λ t. refl) (λ t. refl) (λ t. refl);
   setting_regs = λ who regs. writes s who (λ t. record t { regs = regs }) is (λ t. refl) (λ t. refl) (λ t. refl);
+  leaving_gate = λ who. writes s who past_gate is (λ t. refl) (λ t. refl) (λ t. refl);
+  giving_answer = λ who value. writes s who (with_answer value) is (λ t. refl) (λ t. refl) (λ t. refl);
+  refusing = λ who e. writes s who (with_refusal e) is (λ t. refl) (λ t. refl) (λ t. refl);
   noting_last = λ last. last_keeps s last is;
   slicing = λ n. slice_keeps s n is;
 }

@@ -7,3 +7,6 @@ pub mod Ticks
 pub mod Keeping
 pub mod Lawful
 pub mod Ticking
+pub mod Stable
+pub mod Finding
+pub mod Ids

@@ -34,7 +34,7 @@ settled_due tick since answer errno t =
     elim t.suspended as (λ b. is_due tick (cond (not b) (renewed since (answered answer errno t)) (answered answer errno t)) ≡ false) [ true ↦ refl | false ↦ refl ]
 
 -- at most one order number is given
-since-end_wait : (s : KernState) (who answer : ℕ) (errno : Option Errno) → (end_wait s who answer errno).next_since ≤ s.next_since + 1
+pub since-end_wait : (s : KernState) (who answer : ℕ) (errno : Option Errno) → (end_wait s who answer errno).next_since ≤ s.next_since + 1
 since-end_wait s who answer errno =
     elim (task_of s.tasks who) as (λ o. (move_found s who (answered answer errno) o).next_since ≤ s.next_since + 1) [
       | None ↦ omega arith

@@ -10,7 +10,7 @@ use Rattle.task_block.specs.declared.task.NewTask.{NewTask}
 use Rattle.task_block.specs.Standing.{is_ready}
 use Rattle.wind_core.specs.State.{KernState, IsKern, WakesAhead}
 use Rattle.wind_core.specs.Orders.{is_before, waits_before, arrives_before, waiters, running}
-use Rattle.wind_core.specs.Moves.{spawn, spawn_refusal, remove, pend, delay, release, end_wait, wake_all, suspend, resume, change_pri, set_locks, set_normal, set_safe, set_held, set_errno, set_int_locked, set_again, set_regs}
+use Rattle.wind_core.specs.Moves.{spawn, spawn_refusal, remove, pend, delay, release, end_wait, wake_all, suspend, resume, reset, change_pri, set_locks, set_normal, set_safe, set_held, set_errno, set_int_locked, set_again, set_regs, leave_gate, answer, refuse}
 use Rattle.wind_core.specs.Tick.{tick}
 
 -- a task that may run: it lives and is ready, and no ready task is before it, unless it ran last and holds the lock
@@ -63,6 +63,7 @@ pub record KeptBy (s : KernState) : Type 0 where
   pub waking : (place : Place) (answer : ℕ) (errno : Option Errno) → IsKern (wake_all s place answer errno)
   pub suspending : (who : ℕ) → IsKern (suspend s who)
   pub resuming : (who : ℕ) → IsKern (resume s who)
+  pub resetting : (who : ℕ) → IsKern (reset s who)
   pub changing_pri : (who pri : ℕ) → IsKern (change_pri s who pri)
   pub setting_locks : (who n : ℕ) → IsKern (set_locks s who n)
   pub setting_normal : (who pri : ℕ) → IsKern (set_normal s who pri)
@@ -72,6 +73,9 @@ pub record KeptBy (s : KernState) : Type 0 where
   pub setting_int_locked : (who : ℕ) (on : Bool) → IsKern (set_int_locked s who on)
   pub setting_again : (who : ℕ) (on : Bool) → IsKern (set_again s who on)
   pub setting_regs : (who : ℕ) (regs : Regs) → IsKern (set_regs s who regs)
+  pub leaving_gate : (who : ℕ) → IsKern (leave_gate s who)
+  pub giving_answer : (who value : ℕ) → IsKern (answer s who value)
+  pub refusing : (who : ℕ) (e : Errno) → IsKern (refuse s who e)
   pub noting_last : (last : Option ℕ) → IsKern (record s { last = last })
   pub slicing : (n : ℕ) → IsKern (record s { slice = n })
 

@@ -1,6 +1,7 @@
 -- What the kernel's calls make of its tasks.
 use Rattle.std.specs.Prelude.{ℕ, ◌+◌, Bool, true, false, not, ◌&&◌, ◌||◌, ◌==◌, nat_le, if◌then◌else◌, List, [], ◌∷◌, ◌++◌, length, slice_set, Option, None, Some}
 use Rattle.std.specs.List.{fold}
+use Rattle.std.specs.Option.{option_map}
 use Rattle.wind_base.specs.Errno.{number_of}
 use Rattle.wind_base.specs.declared.errno.Errno.{Errno}
 use Rattle.wind_base.specs.declared.errno.Errno.TheVariants as errors
@@ -173,6 +174,14 @@ has_pri pri (Some t) = t.pri == pri
 abbrev pub change_pri : KernState → ℕ → ℕ → KernState
 change_pri s who pri = if has_pri pri (task_of s.tasks who) then s else move_task s who (with_pri pri)
 
+-- without suspension, locks, held-back interrupts and the mark of a repeated call
+abbrev pub unmarked : Task → Task
+unmarked t = record t { suspended = false; locks = 0; int_locked = false; again = false }
+
+-- the task is taken out of all of these, and goes behind its equals
+abbrev pub reset : KernState → ℕ → KernState
+reset s who = renew_task s who unmarked
+
 -- ---- one field
 abbrev pub set_locks : KernState → ℕ → ℕ → KernState
 set_locks s who n = change_task s who (λ t. record t { locks = n })
@@ -197,3 +206,29 @@ set_again s who on = change_task s who (λ t. record t { again = on })
 
 abbrev pub set_regs : KernState → ℕ → Regs → KernState
 set_regs s who regs = change_task s who (λ t. record t { regs = regs })
+
+-- ---- a call of the kernel
+-- behind its call: the program counter becomes the link register
+abbrev pub past_gate : Task → Task
+past_gate t = record t { regs = record t.regs { pc = t.regs.lr } }
+
+abbrev pub leave_gate : KernState → ℕ → KernState
+leave_gate s who = change_task s who past_gate
+
+-- an answer stands in r3
+abbrev pub with_answer : ℕ → Task → Task
+with_answer value t = record t { regs = record t.regs { gpr = slice_set t.regs.gpr 3 value } }
+
+abbrev pub answer : KernState → ℕ → ℕ → KernState
+answer s who value = change_task s who (with_answer value)
+
+-- a refusal is answered with ERROR, and its number is the task's error number
+abbrev pub with_refusal : Errno → Task → Task
+with_refusal e t = record (with_answer 4294967295 t) { errno = number_of e }
+
+abbrev pub refuse : KernState → ℕ → Errno → KernState
+refuse s who e = change_task s who (with_refusal e)
+
+-- the id of this number, where its task lives; no task has id 0
+abbrev pub live_id : List Task → ℕ → Option ℕ
+live_id ts n = if n == 0 then None else option_map task_id (task_of ts n)

@@ -3,7 +3,7 @@
 ghost use Rattle.std.specs.Prelude.{◌≡◌, ◌<◌, ◌+◌, ◌^◌, Some, None, option_copied};
 ghost use Rattle.std.specs.Option.{option_map};
 ghost use Rattle.wind_core.specs.State.{Lives, IsKern, task_of};
-ghost use Rattle.wind_core.specs.Orders.{keeper as keeper_lem, last_task, runner, first_due as first_due_lem};
+ghost use Rattle.wind_core.specs.Orders.{keeper as keeper_lem, last_task, running, runner, first_due as first_due_lem};
 ghost use Rattle.wind_core.specs.Tick.{late_of, late_answer, late_errno, is_free as is_free_lem, turn_of, take_turn, wake_due, tick};
 ghost use Rattle.wind_core.specs.Moves.{end_wait};
 
@@ -37,13 +37,20 @@ impl Kern {
 
     /// The task that runs next, interrupts aside: the one that ran last, where it is ready and holds the
     /// lock; else the ready task before all others. None where no task is ready.
+    pub fn running(&self) -> Option<&Task>
+        ensures { option_copied result ≡ running self.now }
+    {
+        match self.keeper() {
+            Some(task) => Some(task),
+            None => most_urgent(&self.tasks),
+        }
+    }
+
+    /// The id of the task that runs next.
     pub fn runner(&self) -> Option<Ident>
         ensures { result ≡ runner self.now }
     {
-        match self.keeper() {
-            Some(task) => Some(task.id),
-            None => most_urgent(&self.tasks).map(|task| task.id),
-        }
+        self.running().map(|task| task.id)
     }
 
     /// Notes that the task ran.

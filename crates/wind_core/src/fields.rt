@@ -2,10 +2,10 @@
 
 ghost use Rattle.std.specs.Prelude.{◌≡◌, ◌<◌, ◌+◌, ◌^◌};
 ghost use Rattle.wind_core.specs.State.{Lives, task_of};
-ghost use Rattle.wind_core.specs.Moves.{suspend, resume, change_pri, set_locks, set_normal, set_safe, set_held, set_errno, set_int_locked, set_again, is_suspended as is_suspended_lem, has_pri as has_pri_lem};
+ghost use Rattle.wind_core.specs.Moves.{suspend, resume, reset, change_pri, set_locks, set_normal, set_safe, set_held, set_errno, set_int_locked, set_again, is_suspended as is_suspended_lem, has_pri as has_pri_lem};
 
 use crate::kern::Kern;
-use crate::tasks::{set_pri, settle, suspend_task, take_suspension};
+use crate::tasks::{renew, set_pri, settle, suspend_task, take_marks, take_suspension};
 use id_table::Ident;
 use wind_base::Pri;
 
@@ -41,6 +41,18 @@ impl Kern {
         let task = self.tasks.object_mut(who);
         take_suspension(task);
         settle(task, &mut self.next_since);
+    }
+
+    /// Takes suspension, locks, held-back interrupts and the mark of a repeated call from the task, which
+    /// goes behind its equals.
+    pub fn reset(&mut self, who: Ident)
+        requires live { Lives self.old who }
+        requires since { self.old.next_since + 1 < 2 ^ 64 }
+        ensures { self.new ≡ reset self.old who }
+    {
+        let task = self.tasks.object_mut(who);
+        take_marks(task);
+        renew(task, &mut self.next_since);
     }
 
     // Whether the task of this id has this priority.

@@ -1,6 +1,7 @@
 //! The kernel's tasks: who runs, who waits, and what its calls and a tick make of them.
 #![tactic(auto)]
 
+mod calls;
 mod clock;
 mod fields;
 mod kern;

@@ -2,7 +2,7 @@
 
 ghost use Rattle.std.specs.Prelude.{◌≡◌, ◌<◌, ◌+◌, ◌^◌, nat_le, if◌then◌else◌};
 ghost use Rattle.task_block.specs.Standing.{is_ready};
-ghost use Rattle.wind_core.specs.Moves.{new_task, renewed, pended, delayed, wake_at, is_endless as is_endless_lem, released, answered, settled, suspended, resumed, with_pri};
+ghost use Rattle.wind_core.specs.Moves.{new_task, renewed, pended, delayed, wake_at, is_endless as is_endless_lem, released, answered, settled, suspended, resumed, unmarked, with_pri, past_gate, with_answer, with_refusal};
 ghost use Rattle.wind_core.specs.Tick.{turn_task};
 
 use id_table::{Ident, Place};
@@ -130,6 +130,16 @@ pub(crate) fn take_suspension(task: &mut Task)
     task.suspended = false;
 }
 
+// The task is not suspended, has no lock, holds no interrupt back and repeats no call.
+pub(crate) fn take_marks(task: &mut Task)
+    ensures { task.new ≡ unmarked task.old }
+{
+    task.suspended = false;
+    task.locks = 0;
+    task.int_locked = false;
+    task.again = false;
+}
+
 // The task's priority is this one.
 pub(crate) fn set_pri(task: &mut Task, pri: Pri)
     ensures { task.new ≡ with_pri pri task.old }
@@ -159,4 +169,27 @@ pub(crate) fn count_turn(task: &mut Task, next_since: &mut u64, slice: u32)
     } else {
         task.turns += 1;
     }
+}
+
+// The task goes on behind its call.
+pub(crate) fn pass_gate(task: &mut Task)
+    ensures { task.new ≡ past_gate task.old }
+{
+    let link = task.regs.lr;
+    task.regs.pc = link;
+}
+
+// An answer stands in r3.
+pub(crate) fn put_answer(task: &mut Task, value: u32)
+    ensures { task.new ≡ with_answer value task.old }
+{
+    task.regs.gpr[3] = value;
+}
+
+// A refusal is answered.
+pub(crate) fn put_refusal(task: &mut Task, errno: Errno)
+    ensures { task.new ≡ with_refusal errno task.old }
+{
+    put_answer(task, u32::MAX);
+    task.errno = errno.number();
 }

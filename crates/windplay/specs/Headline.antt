@@ -51,14 +51,14 @@ abbrev pub limit_of : Option CommandState → ℕ
 limit_of None = 0
 limit_of (Some command) = command.limit
 
--- a board was played: it is that of the wind machine, started with the console and these devices; the schedule waits for ticks to be built
+-- a board was played: it is that of the wind machine, started with the console, the events of the tick file and these devices
 pub record Played (s : Status) (plan : Plan) (limit : ℕ) (devices : List (Option DeviceState)) (board : State) (old new : Option (List ℕ)) : Type 0 where
   pub end : RunEnd
   pub status_is : s ≡ status_of end
   pub console : List ℕ
   pub schedule : Timetable
   pub planned : plan ≡ Start console schedule
-  pub ran : Ran end (opening console devices) limit board old new
+  pub ran : Ran end (opening console schedule devices) limit board old new
 
 -- what is left: the slots as they were and nothing written, or the board of a run
 abbrev pub Leaves : {I : Type 0} {X : I → Type 0} → (Board I X → State) → Status → Stand I X → Plan → ℕ → Type 0 → Vec (Option (DynBox I Global X)) Global → List (Option DeviceState) → Option (List ℕ) → Option (List ℕ) → Type 0

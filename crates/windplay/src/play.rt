@@ -142,9 +142,7 @@ fn session<F: Folder, O: Sink>(
         Err(status) => return refused(status, devices),
     };
     let Inputs { console, schedule } = inputs;
-    // no step takes an event yet
-    drop(schedule);
-    let mut board = match Board::boot(alloc, devices, console) {
+    let mut board = match Board::boot(alloc, devices, console, schedule) {
         Ok(board) => board,
         Err(devices) => return refused(Status::NoMemory, devices),
     };

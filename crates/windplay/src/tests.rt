@@ -74,59 +74,91 @@ fn steps(ending: &Ending) -> Option<u64> {
 #[derive(Clone, Copy)]
 struct Row {
     console: &'static [u8],
+    ticks: &'static [u8],
     status: Status,
     output: &'static [u8],
     steps: Option<u64>,
 }
 
-const PLAYED: [Row; 8] = [
+const PLAYED: [Row; 11] = [
     Row {
         console: CONSOLE,
+        ticks: b"",
         status: Status::Quiet,
         output: OUTPUT,
         steps: Some(5),
     },
     Row {
         console: b"",
+        ticks: b"",
         status: Status::Quiet,
         output: b"-> ",
         steps: Some(1),
     },
     Row {
         console: b"7 - 9\n",
+        ticks: b"",
         status: Status::Quiet,
         output: b"-> 7 - 9\nvalue = -2 = 0xfffffffe\n-> ",
         steps: Some(5),
     },
     Row {
         console: b"65",
+        ticks: b"",
         status: Status::Quiet,
         output: b"-> 65\nvalue = 65 = 0x41 = 'A'\n-> ",
         steps: Some(5),
     },
     Row {
         console: b"4294967295\n",
+        ticks: b"",
         status: Status::Quiet,
         output: b"-> 4294967295\nvalue = -1 = 0xffffffff\n-> ",
         steps: Some(5),
     },
     Row {
         console: b"  \n",
+        ticks: b"",
         status: Status::Quiet,
         output: b"->   \n-> ",
         steps: Some(4),
     },
     Row {
         console: b"1+2\n\n7",
+        ticks: b"",
         status: Status::Quiet,
         output: b"-> 1+2\nvalue = 3 = 0x3\n-> \n-> 7\nvalue = 7 = 0x7\n-> ",
         steps: Some(12),
     },
     Row {
         console: b"\n \n1+2\n",
+        ticks: b"",
         status: Status::Quiet,
         output: b"-> \n->  \n-> 1+2\nvalue = 3 = 0x3\n-> ",
         steps: Some(11),
+    },
+    // A delay of two ticks, and a third one behind the console's end.
+    Row {
+        console: b"taskDelay 2\ntickGet\n",
+        ticks: b"every 100 3\n",
+        status: Status::Quiet,
+        output: b"-> taskDelay 2\nvalue = 0 = 0x0\n-> tickGet\nvalue = 2 = 0x2\n-> ",
+        steps: Some(21),
+    },
+    Row {
+        console: b"taskIdVerify 7; errnoGet\nfoo; 1\n",
+        ticks: b"",
+        status: Status::Quiet,
+        output: b"-> taskIdVerify 7; errnoGet\nvalue = -1 = 0xffffffff\nvalue = 3997697 = 0x3d0001\n-> foo; 1\nundefined symbol: foo\n-> ",
+        steps: Some(16),
+    },
+    // Nobody wakes the shell.
+    Row {
+        console: b"taskSuspend 0\n7\n",
+        ticks: b"tick 9\n",
+        status: Status::Quiet,
+        output: b"-> taskSuspend 0\n",
+        steps: Some(7),
     },
 ];
 
@@ -137,7 +169,7 @@ fn plays_the_worked_consoles(rt: HostRuntime) -> Result<(), Fail> {
         let session = played(
             rt.alloc(),
             &COMMAND,
-            &[("console.txt", row.console), NO_TICKS],
+            &[("console.txt", row.console), ("ticks.txt", row.ticks)],
             NONE,
         )?;
         assert_eq!(rt; session.ending.status, row.status);
@@ -156,7 +188,7 @@ const NOT_BUILT: [(&[u8], u64); 7] = [
     (b"1+2\n3\r\n", 2),
     (b"1 2\n3\n", 1),
     (b"1+2\n\n4294967296", 3),
-    (b"1+2\n7\n\nsp 1\nx\n", 4),
+    (b"1+2\ntickGet\n\nsp -1\nx = 7\n", 4),
 ];
 
 #[test]
@@ -279,7 +311,7 @@ fn plays_the_files_that_are_named(rt: HostRuntime) -> Result<(), Fail> {
             "--console",
             "--limit",
             "--limit",
-            "9",
+            "14",
         ],
         &[("--limit", CONSOLE), ("t", b"every 5 3\ntick 7\r\n")],
         NONE,
@@ -324,13 +356,13 @@ fn refuses_files(rt: HostRuntime) -> Result<(), Fail> {
             "windplay: ticks.txt: too long\n",
         ),
         (
-            ("c", b"1+2\nx\n"),
+            ("c", b"1+2\n=\n"),
             ("ticks.txt", bad),
             Status::BadTicks(3),
             "windplay: ticks.txt: line 3 is not understood\n",
         ),
         (
-            ("c", b"x\n"),
+            ("c", b"=\n"),
             ("ticks.txt", b"tick 5\nrx 0 32\n"),
             Status::NotBuilt(Unbuilt::Ticks),
             "windplay: not built yet\n",

@@ -1,0 +1,68 @@
+-- A call that is wanted is built.
+use Rattle.std.proofs.Common.{◌≡◌, ℕ, suc, Bool, true, false, cond, List, [], ◌∷◌, length, Option, Some, None, refl, subst, arith}
+use Rattle.std.specs.List.{Contains, find}
+use Rattle.wind_base.specs.Gates.{gate_name}
+use Rattle.shell_parse.specs.Trees.{PlainTree, Number, Unary, Binary, Call, Arguments, End, Then, PlainStmt, Nothing, Command, Expr}
+use Rattle.shell_eval.specs.Gates.{built, gate_of, is_name}
+use Rattle.shell_eval.specs.Values.{values_of, padded, value_of}
+use Rattle.shell_eval.specs.Wanted.{Wanted, Settled, Calls, Unknown, wanted, wanted_first, or_then, called}
+use Rattle.shell_eval.specs.Due.{PlainDue, Empty, Value, Made, Missing, due_by, due_of}
+use Rattle.shell_eval.specs.Laws.{BuiltLaw}
+
+found_by : (b : Bool) (test : ℕ → Bool) (y : ℕ) (ys : List ℕ) (x : ℕ) → cond b (Some y) (find test ys) ≡ Some x → (find test ys ≡ Some x → Contains ys x) → Contains (y ∷ ys) x
+found_by true test y ys x e go = let same : y ≡ x = cc in (0, omega arith, same)
+found_by false test y ys x e go = let p = go e in let within = p.1 in (suc p.0, omega arith, p.2)
+
+found : (test : ℕ → Bool) (xs : List ℕ) (x : ℕ) → find test xs ≡ Some x → Contains xs x
+found test [] x e = cc
+found test (y ∷ ys) x e = found_by (test y) test y ys x e (found test ys x)
+
+gate_built : (name : List ℕ) (gate : ℕ) → gate_of name ≡ Some gate → Contains built gate
+unfolding gate_of
+gate_built name gate e = found (λ g. is_name name (gate_name g)) built gate e
+
+-- what is wanted is no call that isn't built
+abbrev IsBuilt : Wanted → Type 0
+IsBuilt Settled = Unit {0}
+IsBuilt (Calls gate words) = Contains built gate × (length words ≡ 10)
+IsBuilt (Unknown callee) = Unit {0}
+
+either : (w next : Wanted) → IsBuilt w → IsBuilt next → IsBuilt (or_then w next)
+either Settled next p q = q
+either (Calls gate words) next p q = p
+either (Unknown callee) next p q = p
+
+call : (callee : List ℕ) (gate : Option ℕ) (w : Wanted) (values : List ℕ) → gate_of callee ≡ gate → IsBuilt w → IsBuilt (called callee gate w values)
+call callee None w values e p = tt
+call callee (Some gate) w values e p = either w (Calls gate (padded values)) p (gate_built callee gate e, refl)
+
+mutual
+  tree_built : (t : PlainTree) → IsBuilt (wanted t)
+  tree_built (Number n) = tt
+  tree_built (Unary op a) = tree_built a
+  tree_built (Binary op a b) = either (wanted a) (wanted b) (tree_built a) (tree_built b)
+  tree_built (Call callee es) = call callee (gate_of callee) (wanted_first es) (values_of es) refl (arguments_built es)
+
+  arguments_built : (es : Arguments) → IsBuilt (wanted_first es)
+  arguments_built End = tt
+  arguments_built (Then e es) = either (wanted e) (wanted_first es) (tree_built e) (arguments_built es)
+
+-- the same of what is due
+abbrev IsDueBuilt : PlainDue → Type 0
+IsDueBuilt Empty = Unit {0}
+IsDueBuilt (Value v) = Unit {0}
+IsDueBuilt (Made gate words) = Contains built gate × (length words ≡ 10)
+IsDueBuilt (Missing callee) = Unit {0}
+
+due_built : (w : Wanted) (value : ℕ) → IsBuilt w → IsDueBuilt (due_by w value)
+due_built Settled value p = tt
+due_built (Calls gate words) value p = p
+due_built (Unknown callee) value p = tt
+
+stmt_built : (s : PlainStmt) → IsDueBuilt (due_of s)
+stmt_built Nothing = tt
+stmt_built (Command callee es) = due_built (wanted (Call callee es)) 0 (tree_built (Call callee es))
+stmt_built (Expr t) = due_built (wanted t) (value_of t) (tree_built t)
+
+pub all_built : BuiltLaw
+all_built s gate words e = subst IsDueBuilt e (stmt_built s)

@@ -1,0 +1,108 @@
+-- What is filled in, by what is wanted.
+use Rattle.std.proofs.Common.{◌≡◌, ℕ, ◌+◌, true, false, if◌then◌else◌, List, Option, Some, None, refl, ap, subst, arith}
+use Rattle.std.specs.Prelude.{is_some}
+use Rattle.shell_parse.specs.declared.tree.BinOp.{BinOp}
+use Rattle.shell_parse.specs.declared.tree.UnOp.{UnOp}
+use Rattle.shell_parse.specs.Trees.{PlainTree, Number, Unary, Binary, Call, Arguments, End, Then, PlainStmt, Nothing, Command, Expr}
+use Rattle.shell_eval.specs.Gates.{gate_of}
+use Rattle.shell_eval.specs.Values.{values_of, value_of}
+use Rattle.shell_eval.specs.Wanted.{Wanted, Settled, Calls, Unknown, wanted, wanted_first, is_settled, or_then, called}
+use Rattle.shell_eval.specs.Filled.{filled, filled_first, filled_stmt}
+use Rattle.shell_eval.specs.Due.{PlainDue, Empty, Value, Made, Missing, due_by, due_of}
+use Rattle.shell_eval.specs.Laws.{calls_of, calls_of_all, calls_in, is_over, is_made, FewerLaw, OverLaw, SameLaw}
+
+-- of x, and of x filled in, by what is wanted of x
+abbrev pub Fills : {X : Type 0} → (X → ℕ) → Wanted → X → X → Type 0
+Fills count Settled x y = (count x ≡ 0) × (y ≡ x)
+Fills count (Calls gate words) x y = count y + 1 ≡ count x
+Fills count (Unknown callee) x y = y ≡ x
+
+one : (w : Wanted) (op : UnOp) (a fa : PlainTree) → Fills calls_of w a fa → Fills calls_of w (Unary op a) (Unary op fa)
+one Settled op a fa p = (p.0, ap (Unary op) p.1)
+one (Calls gate words) op a fa p = p
+one (Unknown callee) op a fa p = ap (Unary op) p
+
+sides : (w next : Wanted) (op : BinOp) (a b fa fb : PlainTree) → Fills calls_of w a fa → Fills calls_of next b fb → Fills calls_of (or_then w next) (Binary op a b) (if is_settled w then Binary op a fb else Binary op fa b)
+sides Settled Settled op a b fa fb p q = let p0 = p.0 in let q0 = q.0 in (omega arith, ap (Binary op a) q.1)
+sides Settled (Calls gate words) op a b fa fb p q = let p0 = p.0 in omega arith
+sides Settled (Unknown callee) op a b fa fb p q = ap (Binary op a) q
+sides (Calls gate words) next op a b fa fb p q = omega arith
+sides (Unknown callee) next op a b fa fb p q = ap (λ t. Binary op t b) p
+
+rest : (w next : Wanted) (e fe : PlainTree) (es fes : Arguments) → Fills calls_of w e fe → Fills calls_of_all next es fes → Fills calls_of_all (or_then w next) (Then e es) (if is_settled w then Then e fes else Then fe es)
+rest Settled Settled e fe es fes p q = let p0 = p.0 in let q0 = q.0 in (omega arith, ap (Then e) q.1)
+rest Settled (Calls gate words) e fe es fes p q = let p0 = p.0 in omega arith
+rest Settled (Unknown callee) e fe es fes p q = ap (Then e) q
+rest (Calls gate words) next e fe es fes p q = omega arith
+rest (Unknown callee) next e fe es fes p q = ap (λ t. Then t es) p
+
+-- of a call in an expression, and of a command
+call : (gate : Option ℕ) (w : Wanted) (callee values : List ℕ) (v : ℕ) (es fes : Arguments) → Fills calls_of_all w es fes →
+    Fills calls_of (called callee gate w values) (Call callee es) (if is_some gate then (if is_settled w then Number v else Call callee fes) else Call callee es)
+call None w callee values v es fes p = refl
+call (Some gate) Settled callee values v es fes p = let p0 = p.0 in omega arith
+call (Some gate) (Calls other words) callee values v es fes p = omega arith
+call (Some gate) (Unknown name) callee values v es fes p = ap (Call callee) p
+
+command : (gate : Option ℕ) (w : Wanted) (callee values : List ℕ) (v : ℕ) (es fes : Arguments) → Fills calls_of_all w es fes →
+    Fills calls_in (called callee gate w values) (Command callee es) (if is_some gate then (if is_settled w then Expr (Number v) else Command callee fes) else Command callee es)
+command None w callee values v es fes p = refl
+command (Some gate) Settled callee values v es fes p = let p0 = p.0 in omega arith
+command (Some gate) (Calls other words) callee values v es fes p = omega arith
+command (Some gate) (Unknown name) callee values v es fes p = ap (Command callee) p
+
+mutual
+  tree_fills : (v : ℕ) (t : PlainTree) → Fills calls_of (wanted t) t (filled v t)
+  tree_fills v (Number n) = (refl, refl)
+  tree_fills v (Unary op a) = one (wanted a) op a (filled v a) (tree_fills v a)
+  tree_fills v (Binary op a b) = sides (wanted a) (wanted b) op a b (filled v a) (filled v b) (tree_fills v a) (tree_fills v b)
+  tree_fills v (Call callee es) = call (gate_of callee) (wanted_first es) callee (values_of es) v es (filled_first v es) (arguments_fill v es)
+
+  arguments_fill : (v : ℕ) (es : Arguments) → Fills calls_of_all (wanted_first es) es (filled_first v es)
+  arguments_fill v End = (refl, refl)
+  arguments_fill v (Then e es) = rest (wanted e) (wanted_first es) e (filled v e) es (filled_first v es) (tree_fills v e) (arguments_fill v es)
+
+-- the same of a statement, by what is due
+abbrev Follows : PlainDue → PlainStmt → PlainStmt → Type 0
+Follows Empty x y = (calls_in x ≡ 0) × (y ≡ x)
+Follows (Value v) x y = (calls_in x ≡ 0) × (y ≡ x)
+Follows (Made gate words) x y = calls_in y + 1 ≡ calls_in x
+Follows (Missing callee) x y = y ≡ x
+
+follow : (w : Wanted) (value : ℕ) (x y : PlainStmt) → Fills calls_in w x y → Follows (due_by w value) x y
+follow Settled value x y p = p
+follow (Calls gate words) value x y p = p
+follow (Unknown callee) value x y p = p
+
+expr : (w : Wanted) (t u : PlainTree) → Fills calls_of w t u → Fills calls_in w (Expr t) (Expr u)
+expr Settled t u p = (p.0, ap Expr p.1)
+expr (Calls gate words) t u p = p
+expr (Unknown callee) t u p = ap Expr p
+
+stmt_follows : (v : ℕ) (s : PlainStmt) → Follows (due_of s) s (filled_stmt v s)
+stmt_follows v Nothing = (refl, refl)
+stmt_follows v (Command callee es) =
+    follow (wanted (Call callee es)) 0 (Command callee es) (filled_stmt v (Command callee es))
+    (command (gate_of callee) (wanted_first es) callee (values_of es) v es (filled_first v es) (arguments_fill v es))
+stmt_follows v (Expr t) = follow (wanted t) (value_of t) (Expr t) (Expr (filled v t)) (expr (wanted t) t (filled v t) (tree_fills v t))
+
+pub fewer : FewerLaw
+fewer s gate words v e = subst (λ d. Follows d s (filled_stmt v s)) e (stmt_follows v s)
+
+over_by : (d : PlainDue) (x y : PlainStmt) → Follows d x y → is_over d ≡ true → calls_in x ≡ 0
+over_by Empty x y p e = p.0
+over_by (Value v) x y p e = p.0
+over_by (Made gate words) x y p e = cc
+over_by (Missing callee) x y p e = cc
+
+pub over : OverLaw
+over s e = over_by (due_of s) s (filled_stmt 0 s) (stmt_follows 0 s) e
+
+same_by : (d : PlainDue) (x y : PlainStmt) → Follows d x y → is_made d ≡ false → y ≡ x
+same_by Empty x y p e = p.1
+same_by (Value v) x y p e = p.1
+same_by (Made gate words) x y p e = cc
+same_by (Missing callee) x y p e = p
+
+pub same : SameLaw
+same s v e = same_by (due_of s) s (filled_stmt v s) (stmt_follows v s) e

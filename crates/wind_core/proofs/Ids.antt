@@ -1,0 +1,93 @@
+-- Which tasks live: a move keeps their ids.
+use Rattle.std.proofs.Common.{◌≡◌, ℕ, ◌+◌, ◌≤◌, true, false, cond, eqb, leb, List, [], ◌∷◌, map, length, Option, None, Some, IsSome, is_some, refl, sym, ap, ◌∙◌, subst, arith}
+use Rattle.std.specs.List.{fold}
+use Rattle.std.proofs.lemmas.List.{length-map}
+use Rattle.task_block.specs.declared.task.Task.{Task}
+use Rattle.task_block.specs.Standing.{is_ready}
+use Rattle.wind_lists.specs.Records.{change}
+use Rattle.wind_core.specs.State.{KernState, task_id, task_of}
+use Rattle.wind_core.specs.Orders.{running, due}
+use Rattle.wind_core.specs.Moves.{renewed, settled, move_found, move_task, answered}
+use Rattle.wind_core.specs.Tick.{turn_task, turn_found, turn_of, take_turn, late_answer, late_errno, time_out, counted, tick}
+use Rattle.wind_core.proofs.Ticks.{since-take_turn}
+use Rattle.wind_core.proofs.Waking.{since-end_wait, length-due}
+
+-- the ids of tasks
+abbrev pub ids : List Task → List ℕ
+ids ts = map task_id ts
+
+pub ids-change : (ts : List Task) (who : ℕ) (f : Task → Task) → ((t : Task) → (f t).id ≡ t.id) → ids (change task_id ts who f) ≡ ids ts
+ids-change [] who f keeps = refl
+ids-change (t ∷ ts) who f keeps =
+    elim (eqb t.id who) as (λ b. (cond b (f t) t).id ∷ ids (change task_id ts who f) ≡ t.id ∷ ids (change task_id ts who f)) [
+      | true ↦ ap (λ n. n ∷ ids (change task_id ts who f)) (keeps t)
+      | false ↦ refl
+    ]
+    ∙ ap (λ ns. t.id ∷ ns) (ids-change ts who f keeps)
+
+settled_id : (n : ℕ) (t : Task) → (settled n t).id ≡ t.id
+settled_id n t = elim (is_ready t) as (λ b. (cond b (renewed n t) t).id ≡ t.id) [ true ↦ refl | false ↦ refl ]
+
+pub ids-move : (s : KernState) (who : ℕ) (f : Task → Task) → ((t : Task) → (f t).id ≡ t.id) → ids (move_task s who f).tasks ≡ ids s.tasks
+ids-move s who f keeps =
+    elim (task_of s.tasks who) as (λ o. ids (move_found s who f o).tasks ≡ ids s.tasks) [
+      | None ↦ refl
+      | Some t ↦ ids-change s.tasks who (λ u. settled s.next_since (f u)) (λ u. settled_id s.next_since (f u) ∙ keeps u)
+    ]
+
+turn_id : (slice since : ℕ) (t : Task) → (turn_task slice since t).id ≡ t.id
+turn_id slice since t = elim (leb slice (t.turns + 1)) as (λ b. (cond b (renewed since (record t { turns = 0 })) (record t { turns = t.turns + 1 })).id ≡ t.id) [ true ↦ refl | false ↦ refl ]
+
+ids-turn : (s : KernState) (o : Option Task) → ids (turn_of s o).tasks ≡ ids s.tasks
+ids-turn s None = refl
+ids-turn s (Some t) =
+    elim (eqb t.locks 0) as (λ b. ids (cond b (turn_found s t) s).tasks ≡ ids s.tasks) [
+      | true ↦ ids-change s.tasks t.id (turn_task s.slice s.next_since) (turn_id s.slice s.next_since)
+      | false ↦ refl
+    ]
+
+ids-take_turn : (s : KernState) → ids (take_turn s).tasks ≡ ids s.tasks
+ids-take_turn s = elim (eqb s.slice 0) as (λ b. ids (cond b s (turn_of s (running s))).tasks ≡ ids s.tasks) [ true ↦ refl | false ↦ ids-turn s (running s) ]
+
+ids-time_outs : (s : KernState) (ts : List Task) → ids (fold time_out s ts).tasks ≡ ids s.tasks
+ids-time_outs s [] = refl
+ids-time_outs s (t ∷ ts) = ids-time_outs (time_out s t) ts ∙ ids-move s t.id (answered (late_answer (is_some t.wait)) (late_errno (is_some t.wait))) (λ u. refl)
+
+pub ids-tick : (s : KernState) → ids (tick s).tasks ≡ ids s.tasks
+ids-tick s = ids-time_outs (take_turn (counted s)) (due (take_turn (counted s)).tasks (s.tick + 1)) ∙ ids-take_turn (counted s)
+
+abbrev head_of : ℕ → List ℕ → ℕ
+head_of d [] = d
+head_of d (x ∷ xs) = x
+
+abbrev tail_of : List ℕ → List ℕ
+tail_of [] = []
+tail_of (x ∷ xs) = xs
+
+-- a task that lives in one list lives in another with the same ids
+pub lives_by : (ts us : List Task) (who : ℕ) → ids ts ≡ ids us → IsSome (task_of us who) → IsSome (task_of ts who)
+lives_by [] [] who e h = h
+lives_by [] (u ∷ us) who e h = absurd (cc)
+lives_by (t ∷ ts) [] who e h = absurd (cc)
+lives_by (t ∷ ts) (u ∷ us) who e h =
+    let heads : u.id ≡ t.id = sym (ap (head_of 0) e) in
+    let rest : ids ts ≡ ids us = ap tail_of e in
+    elim (eqb t.id who) as (λ b. eqb t.id who ≡ b → IsSome (cond b (Some t) (task_of ts who))) [
+      | true ↦ λ b. refl
+      | false ↦ λ b. lives_by ts us who rest (subst (λ c. IsSome (cond c (Some u) (task_of us who))) (ap (λ n. eqb n who) heads ∙ b) h)
+    ] refl
+
+-- how many order numbers a tick gives out
+since-time_outs : (s : KernState) (ts : List Task) → (fold time_out s ts).next_since ≤ s.next_since + length ts
+since-time_outs s [] = omega arith
+since-time_outs s (t ∷ ts) =
+    omega (arith, since-time_outs (time_out s t) ts, since-end_wait s t.id (late_answer (is_some t.wait)) (late_errno (is_some t.wait)))
+
+-- as many tasks as there are ids
+length_by : (ts us : List Task) → ids ts ≡ ids us → length ts ≡ length us
+length_by ts us e = sym (length-map ts task_id) ∙ ap length e ∙ length-map us task_id
+
+pub since-tick : (s : KernState) → (tick s).next_since ≤ s.next_since + 1 + length s.tasks
+since-tick s =
+    let r = take_turn (counted s) in
+    omega (arith, since-time_outs r (due r.tasks (s.tick + 1)), length-due r.tasks (s.tick + 1), since-take_turn (counted s), length_by r.tasks s.tasks (ids-take_turn (counted s)))
