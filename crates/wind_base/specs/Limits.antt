@@ -46,6 +46,24 @@ ram_bytes = 16777216
 abbrev pub pool_start : ℕ
 pool_start = 65536
 
+-- how many bytes the stack of the shell's task has, which is the pool's first block, and the interrupt stack behind it
+abbrev pub shell_stack_bytes : ℕ
+shell_stack_bytes = 20000
+
+abbrev pub interrupt_stack_bytes : ℕ
+interrupt_stack_bytes = 4096
+
+-- how many bytes of a stack's end are the frame of the first call on it
+abbrev pub frame_bytes : ℕ
+frame_bytes = 64
+
+-- where the gates of the kernel's calls begin, behind RAM, and how many bytes each has
+abbrev pub gates_start : ℕ
+gates_start = 0x01000000
+
+abbrev pub gate_bytes : ℕ
+gate_bytes = 16
+
 -- how many blocks the partition may have, and how many entries the symbol table
 abbrev pub most_blocks : ℕ
 most_blocks = 16384

@@ -2,6 +2,7 @@
 
 ghost use Rattle.std.specs.Prelude.{◌≡◌, ◌≤◌, ◌<◌, ◌^◌, IfOk, length};
 ghost use Rattle.std.specs.List.{list_all};
+ghost use Rattle.wind_base.specs.Limits.{longest_line};
 ghost use Rattle.shell_parse.specs.Grammar.{read_line};
 ghost use Rattle.windplay.specs.Built.{is_printable, has_tree as has_tree_lem, is_built as is_built_lem, unbuilt_line};
 
@@ -12,7 +13,7 @@ use wind_base::{NoMemory, behind, line_len};
 
 // Whether the grammar that is built has a tree of the line.
 fn has_tree(alloc: Global, line: &[u8]) -> Result<bool, NoMemory>
-    requires { length line.now ≤ 255 }
+    requires { length line.now ≤ longest_line }
     ensures { IfOk result (λ built. built ≡ has_tree_lem (read_line line.now)) }
 {
     match parse(alloc, line) {
