@@ -1,15 +1,12 @@
 -- What is known of each module that a file holds, by the rules that do not refuse the file.
-use Rattle.std.proofs.Common.{◌≡◌, ℕ, zero, suc, ◌+◌, ◌-◌, ◌*◌, ◌/◌, ◌<◌, ◌≤◌, List, [], ◌∷◌, ◌++◌, length, get_or, take, drop, min, refl, sym, ◌∙◌, ap, subst, arith, length-take, length-drop, Bool, true, false, Ok, Err}
+use Rattle.std.proofs.Common.{◌≡◌, ℕ, zero, suc, ◌+◌, ◌-◌, ◌/◌, ◌<◌, ◌≤◌, List, [], ◌∷◌, length, get_or, take, drop, refl, sym, ◌∙◌, ap, subst, arith, length-take, length-drop, Bool, true, false, Ok}
 use Rattle.std.specs.Prelude.{◌≢◌, ◌==◌, ◌&&◌, ◌||◌, not, nat_lt, nat_le, bit_and, if◌then◌else◌}
 use Rattle.std.specs.List.{All, list_any}
-use Rattle.std.proofs.lemmas.List.Elements.{All-nil, All-cons, All-from_get_or}
+use Rattle.std.proofs.lemmas.List.Elements.{All-nil, All-cons}
 use Rattle.std.proofs.lemmas.Bool.Decides.{nat_tests}
 use Rattle.wind_base.specs.Limits.{longest_name, most_section_headers, most_symbol_entries, most_relocations, most_section_bytes}
-use Rattle.elf_read.specs.declared.error.ElfErr.{ElfErr}
 use Rattle.elf_read.specs.declared.error.ElfErr.TheVariants.{Short, BadSection, BadSymbol, BadReloc, TooMany}
-use Rattle.elf_read.specs.declared.module.Body.{Body}
 use Rattle.elf_read.specs.declared.module.Body.TheVariants.{Bytes, Size}
-use Rattle.elf_read.specs.declared.module.SymPlace.{SymPlace}
 use Rattle.elf_read.specs.declared.module.SymPlace.TheVariants.{Undefined, Absolute, Common, Section, Elsewhere}
 use Rattle.elf_read.specs.declared.module.Sect.{Sect}
 use Rattle.elf_read.specs.declared.module.Sym.{Sym}
@@ -20,11 +17,11 @@ use Rattle.elf_read.specs.declared.entries.SymbolEntry.{SymbolEntry}
 use Rattle.elf_read.specs.declared.entries.RelaEntry.{RelaEntry}
 use Rattle.elf_read.specs.Standard.{e_shentsize, e_shnum, e_shoff, e_shstrndx, shdr_bytes, sh_offset, sht_null, sht_progbits, sht_note, sht_nobits, sht_rela, sht_rel, shf_alloc, shf_tls_or_compressed, sym_bytes, shn_undef, shn_abs, shn_common, st_bind, st_type, stb_weak, stt_common, rela_bytes, r_sym, r_type}
 use Rattle.elf_read.specs.Places.{half, part, text_of}
-use Rattle.elf_read.specs.Rule.{Rule, ◌and_then◌, unless, when, each, first_of}
-use Rattle.elf_read.specs.Numbered.{gathered, total, first_from}
+use Rattle.elf_read.specs.Rule.{◌and_then◌, unless, when, each}
+use Rattle.elf_read.specs.Numbered.{gathered, total}
 use Rattle.elf_read.specs.Rules.{headers_rule, has_content, content_rule, strings_rule, name_rule, names_rule, is_alignment, is_loadable, load_rule, is_right_symtab, symtab_rule, has_place, lies_inside, is_right_common, is_right_symbol, symbol_rule, is_right_table, table_rule, is_right_relocation, relocation_rule, relocations_rule, rules_of, checked}
 use Rattle.elf_read.specs.Tables.{header_count, header_place, header, content, is_loaded, one_loaded, loaded_before, is_elsewhere, is_zero, has_name, section_names, is_symtab, symtab, has_symtab, symbol_count, symbol_place, symbol, symbol_names, is_applied, rela_count, rela_place, relocation, width}
-use Rattle.elf_read.specs.Contents.{name_at, body_of, sect_of, sects_at, place_of, sym_of, syms_at, rel_of, rels_at, module_at, ModuleOf}
+use Rattle.elf_read.specs.Contents.{name_at, body_of, sect_of, sects_at, place_of, sym_of, syms_at, rel_of, rels_at, module_at}
 use Rattle.elf_read.specs.Modules.{IsName, size_of, IsSect, IsPlaced, IsSym, HoldsBytes, IsRel, IsModule, HoldsModule}
 use Rattle.elf_read.proofs.Passing.{left_true, right_true, not_false, at_most, less, first_holds, rest_holds, unless_holds, when_holds, holds_at, each_holds, all_hold}
 use Rattle.elf_read.proofs.Counting.{all_gathered, length_all, length_ones, item_at, one_at, total_below, total_few, total_bound, first_passes}
@@ -282,13 +279,14 @@ right_common e is h =
 
 placed_inside : (bytes : List ℕ) → Passed bytes → (e : SymbolEntry) → RightSymbol bytes e → (e.section == shn_undef) ≡ false → is_loaded bytes e.section ≡ true → IsPlaced (sections_of bytes) (Section (loaded_before bytes e.section)) e.value e.size
 unfolding sect_of
-placed_inside bytes p e r some loaded =
-    (number_below bytes e.section loaded,
-    λ d.
-    let low = value_low bytes e some loaded r.inside in
-    let size = size_right bytes p e.section loaded in
-    let at = ap (λ s. size_of s.body) (section_at bytes e.section d loaded) in
-    omega arith)
+placed_inside bytes p e r some loaded = (
+  number_below bytes e.section loaded,
+  λ d.
+      let low = value_low bytes e some loaded r.inside in
+      let size = size_right bytes p e.section loaded in
+      let at = ap (λ s. size_of s.body) (section_at bytes e.section d loaded) in
+      omega arith,
+)
 
 placed : (bytes : List ℕ) → Passed bytes → (e : SymbolEntry) → RightSymbol bytes e → IsPlaced (sections_of bytes) (place_of bytes e.section) e.value e.size
 unfolding place_of

@@ -97,19 +97,40 @@ clean_first [] h k = cc
 clean_first (r ∷ rs) (p, ps) k = clean_and r (first_of rs) p (clean_first rs ps) k
 
 clean_rules : (bytes : List ℕ) → AllByRecursion IsClean (rules_of bytes)
-clean_rules bytes =
-    (clean_short _ _,
-    (clean_ident 0 ident bytes,
-    (clean_unless _ (NotPpc e_machine) (λ e. cc),
-    (clean_unless _ (NotRel e_type) (λ e. cc),
-    (clean_headers bytes,
-    (clean_each 0 (header_count bytes) (content_rule bytes) (λ i. clean_when _ _ (clean_short _ _)),
-    (clean_names bytes,
-    (clean_each 0 (header_count bytes) (load_rule bytes) (λ i. clean_when _ _ (clean_section _ _)),
-    (clean_each 0 (header_count bytes) (symtab_rule bytes) (clean_symtab bytes),
-    (clean_each 1 (symbol_count bytes - 1) (symbol_rule bytes) (λ k. clean_unless _ (BadSymbol _) (λ e. cc)),
-    (clean_each 0 (header_count bytes) (table_rule bytes) (clean_table bytes),
-    (clean_each 0 (header_count bytes) (relocations_rule bytes) (clean_relocations bytes), tt))))))))))))
+clean_rules bytes = (
+  clean_short _ _,
+  (
+    clean_ident 0 ident bytes,
+    (
+      clean_unless _ (NotPpc e_machine) (λ e. cc),
+      (
+        clean_unless _ (NotRel e_type) (λ e. cc),
+        (
+          clean_headers bytes,
+          (
+            clean_each 0 (header_count bytes) (content_rule bytes) (λ i. clean_when _ _ (clean_short _ _)),
+            (
+              clean_names bytes,
+              (
+                clean_each 0 (header_count bytes) (load_rule bytes) (λ i. clean_when _ _ (clean_section _ _)),
+                (
+                  clean_each 0 (header_count bytes) (symtab_rule bytes) (clean_symtab bytes),
+                  (
+                    clean_each 1 (symbol_count bytes - 1) (symbol_rule bytes) (λ k. clean_unless _ (BadSymbol _) (λ e. cc)),
+                    (
+                      clean_each 0 (header_count bytes) (table_rule bytes) (clean_table bytes),
+                      (clean_each 0 (header_count bytes) (relocations_rule bytes) (clean_relocations bytes), tt),
+                    ),
+                  ),
+                ),
+              ),
+            ),
+          ),
+        ),
+      ),
+    ),
+  ),
+)
 
 pub never_memory : NeverMemory
 unfolding checked

@@ -1,6 +1,6 @@
 -- What follows where rules hold.
 use Rattle.std.proofs.Common.{◌≡◌, ℕ, zero, suc, ◌+◌, ◌<◌, ◌≤◌, List, [], ◌∷◌, Ok, Err, Some, Bool, true, false, refl, sym, ◌∙◌, ap, arith}
-use Rattle.std.specs.Prelude.{◌&&◌, ◌||◌, not, nat_lt, nat_le, slice_get}
+use Rattle.std.specs.Prelude.{◌&&◌, not, nat_lt, nat_le, slice_get}
 use Rattle.std.proofs.lemmas.Bool.Decides.{nat_tests}
 use Rattle.elf_read.specs.declared.error.ElfErr.{ElfErr}
 use Rattle.elf_read.specs.Rule.{Rule, ◌and_then◌, unless, when, first_of, each}

@@ -6,7 +6,7 @@ use Rattle.elf_read.specs.declared.error.ElfErr.TheVariants.{Short, NotElf, NotP
 use Rattle.elf_read.specs.declared.entries.SectionHeader.{SectionHeader}
 use Rattle.elf_read.specs.declared.entries.SymbolEntry.{SymbolEntry}
 use Rattle.elf_read.specs.declared.entries.RelaEntry.{RelaEntry}
-use Rattle.elf_read.specs.Standard.{ehdr_bytes, ident, e_type, e_machine, e_shoff, e_shentsize, e_shnum, e_shstrndx, et_rel, em_ppc, shdr_bytes, sh_offset, sht_null, sht_progbits, sht_symtab, sht_strtab, sht_rela, sht_note, sht_nobits, sht_rel, shf_tls_or_compressed, sym_bytes, shn_undef, shn_abs, shn_common, st_bind, st_type, stb_weak, stt_common, rela_bytes, r_sym, r_type}
+use Rattle.elf_read.specs.Standard.{ehdr_bytes, ident, e_type, e_machine, e_shoff, e_shentsize, e_shnum, e_shstrndx, et_rel, em_ppc, shdr_bytes, sh_offset, sht_null, sht_progbits, sht_strtab, sht_rela, sht_note, sht_nobits, sht_rel, shf_tls_or_compressed, sym_bytes, shn_undef, shn_abs, shn_common, st_bind, st_type, stb_weak, stt_common, rela_bytes, r_sym, r_type}
 use Rattle.elf_read.specs.Places.{half}
 use Rattle.elf_read.specs.Rule.{Rule, ◌and_then◌, unless, when, first_of, each}
 use Rattle.elf_read.specs.Numbered.{total}

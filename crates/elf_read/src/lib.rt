@@ -9,6 +9,8 @@ mod front_rules;
 mod items;
 mod laws;
 mod module;
+#[cfg(test)]
+mod object;
 mod places;
 mod reading;
 mod relocation_rules;
@@ -16,6 +18,8 @@ mod section_rules;
 mod standard;
 mod symbol_rules;
 mod tables;
+#[cfg(test)]
+mod tests;
 
 pub use checking::check;
 pub use entries::{RelaEntry, SectionHeader, SymbolEntry};

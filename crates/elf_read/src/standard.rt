@@ -8,10 +8,15 @@ pub const EHDR_BYTES: usize = 52;
 pub const IDENT: [u8; 7] = [0x7f, 0x45, 0x4c, 0x46, 1, 2, 1];
 
 pub const E_TYPE: usize = 16;
+
 pub const E_MACHINE: usize = 18;
+
 pub const E_SHOFF: usize = 32;
+
 pub const E_SHENTSIZE: usize = 46;
+
 pub const E_SHNUM: usize = 48;
+
 pub const E_SHSTRNDX: usize = 50;
 
 /// `e_type` of a relocatable file.
@@ -27,12 +32,19 @@ pub const SHDR_BYTES: usize = 40;
 pub const SH_OFFSET: usize = 16;
 
 pub const SHT_NULL: u32 = 0;
+
 pub const SHT_PROGBITS: u32 = 1;
+
 pub const SHT_SYMTAB: u32 = 2;
+
 pub const SHT_STRTAB: u32 = 3;
+
 pub const SHT_RELA: u32 = 4;
+
 pub const SHT_NOTE: u32 = 7;
+
 pub const SHT_NOBITS: u32 = 8;
+
 pub const SHT_REL: u32 = 9;
 
 /// The section is loaded.
@@ -45,7 +57,9 @@ pub const SHF_TLS_OR_COMPRESSED: u32 = 0xc00;
 pub const SYM_BYTES: usize = 16;
 
 pub const SHN_UNDEF: u16 = 0;
+
 pub const SHN_ABS: u16 = 0xfff1;
+
 pub const SHN_COMMON: u16 = 0xfff2;
 
 /// The greatest binding that the ABI names.

@@ -9,5 +9,5 @@ abbrev pub invariant-loop-i : goal.invariant-loop-i
 invariant-loop-i l = record {
   rest : each l.i (l.count - l.i) (table_rule l.bytes) ≡ each 0 (header_count l.bytes) (table_rule l.bytes);
   all : l.sofar ≡ total l.i (rela_count l.bytes);
-  few : l.sofar ≤ l.i * 2 ^ 29
+  few : l.sofar ≤ l.i * 2 ^ 29;
 }
