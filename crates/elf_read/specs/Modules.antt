@@ -34,7 +34,7 @@ pub record IsSect (s : Sect) : Type 0 where
   pub size : size_of s.body ≤ most_section_bytes
 
 -- ---- symbols
--- a symbol of this value and this size can stand at this place: in its section or at its end, or in room that can be given
+-- a symbol of this value and size can stand at this place: in its section or at its end, or in room that can be given
 abbrev pub IsPlaced : List Sect → SymPlace → ℕ → ℕ → Type 0
 IsPlaced ss Undefined value size = Unit {0}
 IsPlaced ss Absolute value size = Unit {0}
@@ -55,7 +55,7 @@ abbrev pub HoldsBytes : Body → ℕ → Type 0
 HoldsBytes (Bytes bs) n = n ≤ length bs
 HoldsBytes (Size k) n = ⊥
 
--- a relocation of a module with these sections and symbols: it changes bytes of a section, and its symbol, if it has one, is there
+-- a relocation of a module with these sections and symbols: it changes bytes of a section, and its symbol, if any, is here
 pub record IsRel (ss : List Sect) (ys : List Sym) (r : Rel) : Type 0 where
   pub section : r.section < length ss
   pub inside : (d : Sect) → HoldsBytes (slice_index_or ss r.section d).body (r.offset + width r.kind)

@@ -52,11 +52,14 @@ has_content h = not (h.kind == sht_null) && not (h.kind == sht_nobits)
 abbrev pub content_rule : List ℕ → ℕ → Rule
 content_rule bytes i =
     when (has_content (header bytes i))
-    (unless (nat_le ((header bytes i).offset + (header bytes i).size) (length bytes)) (Short (header_place bytes i + sh_offset)))
+    (unless (nat_le ((header bytes i).offset + (header bytes i).size) (length bytes))
+    (Short (header_place bytes i + sh_offset)))
 
 -- the sections' names stand in a string table
 abbrev pub strings_rule : List ℕ → Rule
-strings_rule bytes = unless ((header bytes (half bytes e_shstrndx)).kind == sht_strtab) (BadSection (header_place bytes (half bytes e_shstrndx)))
+strings_rule bytes =
+    unless ((header bytes (half bytes e_shstrndx)).kind == sht_strtab)
+    (BadSection (header_place bytes (half bytes e_shstrndx)))
 
 -- section number i has a name there
 abbrev pub name_rule : List ℕ → ℕ → Rule
@@ -106,7 +109,9 @@ has_place bytes e = nat_lt e.section (header_count bytes) || (e.section == shn_a
 
 -- a symbol of a loaded section lies in it or at its end; section number 0 is none
 unfoldable pub lies_inside : List ℕ → SymbolEntry → Bool
-lies_inside bytes e = e.section == shn_undef || (not (is_loaded bytes e.section) || nat_le e.value (header bytes e.section).size)
+lies_inside bytes e =
+    e.section == shn_undef
+    || (not (is_loaded bytes e.section) || nat_le e.value (header bytes e.section).size)
 
 -- a common symbol, whose value is its alignment, can be given room
 unfoldable pub is_right_common : SymbolEntry → Bool
@@ -132,7 +137,8 @@ is_right_table bytes i =
     && (((header bytes i).size % rela_bytes == 0)
     && (has_symtab bytes && ((header bytes i).link == symtab bytes))))
 
--- section number i, if it has relocations, names a section; if that is loaded, i is a right table, and there are not too many together
+-- section number i, if it has relocations, names a section; if that is loaded, i is a right table, and the relocations up to
+-- there are not too many
 abbrev pub table_rule : List ℕ → ℕ → Rule
 table_rule bytes i =
     when ((header bytes i).kind == sht_rela || (header bytes i).kind == sht_rel)
@@ -152,7 +158,8 @@ is_right_relocation bytes target r =
 -- relocation number k of section number i is right
 abbrev pub relocation_rule : List ℕ → ℕ → ℕ → Rule
 relocation_rule bytes i k =
-    unless (is_right_relocation bytes (header bytes (header bytes i).info) (relocation bytes i k)) (BadReloc (rela_place bytes i k))
+    unless (is_right_relocation bytes (header bytes (header bytes i).info) (relocation bytes i k))
+    (BadReloc (rela_place bytes i k))
 
 abbrev pub relocations_rule : List ℕ → ℕ → Rule
 relocations_rule bytes i = each 0 (rela_count bytes i) (relocation_rule bytes i)

@@ -1,4 +1,4 @@
--- The words of the ELF format with their numbers: System V ABI, edition 4.1, "Object Files", and its PowerPC supplement.
+-- The words of the ELF format and their numbers: System V ABI, edition 4.1, "Object Files", and its PowerPC supplement.
 use Rattle.std.specs.Prelude.{ℕ, ◌/◌, ◌%◌, List, [], ◌∷◌}
 
 -- ---- the ELF header
@@ -69,9 +69,12 @@ sht_nobits = 8
 abbrev pub sht_rel : ℕ
 sht_rel = 9
 
--- sh_flags: SHF_ALLOC of a section that is loaded; SHF_TLS and SHF_COMPRESSED together
+-- sh_flags: SHF_ALLOC, the section is loaded; SHF_INFO_LINK, its sh_info is a section number; SHF_TLS and SHF_COMPRESSED
 abbrev pub shf_alloc : ℕ
 shf_alloc = 2
+
+abbrev pub shf_info_link : ℕ
+shf_info_link = 0x40
 
 abbrev pub shf_tls_or_compressed : ℕ
 shf_tls_or_compressed = 0xc00
@@ -121,7 +124,7 @@ r_type info = info % 256
 abbrev pub half_types : List ℕ
 half_types = 3 ∷ 4 ∷ 5 ∷ 6 ∷ 25 ∷ []
 
--- the types that change a word: R_PPC_ADDR32, R_PPC_ADDR24, R_PPC_ADDR14 and its two with a hint, R_PPC_REL24, R_PPC_REL14 and
--- its two with a hint, R_PPC_UADDR32 and R_PPC_REL32
+-- the types that change a word: R_PPC_ADDR32, R_PPC_ADDR24, R_PPC_ADDR14 and its two with a hint, R_PPC_REL24,
+-- R_PPC_REL14 and its two with a hint, R_PPC_UADDR32 and R_PPC_REL32
 abbrev pub word_types : List ℕ
 word_types = 1 ∷ 2 ∷ 7 ∷ 8 ∷ 9 ∷ 10 ∷ 11 ∷ 12 ∷ 13 ∷ 24 ∷ 26 ∷ []

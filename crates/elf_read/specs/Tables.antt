@@ -1,6 +1,6 @@
 -- The tables of a file: section headers, names, symbols and relocations.
-use Rattle.std.specs.Prelude.{ℕ, ◌+◌, ◌*◌, ◌/◌, Bool, ◌&&◌, not, nat_lt, ◌==◌, if◌then◌else◌, bit_and, List}
-use Rattle.std.specs.List.{list_any}
+use Rattle.std.specs.Prelude.{ℕ, ◌+◌, ◌*◌, ◌/◌, Bool, ◌&&◌, not, nat_lt, ◌==◌, if◌then◌else◌, bit_and, List, map}
+use Rattle.std.specs.List.{list_any, range_with_len}
 use Rattle.wind_base.specs.Limits.{longest_name}
 use Rattle.elf_read.specs.declared.entries.SectionHeader.{SectionHeader}
 use Rattle.elf_read.specs.declared.entries.SymbolEntry.{SymbolEntry}
@@ -37,6 +37,10 @@ one_loaded bytes i = if is_loaded bytes i then 1 else 0
 -- how many loaded sections stand before number i
 unfoldable pub loaded_before : List ℕ → ℕ → ℕ
 loaded_before bytes i = total i (one_loaded bytes)
+
+-- the number of each section among the loaded ones
+abbrev pub section_numbers : List ℕ → List ℕ
+section_numbers bytes = map (loaded_before bytes) (range_with_len 0 (header_count bytes))
 
 -- there is a section of number i, other than number 0, and it is not loaded
 unfoldable pub is_elsewhere : List ℕ → ℕ → Bool

@@ -15,7 +15,7 @@ mod places;
 mod reading;
 mod relocation_rules;
 mod section_rules;
-mod standard;
+pub mod standard;
 mod symbol_rules;
 mod tables;
 #[cfg(test)]

@@ -1,12 +1,11 @@
 //! What an accepted file holds.
 
 ghost use Rattle.std.specs.Prelude.{◌≡◌, ◌+◌, ◌-◌, ◌*◌, ◌≤◌, ◌<◌, ◌^◌, ◌++◌, length, drop, map, IfOk, IfErr, IsTrue, [], Ok};
-ghost use Rattle.std.specs.List.{range_with_len};
 ghost use Rattle.elf_read.specs.Contents.{name_at, body_of as body_at, sect_of as sect_at, place_of as place_at, sym_of as sym_at, syms_at, sects_at, rel_of as rel_at, rels_at, module_at, ModuleOf, FailsRightly};
 ghost use Rattle.elf_read.specs.Numbered.{gathered};
 ghost use Rattle.elf_read.specs.Modules.{IsModule};
 ghost use Rattle.elf_read.specs.Rules.{checked};
-ghost use Rattle.elf_read.specs.Tables.{header_count as header_count_of, header as header_at, is_applied as is_applied_at, loaded_before, section_names as section_names_of, symtab as symtab_of, symbol_count as symbol_count_of, symbol_names as symbol_names_of};
+ghost use Rattle.elf_read.specs.Tables.{header_count as header_count_of, header as header_at, is_applied as is_applied_at, loaded_before, section_numbers as section_numbers_of, section_names as section_names_of, symtab as symtab_of, symbol_count as symbol_count_of, symbol_names as symbol_names_of};
 
 use crate::checking::check;
 use crate::entries::SectionHeader;
@@ -37,10 +36,10 @@ fn copied(alloc: Global, bytes: &[u8]) -> Result<Bytes, AllocError>
     Ok(Bytes::from_vec(items))
 }
 
-// The number of each section among the loaded ones.
+// The number of each section among the loaded ones: how many of them stand before it.
 #[tactic(auto, unfolding(crate::specs::Tables::loaded_before), using(crate::proofs::Gather::numbers_more, crate::proofs::Gather::total_more))]
 fn section_numbers(alloc: Global, bytes: &[u8]) -> Result<Vec<u32>, AllocError>
-    ensures { IfOk result (λ v. v.items ≡ map (loaded_before bytes.now) (range_with_len 0 (header_count_of bytes.now))) }
+    ensures { IfOk result (λ v. v.items ≡ section_numbers_of bytes.now) }
 {
     let mut list = Vec::new(alloc);
     let mut sofar = 0;
@@ -119,7 +118,7 @@ fn read_sects(alloc: Global, bytes: &[u8]) -> Result<SectList, AllocError>
 // Where a symbol stands, by its section's number.
 #[tactic(auto, unfolding(crate::specs::Contents::place_of, crate::specs::Tables::is_loaded), using(crate::proofs::Gather::number_at, crate::proofs::Gather::numbers_count))]
 fn read_place(bytes: &[u8], numbers: &[u32], n: u16) -> SymPlace
-    requires all { numbers.now ≡ map (loaded_before bytes.now) (range_with_len 0 (header_count_of bytes.now)) }
+    requires all { numbers.now ≡ section_numbers_of bytes.now }
     ensures { result ≡ place_at bytes.now n }
 {
     if n == SHN_UNDEF {
@@ -146,7 +145,7 @@ fn read_sym(
     names: &[u8],
     k: usize,
 ) -> Result<Sym, AllocError>
-    requires all { numbers.now ≡ map (loaded_before bytes.now) (range_with_len 0 (header_count_of bytes.now)) }
+    requires all { numbers.now ≡ section_numbers_of bytes.now }
     requires table { symtab ≡ symtab_of bytes.now }
     requires low { symtab < 2 ^ 16 }
     requires strings { names.now ≡ symbol_names_of bytes.now }
@@ -172,7 +171,7 @@ fn read_syms(
     numbers: &[u32],
     symtab: usize,
 ) -> Result<SymList, AllocError>
-    requires all { numbers.now ≡ map (loaded_before bytes.now) (range_with_len 0 (header_count_of bytes.now)) }
+    requires all { numbers.now ≡ section_numbers_of bytes.now }
     requires table { symtab ≡ symtab_of bytes.now }
     requires low { symtab < 2 ^ 16 }
     ensures { IfOk result (λ ss. ss ≡ gathered 1 (symbol_count_of bytes.now - 1) (syms_at bytes.now)) }
@@ -208,7 +207,7 @@ fn read_rel(bytes: &[u8], section: u32, i: usize, k: usize) -> Rel
 #[tactic(auto, unfolding(crate::specs::Tables::is_applied, crate::specs::Tables::is_loaded), using(crate::proofs::Gather::number_at, crate::proofs::Gather::numbers_count))]
 fn target_number(bytes: &[u8], numbers: &[u32], i: usize) -> u32
     requires low { i < 2 ^ 16 }
-    requires all { numbers.now ≡ map (loaded_before bytes.now) (range_with_len 0 (header_count_of bytes.now)) }
+    requires all { numbers.now ≡ section_numbers_of bytes.now }
     requires applied { IsTrue (is_applied_at bytes.now i) }
     ensures { result ≡ loaded_before bytes.now (header_at bytes.now i).info }
 {
@@ -224,7 +223,7 @@ fn read_applied(
     i: usize,
 ) -> Result<(), AllocError>
     requires low { i < 2 ^ 16 }
-    requires all { numbers.now ≡ map (loaded_before bytes.now) (range_with_len 0 (header_count_of bytes.now)) }
+    requires all { numbers.now ≡ section_numbers_of bytes.now }
     requires applied { IsTrue (is_applied_at bytes.now i) }
     ensures { IfOk result (λ u. list.new.items ≡ list.old.items ++ rels_at bytes.now i) }
 {
@@ -246,7 +245,7 @@ fn read_rels_at(
     i: usize,
 ) -> Result<(), AllocError>
     requires low { i < 2 ^ 16 }
-    requires all { numbers.now ≡ map (loaded_before bytes.now) (range_with_len 0 (header_count_of bytes.now)) }
+    requires all { numbers.now ≡ section_numbers_of bytes.now }
     ensures { IfOk result (λ u. list.new.items ≡ list.old.items ++ rels_at bytes.now i) }
 {
     if is_applied(bytes, i) {
@@ -257,7 +256,7 @@ fn read_rels_at(
 
 #[tactic(auto, using(crate::proofs::Gather::gathered_step, crate::proofs::Gather::gathered_last))]
 fn read_rels(alloc: Global, bytes: &[u8], numbers: &[u32]) -> Result<RelList, AllocError>
-    requires { numbers.now ≡ map (loaded_before bytes.now) (range_with_len 0 (header_count_of bytes.now)) }
+    requires { numbers.now ≡ section_numbers_of bytes.now }
     ensures { IfOk result (λ rs. rs ≡ gathered 0 (header_count_of bytes.now) (rels_at bytes.now)) }
 {
     let mut list = Vec::new(alloc);

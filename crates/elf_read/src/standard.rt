@@ -50,6 +50,9 @@ pub const SHT_REL: u32 = 9;
 /// The section is loaded.
 pub const SHF_ALLOC: u32 = 2;
 
+/// The section's info is a section number.
+pub const SHF_INFO_LINK: u32 = 0x40;
+
 /// Storage of threads, and compressed content: neither is loaded.
 pub const SHF_TLS_OR_COMPRESSED: u32 = 0xc00;
 

@@ -114,7 +114,7 @@ abbrev pub no_wait : ℕ
 no_wait = 0
 
 -- ---- object files
--- how many section headers an object file has at most, entries of its symbol table, and relocations of its loaded sections
+-- how many section headers an object file has at most, symbol table entries, and relocations of its loaded sections
 abbrev pub most_section_headers : ℕ
 most_section_headers = 4096
 
