@@ -377,19 +377,40 @@ all_pass : (bytes : List ℕ) (m : Module) → Held bytes m → Buildable m → 
 unfolding checked
 all_pass bytes m h b =
     let n = count_of m in
-    rules_pass (rules_of bytes)
-    (long_passes bytes m h,
-    (ident_passes bytes (heads_at m) (headers_of m) (n + 3) h.parts.front,
-    (machine_passes bytes (heads_at m) (headers_of m) (n + 3) h.parts.front,
-    (type_passes bytes (heads_at m) (headers_of m) (n + 3) h.parts.front,
-    (headers_pass bytes m h b,
-    (contents_pass bytes m h,
-    (and_ok (strings_rule bytes) (each 0 (half bytes 48) (name_rule bytes)) (strings_pass bytes m h) (names_pass bytes m h),
-    (loads_pass bytes m h,
-    (tables_pass bytes m h b,
-    (symbols_pass bytes m h,
-    (relocs_pass bytes m h b,
-    (entries_pass bytes m h, tt))))))))))))
+    rules_pass (rules_of bytes) (
+      long_passes bytes m h,
+      (
+        ident_passes bytes (heads_at m) (headers_of m) (n + 3) h.parts.front,
+        (
+          machine_passes bytes (heads_at m) (headers_of m) (n + 3) h.parts.front,
+          (
+            type_passes bytes (heads_at m) (headers_of m) (n + 3) h.parts.front,
+            (
+              headers_pass bytes m h b,
+              (
+                contents_pass bytes m h,
+                (
+                  and_ok (strings_rule bytes) (each 0 (half bytes 48) (name_rule bytes)) (strings_pass bytes m h) (names_pass bytes m h),
+                  (
+                    loads_pass bytes m h,
+                    (
+                      tables_pass bytes m h b,
+                      (
+                        symbols_pass bytes m h,
+                        (
+                          relocs_pass bytes m h b,
+                          (entries_pass bytes m h, tt),
+                        ),
+                      ),
+                    ),
+                  ),
+                ),
+              ),
+            ),
+          ),
+        ),
+      ),
+    )
 
 pub reads_back : ReadsBack
 reads_back m b = let h = held m b in record { passes = all_pass (file_of m) m h b; holds = sym (module_holds (file_of m) m h) }

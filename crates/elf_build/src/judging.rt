@@ -13,9 +13,7 @@ use crate::groups::table_count;
 use crate::lengths::file_len;
 use elf_read::standard::{SHF_ALLOC, SHF_TLS_OR_COMPRESSED, STB_WEAK, STT_COMMON};
 use elf_read::{Body, Module, Rel, Sect, Sym, SymPlace, is_alignment, width};
-use wind_base::limits::{
-    NAME_BYTES, RELOCATIONS, SECTION_BYTES, SECTION_HEADERS, SYMBOL_ENTRIES,
-};
+use wind_base::limits::{NAME_BYTES, RELOCATIONS, SECTION_BYTES, SECTION_HEADERS, SYMBOL_ENTRIES};
 
 fn is_name(name: &[u8]) -> bool
     ensures { IsTrue result ↔ IsName name.now }

@@ -57,7 +57,16 @@ pub(crate) fn put_header(out: &mut Vec<u8>, h: SectionHeader) -> Result<(), Allo
     put_words(
         out,
         &[
-            h.name, h.kind, h.flags, 0, h.offset, h.size, h.link, h.info, h.align, h.entry_size,
+            h.name,
+            h.kind,
+            h.flags,
+            0,
+            h.offset,
+            h.size,
+            h.link,
+            h.info,
+            h.align,
+            h.entry_size,
         ],
     )
 }

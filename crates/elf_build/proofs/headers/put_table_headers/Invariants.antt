@@ -9,7 +9,7 @@ invariant-loop-rest l = record {
   made : l.out.items ++ table_headers l.symtab l.place (tables_of l.rest) ≡ l.fn.out.items ++ table_headers l.symtab l.at (tables_of l.relocs);
   left : l.place + 12 * length l.rest ≡ l.at + 12 * length l.relocs;
   few : length l.rest ≤ length l.relocs;
-  fit : All HasNumbers l.rest
+  fit : All HasNumbers l.rest;
 }
 
 abbrev pub decreases-loop-rest : goal.decreases-loop-rest
