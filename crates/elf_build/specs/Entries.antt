@@ -26,7 +26,8 @@ header_bytes h = flat_map (big_bytes 4) (words_of h)
 
 -- Elf32_Sym; its st_other is 0
 unfoldable pub symbol_bytes : SymbolEntry → List ℕ
-symbol_bytes e = big_bytes 4 e.name ++ (big_bytes 4 e.value ++ (big_bytes 4 e.size ++ (e.info ∷ 0 ∷ big_bytes 2 e.section)))
+symbol_bytes e =
+    big_bytes 4 e.name ++ (big_bytes 4 e.value ++ (big_bytes 4 e.size ++ (e.info ∷ 0 ∷ big_bytes 2 e.section)))
 
 -- Elf32_Rela
 unfoldable pub relocation_bytes : RelaEntry → List ℕ

@@ -1,5 +1,5 @@
--- The file of a module: header, contents, symbols, relocations, names of symbols, names of sections, section headers. The headers
--- are number 0, those of the module's sections, of the symbol table, of both tables of names, and of the tables of relocations.
+-- The file of a module: header, contents, symbols, relocations, names of symbols, names of sections, section headers. The
+-- headers are number 0, those of the sections, of the symbol table, of both tables of names, and of the relocations' tables.
 use Rattle.std.specs.Prelude.{ℕ, zero, suc, ◌+◌, ◌*◌, ◌==◌, if◌then◌else◌, List, [], ◌∷◌, ◌++◌, length}
 use Rattle.std.specs.List.{flat_map}
 use Rattle.byteorder.specs.Endian.{big_bytes}
@@ -107,7 +107,8 @@ relocs_of rs = flat_map rel_bytes rs
 -- the headers of sections whose names and contents begin at these places and behind them
 abbrev pub sect_headers : ℕ → ℕ → List Sect → List ℕ
 sect_headers name at [] = []
-sect_headers name at (s ∷ ss) = header_bytes (sect_header name at s) ++ sect_headers (name + length s.name + 1) (at + length (sect_content s)) ss
+sect_headers name at (s ∷ ss) =
+    header_bytes (sect_header name at s) ++ sect_headers (name + length s.name + 1) (at + length (sect_content s)) ss
 
 -- the header of a table of relocations: which section's, where it begins, and how many there are
 unfoldable pub table_header : ℕ → ℕ → ℕ → ℕ → SectionHeader
@@ -127,18 +128,49 @@ table_header symtab at section count = record {
 abbrev pub table_headers : ℕ → ℕ → List Table → List ℕ
 table_headers symtab at [] = []
 table_headers symtab at (t ∷ ts) =
-    header_bytes (table_header symtab at t.section (length t.relocs)) ++ table_headers symtab (at + rela_bytes * length t.relocs) ts
+    header_bytes (table_header symtab at t.section (length t.relocs))
+    ++ table_headers symtab (at + rela_bytes * length t.relocs) ts
 
 unfoldable pub null_header : SectionHeader
-null_header = record { name = 0; kind = sht_null; flags = 0; offset = 0; size = 0; link = 0; info = 0; align = 0; entry_size = 0 }
+null_header = record {
+  name = 0;
+  kind = sht_null;
+  flags = 0;
+  offset = 0;
+  size = 0;
+  link = 0;
+  info = 0;
+  align = 0;
+  entry_size = 0;
+}
 
 -- the header of a table of names
 unfoldable pub strings_header : ℕ → ℕ → ℕ → SectionHeader
-strings_header name at size = record { name = name; kind = sht_strtab; flags = 0; offset = at; size = size; link = 0; info = 0; align = 1; entry_size = 0 }
+strings_header name at size = record {
+  name = name;
+  kind = sht_strtab;
+  flags = 0;
+  offset = at;
+  size = size;
+  link = 0;
+  info = 0;
+  align = 1;
+  entry_size = 0;
+}
 
 -- the header of the symbol table
 unfoldable pub symtab_header : ℕ → ℕ → ℕ → ℕ → SectionHeader
-symtab_header at size link locals = record { name = symtab_name; kind = sht_symtab; flags = 0; offset = at; size = size; link = link; info = locals; align = 4; entry_size = sym_bytes }
+symtab_header at size link locals = record {
+  name = symtab_name;
+  kind = sht_symtab;
+  flags = 0;
+  offset = at;
+  size = size;
+  link = link;
+  info = locals;
+  align = 4;
+  entry_size = sym_bytes;
+}
 
 -- ---- places
 -- how many sections a module has
@@ -170,11 +202,13 @@ unfoldable pub heads_at : Module → ℕ
 heads_at m = names_at m + length (names_of m.sections)
 
 -- ---- the file
+-- its section headers
 unfoldable pub heads_of : Module → List ℕ
 heads_of m =
     header_bytes null_header
     ++ (sect_headers first_name ehdr_bytes m.sections
-    ++ (header_bytes (symtab_header (symbols_at m) (length (symbols_of m.symbols)) (count_of m + 2) (locals_end m.symbols))
+    ++ (header_bytes
+        (symtab_header (symbols_at m) (length (symbols_of m.symbols)) (count_of m + 2) (locals_end m.symbols))
     ++ (header_bytes (strings_header strtab_name (strings_at m) (length (strings_of m.symbols)))
     ++ (header_bytes (strings_header shstrtab_name (names_at m) (length (names_of m.sections)))
     ++ table_headers (count_of m + 1) (relocs_at m) (tables_of m.relocs)))))

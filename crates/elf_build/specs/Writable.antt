@@ -36,7 +36,8 @@ pub record HasNumbers (r : Rel) : Type 0 where
 pub record LeadsTable (n : ℕ) (rs : List Rel) : Type 0 where
   pub some : 0 < n
   pub within : n ≤ length rs
-  pub table : (d : Rel) → tables_of rs ≡ record { section = (slice_index_or rs 0 d).section; relocs = take n rs } ∷ tables_of (drop n rs)
+  pub table : (d : Rel) →
+      tables_of rs ≡ record { section = (slice_index_or rs 0 d).section; relocs = take n rs } ∷ tables_of (drop n rs)
 
 pub record Writable (m : Module) : Type 0 where
   pub few_headers : headers_of m ≤ most_section_headers
@@ -50,8 +51,16 @@ pub record Writable (m : Module) : Type 0 where
   pub tables : relocs_at m + rela_bytes * length m.relocs ≤ heads_at m
 
 unfoldable pub layout_of : Module → Layout
-layout_of m = record { symbols = symbols_at m; relocs = relocs_at m; strings = strings_at m; names = names_at m; heads = heads_at m }
+layout_of m = record {
+  symbols = symbols_at m;
+  relocs = relocs_at m;
+  strings = strings_at m;
+  names = names_at m;
+  heads = heads_at m;
+}
 
 -- the parts between the ELF header and the section headers
 unfoldable pub parts_of : Module → List ℕ
-parts_of m = (((contents_of m.sections ++ symbols_of m.symbols) ++ relocs_of m.relocs) ++ strings_of m.symbols) ++ names_of m.sections
+parts_of m =
+    (((contents_of m.sections ++ symbols_of m.symbols) ++ relocs_of m.relocs) ++ strings_of m.symbols)
+    ++ names_of m.sections
