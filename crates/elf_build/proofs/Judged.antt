@@ -1,13 +1,9 @@
 -- The test for a buildable module says exactly what it is to be one.
-use Rattle.std.proofs.Common.{◌≡◌, ◌≢◌, ℕ, suc, ◌+◌, ◌-◌, ◌<◌, ◌≤◌, ◌^◌, List, length, get_or, arith}
-use Rattle.std.specs.List.{All}
-use Rattle.std.proofs.lemmas.List.Elements.{All-get_or}
-use Rattle.elf_read.specs.declared.module.Sym.{Sym}
+use Rattle.std.proofs.Common.{◌-◌, ◌<◌, ◌^◌, length, get_or, arith}
 use Rattle.elf_read.specs.declared.module.Module.{Module}
-use Rattle.elf_read.specs.Modules.{IsModule}
 use Rattle.elf_build.specs.Buildable.{Buildable}
 use Rattle.elf_build.specs.File.{file_of}
-use Rattle.elf_build.specs.Judging.{CanSym, IsSmall, CanParts}
+use Rattle.elf_build.specs.Judging.{IsSmall, CanParts}
 
 pub judged : (m : Module) → IsSmall m → CanParts m → length (file_of m) < 2 ^ 32 → Buildable m
 judged m s p short =

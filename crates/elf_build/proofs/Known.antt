@@ -16,7 +16,7 @@ use Rattle.elf_build.specs.Entries.{symbol_bytes, sym_entry, kind_of}
 use Rattle.elf_build.specs.File.{tables_of, headers_of, contents_of, symbols_of, relocs_of, strings_of, names_of, symbols_at, relocs_at, strings_at, names_at, heads_at, count_of, null_header, symtab_header, strings_header, locals_end, locals_from, sect_name, sym_name, symbols_from, fixed_names, rel_bytes}
 use Rattle.elf_build.specs.Buildable.{Buildable}
 use Rattle.elf_build.proofs.Good.{GoodRel, good_sects, good_syms, good_rels}
-use Rattle.elf_build.proofs.TableLemmas.{relocs_in, flat_tables, are_tables}
+use Rattle.elf_build.proofs.TableLemmas.{flat_tables, are_tables}
 use Rattle.elf_build.proofs.Stands.{Stands, stands_whole, stands_behind, part_is}
 use Rattle.elf_build.proofs.EntryLemmas.{HeaderFits, header_is, length_symbol}
 use Rattle.elf_build.proofs.Spread.{Parts, Heads, heads_place, heads_count, names_number}

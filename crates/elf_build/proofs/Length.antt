@@ -1,12 +1,10 @@
 -- How long a built file is.
-use Rattle.std.proofs.Common.{◌≡◌, ℕ, zero, suc, ◌+◌, ◌*◌, ◌<◌, ◌≤◌, List, [], ◌∷◌, ◌++◌, length, refl, sym, ◌∙◌, ap, arith, length-append}
+use Rattle.std.proofs.Common.{◌≡◌, ◌+◌, ◌*◌, List, length, refl, arith, length-append}
 use Rattle.std.specs.List.{flat_map}
 use Rattle.elf_read.specs.declared.module.Sect.{Sect}
 use Rattle.elf_read.specs.declared.module.Sym.{Sym}
-use Rattle.elf_read.specs.declared.module.Rel.{Rel}
 use Rattle.elf_read.specs.declared.module.Module.{Module}
-use Rattle.elf_build.specs.Entries.{header_bytes}
-use Rattle.elf_build.specs.File.{tables_of, headers_of, contents_of, symbols_of, relocs_of, strings_of, names_of, symbols_at, relocs_at, strings_at, names_at, heads_at, heads_of, count_of, sect_headers, table_headers, null_header, symtab_header, strings_header, locals_end, sect_name, sym_name, sect_content, fixed_names, file_of}
+use Rattle.elf_build.specs.File.{tables_of, headers_of, contents_of, symbols_of, relocs_of, strings_of, names_of, symbols_at, relocs_at, strings_at, names_at, heads_at, heads_of, count_of, null_header, symtab_header, strings_header, locals_end, sect_name, sym_name, sect_content, fixed_names, file_of}
 use Rattle.elf_build.proofs.Parts.{length_file, length_relocs}
 use Rattle.elf_build.proofs.EntryLemmas.{length_header}
 use Rattle.elf_build.proofs.Spread.{length_sect_heads}

@@ -1,16 +1,14 @@
 -- A built file passes every rule.
-use Rattle.std.proofs.Common.{◌≡◌, ℕ, zero, suc, ◌+◌, ◌-◌, ◌*◌, ◌/◌, ◌%◌, ◌<◌, ◌≤◌, List, [], ◌∷◌, length, take, drop, refl, sym, ◌∙◌, ap, subst, arith, length-append, Bool, true, false, nat_lt, nat_le, Ok}
+use Rattle.std.proofs.Common.{◌≡◌, ℕ, ◌+◌, ◌-◌, ◌*◌, ◌/◌, ◌%◌, ◌<◌, ◌≤◌, List, [], ◌∷◌, length, take, drop, refl, sym, ◌∙◌, ap, subst, arith, length-append, Bool, true, false, nat_lt, nat_le, Ok}
 use Rattle.std.specs.Prelude.{◌==◌, ◌&&◌, ◌||◌, not, if◌then◌else◌, bit_and, slice_index}
 use Rattle.std.specs.List.{AllByRecursion, list_any}
 use Rattle.elf_read.specs.declared.error.ElfErr.TheVariants.{Short, NotElf, NotPpc, NotRel, BadSection, TooMany}
 use Rattle.elf_read.specs.declared.module.Body.{Body}
 use Rattle.elf_read.specs.declared.module.Body.TheVariants.{Bytes, Size}
 use Rattle.elf_read.specs.declared.module.Sect.{Sect}
-use Rattle.elf_read.specs.declared.module.Rel.{Rel}
 use Rattle.elf_read.specs.declared.module.Module.{Module}
 use Rattle.elf_read.specs.declared.entries.SectionHeader.{SectionHeader}
 use Rattle.elf_read.specs.Places.{half, word}
-use Rattle.elf_read.specs.Standard.{ident}
 use Rattle.elf_read.specs.Rule.{Rule, ◌and_then◌, unless, when, first_of, each}
 use Rattle.elf_read.specs.Numbered.{total}
 use Rattle.elf_read.specs.Rules.{length_rule, ident_from, ident_rule, machine_rule, type_rule, headers_rule, has_content, content_rule, strings_rule, name_rule, load_rule, is_loadable, is_right_symtab, symtab_rule, symbol_rule, table_rule, is_right_table, relocations_rule, relocation_rule, rules_of, checked}

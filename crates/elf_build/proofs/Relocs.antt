@@ -1,11 +1,10 @@
 -- The relocations of a built file.
-use Rattle.std.proofs.Common.{◌≡◌, ℕ, zero, suc, ◌+◌, ◌*◌, ◌/◌, ◌%◌, ◌<◌, ◌≤◌, ◌^◌, List, [], ◌∷◌, ◌++◌, length, take, drop, get_or, refl, sym, ◌∙◌, ap, subst, arith, length-append, length-drop, Bool, true, false, nat_le, nat_lt, Ok}
-use Rattle.std.specs.Prelude.{◌==◌, ◌&&◌, ◌||◌, not, if◌then◌else◌, bit_and}
+use Rattle.std.proofs.Common.{◌≡◌, ℕ, zero, suc, ◌+◌, ◌*◌, ◌/◌, ◌%◌, ◌<◌, ◌≤◌, ◌^◌, List, [], ◌∷◌, ◌++◌, length, take, drop, get_or, refl, sym, ◌∙◌, ap, subst, arith, length-append, true, false, nat_le, nat_lt, Ok}
+use Rattle.std.specs.Prelude.{◌==◌, ◌&&◌, ◌||◌, not, bit_and}
 use Rattle.std.specs.List.{All, flat_map}
 use Rattle.std.proofs.lemmas.List.{drop_at, take_at}
 use Rattle.std.proofs.lemmas.List.Elements.{All-take, All-drop, All-same}
 use Rattle.std.proofs.lemmas.Grind.{flat_map-append}
-use Rattle.std.proofs.lemmas.Bool.Decides.{nat_tests}
 use Rattle.elf_read.specs.declared.error.ElfErr.TheVariants.{BadReloc, Short}
 use Rattle.elf_read.specs.declared.module.Body.{Body}
 use Rattle.elf_read.specs.declared.module.Body.TheVariants.{Bytes, Size}
@@ -23,7 +22,7 @@ use Rattle.elf_build.specs.File.{Table, rel_bytes, table_header, table_headers}
 use Rattle.elf_read.specs.Modules.{HoldsBytes}
 use Rattle.elf_build.proofs.Good.{GoodRel}
 use Rattle.elf_build.proofs.TableLemmas.{relocs_in, IsTable}
-use Rattle.elf_build.proofs.Stands.{Stands, stands_front, stands_behind, stands_in}
+use Rattle.elf_build.proofs.Stands.{Stands, stands_front, stands_behind}
 use Rattle.elf_build.proofs.EntryLemmas.{header_is, relocation_is, length_header, length_relocation}
 use Rattle.elf_build.proofs.Names.{or_true, and_true, not_false, equals, below, at_most, then_branch, all_first, all_rest}
 use Rattle.elf_build.proofs.Sections.{AllAt, gathered_are, each_are}

@@ -1,5 +1,5 @@
 -- The section headers of a built file, one group after the other.
-use Rattle.std.proofs.Common.{◌≡◌, ℕ, zero, suc, ◌+◌, ◌*◌, ◌<◌, ◌≤◌, ◌⊎◌, inl, inr, List, [], ◌∷◌, ◌++◌, length, refl, sym, ◌∙◌, ap, subst, arith, append_assoc, Bool, true, false, Ok, Err}
+use Rattle.std.proofs.Common.{◌≡◌, ℕ, zero, suc, ◌+◌, ◌<◌, ◌⊎◌, inl, inr, List, [], ◌∷◌, ◌++◌, length, refl, ◌∙◌, ap, subst, arith, Bool, true, false, Ok, Err}
 use Rattle.elf_read.specs.Rule.{Rule, ◌and_then◌, each, when}
 use Rattle.elf_read.specs.Numbered.{gathered, total, first_from}
 use Rattle.elf_read.proofs.Counting.{gathered_parts}

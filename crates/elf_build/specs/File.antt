@@ -1,6 +1,6 @@
 -- The file of a module: header, contents, symbols, relocations, names of symbols, names of sections, section headers. The
 -- headers are number 0, those of the sections, of the symbol table, of both tables of names, and of the relocations' tables.
-use Rattle.std.specs.Prelude.{ℕ, zero, suc, ◌+◌, ◌*◌, ◌==◌, if◌then◌else◌, List, [], ◌∷◌, ◌++◌, length}
+use Rattle.std.specs.Prelude.{ℕ, suc, ◌+◌, ◌*◌, ◌==◌, if◌then◌else◌, List, [], ◌∷◌, ◌++◌, length}
 use Rattle.std.specs.List.{flat_map}
 use Rattle.byteorder.specs.Endian.{big_bytes}
 use Rattle.elf_read.specs.declared.module.Sect.{Sect}
@@ -8,7 +8,7 @@ use Rattle.elf_read.specs.declared.module.Sym.{Sym}
 use Rattle.elf_read.specs.declared.module.Rel.{Rel}
 use Rattle.elf_read.specs.declared.module.Module.{Module}
 use Rattle.elf_read.specs.declared.entries.SectionHeader.{SectionHeader}
-use Rattle.elf_read.specs.Standard.{ehdr_bytes, shdr_bytes, sym_bytes, rela_bytes, sht_null, sht_symtab, sht_strtab, sht_rela, shf_info_link}
+use Rattle.elf_read.specs.Standard.{ehdr_bytes, sym_bytes, rela_bytes, sht_null, sht_symtab, sht_strtab, sht_rela, shf_info_link}
 use Rattle.elf_build.specs.Entries.{header_bytes, symbol_bytes, relocation_bytes, ended, content_of, sect_header, sym_entry, no_symbol, rel_entry}
 
 -- ---- names
@@ -208,7 +208,7 @@ heads_of m =
     header_bytes null_header
     ++ (sect_headers first_name ehdr_bytes m.sections
     ++ (header_bytes
-        (symtab_header (symbols_at m) (length (symbols_of m.symbols)) (count_of m + 2) (locals_end m.symbols))
+    (symtab_header (symbols_at m) (length (symbols_of m.symbols)) (count_of m + 2) (locals_end m.symbols))
     ++ (header_bytes (strings_header strtab_name (strings_at m) (length (strings_of m.symbols)))
     ++ (header_bytes (strings_header shstrtab_name (names_at m) (length (names_of m.sections)))
     ++ table_headers (count_of m + 1) (relocs_at m) (tables_of m.relocs)))))

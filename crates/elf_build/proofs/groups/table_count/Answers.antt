@@ -1,4 +1,4 @@
-use Rattle.std.proofs.Common.{◌≡◌, ◌+◌, ◌-◌, ◌<◌, length, drop, ap, ◌∙◌, arith, length-drop}
+use Rattle.std.proofs.Common.{◌≡◌, ◌-◌, length, drop, ap, ◌∙◌, arith, length-drop}
 use Rattle.elf_build.specs.File.{tables_of}
 use Rattle.elf_build.proofs.TableLemmas.{count_step}
 use Rattle.elf_build.proofs.groups.table_count.Goals as goal
