@@ -1,0 +1,67 @@
+-- The parts of a file together, and what the code asks of a module.
+use Rattle.std.proofs.Common.{◌≡◌, ℕ, ◌+◌, ◌*◌, ◌<◌, ◌≤◌, List, ◌++◌, length, get_or, refl, arith, append_assoc, length-append}
+use Rattle.elf_read.specs.declared.module.Sect.{Sect}
+use Rattle.elf_read.specs.declared.module.SymPlace.{SymPlace}
+use Rattle.elf_read.specs.declared.module.SymPlace.TheVariants.{Undefined, Absolute, Common, Section, Elsewhere}
+use Rattle.elf_read.specs.declared.module.Rel.{Rel}
+use Rattle.elf_read.specs.declared.module.Module.{Module}
+use Rattle.elf_build.specs.Entries.{relocation_bytes}
+use Rattle.elf_build.specs.File.{headers_of, contents_of, relocs_of, symbols_at, relocs_at, strings_at, names_at, heads_at, heads_of, front_of, file_of, rel_bytes, count_of}
+use Rattle.elf_build.specs.Buildable.{Buildable}
+use Rattle.elf_read.specs.Modules.{IsPlaced}
+use Rattle.elf_build.specs.Writable.{Writable, parts_of, HasNumber}
+use Rattle.elf_build.proofs.Sizes.{length_flat}
+
+pub length_front : (heads count names : ℕ) → length (front_of heads count names) ≡ 52
+unfolding front_of
+length_front heads count names = refl
+
+length_relocation : (r : Rel) → length (rel_bytes r) ≡ 12
+unfolding relocation_bytes
+length_relocation r = refl
+
+pub length_relocs : (rs : List Rel) → length (relocs_of rs) ≡ 12 * length rs
+unfolding relocs_of
+length_relocs rs = length_flat rel_bytes 12 length_relocation rs
+
+-- the file, with its parts joined as they are written
+pub joined : (m : Module) → (front_of (heads_at m) (headers_of m) (count_of m + 3) ++ parts_of m) ++ heads_of m ≡ file_of m
+unfolding parts_of file_of
+joined m = simp append_assoc
+
+pub length_file : (m : Module) → length (file_of m) ≡ heads_at m + length (heads_of m)
+unfolding file_of heads_at names_at strings_at relocs_at symbols_at
+length_file m =
+    let f = length_front (heads_at m) (headers_of m) (count_of m + 3) in
+    simp length-append (omega arith)
+
+numbered : (ss : List Sect) (p : SymPlace) (value size : ℕ) → IsPlaced ss p value size → length ss < 4096 → HasNumber p
+numbered ss Undefined value size h l = tt
+numbered ss Absolute value size h l = tt
+numbered ss Common value size h l = tt
+numbered ss (Section k) value size h l = let a = h.0 in omega arith
+numbered ss Elsewhere value size h l = tt
+
+tables : (m : Module) → relocs_at m + 12 * length m.relocs ≤ heads_at m
+unfolding heads_at names_at strings_at
+tables m = let f = length_relocs m.relocs in omega arith
+
+in_front : (m : Module) → 52 + length (contents_of m.sections) ≤ heads_at m
+unfolding heads_at names_at strings_at relocs_at symbols_at
+in_front m = omega arith
+
+pub writable : (m : Module) → Buildable m → Writable m
+writable m b =
+    let few = b.few_headers in
+    let symbols = b.sound.few_symbols in
+    record {
+      few_headers = few;
+      few_symbols = symbols;
+      few_relocs = b.sound.few_relocs;
+      sections = λ k d l. let h = (b.sound.sections k d l).size in omega arith;
+      symbols = λ k d l. let h = b.sound.symbols k d l in let y = get_or m.symbols k d in record { place = numbered m.sections y.place y.value y.size h.place (omega arith); binding = h.binding; kind = h.kind };
+      relocs = λ k d l. let h = b.sound.relocs k d l in let s = h.symbol in let n = h.section in record { symbol = omega arith; section = omega arith };
+      ends = let f = length_file m in let g = b.short in omega arith;
+      tables = tables m;
+      front = let f = length_file m in let g = b.short in let h = in_front m in omega arith;
+    }

@@ -1,0 +1,233 @@
+-- The file of a module: header, contents, symbols, relocations, names of symbols, names of sections, section headers. The
+-- headers are number 0, those of the sections, of the symbol table, of both tables of names, and of the relocations' tables.
+use Rattle.std.specs.Prelude.{ℕ, suc, ◌+◌, ◌*◌, ◌==◌, if◌then◌else◌, List, [], ◌∷◌, ◌++◌, length}
+use Rattle.std.specs.List.{flat_map}
+use Rattle.byteorder.specs.Endian.{big_bytes}
+use Rattle.elf_read.specs.declared.module.Sect.{Sect}
+use Rattle.elf_read.specs.declared.module.Sym.{Sym}
+use Rattle.elf_read.specs.declared.module.Rel.{Rel}
+use Rattle.elf_read.specs.declared.module.Module.{Module}
+use Rattle.elf_read.specs.declared.entries.SectionHeader.{SectionHeader}
+use Rattle.elf_read.specs.Standard.{ehdr_bytes, sym_bytes, rela_bytes, sht_null, sht_symtab, sht_strtab, sht_rela, shf_info_link}
+use Rattle.elf_build.specs.Entries.{header_bytes, symbol_bytes, relocation_bytes, ended, content_of, sect_header, sym_entry, no_symbol, rel_entry}
+
+-- ---- names
+-- an empty name, ".symtab" at 1, ".strtab" at 9, ".shstrtab" at 17 and ".rela" at 27
+unfoldable pub fixed_names : List ℕ
+fixed_names =
+    0 ∷ 46 ∷ 115 ∷ 121 ∷ 109 ∷ 116 ∷ 97 ∷ 98 ∷ 0
+    ∷ 46 ∷ 115 ∷ 116 ∷ 114 ∷ 116 ∷ 97 ∷ 98 ∷ 0
+    ∷ 46 ∷ 115 ∷ 104 ∷ 115 ∷ 116 ∷ 114 ∷ 116 ∷ 97 ∷ 98 ∷ 0
+    ∷ 46 ∷ 114 ∷ 101 ∷ 108 ∷ 97 ∷ 0 ∷ []
+
+-- where these names begin, and where the first name behind them
+abbrev pub symtab_name : ℕ
+symtab_name = 1
+
+abbrev pub strtab_name : ℕ
+strtab_name = 9
+
+abbrev pub shstrtab_name : ℕ
+shstrtab_name = 17
+
+abbrev pub rela_name : ℕ
+rela_name = 27
+
+abbrev pub first_name : ℕ
+first_name = 33
+
+abbrev pub sect_name : Sect → List ℕ
+sect_name s = ended s.name
+
+abbrev pub sym_name : Sym → List ℕ
+sym_name s = ended s.name
+
+-- the names of sections
+unfoldable pub names_of : List Sect → List ℕ
+names_of ss = fixed_names ++ flat_map sect_name ss
+
+-- the names of symbols
+unfoldable pub strings_of : List Sym → List ℕ
+strings_of ss = 0 ∷ flat_map sym_name ss
+
+-- ---- contents and symbols
+abbrev pub sect_content : Sect → List ℕ
+sect_content s = content_of s.body
+
+unfoldable pub contents_of : List Sect → List ℕ
+contents_of ss = flat_map sect_content ss
+
+-- the entries of symbols whose names begin at this place and behind it
+abbrev pub symbols_from : ℕ → List Sym → List ℕ
+symbols_from name [] = []
+symbols_from name (s ∷ ss) = symbol_bytes (sym_entry name s) ++ symbols_from (name + length s.name + 1) ss
+
+-- number 0, and the symbols
+unfoldable pub symbols_of : List Sym → List ℕ
+symbols_of ss = symbol_bytes no_symbol ++ symbols_from 1 ss
+
+-- one more than the number of the last local symbol, for symbols from number k on
+abbrev pub locals_from : ℕ → ℕ → List Sym → ℕ
+locals_from last k [] = last
+locals_from last k (s ∷ ss) = locals_from (if s.binding == 0 then k + 1 else last) (k + 1) ss
+
+abbrev pub locals_end : List Sym → ℕ
+locals_end ss = locals_from 1 1 ss
+
+-- ---- tables of relocations
+-- relocations of one section, one behind another
+pub record Table : Type 0 where
+  pub section : ℕ
+  pub relocs : List Rel
+
+-- a relocation in front of tables: in the first one, where that is of its section, else in a table of its own
+abbrev pub joined : Rel → List Table → List Table
+joined r [] = record { section = r.section; relocs = r ∷ [] } ∷ []
+joined r (t ∷ ts) =
+    if r.section == t.section then record { section = t.section; relocs = r ∷ t.relocs } ∷ ts
+    else record { section = r.section; relocs = r ∷ [] } ∷ t ∷ ts
+
+-- relocations in as few tables as their order allows: one for each section that has some, where their sections rise
+abbrev pub tables_of : List Rel → List Table
+tables_of [] = []
+tables_of (r ∷ rs) = joined r (tables_of rs)
+
+-- how many relocations in front are of this section
+abbrev pub run : ℕ → List Rel → ℕ
+run section [] = 0
+run section (r ∷ rs) = if r.section == section then suc (run section rs) else 0
+
+abbrev pub rel_bytes : Rel → List ℕ
+rel_bytes r = relocation_bytes (rel_entry r)
+
+unfoldable pub relocs_of : List Rel → List ℕ
+relocs_of rs = flat_map rel_bytes rs
+
+-- ---- section headers
+-- the headers of sections whose names and contents begin at these places and behind them
+abbrev pub sect_headers : ℕ → ℕ → List Sect → List ℕ
+sect_headers name at [] = []
+sect_headers name at (s ∷ ss) =
+    header_bytes (sect_header name at s) ++ sect_headers (name + length s.name + 1) (at + length (sect_content s)) ss
+
+-- the header of a table of relocations: which section's, where it begins, and how many there are
+unfoldable pub table_header : ℕ → ℕ → ℕ → ℕ → SectionHeader
+table_header symtab at section count = record {
+  name = rela_name;
+  kind = sht_rela;
+  flags = shf_info_link;
+  offset = at;
+  size = rela_bytes * count;
+  link = symtab;
+  info = section + 1;
+  align = 4;
+  entry_size = rela_bytes;
+}
+
+-- the headers of tables that begin at this place and behind it
+abbrev pub table_headers : ℕ → ℕ → List Table → List ℕ
+table_headers symtab at [] = []
+table_headers symtab at (t ∷ ts) =
+    header_bytes (table_header symtab at t.section (length t.relocs))
+    ++ table_headers symtab (at + rela_bytes * length t.relocs) ts
+
+unfoldable pub null_header : SectionHeader
+null_header = record {
+  name = 0;
+  kind = sht_null;
+  flags = 0;
+  offset = 0;
+  size = 0;
+  link = 0;
+  info = 0;
+  align = 0;
+  entry_size = 0;
+}
+
+-- the header of a table of names
+unfoldable pub strings_header : ℕ → ℕ → ℕ → SectionHeader
+strings_header name at size = record {
+  name = name;
+  kind = sht_strtab;
+  flags = 0;
+  offset = at;
+  size = size;
+  link = 0;
+  info = 0;
+  align = 1;
+  entry_size = 0;
+}
+
+-- the header of the symbol table
+unfoldable pub symtab_header : ℕ → ℕ → ℕ → ℕ → SectionHeader
+symtab_header at size link locals = record {
+  name = symtab_name;
+  kind = sht_symtab;
+  flags = 0;
+  offset = at;
+  size = size;
+  link = link;
+  info = locals;
+  align = 4;
+  entry_size = sym_bytes;
+}
+
+-- ---- places
+-- how many sections a module has
+abbrev pub count_of : Module → ℕ
+count_of m = length m.sections
+
+-- how many section headers its file has
+abbrev pub headers_of : Module → ℕ
+headers_of m = count_of m + length (tables_of m.relocs) + 4
+
+-- where the symbol table begins
+unfoldable pub symbols_at : Module → ℕ
+symbols_at m = ehdr_bytes + length (contents_of m.sections)
+
+-- where the relocations begin
+unfoldable pub relocs_at : Module → ℕ
+relocs_at m = symbols_at m + length (symbols_of m.symbols)
+
+-- where the names of symbols begin
+unfoldable pub strings_at : Module → ℕ
+strings_at m = relocs_at m + length (relocs_of m.relocs)
+
+-- where the names of sections begin
+unfoldable pub names_at : Module → ℕ
+names_at m = strings_at m + length (strings_of m.symbols)
+
+-- where the section headers begin
+unfoldable pub heads_at : Module → ℕ
+heads_at m = names_at m + length (names_of m.sections)
+
+-- ---- the file
+-- its section headers
+unfoldable pub heads_of : Module → List ℕ
+heads_of m =
+    header_bytes null_header
+    ++ (sect_headers first_name ehdr_bytes m.sections
+    ++ (header_bytes
+    (symtab_header (symbols_at m) (length (symbols_of m.symbols)) (count_of m + 2) (locals_end m.symbols))
+    ++ (header_bytes (strings_header strtab_name (strings_at m) (length (strings_of m.symbols)))
+    ++ (header_bytes (strings_header shstrtab_name (names_at m) (length (names_of m.sections)))
+    ++ table_headers (count_of m + 1) (relocs_at m) (tables_of m.relocs)))))
+
+-- the ELF header: where the section headers begin, how many they are, and which one is of the names
+unfoldable pub front_of : ℕ → ℕ → ℕ → List ℕ
+front_of heads count names =
+    0x7f ∷ 0x45 ∷ 0x4c ∷ 0x46 ∷ 1 ∷ 2 ∷ 1 ∷ 0 ∷ 0 ∷ 0 ∷ 0 ∷ 0 ∷ 0 ∷ 0 ∷ 0 ∷ 0
+    ∷ 0 ∷ 1 ∷ 0 ∷ 20 ∷ 0 ∷ 0 ∷ 0 ∷ 1 ∷ 0 ∷ 0 ∷ 0 ∷ 0 ∷ 0 ∷ 0 ∷ 0 ∷ 0
+    ∷ (big_bytes 4 heads
+    ++ 0 ∷ 0 ∷ 0 ∷ 0 ∷ 0 ∷ 52 ∷ 0 ∷ 0 ∷ 0 ∷ 0 ∷ 0 ∷ 40
+    ∷ (big_bytes 2 count ++ big_bytes 2 names))
+
+unfoldable pub file_of : Module → List ℕ
+file_of m =
+    front_of (heads_at m) (headers_of m) (count_of m + 3)
+    ++ (contents_of m.sections
+    ++ (symbols_of m.symbols
+    ++ (relocs_of m.relocs
+    ++ (strings_of m.symbols
+    ++ (names_of m.sections
+    ++ heads_of m)))))

@@ -1,0 +1,42 @@
+-- What the test for a buildable module asks of each part.
+use Rattle.std.specs.Prelude.{◌≢◌, ℕ, ◌+◌, ◌<◌, ◌≤◌, List, length, slice_index_or, All}
+use Rattle.wind_base.specs.Limits.{most_section_headers, most_symbol_entries, most_relocations}
+use Rattle.elf_read.specs.declared.module.SymPlace.{SymPlace}
+use Rattle.elf_read.specs.declared.module.SymPlace.TheVariants.{Elsewhere}
+use Rattle.elf_read.specs.declared.module.Sect.{Sect}
+use Rattle.elf_read.specs.declared.module.Sym.{Sym}
+use Rattle.elf_read.specs.declared.module.Rel.{Rel}
+use Rattle.elf_read.specs.declared.module.Module.{Module}
+use Rattle.elf_read.specs.Tables.{width}
+use Rattle.elf_read.specs.Modules.{IsSect, IsPlaced, IsSym, HoldsBytes}
+use Rattle.elf_build.specs.Buildable.{IsHere, SectFits, SymFits, RelFits, Rises}
+use Rattle.elf_build.specs.File.{headers_of}
+
+abbrev pub CanSect : Sect → Type 0
+CanSect s = IsSect s × SectFits s
+
+abbrev pub CanPlace : List Sect → SymPlace → ℕ → ℕ → Type 0
+CanPlace ss place value size = IsPlaced ss place value size × (place ≢ Elsewhere)
+
+abbrev pub CanSym : List Sect → Sym → Type 0
+CanSym ss s = IsSym ss s × (IsHere s × SymFits s)
+
+-- of a relocation's symbol no more is asked here, since all symbols are
+pub record CanRel (ss : List Sect) (symbols : ℕ) (r : Rel) : Type 0 where
+  pub section : r.section < length ss
+  pub inside : (d : Sect) → HoldsBytes (slice_index_or ss r.section d).body (r.offset + width r.kind)
+  pub symbol : r.symbol ≤ symbols
+  pub fits : RelFits r
+
+-- the counts of a module are within their limits
+pub record IsSmall (m : Module) : Type 0 where
+  pub headers : headers_of m ≤ most_section_headers
+  pub symbols : length m.symbols < most_symbol_entries
+  pub relocs : length m.relocs ≤ most_relocations
+
+-- all parts of a module can be written
+pub record CanParts (m : Module) : Type 0 where
+  pub sections : All CanSect m.sections
+  pub symbols : All (CanSym m.sections) m.symbols
+  pub relocs : All (CanRel m.sections (length m.symbols)) m.relocs
+  pub rising : Rises 0 m.relocs

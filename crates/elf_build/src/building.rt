@@ -1,0 +1,119 @@
+//! The file of a module.
+
+ghost use Rattle.std.specs.Prelude.{◌≡◌, ◌+◌, ◌*◌, ◌++◌, ◌^◌, ◌<◌, ◌≤◌, [], length, IfOk};
+ghost use Rattle.elf_read.specs.Contents.{ModuleOf};
+ghost use Rattle.elf_build.specs.Buildable.{Buildable};
+ghost use Rattle.elf_build.specs.File.{heads_of, file_of};
+ghost use Rattle.elf_build.specs.Writable.{Writable, layout_of, parts_of};
+
+use crate::groups::table_count;
+use crate::headers::{
+    SHSTRTAB_NAME, STRTAB_NAME, locals_end, null_header, put_front, put_sect_headers,
+    put_table_headers, strings_header, symtab_header,
+};
+use crate::put::{put_bytes, put_header};
+use crate::tables::{put_contents, put_names, put_relocs, put_strings, put_symbols};
+use elf_read::Module;
+use elf_read::standard::EHDR_BYTES;
+use std::alloc::{AllocError, Global};
+use wind_base::NoMemory;
+
+// Where the parts of a file begin, and where the section headers do.
+#[derive(Clone, Copy, Drop)]
+struct Layout {
+    symbols: u32,
+    relocs: u32,
+    strings: u32,
+    names: u32,
+    heads: u32,
+}
+
+// The end of the file so far, its header included.
+fn end_of(parts: &[u8]) -> u32
+    requires { 52 + length parts.now < 2 ^ 32 }
+    ensures { result ≡ 52 + length parts.now }
+{
+    (EHDR_BYTES + parts.len()) as u32
+}
+
+// The parts between the ELF header and the section headers.
+#[tactic(auto, unfolding(crate::specs::Writable::parts_of, crate::specs::Writable::layout_of, crate::specs::File::symbols_at, crate::specs::File::relocs_at, crate::specs::File::strings_at, crate::specs::File::names_at, crate::specs::File::heads_at))]
+fn put_parts(parts: &mut Vec<u8>, m: &Module) -> Result<Layout, AllocError>
+    requires empty { parts.old.items ≡ [] }
+    requires good { Writable m.now }
+    ensures { IfOk result (λ l. (parts.new.items ≡ parts_of m.now) × (l ≡ layout_of m.now)) }
+{
+    put_contents(parts, m.sections.as_slice())?;
+    let symbols = end_of(parts);
+    put_symbols(parts, m.symbols.as_slice())?;
+    let relocs = end_of(parts);
+    put_relocs(parts, m.relocs.as_slice())?;
+    let strings = end_of(parts);
+    put_strings(parts, m.symbols.as_slice())?;
+    let names = end_of(parts);
+    put_names(parts, m.sections.as_slice())?;
+    Ok(Layout {
+        symbols,
+        relocs,
+        strings,
+        names,
+        heads: end_of(parts),
+    })
+}
+
+// The section headers.
+#[tactic(auto, unfolding(crate::specs::Writable::layout_of, crate::specs::File::heads_of, crate::specs::File::relocs_at, crate::specs::File::strings_at, crate::specs::File::names_at, crate::specs::File::heads_at), using(crate::proofs::Joins::seven_heads))]
+fn put_heads(out: &mut Vec<u8>, m: &Module, at: Layout) -> Result<(), AllocError>
+    requires good { Writable m.now }
+    requires places { at ≡ layout_of m.now }
+    ensures { IfOk result (λ u. out.new.items ≡ out.old.items ++ heads_of m.now) }
+{
+    let count = m.sections.as_slice().len() as u32;
+    let locals = locals_end(m.symbols.as_slice());
+    put_header(out, null_header())?;
+    put_sect_headers(out, m.sections.as_slice())?;
+    put_header(
+        out,
+        symtab_header(at.symbols, at.relocs - at.symbols, count + 2, locals),
+    )?;
+    put_header(
+        out,
+        strings_header(STRTAB_NAME, at.strings, at.names - at.strings),
+    )?;
+    put_header(
+        out,
+        strings_header(SHSTRTAB_NAME, at.names, at.heads - at.names),
+    )?;
+    put_table_headers(out, count + 1, at.relocs, m.relocs.as_slice())
+}
+
+// The whole file.
+#[tactic(auto, unfolding(crate::specs::Writable::layout_of), using(crate::proofs::Parts::joined))]
+fn put_file(alloc: Global, m: &Module) -> Result<Vec<u8>, AllocError>
+    requires { Writable m.now }
+    ensures { IfOk result (λ v. v.items ≡ file_of m.now) }
+{
+    let count = m.sections.as_slice().len() as u16;
+    let tables = table_count(m.relocs.as_slice()) as u16;
+    let mut parts = Vec::new(alloc);
+    let at = put_parts(&mut parts, m)?;
+    let mut out = Vec::new(alloc);
+    put_front(&mut out, at.heads, count + tables + 4, count + 3)?;
+    put_bytes(&mut out, &parts)?;
+    put_heads(&mut out, m, at)?;
+    Ok(out)
+}
+
+/// The file that holds this module: ELF header, contents, symbols, relocations, names, and the section headers
+/// last. `is_buildable` is the test that a module has one.
+#[tactic(auto, using(crate::proofs::Parts::writable))]
+pub fn build(alloc: Global, m: &Module) -> Result<Vec<u8>, NoMemory>
+    requires { Buildable m.now }
+    ensures file { IfOk result (λ v. v.items ≡ file_of m.now) }
+    ensures read_back { IfOk result (λ v. ModuleOf v.items m.now) }
+{
+    let Ok(file) = put_file(alloc, m) else {
+        return Err(NoMemory);
+    };
+    Ok(file)
+}
