@@ -11,4 +11,6 @@ pub record TableLaw : Type 0 where
   -- each instruction has its form
   pub own : (row : Row) → (form_of row).row ≡ row
   -- no word meets two forms
-  pub one : (j k w : ℕ) → j < length table → k < length table → meets (form_at j).pieces w ≡ true → meets (form_at k).pieces w ≡ true → j ≡ k
+  pub one :
+      (j k w : ℕ) → j < length table → k < length table →
+      meets (form_at j).pieces w ≡ true → meets (form_at k).pieces w ≡ true → j ≡ k

@@ -1,5 +1,6 @@
 pub mod Words
 pub mod Rules
+pub mod Pieces
 pub mod Table
 pub mod Rows
 pub mod Insn

@@ -1,13 +1,14 @@
--- The instruction words: one line an instruction, as the Power ISA, Book I, gives its form. Bits are counted from the most significant, 0.
+-- The instruction words: one line an instruction, as the Power ISA, Book I, gives its form, from the most significant bit.
 use Rattle.std.specs.Prelude.{ℕ, List, [], ◌∷◌, get_or}
 use denote.Enum.Declared.{tag_of}
 use Rattle.ppc_word.specs.declared.row.Row.{Row}
 use Rattle.ppc_word.specs.declared.row.Row.TheVariants.{Twi, Mulli, Subfic, Cmpli, Cmpi, Addic, AddicDot, Addi, Addis, Bc, Sc, B, Rlwimi, Rlwinm, Rlwnm, Ori, Oris, Xori, Xoris, Andi, Andis, Lwz, Lwzu, Lbz, Lbzu, Stw, Stwu, Stb, Stbu, Lhz, Lhzu, Lha, Lhau, Sth, Sthu, Lmw, Stmw, Mcrf, Bclr, Bcctr, Crnor, Crandc, Crxor, Crnand, Crand, Creqv, Crorc, Cror, Isync, Cmp, Cmpl, Tw, Subfc, Subf, Addc, Add, Subfe, Adde, Subfze, Addze, Subfme, Addme, Neg, Mulhwu, Mulhw, Mullw, Divwu, Divw, And, Andc, Or, Orc, Xor, Eqv, Nor, Nand, Slw, Srw, Sraw, Srawi, Cntlzw, Extsb, Extsh, Mfcr, Mtcrf, Mcrxr, Mfspr, Mtspr, Lwzx, Lbzx, Lhzx, Lhax, Lwzux, Lbzux, Lhzux, Lhaux, Stwx, Stbx, Sthx, Stwux, Stbux, Sthux, Lwbrx, Lhbrx, Stwbrx, Sthbrx, Lwarx, Stwcx, Sync, Eieio}
 use Rattle.ppc_word.specs.contracts.row.Row.{the_type}
 use Rattle.ppc_word.specs.declared.piece.Piece.{Piece}
-use Rattle.ppc_word.specs.declared.piece.Piece.TheVariants.{Fixed, Field}
+use Rattle.ppc_word.specs.declared.piece.Piece.TheVariants.{Fixed}
 use Rattle.ppc_word.specs.declared.rule.Rule.{Rule}
 use Rattle.ppc_word.specs.declared.rule.Rule.TheVariants.{Any, LoadUpdate, StoreUpdate, LoadMultiple, SpecialRegister, NoCount}
+use Rattle.ppc_word.specs.Pieces.{op, xo9, xo, zeros, rt, rs, ra, rb, to, bo, bi, bt, ba, bb, sh, mb, me, bf, bfa, si, ui, d, bd, li, fxm, spr, aa, lk, oe, rc}
 
 -- the words of an instruction: what they meet beside their pieces, and their pieces from the most significant bit
 pub record Form : Type 0 where
@@ -18,107 +19,7 @@ pub record Form : Type 0 where
 abbrev pub form : Row → Rule → List Piece → Form
 form row rule pieces = record { row = row; rule = rule; pieces = pieces }
 
--- the opcode, the extended opcode of 9 and of 10 bits, and bits that have to be 0
-abbrev pub op : ℕ → Piece
-op n = Fixed 6 n
-
-abbrev pub xo9 : ℕ → Piece
-xo9 n = Fixed 9 n
-
-abbrev pub xo : ℕ → Piece
-xo n = Fixed 10 n
-
-abbrev pub zeros : ℕ → Piece
-zeros w = Fixed w 0
-
--- registers: the target, the source, and two operands
-abbrev pub rt : Piece
-rt = Field 5
-
-abbrev pub rs : Piece
-rs = Field 5
-
-abbrev pub ra : Piece
-ra = Field 5
-
-abbrev pub rb : Piece
-rb = Field 5
-
--- the conditions of a trap and of a branch, and the bit that a branch tests
-abbrev pub to : Piece
-to = Field 5
-
-abbrev pub bo : Piece
-bo = Field 5
-
-abbrev pub bi : Piece
-bi = Field 5
-
--- bits of the condition register: the target and two operands
-abbrev pub bt : Piece
-bt = Field 5
-
-abbrev pub ba : Piece
-ba = Field 5
-
-abbrev pub bb : Piece
-bb = Field 5
-
--- a shift, and where a mask begins and ends
-abbrev pub sh : Piece
-sh = Field 5
-
-abbrev pub mb : Piece
-mb = Field 5
-
-abbrev pub me : Piece
-me = Field 5
-
--- fields of the condition register: the target and the source
-abbrev pub bf : Piece
-bf = Field 3
-
-abbrev pub bfa : Piece
-bfa = Field 3
-
--- immediate operands, signed and unsigned, and a displacement
-abbrev pub si : Piece
-si = Field 16
-
-abbrev pub ui : Piece
-ui = Field 16
-
-abbrev pub d : Piece
-d = Field 16
-
--- displacements of branches, without their two low bits
-abbrev pub bd : Piece
-bd = Field 14
-
-abbrev pub li : Piece
-li = Field 24
-
--- the mask of fields of the condition register, and the number of a special register, its lower half first
-abbrev pub fxm : Piece
-fxm = Field 8
-
-abbrev pub spr : Piece
-spr = Field 10
-
--- single bits: an absolute address, a link, overflow enabled, and the result recorded
-abbrev pub aa : Piece
-aa = Field 1
-
-abbrev pub lk : Piece
-lk = Field 1
-
-abbrev pub oe : Piece
-oe = Field 1
-
-abbrev pub rc : Piece
-rc = Field 1
-
--- the table
+-- the table: the instruction, what its words meet beside their pieces, and the pieces
 unfoldable pub table : List Form
 table =
     form Twi Any (op 3 ∷ to ∷ ra ∷ si ∷ []) ∷
