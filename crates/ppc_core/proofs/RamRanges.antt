@@ -1,8 +1,8 @@
 -- Ranges of bytes that are all RAM.
-use Rattle.std.proofs.Common.{◌≡◌, refl, ℕ, zero, suc, ◌+◌, ◌<◌, ◌≤◌, Bool, true, false, ◌&&◌, ◌||◌, nat_eq, nat_le, nat_lt, sym, subst, ◌⊎◌, inl, inr, arith}
+use Rattle.std.proofs.Common.{◌≡◌, refl, ℕ, zero, suc, ◌+◌, ◌*◌, ◌<◌, ◌≤◌, Bool, true, false, ◌&&◌, ◌||◌, nat_eq, nat_le, nat_lt, sym, subst, ◌⊎◌, inl, inr, arith}
 use Rattle.std.proofs.lemmas.Bool.Decides.{nat_tests}
 use Rattle.std.specs.Cmp.Derive.{both_true}
-use Rattle.ppc_core.specs.Buses.{Meaning, all_ram}
+use Rattle.ppc_core.specs.Buses.{Meaning, all_ram, IsLawful}
 
 left : (s t : Bool) → (s && t) ≡ true → s ≡ true
 left true t h = refl
@@ -50,3 +50,7 @@ module _ {B : Type 0} (m : Meaning B) (b : B) where
   pub all_ram-below : (size at n : ℕ) → ((a : ℕ) → m.ram b a ≡ nat_lt a size) → all_ram m b at n ≡ (nat_eq n 0 || nat_le (at + n) size)
   all_ram-below size at zero is = refl
   all_ram-below size at (suc n) is = rw (all_ram-below size at n is, is (at + n)) (next_below at n size)
+
+-- a word in such a range is reached
+pub word_in_ram : {B : Type 0} (m : Meaning B) → IsLawful m → (b : B) (at k count : ℕ) → all_ram m b at (4 * count) ≡ true → k < count → m.faults b 4 (at + 4 * k) ≡ false
+word_in_ram m law b at k count h lt = law.ram_never_faults b 4 (at + 4 * k) (omega arith) (all_ram-within m b at (4 * count) (4 * k) 4 (omega arith) h)
