@@ -15,7 +15,7 @@ use wind_base::Regs;
 /// A trap, or the next instruction.
 #[inline(always)]
 fn trap_if<B: Bus>(trapped: bool, regs: &mut Regs, bus: &mut B) -> Result<(), Trap>
-    ensures { Leaves (trap_where trapped regs.old bus.old) regs.old bus.old regs.new bus.new result }
+    ensures { Leaves (trap_where trapped regs.old (B.held bus.old)) regs.old (B.held bus.old) regs.new (B.held bus.new) result }
 {
     if trapped {
         return Err(Trap::TrapInsn);
@@ -28,7 +28,7 @@ fn trap_if<B: Bus>(trapped: bool, regs: &mut Regs, bus: &mut B) -> Result<(), Tr
 #[tactic(auto, using(crate::proofs::Bounds::or_of_bits), unfolding(crate::specs::Instructions::effect_of))]
 #[inline(always)]
 fn run<B: Bus>(row: Row, regs: &mut Regs, word: u32, bus: &mut B) -> Result<(), Trap>
-    ensures { Leaves (effect_of B.meaning row regs.old word bus.old) regs.old bus.old regs.new bus.new result }
+    ensures { Leaves (effect_of B.meaning row regs.old word (B.held bus.old)) regs.old (B.held bus.old) regs.new (B.held bus.new) result }
 {
     match row {
         // Branches and the system call.
@@ -233,7 +233,7 @@ fn run<B: Bus>(row: Row, regs: &mut Regs, word: u32, bus: &mut B) -> Result<(), 
 /// One instruction: what the row of the word does, or Illegal where it has none. A trap changes nothing.
 #[tactic(auto, unfolding(crate::specs::Instructions::exec_of))]
 pub fn exec<B: Bus>(regs: &mut Regs, word: u32, bus: &mut B) -> Result<(), Trap>
-    ensures { Leaves (exec_of B.meaning regs.old word bus.old) regs.old bus.old regs.new bus.new result }
+    ensures { Leaves (exec_of B.meaning regs.old word (B.held bus.old)) regs.old (B.held bus.old) regs.new (B.held bus.new) result }
 {
     let Some(row) = row_for(word) else {
         return Err(Trap::Illegal);

@@ -13,10 +13,10 @@ use wind_base::Regs;
 /// The registers from `target` on take `count` words.
 fn load_words<B: Bus>(target: u32, at: u32, count: u32, regs: &mut Regs, bus: &mut B)
     requires registers { target + count ≤ 32 }
-    requires ram { all_ram B.meaning bus.old at (4 * count) ≡ true }
+    requires ram { all_ram B.meaning (B.held bus.old) at (4 * count) ≡ true }
     requires ends { at + 4 * count ≤ 2 ^ 32 }
-    ensures regs { regs.new ≡ multiple.with_words B.meaning regs.old bus.old target at count }
-    ensures bus { bus.new ≡ multiple.words_loaded B.meaning bus.old at count }
+    ensures regs { regs.new ≡ multiple.with_words B.meaning regs.old (B.held bus.old) target at count }
+    ensures bus { B.held bus.new ≡ multiple.words_loaded B.meaning (B.held bus.old) at count }
 {
     for k in 0..count {
         let Ok(value) = bus.load32(at + 4 * k) else {
@@ -29,9 +29,9 @@ fn load_words<B: Bus>(target: u32, at: u32, count: u32, regs: &mut Regs, bus: &m
 /// Memory takes `count` registers from `source` on.
 fn store_words<B: Bus>(source: u32, at: u32, count: u32, regs: &Regs, bus: &mut B)
     requires registers { source + count ≤ 32 }
-    requires ram { all_ram B.meaning bus.old at (4 * count) ≡ true }
+    requires ram { all_ram B.meaning (B.held bus.old) at (4 * count) ≡ true }
     requires ends { at + 4 * count ≤ 2 ^ 32 }
-    ensures { bus.new ≡ multiple.words_stored B.meaning regs.now bus.old source at count }
+    ensures { B.held bus.new ≡ multiple.words_stored B.meaning regs.now (B.held bus.old) source at count }
 {
     for k in 0..count {
         let value = registers::read(regs, source + k);
@@ -44,7 +44,7 @@ fn store_words<B: Bus>(source: u32, at: u32, count: u32, regs: &Regs, bus: &mut 
 /// The registers RT to 31 take the words from an address on.
 #[tactic(auto, unfolding(crate::specs::Multiples::load_multiple_of))]
 pub fn load_multiple<B: Bus>(at: u32, regs: &mut Regs, word: u32, bus: &mut B) -> Result<(), Trap>
-    ensures { Leaves (multiple.load_multiple_of B.meaning regs.old word bus.old at) regs.old bus.old regs.new bus.new result }
+    ensures { Leaves (multiple.load_multiple_of B.meaning regs.old word (B.held bus.old) at) regs.old (B.held bus.old) regs.new (B.held bus.new) result }
 {
     let target = fields::rt(word);
     if at % 4 != 0 {
@@ -61,7 +61,7 @@ pub fn load_multiple<B: Bus>(at: u32, regs: &mut Regs, word: u32, bus: &mut B) -
 /// The registers RS to 31 go to the words from an address on.
 #[tactic(auto, unfolding(crate::specs::Multiples::store_multiple_of))]
 pub fn store_multiple<B: Bus>(at: u32, regs: &mut Regs, word: u32, bus: &mut B) -> Result<(), Trap>
-    ensures { Leaves (multiple.store_multiple_of B.meaning regs.old word bus.old at) regs.old bus.old regs.new bus.new result }
+    ensures { Leaves (multiple.store_multiple_of B.meaning regs.old word (B.held bus.old) at) regs.old (B.held bus.old) regs.new (B.held bus.new) result }
 {
     let source = fields::rt(word);
     if at % 4 != 0 {
@@ -78,7 +78,7 @@ pub fn store_multiple<B: Bus>(at: u32, regs: &mut Regs, word: u32, bus: &mut B) 
 /// RT takes the word at an address, which is reserved from then on.
 #[tactic(auto, unfolding(crate::specs::Multiples::load_and_reserve_of))]
 pub fn load_and_reserve<B: Bus>(at: u32, regs: &mut Regs, word: u32, bus: &mut B) -> Result<(), Trap>
-    ensures { Leaves (multiple.load_and_reserve_of B.meaning regs.old word bus.old at) regs.old bus.old regs.new bus.new result }
+    ensures { Leaves (multiple.load_and_reserve_of B.meaning regs.old word (B.held bus.old) at) regs.old (B.held bus.old) regs.new (B.held bus.new) result }
 {
     if at % 4 != 0 {
         return Err(Trap::Align);
@@ -108,7 +108,7 @@ fn reserves(reserve: Option<u32>, at: u32) -> bool
 /// (RS) goes to an address exactly where that is reserved, and nothing is reserved then.
 #[tactic(auto, unfolding(crate::specs::Multiples::store_conditional_of))]
 pub fn store_conditional<B: Bus>(at: u32, regs: &mut Regs, word: u32, bus: &mut B) -> Result<(), Trap>
-    ensures { Leaves (multiple.store_conditional_of B.meaning regs.old word bus.old at) regs.old bus.old regs.new bus.new result }
+    ensures { Leaves (multiple.store_conditional_of B.meaning regs.old word (B.held bus.old) at) regs.old (B.held bus.old) regs.new (B.held bus.new) result }
 {
     if at % 4 != 0 {
         return Err(Trap::Align);

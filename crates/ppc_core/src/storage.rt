@@ -74,7 +74,7 @@ fn set_base(base: Base, at: u32, regs: &mut Regs, word: u32)
 
 #[inline(always)]
 fn read_datum<B: Bus>(load: Load, at: u32, bus: &mut B) -> Result<u32, Fault>
-    ensures { Loads B.meaning (storage.load_width load) at bus.old bus.new result }
+    ensures { Loads B.meaning (storage.load_width load) at (B.held bus.old) (B.held bus.new) result }
 {
     match load {
         Load::Byte => bus.load8(at),
@@ -88,7 +88,7 @@ fn read_datum<B: Bus>(load: Load, at: u32, bus: &mut B) -> Result<u32, Fault>
 
 #[inline(always)]
 fn write_datum<B: Bus>(store: Store, at: u32, value: u32, bus: &mut B) -> Result<(), Fault>
-    ensures { Stores B.meaning (storage.store_width store) at value bus.old bus.new result }
+    ensures { Stores B.meaning (storage.store_width store) at value (B.held bus.old) (B.held bus.new) result }
 {
     match store {
         Store::Byte => bus.store8(at, value),
@@ -149,7 +149,7 @@ fn given_of(store: Store, value: u32) -> u32
 #[tactic(auto, unfolding(crate::specs::Storage::load_of))]
 #[inline(always)]
 pub fn run_load<B: Bus>(load: Load, base: Base, at: u32, regs: &mut Regs, word: u32, bus: &mut B) -> Result<(), Trap>
-    ensures { Leaves (storage.load_of B.meaning load base regs.old word bus.old at) regs.old bus.old regs.new bus.new result }
+    ensures { Leaves (storage.load_of B.meaning load base regs.old word (B.held bus.old) at) regs.old (B.held bus.old) regs.new (B.held bus.new) result }
 {
     let Ok(datum) = read_datum(load, at, bus) else {
         return Err(Trap::Access);
@@ -164,7 +164,7 @@ pub fn run_load<B: Bus>(load: Load, base: Base, at: u32, regs: &mut Regs, word: 
 #[tactic(auto, unfolding(crate::specs::Storage::store_of))]
 #[inline(always)]
 pub fn run_store<B: Bus>(store: Store, base: Base, at: u32, regs: &mut Regs, word: u32, bus: &mut B) -> Result<(), Trap>
-    ensures { Leaves (storage.store_of B.meaning store base regs.old word bus.old at) regs.old bus.old regs.new bus.new result }
+    ensures { Leaves (storage.store_of B.meaning store base regs.old word (B.held bus.old) at) regs.old (B.held bus.old) regs.new (B.held bus.new) result }
 {
     let value = given_of(store, registers::in_rs(regs, word));
     let Ok(()) = write_datum(store, at, value, bus) else {

@@ -5,7 +5,7 @@ use Rattle.ppc_core.proofs.multiple.load_words.Given as goal
 
 abbrev pub invariant-loop-k : goal.invariant-loop-k
 invariant-loop-k g l = record {
-  regs : l.regs ≡ with_words g.B.Bus.meaning l.fn.regs l.fn.bus l.target l.at l.k;
-  bus : l.bus ≡ words_loaded g.B.Bus.meaning l.fn.bus l.at l.k;
-  ram : all_ram g.B.Bus.meaning l.bus l.at (4 * l.count) ≡ true;
+  regs : l.regs ≡ with_words g.B.Bus.meaning l.fn.regs (g.B.Bus.held l.fn.bus) l.target l.at l.k;
+  bus : g.B.Bus.held l.bus ≡ words_loaded g.B.Bus.meaning (g.B.Bus.held l.fn.bus) l.at l.k;
+  ram : all_ram g.B.Bus.meaning (g.B.Bus.held l.bus) l.at (4 * l.count) ≡ true;
 }
