@@ -1,5 +1,5 @@
 -- Sums, products and quotients (Book I 3.3.8).
-use Rattle.std.specs.Prelude.{ℕ, ◌+◌, ◌-◌, ◌*◌, ◌/◌, ◌%◌, ◌^◌, Bool, not, ◌==◌, ◌&&◌, ◌||◌, if◌then◌else◌, ℤ, pos, ◌+ℤ◌, ◌*ℤ◌, int_div}
+use Rattle.std.specs.Prelude.{ℕ, ◌+◌, ◌-◌, ◌*◌, ◌/◌, ◌%◌, ◌^◌, Bool, not, ◌==◌, ◌&&◌, ◌||◌, if◌then◌else◌, pos, ◌+ℤ◌, ◌*ℤ◌, int_div}
 use Rattle.std.specs.Int.{cast_unsigned, w32, w64}
 use Rattle.wind_base.specs.declared.regs.Regs.{Regs}
 use Rattle.ppc_core.specs.Words.{signed, fits}
@@ -33,12 +33,15 @@ with_sum_carrying r w x y c = with_sum (with_ca r (carry x y c)) w x y c
 abbrev pub signed_product : ℕ → ℕ → ℕ
 signed_product x y = cast_unsigned w64 (signed x *ℤ signed y)
 
--- the halves of a number of 64 bits
-abbrev pub high_word : ℕ → ℕ
-high_word n = n / 2 ^ 32
+-- its halves, and the high half of the product of two words as they are
+abbrev pub low_signed : ℕ → ℕ → ℕ
+low_signed x y = signed_product x y % 2 ^ 32
 
-abbrev pub low_word : ℕ → ℕ
-low_word n = n % 2 ^ 32
+abbrev pub high_signed : ℕ → ℕ → ℕ
+high_signed x y = signed_product x y / 2 ^ 32
+
+abbrev pub high_unsigned : ℕ → ℕ → ℕ
+high_unsigned x y = x * y / 2 ^ 32
 
 -- whether the product of two words read as signed does not fit a word
 abbrev pub product_overflows : ℕ → ℕ → Bool

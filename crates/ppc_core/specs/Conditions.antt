@@ -1,5 +1,5 @@
 -- Comparisons, traps, the condition register and special registers (Book I 2.4.3, 2.4.4, 3.3.9, 3.3.10, 3.3.13).
-use Rattle.std.specs.Prelude.{ℕ, zero, suc, ◌+◌, ◌-◌, ◌*◌, ◌/◌, ◌^◌, Bool, ◌==◌, ◌&&◌, ◌||◌, nat_lt, if◌then◌else◌, int_lt}
+use Rattle.std.specs.Prelude.{ℕ, zero, suc, ◌+◌, ◌-◌, ◌*◌, ◌^◌, Bool, ◌==◌, ◌&&◌, ◌||◌, nat_lt, if◌then◌else◌, int_lt}
 use Rattle.wind_base.specs.declared.regs.Regs.{Regs}
 use Rattle.ppc_core.specs.Words.{bits, with_bits, signed}
 use Rattle.ppc_core.specs.Fields.{rt, ra, rb, bf, fxm}

@@ -1,6 +1,6 @@
 -- What each instruction does: one equation a row, in the order of the books.
-use Rattle.std.specs.Prelude.{ℕ, zero, suc, ◌+◌, ◌-◌, ◌*◌, ◌/◌, ◌%◌, ◌^◌, Bool, true, false, cond, not, ◌==◌, ◌||◌, nat_eq, if◌then◌else◌, Option, Some, None, bit_and, bit_or, bit_xor}
-use Rattle.std.specs.Int.{rotate_left, leading_zeros, w32}
+use Rattle.std.specs.Prelude.{ℕ, ◌-◌, ◌*◌, ◌%◌, ◌^◌, Bool, true, ◌==◌, if◌then◌else◌, Option, Some, None, bit_and, bit_or, bit_xor}
+use Rattle.std.specs.Int.{leading_zeros, w32}
 use Rattle.ppc_word.specs.declared.row.Row.{Row}
 use Rattle.ppc_word.specs.declared.row.Row.TheVariants as row
 use Rattle.ppc_word.specs.Rows.{row_of}
@@ -8,14 +8,14 @@ use Rattle.wind_base.specs.declared.regs.Regs.{Regs}
 use Rattle.ppc_core.specs.declared.trap.Trap.TheVariants as trap
 use Rattle.ppc_core.specs.declared.storage.Load.TheVariants as load
 use Rattle.ppc_core.specs.declared.storage.Store.TheVariants as store
-use Rattle.ppc_core.specs.declared.storage.Base.TheVariants as base
+use Rattle.ppc_core.specs.declared.storage.Address.TheVariants as address
 use Rattle.ppc_core.specs.Buses.{Meaning}
 use Rattle.ppc_core.specs.Outcomes.{Outcome, Done, Trapped}
 use Rattle.ppc_core.specs.Words.{bits, complement, sign_extended}
 use Rattle.ppc_core.specs.Fields.{rt, ra, rb, si, ui, high_ui, bf, bfa, spr, li, bd}
-use Rattle.ppc_core.specs.Registers.{in_rs, in_ra, in_rb, in_ra_or_0, ca, with_gpr, with_cr0, with_cr_field, with_result, with_checked_result, next}
-use Rattle.ppc_core.specs.Arithmetic.{sum, with_carrying, with_sum, with_sum_carrying, signed_product, high_word, low_word, product_overflows, quotient, lacks_quotient, signed_quotient}
-use Rattle.ppc_core.specs.Logic.{mask_of, distance, shifted_left, shifted_right, with_signed_shift}
+use Rattle.ppc_core.specs.Registers.{in_rs, in_ra, in_rb, in_ra_or_0, ca, with_gpr, with_cr0, with_cr_field, with_recorded, with_result, with_checked_result, next}
+use Rattle.ppc_core.specs.Arithmetic.{sum, with_carrying, with_sum, with_sum_carrying, low_signed, high_signed, high_unsigned, product_overflows, quotient, lacks_quotient, signed_quotient}
+use Rattle.ppc_core.specs.Logic.{mask_of, rotated, merged, distance, shifted_left, shifted_right, with_signed_shift}
 use Rattle.ppc_core.specs.Conditions.{with_signed_order, with_order, traps, in_ba, in_bb, with_bt, turned, cr_field, flags, moved_fields, special, with_special}
 use Rattle.ppc_core.specs.Branches.{from_here, with_branch, with_test_and_branch}
 use Rattle.ppc_core.specs.Storage.{offset, indexed, load_of, store_of}
@@ -48,40 +48,40 @@ module _ {B : Type 0} (m : Meaning B) where
   effect_of row.Crorc r w b = done (with_bt r w (bit_or (in_ba r w) (turned (in_bb r w)))) b
   effect_of row.Mcrf r w b = done (with_cr_field r (bf w) (cr_field r (bfa w))) b
   -- loads (3.3.2)
-  effect_of row.Lbz r w b = load_of m load.Byte base.Kept r w b (offset r w)
-  effect_of row.Lbzx r w b = load_of m load.Byte base.Kept r w b (indexed r w)
-  effect_of row.Lbzu r w b = load_of m load.Byte base.Updated r w b (offset r w)
-  effect_of row.Lbzux r w b = load_of m load.Byte base.Updated r w b (indexed r w)
-  effect_of row.Lhz r w b = load_of m load.Half base.Kept r w b (offset r w)
-  effect_of row.Lhzx r w b = load_of m load.Half base.Kept r w b (indexed r w)
-  effect_of row.Lhzu r w b = load_of m load.Half base.Updated r w b (offset r w)
-  effect_of row.Lhzux r w b = load_of m load.Half base.Updated r w b (indexed r w)
-  effect_of row.Lha r w b = load_of m load.HalfSigned base.Kept r w b (offset r w)
-  effect_of row.Lhax r w b = load_of m load.HalfSigned base.Kept r w b (indexed r w)
-  effect_of row.Lhau r w b = load_of m load.HalfSigned base.Updated r w b (offset r w)
-  effect_of row.Lhaux r w b = load_of m load.HalfSigned base.Updated r w b (indexed r w)
-  effect_of row.Lwz r w b = load_of m load.Word base.Kept r w b (offset r w)
-  effect_of row.Lwzx r w b = load_of m load.Word base.Kept r w b (indexed r w)
-  effect_of row.Lwzu r w b = load_of m load.Word base.Updated r w b (offset r w)
-  effect_of row.Lwzux r w b = load_of m load.Word base.Updated r w b (indexed r w)
+  effect_of row.Lbz r w b = load_of m load.Byte address.Offset r w b
+  effect_of row.Lbzx r w b = load_of m load.Byte address.Indexed r w b
+  effect_of row.Lbzu r w b = load_of m load.Byte address.OffsetUpdate r w b
+  effect_of row.Lbzux r w b = load_of m load.Byte address.IndexedUpdate r w b
+  effect_of row.Lhz r w b = load_of m load.Half address.Offset r w b
+  effect_of row.Lhzx r w b = load_of m load.Half address.Indexed r w b
+  effect_of row.Lhzu r w b = load_of m load.Half address.OffsetUpdate r w b
+  effect_of row.Lhzux r w b = load_of m load.Half address.IndexedUpdate r w b
+  effect_of row.Lha r w b = load_of m load.HalfSigned address.Offset r w b
+  effect_of row.Lhax r w b = load_of m load.HalfSigned address.Indexed r w b
+  effect_of row.Lhau r w b = load_of m load.HalfSigned address.OffsetUpdate r w b
+  effect_of row.Lhaux r w b = load_of m load.HalfSigned address.IndexedUpdate r w b
+  effect_of row.Lwz r w b = load_of m load.Word address.Offset r w b
+  effect_of row.Lwzx r w b = load_of m load.Word address.Indexed r w b
+  effect_of row.Lwzu r w b = load_of m load.Word address.OffsetUpdate r w b
+  effect_of row.Lwzux r w b = load_of m load.Word address.IndexedUpdate r w b
   -- stores (3.3.3)
-  effect_of row.Stb r w b = store_of m store.Byte base.Kept r w b (offset r w)
-  effect_of row.Stbx r w b = store_of m store.Byte base.Kept r w b (indexed r w)
-  effect_of row.Stbu r w b = store_of m store.Byte base.Updated r w b (offset r w)
-  effect_of row.Stbux r w b = store_of m store.Byte base.Updated r w b (indexed r w)
-  effect_of row.Sth r w b = store_of m store.Half base.Kept r w b (offset r w)
-  effect_of row.Sthx r w b = store_of m store.Half base.Kept r w b (indexed r w)
-  effect_of row.Sthu r w b = store_of m store.Half base.Updated r w b (offset r w)
-  effect_of row.Sthux r w b = store_of m store.Half base.Updated r w b (indexed r w)
-  effect_of row.Stw r w b = store_of m store.Word base.Kept r w b (offset r w)
-  effect_of row.Stwx r w b = store_of m store.Word base.Kept r w b (indexed r w)
-  effect_of row.Stwu r w b = store_of m store.Word base.Updated r w b (offset r w)
-  effect_of row.Stwux r w b = store_of m store.Word base.Updated r w b (indexed r w)
+  effect_of row.Stb r w b = store_of m store.Byte address.Offset r w b
+  effect_of row.Stbx r w b = store_of m store.Byte address.Indexed r w b
+  effect_of row.Stbu r w b = store_of m store.Byte address.OffsetUpdate r w b
+  effect_of row.Stbux r w b = store_of m store.Byte address.IndexedUpdate r w b
+  effect_of row.Sth r w b = store_of m store.Half address.Offset r w b
+  effect_of row.Sthx r w b = store_of m store.Half address.Indexed r w b
+  effect_of row.Sthu r w b = store_of m store.Half address.OffsetUpdate r w b
+  effect_of row.Sthux r w b = store_of m store.Half address.IndexedUpdate r w b
+  effect_of row.Stw r w b = store_of m store.Word address.Offset r w b
+  effect_of row.Stwx r w b = store_of m store.Word address.Indexed r w b
+  effect_of row.Stwu r w b = store_of m store.Word address.OffsetUpdate r w b
+  effect_of row.Stwux r w b = store_of m store.Word address.IndexedUpdate r w b
   -- byte reversal (3.3.4), many words (3.3.5)
-  effect_of row.Lhbrx r w b = load_of m load.HalfReversed base.Kept r w b (indexed r w)
-  effect_of row.Lwbrx r w b = load_of m load.WordReversed base.Kept r w b (indexed r w)
-  effect_of row.Sthbrx r w b = store_of m store.HalfReversed base.Kept r w b (indexed r w)
-  effect_of row.Stwbrx r w b = store_of m store.WordReversed base.Kept r w b (indexed r w)
+  effect_of row.Lhbrx r w b = load_of m load.HalfReversed address.Indexed r w b
+  effect_of row.Lwbrx r w b = load_of m load.WordReversed address.Indexed r w b
+  effect_of row.Sthbrx r w b = store_of m store.HalfReversed address.Indexed r w b
+  effect_of row.Stwbrx r w b = store_of m store.WordReversed address.Indexed r w b
   effect_of row.Lmw r w b = load_multiple_of m r w b (offset r w)
   effect_of row.Stmw r w b = store_multiple_of m r w b (offset r w)
   -- sums (3.3.8)
@@ -102,10 +102,10 @@ module _ {B : Type 0} (m : Meaning B) where
   effect_of row.Addze r w b = done (with_sum_carrying r w (in_ra r w) 0 (ca r)) b
   effect_of row.Subfze r w b = done (with_sum_carrying r w (complement (in_ra r w)) 0 (ca r)) b
   -- products and quotients (3.3.8)
-  effect_of row.Mulli r w b = done (with_gpr r (rt w) (low_word (signed_product (in_ra r w) (si w)))) b
-  effect_of row.Mulhwu r w b = done (with_result r w (rt w) (high_word (in_ra r w * in_rb r w))) b
-  effect_of row.Mulhw r w b = done (with_result r w (rt w) (high_word (signed_product (in_ra r w) (in_rb r w)))) b
-  effect_of row.Mullw r w b = done (with_checked_result r w (low_word (signed_product (in_ra r w) (in_rb r w))) (product_overflows (in_ra r w) (in_rb r w))) b
+  effect_of row.Mulli r w b = done (with_gpr r (rt w) (low_signed (in_ra r w) (si w))) b
+  effect_of row.Mulhwu r w b = done (with_result r w (rt w) (high_unsigned (in_ra r w) (in_rb r w))) b
+  effect_of row.Mulhw r w b = done (with_result r w (rt w) (high_signed (in_ra r w) (in_rb r w))) b
+  effect_of row.Mullw r w b = done (with_checked_result r w (low_signed (in_ra r w) (in_rb r w)) (product_overflows (in_ra r w) (in_rb r w))) b
   effect_of row.Divwu r w b = done (with_checked_result r w (quotient (in_ra r w) (in_rb r w)) (in_rb r w == 0)) b
   effect_of row.Divw r w b = done (with_checked_result r w (signed_quotient (in_ra r w) (in_rb r w)) (lacks_quotient (in_ra r w) (in_rb r w))) b
   -- comparisons (3.3.9), traps (3.3.10)
@@ -116,8 +116,8 @@ module _ {B : Type 0} (m : Meaning B) where
   effect_of row.Twi r w b = trap_where (traps w (in_ra r w) (si w)) r b
   effect_of row.Tw r w b = trap_where (traps w (in_ra r w) (in_rb r w)) r b
   -- logic (3.3.11)
-  effect_of row.Andi r w b = done (let value = bit_and (in_rs r w) (ui w) in with_cr0 (with_gpr r (ra w) value) value) b
-  effect_of row.Andis r w b = done (let value = bit_and (in_rs r w) (high_ui w) in with_cr0 (with_gpr r (ra w) value) value) b
+  effect_of row.Andi r w b = done (with_recorded r (ra w) (bit_and (in_rs r w) (ui w))) b
+  effect_of row.Andis r w b = done (with_recorded r (ra w) (bit_and (in_rs r w) (high_ui w))) b
   effect_of row.Ori r w b = done (with_gpr r (ra w) (bit_or (in_rs r w) (ui w))) b
   effect_of row.Oris r w b = done (with_gpr r (ra w) (bit_or (in_rs r w) (high_ui w))) b
   effect_of row.Xori r w b = done (with_gpr r (ra w) (bit_xor (in_rs r w) (ui w))) b
@@ -134,9 +134,9 @@ module _ {B : Type 0} (m : Meaning B) where
   effect_of row.Extsh r w b = done (with_result r w (ra w) (sign_extended 16 (in_rs r w % 2 ^ 16))) b
   effect_of row.Cntlzw r w b = done (with_result r w (ra w) (leading_zeros w32 (in_rs r w))) b
   -- rotation and shifts (3.3.12)
-  effect_of row.Rlwinm r w b = done (with_result r w (ra w) (bit_and (rotate_left w32 (in_rs r w) (rb w)) (mask_of w))) b
-  effect_of row.Rlwnm r w b = done (with_result r w (ra w) (bit_and (rotate_left w32 (in_rs r w) (bits (in_rb r w) 27 31)) (mask_of w))) b
-  effect_of row.Rlwimi r w b = done (with_result r w (ra w) (bit_or (bit_and (rotate_left w32 (in_rs r w) (rb w)) (mask_of w)) (bit_and (in_ra r w) (complement (mask_of w))))) b
+  effect_of row.Rlwinm r w b = done (with_result r w (ra w) (bit_and (rotated r w (rb w)) (mask_of w))) b
+  effect_of row.Rlwnm r w b = done (with_result r w (ra w) (bit_and (rotated r w (bits (in_rb r w) 27 31)) (mask_of w))) b
+  effect_of row.Rlwimi r w b = done (with_result r w (ra w) (merged (mask_of w) (rotated r w (rb w)) (in_ra r w))) b
   effect_of row.Slw r w b = done (with_result r w (ra w) (shifted_left (in_rs r w) (distance r w))) b
   effect_of row.Srw r w b = done (with_result r w (ra w) (shifted_right (in_rs r w) (distance r w))) b
   effect_of row.Srawi r w b = done (with_signed_shift r w (rb w)) b

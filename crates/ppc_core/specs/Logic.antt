@@ -1,5 +1,6 @@
 -- Masks and shifts (Book I 3.3.12).
-use Rattle.std.specs.Prelude.{ℕ, ◌+◌, ◌-◌, ◌*◌, ◌/◌, ◌%◌, ◌^◌, Bool, not, ◌==◌, ◌&&◌, nat_lt, nat_le, min, if◌then◌else◌}
+use Rattle.std.specs.Prelude.{ℕ, ◌+◌, ◌-◌, ◌*◌, ◌/◌, ◌%◌, ◌^◌, Bool, not, ◌==◌, ◌&&◌, nat_lt, nat_le, min, if◌then◌else◌, bit_and, bit_or}
+use Rattle.std.specs.Int.{rotate_left, w32}
 use Rattle.wind_base.specs.declared.regs.Regs.{Regs}
 use Rattle.ppc_core.specs.Words.{bits, bit, complement}
 use Rattle.ppc_core.specs.Fields.{ra, mb, me}
@@ -16,6 +17,14 @@ mask first last = if nat_le first last then ones first last else complement (one
 -- the mask of MB and ME
 abbrev pub mask_of : ℕ → ℕ
 mask_of w = mask (mb w) (me w)
+
+-- (RS) rotated left
+abbrev pub rotated : Regs → ℕ → ℕ → ℕ
+rotated r w n = rotate_left w32 (in_rs r w) n
+
+-- the bits of one word where the mask has ones, and those of another where it has zeros
+abbrev pub merged : ℕ → ℕ → ℕ → ℕ
+merged mask x y = bit_or (bit_and x mask) (bit_and y (complement mask))
 
 -- how far (RB) shifts: by its last six bits
 abbrev pub distance : Regs → ℕ → ℕ

@@ -1,5 +1,5 @@
 -- The registers one at a time (Book I 2.3 and 3.2).
-use Rattle.std.specs.Prelude.{ℕ, ◌+◌, ◌*◌, ◌%◌, ◌^◌, Bool, ◌==◌, if◌then◌else◌, max, ℤ, pos, int_lt, slice_index, slice_set}
+use Rattle.std.specs.Prelude.{ℕ, ◌+◌, ◌*◌, ◌%◌, ◌^◌, Bool, ◌==◌, if◌then◌else◌, max, pos, int_lt, slice_index, slice_set}
 use Rattle.wind_base.specs.declared.regs.Regs.{Regs}
 use Rattle.ppc_core.specs.Words.{bits, with_bits, bit, signed}
 use Rattle.ppc_core.specs.Fields.{rt, ra, rb, oe, rc}
@@ -50,9 +50,13 @@ with_cr_field r n value = record r { cr = with_bits r.cr (4 * n) (4 * n + 3) val
 unfoldable pub with_cr0 : Regs → ℕ → Regs
 with_cr0 r value = with_cr_field r 0 (order (int_lt (signed value) (pos 0)) (int_lt (pos 0) (signed value)) (so r))
 
--- register n takes a result, and with Rc CR0 compares it with 0
+-- register n takes a result, and CR0 compares it with 0
+unfoldable pub with_recorded : Regs → ℕ → ℕ → Regs
+with_recorded r n value = with_cr0 (with_gpr r n value) value
+
+-- the same, CR0 with Rc alone
 unfoldable pub with_result : Regs → ℕ → ℕ → ℕ → Regs
-with_result r w n value = let after = with_gpr r n value in if rc w then with_cr0 after value else after
+with_result r w n value = if rc w then with_recorded r n value else with_gpr r n value
 
 -- the same for RT, after OV took with OE whether the result does not fit
 unfoldable pub with_checked_result : Regs → ℕ → ℕ → Bool → Regs

@@ -1,13 +1,13 @@
 -- Loads and stores of one datum (Book I 3.3.2 to 3.3.4).
-use Rattle.std.specs.Prelude.{ℕ, ◌+◌, ◌*◌, ◌/◌, ◌%◌, ◌^◌, Bool, if◌then◌else◌}
+use Rattle.std.specs.Prelude.{ℕ, ◌+◌, ◌*◌, ◌/◌, ◌%◌, ◌^◌, if◌then◌else◌}
 use Rattle.wind_base.specs.declared.regs.Regs.{Regs}
 use Rattle.ppc_core.specs.declared.trap.Trap.TheVariants as trap
 use Rattle.ppc_core.specs.declared.storage.Load.{Load}
 use Rattle.ppc_core.specs.declared.storage.Load.TheVariants as load
 use Rattle.ppc_core.specs.declared.storage.Store.{Store}
 use Rattle.ppc_core.specs.declared.storage.Store.TheVariants as store
-use Rattle.ppc_core.specs.declared.storage.Base.{Base}
-use Rattle.ppc_core.specs.declared.storage.Base.TheVariants as base
+use Rattle.ppc_core.specs.declared.storage.Address.{Address}
+use Rattle.ppc_core.specs.declared.storage.Address.TheVariants as address
 use Rattle.ppc_core.specs.Words.{sign_extended}
 use Rattle.ppc_core.specs.Fields.{rt, ra, si}
 use Rattle.ppc_core.specs.Registers.{in_rs, in_rb, in_ra_or_0, with_gpr, next}
@@ -60,20 +60,31 @@ given store.HalfReversed n = reversed_half (n % 2 ^ 16)
 given store.Word n = n
 given store.WordReversed n = reversed_word n
 
+-- the effective address of each form
+abbrev pub address_of : Address → Regs → ℕ → ℕ
+address_of address.Offset r w = offset r w
+address_of address.OffsetUpdate r w = offset r w
+address_of address.Indexed r w = indexed r w
+address_of address.IndexedUpdate r w = indexed r w
+
 -- RA after an access: the forms with update give it the effective address
-abbrev pub with_base : Base → Regs → ℕ → ℕ → Regs
-with_base base.Kept r w at = r
-with_base base.Updated r w at = with_gpr r (ra w) at
+abbrev pub with_base : Address → Regs → ℕ → ℕ → Regs
+with_base address.Offset r w at = r
+with_base address.OffsetUpdate r w at = with_gpr r (ra w) at
+with_base address.Indexed r w at = r
+with_base address.IndexedUpdate r w at = with_gpr r (ra w) at
 
 module _ {B : Type 0} (m : Meaning B) where
-  -- RT takes the datum at an address
-  unfoldable pub load_of : Load → Base → Regs → ℕ → B → ℕ → Outcome B
-  load_of l base r w b at =
+  -- RT takes the datum at the effective address
+  unfoldable pub load_of : Load → Address → Regs → ℕ → B → Outcome B
+  load_of l a r w b =
+      let at = address_of a r w in
       let n = load_width l in
-      if m.faults b n at then Trapped trap.Access else Done (next (with_base base (with_gpr r (rt w) (taken l (m.answer b n at))) w at)) (m.loaded b n at)
+      if m.faults b n at then Trapped trap.Access else Done (next (with_base a (with_gpr r (rt w) (taken l (m.answer b n at))) w at)) (m.loaded b n at)
 
-  -- (RS) goes to an address
-  unfoldable pub store_of : Store → Base → Regs → ℕ → B → ℕ → Outcome B
-  store_of s base r w b at =
+  -- (RS) goes to the effective address
+  unfoldable pub store_of : Store → Address → Regs → ℕ → B → Outcome B
+  store_of s a r w b =
+      let at = address_of a r w in
       let n = store_width s in
-      if m.faults b n at then Trapped trap.Access else Done (next (with_base base r w at)) (m.stored b n at (given s (in_rs r w)))
+      if m.faults b n at then Trapped trap.Access else Done (next (with_base a r w at)) (m.stored b n at (given s (in_rs r w)))

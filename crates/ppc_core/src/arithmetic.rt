@@ -1,7 +1,8 @@
 //! Sums, products and quotients.
 
-ghost use Rattle.std.specs.Prelude.{◌≡◌, ◌<◌, ◌*◌, ◌*ℤ◌};
+ghost use Rattle.std.specs.Prelude.{◌≡◌, ◌<◌, ◌*ℤ◌, ◌==◌};
 ghost use Rattle.ppc_core.specs.Words.{signed};
+ghost use Rattle.ppc_core.specs.Registers.{with_checked_result};
 ghost use Rattle.ppc_core.specs.Arithmetic as arithmetic;
 
 use crate::words::{is_word, signed_of};
@@ -86,7 +87,7 @@ fn signed_bits(x: u32, y: u32) -> u64
 /// The low word of the product of two words read as signed.
 #[inline(always)]
 pub fn low_signed(x: u32, y: u32) -> u32
-    ensures { result ≡ arithmetic.low_word (arithmetic.signed_product x y) }
+    ensures { result ≡ arithmetic.low_signed x y }
 {
     (signed_bits(x, y) % 0x1_0000_0000) as u32
 }
@@ -94,7 +95,7 @@ pub fn low_signed(x: u32, y: u32) -> u32
 /// The high word of the product of two words read as signed.
 #[inline(always)]
 pub fn high_signed(x: u32, y: u32) -> u32
-    ensures { result ≡ arithmetic.high_word (arithmetic.signed_product x y) }
+    ensures { result ≡ arithmetic.high_signed x y }
 {
     (signed_bits(x, y) / 0x1_0000_0000) as u32
 }
@@ -102,30 +103,40 @@ pub fn high_signed(x: u32, y: u32) -> u32
 /// The high word of the product of two words.
 #[inline(always)]
 pub fn high_unsigned(x: u32, y: u32) -> u32
-    ensures { result ≡ arithmetic.high_word (x * y) }
+    ensures { result ≡ arithmetic.high_unsigned x y }
 {
     ((x as u64 * y as u64) / 0x1_0000_0000) as u32
 }
 
 /// Whether the product of two words read as signed doesn't fit a word.
 #[inline(always)]
-pub fn product_overflows(x: u32, y: u32) -> bool
+fn product_overflows(x: u32, y: u32) -> bool
     ensures { result ≡ arithmetic.product_overflows x y }
 {
     !is_word(multiply(x, y))
 }
 
-/// The quotient of two words, and 0 by 0.
+/// RT takes the low word of a product, with OE and Rc.
 #[inline(always)]
-pub fn quotient_of(x: u32, y: u32) -> u32
-    ensures { result ≡ arithmetic.quotient x y }
+pub fn set_product(x: u32, y: u32, regs: &mut Regs, word: u32)
+    ensures { regs.new ≡ with_checked_result regs.old word
+        (arithmetic.low_signed x y) (arithmetic.product_overflows x y) }
 {
-    if y == 0 { 0 } else { x / y }
+    registers::set_checked_result(low_signed(x, y), product_overflows(x, y), regs, word);
+}
+
+/// RT takes a quotient, with OE and Rc. By 0 it is 0 and doesn't fit.
+#[inline(always)]
+pub fn set_quotient(x: u32, y: u32, regs: &mut Regs, word: u32)
+    ensures { regs.new ≡ with_checked_result regs.old word (arithmetic.quotient x y) (y == 0) }
+{
+    let value = if y == 0 { 0 } else { x / y };
+    registers::set_checked_result(value, y == 0, regs, word);
 }
 
 /// Whether two words read as signed have no quotient that fits.
 #[inline(always)]
-pub fn lacks_quotient(x: u32, y: u32) -> bool
+fn lacks_quotient(x: u32, y: u32) -> bool
     ensures { result ≡ arithmetic.lacks_quotient x y }
 {
     y == 0 || (x == 0x8000_0000 && y == 0xffff_ffff)
@@ -133,11 +144,20 @@ pub fn lacks_quotient(x: u32, y: u32) -> bool
 
 /// The quotient of two words read as signed, and 0 where there is none.
 #[inline(always)]
-pub fn signed_quotient(x: u32, y: u32) -> u32
+fn signed_quotient(x: u32, y: u32) -> u32
     ensures { result ≡ arithmetic.signed_quotient x y }
 {
     if lacks_quotient(x, y) {
         return 0;
     }
     (x.cast_signed() / y.cast_signed()).cast_unsigned()
+}
+
+/// RT takes the quotient of two words read as signed, with OE and Rc.
+#[inline(always)]
+pub fn set_signed_quotient(x: u32, y: u32, regs: &mut Regs, word: u32)
+    ensures { regs.new ≡ with_checked_result regs.old word
+        (arithmetic.signed_quotient x y) (arithmetic.lacks_quotient x y) }
+{
+    registers::set_checked_result(signed_quotient(x, y), lacks_quotient(x, y), regs, word);
 }

@@ -31,6 +31,22 @@ pub fn mask_of(word: u32) -> u32
     ones_between(fields::mb(word), fields::me(word))
 }
 
+/// (RS) rotated left.
+#[inline(always)]
+pub fn rotate(n: u32, regs: &Regs, word: u32) -> u32
+    ensures { result ≡ logic.rotated regs.now word n }
+{
+    registers::in_rs(regs, word).rotate_left(n)
+}
+
+/// The bits of one word where the mask has ones, and those of another where it has zeros.
+#[inline(always)]
+pub fn merge(mask: u32, x: u32, y: u32) -> u32
+    ensures { result ≡ logic.merged mask x y }
+{
+    (x & mask) | (y & !mask)
+}
+
 /// How far (RB) shifts: by its last six bits.
 #[inline(always)]
 pub fn distance_of(regs: &Regs, word: u32) -> u32
@@ -89,5 +105,5 @@ pub fn set_signed_shift(n: u32, regs: &mut Regs, word: u32)
     let s = registers::in_rs(regs, word);
     let carry = if loses_one(s, n) { 1 } else { 0 };
     registers::set_ca(carry, regs);
-    registers::set_result(fields::ra(word), shift_signed(s, n), regs, word);
+    registers::set_ra(shift_signed(s, n), regs, word);
 }

@@ -44,7 +44,8 @@ fn store_words<B: Bus>(source: u32, at: u32, count: u32, regs: &Regs, bus: &mut 
 /// The registers RT to 31 take the words from an address on.
 #[tactic(auto, unfolding(crate::specs::Multiples::load_multiple_of))]
 pub fn load_multiple<B: Bus>(at: u32, regs: &mut Regs, word: u32, bus: &mut B) -> Result<(), Trap>
-    ensures { Leaves (multiple.load_multiple_of B.meaning regs.old word (B.held bus.old) at) regs.old (B.held bus.old) regs.new (B.held bus.new) result }
+    ensures { Leaves (multiple.load_multiple_of B.meaning regs.old word (B.held bus.old) at)
+        regs.old (B.held bus.old) regs.new (B.held bus.new) result }
 {
     let target = fields::rt(word);
     if at % 4 != 0 {
@@ -61,7 +62,8 @@ pub fn load_multiple<B: Bus>(at: u32, regs: &mut Regs, word: u32, bus: &mut B) -
 /// The registers RS to 31 go to the words from an address on.
 #[tactic(auto, unfolding(crate::specs::Multiples::store_multiple_of))]
 pub fn store_multiple<B: Bus>(at: u32, regs: &mut Regs, word: u32, bus: &mut B) -> Result<(), Trap>
-    ensures { Leaves (multiple.store_multiple_of B.meaning regs.old word (B.held bus.old) at) regs.old (B.held bus.old) regs.new (B.held bus.new) result }
+    ensures { Leaves (multiple.store_multiple_of B.meaning regs.old word (B.held bus.old) at)
+        regs.old (B.held bus.old) regs.new (B.held bus.new) result }
 {
     let source = fields::rt(word);
     if at % 4 != 0 {
@@ -77,8 +79,14 @@ pub fn store_multiple<B: Bus>(at: u32, regs: &mut Regs, word: u32, bus: &mut B) 
 
 /// RT takes the word at an address, which is reserved from then on.
 #[tactic(auto, unfolding(crate::specs::Multiples::load_and_reserve_of))]
-pub fn load_and_reserve<B: Bus>(at: u32, regs: &mut Regs, word: u32, bus: &mut B) -> Result<(), Trap>
-    ensures { Leaves (multiple.load_and_reserve_of B.meaning regs.old word (B.held bus.old) at) regs.old (B.held bus.old) regs.new (B.held bus.new) result }
+pub fn load_and_reserve<B: Bus>(
+    at: u32,
+    regs: &mut Regs,
+    word: u32,
+    bus: &mut B,
+) -> Result<(), Trap>
+    ensures { Leaves (multiple.load_and_reserve_of B.meaning regs.old word (B.held bus.old) at)
+        regs.old (B.held bus.old) regs.new (B.held bus.new) result }
 {
     if at % 4 != 0 {
         return Err(Trap::Align);
@@ -107,8 +115,14 @@ fn reserves(reserve: Option<u32>, at: u32) -> bool
 
 /// (RS) goes to an address exactly where that is reserved, and nothing is reserved then.
 #[tactic(auto, unfolding(crate::specs::Multiples::store_conditional_of))]
-pub fn store_conditional<B: Bus>(at: u32, regs: &mut Regs, word: u32, bus: &mut B) -> Result<(), Trap>
-    ensures { Leaves (multiple.store_conditional_of B.meaning regs.old word (B.held bus.old) at) regs.old (B.held bus.old) regs.new (B.held bus.new) result }
+pub fn store_conditional<B: Bus>(
+    at: u32,
+    regs: &mut Regs,
+    word: u32,
+    bus: &mut B,
+) -> Result<(), Trap>
+    ensures { Leaves (multiple.store_conditional_of B.meaning regs.old word (B.held bus.old) at)
+        regs.old (B.held bus.old) regs.new (B.held bus.new) result }
 {
     if at % 4 != 0 {
         return Err(Trap::Align);

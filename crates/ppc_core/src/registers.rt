@@ -1,6 +1,7 @@
 //! The registers one at a time.
 
 ghost use Rattle.std.specs.Prelude.{◌≡◌, ◌<◌, ◌^◌};
+ghost use Rattle.ppc_core.specs.Fields.{rt, ra};
 ghost use Rattle.ppc_core.specs.Registers as register;
 
 use crate::fields;
@@ -142,17 +143,45 @@ pub fn set_cr0(value: u32, regs: &mut Regs)
     set_cr_field(0, order_of(signed < 0, 0 < signed, so(regs)), regs);
 }
 
-/// Register `n` takes a result, and with Rc CR0 compares it with 0.
+/// Register `n` takes a result, and CR0 compares it with 0.
+#[tactic(auto, unfolding(crate::specs::Registers::with_recorded))]
+#[inline(always)]
+pub fn record(n: u32, value: u32, regs: &mut Regs)
+    requires { n < 32 }
+    ensures { regs.new ≡ register.with_recorded regs.old n value }
+{
+    write(n, value, regs);
+    set_cr0(value, regs);
+}
+
+/// The same, CR0 with Rc alone.
 #[tactic(auto, unfolding(crate::specs::Registers::with_result))]
 #[inline(always)]
-pub fn set_result(n: u32, value: u32, regs: &mut Regs, word: u32)
+fn set_result(n: u32, value: u32, regs: &mut Regs, word: u32)
     requires { n < 32 }
     ensures { regs.new ≡ register.with_result regs.old word n value }
 {
-    write(n, value, regs);
     if fields::rc(word) {
-        set_cr0(value, regs);
+        record(n, value, regs);
+    } else {
+        write(n, value, regs);
     }
+}
+
+/// RT takes a result, and CR0 compares it with 0 with Rc.
+#[inline(always)]
+pub fn set_rt(value: u32, regs: &mut Regs, word: u32)
+    ensures { regs.new ≡ register.with_result regs.old word (rt word) value }
+{
+    set_result(fields::rt(word), value, regs, word);
+}
+
+/// RA takes a result, and CR0 compares it with 0 with Rc.
+#[inline(always)]
+pub fn set_ra(value: u32, regs: &mut Regs, word: u32)
+    ensures { regs.new ≡ register.with_result regs.old word (ra word) value }
+{
+    set_result(fields::ra(word), value, regs, word);
 }
 
 /// The same for RT, after OV took with OE whether the result doesn't fit.
@@ -164,7 +193,7 @@ pub fn set_checked_result(value: u32, overflow: bool, regs: &mut Regs, word: u32
     if fields::oe(word) {
         set_ov(overflow, regs);
     }
-    set_result(fields::rt(word), value, regs, word);
+    set_rt(value, regs, word);
 }
 
 /// The next instruction follows.

@@ -37,12 +37,14 @@ pub enum Store {
     WordReversed,
 }
 
-/// What becomes of the base register.
+/// How an access makes its effective address, and whether the base register takes it.
 #[derive(Clone, Copy, Debug)]
-pub enum Base {
-    Kept,
-    /// It takes the effective address.
-    Updated,
+pub enum Address {
+    /// Of a displacement.
+    Offset,
+    OffsetUpdate,
+    Indexed,
+    IndexedUpdate,
 }
 
 /// The effective address of a displacement.
@@ -61,14 +63,29 @@ pub fn indexed(regs: &Regs, word: u32) -> u32
     registers::in_ra_or_0(regs, word).wrapping_add(registers::in_rb(regs, word))
 }
 
+/// The effective address of a form.
+#[inline(always)]
+fn address_for(address: Address, regs: &Regs, word: u32) -> u32
+    ensures { result ≡ storage.address_of address regs.now word }
+{
+    match address {
+        Address::Offset => offset(regs, word),
+        Address::OffsetUpdate => offset(regs, word),
+        Address::Indexed => indexed(regs, word),
+        Address::IndexedUpdate => indexed(regs, word),
+    }
+}
+
 /// RA after an access.
 #[inline(always)]
-fn set_base(base: Base, at: u32, regs: &mut Regs, word: u32)
-    ensures { regs.new ≡ storage.with_base base regs.old word at }
+fn set_base(address: Address, at: u32, regs: &mut Regs, word: u32)
+    ensures { regs.new ≡ storage.with_base address regs.old word at }
 {
-    match base {
-        Base::Kept => {}
-        Base::Updated => registers::write(fields::ra(word), at, regs),
+    match address {
+        Address::Offset => {}
+        Address::OffsetUpdate => registers::write(fields::ra(word), at, regs),
+        Address::Indexed => {}
+        Address::IndexedUpdate => registers::write(fields::ra(word), at, regs),
     }
 }
 
@@ -145,32 +162,48 @@ fn given_of(store: Store, value: u32) -> u32
     }
 }
 
-/// RT takes the datum at an address.
+/// RT takes the datum at the effective address.
 #[tactic(auto, unfolding(crate::specs::Storage::load_of))]
 #[inline(always)]
-pub fn run_load<B: Bus>(load: Load, base: Base, at: u32, regs: &mut Regs, word: u32, bus: &mut B) -> Result<(), Trap>
-    ensures { Leaves (storage.load_of B.meaning load base regs.old word (B.held bus.old) at) regs.old (B.held bus.old) regs.new (B.held bus.new) result }
+pub fn load_rt<B: Bus>(
+    what: Load,
+    address: Address,
+    regs: &mut Regs,
+    word: u32,
+    bus: &mut B,
+) -> Result<(), Trap>
+    ensures { Leaves (storage.load_of B.meaning what address regs.old word (B.held bus.old))
+        regs.old (B.held bus.old) regs.new (B.held bus.new) result }
 {
-    let Ok(datum) = read_datum(load, at, bus) else {
+    let at = address_for(address, regs, word);
+    let Ok(datum) = read_datum(what, at, bus) else {
         return Err(Trap::Access);
     };
-    registers::write(fields::rt(word), taken_of(load, datum), regs);
-    set_base(base, at, regs, word);
+    registers::write(fields::rt(word), taken_of(what, datum), regs);
+    set_base(address, at, regs, word);
     registers::step(regs);
     Ok(())
 }
 
-/// (RS) goes to an address.
+/// (RS) goes to the effective address.
 #[tactic(auto, unfolding(crate::specs::Storage::store_of))]
 #[inline(always)]
-pub fn run_store<B: Bus>(store: Store, base: Base, at: u32, regs: &mut Regs, word: u32, bus: &mut B) -> Result<(), Trap>
-    ensures { Leaves (storage.store_of B.meaning store base regs.old word (B.held bus.old) at) regs.old (B.held bus.old) regs.new (B.held bus.new) result }
+pub fn store_rs<B: Bus>(
+    what: Store,
+    address: Address,
+    regs: &mut Regs,
+    word: u32,
+    bus: &mut B,
+) -> Result<(), Trap>
+    ensures { Leaves (storage.store_of B.meaning what address regs.old word (B.held bus.old))
+        regs.old (B.held bus.old) regs.new (B.held bus.new) result }
 {
-    let value = given_of(store, registers::in_rs(regs, word));
-    let Ok(()) = write_datum(store, at, value, bus) else {
+    let at = address_for(address, regs, word);
+    let value = given_of(what, registers::in_rs(regs, word));
+    let Ok(()) = write_datum(what, at, value, bus) else {
         return Err(Trap::Access);
     };
-    set_base(base, at, regs, word);
+    set_base(address, at, regs, word);
     registers::step(regs);
     Ok(())
 }

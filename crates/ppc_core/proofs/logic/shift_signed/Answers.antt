@@ -1,4 +1,4 @@
-use Rattle.std.proofs.Common.{◌≡◌, ℕ, ◌+◌, ◌-◌, ◌*◌, ◌/◌, ◌%◌, ◌^◌, ◌<◌, ◌≤◌, arith, min, subst}
+use Rattle.std.proofs.Common.{◌≡◌, ℕ, ◌+◌, ◌-◌, ◌/◌, ◌^◌, ◌<◌, ◌≤◌, arith, subst}
 use Rattle.std.proofs.lemmas.Nat.{one_shl, shr_below}
 use Rattle.ppc_core.proofs.Bounds.{pow_le}
 use Rattle.ppc_core.proofs.logic.shift_signed.Goals as goal

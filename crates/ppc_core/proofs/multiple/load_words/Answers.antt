@@ -1,4 +1,3 @@
-use Rattle.std.proofs.Common.{◌≡◌, ◌+◌, ◌*◌, true, false}
 use Rattle.ppc_core.proofs.RamRanges.{word_in_ram}
 use Rattle.ppc_core.proofs.multiple.load_words.Goals as goal
 
