@@ -1,6 +1,6 @@
 -- A change of one slot, seen as plain data.
 use Rattle.std.proofs.Common.{◌≡◌, ℕ, Bool, true, false, ◌≤◌, ◌<◌, List, Option, Some, None, length, map, ◌∙◌, ap, arith, sym, get_or, [], ◌∷◌, zero, suc, refl}
-use Rattle.std.specs.Prelude.{slice_set, slice_get, option_and_then, option_map, if◌then◌else◌}
+use Rattle.std.specs.Prelude.{slice_set, option_map, if◌then◌else◌}
 use Rattle.std.proofs.lemmas.List.{map-set}
 use Rattle.wind_outside.specs.Devices.{DeviceState}
 use Rattle.board_bus.specs.Slots.{device_at, with_device, is_slot_word, slot_number, reached}

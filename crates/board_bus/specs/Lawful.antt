@@ -1,12 +1,12 @@
 -- The laws of the board's bus, proved: an access in RAM never faults, and no access changes how much RAM there is.
-use Rattle.std.specs.Prelude.{◌≡◌, ℕ, zero, suc, ◌+◌, ◌<◌, ◌≤◌, ◌^◌, ◌%◌, Bool, true, false, not, ◌&&◌, ◌||◌, List, [], ◌++◌, Option, None, length, take, drop, nat_eq, nat_le, nat_lt, is_some, if◌then◌else◌}
-use Rattle.std.proofs.Common.{refl, sym, ap, ◌∙◌, arith, length-append, length-drop, leb-true}
+use Rattle.std.specs.Prelude.{◌≡◌, ℕ, zero, suc, ◌+◌, ◌<◌, ◌≤◌, ◌^◌, ◌%◌, Bool, true, false, not, ◌&&◌, List, [], ◌++◌, length, take, drop, nat_lt, is_some, if◌then◌else◌}
+use Rattle.std.proofs.Common.{refl, sym, ap, ◌∙◌, arith, length-append, length-drop}
 use Rattle.std.proofs.lemmas.Bool.Decides.{nat_tests}
 use Rattle.std.proofs.lemmas.List.{length-take, length-take-le}
 use Rattle.byteorder.specs.Endian.{big_bytes}
 use Rattle.byteorder.specs.Numbers.{length-bytes_high_first}
 use Rattle.board_mem.specs.Memory.{has, with_bytes, with_number}
-use Rattle.ppc_core.specs.Buses.{Meaning, IsLawful, all_ram}
+use Rattle.ppc_core.specs.Buses.{IsLawful, all_ram}
 use Rattle.ppc_core.proofs.RamRanges.{all_ram-below}
 use Rattle.board_bus.specs.BusState.{BusState}
 use Rattle.board_bus.specs.Slots.{reached, slots_loaded, slots_stored}

@@ -36,10 +36,8 @@ fn load_slot(slot: &mut Option<Box<dyn Device>>, off: u32) -> Option<u32>
     requires aligned { off % 4 ≡ 0 }
     requires inside { off < slot_bytes }
     ensures answer { result ≡ answer_of (slot_seen kind_of words_of slot.old) off }
-    ensures slot {
-      slot_seen kind_of words_of slot.new
-      ≡ device_loaded (slot_seen kind_of words_of slot.old) off
-    }
+    ensures slot { slot_seen kind_of words_of slot.new
+        ≡ device_loaded (slot_seen kind_of words_of slot.old) off }
 {
     match slot {
         Some(device) => Some(device.load(off)),
@@ -52,10 +50,8 @@ fn store_slot(slot: &mut Option<Box<dyn Device>>, off: u32, v: u32) -> bool
     requires aligned { off % 4 ≡ 0 }
     requires inside { off < slot_bytes }
     ensures answer { result ≡ is_some (slot_seen kind_of words_of slot.old) }
-    ensures slot {
-      slot_seen kind_of words_of slot.new
-      ≡ device_stored (slot_seen kind_of words_of slot.old) off v
-    }
+    ensures slot { slot_seen kind_of words_of slot.new
+        ≡ device_stored (slot_seen kind_of words_of slot.old) off v }
 {
     match slot {
         Some(device) => {
@@ -72,10 +68,8 @@ fn load(slots: &mut Slots, i: usize, off: u32) -> Option<u32>
     requires inside { off < slot_bytes }
     requires slot { i < length slots.old.items }
     ensures answer { result ≡ answer_of (device_at (slots_of kind_of words_of slots.old.items) i) off }
-    ensures slots {
-      let seen = slots_of kind_of words_of slots.old.items in
-      slots_of kind_of words_of slots.new.items ≡ with_device seen i (device_loaded (device_at seen i) off)
-    }
+    ensures slots { let seen = slots_of kind_of words_of slots.old.items in
+        slots_of kind_of words_of slots.new.items ≡ with_device seen i (device_loaded (device_at seen i) off) }
 {
     load_slot(&mut slots[i], off)
 }
@@ -86,22 +80,16 @@ fn store(slots: &mut Slots, i: usize, off: u32, v: u32) -> bool
     requires inside { off < slot_bytes }
     requires slot { i < length slots.old.items }
     ensures answer { result ≡ is_some (device_at (slots_of kind_of words_of slots.old.items) i) }
-    ensures slots {
-      let seen = slots_of kind_of words_of slots.old.items in
-      slots_of kind_of words_of slots.new.items ≡ with_device seen i (device_stored (device_at seen i) off v)
-    }
+    ensures slots { let seen = slots_of kind_of words_of slots.old.items in
+        slots_of kind_of words_of slots.new.items ≡ with_device seen i (device_stored (device_at seen i) off v) }
 {
     store_slot(&mut slots[i], off, v)
 }
 
 /// Loads the word of a device. None where the address reaches none.
 pub(crate) fn load_word(slots: &mut Slots, addr: u32) -> Option<u32>
-    ensures answer {
-      result ≡ answer_of (reached (slots_of kind_of words_of slots.old.items) 4 addr) (slot_offset_lem addr)
-    }
-    ensures slots {
-      slots_of kind_of words_of slots.new.items ≡ slots_loaded (slots_of kind_of words_of slots.old.items) 4 addr
-    }
+    ensures answer { result ≡ answer_of (reached (slots_of kind_of words_of slots.old.items) 4 addr) (slot_offset_lem addr) }
+    ensures slots { slots_of kind_of words_of slots.new.items ≡ slots_loaded (slots_of kind_of words_of slots.old.items) 4 addr }
 {
     if !is_slot_word(addr) {
         return None;
@@ -116,9 +104,7 @@ pub(crate) fn load_word(slots: &mut Slots, addr: u32) -> Option<u32>
 /// Stores a word to a device. Whether the address reaches one.
 pub(crate) fn store_word(slots: &mut Slots, addr: u32, v: u32) -> bool
     ensures answer { result ≡ is_some (reached (slots_of kind_of words_of slots.old.items) 4 addr) }
-    ensures slots {
-      slots_of kind_of words_of slots.new.items ≡ slots_stored (slots_of kind_of words_of slots.old.items) 4 addr v
-    }
+    ensures slots { slots_of kind_of words_of slots.new.items ≡ slots_stored (slots_of kind_of words_of slots.old.items) 4 addr v }
 {
     if !is_slot_word(addr) {
         return false;

@@ -8,9 +8,13 @@ use wind_base::limits::SLOTS;
 use wind_outside::{ByteFifo, EventCounter, Latch, Slots};
 
 const LATCH: u32 = 0xe000_0000;
+
 const FIFO: u32 = 0xe000_1000;
+
 const COUNTER: u32 = 0xe000_2000;
+
 const EMPTY: u32 = 0xe000_3000;
+
 const BEHIND: u32 = 0xe000_4000;
 
 // A latch, a byte queue, an event counter and an empty slot behind 64 bytes of RAM.
@@ -32,14 +36,36 @@ fn bus(rt: &HostRuntime) -> Result<BoardBus, Fail> {
 fn ram_goes_by_its_bytes(rt: HostRuntime) -> Result<(), Fail> {
     let mut bus = bus(&rt)?;
     assert_eq!(rt; bus.store32(60, 0x0102_0304), Ok(()));
-    assert_eq!(rt; (bus.load32(60), bus.load32(61)), (Ok(0x0102_0304), Err(Fault)));
+    assert_eq!(rt;
+        (bus.load32(60), bus.load32(61)),
+        (Ok(0x0102_0304), Err(Fault))
+    );
     assert_eq!(rt; (bus.load16(62), bus.load16(63)), (Ok(0x0304), Err(Fault)));
     assert_eq!(rt; (bus.load8(63), bus.load8(64)), (Ok(4), Err(Fault)));
-    assert_eq!(rt; (bus.store8(64, 0), bus.store16(63, 0), bus.store32(62, 0)), (Err(Fault), Err(Fault), Err(Fault)));
-    assert_eq!(rt; (bus.store8(1, 0x1ff), bus.store16(3, 0x1_ffff)), (Ok(()), Ok(())));
-    assert_eq!(rt; (bus.load32(0), bus.load32(1)), (Ok(0x00ff_00ff), Ok(0xff00_ffff)));
-    assert_eq!(rt; (bus.fetch(60), bus.fetch(62), bus.fetch(64)), (Some(0x0102_0304), None, None));
-    assert_eq!(rt; (bus.is_ram(60, 4), bus.is_ram(60, 5), bus.is_ram(u32::MAX, 0)), (true, false, true));
+    assert_eq!(rt;
+        (bus.store8(64, 0), bus.store16(63, 0), bus.store32(62, 0)),
+        (Err(Fault), Err(Fault), Err(Fault))
+    );
+    assert_eq!(rt;
+        (bus.store8(1, 0x1ff), bus.store16(3, 0x1_ffff)),
+        (Ok(()), Ok(()))
+    );
+    assert_eq!(rt;
+        (bus.load32(0), bus.load32(1)),
+        (Ok(0x00ff_00ff), Ok(0xff00_ffff))
+    );
+    assert_eq!(rt;
+        (bus.fetch(60), bus.fetch(62), bus.fetch(64)),
+        (Some(0x0102_0304), None, None)
+    );
+    assert_eq!(rt;
+        (
+            bus.is_ram(60, 4),
+            bus.is_ram(60, 5),
+            bus.is_ram(u32::MAX, 0)
+        ),
+        (true, false, true)
+    );
     Ok(())
 }
 
@@ -61,8 +87,14 @@ fn a_latch_holds_its_words(rt: HostRuntime) -> Result<(), Fail> {
 fn a_byte_queue_keeps_64_bytes(rt: HostRuntime) -> Result<(), Fail> {
     let mut bus = bus(&rt)?;
     assert_eq!(rt; (bus.load32(FIFO), bus.load32(FIFO + 4)), (Ok(0), Ok(0)));
-    assert_eq!(rt; (bus.store32(FIFO, 0x141), bus.store32(FIFO + 4, 7)), (Ok(()), Ok(())));
-    assert_eq!(rt; (bus.load32(FIFO + 4), bus.load32(FIFO + 8)), (Ok(1), Ok(0)));
+    assert_eq!(rt;
+        (bus.store32(FIFO, 0x141), bus.store32(FIFO + 4, 7)),
+        (Ok(()), Ok(()))
+    );
+    assert_eq!(rt;
+        (bus.load32(FIFO + 4), bus.load32(FIFO + 8)),
+        (Ok(1), Ok(0))
+    );
     assert_eq!(rt; (bus.load32(FIFO), bus.load32(FIFO + 4)), (Ok(0x41), Ok(0)));
     for byte in 1..66 {
         assert_eq!(rt; bus.store32(FIFO, byte), Ok(()));
@@ -87,7 +119,10 @@ fn a_counter_wraps(rt: HostRuntime) -> Result<(), Fail> {
     ];
     for (at, word, after) in stores {
         assert_eq!(rt; bus.store32(at, word), Ok(()));
-        assert_eq!(rt; (bus.load32(COUNTER), bus.load32(COUNTER + 4)), (Ok(after), Ok(0)));
+        assert_eq!(rt;
+            (bus.load32(COUNTER), bus.load32(COUNTER + 4)),
+            (Ok(after), Ok(0))
+        );
     }
     Ok(())
 }
@@ -95,12 +130,35 @@ fn a_counter_wraps(rt: HostRuntime) -> Result<(), Fail> {
 #[test]
 fn other_accesses_fault(rt: HostRuntime) -> Result<(), Fail> {
     let mut bus = bus(&rt)?;
-    for at in [LATCH + 1, LATCH + 2, FIFO - 2, EMPTY, EMPTY + 4, BEHIND, 0xe001_0000, 0xdfff_fffc, u32::MAX] {
-        assert_eq!(rt; (bus.load32(at), bus.store32(at, 1)), (Err(Fault), Err(Fault)), "at {at:#x}");
+    for at in [
+        LATCH + 1,
+        LATCH + 2,
+        FIFO - 2,
+        EMPTY,
+        EMPTY + 4,
+        BEHIND,
+        0xe001_0000,
+        0xdfff_fffc,
+        u32::MAX,
+    ] {
+        assert_eq!(rt;
+            (bus.load32(at), bus.store32(at, 1)),
+            (Err(Fault), Err(Fault)),
+            "at {at:#x}"
+        );
     }
-    assert_eq!(rt; (bus.load8(LATCH), bus.load16(LATCH)), (Err(Fault), Err(Fault)));
-    assert_eq!(rt; (bus.store8(LATCH, 1), bus.store16(LATCH, 1)), (Err(Fault), Err(Fault)));
-    assert_eq!(rt; (bus.load32(LATCH), bus.fetch(LATCH), bus.is_ram(LATCH, 4)), (Ok(0), None, false));
+    assert_eq!(rt;
+        (bus.load8(LATCH), bus.load16(LATCH)),
+        (Err(Fault), Err(Fault))
+    );
+    assert_eq!(rt;
+        (bus.store8(LATCH, 1), bus.store16(LATCH, 1)),
+        (Err(Fault), Err(Fault))
+    );
+    assert_eq!(rt;
+        (bus.load32(LATCH), bus.fetch(LATCH), bus.is_ram(LATCH, 4)),
+        (Ok(0), None, false)
+    );
     let slots = bus.into_slots();
     assert_eq!(rt; slots.len(), 4);
     Ok(())

@@ -46,7 +46,10 @@ fn ends_at_the_last_byte(rt: HostRuntime) -> Result<(), Fail> {
 #[test]
 fn no_byte_of_an_empty_range_is_outside(rt: HostRuntime) -> Result<(), Fail> {
     let mut ram = zeros(&rt, 16)?;
-    assert_eq!(rt; (ram.has(u32::MAX, 0), ram.has(16, 0), ram.has(16, 1)), (true, true, false));
+    assert_eq!(rt;
+        (ram.has(u32::MAX, 0), ram.has(16, 0), ram.has(16, 1)),
+        (true, true, false)
+    );
     assert_eq!(rt; ram.copy_in(u32::MAX, b""), Ok(()));
     assert_eq!(rt; ram.copy_out(u32::MAX, &mut []), Ok(()));
     assert_eq!(rt; ram.fill(17, 0, 1), Ok(()));
@@ -101,6 +104,9 @@ fn reads_strings_at_the_end(rt: HostRuntime) -> Result<(), Fail> {
     assert_eq!(rt; ram.cstr(15, &mut string), Some(0));
     assert_eq!(rt; ram.write8(15, 0x63), Ok(()));
     assert_eq!(rt; ram.cstr(13, &mut string), None);
-    assert_eq!(rt; (ram.cstr(16, &mut string), ram.cstr(u32::MAX, &mut string)), (None, None));
+    assert_eq!(rt;
+        (ram.cstr(16, &mut string), ram.cstr(u32::MAX, &mut string)),
+        (None, None)
+    );
     Ok(())
 }

@@ -40,7 +40,11 @@ impl Device for Latch {
     }
 
     fn load(&mut self, off: u32) -> u32 {
-        if off < 16 { self.words[off as usize / 4] } else { 0 }
+        if off < 16 {
+            self.words[off as usize / 4]
+        } else {
+            0
+        }
     }
 
     fn store(&mut self, off: u32, v: u32) {
