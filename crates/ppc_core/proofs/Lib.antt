@@ -1,0 +1,2 @@
+pub mod RamRanges
+pub mod Bounds

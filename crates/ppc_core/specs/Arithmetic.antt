@@ -1,0 +1,60 @@
+-- Sums, products and quotients (Book I 3.3.8).
+use Rattle.std.specs.Prelude.{ℕ, ◌+◌, ◌-◌, ◌*◌, ◌/◌, ◌%◌, ◌^◌, Bool, not, ◌==◌, ◌&&◌, ◌||◌, if◌then◌else◌, pos, ◌+ℤ◌, ◌*ℤ◌, int_div}
+use Rattle.std.specs.Int.{cast_unsigned, w32, w64}
+use Rattle.wind_base.specs.declared.regs.Regs.{Regs}
+use Rattle.ppc_core.specs.Words.{signed, fits}
+use Rattle.ppc_core.specs.Fields.{rt}
+use Rattle.ppc_core.specs.Registers.{with_gpr, with_ca, with_checked_result}
+
+-- the sum of two words and a carry, and the carry out of it
+abbrev pub sum : ℕ → ℕ → ℕ → ℕ
+sum x y c = (x + y + c) % 2 ^ 32
+
+abbrev pub carry : ℕ → ℕ → ℕ → ℕ
+carry x y c = (x + y + c) / 2 ^ 32
+
+-- whether the sum, read as signed, does not fit a word
+abbrev pub sum_overflows : ℕ → ℕ → ℕ → Bool
+sum_overflows x y c = not (fits (signed x +ℤ signed y +ℤ pos c))
+
+-- RT takes the sum, and CA its carry
+unfoldable pub with_carrying : Regs → ℕ → ℕ → ℕ → ℕ → Regs
+with_carrying r w x y c = with_gpr (with_ca r (carry x y c)) (rt w) (sum x y c)
+
+-- RT takes the sum, with OE and Rc
+unfoldable pub with_sum : Regs → ℕ → ℕ → ℕ → ℕ → Regs
+with_sum r w x y c = with_checked_result r w (sum x y c) (sum_overflows x y c)
+
+-- the same, and CA takes its carry
+unfoldable pub with_sum_carrying : Regs → ℕ → ℕ → ℕ → ℕ → Regs
+with_sum_carrying r w x y c = with_sum (with_ca r (carry x y c)) w x y c
+
+-- the product of two words read as signed, as a number of 64 bits
+abbrev pub signed_product : ℕ → ℕ → ℕ
+signed_product x y = cast_unsigned w64 (signed x *ℤ signed y)
+
+-- its halves, and the high half of the product of two words as they are
+abbrev pub low_signed : ℕ → ℕ → ℕ
+low_signed x y = signed_product x y % 2 ^ 32
+
+abbrev pub high_signed : ℕ → ℕ → ℕ
+high_signed x y = signed_product x y / 2 ^ 32
+
+abbrev pub high_unsigned : ℕ → ℕ → ℕ
+high_unsigned x y = x * y / 2 ^ 32
+
+-- whether the product of two words read as signed does not fit a word
+abbrev pub product_overflows : ℕ → ℕ → Bool
+product_overflows x y = not (fits (signed x *ℤ signed y))
+
+-- the quotient of two words, and 0 by 0
+abbrev pub quotient : ℕ → ℕ → ℕ
+quotient x y = if y == 0 then 0 else x / y
+
+-- whether two words read as signed have no quotient that fits: by 0, and -2 ^ 31 by -1
+abbrev pub lacks_quotient : ℕ → ℕ → Bool
+lacks_quotient x y = y == 0 || (x == 2 ^ 31 && y == 2 ^ 32 - 1)
+
+-- the quotient of two words read as signed, toward 0, and 0 where there is none
+abbrev pub signed_quotient : ℕ → ℕ → ℕ
+signed_quotient x y = if lacks_quotient x y then 0 else cast_unsigned w32 (int_div (signed x) (signed y))

@@ -1,0 +1,12 @@
+pub mod Buses
+pub mod Outcomes
+pub mod Words
+pub mod Fields
+pub mod Registers
+pub mod Arithmetic
+pub mod Logic
+pub mod Conditions
+pub mod Branches
+pub mod Storage
+pub mod Multiples
+pub mod Instructions

@@ -1,0 +1,163 @@
+//! Sums, products and quotients.
+
+ghost use Rattle.std.specs.Prelude.{◌≡◌, ◌<◌, ◌*ℤ◌, ◌==◌};
+ghost use Rattle.ppc_core.specs.Words.{signed};
+ghost use Rattle.ppc_core.specs.Registers.{with_checked_result};
+ghost use Rattle.ppc_core.specs.Arithmetic as arithmetic;
+
+use crate::words::{is_word, signed_of};
+use crate::{fields, registers};
+use wind_base::Regs;
+
+/// The sum of two words and a carry.
+#[inline(always)]
+pub fn sum_of(x: u32, y: u32, c: u32) -> u32
+    ensures { result ≡ arithmetic.sum x y c }
+{
+    ((x as u64 + y as u64 + c as u64) % 0x1_0000_0000) as u32
+}
+
+/// The carry out of a sum.
+#[inline(always)]
+fn carry_of(x: u32, y: u32, c: u32) -> u32
+    requires { c < 2 }
+    ensures is { result ≡ arithmetic.carry x y c }
+    ensures below { result < 2 }
+{
+    ((x as u64 + y as u64 + c as u64) / 0x1_0000_0000) as u32
+}
+
+/// Whether a sum, read as signed, doesn't fit a word.
+#[inline(always)]
+fn overflows(x: u32, y: u32, c: u32) -> bool
+    requires { c < 2 }
+    ensures { result ≡ arithmetic.sum_overflows x y c }
+{
+    !is_word(signed_of(x) + signed_of(y) + i64::from(c))
+}
+
+/// RT takes a sum, and CA its carry.
+#[tactic(auto, unfolding(crate::specs::Arithmetic::with_carrying))]
+#[inline(always)]
+pub fn set_carrying(x: u32, y: u32, c: u32, regs: &mut Regs, word: u32)
+    requires { c < 2 }
+    ensures { regs.new ≡ arithmetic.with_carrying regs.old word x y c }
+{
+    registers::set_ca(carry_of(x, y, c), regs);
+    registers::write(fields::rt(word), sum_of(x, y, c), regs);
+}
+
+/// RT takes a sum, with OE and Rc.
+#[tactic(auto, unfolding(crate::specs::Arithmetic::with_sum))]
+#[inline(always)]
+pub fn set_sum(x: u32, y: u32, c: u32, regs: &mut Regs, word: u32)
+    requires { c < 2 }
+    ensures { regs.new ≡ arithmetic.with_sum regs.old word x y c }
+{
+    registers::set_checked_result(sum_of(x, y, c), overflows(x, y, c), regs, word);
+}
+
+/// The same, and CA takes its carry.
+#[tactic(auto, unfolding(crate::specs::Arithmetic::with_sum_carrying))]
+#[inline(always)]
+pub fn set_sum_carrying(x: u32, y: u32, c: u32, regs: &mut Regs, word: u32)
+    requires { c < 2 }
+    ensures { regs.new ≡ arithmetic.with_sum_carrying regs.old word x y c }
+{
+    registers::set_ca(carry_of(x, y, c), regs);
+    set_sum(x, y, c, regs, word);
+}
+
+/// The product of two words read as signed.
+#[inline(always)]
+fn multiply(x: u32, y: u32) -> i64
+    ensures { result ≡ signed x *ℤ signed y }
+{
+    signed_of(x) * signed_of(y)
+}
+
+/// The same, as a number of 64 bits.
+#[inline(always)]
+fn signed_bits(x: u32, y: u32) -> u64
+    ensures { result ≡ arithmetic.signed_product x y }
+{
+    multiply(x, y).cast_unsigned()
+}
+
+/// The low word of the product of two words read as signed.
+#[inline(always)]
+pub fn low_signed(x: u32, y: u32) -> u32
+    ensures { result ≡ arithmetic.low_signed x y }
+{
+    (signed_bits(x, y) % 0x1_0000_0000) as u32
+}
+
+/// The high word of the product of two words read as signed.
+#[inline(always)]
+pub fn high_signed(x: u32, y: u32) -> u32
+    ensures { result ≡ arithmetic.high_signed x y }
+{
+    (signed_bits(x, y) / 0x1_0000_0000) as u32
+}
+
+/// The high word of the product of two words.
+#[inline(always)]
+pub fn high_unsigned(x: u32, y: u32) -> u32
+    ensures { result ≡ arithmetic.high_unsigned x y }
+{
+    ((x as u64 * y as u64) / 0x1_0000_0000) as u32
+}
+
+/// Whether the product of two words read as signed doesn't fit a word.
+#[inline(always)]
+fn product_overflows(x: u32, y: u32) -> bool
+    ensures { result ≡ arithmetic.product_overflows x y }
+{
+    !is_word(multiply(x, y))
+}
+
+/// RT takes the low word of a product, with OE and Rc.
+#[inline(always)]
+pub fn set_product(x: u32, y: u32, regs: &mut Regs, word: u32)
+    ensures { regs.new ≡ with_checked_result regs.old word
+        (arithmetic.low_signed x y) (arithmetic.product_overflows x y) }
+{
+    registers::set_checked_result(low_signed(x, y), product_overflows(x, y), regs, word);
+}
+
+/// RT takes a quotient, with OE and Rc. By 0 it is 0 and doesn't fit.
+#[inline(always)]
+pub fn set_quotient(x: u32, y: u32, regs: &mut Regs, word: u32)
+    ensures { regs.new ≡ with_checked_result regs.old word (arithmetic.quotient x y) (y == 0) }
+{
+    let value = if y == 0 { 0 } else { x / y };
+    registers::set_checked_result(value, y == 0, regs, word);
+}
+
+/// Whether two words read as signed have no quotient that fits.
+#[inline(always)]
+fn lacks_quotient(x: u32, y: u32) -> bool
+    ensures { result ≡ arithmetic.lacks_quotient x y }
+{
+    y == 0 || (x == 0x8000_0000 && y == 0xffff_ffff)
+}
+
+/// The quotient of two words read as signed, and 0 where there is none.
+#[inline(always)]
+fn signed_quotient(x: u32, y: u32) -> u32
+    ensures { result ≡ arithmetic.signed_quotient x y }
+{
+    if lacks_quotient(x, y) {
+        return 0;
+    }
+    (x.cast_signed() / y.cast_signed()).cast_unsigned()
+}
+
+/// RT takes the quotient of two words read as signed, with OE and Rc.
+#[inline(always)]
+pub fn set_signed_quotient(x: u32, y: u32, regs: &mut Regs, word: u32)
+    ensures { regs.new ≡ with_checked_result regs.old word
+        (arithmetic.signed_quotient x y) (arithmetic.lacks_quotient x y) }
+{
+    registers::set_checked_result(signed_quotient(x, y), lacks_quotient(x, y), regs, word);
+}

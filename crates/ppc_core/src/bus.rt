@@ -1,0 +1,63 @@
+//! The bus between the processor, RAM and devices.
+
+ghost use Rattle.std.specs.Prelude.{◌≡◌, ◌+◌, ◌≤◌, ◌^◌, IsTrue};
+ghost use Rattle.ppc_core.specs.Buses.{Meaning, Loads, Stores, all_ram, IsLawful};
+
+use std::fmt;
+
+/// An access that neither RAM nor a device takes.
+#[derive(Clone, Copy, Debug, PartialEq, Eq)]
+pub struct Fault;
+
+impl fmt::Display for Fault {
+    ghost use Rattle.std.specs.Prelude.{Some, codes};
+
+    ghost output = { λ _. Some (codes "access fault") };
+
+    fn fmt<W: fmt::Write>(&self, f: &mut fmt::Formatter<W>) -> fmt::Result {
+        f.write_str("access fault")
+    }
+}
+
+/// RAM and devices by address. Each call does what `meaning` says of its address and width, which `lawful`
+/// binds; a call that answers `Fault` changes nothing that the bus holds.
+pub trait Bus {
+    /// What a bus holds, as plain data.
+    ghost Held: { Type 0 };
+
+    ghost held: { Self → Held };
+
+    /// What each access does with it, and which addresses are RAM.
+    ghost meaning: { Meaning Held };
+
+    /// The byte at an address.
+    fn load8(&mut self, addr: u32) -> Result<u32, Fault>
+        ensures { Loads meaning 1 addr (held self.old) (held self.new) result };
+
+    /// The halfword of two bytes at an address of any alignment.
+    fn load16(&mut self, addr: u32) -> Result<u32, Fault>
+        ensures { Loads meaning 2 addr (held self.old) (held self.new) result };
+
+    /// The word of four bytes at an address of any alignment.
+    fn load32(&mut self, addr: u32) -> Result<u32, Fault>
+        ensures { Loads meaning 4 addr (held self.old) (held self.new) result };
+
+    /// Stores a byte.
+    fn store8(&mut self, addr: u32, value: u32) -> Result<(), Fault>
+        ensures { Stores meaning 1 addr value (held self.old) (held self.new) result };
+
+    /// Stores a halfword.
+    fn store16(&mut self, addr: u32, value: u32) -> Result<(), Fault>
+        ensures { Stores meaning 2 addr value (held self.old) (held self.new) result };
+
+    /// Stores a word.
+    fn store32(&mut self, addr: u32, value: u32) -> Result<(), Fault>
+        ensures { Stores meaning 4 addr value (held self.old) (held self.new) result };
+
+    /// Whether all `n` bytes from an address are RAM.
+    fn is_ram(&self, addr: u32, n: u32) -> bool
+        ensures is { result ≡ all_ram meaning (held self.now) addr n }
+        ensures ends { IsTrue result → addr + n ≤ 2 ^ 32 };
+
+    ghost lawful: { IsLawful meaning };
+}

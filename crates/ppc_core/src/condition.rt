@@ -1,0 +1,151 @@
+//! Comparisons, traps, the condition register and special registers.
+
+ghost use Rattle.std.specs.Prelude.{◌≡◌, ◌<◌, ◌&&◌, ◌==◌};
+ghost use Rattle.ppc_core.specs.Words.{bits};
+ghost use Rattle.ppc_core.specs.Conditions as condition;
+
+use crate::words::{bits_of, set_bits, signed_of};
+use crate::{fields, registers};
+use wind_base::Regs;
+
+/// The field BF takes how two words compare as signed.
+#[tactic(auto, unfolding(crate::specs::Conditions::with_signed_order))]
+#[inline(always)]
+pub fn compare_signed(x: u32, y: u32, regs: &mut Regs, word: u32)
+    ensures { regs.new ≡ condition.with_signed_order regs.old word x y }
+{
+    let (p, q) = (signed_of(x), signed_of(y));
+    let order = registers::order_of(p < q, q < p, registers::so(regs));
+    registers::set_cr_field(fields::bf(word), order, regs);
+}
+
+/// The field BF takes how two words compare.
+#[tactic(auto, unfolding(crate::specs::Conditions::with_order))]
+#[inline(always)]
+pub fn compare(x: u32, y: u32, regs: &mut Regs, word: u32)
+    ensures { regs.new ≡ condition.with_order regs.old word x y }
+{
+    let order = registers::order_of(x < y, y < x, registers::so(regs));
+    registers::set_cr_field(fields::bf(word), order, regs);
+}
+
+/// Whether a bit of TO is set and its relation holds.
+#[inline(always)]
+fn holds(word: u32, at: u8, relation: bool) -> bool
+    requires { at < 32 }
+    ensures { result ≡ (bits word at at == 1 && relation) }
+{
+    bits_of(word, at, at) == 1 && relation
+}
+
+/// Whether a bit of TO is set whose relation holds of two words.
+#[tactic(auto, unfolding(crate::specs::Conditions::traps))]
+#[inline(always)]
+pub fn is_trapped(x: u32, y: u32, word: u32) -> bool
+    ensures { result ≡ condition.traps word x y }
+{
+    let (p, q) = (signed_of(x), signed_of(y));
+    let less = holds(word, 6, p < q);
+    let greater = holds(word, 7, q < p);
+    let equal = holds(word, 8, x == y);
+    let below = holds(word, 9, x < y);
+    let above = holds(word, 10, y < x);
+    less | greater | equal | below | above
+}
+
+/// The bit BA of the condition register.
+#[inline(always)]
+pub fn in_ba(regs: &Regs, word: u32) -> u32
+    ensures is { result ≡ condition.in_ba regs.now word }
+    ensures below { result < 2 }
+{
+    let n = fields::ra(word) as u8;
+    bits_of(regs.cr, n, n)
+}
+
+/// The bit BB of the condition register.
+#[inline(always)]
+pub fn in_bb(regs: &Regs, word: u32) -> u32
+    ensures is { result ≡ condition.in_bb regs.now word }
+    ensures below { result < 2 }
+{
+    let n = fields::rb(word) as u8;
+    bits_of(regs.cr, n, n)
+}
+
+/// A bit turned.
+#[inline(always)]
+pub fn turn(bit: u32) -> u32
+    requires { bit < 2 }
+    ensures is { result ≡ condition.turned bit }
+    ensures below { result < 2 }
+{
+    1 - bit
+}
+
+/// The bit BT takes a bit.
+#[tactic(auto, unfolding(crate::specs::Conditions::with_bt))]
+#[inline(always)]
+pub fn set_bt(value: u32, regs: &mut Regs, word: u32)
+    requires { value < 2 }
+    ensures { regs.new ≡ condition.with_bt regs.old word value }
+{
+    let n = fields::rt(word) as u8;
+    regs.cr = set_bits(regs.cr, n, n, value);
+}
+
+/// A field of the condition register.
+#[inline(always)]
+pub fn cr_field(regs: &Regs, n: u32) -> u32
+    requires { n < 8 }
+    ensures is { result ≡ condition.cr_field regs.now n }
+    ensures below { result < 16 }
+{
+    bits_of(regs.cr, 4 * n as u8, 4 * n as u8 + 3)
+}
+
+/// SO, OV and CA of XER.
+#[inline(always)]
+pub fn flags(regs: &Regs) -> u32
+    ensures is { result ≡ condition.flags regs.now }
+    ensures below { result < 8 }
+{
+    bits_of(regs.xer, 0, 2)
+}
+
+/// The condition register with the fields that FXM names from a word.
+pub fn moved(cr: u32, s: u32, word: u32) -> u32
+    ensures { result ≡ condition.moved_fields cr s word 8 }
+{
+    let mut made = cr;
+    for k in 0..8u8 {
+        if fields::fxm(word, k) == 1 {
+            made = set_bits(made, 4 * k, 4 * k + 3, bits_of(s, 4 * k, 4 * k + 3));
+        }
+    }
+    made
+}
+
+/// A special register.
+#[inline(always)]
+pub fn special(regs: &Regs, n: u32) -> u32
+    ensures { result ≡ condition.special regs.now n }
+{
+    match n {
+        1 => flags(regs) * 0x2000_0000,
+        8 => regs.lr,
+        _ => regs.ctr,
+    }
+}
+
+/// A special register takes a word.
+#[inline(always)]
+pub fn set_special(n: u32, value: u32, regs: &mut Regs)
+    ensures { regs.new ≡ condition.with_special regs.old n value }
+{
+    match n {
+        1 => regs.xer = bits_of(value, 0, 2) * 0x2000_0000,
+        8 => regs.lr = value,
+        _ => regs.ctr = value,
+    }
+}

@@ -1,0 +1,263 @@
+//! One instruction.
+
+ghost use Rattle.std.specs.Prelude.{◌≡◌};
+ghost use Rattle.ppc_core.specs.Instructions.{trap_where, effect_of, exec_of};
+ghost use Rattle.ppc_core.specs.Outcomes.{Leaves};
+
+use crate::arithmetic::{set_carrying, set_sum, set_sum_carrying};
+use crate::bus::Bus;
+use crate::condition::{in_ba, in_bb, turn};
+use crate::registers::{ca, in_ra, in_ra_or_0, in_rb, in_rs, set_ra};
+use crate::storage::{Address, Load, Store, indexed, load_rt, offset, store_rs};
+use crate::trap::Trap;
+use crate::words::{bits_of, extend_sign};
+use crate::{arithmetic, branch, condition, fields, logic, multiple, registers};
+use ppc_word::{Row, row_for};
+use wind_base::Regs;
+
+/// A trap, or the next instruction.
+#[inline(always)]
+fn trap_if<B: Bus>(trapped: bool, regs: &mut Regs, bus: &mut B) -> Result<(), Trap>
+    ensures { Leaves (trap_where trapped regs.old (B.held bus.old))
+        regs.old (B.held bus.old) regs.new (B.held bus.new) result }
+{
+    if trapped {
+        return Err(Trap::TrapInsn);
+    }
+    registers::step(regs);
+    Ok(())
+}
+
+/// What the row of a word does. One arm a row: with the rest inlined into it, this is a single jump.
+#[tactic(auto, using(crate::proofs::Bounds::or_of_bits), unfolding(crate::specs::Instructions::effect_of))]
+#[inline(always)]
+fn run<B: Bus>(row: Row, regs: &mut Regs, word: u32, bus: &mut B) -> Result<(), Trap>
+    ensures { Leaves (effect_of B.meaning row regs.old word (B.held bus.old))
+        regs.old (B.held bus.old) regs.new (B.held bus.new) result }
+{
+    match row {
+        // Branches and the system call.
+        Row::B => {
+            branch::go(
+                true,
+                branch::from_here(fields::li(word), regs, word),
+                regs,
+                word,
+            );
+            return Ok(());
+        }
+        Row::Bc => {
+            branch::test_and_go(branch::from_here(fields::bd(word), regs, word), regs, word);
+            return Ok(());
+        }
+        Row::Bclr => {
+            branch::test_and_go(regs.lr, regs, word);
+            return Ok(());
+        }
+        Row::Bcctr => {
+            branch::test_and_go(regs.ctr, regs, word);
+            return Ok(());
+        }
+        Row::Sc => return Err(Trap::Sysc),
+        // The condition register.
+        Row::Crand => condition::set_bt(in_ba(regs, word) & in_bb(regs, word), regs, word),
+        Row::Cror => condition::set_bt(in_ba(regs, word) | in_bb(regs, word), regs, word),
+        Row::Crxor => condition::set_bt(in_ba(regs, word) ^ in_bb(regs, word), regs, word),
+        Row::Crnand => condition::set_bt(turn(in_ba(regs, word) & in_bb(regs, word)), regs, word),
+        Row::Crnor => condition::set_bt(turn(in_ba(regs, word) | in_bb(regs, word)), regs, word),
+        Row::Creqv => condition::set_bt(turn(in_ba(regs, word) ^ in_bb(regs, word)), regs, word),
+        Row::Crandc => condition::set_bt(in_ba(regs, word) & turn(in_bb(regs, word)), regs, word),
+        Row::Crorc => condition::set_bt(in_ba(regs, word) | turn(in_bb(regs, word)), regs, word),
+        Row::Mcrf => {
+            let value = condition::cr_field(regs, fields::bfa(word));
+            registers::set_cr_field(fields::bf(word), value, regs);
+        }
+        // Loads and stores.
+        Row::Lbz => return load_rt(Load::Byte, Address::Offset, regs, word, bus),
+        Row::Lbzx => return load_rt(Load::Byte, Address::Indexed, regs, word, bus),
+        Row::Lbzu => return load_rt(Load::Byte, Address::OffsetUpdate, regs, word, bus),
+        Row::Lbzux => return load_rt(Load::Byte, Address::IndexedUpdate, regs, word, bus),
+        Row::Lhz => return load_rt(Load::Half, Address::Offset, regs, word, bus),
+        Row::Lhzx => return load_rt(Load::Half, Address::Indexed, regs, word, bus),
+        Row::Lhzu => return load_rt(Load::Half, Address::OffsetUpdate, regs, word, bus),
+        Row::Lhzux => return load_rt(Load::Half, Address::IndexedUpdate, regs, word, bus),
+        Row::Lha => return load_rt(Load::HalfSigned, Address::Offset, regs, word, bus),
+        Row::Lhax => return load_rt(Load::HalfSigned, Address::Indexed, regs, word, bus),
+        Row::Lhau => return load_rt(Load::HalfSigned, Address::OffsetUpdate, regs, word, bus),
+        Row::Lhaux => return load_rt(Load::HalfSigned, Address::IndexedUpdate, regs, word, bus),
+        Row::Lwz => return load_rt(Load::Word, Address::Offset, regs, word, bus),
+        Row::Lwzx => return load_rt(Load::Word, Address::Indexed, regs, word, bus),
+        Row::Lwzu => return load_rt(Load::Word, Address::OffsetUpdate, regs, word, bus),
+        Row::Lwzux => return load_rt(Load::Word, Address::IndexedUpdate, regs, word, bus),
+        Row::Stb => return store_rs(Store::Byte, Address::Offset, regs, word, bus),
+        Row::Stbx => return store_rs(Store::Byte, Address::Indexed, regs, word, bus),
+        Row::Stbu => return store_rs(Store::Byte, Address::OffsetUpdate, regs, word, bus),
+        Row::Stbux => return store_rs(Store::Byte, Address::IndexedUpdate, regs, word, bus),
+        Row::Sth => return store_rs(Store::Half, Address::Offset, regs, word, bus),
+        Row::Sthx => return store_rs(Store::Half, Address::Indexed, regs, word, bus),
+        Row::Sthu => return store_rs(Store::Half, Address::OffsetUpdate, regs, word, bus),
+        Row::Sthux => return store_rs(Store::Half, Address::IndexedUpdate, regs, word, bus),
+        Row::Stw => return store_rs(Store::Word, Address::Offset, regs, word, bus),
+        Row::Stwx => return store_rs(Store::Word, Address::Indexed, regs, word, bus),
+        Row::Stwu => return store_rs(Store::Word, Address::OffsetUpdate, regs, word, bus),
+        Row::Stwux => return store_rs(Store::Word, Address::IndexedUpdate, regs, word, bus),
+        Row::Lhbrx => return load_rt(Load::HalfReversed, Address::Indexed, regs, word, bus),
+        Row::Lwbrx => return load_rt(Load::WordReversed, Address::Indexed, regs, word, bus),
+        Row::Sthbrx => return store_rs(Store::HalfReversed, Address::Indexed, regs, word, bus),
+        Row::Stwbrx => return store_rs(Store::WordReversed, Address::Indexed, regs, word, bus),
+        Row::Lmw => return multiple::load_multiple(offset(regs, word), regs, word, bus),
+        Row::Stmw => return multiple::store_multiple(offset(regs, word), regs, word, bus),
+        // Sums.
+        Row::Addi => {
+            let value = arithmetic::sum_of(in_ra_or_0(regs, word), fields::si(word), 0);
+            registers::write(fields::rt(word), value, regs);
+        }
+        Row::Addis => {
+            let value = arithmetic::sum_of(in_ra_or_0(regs, word), fields::high_ui(word), 0);
+            registers::write(fields::rt(word), value, regs);
+        }
+        Row::Addic => set_carrying(in_ra(regs, word), fields::si(word), 0, regs, word),
+        Row::AddicDot => {
+            let a = in_ra(regs, word);
+            set_carrying(a, fields::si(word), 0, regs, word);
+            registers::set_cr0(arithmetic::sum_of(a, fields::si(word), 0), regs);
+        }
+        Row::Subfic => set_carrying(!in_ra(regs, word), fields::si(word), 1, regs, word),
+        Row::Add => set_sum(in_ra(regs, word), in_rb(regs, word), 0, regs, word),
+        Row::Subf => set_sum(!in_ra(regs, word), in_rb(regs, word), 1, regs, word),
+        Row::Neg => set_sum(!in_ra(regs, word), 0, 1, regs, word),
+        Row::Addc => set_sum_carrying(in_ra(regs, word), in_rb(regs, word), 0, regs, word),
+        Row::Subfc => set_sum_carrying(!in_ra(regs, word), in_rb(regs, word), 1, regs, word),
+        Row::Adde => set_sum_carrying(in_ra(regs, word), in_rb(regs, word), ca(regs), regs, word),
+        Row::Subfe => set_sum_carrying(!in_ra(regs, word), in_rb(regs, word), ca(regs), regs, word),
+        Row::Addme => set_sum_carrying(in_ra(regs, word), 0xffff_ffff, ca(regs), regs, word),
+        Row::Subfme => set_sum_carrying(!in_ra(regs, word), 0xffff_ffff, ca(regs), regs, word),
+        Row::Addze => set_sum_carrying(in_ra(regs, word), 0, ca(regs), regs, word),
+        Row::Subfze => set_sum_carrying(!in_ra(regs, word), 0, ca(regs), regs, word),
+        // Products and quotients.
+        Row::Mulli => {
+            let value = arithmetic::low_signed(in_ra(regs, word), fields::si(word));
+            registers::write(fields::rt(word), value, regs);
+        }
+        Row::Mulhwu => {
+            let value = arithmetic::high_unsigned(in_ra(regs, word), in_rb(regs, word));
+            registers::set_rt(value, regs, word);
+        }
+        Row::Mulhw => {
+            let value = arithmetic::high_signed(in_ra(regs, word), in_rb(regs, word));
+            registers::set_rt(value, regs, word);
+        }
+        Row::Mullw => arithmetic::set_product(in_ra(regs, word), in_rb(regs, word), regs, word),
+        Row::Divwu => arithmetic::set_quotient(in_ra(regs, word), in_rb(regs, word), regs, word),
+        Row::Divw => arithmetic::set_signed_quotient(
+            in_ra(regs, word),
+            in_rb(regs, word),
+            regs,
+            word,
+        ),
+        // Comparisons and traps.
+        Row::Cmpi => condition::compare_signed(in_ra(regs, word), fields::si(word), regs, word),
+        Row::Cmp => condition::compare_signed(in_ra(regs, word), in_rb(regs, word), regs, word),
+        Row::Cmpli => condition::compare(in_ra(regs, word), fields::ui(word), regs, word),
+        Row::Cmpl => condition::compare(in_ra(regs, word), in_rb(regs, word), regs, word),
+        Row::Twi => {
+            let trapped = condition::is_trapped(in_ra(regs, word), fields::si(word), word);
+            return trap_if(trapped, regs, bus);
+        }
+        Row::Tw => {
+            let trapped = condition::is_trapped(in_ra(regs, word), in_rb(regs, word), word);
+            return trap_if(trapped, regs, bus);
+        }
+        // Logic.
+        Row::Andi => registers::record(
+            fields::ra(word),
+            in_rs(regs, word) & fields::ui(word),
+            regs,
+        ),
+        Row::Andis => registers::record(
+            fields::ra(word),
+            in_rs(regs, word) & fields::high_ui(word),
+            regs,
+        ),
+        Row::Ori => registers::write(fields::ra(word), in_rs(regs, word) | fields::ui(word), regs),
+        Row::Oris => registers::write(
+            fields::ra(word),
+            in_rs(regs, word) | fields::high_ui(word),
+            regs,
+        ),
+        Row::Xori => registers::write(fields::ra(word), in_rs(regs, word) ^ fields::ui(word), regs),
+        Row::Xoris => registers::write(
+            fields::ra(word),
+            in_rs(regs, word) ^ fields::high_ui(word),
+            regs,
+        ),
+        Row::And => set_ra(in_rs(regs, word) & in_rb(regs, word), regs, word),
+        Row::Or => set_ra(in_rs(regs, word) | in_rb(regs, word), regs, word),
+        Row::Xor => set_ra(in_rs(regs, word) ^ in_rb(regs, word), regs, word),
+        Row::Nand => set_ra(!(in_rs(regs, word) & in_rb(regs, word)), regs, word),
+        Row::Nor => set_ra(!(in_rs(regs, word) | in_rb(regs, word)), regs, word),
+        Row::Eqv => set_ra(!(in_rs(regs, word) ^ in_rb(regs, word)), regs, word),
+        Row::Andc => set_ra(in_rs(regs, word) & !in_rb(regs, word), regs, word),
+        Row::Orc => set_ra(in_rs(regs, word) | !in_rb(regs, word), regs, word),
+        Row::Extsb => set_ra(extend_sign(8, in_rs(regs, word) % 0x100), regs, word),
+        Row::Extsh => set_ra(extend_sign(16, in_rs(regs, word) % 0x1_0000), regs, word),
+        Row::Cntlzw => set_ra(in_rs(regs, word).leading_zeros(), regs, word),
+        // Rotation and shifts.
+        Row::Rlwinm => {
+            let value = logic::rotate(fields::rb(word), regs, word) & logic::mask_of(word);
+            set_ra(value, regs, word);
+        }
+        Row::Rlwnm => {
+            let value = logic::rotate(bits_of(in_rb(regs, word), 27, 31), regs, word)
+                & logic::mask_of(word);
+            set_ra(value, regs, word);
+        }
+        Row::Rlwimi => {
+            let rotated = logic::rotate(fields::rb(word), regs, word);
+            let value = logic::merge(logic::mask_of(word), rotated, in_ra(regs, word));
+            set_ra(value, regs, word);
+        }
+        Row::Slw => {
+            let value = logic::shift_left(in_rs(regs, word), logic::distance_of(regs, word));
+            set_ra(value, regs, word);
+        }
+        Row::Srw => {
+            let value = logic::shift_right(in_rs(regs, word), logic::distance_of(regs, word));
+            set_ra(value, regs, word);
+        }
+        Row::Srawi => logic::set_signed_shift(fields::rb(word), regs, word),
+        Row::Sraw => logic::set_signed_shift(logic::distance_of(regs, word), regs, word),
+        // Special registers and the condition register.
+        Row::Mtspr => condition::set_special(fields::spr(word), in_rs(regs, word), regs),
+        Row::Mfspr => {
+            let value = condition::special(regs, fields::spr(word));
+            registers::write(fields::rt(word), value, regs);
+        }
+        Row::Mtcrf => regs.cr = condition::moved(regs.cr, in_rs(regs, word), word),
+        Row::Mcrxr => {
+            registers::set_cr_field(fields::bf(word), condition::flags(regs) * 2, regs);
+            regs.xer = 0;
+        }
+        Row::Mfcr => registers::write(fields::rt(word), regs.cr, regs),
+        // Reservations and the order of accesses.
+        Row::Lwarx => return multiple::load_and_reserve(indexed(regs, word), regs, word, bus),
+        Row::Stwcx => return multiple::store_conditional(indexed(regs, word), regs, word, bus),
+        Row::Isync => {}
+        Row::Sync => {}
+        Row::Eieio => {}
+    }
+    registers::step(regs);
+    Ok(())
+}
+
+/// One instruction: what the row of the word does, or Illegal where it has none. A trap changes nothing.
+#[tactic(auto, unfolding(crate::specs::Instructions::exec_of))]
+pub fn exec<B: Bus>(regs: &mut Regs, word: u32, bus: &mut B) -> Result<(), Trap>
+    ensures { Leaves (exec_of B.meaning regs.old word (B.held bus.old))
+        regs.old (B.held bus.old) regs.new (B.held bus.new) result }
+{
+    let Some(row) = row_for(word) else {
+        return Err(Trap::Illegal);
+    };
+    run(row, regs, word, bus)
+}

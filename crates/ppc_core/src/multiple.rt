@@ -1,0 +1,145 @@
+//! Many words at once, and reservations.
+
+ghost use Rattle.std.specs.Prelude.{◌≡◌, ◌+◌, ◌*◌, ◌≤◌, ◌^◌, true};
+ghost use Rattle.ppc_core.specs.Buses.{all_ram};
+ghost use Rattle.ppc_core.specs.Outcomes.{Leaves};
+ghost use Rattle.ppc_core.specs.Multiples as multiple;
+
+use crate::bus::Bus;
+use crate::trap::Trap;
+use crate::{fields, registers};
+use wind_base::Regs;
+
+/// The registers from `target` on take `count` words.
+fn load_words<B: Bus>(target: u32, at: u32, count: u32, regs: &mut Regs, bus: &mut B)
+    requires registers { target + count ≤ 32 }
+    requires ram { all_ram B.meaning (B.held bus.old) at (4 * count) ≡ true }
+    requires ends { at + 4 * count ≤ 2 ^ 32 }
+    ensures regs { regs.new ≡ multiple.with_words B.meaning regs.old (B.held bus.old) target at count }
+    ensures bus { B.held bus.new ≡ multiple.words_loaded B.meaning (B.held bus.old) at count }
+{
+    for k in 0..count {
+        let Ok(value) = bus.load32(at + 4 * k) else {
+            unreachable!();
+        };
+        registers::write(target + k, value, regs);
+    }
+}
+
+/// Memory takes `count` registers from `source` on.
+fn store_words<B: Bus>(source: u32, at: u32, count: u32, regs: &Regs, bus: &mut B)
+    requires registers { source + count ≤ 32 }
+    requires ram { all_ram B.meaning (B.held bus.old) at (4 * count) ≡ true }
+    requires ends { at + 4 * count ≤ 2 ^ 32 }
+    ensures { B.held bus.new ≡ multiple.words_stored B.meaning regs.now (B.held bus.old) source at count }
+{
+    for k in 0..count {
+        let value = registers::read(regs, source + k);
+        let Ok(()) = bus.store32(at + 4 * k, value) else {
+            unreachable!();
+        };
+    }
+}
+
+/// The registers RT to 31 take the words from an address on.
+#[tactic(auto, unfolding(crate::specs::Multiples::load_multiple_of))]
+pub fn load_multiple<B: Bus>(at: u32, regs: &mut Regs, word: u32, bus: &mut B) -> Result<(), Trap>
+    ensures { Leaves (multiple.load_multiple_of B.meaning regs.old word (B.held bus.old) at)
+        regs.old (B.held bus.old) regs.new (B.held bus.new) result }
+{
+    let target = fields::rt(word);
+    if at % 4 != 0 {
+        return Err(Trap::Align);
+    }
+    if !bus.is_ram(at, 4 * (32 - target)) {
+        return Err(Trap::Access);
+    }
+    load_words(target, at, 32 - target, regs, bus);
+    registers::step(regs);
+    Ok(())
+}
+
+/// The registers RS to 31 go to the words from an address on.
+#[tactic(auto, unfolding(crate::specs::Multiples::store_multiple_of))]
+pub fn store_multiple<B: Bus>(at: u32, regs: &mut Regs, word: u32, bus: &mut B) -> Result<(), Trap>
+    ensures { Leaves (multiple.store_multiple_of B.meaning regs.old word (B.held bus.old) at)
+        regs.old (B.held bus.old) regs.new (B.held bus.new) result }
+{
+    let source = fields::rt(word);
+    if at % 4 != 0 {
+        return Err(Trap::Align);
+    }
+    if !bus.is_ram(at, 4 * (32 - source)) {
+        return Err(Trap::Access);
+    }
+    store_words(source, at, 32 - source, regs, bus);
+    registers::step(regs);
+    Ok(())
+}
+
+/// RT takes the word at an address, which is reserved from then on.
+#[tactic(auto, unfolding(crate::specs::Multiples::load_and_reserve_of))]
+pub fn load_and_reserve<B: Bus>(
+    at: u32,
+    regs: &mut Regs,
+    word: u32,
+    bus: &mut B,
+) -> Result<(), Trap>
+    ensures { Leaves (multiple.load_and_reserve_of B.meaning regs.old word (B.held bus.old) at)
+        regs.old (B.held bus.old) regs.new (B.held bus.new) result }
+{
+    if at % 4 != 0 {
+        return Err(Trap::Align);
+    }
+    if !bus.is_ram(at, 4) {
+        return Err(Trap::Access);
+    }
+    let Ok(value) = bus.load32(at) else {
+        unreachable!();
+    };
+    registers::write(fields::rt(word), value, regs);
+    regs.reserve = Some(at);
+    registers::step(regs);
+    Ok(())
+}
+
+/// Whether an address is reserved.
+fn reserves(reserve: Option<u32>, at: u32) -> bool
+    ensures { result ≡ multiple.is_reserved reserve at }
+{
+    match reserve {
+        Some(n) => n == at,
+        None => false,
+    }
+}
+
+/// (RS) goes to an address exactly where that is reserved, and nothing is reserved then.
+#[tactic(auto, unfolding(crate::specs::Multiples::store_conditional_of))]
+pub fn store_conditional<B: Bus>(
+    at: u32,
+    regs: &mut Regs,
+    word: u32,
+    bus: &mut B,
+) -> Result<(), Trap>
+    ensures { Leaves (multiple.store_conditional_of B.meaning regs.old word (B.held bus.old) at)
+        regs.old (B.held bus.old) regs.new (B.held bus.new) result }
+{
+    if at % 4 != 0 {
+        return Err(Trap::Align);
+    }
+    if !bus.is_ram(at, 4) {
+        return Err(Trap::Access);
+    }
+    let stored = reserves(regs.reserve, at);
+    let mark = if stored { 1 } else { 0 };
+    let value = registers::in_rs(regs, word);
+    if stored {
+        let Ok(()) = bus.store32(at, value) else {
+            unreachable!();
+        };
+    }
+    registers::set_cr_field(0, 2 * mark + registers::so(regs), regs);
+    regs.reserve = None;
+    registers::step(regs);
+    Ok(())
+}

@@ -1,0 +1,209 @@
+//! Loads and stores of one datum.
+
+ghost use Rattle.std.specs.Prelude.{◌≡◌, ◌<◌, ◌*◌, ◌^◌};
+ghost use Rattle.ppc_core.specs.Buses.{Loads, Stores};
+ghost use Rattle.ppc_core.specs.Outcomes.{Leaves};
+ghost use Rattle.ppc_core.specs.Storage as storage;
+
+use crate::bus::{Bus, Fault};
+use crate::trap::Trap;
+use crate::words::extend_sign;
+use crate::{fields, registers};
+use wind_base::Regs;
+
+/// What a load reads, and how a register takes it.
+#[derive(Clone, Copy, Debug)]
+pub enum Load {
+    Byte,
+    Half,
+    /// A halfword with its sign.
+    HalfSigned,
+    /// A halfword with its bytes reversed.
+    HalfReversed,
+    Word,
+    /// A word with its bytes reversed.
+    WordReversed,
+}
+
+/// What a store writes.
+#[derive(Clone, Copy, Debug)]
+pub enum Store {
+    Byte,
+    Half,
+    /// A halfword with its bytes reversed.
+    HalfReversed,
+    Word,
+    /// A word with its bytes reversed.
+    WordReversed,
+}
+
+/// How an access makes its effective address, and whether the base register takes it.
+#[derive(Clone, Copy, Debug)]
+pub enum Address {
+    /// Of a displacement.
+    Offset,
+    OffsetUpdate,
+    Indexed,
+    IndexedUpdate,
+}
+
+/// The effective address of a displacement.
+#[inline(always)]
+pub fn offset(regs: &Regs, word: u32) -> u32
+    ensures { result ≡ storage.offset regs.now word }
+{
+    registers::in_ra_or_0(regs, word).wrapping_add(fields::si(word))
+}
+
+/// The effective address of an indexed form.
+#[inline(always)]
+pub fn indexed(regs: &Regs, word: u32) -> u32
+    ensures { result ≡ storage.indexed regs.now word }
+{
+    registers::in_ra_or_0(regs, word).wrapping_add(registers::in_rb(regs, word))
+}
+
+/// The effective address of a form.
+#[inline(always)]
+fn address_for(address: Address, regs: &Regs, word: u32) -> u32
+    ensures { result ≡ storage.address_of address regs.now word }
+{
+    match address {
+        Address::Offset => offset(regs, word),
+        Address::OffsetUpdate => offset(regs, word),
+        Address::Indexed => indexed(regs, word),
+        Address::IndexedUpdate => indexed(regs, word),
+    }
+}
+
+/// RA after an access.
+#[inline(always)]
+fn set_base(address: Address, at: u32, regs: &mut Regs, word: u32)
+    ensures { regs.new ≡ storage.with_base address regs.old word at }
+{
+    match address {
+        Address::Offset => {}
+        Address::OffsetUpdate => registers::write(fields::ra(word), at, regs),
+        Address::Indexed => {}
+        Address::IndexedUpdate => registers::write(fields::ra(word), at, regs),
+    }
+}
+
+#[inline(always)]
+fn read_datum<B: Bus>(load: Load, at: u32, bus: &mut B) -> Result<u32, Fault>
+    ensures { Loads B.meaning (storage.load_width load) at (B.held bus.old) (B.held bus.new) result }
+{
+    match load {
+        Load::Byte => bus.load8(at),
+        Load::Half => bus.load16(at),
+        Load::HalfSigned => bus.load16(at),
+        Load::HalfReversed => bus.load16(at),
+        Load::Word => bus.load32(at),
+        Load::WordReversed => bus.load32(at),
+    }
+}
+
+#[inline(always)]
+fn write_datum<B: Bus>(store: Store, at: u32, value: u32, bus: &mut B) -> Result<(), Fault>
+    ensures { Stores B.meaning (storage.store_width store) at value (B.held bus.old) (B.held bus.new) result }
+{
+    match store {
+        Store::Byte => bus.store8(at, value),
+        Store::Half => bus.store16(at, value),
+        Store::HalfReversed => bus.store16(at, value),
+        Store::Word => bus.store32(at, value),
+        Store::WordReversed => bus.store32(at, value),
+    }
+}
+
+#[inline(always)]
+fn reverse_half(half: u32) -> u32
+    requires { half < 2 ^ 16 }
+    ensures is { result ≡ storage.reversed_half half }
+    ensures below { result < 2 ^ 16 }
+{
+    half % 0x100 * 0x100 + half / 0x100
+}
+
+#[inline(always)]
+fn reverse_word(word: u32) -> u32
+    ensures { result ≡ storage.reversed_word word }
+{
+    reverse_half(word % 0x1_0000) * 0x1_0000 + reverse_half(word / 0x1_0000)
+}
+
+/// What the register takes of what was read.
+#[inline(always)]
+fn taken_of(load: Load, datum: u32) -> u32
+    requires { datum < 2 ^ (8 * storage.load_width load) }
+    ensures { result ≡ storage.taken load datum }
+{
+    match load {
+        Load::Byte => datum,
+        Load::Half => datum,
+        Load::HalfSigned => extend_sign(16, datum),
+        Load::HalfReversed => reverse_half(datum),
+        Load::Word => datum,
+        Load::WordReversed => reverse_word(datum),
+    }
+}
+
+/// What is written of a register.
+#[inline(always)]
+fn given_of(store: Store, value: u32) -> u32
+    ensures { result ≡ storage.given store value }
+{
+    match store {
+        Store::Byte => value % 0x100,
+        Store::Half => value % 0x1_0000,
+        Store::HalfReversed => reverse_half(value % 0x1_0000),
+        Store::Word => value,
+        Store::WordReversed => reverse_word(value),
+    }
+}
+
+/// RT takes the datum at the effective address.
+#[tactic(auto, unfolding(crate::specs::Storage::load_of))]
+#[inline(always)]
+pub fn load_rt<B: Bus>(
+    what: Load,
+    address: Address,
+    regs: &mut Regs,
+    word: u32,
+    bus: &mut B,
+) -> Result<(), Trap>
+    ensures { Leaves (storage.load_of B.meaning what address regs.old word (B.held bus.old))
+        regs.old (B.held bus.old) regs.new (B.held bus.new) result }
+{
+    let at = address_for(address, regs, word);
+    let Ok(datum) = read_datum(what, at, bus) else {
+        return Err(Trap::Access);
+    };
+    registers::write(fields::rt(word), taken_of(what, datum), regs);
+    set_base(address, at, regs, word);
+    registers::step(regs);
+    Ok(())
+}
+
+/// (RS) goes to the effective address.
+#[tactic(auto, unfolding(crate::specs::Storage::store_of))]
+#[inline(always)]
+pub fn store_rs<B: Bus>(
+    what: Store,
+    address: Address,
+    regs: &mut Regs,
+    word: u32,
+    bus: &mut B,
+) -> Result<(), Trap>
+    ensures { Leaves (storage.store_of B.meaning what address regs.old word (B.held bus.old))
+        regs.old (B.held bus.old) regs.new (B.held bus.new) result }
+{
+    let at = address_for(address, regs, word);
+    let value = given_of(what, registers::in_rs(regs, word));
+    let Ok(()) = write_datum(what, at, value, bus) else {
+        return Err(Trap::Access);
+    };
+    set_base(address, at, regs, word);
+    registers::step(regs);
+    Ok(())
+}

@@ -1,0 +1,59 @@
+//! Words and their bits, which are numbered from the most significant.
+
+ghost use Rattle.std.specs.Prelude.{◌≡◌, ◌<◌, ◌≤◌, ◌+◌, ◌-◌, ◌^◌};
+ghost use Rattle.ppc_core.specs.Words.{bits, with_bits, sign_extended, signed, fits};
+
+/// The number in bits `first` to `last` of a word.
+#[inline(always)]
+pub fn bits_of(word: u32, first: u8, last: u8) -> u32
+    requires order { first ≤ last }
+    requires end { last < 32 }
+    ensures is { result ≡ bits word first last }
+    ensures below { result < 2 ^ (last + 1 - first) }
+{
+    ((word as u64 >> (31 - last)) % (1 << (last + 1 - first))) as u32
+}
+
+/// The word with this number in bits `first` to `last`.
+#[inline(always)]
+pub fn set_bits(word: u32, first: u8, last: u8, value: u32) -> u32
+    requires order { first ≤ last }
+    requires end { last < 32 }
+    requires below { value < 2 ^ (last + 1 - first) }
+    ensures { result ≡ with_bits word first last value }
+{
+    let word = word as u64;
+    let above = word >> (32 - first) << (32 - first);
+    (above + ((value as u64) << (31 - last)) + word % (1 << (31 - last))) as u32
+}
+
+/// A number of `width` bits, with its sign carried on to a word.
+#[inline(always)]
+pub fn extend_sign(width: u8, n: u32) -> u32
+    requires some { 0 < width }
+    requires most { width < 32 }
+    requires below { n < 2 ^ width }
+    ensures { result ≡ sign_extended width n }
+{
+    if n < 1 << (width - 1) {
+        n
+    } else {
+        n + (0xffff_ffff - ((1 << width) - 1))
+    }
+}
+
+/// The signed reading of a word.
+#[inline(always)]
+pub fn signed_of(word: u32) -> i64
+    ensures { result ≡ signed word }
+{
+    i64::from(word.cast_signed())
+}
+
+/// Whether a number is the signed reading of some word.
+#[inline(always)]
+pub fn is_word(number: i64) -> bool
+    ensures { result ≡ fits number }
+{
+    -0x8000_0000 <= number && number < 0x8000_0000
+}

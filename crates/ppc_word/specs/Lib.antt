@@ -1,0 +1,9 @@
+pub mod Words
+pub mod Rules
+pub mod Pieces
+pub mod Table
+pub mod Rows
+pub mod Insn
+pub mod Patterns
+pub mod Places
+pub mod Laws

@@ -1,0 +1,68 @@
+//! What the words of an instruction meet beside their pieces.
+
+ghost use Rattle.std.specs.Prelude.{◌≡◌};
+ghost use Rattle.ppc_word.specs.Rules.{allowed, rt_of, ra_of, spr_of};
+
+use crate::word::part;
+
+// The special registers that there are, by their numbers.
+const XER: u32 = 1;
+
+const LR: u32 = 8;
+
+const CTR: u32 = 9;
+
+/// What a word meets beside its pieces.
+#[derive(Clone, Copy, Debug, Drop)]
+pub(crate) enum Rule {
+    /// Nothing.
+    Any,
+    /// The base register is neither 0 nor the target.
+    LoadUpdate,
+    /// The base register is not 0.
+    StoreUpdate,
+    /// The base register is below the target.
+    LoadMultiple,
+    /// There is a special register of this number.
+    SpecialRegister,
+    /// The branch doesn't count down.
+    NoCount,
+}
+
+/// Whether a word meets a rule.
+pub(crate) fn is_allowed(rule: Rule, word: u32) -> bool
+    ensures { result ≡ allowed rule word }
+{
+    match rule {
+        Rule::Any => true,
+        Rule::LoadUpdate => base(word) != 0 && base(word) != target(word),
+        Rule::StoreUpdate => base(word) != 0,
+        Rule::LoadMultiple => base(word) < target(word),
+        Rule::SpecialRegister => {
+            let register = special_register(word);
+            register == XER || register == LR || register == CTR
+        }
+        Rule::NoCount => part(word, 23, 1) == 1,
+    }
+}
+
+// Bits 6 to 10.
+fn target(word: u32) -> u32
+    ensures { result ≡ rt_of word }
+{
+    part(word, 21, 5)
+}
+
+// Bits 11 to 15.
+fn base(word: u32) -> u32
+    ensures { result ≡ ra_of word }
+{
+    part(word, 16, 5)
+}
+
+// The number in bits 11 to 20, whose lower half stands first.
+fn special_register(word: u32) -> u32
+    ensures { result ≡ spr_of word }
+{
+    part(word, 11, 5) * 0x20 + part(word, 16, 5)
+}
