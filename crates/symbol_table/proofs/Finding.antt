@@ -1,5 +1,5 @@
 -- The newest entry of lists that are joined, and what it is.
-use Rattle.std.proofs.Common.{◌≡◌, ℕ, zero, suc, ◌<◌, Bool, true, false, cond, List, [], ◌∷◌, ◌++◌, length, Option, Some, None, refl, sym, ap, ◌∙◌, subst, arith}
+use Rattle.std.proofs.Common.{◌≡◌, Bool, true, false, cond, List, [], ◌∷◌, ◌++◌, Option, Some, None, refl, sym, ap, ◌∙◌, subst, arith}
 use Rattle.std.specs.Prelude.{reverse}
 use Rattle.std.specs.Option.{option_or}
 use Rattle.std.specs.List.{All, find as first}
@@ -56,11 +56,11 @@ found p [] s e = absurd (cc)
 found p (x ∷ xs) s e =
     elim (newest p xs) as (λ o. newest p xs ≡ o → option_or o (one_of p x) ≡ Some s → IsNewest p (x ∷ xs) s) [
       | None ↦ λ n q.
-          let (yes, is) = passing p x s q in record {
+          let (passes, is) = passing p x s q in record {
             older = [];
             newer = xs;
             stands = ap (λ y. y ∷ xs) is;
-            passes = subst (λ y. p y ≡ true) is yes;
+            passes = subst (λ y. p y ≡ true) is passes;
             last = absent p xs n;
           }
       | Some t ↦ λ n q.

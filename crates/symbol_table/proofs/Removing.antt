@@ -1,12 +1,14 @@
 -- What a removal leaves.
-use Rattle.std.proofs.Common.{◌≡◌, ℕ, zero, suc, ◌<◌, Bool, true, false, cond, eqb, not, List, [], ◌∷◌, length, get_or, Option, Some, None, refl, sym, ap, ◌∙◌, arith}
+use Rattle.std.proofs.Common.{◌≡◌, ℕ, zero, suc, ◌+◌, Bool, true, false, cond, eqb, not, List, [], ◌∷◌, length, Option, Some, None, refl, sym, ap, ◌∙◌, arith}
 use Rattle.std.specs.List.{All, Contains}
 use Rattle.std.specs.Option.{option_or}
 use Rattle.std.proofs.lemmas.Bool.{eqb-true, eqb-false, ne_eqb}
 use Rattle.std.proofs.lemmas.List.Elements.{All-cons}
+use Rattle.std.proofs.lemmas.List.Filters.{length-filter_both}
+use Rattle.std.proofs.lemmas.List.Sums.{length-filter}
 use Rattle.symbol_table.specs.declared.symbol.Symbol.{Symbol}
 use Rattle.symbol_table.specs.Newest.{newest}
-use Rattle.symbol_table.specs.State.{without_group}
+use Rattle.symbol_table.specs.State.{without_group, count_of}
 use Rattle.symbol_table.proofs.Finding.{newest-cons}
 
 -- the entries behind the first are kept or not, as the first is
@@ -49,3 +51,8 @@ same p group (s ∷ ss) h =
           ∙ ap (λ o. option_or o (cond (p s) (Some s) None)) rest
           ∙ sym (newest-cons p s ss)
     ] refl
+
+pub counted : (group : ℕ) (tab : List Symbol) → length (without_group group tab) + count_of group tab ≡ length tab
+counted group tab =
+    let both = length-filter_both (λ (s : Symbol). eqb s.group group) (λ s. not (eqb s.group group)) (λ s. refl) tab in
+    let count = length-filter (λ (s : Symbol). eqb s.group group) tab in omega arith

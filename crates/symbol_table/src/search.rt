@@ -15,7 +15,7 @@ fn has_name(symbol: &Symbol, name: &[u8]) -> bool
 pub(crate) fn newest_named<'a>(list: &'a [Symbol], name: &[u8]) -> Option<&'a Symbol>
     ensures { option_copied result ≡ find list.now name.now }
 {
-    list.iter().rfind(|symbol| has_name(symbol, name))
+    list.iter().rev().find(|symbol| has_name(symbol, name))
 }
 
 /// The newest global symbol of a name.
@@ -23,12 +23,13 @@ pub(crate) fn newest_global<'a>(list: &'a [Symbol], name: &[u8]) -> Option<&'a S
     ensures { option_copied result ≡ find_global list.now name.now }
 {
     list.iter()
-        .rfind(|symbol| symbol.global && has_name(symbol, name))
+        .rev()
+        .find(|symbol| symbol.global && has_name(symbol, name))
 }
 
 /// The newest symbol of a value.
 pub(crate) fn newest_valued(list: &[Symbol], value: u32) -> Option<&Symbol>
     ensures { option_copied result ≡ find_by_value list.now value }
 {
-    list.iter().rfind(|symbol| symbol.value == value)
+    list.iter().rev().find(|symbol| symbol.value == value)
 }

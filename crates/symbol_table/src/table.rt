@@ -29,10 +29,8 @@ impl Model for Symbols {
 
     ghost view = { λ t. record { list = t.list.items; spare = t.spare } };
 
-    ghost invariant = {
-        λ t. (length t.list.items + t.spare ≤ vec_capacity t.list)
-            × IsTable (record { list = t.list.items; spare = t.spare })
-    };
+    ghost invariant = { λ t. (length t.list.items + t.spare ≤ vec_capacity t.list)
+        × IsTable (record { list = t.list.items; spare = t.spare }) };
 }
 
 impl Symbols {
