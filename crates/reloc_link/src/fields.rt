@@ -92,8 +92,16 @@ fn put_hint(hint: Hint, distance: u32, word: u32) -> u32
 {
     match hint {
         Hint::Kept => word,
-        Hint::Taken => put_bits(HINT_BIT, word, if distance < NEGATIVE { HINT_BIT } else { 0 }),
-        Hint::NotTaken => put_bits(HINT_BIT, word, if distance < NEGATIVE { 0 } else { HINT_BIT }),
+        Hint::Taken => put_bits(
+            HINT_BIT,
+            word,
+            if distance < NEGATIVE { HINT_BIT } else { 0 },
+        ),
+        Hint::NotTaken => put_bits(
+            HINT_BIT,
+            word,
+            if distance < NEGATIVE { 0 } else { HINT_BIT },
+        ),
     }
 }
 

@@ -4,8 +4,12 @@
 
 mod fields;
 mod kind;
+mod laws;
 mod patching;
+#[cfg(test)]
+mod tests;
 
 pub use fields::{FieldFault, field, width};
 pub use kind::RelocType;
+pub use laws::{patch_law, types_law};
 pub use patching::{Binding, RelocErr, patch};
