@@ -1,17 +1,16 @@
 -- Fields written in order: the first refusal, each field, and the bytes outside.
-use Rattle.std.proofs.Common.{◌≡◌, ℕ, zero, suc, ◌+◌, ◌≤◌, ◌<◌, List, [], ◌∷◌, length, take, get_or, Option, None, Some, Result, Ok, Err, refl, sym, ◌∙◌, ap, subst, arith}
+use Rattle.std.proofs.Common.{◌≡◌, ℕ, suc, ◌+◌, List, [], ◌∷◌, length, take, get_or, None, Some, Result, Ok, Err, refl, sym, ◌∙◌, ap, subst, arith}
 use Rattle.std.specs.List.{All, AllPairs}
 use Rattle.std.proofs.lemmas.List.Elements.{All-cons}
-use Rattle.byteorder.specs.Endian.{big_bytes}
 use Rattle.reloc_link.specs.declared.kind.RelocType.{RelocType}
 use Rattle.reloc_link.specs.declared.kind.RelocType.TheVariants.{Nothing, Addr32, Addr24, Addr16, Addr16Lo, Addr16Hi, Addr16Ha, Addr14, Addr14BrTaken, Addr14BrNTaken, Rel24, Rel14, Rel14BrTaken, Rel14BrNTaken, Uaddr32, Uaddr16, Rel32}
 use Rattle.reloc_link.specs.declared.fields.FieldFault.{FieldFault}
 use Rattle.reloc_link.specs.declared.patching.Binding.{Binding}
 use Rattle.reloc_link.specs.declared.patching.RelocErr.{RelocErr}
-use Rattle.reloc_link.specs.Types.{number_of, type_of, width_of}
+use Rattle.reloc_link.specs.Types.{number_of, type_of}
 use Rattle.reloc_link.specs.Patched.{LiesWithin, Patched, asked, written, after_field, numbered, patched}
 use Rattle.reloc_link.specs.Laws.{IsOutside, Apart, Holds, IsDone, IsFirstRefused}
-use Rattle.reloc_link.proofs.Writing.{length-written, written_holds, written_outside, outside_other, asked_apart, length-patched}
+use Rattle.reloc_link.proofs.Writing.{length-written, written_holds, written_outside, outside_other, asked_apart}
 
 pub own_number : (t : RelocType) → type_of (number_of t) ≡ Some t
 own_number Nothing = refl

@@ -1,13 +1,13 @@
 -- One field written: its bytes, and all others.
-use Rattle.std.proofs.Common.{◌≡◌, ℕ, zero, suc, ◌+◌, ◌*◌, ◌^◌, ◌≤◌, ◌<◌, ◌⊎◌, inl, inr, List, [], ◌∷◌, ◌++◌, length, take, drop, get_or, Option, Some, Result, Ok, Err, refl, sym, ◌∙◌, ap, subst, arith}
+use Rattle.std.proofs.Common.{◌≡◌, ℕ, zero, suc, ◌+◌, ◌*◌, ◌^◌, ◌≤◌, ◌<◌, inl, inr, List, [], ◌∷◌, length, drop, get_or, Some, Ok, Err, refl, sym, ◌∙◌, ap, subst, arith}
 use Rattle.std.specs.List.{All}
 use Rattle.std.proofs.lemmas.List.{places}
-use Rattle.byteorder.specs.Endian.{big_number, big_from, big_bytes}
+use Rattle.byteorder.specs.Endian.{big_from, big_bytes}
 use Rattle.byteorder.specs.Numbers.{length-bytes_high_first}
 use Rattle.reloc_link.specs.declared.patching.Binding.{Binding}
 use Rattle.reloc_link.specs.Types.{width_of}
 use Rattle.reloc_link.specs.Formula.{field}
-use Rattle.reloc_link.specs.Patched.{LiesWithin, Patched, content, asked, written, after_field, numbered, patched}
+use Rattle.reloc_link.specs.Patched.{LiesWithin, content, asked, written, after_field, numbered, patched}
 use Rattle.reloc_link.specs.Laws.{IsOutside, Apart, Holds}
 
 pub length-written : (image : List ℕ) (b : Binding) (v : ℕ) → LiesWithin (length image) b → length (written image b v) ≡ length image

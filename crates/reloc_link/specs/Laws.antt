@@ -1,5 +1,5 @@
 -- What follows of the types, and of writing fields in order, alone.
-use Rattle.std.specs.Prelude.{◌≡◌, ◌⊎◌, ℕ, ◌+◌, ◌<◌, ◌≤◌, List, length, take, slice_index, slice_index_or, Option, None, Some, Ok, Err}
+use Rattle.std.specs.Prelude.{◌≡◌, ◌⊎◌, ℕ, ◌+◌, ◌<◌, ◌≤◌, List, length, take, slice_index, slice_index_or, None, Some, Ok, Err}
 use Rattle.std.specs.List.{All, AllPairs}
 use Rattle.byteorder.specs.Endian.{big_bytes}
 use Rattle.reloc_link.specs.declared.kind.RelocType.{RelocType}

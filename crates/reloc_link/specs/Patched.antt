@@ -1,5 +1,5 @@
 -- Bindings written into an image in order, up to the first that is refused.
-use Rattle.std.specs.Prelude.{ℕ, ◌+◌, ◌≤◌, List, [], ◌∷◌, ◌++◌, length, take, drop, Option, Some, None, Result, Ok, Err}
+use Rattle.std.specs.Prelude.{ℕ, ◌+◌, ◌≤◌, List, [], ◌∷◌, ◌++◌, take, drop, Option, Some, None, Result, Ok, Err}
 use Rattle.byteorder.specs.Endian.{big_number, big_bytes}
 use Rattle.reloc_link.specs.declared.fields.FieldFault.{FieldFault}
 use Rattle.reloc_link.specs.declared.fields.FieldFault.TheVariants.{Range, Unaligned, Unsupported}

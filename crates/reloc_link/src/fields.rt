@@ -90,19 +90,12 @@ fn put_bits(mask: u32, old: u32, v: u32) -> u32
 fn put_hint(hint: Hint, distance: u32, word: u32) -> u32
     ensures { result ≡ hinted hint distance word }
 {
-    match hint {
-        Hint::Kept => word,
-        Hint::Taken => put_bits(
-            HINT_BIT,
-            word,
-            if distance < NEGATIVE { HINT_BIT } else { 0 },
-        ),
-        Hint::NotTaken => put_bits(
-            HINT_BIT,
-            word,
-            if distance < NEGATIVE { 0 } else { HINT_BIT },
-        ),
-    }
+    let set = match hint {
+        Hint::Kept => return word,
+        Hint::Taken => distance < NEGATIVE,
+        Hint::NotTaken => distance >= NEGATIVE,
+    };
+    put_bits(HINT_BIT, word, if set { HINT_BIT } else { 0 })
 }
 
 fn put(form: Form, v: u32, distance: u32, old: u32) -> Result<u32, FieldFault>
