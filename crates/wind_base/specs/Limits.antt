@@ -112,3 +112,18 @@ wait_forever = greatest_word
 
 abbrev pub no_wait : ℕ
 no_wait = 0
+
+-- ---- object files
+-- how many section headers an object file has at most, symbol table entries, and relocations of its loaded sections
+abbrev pub most_section_headers : ℕ
+most_section_headers = 4096
+
+abbrev pub most_symbol_entries : ℕ
+most_symbol_entries = 65536
+
+abbrev pub most_relocations : ℕ
+most_relocations = 1048576
+
+-- how many bytes a section that is loaded has at most, and a common symbol: 16 MiB
+abbrev pub most_section_bytes : ℕ
+most_section_bytes = 16777216

@@ -74,3 +74,15 @@ pub const SHORT_NAME_BYTES: usize = 31;
 
 /// The most bytes of the name of a module or of a symbol.
 pub const NAME_BYTES: usize = 255;
+
+/// The most section headers of an object file.
+pub const SECTION_HEADERS: u32 = 4096;
+
+/// The most entries of an object file's symbol table, number 0 among them.
+pub const SYMBOL_ENTRIES: u32 = 65_536;
+
+/// The most relocations of an object file's loaded sections together.
+pub const RELOCATIONS: u32 = 1_048_576;
+
+/// The most bytes of a section that is loaded, and of a common symbol: 16 MiB.
+pub const SECTION_BYTES: u32 = 16_777_216;

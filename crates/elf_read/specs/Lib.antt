@@ -1,0 +1,9 @@
+pub mod Standard
+pub mod Places
+pub mod Rule
+pub mod Numbered
+pub mod Tables
+pub mod Rules
+pub mod Contents
+pub mod First
+pub mod Modules

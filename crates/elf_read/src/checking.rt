@@ -1,0 +1,33 @@
+//! All rules in their order.
+
+ghost use Rattle.std.specs.Prelude.{◌≡◌};
+ghost use Rattle.elf_read.specs.Rules.{checked};
+
+use crate::error::ElfErr;
+use crate::front_rules::{check_headers, check_ident, check_length, check_machine, check_type};
+use crate::relocation_rules::{check_relocations, check_tables};
+use crate::section_rules::{check_contents, check_loads, check_names};
+use crate::symbol_rules::{check_symbols, check_symtabs};
+use crate::tables::symtab;
+
+/// All rules of an object file in their order, up to the first that fails, which is the refusal. It takes
+/// no memory, and time for each byte and each entry of the file.
+#[tactic(auto, unfolding(crate::specs::Rules::checked))]
+pub fn check(bytes: &[u8]) -> Result<(), ElfErr>
+    ensures { result ≡ checked bytes.now }
+{
+    check_length(bytes)?;
+    check_ident(bytes)?;
+    check_machine(bytes)?;
+    check_type(bytes)?;
+    check_headers(bytes)?;
+    check_contents(bytes)?;
+    check_names(bytes)?;
+    check_loads(bytes)?;
+    let table = symtab(bytes);
+    check_symtabs(bytes, table)?;
+    check_symbols(bytes, table)?;
+    check_tables(bytes, table)?;
+    check_relocations(bytes, table)?;
+    Ok(())
+}

@@ -1,0 +1,19 @@
+//! Laws of what a file holds and of its refusal.
+
+ghost use Rattle.elf_read.specs.First.{RefusedFirst, EachFails, OneAnswer, NeverMemory};
+ghost use Rattle.elf_read.specs.Modules.{HoldsModule};
+
+/// The law of refusals: a file is refused by the first of its rules that fails; a rule for each number fails
+/// at the first number that it refuses; each file has exactly one module or exactly one refusal; and want of
+/// memory is no refusal of a rule.
+pub fn refusal_law()
+    ensures first { RefusedFirst }
+    ensures numbers { EachFails }
+    ensures one { OneAnswer }
+    ensures never { NeverMemory }
+{}
+
+/// The law of modules: what a file holds has the numbers, sizes and places that its rules ask for.
+pub fn module_law()
+    ensures { HoldsModule }
+{}

@@ -1,0 +1,32 @@
+//! Relocatable object files for PowerPC (ELF, System V ABI): what a file holds, or the first rule that
+//! refuses it.
+#![tactic(auto)]
+
+mod checking;
+mod entries;
+mod error;
+mod front_rules;
+mod items;
+mod laws;
+mod module;
+#[cfg(test)]
+mod object;
+mod places;
+mod reading;
+mod relocation_rules;
+mod section_rules;
+pub mod standard;
+mod symbol_rules;
+mod tables;
+#[cfg(test)]
+mod tests;
+
+pub use checking::check;
+pub use entries::{RelaEntry, SectionHeader, SymbolEntry};
+pub use error::ElfErr;
+pub use items::Items;
+pub use laws::{module_law, refusal_law};
+pub use module::{Body, Bytes, Module, Rel, RelList, Sect, SectList, Sym, SymList, SymPlace};
+pub use reading::read;
+pub use section_rules::is_alignment;
+pub use tables::width;

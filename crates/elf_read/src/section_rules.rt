@@ -1,0 +1,135 @@
+//! The rules of sections: what they hold, their names, and which of them can be loaded.
+
+ghost use Rattle.std.specs.Prelude.{◌≡◌, ◌<◌, ◌^◌};
+ghost use Rattle.elf_read.specs.Rule.{each};
+ghost use Rattle.elf_read.specs.Rules.{has_content as has_content_of, content_rule, strings_rule, name_rule, names_rule, is_alignment as is_alignment_of, is_loadable as is_loadable_of, load_rule};
+ghost use Rattle.elf_read.specs.Tables.{header_count as header_count_of, section_names as section_names_of};
+
+use crate::entries::SectionHeader;
+use crate::error::ElfErr;
+use crate::places::half;
+use crate::standard::{
+    E_SHSTRNDX, SH_OFFSET, SHF_TLS_OR_COMPRESSED, SHT_NOBITS, SHT_NOTE, SHT_NULL, SHT_PROGBITS,
+    SHT_STRTAB,
+};
+use crate::tables::{has_name, header, header_count, header_place, is_loaded, section_names};
+use wind_base::limits::SECTION_BYTES;
+
+// Whether a section of this header holds something in the file.
+#[tactic(auto, unfolding(crate::specs::Rules::has_content))]
+fn has_content(h: SectionHeader) -> bool
+    ensures { result ≡ has_content_of h }
+{
+    h.kind != SHT_NULL && h.kind != SHT_NOBITS
+}
+
+fn check_content(bytes: &[u8], i: usize) -> Result<(), ElfErr>
+    requires { i < 2 ^ 16 }
+    ensures { result ≡ content_rule bytes.now i }
+{
+    let h = header(bytes, i);
+    if has_content(h) && h.offset as usize + h.size as usize > bytes.len() {
+        let place = header_place(bytes, i) + SH_OFFSET;
+        return Err(ElfErr::Short(place as u64));
+    }
+    Ok(())
+}
+
+/// What each section holds lies in the file.
+#[tactic(auto, using(crate::proofs::Each::each_more, crate::proofs::Each::each_none))]
+pub(crate) fn check_contents(bytes: &[u8]) -> Result<(), ElfErr>
+    ensures { result ≡ each 0 (header_count_of bytes.now) (content_rule bytes.now) }
+{
+    let count = header_count(bytes);
+    for i in 0..count {
+        check_content(bytes, i)?;
+    }
+    Ok(())
+}
+
+// The names of sections stand in a string table.
+fn check_strings(bytes: &[u8]) -> Result<(), ElfErr>
+    ensures { result ≡ strings_rule bytes.now }
+{
+    let i = half(bytes, E_SHSTRNDX) as usize;
+    if header(bytes, i).kind != SHT_STRTAB {
+        return Err(ElfErr::BadSection(header_place(bytes, i) as u64));
+    }
+    Ok(())
+}
+
+fn check_name(bytes: &[u8], names: &[u8], i: usize) -> Result<(), ElfErr>
+    requires table { names.now ≡ section_names_of bytes.now }
+    requires low { i < 2 ^ 16 }
+    ensures { result ≡ name_rule bytes.now i }
+{
+    if !has_name(names, header(bytes, i).name as usize) {
+        return Err(ElfErr::BadSection(header_place(bytes, i) as u64));
+    }
+    Ok(())
+}
+
+#[tactic(auto, using(crate::proofs::Each::each_more, crate::proofs::Each::each_none))]
+fn check_each_name(bytes: &[u8]) -> Result<(), ElfErr>
+    ensures { result ≡ each 0 (header_count_of bytes.now) (name_rule bytes.now) }
+{
+    let count = header_count(bytes);
+    let names = section_names(bytes);
+    for i in 0..count {
+        check_name(bytes, names, i)?;
+    }
+    Ok(())
+}
+
+/// Each section has a name.
+pub(crate) fn check_names(bytes: &[u8]) -> Result<(), ElfErr>
+    ensures { result ≡ names_rule bytes.now }
+{
+    check_strings(bytes)?;
+    check_each_name(bytes)
+}
+
+/// Whether a number is an alignment: a power of two up to 65,536.
+#[tactic(auto, unfolding(crate::specs::Rules::is_alignment))]
+pub fn is_alignment(n: u32) -> bool
+    ensures { result ≡ is_alignment_of n }
+{
+    [
+        1, 2, 4, 8, 16, 32, 64, 128, 256, 512, 1024, 2048, 4096, 8192, 16384, 32768, 65536,
+    ]
+    .iter()
+    .any(|p| *p == n)
+}
+
+// Whether a section of this header can be loaded.
+#[tactic(auto, unfolding(crate::specs::Rules::is_loadable))]
+fn is_loadable(h: SectionHeader) -> bool
+    ensures { result ≡ is_loadable_of h }
+{
+    (h.kind == SHT_PROGBITS || h.kind == SHT_NOTE || h.kind == SHT_NOBITS)
+        && h.flags & SHF_TLS_OR_COMPRESSED == 0
+        && (h.align == 0 || is_alignment(h.align))
+        && h.size <= SECTION_BYTES
+}
+
+fn check_load(bytes: &[u8], i: usize) -> Result<(), ElfErr>
+    requires { i < 2 ^ 16 }
+    ensures { result ≡ load_rule bytes.now i }
+{
+    if is_loaded(bytes, i) && !is_loadable(header(bytes, i)) {
+        return Err(ElfErr::BadSection(header_place(bytes, i) as u64));
+    }
+    Ok(())
+}
+
+/// Each section that is to be loaded can be.
+#[tactic(auto, using(crate::proofs::Each::each_more, crate::proofs::Each::each_none))]
+pub(crate) fn check_loads(bytes: &[u8]) -> Result<(), ElfErr>
+    ensures { result ≡ each 0 (header_count_of bytes.now) (load_rule bytes.now) }
+{
+    let count = header_count(bytes);
+    for i in 0..count {
+        check_load(bytes, i)?;
+    }
+    Ok(())
+}
