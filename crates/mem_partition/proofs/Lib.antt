@@ -1,0 +1,5 @@
+pub mod Places
+pub mod Keeping
+pub mod Allocs
+mod Meeting
+mod Counting

@@ -1,0 +1,8 @@
+use Rattle.std.proofs.Common.{◌∙◌}
+use Rattle.mem_partition.proofs.Keeping.{inserted}
+use Rattle.mem_partition.proofs.held.put_block.Goals as goal
+
+pub returns-clause-items : goal.returns-clause-items
+returns-clause-items c =
+    c.in-Ok.ensures.items
+    ∙ inserted c.args.block c.args.blocks.now.items c.rank_of-place.result (rw c.deref.ensures.value at c.rank_of-place.ensures.value)

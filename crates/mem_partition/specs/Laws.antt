@@ -1,0 +1,58 @@
+-- What follows of the definitions of places and of the calls alone.
+use Rattle.std.specs.Prelude.{◌≡◌, ℕ, ◌+◌, ◌<◌, ◌≤◌, ◌%◌, ◌⊎◌, max, List, Option, Some, Ok}
+use Rattle.std.specs.List.{All, AllPairs, Any}
+use Rattle.mem_partition.specs.declared.block.Block.{Block}
+use Rattle.mem_partition.specs.declared.block.Class.{Class}
+use Rattle.mem_partition.specs.Place.{grain, aligned, rounded, place, IsPlace, Lies}
+use Rattle.mem_partition.specs.State.{PartState, IsPart, Laid, alloc_of, after_alloc, after_free}
+
+-- the address is one of size addresses from a start on
+abbrev pub IsIn : ℕ → ℕ → ℕ → Type 0
+IsIn a at size = (at ≤ a) × (a < at + size)
+
+-- size bytes from an address on have a byte in common with the block
+abbrev pub Meets : ℕ → ℕ → Block → Type 0
+Meets size at b = (a : ℕ) × IsIn a at size × IsIn a b.addr b.size
+
+-- the least multiple of align that is n or more
+pub record IsNextMultiple (n align m : ℕ) : Type 0 where
+  pub multiple : m % align ≡ 0
+  pub above : n ≤ m
+  pub least : (c : ℕ) → n ≤ c → c % align ≡ 0 → m ≤ c
+
+-- the address that is answered is the least that fits
+pub record PlaceLaw : Type 0 where
+  -- it is the least address that fits, and there is none only where none fits
+  pub least : (start end : ℕ) (blocks : List Block) (n align : ℕ)
+      → IsPlace start end blocks (rounded n) (max align grain) (place start end blocks n align)
+  -- there is one such answer
+  pub only : (start end : ℕ) (blocks : List Block) (size align : ℕ) (o p : Option ℕ)
+      → IsPlace start end blocks size align o → IsPlace start end blocks size align p → o ≡ p
+  -- each lesser multiple of the alignment in the pool leaves the pool, or meets a block
+  pub lesser : (start end : ℕ) (blocks : List Block) (n align at c : ℕ)
+      → Laid start end blocks → place start end blocks n align ≡ Some at → start ≤ c → c < at → c % max align grain ≡ 0
+      → (end < c + rounded n) ⊎ Any (Meets (rounded n) c) blocks
+  -- sizes and places are rounded up, and no further than asked
+  pub next : (n align : ℕ) → 1 ≤ align → IsNextMultiple n align (aligned n align)
+
+-- what an accepted `alloc` gives
+pub record AllocLaw : Type 0 where
+  -- the block lies in the pool and meets none of the blocks before
+  pub lies : (s : PartState) (n align at : ℕ) → alloc_of s n align ≡ Ok at → Lies s.start s.end s.blocks (rounded n) at
+  pub apart : (s : PartState) (n align at : ℕ) → alloc_of s n align ≡ Ok at → All (λ b. Meets (rounded n) at b → ⊥) s.blocks
+  -- it begins at a multiple of the alignment
+  pub multiple : (s : PartState) (n align at : ℕ) → alloc_of s n align ≡ Ok at → at % max align grain ≡ 0
+  -- it has the bytes that were asked for
+  pub holds : (n : ℕ) → n ≤ rounded n
+  -- freed at once, it leaves the partition as it was
+  pub back : (s : PartState) (n align at : ℕ) (class : Class)
+      → IsPart s → alloc_of s n align ≡ Ok at → after_free (after_alloc s n align class) at class ≡ s
+
+-- what holds of the blocks at every moment
+pub record BlocksLaw : Type 0 where
+  -- no two of them meet, and each lies in the pool
+  pub apart : (s : PartState) → IsPart s → AllPairs (λ b c. Meets b.size b.addr c → ⊥) s.blocks
+  pub inside : (s : PartState) → IsPart s → All (λ b. (s.start ≤ b.addr) × (b.addr + b.size ≤ s.end)) s.blocks
+  -- each call keeps what the partition keeps
+  pub allocating : (s : PartState) (n align : ℕ) (class : Class) → IsPart s → IsPart (after_alloc s n align class)
+  pub freeing : (s : PartState) (at : ℕ) (class : Class) → IsPart s → IsPart (after_free s at class)

@@ -1,0 +1,69 @@
+//! The blocks that are held, in order of address.
+
+ghost use Rattle.std.specs.Prelude.{◌≡◌, ◌<◌, ◌≤◌, ◌^◌, None, length, option_copied, MatchOption, vec_len, vec_capacity, nat_lt};
+ghost use Rattle.std.specs.List.{position_or_len};
+ghost use Rattle.mem_partition.specs.State.{with_block, same_class, block_at, own_block, used};
+ghost use Rattle.mem_partition.specs.Gaps.{IsOwn};
+
+use crate::block::{Block, Class};
+
+/// How many blocks begin before an address, or at it.
+fn rank_of(blocks: &[Block], at: u32) -> usize
+    ensures value { result ≡ position_or_len (λ b. nat_lt at b.addr) blocks.now }
+    ensures within { result ≤ length blocks.now }
+{
+    for (place, block) in blocks.iter().enumerate() {
+        if at < block.addr {
+            return place;
+        }
+    }
+    blocks.len()
+}
+
+/// Puts the block in its place.
+pub(crate) fn put_block(blocks: &mut Vec<Block>, block: Block)
+    requires { vec_len blocks.old < vec_capacity blocks.old }
+    ensures items { blocks.new.items ≡ with_block block blocks.old.items }
+    ensures capacity { vec_capacity blocks.new ≡ vec_capacity blocks.old }
+{
+    let place = rank_of(blocks, block.addr);
+    let Ok(()) = blocks.insert(place, block) else {
+        unreachable!()
+    };
+}
+
+fn is_same(a: Class, b: Class) -> bool
+    ensures { result ≡ same_class a b }
+{
+    match (a, b) {
+        (Class::User, Class::User) | (Class::Kernel, Class::Kernel) => true,
+        _ => false,
+    }
+}
+
+/// Where the block of this class that begins at an address stands.
+pub(crate) fn own_place(blocks: &[Block], at: u32, class: Class) -> Option<usize>
+    ensures { MatchOption result (own_block blocks.now at class ≡ None) (λ k. IsOwn blocks.now at class k) }
+{
+    for (place, block) in blocks.iter().enumerate() {
+        if block.addr == at && is_same(block.class, class) {
+            return Some(place);
+        }
+    }
+    None
+}
+
+/// The block that begins at an address.
+pub(crate) fn find_at(blocks: &[Block], at: u32) -> Option<&Block>
+    ensures { option_copied result ≡ block_at blocks.now at }
+{
+    blocks.iter().find(|block| block.addr == at)
+}
+
+/// The bytes in blocks.
+pub(crate) fn count_used(blocks: &[Block]) -> u64
+    requires { length blocks.now < 2 ^ 32 }
+    ensures { result ≡ used blocks.now }
+{
+    blocks.iter().map(|block| u64::from(block.size)).sum()
+}

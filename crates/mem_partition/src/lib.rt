@@ -1,0 +1,14 @@
+//! The memory partition: blocks of a pool of addresses, each at the least address that fits.
+#![tactic(auto)]
+
+mod block;
+mod gaps;
+mod held;
+mod laws;
+mod part;
+#[cfg(test)]
+mod tests;
+
+pub use block::{Block, Class, PartErr};
+pub use laws::{alloc_law, blocks_law, place_law};
+pub use part::Part;

@@ -1,0 +1,56 @@
+-- What follows of the types, and of writing fields in order, alone.
+use Rattle.std.specs.Prelude.{◌≡◌, ◌⊎◌, ℕ, ◌+◌, ◌<◌, ◌≤◌, List, length, take, slice_index, slice_index_or, None, Some, Ok, Err}
+use Rattle.std.specs.List.{All, AllPairs}
+use Rattle.byteorder.specs.Endian.{big_bytes}
+use Rattle.reloc_link.specs.declared.kind.RelocType.{RelocType}
+use Rattle.reloc_link.specs.declared.fields.FieldFault.{FieldFault}
+use Rattle.reloc_link.specs.declared.patching.Binding.{Binding}
+use Rattle.reloc_link.specs.declared.patching.RelocErr.{RelocErr}
+use Rattle.reloc_link.specs.Types.{number_of, type_of, width_of}
+use Rattle.reloc_link.specs.Patched.{LiesWithin, asked, numbered, patched}
+
+-- each type has a number of its own
+abbrev pub TypesLaw : Type 0
+TypesLaw = (t : RelocType) → type_of (number_of t) ≡ Some t
+
+-- the byte lies in no field of the binding
+abbrev pub IsOutside : ℕ → Binding → Type 0
+IsOutside at b = (at < b.offset) ⊎ (b.offset + width_of b.kind ≤ at)
+
+-- the fields of two bindings have no byte in common
+abbrev pub Apart : Binding → Binding → Type 0
+Apart b c = (b.offset + width_of b.kind ≤ c.offset) ⊎ (c.offset + width_of c.kind ≤ b.offset)
+
+-- the field of the binding holds a number, the highest byte first
+abbrev pub Holds : List ℕ → Binding → ℕ → Type 0
+Holds image b v = (k : ℕ) → k < width_of b.kind → slice_index image (b.offset + k) ≡ slice_index (big_bytes (width_of b.kind) v) k
+
+-- the field of the binding holds in the image after what it asked for in the image before
+abbrev pub IsDone : List ℕ → List ℕ → Binding → Type 0
+IsDone old new b = (v : ℕ) × (asked old b ≡ Ok v) × Holds new b v
+
+-- the refusal is that of the first binding that is refused, counted from a number on
+pub record IsFirstRefused (first : ℕ) (image : List ℕ) (list : List Binding) (e : RelocErr) : Type 0 where
+  pub place : ℕ
+  pub within : place < length list
+  -- those before it are all written
+  pub before : (patched first image (take place list)).fault ≡ None
+  -- it is refused over what they left, and that is what the image holds
+  pub fault : FieldFault
+  pub refused : (d : Binding) → asked (patched first image (take place list)).image (slice_index_or list place d) ≡ Err fault
+  pub held : (patched first image list).image ≡ (patched first image (take place list)).image
+  pub named : e ≡ numbered fault (first + place)
+
+-- what the image is, and what the refusal, in the end
+pub record PatchLaw : Type 0 where
+  -- where one is refused, the refusal is that of the first such
+  pub first : (image : List ℕ) (list : List Binding) (e : RelocErr)
+      → (patched 0 image list).fault ≡ Some e → IsFirstRefused 0 image list e
+  -- where none is refused and no two fields meet, each holds what it asked for
+  pub each : (image : List ℕ) (list : List Binding) → All (LiesWithin (length image)) list → AllPairs Apart list
+      → (patched 0 image list).fault ≡ None → All (IsDone image (patched 0 image list).image) list
+  -- a byte outside all fields stays, and there are as many
+  pub outside : (image : List ℕ) (list : List Binding) (at : ℕ) → All (LiesWithin (length image)) list
+      → All (IsOutside at) list → slice_index (patched 0 image list).image at ≡ slice_index image at
+  pub size : (image : List ℕ) (list : List Binding) → All (LiesWithin (length image)) list
+      → length (patched 0 image list).image ≡ length image

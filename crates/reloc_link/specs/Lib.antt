@@ -1,0 +1,4 @@
+pub mod Types
+pub mod Formula
+pub mod Patched
+pub mod Laws

@@ -1,0 +1,90 @@
+-- The types of relocation (System V ABI, PowerPC Processor Supplement, "Relocation Types") and the forms of their fields.
+use Rattle.std.specs.Prelude.{◌≡◌, ◌⊎◌, ℕ, Bool, true, false, ◌==◌, List, [], ◌∷◌, Option, None, Some}
+use Rattle.std.specs.List.{find}
+use Rattle.reloc_link.specs.declared.kind.RelocType.{RelocType}
+use Rattle.reloc_link.specs.declared.kind.RelocType.TheVariants.{Nothing, Addr32, Addr24, Addr16, Addr16Lo, Addr16Hi, Addr16Ha, Addr14, Addr14BrTaken, Addr14BrNTaken, Rel24, Rel14, Rel14BrTaken, Rel14BrNTaken, Uaddr32, Uaddr16, Rel32}
+use Rattle.reloc_link.specs.declared.kind.Hint.TheVariants.{Kept, Taken, NotTaken}
+use Rattle.reloc_link.specs.declared.kind.Form.{Form}
+use Rattle.reloc_link.specs.declared.kind.Form.TheVariants.{Empty, Word, Branch24, Branch14, Half, Low, High, HighAdjusted}
+
+-- the number of a type
+abbrev pub number_of : RelocType → ℕ
+number_of Nothing = 0
+number_of Addr32 = 1
+number_of Addr24 = 2
+number_of Addr16 = 3
+number_of Addr16Lo = 4
+number_of Addr16Hi = 5
+number_of Addr16Ha = 6
+number_of Addr14 = 7
+number_of Addr14BrTaken = 8
+number_of Addr14BrNTaken = 9
+number_of Rel24 = 10
+number_of Rel14 = 11
+number_of Rel14BrTaken = 12
+number_of Rel14BrNTaken = 13
+number_of Uaddr32 = 24
+number_of Uaddr16 = 25
+number_of Rel32 = 26
+
+-- the types that are built
+abbrev pub types : List RelocType
+types = Nothing ∷ Addr32 ∷ Addr24 ∷ Addr16 ∷ Addr16Lo ∷ Addr16Hi ∷ Addr16Ha ∷ Addr14 ∷ Addr14BrTaken ∷ Addr14BrNTaken
+    ∷ Rel24 ∷ Rel14 ∷ Rel14BrTaken ∷ Rel14BrNTaken ∷ Uaddr32 ∷ Uaddr16 ∷ Rel32 ∷ []
+
+-- the type of a number
+abbrev pub type_of : ℕ → Option RelocType
+type_of n = find (λ t. n == number_of t) types
+
+-- the form of the field that a type writes
+abbrev pub form_of : RelocType → Form
+form_of Nothing = Empty
+form_of Addr32 = Word
+form_of Addr24 = Branch24
+form_of Addr16 = Half
+form_of Addr16Lo = Low
+form_of Addr16Hi = High
+form_of Addr16Ha = HighAdjusted
+form_of Addr14 = Branch14 Kept
+form_of Addr14BrTaken = Branch14 Taken
+form_of Addr14BrNTaken = Branch14 NotTaken
+form_of Rel24 = Branch24
+form_of Rel14 = Branch14 Kept
+form_of Rel14BrTaken = Branch14 Taken
+form_of Rel14BrNTaken = Branch14 NotTaken
+form_of Uaddr32 = Word
+form_of Uaddr16 = Half
+form_of Rel32 = Word
+
+-- it writes the distance from the field, and not an address
+abbrev pub is_relative : RelocType → Bool
+is_relative Rel24 = true
+is_relative Rel14 = true
+is_relative Rel14BrTaken = true
+is_relative Rel14BrNTaken = true
+is_relative Rel32 = true
+is_relative _ = false
+
+-- how many bytes a form has
+abbrev pub width_by : Form → ℕ
+width_by Empty = 0
+width_by Word = 4
+width_by Branch24 = 4
+width_by (Branch14 hint) = 4
+width_by Half = 2
+width_by Low = 2
+width_by High = 2
+width_by HighAdjusted = 2
+
+-- how many bytes a type writes; none writes nothing
+abbrev pub width_or : Option RelocType → ℕ
+width_or None = 0
+width_or (Some t) = width_by (form_of t)
+
+-- how many bytes the type of a number writes
+unfoldable pub width_of : ℕ → ℕ
+width_of kind = width_or (type_of kind)
+
+-- a width of a field
+abbrev pub IsWidth : ℕ → Type 0
+IsWidth n = (n ≡ 0) ⊎ ((n ≡ 2) ⊎ (n ≡ 4))

@@ -1,0 +1,15 @@
+//! Relocation of PowerPC code and data: what a field holds once its symbol has an address, and the fields of
+//! an image written in order.
+#![tactic(auto)]
+
+mod fields;
+mod kind;
+mod laws;
+mod patching;
+#[cfg(test)]
+mod tests;
+
+pub use fields::{FieldFault, field, width};
+pub use kind::RelocType;
+pub use laws::{patch_law, types_law};
+pub use patching::{Binding, RelocErr, patch};

@@ -1,0 +1,2 @@
+pub mod Finding
+mod Removing

@@ -1,0 +1,3 @@
+pub mod Newest
+pub mod State
+pub mod Laws

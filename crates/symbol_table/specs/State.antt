@@ -1,0 +1,26 @@
+-- What a contract sees of the symbol table, and what its calls leave.
+use Rattle.std.specs.Prelude.{ℕ, ◌+◌, ◌-◌, ◌≤◌, not, ◌==◌, List, [], ◌∷◌, ◌++◌, length, count_by}
+use Rattle.std.specs.List.{filter}
+use Rattle.wind_base.specs.Limits.{most_symbols}
+use Rattle.symbol_table.specs.declared.symbol.Symbol.{Symbol}
+
+-- the entries in order of adding, and how many more there is room for
+pub record TableState : Type 0 where
+  pub list : List Symbol
+  pub spare : ℕ
+
+-- what every table keeps
+pub record IsTable (s : TableState) : Type 0 where
+  pub few : length s.list + s.spare ≤ most_symbols
+
+-- the table with one entry more
+abbrev pub added : TableState → Symbol → TableState
+added s x = record { list = s.list ++ x ∷ []; spare = s.spare - 1 }
+
+-- the entries without those of a group
+abbrev pub without_group : ℕ → List Symbol → List Symbol
+without_group group ss = filter (λ s. not (s.group == group)) ss
+
+-- how many entries a group has
+abbrev pub count_of : ℕ → List Symbol → ℕ
+count_of group ss = count_by (λ s. s.group == group) ss

@@ -1,0 +1,15 @@
+//! What follows of the definitions alone.
+
+ghost use Rattle.symbol_table.specs.Laws.{NewestLaw, RemovalLaw};
+
+/// A look-up answers an entry that passes, behind which none passes, and none only where none passes. Of a table
+/// with one symbol more, it answers that symbol where it passes, and else what it answered before.
+pub fn newest_law()
+    ensures { NewestLaw }
+{}
+
+/// Without a group, the table has none of its symbols and all others, and a look-up that passes none of the group
+/// answers as before.
+pub fn removal_law()
+    ensures { RemovalLaw }
+{}

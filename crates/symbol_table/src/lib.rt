@@ -1,0 +1,13 @@
+//! The symbol table: symbols in order of adding, of which a look-up answers the newest.
+#![tactic(auto)]
+
+mod laws;
+mod search;
+mod symbol;
+mod table;
+#[cfg(test)]
+mod tests;
+
+pub use laws::{newest_law, removal_law};
+pub use symbol::{SymErr, SymKind, Symbol};
+pub use table::Symbols;

@@ -1,0 +1,37 @@
+//! Symbols.
+
+use wind_base::Name;
+
+/// What a symbol stands for.
+#[derive(Clone, Copy, Debug, PartialEq, Eq)]
+pub enum SymKind {
+    /// A place in code.
+    TextSym,
+    /// A place in data that a file holds.
+    DataSym,
+    /// A place in data that begins as zeros.
+    BssSym,
+    /// A number.
+    AbsSym,
+}
+
+/// An entry of the table: a name of 1 to 255 bytes with what it stands for.
+#[derive(Drop)]
+pub struct Symbol {
+    pub name: Name,
+    pub value: u32,
+    pub kind: SymKind,
+    /// Whether modules that are loaded later bind to it.
+    pub global: bool,
+    /// The id of the module that it belongs to; 0 for the kernel, the shell and what is added by a call.
+    pub group: u32,
+}
+
+/// Why no room was made. The symbols are as they were.
+#[derive(Clone, Copy, Debug, PartialEq, Eq)]
+pub enum SymErr {
+    /// There would be more than 65,536 symbols.
+    TableFull,
+    /// Host memory ran out.
+    NoMemory,
+}
