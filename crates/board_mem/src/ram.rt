@@ -5,8 +5,8 @@ ghost use Rattle.board_mem.specs.Memory.{has, read, written, bytes_at, with_byte
 
 use byteorder::{BigEndian, ByteOrder};
 use std::alloc::Global;
-use std::fmt;
 use std::marker::Model;
+use thiserror::Error;
 use wind_base::NoMemory;
 use wind_base::limits::STRING_BYTES;
 
@@ -14,18 +14,9 @@ use wind_base::limits::STRING_BYTES;
 const STRING_ROOM: usize = STRING_BYTES as usize + 1;
 
 /// A byte of the range is outside RAM. What the call was made on is as it was before.
-#[derive(Clone, Copy, Debug, PartialEq, Eq)]
+#[derive(Clone, Copy, Debug, PartialEq, Eq, Error)]
+#[error("outside RAM")]
 pub struct Outside;
-
-impl fmt::Display for Outside {
-    ghost use Rattle.std.specs.Prelude.{Some, codes};
-
-    ghost output = { λ _. Some (codes "outside RAM") };
-
-    fn fmt<W: fmt::Write>(&self, f: &mut fmt::Formatter<W>) -> fmt::Result {
-        f.write_str("outside RAM")
-    }
-}
 
 /// RAM, from address 0 on. Numbers of several bytes have their most significant byte first. Contracts see it as the
 /// list of its bytes.

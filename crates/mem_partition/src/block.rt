@@ -1,5 +1,7 @@
 //! The blocks of a partition, and the answers of its calls.
 
+use thiserror::Error;
+
 /// Who may free a block.
 #[derive(Clone, Copy, Debug, PartialEq, Eq)]
 pub enum Class {
@@ -10,15 +12,19 @@ pub enum Class {
 }
 
 /// Why the partition refuses. Nothing has changed then.
-#[derive(Clone, Copy, Debug, PartialEq, Eq)]
+#[derive(Clone, Copy, Debug, PartialEq, Eq, Error)]
 pub enum PartErr {
     /// No place of the pool has the room.
+    #[error("no room for the block")]
     NoRoom,
     /// There are as many blocks as there may be.
+    #[error("too many blocks")]
     BlocksFull,
     /// The alignment is no power of two from 1 to 65,536.
+    #[error("the alignment is not allowed")]
     BadAlign,
     /// No block of this class begins there.
+    #[error("no block of this class begins there")]
     NotABlock,
 }
 

@@ -7,12 +7,12 @@ use Rattle.reloc_link.specs.declared.kind.RelocType.TheVariants.{Nothing, Addr32
 use Rattle.reloc_link.specs.declared.fields.FieldFault.{FieldFault}
 use Rattle.reloc_link.specs.declared.patching.Binding.{Binding}
 use Rattle.reloc_link.specs.declared.patching.RelocErr.{RelocErr}
-use Rattle.reloc_link.specs.Types.{number_of, type_of}
+use Rattle.reloc_link.specs.Types.{type_number, type_of}
 use Rattle.reloc_link.specs.Patched.{LiesWithin, Patched, asked, written, after_field, numbered, patched}
 use Rattle.reloc_link.specs.Laws.{IsOutside, Apart, Holds, IsDone, IsFirstRefused}
 use Rattle.reloc_link.proofs.Writing.{length-written, written_holds, written_outside, outside_other, asked_apart}
 
-pub own_number : (t : RelocType) → type_of (number_of t) ≡ Some t
+pub own_number : (t : RelocType) → type_of (type_number t) ≡ Some t
 own_number Nothing = refl
 own_number Addr32 = refl
 own_number Addr24 = refl

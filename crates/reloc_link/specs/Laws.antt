@@ -6,12 +6,12 @@ use Rattle.reloc_link.specs.declared.kind.RelocType.{RelocType}
 use Rattle.reloc_link.specs.declared.fields.FieldFault.{FieldFault}
 use Rattle.reloc_link.specs.declared.patching.Binding.{Binding}
 use Rattle.reloc_link.specs.declared.patching.RelocErr.{RelocErr}
-use Rattle.reloc_link.specs.Types.{number_of, type_of, width_of}
+use Rattle.reloc_link.specs.Types.{type_number, type_of, width_of}
 use Rattle.reloc_link.specs.Patched.{LiesWithin, asked, numbered, patched}
 
 -- each type has a number of its own
 abbrev pub TypesLaw : Type 0
-TypesLaw = (t : RelocType) → type_of (number_of t) ≡ Some t
+TypesLaw = (t : RelocType) → type_of (type_number t) ≡ Some t
 
 -- the byte lies in no field of the binding
 abbrev pub IsOutside : ℕ → Binding → Type 0

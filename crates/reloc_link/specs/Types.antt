@@ -8,24 +8,24 @@ use Rattle.reloc_link.specs.declared.kind.Form.{Form}
 use Rattle.reloc_link.specs.declared.kind.Form.TheVariants.{Empty, Word, Branch24, Branch14, Half, Low, High, HighAdjusted}
 
 -- the number of a type
-abbrev pub number_of : RelocType → ℕ
-number_of Nothing = 0
-number_of Addr32 = 1
-number_of Addr24 = 2
-number_of Addr16 = 3
-number_of Addr16Lo = 4
-number_of Addr16Hi = 5
-number_of Addr16Ha = 6
-number_of Addr14 = 7
-number_of Addr14BrTaken = 8
-number_of Addr14BrNTaken = 9
-number_of Rel24 = 10
-number_of Rel14 = 11
-number_of Rel14BrTaken = 12
-number_of Rel14BrNTaken = 13
-number_of Uaddr32 = 24
-number_of Uaddr16 = 25
-number_of Rel32 = 26
+abbrev pub type_number : RelocType → ℕ
+type_number Nothing = 0
+type_number Addr32 = 1
+type_number Addr24 = 2
+type_number Addr16 = 3
+type_number Addr16Lo = 4
+type_number Addr16Hi = 5
+type_number Addr16Ha = 6
+type_number Addr14 = 7
+type_number Addr14BrTaken = 8
+type_number Addr14BrNTaken = 9
+type_number Rel24 = 10
+type_number Rel14 = 11
+type_number Rel14BrTaken = 12
+type_number Rel14BrNTaken = 13
+type_number Uaddr32 = 24
+type_number Uaddr16 = 25
+type_number Rel32 = 26
 
 -- the types that are built
 abbrev pub types : List RelocType
@@ -34,7 +34,7 @@ types = Nothing ∷ Addr32 ∷ Addr24 ∷ Addr16 ∷ Addr16Lo ∷ Addr16Hi ∷ A
 
 -- the type of a number
 abbrev pub type_of : ℕ → Option RelocType
-type_of n = find (λ t. n == number_of t) types
+type_of n = find (λ t. n == type_number t) types
 
 -- the form of the field that a type writes
 abbrev pub form_of : RelocType → Form

@@ -7,6 +7,7 @@ ghost use Rattle.reloc_link.specs.Patched.{LiesWithin, asked, written, after_one
 
 use crate::fields::{FieldFault, field, width};
 use byteorder::{BigEndian, ByteOrder};
+use thiserror::Error;
 
 /// A relocation whose symbol has an address.
 #[derive(Clone, Copy, Debug, PartialEq, Eq)]
@@ -24,13 +25,16 @@ pub struct Binding {
 }
 
 /// The first binding that is refused, by its number from 0 on, with the reason.
-#[derive(Clone, Copy, Debug, PartialEq, Eq)]
+#[derive(Clone, Copy, Debug, PartialEq, Eq, Error)]
 pub enum RelocErr {
     /// The number doesn't fit the field.
+    #[error("relocation {0} does not fit its field")]
     Range(u32),
     /// It fits, and is no multiple of 4, as the target of a branch must be.
+    #[error("relocation {0} is no multiple of 4")]
     Unaligned(u32),
     /// There is no such type, or it isn't built.
+    #[error("relocation {0} is of no type that is known")]
     Unsupported(u32),
 }
 

@@ -1,6 +1,7 @@
 //! Symbols.
 
-use wind_base::Name;
+use thiserror::Error;
+use wind_base::{Name, NoMemory};
 
 /// What a symbol stands for.
 #[derive(Clone, Copy, Debug, PartialEq, Eq)]
@@ -28,10 +29,12 @@ pub struct Symbol {
 }
 
 /// Why no room was made. The symbols are as they were.
-#[derive(Clone, Copy, Debug, PartialEq, Eq)]
+#[derive(Clone, Copy, Debug, PartialEq, Eq, Error)]
 pub enum SymErr {
     /// There would be more than 65,536 symbols.
+    #[error("the symbol table is full")]
     TableFull,
     /// Host memory ran out.
+    #[error("{NoMemory}")]
     NoMemory,
 }

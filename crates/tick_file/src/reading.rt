@@ -13,13 +13,17 @@ use crate::pending::{Pending, at_start};
 use crate::schedule::Schedule;
 use std::alloc::Global;
 use std::cmp::Reverse;
+use thiserror::Error;
+use wind_base::NoMemory;
 
 /// Why a tick file was not read.
-#[derive(Clone, Copy, Debug, PartialEq, Eq)]
+#[derive(Clone, Copy, Debug, PartialEq, Eq, Error)]
 pub enum TickErr {
     /// The number of the first line that is outside the grammar, counted from 1.
+    #[error("line {0} is not understood")]
     BadLine(u64),
     /// Host memory ran out.
+    #[error("{NoMemory}")]
     NoMemory,
 }
 
