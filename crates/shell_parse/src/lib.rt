@@ -1,11 +1,14 @@
-//! The grammar of the shell's lines, as far as it is built: statements with semicolons between, calls
-//! with and without parentheses, sums and differences, and decimal numbers.
+//! The grammar of the shell's lines.
 #![tactic(auto)]
 
 mod allowed;
 mod descent;
 mod frames;
 mod grammar;
+mod lexer;
+mod literal;
+mod sign;
+mod statement;
 mod token;
 mod tree;
 
