@@ -2,13 +2,13 @@
 use Rattle.std.proofs.Common.{refl}
 use Rattle.std.specs.List.{All}
 use Rattle.std.proofs.lemmas.List.Elements.{All-from_recursion, All-contains}
-use Rattle.shell_eval.specs.Gates.{built}
+use Rattle.shell_eval.specs.Gates.{built_gates}
 use Rattle.shell_eval.proofs.Built.{all_built}
 use Rattle.board_player.specs.Laws.{LandsAt, GatesLaw}
 use Rattle.board_player.specs.declared.gate.Gate.TheVariants as gates
 
-each_lands : All LandsAt built
-each_lands = All-from_recursion LandsAt built (
+each_lands : All LandsAt built_gates
+each_lands = All-from_recursion LandsAt built_gates (
   (gates.TaskSuspend, refl, refl),
   (
     (gates.TaskResume, refl, refl),
@@ -44,4 +44,4 @@ each_lands = All-from_recursion LandsAt built (
 )
 
 pub due_lands : GatesLaw
-due_lands s gate words e = let b = all_built s gate words e in All-contains LandsAt built gate each_lands b.0
+due_lands s gate words e = let b = all_built s gate words e in All-contains LandsAt built_gates gate each_lands b.0

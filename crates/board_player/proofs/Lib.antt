@@ -1,5 +1,4 @@
 pub mod FeedLemmas
-pub mod Hex
 pub mod Lines
 pub mod Kept
 pub mod TaskLemmas
@@ -9,3 +8,4 @@ pub mod Rows
 pub mod Steps
 pub mod Lives
 pub mod Landings
+pub mod Courses

@@ -22,7 +22,7 @@ use Rattle.board_player.specs.Feed.{chunk, after_chunk, brought}
 use Rattle.board_player.specs.Console.{has_line, front_line, line_dropped}
 use Rattle.board_player.specs.Task.{shell_id, shell_task, listening, call_regs}
 use Rattle.board_player.specs.Calls.{landing, call, argument}
-use Rattle.board_player.specs.Shell.{Part, part_of, prompt_part, read_part, shell_read, phase_with, rest_of, first_due, eval_part, landed_part, returned, counter}
+use Rattle.board_player.specs.Shell.{Part, part_of, prompt_part, read_part, shell_read, phase_with, rest_of, due_of_first, eval_part, landed_part, returned, counter}
 use Rattle.board_player.specs.Machine.{Heard, heard_all, heard_from, arrived, arrival, ticked, received, event_comes, without_next, jump, stepped, prompt_step, read_step, eval_step, call_step, shell_step, due_event, event_of, console_is_due, next_event, jump_to, run_step, quiet_step, step_by, machine_step}
 use Rattle.board_player.specs.declared.phase.Phase.{Phase}
 use Rattle.board_player.specs.declared.phase.Phase.TheVariants as phases
@@ -108,7 +108,7 @@ eval_goes s g (Made gate words) = goes-set_regs s.kern (s.steps + 1) g.kern (sti
 
 pub eval_keeps : (s : State) → Good s → Good (eval_step s)
 eval_keeps s g =
-    let due = first_due s.shell.stmts in
+    let due = due_of_first s.shell.stmts in
     stepped_keeps s g s.console (eval_part due s.shell s.kern) 0 (eval_lines s g due) (eval_goes s g due) (omega arith)
 
 landed_keeps : (s : State) (o : Option Landing) → Good s → IfSome (option_map (stepped s) (landed_part o s.shell s.kern)) Good

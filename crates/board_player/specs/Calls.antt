@@ -2,6 +2,7 @@
 use Rattle.std.specs.Prelude.{ℕ, ◌+◌, ◌-◌, ◌%◌, ◌^◌, List, [], ◌∷◌, Option, None, Some, ◌==◌, nat_le, if◌then◌else◌, slice_index}
 use Rattle.std.specs.List.{find}
 use Rattle.std.specs.Option.{option_map}
+use Rattle.wind_base.specs.Limits.{least_urgent}
 use Rattle.wind_base.specs.declared.errno.Errno.{Errno}
 use Rattle.wind_base.specs.declared.errno.Errno.TheVariants as errors
 use Rattle.task_block.specs.declared.task.Task.{Task}
@@ -16,27 +17,27 @@ use Rattle.board_player.specs.declared.calls.Reply.{Reply}
 use Rattle.board_player.specs.declared.calls.Reply.TheVariants.{Answer, Refusal, Later}
 
 -- the number of a gate
-abbrev pub number_of : Gate → ℕ
-number_of gates.TaskSuspend = 6
-number_of gates.TaskResume = 7
-number_of gates.TaskPrioritySet = 8
-number_of gates.TaskDelay = 10
-number_of gates.TaskLock = 11
-number_of gates.TaskUnlock = 12
-number_of gates.TaskIdSelf = 15
-number_of gates.TaskIdVerify = 16
-number_of gates.KernelTimeSlice = 18
-number_of gates.TickGet = 19
-number_of gates.ErrnoGet = 44
-number_of gates.ErrnoSet = 45
+abbrev pub gate_number : Gate → ℕ
+gate_number gates.TaskSuspend = 6
+gate_number gates.TaskResume = 7
+gate_number gates.TaskPrioritySet = 8
+gate_number gates.TaskDelay = 10
+gate_number gates.TaskLock = 11
+gate_number gates.TaskUnlock = 12
+gate_number gates.TaskIdSelf = 15
+gate_number gates.TaskIdVerify = 16
+gate_number gates.KernelTimeSlice = 18
+gate_number gates.TickGet = 19
+gate_number gates.ErrnoGet = 44
+gate_number gates.ErrnoSet = 45
 
 -- the gates that are built
-abbrev pub built : List Gate
-built = gates.TaskSuspend ∷ gates.TaskResume ∷ gates.TaskPrioritySet ∷ gates.TaskDelay ∷ gates.TaskLock ∷ gates.TaskUnlock ∷ gates.TaskIdSelf ∷ gates.TaskIdVerify ∷ gates.KernelTimeSlice ∷ gates.TickGet ∷ gates.ErrnoGet ∷ gates.ErrnoSet ∷ []
+abbrev pub built_gates : List Gate
+built_gates = gates.TaskSuspend ∷ gates.TaskResume ∷ gates.TaskPrioritySet ∷ gates.TaskDelay ∷ gates.TaskLock ∷ gates.TaskUnlock ∷ gates.TaskIdSelf ∷ gates.TaskIdVerify ∷ gates.KernelTimeSlice ∷ gates.TickGet ∷ gates.ErrnoGet ∷ gates.ErrnoSet ∷ []
 
 -- where a program counter has got to: the return of a call of the shell, or a built gate
 abbrev pub landing : ℕ → Option Landing
-landing pc = if pc == return_address then Some Return else option_map Call (find (λ g. gate_address (number_of g) == pc) built)
+landing pc = if pc == return_address then Some Return else option_map Call (find (λ g. gate_address (gate_number g) == pc) built_gates)
 
 -- the kernel after the effect of a call, and how the caller is answered
 pub record Row : Type 0 where
@@ -70,7 +71,7 @@ priority_set k id pri = change_pri (set_normal k id pri) id pri
 
 abbrev pub priority_row : KernState → ℕ → Option ℕ → Row
 priority_row k pri None = refused k errors.ObjIdError
-priority_row k pri (Some id) = if nat_le pri 255 then done (priority_set k id pri) else refused k errors.IllegalPriority
+priority_row k pri (Some id) = if nat_le pri least_urgent then done (priority_set k id pri) else refused k errors.IllegalPriority
 
 -- the answer comes when the delay ends, or at once for 0
 abbrev pub delay_row : KernState → ℕ → ℕ → Row

@@ -1,5 +1,6 @@
 -- What each byte does that comes from the console. The rules are this project's own; the names of the keys are those of POSIX terminals.
 use Rattle.std.specs.Prelude.{ℕ, ◌+◌, ◌-◌, List, [], ◌∷◌, ◌++◌, Bool, ◌==◌, ◌||◌, not, nat_lt, nat_le, if◌then◌else◌, take, drop, length}
+use Rattle.wind_base.specs.Limits.{longest_line, most_kept_bytes}
 use Rattle.wind_base.specs.Lines.{line_length}
 use Rattle.board_player.specs.State.{ConsoleState}
 use Rattle.board_player.specs.declared.console.Key.{Key}
@@ -26,13 +27,13 @@ key_of b =
 abbrev pub ended_line : ConsoleState → List ℕ
 ended_line c = c.edited ++ 10 ∷ []
 
--- whether that line is kept: the finished lines stay within 4096 bytes
+-- whether that line is kept: the finished lines stay within their room
 abbrev pub is_kept : ConsoleState → Bool
-is_kept c = nat_le (length c.finished + length (ended_line c)) 4096
+is_kept c = nat_le (length c.finished + length (ended_line c)) most_kept_bytes
 
--- whether a further byte may be typed: the edited line has fewer than 255
+-- whether a further byte may be typed: the edited line is not full
 abbrev pub has_room : ConsoleState → Bool
-has_room c = nat_lt (length c.edited) 255
+has_room c = nat_lt (length c.edited) longest_line
 
 -- the line ends: it goes behind the finished ones, or is dropped
 abbrev pub line_ended : ConsoleState → ConsoleState

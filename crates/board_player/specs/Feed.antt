@@ -1,24 +1,25 @@
 -- How the console file comes in chunks.
 use Rattle.std.specs.Prelude.{ℕ, min, ◌+◌, List, [], ◌∷◌, ◌++◌, Option, Some, None, Bool, true, false, ◌==◌, ◌||◌, nat_lt, if◌then◌else◌, take, drop, length}
 use Rattle.std.specs.List.{position}
+use Rattle.wind_base.specs.Limits.{longest_chunk}
 
 -- a byte that ends a line: 0x0A or 0x0D
 abbrev pub is_end : ℕ → Bool
 is_end b = b == 10 || b == 13
 
--- the first end of a line among the next 4096 bytes
+-- the first end of a line among the next bytes of a chunk
 abbrev pub first_end : List ℕ → Option ℕ
-first_end left = position is_end (take 4096 left)
+first_end left = position is_end (take longest_chunk left)
 
 -- how many bytes of the file a chunk takes: through the first end of a line, else as many as may come at once
 abbrev pub taken_by : Option ℕ → ℕ
 taken_by (Some k) = k + 1
-taken_by None = 4096
+taken_by None = longest_chunk
 
 -- whether the last byte of the file is taken without an end of its line
 abbrev pub is_unended : Option ℕ → List ℕ → Bool
 is_unended (Some k) left = false
-is_unended None left = if nat_lt 4096 (length left) then false else true
+is_unended None left = if nat_lt longest_chunk (length left) then false else true
 
 -- the end that is supplied then
 abbrev pub supplied : Bool → List ℕ
@@ -32,6 +33,6 @@ chunk left = take (taken_by (first_end left)) left ++ supplied (is_unended (firs
 abbrev pub after_chunk : List ℕ → List ℕ
 after_chunk left = drop (taken_by (first_end left)) left
 
--- how many bytes an event of the tick file brings: so many, at most 4096, and fewer where fewer are left
+-- how many bytes an event of the tick file brings: so many, at most a chunk, and fewer where fewer are left
 abbrev pub brought : ℕ → ℕ
-brought n = min n 4096
+brought n = min n longest_chunk

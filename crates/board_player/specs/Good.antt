@@ -1,5 +1,6 @@
 -- The facts that the opening state has and every step keeps.
 use Rattle.std.specs.Prelude.{◌≡◌, ◌≢◌, ℕ, ◌+◌, ◌*◌, ◌^◌, ◌≤◌, List, [], ◌∷◌, Bool, true, ◌==◌, ◌&&◌, nat_le, if◌then◌else◌, All, length, map}
+use Rattle.wind_base.specs.Limits.{longest_line, most_kept_bytes}
 use Rattle.wind_core.specs.State.{IsKern, task_id}
 use Rattle.board_player.specs.State.{State}
 use Rattle.board_player.specs.declared.phase.Phase.{Phase}
@@ -8,16 +9,16 @@ use Rattle.board_player.specs.declared.phase.Phase.TheVariants as phases
 -- whether each line of these bytes is ended and has at most 255 bytes before its end, where n bytes of the first came before
 abbrev pub are_lines : ℕ → List ℕ → Bool
 are_lines n [] = n == 0
-are_lines n (b ∷ bs) = if b == 10 then nat_le n 255 && are_lines 0 bs else are_lines (n + 1) bs
+are_lines n (b ∷ bs) = if b == 10 then nat_le n longest_line && are_lines 0 bs else are_lines (n + 1) bs
 
 -- what is kept of the lines of the console
 pub record KeepsLines (edited finished : List ℕ) (phase : Phase) : Type 0 where
   -- the edited line has at most 255 bytes, and no end
-  pub short : length edited ≤ 255
+  pub short : length edited ≤ longest_line
   pub unended : All (λ b. b ≢ 10) edited
   -- the finished lines are ended, and have at most 255 bytes each and 4096 together
   pub lines : are_lines 0 finished ≡ true
-  pub within : length finished ≤ 4096
+  pub within : length finished ≤ most_kept_bytes
   -- in phase Read a finished line is kept
   pub read : phase ≡ phases.Read → finished ≢ []
 

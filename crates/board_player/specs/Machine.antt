@@ -16,7 +16,7 @@ use Rattle.board_player.specs.State.{ConsoleState, ShellState, State}
 use Rattle.board_player.specs.Feed.{chunk, after_chunk, brought}
 use Rattle.board_player.specs.Console.{after_byte, byte_echo, byte_done, has_line, front_line, line_dropped}
 use Rattle.board_player.specs.Task.{shell_id, waits_for_console, aborted, opening_kern}
-use Rattle.board_player.specs.Shell.{Part, at_prompt, prompt_part, read_part, first_due, eval_part, call_part}
+use Rattle.board_player.specs.Shell.{Part, at_prompt, prompt_part, read_part, due_of_first, eval_part, call_part}
 use Rattle.board_player.specs.declared.phase.Phase.{Phase}
 use Rattle.board_player.specs.declared.phase.Phase.TheVariants as phases
 use Rattle.board_player.specs.declared.console.ByteDone.{ByteDone}
@@ -110,7 +110,7 @@ abbrev pub read_step : State → State
 read_step s = stepped (record s { console = line_dropped s.console }) (read_part (read_line (front_line s.console)) s.kern)
 
 abbrev pub eval_step : State → State
-eval_step s = stepped s (eval_part (first_due s.shell.stmts) s.shell s.kern)
+eval_step s = stepped s (eval_part (due_of_first s.shell.stmts) s.shell s.kern)
 
 abbrev pub call_step : State → Option State
 call_step s = option_map (stepped s) (call_part s.shell s.kern)

@@ -82,9 +82,9 @@ abbrev pub read_part : Reading → KernState → Part
 read_part reading kern = part_of (shell_read reading) kern (read_text reading)
 
 -- what is due of the first statement
-abbrev pub first_due : List PlainStmt → PlainDue
-first_due [] = Empty
-first_due (stmt ∷ stmts) = due_of stmt
+abbrev pub due_of_first : List PlainStmt → PlainDue
+due_of_first [] = Empty
+due_of_first (stmt ∷ stmts) = due_of stmt
 
 -- it goes on with the first statement: to its end, whose value is written, to a callee that is none, or to a call; a line goes with a statement that isn't evaluated
 abbrev pub eval_part : PlainDue → ShellState → KernState → Part

@@ -1,6 +1,6 @@
 -- The texts that the shell writes. All but the prompt are this project's own.
 use Rattle.std.specs.Prelude.{ℕ, List, [], ◌∷◌, ◌++◌, ◌&&◌, false, nat_le, if◌then◌else◌, codes}
-use Rattle.std.specs.Fmt.{decimal, signed_decimal, digits, digits_onto}
+use Rattle.std.specs.Fmt.{decimal, signed_decimal, digits}
 use Rattle.std.specs.Int.{cast_signed, w32}
 
 -- the prompt, `-> `
@@ -10,10 +10,6 @@ prompt_text = codes "-> "
 -- the character of a word that is a printable one of ASCII, as ` = 'c'`
 abbrev pub character_text : ℕ → List ℕ
 character_text v = if nat_le 32 v && nat_le v 126 then codes " = '" ++ v ∷ codes "'" else []
-
--- a number in k hexadecimal digits at most, without leading zeros
-unfoldable pub hex_within : ℕ → ℕ → List ℕ
-hex_within k n = digits_onto k 16 false n []
 
 -- the line that tells a value: signed in decimal digits, in hexadecimal digits, and as a character where it is one
 unfoldable pub value_text : ℕ → List ℕ

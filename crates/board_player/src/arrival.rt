@@ -1,6 +1,7 @@
 //! Bytes of the console arrive.
 
 ghost use Rattle.std.specs.Prelude.{◌≡◌, ◌≤◌, ◌<◌, ◌+◌, ◌*◌, ◌^◌, ◌++◌, length};
+ghost use Rattle.wind_base.specs.OutBuf.{KeepsSpace};
 ghost use Rattle.wind_core.specs.State.{Lives};
 ghost use Rattle.board_player.specs.Feed.{supplied};
 ghost use Rattle.board_player.specs.Task.{waits_for_console as waits_for_console_lem};
@@ -51,7 +52,7 @@ fn hear_one(byte: u8, console: &mut Console, shell: &mut Shell, kern: &mut Kern,
     requires since { kern.old.next_since + 2 < 2 ^ 64 }
     ensures heard { heard_from console.new shell.new kern.new out.new.bytes ≡ hear_lem (heard_from console.old shell.old kern.old out.old.bytes) byte }
     ensures room { out.old.room ≤ out.new.room + 3 }
-    ensures total { out.new.room + length out.new.bytes ≡ out.old.room + length out.old.bytes }
+    ensures space { KeepsSpace out.old out.new }
     ensures live { Lives kern.new 1 }
     ensures since { kern.new.next_since ≤ kern.old.next_since + 2 }
 {
@@ -66,7 +67,7 @@ fn hear(bytes: &[u8], console: &mut Console, shell: &mut Shell, kern: &mut Kern,
     requires since { kern.old.next_since + 2 * length bytes.now < 2 ^ 64 }
     ensures heard { heard_from console.new shell.new kern.new out.new.bytes ≡ heard_all (heard_from console.old shell.old kern.old out.old.bytes) bytes.now }
     ensures room { out.old.room ≤ out.new.room + 3 * length bytes.now }
-    ensures total { out.new.room + length out.new.bytes ≡ out.old.room + length out.old.bytes }
+    ensures space { KeepsSpace out.old out.new }
     ensures live { Lives kern.new 1 }
     ensures since { kern.new.next_since ≤ kern.old.next_since + 2 * length bytes.now }
 {
@@ -89,7 +90,7 @@ pub(crate) fn hear_chunk(
     requires live { Lives kern.old 1 }
     requires since { kern.old.next_since + 2 * (length bytes.now + 1) < 2 ^ 64 }
     ensures heard { heard_from console.new shell.new kern.new out.new.bytes ≡ heard_all (heard_from console.old shell.old kern.old out.old.bytes) (bytes.now ++ supplied is_unended) }
-    ensures total { out.new.room + length out.new.bytes ≡ out.old.room + length out.old.bytes }
+    ensures space { KeepsSpace out.old out.new }
 {
     hear(bytes, console, shell, kern, out);
     if is_unended {

@@ -3,6 +3,7 @@
 ghost use Rattle.std.specs.Prelude.{◌≡◌, ◌≤◌, ◌+◌, length, OnOk, OnErr, Some, None, nat_le, if◌then◌else◌};
 ghost use Rattle.board_player.specs.declared.Step.TheVariants as steps;
 ghost use Rattle.std.proofs.Props.{props};
+ghost use Rattle.wind_base.specs.Limits.{most_steps};
 ghost use Rattle.board_player.specs.Inside.{inside};
 ghost use Rattle.board_player.specs.Good.{Good};
 
@@ -86,7 +87,7 @@ impl Board {
 
     // The shell writes its prompt.
     fn prompt(&mut self)
-        requires few { (seen ⟦<dyn Device as Device>⟧ self.old).steps < 10 ^ 12 }
+        requires few { (seen ⟦<dyn Device as Device>⟧ self.old).steps < most_steps }
         requires phase { (seen ⟦<dyn Device as Device>⟧ self.old).shell.phase ≡ phases.Prompt }
         ensures { seen ⟦<dyn Device as Device>⟧ self.new ≡ prompt_step (seen ⟦<dyn Device as Device>⟧ self.old) }
     {
@@ -98,7 +99,7 @@ impl Board {
 
     // The shell takes a line and reads it.
     fn read(&mut self) -> Result<(), NoMemory>
-        requires few { (seen ⟦<dyn Device as Device>⟧ self.old).steps < 10 ^ 12 }
+        requires few { (seen ⟦<dyn Device as Device>⟧ self.old).steps < most_steps }
         ensures ok { OnOk result (seen ⟦<dyn Device as Device>⟧ self.new ≡ read_step (seen ⟦<dyn Device as Device>⟧ self.old)) }
         ensures err { OnErr result (seen ⟦<dyn Device as Device>⟧ self.new ≡ seen ⟦<dyn Device as Device>⟧ self.old) }
     {
@@ -111,7 +112,7 @@ impl Board {
 
     // The shell goes on with the current statement.
     fn evaluate(&mut self)
-        requires few { (seen ⟦<dyn Device as Device>⟧ self.old).steps < 10 ^ 12 }
+        requires few { (seen ⟦<dyn Device as Device>⟧ self.old).steps < most_steps }
         ensures { seen ⟦<dyn Device as Device>⟧ self.new ≡ eval_step (seen ⟦<dyn Device as Device>⟧ self.old) }
     {
         evaluate(&mut self.shell, &mut self.kern, &mut self.out);
@@ -121,7 +122,7 @@ impl Board {
 
     // The shell's task, which is in a call, goes on. False where it has no step.
     fn go_on(&mut self) -> bool
-        requires few { (seen ⟦<dyn Device as Device>⟧ self.old).steps < 10 ^ 12 }
+        requires few { (seen ⟦<dyn Device as Device>⟧ self.old).steps < most_steps }
         requires phase { (seen ⟦<dyn Device as Device>⟧ self.old).shell.phase ≡ phases.Call }
         ensures made { result ≡ true → call_step (seen ⟦<dyn Device as Device>⟧ self.old) ≡ Some (seen ⟦<dyn Device as Device>⟧ self.new) }
         ensures none { result ≡ false → call_step (seen ⟦<dyn Device as Device>⟧ self.old) ≡ None }
@@ -137,7 +138,7 @@ impl Board {
 
     // The next chunk of the console arrives.
     fn arrive(&mut self)
-        requires few { (seen ⟦<dyn Device as Device>⟧ self.old).steps < 10 ^ 12 }
+        requires few { (seen ⟦<dyn Device as Device>⟧ self.old).steps < most_steps }
         ensures { seen ⟦<dyn Device as Device>⟧ self.new ≡ arrival (seen ⟦<dyn Device as Device>⟧ self.old) }
     {
         let (len, is_unended) = chunk_len(self.feed.left());
@@ -156,7 +157,7 @@ impl Board {
 
     // A tick comes.
     fn tick(&mut self)
-        requires few { (seen ⟦<dyn Device as Device>⟧ self.old).steps < 10 ^ 12 }
+        requires few { (seen ⟦<dyn Device as Device>⟧ self.old).steps < most_steps }
         ensures { seen ⟦<dyn Device as Device>⟧ self.new ≡ ticked (record (seen ⟦<dyn Device as Device>⟧ self.old) { schedule = without_next (seen ⟦<dyn Device as Device>⟧ self.old).schedule }) }
     {
         self.out.clear();
@@ -167,7 +168,7 @@ impl Board {
 
     // So many bytes arrive, as the tick file asks.
     fn receive(&mut self, n: u32)
-        requires few { (seen ⟦<dyn Device as Device>⟧ self.old).steps < 10 ^ 12 }
+        requires few { (seen ⟦<dyn Device as Device>⟧ self.old).steps < most_steps }
         ensures { seen ⟦<dyn Device as Device>⟧ self.new ≡ received (record (seen ⟦<dyn Device as Device>⟧ self.old) { schedule = without_next (seen ⟦<dyn Device as Device>⟧ self.old).schedule }) n }
     {
         let len = brought(self.feed.left(), n);
@@ -208,7 +209,7 @@ impl Board {
 
     // The event that is due comes.
     fn come(&mut self, event: Event)
-        requires few { (seen ⟦<dyn Device as Device>⟧ self.old).steps < 10 ^ 12 }
+        requires few { (seen ⟦<dyn Device as Device>⟧ self.old).steps < most_steps }
         ensures { seen ⟦<dyn Device as Device>⟧ self.new ≡ event_comes (record (seen ⟦<dyn Device as Device>⟧ self.old) { schedule = without_next (seen ⟦<dyn Device as Device>⟧ self.old).schedule }) event }
     {
         match event {
@@ -230,7 +231,7 @@ impl Board {
 
     // Board time becomes that of the next event. False, and nothing changes, where there is none.
     fn jump(&mut self) -> bool
-        requires few { (seen ⟦<dyn Device as Device>⟧ self.old).steps < 10 ^ 12 }
+        requires few { (seen ⟦<dyn Device as Device>⟧ self.old).steps < most_steps }
         ensures made { result ≡ true → jump_to (seen ⟦<dyn Device as Device>⟧ self.old) (next_event (seen ⟦<dyn Device as Device>⟧ self.old)) ≡ Some (seen ⟦<dyn Device as Device>⟧ self.new) }
         ensures none { result ≡ false → jump_to (seen ⟦<dyn Device as Device>⟧ self.old) (next_event (seen ⟦<dyn Device as Device>⟧ self.old)) ≡ None }
         ensures same { result ≡ false → seen ⟦<dyn Device as Device>⟧ self.new ≡ seen ⟦<dyn Device as Device>⟧ self.old }
@@ -245,7 +246,7 @@ impl Board {
 
     // Whoever runs, which so far is the shell's task, makes a step.
     fn run(&mut self) -> Step
-        requires few { (seen ⟦<dyn Device as Device>⟧ self.old).steps < 10 ^ 12 }
+        requires few { (seen ⟦<dyn Device as Device>⟧ self.old).steps < most_steps }
         ensures stepped { result ≡ steps.Stepped → shell_step (seen ⟦<dyn Device as Device>⟧ self.old).shell.phase (seen ⟦<dyn Device as Device>⟧ self.old) ≡ Some (seen ⟦<dyn Device as Device>⟧ self.new) }
         ensures quiet { (result ≡ steps.Quiet) ↔ (shell_step (seen ⟦<dyn Device as Device>⟧ self.old).shell.phase (seen ⟦<dyn Device as Device>⟧ self.old) ≡ None) }
         ensures no_memory { result ≡ steps.NoMemory → is_read (seen ⟦<dyn Device as Device>⟧ self.old).shell.phase ≡ true }

@@ -9,6 +9,7 @@ ghost use Rattle.board_player.specs.Calls.{target as target_lem, suspend_row, re
 
 use crate::gate::Gate;
 use id_table::Ident;
+use wind_base::words::OK;
 use wind_base::{Errno, Pri};
 use wind_core::Kern;
 
@@ -24,7 +25,7 @@ pub(crate) enum Reply {
 }
 
 // A call that is done.
-const DONE: Reply = Reply::Answer(0);
+const DONE: Reply = Reply::Answer(OK);
 
 // The task that an id of a call means: 0 is the caller. None where no such task lives.
 #[tactic(auto, using(crate::proofs::Lives::live_found))]

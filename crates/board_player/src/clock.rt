@@ -1,6 +1,7 @@
 //! Board time, and the count of steps.
 
 ghost use Rattle.std.specs.Prelude.{◌≡◌, ◌+◌, ◌<◌, ◌^◌};
+ghost use Rattle.wind_base.specs.Limits.{most_steps};
 
 /// Board time, and how many steps were made.
 #[derive(Clone, Copy, Debug, PartialEq, Eq)]
@@ -20,7 +21,7 @@ impl Clock {
     /// A step that takes board time.
     pub(crate) fn step(&mut self)
         requires time { self.old.time < 2 ^ 65 }
-        requires steps { self.old.steps < 10 ^ 12 }
+        requires steps { self.old.steps < most_steps }
         ensures { self.new ≡ record { time = self.old.time + 1; steps = self.old.steps + 1 } }
     {
         self.time += 1;
@@ -29,7 +30,7 @@ impl Clock {
 
     /// An event, which is a step that leaves board time.
     pub(crate) fn event(&mut self)
-        requires { self.old.steps < 10 ^ 12 }
+        requires { self.old.steps < most_steps }
         ensures { self.new ≡ record self.old { steps = self.old.steps + 1 } }
     {
         self.steps += 1;
@@ -37,7 +38,7 @@ impl Clock {
 
     /// Board time becomes this, which is a step.
     pub(crate) fn jump(&mut self, time: u64)
-        requires { self.old.steps < 10 ^ 12 }
+        requires { self.old.steps < most_steps }
         ensures { self.new ≡ record { time = time; steps = self.old.steps + 1 } }
     {
         self.time = u128::from(time);

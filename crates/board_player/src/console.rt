@@ -1,10 +1,12 @@
 //! The console: the line that is edited, and the finished lines that are kept.
 
 ghost use Rattle.std.specs.Prelude.{◌≡◌, ◌+◌, ◌-◌, ◌<◌, ◌≤◌, ◌∷◌, [], ◌++◌, ◌==◌, nat_lt, nat_le, if◌then◌else◌, false, length, take};
+ghost use Rattle.wind_base.specs.Limits.{longest_line, most_kept_bytes};
+ghost use Rattle.wind_base.specs.OutBuf.{Added};
 ghost use Rattle.board_player.specs.declared.console.ByteDone.TheVariants as done;
 ghost use Rattle.board_player.specs.Console.{key_of as key_of_lem, after_key, after_byte, echo_of, byte_echo, done_by, byte_done, line_ended, line_done, front_line as front_line_of, line_dropped, has_line as has_line_lem};
 
-use crate::text::add;
+use wind_base::text::add;
 use arrayvec::ArrayVec;
 use std::marker::Model;
 use wind_base::limits::{KEPT_BYTES, LINE_BYTES};
@@ -74,9 +76,7 @@ impl Console {
         requires { 3 ≤ echo.old.room }
         ensures after { self.new ≡ after_byte self.old byte }
         ensures done { result ≡ byte_done self.old byte }
-        ensures echo { echo.new.bytes ≡ echo.old.bytes ++ byte_echo self.old byte }
-        ensures room { echo.old.room ≤ echo.new.room + 3 }
-        ensures total { echo.new.room + length echo.new.bytes ≡ echo.old.room + length echo.old.bytes }
+        ensures echo { Added 3 echo.old echo.new (byte_echo self.old byte) }
     {
         let done = self.press(key_of(byte), byte, echo);
         self.after_return = byte == b'\r';
@@ -88,9 +88,7 @@ impl Console {
         requires { 3 ≤ echo.old.room }
         ensures after { self.new ≡ after_key key self.old byte }
         ensures done { result ≡ done_by key self.old }
-        ensures echo { echo.new.bytes ≡ echo.old.bytes ++ echo_of key self.old byte }
-        ensures room { echo.old.room ≤ echo.new.room + 3 }
-        ensures total { echo.new.room + length echo.new.bytes ≡ echo.old.room + length echo.old.bytes }
+        ensures echo { Added 3 echo.old echo.new (echo_of key self.old byte) }
     {
         match key {
             Key::Return => self.end_line(echo),
@@ -128,9 +126,7 @@ impl Console {
         requires { 3 ≤ echo.old.room }
         ensures after { self.new ≡ line_ended self.old }
         ensures done { result ≡ line_done self.old }
-        ensures echo { echo.new.bytes ≡ echo.old.bytes ++ 10 ∷ [] }
-        ensures room { echo.old.room ≤ echo.new.room + 3 }
-        ensures total { echo.new.room + length echo.new.bytes ≡ echo.old.room + length echo.old.bytes }
+        ensures echo { Added 3 echo.old echo.new (10 ∷ []) }
     {
         add(echo, b"\n");
         let done = keep(&mut self.finished, self.edited.as_slice());
@@ -184,9 +180,7 @@ fn key_of(byte: u8) -> Key
 fn erase(edited: &mut ArrayVec<u8, LINE_BYTES>, echo: &mut OutBuf)
     requires { 3 ≤ echo.old.room }
     ensures line { edited.new.items ≡ take (length edited.old.items - 1) edited.old.items }
-    ensures echo { echo.new.bytes ≡ echo.old.bytes ++ (if length edited.old.items == 0 then [] else 8 ∷ 32 ∷ 8 ∷ []) }
-    ensures room { echo.old.room ≤ echo.new.room + 3 }
-    ensures total { echo.new.room + length echo.new.bytes ≡ echo.old.room + length echo.old.bytes }
+    ensures echo { Added 3 echo.old echo.new ((if length edited.old.items == 0 then [] else 8 ∷ 32 ∷ 8 ∷ [])) }
 {
     if edited.pop().is_some() {
         add(echo, b"\x08 \x08");
@@ -196,10 +190,8 @@ fn erase(edited: &mut ArrayVec<u8, LINE_BYTES>, echo: &mut OutBuf)
 // Types a byte, where the edited line has room.
 fn enter(edited: &mut ArrayVec<u8, LINE_BYTES>, byte: u8, echo: &mut OutBuf)
     requires { 3 ≤ echo.old.room }
-    ensures line { edited.new.items ≡ (if nat_lt (length edited.old.items) 255 then edited.old.items ++ byte ∷ [] else edited.old.items) }
-    ensures echo { echo.new.bytes ≡ echo.old.bytes ++ (if nat_lt (length edited.old.items) 255 then byte ∷ [] else []) }
-    ensures room { echo.old.room ≤ echo.new.room + 3 }
-    ensures total { echo.new.room + length echo.new.bytes ≡ echo.old.room + length echo.old.bytes }
+    ensures line { edited.new.items ≡ (if nat_lt (length edited.old.items) longest_line then edited.old.items ++ byte ∷ [] else edited.old.items) }
+    ensures echo { Added 3 echo.old echo.new ((if nat_lt (length edited.old.items) longest_line then byte ∷ [] else [])) }
 {
     if edited.try_push(byte).is_ok() {
         add(echo, &[byte]);
@@ -208,8 +200,8 @@ fn enter(edited: &mut ArrayVec<u8, LINE_BYTES>, byte: u8, echo: &mut OutBuf)
 
 // A line goes with its end behind the finished ones, where they have room for it.
 fn keep(finished: &mut ArrayVec<u8, KEPT_BYTES>, line: &[u8]) -> ByteDone
-    ensures finished { finished.new.items ≡ (if nat_le (length finished.old.items + length (line.now ++ 10 ∷ [])) 4096 then finished.old.items ++ (line.now ++ 10 ∷ []) else finished.old.items) }
-    ensures done { result ≡ (if nat_le (length finished.old.items + length (line.now ++ 10 ∷ [])) 4096 then done.Line else done.Kept) }
+    ensures finished { finished.new.items ≡ (if nat_le (length finished.old.items + length (line.now ++ 10 ∷ [])) most_kept_bytes then finished.old.items ++ (line.now ++ 10 ∷ []) else finished.old.items) }
+    ensures done { result ≡ (if nat_le (length finished.old.items + length (line.now ++ 10 ∷ [])) most_kept_bytes then done.Line else done.Kept) }
 {
     if finished.remaining_capacity() <= line.len() {
         return ByteDone::Kept;

@@ -1,8 +1,9 @@
 //! The steps of the shell's task.
 
 ghost use Rattle.std.specs.Prelude.{◌≡◌, ◌+◌, ◌^◌, ◌<◌, ◌≤◌, [], length, Some, None, true, false};
+ghost use Rattle.wind_base.specs.OutBuf.{KeepsSpace};
 ghost use Rattle.wind_core.specs.State.{Lives, task_of};
-ghost use Rattle.board_player.specs.Shell.{part_of, prompt_part, eval_part, first_due, call_part, counter as counter_lem};
+ghost use Rattle.board_player.specs.Shell.{part_of, prompt_part, eval_part, due_of_first, call_part, counter as counter_lem};
 ghost use Rattle.board_player.specs.Task.{shell_task};
 ghost use Rattle.board_player.specs.Calls.{locks_of};
 
@@ -10,9 +11,10 @@ use crate::calls::{argument, call};
 use crate::gate::{Landing, landed_at};
 use crate::shell::Shell;
 use crate::task::{begin_call, listen, shell_id};
-use crate::text::{add, add_undefined, add_value};
+use crate::text::{add_undefined, add_value};
 use shell_eval::Due;
 use wind_base::OutBuf;
+use wind_base::text::add;
 use wind_core::Kern;
 
 /// The shell writes its prompt, and waits for the console where no line is kept.
@@ -22,7 +24,7 @@ pub(crate) fn prompt(shell: &mut Shell, kern: &mut Kern, has_line: bool, out: &m
     requires tick { kern.old.tick < 2 ^ 63 }
     requires room { 64 ≤ out.old.room + length out.old.bytes }
     ensures part { part_of shell.new kern.new out.new.bytes ≡ prompt_part has_line shell.old kern.old }
-    ensures total { out.new.room + length out.new.bytes ≡ out.old.room + length out.old.bytes }
+    ensures space { KeepsSpace out.old out.new }
 {
     out.clear();
     add(out, b"-> ");
@@ -37,8 +39,8 @@ pub(crate) fn prompt(shell: &mut Shell, kern: &mut Kern, has_line: bool, out: &m
 pub(crate) fn evaluate(shell: &mut Shell, kern: &mut Kern, out: &mut OutBuf)
     requires live { Lives kern.old 1 }
     requires room { 300 ≤ out.old.room + length out.old.bytes }
-    ensures part { part_of shell.new kern.new out.new.bytes ≡ eval_part (first_due shell.old.stmts) shell.old kern.old }
-    ensures total { out.new.room + length out.new.bytes ≡ out.old.room + length out.old.bytes }
+    ensures part { part_of shell.new kern.new out.new.bytes ≡ eval_part (due_of_first shell.old.stmts) shell.old kern.old }
+    ensures space { KeepsSpace out.old out.new }
 {
     out.clear();
     match shell.due() {
@@ -81,7 +83,7 @@ pub(crate) fn go_on(shell: &mut Shell, kern: &mut Kern, out: &mut OutBuf) -> boo
     ensures shell { result ≡ false → shell.new ≡ shell.old }
     ensures kern { result ≡ false → kern.new ≡ kern.old }
     ensures out { result ≡ false → out.new ≡ out.old }
-    ensures total { out.new.room + length out.new.bytes ≡ out.old.room + length out.old.bytes }
+    ensures space { KeepsSpace out.old out.new }
 {
     match landed_at(counter(kern)) {
         Some(Landing::Return) => {

@@ -1,6 +1,7 @@
 //! The console file, as far as it has not come yet.
 
 ghost use Rattle.std.specs.Prelude.{◌≡◌, ◌<◌, ◌≤◌, ◌++◌, IfSome, take, drop, length};
+ghost use Rattle.wind_base.specs.Limits.{longest_chunk};
 ghost use Rattle.board_player.specs.Feed.{is_end as is_end_lem, first_end as first_end_lem, chunk, after_chunk, supplied, brought as brought_by};
 
 use std::marker::Model;
@@ -57,7 +58,7 @@ fn is_end(byte: u8) -> bool
 fn first_end(left: &[u8]) -> Option<usize>
     ensures exact { result ≡ first_end_lem left.now }
     ensures inside { IfSome result (λ k. k < length left.now) }
-    ensures short { IfSome result (λ k. k < 4096) }
+    ensures short { IfSome result (λ k. k < longest_chunk) }
 {
     left.iter().take(CHUNK_BYTES).position(|byte| is_end(*byte))
 }
@@ -67,7 +68,7 @@ pub(crate) fn chunk_len(left: &[u8]) -> (usize, bool)
     ensures chunk { chunk left.now ≡ take result.0 left.now ++ supplied result.1 }
     ensures after { after_chunk left.now ≡ drop result.0 left.now }
     ensures inside { result.0 ≤ length left.now }
-    ensures short { result.0 ≤ 4096 }
+    ensures short { result.0 ≤ longest_chunk }
 {
     match first_end(left) {
         Some(k) => (k + 1, false),
@@ -81,7 +82,7 @@ pub(crate) fn brought(left: &[u8], n: u32) -> usize
     ensures taken { take result left.now ≡ take (brought_by n) left.now }
     ensures after { drop result left.now ≡ drop (brought_by n) left.now }
     ensures inside { result ≤ length left.now }
-    ensures short { result ≤ 4096 }
+    ensures short { result ≤ longest_chunk }
 {
     (n as usize).min(CHUNK_BYTES).min(left.len())
 }

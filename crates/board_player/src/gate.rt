@@ -3,13 +3,12 @@
 ghost use Rattle.std.specs.Prelude.{◌≡◌, ◌==◌, option_copied};
 ghost use Rattle.std.specs.List.{find};
 ghost use Rattle.board_player.specs.Task.{gate_address, return_address};
-ghost use Rattle.board_player.specs.Calls.{number_of, landing as landing_lem};
+ghost use Rattle.board_player.specs.Calls.{gate_number, landing as landing_lem};
 
-// Where the gates stand: one every 16 bytes.
-const GATES: u32 = 0x0100_0000;
+use wind_base::limits::{GATE_BYTES, GATES_START};
 
 /// The address to which a call of the shell returns: gate 1.
-pub(crate) const RETURN: u32 = 0x0100_0010;
+pub(crate) const RETURN: u32 = GATES_START + GATE_BYTES;
 
 /// A call of the kernel that is built.
 #[derive(Clone, Copy, Debug, PartialEq, Eq)]
@@ -66,7 +65,7 @@ pub(crate) enum Landing {
 
 // The number of a gate.
 fn number(gate: Gate) -> u32
-    ensures { result ≡ number_of gate }
+    ensures { result ≡ gate_number gate }
 {
     match gate {
         Gate::TaskSuspend => 6,
@@ -88,12 +87,12 @@ fn number(gate: Gate) -> u32
 pub(crate) fn address(gate: u32) -> u32
     ensures { result ≡ gate_address gate }
 {
-    GATES.wrapping_add(gate.wrapping_mul(16))
+    GATES_START.wrapping_add(gate.wrapping_mul(GATE_BYTES))
 }
 
 // The gate of these that stands at an address.
 fn gate_at(gates: &[Gate], pc: u32) -> Option<&Gate>
-    ensures { option_copied result ≡ find (λ g. gate_address (number_of g) == pc) gates.now }
+    ensures { option_copied result ≡ find (λ g. gate_address (gate_number g) == pc) gates.now }
 {
     gates.iter().find(|gate| address(number(**gate)) == pc)
 }

@@ -20,7 +20,7 @@ mod text;
 
 pub use board::Board;
 pub use gate::Gate;
-pub use laws::{gates_law, step_law, urgency_law};
+pub use laws::{gates_law, run_law, step_law, urgency_law};
 pub use machine::Machine;
 pub use phase::Phase;
 

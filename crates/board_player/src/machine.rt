@@ -1,6 +1,7 @@
 //! What plays as the wind machine.
 
 ghost use Rattle.std.specs.Prelude.{◌≡◌, ◌≢◌, ◌+◌, ◌^◌, ◌<◌, ◌↔◌, Some, None, true};
+ghost use Rattle.wind_base.specs.Limits.{most_steps};
 ghost use Rattle.board_player.specs.State.{State};
 ghost use Rattle.board_player.specs.Good.{Good};
 ghost use Rattle.board_player.specs.Machine.{machine_step, reads_line};
@@ -15,7 +16,7 @@ pub trait Machine {
     /// Makes the next step, if there is one. Host memory may run out only where the shell reads a
     /// line.
     fn step(&mut self) -> Step
-        requires { (state self.old).steps < 10 ^ 12 }
+        requires { (state self.old).steps < most_steps }
         ensures stepped { result ≡ steps.Stepped → machine_step (state self.old) ≡ Some (state self.new) }
         ensures counted { result ≡ steps.Stepped → (state self.new).steps ≡ (state self.old).steps + 1 }
         ensures quiet { (result ≡ steps.Quiet) ↔ (machine_step (state self.old) ≡ None) }

@@ -1,11 +1,13 @@
 //! The shell: its phase, and the line under evaluation.
 
 ghost use Rattle.std.specs.Prelude.{◌≡◌, ◌+◌, ◌≤◌, [], ◌++◌, OnOk, OnErr, map, drop, length};
+ghost use Rattle.wind_base.specs.OutBuf.{KeepsSpace};
+ghost use Rattle.wind_base.specs.Limits.{longest_line};
 ghost use Rattle.shell_parse.specs.Reading.{read_line};
 ghost use Rattle.shell_parse.specs.Trees.{plain_stmt};
 ghost use Rattle.shell_eval.specs.Due.{plain_due};
 ghost use Rattle.board_player.specs.declared.phase.Phase.TheVariants as phases;
-ghost use Rattle.board_player.specs.Shell.{at_prompt, prompted, is_nothing as is_nothing_lem, begun, shell_read, read_text, phase_with, rest_of, moved_on, first_due, fill_first as fill_first_lem, returned};
+ghost use Rattle.board_player.specs.Shell.{at_prompt, prompted, is_nothing as is_nothing_lem, begun, shell_read, read_text, phase_with, rest_of, moved_on, due_of_first, fill_first as fill_first_lem, returned};
 
 use crate::phase::Phase;
 use crate::text::add_syntax;
@@ -83,11 +85,11 @@ impl Shell {
 
     /// Reads a line. For want of memory nothing changes.
     pub(crate) fn read(&mut self, line: &[u8], out: &mut OutBuf) -> Result<(), NoMemory>
-        requires line { length line.now ≤ 255 }
+        requires line { length line.now ≤ longest_line }
         requires room { 64 ≤ out.old.room + length out.old.bytes }
         ensures ok { OnOk result (self.new ≡ shell_read (read_line line.now)) }
         ensures text { OnOk result (out.new.bytes ≡ read_text (read_line line.now)) }
-        ensures total { out.new.room + length out.new.bytes ≡ out.old.room + length out.old.bytes }
+        ensures space { KeepsSpace out.old out.new }
         ensures err { OnErr result (self.new ≡ self.old) }
         ensures err_out { OnErr result (out.new ≡ out.old) }
     {
@@ -121,7 +123,7 @@ impl Shell {
 
     /// What its first statement goes on to.
     pub(crate) fn due(&self) -> Due<'_>
-        ensures { plain_due result ≡ first_due self.now.stmts }
+        ensures { plain_due result ≡ due_of_first self.now.stmts }
     {
         match self.stmts.first() {
             Some(stmt) => due(stmt),

@@ -8,15 +8,16 @@ ghost use Rattle.board_player.specs.Machine.{holds_back};
 ghost use Rattle.board_player.specs.Task.{console_place, waits_for_console as waits_for_console_lem, is_held as is_held_lem, shell_task, listening, let_go as let_go_lem, aborted, no_regs as no_regs_lem, call_regs as call_regs_lem, shell_record as shell_record_lem, calling};
 
 use crate::gate::{RETURN, address};
+use id_table::sides::CONSOLE;
 use id_table::{Ident, Place};
 use task_block::{NewTask, Task};
+use wind_base::limits::{FRAME_BYTES, POOL_START, SHELL_STACK_BYTES};
+use wind_base::words::WAIT_FOREVER;
 use wind_base::{Pri, Regs, ShortName};
 use wind_core::Kern;
 
-// Its stack, and r1 at the start of a call: 64 bytes below the stack's end.
-const STACK: u32 = 0x1_0000;
-
-const STACK_TOP: u32 = STACK + 20_000 - 64;
+// r1 at the start of a call: a frame below the end of its stack, which begins where the pool does.
+const STACK_POINTER: u32 = POOL_START + SHELL_STACK_BYTES - FRAME_BYTES;
 
 /// Its id.
 pub(crate) fn shell_id() -> Ident
@@ -43,7 +44,7 @@ fn console() -> Place
     ensures { result ≡ console_place }
 {
     Place {
-        side: 3,
+        side: CONSOLE,
         id: shell_id(),
     }
 }
@@ -70,7 +71,7 @@ pub(crate) fn shell_record() -> NewTask
     NewTask {
         name: ShortName::cut(b"tShell"),
         entry: 0,
-        stack: STACK,
+        stack: POOL_START,
         pri: priority(),
         regs: no_regs(),
     }
@@ -81,7 +82,7 @@ fn is_at_console(task: &Task) -> bool
     ensures { result ≡ waits_at console_place task.now }
 {
     match task.wait {
-        Some(place) => place.side == 3 && place.id == shell_id(),
+        Some(place) => place.side == CONSOLE && place.id == shell_id(),
         None => false,
     }
 }
@@ -113,7 +114,7 @@ pub(crate) fn listen(kern: &mut Kern)
     requires tick { kern.old.tick < 2 ^ 63 }
     ensures { kern.new ≡ listening kern.old }
 {
-    kern.pend(shell_id(), console(), false, u32::MAX);
+    kern.pend(shell_id(), console(), false, WAIT_FOREVER);
 }
 
 // Its wait or delay ends, where it has one.
@@ -145,7 +146,7 @@ fn call_regs(gate: u32, words: [u32; 10]) -> Regs
     let [a, b, c, d, e, f, g, h, _, _] = words;
     Regs {
         gpr: [
-            0, STACK_TOP, 0, a, b, c, d, e, f, g, h, 0, 0, 0, 0, 0, 0, 0, 0, 0, 0, 0, 0, 0, 0, 0,
+            0, STACK_POINTER, 0, a, b, c, d, e, f, g, h, 0, 0, 0, 0, 0, 0, 0, 0, 0, 0, 0, 0, 0, 0, 0,
             0, 0, 0, 0, 0, 0,
         ],
         lr: RETURN,

@@ -12,7 +12,8 @@ use Rattle.std.proofs.lemmas.Option.{same_Some}
 use Rattle.slab.proofs.SlabLemmas.{Updates-with_value}
 use Rattle.slab.specs.Slab.{Slab, get, slab_len, with_value, Updates}
 use Rattle.id_table.specs.declared.entry.Entry.{Entry}
-use Rattle.id_table.specs.Rows.{Rows, Rises, ids, next_above, objects, object_of, with_object, without, IdsBelow}
+use Rattle.wind_lists.specs.Records.{of_id}
+use Rattle.id_table.specs.Rows.{Rows, Rises, row_id, row_object, ids, next_above, objects, object_of, with_object, without, IdsBelow}
 use Rattle.id_table.specs.Inside.{row_at, rows_in, IsKept, EntryAt}
 
 -- ---- a search by id
@@ -100,6 +101,11 @@ module _ {T : Type 0} where
       let row = row_is slots e es (h 0 e (omega arith)) in
       ap length row.2 ∙ ap suc (length-rows es slots (rest_present slots e es h))
 
+  -- a look-up at a first row
+  pub object_of-cons : (i : ℕ) (v : T) (rs : List (ℕ × T)) (id : ℕ) → object_of ((i, v) ∷ rs) id ≡ cond (eqb i id) (Some v) (object_of rs id)
+  object_of-cons i v rs id =
+      elim (eqb i id) as (λ b. option_map row_object (cond b (Some (i, v)) (of_id row_id rs id)) ≡ cond b (Some v) (object_of rs id)) [ true ↦ refl | false ↦ refl ]
+
   -- the object of an id is what its entry's key has
   pub object_at : (order : List Entry) (slots : Slab T) (id at : ℕ) (d : Entry) → Present order slots → AllPairs (λ c e. c.id < e.id) order → EntryAt order id at
       → object_of (rows_in order slots) id ≡ get slots (get_or order at d).key
@@ -107,14 +113,14 @@ module _ {T : Type 0} where
   object_at (e ∷ es) slots id zero d h up stands =
       let row = row_is slots e es (h 0 e (omega arith)) in
       let same : eqb e.id id ≡ true = eq-eqb e.id id (stands.same d) in
-      ap (λ rs. object_of rs id) row.2 ∙ ap (λ b. cond b (Some row.0) (object_of (rows_in es slots) id)) same ∙ sym row.1
+      ap (λ rs. object_of rs id) row.2 ∙ object_of-cons e.id row.0 (rows_in es slots) id ∙ ap (λ b. cond b (Some row.0) (object_of (rows_in es slots) id)) same ∙ sym row.1
   object_at (e ∷ es) slots id (suc at) d h up stands =
       let row = row_is slots e es (h 0 e (omega arith)) in
       let within : at < length es = omega (arith, stands.within) in
       let here : (get_or es at d).id ≡ id = stands.same d in
       let above : e.id < (get_or es at d).id = up 0 (suc at) d (omega arith) (omega arith) in
       let other : eqb e.id id ≡ false = ne_eqb e.id id (λ q. omega arith) in
-      ap (λ rs. object_of rs id) row.2 ∙ ap (λ b. cond b (Some row.0) (object_of (rows_in es slots) id)) other
+      ap (λ rs. object_of rs id) row.2 ∙ object_of-cons e.id row.0 (rows_in es slots) id ∙ ap (λ b. cond b (Some row.0) (object_of (rows_in es slots) id)) other
       ∙ object_at es slots id at d (rest_present slots e es h) (λ i j c hij hj. up (suc i) (suc j) c (omega arith) (omega arith)) (record { within = within; same = stands.same })
 
   pub object_none : (order : List Entry) (slots : Slab T) (id : ℕ) → Present order slots → ((k : ℕ) (d : Entry) → k < length order → (get_or order k d).id ≡ id → ⊥)
@@ -123,7 +129,7 @@ module _ {T : Type 0} where
   object_none (e ∷ es) slots id h none =
       let row = row_is slots e es (h 0 e (omega arith)) in
       let other : eqb e.id id ≡ false = ne_eqb e.id id (none 0 e (omega arith)) in
-      ap (λ rs. object_of rs id) row.2 ∙ ap (λ b. cond b (Some row.0) (object_of (rows_in es slots) id)) other
+      ap (λ rs. object_of rs id) row.2 ∙ object_of-cons e.id row.0 (rows_in es slots) id ∙ ap (λ b. cond b (Some row.0) (object_of (rows_in es slots) id)) other
       ∙ object_none es slots id (rest_present slots e es h) (λ k d hk. none (suc k) d (omega arith))
 
   -- the live ids are those of the entries

@@ -1,7 +1,9 @@
 -- What a contract sees of a table: its objects by rising id, and how many it may have.
-use Rattle.std.specs.Prelude.{ℕ, ◌<◌, not, ◌==◌, nat_lt, if◌then◌else◌, List, [], ◌∷◌, ◌++◌, map, Option, None, Some, refl}
-use Rattle.std.specs.List.{All, AllPairs, filter, find}
+use Rattle.std.specs.Prelude.{ℕ, ◌<◌, nat_lt, List, [], ◌∷◌, ◌++◌, map, Option, refl}
+use Rattle.std.specs.List.{All, AllPairs, find}
+use Rattle.std.specs.Option.{option_map}
 use Rattle.std.specs.Coded.{Coded, code_by, coded×, coded_ℕ, coded_list}
+use Rattle.wind_lists.specs.Records as records
 
 -- the ids with their objects, and the room
 pub record Rows (T : Type 0) : Type 0 where
@@ -19,22 +21,28 @@ rows_code {T} code =
     (λ _. refl)
 
 module _ {T : Type 0} where
+  -- the id of a row, and its object
+  abbrev pub row_id : ℕ × T → ℕ
+  row_id r = r.0
+
+  abbrev pub row_object : ℕ × T → T
+  row_object r = r.1
+
   -- the object of this id
   abbrev pub object_of : List (ℕ × T) → ℕ → Option T
-  object_of [] id = None
-  object_of (r ∷ rs) id = if r.0 == id then Some r.1 else object_of rs id
+  object_of rs id = option_map row_object (records.of_id row_id rs id)
 
   -- the same objects, but for that of this id
   abbrev pub with_object : List (ℕ × T) → ℕ → T → List (ℕ × T)
-  with_object rs id value = map (λ r. if r.0 == id then (r.0, value) else r) rs
+  with_object rs id value = records.change row_id rs id (λ r. (r.0, value))
 
   -- the objects without that of this id
   abbrev pub without : List (ℕ × T) → ℕ → List (ℕ × T)
-  without rs id = filter (λ r. not (r.0 == id)) rs
+  without rs id = records.without row_id rs id
 
   -- the live ids, by rising id
   abbrev pub ids : List (ℕ × T) → List ℕ
-  ids rs = map (λ r. r.0) rs
+  ids rs = map row_id rs
 
   -- the first of the live ids above this number: the least, since they rise
   abbrev pub next_above : List (ℕ × T) → ℕ → Option ℕ
@@ -60,4 +68,4 @@ module _ {T : Type 0} where
 
   -- the objects by rising id
   abbrev pub objects : List (ℕ × T) → List T
-  objects rs = map (λ r. r.1) rs
+  objects rs = map row_object rs

@@ -1,6 +1,7 @@
 //! The numbers of kernel objects.
 
 ghost use Rattle.std.specs.Prelude.{◌≡◌, ◌<◌, ◌≤◌, SomeIff};
+ghost use Rattle.wind_base.specs.Limits.{greatest_id};
 
 use std::marker::Model;
 use wind_base::limits::IDS;
@@ -13,12 +14,13 @@ pub struct Ident {
 
 impl Model for Ident {
     ghost use Rattle.std.specs.Prelude.{ℕ, ◌<◌, ◌≤◌};
+    ghost use Rattle.wind_base.specs.Limits.{greatest_id};
 
     ghost Value = { ℕ };
 
     ghost view = { λ i. i.number };
 
-    ghost invariant = { λ i. (0 < i.number) × (i.number ≤ 1048576) };
+    ghost invariant = { λ i. (0 < i.number) × (i.number ≤ greatest_id) };
 
     ghost inverse = { λ n. record { number = n } };
 }
@@ -26,7 +28,7 @@ impl Model for Ident {
 impl Ident {
     /// The id of this number. None where it is 0 or above 1,048,576.
     pub fn new(n: u32) -> Option<Ident>
-        ensures { SomeIff result ((0 < n) × (n ≤ 1048576)) n }
+        ensures { SomeIff result ((0 < n) × (n ≤ greatest_id)) n }
     {
         if n > 0 && n <= IDS {
             Some(Ident { number: n })
@@ -39,7 +41,7 @@ impl Ident {
     pub fn get(self) -> u32
         ensures same { result ≡ self }
         ensures least { 0 < result }
-        ensures greatest { result ≤ 1048576 }
+        ensures greatest { result ≤ greatest_id }
     {
         self.number
     }
@@ -48,7 +50,7 @@ impl Ident {
 /// What a task waits for: an object, and at which of its sides.
 #[derive(Clone, Copy, Debug, PartialEq, Eq)]
 pub struct Place {
-    /// The side of the object.
+    /// The side of the object, one of `sides`.
     pub side: u8,
     /// The object.
     pub id: Ident,

@@ -3,6 +3,7 @@
 
 mod entry;
 mod ident;
+pub mod sides;
 mod source;
 mod table;
 #[cfg(test)]

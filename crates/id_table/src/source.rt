@@ -1,6 +1,7 @@
 //! Where ids come from.
 
 ghost use Rattle.std.specs.Prelude.{◌≡◌, ◌<◌, ◌≤◌, ◌+◌, ◌-◌, SomeIff, nat_le, if◌then◌else◌};
+ghost use Rattle.wind_base.specs.Limits.{greatest_id};
 
 use crate::ident::Ident;
 use std::marker::Model;
@@ -13,13 +14,14 @@ pub struct IdSource {
 }
 
 impl Model for IdSource {
-    ghost use Rattle.std.specs.Prelude.{ℕ, ◌<◌, ◌≤◌};
+    ghost use Rattle.std.specs.Prelude.{ℕ, ◌<◌, ◌≤◌, ◌+◌};
+    ghost use Rattle.wind_base.specs.Limits.{greatest_id};
 
     ghost Value = { ℕ };
 
     ghost view = { λ i. i.next };
 
-    ghost invariant = { λ i. (0 < i.next) × (i.next ≤ 1048577) };
+    ghost invariant = { λ i. (0 < i.next) × (i.next ≤ greatest_id + 1) };
 }
 
 impl IdSource {
@@ -30,32 +32,33 @@ impl IdSource {
         IdSource { next: 1 }
     }
 
-    /// A source with no id left.
-    pub fn spent() -> IdSource
-        ensures { result ≡ 1048577 }
+    /// A source whose next id is the same as here. Whoever lends it gives no id until it is back, so that
+    /// no id is given twice.
+    pub fn lent(&self) -> IdSource
+        ensures { result ≡ self.now }
     {
-        IdSource { next: IDS + 1 }
+        IdSource { next: self.next }
     }
 
     /// The id that is given next. None where none is left.
     pub fn peek(&self) -> Option<Ident>
-        ensures { SomeIff result (self.now ≤ 1048576) self.now }
+        ensures { SomeIff result (self.now ≤ greatest_id) self.now }
     {
         Ident::new(self.next)
     }
 
     /// How many ids are left.
     pub fn left(&self) -> u32
-        ensures value { result ≡ 1048577 - self.now }
-        ensures sound { (0 < self.now) × (self.now ≤ 1048577) }
+        ensures value { result ≡ greatest_id + 1 - self.now }
+        ensures sound { (0 < self.now) × (self.now ≤ greatest_id + 1) }
     {
         IDS - (self.next - 1)
     }
 
     /// Gives the next id. None where none is left.
     pub(crate) fn draw(&mut self) -> Option<Ident>
-        ensures id { SomeIff result (self.old ≤ 1048576) self.old }
-        ensures next { self.new ≡ (if nat_le self.old 1048576 then self.old + 1 else self.old) }
+        ensures id { SomeIff result (self.old ≤ greatest_id) self.old }
+        ensures next { self.new ≡ (if nat_le self.old greatest_id then self.old + 1 else self.old) }
     {
         let id = Ident::new(self.next)?;
         self.next += 1;

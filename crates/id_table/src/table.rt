@@ -3,6 +3,7 @@
 ghost use Rattle.std.specs.Prelude.{◌≡◌, ◌<◌, ◌≤◌, ◌+◌, [], length, IfOk, IfErr, IsOk, ◌↔◌, Some, IsSome, is_some, option_copied, slice_index_or};
 ghost use Rattle.std.specs.Option.{option_copied_mut};
 ghost use Rattle.std.specs.Borrow.{sem};
+ghost use Rattle.wind_base.specs.Limits.{greatest_id};
 ghost use Rattle.id_table.specs.Rows.{object_of, objects, added, removed, IdsBelow, Rises, next_above};
 
 use crate::entry::{Entry, entry_above, place_of};
@@ -140,7 +141,7 @@ impl<T> Table<T> {
         ensures id { IfOk result (λ id. (id ≡ ids.old) × (ids.new ≡ ids.old + 1)) }
         ensures rows { IfOk result (λ id. self.new ≡ added self.old id value) }
         ensures err { IfErr result (λ v. (v ≡ value) × (self.new ≡ self.old) × (ids.new ≡ ids.old)) }
-        ensures when { IsOk result ↔ (length self.old.rows < self.old.room) × (ids.old ≤ 1048576) }
+        ensures when { IsOk result ↔ (length self.old.rows < self.old.room) × (ids.old ≤ greatest_id) }
     {
         if self.order.len() >= self.room {
             return Err(value);

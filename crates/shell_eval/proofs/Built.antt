@@ -3,7 +3,7 @@ use Rattle.std.proofs.Common.{◌≡◌, ℕ, suc, Bool, true, false, cond, if�
 use Rattle.std.specs.List.{Contains, find}
 use Rattle.wind_base.specs.Gates.{gate_name}
 use Rattle.shell_parse.specs.Trees.{PlainTree, Name, Unary, Binary, Call, Arguments, End, Then, PlainStmt, Nothing, Load, Command, Expr}
-use Rattle.shell_eval.specs.Gates.{built, gate_of, is_name}
+use Rattle.shell_eval.specs.Gates.{built_gates, gate_of, is_name}
 use Rattle.shell_eval.specs.Evaluated.{name_of, is_evaluated}
 use Rattle.shell_eval.specs.Values.{values_of, padded, value_of}
 use Rattle.shell_eval.specs.Wanted.{Wanted, Settled, Calls, Unknown, wanted, wanted_first, or_then, called, called_by, lone_by, wanted_alone}
@@ -18,14 +18,14 @@ found : (test : ℕ → Bool) (xs : List ℕ) (x : ℕ) → find test xs ≡ Som
 found test [] x e = cc
 found test (y ∷ ys) x e = found_by (test y) test y ys x e (found test ys x)
 
-gate_built : (name : List ℕ) (gate : ℕ) → gate_of name ≡ Some gate → Contains built gate
+gate_built : (name : List ℕ) (gate : ℕ) → gate_of name ≡ Some gate → Contains built_gates gate
 unfolding gate_of
-gate_built name gate e = found (λ g. is_name name (gate_name g)) built gate e
+gate_built name gate e = found (λ g. is_name name (gate_name g)) built_gates gate e
 
 -- what is wanted is no call that isn't built
 abbrev IsBuilt : Wanted → Type 0
 IsBuilt Settled = Unit {0}
-IsBuilt (Calls gate words) = Contains built gate × (length words ≡ 10)
+IsBuilt (Calls gate words) = Contains built_gates gate × (length words ≡ 10)
 IsBuilt (Unknown callee) = Unit {0}
 
 either : (w next : Wanted) → IsBuilt w → IsBuilt next → IsBuilt (or_then w next)
@@ -56,7 +56,7 @@ mutual
 abbrev IsDueBuilt : PlainDue → Type 0
 IsDueBuilt Empty = Unit {0}
 IsDueBuilt (Value v) = Unit {0}
-IsDueBuilt (Made gate words) = Contains built gate × (length words ≡ 10)
+IsDueBuilt (Made gate words) = Contains built_gates gate × (length words ≡ 10)
 IsDueBuilt (Missing callee) = Unit {0}
 IsDueBuilt Unevaluated = Unit {0}
 

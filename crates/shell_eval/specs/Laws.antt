@@ -2,7 +2,7 @@
 use Rattle.std.specs.Prelude.{◌≡◌, ℕ, ◌+◌, Bool, true, false, List, length, is_some, if◌then◌else◌}
 use Rattle.std.specs.List.{Contains}
 use Rattle.shell_parse.specs.Trees.{PlainTree, Unary, Binary, Call, Arguments, End, Then, PlainStmt, Nothing, Load, Command, Expr}
-use Rattle.shell_eval.specs.Gates.{built}
+use Rattle.shell_eval.specs.Gates.{built_gates}
 use Rattle.shell_eval.specs.Evaluated.{name_of}
 use Rattle.shell_eval.specs.Filled.{filled_stmt}
 use Rattle.shell_eval.specs.Due.{PlainDue, Empty, Value, Made, Missing, Unevaluated, due_of}
@@ -56,4 +56,4 @@ SameLaw = (s : PlainStmt) (v : ℕ) → is_made (due_of s) ≡ false → filled_
 
 -- a due call is built, and has ten words
 abbrev pub BuiltLaw : Type 0
-BuiltLaw = (s : PlainStmt) (gate : ℕ) (words : List ℕ) → due_of s ≡ Made gate words → Contains built gate × (length words ≡ 10)
+BuiltLaw = (s : PlainStmt) (gate : ℕ) (words : List ℕ) → due_of s ≡ Made gate words → Contains built_gates gate × (length words ≡ 10)

@@ -12,11 +12,12 @@ use Rattle.std.proofs.Math.Seq.{take-append_seam, drop-append_seam}
 use Rattle.std.proofs.lemmas.Option.{same_Some}
 use Rattle.std.proofs.lemmas.Slice.Eq.{bytes_eq-Decides}
 use Rattle.wind_base.specs.Decimal.{decimal_value, number_within, is_numeral}
+use Rattle.wind_base.specs.Limits.{greatest_word, longest_chunk}
 use Rattle.tick_file.specs.declared.event.Event.TheVariants.{Tick, Rx}
 use Rattle.tick_file.specs.declared.event.Rule.{Rule}
 use Rattle.tick_file.specs.declared.event.Rule.TheVariants.{At, Every}
 use Rattle.tick_file.specs.declared.event.Said.TheVariants.{Nothing, Says}
-use Rattle.tick_file.specs.Grammar.{is_blank, is_comment, word_length, gap_length, number_of, first_word, behind_gap, behind_word, of_both, tick_at, rx_at, every_at, tick_rule, rx_rule, every_rule, rule_of, by_rule, said}
+use Rattle.tick_file.specs.Grammar.{is_blank, is_comment, word_length, gap_length, word_number, first_word, behind_gap, behind_word, of_both, tick_at, rx_at, every_at, tick_rule, rx_rule, every_rule, rule_of, by_rule, said}
 use Rattle.tick_file.specs.Forms.{IsGap, IsNumber, HasOne, HasTwo, IsLineOf, IsSilent, GrammarLaw}
 
 -- ---- numbers
@@ -25,31 +26,31 @@ module _ {A : Type 0} where
   some_cond true o x e = (refl, e)
   some_cond false o x e = absurd (cc)
 
-number_is : (text : List ℕ) (n : ℕ) → number_of text ≡ Some n → IsNumber n text
+number_is : (text : List ℕ) (n : ℕ) → word_number text ≡ Some n → IsNumber n text
 unfolding decimal_value
 number_is text n e =
-    let a = some_cond (nat_le (length text) 10) (decimal_value 4294967295 text) n e in
-    let b = some_cond (is_numeral text) (number_within 4294967295 text) n a.1 in
-    let c = some_cond (nat_le (digits_value 10 text) 4294967295) (Some (digits_value 10 text)) n b.1 in
+    let a = some_cond (nat_le (length text) 10) (decimal_value greatest_word text) n e in
+    let b = some_cond (is_numeral text) (number_within greatest_word text) n a.1 in
+    let c = some_cond (nat_le (digits_value 10 text) greatest_word) (Some (digits_value 10 text)) n b.1 in
     let value : digits_value 10 text ≡ n = same_Some (digits_value 10 text) n c.1 in
     let numeral : is_numeral text ≡ true = b.0 in
     let fits : nat_le (length text) 10 ≡ true = a.0 in
-    let within : nat_le (digits_value 10 text) 4294967295 ≡ true = c.0 in
+    let within : nat_le (digits_value 10 text) greatest_word ≡ true = c.0 in
     record { some = grind (arith, nat_tests); few = grind (arith, nat_tests); decimal = grind (arith, nat_tests); value = value; small = grind (arith, nat_tests) }
 
-number_back : (text : List ℕ) (n : ℕ) → IsNumber n text → number_of text ≡ Some n
+number_back : (text : List ℕ) (n : ℕ) → IsNumber n text → word_number text ≡ Some n
 unfolding decimal_value
 number_back text n is =
     let few : length text ≤ 10 = is.few in
     let some : 1 ≤ length text = is.some in
     let value : digits_value 10 text ≡ n = is.value in
-    let small : n ≤ 4294967295 = is.small in
+    let small : n ≤ greatest_word = is.small in
     let fits : nat_le (length text) 10 ≡ true = grind (arith, nat_tests) in
     let full : (length text == 0) ≡ false = grind (arith, nat_tests) in
     let numeral : is_numeral text ≡ true = ap (λ b. not b && list_all is_ascii_digit text) full ∙ is.decimal in
-    let within : nat_le (digits_value 10 text) 4294967295 ≡ true = grind (arith, nat_tests) in
-    ap (λ b. cond b (decimal_value 4294967295 text) None) fits
-    ∙ ap (λ b. cond b (number_within 4294967295 text) None) numeral
+    let within : nat_le (digits_value 10 text) greatest_word ≡ true = grind (arith, nat_tests) in
+    ap (λ b. cond b (decimal_value greatest_word text) None) fits
+    ∙ ap (λ b. cond b (number_within greatest_word text) None) numeral
     ∙ ap (λ b. cond b (Some (digits_value 10 text)) None) within
     ∙ ap Some value
 
@@ -164,7 +165,7 @@ rest_some : (rest : List ℕ) → 1 ≤ length (first_word rest) → 0 < length 
 rest_some [] h = absurd (omega arith)
 rest_some (b ∷ bs) h = omega arith
 
-has_one : (line word : List ℕ) (n : ℕ) → first_word line ≡ word → number_of (behind_word line) ≡ Some n → HasOne word n line
+has_one : (line word : List ℕ) (n : ℕ) → first_word line ≡ word → word_number (behind_word line) ≡ Some n → HasOne word n line
 has_one line word n f e =
     let number = number_is (behind_word line) n e in
     record {
@@ -175,7 +176,7 @@ has_one line word n f e =
       is = line_joins line ∙ ap (λ (w : List ℕ). w ++ (gap_of line ++ behind_word line)) f;
     }
 
-has_two : (line word : List ℕ) (n m : ℕ) → first_word line ≡ word → number_of (first_word (behind_word line)) ≡ Some n → number_of (behind_word (behind_word line)) ≡ Some m → HasTwo word n m line
+has_two : (line word : List ℕ) (n m : ℕ) → first_word line ≡ word → word_number (first_word (behind_word line)) ≡ Some n → word_number (behind_word (behind_word line)) ≡ Some m → HasTwo word n m line
 has_two line word n m f e d =
     let rest = behind_word line in
     let number = number_is (first_word rest) n e in
@@ -215,21 +216,21 @@ module _ (line : List ℕ) (r : Rule) where
   tick_line : (bytes_eq (first_word line) (codes "tick") ≡ true) × (tick_rule (behind_word line) ≡ Some r) → IsLineOf r line
   tick_line h =
       let word = (bytes_eq-Decides (first_word line) (codes "tick")).0 h.0 in
-      let k = tick_is (number_of (behind_word line)) r h.1 in
+      let k = tick_is (word_number (behind_word line)) r h.1 in
       subst (λ q. IsLineOf q line) k.2 (has_one line (codes "tick") k.0 word k.1)
 
   rx_line : (bytes_eq (first_word line) (codes "rx") ≡ true) × (rx_rule (behind_word line) ≡ Some r) → IsLineOf r line
   rx_line h =
       let word = (bytes_eq-Decides (first_word line) (codes "rx")).0 h.0 in
-      let k = both_are rx_at (number_of (first_word (behind_word line))) (number_of (behind_word (behind_word line))) r h.1 in
-      let l = some_cond (nat_le 1 k.1 && nat_le k.1 4096) (Some (At k.0 (Rx k.1))) r k.4 in
-      let test : (nat_le 1 k.1 && nat_le k.1 4096) ≡ true = l.0 in
+      let k = both_are rx_at (word_number (first_word (behind_word line))) (word_number (behind_word (behind_word line))) r h.1 in
+      let l = some_cond (nat_le 1 k.1 && nat_le k.1 longest_chunk) (Some (At k.0 (Rx k.1))) r k.4 in
+      let test : (nat_le 1 k.1 && nat_le k.1 longest_chunk) ≡ true = l.0 in
       subst (λ q. IsLineOf q line) (same_Some (At k.0 (Rx k.1)) r l.1) (has_two line (codes "rx") k.0 k.1 word k.2 k.3, grind (arith, nat_tests), grind (arith, nat_tests))
 
   every_line : (bytes_eq (first_word line) (codes "every") ≡ true) × (every_rule (behind_word line) ≡ Some r) → IsLineOf r line
   every_line h =
       let word = (bytes_eq-Decides (first_word line) (codes "every")).0 h.0 in
-      let k = both_are every_at (number_of (first_word (behind_word line))) (number_of (behind_word (behind_word line))) r h.1 in
+      let k = both_are every_at (word_number (first_word (behind_word line))) (word_number (behind_word (behind_word line))) r h.1 in
       let l = some_cond (nat_le 1 k.0 && nat_le 1 k.1) (Some (Every k.0 k.1)) r k.4 in
       let test : (nat_le 1 k.0 && nat_le 1 k.1) ≡ true = l.0 in
       subst (λ q. IsLineOf q line) (same_Some (Every k.0 k.1) r l.1) (has_two line (codes "every") k.0 k.1 word k.2 k.3, grind (arith, nat_tests), grind (arith, nat_tests))
@@ -278,12 +279,12 @@ module _ (line word : List ℕ) (n m : ℕ) (h : HasTwo word n m line) (plain : 
   two_behind : behind_word line ≡ h.digits ++ (h.next_gap ++ h.next_digits)
   two_behind = ap behind_word h.is ∙ behind_is word h.gap (h.digits ++ (h.next_gap ++ h.next_digits)) plain h.apart more_stops
 
-  two_number : number_of (first_word (h.digits ++ (h.next_gap ++ h.next_digits))) ≡ Some n
-  two_number = ap number_of (first_is h.digits h.next_gap h.next_digits (digits_other h.digits h.number.decimal) h.next_apart) ∙ number_back h.digits n h.number
+  two_number : word_number (first_word (h.digits ++ (h.next_gap ++ h.next_digits))) ≡ Some n
+  two_number = ap word_number (first_is h.digits h.next_gap h.next_digits (digits_other h.digits h.number.decimal) h.next_apart) ∙ number_back h.digits n h.number
 
-  two_next : number_of (behind_word (h.digits ++ (h.next_gap ++ h.next_digits))) ≡ Some m
+  two_next : word_number (behind_word (h.digits ++ (h.next_gap ++ h.next_digits))) ≡ Some m
   two_next =
-      ap number_of (behind_is h.digits h.next_gap h.next_digits (digits_other h.digits h.number.decimal) h.next_apart (digits_begin h.next_digits h.next_number.decimal h.next_number.some))
+      ap word_number (behind_is h.digits h.next_gap h.next_digits (digits_other h.digits h.number.decimal) h.next_apart (digits_begin h.next_digits h.next_number.decimal h.next_number.some))
       ∙ number_back h.next_digits m h.next_number
 
 line_says : (line : List ℕ) (r : Rule) → IsLineOf r line → said line ≡ Says r
@@ -295,10 +296,10 @@ line_says line (At t Tick) h =
 line_says line (At t (Rx k)) h =
     let two = h.0 in
     let low : 1 ≤ k = h.1 in
-    let high : k ≤ 4096 = h.2 in
-    let test : (nat_le 1 k && nat_le k 4096) ≡ true = grind (arith, nat_tests) in
+    let high : k ≤ longest_chunk = h.2 in
+    let test : (nat_le 1 k && nat_le k longest_chunk) ≡ true = grind (arith, nat_tests) in
     says line (codes "rx") (two.digits ++ (two.next_gap ++ two.next_digits)) (At t (Rx k)) (ap is_silent two.is) (two_first line (codes "rx") t k two refl) (two_behind line (codes "rx") t k two refl)
-    (ap (λ o. of_both rx_at o (number_of (behind_word (two.digits ++ (two.next_gap ++ two.next_digits))))) (two_number line (codes "rx") t k two refl)
+    (ap (λ o. of_both rx_at o (word_number (behind_word (two.digits ++ (two.next_gap ++ two.next_digits))))) (two_number line (codes "rx") t k two refl)
     ∙ ap (of_both rx_at (Some t)) (two_next line (codes "rx") t k two refl)
     ∙ ap (λ b. cond b (Some (At t (Rx k))) None) test)
 line_says line (Every p c) h =
@@ -307,7 +308,7 @@ line_says line (Every p c) h =
     let more : 1 ≤ c = h.2 in
     let test : (nat_le 1 p && nat_le 1 c) ≡ true = grind (arith, nat_tests) in
     says line (codes "every") (two.digits ++ (two.next_gap ++ two.next_digits)) (Every p c) (ap is_silent two.is) (two_first line (codes "every") p c two refl) (two_behind line (codes "every") p c two refl)
-    (ap (λ o. of_both every_at o (number_of (behind_word (two.digits ++ (two.next_gap ++ two.next_digits))))) (two_number line (codes "every") p c two refl)
+    (ap (λ o. of_both every_at o (word_number (behind_word (two.digits ++ (two.next_gap ++ two.next_digits))))) (two_number line (codes "every") p c two refl)
     ∙ ap (of_both every_at (Some p)) (two_next line (codes "every") p c two refl)
     ∙ ap (λ b. cond b (Some (Every p c)) None) test)
 

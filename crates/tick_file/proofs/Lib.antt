@@ -6,3 +6,4 @@ pub mod RuleLemmas
 pub mod FormLemmas
 pub mod TimetableLemmas
 pub mod SayLemmas
+mod Early

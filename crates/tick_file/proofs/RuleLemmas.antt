@@ -8,13 +8,14 @@ use Rattle.std.specs.declared.cmp.Reverse.{Reverse}
 use Rattle.std.proofs.lemmas.Bool.Decides.{nat_tests}
 use Rattle.std.proofs.lemmas.List.Elements.{All-from_recursion}
 use Rattle.wind_base.specs.Decimal.{decimal_value, number_within, is_numeral}
+use Rattle.wind_base.specs.Limits.{greatest_word, longest_chunk}
 use Rattle.tick_file.specs.declared.event.Event.TheVariants.{Rx}
 use Rattle.tick_file.specs.declared.event.Rule.{Rule}
 use Rattle.tick_file.specs.declared.event.Rule.TheVariants.{At, Every}
 use Rattle.tick_file.specs.declared.event.Said.{Said}
 use Rattle.tick_file.specs.declared.event.Said.TheVariants.{Nothing, Says, Outside}
 use Rattle.tick_file.specs.declared.pending.Pending.{Pending}
-use Rattle.tick_file.specs.Grammar.{is_blank, is_comment, number_of, first_word, behind_word, of_both, tick_at, rx_at, every_at, tick_rule, rx_rule, every_rule, rule_of, by_rule, said}
+use Rattle.tick_file.specs.Grammar.{is_blank, is_comment, word_number, first_word, behind_word, of_both, tick_at, rx_at, every_at, tick_rule, rx_rule, every_rule, rule_of, by_rule, said}
 use Rattle.tick_file.specs.Lines.{Numbered, rule_at, rules_from, rules_of, tick_lines}
 use Rattle.tick_file.specs.Schedule.{is_tick, asks_ticks}
 use Rattle.tick_file.specs.Inside.{pending_at, pending_of, waiting_of, IsSound, Agree}
@@ -28,15 +29,15 @@ abbrev SmallIf : Option ℕ → Type 0
 SmallIf None = Unit {0}
 SmallIf (Some n) = Small n
 
-within_small : (ds : List ℕ) → SmallIf (number_within 4294967295 ds)
-within_small ds = elim (nat_le (digits_value 10 ds) 4294967295) as (λ b. nat_le (digits_value 10 ds) 4294967295 ≡ b → SmallIf (cond b (Some (digits_value 10 ds)) None)) [ true ↦ λ e. grind (arith, nat_tests) | false ↦ λ e. tt ] refl
+within_small : (ds : List ℕ) → SmallIf (number_within greatest_word ds)
+within_small ds = elim (nat_le (digits_value 10 ds) greatest_word) as (λ b. nat_le (digits_value 10 ds) greatest_word ≡ b → SmallIf (cond b (Some (digits_value 10 ds)) None)) [ true ↦ λ e. grind (arith, nat_tests) | false ↦ λ e. tt ] refl
 
-decimal_small : (text : List ℕ) → SmallIf (decimal_value 4294967295 text)
+decimal_small : (text : List ℕ) → SmallIf (decimal_value greatest_word text)
 unfolding decimal_value
-decimal_small text = elim (is_numeral text) as (λ b. SmallIf (cond b (number_within 4294967295 text) None)) [ true ↦ within_small text | false ↦ tt ]
+decimal_small text = elim (is_numeral text) as (λ b. SmallIf (cond b (number_within greatest_word text) None)) [ true ↦ within_small text | false ↦ tt ]
 
-number_small : (text : List ℕ) → SmallIf (number_of text)
-number_small text = elim (nat_le (length text) 10) as (λ b. SmallIf (cond b (decimal_value 4294967295 text) None)) [ true ↦ decimal_small text | false ↦ tt ]
+number_small : (text : List ℕ) → SmallIf (word_number text)
+number_small text = elim (nat_le (length text) 10) as (λ b. SmallIf (cond b (decimal_value greatest_word text) None)) [ true ↦ decimal_small text | false ↦ tt ]
 
 -- the numbers of a rule
 abbrev pub IsBounded : Rule → Type 0
@@ -63,7 +64,7 @@ both_bounded f h (Some n) None a b = tt
 both_bounded f h (Some n) (Some m) a b = h n m a b
 
 rx_bounded : (t k : ℕ) → Small t → Small k → BoundedIf (rx_at t k)
-rx_bounded t k a b = elim (nat_le 1 k && nat_le k 4096) as (λ c. BoundedIf (cond c (Some (At t (Rx k))) None)) [ true ↦ a | false ↦ tt ]
+rx_bounded t k a b = elim (nat_le 1 k && nat_le k longest_chunk) as (λ c. BoundedIf (cond c (Some (At t (Rx k))) None)) [ true ↦ a | false ↦ tt ]
 
 every_bounded : (p c : ℕ) → Small p → Small c → BoundedIf (every_at p c)
 every_bounded p c a b =
@@ -81,9 +82,9 @@ rule_bounded line =
     let rest = behind_word line in
     let first = number_small (first_word rest) in
     let second = number_small (behind_word rest) in
-    pick_bounded (bytes_eq (first_word line) (codes "tick")) (tick_rule rest) _ (tick_bounded (number_of rest) (number_small rest))
-    (pick_bounded (bytes_eq (first_word line) (codes "rx")) (rx_rule rest) _ (both_bounded rx_at rx_bounded (number_of (first_word rest)) (number_of (behind_word rest)) first second)
-    (pick_bounded (bytes_eq (first_word line) (codes "every")) (every_rule rest) None (both_bounded every_at every_bounded (number_of (first_word rest)) (number_of (behind_word rest)) first second) tt))
+    pick_bounded (bytes_eq (first_word line) (codes "tick")) (tick_rule rest) _ (tick_bounded (word_number rest) (number_small rest))
+    (pick_bounded (bytes_eq (first_word line) (codes "rx")) (rx_rule rest) _ (both_bounded rx_at rx_bounded (word_number (first_word rest)) (word_number (behind_word rest)) first second)
+    (pick_bounded (bytes_eq (first_word line) (codes "every")) (every_rule rest) None (both_bounded every_at every_bounded (word_number (first_word rest)) (word_number (behind_word rest)) first second) tt))
 
 by_rule_bounded : (o : Option Rule) → BoundedIf o → BoundedSaid (by_rule o)
 by_rule_bounded None h = tt
@@ -111,6 +112,12 @@ all_from n [] = tt
 all_from n (line ∷ lines) =
     all_both (IsFrom n) (rule_at n (said line)) (rules_from (n + 1) lines) (from_line n (said line) (said_bounded line))
     (all_weaker (IsFrom (n + 1)) (IsFrom n) (λ r h. (h.0, omega (arith, h.1))) (rules_from (n + 1) lines) (all_from (n + 1) lines))
+
+pub rules_bounded : (text : List ℕ) → All (λ r. IsBounded r.rule) (rules_of text)
+unfolding rules_of
+rules_bounded text =
+    let rs = rules_from 1 (tick_lines text) in
+    All-from_recursion (λ r. IsBounded r.rule) rs (all_weaker (IsFrom 1) (λ r. IsBounded r.rule) (λ r h. h.0) rs (all_from 1 (tick_lines text)))
 
 -- ---- as they are kept
 sound_at : (n : ℕ) (rule : Rule) → IsBounded rule → IsSound (pending_at n rule)

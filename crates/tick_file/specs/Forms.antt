@@ -7,7 +7,8 @@ use Rattle.tick_file.specs.declared.event.Event.TheVariants.{Tick, Rx}
 use Rattle.tick_file.specs.declared.event.Rule.{Rule}
 use Rattle.tick_file.specs.declared.event.Rule.TheVariants.{At, Every}
 use Rattle.tick_file.specs.declared.event.Said.TheVariants.{Nothing, Says}
-use Rattle.tick_file.specs.Grammar.{is_blank, said}
+use Rattle.wind_base.specs.Limits.{greatest_word, longest_chunk}
+use Rattle.tick_file.specs.Grammar.{is_blank, most_digits, said}
 
 -- blanks and tabs, one at least
 pub record IsGap (gap : List ℕ) : Type 0 where
@@ -17,10 +18,10 @@ pub record IsGap (gap : List ℕ) : Type 0 where
 -- 1 to 10 decimal digits that write n, which is at most 4,294,967,295
 pub record IsNumber (n : ℕ) (digits : List ℕ) : Type 0 where
   pub some : 1 ≤ length digits
-  pub few : length digits ≤ 10
+  pub few : length digits ≤ most_digits
   pub decimal : list_all is_ascii_digit digits ≡ true
   pub value : digits_value 10 digits ≡ n
-  pub small : n ≤ 4294967295
+  pub small : n ≤ greatest_word
 
 -- a word, a gap and a number
 pub record HasOne (word : List ℕ) (n : ℕ) (line : List ℕ) : Type 0 where
@@ -45,7 +46,7 @@ pub record HasTwo (word : List ℕ) (n m : ℕ) (line : List ℕ) : Type 0 where
 -- the lines that have a rule
 abbrev pub IsLineOf : Rule → List ℕ → Type 0
 IsLineOf (At time Tick) line = HasOne (codes "tick") time line
-IsLineOf (At time (Rx bytes)) line = HasTwo (codes "rx") time bytes line × (1 ≤ bytes) × (bytes ≤ 4096)
+IsLineOf (At time (Rx bytes)) line = HasTwo (codes "rx") time bytes line × (1 ≤ bytes) × (bytes ≤ longest_chunk)
 IsLineOf (Every period count) line = HasTwo (codes "every") period count line × (1 ≤ period) × (1 ≤ count)
 
 -- a line of blanks and tabs alone, or one that begins with `#`

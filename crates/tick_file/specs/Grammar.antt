@@ -3,6 +3,7 @@ use Rattle.std.specs.Prelude.{ℕ, Bool, false, ◌==◌, ◌&&◌, ◌||◌, na
 use Rattle.std.specs.List.{list_all, position_or_len, prefix_len}
 use Rattle.std.specs.Str.{bytes_eq}
 use Rattle.wind_base.specs.Decimal.{decimal_value}
+use Rattle.wind_base.specs.Limits.{greatest_word, longest_chunk}
 use Rattle.tick_file.specs.declared.event.Event.TheVariants.{Tick, Rx}
 use Rattle.tick_file.specs.declared.event.Rule.{Rule}
 use Rattle.tick_file.specs.declared.event.Rule.TheVariants.{At, Every}
@@ -32,9 +33,12 @@ behind_gap text = drop (gap_length text) text
 abbrev pub behind_word : List ℕ → List ℕ
 behind_word text = behind_gap (drop (word_length text) text)
 
--- the number that a text writes in 1 to 10 digits
-abbrev pub number_of : List ℕ → Option ℕ
-number_of text = if nat_le (length text) 10 then decimal_value 4294967295 text else None
+-- the most digits of a number, and the number of 32 bits that a text writes in 1 to that many digits
+abbrev pub most_digits : ℕ
+most_digits = 10
+
+abbrev pub word_number : List ℕ → Option ℕ
+word_number text = if nat_le (length text) most_digits then decimal_value greatest_word text else None
 
 -- what is made of two numbers, where there are both
 abbrev pub of_both : (ℕ → ℕ → Option Rule) → Option ℕ → Option ℕ → Option Rule
@@ -47,21 +51,21 @@ tick_at (Some time) = Some (At time Tick)
 tick_at None = None
 
 abbrev pub tick_rule : List ℕ → Option Rule
-tick_rule text = tick_at (number_of text)
+tick_rule text = tick_at (word_number text)
 
--- behind `rx`: the time, and how many bytes, 1 to 4,096
+-- behind `rx`: the time, and how many bytes, 1 to those of a chunk
 abbrev pub rx_at : ℕ → ℕ → Option Rule
-rx_at time bytes = if nat_le 1 bytes && nat_le bytes 4096 then Some (At time (Rx bytes)) else None
+rx_at time bytes = if nat_le 1 bytes && nat_le bytes longest_chunk then Some (At time (Rx bytes)) else None
 
 abbrev pub rx_rule : List ℕ → Option Rule
-rx_rule text = of_both rx_at (number_of (first_word text)) (number_of (behind_word text))
+rx_rule text = of_both rx_at (word_number (first_word text)) (word_number (behind_word text))
 
 -- behind `every`: the period and how many ticks, 1 at least of each
 abbrev pub every_at : ℕ → ℕ → Option Rule
 every_at period count = if nat_le 1 period && nat_le 1 count then Some (Every period count) else None
 
 abbrev pub every_rule : List ℕ → Option Rule
-every_rule text = of_both every_at (number_of (first_word text)) (number_of (behind_word text))
+every_rule text = of_both every_at (word_number (first_word text)) (word_number (behind_word text))
 
 -- the rule of a line that is neither blank nor a comment
 abbrev pub rule_of : List ℕ → Option Rule

@@ -1,5 +1,5 @@
 -- What the lines and the timetable of a text are, apart from how they are made.
-use Rattle.std.specs.Prelude.{◌≡◌, ℕ, ◌+◌, ◌*◌, ◌<◌, ◌≤◌, true, not, ◌==◌, ◌↔◌, List, [], ◌∷◌, ◌++◌, length, slice_index_or, Some}
+use Rattle.std.specs.Prelude.{◌≡◌, ℕ, ◌+◌, ◌*◌, ◌^◌, ◌<◌, ◌≤◌, true, not, ◌==◌, ◌↔◌, List, [], ◌∷◌, ◌++◌, length, slice_index_or, Some}
 use Rattle.std.specs.List.{All, AllPairs, Contains, list_all}
 use Rattle.tick_file.specs.declared.event.Event.TheVariants.{Tick}
 use Rattle.tick_file.specs.declared.event.Rule.{Rule}
@@ -45,3 +45,10 @@ IsAsked text e = (r : Numbered) × Contains (rules_of text) r × AsksAt r.line r
 -- in a timetable each event is before all that follow, and its events are those that the text asks for
 abbrev pub TimetableLaw : Type 0
 TimetableLaw = (text : List ℕ) → AllPairs (λ a b. before a b ≡ true) (timetable_of text).events × ((e : Timed) → Contains (timetable_of text).events e ↔ IsAsked text e)
+
+-- an event comes before 2 ^ 64, and all events that a text can ask for do
+abbrev pub IsEarly : Timed → Type 0
+IsEarly e = e.time < 2 ^ 64
+
+abbrev pub EarlyLaw : Type 0
+EarlyLaw = (text : List ℕ) → All IsEarly (timetable_of text).events

@@ -3,7 +3,7 @@
 #![tactic(auto)]
 
 ghost use Rattle.tick_file.specs.Forms.{GrammarLaw};
-ghost use Rattle.tick_file.specs.Laws.{PiecesLaw, LinesLaw, TimetableLaw};
+ghost use Rattle.tick_file.specs.Laws.{PiecesLaw, LinesLaw, TimetableLaw, EarlyLaw};
 
 mod event;
 mod line;
@@ -40,4 +40,9 @@ pub fn lines_law()
 /// line, and its events are exactly those that a rule of the text asks for.
 pub fn timetable_law()
     ensures { TimetableLaw }
+{}
+
+/// The law of early events: whatever a text asks for comes before 2^64.
+pub fn early_law()
+    ensures { EarlyLaw }
 {}

@@ -2,7 +2,7 @@
 
 ghost use Rattle.std.specs.Prelude.{◌≡◌, ◌≤◌, length};
 ghost use Rattle.std.specs.List.{list_all};
-ghost use Rattle.tick_file.specs.Grammar.{is_blank as is_blank_lem, word_length, gap_length, first_word as first_word_lem, behind_word as behind_word_lem, number_of, tick_rule as tick_rule_lem, rx_rule as rx_rule_lem, every_rule as every_rule_lem, rule_of as rule_of_lem, is_comment as is_comment_lem, said as said_lem};
+ghost use Rattle.tick_file.specs.Grammar.{is_blank as is_blank_lem, word_length, gap_length, first_word as first_word_lem, behind_word as behind_word_lem, word_number, tick_rule as tick_rule_lem, rx_rule as rx_rule_lem, every_rule as every_rule_lem, rule_of as rule_of_lem, is_comment as is_comment_lem, said as said_lem};
 
 use crate::event::{Event, Rule, Said};
 use wind_base::{behind, decimal};
@@ -56,7 +56,7 @@ fn behind_word(text: &[u8]) -> &[u8]
 
 // The number that a text writes.
 fn number(text: &[u8]) -> Option<u64>
-    ensures { result ≡ number_of text.now }
+    ensures { result ≡ word_number text.now }
 {
     if text.len() > DIGITS {
         return None;

@@ -1,2 +1,4 @@
+mod Hex
 pub mod LineLength
-pub mod Numerals
+mod Numerals
+mod Tables

@@ -1,5 +1,5 @@
 -- What an output buffer shows, and how a piece is added to it.
-use Rattle.std.specs.Prelude.{ℕ, ◌-◌, List, ◌++◌, length}
+use Rattle.std.specs.Prelude.{◌≡◌, ℕ, ◌+◌, ◌-◌, ◌≤◌, List, ◌++◌, length}
 
 -- the bytes held, and how many more fit
 pub record Output : Type 0 where
@@ -9,3 +9,13 @@ pub record Output : Type 0 where
 -- the buffer with the piece at its end
 abbrev pub appended : Output → List ℕ → Output
 appended out piece = record { bytes = out.bytes ++ piece; room = out.room - length piece }
+
+-- what is held and what fits besides are together as many bytes as before
+abbrev pub KeepsSpace : Output → Output → Type 0
+KeepsSpace old new = new.room + length new.bytes ≡ old.room + length old.bytes
+
+-- the piece, which has at most so many bytes, is added at the end
+pub record Added (most : ℕ) (old new : Output) (piece : List ℕ) : Type 0 where
+  pub bytes : new.bytes ≡ old.bytes ++ piece
+  pub room : old.room ≤ new.room + most
+  pub space : KeepsSpace old new

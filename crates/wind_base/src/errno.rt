@@ -62,11 +62,11 @@ pub enum Errno {
 }
 
 impl Errno {
-    ghost use Rattle.wind_base.specs.Errno.{number_of};
+    ghost use Rattle.wind_base.specs.Errno.{errno_number};
 
     /// The error number.
     pub fn number(self) -> u32
-        ensures { result ≡ number_of self }
+        ensures { result ≡ errno_number self }
     {
         match self {
             Errno::ObjIdError => 0x3d_0001,

@@ -6,6 +6,7 @@
 mod errno;
 mod gate;
 pub mod limits;
+mod laws;
 mod line;
 mod name;
 mod number;
@@ -14,41 +15,26 @@ mod priority;
 mod regs;
 #[cfg(test)]
 mod tests;
+pub mod text;
+pub mod words;
 
 pub use errno::Errno;
 pub use gate::gate_name;
+pub use laws::tables_law;
 pub use line::{behind, line_len};
 pub use name::{Name, NameErr, ShortName};
 pub use number::decimal;
 pub use out_buf::OutBuf;
 pub use priority::Pri;
 pub use regs::Regs;
-use std::fmt;
+use thiserror::Error;
 
 /// Host memory ran out. What the call was made on is as it was before.
-#[derive(Clone, Copy, Debug, PartialEq, Eq)]
+#[derive(Clone, Copy, Debug, PartialEq, Eq, Error)]
+#[error("out of memory")]
 pub struct NoMemory;
 
-impl fmt::Display for NoMemory {
-    ghost use Rattle.std.specs.Prelude.{Some, codes};
-
-    ghost output = { λ _. Some (codes "out of memory") };
-
-    fn fmt<W: fmt::Write>(&self, f: &mut fmt::Formatter<W>) -> fmt::Result {
-        f.write_str("out of memory")
-    }
-}
-
 /// A piece exceeds the room that is left.
-#[derive(Clone, Copy, Debug, PartialEq, Eq)]
+#[derive(Clone, Copy, Debug, PartialEq, Eq, Error)]
+#[error("no room left")]
 pub struct Full;
-
-impl fmt::Display for Full {
-    ghost use Rattle.std.specs.Prelude.{Some, codes};
-
-    ghost output = { λ _. Some (codes "no room left") };
-
-    fn fmt<W: fmt::Write>(&self, f: &mut fmt::Formatter<W>) -> fmt::Result {
-        f.write_str("no room left")
-    }
-}

@@ -1,5 +1,33 @@
-//! The limits of the board and of a run. They are this project's own; a limit that is reached is
-//! answered by a named refusal, never in silence.
+//! The limits of the board and of a run. They are this project's own. An object, a file or a count that
+//! would exceed its limit is refused by name; a line, a kept name and a printed text are cut off, as the
+//! call that cuts them says.
+
+/// The bytes of RAM, which begins at address 0: 16 MiB.
+pub const RAM_BYTES: u32 = 0x0100_0000;
+
+/// Where the pool of the memory partition begins. It goes on to the end of RAM.
+pub const POOL_START: u32 = 0x0001_0000;
+
+/// The bytes of the stack of the shell's task, which is the first block of the pool.
+pub const SHELL_STACK_BYTES: u32 = 20_000;
+
+/// The bytes of the interrupt stack, which is the second block of the pool.
+pub const INTERRUPT_STACK_BYTES: u32 = 4096;
+
+/// The bytes at a stack's end for the frame of the first call on it.
+pub const FRAME_BYTES: u32 = 64;
+
+/// Where the gates of the kernel's calls begin, behind RAM.
+pub const GATES_START: u32 = 0x0100_0000;
+
+/// The bytes of a gate.
+pub const GATE_BYTES: u32 = 16;
+
+/// Where the first device slot begins.
+pub const SLOTS_START: u32 = 0xe000_0000;
+
+/// The bytes of a device slot.
+pub const SLOT_BYTES: u32 = 0x1000;
 
 /// The most live tasks.
 pub const TASKS: u32 = 256;
@@ -28,6 +56,9 @@ pub const BLOCKS: u32 = 16_384;
 /// How many ids there are for tasks, semaphores, queues, watchdogs and modules together. An id is
 /// never used again.
 pub const IDS: u32 = 1_048_576;
+
+/// The least urgent priority; 0 is the most urgent.
+pub const LEAST_URGENT: u32 = 255;
 
 /// The longest console file and the longest tick file, in bytes: 1 MiB each.
 pub const TEXT_FILE_BYTES: u32 = 1_048_576;

@@ -1,12 +1,15 @@
 //! Names of tasks, modules and symbols.
 
 ghost use Rattle.std.specs.Prelude.{◌≡◌, ◌<◌, ◌≤◌, ◌↔◌, Err, IfOk, length, take};
+ghost use Rattle.wind_base.specs.Limits.{longest_name, longest_short_name};
 ghost use Rattle.wind_base.specs.declared.name.NameErr.TheVariants as errors;
 
+use crate::NoMemory;
 use crate::limits::{NAME_BYTES, SHORT_NAME_BYTES};
 use arrayvec::ArrayVec;
 use std::alloc::Global;
 use std::marker::Model;
+use thiserror::Error;
 
 /// A name of at most 31 bytes. It takes no memory.
 #[derive(Drop)]
@@ -16,16 +19,17 @@ pub struct ShortName {
 
 impl Model for ShortName {
     ghost use Rattle.std.specs.Prelude.{ℕ, List, ◌≤◌, length};
+    ghost use Rattle.wind_base.specs.Limits.{longest_short_name};
 
     ghost Value = { List ℕ };
 
     ghost view = { λ n. n.kept.items };
 
-    ghost invariant = { λ n. length n.kept.items ≤ 31 };
+    ghost invariant = { λ n. length n.kept.items ≤ longest_short_name };
 }
 
 // So many of the first bytes; all of them, where there are fewer.
-fn front(bytes: &[u8], most: usize) -> &[u8]
+fn first_bytes(bytes: &[u8], most: usize) -> &[u8]
     ensures value { result.now ≡ take most bytes.now }
     ensures within { length result.now ≤ most }
 {
@@ -38,7 +42,7 @@ fn front(bytes: &[u8], most: usize) -> &[u8]
 
 // A copy of bytes that fit.
 fn copied(bytes: &[u8]) -> ArrayVec<u8, SHORT_NAME_BYTES>
-    requires { length bytes.now ≤ 31 }
+    requires { length bytes.now ≤ longest_short_name }
     ensures { result.items ≡ bytes.now }
 {
     let mut kept = ArrayVec::new();
@@ -49,29 +53,31 @@ fn copied(bytes: &[u8]) -> ArrayVec<u8, SHORT_NAME_BYTES>
 impl ShortName {
     /// The name of these bytes, cut after the first 31.
     pub fn cut(bytes: &[u8]) -> ShortName
-        ensures value { result ≡ take 31 bytes.now }
-        ensures within { length result ≤ 31 }
+        ensures value { result ≡ take longest_short_name bytes.now }
+        ensures within { length result ≤ longest_short_name }
     {
         ShortName {
-            kept: copied(front(bytes, SHORT_NAME_BYTES)),
+            kept: copied(first_bytes(bytes, SHORT_NAME_BYTES)),
         }
     }
 
     /// The bytes of the name.
     pub fn bytes(&self) -> &[u8]
         ensures value { result.now ≡ self.now }
-        ensures within { length result.now ≤ 31 }
+        ensures within { length result.now ≤ longest_short_name }
     {
         self.kept.as_slice()
     }
 }
 
 /// Why no name was made.
-#[derive(Clone, Copy, Debug, PartialEq, Eq)]
+#[derive(Clone, Copy, Debug, PartialEq, Eq, Error)]
 pub enum NameErr {
     /// There are more than 255 bytes.
+    #[error("the name has more than {NAME_BYTES} bytes")]
     TooLong,
     /// Host memory ran out.
+    #[error("{NoMemory}")]
     NoMemory,
 }
 
@@ -83,19 +89,20 @@ pub struct Name {
 
 impl Model for Name {
     ghost use Rattle.std.specs.Prelude.{ℕ, List, ◌≤◌, length};
+    ghost use Rattle.wind_base.specs.Limits.{longest_name};
 
     ghost Value = { List ℕ };
 
     ghost view = { λ n. n.kept.items };
 
-    ghost invariant = { λ n. length n.kept.items ≤ 255 };
+    ghost invariant = { λ n. length n.kept.items ≤ longest_name };
 }
 
 impl Name {
     /// The name of exactly these bytes.
     pub fn new(alloc: Global, bytes: &[u8]) -> Result<Name, NameErr>
         ensures value { IfOk result (λ name. name ≡ bytes.now) }
-        ensures too_long { (result ≡ Err errors.TooLong) ↔ (255 < length bytes.now) }
+        ensures too_long { (result ≡ Err errors.TooLong) ↔ (longest_name < length bytes.now) }
     {
         if bytes.len() > NAME_BYTES {
             return Err(NameErr::TooLong);
@@ -109,7 +116,7 @@ impl Name {
     /// The bytes of the name.
     pub fn bytes(&self) -> &[u8]
         ensures value { result.now ≡ self.now }
-        ensures within { length result.now ≤ 255 }
+        ensures within { length result.now ≤ longest_name }
     {
         &self.kept
     }

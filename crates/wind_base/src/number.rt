@@ -21,7 +21,7 @@ fn is_numeral(text: &[u8]) -> bool
 }
 
 // The number of a numeral, where it is one of 64 bits.
-fn number_of(numeral: &[u8]) -> Option<u64>
+fn numeral_value(numeral: &[u8]) -> Option<u64>
     requires { IsTrue (is_numeral_lem numeral.now) }
     ensures { result ≡ number_within (2 ^ 64 - 1) numeral.now }
 {
@@ -41,7 +41,7 @@ pub fn decimal(text: &[u8], most: u64) -> Option<u64>
     if !is_numeral(text) {
         return None;
     }
-    match number_of(text) {
+    match numeral_value(text) {
         Some(n) if n <= most => Some(n),
         _ => None,
     }

@@ -1,6 +1,6 @@
 //! A buffer of bytes whose room is taken ahead.
 
-ghost use Rattle.std.specs.Prelude.{◌≡◌, ◌+◌, ◌^◌, ◌<◌, ◌≤◌, ◌↔◌, [], ◌++◌, length, IfOk, OnOk, OnErr, IsErr};
+ghost use Rattle.std.specs.Prelude.{◌≡◌, ◌+◌, ◌<◌, ◌↔◌, [], length, IfOk, OnOk, OnErr, IsErr};
 ghost use Rattle.wind_base.specs.OutBuf.{appended};
 
 use crate::{Full, NoMemory};
@@ -57,11 +57,12 @@ impl OutBuf {
 
     /// Makes room for this many more bytes.
     pub fn grow(&mut self, more: u32) -> Result<(), NoMemory>
-        requires { self.old.room + more < 2 ^ 63 }
         ensures ok { OnOk result (self.new ≡ record self.old { room = self.old.room + more }) }
         ensures err { OnErr result (self.new ≡ self.old) }
     {
-        let room = self.room + more as usize;
+        let Some(room) = self.room.checked_add(more as usize) else {
+            return Err(NoMemory);
+        };
         if self.bytes.reserve(room).is_err() {
             return Err(NoMemory);
         }

@@ -1,11 +1,10 @@
 //! Priorities.
 
 ghost use Rattle.std.specs.Prelude.{◌≡◌, ◌≤◌, SomeIff};
+ghost use Rattle.wind_base.specs.Limits.{least_urgent};
 
+use crate::limits::LEAST_URGENT;
 use std::marker::Model;
-
-// The least urgent priority.
-const LEAST_URGENT: u32 = 255;
 
 /// A priority from 0, the most urgent, to 255.
 #[derive(Clone, Copy, Debug, PartialEq, Eq)]
@@ -15,12 +14,13 @@ pub struct Pri {
 
 impl Model for Pri {
     ghost use Rattle.std.specs.Prelude.{ℕ, ◌≤◌};
+    ghost use Rattle.wind_base.specs.Limits.{least_urgent};
 
     ghost Value = { ℕ };
 
     ghost view = { λ p. p.number };
 
-    ghost invariant = { λ p. p.number ≤ 255 };
+    ghost invariant = { λ p. p.number ≤ least_urgent };
 
     ghost inverse = { λ n. record { number = n } };
 }
@@ -28,7 +28,7 @@ impl Model for Pri {
 impl Pri {
     /// The priority of this number. None exactly where it is above 255.
     pub fn new(n: u32) -> Option<Pri>
-        ensures { SomeIff result (n ≤ 255) n }
+        ensures { SomeIff result (n ≤ least_urgent) n }
     {
         if n <= LEAST_URGENT {
             Some(Pri { number: n })
@@ -40,7 +40,7 @@ impl Pri {
     /// The number of the priority.
     pub fn get(self) -> u32
         ensures same { result ≡ self }
-        ensures greatest { result ≤ 255 }
+        ensures greatest { result ≤ least_urgent }
     {
         self.number
     }

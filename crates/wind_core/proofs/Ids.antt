@@ -8,7 +8,7 @@ use Rattle.wind_lists.specs.Records.{change}
 use Rattle.wind_core.specs.State.{KernState, task_id, task_of}
 use Rattle.wind_core.specs.Orders.{running, due}
 use Rattle.wind_core.specs.Moves.{renewed, settled, move_found, move_task, answered}
-use Rattle.wind_core.specs.Tick.{turn_task, turn_found, turn_of, take_turn, late_answer, late_errno, time_out, counted, tick}
+use Rattle.wind_core.specs.Tick.{turn_task, turn_found, turn_of, take_turn, late_answer, late_errno, time_out, tick_counted, tick}
 use Rattle.wind_core.proofs.Ticks.{since-take_turn}
 use Rattle.wind_core.proofs.Waking.{since-end_wait, length-due}
 
@@ -54,7 +54,7 @@ ids-time_outs s [] = refl
 ids-time_outs s (t ∷ ts) = ids-time_outs (time_out s t) ts ∙ ids-move s t.id (answered (late_answer (is_some t.wait)) (late_errno (is_some t.wait))) (λ u. refl)
 
 pub ids-tick : (s : KernState) → ids (tick s).tasks ≡ ids s.tasks
-ids-tick s = ids-time_outs (take_turn (counted s)) (due (take_turn (counted s)).tasks (s.tick + 1)) ∙ ids-take_turn (counted s)
+ids-tick s = ids-time_outs (take_turn (tick_counted s)) (due (take_turn (tick_counted s)).tasks (s.tick + 1)) ∙ ids-take_turn (tick_counted s)
 
 abbrev head_of : ℕ → List ℕ → ℕ
 head_of d [] = d
@@ -89,5 +89,5 @@ length_by ts us e = sym (length-map ts task_id) ∙ ap length e ∙ length-map u
 
 pub since-tick : (s : KernState) → (tick s).next_since ≤ s.next_since + 1 + length s.tasks
 since-tick s =
-    let r = take_turn (counted s) in
-    omega (arith, since-time_outs r (due r.tasks (s.tick + 1)), length-due r.tasks (s.tick + 1), since-take_turn (counted s), length_by r.tasks s.tasks (ids-take_turn (counted s)))
+    let r = take_turn (tick_counted s) in
+    omega (arith, since-time_outs r (due r.tasks (s.tick + 1)), length-due r.tasks (s.tick + 1), since-take_turn (tick_counted s), length_by r.tasks s.tasks (ids-take_turn (tick_counted s)))

@@ -9,7 +9,7 @@ use Rattle.wind_lists.specs.Records.{change}
 use Rattle.wind_core.specs.State.{KernState, task_id, task_of}
 use Rattle.wind_core.specs.Orders.{running, due}
 use Rattle.wind_core.specs.Moves.{renewed, settled, renew_task, move_found, move_task, answered}
-use Rattle.wind_core.specs.Tick.{turn_task, turn_found, turn_of, take_turn, late_answer, late_errno, time_out, counted, tick}
+use Rattle.wind_core.specs.Tick.{turn_task, turn_found, turn_of, take_turn, late_answer, late_errno, time_out, tick_counted, tick}
 
 module _ (P : Task → Type 0) where
   pub All-change : (ts : List Task) (who : ℕ) (f : Task → Task) → ((t : Task) → P t → P (f t)) → All P ts → All P (change task_id ts who f)
@@ -65,4 +65,4 @@ module _ (P : Task → Type 0) where
 
       pub tick-stable : (s : KernState) → All P s.tasks → All P (tick s).tasks
       tick-stable s all =
-          time_outs-stable (take_turn (counted s)) (due (take_turn (counted s)).tasks (s.tick + 1)) (take_turn-stable (counted s) all)
+          time_outs-stable (take_turn (tick_counted s)) (due (take_turn (tick_counted s)).tasks (s.tick + 1)) (take_turn-stable (tick_counted s) all)

@@ -5,6 +5,7 @@ use Rattle.std.specs.Option.{option_map}
 use Rattle.std.proofs.lemmas.Bool.{eqb-true}
 use Rattle.id_table.specs.Rows.{object_of, objects, with_object, next_above}
 use Rattle.id_table.specs.Rows as table
+use Rattle.id_table.proofs.Kept.{object_of-cons}
 use Rattle.task_block.specs.declared.task.Task.{Task}
 use Rattle.wind_lists.specs.Records.{replace, without}
 use Rattle.wind_core.specs.State.{task_id, task_of, task_above}
@@ -17,7 +18,8 @@ ids_tail r rs h k d hk = h (suc k) d (omega arith)
 pub object-task : (rs : List (ℕ × Task)) (id : ℕ) → SameIds rs → object_of rs id ≡ task_of (objects rs) id
 object-task [] id h = refl
 object-task (r ∷ rs) id h =
-    ap (cond (eqb r.0 id) (Some r.1)) (object-task rs id (ids_tail r rs h))
+    object_of-cons r.0 r.1 rs id
+    ∙ ap (cond (eqb r.0 id) (Some r.1)) (object-task rs id (ids_tail r rs h))
     ∙ ap (λ n. cond (eqb n id) (Some r.1) (task_of (objects rs) id)) (sym (h 0 r (omega arith)))
 
 -- a write of an object puts it in the place of that task

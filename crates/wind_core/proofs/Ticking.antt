@@ -7,7 +7,7 @@ use Rattle.wind_lists.specs.Sorting.{first}
 use Rattle.wind_core.specs.State.{KernState, IsKern, WakesAhead, task_of}
 use Rattle.wind_core.specs.Orders.{running, due}
 use Rattle.wind_core.specs.Moves.{move_found, answered}
-use Rattle.wind_core.specs.Tick.{turn_task, turn_found, turn_of, take_turn, late_answer, late_errno, time_out, counted, tick}
+use Rattle.wind_core.specs.Tick.{turn_task, turn_found, turn_of, take_turn, late_answer, late_errno, time_out, tick_counted, tick}
 use Rattle.wind_core.specs.Laws.{TickLaw, AheadLaw}
 use Rattle.wind_core.proofs.Writes.{MayFollow}
 use Rattle.wind_core.proofs.Waking.{due-end_wait}
@@ -79,7 +79,7 @@ past_kept n now s past = record {
 -- ---- a tick
 ticked : (s : KernState) → IsKern s → IsPast s.tick (s.tick + 1) (tick s)
 ticked s is =
-    past_each s.tick (s.tick + 1) (due (take_turn (counted s)).tasks (s.tick + 1)) (take_turn (counted s)) (turn_keeps s.tick (counted s) is) (tick-take_turn (counted s)) refl
+    past_each s.tick (s.tick + 1) (due (take_turn (tick_counted s)).tasks (s.tick + 1)) (take_turn (tick_counted s)) (turn_keeps s.tick (tick_counted s) is) (tick-take_turn (tick_counted s)) refl
 
 pub tick_keeps : TickLaw
 tick_keeps s is = past_kept s.tick (s.tick + 1) (tick s) (ticked s is)

@@ -3,6 +3,7 @@ use Rattle.std.proofs.Common.{◌≡◌, ℕ, ◌+◌, ◌<◌, true, false, ◌
 use Rattle.std.proofs.lemmas.Bool.{eqb-false}
 use Rattle.std.proofs.lemmas.List.{length-map}
 use Rattle.std.proofs.lemmas.List.Elements.{All-contains, All-weaker}
+use Rattle.wind_base.specs.Limits.{most_tasks, wait_forever}
 use Rattle.id_table.specs.Rows.{object_of, objects, rewritten}
 use Rattle.task_block.specs.declared.task.Task.{Task}
 use Rattle.task_block.specs.Standing.{is_ready}
@@ -17,7 +18,7 @@ use Rattle.wind_core.proofs.Tables.{object-task, objects-replace, SameIds-write}
 
 -- what a kernel keeps by its type
 abbrev pub Kept : Inside → Type 0
-Kept k = (k.tasks.room ≡ 256) × SameIds k.tasks.rows × IsKern (the_view k)
+Kept k = (k.tasks.room ≡ most_tasks) × SameIds k.tasks.rows × IsKern (the_view k)
 
 -- the kernel with y as the object of an id, and n as the next order number
 abbrev pub written : Inside → ℕ → Task → ℕ → Inside
@@ -98,6 +99,22 @@ pub same_keeps : (k : Inside) (who : ℕ) (x y : Task) → Kept k → object_of 
 same_keeps k who x y kept value id since wake =
     written_keeps k who k.next_since x y kept value (record { id = id; since = inl (since, refl); ahead = subst (λ w. IfSome w (λ v. k.tick < v)) (sym wake) })
 
+-- ---- a setter
+-- what f makes of a task has its id and order number, and sleeps as long
+abbrev pub Stays : (Task → Task) → Type 0
+Stays f = (t : Task) → ((f t).id ≡ t.id) × ((f t).since ≡ t.since) × ((f t).wake ≡ t.wake)
+
+-- y is made of x by such an f: the kept facts hold
+pub set_keeps : (k : Inside) (who : ℕ) (x y : Task) (f : Task → Task) → Kept k → object_of k.tasks.rows who ≡ Some x → y ≡ f x → Stays f → Kept (written k who y k.next_since)
+set_keeps k who x y f kept value e stays =
+    let same = stays x in
+    same_keeps k who x y kept value (ap (λ (t : Task). t.id) e ∙ same.0) (ap (λ (t : Task). t.since) e ∙ same.1) (ap (λ (t : Task). t.wake) e ∙ same.2)
+
+-- and the state is that in which the task is changed by f
+pub sets : (k : Inside) (s : KernState) (who : ℕ) (x y : Task) (f : Task → Task) → Kept k → the_view k ≡ s → object_of k.tasks.rows who ≡ Some x → y ≡ f x
+    → the_view (written k who y k.next_since) ≡ change_task s who f
+sets k s who x y f kept is value e = changed k who x y f kept value e ∙ ap (λ r. change_task r who f) is
+
 settled_since : (n m : ℕ) (x u : Task) → u.since ≡ x.since → m ≡ n + cond (is_ready u) 1 0
     → (((settled n u).since ≡ x.since) × (m ≡ n)) ⊎ (((settled n u).since ≡ n) × (m ≡ n + 1))
 settled_since n m x u same next =
@@ -139,7 +156,7 @@ renewed_keeps k who n x u y kept value id ahead e next =
 -- ---- wakes
 pub wake_ahead : (side tick n : ℕ) → 0 < n → IfSome (wake_at side tick n) (λ wake. tick < wake)
 wake_ahead side tick n some =
-    elim (is_endless side || eqb n 4294967295) as (λ b. IfSome (cond b None (Some (tick + n))) (λ wake. tick < wake)) [ true ↦ tt | false ↦ omega (arith, some) ]
+    elim (is_endless side || eqb n wait_forever) as (λ b. IfSome (cond b None (Some (tick + n))) (λ wake. tick < wake)) [ true ↦ tt | false ↦ omega (arith, some) ]
 
 pub delayed_id : (tick n : ℕ) (t : Task) → (delayed tick n t).id ≡ t.id
 delayed_id tick n t = elim (eqb n 0) as (λ b. (cond b t (record t { wake = Some (tick + n); turns = 0 })).id ≡ t.id) [ true ↦ refl | false ↦ refl ]

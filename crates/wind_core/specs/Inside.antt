@@ -1,5 +1,5 @@
 -- How the kernel's tasks are kept: a table by id, of records that have their ids too.
-use Rattle.std.specs.Prelude.{◌≡◌, ℕ, List, Option}
+use Rattle.std.specs.Prelude.{◌≡◌, ℕ, Bool, List, Option}
 use Rattle.std.specs.List.{All}
 use Rattle.id_table.specs.Rows.{objects}
 use Rattle.task_block.specs.declared.task.Task.{Task}
@@ -10,12 +10,13 @@ abbrev pub SameIds : List (ℕ × Task) → Type 0
 SameIds rs = All (λ r. r.1.id ≡ r.0) rs
 
 -- the kernel's state, from a table's rows and the counters
-abbrev pub kern_state : List (ℕ × Task) → ℕ → ℕ → ℕ → ℕ → Option ℕ → KernState
-kern_state rows next_id next_since tick slice last = record {
+abbrev pub kern_state : List (ℕ × Task) → ℕ → Bool → ℕ → ℕ → ℕ → Option ℕ → KernState
+kern_state rows next_id lent next_since tick slice last = record {
   tasks = objects rows;
   tick = tick;
   slice = slice;
   next_id = next_id;
+  lent = lent;
   next_since = next_since;
   last = last;
 }

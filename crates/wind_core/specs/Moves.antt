@@ -1,11 +1,13 @@
 -- What the kernel's calls make of its tasks.
-use Rattle.std.specs.Prelude.{ℕ, ◌+◌, Bool, true, false, not, ◌&&◌, ◌||◌, ◌==◌, nat_le, if◌then◌else◌, List, [], ◌∷◌, ◌++◌, length, slice_set, Option, None, Some}
+use Rattle.std.specs.Prelude.{ℕ, ◌+◌, Bool, true, false, not, ◌&&◌, ◌||◌, ◌==◌, nat_le, nat_lt, if◌then◌else◌, List, [], ◌∷◌, ◌++◌, length, slice_set, Option, None, Some}
 use Rattle.std.specs.List.{fold}
 use Rattle.std.specs.Option.{option_map}
-use Rattle.wind_base.specs.Errno.{number_of}
+use Rattle.wind_base.specs.Errno.{errno_number}
+use Rattle.wind_base.specs.Limits.{most_tasks, greatest_id, error_word, wait_forever}
 use Rattle.wind_base.specs.declared.errno.Errno.{Errno}
 use Rattle.wind_base.specs.declared.errno.Errno.TheVariants as errors
 use Rattle.wind_base.specs.declared.regs.Regs.{Regs}
+use Rattle.id_table.specs.Sides.{deletion_side, console_side}
 use Rattle.id_table.specs.declared.ident.Place.{Place}
 use Rattle.task_block.specs.declared.task.Task.{Task}
 use Rattle.task_block.specs.declared.task.NewTask.{NewTask}
@@ -80,8 +82,8 @@ spawn s n = record s {
 -- why no task is made: as many live as there may be; else no id is left
 abbrev pub spawn_refusal : KernState → Option Errno
 spawn_refusal s =
-    if nat_le 256 (length s.tasks) then Some errors.TooMany
-    else if nat_le 1048577 s.next_id then Some errors.IdsSpent
+    if nat_le most_tasks (length s.tasks) then Some errors.TooMany
+    else if nat_lt greatest_id s.next_id then Some errors.IdsSpent
     else None
 
 abbrev pub remove : KernState → ℕ → KernState
@@ -90,11 +92,11 @@ remove s who = record s { tasks = without task_id s.tasks who }
 -- ---- waits
 -- the deletion of a task and the console are waited for without end, and by urgency
 abbrev pub is_endless : ℕ → Bool
-is_endless side = side == 2 || side == 3
+is_endless side = side == deletion_side || side == console_side
 
 -- the tick at which a wait at this side ends that lasts so many ticks; none where it has no end
 abbrev pub wake_at : ℕ → ℕ → ℕ → Option ℕ
-wake_at side tick n = if is_endless side || n == 4294967295 then None else Some (tick + n)
+wake_at side tick n = if is_endless side || n == wait_forever then None else Some (tick + n)
 
 abbrev pub pended : Place → Bool → Option ℕ → Task → Task
 pended place fifo wake t = record t {
@@ -124,7 +126,7 @@ release s who = move_task s who released
 
 abbrev pub errno_after : ℕ → Option Errno → ℕ
 errno_after errno None = errno
-errno_after errno (Some e) = number_of e
+errno_after errno (Some e) = errno_number e
 
 -- its call is answered in r3, and by an error number where one is named
 abbrev pub answered : ℕ → Option Errno → Task → Task
@@ -224,7 +226,7 @@ answer s who value = change_task s who (with_answer value)
 
 -- a refusal is answered with ERROR, and its number is the task's error number
 abbrev pub with_refusal : Errno → Task → Task
-with_refusal e t = record (with_answer 4294967295 t) { errno = number_of e }
+with_refusal e t = record (with_answer error_word t) { errno = errno_number e }
 
 abbrev pub refuse : KernState → ℕ → Errno → KernState
 refuse s who e = change_task s who (with_refusal e)

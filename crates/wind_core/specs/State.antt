@@ -1,7 +1,8 @@
 -- What a contract sees of the kernel's tasks.
-use Rattle.std.specs.Prelude.{◌≡◌, ℕ, ◌<◌, ◌≤◌, List, length, Option, IfSome, IsSome, nat_lt}
+use Rattle.std.specs.Prelude.{◌≡◌, ℕ, ◌+◌, ◌<◌, ◌≤◌, Bool, List, length, Option, IfSome, IsSome, nat_lt}
 use Rattle.std.specs.List.{All, AllPairs, find}
 use Rattle.std.specs.Option.{option_map}
+use Rattle.wind_base.specs.Limits.{most_tasks, greatest_id}
 use Rattle.task_block.specs.declared.task.Task.{Task}
 use Rattle.wind_lists.specs.Records.{of_id, Rising}
 
@@ -13,8 +14,9 @@ pub record KernState : Type 0 where
   pub tick : ℕ
   -- how many ticks a turn lasts; with 0 it has no end
   pub slice : ℕ
-  -- the id that comes next, and the order number
+  -- the id that comes next, whether the ids are lent to whoever makes other objects, and the order number that comes next
   pub next_id : ℕ
+  pub lent : Bool
   pub next_since : ℕ
   -- the task that ran last
   pub last : Option ℕ
@@ -40,12 +42,12 @@ WakesAhead tick t = IfSome t.wake (λ wake. tick < wake)
 
 -- what every call of the kernel keeps
 pub record IsKern (s : KernState) : Type 0 where
-  pub few : length s.tasks ≤ 256
+  pub few : length s.tasks ≤ most_tasks
   -- ids rise along the list, and lie below the next
   pub rising : Rising task_id s.tasks
   pub ids : All (λ t. t.id < s.next_id) s.tasks
   pub first_id : 0 < s.next_id
-  pub last_id : s.next_id ≤ 1048577
+  pub last_id : s.next_id ≤ greatest_id + 1
   -- no two tasks have one order number, and each lies below the next
   pub distinct : AllPairs (λ t u. t.since ≡ u.since → ⊥) s.tasks
   pub sinces : All (λ t. t.since < s.next_since) s.tasks

@@ -1,6 +1,7 @@
 -- A tick of the clock: the count, the runner's turn, the tasks whose time is up.
 use Rattle.std.specs.Prelude.{ℕ, ◌+◌, Bool, false, ◌==◌, nat_le, if◌then◌else◌, Option, None, Some, is_some}
 use Rattle.std.specs.List.{fold}
+use Rattle.wind_base.specs.Limits.{error_word, ok_word}
 use Rattle.wind_base.specs.declared.errno.Errno.{Errno}
 use Rattle.wind_base.specs.declared.errno.Errno.TheVariants as errors
 use Rattle.task_block.specs.declared.task.Task.{Task}
@@ -38,7 +39,7 @@ take_turn s = if s.slice == 0 then s else turn_of s (running s)
 
 -- a wait that ends by time is answered with ERROR and OBJ_TIMEOUT, a delay with 0
 abbrev pub late_answer : Bool → ℕ
-late_answer waits = if waits then 4294967295 else 0
+late_answer waits = if waits then error_word else ok_word
 
 abbrev pub late_errno : Bool → Option Errno
 late_errno waits = if waits then Some errors.ObjTimeout else None
@@ -54,9 +55,9 @@ late_of t = record { who = t.id; waits = is_some t.wait }
 abbrev pub wake_due : KernState → ℕ → KernState
 wake_due s tick = fold time_out s (due s.tasks tick)
 
-abbrev pub counted : KernState → KernState
-counted s = record s { tick = s.tick + 1 }
+abbrev pub tick_counted : KernState → KernState
+tick_counted s = record s { tick = s.tick + 1 }
 
 -- a tick: the count rises, the runner's turn is one tick longer, and whose tick has come goes on
 abbrev pub tick : KernState → KernState
-tick s = wake_due (take_turn (counted s)) (s.tick + 1)
+tick s = wake_due (take_turn (tick_counted s)) (s.tick + 1)

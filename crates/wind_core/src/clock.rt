@@ -13,6 +13,7 @@ use crate::tasks::count_turn;
 use id_table::Ident;
 use task_block::Task;
 use wind_base::Errno;
+use wind_base::words::{ERROR, OK};
 
 // A task whose tick has come.
 #[derive(Drop)]
@@ -122,9 +123,9 @@ impl Kern {
         ensures { self.new ≡ end_wait self.old late.who (late_answer late.waits) (late_errno late.waits) }
     {
         if late.waits {
-            self.end_wait(late.who, u32::MAX, Some(Errno::ObjTimeout));
+            self.end_wait(late.who, ERROR, Some(Errno::ObjTimeout));
         } else {
-            self.end_wait(late.who, 0, None);
+            self.end_wait(late.who, OK, None);
         }
     }
 

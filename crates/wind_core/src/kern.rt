@@ -1,9 +1,10 @@
 //! The kernel's tasks and counters.
 
-ghost use Rattle.std.specs.Prelude.{◌≡◌, ◌<◌, ◌≤◌, ◌+◌, ◌^◌, [], length, Some, None, IfOk, IfErr, option_copied};
+ghost use Rattle.std.specs.Prelude.{◌≡◌, ◌<◌, ◌≤◌, ◌+◌, ◌^◌, ◌↔◌, true, false, [], length, Some, None, IfOk, IfErr, IsOk, option_copied};
 ghost use Rattle.std.specs.Borrow.{sem};
-ghost use Rattle.std.specs.List.{All};
 ghost use Rattle.std.specs.Option.{option_map, option_copied_mut};
+ghost use Rattle.wind_base.specs.Limits.{greatest_id};
+ghost use Rattle.id_table.specs.Rows.{IdsBelow, added};
 ghost use Rattle.wind_core.specs.State.{Lives, IsKern, task_of, task_above};
 ghost use Rattle.wind_core.specs.Moves.{spawn, spawn_refusal, remove};
 
@@ -11,7 +12,6 @@ use crate::tasks::made;
 use id_table::{IdSource, Ident, Table};
 use std::alloc::Global;
 use std::marker::Model;
-use std::mem;
 use task_block::{NewTask, Task};
 use wind_base::limits::TASKS;
 use wind_base::{Errno, NoMemory, Regs};
@@ -21,6 +21,7 @@ use wind_base::{Errno, NoMemory, Regs};
 pub struct Kern {
     pub(crate) tasks: Table<Task>,
     pub(crate) ids: IdSource,
+    pub(crate) lent: bool,
     pub(crate) next_since: u64,
     pub(crate) tick: u64,
     pub(crate) slice: u32,
@@ -29,14 +30,15 @@ pub struct Kern {
 
 impl Model for Kern {
     ghost use Rattle.std.specs.Prelude.{◌≡◌};
+    ghost use Rattle.wind_base.specs.Limits.{most_tasks};
     ghost use Rattle.wind_core.specs.State.{KernState, IsKern};
     ghost use Rattle.wind_core.specs.Inside.{kern_state, SameIds};
 
     ghost Value = { KernState };
 
-    ghost view = { λ k. kern_state k.tasks.rows k.ids k.next_since k.tick k.slice k.last };
+    ghost view = { λ k. kern_state k.tasks.rows k.ids k.lent k.next_since k.tick k.slice k.last };
 
-    ghost invariant = { λ k. (k.tasks.room ≡ 256) × SameIds k.tasks.rows × IsKern (kern_state k.tasks.rows k.ids k.next_since k.tick k.slice k.last) };
+    ghost invariant = { λ k. (k.tasks.room ≡ most_tasks) × SameIds k.tasks.rows × IsKern (kern_state k.tasks.rows k.ids k.lent k.next_since k.tick k.slice k.last) };
 }
 
 impl Kern {
@@ -44,11 +46,12 @@ impl Kern {
 
     /// A kernel without tasks, at tick 0. No other call takes memory.
     pub fn new(alloc: Global) -> Result<Kern, NoMemory>
-        ensures { IfOk result (λ k. k ≡ record { tasks = []; tick = 0; slice = 0; next_id = 1; next_since = 0; last = None }) }
+        ensures { IfOk result (λ k. k ≡ record { tasks = []; tick = 0; slice = 0; next_id = 1; lent = false; next_since = 0; last = None }) }
     {
         Ok(Kern {
             tasks: Table::reserved(alloc, TASKS)?,
             ids: IdSource::new(),
+            lent: false,
             next_since: 0,
             tick: 0,
             slice: 0,
@@ -65,10 +68,17 @@ impl Kern {
 
     /// How many tasks live, 256 at most.
     pub fn live(&self) -> u32
-        ensures value { result ≡ length self.now.tasks }
-        ensures sound { IsKern self.now }
+        ensures { result ≡ length self.now.tasks }
     {
         self.tasks.len() as u32
+    }
+
+    /// Does nothing. Its contract tells the facts that the kernel keeps.
+    pub fn facts(&self)
+        ensures { IsKern self.now }
+    {
+        // to read the table is to know them
+        let _ = &self.tasks;
     }
 
     /// The least live id above a number. None where there is none.
@@ -112,7 +122,8 @@ impl Kern {
     ///
     /// `TooMany` where 256 tasks live, else `IdsSpent` where no id is left. Nothing changes then.
     pub fn spawn_record(&mut self, task: NewTask) -> Result<Ident, Errno>
-        requires { self.old.next_since + 1 < 2 ^ 64 }
+        requires ids { self.old.lent ≡ false }
+        requires since { self.old.next_since + 1 < 2 ^ 64 }
         ensures ok { IfOk result (λ id. (spawn_refusal self.old ≡ None) × (id ≡ self.old.next_id) × (self.new ≡ spawn self.old task)) }
         ensures err { IfErr result (λ e. (spawn_refusal self.old ≡ Some e) × (self.new ≡ self.old)) }
     {
@@ -140,20 +151,35 @@ impl Kern {
         self.tasks.remove(who)
     }
 
-    /// Takes the ids out, so that another table may draw from them. Until they are put back, none is left
-    /// for a task.
-    pub fn take_ids(&mut self) -> IdSource
-        ensures value { result ≡ self.old.next_id }
-        ensures spent { self.new ≡ record self.old { next_id = 1048577 } }
+    /// Adds an object of another kind to its table, under the next id. Gives the object back, and changes
+    /// nothing, where the table is full or no id is left.
+    pub fn add_to<T>(&mut self, table: &mut Table<T>, value: T) -> Result<Ident, T>
+        requires ids { self.old.lent ≡ false }
+        requires below { IdsBelow self.old.next_id table.old.rows }
+        ensures ok { IfOk result (λ id. (id ≡ self.old.next_id) × (self.new ≡ record self.old { next_id = id + 1 }) × (table.new ≡ added table.old id value)) }
+        ensures err { IfErr result (λ v. (v ≡ value) × (self.new ≡ self.old) × (table.new ≡ table.old)) }
+        ensures when { IsOk result ↔ (length table.old.rows < table.old.room) × (self.old.next_id ≤ greatest_id) }
     {
-        mem::replace(&mut self.ids, IdSource::spent())
+        table.add(&mut self.ids, value)
     }
 
-    /// Puts ids back. Those of all live tasks were given before.
-    pub fn put_ids(&mut self, ids: IdSource)
-        requires { All (λ t. t.id < ids) self.old.tasks }
-        ensures { self.new ≡ record self.old { next_id = ids } }
+    /// Lends the ids to whoever makes objects of another kind. Until they are back, no object is made here.
+    pub fn lend_ids(&mut self) -> IdSource
+        requires { self.old.lent ≡ false }
+        ensures value { result ≡ self.old.next_id }
+        ensures lent { self.new ≡ record self.old { lent = true } }
     {
+        self.lent = true;
+        self.ids.lent()
+    }
+
+    /// Takes lent ids back. None of them may be one that was given before.
+    pub fn put_ids(&mut self, ids: IdSource)
+        requires lent { self.old.lent ≡ true }
+        requires ahead { self.old.next_id ≤ ids }
+        ensures { self.new ≡ record self.old { next_id = ids; lent = false } }
+    {
+        self.lent = false;
         self.ids = ids;
     }
 }

@@ -5,8 +5,10 @@ ghost use Rattle.task_block.specs.Standing.{is_ready};
 ghost use Rattle.wind_core.specs.Moves.{new_task, renewed, pended, delayed, wake_at, is_endless as is_endless_lem, released, answered, settled, suspended, resumed, unmarked, with_pri, past_gate, with_answer, with_refusal};
 ghost use Rattle.wind_core.specs.Tick.{turn_task};
 
+use id_table::sides::{CONSOLE, DELETION};
 use id_table::{Ident, Place};
 use task_block::{NewTask, Task};
+use wind_base::words::{ERROR, WAIT_FOREVER};
 use wind_base::{Errno, Pri};
 
 // The record of a new task.
@@ -47,7 +49,7 @@ pub(crate) fn made(new: NewTask, id: Ident, since: u64) -> Task
 pub(crate) fn is_endless(side: u8) -> bool
     ensures { result ≡ is_endless_lem side }
 {
-    side == 2 || side == 3
+    side == DELETION || side == CONSOLE
 }
 
 // The tick at which a wait at this side ends that lasts so many ticks. None where it has no end.
@@ -55,7 +57,7 @@ pub(crate) fn wake_tick(side: u8, tick: u64, timeout: u32) -> Option<u64>
     requires { tick < 2 ^ 63 }
     ensures { result ≡ wake_at side tick timeout }
 {
-    if is_endless(side) || timeout == u32::MAX {
+    if is_endless(side) || timeout == WAIT_FOREVER {
         None
     } else {
         Some(tick + u64::from(timeout))
@@ -190,6 +192,6 @@ pub(crate) fn put_answer(task: &mut Task, value: u32)
 pub(crate) fn put_refusal(task: &mut Task, errno: Errno)
     ensures { task.new ≡ with_refusal errno task.old }
 {
-    put_answer(task, u32::MAX);
+    put_answer(task, ERROR);
     task.errno = errno.number();
 }

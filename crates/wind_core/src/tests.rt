@@ -1,9 +1,9 @@
 //! Calls of the kernel, with what they leave worked out by hand.
 
-ghost use Rattle.std.specs.Prelude.{◌≡◌, ◌<◌, ◌^◌, true};
+ghost use Rattle.std.specs.Prelude.{◌≡◌, ◌<◌, ◌^◌, true, false};
 
 use crate::Kern;
-use id_table::{Ident, Place};
+use id_table::{Ident, Place, Table};
 use std::test::Fail;
 use task_block::NewTask;
 use wind_base::{Errno, Pri, Regs, ShortName};
@@ -30,12 +30,13 @@ enum Act {
     Lock(u32, u64),
 }
 
-// Whether the counters are far from their ends.
+// Whether the counters are far from their ends, and the ids are not lent.
 fn is_early(kern: &Kern) -> bool
     ensures since { result ≡ true → kern.now.next_since < 2 ^ 62 }
     ensures tick { result ≡ true → kern.now.tick < 2 ^ 62 }
+    ensures ids { result ≡ true → kern.now.lent ≡ false }
 {
-    kern.next_since < 1 << 62 && kern.tick < 1 << 62
+    kern.next_since < 1 << 62 && kern.tick < 1 << 62 && !kern.lent
 }
 
 // The id of this number, where its task lives and the counters are far from their ends.
@@ -365,5 +366,31 @@ fn there_are_256_tasks_at_most(rt: HostRuntime) -> Result<(), Fail> {
     assert!(rt; kern.remove(first).is_some());
     spawn(&mut kern, 9).ok_or("refused")?;
     assert_eq!(rt; kern.next_task(256).map(|id| id.get()), Some(257));
+    Ok(())
+}
+
+// An id that is lent goes to an object of another kind; the next goes to a task.
+#[test]
+fn objects_of_all_kinds_share_the_ids(rt: HostRuntime) -> Result<(), Fail> {
+    let alloc = rt.alloc();
+    let mut kern = Kern::new(alloc).or(Err("memory"))?;
+    let mut ids = kern.lend_ids();
+    let mut table = Table::reserved(alloc, 1).or(Err("memory"))?;
+    let first = table.add(&mut ids, 'a').or(Err("room"))?;
+    kern.put_ids(ids);
+    spawn(&mut kern, 9).ok_or("refused")?;
+    assert_eq!(rt; (first.get(), kern.next_task(0).map(|id| id.get())), (1, Some(2)));
+    Ok(())
+}
+
+// An object of another kind takes the next id.
+#[test]
+fn another_table_draws_from_the_ids(rt: HostRuntime) -> Result<(), Fail> {
+    let alloc = rt.alloc();
+    let mut kern = Kern::new(alloc).or(Err("memory"))?;
+    let mut table = Table::reserved(alloc, 1).or(Err("memory"))?;
+    let first = kern.add_to(&mut table, 'a').or(Err("room"))?;
+    spawn(&mut kern, 9).ok_or("refused")?;
+    assert_eq!(rt; (first.get(), kern.next_task(0).map(|id| id.get())), (1, Some(2)));
     Ok(())
 }

@@ -14,8 +14,8 @@ use wind_base::Errno;
 
 impl Kern {
     /// The task begins to wait at a place, behind its equals, for so many ticks, or without end where
-    /// `timeout` is `u32::MAX`. It waits in order of arrival where `fifo` is set, else by priority. At
-    /// sides 2 (the deletion of a task) and 3 (the console) it waits by priority and without end.
+    /// `timeout` is `WAIT_FOREVER`. It waits in order of arrival where `fifo` is set, else by priority. For
+    /// the deletion of a task and for the console it waits by priority and without end.
     pub fn pend(&mut self, who: Ident, place: Place, fifo: bool, timeout: u32)
         requires live { Lives self.old who }
         requires timeout { 0 < timeout }
@@ -73,7 +73,7 @@ impl Kern {
     }
 
     // The same, with the kept facts.
-    fn front(&self, place: &Place) -> Option<Ident>
+    fn front_waiter(&self, place: &Place) -> Option<Ident>
         ensures first { result ≡ option_map task_id (first_waiter_lem self.now.tasks place.now) }
         ensures sound { IsKern self.now }
     {
@@ -86,7 +86,7 @@ impl Kern {
         ensures { self.new ≡ wake_all self.old place answer errno }
     {
         let _ = &self.tasks;
-        while let Some(who) = self.front(&place) {
+        while let Some(who) = self.front_waiter(&place) {
             self.end_wait(who, answer, errno);
         }
     }

@@ -12,5 +12,5 @@ abbrev pub one_more : ℕ → ℕ
 one_more n = min (n + 1) (2 ^ 64 - 1)
 
 -- the log after a call that failed or not
-abbrev pub counted : CallLog → Bool → CallLog
-counted log fails = record log { made = one_more log.made; faults = if fails then one_more log.faults else log.faults }
+abbrev pub call_counted : CallLog → Bool → CallLog
+call_counted log fails = record log { made = one_more log.made; faults = if fails then one_more log.faults else log.faults }

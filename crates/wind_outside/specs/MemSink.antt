@@ -1,7 +1,7 @@
 -- What a sink in memory shows.
 use Rattle.std.specs.Prelude.{ℕ, List, true, false}
 use Rattle.wind_base.specs.OutBuf.{Output, appended}
-use Rattle.wind_outside.specs.Calls.{CallLog, counted}
+use Rattle.wind_outside.specs.Calls.{CallLog, call_counted}
 use Rattle.wind_outside.specs.declared.sink.Put.{Put}
 use Rattle.wind_outside.specs.declared.sink.Put.TheVariants as puts
 
@@ -12,5 +12,5 @@ pub record MemSinkState : Type 0 where
 
 -- the sink after a put that was done, or failed
 abbrev pub after_put : MemSinkState → List ℕ → Put → MemSinkState
-after_put s piece puts.Done = record { out = appended s.out piece; calls = counted s.calls false }
-after_put s piece puts.Failed = record { out = s.out; calls = counted s.calls true }
+after_put s piece puts.Done = record { out = appended s.out piece; calls = call_counted s.calls false }
+after_put s piece puts.Failed = record { out = s.out; calls = call_counted s.calls true }

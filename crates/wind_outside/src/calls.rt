@@ -1,7 +1,7 @@
 //! Calls that fail by their number.
 
 ghost use Rattle.std.specs.Prelude.{◌≡◌, ◌≤◌, ◌⊎◌, ◌↔◌, IsTrue, Contains};
-ghost use Rattle.wind_outside.specs.Calls.{counted, one_more};
+ghost use Rattle.wind_outside.specs.Calls.{call_counted, one_more};
 ghost use Rattle.wind_outside.specs.Counts.{Rose};
 
 use std::marker::Model;
@@ -38,7 +38,7 @@ impl Calls {
     /// Counts a call, and says whether it fails: where its number is listed, or it is refused.
     pub(crate) fn count(&mut self, refused: bool) -> bool
         ensures fails { IsTrue result ↔ (Contains self.old.failing (one_more self.old.made) ⊎ IsTrue refused) }
-        ensures after { self.new ≡ counted self.old result }
+        ensures after { self.new ≡ call_counted self.old result }
         ensures rose { IsTrue result → Rose self.old.faults self.new.faults }
         ensures never_falls { self.old.faults ≤ self.new.faults }
     {

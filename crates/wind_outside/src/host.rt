@@ -2,6 +2,7 @@
 //! content. This is the trusted edge of the program.
 
 ghost use Rattle.std.specs.Prelude.{◌≡◌, ◌≤◌, vec_len, IfOk, IfSome};
+ghost use Rattle.wind_outside.specs.Host.{IsWhole, answer_of as answer_of_lem};
 
 use crate::{Fetched, Folder, Put, Sink};
 use std::alloc::Global;
@@ -18,33 +19,41 @@ pub struct HostFolder<R: Files + Drop> {
 
 impl<R: Files + Drop> HostFolder<R> {
     /// The directory, of which no reading has failed yet.
-    pub fn new(rt: R) -> HostFolder<R> {
+    pub fn new(rt: R) -> HostFolder<R>
+        ensures { result.faults ≡ 0 }
+    {
         HostFolder { rt, faults: 0 }
     }
 }
 
-// The whole file, or None where it is longer than the limit. The room for the limit is taken at once,
-// and reading stops at the first chunk that exceeds it.
-fn read_within<F: Read>(alloc: Global, file: &mut F, limit: usize) -> io::Result<Option<Vec<u8>>>
+// The whole of what is left of a file, or None where that is longer than the limit. The room for it is
+// taken at once, and no more than one byte above the limit is read.
+fn read_within<F: Read + Drop>(alloc: Global, file: F, limit: u32) -> io::Result<Option<Vec<u8>>>
     ensures within { IfOk result (λ found. IfSome found (λ bytes. vec_len bytes ≤ limit)) }
+    ensures whole { IfOk result (λ found. IfSome (F.remaining file) (λ left. IsWhole limit left found)) }
 {
-    let mut bytes = Vec::with_capacity(alloc, limit)?;
-    let mut chunk = [0u8; 4096];
-    for _ in 0..u64::MAX {
-        let n = match file.read(&mut chunk) {
-            Ok(n) => n,
-            Err(error) if error.kind() == ErrorKind::Interrupted => continue,
-            Err(error) => return Err(error),
-        };
-        if n == 0 {
-            return Ok(Some(bytes));
-        }
-        if n > limit - bytes.len() {
-            return Ok(None);
-        }
-        bytes.extend_from_slice(&chunk[..n])?;
+    let limit = limit as usize;
+    let mut bytes = Vec::with_capacity(alloc, limit + 1)?;
+    file.take(limit as u64 + 1).read_to_end(&mut bytes)?;
+    if bytes.len() > limit {
+        return Ok(None);
     }
-    Err(io::Error::from(ErrorKind::TimedOut))
+    Ok(Some(bytes))
+}
+
+// What a folder answers for a read of a real file.
+fn answer_of(read: io::Result<Option<Vec<u8>>>) -> Fetched
+    ensures { result ≡ answer_of_lem read }
+{
+    match read {
+        Ok(Some(bytes)) => Fetched::Found(bytes),
+        Ok(None) => Fetched::TooLong,
+        Err(error) => match error.kind() {
+            ErrorKind::NotFound | ErrorKind::NotADirectory => Fetched::Missing,
+            ErrorKind::OutOfMemory => Fetched::NoMemory,
+            _ => Fetched::Failed,
+        },
+    }
 }
 
 impl<R: Files + Drop> Folder for HostFolder<R> {
@@ -56,21 +65,14 @@ impl<R: Files + Drop> Folder for HostFolder<R> {
 
     fn fetch(&mut self, alloc: Global, name: &str, limit: u32) -> Fetched {
         let read = match fs::open(&self.rt, name) {
-            Ok(mut file) => read_within(alloc, &mut file, limit as usize),
+            Ok(file) => read_within(alloc, file, limit),
             Err(error) => Err(error),
         };
-        match read {
-            Ok(Some(bytes)) => Fetched::Found(bytes),
-            Ok(None) => Fetched::TooLong,
-            Err(error) => match error.kind() {
-                ErrorKind::NotFound | ErrorKind::NotADirectory => Fetched::Missing,
-                ErrorKind::OutOfMemory => Fetched::NoMemory,
-                _ => {
-                    self.faults = self.faults.saturating_add(1);
-                    Fetched::Failed
-                }
-            },
+        let answer = answer_of(read);
+        if let Fetched::Failed = answer {
+            self.faults = self.faults.saturating_add(1);
         }
+        answer
     }
 }
 
@@ -83,7 +85,9 @@ pub struct HostSink<P: Print + Drop> {
 
 impl<P: Print + Drop> HostSink<P> {
     /// The stream, of which no writing has failed yet.
-    pub fn new(to: P) -> HostSink<P> {
+    pub fn new(to: P) -> HostSink<P>
+        ensures { result.faults ≡ 0 }
+    {
         HostSink { to, faults: 0 }
     }
 }

@@ -1,7 +1,7 @@
 //! A folder in memory.
 
 ghost use Rattle.std.specs.Prelude.{◌≡◌, ◌≤◌, ◌↔◌, ℕ, List, Some, None, IfSome, OnOk, OnErr, Contains};
-ghost use Rattle.wind_outside.specs.Calls.{counted};
+ghost use Rattle.wind_outside.specs.Calls.{call_counted};
 ghost use Rattle.wind_outside.specs.Counts.{Rose};
 ghost use Rattle.wind_outside.specs.Files.{IsFetchOf, IsWithin, is_failed, with_file};
 ghost use Rattle.wind_outside.specs.declared.folder.Fetched.TheVariants as fetched;
@@ -67,7 +67,7 @@ impl Folder for MemFolder {
         ensures never_falls { (calls_of self.old).faults ≤ (calls_of self.new).faults }
 
         ensures listed { (result ≡ fetched.Failed) ↔ Contains (calls_of self.old).failing (calls_of self.new).made }
-        ensures counted { calls_of self.new ≡ counted (calls_of self.old) (is_failed result) }
+        ensures counted { calls_of self.new ≡ call_counted (calls_of self.old) (is_failed result) }
     {
         if self.calls.count(false) {
             return Fetched::Failed;

@@ -1,7 +1,8 @@
 -- What the words and the two files ask for.
-use Rattle.std.proofs.Common.{◌≡◌, ℕ, zero, suc, ◌<◌, ◌≤◌, List, [], ◌∷◌, Option, Some, None, true, false, cond, refl, sym, ap, ◌∙◌, arith, length}
+use Rattle.std.proofs.Common.{◌≡◌, ℕ, zero, suc, ◌+◌, ◌<◌, ◌≤◌, List, [], ◌∷◌, Option, Some, None, true, false, cond, refl, sym, ap, ◌∙◌, arith, length}
 use Rattle.std.specs.Prelude.{IfSome, IsSomeAnd, nat_lt}
 use Rattle.std.proofs.lemmas.Bool.Decides.{nat_tests}
+use Rattle.wind_base.specs.Limits.{longest_text_file}
 use Rattle.wind_outside.specs.Files.{Files, IsFetchOf}
 use Rattle.wind_outside.specs.declared.folder.Fetched.TheVariants as fetched
 use Rattle.tick_file.specs.Schedule.{Timetable}
@@ -19,7 +20,7 @@ some_entry None name = (None, tt)
 some_entry (Some held) name = (held name, refl)
 
 -- the file that a fetch found is the folder's, where it tells
-found_entry : (files : Option Files) (name bytes : List ℕ) → IfSome files (λ held. (held name ≡ Some bytes) × (length bytes ≤ 1048576)) → IsEntry files name (Some bytes)
+found_entry : (files : Option Files) (name bytes : List ℕ) → IfSome files (λ held. (held name ≡ Some bytes) × (length bytes ≤ longest_text_file)) → IsEntry files name (Some bytes)
 found_entry None name bytes h = tt
 found_entry (Some held) name bytes h = sym h.0
 
@@ -32,18 +33,18 @@ some_list zero = ([], refl)
 some_list (suc n) = let xs = some_list n in (0 ∷ xs.0, ap suc xs.1)
 
 -- there is a file that is too long, for a folder that leaves its files untold
-long_entry : (files : Option Files) (name : List ℕ) → IfSome files (λ held. IsSomeAnd (held name) (λ bytes. 1048576 < length bytes))
-    → (file : Option (List ℕ)) × IsEntry files name file × IsSomeAnd file (λ bytes. 1048576 < length bytes)
-long_entry None name h = let xs = some_list 1048577 in (Some xs.0, tt, omega (arith, xs.1))
+long_entry : (files : Option Files) (name : List ℕ) → IfSome files (λ held. IsSomeAnd (held name) (λ bytes. longest_text_file < length bytes))
+    → (file : Option (List ℕ)) × IsEntry files name file × IsSomeAnd file (λ bytes. longest_text_file < length bytes)
+long_entry None name h = let xs = some_list (longest_text_file + 1) in (Some xs.0, tt, omega (arith, xs.1))
 long_entry (Some held) name h = (held name, refl, h)
 
 -- a file that is too long, and one that is not
-long_file : (file : Which) (next : List ℕ → Plan) (bytes : Option (List ℕ)) → IsSomeAnd bytes (λ b. 1048576 < length b) → plan_file file next bytes ≡ Refuse (status.TooLong file)
+long_file : (file : Which) (next : List ℕ → Plan) (bytes : Option (List ℕ)) → IsSomeAnd bytes (λ b. longest_text_file < length b) → plan_file file next bytes ≡ Refuse (status.TooLong file)
 long_file file next None h = elim h [ ]
-long_file file next (Some b) h = let long : nat_lt 1048576 (length b) ≡ true = grind (arith, nat_tests, h) in ap (λ t. cond t (Refuse (status.TooLong file)) (next b)) long
+long_file file next (Some b) h = let long : nat_lt longest_text_file (length b) ≡ true = grind (arith, nat_tests, h) in ap (λ t. cond t (Refuse (status.TooLong file)) (next b)) long
 
-short_file : (file : Which) (next : List ℕ → Plan) (bytes : List ℕ) → length bytes ≤ 1048576 → plan_file file next (Some bytes) ≡ next bytes
-short_file file next bytes h = let short : nat_lt 1048576 (length bytes) ≡ false = grind (arith, nat_tests) in ap (λ t. cond t (Refuse (status.TooLong file)) (next bytes)) short
+short_file : (file : Which) (next : List ℕ → Plan) (bytes : List ℕ) → length bytes ≤ longest_text_file → plan_file file next (Some bytes) ≡ next bytes
+short_file file next bytes h = let short : nat_lt longest_text_file (length bytes) ≡ false = grind (arith, nat_tests) in ap (λ t. cond t (Refuse (status.TooLong file)) (next bytes)) short
 
 -- a refusal whose fault was counted is one where the count rose by more
 refusal_up : (s : Status) (plan : Plan) (rose later : Type 0) → (rose → later) → IsRefusal s plan rose → IsRefusal s plan later
@@ -60,15 +61,15 @@ refusal_up (status.NotBuilt what) plan rose later up h = h
 
 module _ (files : Option Files) (name : List ℕ) where
   -- the file that a fetch found
-  pub held_found : (bytes : List ℕ) → length bytes ≤ 1048576 → IfSome files (λ held. (held name ≡ Some bytes) × (length bytes ≤ 1048576)) → IsHeld files name bytes
+  pub held_found : (bytes : List ℕ) → length bytes ≤ longest_text_file → IfSome files (λ held. (held name ≡ Some bytes) × (length bytes ≤ longest_text_file)) → IsHeld files name bytes
   held_found bytes within h = record { told = found_entry files name bytes h; within = within }
 
   module _ (file : Which) (rose : Type 0) where
     -- no file, and one that is too long
-    pub unread_missing : IfSome files (λ held. IsFetchOf (held name) 1048576 fetched.Missing) → IsUnread (status.Absent file) file files name rose
+    pub unread_missing : IfSome files (λ held. IsFetchOf (held name) longest_text_file fetched.Missing) → IsUnread (status.Absent file) file files name rose
     unread_missing h = record { file = None; told = missing_entry files name h; refused = λ next. refl }
 
-    pub unread_long : IfSome files (λ held. IsFetchOf (held name) 1048576 fetched.TooLong) → IsUnread (status.TooLong file) file files name rose
+    pub unread_long : IfSome files (λ held. IsFetchOf (held name) longest_text_file fetched.TooLong) → IsUnread (status.TooLong file) file files name rose
     unread_long h = let long = long_entry files name h in record { file = long.0; told = long.1; refused = λ next. long_file file next long.0 long.2 }
 
     -- a fault of reading, and want of memory

@@ -1,6 +1,7 @@
 -- Which consoles are built.
 use Rattle.std.specs.Prelude.{ℕ, ◌+◌, List, [], ◌∷◌, Option, Some, None, Bool, true, false, ◌&&◌, nat_le, if◌then◌else◌, length}
 use Rattle.std.specs.List.{list_all}
+use Rattle.wind_base.specs.Limits.{longest_line}
 use Rattle.shell_parse.specs.Reading.{Reading, Statements, Refused, read_line}
 use Rattle.shell_eval.specs.Evaluated.{is_evaluated}
 use Rattle.tick_file.specs.Lines.{pieces}
@@ -16,7 +17,7 @@ is_evaluated_line (Refused column) = false
 
 -- a built line: at most 255 printable bytes, which the grammar reads as statements that are evaluated
 unfoldable pub is_built : List ℕ → Bool
-is_built line = nat_le (length line) 255 && (list_all is_printable line && is_evaluated_line (read_line line))
+is_built line = nat_le (length line) longest_line && (list_all is_printable line && is_evaluated_line (read_line line))
 
 -- the number of the first of these lines that is not built, where the first has number n
 abbrev pub unbuilt_from : ℕ → List (List ℕ) → Option ℕ

@@ -2,6 +2,7 @@
 use Rattle.std.specs.Prelude.{ℕ, List, [], ◌∷◌, Option, Some, None, unwrap_or, nat_le, if◌then◌else◌, length, codes}
 use Rattle.std.specs.Option.{option_map}
 use Rattle.std.specs.Str.{bytes_eq}
+use Rattle.wind_base.specs.Limits.{most_steps}
 use Rattle.wind_base.specs.Decimal.{decimal_value}
 
 -- a command: the names of the console file and of the tick file, and how many steps the run makes at most
@@ -24,9 +25,13 @@ abbrev pub once : {A : Type 0} → Option A → A → Option (Option A)
 once None v = Some (Some v)
 once (Some u) v = None
 
--- a limit of steps: 1 to 13 decimal digits, and at most 10 ^ 12
+-- the most digits of a limit
+abbrev pub most_limit_digits : ℕ
+most_limit_digits = 13
+
+-- a limit of steps: 1 to so many decimal digits, and at most the most steps
 abbrev pub limit_value : List ℕ → Option ℕ
-limit_value text = if nat_le (length text) 13 then decimal_value 1000000000000 text else None
+limit_value text = if nat_le (length text) most_limit_digits then decimal_value most_steps text else None
 
 -- the options with one more: the option of this name, with this value
 abbrev pub with_console : OptionsState → List ℕ → Option OptionsState

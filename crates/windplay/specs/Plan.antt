@@ -1,5 +1,6 @@
 -- What a command and its files ask for.
 use Rattle.std.specs.Prelude.{◌≡◌, ℕ, ◌≤◌, List, Option, Some, None, nat_lt, if◌then◌else◌, length}
+use Rattle.wind_base.specs.Limits.{longest_text_file}
 use Rattle.wind_outside.specs.Files.{Files}
 use Rattle.tick_file.specs.Lines.{first_bad_line}
 use Rattle.tick_file.specs.Schedule.{Timetable, timetable_of}
@@ -37,7 +38,7 @@ plan_ticks console ticks = plan_lines console ticks (first_bad_line ticks)
 -- a file goes on to the next plan, unless it is not there or has more than 1 MiB
 abbrev pub plan_file : Which → (List ℕ → Plan) → Option (List ℕ) → Plan
 plan_file file next None = Refuse (status.Absent file)
-plan_file file next (Some bytes) = if nat_lt 1048576 (length bytes) then Refuse (status.TooLong file) else next bytes
+plan_file file next (Some bytes) = if nat_lt longest_text_file (length bytes) then Refuse (status.TooLong file) else next bytes
 
 -- the order of refusals: the console file, the tick file, its lines, a line of `rx`, and the console's lines
 abbrev pub plan_of : Option (List ℕ) → Option (List ℕ) → Plan
@@ -51,7 +52,7 @@ IsEntry (Some held) name file = file ≡ held name
 -- the file of that name has these bytes, at most 1 MiB of them
 pub record IsHeld (files : Option Files) (name bytes : List ℕ) : Type 0 where
   pub told : IsEntry files name (Some bytes)
-  pub within : length bytes ≤ 1048576
+  pub within : length bytes ≤ longest_text_file
 
 -- what a command asks for, with the two files of the folder
 pub record IsFilePlan (files : Option Files) (command : CommandState) (plan : Plan) : Type 0 where

@@ -3,14 +3,14 @@ use Rattle.std.specs.Prelude.{ℕ}
 use Rattle.windplay.specs.declared.ending.Status.{Status}
 use Rattle.windplay.specs.declared.ending.Status.TheVariants as status
 
-abbrev pub number_of : Status → ℕ
-number_of status.Quiet = 0
-number_of status.Usage = 1
-number_of (status.Absent which) = 2
-number_of status.Limit = 3
-number_of status.ReadFault = 4
-number_of status.WriteFault = 5
-number_of status.NoMemory = 6
-number_of (status.BadTicks line) = 7
-number_of (status.TooLong which) = 8
-number_of (status.NotBuilt what) = 9
+abbrev pub status_number : Status → ℕ
+status_number status.Quiet = 0
+status_number status.Usage = 1
+status_number (status.Absent which) = 2
+status_number status.Limit = 3
+status_number status.ReadFault = 4
+status_number status.WriteFault = 5
+status_number status.NoMemory = 6
+status_number (status.BadTicks line) = 7
+status_number (status.TooLong which) = 8
+status_number (status.NotBuilt what) = 9

@@ -2,6 +2,7 @@
 
 ghost use Rattle.std.specs.Prelude.{◌≡◌, ◌≤◌, ◌<◌, ◌^◌, IfOk, length};
 ghost use Rattle.std.specs.List.{list_all};
+ghost use Rattle.wind_base.specs.Limits.{longest_line};
 ghost use Rattle.shell_parse.specs.Reading.{read_line};
 ghost use Rattle.shell_parse.specs.Trees.{plain_stmts};
 ghost use Rattle.shell_eval.specs.Evaluated.{is_evaluated as is_evaluated_lem};
@@ -22,7 +23,7 @@ fn all_evaluated(stmts: &[Stmt]) -> bool
 
 // Whether the grammar reads the line, and its statements are evaluated.
 fn is_evaluated_line(alloc: Global, line: &[u8]) -> Result<bool, NoMemory>
-    requires { length line.now ≤ 255 }
+    requires { length line.now ≤ longest_line }
     ensures { IfOk result (λ built. built ≡ is_evaluated_line_lem (read_line line.now)) }
 {
     match parse(alloc, line) {

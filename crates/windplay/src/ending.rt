@@ -49,11 +49,11 @@ pub enum Status {
 }
 
 impl Status {
-    ghost use Rattle.windplay.specs.Status.{number_of};
+    ghost use Rattle.windplay.specs.Status.{status_number};
 
     /// The number with which the program ends.
     pub fn number(self) -> u8
-        ensures { result ≡ number_of self }
+        ensures { result ≡ status_number self }
     {
         match self {
             Status::Quiet => 0,

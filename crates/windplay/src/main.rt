@@ -11,6 +11,10 @@ mod run;
 #[cfg(test)]
 mod tests;
 
+ghost use Rattle.std.specs.Prelude.{◌≡◌};
+ghost use Rattle.std.specs.Process.{exit_status};
+ghost use Rattle.windplay.specs.Status.{status_number};
+
 use ending::Status;
 use play::play;
 use report::tell_no_memory;
@@ -45,6 +49,13 @@ fn session<E: Sink>(rt: HostRuntime, err: &mut E) -> Result<Status, NoMemory> {
     Ok(ending.status)
 }
 
+// The code with which the program ends.
+fn exit_code(status: Status) -> ExitCode
+    ensures { exit_status result ≡ status_number status }
+{
+    ExitCode::from(status.number())
+}
+
 fn main(rt: HostRuntime) -> ExitCode {
     let mut err = HostSink::new(rt.stderr());
     let status = match session(rt, &mut err) {
@@ -54,5 +65,5 @@ fn main(rt: HostRuntime) -> ExitCode {
             Status::NoMemory
         }
     };
-    ExitCode::from(status.number())
+    exit_code(status)
 }

@@ -1,6 +1,7 @@
 //! Plays a session.
 
 ghost use Rattle.std.specs.Prelude.{◌≡◌, ◌≢◌, ℕ, ◌<◌, ◌≤◌, ◌^◌, ◌↔◌, List, Some, None, OnOk, IfOk, IfErr, map, length};
+ghost use Rattle.wind_base.specs.Limits.{most_steps};
 ghost use Rattle.tick_file.specs.Schedule.{Timetable};
 ghost use Rattle.wind_outside.specs.Counts.{Rose};
 ghost use Rattle.wind_outside.specs.Devices.{slots_of};
@@ -130,7 +131,7 @@ fn session<F: Folder, O: Sink>(
     devices: Slots,
 ) -> Ending
     requires devices { length devices.items ≤ 16 }
-    requires limit { command.now.limit ≤ 10 ^ 12 }
+    requires limit { command.now.limit ≤ most_steps }
     ensures machine { Plays ⟦<Board as Machine>⟧.state result (Some (command_state command.now)) (F.files folder.old) (Rose (F.faults folder.old) (F.faults folder.new)) devices (slots_of kind_of words_of devices.items) (O.bytes out.old) (O.bytes out.new) }
     ensures complete { IsComplete result.status (Some (command_state command.now)) (F.files folder.old) (Rose (F.faults folder.old) (F.faults folder.new)) (Rose (O.faults out.old) (O.faults out.new)) }
     ensures known { result.status ≢ status.Usage }

@@ -1,6 +1,7 @@
 //! The run of a board.
 
 ghost use Rattle.std.specs.Prelude.{◌≡◌, ◌^◌, ◌≤◌};
+ghost use Rattle.wind_base.specs.Limits.{most_steps};
 ghost use Rattle.wind_outside.specs.Counts.{Rose};
 ghost use Rattle.windplay.specs.Runs.{Ran};
 ghost use Rattle.windplay.specs.declared.run.RunEnd.TheVariants as ends;
@@ -24,7 +25,7 @@ pub enum RunEnd {
 /// Makes steps, at most as many as the limit, and puts what each of them writes.
 pub fn run_machine<M: Machine, O: Sink>(board: &mut M, out: &mut O, limit: u64) -> RunEnd
     requires fresh { (M.state board.old).steps ≡ 0 }
-    requires bound { limit ≤ 10 ^ 12 }
+    requires bound { limit ≤ most_steps }
     ensures ran { Ran result (M.state board.old) limit (M.state board.new) (O.bytes out.old) (O.bytes out.new) }
     ensures fault { result ≡ ends.WriteFault → Rose (O.faults out.old) (O.faults out.new) }
     ensures faults { O.faults out.old ≤ O.faults out.new }

@@ -7,7 +7,7 @@ loop-byte-preserved c = record {
   heard = hear_more _ _ c.args.bytes.now c.loop-byte.byte-index c.loop-byte-test.true c.hear_one.ensures.heard ∙ c.loop-byte.invariant.heard;
   room = omega (arith, c.hear_one.ensures.room, c.loop-byte.invariant.room);
   spent = omega (arith, c.hear_one.ensures.room, c.loop-byte.invariant.spent);
-  total = c.hear_one.ensures.total ∙ c.loop-byte.invariant.total;
+  space = c.hear_one.ensures.space ∙ c.loop-byte.invariant.space;
   live = c.hear_one.ensures.live;
   since = omega (arith, c.hear_one.ensures.since, c.loop-byte.invariant.since);
 }

@@ -1,4 +1,5 @@
 use Rattle.std.proofs.Common.{◌≡◌, ◌≤◌, ◌+◌, ◌*◌, length, drop}
+use Rattle.wind_base.specs.OutBuf.{KeepsSpace}
 use Rattle.wind_core.specs.State.{Lives}
 use Rattle.board_player.specs.Machine.{heard_from, heard_all}
 use Rattle.board_player.proofs.arrival.hear.Given as goal
@@ -9,7 +10,7 @@ invariant-loop-byte l = record {
   heard : heard_all (heard_from l.console l.shell l.kern l.out.bytes) (drop l.byte-index l.bytes) ≡ heard_all (heard_from l.initial.console l.initial.shell l.initial.kern l.initial.out.bytes) l.bytes;
   room : 3 * length l.bytes ≤ l.out.room + 3 * l.byte-index;
   spent : l.initial.out.room ≤ l.out.room + 3 * l.byte-index;
-  total : l.out.room + length l.out.bytes ≡ l.initial.out.room + length l.initial.out.bytes;
+  space : KeepsSpace l.initial.out l.out;
   live : Lives l.kern 1;
   since : l.kern.next_since ≤ l.initial.kern.next_since + 2 * l.byte-index;
 }

@@ -1,7 +1,11 @@
-use Rattle.std.proofs.Common.{append_assoc}
+use Rattle.std.proofs.Common.{append_assoc, arith}
 use Rattle.board_player.specs.Text.{syntax_text}
 use Rattle.board_player.proofs.text.add_syntax.Goals as goal
 
-pub returns-clause-bytes : goal.returns-clause-bytes
+pub returns : goal.returns
 unfolding syntax_text
-returns-clause-bytes c = rw (c.add-2.ensures.bytes, c.add_decimal.ensures.bytes, c.add.ensures.bytes) (simp append_assoc)
+returns c = record {
+  bytes = rw (c.add-2.ensures.bytes, c.add_decimal.ensures.bytes, c.add.ensures.bytes) (simp append_assoc);
+  room = omega (arith, c.add-2.ensures.room, c.add_decimal.ensures.room, c.add.ensures.room);
+  space = omega (arith, c.add-2.ensures.space, c.add_decimal.ensures.space, c.add.ensures.space);
+}

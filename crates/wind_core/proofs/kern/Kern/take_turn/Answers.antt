@@ -14,9 +14,9 @@ pub returns : goal.returns
 returns c =
     let s = c.args.self.now in
     let up = subst (λ s. Rising task_id s.tasks) c.self.view_is c.self.invariant.2.rising in
-    let counted = ne_eqb s.slice 0 (λ e. c.if-self-eq0.false (ap (λ s. s.slice) c.self.view_is ∙ e)) in
+    let tick_counted = ne_eqb s.slice 0 (λ e. c.if-self-eq0.false (ap (λ s. s.slice) c.self.view_is ∙ e)) in
     record {
       turn = c.turn.ensures
           ∙ ap (turn_of s) (sym (runs s c.in-Some.who up c.in-Some.ensures))
-          ∙ ap (λ b. cond b s (turn_of s (running s))) (sym counted);
+          ∙ ap (λ b. cond b s (turn_of s (running s))) (sym tick_counted);
     }

@@ -1,0 +1,8 @@
+use Rattle.wind_base.proofs.Tables.{names_apart, numbers_apart}
+use Rattle.wind_base.proofs.laws.tables_law.Goals as goal
+
+pub returns-clause-names : goal.returns-clause-names
+returns-clause-names c = names_apart
+
+pub returns-clause-numbers : goal.returns-clause-numbers
+returns-clause-numbers c = numbers_apart

@@ -1,0 +1,71 @@
+//! Pieces of text, and numbers in decimal and hexadecimal digits, added to a buffer with room for them.
+
+ghost use Rattle.std.specs.Prelude.{◌≡◌, ◌^◌, ◌<◌, ◌≤◌, false, length};
+ghost use Rattle.std.specs.Fmt.{decimal, signed_decimal, digit_glyph, digits};
+ghost use Rattle.std.specs.Int.{cast_signed, w32};
+ghost use Rattle.wind_base.specs.OutBuf.{Added};
+ghost use Rattle.wind_base.specs.Texts.{hex_within};
+
+use crate::OutBuf;
+use itoa::Buffer;
+
+/// Adds a piece for which there is room.
+pub fn add(out: &mut OutBuf, piece: &[u8])
+    requires { length piece.now ≤ out.old.room }
+    ensures { Added (length piece.now) out.old out.new piece.now }
+{
+    let _ = out.put(piece);
+}
+
+// The hexadecimal digit of a number below 16.
+fn glyph(digit: u32) -> u8
+    requires { digit < 16 }
+    ensures { result ≡ digit_glyph false digit }
+{
+    if digit < 10 {
+        b'0' + digit as u8
+    } else {
+        b'a' + (digit - 10) as u8
+    }
+}
+
+// Adds a number below 16^places in hexadecimal digits.
+fn add_digits(out: &mut OutBuf, n: u32, places: u32)
+    requires some { 0 < places }
+    requires wide { n < 16 ^ places }
+    requires room { places ≤ out.old.room }
+    ensures { Added places out.old out.new (hex_within places n) }
+{
+    if n < 16 {
+        add(out, &[glyph(n)]);
+    } else {
+        add_digits(out, n / 16, places - 1);
+        add(out, &[glyph(n % 16)]);
+    }
+}
+
+/// Adds a word in hexadecimal digits, in lower case and without leading zeros: 8 digits at most.
+pub fn add_hex(out: &mut OutBuf, v: u32)
+    requires { 8 ≤ out.old.room }
+    ensures { Added 8 out.old out.new (digits 16 false v) }
+{
+    add_digits(out, v, 8);
+}
+
+/// Adds a word in decimal digits, as a signed number of 32 bits: 11 bytes at most.
+pub fn add_signed(out: &mut OutBuf, v: u32)
+    requires { 11 ≤ out.old.room }
+    ensures { Added 11 out.old out.new (signed_decimal (cast_signed w32 v)) }
+{
+    let mut digits = Buffer::new();
+    add(out, digits.format(v.cast_signed()).as_bytes());
+}
+
+/// Adds a number in decimal digits: 10 bytes at most.
+pub fn add_decimal(out: &mut OutBuf, n: u32)
+    requires { 10 ≤ out.old.room }
+    ensures { Added 10 out.old out.new (decimal n) }
+{
+    let mut digits = Buffer::new();
+    add(out, digits.format(n).as_bytes());
+}
