@@ -1,5 +1,5 @@
 -- Which token may come next, by what came before: a mode, and what is open. The levels of the operators play no part.
-use Rattle.std.specs.Prelude.{ℕ, suc, Bool, true, false, List, [], ◌∷◌, Option, Some, None, if◌then◌else◌}
+use Rattle.std.specs.Prelude.{ℕ, suc, ◌-◌, Bool, true, false, List, [], ◌∷◌, Option, Some, None, if◌then◌else◌}
 use Rattle.shell_parse.specs.declared.tree.BinOp.TheVariants.{Minus, Times, And}
 use Rattle.shell_parse.specs.declared.token.Token.{Token}
 use Rattle.shell_parse.specs.declared.token.Token.TheVariants.{Number, Str, Name, Operator, Set, Not, Com, Open, Close, Comma, Semi, Redirect, File}
@@ -7,12 +7,16 @@ use Rattle.shell_parse.specs.declared.allowed.Mode.{Mode}
 use Rattle.shell_parse.specs.declared.allowed.Mode.TheVariants.{Start, Named, Whole, Variable, Want, Target, Done, Callee, Opened, AtFile, Loaded}
 use Rattle.shell_parse.specs.declared.frames.Frame.{Frame}
 use Rattle.shell_parse.specs.declared.frames.Frame.TheVariants.{InGroup, InCall, InCommand}
-use Rattle.shell_parse.specs.Grammar.{is_ld}
+use Rattle.shell_parse.specs.Grammar.{most_arguments, is_ld}
 
 -- a mode, and what is open, the innermost first
 pub record Place : Type 0 where
   pub mode : Mode
   pub frames : List Frame
+
+-- how many arguments may follow the first of a call
+abbrev pub more_arguments : ℕ
+more_arguments = most_arguments - 1
 
 -- a token is allowed, and leads to this mode with these frames
 abbrev pub at : Mode → List Frame → Option Place
@@ -71,9 +75,9 @@ on_done mark fs Comma = on_comma fs
 on_done mark fs Semi = on_semi fs
 on_done mark fs _ = None
 
--- behind a callee: nine arguments may follow the first of a call
+-- behind a callee: a call, or what follows an operand
 abbrev pub on_callee : Bool → List Frame → Token → Option Place
-on_callee mark fs Open = at Opened (InCall 9 mark ∷ fs)
+on_callee mark fs Open = at Opened (InCall more_arguments mark ∷ fs)
 on_callee mark fs t = on_done mark fs t
 
 -- behind a name that begins an expression: an assignment, or what follows a callee
@@ -86,13 +90,13 @@ abbrev pub on_opened : List Frame → Token → Option Place
 on_opened fs Close = on_close fs
 on_opened fs t = on_whole fs t
 
--- behind the name that begins a statement, which is `ld` or not: nine arguments may follow the first
+-- behind the name that begins a statement, which is `ld` or not: arguments, a file, or what follows a name of an expression
 abbrev pub on_named : Bool → Token → Option Place
-on_named ld (Number n) = on_whole (InCommand 9 ∷ []) (Number n)
-on_named ld (Str text) = on_whole (InCommand 9 ∷ []) (Str text)
-on_named ld (Name x) = on_whole (InCommand 9 ∷ []) (Name x)
-on_named ld Not = on_whole (InCommand 9 ∷ []) Not
-on_named ld Com = on_whole (InCommand 9 ∷ []) Com
+on_named ld (Number n) = on_whole (InCommand more_arguments ∷ []) (Number n)
+on_named ld (Str text) = on_whole (InCommand more_arguments ∷ []) (Str text)
+on_named ld (Name x) = on_whole (InCommand more_arguments ∷ []) (Name x)
+on_named ld Not = on_whole (InCommand more_arguments ∷ []) Not
+on_named ld Com = on_whole (InCommand more_arguments ∷ []) Com
 on_named ld Redirect = if ld then at AtFile [] else None
 on_named ld t = on_variable [] t
 

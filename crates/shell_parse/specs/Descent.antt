@@ -6,7 +6,7 @@ use Rattle.shell_parse.specs.declared.tree.UnOp.TheVariants as before
 use Rattle.shell_parse.specs.declared.token.Token.{Token}
 use Rattle.shell_parse.specs.declared.token.Token.TheVariants.{Number, Str, Name, Operator, Set, Not, Com, Open, Close, Comma, Semi, Redirect, File}
 use Rattle.shell_parse.specs.Levels.{level_of, levels}
-use Rattle.shell_parse.specs.Grammar.{is_ld}
+use Rattle.shell_parse.specs.Grammar.{most_arguments, is_ld}
 use Rattle.shell_parse.specs.Trees.{PlainTree, Arguments, End, Then, PlainStmt, Nothing, Load, Command, Expr}
 use Rattle.shell_parse.specs.Trees as trees
 
@@ -166,7 +166,7 @@ unfoldable mutual
 
   pub args_at : ℕ → List Token → Reads Arguments
   args_at zero ts = None
-  args_at (suc n) ts = args_by (λ us. listed_at n 10 us) ts (closed ts)
+  args_at (suc n) ts = args_by (λ us. listed_at n most_arguments us) ts (closed ts)
 
   pub listed_at : ℕ → ℕ → List Token → Reads Arguments
   listed_at zero k ts = None
@@ -199,7 +199,7 @@ stmt_by whole listed ts = mapped Expr (whole ts)
 
 -- a statement at the front, whose expressions are read at most n calls deep
 unfoldable pub stmt_at : ℕ → List Token → Reads PlainStmt
-stmt_at n ts = stmt_by (λ us. whole_at n us) (λ us. listed_at n 10 us) ts
+stmt_at n ts = stmt_by (λ us. whole_at n us) (λ us. listed_at n most_arguments us) ts
 
 -- the statements from this one on, which has these tokens behind it
 abbrev pub line_by : (List Token → Option (List PlainStmt)) → PlainStmt → List Token → Option (List PlainStmt)

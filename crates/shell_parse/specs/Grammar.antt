@@ -10,6 +10,10 @@ use Rattle.shell_parse.specs.Levels.{level_of, levels}
 use Rattle.shell_parse.specs.Trees.{PlainTree, Arguments, End, Then, PlainStmt, Nothing, Load, Command, Expr}
 use Rattle.shell_parse.specs.Trees as trees
 
+-- how many arguments a call has at most
+abbrev pub most_arguments : ℕ
+most_arguments = 10
+
 mutual
   -- an expression: operands with operators between, or an assignment, whose left side is a name, or a star and an operand
   pub data Expression : List Token → PlainTree → List Token → Type 0 where
@@ -48,10 +52,10 @@ mutual
     call : {callee e : PlainTree} {es : Arguments} {ts mid rest : List Token} → Args ts es (Close ∷ mid) → Calls (trees.Call callee es) mid e rest
         → Calls callee (Open ∷ ts) e rest
 
-  -- the arguments between parentheses: none, or at most ten
+  -- the arguments between parentheses: none, or some
   pub data Args : List Token → Arguments → List Token → Type 0 where
     none : {ts : List Token} → Args ts End ts
-    some : {ts rest : List Token} {es : Arguments} → Listed 10 ts es rest → Args ts es rest
+    some : {ts rest : List Token} {es : Arguments} → Listed most_arguments ts es rest → Args ts es rest
 
   -- one argument or several, at most so many, with commas between
   pub data Listed : ℕ → List Token → Arguments → List Token → Type 0 where
@@ -72,11 +76,11 @@ begins_argument _ = false
 abbrev pub is_ld : List ℕ → Bool
 is_ld x = bytes_eq x (codes "ld")
 
--- a statement: nothing, the load of a file, a name and at most ten arguments, or an expression
+-- a statement: nothing, the load of a file, a name and its arguments, or an expression
 pub data IsStmt : List Token → PlainStmt → List Token → Type 0 where
   nothing : {ts : List Token} → IsStmt ts Nothing ts
   load : {x file : List ℕ} {rest : List Token} → IsTrue (is_ld x) → IsStmt (Name x ∷ Redirect ∷ File file ∷ rest) (Load file) rest
-  command : {callee : List ℕ} {es : Arguments} {ts rest : List Token} → IsTrue (begins_argument ts) → Listed 10 ts es rest
+  command : {callee : List ℕ} {es : Arguments} {ts rest : List Token} → IsTrue (begins_argument ts) → Listed most_arguments ts es rest
       → IsStmt (Name callee ∷ ts) (Command callee es) rest
   value : {e : PlainTree} {ts rest : List Token} → Expression ts e rest → IsStmt ts (Expr e) rest
 

@@ -4,6 +4,7 @@ use Rattle.std.specs.Char.{is_digit}
 use Rattle.std.specs.List.{list_all}
 use Rattle.std.specs.Str.Parse.{digits_value}
 use Prim.Native.Char.{code}
+use Rattle.wind_base.specs.Limits.{greatest_word}
 use Rattle.shell_parse.specs.declared.token.Token.{Token}
 use Rattle.shell_parse.specs.declared.token.Token.TheVariants.{Number, Str, Unknown}
 use Rattle.shell_parse.specs.Ascii.{next_is}
@@ -14,7 +15,7 @@ are_digits radix digits = not (length digits == 0) && list_all (λ b. is_digit b
 
 -- a number, if it has 32 bits
 abbrev pub value_within : ℕ → Option ℕ
-value_within value = if nat_le value 0xffffffff then Some value else None
+value_within value = if nat_le value greatest_word then Some value else None
 
 -- the number that these write as digits of the radix, if they are such and it has 32 bits
 abbrev pub number_in : ℕ → List ℕ → Option ℕ

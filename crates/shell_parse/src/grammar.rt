@@ -1,6 +1,7 @@
 //! The grammar of a line.
 
 ghost use Rattle.std.specs.Prelude.{◌≡◌, ◌≤◌, ◌+◌, ◌↔◌, ℕ, List, length, slice_get, unwrap_or};
+ghost use Rattle.wind_base.specs.Limits.{longest_line};
 ghost use Rattle.shell_parse.specs.declared.token.Token.{Token};
 ghost use Rattle.shell_parse.specs.Tokens.{tokens_of, bare};
 ghost use Rattle.shell_parse.specs.Trees.{PlainStmt};
@@ -37,7 +38,7 @@ impl From<AllocError> for ParseErr {
 
 // The column of a token by its number, counted from 0; the end of the line stands behind the last.
 fn column(line: &[u8], columns: &[u32], number: usize) -> u32
-    requires { length line.now ≤ 255 }
+    requires { length line.now ≤ longest_line }
     ensures { result ≡ unwrap_or (slice_get columns.now number) (length line.now + 1) }
 {
     match columns.get(number) {
@@ -49,7 +50,7 @@ fn column(line: &[u8], columns: &[u32], number: usize) -> u32
 // What reading a line gives.
 #[tactic(auto, unfolding(crate::specs::Reading::read_line))]
 fn read(alloc: Global, line: &[u8]) -> Result<Vec<Stmt>, ParseErr>
-    requires { length line.now ≤ 255 }
+    requires { length line.now ≤ longest_line }
     ensures { IsReading result (read_line line.now) }
 {
     let lexed = tokens(alloc, line)?;
@@ -70,7 +71,7 @@ fn read(alloc: Global, line: &[u8]) -> Result<Vec<Stmt>, ParseErr>
 /// token which no line goes on with.
 #[tactic(auto, using(crate::proofs::Laws::read_trees, crate::proofs::Laws::read_none))]
 pub fn parse(alloc: Global, line: &[u8]) -> Result<Vec<Stmt>, ParseErr>
-    requires { length line.now ≤ 255 }
+    requires { length line.now ≤ longest_line }
     ensures read { IsReading result (read_line line.now) }
     ensures parsed { IsParsed result line.now }
 {

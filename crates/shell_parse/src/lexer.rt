@@ -2,6 +2,7 @@
 
 ghost use Rattle.std.specs.Prelude.{◌≡◌, ◌<◌, ◌≤◌, ◌+◌, ◌∷◌, IfOk, length, drop, map};
 ghost use Rattle.std.specs.List.{prefix_len};
+ghost use Rattle.wind_base.specs.Limits.{longest_line};
 ghost use Rattle.shell_parse.specs.Ascii.{is_blank as is_blank_lem, is_word_byte as is_word_byte_lem, is_file_byte as is_file_byte_lem};
 ghost use Rattle.shell_parse.specs.Literals.{number_of as number_of_lem};
 ghost use Rattle.shell_parse.specs.Tokens.{number_token as number_token_lem, word_token as word_token_lem, word_at, file_at, any_at, redirected as redirected_lem, token_at, behind_name as behind_name_lem, spot_after as spot_after_lem, tokens_of, bare, columns};
@@ -67,7 +68,7 @@ fn number_token<'a>(word: &[u8]) -> Token<'a>
 
 // The token of a word with this first byte.
 fn word_token<'a>(first: u8, word: &'a [u8]) -> Token<'a>
-    requires { length word.now ≤ 255 }
+    requires { length word.now ≤ longest_line }
     ensures { result ≡ word_token_lem first word.now }
 {
     if first.is_ascii_digit() {
@@ -81,7 +82,7 @@ fn word_token<'a>(first: u8, word: &'a [u8]) -> Token<'a>
 
 fn word<'a>(first: u8, rest: &[u8], bytes: &'a [u8]) -> (Token<'a>, usize)
     requires bytes { bytes.now ≡ first ∷ rest.now }
-    requires short { length bytes.now ≤ 255 }
+    requires short { length bytes.now ≤ longest_line }
     ensures { result ≡ word_at first rest.now }
 {
     let len = word_len(rest);
@@ -90,7 +91,7 @@ fn word<'a>(first: u8, rest: &[u8], bytes: &'a [u8]) -> (Token<'a>, usize)
 
 fn file<'a>(first: u8, rest: &[u8], bytes: &'a [u8]) -> (Token<'a>, usize)
     requires bytes { bytes.now ≡ first ∷ rest.now }
-    requires short { length bytes.now ≤ 255 }
+    requires short { length bytes.now ≤ longest_line }
     ensures { result ≡ file_at first rest.now }
 {
     if first == b';' {
@@ -110,7 +111,7 @@ fn any<'a>(
     bytes: &'a [u8],
 ) -> Result<(Token<'a>, usize), AllocError>
     requires bytes { bytes.now ≡ first ∷ rest.now }
-    requires short { length bytes.now ≤ 255 }
+    requires short { length bytes.now ≤ longest_line }
     ensures { IfOk result (λ x. x ≡ any_at first rest.now) }
 {
     if is_word_byte(first) {
@@ -144,7 +145,7 @@ fn front<'a>(
     bytes: &'a [u8],
 ) -> Result<(Token<'a>, usize), AllocError>
     requires bytes { bytes.now ≡ first ∷ rest.now }
-    requires short { length bytes.now ≤ 255 }
+    requires short { length bytes.now ≤ longest_line }
     ensures { IfOk result (λ x. x ≡ token_at spot first rest.now) }
 {
     match spot {
@@ -181,10 +182,10 @@ fn spot_after(spot: Spot, token: &Token) -> Spot
 /// The tokens of a line, each with its column.
 #[tactic(auto, unfolding(crate::specs::Tokens::tokens_of))]
 pub(crate) fn tokens<'a>(alloc: Global, line: &'a [u8]) -> Result<Lexed<'a>, AllocError>
-    requires { length line.now ≤ 255 }
+    requires { length line.now ≤ longest_line }
     ensures tokens { IfOk result (λ lexed. lexed.tokens.items ≡ bare (tokens_of line.now)) }
     ensures columns { IfOk result (λ lexed. lexed.columns.items ≡ columns (tokens_of line.now)) }
-    ensures few { IfOk result (λ lexed. length lexed.tokens.items ≤ 255) }
+    ensures few { IfOk result (λ lexed. length lexed.tokens.items ≤ longest_line) }
 {
     let mut tokens = Vec::new(alloc);
     let mut columns = Vec::new(alloc);

@@ -1,7 +1,11 @@
-//! Trees as text, for tests: an operator or a word, and then its parts, in parentheses.
+//! What a line is read as, as text, for tests: of a tree an operator or a word, and then its parts, in
+//! parentheses.
 
+use crate::grammar::{ParseErr, parse};
 use crate::tree::{BinOp, Stmt, Tree, UnOp};
 use std::alloc::{AllocError, Global};
+use std::process::Abort;
+use wind_base::limits::LINE_BYTES;
 
 fn bin_op(op: BinOp) -> &'static str {
     match op {
@@ -151,14 +155,49 @@ fn add_stmt(out: &mut Vec<u8>, alloc: Global, stmt: &Stmt) -> Result<(), AllocEr
     }
 }
 
-/// The statements with `; ` between.
-pub(crate) fn shown(alloc: Global, stmts: &[Stmt]) -> Result<Vec<u8>, AllocError> {
-    let mut out = Vec::new(alloc);
+// The statements with `; ` between.
+fn add_stmts(out: &mut Vec<u8>, alloc: Global, stmts: &[Stmt]) -> Result<(), AllocError> {
     for (i, stmt) in stmts.iter().enumerate() {
         if i > 0 {
-            add(&mut out, "; ")?;
+            add(out, "; ")?;
         }
-        add_stmt(&mut out, alloc, stmt)?;
+        add_stmt(out, alloc, stmt)?;
+    }
+    Ok(())
+}
+
+/// The statements of a line, or what is wrong with it.
+pub(crate) fn outcome(alloc: Global, line: &[u8]) -> Result<Vec<u8>, AllocError> {
+    let mut out = Vec::new(alloc);
+    if line.len() > LINE_BYTES {
+        add(&mut out, "too long")?;
+        return Ok(out);
+    }
+    match parse(alloc, line) {
+        Ok(stmts) => add_stmts(&mut out, alloc, &stmts)?,
+        Err(ParseErr::Syntax(column)) => {
+            add(&mut out, "syntax error at column ")?;
+            add_number(&mut out, alloc, column)?;
+        }
+        Err(ParseErr::NoMemory) => add(&mut out, "out of memory")?,
     }
     Ok(out)
+}
+
+/// Stops where a line has another outcome than the one that is wanted.
+pub(crate) fn compare(rt: &impl Abort, alloc: Global, line: &str, wanted: &str) {
+    match outcome(alloc, line.as_bytes()) {
+        Ok(text) => assert_eq!(rt; text.as_slice(), wanted.as_bytes(), "{line}"),
+        Err(_) => assert!(rt; false, "{line}"),
+    }
+}
+
+/// The same of rows, each of which is a line, ` => ` and its outcome.
+pub(crate) fn compares(rt: &impl Abort, alloc: Global, rows: &str) {
+    for row in rows.lines() {
+        match row.split_once(" => ") {
+            Some((line, wanted)) => compare(rt, alloc, line, wanted),
+            None => assert!(rt; false, "{row}"),
+        }
+    }
 }

@@ -1,10 +1,11 @@
 //! The statements of the tokens of a line.
 
 ghost use Rattle.std.specs.Prelude.{◌≡◌, ◌<◌, ◌≤◌, ◌∷◌, Some, None, length, if◌then◌else◌};
+ghost use Rattle.wind_base.specs.Limits.{longest_line};
 ghost use Rattle.shell_parse.specs.Trees.{plain_stmt, plain_stmts};
 ghost use Rattle.shell_parse.specs.Trees as trees;
 ghost use Rattle.shell_parse.specs.Gives.{Gives};
-ghost use Rattle.shell_parse.specs.Grammar.{is_ld as is_ld_lem};
+ghost use Rattle.shell_parse.specs.Grammar.{most_arguments, is_ld as is_ld_lem};
 ghost use Rattle.shell_parse.specs.Descent.{whole_at, listed_at, file_by, mapped, named_by, stmt_at, line_at, stmts_of};
 
 use crate::descent::{ARGUMENTS, ReadErr, Reads, listed, name_of, whole};
@@ -28,7 +29,7 @@ fn expression<'a>(alloc: Global, depth: u32, tokens: &'a [Token<'a>]) -> Reads<'
 
 // A call without parentheses, from its arguments on.
 fn command<'a>(alloc: Global, depth: u32, callee: &Word, tokens: &'a [Token<'a>]) -> Reads<'a, Stmt>
-    ensures { Gives (λ x. (plain_stmt x.0, x.1.now)) result (mapped (trees.Command callee.now) (listed_at depth 10 tokens.now)) }
+    ensures { Gives (λ x. (plain_stmt x.0, x.1.now)) result (mapped (trees.Command callee.now) (listed_at depth most_arguments tokens.now)) }
 {
     let (arguments, rest) = listed(alloc, depth, ARGUMENTS, tokens)?;
     Ok((Stmt::Call(name_of(alloc, callee)?, arguments), rest))
@@ -109,7 +110,7 @@ fn line<'a>(
 
 /// The statements of the tokens of a line.
 pub(crate) fn statements<'a>(alloc: Global, tokens: &'a [Token<'a>]) -> Result<Vec<Stmt>, ReadErr>
-    requires { length tokens.now ≤ 255 }
+    requires { length tokens.now ≤ longest_line }
     ensures { Gives (λ list. plain_stmts list.items) result (stmts_of tokens.now) }
 {
     let len = tokens.len() as u32;

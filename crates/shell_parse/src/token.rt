@@ -11,21 +11,23 @@ pub(crate) struct Word<'a> {
 
 impl<'a> Model for Word<'a> {
     ghost use Rattle.std.specs.Prelude.{ℕ, List, ◌≤◌, length};
+    ghost use Rattle.wind_base.specs.Limits.{longest_line};
 
     ghost Value = { List ℕ };
 
     ghost view = { λ w. w.kept.now };
 
-    ghost invariant = { λ w. length w.kept.now ≤ 255 };
+    ghost invariant = { λ w. length w.kept.now ≤ longest_line };
 }
 
 impl<'a> Word<'a> {
     ghost use Rattle.std.specs.Prelude.{◌≡◌, ◌≤◌, length};
+    ghost use Rattle.wind_base.specs.Limits.{longest_line};
 
     /// The bytes.
     pub(crate) fn bytes(&self) -> &[u8]
         ensures value { result.now ≡ self.now }
-        ensures within { length result.now ≤ 255 }
+        ensures within { length result.now ≤ longest_line }
     {
         self.kept
     }
