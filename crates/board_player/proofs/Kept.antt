@@ -6,7 +6,7 @@ use Rattle.std.proofs.lemmas.List.{length-take-le}
 use Rattle.std.proofs.lemmas.List.Elements.{All-take, All-append, All-cons}
 use Rattle.std.proofs.lemmas.List.Sums.{prefix_len-le-length}
 use Rattle.wind_base.specs.Lines.{line_length}
-use Rattle.shell_parse.specs.Grammar.{Reading, Statements, Refused}
+use Rattle.shell_parse.specs.Reading.{Reading, Statements, Refused}
 use Rattle.board_player.specs.State.{ConsoleState, ShellState}
 use Rattle.board_player.specs.Good.{are_lines, KeepsLines}
 use Rattle.board_player.specs.Console.{key_of, is_kept, has_room, ended_line, line_ended, line_done, after_key, done_by, after_byte, byte_done, front_line}

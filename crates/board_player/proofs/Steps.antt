@@ -14,8 +14,8 @@ use Rattle.wind_core.proofs.Ids.{ids-tick, since-tick}
 use Rattle.wind_core.proofs.Keeping.{every_call_keeps}
 use Rattle.wind_core.proofs.Ticking.{tick_keeps, tick_ahead}
 use Rattle.shell_parse.specs.Trees.{PlainStmt}
-use Rattle.shell_parse.specs.Grammar.{read_line}
-use Rattle.shell_eval.specs.Due.{PlainDue, Empty, Value, Made, Missing}
+use Rattle.shell_parse.specs.Reading.{read_line}
+use Rattle.shell_eval.specs.Due.{PlainDue, Empty, Value, Made, Missing, Unevaluated}
 use Rattle.board_player.specs.State.{ConsoleState, State}
 use Rattle.board_player.specs.Good.{KeepsLines, Good}
 use Rattle.board_player.specs.Feed.{chunk, after_chunk, brought}
@@ -96,12 +96,14 @@ eval_lines s g due = unread s.console.edited s.console.finished (eval_part due s
     other Empty = phase_after (rest_of s.shell.stmts)
     other (Value v) = phase_after (rest_of s.shell.stmts)
     other (Missing name) = λ e. cc
+    other Unevaluated = λ e. cc
     other (Made gate words) = λ e. cc
 
 pub eval_goes : (s : State) → Good s → (due : PlainDue) → Goes s.kern (eval_part due s.shell s.kern).kern (s.steps + 1) 0
 eval_goes s g Empty = still s g
 eval_goes s g (Value v) = still s g
 eval_goes s g (Missing name) = still s g
+eval_goes s g Unevaluated = still s g
 eval_goes s g (Made gate words) = goes-set_regs s.kern (s.steps + 1) g.kern (still s g).locks shell_id (call_regs gate words)
 
 pub eval_keeps : (s : State) → Good s → Good (eval_step s)

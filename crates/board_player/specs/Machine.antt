@@ -11,7 +11,7 @@ use Rattle.wind_core.specs.State.{KernState}
 use Rattle.wind_core.specs.Orders.{running}
 use Rattle.wind_core.specs.Moves.{release}
 use Rattle.wind_core.specs.Tick.{tick}
-use Rattle.shell_parse.specs.Grammar.{read_line}
+use Rattle.shell_parse.specs.Reading.{read_line}
 use Rattle.board_player.specs.State.{ConsoleState, ShellState, State}
 use Rattle.board_player.specs.Feed.{chunk, after_chunk, brought}
 use Rattle.board_player.specs.Console.{after_byte, byte_echo, byte_done, has_line, front_line, line_dropped}

@@ -3,9 +3,9 @@ use Rattle.std.specs.Prelude.{ℕ, List, [], ◌∷◌, Bool, true, false, if◌
 use Rattle.task_block.specs.declared.task.Task.{Task}
 use Rattle.wind_core.specs.State.{KernState}
 use Rattle.shell_parse.specs.Trees.{PlainStmt, Nothing}
-use Rattle.shell_parse.specs.Grammar.{Reading, Statements, Refused}
+use Rattle.shell_parse.specs.Reading.{Reading, Statements, Refused}
 use Rattle.shell_eval.specs.Filled.{filled_stmt}
-use Rattle.shell_eval.specs.Due.{PlainDue, Empty, Value, Made, Missing, due_of}
+use Rattle.shell_eval.specs.Due.{PlainDue, Empty, Value, Made, Missing, Unevaluated, due_of}
 use Rattle.board_player.specs.State.{ShellState}
 use Rattle.board_player.specs.Task.{shell_id, shell_task, listening, calling}
 use Rattle.board_player.specs.Calls.{landing, call, argument}
@@ -86,11 +86,12 @@ abbrev pub due_of_first : List PlainStmt → PlainDue
 due_of_first [] = Empty
 due_of_first (stmt ∷ stmts) = due_of stmt
 
--- it goes on with the first statement: to its end, whose value is written, to a callee that is none, or to a call
+-- it goes on with the first statement: to its end, whose value is written, to a callee that is none, or to a call; a line goes with a statement that isn't evaluated
 abbrev pub eval_part : PlainDue → ShellState → KernState → Part
 eval_part Empty shell kern = part_of (moved_on shell) kern []
 eval_part (Value v) shell kern = part_of (moved_on shell) kern (value_text v)
 eval_part (Missing name) shell kern = part_of at_prompt kern (undefined_text name)
+eval_part Unevaluated shell kern = part_of at_prompt kern []
 eval_part (Made gate words) shell kern = part_of (record shell { phase = phases.Call }) (calling kern gate words) []
 
 -- it is at the return of its call, or at a gate; at no other address it has a step

@@ -34,7 +34,8 @@ pub(crate) fn prompt(shell: &mut Shell, kern: &mut Kern, has_line: bool, out: &m
     }
 }
 
-/// The shell goes on with its first statement: to its end, to a callee that is none, or to a call.
+/// The shell goes on with its first statement: to its end, to a callee that is none, or to a call. The line
+/// goes where the statement isn't evaluated.
 pub(crate) fn evaluate(shell: &mut Shell, kern: &mut Kern, out: &mut OutBuf)
     requires live { Lives kern.old 1 }
     requires room { 300 ≤ out.old.room + length out.old.bytes }
@@ -52,6 +53,7 @@ pub(crate) fn evaluate(shell: &mut Shell, kern: &mut Kern, out: &mut OutBuf)
             add_undefined(out, name.bytes());
             shell.abort();
         }
+        Due::NotEvaluated => shell.abort(),
         Due::Call { gate, arguments } => {
             begin_call(kern, gate, arguments);
             shell.call();

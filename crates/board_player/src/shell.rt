@@ -3,7 +3,7 @@
 ghost use Rattle.std.specs.Prelude.{◌≡◌, ◌+◌, ◌≤◌, [], ◌++◌, OnOk, OnErr, map, drop, length};
 ghost use Rattle.wind_base.specs.OutBuf.{KeepsSpace};
 ghost use Rattle.wind_base.specs.Limits.{longest_line};
-ghost use Rattle.shell_parse.specs.Grammar.{read_line};
+ghost use Rattle.shell_parse.specs.Reading.{read_line};
 ghost use Rattle.shell_parse.specs.Trees.{plain_stmt};
 ghost use Rattle.shell_eval.specs.Due.{plain_due};
 ghost use Rattle.board_player.specs.declared.phase.Phase.TheVariants as phases;
@@ -33,7 +33,7 @@ impl Model for Shell {
     ghost Value = { ShellState };
 
     ghost use Rattle.std.specs.Coded.{codes};
-    ghost use Rattle.shell_parse.specs.Trees.{coded_stmt};
+    ghost use Rattle.shell_parse.specs.Codes.{coded_stmt};
 
     ghost coded = { Prim.hlevel (codes, coded_stmt) };
 

@@ -1,4 +1,5 @@
 pub mod Gates
+pub mod Evaluated
 pub mod Values
 pub mod Wanted
 pub mod Seen

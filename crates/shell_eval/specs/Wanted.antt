@@ -1,7 +1,8 @@
 -- The call that an expression goes on to.
-use Rattle.std.specs.Prelude.{ℕ, Bool, true, false, List, Option, Some, None}
+use Rattle.std.specs.Prelude.{ℕ, Bool, true, false, List, [], Option, Some, None}
 use Rattle.shell_parse.specs.Trees.{PlainTree, Number, Unary, Binary, Call, Arguments, End, Then}
 use Rattle.shell_eval.specs.Gates.{gate_of}
+use Rattle.shell_eval.specs.Evaluated.{name_of}
 use Rattle.shell_eval.specs.Values.{values_of, padded}
 
 -- nothing where no call is left; the due call's gate and its ten words; or the callee that is no built call
@@ -27,14 +28,28 @@ abbrev pub called : List ℕ → Option ℕ → Wanted → List ℕ → Wanted
 called callee None first values = Unknown callee
 called callee (Some gate) first values = or_then first (Calls gate (padded values))
 
+-- a call whose callee is a name; no other is evaluated
+abbrev pub called_by : Option (List ℕ) → Wanted → List ℕ → Wanted
+called_by None first values = Settled
+called_by (Some callee) first values = called callee (gate_of callee) first values
+
 -- what is wanted, from left to right, of an expression and of arguments
 abbrev mutual
   pub wanted : PlainTree → Wanted
   wanted (Number n) = Settled
   wanted (Unary op a) = wanted a
   wanted (Binary op a b) = or_then (wanted a) (wanted b)
-  wanted (Call callee arguments) = called callee (gate_of callee) (wanted_first arguments) (values_of arguments)
+  wanted (Call callee arguments) = called_by (name_of callee) (wanted_first arguments) (values_of arguments)
+  wanted _ = Settled
 
   pub wanted_first : Arguments → Wanted
   wanted_first End = Settled
   wanted_first (Then e es) = or_then (wanted e) (wanted_first es)
+
+-- what is wanted of an expression that is a statement: a name alone is a call without arguments
+abbrev pub lone_by : Option (List ℕ) → Wanted → Wanted
+lone_by (Some callee) wanted = called callee (gate_of callee) Settled []
+lone_by None wanted = wanted
+
+abbrev pub wanted_alone : PlainTree → Wanted
+wanted_alone t = lone_by (name_of t) (wanted t)

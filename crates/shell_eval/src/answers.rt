@@ -18,6 +18,8 @@ pub enum Due<'a> {
     },
     /// The callee is no call that is built.
     Unknown(&'a Name),
+    /// The statement isn't evaluated yet.
+    NotEvaluated,
 }
 
 /// What an expression goes on to.

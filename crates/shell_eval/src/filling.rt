@@ -2,8 +2,10 @@
 
 ghost use Rattle.std.specs.Prelude.{◌≡◌};
 ghost use Rattle.shell_parse.specs.Trees.{plain_tree, plain_arguments, plain_stmt};
-ghost use Rattle.shell_eval.specs.Filled.{filled, filled_first, filled_stmt, is_known as is_known_lem, settled_length as settled_length_lem};
+ghost use Rattle.shell_eval.specs.Evaluated.{name_of as name_of_lem};
+ghost use Rattle.shell_eval.specs.Filled.{filled, filled_first, filled_stmt, is_known as is_known_lem, is_known_name as is_known_name_lem, filled_if, settled_length as settled_length_lem};
 
+use crate::evaluated::{is_evaluated, name_of};
 use crate::gates::gate_of;
 use crate::wanted::{wanted, wanted_first};
 use shell_parse::{Stmt, Tree};
@@ -15,6 +17,16 @@ fn is_known(callee: &Name) -> bool
     ensures { result ≡ is_known_lem callee.now }
 {
     gate_of(callee.bytes()).is_some()
+}
+
+// Whether an expression is the name of a built call.
+fn is_known_name(tree: &Tree) -> bool
+    ensures { result ≡ is_known_name_lem (name_of_lem (plain_tree tree.now)) }
+{
+    match name_of(tree) {
+        Some(name) => is_known(name),
+        None => false,
+    }
 }
 
 // Fills in the due call of an expression.
@@ -31,7 +43,6 @@ fn filled_tree(tree: Tree, value: u32) -> Tree
     ensures { plain_tree result ≡ filled value (plain_tree tree) }
 {
     match tree {
-        Tree::Number(n) => Tree::Number(n),
         Tree::Unary(op, mut a) => {
             fill_tree(&mut a, value);
             Tree::Unary(op, a)
@@ -45,7 +56,7 @@ fn filled_tree(tree: Tree, value: u32) -> Tree
             Tree::Binary(op, a, b)
         }
         Tree::Call(callee, mut arguments) => {
-            if !is_known(&callee) {
+            if !is_known_name(&callee) {
                 return Tree::Call(callee, arguments);
             }
             if wanted_first(&arguments).is_settled() {
@@ -54,6 +65,7 @@ fn filled_tree(tree: Tree, value: u32) -> Tree
             fill_first(&mut arguments, value);
             Tree::Call(callee, arguments)
         }
+        other => other,
     }
 }
 
@@ -80,13 +92,19 @@ fn fill_first(arguments: &mut Vec<Tree>, value: u32)
     }
 }
 
-/// Puts the value of the call that is due in its place. Where none is due nothing changes.
-pub fn fill(stmt: &mut Stmt, value: u32)
-    ensures { plain_stmt stmt.new ≡ filled_stmt value (plain_stmt stmt.old) }
+// The same of a statement that is evaluated.
+fn fill_if(stmt: &mut Stmt, value: u32)
+    ensures { plain_stmt stmt.new ≡ filled_if value (plain_stmt stmt.old) }
 {
     match stmt {
-        Stmt::Nothing => {}
-        Stmt::Expr(tree) => fill_tree(tree, value),
+        Stmt::Nothing | Stmt::Ld(_) => {}
+        Stmt::Expr(tree) => {
+            if is_known_name(tree) {
+                *tree = Tree::Number(value);
+            } else {
+                fill_tree(tree, value);
+            }
+        }
         Stmt::Call(callee, arguments) => {
             if is_known(callee) {
                 if wanted_first(arguments).is_settled() {
@@ -96,5 +114,14 @@ pub fn fill(stmt: &mut Stmt, value: u32)
                 }
             }
         }
+    }
+}
+
+/// Puts the value of the call that is due in its place. Where none is due nothing changes.
+pub fn fill(stmt: &mut Stmt, value: u32)
+    ensures { plain_stmt stmt.new ≡ filled_stmt value (plain_stmt stmt.old) }
+{
+    if is_evaluated(stmt) {
+        fill_if(stmt, value);
     }
 }

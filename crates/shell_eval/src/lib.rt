@@ -3,6 +3,7 @@
 
 mod answers;
 mod evaluate;
+mod evaluated;
 mod filling;
 mod gates;
 mod laws;
@@ -13,6 +14,7 @@ mod wanted;
 
 pub use answers::Due;
 pub use evaluate::due;
+pub use evaluated::is_evaluated;
 pub use filling::fill;
 pub use gates::gate_of;
 pub use laws::evaluation_law;

@@ -14,6 +14,7 @@ enum Seen<'a> {
     Value(u32),
     Call(u32, [u32; 10]),
     Unknown(&'a [u8]),
+    NotEvaluated,
 }
 
 fn go_on(stmt: &Stmt) -> Seen<'_> {
@@ -22,6 +23,7 @@ fn go_on(stmt: &Stmt) -> Seen<'_> {
         Due::Value(value) => Seen::Value(value),
         Due::Call { gate, arguments } => Seen::Call(gate, arguments),
         Due::Unknown(callee) => Seen::Unknown(callee.bytes()),
+        Due::NotEvaluated => Seen::NotEvaluated,
     }
 }
 
@@ -46,6 +48,14 @@ fn name(alloc: Global, bytes: &[u8]) -> Result<Name, &'static str> {
     Name::new(alloc, bytes).or(Err("memory"))
 }
 
+fn named(alloc: Global, bytes: &[u8]) -> Made {
+    Ok(Tree::Name(name(alloc, bytes)?))
+}
+
+fn callee(alloc: Global, bytes: &[u8]) -> Result<Box<Tree>, &'static str> {
+    Box::new(alloc, named(alloc, bytes)?).or(Err("memory"))
+}
+
 fn list(alloc: Global, a: Made) -> Result<Vec<Tree>, &'static str> {
     let mut trees = Vec::new(alloc);
     trees.push(a?).or(Err("memory"))?;
@@ -53,17 +63,17 @@ fn list(alloc: Global, a: Made) -> Result<Vec<Tree>, &'static str> {
 }
 
 // A call without arguments, with one and with two.
-fn bare(alloc: Global, callee: &[u8]) -> Made {
-    Ok(Tree::Call(name(alloc, callee)?, Vec::new(alloc)))
+fn bare(alloc: Global, name: &[u8]) -> Made {
+    Ok(Tree::Call(callee(alloc, name)?, Vec::new(alloc)))
 }
 
-fn call(alloc: Global, callee: &[u8], a: Made) -> Made {
-    let callee = name(alloc, callee)?;
+fn call(alloc: Global, name: &[u8], a: Made) -> Made {
+    let callee = callee(alloc, name)?;
     Ok(Tree::Call(callee, list(alloc, a)?))
 }
 
-fn call_two(alloc: Global, callee: &[u8], a: Made, b: Made) -> Made {
-    let callee = name(alloc, callee)?;
+fn call_two(alloc: Global, name: &[u8], a: Made, b: Made) -> Made {
+    let callee = callee(alloc, name)?;
     let mut arguments = list(alloc, a)?;
     arguments.push(b?).or(Err("memory"))?;
     Ok(Tree::Call(callee, arguments))
@@ -153,15 +163,33 @@ fn an_unknown_callee_before_its_arguments(rt: HostRuntime) -> Result<(), Fail> {
     Ok(())
 }
 
-// taskDelay 1+1, and taskSpawn
+// taskDelay 1+1, taskSpawn, and tickGet
 #[test]
 fn commands(rt: HostRuntime) -> Result<(), Fail> {
     let alloc = rt.alloc();
     let arguments = list(alloc, two(alloc, BinOp::Plus, number(1), number(1)))?;
     let stmt = Stmt::Call(name(alloc, b"taskDelay")?, arguments);
     plays(&rt, stmt, &[(with(10, 2, 0), 0), (Seen::Value(0), 7)]);
-    let stmt = Stmt::Call(name(alloc, b"taskSpawn")?, Vec::new(alloc));
+    let stmt = Stmt::Expr(named(alloc, b"taskSpawn")?);
     plays(&rt, stmt, &[(Seen::Unknown(b"taskSpawn"), 7)]);
+    let stmt = Stmt::Expr(named(alloc, b"tickGet")?);
+    plays(&rt, stmt, &[(with(19, 0, 0), 9), (Seen::Value(9), 7)]);
+    Ok(())
+}
+
+// 2*3, tickGet()*2, tickGet+1, and (tickGet())()
+#[test]
+fn what_is_not_evaluated(rt: HostRuntime) -> Result<(), Fail> {
+    let alloc = rt.alloc();
+    let tree = two(alloc, BinOp::Times, number(2), number(3))?;
+    plays(&rt, Stmt::Expr(tree), &[(Seen::NotEvaluated, 7)]);
+    let tree = two(alloc, BinOp::Times, bare(alloc, b"tickGet"), number(2))?;
+    let never = (Seen::NotEvaluated, 7);
+    plays(&rt, Stmt::Expr(tree), &[never, never]);
+    let tree = two(alloc, BinOp::Plus, named(alloc, b"tickGet"), number(1))?;
+    plays(&rt, Stmt::Expr(tree), &[never]);
+    let inner = Box::new(alloc, bare(alloc, b"tickGet")?).or(Err("memory"))?;
+    plays(&rt, Stmt::Expr(Tree::Call(inner, Vec::new(alloc))), &[never]);
     Ok(())
 }
 

@@ -7,26 +7,28 @@ ghost use Rattle.shell_eval.specs.Values.{apply as apply_lem, negated as negated
 use shell_parse::{BinOp, Tree, UnOp};
 use std::array;
 
-// The value of an operator between two words.
+// The value of an operator between two words; one that isn't evaluated counts as 0.
 fn apply(op: BinOp, a: u32, b: u32) -> u32
     ensures { result ≡ apply_lem op a b }
 {
     match op {
         BinOp::Plus => a.wrapping_add(b),
         BinOp::Minus => a.wrapping_sub(b),
+        _ => 0,
     }
 }
 
-// The value of an operator before a word.
+// The value of an operator before a word; one that isn't evaluated counts as 0.
 fn negated(op: UnOp, a: u32) -> u32
     ensures { result ≡ negated_lem op a }
 {
     match op {
         UnOp::Neg => a.wrapping_neg(),
+        _ => 0,
     }
 }
 
-// The value of an expression; a call counts as 0.
+// The value of an expression; a call counts as 0, and so does what isn't evaluated.
 pub(crate) fn value(tree: &Tree) -> u32
     ensures { result ≡ value_of (plain_tree tree.now) }
 {
@@ -34,7 +36,7 @@ pub(crate) fn value(tree: &Tree) -> u32
         Tree::Number(n) => *n,
         Tree::Unary(op, a) => negated(*op, value(a)),
         Tree::Binary(op, a, b) => apply(*op, value(a), value(b)),
-        Tree::Call(_, _) => 0,
+        _ => 0,
     }
 }
 

@@ -4,10 +4,11 @@ ghost use Rattle.std.specs.Prelude.{◌≡◌};
 ghost use Rattle.shell_parse.specs.Trees.{plain_tree, plain_arguments};
 ghost use Rattle.shell_eval.specs.Gates.{gate_of as gate_of_lem};
 ghost use Rattle.shell_eval.specs.Values.{values_of};
-ghost use Rattle.shell_eval.specs.Wanted.{wanted as wanted_lem, wanted_first as wanted_first_lem, called as called_lem};
+ghost use Rattle.shell_eval.specs.Wanted.{wanted as wanted_lem, wanted_first as wanted_first_lem, called as called_lem, wanted_alone as wanted_alone_lem};
 ghost use Rattle.shell_eval.specs.Seen.{plain_wanted};
 
 use crate::answers::Wanted;
+use crate::evaluated::name_of;
 use crate::gates::gate_of;
 use crate::value::words;
 use shell_parse::Tree;
@@ -25,7 +26,11 @@ pub(crate) fn wanted(tree: &Tree) -> Wanted<'_>
             Wanted::Settled => wanted(b),
             first => first,
         },
-        Tree::Call(callee, arguments) => called(callee, arguments),
+        Tree::Call(callee, arguments) => match name_of(callee) {
+            Some(name) => called(name, arguments),
+            None => Wanted::Settled,
+        },
+        _ => Wanted::Settled,
     }
 }
 
@@ -54,5 +59,15 @@ pub(crate) fn called<'a>(callee: &'a Name, arguments: &'a [Tree]) -> Wanted<'a>
     match wanted_first(arguments) {
         Wanted::Settled => Wanted::Calls(gate, words(arguments)),
         first => first,
+    }
+}
+
+/// What is wanted of an expression that is a statement: a name alone is a call without arguments.
+pub(crate) fn wanted_alone(tree: &Tree) -> Wanted<'_>
+    ensures { plain_wanted result ≡ wanted_alone_lem (plain_tree tree.now) }
+{
+    match name_of(tree) {
+        Some(name) => called(name, &[]),
+        None => wanted(tree),
     }
 }

@@ -1,6 +1,11 @@
+pub mod Chains
 pub mod Complete
+pub mod Digits
+pub mod Fits
+pub mod Follow
 pub mod Laws
 pub mod Lexing
+pub mod Lines
 pub mod Next
 pub mod Refusal
 pub mod Sound

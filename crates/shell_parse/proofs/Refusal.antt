@@ -5,11 +5,12 @@ use Rattle.shell_parse.specs.declared.token.Token.{Token}
 use Rattle.shell_parse.specs.declared.allowed.Mode.{Mode}
 use Rattle.shell_parse.specs.declared.allowed.Mode.TheVariants.{Start}
 use Rattle.shell_parse.specs.declared.frames.Frame.{Frame}
-use Rattle.shell_parse.specs.Grammar.{MayCome, IsRefusedAt}
+use Rattle.shell_parse.specs.Reading.{MayCome, IsRefusedAt}
 use Rattle.shell_parse.specs.Descent.{stmts_of}
 use Rattle.shell_parse.specs.Allowed.{Place, step, begun_after, begun_from, begun}
-use Rattle.shell_parse.proofs.Next.{Lang, LangOf, word, completes, back, forth, may_end, ends, ends_back}
-use Rattle.shell_parse.proofs.Complete.{stmts_complete}
+use Rattle.shell_parse.proofs.Follow.{Lang, LangOf, word, completes, may_end, ends_there, ends_back}
+use Rattle.shell_parse.proofs.Next.{back, forth}
+use Rattle.shell_parse.proofs.Lines.{stmts_complete}
 
 -- these tokens, and then what may follow
 abbrev pub GoesOn : Mode → List Frame → List Token → Option Token → Type 0
@@ -27,7 +28,7 @@ Outcome mode fs ts i = Lang mode fs ts ⊎ Stops mode fs ts i
 
 at_end : (mode : Mode) (fs : List Frame) (b : Bool) → may_end mode fs ≡ b → Outcome mode fs [] 0
 at_end mode fs true h = inl (ends_back mode fs h)
-at_end mode fs false h = inr (record { begins = (word mode fs, completes mode fs); refused = λ l. let e : may_end mode fs ≡ true = ends mode fs l in cc })
+at_end mode fs false h = inr (record { begins = (word mode fs, completes mode fs); refused = λ l. let e : may_end mode fs ≡ true = ends_there mode fs l in cc })
 
 onward : (mode : Mode) (fs : List Frame) (t : Token) (p : Place) → step mode fs t ≡ Some p → (us : List Token) → Lang p.mode p.frames us → Lang mode fs (t ∷ us)
 onward mode fs t p e us h = back mode fs t us (subst (λ o. LangOf o us) (sym e) h)

@@ -1,89 +1,90 @@
--- The grammar of a line, over its tokens. This is the project's own narrowing of the shell's language, as the shell chapter of the
+-- The grammar of a line, over its tokens: the project's own narrowing of the shell's language, as the shell chapter of the
 -- VxWorks 5.4 Programmer's Guide has it. `Unary ts e rest` says that the operand e stands at the front of ts, and rest is behind it.
-use Rattle.std.specs.Prelude.{ℕ, suc, ◌+◌, Bool, true, false, IsTrue, List, [], ◌∷◌, ◌++◌, Option, Some, None, unwrap_or, slice_get, take, length}
+use Rattle.std.specs.Prelude.{◌≡◌, ℕ, zero, suc, Bool, true, false, IsTrue, List, [], ◌∷◌, Option, bytes_eq, codes}
 use Rattle.shell_parse.specs.declared.tree.BinOp.{BinOp}
-use Rattle.shell_parse.specs.declared.tree.BinOp.TheVariants.{Minus}
-use Rattle.shell_parse.specs.declared.tree.UnOp.TheVariants.{Neg}
+use Rattle.shell_parse.specs.declared.tree.BinOp.TheVariants.{Minus, Times, And}
+use Rattle.shell_parse.specs.declared.tree.UnOp.TheVariants as before
 use Rattle.shell_parse.specs.declared.token.Token.{Token}
-use Rattle.shell_parse.specs.declared.token.Token.TheVariants.{Number, Name, Operator, Open, Close, Comma, Semi}
-use Rattle.shell_parse.specs.Tokens.{Placed, tokens_of, bare, columns}
-use Rattle.shell_parse.specs.Trees.{PlainTree, Arguments, End, Then, PlainStmt, Nothing, Command, Expr}
+use Rattle.shell_parse.specs.declared.token.Token.TheVariants.{Number, Str, Name, Operator, Set, Not, Com, Open, Close, Comma, Semi, Redirect, File}
+use Rattle.shell_parse.specs.Levels.{level_of, levels}
+use Rattle.shell_parse.specs.Trees.{PlainTree, Arguments, End, Then, PlainStmt, Nothing, Load, Command, Expr}
 use Rattle.shell_parse.specs.Trees as trees
-use Rattle.shell_parse.specs.Descent.{stmts_of}
-use Rattle.shell_parse.specs.Allowed.{begun}
+
+-- how many arguments a call has at most
+abbrev pub most_arguments : ℕ
+most_arguments = 10
 
 mutual
-  -- operands with operators between
-  pub data Sum : List Token → PlainTree → List Token → Type 0 where
-    sum : {ts mid rest : List Token} {a e : PlainTree} → Unary ts a mid → More a mid e rest → Sum ts e rest
+  -- an expression: operands with operators between, or an assignment, whose left side is a name, or a star and an operand
+  pub data Expression : List Token → PlainTree → List Token → Type 0 where
+    plain : {ts rest : List Token} {e : PlainTree} → Level levels ts e rest → Expression ts e rest
+    set_name : {x : List ℕ} {op : Option BinOp} {ts rest : List Token} {e : PlainTree} → Expression ts e rest
+        → Expression (Name x ∷ Set op ∷ ts) (trees.SetName op x e) rest
+    set_word : {op : Option BinOp} {ts mid rest : List Token} {a e : PlainTree} → Unary ts a (Set op ∷ mid) → Expression mid e rest
+        → Expression (Operator Times ∷ ts) (trees.SetWord op a e) rest
 
-  -- e is a, and what operators and operands follow it, from left to right
-  pub data More : PlainTree → List Token → PlainTree → List Token → Type 0 where
-    stop : {a : PlainTree} {ts : List Token} → More a ts a ts
-    operator : {op : BinOp} {a b e : PlainTree} {ts mid rest : List Token} → Unary ts b mid → More (trees.Binary op a b) mid e rest → More a (Operator op ∷ ts) e rest
+  -- operands with operators of the tightest n levels between
+  pub data Level : ℕ → List Token → PlainTree → List Token → Type 0 where
+    operand : {ts rest : List Token} {e : PlainTree} → Unary ts e rest → Level zero ts e rest
+    level : {n : ℕ} {ts mid rest : List Token} {a e : PlainTree} → Level n ts a mid → More n a mid e rest → Level (suc n) ts e rest
 
-  -- an operand: a minus before another, a number, or a call with parentheses
+  -- e is a, and what operators of level n and their right sides follow it, from left to right
+  pub data More : ℕ → PlainTree → List Token → PlainTree → List Token → Type 0 where
+    stop : {n : ℕ} {a : PlainTree} {ts : List Token} → More n a ts a ts
+    operator : {n : ℕ} {op : BinOp} {a b e : PlainTree} {ts mid rest : List Token} → level_of op ≡ n → Level n ts b mid
+        → More n (trees.Binary op a b) mid e rest → More n a (Operator op ∷ ts) e rest
+
+  -- an operand: an operator before another, the address of a name, a literal, or a callee and the calls behind it
   pub data Unary : List Token → PlainTree → List Token → Type 0 where
-    negated : {ts rest : List Token} {e : PlainTree} → Unary ts e rest → Unary (Operator Minus ∷ ts) (trees.Unary Neg e) rest
+    negated : {ts rest : List Token} {e : PlainTree} → Unary ts e rest → Unary (Operator Minus ∷ ts) (trees.Unary before.Neg e) rest
+    inverted : {ts rest : List Token} {e : PlainTree} → Unary ts e rest → Unary (Not ∷ ts) (trees.Unary before.Not e) rest
+    complement : {ts rest : List Token} {e : PlainTree} → Unary ts e rest → Unary (Com ∷ ts) (trees.Unary before.Com e) rest
+    word : {ts rest : List Token} {e : PlainTree} → Unary ts e rest → Unary (Operator Times ∷ ts) (trees.Word e) rest
+    address : {x : List ℕ} {rest : List Token} → Unary (Operator And ∷ Name x ∷ rest) (trees.Address x) rest
     number : {n : ℕ} {rest : List Token} → Unary (Number n ∷ rest) (trees.Number n) rest
-    call : {callee : List ℕ} {es : Arguments} {ts rest : List Token} → Args ts es (Close ∷ rest) → Unary (Name callee ∷ Open ∷ ts) (trees.Call callee es) rest
+    string : {text : List ℕ} {rest : List Token} → Unary (Str text ∷ rest) (trees.Str text) rest
+    name : {x : List ℕ} {ts rest : List Token} {e : PlainTree} → Calls (trees.Name x) ts e rest → Unary (Name x ∷ ts) e rest
+    group : {ts mid rest : List Token} {callee e : PlainTree} → Expression ts callee (Close ∷ mid) → Calls callee mid e rest → Unary (Open ∷ ts) e rest
 
-  -- the arguments between parentheses: none, or at most ten
+  -- e is the callee, and what calls follow it, each of which calls what stands before it
+  pub data Calls : PlainTree → List Token → PlainTree → List Token → Type 0 where
+    no_call : {callee : PlainTree} {ts : List Token} → Calls callee ts callee ts
+    call : {callee e : PlainTree} {es : Arguments} {ts mid rest : List Token} → Args ts es (Close ∷ mid) → Calls (trees.Call callee es) mid e rest
+        → Calls callee (Open ∷ ts) e rest
+
+  -- the arguments between parentheses: none, or some
   pub data Args : List Token → Arguments → List Token → Type 0 where
     none : {ts : List Token} → Args ts End ts
-    some : {ts rest : List Token} {es : Arguments} → Listed 10 ts es rest → Args ts es rest
+    some : {ts rest : List Token} {es : Arguments} → Listed most_arguments ts es rest → Args ts es rest
 
   -- one argument or several, at most so many, with commas between
   pub data Listed : ℕ → List Token → Arguments → List Token → Type 0 where
-    one : {n : ℕ} {ts rest : List Token} {e : PlainTree} → Sum ts e rest → Listed (suc n) ts (Then e End) rest
-    next : {n : ℕ} {ts mid rest : List Token} {e : PlainTree} {es : Arguments} → Sum ts e (Comma ∷ mid) → Listed n mid es rest → Listed (suc n) ts (Then e es) rest
+    one : {n : ℕ} {ts rest : List Token} {e : PlainTree} → Expression ts e rest → Listed (suc n) ts (Then e End) rest
+    next : {n : ℕ} {ts mid rest : List Token} {e : PlainTree} {es : Arguments} → Expression ts e (Comma ∷ mid) → Listed n mid es rest
+        → Listed (suc n) ts (Then e es) rest
 
 -- whether a name before these tokens, where a statement begins, is called without parentheses
 abbrev pub begins_argument : List Token → Bool
 begins_argument (Number n ∷ ts) = true
+begins_argument (Str text ∷ ts) = true
 begins_argument (Name x ∷ ts) = true
+begins_argument (Not ∷ ts) = true
+begins_argument (Com ∷ ts) = true
 begins_argument _ = false
 
--- a statement: nothing, a name alone, a name and at most ten arguments, or an expression
+-- whether a name is that of the statement which loads a file
+abbrev pub is_ld : List ℕ → Bool
+is_ld x = bytes_eq x (codes "ld")
+
+-- a statement: nothing, the load of a file, a name and its arguments, or an expression
 pub data IsStmt : List Token → PlainStmt → List Token → Type 0 where
   nothing : {ts : List Token} → IsStmt ts Nothing ts
-  alone : {callee : List ℕ} {rest : List Token} → IsStmt (Name callee ∷ rest) (Command callee End) rest
-  command : {callee : List ℕ} {es : Arguments} {ts rest : List Token} → IsTrue (begins_argument ts) → Listed 10 ts es rest → IsStmt (Name callee ∷ ts) (Command callee es) rest
-  value : {e : PlainTree} {ts rest : List Token} → Sum ts e rest → IsStmt ts (Expr e) rest
+  load : {x file : List ℕ} {rest : List Token} → IsTrue (is_ld x) → IsStmt (Name x ∷ Redirect ∷ File file ∷ rest) (Load file) rest
+  command : {callee : List ℕ} {es : Arguments} {ts rest : List Token} → IsTrue (begins_argument ts) → Listed most_arguments ts es rest
+      → IsStmt (Name callee ∷ ts) (Command callee es) rest
+  value : {e : PlainTree} {ts rest : List Token} → Expression ts e rest → IsStmt ts (Expr e) rest
 
 -- the line of these tokens has these statements
 pub data IsLine : List Token → List PlainStmt → Type 0 where
   last : {ts : List Token} {s : PlainStmt} → IsStmt ts s [] → IsLine ts (s ∷ [])
   followed : {ts mid : List Token} {s : PlainStmt} {ss : List PlainStmt} → IsStmt ts s (Semi ∷ mid) → IsLine mid ss → IsLine ts (s ∷ ss)
-
--- some line begins with these tokens
-abbrev pub Begins : List Token → Type 0
-Begins front = (more : List Token) × ((ss : List PlainStmt) × IsLine (front ++ more) ss)
-
--- some line goes on behind these with this token; the end, which is none, goes on where they are a line
-abbrev pub MayCome : List Token → Option Token → Type 0
-MayCome front (Some t) = (more : List Token) × ((ss : List PlainStmt) × IsLine (front ++ t ∷ more) ss)
-MayCome front None = (ss : List PlainStmt) × IsLine front ss
-
--- token number k is the first that no line goes on with
-pub record IsRefusedAt (ts : List Token) (k : ℕ) : Type 0 where
-  pub begins : Begins (take k ts)
-  pub refused : MayCome (take k ts) (slice_get ts k) → ⊥
-
--- the column of token number k of a line, counted from 0; the end of the line counts as a token
-abbrev pub column_of : List ℕ → List Placed → ℕ → ℕ
-column_of line tokens k = unwrap_or (slice_get (columns tokens) k) (length line + 1)
-
--- a reading: the statements of a line, or the column of the first token that is refused
-pub data Reading : Type 0 where
-  Statements : List PlainStmt → Reading
-  Refused : ℕ → Reading
-
--- the statements that are read, or else the column of the refused token
-abbrev pub reading_of : Option (List PlainStmt) → ℕ → Reading
-reading_of (Some stmts) column = Statements stmts
-reading_of None column = Refused column
-
--- what reading a line gives
-unfoldable pub read_line : List ℕ → Reading
-read_line line = reading_of (stmts_of (bare (tokens_of line))) (column_of line (tokens_of line) (begun (bare (tokens_of line))))

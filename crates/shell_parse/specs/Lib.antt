@@ -1,8 +1,14 @@
 pub mod Allowed
+pub mod Ascii
+pub mod Codes
 pub mod Descent
 pub mod Gives
 pub mod Grammar
+pub mod Levels
+pub mod Literals
 pub mod Parsed
+pub mod Reading
+pub mod Signs
 pub mod Stack
 pub mod Steps
 pub mod Tokens

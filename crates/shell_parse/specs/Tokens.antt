@@ -1,76 +1,81 @@
--- The tokens of a line. This is the project's own narrowing of the shell's lexical rules.
-use Rattle.std.specs.Prelude.{ℕ, zero, suc, ◌+◌, List, [], ◌∷◌, Option, Some, None, Bool, false, ◌==◌, ◌||◌, if◌then◌else◌, take, map}
-use Rattle.std.specs.Char.{is_ascii_alphanumeric, is_ascii_digit}
+-- The tokens of a line: the project's own rules of spelling for the shell's language.
+use Rattle.std.specs.Prelude.{ℕ, zero, suc, ◌+◌, List, [], ◌∷◌, Option, Some, None, ◌==◌, if◌then◌else◌, take, map, bytes_eq, codes}
+use Rattle.std.specs.Char.{is_ascii_digit}
 use Rattle.std.specs.List.{prefix_len}
-use Rattle.wind_base.specs.Decimal.{decimal_value}
-use Rattle.shell_parse.specs.declared.tree.BinOp.{BinOp}
-use Rattle.shell_parse.specs.declared.tree.BinOp.TheVariants.{Plus, Minus}
+use Prim.Native.Char.{code}
+use Rattle.shell_parse.specs.declared.tree.BinOp.TheVariants.{Lt}
 use Rattle.shell_parse.specs.declared.token.Token.{Token}
-use Rattle.shell_parse.specs.declared.token.Token.TheVariants.{Number, Name, Operator, Open, Close, Comma, Semi, Unknown}
+use Rattle.shell_parse.specs.declared.token.Token.TheVariants.{Number, Name, Operator, Semi, Redirect, File, Unknown}
+use Rattle.shell_parse.specs.declared.token.Spot.{Spot}
+use Rattle.shell_parse.specs.declared.token.Spot.TheVariants.{AtStart, BehindLd, AtFile, Within}
+use Rattle.shell_parse.specs.Ascii.{is_blank, is_word_byte, is_file_byte}
+use Rattle.shell_parse.specs.Literals.{number_of, character_at, string_at}
+use Rattle.shell_parse.specs.Signs.{sign_at}
 
--- a space or a tab
-abbrev pub is_blank : ℕ → Bool
-is_blank b = b == 32 || b == 9
-
--- a letter, a digit or an underscore: a byte of a word
-abbrev pub is_word_byte : ℕ → Bool
-is_word_byte b = is_ascii_alphanumeric b || b == 95
-
--- a zero before a further byte
-abbrev pub has_leading_zero : List ℕ → Bool
-has_leading_zero (b ∷ c ∷ bs) = b == 48
-has_leading_zero _ = false
-
--- the number that a word writes, if it is one of 32 bits without a leading zero
-abbrev pub word_value : List ℕ → Option ℕ
-word_value word = if has_leading_zero word then None else decimal_value 0xffffffff word
-
--- the token of a word that begins with a digit: its number, if it writes one
+-- the token of a number, if there is one
 abbrev pub number_token : Option ℕ → Token
 number_token (Some n) = Number n
 number_token None = Unknown
 
--- the token of a word with this first byte: a number or a name
+-- a word is a number where its first byte is a digit, else a name
 abbrev pub word_token : ℕ → List ℕ → Token
-word_token first word = if is_ascii_digit first then number_token (word_value word) else Name word
+word_token b word = if is_ascii_digit b then number_token (number_of word) else Name word
 
--- an operator of the byte b, unless the byte or a `=` follows: `++`, `--`, `+=` and `-=` are other tokens
-abbrev pub operator_token : ℕ → BinOp → List ℕ → Token
-operator_token b op [] = Operator op
-operator_token b op (c ∷ cs) = if c == b || c == 61 then Unknown else Operator op
+-- the byte b and those behind it as far as they may stand in a word
+abbrev pub word_at : ℕ → List ℕ → Token × ℕ
+word_at b bs = (word_token b (b ∷ take (prefix_len is_word_byte bs) bs), prefix_len is_word_byte bs)
 
--- the token of a byte that stands for itself
-abbrev pub mark_token : ℕ → Token
-mark_token b = if b == 40 then Open else (if b == 41 then Close else (if b == 44 then Comma else (if b == 59 then Semi else Unknown)))
+-- the byte b and those behind it up to a blank or a semicolon: a file; a semicolon is no file
+abbrev pub file_at : ℕ → List ℕ → Token × ℕ
+file_at b bs = if b == code ";" then (Semi, 0) else (File (b ∷ take (prefix_len is_file_byte bs) bs), prefix_len is_file_byte bs)
 
--- the token that begins with a byte b that is in no word
-abbrev pub other_token : ℕ → List ℕ → Token
-other_token b bs = if b == 43 then operator_token b Plus bs else (if b == 45 then operator_token b Minus bs else mark_token b)
+-- a token that begins with the byte b, which is no blank, before the bytes bs, and how many of these belong to it
+abbrev pub any_at : ℕ → List ℕ → Token × ℕ
+any_at b bs =
+    if is_word_byte b then word_at b bs
+    else (if b == code "'" then character_at bs
+    else (if b == code "\"" then string_at bs
+    else sign_at b bs))
 
--- the token that begins with the byte b, which is no blank, before the bytes bs
-abbrev pub token_at : ℕ → List ℕ → Token
-token_at b bs = if is_word_byte b then word_token b (take (prefix_len is_word_byte (b ∷ bs)) (b ∷ bs)) else other_token b bs
+-- behind `ld`, `<` is no comparison
+abbrev pub redirected : Token → Token
+redirected (Operator Lt) = Redirect
+redirected t = t
 
--- how many of the bytes bs belong to that token, beside b
-abbrev pub token_rest : ℕ → List ℕ → ℕ
-token_rest b bs = if is_word_byte b then prefix_len is_word_byte bs else 0
+-- the token at this spot that begins with the byte b, and how many of the bytes bs belong to it
+unfoldable pub token_at : Spot → ℕ → List ℕ → Token × ℕ
+token_at AtStart b bs = any_at b bs
+token_at BehindLd b bs = (redirected (any_at b bs).0, (any_at b bs).1)
+token_at AtFile b bs = file_at b bs
+token_at Within b bs = any_at b bs
+
+-- the spot behind a name that begins a statement
+abbrev pub behind_name : List ℕ → Spot
+behind_name name = if bytes_eq name (codes "ld") then BehindLd else Within
+
+-- the spot behind a token
+abbrev pub spot_after : Spot → Token → Spot
+spot_after spot Semi = AtStart
+spot_after AtStart (Name x) = behind_name x
+spot_after BehindLd Redirect = AtFile
+spot_after spot t = Within
 
 -- a token with the column of its first byte, counted from 1
 pub record Placed : Type 0 where
   pub token : Token
   pub column : ℕ
 
--- the tokens of these bytes, of which the first stands at this column, and the first `passed` belong to the token before
-abbrev pub tokens_from : ℕ → ℕ → List ℕ → List Placed
-tokens_from column passed [] = []
-tokens_from column (suc passed) (b ∷ bs) = tokens_from (column + 1) passed bs
-tokens_from column zero (b ∷ bs) = if is_blank b
-    then tokens_from (column + 1) 0 bs
-    else record { token = token_at b bs; column = column } ∷ tokens_from (column + 1) (token_rest b bs) bs
+-- the tokens of these bytes, of which the first stands at this spot and column, and the first `passed` belong to the token before
+abbrev pub tokens_from : Spot → ℕ → ℕ → List ℕ → List Placed
+tokens_from spot column passed [] = []
+tokens_from spot column (suc passed) (b ∷ bs) = tokens_from spot (column + 1) passed bs
+tokens_from spot column zero (b ∷ bs) = if is_blank b
+    then tokens_from spot (column + 1) 0 bs
+    else record { token = (token_at spot b bs).0; column = column } ∷ tokens_from (spot_after spot (token_at spot b bs).0) (column + 1) (token_at spot b bs).1 bs
 
 -- the tokens of a line, each with the column of its first byte, counted from 1
 unfoldable pub tokens_of : List ℕ → List Placed
-tokens_of line = tokens_from 1 0 line
+tokens_of line = tokens_from AtStart 1 0 line
 
 -- the tokens without their columns
 abbrev pub bare : List Placed → List Token

@@ -1,10 +1,11 @@
 //! Which token may come next.
 
 ghost use Rattle.std.specs.Prelude.{◌≡◌, IfOk};
-ghost use Rattle.shell_parse.specs.Allowed.{begun, on_operand, on_callee, on_close, on_comma, on_semi, on_done, on_opened, on_named, on_start, step};
+ghost use Rattle.shell_parse.specs.Allowed.{begun, on_operand, on_whole, on_target, on_close, on_comma, on_semi, on_done, on_callee, on_variable, on_opened, on_named, on_start, on_file, on_loaded, step};
 ghost use Rattle.shell_parse.specs.Steps.{Steps};
 
 use crate::frames::{Frame, Frames};
+use crate::statement::is_ld;
 use crate::token::Token;
 use crate::tree::BinOp;
 use std::alloc::{AllocError, Global};
@@ -12,79 +13,104 @@ use std::alloc::{AllocError, Global};
 // The most arguments behind the first one of a call.
 const MORE_ARGUMENTS: u32 = 9;
 
-/// Where in a line a token may come.
+/// Where in a line a token may come. The mark of an operand says that an assignment may come behind it.
 #[derive(Clone, Copy, Debug, PartialEq, Eq)]
 pub(crate) enum Mode {
     /// Where a statement begins.
     Start,
-    /// Behind the name that begins a statement.
-    Named,
+    /// Behind the name that begins a statement; whether it is `ld`.
+    Named(bool),
+    /// Where an expression has to come.
+    Whole,
+    /// Behind a name that begins an expression.
+    Variable,
     /// Where an operand has to come.
-    Want,
-    /// Behind the name that begins an operand.
-    Callee,
+    Want(bool),
+    /// Behind the `&` before a name.
+    Target(bool),
+    /// Behind an operand that is no callee.
+    Done(bool),
+    /// Behind a callee.
+    Callee(bool),
     /// Behind the opening parenthesis of a call.
     Opened,
-    /// Behind an operand.
-    Done,
+    /// Behind `ld <`.
+    AtFile,
+    /// Behind the file of a load.
+    Loaded,
 }
 
 // Each of these functions takes the token that comes, and answers the mode behind it; None where the
 // token is not allowed.
 
 // Where an operand has to come.
-fn operand(frames: &Frames, token: &Token) -> Option<Mode>
-    ensures { Steps result frames.now (on_operand frames.now token.now) }
+fn operand(mark: bool, frames: &mut Frames, token: &Token) -> Result<Option<Mode>, AllocError>
+    ensures { IfOk result (λ m. Steps m frames.new (on_operand mark frames.old token.now)) }
 {
     match token {
-        Token::Number(_) => Some(Mode::Done),
-        Token::Name(_) => Some(Mode::Callee),
-        Token::Operator(BinOp::Minus) => Some(Mode::Want),
-        _ => None,
-    }
-}
-
-// Behind the name that begins an operand.
-fn callee(frames: &mut Frames, token: &Token) -> Result<Option<Mode>, AllocError>
-    ensures { IfOk result (λ m. Steps m frames.new (on_callee frames.old token.now)) }
-{
-    match token {
+        Token::Number(_) | Token::Str(_) => Ok(Some(Mode::Done(mark))),
+        Token::Name(_) => Ok(Some(Mode::Callee(mark))),
+        Token::Operator(BinOp::Minus | BinOp::Times) | Token::Not | Token::Com => {
+            Ok(Some(Mode::Want(mark)))
+        }
+        Token::Operator(BinOp::And) => Ok(Some(Mode::Target(mark))),
         Token::Open => {
-            frames.push(Frame::InCall(MORE_ARGUMENTS))?;
-            Ok(Some(Mode::Opened))
+            frames.push(Frame::InGroup(mark))?;
+            Ok(Some(Mode::Whole))
         }
         _ => Ok(None),
     }
 }
 
-// A closing parenthesis behind an operand.
+// Where an expression has to come.
+fn whole(frames: &mut Frames, token: &Token) -> Result<Option<Mode>, AllocError>
+    ensures { IfOk result (λ m. Steps m frames.new (on_whole frames.old token.now)) }
+{
+    match token {
+        Token::Name(_) => Ok(Some(Mode::Variable)),
+        Token::Operator(BinOp::Times) => Ok(Some(Mode::Want(true))),
+        _ => operand(false, frames, token),
+    }
+}
+
+// Behind the `&` before a name.
+fn target(mark: bool, frames: &Frames, token: &Token) -> Option<Mode>
+    ensures { Steps result frames.now (on_target mark frames.now token.now) }
+{
+    match token {
+        Token::Name(_) => Some(Mode::Done(mark)),
+        _ => None,
+    }
+}
+
+// A closing parenthesis behind an expression.
 fn close(frames: &mut Frames) -> Option<Mode>
     ensures { Steps result frames.new (on_close frames.old) }
 {
     match frames.top() {
-        Some(Frame::InCall(_)) => {
+        Some(Frame::InGroup(mark)) | Some(Frame::InCall(_, mark)) => {
             frames.pop();
-            Some(Mode::Done)
+            Some(Mode::Callee(mark))
         }
         _ => None,
     }
 }
 
-// A comma behind an operand.
+// A comma behind an expression.
 fn comma(frames: &mut Frames) -> Result<Option<Mode>, AllocError>
     ensures { IfOk result (λ m. Steps m frames.new (on_comma frames.old)) }
 {
     let next = match frames.top() {
-        Some(Frame::InCall(left)) if left > 0 => Frame::InCall(left - 1),
+        Some(Frame::InCall(left, mark)) if left > 0 => Frame::InCall(left - 1, mark),
         Some(Frame::InCommand(left)) if left > 0 => Frame::InCommand(left - 1),
         _ => return Ok(None),
     };
     frames.pop();
     frames.push(next)?;
-    Ok(Some(Mode::Want))
+    Ok(Some(Mode::Whole))
 }
 
-// A semicolon behind an operand.
+// A semicolon behind an expression.
 fn semi(frames: &mut Frames) -> Option<Mode>
     ensures { Steps result frames.new (on_semi frames.old) }
 {
@@ -98,12 +124,13 @@ fn semi(frames: &mut Frames) -> Option<Mode>
     }
 }
 
-// Behind an operand.
-fn done(frames: &mut Frames, token: &Token) -> Result<Option<Mode>, AllocError>
-    ensures { IfOk result (λ m. Steps m frames.new (on_done frames.old token.now)) }
+// Behind an operand that is no callee.
+fn done(mark: bool, frames: &mut Frames, token: &Token) -> Result<Option<Mode>, AllocError>
+    ensures { IfOk result (λ m. Steps m frames.new (on_done mark frames.old token.now)) }
 {
     match token {
-        Token::Operator(_) => Ok(Some(Mode::Want)),
+        Token::Operator(_) => Ok(Some(Mode::Want(false))),
+        Token::Set(_) if mark => Ok(Some(Mode::Whole)),
         Token::Close => Ok(close(frames)),
         Token::Comma => comma(frames),
         Token::Semi => Ok(semi(frames)),
@@ -111,48 +138,85 @@ fn done(frames: &mut Frames, token: &Token) -> Result<Option<Mode>, AllocError>
     }
 }
 
-// Behind the opening parenthesis of a call.
-fn opened(frames: &mut Frames, token: &Token) -> Option<Mode>
-    ensures { Steps result frames.new (on_opened frames.old token.now) }
+// Behind a callee.
+fn callee(mark: bool, frames: &mut Frames, token: &Token) -> Result<Option<Mode>, AllocError>
+    ensures { IfOk result (λ m. Steps m frames.new (on_callee mark frames.old token.now)) }
 {
     match token {
-        Token::Close => close(frames),
-        _ => operand(frames, token),
+        Token::Open => {
+            frames.push(Frame::InCall(MORE_ARGUMENTS, mark))?;
+            Ok(Some(Mode::Opened))
+        }
+        _ => done(mark, frames, token),
+    }
+}
+
+// Behind a name that begins an expression.
+fn variable(frames: &mut Frames, token: &Token) -> Result<Option<Mode>, AllocError>
+    ensures { IfOk result (λ m. Steps m frames.new (on_variable frames.old token.now)) }
+{
+    match token {
+        Token::Set(_) => Ok(Some(Mode::Whole)),
+        _ => callee(false, frames, token),
+    }
+}
+
+// Behind the opening parenthesis of a call.
+fn opened(frames: &mut Frames, token: &Token) -> Result<Option<Mode>, AllocError>
+    ensures { IfOk result (λ m. Steps m frames.new (on_opened frames.old token.now)) }
+{
+    match token {
+        Token::Close => Ok(close(frames)),
+        _ => whole(frames, token),
     }
 }
 
 // Behind the name that begins a statement.
-fn named(frames: &mut Frames, token: &Token) -> Result<Option<Mode>, AllocError>
-    ensures { IfOk result (λ m. Steps m frames.new (on_named token.now)) }
+fn named(ld: bool, frames: &mut Frames, token: &Token) -> Result<Option<Mode>, AllocError>
+    ensures { IfOk result (λ m. Steps m frames.new (on_named ld token.now)) }
 {
     frames.clear();
     match token {
-        Token::Number(_) => {
+        Token::Number(_) | Token::Str(_) | Token::Name(_) | Token::Not | Token::Com => {
             frames.push(Frame::InCommand(MORE_ARGUMENTS))?;
-            Ok(Some(Mode::Done))
+            whole(frames, token)
         }
-        Token::Name(_) => {
-            frames.push(Frame::InCommand(MORE_ARGUMENTS))?;
-            Ok(Some(Mode::Callee))
-        }
-        Token::Open => {
-            frames.push(Frame::InCall(MORE_ARGUMENTS))?;
-            Ok(Some(Mode::Opened))
-        }
-        Token::Semi => Ok(Some(Mode::Start)),
-        _ => Ok(None),
+        Token::Redirect if ld => Ok(Some(Mode::AtFile)),
+        _ => variable(frames, token),
     }
 }
 
 // Where a statement begins.
-fn start(frames: &mut Frames, token: &Token) -> Option<Mode>
-    ensures { Steps result frames.new (on_start token.now) }
+fn start(frames: &mut Frames, token: &Token) -> Result<Option<Mode>, AllocError>
+    ensures { IfOk result (λ m. Steps m frames.new (on_start token.now)) }
+{
+    frames.clear();
+    match token {
+        Token::Semi => Ok(Some(Mode::Start)),
+        Token::Name(name) => Ok(Some(Mode::Named(is_ld(name)))),
+        _ => whole(frames, token),
+    }
+}
+
+// Behind `ld <`.
+fn file(frames: &mut Frames, token: &Token) -> Option<Mode>
+    ensures { Steps result frames.new (on_file token.now) }
+{
+    frames.clear();
+    match token {
+        Token::File(_) => Some(Mode::Loaded),
+        _ => None,
+    }
+}
+
+// Behind the file of a load.
+fn loaded(frames: &mut Frames, token: &Token) -> Option<Mode>
+    ensures { Steps result frames.new (on_loaded token.now) }
 {
     frames.clear();
     match token {
         Token::Semi => Some(Mode::Start),
-        Token::Name(_) => Some(Mode::Named),
-        _ => operand(frames, token),
+        _ => None,
     }
 }
 
@@ -160,12 +224,17 @@ fn next_mode(mode: Mode, frames: &mut Frames, token: &Token) -> Result<Option<Mo
     ensures { IfOk result (λ m. Steps m frames.new (step mode frames.old token.now)) }
 {
     match mode {
-        Mode::Start => Ok(start(frames, token)),
-        Mode::Named => named(frames, token),
-        Mode::Want => Ok(operand(frames, token)),
-        Mode::Callee => callee(frames, token),
-        Mode::Opened => Ok(opened(frames, token)),
-        Mode::Done => done(frames, token),
+        Mode::Start => start(frames, token),
+        Mode::Named(ld) => named(ld, frames, token),
+        Mode::Whole => whole(frames, token),
+        Mode::Variable => variable(frames, token),
+        Mode::Want(mark) => operand(mark, frames, token),
+        Mode::Target(mark) => Ok(target(mark, frames, token)),
+        Mode::Done(mark) => done(mark, frames, token),
+        Mode::Callee(mark) => callee(mark, frames, token),
+        Mode::Opened => opened(frames, token),
+        Mode::AtFile => Ok(file(frames, token)),
+        Mode::Loaded => Ok(loaded(frames, token)),
     }
 }
 

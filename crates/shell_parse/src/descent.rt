@@ -1,18 +1,22 @@
 //! The trees of tokens, by recursive descent.
 
-ghost use Rattle.std.specs.Prelude.{◌≡◌, ◌<◌, ◌≤◌, ◌∷◌, Some, length};
-ghost use Rattle.shell_parse.specs.Trees.{plain_tree, plain_arguments, plain_stmt, plain_stmts};
+ghost use Rattle.std.specs.Prelude.{◌≡◌, ◌<◌, ◌≤◌, ◌∷◌, ◌==◌, Some, None, length, option_map};
+ghost use Rattle.shell_parse.specs.Levels.{level_of, levels};
+ghost use Rattle.shell_parse.specs.Trees.{plain_tree, plain_arguments};
 ghost use Rattle.shell_parse.specs.Trees as trees;
 ghost use Rattle.shell_parse.specs.Gives.{Gives};
-ghost use Rattle.shell_parse.specs.Descent.{sum_at, more_at, unary_at, args_at, listed_at, opened, closed, mapped, stmt_at, line_at, stmts_of};
+ghost use Rattle.shell_parse.specs.Descent.{whole_at, star_at, climb_at, more_at, level_at, unary_at, calls_at, args_at, listed_at, closed as closed_lem, opened as opened_lem, parted as parted_lem, starred as starred_lem, named as named_lem, assigned as assigned_lem, name_assigned as name_assigned_lem, operator_at, mapped};
 
-use crate::token::{Token, Word};
-use crate::tree::{BinOp, Stmt, Tree, UnOp};
+use crate::token::{Text, Token, Word};
+use crate::tree::{BinOp, Tree, UnOp};
 use std::alloc::{AllocError, AllocFailed, Global};
 use wind_base::{Name, NameErr};
 
 // The most arguments of a call.
-const ARGUMENTS: u32 = 10;
+pub(crate) const ARGUMENTS: u32 = 10;
+
+// How many levels of operators there are.
+const LEVELS: u32 = 10;
 
 /// Why nothing was read.
 #[derive(Clone, Copy, Debug, PartialEq, Eq)]
@@ -44,9 +48,9 @@ impl<T: Drop> From<AllocFailed<T>> for ReadErr {
 }
 
 // What is read at the front of some tokens, and the tokens behind it.
-type Reads<'a, X> = Result<(X, &'a [Token<'a>]), ReadErr>;
+pub(crate) type Reads<'a, X> = Result<(X, &'a [Token<'a>]), ReadErr>;
 
-fn name_of(alloc: Global, word: &Word) -> Result<Name, ReadErr>
+pub(crate) fn name_of(alloc: Global, word: &Word) -> Result<Name, ReadErr>
     ensures { Gives (λ name. name) result (Some word.now) }
 {
     match Name::new(alloc, word.bytes()) {
@@ -54,6 +58,30 @@ fn name_of(alloc: Global, word: &Word) -> Result<Name, ReadErr>
         Err(NameErr::NoMemory) => Err(ReadErr::NoMemory),
         Err(NameErr::TooLong) => unreachable!(),
     }
+}
+
+fn string_of(alloc: Global, text: &Text) -> Result<Tree, ReadErr>
+    ensures { Gives plain_tree result (Some (trees.Str text.now)) }
+{
+    Ok(Tree::Str(text.bytes().to_vec(alloc)?))
+}
+
+fn named_tree(alloc: Global, word: &Word) -> Result<Tree, ReadErr>
+    ensures { Gives plain_tree result (Some (trees.Name word.now)) }
+{
+    Ok(Tree::Name(name_of(alloc, word)?))
+}
+
+fn prefix(alloc: Global, op: UnOp, operand: Tree) -> Result<Tree, ReadErr>
+    ensures { Gives plain_tree result (Some (trees.Unary op (plain_tree operand))) }
+{
+    Ok(Tree::Unary(op, Box::new(alloc, operand)?))
+}
+
+fn word_tree(alloc: Global, address: Tree) -> Result<Tree, ReadErr>
+    ensures { Gives plain_tree result (Some (trees.Word (plain_tree address))) }
+{
+    Ok(Tree::Word(Box::new(alloc, address)?))
 }
 
 fn join(alloc: Global, op: BinOp, left: Tree, right: Tree) -> Result<Tree, ReadErr>
@@ -64,55 +92,260 @@ fn join(alloc: Global, op: BinOp, left: Tree, right: Tree) -> Result<Tree, ReadE
     Ok(Tree::Binary(op, left, right))
 }
 
-fn behind_open<'a>(tokens: &'a [Token<'a>]) -> Result<&'a [Token<'a>], ReadErr>
-    ensures { Gives (λ rest. rest.now) result (opened tokens.now) }
+fn set_name(alloc: Global, op: Option<BinOp>, word: &Word, right: Tree) -> Result<Tree, ReadErr>
+    ensures { Gives plain_tree result (Some (trees.SetName op word.now (plain_tree right))) }
 {
-    match tokens {
-        [Token::Open, rest @ ..] => Ok(rest),
-        _ => Err(ReadErr::NoTree),
+    let name = name_of(alloc, word)?;
+    Ok(Tree::SetName(op, name, Box::new(alloc, right)?))
+}
+
+fn set_word(alloc: Global, op: Option<BinOp>, left: Tree, right: Tree) -> Result<Tree, ReadErr>
+    ensures { Gives plain_tree result (Some (trees.SetWord op (plain_tree left) (plain_tree right))) }
+{
+    let left = Box::new(alloc, left)?;
+    let right = Box::new(alloc, right)?;
+    Ok(Tree::SetWord(op, left, right))
+}
+
+fn call(alloc: Global, callee: Tree, arguments: Vec<Tree>) -> Result<Tree, ReadErr>
+    ensures { Gives plain_tree result (Some (trees.Call (plain_tree callee) (plain_arguments arguments.items))) }
+{
+    Ok(Tree::Call(Box::new(alloc, callee)?, arguments))
+}
+
+fn one_argument(alloc: Global, argument: Tree) -> Result<Vec<Tree>, ReadErr>
+    ensures { Gives (λ v. plain_arguments v.items) result (Some (trees.Then (plain_tree argument) trees.End)) }
+{
+    let mut arguments = Vec::new(alloc);
+    arguments.push(argument)?;
+    Ok(arguments)
+}
+
+fn in_front(argument: Tree, mut arguments: Vec<Tree>) -> Result<Vec<Tree>, ReadErr>
+    ensures { Gives (λ v. plain_arguments v.items) result (Some (trees.Then (plain_tree argument) (plain_arguments arguments.items))) }
+{
+    arguments.insert(0, argument)?;
+    Ok(arguments)
+}
+
+// How tightly an operator binds: the tightest level is 0.
+fn level(op: BinOp) -> u32
+    ensures { result ≡ level_of op }
+{
+    match op {
+        BinOp::Times | BinOp::Over | BinOp::Rest => 0,
+        BinOp::Plus | BinOp::Minus => 1,
+        BinOp::Shl | BinOp::Shr => 2,
+        BinOp::Lt | BinOp::Le | BinOp::Gt | BinOp::Ge => 3,
+        BinOp::Eq | BinOp::Ne => 4,
+        BinOp::And => 5,
+        BinOp::Xor => 6,
+        BinOp::Or => 7,
+        BinOp::AndAlso => 8,
+        BinOp::OrElse => 9,
     }
 }
 
+// Behind a parenthesis, a comma or a star at the front, if it stands there.
+
+fn closed<'a>(tokens: &'a [Token<'a>]) -> Option<&'a [Token<'a>]>
+    ensures { option_map (λ rest. rest.now) result ≡ closed_lem tokens.now }
+{
+    match tokens {
+        [Token::Close, rest @ ..] => Some(rest),
+        _ => None,
+    }
+}
+
+fn opened<'a>(tokens: &'a [Token<'a>]) -> Option<&'a [Token<'a>]>
+    ensures { option_map (λ rest. rest.now) result ≡ opened_lem tokens.now }
+{
+    match tokens {
+        [Token::Open, rest @ ..] => Some(rest),
+        _ => None,
+    }
+}
+
+fn parted<'a>(tokens: &'a [Token<'a>]) -> Option<&'a [Token<'a>]>
+    ensures { option_map (λ rest. rest.now) result ≡ parted_lem tokens.now }
+{
+    match tokens {
+        [Token::Comma, rest @ ..] => Some(rest),
+        _ => None,
+    }
+}
+
+fn starred<'a>(tokens: &'a [Token<'a>]) -> Option<&'a [Token<'a>]>
+    ensures { option_map (λ rest. rest.now) result ≡ starred_lem tokens.now }
+{
+    match tokens {
+        [Token::Operator(BinOp::Times), rest @ ..] => Some(rest),
+        _ => None,
+    }
+}
+
+// A name, an assignment, or both, and the tokens behind.
+
+fn named<'a>(tokens: &'a [Token<'a>]) -> Option<(&'a Word<'a>, &'a [Token<'a>])>
+    ensures { option_map (λ x. (x.0.now, x.1.now)) result ≡ named_lem tokens.now }
+{
+    let [first, rest @ ..] = tokens else {
+        return None;
+    };
+    match first {
+        Token::Name(word) => Some((word, rest)),
+        _ => None,
+    }
+}
+
+fn assigned<'a>(tokens: &'a [Token<'a>]) -> Option<(Option<BinOp>, &'a [Token<'a>])>
+    ensures { option_map (λ x. (x.0, x.1.now)) result ≡ assigned_lem tokens.now }
+{
+    let [first, rest @ ..] = tokens else {
+        return None;
+    };
+    match first {
+        Token::Set(op) => Some((*op, rest)),
+        _ => None,
+    }
+}
+
+fn name_assigned<'a>(
+    tokens: &'a [Token<'a>],
+) -> Option<(&'a Word<'a>, Option<BinOp>, &'a [Token<'a>])>
+    ensures { option_map (λ x. (x.0.now, x.1, x.2.now)) result ≡ name_assigned_lem tokens.now }
+{
+    let (word, rest) = named(tokens)?;
+    let (op, rest) = assigned(rest)?;
+    Some((word, op, rest))
+}
+
+// An operator of this level at the front.
+fn front_operator<'a>(at: u32, tokens: &'a [Token<'a>]) -> Option<(BinOp, &'a [Token<'a>])>
+    ensures { option_map (λ x. (x.0, x.1.now)) result ≡ operator_at at tokens.now }
+{
+    let [first, rest @ ..] = tokens else {
+        return None;
+    };
+    match first {
+        Token::Operator(op) if level(*op) == at => Some((*op, rest)),
+        _ => None,
+    }
+}
+
+// The address of the name at the front.
+fn address<'a>(alloc: Global, tokens: &'a [Token<'a>]) -> Reads<'a, Tree>
+    ensures { Gives (λ x. (plain_tree x.0, x.1.now)) result (mapped trees.Address (named_lem tokens.now)) }
+{
+    match named(tokens) {
+        Some((word, rest)) => Ok((Tree::Address(name_of(alloc, word)?), rest)),
+        None => Err(ReadErr::NoTree),
+    }
+}
+
+// The tokens behind a closing parenthesis, which has to stand there.
 fn behind_close<'a>(tokens: &'a [Token<'a>]) -> Result<&'a [Token<'a>], ReadErr>
-    ensures { Gives (λ rest. rest.now) result (closed tokens.now) }
+    ensures { Gives (λ rest. rest.now) result (closed_lem tokens.now) }
 {
-    match tokens {
-        [Token::Close, rest @ ..] => Ok(rest),
-        _ => Err(ReadErr::NoTree),
+    match closed(tokens) {
+        Some(rest) => Ok(rest),
+        None => Err(ReadErr::NoTree),
     }
 }
 
+/// An expression.
 #[cycle(trees)]
-#[tactic(auto, unfolding(crate::specs::Descent::sum_at))]
-fn sum<'a>(alloc: Global, depth: u32, tokens: &'a [Token<'a>]) -> Reads<'a, Tree>
-    ensures { Gives (λ x. (plain_tree x.0, x.1.now)) result (sum_at depth tokens.now) }
+#[tactic(auto, unfolding(crate::specs::Descent::whole_at))]
+pub(crate) fn whole<'a>(alloc: Global, depth: u32, tokens: &'a [Token<'a>]) -> Reads<'a, Tree>
+    ensures { Gives (λ x. (plain_tree x.0, x.1.now)) result (whole_at depth tokens.now) }
 {
     if depth == 0 {
         return Err(ReadErr::NoTree);
     }
-    let (first, rest) = unary(alloc, depth - 1, tokens)?;
-    more(alloc, depth - 1, first, rest)
+    if let Some((word, op, rest)) = name_assigned(tokens) {
+        let (right, rest) = whole(alloc, depth - 1, rest)?;
+        return Ok((set_name(alloc, op, word, right)?, rest));
+    }
+    match starred(tokens) {
+        Some(rest) => star(alloc, depth - 1, rest),
+        None => operands(alloc, depth - 1, LEVELS, tokens),
+    }
+}
+
+// Behind a star.
+#[cycle(trees)]
+#[tactic(auto, unfolding(crate::specs::Descent::star_at))]
+fn star<'a>(alloc: Global, depth: u32, tokens: &'a [Token<'a>]) -> Reads<'a, Tree>
+    ensures { Gives (λ x. (plain_tree x.0, x.1.now)) result (star_at depth tokens.now) }
+{
+    if depth == 0 {
+        return Err(ReadErr::NoTree);
+    }
+    let (operand, rest) = unary(alloc, depth - 1, tokens)?;
+    match assigned(rest) {
+        Some((op, rest)) => {
+            let (right, rest) = whole(alloc, depth - 1, rest)?;
+            Ok((set_word(alloc, op, operand, right)?, rest))
+        }
+        None => climb(alloc, depth - 1, LEVELS, word_tree(alloc, operand)?, rest),
+    }
+}
+
+#[cycle(trees)]
+#[tactic(auto, unfolding(crate::specs::Descent::climb_at))]
+fn climb<'a>(
+    alloc: Global,
+    depth: u32,
+    count: u32,
+    operand: Tree,
+    tokens: &'a [Token<'a>],
+) -> Reads<'a, Tree>
+    ensures { Gives (λ x. (plain_tree x.0, x.1.now)) result (climb_at depth count (plain_tree operand) tokens.now) }
+{
+    if depth == 0 {
+        return Err(ReadErr::NoTree);
+    }
+    if count == 0 {
+        return Ok((operand, tokens));
+    }
+    let (left, rest) = climb(alloc, depth - 1, count - 1, operand, tokens)?;
+    more(alloc, depth - 1, count - 1, left, rest)
 }
 
 #[cycle(trees)]
 #[tactic(auto, unfolding(crate::specs::Descent::more_at))]
-fn more<'a>(alloc: Global, depth: u32, left: Tree, tokens: &'a [Token<'a>]) -> Reads<'a, Tree>
-    ensures { Gives (λ x. (plain_tree x.0, x.1.now)) result (more_at depth (plain_tree left) tokens.now) }
+fn more<'a>(
+    alloc: Global,
+    depth: u32,
+    at: u32,
+    left: Tree,
+    tokens: &'a [Token<'a>],
+) -> Reads<'a, Tree>
+    ensures { Gives (λ x. (plain_tree x.0, x.1.now)) result (more_at depth at (plain_tree left) tokens.now) }
 {
     if depth == 0 {
         return Err(ReadErr::NoTree);
     }
-    let [first, rest @ ..] = tokens else {
-        return Ok((left, tokens));
-    };
-    match first {
-        Token::Operator(op) => {
-            let (right, rest) = unary(alloc, depth - 1, rest)?;
-            let left = join(alloc, *op, left, right)?;
-            more(alloc, depth - 1, left, rest)
+    match front_operator(at, tokens) {
+        Some((op, rest)) => {
+            let (right, rest) = operands(alloc, depth - 1, at, rest)?;
+            let left = join(alloc, op, left, right)?;
+            more(alloc, depth - 1, at, left, rest)
         }
-        _ => Ok((left, tokens)),
+        None => Ok((left, tokens)),
     }
+}
+
+#[cycle(trees)]
+#[tactic(auto, unfolding(crate::specs::Descent::level_at))]
+fn operands<'a>(alloc: Global, depth: u32, count: u32, tokens: &'a [Token<'a>]) -> Reads<'a, Tree>
+    ensures { Gives (λ x. (plain_tree x.0, x.1.now)) result (level_at depth count tokens.now) }
+{
+    if depth == 0 {
+        return Err(ReadErr::NoTree);
+    }
+    let (operand, rest) = unary(alloc, depth - 1, tokens)?;
+    climb(alloc, depth - 1, count, operand, rest)
 }
 
 #[cycle(trees)]
@@ -129,15 +362,48 @@ fn unary<'a>(alloc: Global, depth: u32, tokens: &'a [Token<'a>]) -> Reads<'a, Tr
     match first {
         Token::Operator(BinOp::Minus) => {
             let (operand, rest) = unary(alloc, depth - 1, rest)?;
-            Ok((Tree::Unary(UnOp::Neg, Box::new(alloc, operand)?), rest))
+            Ok((prefix(alloc, UnOp::Neg, operand)?, rest))
         }
+        Token::Not => {
+            let (operand, rest) = unary(alloc, depth - 1, rest)?;
+            Ok((prefix(alloc, UnOp::Not, operand)?, rest))
+        }
+        Token::Com => {
+            let (operand, rest) = unary(alloc, depth - 1, rest)?;
+            Ok((prefix(alloc, UnOp::Com, operand)?, rest))
+        }
+        Token::Operator(BinOp::Times) => {
+            let (operand, rest) = unary(alloc, depth - 1, rest)?;
+            Ok((word_tree(alloc, operand)?, rest))
+        }
+        Token::Operator(BinOp::And) => address(alloc, rest),
         Token::Number(n) => Ok((Tree::Number(*n), rest)),
-        Token::Name(callee) => {
-            let rest = behind_open(rest)?;
-            let (arguments, rest) = args(alloc, depth - 1, rest)?;
-            Ok((Tree::Call(name_of(alloc, callee)?, arguments), rest))
+        Token::Str(text) => Ok((string_of(alloc, text)?, rest)),
+        Token::Name(word) => calls(alloc, depth - 1, named_tree(alloc, word)?, rest),
+        Token::Open => {
+            let (callee, rest) = whole(alloc, depth - 1, rest)?;
+            let rest = behind_close(rest)?;
+            calls(alloc, depth - 1, callee, rest)
         }
         _ => Err(ReadErr::NoTree),
+    }
+}
+
+#[cycle(trees)]
+#[tactic(auto, unfolding(crate::specs::Descent::calls_at))]
+fn calls<'a>(alloc: Global, depth: u32, callee: Tree, tokens: &'a [Token<'a>]) -> Reads<'a, Tree>
+    ensures { Gives (λ x. (plain_tree x.0, x.1.now)) result (calls_at depth (plain_tree callee) tokens.now) }
+{
+    if depth == 0 {
+        return Err(ReadErr::NoTree);
+    }
+    match opened(tokens) {
+        Some(rest) => {
+            let (arguments, rest) = args(alloc, depth - 1, rest)?;
+            let callee = call(alloc, callee, arguments)?;
+            calls(alloc, depth - 1, callee, rest)
+        }
+        None => Ok((callee, tokens)),
     }
 }
 
@@ -149,9 +415,9 @@ fn args<'a>(alloc: Global, depth: u32, tokens: &'a [Token<'a>]) -> Reads<'a, Vec
     if depth == 0 {
         return Err(ReadErr::NoTree);
     }
-    match tokens {
-        [Token::Close, rest @ ..] => Ok((Vec::new(alloc), rest)),
-        _ => {
+    match closed(tokens) {
+        Some(rest) => Ok((Vec::new(alloc), rest)),
+        None => {
             let (arguments, rest) = listed(alloc, depth - 1, ARGUMENTS, tokens)?;
             let rest = behind_close(rest)?;
             Ok((arguments, rest))
@@ -161,94 +427,23 @@ fn args<'a>(alloc: Global, depth: u32, tokens: &'a [Token<'a>]) -> Reads<'a, Vec
 
 #[cycle(trees)]
 #[tactic(auto, unfolding(crate::specs::Descent::listed_at))]
-fn listed<'a>(alloc: Global, depth: u32, most: u32, tokens: &'a [Token<'a>]) -> Reads<'a, Vec<Tree>>
+pub(crate) fn listed<'a>(
+    alloc: Global,
+    depth: u32,
+    most: u32,
+    tokens: &'a [Token<'a>],
+) -> Reads<'a, Vec<Tree>>
     ensures { Gives (λ x. (plain_arguments x.0.items, x.1.now)) result (listed_at depth most tokens.now) }
 {
     if depth == 0 || most == 0 {
         return Err(ReadErr::NoTree);
     }
-    let (argument, rest) = sum(alloc, depth - 1, tokens)?;
-    match rest {
-        [Token::Comma, rest @ ..] => {
-            let (mut arguments, rest) = listed(alloc, depth - 1, most - 1, rest)?;
-            arguments.insert(0, argument)?;
-            Ok((arguments, rest))
+    let (argument, rest) = whole(alloc, depth - 1, tokens)?;
+    match parted(rest) {
+        Some(behind) => {
+            let (arguments, behind) = listed(alloc, depth - 1, most - 1, behind)?;
+            Ok((in_front(argument, arguments)?, behind))
         }
-        _ => {
-            let mut arguments = Vec::new(alloc);
-            arguments.push(argument)?;
-            Ok((arguments, rest))
-        }
+        None => Ok((one_argument(alloc, argument)?, rest)),
     }
-}
-
-fn expression<'a>(alloc: Global, depth: u32, tokens: &'a [Token<'a>]) -> Reads<'a, Stmt>
-    ensures { Gives (λ x. (plain_stmt x.0, x.1.now)) result (mapped trees.Expr (sum_at depth tokens.now)) }
-{
-    let (tree, rest) = sum(alloc, depth, tokens)?;
-    Ok((Stmt::Expr(tree), rest))
-}
-
-// A call without parentheses, from its arguments on.
-fn command<'a>(alloc: Global, depth: u32, callee: &Word, tokens: &'a [Token<'a>]) -> Reads<'a, Stmt>
-    ensures { Gives (λ x. (plain_stmt x.0, x.1.now)) result (mapped (trees.Command callee.now) (listed_at depth 10 tokens.now)) }
-{
-    let (arguments, rest) = listed(alloc, depth, ARGUMENTS, tokens)?;
-    Ok((Stmt::Call(name_of(alloc, callee)?, arguments), rest))
-}
-
-#[tactic(auto, unfolding(crate::specs::Descent::stmt_at))]
-fn statement<'a>(alloc: Global, depth: u32, tokens: &'a [Token<'a>]) -> Reads<'a, Stmt>
-    ensures { Gives (λ x. (plain_stmt x.0, x.1.now)) result (stmt_at depth tokens.now) }
-{
-    let [first, rest @ ..] = tokens else {
-        return Ok((Stmt::Nothing, tokens));
-    };
-    match first {
-        Token::Semi => Ok((Stmt::Nothing, tokens)),
-        Token::Name(callee) => match rest {
-            [Token::Number(_) | Token::Name(_), ..] => command(alloc, depth, callee, rest),
-            [Token::Open, ..] => expression(alloc, depth, tokens),
-            _ => Ok((Stmt::Call(name_of(alloc, callee)?, Vec::new(alloc)), rest)),
-        },
-        _ => expression(alloc, depth, tokens),
-    }
-}
-
-// At most so many statements.
-#[tactic(auto, unfolding(crate::specs::Descent::line_at))]
-fn line<'a>(
-    alloc: Global,
-    most: usize,
-    depth: u32,
-    tokens: &'a [Token<'a>],
-) -> Result<Vec<Stmt>, ReadErr>
-    ensures { Gives (λ list. plain_stmts list.items) result (line_at most depth tokens.now) }
-{
-    if most == 0 {
-        return Err(ReadErr::NoTree);
-    }
-    let (first, rest) = statement(alloc, depth, tokens)?;
-    match rest {
-        [] => {
-            let mut list = Vec::new(alloc);
-            list.push(first)?;
-            Ok(list)
-        }
-        [Token::Semi, rest @ ..] => {
-            let mut list = line(alloc, most - 1, depth, rest)?;
-            list.insert(0, first)?;
-            Ok(list)
-        }
-        _ => Err(ReadErr::NoTree),
-    }
-}
-
-/// The statements of the tokens of a line.
-pub(crate) fn statements<'a>(alloc: Global, tokens: &'a [Token<'a>]) -> Result<Vec<Stmt>, ReadErr>
-    requires { length tokens.now ≤ 255 }
-    ensures { Gives (λ list. plain_stmts list.items) result (stmts_of tokens.now) }
-{
-    let len = tokens.len() as u32;
-    line(alloc, tokens.len() + 1, 4 * len + 4, tokens)
 }

@@ -6,11 +6,14 @@ ghost use Rattle.shell_parse.specs.Stack.{top_of, rest_of};
 use std::alloc::{AllocError, Global};
 use std::marker::Model;
 
-/// What is open, and how many arguments may follow behind the one that is read now.
+/// What is open. The number says how many arguments may follow behind the one that is read now, and the
+/// mark whether an assignment may come behind the closing parenthesis.
 #[derive(Clone, Copy, Debug, PartialEq, Eq)]
 pub(crate) enum Frame {
+    /// Parentheses around an expression.
+    InGroup(bool),
     /// The parentheses of a call.
-    InCall(u32),
+    InCall(u32, bool),
     /// The arguments of a call without parentheses.
     InCommand(u32),
 }

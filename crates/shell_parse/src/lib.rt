@@ -1,11 +1,22 @@
-//! The grammar of the shell's lines, as far as it is built: statements with semicolons between, calls
-//! with and without parentheses, sums and differences, and decimal numbers.
+//! The grammar of the shell's lines.
 #![tactic(auto)]
 
 mod allowed;
 mod descent;
 mod frames;
 mod grammar;
+mod lexer;
+mod literal;
+#[cfg(test)]
+mod long_lines;
+#[cfg(test)]
+mod refusals;
+#[cfg(test)]
+mod shown;
+mod sign;
+mod statement;
+#[cfg(test)]
+mod tests;
 mod token;
 mod tree;
 

@@ -5,30 +5,78 @@ use wind_base::Name;
 /// The operators between two operands.
 #[derive(Clone, Copy, Debug, PartialEq, Eq)]
 pub enum BinOp {
-    /// The sum, modulo 2^32.
+    /// `||`: 1 where the left or the right is not 0, else 0.
+    OrElse,
+    /// `&&`: 1 where the left and the right are not 0, else 0.
+    AndAlso,
+    /// `|`: the bits that one of the two has.
+    Or,
+    /// `^`: the bits that exactly one of the two has.
+    Xor,
+    /// `&`: the bits that both have.
+    And,
+    /// `==`: 1 where they are equal, else 0.
+    Eq,
+    /// `!=`: 1 where they differ, else 0.
+    Ne,
+    /// `<`: 1 where the left is less as a signed number, else 0.
+    Lt,
+    /// `<=`: 1 where the left is at most the right as signed numbers, else 0.
+    Le,
+    /// `>`: 1 where the left is greater as a signed number, else 0.
+    Gt,
+    /// `>=`: 1 where the left is at least the right as signed numbers, else 0.
+    Ge,
+    /// `<<`: the left moved to the left by the right, modulo 32.
+    Shl,
+    /// `>>`: the left as a signed number moved to the right by the right, modulo 32.
+    Shr,
+    /// `+`: the sum, modulo 2^32.
     Plus,
-    /// The difference, modulo 2^32.
+    /// `-`: the difference, modulo 2^32.
     Minus,
+    /// `*`: the product, modulo 2^32.
+    Times,
+    /// `/`: the quotient of signed numbers, toward 0.
+    Over,
+    /// `%`: the remainder of signed numbers, toward 0.
+    Rest,
 }
 
 /// The operators before one operand.
 #[derive(Clone, Copy, Debug, PartialEq, Eq)]
 pub enum UnOp {
-    /// The number that the operand lacks to 2^32, modulo 2^32.
+    /// `-`: the number that the operand lacks to 2^32, modulo 2^32.
     Neg,
+    /// `!`: 1 for 0, else 0.
+    Not,
+    /// `~`: the bits that the operand lacks.
+    Com,
 }
 
-/// An expression. Its value is a word of 32 bits.
+/// An expression. Its value is a word of 32 bits. Parentheses leave no mark in it.
 #[derive(Drop)]
 pub enum Tree {
-    /// A number.
+    /// A number, or the byte of a character.
     Number(u32),
+    /// A string, by its bytes.
+    Str(Vec<u8>),
+    /// What a name means.
+    Name(Name),
+    /// `&name`: the value of a name.
+    Address(Name),
+    /// `*e`: the word at an address.
+    Word(Box<Tree>),
     /// An operator before its operand.
     Unary(UnOp, Box<Tree>),
     /// An operator between its left and its right operand.
     Binary(BinOp, Box<Tree>, Box<Tree>),
-    /// A call of the function of this name with these arguments.
-    Call(Name, Vec<Tree>),
+    /// An assignment to a name: with `=` no operator, else that before the `=`.
+    SetName(Option<BinOp>, Name, Box<Tree>),
+    /// An assignment to the word at an address: with `=` no operator, else that before the `=`.
+    SetWord(Option<BinOp>, Box<Tree>, Box<Tree>),
+    /// A call of a callee with at most ten arguments.
+    Call(Box<Tree>, Vec<Tree>),
 }
 
 /// A statement of a line.
@@ -36,8 +84,10 @@ pub enum Tree {
 pub enum Stmt {
     /// A statement without a token.
     Nothing,
-    /// A call without parentheses: a name, and its arguments if it has any.
+    /// `ld < file`, by the bytes of the file's name.
+    Ld(Vec<u8>),
+    /// A call without parentheses: a name, and one to ten arguments.
     Call(Name, Vec<Tree>),
-    /// An expression, whose value is written.
+    /// An expression.
     Expr(Tree),
 }

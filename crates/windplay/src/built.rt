@@ -3,21 +3,31 @@
 ghost use Rattle.std.specs.Prelude.{◌≡◌, ◌≤◌, ◌<◌, ◌^◌, IfOk, length};
 ghost use Rattle.std.specs.List.{list_all};
 ghost use Rattle.wind_base.specs.Limits.{longest_line};
-ghost use Rattle.shell_parse.specs.Grammar.{read_line};
-ghost use Rattle.windplay.specs.Built.{is_printable, has_tree as has_tree_lem, is_built as is_built_lem, unbuilt_line};
+ghost use Rattle.shell_parse.specs.Reading.{read_line};
+ghost use Rattle.shell_parse.specs.Trees.{plain_stmts};
+ghost use Rattle.shell_eval.specs.Evaluated.{is_evaluated as is_evaluated_lem};
+ghost use Rattle.windplay.specs.Built.{is_printable, is_evaluated_line as is_evaluated_line_lem, is_built as is_built_lem, unbuilt_line};
 
-use shell_parse::{ParseErr, parse};
+use shell_eval::is_evaluated;
+use shell_parse::{ParseErr, Stmt, parse};
 use std::alloc::Global;
 use wind_base::limits::LINE_BYTES;
 use wind_base::{NoMemory, behind, line_len};
 
-// Whether the grammar that is built has a tree of the line.
-fn has_tree(alloc: Global, line: &[u8]) -> Result<bool, NoMemory>
+// Whether these statements are evaluated.
+fn all_evaluated(stmts: &[Stmt]) -> bool
+    ensures { result ≡ list_all is_evaluated_lem (plain_stmts stmts.now) }
+{
+    stmts.iter().all(is_evaluated)
+}
+
+// Whether the grammar reads the line, and its statements are evaluated.
+fn is_evaluated_line(alloc: Global, line: &[u8]) -> Result<bool, NoMemory>
     requires { length line.now ≤ longest_line }
-    ensures { IfOk result (λ built. built ≡ has_tree_lem (read_line line.now)) }
+    ensures { IfOk result (λ built. built ≡ is_evaluated_line_lem (read_line line.now)) }
 {
     match parse(alloc, line) {
-        Ok(_) => Ok(true),
+        Ok(stmts) => Ok(all_evaluated(&stmts)),
         Err(ParseErr::Syntax(_)) => Ok(false),
         Err(ParseErr::NoMemory) => Err(NoMemory),
     }
@@ -37,7 +47,7 @@ fn is_built(alloc: Global, line: &[u8]) -> Result<bool, NoMemory>
     if line.len() > LINE_BYTES || !all_printable(line) {
         return Ok(false);
     }
-    has_tree(alloc, line)
+    is_evaluated_line(alloc, line)
 }
 
 /// The first line of a console that is not built, counted from 1.

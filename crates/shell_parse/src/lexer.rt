@@ -1,0 +1,209 @@
+//! The tokens of a line.
+
+ghost use Rattle.std.specs.Prelude.{◌≡◌, ◌<◌, ◌≤◌, ◌+◌, ◌∷◌, IfOk, length, drop, map};
+ghost use Rattle.std.specs.List.{prefix_len};
+ghost use Rattle.wind_base.specs.Limits.{longest_line};
+ghost use Rattle.shell_parse.specs.Ascii.{is_blank as is_blank_lem, is_word_byte as is_word_byte_lem, is_file_byte as is_file_byte_lem};
+ghost use Rattle.shell_parse.specs.Literals.{number_of as number_of_lem};
+ghost use Rattle.shell_parse.specs.Tokens.{number_token as number_token_lem, word_token as word_token_lem, word_at, file_at, any_at, redirected as redirected_lem, token_at, behind_name as behind_name_lem, spot_after as spot_after_lem, tokens_of, bare, columns};
+
+use crate::literal::{character, number_of, string};
+use crate::sign::sign;
+use crate::token::{Spot, Token, Word};
+use crate::tree::BinOp;
+use std::alloc::{AllocError, Global};
+use wind_base::behind;
+
+/// The tokens of a line, and the column of the first byte of each, counted from 1.
+#[derive(Drop)]
+pub(crate) struct Lexed<'a> {
+    pub(crate) tokens: Vec<Token<'a>>,
+    pub(crate) columns: Vec<u32>,
+}
+
+fn is_blank(byte: u8) -> bool
+    ensures { result ≡ is_blank_lem byte }
+{
+    byte == b' ' || byte == b'\t'
+}
+
+// Whether a byte may stand in a name or a number.
+fn is_word_byte(byte: u8) -> bool
+    ensures { result ≡ is_word_byte_lem byte }
+{
+    byte.is_ascii_alphanumeric() || byte == b'_'
+}
+
+// Whether a byte may stand in the name of a file.
+fn is_file_byte(byte: u8) -> bool
+    ensures { result ≡ is_file_byte_lem byte }
+{
+    !is_blank(byte) && byte != b';'
+}
+
+// How many bytes at the front may stand in a name or a number.
+fn word_len(bytes: &[u8]) -> usize
+    ensures exact { result ≡ prefix_len is_word_byte_lem bytes.now }
+    ensures inside { result ≤ length bytes.now }
+{
+    bytes.iter().take_while(|byte| is_word_byte(**byte)).count()
+}
+
+// How many bytes at the front may stand in the name of a file.
+fn file_len(bytes: &[u8]) -> usize
+    ensures exact { result ≡ prefix_len is_file_byte_lem bytes.now }
+    ensures inside { result ≤ length bytes.now }
+{
+    bytes.iter().take_while(|byte| is_file_byte(**byte)).count()
+}
+
+fn number_token<'a>(word: &[u8]) -> Token<'a>
+    ensures { result ≡ number_token_lem (number_of_lem word.now) }
+{
+    match number_of(word) {
+        Some(n) => Token::Number(n),
+        None => Token::Unknown,
+    }
+}
+
+// The token of a word with this first byte.
+fn word_token<'a>(first: u8, word: &'a [u8]) -> Token<'a>
+    requires { length word.now ≤ longest_line }
+    ensures { result ≡ word_token_lem first word.now }
+{
+    if first.is_ascii_digit() {
+        number_token(word)
+    } else {
+        Token::Name(Word { kept: word })
+    }
+}
+
+// In each of the functions below, `bytes` is the first byte and the rest.
+
+fn word<'a>(first: u8, rest: &[u8], bytes: &'a [u8]) -> (Token<'a>, usize)
+    requires bytes { bytes.now ≡ first ∷ rest.now }
+    requires short { length bytes.now ≤ longest_line }
+    ensures { result ≡ word_at first rest.now }
+{
+    let len = word_len(rest);
+    (word_token(first, &bytes[..len + 1]), len)
+}
+
+fn file<'a>(first: u8, rest: &[u8], bytes: &'a [u8]) -> (Token<'a>, usize)
+    requires bytes { bytes.now ≡ first ∷ rest.now }
+    requires short { length bytes.now ≤ longest_line }
+    ensures { result ≡ file_at first rest.now }
+{
+    if first == b';' {
+        return (Token::Semi, 0);
+    }
+    let len = file_len(rest);
+    let file = Word {
+        kept: &bytes[..len + 1],
+    };
+    (Token::File(file), len)
+}
+
+fn any<'a>(
+    alloc: Global,
+    first: u8,
+    rest: &[u8],
+    bytes: &'a [u8],
+) -> Result<(Token<'a>, usize), AllocError>
+    requires bytes { bytes.now ≡ first ∷ rest.now }
+    requires short { length bytes.now ≤ longest_line }
+    ensures { IfOk result (λ x. x ≡ any_at first rest.now) }
+{
+    if is_word_byte(first) {
+        return Ok(word(first, rest, bytes));
+    }
+    match first {
+        b'\'' => Ok(character(rest)),
+        b'"' => string(alloc, rest),
+        _ => Ok(sign(first, rest)),
+    }
+}
+
+// Behind `ld`, `<` is no comparison.
+fn redirected(token: Token) -> Token
+    ensures { result ≡ redirected_lem token.entry }
+{
+    match token {
+        Token::Operator(BinOp::Lt) => Token::Redirect,
+        token => token,
+    }
+}
+
+// The token at this spot that these bytes begin with, and how many bytes it has beside its first. They
+// begin with no blank.
+#[tactic(auto, unfolding(crate::specs::Tokens::token_at))]
+fn front<'a>(
+    alloc: Global,
+    spot: Spot,
+    first: u8,
+    rest: &[u8],
+    bytes: &'a [u8],
+) -> Result<(Token<'a>, usize), AllocError>
+    requires bytes { bytes.now ≡ first ∷ rest.now }
+    requires short { length bytes.now ≤ longest_line }
+    ensures { IfOk result (λ x. x ≡ token_at spot first rest.now) }
+{
+    match spot {
+        Spot::AtFile => Ok(file(first, rest, bytes)),
+        Spot::BehindLd => {
+            let (token, len) = any(alloc, first, rest, bytes)?;
+            Ok((redirected(token), len))
+        }
+        Spot::AtStart | Spot::Within => any(alloc, first, rest, bytes),
+    }
+}
+
+fn behind_name(name: &Word) -> Spot
+    ensures { result ≡ behind_name_lem name.now }
+{
+    if name.bytes() == b"ld".as_slice() {
+        Spot::BehindLd
+    } else {
+        Spot::Within
+    }
+}
+
+fn spot_after(spot: Spot, token: &Token) -> Spot
+    ensures { result ≡ spot_after_lem spot token.now }
+{
+    match (spot, token) {
+        (_, Token::Semi) => Spot::AtStart,
+        (Spot::AtStart, Token::Name(name)) => behind_name(name),
+        (Spot::BehindLd, Token::Redirect) => Spot::AtFile,
+        _ => Spot::Within,
+    }
+}
+
+/// The tokens of a line, each with its column.
+#[tactic(auto, unfolding(crate::specs::Tokens::tokens_of))]
+pub(crate) fn tokens<'a>(alloc: Global, line: &'a [u8]) -> Result<Lexed<'a>, AllocError>
+    requires { length line.now ≤ longest_line }
+    ensures tokens { IfOk result (λ lexed. lexed.tokens.items ≡ bare (tokens_of line.now)) }
+    ensures columns { IfOk result (λ lexed. lexed.columns.items ≡ columns (tokens_of line.now)) }
+    ensures few { IfOk result (λ lexed. length lexed.tokens.items ≤ longest_line) }
+{
+    let mut tokens = Vec::new(alloc);
+    let mut columns = Vec::new(alloc);
+    let mut left = line;
+    let mut column = 1;
+    let mut spot = Spot::AtStart;
+    while let Some((first, rest)) = left.split_first() {
+        if is_blank(*first) {
+            left = rest;
+            column += 1;
+            continue;
+        }
+        let (token, len) = front(alloc, spot, *first, rest, left)?;
+        spot = spot_after(spot, &token);
+        tokens.push(token)?;
+        columns.push(column)?;
+        left = behind(rest, len);
+        column += len as u32 + 1;
+    }
+    Ok(Lexed { tokens, columns })
+}

@@ -1,0 +1,157 @@
+//! Numbers, characters and strings.
+
+ghost use Rattle.std.specs.Prelude.{◌≡◌, ◌≤◌, ◌+◌, IfOk, IsTrue, length};
+ghost use Rattle.std.specs.List.{list_all};
+ghost use Rattle.std.specs.Char.{digit_value, is_digit};
+ghost use Rattle.std.specs.Str.Parse.{digits_value};
+ghost use Rattle.shell_parse.specs.Ascii.{next_is as next_is_lem};
+ghost use Rattle.shell_parse.specs.Literals.{are_digits as are_digits_lem, value_within as value_within_lem, number_in as number_in_lem, number_of as number_of_lem, escaped as escaped_lem, escaped_character as escaped_character_lem, character_at, string_at};
+
+use crate::token::{Text, Token};
+use std::alloc::{AllocError, Global};
+
+/// Whether this byte comes next.
+pub(crate) fn next_is(byte: u8, bytes: &[u8]) -> bool
+    ensures { result ≡ next_is_lem byte bytes.now }
+{
+    match bytes {
+        [next, ..] => *next == byte,
+        [] => false,
+    }
+}
+
+fn all_digits(radix: u32, digits: &[u8]) -> bool
+    requires low { 2 ≤ radix }
+    requires high { radix ≤ 16 }
+    ensures { result ≡ list_all (λ b. is_digit b radix) digits.now }
+{
+    digits.iter().all(|byte| (*byte as char).is_digit(radix))
+}
+
+fn are_digits(radix: u32, digits: &[u8]) -> bool
+    requires low { 2 ≤ radix }
+    requires high { radix ≤ 16 }
+    ensures { result ≡ are_digits_lem radix digits.now }
+{
+    !digits.is_empty() && all_digits(radix, digits)
+}
+
+// The value of a digit: at most 35, or 36 where it is no digit of any radix.
+#[tactic(auto, using(crate::proofs::Digits::digit_most))]
+fn digit(byte: u8) -> u64
+    ensures value { result ≡ digit_value byte }
+    ensures most { result ≤ 36 }
+{
+    match (byte as char).to_digit(36) {
+        Some(digit) => digit as u64,
+        None => 36,
+    }
+}
+
+// The number of digits, where it has 32 bits.
+fn value_within(radix: u32, digits: &[u8]) -> Option<u32>
+    requires low { 2 ≤ radix }
+    requires high { radix ≤ 16 }
+    ensures { result ≡ value_within_lem (digits_value radix digits.now) }
+{
+    let mut value = 0;
+    for byte in digits {
+        value = value * radix as u64 + digit(*byte);
+        if value > u32::MAX as u64 {
+            return None;
+        }
+    }
+    Some(value as u32)
+}
+
+fn number_in(radix: u32, digits: &[u8]) -> Option<u32>
+    requires low { 2 ≤ radix }
+    requires high { radix ≤ 16 }
+    ensures { result ≡ number_in_lem radix digits.now }
+{
+    if are_digits(radix, digits) {
+        value_within(radix, digits)
+    } else {
+        None
+    }
+}
+
+/// The number that a word writes: hexadecimal behind `0x`, octal behind `0`, else decimal.
+pub(crate) fn number_of(word: &[u8]) -> Option<u32>
+    ensures { result ≡ number_of_lem word.now }
+{
+    match word {
+        [b'0', b'x', digits @ ..] => number_in(16, digits),
+        [b'0', _, ..] => number_in(8, word),
+        _ => number_in(10, word),
+    }
+}
+
+// The byte that an escape stands for, by the byte behind its backslash.
+fn escaped(byte: u8) -> Option<u8>
+    ensures { result ≡ escaped_lem byte }
+{
+    match byte {
+        b'n' => Some(b'\n'),
+        b't' => Some(b'\t'),
+        b'r' => Some(b'\r'),
+        b'0' => Some(0),
+        b'\\' | b'\'' | b'"' => Some(byte),
+        _ => None,
+    }
+}
+
+fn escaped_character<'a>(value: Option<u8>, bytes: &[u8]) -> (Token<'a>, usize)
+    ensures { result ≡ escaped_character_lem value bytes.now }
+{
+    match value {
+        Some(value) if next_is(b'\'', bytes) => (Token::Number(value as u32), 3),
+        _ => (Token::Unknown, 0),
+    }
+}
+
+/// The character behind whose opening quote these bytes stand, and how many of them belong to it.
+pub(crate) fn character<'a>(bytes: &[u8]) -> (Token<'a>, usize)
+    ensures { result ≡ character_at bytes.now }
+{
+    match bytes {
+        [first, second, rest @ ..] => {
+            if *first == b'\\' {
+                escaped_character(escaped(*second), rest)
+            } else if *first != b'\'' && *second == b'\'' {
+                (Token::Number(*first as u32), 2)
+            } else {
+                (Token::Unknown, 0)
+            }
+        }
+        _ => (Token::Unknown, 0),
+    }
+}
+
+/// The string behind whose opening quote these bytes stand, and how many of them belong to it.
+#[tactic(auto, unfolding(crate::specs::Literals::string_at))]
+pub(crate) fn string<'a>(alloc: Global, bytes: &[u8]) -> Result<(Token<'a>, usize), AllocError>
+    ensures { IfOk result (λ x. x ≡ string_at bytes.now) }
+{
+    let mut text = Vec::new(alloc);
+    let mut mark = false;
+    for (i, byte) in bytes.iter().enumerate() {
+        if mark {
+            let Some(value) = escaped(*byte) else {
+                return Ok((Token::Unknown, 0));
+            };
+            text.push(value)?;
+            mark = false;
+            continue;
+        }
+        if *byte == b'"' {
+            return Ok((Token::Str(Text { kept: text }), i + 1));
+        }
+        if *byte == b'\\' {
+            mark = true;
+            continue;
+        }
+        text.push(*byte)?;
+    }
+    Ok((Token::Unknown, 0))
+}
