@@ -146,12 +146,12 @@ sects_are bytes names place count i name at (s ∷ ss) r l h n c good =
     let here = header_bytes (sect_header name at s) in
     let size = length_header (sect_header name at s) in
     let long = length-append s.name (0 ∷ []) in
-    let heads = sect_headers (name + length s.name + 1) (at + length (sect_content s)) ss in
-    let next = stands_behind bytes (place + 40 * i) (place + 40 * (i + 1)) here heads h (omega arith) in
+    let headers = sect_headers (name + length s.name + 1) (at + length (sect_content s)) ss in
+    let next = stands_behind bytes (place + 40 * i) (place + 40 * (i + 1)) here headers h (omega arith) in
     let names_next = stands_behind names name (name + length s.name + 1) (ended s.name) (flat_map sect_name ss) n (omega arith) in
     let content_next = stands_behind bytes at (at + length (sect_content s)) (sect_content s) (flat_map sect_content ss) c refl in (
       sect_is bytes names place count i name at s r (omega arith)
-          (stands_front bytes (place + 40 * i) here heads h)
+          (stands_front bytes (place + 40 * i) here headers h)
           (stands_front names name (ended s.name) (flat_map sect_name ss) n)
           (stands_front bytes at (sect_content s) (flat_map sect_content ss) c)
           (all_first GoodSect s ss good),

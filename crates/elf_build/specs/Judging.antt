@@ -10,7 +10,7 @@ use Rattle.elf_read.specs.declared.module.Module.{Module}
 use Rattle.elf_read.specs.Tables.{width}
 use Rattle.elf_read.specs.Modules.{IsSect, IsPlaced, IsSym, HoldsBytes}
 use Rattle.elf_build.specs.Buildable.{IsHere, SectFits, SymFits, RelFits, Rises}
-use Rattle.elf_build.specs.File.{headers_of}
+use Rattle.elf_build.specs.File.{header_total}
 
 abbrev pub CanSect : Sect → Type 0
 CanSect s = IsSect s × SectFits s
@@ -30,7 +30,7 @@ pub record CanRel (ss : List Sect) (symbols : ℕ) (r : Rel) : Type 0 where
 
 -- the counts of a module are within their limits
 pub record IsSmall (m : Module) : Type 0 where
-  pub headers : headers_of m ≤ most_section_headers
+  pub headers : header_total m ≤ most_section_headers
   pub symbols : length m.symbols < most_symbol_entries
   pub relocs : length m.relocs ≤ most_relocations
 
