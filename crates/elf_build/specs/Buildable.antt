@@ -28,7 +28,7 @@ SymFits s = (s.value < 2 ^ 32) × (s.size < 2 ^ 32)
 abbrev pub RelFits : Rel → Type 0
 RelFits r = (r.kind < 2 ^ 8) × (r.addend < 2 ^ 32)
 
--- a module as a file can hold it, whose symbols are all here and whose relocations rise, with a file that is not too long
+-- a module as a file can hold it, all symbols of which are here; its relocations rise, and its file is not too long
 pub record Buildable (m : Module) : Type 0 where
   pub sound : IsModule m
   pub here : All IsHere m.symbols

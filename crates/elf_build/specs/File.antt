@@ -1,5 +1,6 @@
--- The file of a module: header, contents, symbols, relocations, names of symbols, names of sections, section headers. The
--- headers are number 0, those of the sections, of the symbol table, of both tables of names, and of the relocations' tables.
+-- The file of a module: header, contents, symbols, relocations, names of symbols, names of sections, section headers.
+-- The headers are number 0, those of the sections, of the symbol table, of both tables of names, and of the tables of
+-- relocations.
 use Rattle.std.specs.Prelude.{ℕ, suc, ◌+◌, ◌*◌, ◌==◌, if◌then◌else◌, List, [], ◌∷◌, ◌++◌, length}
 use Rattle.std.specs.List.{flat_map}
 use Rattle.byteorder.specs.Endian.{big_bytes}
