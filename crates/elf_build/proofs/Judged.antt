@@ -3,9 +3,9 @@ use Rattle.std.proofs.Common.{◌-◌, ◌<◌, ◌^◌, length, get_or, arith}
 use Rattle.elf_read.specs.declared.module.Module.{Module}
 use Rattle.elf_build.specs.Buildable.{Buildable}
 use Rattle.elf_build.specs.File.{file_of}
-use Rattle.elf_build.specs.Judging.{IsSmall, CanParts}
+use Rattle.elf_build.specs.Judging.{IsSmall, HasBuildableParts}
 
-pub judged : (m : Module) → IsSmall m → CanParts m → length (file_of m) < 2 ^ 32 → Buildable m
+pub judged : (m : Module) → IsSmall m → HasBuildableParts m → length (file_of m) < 2 ^ 32 → Buildable m
 judged m s p short =
     let headers = s.headers in
     record {
@@ -37,7 +37,7 @@ judged m s p short =
 -- all that is tested
 pub record Tested (m : Module) : Type 0 where
   pub small : IsSmall m
-  pub parts : CanParts m
+  pub parts : HasBuildableParts m
   pub short : length (file_of m) < 2 ^ 32
 
 pub unjudged : (m : Module) → Buildable m → Tested m

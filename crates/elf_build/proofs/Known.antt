@@ -13,13 +13,13 @@ use Rattle.elf_read.specs.Places.{half, word, part}
 use Rattle.elf_read.specs.Numbered.{first_from}
 use Rattle.elf_read.specs.Tables.{header, content, is_loaded, section_names, symtab, has_symtab, symbol_count, symbol, is_elsewhere}
 use Rattle.elf_build.specs.Entries.{symbol_bytes, sym_entry, kind_of}
-use Rattle.elf_build.specs.File.{tables_of, headers_of, contents_of, symbols_of, relocs_of, strings_of, names_of, symbols_at, relocs_at, strings_at, names_at, heads_at, count_of, null_header, symtab_header, strings_header, locals_end, locals_from, sect_name, sym_name, symbols_from, fixed_names, rel_bytes}
+use Rattle.elf_build.specs.File.{tables_of, header_total, contents_of, symbols_of, relocs_of, strings_of, names_of, symbols_at, relocs_at, strings_at, names_at, headers_at, count_of, null_header, symtab_header, strings_header, locals_end, locals_from, sect_name, sym_name, symbols_from, fixed_names, rel_bytes}
 use Rattle.elf_build.specs.Buildable.{Buildable}
 use Rattle.elf_build.proofs.Good.{GoodRel, good_sects, good_syms, good_rels}
 use Rattle.elf_build.proofs.TableLemmas.{flat_tables, are_tables}
 use Rattle.elf_build.proofs.Stands.{Stands, stands_whole, stands_behind, part_is}
 use Rattle.elf_build.proofs.EntryLemmas.{HeaderFits, header_is, length_symbol}
-use Rattle.elf_build.proofs.Spread.{Parts, Heads, heads_place, heads_count, names_number}
+use Rattle.elf_build.proofs.Spread.{Parts, Headers, headers_place, headers_count, names_number}
 use Rattle.elf_build.proofs.Names.{below}
 use Rattle.elf_build.proofs.Names.{then_branch}
 use Rattle.elf_build.proofs.Sections.{SectAt, AllAt, sects_are, at_number}
@@ -28,8 +28,8 @@ use Rattle.elf_build.proofs.Relocs.{TableAt, tables_are}
 use Rattle.elf_build.proofs.Splits.{first_is}
 
 pub record Known (bytes : List ℕ) (m : Module) : Type 0 where
-  pub place_is : word bytes 32 ≡ heads_at m
-  pub count_is : half bytes 48 ≡ headers_of m
+  pub place_is : word bytes 32 ≡ headers_at m
+  pub count_is : half bytes 48 ≡ header_total m
   pub number_is : half bytes 50 ≡ count_of m + 3
   pub null_is : header bytes 0 ≡ null_header
   pub symtab_is : header bytes (count_of m + 1) ≡ symtab_header (symbols_at m) (length (symbols_of m.symbols)) (count_of m + 2) (locals_end m.symbols)
@@ -62,7 +62,7 @@ content_is : (bytes : List ℕ) (i name at : ℕ) (xs : List ℕ) → header byt
 unfolding content strings_header
 content_is bytes i name at xs e s = ap (λ h. part bytes h.offset h.size) e ∙ part_is bytes at (length xs) xs s refl
 
-pub known : (bytes : List ℕ) (m : Module) → Parts bytes m → Heads bytes m → Buildable m → Known bytes m
+pub known : (bytes : List ℕ) (m : Module) → Parts bytes m → Headers bytes m → Buildable m → Known bytes m
 known bytes m p h b =
     let n = count_of m in
     let few = b.few_headers in
@@ -71,18 +71,18 @@ known bytes m p h b =
     let w1 = p.symbols.within in
     let w2 = p.strings.within in
     let w3 = p.names.within in
-    let w4 = p.heads.within in
+    let w4 = p.headers.within in
     let locals = locals_low 1 1 m.symbols (omega arith) in
-    let place = heads_place bytes (heads_at m) (headers_of m) (n + 3) p.front (omega arith) in
-    let number = names_number bytes (heads_at m) (headers_of m) (n + 3) p.front (omega arith) in
-    let names = header_is bytes (heads_at m) (n + 3) (strings_header 17 (names_at m) (length (names_of m.sections))) place h.names (strings_fit 17 (names_at m) (length (names_of m.sections)) (omega arith) (omega arith) (omega arith)) in
-    let strings = header_is bytes (heads_at m) (n + 2) (strings_header 9 (strings_at m) (length (strings_of m.symbols))) place h.strings (strings_fit 9 (strings_at m) (length (strings_of m.symbols)) (omega arith) (omega arith) (omega arith)) in
+    let place = headers_place bytes (headers_at m) (header_total m) (n + 3) p.front (omega arith) in
+    let number = names_number bytes (headers_at m) (header_total m) (n + 3) p.front (omega arith) in
+    let names = header_is bytes (headers_at m) (n + 3) (strings_header 17 (names_at m) (length (names_of m.sections))) place h.names (strings_fit 17 (names_at m) (length (names_of m.sections)) (omega arith) (omega arith) (omega arith)) in
+    let strings = header_is bytes (headers_at m) (n + 2) (strings_header 9 (strings_at m) (length (strings_of m.symbols))) place h.strings (strings_fit 9 (strings_at m) (length (strings_of m.symbols)) (omega arith) (omega arith) (omega arith)) in
     record {
       place_is = place;
-      count_is = heads_count bytes (heads_at m) (headers_of m) (n + 3) p.front (omega arith);
+      count_is = headers_count bytes (headers_at m) (header_total m) (n + 3) p.front (omega arith);
       number_is = number;
-      null_is = header_is bytes (heads_at m) 0 null_header place h.null null_fits;
-      symtab_is = header_is bytes (heads_at m) (n + 1) (symtab_header (symbols_at m) (length (symbols_of m.symbols)) (n + 2) (locals_end m.symbols)) place h.symtab
+      null_is = header_is bytes (headers_at m) 0 null_header place h.null null_fits;
+      symtab_is = header_is bytes (headers_at m) (n + 1) (symtab_header (symbols_at m) (length (symbols_of m.symbols)) (n + 2) (locals_end m.symbols)) place h.symtab
           (symtab_fits_in (symbols_at m) (length (symbols_of m.symbols)) (n + 2) (locals_end m.symbols) (omega arith) (omega arith) (omega arith) (omega arith));
       strings_is = strings;
       names_is = names;
@@ -92,13 +92,13 @@ known bytes m p h b =
 
 -- ---- sections
 
-pub sects_held : (bytes : List ℕ) (m : Module) → Parts bytes m → Heads bytes m → Known bytes m → Buildable m → AllAt (SectAt bytes) 1 m.sections
+pub sects_held : (bytes : List ℕ) (m : Module) → Parts bytes m → Headers bytes m → Known bytes m → Buildable m → AllAt (SectAt bytes) 1 m.sections
 unfolding names_of fixed_names contents_of
 sects_held bytes m p h k b =
     let few = b.few_headers in
     let short = p.short in
     let w = p.names.within in
-    sects_are bytes (names_of m.sections) (heads_at m) (headers_of m) 1 33 52 m.sections
+    sects_are bytes (names_of m.sections) (headers_at m) (header_total m) 1 33 52 m.sections
     (record { place_is = k.place_is; count_is = k.count_is; names_is = k.section_names_are; short = short; names_short = omega arith })
     (omega arith) h.sects
     (stands_behind (names_of m.sections) 0 33 fixed_names (flat_map sect_name m.sections) (stands_whole (names_of m.sections)) refl)
@@ -155,7 +155,7 @@ unfolding symtab symtab_header
 table_held bytes m k all =
     let e : 0 + (count_of m + 1) ≡ count_of m + 1 = omega arith in
     ap (λ c. first_from 0 c (λ i. (header bytes i).kind == 2)) k.count_is
-    ∙ (first_is 0 (headers_of m) (count_of m + 1) (λ i. (header bytes i).kind == 2) (omega arith) (before_table bytes m k all)
+    ∙ (first_is 0 (header_total m) (count_of m + 1) (λ i. (header bytes i).kind == 2) (omega arith) (before_table bytes m k all)
     (ap (λ x. (header bytes x).kind == 2) e ∙ ap (λ h. h.kind == 2) k.symtab_is)
     ∙ e)
 
@@ -209,12 +209,12 @@ syms_held bytes m p k b loads t =
 
 -- ---- relocations
 
-pub relas_held : (bytes : List ℕ) (m : Module) → Parts bytes m → Heads bytes m → Known bytes m → Buildable m → AllAt (SectAt bytes) 1 m.sections → Loads bytes m.sections → symtab bytes ≡ count_of m + 1 → has_symtab bytes ≡ true → symbol_count bytes ≡ suc (length m.symbols) → AllAt (SymAt bytes) 1 m.symbols → AllAt (TableAt bytes) (count_of m + 4) (tables_of m.relocs)
+pub relas_held : (bytes : List ℕ) (m : Module) → Parts bytes m → Headers bytes m → Known bytes m → Buildable m → AllAt (SectAt bytes) 1 m.sections → Loads bytes m.sections → symtab bytes ≡ count_of m + 1 → has_symtab bytes ≡ true → symbol_count bytes ≡ suc (length m.symbols) → AllAt (SymAt bytes) 1 m.symbols → AllAt (TableAt bytes) (count_of m + 4) (tables_of m.relocs)
 unfolding relocs_of
 relas_held bytes m p h k b all loads t there count syms =
     let few = b.few_headers in
     let flat = flat_tables m.relocs in
-    tables_are bytes m.sections (heads_at m) (count_of m + 1) (length m.symbols) (count_of m + 4) (relocs_at m) (tables_of m.relocs)
+    tables_are bytes m.sections (headers_at m) (count_of m + 1) (length m.symbols) (count_of m + 4) (relocs_at m) (tables_of m.relocs)
     (record {
       place_is = k.place_is;
       loads = loads;

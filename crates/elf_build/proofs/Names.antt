@@ -1,12 +1,11 @@
--- Names that end with a zero, alignments of two, and tests.
+-- Names that end with a zero, and tests.
 use Rattle.std.proofs.Common.{◌≡◌, ◌≢◌, ℕ, zero, suc, ◌<◌, ◌≤◌, List, [], ◌∷◌, ◌++◌, length, take, refl, ◌∙◌, ap, arith, Bool, true, false, nat_le, nat_lt}
 use Rattle.std.specs.Prelude.{◌==◌, ◌&&◌, ◌||◌, not, if◌then◌else◌}
-use Rattle.std.specs.List.{All, AllByRecursion, list_any}
+use Rattle.std.specs.List.{All, list_any}
 use Rattle.std.proofs.lemmas.Bool.Decides.{nat_tests}
 use Rattle.elf_read.specs.Places.{text_of}
 use Rattle.elf_read.specs.Tables.{is_zero, has_name}
 use Rattle.elf_read.specs.Contents.{name_at}
-use Rattle.elf_read.specs.Rules.{is_alignment, alignments}
 use Rattle.elf_build.specs.Entries.{ended}
 use Rattle.elf_read.specs.Modules.{IsName}
 use Rattle.elf_build.proofs.Stands.{Stands}
@@ -74,77 +73,3 @@ name_is strings k name s n = ap text_of s.is ∙ text_ended name s.rest n.no_zer
 pub name_there : (strings : List ℕ) (k : ℕ) (name : List ℕ) → Stands strings k (ended name) → IsName name → has_name strings k ≡ true
 unfolding has_name
 name_there strings k name s n = ap (λ xs. list_any is_zero (take 256 xs)) s.is ∙ any_ended 256 name s.rest (let h = n.size in omega arith)
-
--- ---- alignments of two
-
-abbrev Between : ℕ → Type 0
-Between p = (1 ≤ p) × (p ≤ 65536)
-
-between_same : (x n : ℕ) → Between x → (x == n) ≡ true → Between n
-between_same x n h e = let a = h.0 in let b = h.1 in let same : x ≡ n = grind (arith, nat_tests) in (omega arith, omega arith)
-
-any_by : (n x : ℕ) (xs : List ℕ) (b : Bool) → (x == n) ≡ b → Between x → (list_any (λ p. p == n) xs ≡ true → Between n) → (b || list_any (λ p. p == n) xs) ≡ true → Between n
-any_by n x xs true e h more t = between_same x n h e
-any_by n x xs false e h more t = more t
-
-any_between : (n : ℕ) (xs : List ℕ) → AllByRecursion Between xs → list_any (λ p. p == n) xs ≡ true → Between n
-any_between n [] h e = cc
-any_between n (x ∷ xs) (one, others) e = any_by n x xs (x == n) refl one (any_between n xs others) e
-
-pub power_low : (n : ℕ) → is_alignment n ≡ true → (1 ≤ n) × (n ≤ 65536)
-unfolding is_alignment
-power_low n h = any_between n alignments all_powers h
-  where
-    le : (n : ℕ) → 1 ≤ n → n ≤ 65536 → Between n
-    le n p q = (p, q)
-
-    all_powers : AllByRecursion Between alignments
-    all_powers = (
-      (omega arith, omega arith),
-      (
-        (omega arith, omega arith),
-        (
-          (omega arith, omega arith),
-          (
-            (omega arith, omega arith),
-            (
-              (omega arith, omega arith),
-              (
-                (omega arith, omega arith),
-                (
-                  (omega arith, omega arith),
-                  (
-                    (omega arith, omega arith),
-                    (
-                      (omega arith, omega arith),
-                      (
-                        (omega arith, omega arith),
-                        (
-                          (omega arith, omega arith),
-                          (
-                            (omega arith, omega arith),
-                            (
-                              (omega arith, omega arith),
-                              (
-                                (omega arith, omega arith),
-                                (
-                                  (omega arith, omega arith),
-                                  (
-                                    (omega arith, omega arith),
-                                    ((omega arith, omega arith), tt),
-                                  ),
-                                ),
-                              ),
-                            ),
-                          ),
-                        ),
-                      ),
-                    ),
-                  ),
-                ),
-              ),
-            ),
-          ),
-        ),
-      ),
-    )

@@ -15,7 +15,7 @@ use Rattle.elf_read.specs.Rules.{length_rule, ident_from, ident_rule, machine_ru
 use Rattle.elf_read.specs.Tables.{header, header_place, is_loaded, symtab, symbol_count, has_name, is_zero, is_applied, rela_count}
 use Rattle.elf_read.specs.Contents.{ModuleOf}
 use Rattle.elf_build.specs.Entries.{header_bytes, kind_of}
-use Rattle.elf_build.specs.File.{Table, tables_of, headers_of, symbols_of, strings_of, names_of, symbols_at, relocs_at, strings_at, names_at, heads_at, count_of, front_of, file_of, null_header, symtab_header, strings_header, locals_end, table_header, table_headers, fixed_names}
+use Rattle.elf_build.specs.File.{RelocTable, tables_of, header_total, symbols_of, strings_of, names_of, symbols_at, relocs_at, strings_at, names_at, headers_at, count_of, front_of, file_of, null_header, symtab_header, strings_header, locals_end, table_header, table_headers, fixed_names}
 use Rattle.elf_build.specs.Buildable.{Buildable}
 use Rattle.elf_build.specs.Laws.{ReadsBack}
 use Rattle.elf_build.proofs.Stands.{Stands, stands_in, half_is, byte_is}
@@ -25,7 +25,7 @@ use Rattle.elf_build.proofs.Sections.{SectAt, AllAt, each_are}
 use Rattle.elf_build.proofs.Symbols.{SymAt}
 use Rattle.elf_build.proofs.TableLemmas.{flat_tables}
 use Rattle.elf_build.proofs.Relocs.{TableAt, tables_total}
-use Rattle.elf_build.proofs.Splits.{and_ok, when_not, each_heads, total_zero}
+use Rattle.elf_build.proofs.Splits.{and_ok, when_not, each_header, total_zero}
 use Rattle.elf_read.proofs.Counting.{total_up}
 use Rattle.elf_build.proofs.Known.{Known, length_symbols, not_loaded, null_flags}
 use Rattle.elf_build.proofs.Parts.{length_front}
@@ -36,44 +36,44 @@ use Rattle.elf_build.proofs.RoundTrip.{Held, held, table_flags, strings_flags, n
 ident_by : (bytes : List ℕ) (i : ℕ) (m : ℕ) (ms : List ℕ) → slice_index bytes i ≡ m → ident_from (i + 1) ms bytes ≡ Ok tt → ident_from i (m ∷ ms) bytes ≡ Ok tt
 ident_by bytes i m ms h rest = and_ok (unless (slice_index bytes i == m) (NotElf i)) (ident_from (i + 1) ms bytes) (ap (λ b. unless b (NotElf i)) (equals (slice_index bytes i) m h)) rest
 
-front_byte : (bytes : List ℕ) (heads count names i x : ℕ) (ys : List ℕ) → Stands bytes 0 (front_of heads count names) → i ≤ 52 → drop i (front_of heads count names) ≡ x ∷ ys → slice_index bytes i ≡ x
-front_byte bytes heads count names i x ys s l e =
-    let w = length_front heads count names in
+front_byte : (bytes : List ℕ) (headers count names i x : ℕ) (ys : List ℕ) → Stands bytes 0 (front_of headers count names) → i ≤ 52 → drop i (front_of headers count names) ≡ x ∷ ys → slice_index bytes i ≡ x
+front_byte bytes headers count names i x ys s l e =
+    let w = length_front headers count names in
     let z : 0 + i ≡ i = omega arith in
-    let inside = stands_in bytes 0 i (front_of heads count names) s (omega arith) in
+    let inside = stands_in bytes 0 i (front_of headers count names) s (omega arith) in
     byte_is bytes i x ys (subst (λ k. Stands bytes k (x ∷ ys)) z (subst (Stands bytes (0 + i)) e inside))
 
-ident_passes : (bytes : List ℕ) (heads count names : ℕ) → Stands bytes 0 (front_of heads count names) → ident_rule bytes ≡ Ok tt
+ident_passes : (bytes : List ℕ) (headers count names : ℕ) → Stands bytes 0 (front_of headers count names) → ident_rule bytes ≡ Ok tt
 unfolding front_of
-ident_passes bytes heads count names s =
-    let f = front_of heads count names in
-    ident_by bytes 0 0x7f (0x45 ∷ 0x4c ∷ 0x46 ∷ 1 ∷ 2 ∷ 1 ∷ []) (front_byte bytes heads count names 0 0x7f (drop 1 f) s (omega arith) refl)
-    (ident_by bytes 1 0x45 (0x4c ∷ 0x46 ∷ 1 ∷ 2 ∷ 1 ∷ []) (front_byte bytes heads count names 1 0x45 (drop 2 f) s (omega arith) refl)
-    (ident_by bytes 2 0x4c (0x46 ∷ 1 ∷ 2 ∷ 1 ∷ []) (front_byte bytes heads count names 2 0x4c (drop 3 f) s (omega arith) refl)
-    (ident_by bytes 3 0x46 (1 ∷ 2 ∷ 1 ∷ []) (front_byte bytes heads count names 3 0x46 (drop 4 f) s (omega arith) refl)
-    (ident_by bytes 4 1 (2 ∷ 1 ∷ []) (front_byte bytes heads count names 4 1 (drop 5 f) s (omega arith) refl)
-    (ident_by bytes 5 2 (1 ∷ []) (front_byte bytes heads count names 5 2 (drop 6 f) s (omega arith) refl)
-    (ident_by bytes 6 1 [] (front_byte bytes heads count names 6 1 (drop 7 f) s (omega arith) refl) refl))))))
+ident_passes bytes headers count names s =
+    let f = front_of headers count names in
+    ident_by bytes 0 0x7f (0x45 ∷ 0x4c ∷ 0x46 ∷ 1 ∷ 2 ∷ 1 ∷ []) (front_byte bytes headers count names 0 0x7f (drop 1 f) s (omega arith) refl)
+    (ident_by bytes 1 0x45 (0x4c ∷ 0x46 ∷ 1 ∷ 2 ∷ 1 ∷ []) (front_byte bytes headers count names 1 0x45 (drop 2 f) s (omega arith) refl)
+    (ident_by bytes 2 0x4c (0x46 ∷ 1 ∷ 2 ∷ 1 ∷ []) (front_byte bytes headers count names 2 0x4c (drop 3 f) s (omega arith) refl)
+    (ident_by bytes 3 0x46 (1 ∷ 2 ∷ 1 ∷ []) (front_byte bytes headers count names 3 0x46 (drop 4 f) s (omega arith) refl)
+    (ident_by bytes 4 1 (2 ∷ 1 ∷ []) (front_byte bytes headers count names 4 1 (drop 5 f) s (omega arith) refl)
+    (ident_by bytes 5 2 (1 ∷ []) (front_byte bytes headers count names 5 2 (drop 6 f) s (omega arith) refl)
+    (ident_by bytes 6 1 [] (front_byte bytes headers count names 6 1 (drop 7 f) s (omega arith) refl) refl))))))
 
-machine_passes : (bytes : List ℕ) (heads count names : ℕ) → Stands bytes 0 (front_of heads count names) → machine_rule bytes ≡ Ok tt
+machine_passes : (bytes : List ℕ) (headers count names : ℕ) → Stands bytes 0 (front_of headers count names) → machine_rule bytes ≡ Ok tt
 unfolding front_of
-machine_passes bytes heads count names s =
-    let f = front_of heads count names in
+machine_passes bytes headers count names s =
+    let f = front_of headers count names in
     let machine = half_is bytes 18 20 (drop 20 f) (stands_in bytes 0 18 f s (omega arith)) (omega arith) in
     ap (λ b. unless b (NotPpc 18)) (equals (half bytes 18) 20 machine)
 
-type_passes : (bytes : List ℕ) (heads count names : ℕ) → Stands bytes 0 (front_of heads count names) → type_rule bytes ≡ Ok tt
+type_passes : (bytes : List ℕ) (headers count names : ℕ) → Stands bytes 0 (front_of headers count names) → type_rule bytes ≡ Ok tt
 unfolding front_of
-type_passes bytes heads count names s =
-    let f = front_of heads count names in
+type_passes bytes headers count names s =
+    let f = front_of headers count names in
     let type = half_is bytes 16 1 (drop 18 f) (stands_in bytes 0 16 f s (omega arith)) (omega arith) in
     ap (λ b. unless b (NotRel 16)) (equals (half bytes 16) 1 type)
 
-size_word : (bytes : List ℕ) (heads count names : ℕ) → Stands bytes 0 (front_of heads count names) → half bytes 46 ≡ 40
+size_word : (bytes : List ℕ) (headers count names : ℕ) → Stands bytes 0 (front_of headers count names) → half bytes 46 ≡ 40
 unfolding front_of
-size_word bytes heads count names s = half_is bytes 46 40 (drop 48 (front_of heads count names)) (stands_in bytes 0 46 (front_of heads count names) s (omega arith)) (omega arith)
+size_word bytes headers count names s = half_is bytes 46 40 (drop 48 (front_of headers count names)) (stands_in bytes 0 46 (front_of headers count names) s (omega arith)) (omega arith)
 
-pub length_table_headers : (table at : ℕ) (ts : List Table) → length (table_headers table at ts) ≡ 40 * length ts
+pub length_table_headers : (table at : ℕ) (ts : List RelocTable) → length (table_headers table at ts) ≡ 40 * length ts
 length_table_headers table at [] = refl
 length_table_headers table at (t ∷ ts) =
     let a = length_header (table_header table at t.section (length t.relocs)) in
@@ -88,8 +88,8 @@ headers_pass bytes m h b =
     let count = h.facts.count_is in
     let number = h.facts.number_is in
     let place = h.facts.place_is in
-    let size = size_word bytes (heads_at m) (headers_of m) (n + 3) h.parts.front in
-    let w = h.heads.relas.within in
+    let size = size_word bytes (headers_at m) (header_total m) (n + 3) h.parts.front in
+    let w = h.headers.relas.within in
     let l = length_table_headers (n + 1) (relocs_at m) (tables_of m.relocs) in
     and_ok (unless (half bytes 46 == 40) (BadSection 46)) (unless (not (half bytes 48 == 0)) (BadSection 48) and_then unless (nat_lt (half bytes 50) (half bytes 48)) (BadSection 50) and_then unless (nat_le (half bytes 48) 4096) (TooMany 48) and_then unless (nat_le (word bytes 32 + 40 * half bytes 48) (length bytes)) (Short 32))
     (ap (λ x. unless x (BadSection 46)) (equals (half bytes 46) 40 size))
@@ -107,9 +107,9 @@ headers_pass bytes m h b =
 each_passes : (bytes : List ℕ) (m : Module) (rule : ℕ → Rule) → Held bytes m → rule 0 ≡ Ok tt → ((i : ℕ) (s : Sect) → SectAt bytes i s → rule i ≡ Ok tt) → rule (count_of m + 1) ≡ Ok tt → rule (count_of m + 2) ≡ Ok tt → rule (count_of m + 3) ≡ Ok tt → each (count_of m + 4) (length (tables_of m.relocs)) rule ≡ Ok tt → each 0 (half bytes 48) rule ≡ Ok tt
 each_passes bytes m rule h h0 hs h1 h2 h3 hr =
     ap (λ k. each 0 k rule) h.facts.count_is
-    ∙ each_heads (count_of m) (length (tables_of m.relocs)) rule h0 (each_are (SectAt bytes) rule 1 m.sections hs h.sects) h1 h2 h3 hr
+    ∙ each_header (count_of m) (length (tables_of m.relocs)) rule h0 (each_are (SectAt bytes) rule 1 m.sections hs h.sects) h1 h2 h3 hr
 
-relas_pass : (bytes : List ℕ) (m : Module) (rule : ℕ → Rule) → Held bytes m → ((i : ℕ) (g : Table) → TableAt bytes i g → rule i ≡ Ok tt) → each (count_of m + 4) (length (tables_of m.relocs)) rule ≡ Ok tt
+relas_pass : (bytes : List ℕ) (m : Module) (rule : ℕ → Rule) → Held bytes m → ((i : ℕ) (g : RelocTable) → TableAt bytes i g → rule i ≡ Ok tt) → each (count_of m + 4) (length (tables_of m.relocs)) rule ≡ Ok tt
 relas_pass bytes m rule h go = each_are (TableAt bytes) rule (count_of m + 4) (tables_of m.relocs) go h.relas
 
 -- ---- contents
@@ -295,7 +295,7 @@ no_relocs bytes i k e d =
     (unless (nat_lt (header bytes i).info (half bytes 48)) (BadSection (header_place bytes i)) and_then when (is_loaded bytes (header bytes i).info) (unless (is_right_table bytes i) (BadSection (header_place bytes i)) and_then unless (nat_le (total (i + 1) (rela_count bytes)) 1048576) (TooMany (header_place bytes i))))
     (ap (λ x. x == 4 || x == 9) e ∙ d)
 
-total_low : (bytes : List ℕ) (m : Module) → Held bytes m → Buildable m → (i : ℕ) → i < headers_of m → total (i + 1) (rela_count bytes) ≤ 1048576
+total_low : (bytes : List ℕ) (m : Module) → Held bytes m → Buildable m → (i : ℕ) → i < header_total m → total (i + 1) (rela_count bytes) ≤ 1048576
 total_low bytes m h b i l =
     let n = count_of m in
     let gs = tables_of m.relocs in
@@ -303,13 +303,13 @@ total_low bytes m h b i l =
     let all = tables_total bytes (n + 4) gs h.relas in
     let flat = ap length (flat_tables m.relocs) in
     let few = b.sound.few_relocs in
-    let rest : ℕ = headers_of m - (i + 1) in
+    let rest : ℕ = header_total m - (i + 1) in
     let grows = total_up rest (i + 1) (rela_count bytes) in
     let e : i + 1 + rest ≡ n + 4 + length gs = omega arith in
     let same : total (i + 1 + rest) (rela_count bytes) ≡ total (n + 4 + length gs) (rela_count bytes) = ap (λ k. total k (rela_count bytes)) e in
     omega arith
 
-rela_passes : (bytes : List ℕ) (m : Module) (i : ℕ) (g : Table) → total (i + 1) (rela_count bytes) ≤ 1048576 → TableAt bytes i g → table_rule bytes i ≡ Ok tt
+rela_passes : (bytes : List ℕ) (m : Module) (i : ℕ) (g : RelocTable) → total (i + 1) (rela_count bytes) ≤ 1048576 → TableAt bytes i g → table_rule bytes i ≡ Ok tt
 rela_passes bytes m i g t x =
     let inner = unless (is_right_table bytes i) (BadSection (header_place bytes i)) and_then unless (nat_le (total (i + 1) (rela_count bytes)) 1048576) (TooMany (header_place bytes i)) in
     ap (λ k. when (k == 4 || k == 9) (unless (nat_lt (header bytes i).info (half bytes 48)) (BadSection (header_place bytes i)) and_then when (is_loaded bytes (header bytes i).info) inner)) x.kind
@@ -321,7 +321,7 @@ rela_passes bytes m i g t x =
     (ap (λ b. unless b (TooMany (header_place bytes i))) (at_most (total (i + 1) (rela_count bytes)) 1048576 t)))
 
 -- a rule for each group, where the number stays below a bound
-each_below : (bytes : List ℕ) (rule : ℕ → Rule) (i n : ℕ) (gs : List Table) → i + length gs ≤ n → ((j : ℕ) (g : Table) → j < n → TableAt bytes j g → rule j ≡ Ok tt) → AllAt (TableAt bytes) i gs → each i (length gs) rule ≡ Ok tt
+each_below : (bytes : List ℕ) (rule : ℕ → Rule) (i n : ℕ) (gs : List RelocTable) → i + length gs ≤ n → ((j : ℕ) (g : RelocTable) → j < n → TableAt bytes j g → rule j ≡ Ok tt) → AllAt (TableAt bytes) i gs → each i (length gs) rule ≡ Ok tt
 each_below bytes rule i n [] l go all = refl
 each_below bytes rule i n (g ∷ gs) l go (one, others) =
     and_ok (rule i) (each (i + 1) (length gs) rule) (go i g (omega arith) one) (each_below bytes rule (i + 1) n gs (omega arith) go others)
@@ -337,7 +337,7 @@ relocs_pass bytes m h b =
     (no_relocs bytes (n + 1) 2 (table_kind bytes m k) refl)
     (no_relocs bytes (n + 2) 3 (strings_kind bytes m k) refl)
     (no_relocs bytes (n + 3) 3 (names_kind bytes m k) refl)
-    (each_below bytes (table_rule bytes) (n + 4) (headers_of m) gs (omega arith) (λ i g l x. rela_passes bytes m i g (total_low bytes m h b i l) x) h.relas)
+    (each_below bytes (table_rule bytes) (n + 4) (header_total m) gs (omega arith) (λ i g l x. rela_passes bytes m i g (total_low bytes m h b i l) x) h.relas)
 
 no_entries : (bytes : List ℕ) (i : ℕ) → rela_count bytes i ≡ 0 → relocations_rule bytes i ≡ Ok tt
 no_entries bytes i h = ap (λ k. each 0 k (relocation_rule bytes i)) h
@@ -363,7 +363,7 @@ entries_pass bytes m h =
 long_passes : (bytes : List ℕ) (m : Module) → Held bytes m → length_rule bytes ≡ Ok tt
 long_passes bytes m h =
     let w = h.parts.front.within in
-    let l = length_front (heads_at m) (headers_of m) (count_of m + 3) in
+    let l = length_front (headers_at m) (header_total m) (count_of m + 3) in
     ap (λ b. unless b (Short (length bytes))) (at_most 52 (length bytes) (omega arith))
 
 -- a list of rules that all hold
@@ -378,11 +378,11 @@ all_pass bytes m h b =
     rules_pass (rules_of bytes) (
       long_passes bytes m h,
       (
-        ident_passes bytes (heads_at m) (headers_of m) (n + 3) h.parts.front,
+        ident_passes bytes (headers_at m) (header_total m) (n + 3) h.parts.front,
         (
-          machine_passes bytes (heads_at m) (headers_of m) (n + 3) h.parts.front,
+          machine_passes bytes (headers_at m) (header_total m) (n + 3) h.parts.front,
           (
-            type_passes bytes (heads_at m) (headers_of m) (n + 3) h.parts.front,
+            type_passes bytes (headers_at m) (header_total m) (n + 3) h.parts.front,
             (
               headers_pass bytes m h b,
               (

@@ -18,10 +18,10 @@ use Rattle.elf_read.specs.Tables.{header, header_place, is_loaded, loaded_before
 use Rattle.elf_read.specs.Contents.{rel_of, rels_at}
 use Rattle.elf_build.specs.Entries.{header_bytes, rel_entry, kind_of}
 use Rattle.elf_read.specs.Modules.{size_of}
-use Rattle.elf_build.specs.File.{Table, rel_bytes, table_header, table_headers}
+use Rattle.elf_build.specs.File.{RelocTable, rel_bytes, table_header, table_headers}
 use Rattle.elf_read.specs.Modules.{HoldsBytes}
 use Rattle.elf_build.proofs.Good.{GoodRel}
-use Rattle.elf_build.proofs.TableLemmas.{relocs_in, IsTable}
+use Rattle.elf_build.proofs.TableLemmas.{relocs_in, IsRelocTable}
 use Rattle.elf_build.proofs.Stands.{Stands, stands_front, stands_behind}
 use Rattle.elf_build.proofs.EntryLemmas.{header_is, relocation_is, length_header, length_relocation}
 use Rattle.elf_build.proofs.Names.{or_true, and_true, not_false, equals, below, at_most, then_branch, all_first, all_rest}
@@ -149,7 +149,7 @@ rels_are bytes sections place table symbols i q at j (r ∷ rs) c o e s good of 
 -- ---- the tables of relocations
 
 -- header number i is of the relocations of one section
-pub record TableAt (bytes : List ℕ) (i : ℕ) (g : Table) : Type 0 where
+pub record TableAt (bytes : List ℕ) (i : ℕ) (g : RelocTable) : Type 0 where
   pub name : (header bytes i).name ≡ 27
   pub kind : (header bytes i).kind ≡ 4
   pub not_loaded : (bit_and (header bytes i).flags 2 == 0) ≡ true
@@ -197,7 +197,7 @@ right_all bytes i n rs c l all =
     ap (λ k. each 0 k (relocation_rule bytes i)) (c ∙ sym l)
     ∙ each_are (RelAt bytes i) (relocation_rule bytes i) 0 rs (λ q r h. h.fits) all
 
-table_is_at : (bytes : List ℕ) (sections : List Sect) (place table symbols i at : ℕ) (t : Table) → RelReads bytes place table sections symbols → Stands bytes (place + 40 * i) (header_bytes (table_header table at t.section (length t.relocs))) → Stands bytes at (flat_map rel_bytes t.relocs) → at + 12 * length t.relocs ≤ length bytes → t.section < length sections → All (GoodRel sections symbols) t.relocs → IsTable t → (d : Sect) → TableAt bytes i t
+table_is_at : (bytes : List ℕ) (sections : List Sect) (place table symbols i at : ℕ) (t : RelocTable) → RelReads bytes place table sections symbols → Stands bytes (place + 40 * i) (header_bytes (table_header table at t.section (length t.relocs))) → Stands bytes at (flat_map rel_bytes t.relocs) → at + 12 * length t.relocs ≤ length bytes → t.section < length sections → All (GoodRel sections symbols) t.relocs → IsRelocTable t → (d : Sect) → TableAt bytes i t
 unfolding table_header
 table_is_at bytes sections place table symbols i at t c h s long l good of d =
     let j = t.section in
@@ -228,7 +228,7 @@ table_is_at bytes sections place table symbols i at t c h s long l good of d =
       right = right_all bytes i k t.relocs count refl all;
     }
 
-section_low : (sections : List Sect) (symbols : ℕ) (t : Table) (d : Rel) → IsTable t → All (GoodRel sections symbols) t.relocs → t.section < length sections
+section_low : (sections : List Sect) (symbols : ℕ) (t : RelocTable) (d : Rel) → IsRelocTable t → All (GoodRel sections symbols) t.relocs → t.section < length sections
 section_low sections symbols t d of good =
     let first = (good 0 d of.some).section in
     let same = of.same 0 d of.some in
@@ -240,10 +240,10 @@ all_front P xs ys h = All-same P xs (take (length xs) (xs ++ ys)) (sym (take_at 
 all_behind : {X : Type 0} (P : X → Type 0) (xs ys : List X) → All P (xs ++ ys) → All P ys
 all_behind P xs ys h = All-same P ys (drop (length xs) (xs ++ ys)) (sym (drop_at xs ys (length xs) refl)) (All-drop P (length xs) (xs ++ ys) h)
 
-flat_parts : (t : Table) (ts : List Table) → flat_map rel_bytes (t.relocs ++ flat_map relocs_in ts) ≡ flat_map rel_bytes t.relocs ++ flat_map rel_bytes (flat_map relocs_in ts)
+flat_parts : (t : RelocTable) (ts : List RelocTable) → flat_map rel_bytes (t.relocs ++ flat_map relocs_in ts) ≡ flat_map rel_bytes t.relocs ++ flat_map rel_bytes (flat_map relocs_in ts)
 flat_parts t ts = flat_map-append rel_bytes t.relocs (flat_map relocs_in ts)
 
-pub tables_are : (bytes : List ℕ) (sections : List Sect) (place table symbols i at : ℕ) (ts : List Table) → RelReads bytes place table sections symbols → Stands bytes (place + 40 * i) (table_headers table at ts) → Stands bytes at (flat_map rel_bytes (flat_map relocs_in ts)) → All (GoodRel sections symbols) (flat_map relocs_in ts) → All IsTable ts → (d : Sect) (r : Rel) → AllAt (TableAt bytes) i ts
+pub tables_are : (bytes : List ℕ) (sections : List Sect) (place table symbols i at : ℕ) (ts : List RelocTable) → RelReads bytes place table sections symbols → Stands bytes (place + 40 * i) (table_headers table at ts) → Stands bytes at (flat_map rel_bytes (flat_map relocs_in ts)) → All (GoodRel sections symbols) (flat_map relocs_in ts) → All IsRelocTable ts → (d : Sect) (r : Rel) → AllAt (TableAt bytes) i ts
 tables_are bytes sections place table symbols i at [] c h s good of d r = tt
 tables_are bytes sections place table symbols i at (t ∷ ts) c h s good of d r =
     let here = header_bytes (table_header table at t.section (length t.relocs)) in
@@ -255,20 +255,20 @@ tables_are bytes sections place table symbols i at (t ∷ ts) c h s good of d r 
     let held = stands_front bytes at (flat_map rel_bytes t.relocs) (flat_map rel_bytes (flat_map relocs_in ts)) both in
     let after = stands_behind bytes at (at + 12 * length t.relocs) (flat_map rel_bytes t.relocs) (flat_map rel_bytes (flat_map relocs_in ts)) both (omega arith) in
     let within = held.within in
-    let one = all_first IsTable t ts of in
+    let one = all_first IsRelocTable t ts of in
     let good_here = all_front (GoodRel sections symbols) t.relocs (flat_map relocs_in ts) good in
     let good_rest = all_behind (GoodRel sections symbols) t.relocs (flat_map relocs_in ts) good in (
       table_is_at bytes sections place table symbols i at t c (stands_front bytes (place + 40 * i) here rest h) held (omega arith) (section_low sections symbols t r one good_here) good_here one d,
-      tables_are bytes sections place table symbols (i + 1) (at + 12 * length t.relocs) ts c next after good_rest (all_rest IsTable t ts of) d r,
+      tables_are bytes sections place table symbols (i + 1) (at + 12 * length t.relocs) ts c next after good_rest (all_rest IsRelocTable t ts of) d r,
     )
 
 -- ---- what follows
 
-pub tables_gathered : (bytes : List ℕ) (i : ℕ) (gs : List Table) → AllAt (TableAt bytes) i gs → gathered i (length gs) (rels_at bytes) ≡ flat_map relocs_in gs
+pub tables_gathered : (bytes : List ℕ) (i : ℕ) (gs : List RelocTable) → AllAt (TableAt bytes) i gs → gathered i (length gs) (rels_at bytes) ≡ flat_map relocs_in gs
 tables_gathered bytes i [] all = refl
 tables_gathered bytes i (g ∷ gs) (one, others) = ap (λ xs. xs ++ gathered (i + 1) (length gs) (rels_at bytes)) one.reads ∙ ap (λ xs. g.relocs ++ xs) (tables_gathered bytes (i + 1) gs others)
 
-pub tables_total : (bytes : List ℕ) (i : ℕ) (gs : List Table) → AllAt (TableAt bytes) i gs → total (i + length gs) (rela_count bytes) ≡ total i (rela_count bytes) + length (flat_map relocs_in gs)
+pub tables_total : (bytes : List ℕ) (i : ℕ) (gs : List RelocTable) → AllAt (TableAt bytes) i gs → total (i + length gs) (rela_count bytes) ≡ total i (rela_count bytes) + length (flat_map relocs_in gs)
 tables_total bytes i [] all = let e : i + 0 ≡ i = omega arith in let f : total (i + 0) (rela_count bytes) ≡ total i (rela_count bytes) = ap (λ k. total k (rela_count bytes)) e in omega arith
 tables_total bytes i (g ∷ gs) (one, others) =
     let more = tables_total bytes (i + 1) gs others in

@@ -11,19 +11,19 @@ use Rattle.elf_read.specs.Contents.{module_at, sect_of, sects_at, syms_at, rels_
 use Rattle.elf_build.specs.Entries.{kind_of}
 use Rattle.elf_build.specs.File.{tables_of, count_of, file_of, null_header, symtab_header, strings_header}
 use Rattle.elf_build.specs.Buildable.{Buildable}
-use Rattle.elf_build.proofs.Spread.{Parts, Heads, parts_stand, heads_stand}
+use Rattle.elf_build.proofs.Spread.{Parts, Headers, parts_stand, headers_stand}
 use Rattle.elf_build.proofs.Names.{else_branch}
 use Rattle.elf_build.proofs.Sections.{SectAt, AllAt, sects_gathered}
 use Rattle.elf_build.proofs.Symbols.{Loads, SymAt, syms_gathered}
 use Rattle.elf_build.proofs.TableLemmas.{flat_tables}
 use Rattle.elf_build.proofs.Relocs.{TableAt, tables_gathered}
-use Rattle.elf_build.proofs.Splits.{gathered_heads, gathered_none_at, front_heads}
+use Rattle.elf_build.proofs.Splits.{gathered_headers, gathered_none_at, front_headers}
 use Rattle.elf_build.proofs.Known.{Known, known, sects_held, loads_held, table_held, table_there, count_held, syms_held, relas_held, not_loaded, null_flags, sect_at, no_sect}
 
 -- what a built file is known to hold
 pub record Held (bytes : List ℕ) (m : Module) : Type 0 where
   pub parts : Parts bytes m
-  pub heads : Heads bytes m
+  pub headers : Headers bytes m
   pub facts : Known bytes m
   pub sects : AllAt (SectAt bytes) 1 m.sections
   pub loads : Loads bytes m.sections
@@ -36,7 +36,7 @@ pub record Held (bytes : List ℕ) (m : Module) : Type 0 where
 pub held : (m : Module) → Buildable m → Held (file_of m) m
 held m b =
     let p = parts_stand m b in
-    let h = heads_stand (file_of m) m p.heads in
+    let h = headers_stand (file_of m) m p.headers in
     let k = known (file_of m) m p h b in
     let sects = sects_held (file_of m) m p h k b in
     let loads = loads_held (file_of m) m k b sects in
@@ -46,7 +46,7 @@ held m b =
     let syms = syms_held (file_of m) m p k b loads table in
     record {
       parts = p;
-      heads = h;
+      headers = h;
       facts = k;
       sects = sects;
       loads = loads;
@@ -80,7 +80,7 @@ sections_hold bytes m h =
     let gs = tables_of m.relocs in
     let relas : gathered (n + 4) (length gs) (sects_at bytes) ≡ [] = gathered_none_at (TableAt bytes) (sects_at bytes) (n + 4) gs (λ j g x. no_sect_at bytes j x.not_loaded) h.relas in
     ap (λ k. gathered 0 k (sects_at bytes)) h.facts.count_is
-    ∙ (gathered_heads n (length gs) (sects_at bytes) m.sections []
+    ∙ (gathered_headers n (length gs) (sects_at bytes) m.sections []
     (no_sect_at bytes 0 (null_flags bytes m h.facts))
     (sects_gathered bytes 1 m.sections h.sects)
     (no_sect_at bytes (n + 1) (table_flags bytes m h.facts))
@@ -126,7 +126,7 @@ names_kind bytes m k = ap (λ h. h.kind) k.names_is
 
 pub none_in_front : (bytes : List ℕ) (m : Module) → Held bytes m → (i : ℕ) → i < count_of m + 4 → rela_count bytes i ≡ 0
 none_in_front bytes m h =
-    front_heads (count_of m) (λ i. rela_count bytes i ≡ 0)
+    front_headers (count_of m) (λ i. rela_count bytes i ≡ 0)
     (no_rels bytes 0 (ap (λ x. x == 4) (null_kind bytes m h.facts)))
     (λ k l. no_rels bytes (suc k) (ap (λ x. x == 4) (sect_at bytes m h.sects k l no_sect).kind ∙ kind_not_four (get_or m.sections k no_sect).body))
     (no_rels bytes (count_of m + 1) (ap (λ x. x == 4) (table_kind bytes m h.facts)))
@@ -143,7 +143,7 @@ relocs_hold bytes m h =
     gathered_none_at (SectAt bytes) (rels_at bytes) 1 m.sections
     (λ j s x. no_rels_at bytes j (no_rels bytes j (ap (λ y. y == 4) x.kind ∙ kind_not_four s.body))) h.sects in
     ap (λ k. gathered 0 k (rels_at bytes)) h.facts.count_is
-    ∙ gathered_heads n (length gs) (rels_at bytes) [] m.relocs
+    ∙ gathered_headers n (length gs) (rels_at bytes) [] m.relocs
     (no_rels_at bytes 0 (front 0 (omega arith)))
     sects
     (no_rels_at bytes (n + 1) (front (n + 1) (omega arith)))

@@ -19,9 +19,10 @@ use Rattle.elf_read.specs.Modules.{size_of}
 use Rattle.elf_build.specs.File.{sect_headers, sect_name, sect_content}
 use Rattle.elf_read.specs.Modules.{IsName}
 use Rattle.elf_build.proofs.Good.{GoodSect}
+use Rattle.elf_read.proofs.AlignmentLemmas.{alignment_between}
 use Rattle.elf_build.proofs.Stands.{Stands, stands_front, stands_behind, part_is}
 use Rattle.elf_build.proofs.EntryLemmas.{HeaderFits, header_is, length_header}
-use Rattle.elf_build.proofs.Names.{or_true, and_true, not_false, differs, below, at_most, else_branch, then_branch, all_first, all_rest, name_is, name_there, power_low}
+use Rattle.elf_build.proofs.Names.{or_true, and_true, not_false, differs, below, at_most, else_branch, then_branch, all_first, all_rest, name_is, name_there}
 
 -- what is known of a file's headers and names
 pub record Reads (bytes : List ℕ) (place count : ℕ) (names : List ℕ) : Type 0 where
@@ -67,7 +68,7 @@ same_sect a s p1 p2 p3 p4 =
 fits : (bytes names : List ℕ) (place count name at : ℕ) (s : Sect) → Reads bytes place count names → Stands names name (ended s.name) → Stands bytes at (sect_content s) → GoodSect s → HeaderFits (sect_header name at s)
 unfolding sect_header
 fits bytes names place count name at s r n c good =
-    let p = power_low s.align good.align in
+    let p = alignment_between s.align good.align in
     let p1 = p.1 in
     let w1 = n.within in
     let w2 = c.within in
@@ -87,7 +88,7 @@ loaded_by bytes i count h c l e f =
 same_by : (bytes names : List ℕ) (i name at : ℕ) (s : Sect) → section_names bytes ≡ names → header bytes i ≡ sect_header name at s → Stands names name (ended s.name) → Stands bytes at (sect_content s) → GoodSect s → sect_of bytes i ≡ s
 unfolding sect_of sect_header content
 same_by bytes names i name at s ns e n c good =
-    let p = power_low s.align good.align in
+    let p = alignment_between s.align good.align in
     let p0 = p.0 in
     same_sect (sect_of bytes i) s
     (ap (λ x. name_at x (header bytes i).name) ns ∙ (ap (λ x. name_at names x.name) e ∙ name_is names name s.name n good.name))
@@ -146,12 +147,12 @@ sects_are bytes names place count i name at (s ∷ ss) r l h n c good =
     let here = header_bytes (sect_header name at s) in
     let size = length_header (sect_header name at s) in
     let long = length-append s.name (0 ∷ []) in
-    let heads = sect_headers (name + length s.name + 1) (at + length (sect_content s)) ss in
-    let next = stands_behind bytes (place + 40 * i) (place + 40 * (i + 1)) here heads h (omega arith) in
+    let headers = sect_headers (name + length s.name + 1) (at + length (sect_content s)) ss in
+    let next = stands_behind bytes (place + 40 * i) (place + 40 * (i + 1)) here headers h (omega arith) in
     let names_next = stands_behind names name (name + length s.name + 1) (ended s.name) (flat_map sect_name ss) n (omega arith) in
     let content_next = stands_behind bytes at (at + length (sect_content s)) (sect_content s) (flat_map sect_content ss) c refl in (
       sect_is bytes names place count i name at s r (omega arith)
-          (stands_front bytes (place + 40 * i) here heads h)
+          (stands_front bytes (place + 40 * i) here headers h)
           (stands_front names name (ended s.name) (flat_map sect_name ss) n)
           (stands_front bytes at (sect_content s) (flat_map sect_content ss) c)
           (all_first GoodSect s ss good),

@@ -24,8 +24,8 @@ each_split i (suc a) b rule h t =
     ap (λ k. each i k rule) e ∙ split_by i a b rule (rule i) h (λ x. each_split (i + 1) a b rule x (ap (λ k. each k b rule) g ∙ t))
 
 -- headers: number 0, the sections, three tables, the sections of relocations
-pub each_heads : (n k : ℕ) (rule : ℕ → Rule) → rule 0 ≡ Ok tt → each 1 n rule ≡ Ok tt → rule (n + 1) ≡ Ok tt → rule (n + 2) ≡ Ok tt → rule (n + 3) ≡ Ok tt → each (n + 4) k rule ≡ Ok tt → each 0 (n + k + 4) rule ≡ Ok tt
-each_heads n k rule h0 hs h1 h2 h3 hr =
+pub each_header : (n k : ℕ) (rule : ℕ → Rule) → rule 0 ≡ Ok tt → each 1 n rule ≡ Ok tt → rule (n + 1) ≡ Ok tt → rule (n + 2) ≡ Ok tt → rule (n + 3) ≡ Ok tt → each (n + 4) k rule ≡ Ok tt → each 0 (n + k + 4) rule ≡ Ok tt
+each_header n k rule h0 hs h1 h2 h3 hr =
     let count : n + k + 4 ≡ suc (n + suc (suc (suc k))) = omega arith in
     let e1 : 1 + n ≡ n + 1 = omega arith in
     let e2 : 1 + n + 1 ≡ n + 2 = omega arith in
@@ -38,8 +38,8 @@ each_heads n k rule h0 hs h1 h2 h3 hr =
     ap (λ j. each 0 j rule) count
     ∙ and_ok (rule 0) (each 1 (n + suc (suc (suc k))) rule) h0 (each_split 1 n (suc (suc (suc k))) rule hs tail)
 
-pub gathered_heads : {X : Type 0} (n k : ℕ) (f : ℕ → List X) (ss rs : List X) → f 0 ≡ [] → gathered 1 n f ≡ ss → f (n + 1) ≡ [] → f (n + 2) ≡ [] → f (n + 3) ≡ [] → gathered (n + 4) k f ≡ rs → gathered 0 (n + k + 4) f ≡ ss ++ rs
-gathered_heads n k f ss rs h0 hs h1 h2 h3 hr =
+pub gathered_headers : {X : Type 0} (n k : ℕ) (f : ℕ → List X) (ss rs : List X) → f 0 ≡ [] → gathered 1 n f ≡ ss → f (n + 1) ≡ [] → f (n + 2) ≡ [] → f (n + 3) ≡ [] → gathered (n + 4) k f ≡ rs → gathered 0 (n + k + 4) f ≡ ss ++ rs
+gathered_headers n k f ss rs h0 hs h1 h2 h3 hr =
     let count : n + k + 4 ≡ suc (n + suc (suc (suc k))) = omega arith in
     let e1 : 1 + n ≡ n + 1 = omega arith in
     let e2 : 1 + n + 1 ≡ n + 2 = omega arith in
@@ -80,9 +80,9 @@ split_at (suc n) zero = inl (omega arith)
 split_at (suc n) (suc k) = elim (split_at n k) [ inl l ↦ inl (omega arith) | inr q ↦ inr (q.0, (let a = q.1 in let e : suc k ≡ suc n + q.0 = omega arith in e)) ]
 
 -- what holds of each header in front of the sections of relocations
-pub front_heads : (n : ℕ) (Q : ℕ → Type 0) → Q 0 → ((k : ℕ) → k < n → Q (suc k)) → Q (n + 1) → Q (n + 2) → Q (n + 3) → (i : ℕ) → i < n + 4 → Q i
-front_heads n Q q0 qs q1 q2 q3 zero l = q0
-front_heads n Q q0 qs q1 q2 q3 (suc k) l =
+pub front_headers : (n : ℕ) (Q : ℕ → Type 0) → Q 0 → ((k : ℕ) → k < n → Q (suc k)) → Q (n + 1) → Q (n + 2) → Q (n + 3) → (i : ℕ) → i < n + 4 → Q i
+front_headers n Q q0 qs q1 q2 q3 zero l = q0
+front_headers n Q q0 qs q1 q2 q3 (suc k) l =
     elim (split_at n k) [
       | inl below ↦ qs k below
       | inr q ↦ three n Q q1 q2 q3 k q.0 q.1 l

@@ -4,34 +4,34 @@ use Rattle.elf_read.specs.declared.module.Sect.{Sect}
 use Rattle.elf_read.specs.declared.module.Module.{Module}
 use Rattle.elf_read.specs.Places.{half, word}
 use Rattle.elf_build.specs.Entries.{header_bytes, sect_header}
-use Rattle.elf_build.specs.File.{tables_of, headers_of, contents_of, symbols_of, relocs_of, strings_of, names_of, symbols_at, relocs_at, strings_at, names_at, heads_at, heads_of, front_of, file_of, count_of, sect_headers, table_headers, null_header, symtab_header, strings_header, locals_end, sect_content}
+use Rattle.elf_build.specs.File.{tables_of, header_total, contents_of, symbols_of, relocs_of, strings_of, names_of, symbols_at, relocs_at, strings_at, names_at, headers_at, headers_of, front_of, file_of, count_of, sect_headers, table_headers, null_header, symtab_header, strings_header, locals_end, sect_content}
 use Rattle.elf_build.specs.Buildable.{Buildable}
 use Rattle.elf_build.proofs.Parts.{length_front}
 use Rattle.elf_build.proofs.Stands.{Stands, stands_whole, stands_front, stands_behind, stands_in, word_is, half_is}
 use Rattle.elf_build.proofs.EntryLemmas.{length_header}
 
 pub record Parts (bytes : List ℕ) (m : Module) : Type 0 where
-  pub front : Stands bytes 0 (front_of (heads_at m) (headers_of m) (count_of m + 3))
+  pub front : Stands bytes 0 (front_of (headers_at m) (header_total m) (count_of m + 3))
   pub contents : Stands bytes 52 (contents_of m.sections)
   pub symbols : Stands bytes (symbols_at m) (symbols_of m.symbols)
   pub relocs : Stands bytes (relocs_at m) (relocs_of m.relocs)
   pub strings : Stands bytes (strings_at m) (strings_of m.symbols)
   pub names : Stands bytes (names_at m) (names_of m.sections)
-  pub heads : Stands bytes (heads_at m) (heads_of m)
+  pub headers : Stands bytes (headers_at m) (headers_of m)
   pub short : length bytes < 2 ^ 32
 
 pub parts_stand : (m : Module) → Buildable m → Parts (file_of m) m
-unfolding file_of symbols_at relocs_at strings_at names_at heads_at
+unfolding file_of symbols_at relocs_at strings_at names_at headers_at
 parts_stand m b =
-    let front = front_of (heads_at m) (headers_of m) (count_of m + 3) in
+    let front = front_of (headers_at m) (header_total m) (count_of m + 3) in
     let s0 = stands_whole (file_of m) in
-    let r6 = heads_of m in
+    let r6 = headers_of m in
     let r5 = names_of m.sections ++ r6 in
     let r4 = strings_of m.symbols ++ r5 in
     let r3 = relocs_of m.relocs ++ r4 in
     let r2 = symbols_of m.symbols ++ r3 in
     let r1 = contents_of m.sections ++ r2 in
-    let s1 = stands_behind (file_of m) 0 52 front r1 s0 (let e = length_front (heads_at m) (headers_of m) (count_of m + 3) in omega arith) in
+    let s1 = stands_behind (file_of m) 0 52 front r1 s0 (let e = length_front (headers_at m) (header_total m) (count_of m + 3) in omega arith) in
     let s2 = stands_behind (file_of m) 52 (symbols_at m) (contents_of m.sections) r2 s1 refl in
     let s3 = stands_behind (file_of m) (symbols_at m) (relocs_at m) (symbols_of m.symbols) r3 s2 refl in
     let s4 = stands_behind (file_of m) (relocs_at m) (strings_at m) (relocs_of m.relocs) r4 s3 refl in
@@ -43,46 +43,46 @@ parts_stand m b =
       relocs = stands_front (file_of m) (relocs_at m) (relocs_of m.relocs) r4 s3;
       strings = stands_front (file_of m) (strings_at m) (strings_of m.symbols) r5 s4;
       names = stands_front (file_of m) (names_at m) (names_of m.sections) r6 s5;
-      heads = stands_behind (file_of m) (names_at m) (heads_at m) (names_of m.sections) r6 s5 refl;
+      headers = stands_behind (file_of m) (names_at m) (headers_at m) (names_of m.sections) r6 s5 refl;
       short = b.short;
     }
 
 -- ---- the front
 
-pub heads_place : (bytes : List ℕ) (heads count names : ℕ) → Stands bytes 0 (front_of heads count names) → heads < 2 ^ 32 → word bytes 32 ≡ heads
+pub headers_place : (bytes : List ℕ) (headers count names : ℕ) → Stands bytes 0 (front_of headers count names) → headers < 2 ^ 32 → word bytes 32 ≡ headers
 unfolding front_of
-heads_place bytes heads count names s h = word_is bytes 32 heads (drop 36 (front_of heads count names)) (stands_in bytes 0 32 (front_of heads count names) s (omega arith)) h
+headers_place bytes headers count names s h = word_is bytes 32 headers (drop 36 (front_of headers count names)) (stands_in bytes 0 32 (front_of headers count names) s (omega arith)) h
 
-pub heads_count : (bytes : List ℕ) (heads count names : ℕ) → Stands bytes 0 (front_of heads count names) → count < 2 ^ 16 → half bytes 48 ≡ count
+pub headers_count : (bytes : List ℕ) (headers count names : ℕ) → Stands bytes 0 (front_of headers count names) → count < 2 ^ 16 → half bytes 48 ≡ count
 unfolding front_of
-heads_count bytes heads count names s h = half_is bytes 48 count (drop 50 (front_of heads count names)) (stands_in bytes 0 48 (front_of heads count names) s (omega arith)) h
+headers_count bytes headers count names s h = half_is bytes 48 count (drop 50 (front_of headers count names)) (stands_in bytes 0 48 (front_of headers count names) s (omega arith)) h
 
-pub names_number : (bytes : List ℕ) (heads count names : ℕ) → Stands bytes 0 (front_of heads count names) → names < 2 ^ 16 → half bytes 50 ≡ names
+pub names_number : (bytes : List ℕ) (headers count names : ℕ) → Stands bytes 0 (front_of headers count names) → names < 2 ^ 16 → half bytes 50 ≡ names
 unfolding front_of
-names_number bytes heads count names s h = half_is bytes 50 names [] (stands_in bytes 0 50 (front_of heads count names) s (omega arith)) h
+names_number bytes headers count names s h = half_is bytes 50 names [] (stands_in bytes 0 50 (front_of headers count names) s (omega arith)) h
 
 -- ---- the section headers
 
-pub length_sect_heads : (name at : ℕ) (ss : List Sect) → length (sect_headers name at ss) ≡ 40 * length ss
-length_sect_heads name at [] = refl
-length_sect_heads name at (s ∷ ss) =
+pub length_sect_headers : (name at : ℕ) (ss : List Sect) → length (sect_headers name at ss) ≡ 40 * length ss
+length_sect_headers name at [] = refl
+length_sect_headers name at (s ∷ ss) =
     let h = length_header (sect_header name at s) in
-    let rest = length_sect_heads (name + length s.name + 1) (at + length (sect_content s)) ss in
+    let rest = length_sect_headers (name + length s.name + 1) (at + length (sect_content s)) ss in
     let both = length-append (header_bytes (sect_header name at s)) (sect_headers (name + length s.name + 1) (at + length (sect_content s)) ss) in
     omega arith
 
-pub record Heads (bytes : List ℕ) (m : Module) : Type 0 where
-  pub null : Stands bytes (heads_at m + 40 * 0) (header_bytes null_header)
-  pub sects : Stands bytes (heads_at m + 40 * 1) (sect_headers 33 52 m.sections)
-  pub symtab : Stands bytes (heads_at m + 40 * (count_of m + 1)) (header_bytes (symtab_header (symbols_at m) (length (symbols_of m.symbols)) (count_of m + 2) (locals_end m.symbols)))
-  pub strings : Stands bytes (heads_at m + 40 * (count_of m + 2)) (header_bytes (strings_header 9 (strings_at m) (length (strings_of m.symbols))))
-  pub names : Stands bytes (heads_at m + 40 * (count_of m + 3)) (header_bytes (strings_header 17 (names_at m) (length (names_of m.sections))))
-  pub relas : Stands bytes (heads_at m + 40 * (count_of m + 4)) (table_headers (count_of m + 1) (relocs_at m) (tables_of m.relocs))
+pub record Headers (bytes : List ℕ) (m : Module) : Type 0 where
+  pub null : Stands bytes (headers_at m + 40 * 0) (header_bytes null_header)
+  pub sects : Stands bytes (headers_at m + 40 * 1) (sect_headers 33 52 m.sections)
+  pub symtab : Stands bytes (headers_at m + 40 * (count_of m + 1)) (header_bytes (symtab_header (symbols_at m) (length (symbols_of m.symbols)) (count_of m + 2) (locals_end m.symbols)))
+  pub strings : Stands bytes (headers_at m + 40 * (count_of m + 2)) (header_bytes (strings_header 9 (strings_at m) (length (strings_of m.symbols))))
+  pub names : Stands bytes (headers_at m + 40 * (count_of m + 3)) (header_bytes (strings_header 17 (names_at m) (length (names_of m.sections))))
+  pub relas : Stands bytes (headers_at m + 40 * (count_of m + 4)) (table_headers (count_of m + 1) (relocs_at m) (tables_of m.relocs))
 
-pub heads_stand : (bytes : List ℕ) (m : Module) → Stands bytes (heads_at m) (heads_of m) → Heads bytes m
-unfolding heads_of
-heads_stand bytes m s =
-    let p = heads_at m in
+pub headers_stand : (bytes : List ℕ) (m : Module) → Stands bytes (headers_at m) (headers_of m) → Headers bytes m
+unfolding headers_of
+headers_stand bytes m s =
+    let p = headers_at m in
     let n = count_of m in
     let h0 = header_bytes null_header in
     let h1 = sect_headers 33 52 m.sections in
@@ -97,7 +97,7 @@ heads_stand bytes m s =
     let start : p ≡ p + 40 * 0 = omega arith in
     let s0 : Stands bytes (p + 40 * 0) (h0 ++ r1) = subst (λ x. Stands bytes x (h0 ++ r1)) start s in
     let l0 = length_header null_header in
-    let l1 = length_sect_heads 33 52 m.sections in
+    let l1 = length_sect_headers 33 52 m.sections in
     let l2 = length_header (symtab_header (symbols_at m) (length (symbols_of m.symbols)) (n + 2) (locals_end m.symbols)) in
     let l3 = length_header (strings_header 9 (strings_at m) (length (strings_of m.symbols))) in
     let l4 = length_header (strings_header 17 (names_at m) (length (names_of m.sections))) in

@@ -7,7 +7,7 @@ use Rattle.elf_read.specs.declared.module.Sym.{Sym}
 use Rattle.elf_read.specs.declared.module.Rel.{Rel}
 use Rattle.elf_read.specs.declared.module.Module.{Module}
 use Rattle.elf_read.specs.Modules.{IsModule}
-use Rattle.elf_build.specs.File.{headers_of, file_of}
+use Rattle.elf_build.specs.File.{header_total, file_of}
 
 -- a symbol does not stand in a section that is not loaded
 abbrev pub IsHere : Sym → Type 0
@@ -28,12 +28,12 @@ SymFits s = (s.value < 2 ^ 32) × (s.size < 2 ^ 32)
 abbrev pub RelFits : Rel → Type 0
 RelFits r = (r.kind < 2 ^ 8) × (r.addend < 2 ^ 32)
 
--- a module as a file can hold it, whose symbols are all here and whose relocations rise, with a file that is not too long
+-- a module as a file can hold it, all symbols of which are here; its relocations rise, and its file is not too long
 pub record Buildable (m : Module) : Type 0 where
   pub sound : IsModule m
   pub here : All IsHere m.symbols
   pub rising : Rises 0 m.relocs
-  pub few_headers : headers_of m ≤ most_section_headers
+  pub few_headers : header_total m ≤ most_section_headers
   pub short : length (file_of m) < 2 ^ 32
   pub sections_fit : All SectFits m.sections
   pub symbols_fit : All SymFits m.symbols

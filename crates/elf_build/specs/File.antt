@@ -1,5 +1,6 @@
--- The file of a module: header, contents, symbols, relocations, names of symbols, names of sections, section headers. The
--- headers are number 0, those of the sections, of the symbol table, of both tables of names, and of the relocations' tables.
+-- The file of a module: header, contents, symbols, relocations, names of symbols, names of sections, section headers.
+-- The headers are number 0, those of the sections, of the symbol table, of both tables of names, and of the tables of
+-- relocations.
 use Rattle.std.specs.Prelude.{ℕ, suc, ◌+◌, ◌*◌, ◌==◌, if◌then◌else◌, List, [], ◌∷◌, ◌++◌, length}
 use Rattle.std.specs.List.{flat_map}
 use Rattle.byteorder.specs.Endian.{big_bytes}
@@ -76,26 +77,26 @@ locals_end ss = locals_from 1 1 ss
 
 -- ---- tables of relocations
 -- relocations of one section, one behind another
-pub record Table : Type 0 where
+pub record RelocTable : Type 0 where
   pub section : ℕ
   pub relocs : List Rel
 
 -- a relocation in front of tables: in the first one, where that is of its section, else in a table of its own
-abbrev pub joined : Rel → List Table → List Table
+abbrev pub joined : Rel → List RelocTable → List RelocTable
 joined r [] = record { section = r.section; relocs = r ∷ [] } ∷ []
 joined r (t ∷ ts) =
     if r.section == t.section then record { section = t.section; relocs = r ∷ t.relocs } ∷ ts
     else record { section = r.section; relocs = r ∷ [] } ∷ t ∷ ts
 
 -- relocations in as few tables as their order allows: one for each section that has some, where their sections rise
-abbrev pub tables_of : List Rel → List Table
+abbrev pub tables_of : List Rel → List RelocTable
 tables_of [] = []
 tables_of (r ∷ rs) = joined r (tables_of rs)
 
 -- how many relocations in front are of this section
-abbrev pub run : ℕ → List Rel → ℕ
-run section [] = 0
-run section (r ∷ rs) = if r.section == section then suc (run section rs) else 0
+abbrev pub leading : ℕ → List Rel → ℕ
+leading section [] = 0
+leading section (r ∷ rs) = if r.section == section then suc (leading section rs) else 0
 
 abbrev pub rel_bytes : Rel → List ℕ
 rel_bytes r = relocation_bytes (rel_entry r)
@@ -125,7 +126,7 @@ table_header symtab at section count = record {
 }
 
 -- the headers of tables that begin at this place and behind it
-abbrev pub table_headers : ℕ → ℕ → List Table → List ℕ
+abbrev pub table_headers : ℕ → ℕ → List RelocTable → List ℕ
 table_headers symtab at [] = []
 table_headers symtab at (t ∷ ts) =
     header_bytes (table_header symtab at t.section (length t.relocs))
@@ -178,8 +179,8 @@ abbrev pub count_of : Module → ℕ
 count_of m = length m.sections
 
 -- how many section headers its file has
-abbrev pub headers_of : Module → ℕ
-headers_of m = count_of m + length (tables_of m.relocs) + 4
+abbrev pub header_total : Module → ℕ
+header_total m = count_of m + length (tables_of m.relocs) + 4
 
 -- where the symbol table begins
 unfoldable pub symbols_at : Module → ℕ
@@ -198,13 +199,13 @@ unfoldable pub names_at : Module → ℕ
 names_at m = strings_at m + length (strings_of m.symbols)
 
 -- where the section headers begin
-unfoldable pub heads_at : Module → ℕ
-heads_at m = names_at m + length (names_of m.sections)
+unfoldable pub headers_at : Module → ℕ
+headers_at m = names_at m + length (names_of m.sections)
 
 -- ---- the file
 -- its section headers
-unfoldable pub heads_of : Module → List ℕ
-heads_of m =
+unfoldable pub headers_of : Module → List ℕ
+headers_of m =
     header_bytes null_header
     ++ (sect_headers first_name ehdr_bytes m.sections
     ++ (header_bytes
@@ -215,19 +216,19 @@ heads_of m =
 
 -- the ELF header: where the section headers begin, how many they are, and which one is of the names
 unfoldable pub front_of : ℕ → ℕ → ℕ → List ℕ
-front_of heads count names =
+front_of headers count names =
     0x7f ∷ 0x45 ∷ 0x4c ∷ 0x46 ∷ 1 ∷ 2 ∷ 1 ∷ 0 ∷ 0 ∷ 0 ∷ 0 ∷ 0 ∷ 0 ∷ 0 ∷ 0 ∷ 0
     ∷ 0 ∷ 1 ∷ 0 ∷ 20 ∷ 0 ∷ 0 ∷ 0 ∷ 1 ∷ 0 ∷ 0 ∷ 0 ∷ 0 ∷ 0 ∷ 0 ∷ 0 ∷ 0
-    ∷ (big_bytes 4 heads
+    ∷ (big_bytes 4 headers
     ++ 0 ∷ 0 ∷ 0 ∷ 0 ∷ 0 ∷ 52 ∷ 0 ∷ 0 ∷ 0 ∷ 0 ∷ 0 ∷ 40
     ∷ (big_bytes 2 count ++ big_bytes 2 names))
 
 unfoldable pub file_of : Module → List ℕ
 file_of m =
-    front_of (heads_at m) (headers_of m) (count_of m + 3)
+    front_of (headers_at m) (header_total m) (count_of m + 3)
     ++ (contents_of m.sections
     ++ (symbols_of m.symbols
     ++ (relocs_of m.relocs
     ++ (strings_of m.symbols
     ++ (names_of m.sections
-    ++ heads_of m)))))
+    ++ headers_of m)))))

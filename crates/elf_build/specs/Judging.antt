@@ -10,19 +10,22 @@ use Rattle.elf_read.specs.declared.module.Module.{Module}
 use Rattle.elf_read.specs.Tables.{width}
 use Rattle.elf_read.specs.Modules.{IsSect, IsPlaced, IsSym, HoldsBytes}
 use Rattle.elf_build.specs.Buildable.{IsHere, SectFits, SymFits, RelFits, Rises}
-use Rattle.elf_build.specs.File.{headers_of}
+use Rattle.elf_build.specs.File.{header_total}
 
-abbrev pub CanSect : Sect → Type 0
-CanSect s = IsSect s × SectFits s
+-- a section that can be loaded, and whose numbers fit
+abbrev pub IsBuildableSect : Sect → Type 0
+IsBuildableSect s = IsSect s × SectFits s
 
-abbrev pub CanPlace : List Sect → SymPlace → ℕ → ℕ → Type 0
-CanPlace ss place value size = IsPlaced ss place value size × (place ≢ Elsewhere)
+-- a symbol of this value and size can stand at this place, and the place is not in a section that is not loaded
+abbrev pub IsBuildablePlace : List Sect → SymPlace → ℕ → ℕ → Type 0
+IsBuildablePlace ss place value size = IsPlaced ss place value size × (place ≢ Elsewhere)
 
-abbrev pub CanSym : List Sect → Sym → Type 0
-CanSym ss s = IsSym ss s × (IsHere s × SymFits s)
+-- a symbol that stands here, and whose numbers fit
+abbrev pub IsBuildableSym : List Sect → Sym → Type 0
+IsBuildableSym ss s = IsSym ss s × (IsHere s × SymFits s)
 
--- of a relocation's symbol no more is asked here, since all symbols are
-pub record CanRel (ss : List Sect) (symbols : ℕ) (r : Rel) : Type 0 where
+-- a relocation of bytes of a section, to one of so many symbols or to none; all symbols are asked to be here anyway
+pub record IsBuildableRel (ss : List Sect) (symbols : ℕ) (r : Rel) : Type 0 where
   pub section : r.section < length ss
   pub inside : (d : Sect) → HoldsBytes (slice_index_or ss r.section d).body (r.offset + width r.kind)
   pub symbol : r.symbol ≤ symbols
@@ -30,13 +33,13 @@ pub record CanRel (ss : List Sect) (symbols : ℕ) (r : Rel) : Type 0 where
 
 -- the counts of a module are within their limits
 pub record IsSmall (m : Module) : Type 0 where
-  pub headers : headers_of m ≤ most_section_headers
+  pub headers : header_total m ≤ most_section_headers
   pub symbols : length m.symbols < most_symbol_entries
   pub relocs : length m.relocs ≤ most_relocations
 
 -- all parts of a module can be written
-pub record CanParts (m : Module) : Type 0 where
-  pub sections : All CanSect m.sections
-  pub symbols : All (CanSym m.sections) m.symbols
-  pub relocs : All (CanRel m.sections (length m.symbols)) m.relocs
+pub record HasBuildableParts (m : Module) : Type 0 where
+  pub sections : All IsBuildableSect m.sections
+  pub symbols : All (IsBuildableSym m.sections) m.symbols
+  pub relocs : All (IsBuildableRel m.sections (length m.symbols)) m.relocs
   pub rising : Rises 0 m.relocs

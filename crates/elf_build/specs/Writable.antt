@@ -10,7 +10,7 @@ use Rattle.elf_read.specs.declared.module.Module.{Module}
 use Rattle.elf_read.specs.Standard.{stb_weak, stt_common, rela_bytes}
 use Rattle.elf_read.specs.Modules.{size_of}
 use Rattle.elf_build.specs.declared.building.Layout.{Layout}
-use Rattle.elf_build.specs.File.{tables_of, headers_of, contents_of, symbols_of, relocs_of, strings_of, names_of, symbols_at, relocs_at, strings_at, names_at, heads_at}
+use Rattle.elf_build.specs.File.{tables_of, header_total, contents_of, symbols_of, relocs_of, strings_of, names_of, symbols_at, relocs_at, strings_at, names_at, headers_at}
 
 -- a section's size fits its header
 abbrev pub IsShort : Sect → Type 0
@@ -40,15 +40,15 @@ pub record LeadsTable (n : ℕ) (rs : List Rel) : Type 0 where
       tables_of rs ≡ record { section = (slice_index_or rs 0 d).section; relocs = take n rs } ∷ tables_of (drop n rs)
 
 pub record Writable (m : Module) : Type 0 where
-  pub few_headers : headers_of m ≤ most_section_headers
+  pub few_headers : header_total m ≤ most_section_headers
   pub few_symbols : length m.symbols < most_symbol_entries
   pub few_relocs : length m.relocs ≤ most_relocations
   pub sections : All IsShort m.sections
   pub symbols : All HasEntry m.symbols
   pub relocs : All HasNumbers m.relocs
   pub front : 52 + length (contents_of m.sections) < 2 ^ 32
-  pub ends : heads_at m < 2 ^ 32
-  pub tables : relocs_at m + rela_bytes * length m.relocs ≤ heads_at m
+  pub ends : headers_at m < 2 ^ 32
+  pub tables : relocs_at m + rela_bytes * length m.relocs ≤ headers_at m
 
 unfoldable pub layout_of : Module → Layout
 layout_of m = record {
@@ -56,7 +56,7 @@ layout_of m = record {
   relocs = relocs_at m;
   strings = strings_at m;
   names = names_at m;
-  heads = heads_at m;
+  headers = headers_at m;
 }
 
 -- the parts between the ELF header and the section headers

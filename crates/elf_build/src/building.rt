@@ -3,7 +3,7 @@
 ghost use Rattle.std.specs.Prelude.{◌≡◌, ◌+◌, ◌*◌, ◌++◌, ◌^◌, ◌<◌, ◌≤◌, [], length, IfOk};
 ghost use Rattle.elf_read.specs.Contents.{ModuleOf};
 ghost use Rattle.elf_build.specs.Buildable.{Buildable};
-ghost use Rattle.elf_build.specs.File.{heads_of, file_of};
+ghost use Rattle.elf_build.specs.File.{headers_of, file_of};
 ghost use Rattle.elf_build.specs.Writable.{Writable, layout_of, parts_of};
 
 use crate::groups::table_count;
@@ -25,7 +25,7 @@ struct Layout {
     relocs: u32,
     strings: u32,
     names: u32,
-    heads: u32,
+    headers: u32,
 }
 
 // The end of the file so far, its header included.
@@ -37,7 +37,7 @@ fn end_of(parts: &[u8]) -> u32
 }
 
 // The parts between the ELF header and the section headers.
-#[tactic(auto, unfolding(crate::specs::Writable::parts_of, crate::specs::Writable::layout_of, crate::specs::File::symbols_at, crate::specs::File::relocs_at, crate::specs::File::strings_at, crate::specs::File::names_at, crate::specs::File::heads_at))]
+#[tactic(auto, unfolding(crate::specs::Writable::parts_of, crate::specs::Writable::layout_of, crate::specs::File::symbols_at, crate::specs::File::relocs_at, crate::specs::File::strings_at, crate::specs::File::names_at, crate::specs::File::headers_at))]
 fn put_parts(parts: &mut Vec<u8>, m: &Module) -> Result<Layout, AllocError>
     requires empty { parts.old.items ≡ [] }
     requires good { Writable m.now }
@@ -57,16 +57,16 @@ fn put_parts(parts: &mut Vec<u8>, m: &Module) -> Result<Layout, AllocError>
         relocs,
         strings,
         names,
-        heads: end_of(parts),
+        headers: end_of(parts),
     })
 }
 
 // The section headers.
-#[tactic(auto, unfolding(crate::specs::Writable::layout_of, crate::specs::File::heads_of, crate::specs::File::relocs_at, crate::specs::File::strings_at, crate::specs::File::names_at, crate::specs::File::heads_at), using(crate::proofs::Joins::seven_heads))]
-fn put_heads(out: &mut Vec<u8>, m: &Module, at: Layout) -> Result<(), AllocError>
+#[tactic(auto, unfolding(crate::specs::Writable::layout_of, crate::specs::File::headers_of, crate::specs::File::relocs_at, crate::specs::File::strings_at, crate::specs::File::names_at, crate::specs::File::headers_at), using(crate::proofs::Joins::seven_headers))]
+fn put_headers(out: &mut Vec<u8>, m: &Module, at: Layout) -> Result<(), AllocError>
     requires good { Writable m.now }
     requires places { at ≡ layout_of m.now }
-    ensures { IfOk result (λ u. out.new.items ≡ out.old.items ++ heads_of m.now) }
+    ensures { IfOk result (λ u. out.new.items ≡ out.old.items ++ headers_of m.now) }
 {
     let count = m.sections.as_slice().len() as u32;
     let locals = locals_end(m.symbols.as_slice());
@@ -82,7 +82,7 @@ fn put_heads(out: &mut Vec<u8>, m: &Module, at: Layout) -> Result<(), AllocError
     )?;
     put_header(
         out,
-        strings_header(SHSTRTAB_NAME, at.names, at.heads - at.names),
+        strings_header(SHSTRTAB_NAME, at.names, at.headers - at.names),
     )?;
     put_table_headers(out, count + 1, at.relocs, m.relocs.as_slice())
 }
@@ -98,9 +98,9 @@ fn put_file(alloc: Global, m: &Module) -> Result<Vec<u8>, AllocError>
     let mut parts = Vec::new(alloc);
     let at = put_parts(&mut parts, m)?;
     let mut out = Vec::new(alloc);
-    put_front(&mut out, at.heads, count + tables + 4, count + 3)?;
+    put_front(&mut out, at.headers, count + tables + 4, count + 3)?;
     put_bytes(&mut out, &parts)?;
-    put_heads(&mut out, m, at)?;
+    put_headers(&mut out, m, at)?;
     Ok(out)
 }
 

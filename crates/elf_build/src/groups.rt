@@ -1,14 +1,14 @@
 //! Relocations of one section in a row, which make a table.
 
 ghost use Rattle.std.specs.Prelude.{◌≡◌, ◌≤◌, ◌<◌, length, drop};
-ghost use Rattle.elf_build.specs.File.{run as run_of, tables_of};
+ghost use Rattle.elf_build.specs.File.{leading as leading_of, tables_of};
 ghost use Rattle.elf_build.specs.Writable.{LeadsTable};
 
 use elf_read::Rel;
 
 // How many relocations in front are of this section.
-fn run(section: u32, relocs: &[Rel]) -> usize
-    ensures value { result ≡ run_of section relocs.now }
+fn leading(section: u32, relocs: &[Rel]) -> usize
+    ensures value { result ≡ leading_of section relocs.now }
     ensures within { result ≤ length relocs.now }
 {
     for (i, r) in relocs.iter().enumerate() {
@@ -20,12 +20,12 @@ fn run(section: u32, relocs: &[Rel]) -> usize
 }
 
 /// How many relocations the first table takes.
-#[tactic(auto, using(crate::proofs::TableLemmas::run_leads))]
+#[tactic(auto, using(crate::proofs::TableLemmas::leads_first))]
 pub(crate) fn first_len(relocs: &[Rel]) -> usize
     requires { 0 < length relocs.now }
     ensures { LeadsTable result relocs.now }
 {
-    run(relocs[0].section, relocs)
+    leading(relocs[0].section, relocs)
 }
 
 /// The relocations behind the first `n`.

@@ -207,11 +207,11 @@ pub(crate) fn symtab_header(at: u32, size: u32, link: u32, locals: u32) -> Secti
 #[tactic(auto, unfolding(crate::specs::File::front_of), using(crate::proofs::Joins::five))]
 pub(crate) fn put_front(
     out: &mut Vec<u8>,
-    heads: u32,
+    headers: u32,
     count: u16,
     names: u16,
 ) -> Result<(), AllocError>
-    ensures { IfOk result (λ u. out.new.items ≡ out.old.items ++ front_of heads count names) }
+    ensures { IfOk result (λ u. out.new.items ≡ out.old.items ++ front_of headers count names) }
 {
     put_bytes(
         out,
@@ -220,7 +220,7 @@ pub(crate) fn put_front(
             0, 0, 0, 0, 0, 0, 0,
         ],
     )?;
-    put_word(out, heads)?;
+    put_word(out, headers)?;
     put_bytes(out, &[0, 0, 0, 0, 0, 52, 0, 0, 0, 0, 0, 40])?;
     put_half(out, count)?;
     put_half(out, names)

@@ -7,7 +7,7 @@ ghost use Rattle.elf_read.specs.declared.module.SymPlace.TheVariants.{Elsewhere}
 ghost use Rattle.elf_read.specs.Modules.{IsName, IsSect, IsPlaced, IsSym, HoldsBytes, size_of as size_of_body};
 ghost use Rattle.elf_build.specs.Buildable.{Buildable, IsHere, Rises};
 ghost use Rattle.elf_build.specs.File.{file_of};
-ghost use Rattle.elf_build.specs.Judging.{CanSect, CanSym, CanRel, CanPlace, IsSmall, CanParts};
+ghost use Rattle.elf_build.specs.Judging.{IsBuildableSect, IsBuildableSym, IsBuildableRel, IsBuildablePlace, IsSmall, HasBuildableParts};
 
 use crate::groups::table_count;
 use crate::lengths::file_len;
@@ -30,8 +30,8 @@ fn size_of(body: &Body) -> usize
     }
 }
 
-fn can_sect(s: &Sect) -> bool
-    ensures { IsTrue result ↔ CanSect s.now }
+fn is_buildable_sect(s: &Sect) -> bool
+    ensures { IsTrue result ↔ IsBuildableSect s.now }
 {
     let flags = s.flags;
     is_name(s.name.bytes())
@@ -41,14 +41,14 @@ fn can_sect(s: &Sect) -> bool
         && size_of(&s.body) <= SECTION_BYTES as usize
 }
 
-fn can_sects(sections: &[Sect]) -> bool
-    ensures { IsTrue result ↔ All CanSect sections.now }
+fn are_buildable_sects(sections: &[Sect]) -> bool
+    ensures { IsTrue result ↔ All IsBuildableSect sections.now }
 {
-    sections.iter().all(|s| can_sect(s))
+    sections.iter().all(|s| is_buildable_sect(s))
 }
 
-fn can_place(sections: &[Sect], place: SymPlace, value: u32, size: u32) -> bool
-    ensures { IsTrue result ↔ CanPlace sections.now place value size }
+fn is_buildable_place(sections: &[Sect], place: SymPlace, value: u32, size: u32) -> bool
+    ensures { IsTrue result ↔ IsBuildablePlace sections.now place value size }
 {
     match place {
         SymPlace::Undefined | SymPlace::Absolute => true,
@@ -60,21 +60,21 @@ fn can_place(sections: &[Sect], place: SymPlace, value: u32, size: u32) -> bool
     }
 }
 
-fn can_sym(sections: &[Sect], s: &Sym) -> bool
-    ensures { IsTrue result ↔ CanSym sections.now s.now }
+fn is_buildable_sym(sections: &[Sect], s: &Sym) -> bool
+    ensures { IsTrue result ↔ IsBuildableSym sections.now s.now }
 {
     let value = s.value;
     let size = s.size;
     is_name(s.name.bytes())
         && s.binding <= STB_WEAK
         && s.kind <= STT_COMMON
-        && can_place(sections, s.place, value, size)
+        && is_buildable_place(sections, s.place, value, size)
 }
 
-fn can_syms(sections: &[Sect], symbols: &[Sym]) -> bool
-    ensures { IsTrue result ↔ All (CanSym sections.now) symbols.now }
+fn are_buildable_syms(sections: &[Sect], symbols: &[Sym]) -> bool
+    ensures { IsTrue result ↔ All (IsBuildableSym sections.now) symbols.now }
 {
-    symbols.iter().all(|s| can_sym(sections, s))
+    symbols.iter().all(|s| is_buildable_sym(sections, s))
 }
 
 fn holds_bytes(body: &Body, end: usize) -> bool
@@ -86,8 +86,8 @@ fn holds_bytes(body: &Body, end: usize) -> bool
     }
 }
 
-fn can_rel(sections: &[Sect], symbols: usize, r: &Rel) -> bool
-    ensures { IsTrue result ↔ CanRel sections.now symbols r.now }
+fn is_buildable_rel(sections: &[Sect], symbols: usize, r: &Rel) -> bool
+    ensures { IsTrue result ↔ IsBuildableRel sections.now symbols r.now }
 {
     let addend = r.addend;
     let end = r.offset as usize + width(r.kind) as usize;
@@ -96,10 +96,12 @@ fn can_rel(sections: &[Sect], symbols: usize, r: &Rel) -> bool
         && r.symbol as usize <= symbols
 }
 
-fn can_rels(sections: &[Sect], symbols: usize, relocs: &[Rel]) -> bool
-    ensures { IsTrue result ↔ All (CanRel sections.now symbols) relocs.now }
+fn are_buildable_rels(sections: &[Sect], symbols: usize, relocs: &[Rel]) -> bool
+    ensures { IsTrue result ↔ All (IsBuildableRel sections.now symbols) relocs.now }
 {
-    relocs.iter().all(|r| can_rel(sections, symbols, r))
+    relocs
+        .iter()
+        .all(|r| is_buildable_rel(sections, symbols, r))
 }
 
 fn rises(relocs: &[Rel]) -> bool
@@ -115,15 +117,15 @@ fn rises(relocs: &[Rel]) -> bool
     true
 }
 
-fn can_parts(m: &Module) -> bool
-    ensures { IsTrue result ↔ CanParts m.now }
+fn has_buildable_parts(m: &Module) -> bool
+    ensures { IsTrue result ↔ HasBuildableParts m.now }
 {
     let sections = m.sections.as_slice();
     let symbols = m.symbols.as_slice();
     let relocs = m.relocs.as_slice();
-    can_sects(sections)
-        && can_syms(sections, symbols)
-        && can_rels(sections, symbols.len(), relocs)
+    are_buildable_sects(sections)
+        && are_buildable_syms(sections, symbols)
+        && are_buildable_rels(sections, symbols.len(), relocs)
         && rises(relocs)
 }
 
@@ -145,5 +147,5 @@ fn is_small(m: &Module) -> bool
 pub fn is_buildable(m: &Module) -> bool
     ensures { IsTrue result ↔ Buildable m.now }
 {
-    is_small(m) && can_parts(m) && file_len(m) <= u32::MAX as usize
+    is_small(m) && has_buildable_parts(m) && file_len(m) <= u32::MAX as usize
 }

@@ -4,7 +4,7 @@ ghost use Rattle.std.specs.Prelude.{◌≡◌, ◌+◌, ◌*◌, ◌<◌, ◌≤
 ghost use Rattle.std.specs.List.{All, flat_map};
 ghost use Rattle.wind_base.specs.Limits.{most_section_headers, most_symbol_entries, most_section_bytes};
 ghost use Rattle.elf_build.specs.File.{sect_name, sym_name, sect_content, file_of};
-ghost use Rattle.elf_build.specs.Judging.{CanSect, IsSmall};
+ghost use Rattle.elf_build.specs.Judging.{IsBuildableSect, IsSmall};
 
 use crate::groups::table_count;
 use crate::headers::FIRST_NAME;
@@ -15,7 +15,7 @@ use elf_read::{Module, Sect, Sym};
 #[tactic(auto, using(crate::proofs::Sizes::contents_left))]
 fn contents_len(sections: &[Sect]) -> usize
     requires few { length sections.now ≤ most_section_headers }
-    requires small { All CanSect sections.now }
+    requires small { All IsBuildableSect sections.now }
     ensures value { result ≡ length (flat_map sect_content sections.now) }
     ensures low { result ≤ most_section_bytes * length sections.now }
 {
@@ -56,7 +56,7 @@ fn sym_names_len(symbols: &[Sym]) -> usize
 #[tactic(auto, using(crate::proofs::Length::length_formula))]
 pub(crate) fn file_len(m: &Module) -> usize
     requires small { IsSmall m.now }
-    requires sections { All CanSect m.now.sections }
+    requires sections { All IsBuildableSect m.now.sections }
     ensures { result ≡ length (file_of m.now) }
 {
     let sections = m.sections.as_slice();

@@ -1,3 +1,4 @@
+pub mod AlignmentLemmas
 pub mod Counting
 pub mod Each
 pub mod FirstLaw

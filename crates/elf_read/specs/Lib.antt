@@ -4,6 +4,7 @@ pub mod Rule
 pub mod Numbered
 pub mod Tables
 pub mod Rules
+pub mod Alignments
 pub mod Contents
 pub mod First
 pub mod Modules

@@ -55,7 +55,7 @@ abbrev pub HoldsBytes : Body → ℕ → Type 0
 HoldsBytes (Bytes bs) n = n ≤ length bs
 HoldsBytes (Size k) n = ⊥
 
--- a relocation of a module with these sections and symbols: it changes bytes of a section, and its symbol, if any, is here
+-- a relocation of a module with these sections and symbols: it changes bytes, and its symbol, if it has one, is here
 pub record IsRel (ss : List Sect) (ys : List Sym) (r : Rel) : Type 0 where
   pub section : r.section < length ss
   pub inside : (d : Sect) → HoldsBytes (slice_index_or ss r.section d).body (r.offset + width r.kind)

@@ -137,8 +137,8 @@ is_right_table bytes i =
     && (((header bytes i).size % rela_bytes == 0)
     && (has_symtab bytes && ((header bytes i).link == symtab bytes))))
 
--- section number i, if it has relocations, names a section; if that is loaded, i is a right table, and the relocations up to
--- there are not too many
+-- section number i, if it has relocations, names a section; if that is loaded, i is a right table, and the relocations
+-- up to there are not too many
 abbrev pub table_rule : List ℕ → ℕ → Rule
 table_rule bytes i =
     when ((header bytes i).kind == sht_rela || (header bytes i).kind == sht_rel)

@@ -69,7 +69,7 @@ sht_nobits = 8
 abbrev pub sht_rel : ℕ
 sht_rel = 9
 
--- sh_flags: SHF_ALLOC, the section is loaded; SHF_INFO_LINK, its sh_info is a section number; SHF_TLS and SHF_COMPRESSED
+-- sh_flags: SHF_ALLOC, a section is loaded; SHF_INFO_LINK, its sh_info is a section number; SHF_TLS and SHF_COMPRESSED
 abbrev pub shf_alloc : ℕ
 shf_alloc = 2
 

@@ -1,5 +1,6 @@
 //! Laws of what a file holds and of its refusal.
 
+ghost use Rattle.elf_read.specs.Alignments.{AlignmentLaw};
 ghost use Rattle.elf_read.specs.First.{RefusedFirst, EachFails, OneAnswer, NeverMemory};
 ghost use Rattle.elf_read.specs.Modules.{HoldsModule};
 
@@ -16,4 +17,9 @@ pub fn refusal_law()
 /// The law of modules: what a file holds has the numbers, sizes and places that its rules ask for.
 pub fn module_law()
     ensures { HoldsModule }
+{}
+
+/// The law of alignments: they are exactly the powers of two from 1 to 65,536.
+pub fn alignment_law()
+    ensures { AlignmentLaw }
 {}

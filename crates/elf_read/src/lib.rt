@@ -25,7 +25,7 @@ pub use checking::check;
 pub use entries::{RelaEntry, SectionHeader, SymbolEntry};
 pub use error::ElfErr;
 pub use items::Items;
-pub use laws::{module_law, refusal_law};
+pub use laws::{alignment_law, module_law, refusal_law};
 pub use module::{Body, Bytes, Module, Rel, RelList, Sect, SectList, Sym, SymList, SymPlace};
 pub use reading::read;
 pub use section_rules::is_alignment;
