@@ -2,9 +2,11 @@
 //! board.
 
 use crate::ending::{Ending, Stand, Status, Unbuilt, Which};
+use crate::exit_code;
 use crate::play::play;
 use board_player::Machine;
 use std::alloc::Global;
+use std::process::ExitCode;
 use std::test::Fail;
 use wind_outside::{Device, DeviceKind, MemFolder, MemSink, Slots};
 
@@ -384,7 +386,7 @@ fn refuses_files(rt: HostRuntime) -> Result<(), Fail> {
 }
 
 // Each call of the folder and of the sink fails in turn; a run makes two of the first and four of the
-// second.
+// second, and none behind a file that isn't there.
 #[test]
 fn ends_at_a_failing_call(rt: HostRuntime) -> Result<(), Fail> {
     let alloc = rt.alloc();
@@ -410,6 +412,12 @@ fn ends_at_a_failing_call(rt: HostRuntime) -> Result<(), Fail> {
         );
         assert_eq!(rt; steps(&cut_off.ending), Some(made));
     }
+    let second = Failing {
+        fetches: &[2],
+        ..NONE
+    };
+    let absent = played(alloc, &COMMAND, &[NO_TICKS], second)?;
+    assert_eq!(rt; absent.ending.status, Status::Absent(Which::Console));
     let whole = played(
         alloc,
         &COMMAND,
@@ -496,4 +504,10 @@ fn gives_the_devices_back(rt: HostRuntime) -> Result<(), Fail> {
         None => panic!(rt; "the device is gone"),
     }
     Ok(())
+}
+
+#[test]
+fn ends_with_the_number_of_its_status(rt: HostRuntime) {
+    assert_eq!(rt; exit_code(Status::Quiet), ExitCode::from(0));
+    assert_eq!(rt; exit_code(Status::NotBuilt(Unbuilt::Ticks)), ExitCode::from(9));
 }
