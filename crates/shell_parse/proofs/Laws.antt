@@ -1,14 +1,12 @@
 -- Reading a line and the grammar say the same.
 use Rattle.std.proofs.Common.{◌≡◌, ℕ, List, Option, Some, None, refl, ap}
-use Rattle.std.specs.Prelude.{◌↔◌}
-use Rattle.shell_parse.specs.declared.token.Token.{Token}
 use Rattle.shell_parse.specs.Tokens.{tokens_of, bare}
 use Rattle.shell_parse.specs.Trees.{PlainStmt}
 use Rattle.shell_parse.specs.Descent.{stmts_of}
 use Rattle.shell_parse.specs.Allowed.{begun}
-use Rattle.shell_parse.specs.Grammar.{IsLine}
 use Rattle.shell_parse.specs.Reading.{Statements, Refused, reading_of, read_line, column_of}
 use Rattle.shell_parse.specs.Parsed.{HasTrees, HasNone}
+use Rattle.shell_parse.specs.Laws.{ReadLaw, OnlyLaw}
 use Rattle.shell_parse.proofs.Lines.{stmts_complete, stmts_sound}
 use Rattle.shell_parse.proofs.Refusal.{begun_refused}
 
@@ -21,13 +19,13 @@ none_read (Some found) column c h = cc
 none_read None column c h = (refl, cc)
 
 -- tokens have at most one list of statements
-pub only_one : (ts : List Token) (ss others : List PlainStmt) → IsLine ts ss → IsLine ts others → ss ≡ others
+pub only_one : OnlyLaw
 only_one ts ss others l m =
     let a : stmts_of ts ≡ Some ss = stmts_complete ts ss l in
     let b : stmts_of ts ≡ Some others = stmts_complete ts others m in
     cc
 
-pub read_iff : (line : List ℕ) (ss : List PlainStmt) → (read_line line ≡ Statements ss) ↔ IsLine (bare (tokens_of line)) ss
+pub read_iff : ReadLaw
 unfolding read_line
 read_iff line ss = (
   (λ h. stmts_sound (bare (tokens_of line)) ss (statements_read (stmts_of (bare (tokens_of line))) _ ss h)),

@@ -4,6 +4,7 @@ pub mod Codes
 pub mod Descent
 pub mod Gives
 pub mod Grammar
+pub mod Laws
 pub mod Levels
 pub mod Literals
 pub mod Parsed

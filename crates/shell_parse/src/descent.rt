@@ -121,11 +121,11 @@ fn one_argument(alloc: Global, argument: Tree) -> Result<Vec<Tree>, ReadErr>
     Ok(arguments)
 }
 
-fn in_front(argument: Tree, mut arguments: Vec<Tree>) -> Result<Vec<Tree>, ReadErr>
-    ensures { Gives (λ v. plain_arguments v.items) result (Some (trees.Then (plain_tree argument) (plain_arguments arguments.items))) }
+fn in_front(first: Tree, mut rest: Vec<Tree>) -> Result<Vec<Tree>, ReadErr>
+    ensures { Gives (λ v. plain_arguments v.items) result (Some (trees.Then (plain_tree first) (plain_arguments rest.items))) }
 {
-    arguments.insert(0, argument)?;
-    Ok(arguments)
+    rest.insert(0, first)?;
+    Ok(rest)
 }
 
 // How tightly an operator binds: the tightest level is 0.

@@ -1,13 +1,10 @@
 //! The grammar of a line.
 
-ghost use Rattle.std.specs.Prelude.{◌≡◌, ◌≤◌, ◌+◌, ◌↔◌, ℕ, List, length, slice_get, unwrap_or};
+ghost use Rattle.std.specs.Prelude.{◌≡◌, ◌≤◌, ◌+◌, length, slice_get, unwrap_or};
 ghost use Rattle.wind_base.specs.Limits.{longest_line};
-ghost use Rattle.shell_parse.specs.declared.token.Token.{Token};
-ghost use Rattle.shell_parse.specs.Tokens.{tokens_of, bare};
-ghost use Rattle.shell_parse.specs.Trees.{PlainStmt};
-ghost use Rattle.shell_parse.specs.Grammar.{IsLine};
-ghost use Rattle.shell_parse.specs.Reading.{Statements, Refused, read_line};
-ghost use Rattle.shell_parse.specs.Parsed.{IsReading, IsParsed, HasNone};
+ghost use Rattle.shell_parse.specs.Reading.{read_line};
+ghost use Rattle.shell_parse.specs.Parsed.{IsReading, IsParsed};
+ghost use Rattle.shell_parse.specs.Laws.{ReadLaw, RefusedLaw, OnlyLaw};
 
 use crate::allowed::begun_len;
 use crate::descent::ReadErr;
@@ -82,7 +79,7 @@ pub fn parse(alloc: Global, line: &[u8]) -> Result<Vec<Stmt>, ParseErr>
 /// are read, and no others; and where none are read it has none, and the column is that of the first token
 /// that no line of the grammar goes on with.
 pub fn grammar_law()
-    ensures read { (line : List ℕ) (stmts : List PlainStmt) → (read_line line ≡ Statements stmts) ↔ IsLine (bare (tokens_of line)) stmts }
-    ensures refused { (line : List ℕ) (column : ℕ) → read_line line ≡ Refused column → HasNone line column }
-    ensures only { (tokens : List Token) (stmts others : List PlainStmt) → IsLine tokens stmts → IsLine tokens others → stmts ≡ others }
+    ensures read { ReadLaw }
+    ensures refused { RefusedLaw }
+    ensures only { OnlyLaw }
 {}

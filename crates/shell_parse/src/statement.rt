@@ -29,7 +29,8 @@ fn expression<'a>(alloc: Global, depth: u32, tokens: &'a [Token<'a>]) -> Reads<'
 
 // A call without parentheses, from its arguments on.
 fn command<'a>(alloc: Global, depth: u32, callee: &Word, tokens: &'a [Token<'a>]) -> Reads<'a, Stmt>
-    ensures { Gives (λ x. (plain_stmt x.0, x.1.now)) result (mapped (trees.Command callee.now) (listed_at depth most_arguments tokens.now)) }
+    ensures { Gives (λ x. (plain_stmt x.0, x.1.now)) result
+        (mapped (trees.Command callee.now) (listed_at depth most_arguments tokens.now)) }
 {
     let (arguments, rest) = listed(alloc, depth, ARGUMENTS, tokens)?;
     Ok((Stmt::Call(name_of(alloc, callee)?, arguments), rest))
