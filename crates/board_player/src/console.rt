@@ -6,10 +6,10 @@ ghost use Rattle.wind_base.specs.OutBuf.{Added};
 ghost use Rattle.board_player.specs.declared.console.ByteDone.TheVariants as done;
 ghost use Rattle.board_player.specs.Console.{key_of as key_of_lem, after_key, after_byte, echo_of, byte_echo, done_by, byte_done, line_ended, line_done, front_line as front_line_of, line_dropped, has_line as has_line_lem};
 
-use wind_base::text::add;
 use arrayvec::ArrayVec;
 use std::marker::Model;
 use wind_base::limits::{KEPT_BYTES, LINE_BYTES};
+use wind_base::text::add;
 use wind_base::{OutBuf, line_len};
 
 /// What a byte of the console is for. The names are those of the special characters of POSIX

@@ -189,7 +189,11 @@ fn what_is_not_evaluated(rt: HostRuntime) -> Result<(), Fail> {
     let tree = two(alloc, BinOp::Plus, named(alloc, b"tickGet"), number(1))?;
     plays(&rt, Stmt::Expr(tree), &[never]);
     let inner = Box::new(alloc, bare(alloc, b"tickGet")?).or(Err("memory"))?;
-    plays(&rt, Stmt::Expr(Tree::Call(inner, Vec::new(alloc))), &[never]);
+    plays(
+        &rt,
+        Stmt::Expr(Tree::Call(inner, Vec::new(alloc))),
+        &[never],
+    );
     Ok(())
 }
 

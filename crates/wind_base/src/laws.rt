@@ -6,5 +6,4 @@ ghost use Rattle.wind_base.specs.Laws.{NamesLaw, NumbersLaw};
 pub fn tables_law()
     ensures names { NamesLaw }
     ensures numbers { NumbersLaw }
-{
-}
+{}

@@ -5,8 +5,8 @@
 
 mod errno;
 mod gate;
-pub mod limits;
 mod laws;
+pub mod limits;
 mod line;
 mod name;
 mod number;

@@ -379,7 +379,10 @@ fn objects_of_all_kinds_share_the_ids(rt: HostRuntime) -> Result<(), Fail> {
     let first = table.add(&mut ids, 'a').or(Err("room"))?;
     kern.put_ids(ids);
     spawn(&mut kern, 9).ok_or("refused")?;
-    assert_eq!(rt; (first.get(), kern.next_task(0).map(|id| id.get())), (1, Some(2)));
+    assert_eq!(rt;
+        (first.get(), kern.next_task(0).map(|id| id.get())),
+        (1, Some(2))
+    );
     Ok(())
 }
 
@@ -391,6 +394,9 @@ fn another_table_draws_from_the_ids(rt: HostRuntime) -> Result<(), Fail> {
     let mut table = Table::reserved(alloc, 1).or(Err("memory"))?;
     let first = kern.add_to(&mut table, 'a').or(Err("room"))?;
     spawn(&mut kern, 9).ok_or("refused")?;
-    assert_eq!(rt; (first.get(), kern.next_task(0).map(|id| id.get())), (1, Some(2)));
+    assert_eq!(rt;
+        (first.get(), kern.next_task(0).map(|id| id.get())),
+        (1, Some(2))
+    );
     Ok(())
 }

@@ -509,5 +509,8 @@ fn gives_the_devices_back(rt: HostRuntime) -> Result<(), Fail> {
 #[test]
 fn ends_with_the_number_of_its_status(rt: HostRuntime) {
     assert_eq!(rt; exit_code(Status::Quiet), ExitCode::from(0));
-    assert_eq!(rt; exit_code(Status::NotBuilt(Unbuilt::Ticks)), ExitCode::from(9));
+    assert_eq!(rt;
+        exit_code(Status::NotBuilt(Unbuilt::Ticks)),
+        ExitCode::from(9)
+    );
 }
