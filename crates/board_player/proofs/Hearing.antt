@@ -9,17 +9,20 @@ use Rattle.task_block.specs.Standing.{is_ready}
 use Rattle.wind_lists.specs.Records.{change}
 use Rattle.wind_core.specs.State.{KernState, IsKern, task_id, task_of}
 use Rattle.wind_core.specs.Moves.{renewed, settled, move_found, released, release, unmarked}
-use Rattle.board_player.specs.State.{ConsoleState, ShellState}
-use Rattle.board_player.specs.Good.{KeepsLines}
+use Rattle.con_line.specs.State.{ConsoleState}
+use Rattle.con_line.specs.Keys.{byte_done}
+use Rattle.con_line.specs.Lines.{KeepsLines}
+use Rattle.con_line.specs.declared.console.ByteDone.{ByteDone}
+use Rattle.con_line.specs.declared.console.ByteDone.TheVariants as done
+use Rattle.con_line.proofs.Kept.{byte_keeps}
+use Rattle.board_player.specs.State.{ShellState}
+use Rattle.board_player.specs.Good.{HasItsLine}
 use Rattle.board_player.specs.Feed.{is_end, first_end, taken_by, is_unended, supplied, chunk}
-use Rattle.board_player.specs.Console.{byte_done}
 use Rattle.board_player.specs.Task.{shell_id, shell_task, is_at_console, waits_for_console, is_held, let_go, aborted}
 use Rattle.board_player.specs.Machine.{Heard, hear, heard_all, heard_from, kern_after}
-use Rattle.board_player.specs.declared.console.ByteDone.{ByteDone}
-use Rattle.board_player.specs.declared.console.ByteDone.TheVariants as done
 use Rattle.board_player.proofs.TaskLemmas.{since-move}
 use Rattle.board_player.proofs.Goes.{Goes, LocksWithin, goes_nowhere, goes_on, goes_further, goes-release, goes-reset}
-use Rattle.board_player.proofs.Kept.{byte_keeps}
+use Rattle.board_player.proofs.Kept.{byte_has_line}
 
 -- ---- the shell's task after a move of it
 -- a changed record is found under its id
@@ -104,7 +107,8 @@ hear_more h new bytes i within e =
 -- ---- the kept facts
 -- after some bytes: the facts on lines hold, the kernel has gone on, and at most so many order numbers are spent
 pub record HeardWell (from : KernState) (h : Heard) (n d spent : ℕ) : Type 0 where
-  pub lines : KeepsLines h.console.edited h.console.finished h.shell.phase
+  pub lines : KeepsLines h.console.edited h.console.finished
+  pub read : HasItsLine h.shell.phase h.console.finished
   pub goes : Goes from h.kern n d
   pub spends : h.kern.next_since + owed h.kern ≤ from.next_since + owed from + spent
 
@@ -128,31 +132,33 @@ after_goes done.Kept waits k n is within = goes_further k k n n 0 2 (omega arith
 
 hear_well : (from : KernState) (h : Heard) (b n d spent : ℕ) → HeardWell from h n d spent → HeardWell from (hear h b) n (d + 2) (spent + 1)
 hear_well from h b n d spent w = record {
-  lines = byte_keeps h.console (waits_for_console h.kern) h.shell b w.lines;
+  lines = byte_keeps h.console b w.lines;
+  read = byte_has_line h.console (waits_for_console h.kern) h.shell b w.read;
   goes = goes_on from h.kern (hear h b).kern n n d 2 w.goes (after_goes (byte_done h.console b) (waits_for_console h.kern) h.kern n w.goes.kern w.goes.locks);
   spends = omega (arith, w.spends, after_spends (byte_done h.console b) h.kern);
 }
 
 heard_well : (from : KernState) (h : Heard) (bytes : List ℕ) (n d spent : ℕ) → HeardWell from h n d spent → HeardWell from (heard_all h bytes) n (d + 2 * length bytes) (spent + length bytes)
 unfolding heard_all
-heard_well from h [] n d spent w = record { lines = w.lines; goes = goes_further from h.kern n n d (d + 2 * 0) (omega arith) (omega arith) w.goes; spends = omega (arith, w.spends) }
+heard_well from h [] n d spent w = record { lines = w.lines; read = w.read; goes = goes_further from h.kern n n d (d + 2 * 0) (omega arith) (omega arith) w.goes; spends = omega (arith, w.spends) }
 heard_well from h (b ∷ bs) n d spent w =
     let rest = heard_well from (hear h b) bs n (d + 2) (spent + 1) (hear_well from h b n d spent w) in
     record {
       lines = rest.lines;
+      read = rest.read;
       goes = goes_further from (heard_all (hear h b) bs).kern n n (d + 2 + 2 * length bs) (d + 2 * suc (length bs)) (omega arith) (omega arith) rest.goes;
       spends = omega (arith, rest.spends);
     }
 
 -- bytes that come to a console and a kernel with the kept facts
-pub heard_keeps : (console : ConsoleState) (shell : ShellState) (k : KernState) (echo bytes : List ℕ) (n : ℕ) → KeepsLines console.edited console.finished shell.phase → IsKern k → LocksWithin n k
+pub heard_keeps : (console : ConsoleState) (shell : ShellState) (k : KernState) (echo bytes : List ℕ) (n : ℕ) → KeepsLines console.edited console.finished → HasItsLine shell.phase console.finished → IsKern k → LocksWithin n k
     → (h : Heard) → h ≡ heard_all (heard_from console shell k echo) bytes
-    → KeepsLines h.console.edited h.console.finished h.shell.phase × Goes k h.kern n (length bytes + 1)
-heard_keeps console shell k echo bytes n lines is within h e =
-    let start : HeardWell k (heard_from console shell k echo) n 0 0 = record { lines = lines; goes = goes_nowhere k n is within; spends = omega arith } in
+    → KeepsLines h.console.edited h.console.finished × HasItsLine h.shell.phase h.console.finished × Goes k h.kern n (length bytes + 1)
+heard_keeps console shell k echo bytes n lines read is within h e =
+    let start : HeardWell k (heard_from console shell k echo) n 0 0 = record { lines = lines; read = read; goes = goes_nowhere k n is within; spends = omega arith } in
     let w : HeardWell k h n (0 + 2 * length bytes) (0 + length bytes) = subst (λ g. HeardWell k g n (0 + 2 * length bytes) (0 + length bytes)) (sym e) (heard_well k (heard_from console shell k echo) bytes n 0 0 start) in
     let one : owed k ≤ 1 = elim (is_held (shell_task k)) as (λ b. cond b 1 0 ≤ 1) [ true ↦ omega arith | false ↦ omega arith ] in
-    (w.lines, record { kern = w.goes.kern; alone = w.goes.alone; locks = w.goes.locks; sinces = omega (arith, w.spends, one); count = w.goes.count })
+    (w.lines, w.read, record { kern = w.goes.kern; alone = w.goes.alone; locks = w.goes.locks; sinces = omega (arith, w.spends, one); count = w.goes.count })
 
 -- ---- a chunk has at most 4,097 bytes
 taken_short : (left : List ℕ) (o : Option ℕ) → first_end left ≡ o → taken_by o ≤ 4096

@@ -1,5 +1,4 @@
 pub mod FeedLemmas
-pub mod Lines
 pub mod Kept
 pub mod TaskLemmas
 pub mod Goes

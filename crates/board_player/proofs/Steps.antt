@@ -16,10 +16,12 @@ use Rattle.wind_core.proofs.Ticking.{tick_keeps, tick_ahead}
 use Rattle.shell_parse.specs.Trees.{PlainStmt}
 use Rattle.shell_parse.specs.Reading.{read_line}
 use Rattle.shell_eval.specs.Due.{PlainDue, Empty, Value, Made, Missing, Unevaluated}
-use Rattle.board_player.specs.State.{ConsoleState, State}
-use Rattle.board_player.specs.Good.{KeepsLines, Good}
+use Rattle.con_line.specs.State.{ConsoleState}
+use Rattle.con_line.specs.Lines.{KeepsLines, has_line, front_line, line_dropped}
+use Rattle.con_line.proofs.Kept.{drop_keeps}
+use Rattle.board_player.specs.State.{State}
+use Rattle.board_player.specs.Good.{HasItsLine, Good}
 use Rattle.board_player.specs.Feed.{chunk, after_chunk, brought}
-use Rattle.board_player.specs.Console.{has_line, front_line, line_dropped}
 use Rattle.board_player.specs.Task.{shell_id, shell_task, listening, call_regs}
 use Rattle.board_player.specs.Calls.{landing, call, argument}
 use Rattle.board_player.specs.Shell.{Part, part_of, prompt_part, read_part, shell_read, phase_with, rest_of, due_of_first, eval_part, landed_part, returned, counter}
@@ -28,7 +30,7 @@ use Rattle.board_player.specs.declared.phase.Phase.{Phase}
 use Rattle.board_player.specs.declared.phase.Phase.TheVariants as phases
 use Rattle.board_player.specs.declared.gate.Landing.{Landing}
 use Rattle.board_player.specs.declared.gate.Landing.TheVariants.{Return, Call}
-use Rattle.board_player.proofs.Kept.{unread, prompt_lines, read_phase, dropped_lines}
+use Rattle.board_player.proofs.Kept.{needs_none, prompt_has_line, read_phase}
 use Rattle.board_player.proofs.Goes.{Goes, goes_nowhere, goes_further, goes-set_regs, goes-listening, tick_locks}
 use Rattle.board_player.proofs.Hearing.{heard_keeps, chunk_short}
 use Rattle.board_player.proofs.Rows.{call_goes}
@@ -39,10 +41,11 @@ module _ (s : State) (g : Good s) where
   still = goes_further s.kern s.kern s.steps (s.steps + 1) 0 0 (omega arith) (omega arith) (goes_nowhere s.kern s.steps g.kern g.locks)
 
   -- a step of the shell's task
-  pub stepped_keeps : (console : ConsoleState) (p : Part) (d : ℕ) → KeepsLines console.edited console.finished p.shell.phase → Goes s.kern p.kern (s.steps + 1) d → d ≤ 8192
+  pub stepped_keeps : (console : ConsoleState) (p : Part) (d : ℕ) → KeepsLines console.edited console.finished → HasItsLine p.shell.phase console.finished → Goes s.kern p.kern (s.steps + 1) d → d ≤ 8192
       → Good (stepped (record s { console = console }) p)
-  stepped_keeps console p d lines goes few = record {
+  stepped_keeps console p d lines read goes few = record {
     console = lines;
+    read = read;
     kern = (every_call_keeps p.kern goes.kern).noting_last (Some shell_id);
     alone = goes.alone ∙ g.alone;
     sinces = omega (arith, goes.sinces, g.sinces, few);
@@ -54,14 +57,15 @@ module _ (s : State) (g : Good s) where
   -- bytes arrive
   pub arrived_keeps : (left echo bytes : List ℕ) (h : Heard) → length bytes ≤ 4097 → h ≡ heard_all (heard_from s.console s.shell s.kern echo) bytes → Good (arrived s left h)
   arrived_keeps left echo bytes h short e =
-      let kept = heard_keeps s.console s.shell s.kern echo bytes (s.steps + 1) g.console g.kern still.locks h e in
+      let kept = heard_keeps s.console s.shell s.kern echo bytes (s.steps + 1) g.console g.read g.kern still.locks h e in
       record {
         console = kept.0;
-        kern = kept.1.kern;
-        alone = kept.1.alone ∙ g.alone;
-        sinces = omega (arith, kept.1.sinces, g.sinces, short);
-        ticks = omega (arith, kept.1.count, g.ticks);
-        locks = kept.1.locks;
+        read = kept.1;
+        kern = kept.2.kern;
+        alone = kept.2.alone ∙ g.alone;
+        sinces = omega (arith, kept.2.sinces, g.sinces, short);
+        ticks = omega (arith, kept.2.count, g.ticks);
+        locks = kept.2.locks;
         time = omega (arith, g.time);
       }
 
@@ -74,14 +78,14 @@ prompt_goes s g has =
       | false ↦ goes-listening s.kern (s.steps + 1) g.kern more
     ]
 
-pub prompt_keeps : (s : State) → Good s → s.shell.phase ≡ phases.Prompt → Good (prompt_step s)
-prompt_keeps s g at =
-    stepped_keeps s g s.console (prompt_part (has_line s.console) s.shell s.kern) 1 (prompt_lines s.console.edited s.console.finished s.shell g.console at) (prompt_goes s g (has_line s.console)) (omega arith)
+pub prompt_keeps : (s : State) → Good s → Good (prompt_step s)
+prompt_keeps s g =
+    stepped_keeps s g s.console (prompt_part (has_line s.console) s.shell s.kern) 1 g.console (prompt_has_line s.console.finished s.shell g.read) (prompt_goes s g (has_line s.console)) (omega arith)
 
 pub read_keeps : (s : State) → Good s → Good (read_step s)
 read_keeps s g =
     let reading = read_line (front_line s.console) in
-    stepped_keeps s g (line_dropped s.console) (read_part reading s.kern) 0 (dropped_lines s.console s.shell.phase (shell_read reading).phase g.console (read_phase reading)) (still s g) (omega arith)
+    stepped_keeps s g (line_dropped s.console) (read_part reading s.kern) 0 (drop_keeps s.console g.console) (needs_none (shell_read reading).phase (line_dropped s.console).finished (read_phase reading)) (still s g) (omega arith)
 
 -- a shell behind a statement does not read
 phase_after : (stmts : List PlainStmt) → phase_with stmts ≢ phases.Read
@@ -89,8 +93,8 @@ phase_after [] e = cc
 phase_after (stmt ∷ stmts) e = cc
 
 -- whatever is due, the shell does not read then, and the kernel has at most new registers for its task
-pub eval_lines : (s : State) → Good s → (due : PlainDue) → KeepsLines s.console.edited s.console.finished (eval_part due s.shell s.kern).shell.phase
-eval_lines s g due = unread s.console.edited s.console.finished (eval_part due s.shell s.kern).shell.phase g.console.short g.console.unended g.console.lines g.console.within (other due)
+pub eval_has_line : (s : State) (due : PlainDue) → HasItsLine (eval_part due s.shell s.kern).shell.phase s.console.finished
+eval_has_line s due = needs_none (eval_part due s.shell s.kern).shell.phase s.console.finished (other due)
   where
     other : (due : PlainDue) → (eval_part due s.shell s.kern).shell.phase ≢ phases.Read
     other Empty = phase_after (rest_of s.shell.stmts)
@@ -109,24 +113,24 @@ eval_goes s g (Made gate words) = goes-set_regs s.kern (s.steps + 1) g.kern (sti
 pub eval_keeps : (s : State) → Good s → Good (eval_step s)
 eval_keeps s g =
     let due = due_of_first s.shell.stmts in
-    stepped_keeps s g s.console (eval_part due s.shell s.kern) 0 (eval_lines s g due) (eval_goes s g due) (omega arith)
+    stepped_keeps s g s.console (eval_part due s.shell s.kern) 0 g.console (eval_has_line s due) (eval_goes s g due) (omega arith)
 
 landed_keeps : (s : State) (o : Option Landing) → Good s → IfSome (option_map (stepped s) (landed_part o s.shell s.kern)) Good
 landed_keeps s None g = tt
 landed_keeps s (Some Return) g =
     let value = argument 3 (shell_task s.kern) in
     stepped_keeps s g s.console (part_of (returned value s.shell) s.kern []) 0
-    (unread s.console.edited s.console.finished phases.Eval g.console.short g.console.unended g.console.lines g.console.within (λ e. cc))
+    g.console (needs_none phases.Eval s.console.finished (λ e. cc))
     (still s g) (omega arith)
 landed_keeps s (Some (Call gate)) g =
-    stepped_keeps s g s.console (part_of s.shell (call gate s.kern shell_id) []) 2 g.console (call_goes s.kern s.steps gate shell_id g.kern g.locks) (omega arith)
+    stepped_keeps s g s.console (part_of s.shell (call gate s.kern shell_id) []) 2 g.console g.read (call_goes s.kern s.steps gate shell_id g.kern g.locks) (omega arith)
 
 pub call_keeps : (s : State) → Good s → IfSome (call_step s) Good
 call_keeps s g = landed_keeps s (landing (counter (shell_task s.kern))) g
 
 -- by its phase
 shell_keeps : (p : Phase) (s : State) → s.shell.phase ≡ p → Good s → IfSome (shell_step p s) Good
-shell_keeps phases.Prompt s at g = prompt_keeps s g at
+shell_keeps phases.Prompt s at g = prompt_keeps s g
 shell_keeps phases.Read s at g = read_keeps s g
 shell_keeps phases.Eval s at g = eval_keeps s g
 shell_keeps phases.Call s at g = call_keeps s g
@@ -134,12 +138,13 @@ shell_keeps phases.Call s at g = call_keeps s g
 -- ---- events
 -- the events to come have no part in the facts
 pub without_event : (s : State) (t : Timetable) → Good s → Good (record s { schedule = t })
-without_event s t g = record { console = g.console; kern = g.kern; alone = g.alone; sinces = g.sinces; ticks = g.ticks; locks = g.locks; time = g.time }
+without_event s t g = record { console = g.console; read = g.read; kern = g.kern; alone = g.alone; sinces = g.sinces; ticks = g.ticks; locks = g.locks; time = g.time }
 
 pub ticked_keeps : (s : State) → Good s → Good (ticked s)
 ticked_keeps s g =
     record {
       console = g.console;
+      read = g.read;
       kern = tick_keeps s.kern g.kern;
       alone = ids-tick s.kern ∙ g.alone;
       sinces = omega (arith, since-tick s.kern, g.kern.few, g.sinces);
@@ -162,6 +167,7 @@ event_keeps s (Rx n) g = received_keeps s n g
 pub jump_keeps : (s : State) (e : Timed) → e.time < 2 ^ 64 → Good s → Good (jump s e)
 jump_keeps s e early g = record {
   console = g.console;
+  read = g.read;
   kern = g.kern;
   alone = g.alone;
   sinces = omega (arith, g.sinces);

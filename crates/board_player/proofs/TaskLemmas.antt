@@ -6,8 +6,8 @@ use Rattle.wind_core.specs.State.{KernState, Lives, task_of}
 use Rattle.wind_core.specs.Moves.{move_found, move_task, released, release, unmarked, pended, renewed}
 use Rattle.wind_core.proofs.Ids.{ids, ids-change, ids-move, lives_by}
 use Rattle.board_player.specs.Task.{shell_id, shell_task, console_place, is_held, let_go, aborted, listening}
-use Rattle.board_player.specs.declared.console.ByteDone.{ByteDone}
-use Rattle.board_player.specs.declared.console.ByteDone.TheVariants as done
+use Rattle.con_line.specs.declared.console.ByteDone.{ByteDone}
+use Rattle.con_line.specs.declared.console.ByteDone.TheVariants as done
 use Rattle.board_player.specs.Machine.{kern_after}
 
 -- at most one order number is given out where one task is moved

@@ -2,7 +2,8 @@
 use Rattle.std.specs.Prelude.{ℕ, List, []}
 use Rattle.tick_file.specs.Schedule.{Timetable}
 use Rattle.wind_core.specs.State.{KernState}
-use Rattle.board_player.specs.State.{ConsoleState, ShellState, State}
+use Rattle.con_line.specs.State.{ConsoleState}
+use Rattle.board_player.specs.State.{ShellState, State}
 use Rattle.board_player.specs.declared.clock.Clock.{Clock}
 
 -- without slots

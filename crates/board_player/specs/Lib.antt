@@ -1,4 +1,3 @@
-pub mod Console
 pub mod Feed
 pub mod Good
 pub mod Inside

@@ -12,15 +12,17 @@ use Rattle.wind_core.specs.Orders.{running}
 use Rattle.wind_core.specs.Moves.{release}
 use Rattle.wind_core.specs.Tick.{tick}
 use Rattle.shell_parse.specs.Reading.{read_line}
-use Rattle.board_player.specs.State.{ConsoleState, ShellState, State}
+use Rattle.con_line.specs.State.{ConsoleState, opening_console}
+use Rattle.con_line.specs.Keys.{after_byte, byte_echo, byte_done}
+use Rattle.con_line.specs.Lines.{has_line, front_line, line_dropped}
+use Rattle.con_line.specs.declared.console.ByteDone.{ByteDone}
+use Rattle.con_line.specs.declared.console.ByteDone.TheVariants as done
+use Rattle.board_player.specs.State.{ShellState, State}
 use Rattle.board_player.specs.Feed.{chunk, after_chunk, brought}
-use Rattle.board_player.specs.Console.{after_byte, byte_echo, byte_done, has_line, front_line, line_dropped}
 use Rattle.board_player.specs.Task.{shell_id, waits_for_console, aborted, opening_kern}
 use Rattle.board_player.specs.Shell.{Part, at_prompt, prompt_part, read_part, due_of_first, eval_part, call_part}
 use Rattle.board_player.specs.declared.phase.Phase.{Phase}
 use Rattle.board_player.specs.declared.phase.Phase.TheVariants as phases
-use Rattle.board_player.specs.declared.console.ByteDone.{ByteDone}
-use Rattle.board_player.specs.declared.console.ByteDone.TheVariants as done
 
 -- ---- bytes of the console come
 -- what they change, and what they have written
@@ -180,7 +182,7 @@ reads_line s = not (is_some (due_event s)) && (not (console_is_due s) && (is_som
 unfoldable pub opening : List ℕ → Timetable → List (Option DeviceState) → State
 opening console schedule slots = record {
   left = console;
-  console = record { edited = []; after_return = false; finished = [] };
+  console = opening_console;
   shell = at_prompt;
   kern = opening_kern;
   schedule = schedule;

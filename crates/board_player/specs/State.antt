@@ -1,16 +1,11 @@
 -- The state of the wind machine, as plain data.
-use Rattle.std.specs.Prelude.{ℕ, List, Option, Bool}
+use Rattle.std.specs.Prelude.{ℕ, List, Option}
 use Rattle.wind_outside.specs.Devices.{DeviceState}
 use Rattle.shell_parse.specs.Trees.{PlainStmt}
 use Rattle.tick_file.specs.Schedule.{Timetable}
 use Rattle.wind_core.specs.State.{KernState}
+use Rattle.con_line.specs.State.{ConsoleState}
 use Rattle.board_player.specs.declared.phase.Phase.{Phase}
-
--- the console: the line that is edited, the mark that the last byte was 0x0D, and the finished lines, each with its 0x0A
-pub record ConsoleState : Type 0 where
-  pub edited : List ℕ
-  pub after_return : Bool
-  pub finished : List ℕ
 
 -- the shell: its phase, and the statements left, of which the first is under evaluation
 pub record ShellState : Type 0 where

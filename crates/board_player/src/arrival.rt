@@ -5,12 +5,12 @@ ghost use Rattle.wind_base.specs.OutBuf.{KeepsSpace};
 ghost use Rattle.wind_core.specs.State.{Lives};
 ghost use Rattle.board_player.specs.Feed.{supplied};
 ghost use Rattle.board_player.specs.Task.{waits_for_console as waits_for_console_lem};
-ghost use Rattle.board_player.specs.declared.console.ByteDone.TheVariants as done;
+ghost use Rattle.con_line.specs.declared.console.ByteDone.TheVariants as done;
 ghost use Rattle.board_player.specs.Machine.{heard_from, hear as hear_lem, heard_all, shell_after, kern_after};
 
-use crate::console::{ByteDone, Console};
 use crate::shell::Shell;
 use crate::task::{abort, shell_id, waits_for_console};
+use con_line::{ByteDone, Console};
 use wind_base::OutBuf;
 use wind_core::Kern;
 

@@ -1,22 +1,23 @@
 //! A board: all of the wind machine.
 
-ghost use Rattle.std.specs.Prelude.{◌≡◌, ◌≤◌, ◌+◌, length, OnOk, OnErr, Some, None, nat_le, if◌then◌else◌};
+ghost use Rattle.std.specs.Prelude.{◌≡◌, ◌≤◌, ◌+◌, length, take, OnOk, OnErr, Some, None, nat_le, if◌then◌else◌};
 ghost use Rattle.board_player.specs.declared.Step.TheVariants as steps;
 ghost use Rattle.std.proofs.Props.{props};
-ghost use Rattle.wind_base.specs.Limits.{most_steps};
+ghost use Rattle.wind_base.specs.Limits.{most_steps, longest_line};
+ghost use Rattle.con_line.specs.Lines.{front_line};
 ghost use Rattle.board_player.specs.Inside.{inside};
 ghost use Rattle.board_player.specs.Good.{Good};
 
 use crate::Step;
 use crate::arrival::hear_chunk;
 use crate::clock::Clock;
-use crate::console::Console;
 use crate::evaluate::{evaluate, go_on, prompt};
 use crate::feed::{Feed, brought, chunk_len};
 use crate::machine::Machine;
 use crate::phase::Phase;
 use crate::shell::Shell;
 use crate::task::{is_open, shell_id, shell_record, waits_for_console};
+use con_line::{Console, LINE_ROOM};
 use std::alloc::Global;
 use tick_file::{Event, Schedule};
 use wind_base::limits::CHUNK_BYTES;
@@ -47,7 +48,7 @@ impl Board {
     ghost use Rattle.std.specs.Prelude.{◌≡◌, ◌<◌, ◌^◌, true, false, Some, None, IfOk, IfErr, OnOk, OnErr, option_map};
     ghost use Rattle.wind_outside.specs.Devices.{slots_of};
     ghost use Rattle.board_player.specs.Seen.{seen};
-    ghost use Rattle.board_player.specs.Console.{has_line};
+    ghost use Rattle.con_line.specs.Lines.{has_line};
     ghost use Rattle.board_player.specs.Machine.{opening, prompt_step, read_step, eval_step, call_step, arrival, ticked, received, without_next, jump};
     ghost use Rattle.board_player.specs.declared.phase.Phase.TheVariants as phases;
 
@@ -73,9 +74,12 @@ impl Board {
         let Ok(_) = kern.spawn_record(shell_record()) else {
             unreachable!()
         };
+        let Ok(screen) = Console::new(alloc) else {
+            return Err(slots);
+        };
         Ok(Board {
             feed: Feed::new(console),
-            console: Console::new(),
+            console: screen,
             shell: Shell::new(alloc),
             kern,
             schedule,
@@ -87,8 +91,7 @@ impl Board {
 
     // The shell writes its prompt.
     fn prompt(&mut self)
-        requires few { (seen ⟦<dyn Device as Device>⟧ self.old).steps < most_steps }
-        requires phase { (seen ⟦<dyn Device as Device>⟧ self.old).shell.phase ≡ phases.Prompt }
+        requires { (seen ⟦<dyn Device as Device>⟧ self.old).steps < most_steps }
         ensures { seen ⟦<dyn Device as Device>⟧ self.new ≡ prompt_step (seen ⟦<dyn Device as Device>⟧ self.old) }
     {
         let kept = self.console.has_line();
@@ -103,7 +106,9 @@ impl Board {
         ensures ok { OnOk result (seen ⟦<dyn Device as Device>⟧ self.new ≡ read_step (seen ⟦<dyn Device as Device>⟧ self.old)) }
         ensures err { OnErr result (seen ⟦<dyn Device as Device>⟧ self.new ≡ seen ⟦<dyn Device as Device>⟧ self.old) }
     {
-        self.shell.read(self.console.front_line(), &mut self.out)?;
+        let mut line = [0; LINE_ROOM];
+        let len = copy_line(&self.console, &mut line);
+        self.shell.read(&line[..len], &mut self.out)?;
         self.console.drop_line();
         self.kern.ran(shell_id());
         self.clock.step();
@@ -297,6 +302,18 @@ impl Machine for Board {
 
     fn steps(&self) -> u64 {
         self.clock.steps
+    }
+}
+
+// Copies the first finished line to the front of a room, and tells how many bytes it has: 0 where no line
+// is kept.
+fn copy_line(console: &Console, room: &mut [u8; LINE_ROOM]) -> usize
+    ensures line { take result room.new ≡ front_line console.now }
+    ensures short { result ≤ longest_line }
+{
+    match console.front_line(room) {
+        Some(len) => len as usize,
+        None => 0,
     }
 }
 

@@ -5,7 +5,6 @@ mod arrival;
 mod board;
 mod calls;
 mod clock;
-mod console;
 mod evaluate;
 mod feed;
 mod gate;

@@ -15,7 +15,7 @@ invariant_of-self-clause-good g c =
     let b = c.args.self.now in
     let old = inside b.feed b.console b.shell b.kern b.schedule b.clock b.out.bytes in
     let kept : Good (stepped old (prompt_part c.has_line-kept.result old.shell old.kern)) =
-    subst (λ h. Good (stepped old (prompt_part h old.shell old.kern))) (sym c.has_line-kept.ensures) (prompt_keeps old b.good c.requires.phase) in
+    subst (λ h. Good (stepped old (prompt_part h old.shell old.kern))) (sym c.has_line-kept.ensures) (prompt_keeps old b.good) in
     let good : Good (stepped old (part_of c.prompt.new.shell c.prompt.new.kern c.prompt.new.out.bytes)) =
     subst (λ p. Good (stepped old p)) (sym c.prompt.ensures.part) kept in
     rw (c.ran.ensures, c.shell_id.ensures, c.step.ensures) good

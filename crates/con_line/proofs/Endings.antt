@@ -6,22 +6,22 @@ use Rattle.std.proofs.lemmas.Bool.Decides.{nat_tests}
 use Rattle.std.proofs.lemmas.List.Elements.{All-head, All-tail}
 use Rattle.wind_base.specs.Lines.{line_length}
 use Rattle.wind_base.proofs.LineLength.{length_end, length_more}
-use Rattle.board_player.specs.Good.{are_lines}
+use Rattle.con_line.specs.Lines.{are_lines}
 
 -- the two halves of a test
-both_left : (a b : Bool) → a && b ≡ true → a ≡ true
+pub both_left : (a b : Bool) → a && b ≡ true → a ≡ true
 both_left true b h = refl
 both_left false b h = cc
 
-both_right : (a b : Bool) → a && b ≡ true → b ≡ true
+pub both_right : (a b : Bool) → a && b ≡ true → b ≡ true
 both_right true b h = h
 both_right false b h = cc
 
 -- a line after n bytes, by whether its next byte ends it
-line_end : (n b : ℕ) (bs : List ℕ) → b ≡ 10 → are_lines n (b ∷ bs) ≡ nat_le n 255 && are_lines 0 bs
+pub line_end : (n b : ℕ) (bs : List ℕ) → b ≡ 10 → are_lines n (b ∷ bs) ≡ nat_le n 255 && are_lines 0 bs
 line_end n b bs e = let t : (b == 10) ≡ true = grind (arith, nat_tests) in ap (λ x. if x then nat_le n 255 && are_lines 0 bs else are_lines (n + 1) bs) t
 
-line_more : (n b : ℕ) (bs : List ℕ) → b ≢ 10 → are_lines n (b ∷ bs) ≡ are_lines (n + 1) bs
+pub line_more : (n b : ℕ) (bs : List ℕ) → b ≢ 10 → are_lines n (b ∷ bs) ≡ are_lines (n + 1) bs
 line_more n b bs e = let t : (b == 10) ≡ false = grind (arith, nat_tests) in ap (λ x. if x then nat_le n 255 && are_lines 0 bs else are_lines (n + 1) bs) t
 
 -- a line that is ended, after n bytes of it

@@ -1,0 +1,4 @@
+pub mod Endings
+pub mod Kept
+pub mod Effects
+pub mod Splitting

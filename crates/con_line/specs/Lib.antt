@@ -1,0 +1,5 @@
+pub mod State
+pub mod Keys
+pub mod Lines
+pub mod Effect
+pub mod Laws

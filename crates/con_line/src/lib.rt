@@ -1,0 +1,12 @@
+//! The console: the line that is edited, and the finished lines that are kept until they are read.
+#![tactic(auto)]
+
+mod console;
+mod finished;
+mod key;
+mod laws;
+#[cfg(test)]
+mod tests;
+
+pub use console::{ByteDone, Console, LINE_ROOM};
+pub use laws::{kept_law, lines_law};
