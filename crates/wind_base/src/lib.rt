@@ -14,6 +14,7 @@ mod priority;
 mod regs;
 #[cfg(test)]
 mod tests;
+pub mod words;
 
 pub use errno::Errno;
 pub use gate::gate_name;

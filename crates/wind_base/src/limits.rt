@@ -1,5 +1,18 @@
-//! The limits of the board and of a run. They are this project's own; a limit that is reached is
-//! answered by a named refusal, never in silence.
+//! The limits of the board and of a run. They are this project's own. An object, a file or a count that
+//! would exceed its limit is refused by name; a line, a kept name and a printed text are cut off, as the
+//! call that cuts them says.
+
+/// The bytes of RAM, which begins at address 0: 16 MiB.
+pub const RAM_BYTES: u32 = 0x0100_0000;
+
+/// Where the pool of the memory partition begins. It goes on to the end of RAM.
+pub const POOL_START: u32 = 0x0001_0000;
+
+/// Where the first device slot begins.
+pub const SLOTS_START: u32 = 0xe000_0000;
+
+/// The bytes of a device slot.
+pub const SLOT_BYTES: u32 = 0x1000;
 
 /// The most live tasks.
 pub const TASKS: u32 = 256;

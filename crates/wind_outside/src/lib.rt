@@ -2,17 +2,23 @@
 //! be known of it, in memory and for real.
 #![tactic(auto)]
 
+mod byte_fifo;
 mod calls;
 mod device;
+mod event_counter;
 mod folder;
 mod host;
+mod latch;
 mod mem_folder;
 mod mem_sink;
 mod sink;
 
+pub use byte_fifo::ByteFifo;
 pub use device::{Device, DeviceKind, Slots};
+pub use event_counter::EventCounter;
 pub use folder::{Fetched, Folder};
 pub use host::{HostFolder, HostSink};
+pub use latch::Latch;
 pub use mem_folder::MemFolder;
 pub use mem_sink::MemSink;
 pub use sink::{Put, Sink};

@@ -1,0 +1,5 @@
+pub mod BusState
+pub mod Slots
+pub mod Access
+pub mod Seen
+pub mod Lawful

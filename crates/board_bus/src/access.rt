@@ -1,0 +1,78 @@
+//! The bus by address.
+
+ghost use Rattle.std.specs.Prelude.{◌≡◌};
+ghost use Rattle.board_bus.specs.Access.{fetched};
+ghost use Rattle.board_bus.specs.Seen.{bus_seen};
+
+use crate::bus::BoardBus;
+use crate::slots::{load_word, store_word};
+use ppc_core::{Bus, Fault};
+use wind_outside::Device;
+
+impl BoardBus {
+    /// The word at an address, for an instruction. None where it is outside RAM, or not at a multiple of 4.
+    pub fn fetch(&self, addr: u32) -> Option<u32>
+        ensures { result ≡ fetched (bus_seen ⟦<dyn Device as Device>⟧ self.now) addr }
+    {
+        if addr % 4 != 0 {
+            return None;
+        }
+        self.ram.read32(addr)
+    }
+}
+
+impl Bus for BoardBus {
+    ghost use Rattle.wind_outside.specs.Devices.{slots_of};
+    ghost use Rattle.board_bus.specs.BusState.{BusState};
+    ghost use Rattle.board_bus.specs.Access.{board_meaning};
+    ghost use Rattle.board_bus.specs.Seen.{bus_by};
+    ghost use Rattle.board_bus.specs.Lawful.{board_lawful};
+
+    ghost Held = { BusState };
+
+    ghost held = { λ b. bus_by (λ d. (Device-box d).kind_of d.value) (λ d. (Device-box d).words_of d.value) b };
+
+    ghost meaning = { board_meaning };
+
+    ghost lawful = { board_lawful };
+
+    fn load8(&mut self, addr: u32) -> Result<u32, Fault> {
+        self.ram.read8(addr).ok_or(Fault)
+    }
+
+    fn load16(&mut self, addr: u32) -> Result<u32, Fault> {
+        self.ram.read16(addr).ok_or(Fault)
+    }
+
+    fn load32(&mut self, addr: u32) -> Result<u32, Fault> {
+        match self.ram.read32(addr) {
+            Some(word) => Ok(word),
+            None => load_word(&mut self.slots, addr).ok_or(Fault),
+        }
+    }
+
+    fn store8(&mut self, addr: u32, value: u32) -> Result<(), Fault> {
+        match self.ram.write8(addr, value) {
+            Ok(()) => Ok(()),
+            Err(_) => Err(Fault),
+        }
+    }
+
+    fn store16(&mut self, addr: u32, value: u32) -> Result<(), Fault> {
+        match self.ram.write16(addr, value) {
+            Ok(()) => Ok(()),
+            Err(_) => Err(Fault),
+        }
+    }
+
+    fn store32(&mut self, addr: u32, value: u32) -> Result<(), Fault> {
+        if self.ram.write32(addr, value).is_ok() || store_word(&mut self.slots, addr, value) {
+            return Ok(());
+        }
+        Err(Fault)
+    }
+
+    fn is_ram(&self, addr: u32, n: u32) -> bool {
+        self.ram.has(addr, n)
+    }
+}

@@ -1,0 +1,10 @@
+//! The board's bus: RAM, and the devices in their slots.
+#![tactic(auto)]
+
+mod access;
+mod bus;
+mod slots;
+#[cfg(test)]
+mod tests;
+
+pub use bus::BoardBus;

@@ -1,0 +1,117 @@
+//! The device slots by address.
+
+ghost use Rattle.std.specs.Prelude.{◌≡◌, ◌<◌, ◌≤◌, ◌%◌, Some, None, length, option_map, option_and_then, is_some, map};
+ghost use Rattle.wind_base.specs.Limits.{slots_start, slot_bytes};
+ghost use Rattle.wind_outside.specs.Devices.{slots_of};
+ghost use Rattle.board_bus.specs.Slots.{is_slot_word as is_slot_word_lem, slot_number as slot_number_lem, slot_offset as slot_offset_lem, device_at, with_device, reached, answer_of, device_loaded, device_stored, slots_loaded, slots_stored, slot_seen};
+
+use wind_base::limits::{SLOT_BYTES, SLOTS, SLOTS_START};
+use wind_outside::{Device, Slots};
+
+// Whether the word at an address is one of a slot: a whole word at a multiple of 4, in the range of the slots.
+fn is_slot_word(addr: u32) -> bool
+    ensures { result ≡ is_slot_word_lem 4 addr }
+{
+    addr % 4 == 0 && addr >= SLOTS_START && addr < SLOTS_START + SLOTS as u32 * SLOT_BYTES
+}
+
+// The number of the slot of an address.
+fn slot_number(addr: u32) -> usize
+    requires { slots_start ≤ addr }
+    ensures { result ≡ slot_number_lem addr }
+{
+    ((addr - SLOTS_START) / SLOT_BYTES) as usize
+}
+
+// How far an address lies behind the start of its slot.
+fn slot_offset(addr: u32) -> u32
+    requires { slots_start ≤ addr }
+    ensures { result ≡ slot_offset_lem addr }
+{
+    (addr - SLOTS_START) % SLOT_BYTES
+}
+
+// Loads from what stands in one slot.
+fn load_slot(slot: &mut Option<Box<dyn Device>>, off: u32) -> Option<u32>
+    requires aligned { off % 4 ≡ 0 }
+    requires inside { off < slot_bytes }
+    ensures answer { result ≡ answer_of (slot_seen kind_of words_of slot.old) off }
+    ensures slot { slot_seen kind_of words_of slot.new
+        ≡ device_loaded (slot_seen kind_of words_of slot.old) off }
+{
+    match slot {
+        Some(device) => Some(device.load(off)),
+        None => None,
+    }
+}
+
+// Stores to what stands in one slot. Whether a device does.
+fn store_slot(slot: &mut Option<Box<dyn Device>>, off: u32, v: u32) -> bool
+    requires aligned { off % 4 ≡ 0 }
+    requires inside { off < slot_bytes }
+    ensures answer { result ≡ is_some (slot_seen kind_of words_of slot.old) }
+    ensures slot { slot_seen kind_of words_of slot.new
+        ≡ device_stored (slot_seen kind_of words_of slot.old) off v }
+{
+    match slot {
+        Some(device) => {
+            device.store(off, v);
+            true
+        }
+        None => false,
+    }
+}
+
+// Loads from slot i.
+fn load(slots: &mut Slots, i: usize, off: u32) -> Option<u32>
+    requires aligned { off % 4 ≡ 0 }
+    requires inside { off < slot_bytes }
+    requires slot { i < length slots.old.items }
+    ensures answer { result ≡ answer_of (device_at (slots_of kind_of words_of slots.old.items) i) off }
+    ensures slots { let seen = slots_of kind_of words_of slots.old.items in
+        slots_of kind_of words_of slots.new.items ≡ with_device seen i (device_loaded (device_at seen i) off) }
+{
+    load_slot(&mut slots[i], off)
+}
+
+// Stores to slot i. Whether a device stands there.
+fn store(slots: &mut Slots, i: usize, off: u32, v: u32) -> bool
+    requires aligned { off % 4 ≡ 0 }
+    requires inside { off < slot_bytes }
+    requires slot { i < length slots.old.items }
+    ensures answer { result ≡ is_some (device_at (slots_of kind_of words_of slots.old.items) i) }
+    ensures slots { let seen = slots_of kind_of words_of slots.old.items in
+        slots_of kind_of words_of slots.new.items ≡ with_device seen i (device_stored (device_at seen i) off v) }
+{
+    store_slot(&mut slots[i], off, v)
+}
+
+/// Loads the word of a device. None where the address reaches none.
+pub(crate) fn load_word(slots: &mut Slots, addr: u32) -> Option<u32>
+    ensures answer { result ≡ answer_of (reached (slots_of kind_of words_of slots.old.items) 4 addr) (slot_offset_lem addr) }
+    ensures slots { slots_of kind_of words_of slots.new.items ≡ slots_loaded (slots_of kind_of words_of slots.old.items) 4 addr }
+{
+    if !is_slot_word(addr) {
+        return None;
+    }
+    let i = slot_number(addr);
+    if i >= slots.len() {
+        return None;
+    }
+    load(slots, i, slot_offset(addr))
+}
+
+/// Stores a word to a device. Whether the address reaches one.
+pub(crate) fn store_word(slots: &mut Slots, addr: u32, v: u32) -> bool
+    ensures answer { result ≡ is_some (reached (slots_of kind_of words_of slots.old.items) 4 addr) }
+    ensures slots { slots_of kind_of words_of slots.new.items ≡ slots_stored (slots_of kind_of words_of slots.old.items) 4 addr v }
+{
+    if !is_slot_word(addr) {
+        return false;
+    }
+    let i = slot_number(addr);
+    if i >= slots.len() {
+        return false;
+    }
+    store(slots, i, slot_offset(addr), v)
+}
