@@ -2,7 +2,8 @@
 
 use crate::state::{State, hexadecimal};
 use ppc_core::exec;
-use std::alloc::{AllocError, Global};
+use std::alloc::Global;
+use wind_base::NoMemory;
 
 /// No case makes more steps.
 const MOST_STEPS: u32 = 64;
@@ -18,7 +19,7 @@ pub enum Verdict {
 
 /// Plays a line `NAME | WORDS | BEFORE | AFTER`. What AFTER doesn't name is as before, but for the program
 /// counter, which stands behind the last word.
-pub fn play(alloc: Global, line: &str) -> Result<Verdict, AllocError> {
+pub fn play(alloc: Global, line: &str) -> Result<Verdict, NoMemory> {
     let mut parts = line.split('|');
     let (Some(_name), Some(words), Some(before), Some(after), None) = (
         parts.next(),
@@ -38,7 +39,7 @@ pub fn play(alloc: Global, line: &str) -> Result<Verdict, AllocError> {
         let Some(word) = hexadecimal(word) else {
             return Ok(Verdict::Unreadable);
         };
-        code.push(word)?;
+        code.push(word).or(Err(NoMemory))?;
         wanted.regs.pc = wanted.regs.pc.wrapping_add(4);
     }
     run(&mut made, &code);
@@ -53,14 +54,16 @@ pub fn play(alloc: Global, line: &str) -> Result<Verdict, AllocError> {
 }
 
 // Steps from word to word until a trap, or until the program counter leaves them.
-fn run(state: &mut State, code: &[u32]) {
+fn run(state: &mut State, code: &[u32])
+    requires { Unit {0} }
+{
     let first = state.regs.pc;
     for _ in 0..MOST_STEPS {
         let place = state.regs.pc.wrapping_sub(first) / 4;
         let Some(word) = code.get(place as usize) else {
             return;
         };
-        if let Err(trap) = exec(&mut state.regs, *word, &mut state.memory) {
+        if let Err(trap) = exec(&mut state.regs, *word, &mut state.bus) {
             state.trap = Some(trap);
             return;
         }

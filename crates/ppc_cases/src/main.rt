@@ -3,11 +3,11 @@
 #![tactic(auto)]
 
 mod case;
-mod memory;
 mod state;
 
 use case::{Verdict, play};
 use std::{env, fs, io};
+use wind_base::NoMemory;
 
 /// Plays the cases of each file that the words name.
 fn main(rt: HostRuntime) -> io::Result<()> {
@@ -29,10 +29,11 @@ fn play_all<R: Print + AllocGlobal>(rt: &R, file: &str, text: &str) -> io::Resul
             continue;
         }
         cases = cases.wrapping_add(1);
-        match play(rt.alloc(), line)? {
-            Verdict::Agrees => agreeing = agreeing.wrapping_add(1),
-            Verdict::Differs => println!(rt; "differs: {line}")?,
-            Verdict::Unreadable => println!(rt; "unreadable: {line}")?,
+        match play(rt.alloc(), line) {
+            Ok(Verdict::Agrees) => agreeing = agreeing.wrapping_add(1),
+            Ok(Verdict::Differs) => println!(rt; "differs: {line}")?,
+            Ok(Verdict::Unreadable) => println!(rt; "unreadable: {line}")?,
+            Err(NoMemory) => println!(rt; "out of memory: {line}")?,
         }
     }
     println!(rt; "{file}: {agreeing} of {cases} cases agree")
