@@ -1,5 +1,5 @@
 -- Ranges of bytes that are all RAM.
-use Rattle.std.proofs.Common.{◌≡◌, refl, ℕ, zero, suc, ◌+◌, ◌*◌, ◌<◌, ◌≤◌, Bool, true, false, ◌&&◌, ◌||◌, nat_eq, nat_le, nat_lt, sym, subst, ◌⊎◌, inl, inr, arith}
+use Rattle.std.proofs.Common.{◌≡◌, refl, ℕ, zero, suc, ◌+◌, ◌*◌, ◌<◌, ◌≤◌, Bool, true, false, ◌&&◌, ◌||◌, nat_eq, nat_le, nat_lt, sym, ◌∙◌, subst, ◌⊎◌, inl, inr, arith}
 use Rattle.std.proofs.lemmas.Bool.Decides.{nat_tests}
 use Rattle.std.specs.Cmp.Derive.{both_true}
 use Rattle.ppc_core.specs.Buses.{Meaning, all_ram, IsLawful}
@@ -17,6 +17,9 @@ last_or_below i n h = grind arith
 
 next_below : (at n size : ℕ) → ((nat_eq n 0 || nat_le (at + n) size) && nat_lt (at + n) size) ≡ (nat_eq (suc n) 0 || nat_le (at + suc n) size)
 next_below at n size = grind (arith, nat_tests)
+
+not_none : (end size n : ℕ) → 0 < n → (nat_eq n 0 || nat_le end size) ≡ nat_le end size
+not_none end size n some = grind (arith, nat_tests)
 
 module _ {B : Type 0} (m : Meaning B) (b : B) (at : ℕ) where
   -- each byte of such a range is RAM
@@ -50,6 +53,10 @@ module _ {B : Type 0} (m : Meaning B) (b : B) where
   pub all_ram-below : (size at n : ℕ) → ((a : ℕ) → m.ram b a ≡ nat_lt a size) → all_ram m b at n ≡ (nat_eq n 0 || nat_le (at + n) size)
   all_ram-below size at zero is = refl
   all_ram-below size at (suc n) is = rw (all_ram-below size at n is, is (at + n)) (next_below at n size)
+
+  -- the same for a range of some bytes
+  pub all_ram-some : (size at n : ℕ) → ((a : ℕ) → m.ram b a ≡ nat_lt a size) → 0 < n → all_ram m b at n ≡ nat_le (at + n) size
+  all_ram-some size at n is some = all_ram-below size at n is ∙ not_none (at + n) size n some
 
 -- a word in such a range is reached
 pub word_in_ram : {B : Type 0} (m : Meaning B) → IsLawful m → (b : B) (at k count : ℕ) → all_ram m b at (4 * count) ≡ true → k < count → m.faults b 4 (at + 4 * k) ≡ false

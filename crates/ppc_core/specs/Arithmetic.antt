@@ -58,3 +58,14 @@ lacks_quotient x y = y == 0 || (x == 2 ^ 31 && y == 2 ^ 32 - 1)
 -- the quotient of two words read as signed, toward 0, and 0 where there is none
 abbrev pub signed_quotient : ℕ → ℕ → ℕ
 signed_quotient x y = if lacks_quotient x y then 0 else cast_unsigned w32 (int_div (signed x) (signed y))
+
+-- RT takes the low word of a product, with OE and Rc
+abbrev pub with_product : Regs → ℕ → ℕ → ℕ → Regs
+with_product r w x y = with_checked_result r w (low_signed x y) (product_overflows x y)
+
+-- RT takes a quotient, with OE and Rc: of words as they are, and as signed
+abbrev pub with_quotient : Regs → ℕ → ℕ → ℕ → Regs
+with_quotient r w x y = with_checked_result r w (quotient x y) (y == 0)
+
+abbrev pub with_signed_quotient : Regs → ℕ → ℕ → ℕ → Regs
+with_signed_quotient r w x y = with_checked_result r w (signed_quotient x y) (lacks_quotient x y)

@@ -20,10 +20,11 @@ cond_ok r w = bo w 0 == 1 || bits r.cr (ra w) (ra w) == bo w 1
 abbrev pub from_here : Regs → ℕ → ℕ → ℕ
 from_here r w displacement = if aa w then displacement else (r.pc + displacement) % 2 ^ 32
 
--- where taken, the branch goes to its target with the last two bits cleared, and else on; with LK the return goes to LR
+-- a branch: to its target with the last two bits cleared where it is taken, else on; with LK the return goes to LR
 unfoldable pub with_branch : Regs → ℕ → Bool → ℕ → Regs
 with_branch r w taken target =
-    let after = (r.pc + 4) % 2 ^ 32 in record r { lr = if lk w then after else r.lr; pc = if taken then target / 4 * 4 else after }
+    let after = (r.pc + 4) % 2 ^ 32 in
+    record r { lr = if lk w then after else r.lr; pc = if taken then target / 4 * 4 else after }
 
 -- a branch by BO and BI
 unfoldable pub with_test_and_branch : Regs → ℕ → ℕ → Regs

@@ -7,7 +7,8 @@ use Rattle.ppc_core.specs.Registers.{so, order, with_cr_field}
 
 -- the field BF takes how two words compare, as signed and as they are
 unfoldable pub with_signed_order : Regs → ℕ → ℕ → ℕ → Regs
-with_signed_order r w x y = with_cr_field r (bf w) (order (int_lt (signed x) (signed y)) (int_lt (signed y) (signed x)) (so r))
+with_signed_order r w x y =
+    with_cr_field r (bf w) (order (int_lt (signed x) (signed y)) (int_lt (signed y) (signed x)) (so r))
 
 unfoldable pub with_order : Regs → ℕ → ℕ → ℕ → Regs
 with_order r w x y = with_cr_field r (bf w) (order (nat_lt x y) (nat_lt y x) (so r))
@@ -15,7 +16,11 @@ with_order r w x y = with_cr_field r (bf w) (order (nat_lt x y) (nat_lt y x) (so
 -- whether a bit of TO is set whose relation holds: less, greater, equal, less and greater as unsigned
 unfoldable pub traps : ℕ → ℕ → ℕ → Bool
 traps w x y =
-    (bits w 6 6 == 1 && int_lt (signed x) (signed y)) || (bits w 7 7 == 1 && int_lt (signed y) (signed x)) || (bits w 8 8 == 1 && x == y) || (bits w 9 9 == 1 && nat_lt x y) || (bits w 10 10 == 1 && nat_lt y x)
+    (bits w 6 6 == 1 && int_lt (signed x) (signed y))
+    || (bits w 7 7 == 1 && int_lt (signed y) (signed x))
+    || (bits w 8 8 == 1 && x == y)
+    || (bits w 9 9 == 1 && nat_lt x y)
+    || (bits w 10 10 == 1 && nat_lt y x)
 
 -- the bits BA and BB of the condition register
 abbrev pub in_ba : Regs → ℕ → ℕ
@@ -53,4 +58,6 @@ special r n = if n == 1 then flags r * 2 ^ 29 else (if n == 8 then r.lr else r.c
 
 abbrev pub with_special : Regs → ℕ → ℕ → Regs
 with_special r n value =
-    if n == 1 then record r { xer = bits value 0 2 * 2 ^ 29 } else (if n == 8 then record r { lr = value } else record r { ctr = value })
+    if n == 1
+    then record r { xer = bits value 0 2 * 2 ^ 29 }
+    else (if n == 8 then record r { lr = value } else record r { ctr = value })

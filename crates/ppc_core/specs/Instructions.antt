@@ -1,5 +1,5 @@
 -- What each instruction does: one equation a row, in the order of the books.
-use Rattle.std.specs.Prelude.{ℕ, ◌-◌, ◌*◌, ◌%◌, ◌^◌, Bool, true, ◌==◌, if◌then◌else◌, Option, Some, None, bit_and, bit_or, bit_xor}
+use Rattle.std.specs.Prelude.{ℕ, ◌-◌, ◌*◌, ◌%◌, ◌^◌, Bool, true, if◌then◌else◌, Option, Some, None, bit_and, bit_or, bit_xor}
 use Rattle.std.specs.Int.{leading_zeros, w32}
 use Rattle.ppc_word.specs.declared.row.Row.{Row}
 use Rattle.ppc_word.specs.declared.row.Row.TheVariants as row
@@ -13,8 +13,8 @@ use Rattle.ppc_core.specs.Buses.{Meaning}
 use Rattle.ppc_core.specs.Outcomes.{Outcome, Done, Trapped}
 use Rattle.ppc_core.specs.Words.{bits, complement, sign_extended}
 use Rattle.ppc_core.specs.Fields.{rt, ra, rb, si, ui, high_ui, bf, bfa, spr, li, bd}
-use Rattle.ppc_core.specs.Registers.{in_rs, in_ra, in_rb, in_ra_or_0, ca, with_gpr, with_cr0, with_cr_field, with_recorded, with_result, with_checked_result, next}
-use Rattle.ppc_core.specs.Arithmetic.{sum, with_carrying, with_sum, with_sum_carrying, low_signed, high_signed, high_unsigned, product_overflows, quotient, lacks_quotient, signed_quotient}
+use Rattle.ppc_core.specs.Registers.{in_rs, in_ra, in_rb, in_ra_or_0, ca, with_gpr, with_cr0, with_cr_field, with_recorded, with_result, next}
+use Rattle.ppc_core.specs.Arithmetic.{sum, with_carrying, with_sum, with_sum_carrying, low_signed, high_signed, high_unsigned, with_product, with_quotient, with_signed_quotient}
 use Rattle.ppc_core.specs.Logic.{mask_of, rotated, merged, distance, shifted_left, shifted_right, with_signed_shift}
 use Rattle.ppc_core.specs.Conditions.{with_signed_order, with_order, traps, in_ba, in_bb, with_bt, turned, cr_field, flags, moved_fields, special, with_special}
 use Rattle.ppc_core.specs.Branches.{from_here, with_branch, with_test_and_branch}
@@ -88,7 +88,8 @@ module _ {B : Type 0} (m : Meaning B) where
   effect_of row.Addi r w b = done (with_gpr r (rt w) (sum (in_ra_or_0 r w) (si w) 0)) b
   effect_of row.Addis r w b = done (with_gpr r (rt w) (sum (in_ra_or_0 r w) (high_ui w) 0)) b
   effect_of row.Addic r w b = done (with_carrying r w (in_ra r w) (si w) 0) b
-  effect_of row.AddicDot r w b = done (with_cr0 (with_carrying r w (in_ra r w) (si w) 0) (sum (in_ra r w) (si w) 0)) b
+  effect_of row.AddicDot r w b =
+      done (with_cr0 (with_carrying r w (in_ra r w) (si w) 0) (sum (in_ra r w) (si w) 0)) b
   effect_of row.Subfic r w b = done (with_carrying r w (complement (in_ra r w)) (si w) 1) b
   effect_of row.Add r w b = done (with_sum r w (in_ra r w) (in_rb r w) 0) b
   effect_of row.Subf r w b = done (with_sum r w (complement (in_ra r w)) (in_rb r w) 1) b
@@ -105,9 +106,9 @@ module _ {B : Type 0} (m : Meaning B) where
   effect_of row.Mulli r w b = done (with_gpr r (rt w) (low_signed (in_ra r w) (si w))) b
   effect_of row.Mulhwu r w b = done (with_result r w (rt w) (high_unsigned (in_ra r w) (in_rb r w))) b
   effect_of row.Mulhw r w b = done (with_result r w (rt w) (high_signed (in_ra r w) (in_rb r w))) b
-  effect_of row.Mullw r w b = done (with_checked_result r w (low_signed (in_ra r w) (in_rb r w)) (product_overflows (in_ra r w) (in_rb r w))) b
-  effect_of row.Divwu r w b = done (with_checked_result r w (quotient (in_ra r w) (in_rb r w)) (in_rb r w == 0)) b
-  effect_of row.Divw r w b = done (with_checked_result r w (signed_quotient (in_ra r w) (in_rb r w)) (lacks_quotient (in_ra r w) (in_rb r w))) b
+  effect_of row.Mullw r w b = done (with_product r w (in_ra r w) (in_rb r w)) b
+  effect_of row.Divwu r w b = done (with_quotient r w (in_ra r w) (in_rb r w)) b
+  effect_of row.Divw r w b = done (with_signed_quotient r w (in_ra r w) (in_rb r w)) b
   -- comparisons (3.3.9), traps (3.3.10)
   effect_of row.Cmpi r w b = done (with_signed_order r w (in_ra r w) (si w)) b
   effect_of row.Cmp r w b = done (with_signed_order r w (in_ra r w) (in_rb r w)) b
@@ -135,7 +136,8 @@ module _ {B : Type 0} (m : Meaning B) where
   effect_of row.Cntlzw r w b = done (with_result r w (ra w) (leading_zeros w32 (in_rs r w))) b
   -- rotation and shifts (3.3.12)
   effect_of row.Rlwinm r w b = done (with_result r w (ra w) (bit_and (rotated r w (rb w)) (mask_of w))) b
-  effect_of row.Rlwnm r w b = done (with_result r w (ra w) (bit_and (rotated r w (bits (in_rb r w) 27 31)) (mask_of w))) b
+  effect_of row.Rlwnm r w b =
+      done (with_result r w (ra w) (bit_and (rotated r w (bits (in_rb r w) 27 31)) (mask_of w))) b
   effect_of row.Rlwimi r w b = done (with_result r w (ra w) (merged (mask_of w) (rotated r w (rb w)) (in_ra r w))) b
   effect_of row.Slw r w b = done (with_result r w (ra w) (shifted_left (in_rs r w) (distance r w))) b
   effect_of row.Srw r w b = done (with_result r w (ra w) (shifted_right (in_rs r w) (distance r w))) b

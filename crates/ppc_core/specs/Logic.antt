@@ -52,4 +52,5 @@ loses_one s n = is_negative s && not (s % 2 ^ n == 0)
 
 -- RA takes (RS) shifted so, with Rc, and CA says whether a negative word lost a 1
 unfoldable pub with_signed_shift : Regs → ℕ → ℕ → Regs
-with_signed_shift r w n = with_result (with_ca r (bit (loses_one (in_rs r w) n))) w (ra w) (shifted_signed (in_rs r w) n)
+with_signed_shift r w n =
+    with_result (with_ca r (bit (loses_one (in_rs r w) n))) w (ra w) (shifted_signed (in_rs r w) n)

@@ -29,9 +29,10 @@ module _ {B : Type 0} (m : Meaning B) where
   words_stored r b t at zero = b
   words_stored r b t at (suc k) = m.stored (words_stored r b t at k) 4 (at + 4 * k) (gpr r (t + k))
 
-  -- an access of n bytes: not at a multiple of 4 it traps, and then where a byte is not RAM
+  -- an access of n bytes: elsewhere than at a multiple of 4 it traps, and then where a byte is not RAM
   abbrev pub in_ram : B → ℕ → ℕ → Outcome B → Outcome B
-  in_ram b at n outcome = if at % 4 == 0 then (if all_ram m b at n then outcome else Trapped trap.Access) else Trapped trap.Align
+  in_ram b at n outcome =
+      if at % 4 == 0 then (if all_ram m b at n then outcome else Trapped trap.Access) else Trapped trap.Align
 
   -- the registers RT to 31 take the words from an address on
   unfoldable pub load_multiple_of : Regs → ℕ → B → ℕ → Outcome B
@@ -52,4 +53,6 @@ module _ {B : Type 0} (m : Meaning B) where
   store_conditional_of r w b at =
       let stored = is_reserved r.reserve at in
       in_ram b at 4
-      (Done (next (record (with_cr_field r 0 (2 * bit stored + so r)) { reserve = None })) (if stored then m.stored b 4 at (in_rs r w) else b))
+      (Done
+      (next (record (with_cr_field r 0 (2 * bit stored + so r)) { reserve = None }))
+      (if stored then m.stored b 4 at (in_rs r w) else b))

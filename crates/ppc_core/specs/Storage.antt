@@ -80,11 +80,13 @@ module _ {B : Type 0} (m : Meaning B) where
   load_of l a r w b =
       let at = address_of a r w in
       let n = load_width l in
-      if m.faults b n at then Trapped trap.Access else Done (next (with_base a (with_gpr r (rt w) (taken l (m.answer b n at))) w at)) (m.loaded b n at)
+      let after = with_base a (with_gpr r (rt w) (taken l (m.answer b n at))) w at in
+      if m.faults b n at then Trapped trap.Access else Done (next after) (m.loaded b n at)
 
   -- (RS) goes to the effective address
   unfoldable pub store_of : Store → Address → Regs → ℕ → B → Outcome B
   store_of s a r w b =
       let at = address_of a r w in
       let n = store_width s in
-      if m.faults b n at then Trapped trap.Access else Done (next (with_base a r w at)) (m.stored b n at (given s (in_rs r w)))
+      let after = with_base a r w at in
+      if m.faults b n at then Trapped trap.Access else Done (next after) (m.stored b n at (given s (in_rs r w)))

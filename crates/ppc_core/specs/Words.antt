@@ -6,9 +6,10 @@ use Rattle.std.specs.Int.{cast_signed, w32}
 abbrev pub bits : ℕ → ℕ → ℕ → ℕ
 bits word first last = word / 2 ^ (31 - last) % 2 ^ (last + 1 - first)
 
--- the word with this number in bits `first` to `last`
+-- the word with this number in bits `first` to `last`: what stands before them, the number, and what stands behind
 abbrev pub with_bits : ℕ → ℕ → ℕ → ℕ → ℕ
-with_bits word first last value = word / 2 ^ (32 - first) * 2 ^ (32 - first) + value * 2 ^ (31 - last) + word % 2 ^ (31 - last)
+with_bits word first last value =
+    word / 2 ^ (32 - first) * 2 ^ (32 - first) + value * 2 ^ (31 - last) + word % 2 ^ (31 - last)
 
 -- a word with every bit turned
 abbrev pub complement : ℕ → ℕ

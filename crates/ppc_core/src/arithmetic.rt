@@ -1,8 +1,7 @@
 //! Sums, products and quotients.
 
-ghost use Rattle.std.specs.Prelude.{◌≡◌, ◌<◌, ◌*ℤ◌, ◌==◌};
+ghost use Rattle.std.specs.Prelude.{◌≡◌, ◌<◌, ◌*ℤ◌};
 ghost use Rattle.ppc_core.specs.Words.{signed};
-ghost use Rattle.ppc_core.specs.Registers.{with_checked_result};
 ghost use Rattle.ppc_core.specs.Arithmetic as arithmetic;
 
 use crate::words::{is_word, signed_of};
@@ -119,8 +118,7 @@ fn product_overflows(x: u32, y: u32) -> bool
 /// RT takes the low word of a product, with OE and Rc.
 #[inline(always)]
 pub fn set_product(x: u32, y: u32, regs: &mut Regs, word: u32)
-    ensures { regs.new ≡ with_checked_result regs.old word
-        (arithmetic.low_signed x y) (arithmetic.product_overflows x y) }
+    ensures { regs.new ≡ arithmetic.with_product regs.old word x y }
 {
     registers::set_checked_result(low_signed(x, y), product_overflows(x, y), regs, word);
 }
@@ -128,7 +126,7 @@ pub fn set_product(x: u32, y: u32, regs: &mut Regs, word: u32)
 /// RT takes a quotient, with OE and Rc. By 0 it is 0 and doesn't fit.
 #[inline(always)]
 pub fn set_quotient(x: u32, y: u32, regs: &mut Regs, word: u32)
-    ensures { regs.new ≡ with_checked_result regs.old word (arithmetic.quotient x y) (y == 0) }
+    ensures { regs.new ≡ arithmetic.with_quotient regs.old word x y }
 {
     let value = if y == 0 { 0 } else { x / y };
     registers::set_checked_result(value, y == 0, regs, word);
@@ -156,8 +154,7 @@ fn signed_quotient(x: u32, y: u32) -> u32
 /// RT takes the quotient of two words read as signed, with OE and Rc.
 #[inline(always)]
 pub fn set_signed_quotient(x: u32, y: u32, regs: &mut Regs, word: u32)
-    ensures { regs.new ≡ with_checked_result regs.old word
-        (arithmetic.signed_quotient x y) (arithmetic.lacks_quotient x y) }
+    ensures { regs.new ≡ arithmetic.with_signed_quotient regs.old word x y }
 {
     registers::set_checked_result(signed_quotient(x, y), lacks_quotient(x, y), regs, word);
 }

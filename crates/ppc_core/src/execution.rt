@@ -4,14 +4,17 @@ ghost use Rattle.std.specs.Prelude.{◌≡◌};
 ghost use Rattle.ppc_core.specs.Instructions.{trap_where, effect_of, exec_of};
 ghost use Rattle.ppc_core.specs.Outcomes.{Leaves};
 
-use crate::arithmetic::{set_carrying, set_sum, set_sum_carrying};
+use crate::arithmetic::{set_carrying, set_signed_quotient, set_sum, set_sum_carrying};
+use crate::branch::from_here;
 use crate::bus::Bus;
-use crate::condition::{in_ba, in_bb, turn};
+use crate::condition::{in_ba, in_bb, is_trapped, turn};
+use crate::fields::{bd, bf, bfa, high_ui, li, ra, rb, rt, si, spr, ui};
+use crate::logic::{mask_of, rotate};
 use crate::registers::{ca, in_ra, in_ra_or_0, in_rb, in_rs, set_ra};
 use crate::storage::{Address, Load, Store, indexed, load_rt, offset, store_rs};
 use crate::trap::Trap;
 use crate::words::{bits_of, extend_sign};
-use crate::{arithmetic, branch, condition, fields, logic, multiple, registers};
+use crate::{arithmetic, branch, condition, logic, multiple, registers};
 use ppc_word::{Row, row_for};
 use wind_base::Regs;
 
@@ -38,16 +41,11 @@ fn run<B: Bus>(row: Row, regs: &mut Regs, word: u32, bus: &mut B) -> Result<(), 
     match row {
         // Branches and the system call.
         Row::B => {
-            branch::go(
-                true,
-                branch::from_here(fields::li(word), regs, word),
-                regs,
-                word,
-            );
+            branch::go(true, from_here(li(word), regs, word), regs, word);
             return Ok(());
         }
         Row::Bc => {
-            branch::test_and_go(branch::from_here(fields::bd(word), regs, word), regs, word);
+            branch::test_and_go(from_here(bd(word), regs, word), regs, word);
             return Ok(());
         }
         Row::Bclr => {
@@ -69,8 +67,8 @@ fn run<B: Bus>(row: Row, regs: &mut Regs, word: u32, bus: &mut B) -> Result<(), 
         Row::Crandc => condition::set_bt(in_ba(regs, word) & turn(in_bb(regs, word)), regs, word),
         Row::Crorc => condition::set_bt(in_ba(regs, word) | turn(in_bb(regs, word)), regs, word),
         Row::Mcrf => {
-            let value = condition::cr_field(regs, fields::bfa(word));
-            registers::set_cr_field(fields::bf(word), value, regs);
+            let value = condition::cr_field(regs, bfa(word));
+            registers::set_cr_field(bf(word), value, regs);
         }
         // Loads and stores.
         Row::Lbz => return load_rt(Load::Byte, Address::Offset, regs, word, bus),
@@ -109,20 +107,20 @@ fn run<B: Bus>(row: Row, regs: &mut Regs, word: u32, bus: &mut B) -> Result<(), 
         Row::Stmw => return multiple::store_multiple(offset(regs, word), regs, word, bus),
         // Sums.
         Row::Addi => {
-            let value = arithmetic::sum_of(in_ra_or_0(regs, word), fields::si(word), 0);
-            registers::write(fields::rt(word), value, regs);
+            let value = arithmetic::sum_of(in_ra_or_0(regs, word), si(word), 0);
+            registers::write(rt(word), value, regs);
         }
         Row::Addis => {
-            let value = arithmetic::sum_of(in_ra_or_0(regs, word), fields::high_ui(word), 0);
-            registers::write(fields::rt(word), value, regs);
+            let value = arithmetic::sum_of(in_ra_or_0(regs, word), high_ui(word), 0);
+            registers::write(rt(word), value, regs);
         }
-        Row::Addic => set_carrying(in_ra(regs, word), fields::si(word), 0, regs, word),
+        Row::Addic => set_carrying(in_ra(regs, word), si(word), 0, regs, word),
         Row::AddicDot => {
             let a = in_ra(regs, word);
-            set_carrying(a, fields::si(word), 0, regs, word);
-            registers::set_cr0(arithmetic::sum_of(a, fields::si(word), 0), regs);
+            set_carrying(a, si(word), 0, regs, word);
+            registers::set_cr0(arithmetic::sum_of(a, si(word), 0), regs);
         }
-        Row::Subfic => set_carrying(!in_ra(regs, word), fields::si(word), 1, regs, word),
+        Row::Subfic => set_carrying(!in_ra(regs, word), si(word), 1, regs, word),
         Row::Add => set_sum(in_ra(regs, word), in_rb(regs, word), 0, regs, word),
         Row::Subf => set_sum(!in_ra(regs, word), in_rb(regs, word), 1, regs, word),
         Row::Neg => set_sum(!in_ra(regs, word), 0, 1, regs, word),
@@ -136,8 +134,8 @@ fn run<B: Bus>(row: Row, regs: &mut Regs, word: u32, bus: &mut B) -> Result<(), 
         Row::Subfze => set_sum_carrying(!in_ra(regs, word), 0, ca(regs), regs, word),
         // Products and quotients.
         Row::Mulli => {
-            let value = arithmetic::low_signed(in_ra(regs, word), fields::si(word));
-            registers::write(fields::rt(word), value, regs);
+            let value = arithmetic::low_signed(in_ra(regs, word), si(word));
+            registers::write(rt(word), value, regs);
         }
         Row::Mulhwu => {
             let value = arithmetic::high_unsigned(in_ra(regs, word), in_rb(regs, word));
@@ -149,48 +147,27 @@ fn run<B: Bus>(row: Row, regs: &mut Regs, word: u32, bus: &mut B) -> Result<(), 
         }
         Row::Mullw => arithmetic::set_product(in_ra(regs, word), in_rb(regs, word), regs, word),
         Row::Divwu => arithmetic::set_quotient(in_ra(regs, word), in_rb(regs, word), regs, word),
-        Row::Divw => arithmetic::set_signed_quotient(
-            in_ra(regs, word),
-            in_rb(regs, word),
-            regs,
-            word,
-        ),
+        Row::Divw => set_signed_quotient(in_ra(regs, word), in_rb(regs, word), regs, word),
         // Comparisons and traps.
-        Row::Cmpi => condition::compare_signed(in_ra(regs, word), fields::si(word), regs, word),
+        Row::Cmpi => condition::compare_signed(in_ra(regs, word), si(word), regs, word),
         Row::Cmp => condition::compare_signed(in_ra(regs, word), in_rb(regs, word), regs, word),
-        Row::Cmpli => condition::compare(in_ra(regs, word), fields::ui(word), regs, word),
+        Row::Cmpli => condition::compare(in_ra(regs, word), ui(word), regs, word),
         Row::Cmpl => condition::compare(in_ra(regs, word), in_rb(regs, word), regs, word),
         Row::Twi => {
-            let trapped = condition::is_trapped(in_ra(regs, word), fields::si(word), word);
+            let trapped = is_trapped(in_ra(regs, word), si(word), word);
             return trap_if(trapped, regs, bus);
         }
         Row::Tw => {
-            let trapped = condition::is_trapped(in_ra(regs, word), in_rb(regs, word), word);
+            let trapped = is_trapped(in_ra(regs, word), in_rb(regs, word), word);
             return trap_if(trapped, regs, bus);
         }
         // Logic.
-        Row::Andi => registers::record(
-            fields::ra(word),
-            in_rs(regs, word) & fields::ui(word),
-            regs,
-        ),
-        Row::Andis => registers::record(
-            fields::ra(word),
-            in_rs(regs, word) & fields::high_ui(word),
-            regs,
-        ),
-        Row::Ori => registers::write(fields::ra(word), in_rs(regs, word) | fields::ui(word), regs),
-        Row::Oris => registers::write(
-            fields::ra(word),
-            in_rs(regs, word) | fields::high_ui(word),
-            regs,
-        ),
-        Row::Xori => registers::write(fields::ra(word), in_rs(regs, word) ^ fields::ui(word), regs),
-        Row::Xoris => registers::write(
-            fields::ra(word),
-            in_rs(regs, word) ^ fields::high_ui(word),
-            regs,
-        ),
+        Row::Andi => registers::record(ra(word), in_rs(regs, word) & ui(word), regs),
+        Row::Andis => registers::record(ra(word), in_rs(regs, word) & high_ui(word), regs),
+        Row::Ori => registers::write(ra(word), in_rs(regs, word) | ui(word), regs),
+        Row::Oris => registers::write(ra(word), in_rs(regs, word) | high_ui(word), regs),
+        Row::Xori => registers::write(ra(word), in_rs(regs, word) ^ ui(word), regs),
+        Row::Xoris => registers::write(ra(word), in_rs(regs, word) ^ high_ui(word), regs),
         Row::And => set_ra(in_rs(regs, word) & in_rb(regs, word), regs, word),
         Row::Or => set_ra(in_rs(regs, word) | in_rb(regs, word), regs, word),
         Row::Xor => set_ra(in_rs(regs, word) ^ in_rb(regs, word), regs, word),
@@ -204,17 +181,16 @@ fn run<B: Bus>(row: Row, regs: &mut Regs, word: u32, bus: &mut B) -> Result<(), 
         Row::Cntlzw => set_ra(in_rs(regs, word).leading_zeros(), regs, word),
         // Rotation and shifts.
         Row::Rlwinm => {
-            let value = logic::rotate(fields::rb(word), regs, word) & logic::mask_of(word);
+            let value = rotate(rb(word), regs, word) & mask_of(word);
             set_ra(value, regs, word);
         }
         Row::Rlwnm => {
-            let value = logic::rotate(bits_of(in_rb(regs, word), 27, 31), regs, word)
-                & logic::mask_of(word);
+            let value = rotate(bits_of(in_rb(regs, word), 27, 31), regs, word) & mask_of(word);
             set_ra(value, regs, word);
         }
         Row::Rlwimi => {
-            let rotated = logic::rotate(fields::rb(word), regs, word);
-            let value = logic::merge(logic::mask_of(word), rotated, in_ra(regs, word));
+            let rotated = rotate(rb(word), regs, word);
+            let value = logic::merge(mask_of(word), rotated, in_ra(regs, word));
             set_ra(value, regs, word);
         }
         Row::Slw => {
@@ -225,20 +201,20 @@ fn run<B: Bus>(row: Row, regs: &mut Regs, word: u32, bus: &mut B) -> Result<(), 
             let value = logic::shift_right(in_rs(regs, word), logic::distance_of(regs, word));
             set_ra(value, regs, word);
         }
-        Row::Srawi => logic::set_signed_shift(fields::rb(word), regs, word),
+        Row::Srawi => logic::set_signed_shift(rb(word), regs, word),
         Row::Sraw => logic::set_signed_shift(logic::distance_of(regs, word), regs, word),
         // Special registers and the condition register.
-        Row::Mtspr => condition::set_special(fields::spr(word), in_rs(regs, word), regs),
+        Row::Mtspr => condition::set_special(spr(word), in_rs(regs, word), regs),
         Row::Mfspr => {
-            let value = condition::special(regs, fields::spr(word));
-            registers::write(fields::rt(word), value, regs);
+            let value = condition::special(regs, spr(word));
+            registers::write(rt(word), value, regs);
         }
         Row::Mtcrf => regs.cr = condition::moved(regs.cr, in_rs(regs, word), word),
         Row::Mcrxr => {
-            registers::set_cr_field(fields::bf(word), condition::flags(regs) * 2, regs);
+            registers::set_cr_field(bf(word), condition::flags(regs) * 2, regs);
             regs.xer = 0;
         }
-        Row::Mfcr => registers::write(fields::rt(word), regs.cr, regs),
+        Row::Mfcr => registers::write(rt(word), regs.cr, regs),
         // Reservations and the order of accesses.
         Row::Lwarx => return multiple::load_and_reserve(indexed(regs, word), regs, word, bus),
         Row::Stwcx => return multiple::store_conditional(indexed(regs, word), regs, word, bus),
