@@ -18,7 +18,12 @@ use wind_base::{NoMemory, behind, line_len};
 fn all_evaluated(stmts: &[Stmt]) -> bool
     ensures { result ≡ list_all is_evaluated_lem (plain_stmts stmts.now) }
 {
-    stmts.iter().all(|stmt| is_evaluated(stmt))
+    for stmt in stmts {
+        if !is_evaluated(stmt) {
+            return false;
+        }
+    }
+    true
 }
 
 // Whether the grammar reads the line, and its statements are evaluated.
