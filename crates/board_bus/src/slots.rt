@@ -88,8 +88,10 @@ fn store(slots: &mut Slots, i: usize, off: u32, v: u32) -> bool
 
 /// Loads the word of a device. None where the address reaches none.
 pub(crate) fn load_word(slots: &mut Slots, addr: u32) -> Option<u32>
-    ensures answer { result ≡ answer_of (reached (slots_of kind_of words_of slots.old.items) 4 addr) (slot_offset_lem addr) }
-    ensures slots { slots_of kind_of words_of slots.new.items ≡ slots_loaded (slots_of kind_of words_of slots.old.items) 4 addr }
+    ensures answer { result
+        ≡ answer_of (reached (slots_of kind_of words_of slots.old.items) 4 addr) (slot_offset_lem addr) }
+    ensures slots { slots_of kind_of words_of slots.new.items
+        ≡ slots_loaded (slots_of kind_of words_of slots.old.items) 4 addr }
 {
     if !is_slot_word(addr) {
         return None;
@@ -104,7 +106,8 @@ pub(crate) fn load_word(slots: &mut Slots, addr: u32) -> Option<u32>
 /// Stores a word to a device. Whether the address reaches one.
 pub(crate) fn store_word(slots: &mut Slots, addr: u32, v: u32) -> bool
     ensures answer { result ≡ is_some (reached (slots_of kind_of words_of slots.old.items) 4 addr) }
-    ensures slots { slots_of kind_of words_of slots.new.items ≡ slots_stored (slots_of kind_of words_of slots.old.items) 4 addr v }
+    ensures slots { slots_of kind_of words_of slots.new.items
+        ≡ slots_stored (slots_of kind_of words_of slots.old.items) 4 addr v }
 {
     if !is_slot_word(addr) {
         return false;

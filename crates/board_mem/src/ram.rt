@@ -143,7 +143,8 @@ impl Ram {
     /// Fills `dst` with the bytes from an address on.
     pub fn copy_out(&self, addr: u32, dst: &mut [u8]) -> Result<(), Outside>
         ensures ok { IsOk result ↔ IsTrue (has self.now addr (length dst.old)) }
-        ensures bytes { dst.new ≡ (if has self.now addr (length dst.old) then bytes_at self.now addr (length dst.old) else dst.old) }
+        ensures bytes { dst.new ≡ (if has self.now addr (length dst.old)
+            then bytes_at self.now addr (length dst.old) else dst.old) }
     {
         let at = addr as usize;
         let n = dst.len();
@@ -160,7 +161,8 @@ impl Ram {
     /// Writes the bytes of `src` from an address on.
     pub fn copy_in(&mut self, addr: u32, src: &[u8]) -> Result<(), Outside>
         ensures ok { IsOk result ↔ IsTrue (has self.old addr (length src.now)) }
-        ensures bytes { self.new ≡ (if has self.old addr (length src.now) then with_bytes self.old addr src.now else self.old) }
+        ensures bytes { self.new ≡ (if has self.old addr (length src.now)
+            then with_bytes self.old addr src.now else self.old) }
     {
         let at = addr as usize;
         let n = src.len();
@@ -177,7 +179,8 @@ impl Ram {
     /// Writes `n` times this byte from an address on.
     pub fn fill(&mut self, addr: u32, n: u32, byte: u8) -> Result<(), Outside>
         ensures ok { IsOk result ↔ IsTrue (has self.old addr n) }
-        ensures bytes { self.new ≡ (if has self.old addr n then with_bytes self.old addr (replicate n byte) else self.old) }
+        ensures bytes { self.new ≡ (if has self.old addr n
+            then with_bytes self.old addr (replicate n byte) else self.old) }
     {
         if n == 0 {
             return Ok(());
@@ -204,7 +207,8 @@ impl Ram {
     }
 
     /// Copies the string at an address, which a zero ends, to the front of `dst`, without its zero, and answers its
-    /// length. None, with `dst` as it was, where no zero stands among the first 1,024 bytes, or a byte before it is outside.
+    /// length. None, with `dst` as it was, where no zero stands among the first 1,024 bytes, or a byte before it is
+    /// outside.
     pub fn cstr(&self, addr: u32, dst: &mut [u8; STRING_ROOM]) -> Option<u32>
         ensures count { result ≡ string_length self.now addr }
         ensures bytes { dst.new ≡ string_over self.now addr result dst.old }
