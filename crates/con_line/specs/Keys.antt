@@ -1,4 +1,4 @@
--- What each byte does that comes to the console. The rules are this project's own; the keys have the names of POSIX terminals.
+-- What each byte does that comes to the console. The rules are this project's own; the keys have names of POSIX terminals.
 use Rattle.std.specs.Prelude.{ℕ, ◌-◌, List, [], ◌∷◌, ◌++◌, Bool, ◌==◌, ◌||◌, nat_lt, nat_le, if◌then◌else◌, take, length}
 use Rattle.wind_base.specs.Limits.{longest_line}
 use Rattle.con_line.specs.State.{ConsoleState}

@@ -145,7 +145,8 @@ fn press(
     ensures after { console_of edited.new.items after_return finished.new
         ≡ after_key key (console_of edited.old.items after_return finished.old) byte }
     ensures done { result ≡ done_by key (console_of edited.old.items after_return finished.old) }
-    ensures echo { Added 3 echo.old echo.new (echo_of key (console_of edited.old.items after_return finished.old) byte) }
+    ensures echo { Added 3 echo.old echo.new
+        (echo_of key (console_of edited.old.items after_return finished.old) byte) }
 {
     match key {
         Key::Return => end_line(edited, finished, echo),
