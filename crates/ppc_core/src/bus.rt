@@ -3,21 +3,12 @@
 ghost use Rattle.std.specs.Prelude.{◌≡◌, ◌+◌, ◌≤◌, ◌^◌, IsTrue};
 ghost use Rattle.ppc_core.specs.Buses.{Meaning, Loads, Stores, all_ram, IsLawful};
 
-use std::fmt;
+use thiserror::Error;
 
 /// An access that neither RAM nor a device takes.
-#[derive(Clone, Copy, Debug, PartialEq, Eq)]
+#[derive(Clone, Copy, Debug, PartialEq, Eq, Error)]
+#[error("access fault")]
 pub struct Fault;
-
-impl fmt::Display for Fault {
-    ghost use Rattle.std.specs.Prelude.{Some, codes};
-
-    ghost output = { λ _. Some (codes "access fault") };
-
-    fn fmt<W: fmt::Write>(&self, f: &mut fmt::Formatter<W>) -> fmt::Result {
-        f.write_str("access fault")
-    }
-}
 
 /// RAM and devices by address. Each call does what `meaning` says of its address and width, which `lawful`
 /// binds; a call that answers `Fault` changes nothing that the bus holds.

@@ -12,14 +12,17 @@ use crate::lexer::tokens;
 use crate::statement::statements;
 use crate::tree::Stmt;
 use std::alloc::{AllocError, Global};
+use thiserror::Error;
 
 /// Why a line has no statements.
-#[derive(Clone, Copy, Debug, PartialEq, Eq)]
+#[derive(Clone, Copy, Debug, PartialEq, Eq, Error)]
 pub enum ParseErr {
     /// The column, counted from 1, of the first token that no line of the grammar goes on with. The
     /// end of the line is a token too, one column behind the last byte.
+    #[error("syntax error at column {0}")]
     Syntax(u32),
     /// Host memory ran out.
+    #[error("out of memory")]
     NoMemory,
 }
 

@@ -18,7 +18,7 @@ use wind_base::{NoMemory, behind, line_len};
 fn all_evaluated(stmts: &[Stmt]) -> bool
     ensures { result ≡ list_all is_evaluated_lem (plain_stmts stmts.now) }
 {
-    stmts.iter().all(is_evaluated)
+    stmts.iter().all(|stmt| is_evaluated(stmt))
 }
 
 // Whether the grammar reads the line, and its statements are evaluated.
