@@ -385,10 +385,9 @@ fn refuses_files(rt: HostRuntime) -> Result<(), Fail> {
     Ok(())
 }
 
-// Each call of the folder and of the sink fails in turn; a run makes two of the first and four of the
-// second.
+// Each fetch fails in turn; a run makes two.
 #[test]
-fn ends_at_a_failing_call(rt: HostRuntime) -> Result<(), Fail> {
+fn ends_at_a_failing_fetch(rt: HostRuntime) -> Result<(), Fail> {
     let alloc = rt.alloc();
     let files = [("console.txt", CONSOLE), NO_TICKS];
     for fetches in [[1].as_slice(), &[2]] {
@@ -397,13 +396,20 @@ fn ends_at_a_failing_call(rt: HostRuntime) -> Result<(), Fail> {
         assert_eq!(rt; unread.err.bytes(), "windplay: reading failed\n".as_bytes());
         assert_eq!(rt; steps(&unread.ending), None);
     }
+    Ok(())
+}
+
+// Each put fails in turn; a run makes four.
+#[test]
+fn ends_at_a_failing_put(rt: HostRuntime) -> Result<(), Fail> {
+    let files = [("console.txt", CONSOLE), NO_TICKS];
     for (puts, output, made) in [
         ([1].as_slice(), "", 1),
         (&[2], "-> ", 2),
         (&[3], "-> 1+2\n", 4),
         (&[4], "-> 1+2\nvalue = 3 = 0x3\n", 5),
     ] {
-        let cut_off = played(alloc, &COMMAND, &files, Failing { puts, ..NONE })?;
+        let cut_off = played(rt.alloc(), &COMMAND, &files, Failing { puts, ..NONE })?;
         assert_eq!(rt; cut_off.ending.status, Status::WriteFault);
         assert_eq!(rt; cut_off.out.bytes(), output.as_bytes());
         assert_eq!(rt;
@@ -412,16 +418,19 @@ fn ends_at_a_failing_call(rt: HostRuntime) -> Result<(), Fail> {
         );
         assert_eq!(rt; steps(&cut_off.ending), Some(made));
     }
-    let whole = played(
-        alloc,
-        &COMMAND,
-        &files,
-        Failing {
-            fetches: &[3],
-            puts: &[5],
-            texts: &[1],
-        },
-    )?;
+    Ok(())
+}
+
+// A run makes no further call: a third fetch, a fifth put and a first text would fail.
+#[test]
+fn makes_two_fetches_and_four_puts(rt: HostRuntime) -> Result<(), Fail> {
+    let failing = Failing {
+        fetches: &[3],
+        puts: &[5],
+        texts: &[1],
+    };
+    let files = [("console.txt", CONSOLE), NO_TICKS];
+    let whole = played(rt.alloc(), &COMMAND, &files, failing)?;
     assert_eq!(rt; whole.ending.status, Status::Quiet);
     Ok(())
 }
