@@ -2,3 +2,4 @@ mod Hex
 pub mod LineLength
 mod Numerals
 mod Tables
+pub mod Gating

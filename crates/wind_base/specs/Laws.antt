@@ -1,6 +1,7 @@
 -- What follows of the tables alone.
 use Rattle.std.specs.Prelude.{◌≡◌, ℕ, List, Some}
-use Rattle.wind_base.specs.Gates.{gate_name}
+use Rattle.wind_base.specs.Gates.{gate_name, gate_of, gate_number, gate_at, gate_address}
+use Rattle.wind_base.specs.declared.gate.Gate.{Gate}
 use Rattle.wind_base.specs.Errno.{errno_number}
 use Rattle.wind_base.specs.declared.errno.Errno.{Errno}
 
@@ -11,3 +12,11 @@ NamesLaw = (a b : ℕ) (name : List ℕ) → gate_name a ≡ Some name → gate_
 -- no two errors have one number
 abbrev pub NumbersLaw : Type 0
 NumbersLaw = (e f : Errno) → errno_number e ≡ errno_number f → e ≡ f
+
+-- the gates stand in the order of their numbers, each at its address
+pub record GatesLaw : Type 0 where
+  pub own : (g : Gate) → gate_of (gate_number g) ≡ Some g
+  pub only : (n : ℕ) (g : Gate) → gate_of n ≡ Some g → gate_number g ≡ n
+  -- at a gate's address stands that gate, and nowhere else
+  pub stands : (base : ℕ) (g : Gate) → gate_at base (gate_address base g) ≡ Some g
+  pub place : (base at : ℕ) (g : Gate) → gate_at base at ≡ Some g → at ≡ gate_address base g

@@ -19,7 +19,7 @@ pub mod text;
 pub mod words;
 
 pub use errno::Errno;
-pub use gate::gate_name;
+pub use gate::{Gate, gate_name};
 pub use laws::tables_law;
 pub use line::{behind, line_len};
 pub use name::{Name, NameErr, ShortName};

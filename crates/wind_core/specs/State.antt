@@ -2,6 +2,7 @@
 use Rattle.std.specs.Prelude.{◌≡◌, ℕ, ◌+◌, ◌<◌, ◌≤◌, Bool, List, length, Option, IfSome, IsSome, nat_lt}
 use Rattle.std.specs.List.{All, AllPairs, find}
 use Rattle.std.specs.Option.{option_map}
+use Rattle.std.specs.Str.{bytes_eq}
 use Rattle.wind_base.specs.Limits.{most_tasks, greatest_id}
 use Rattle.task_block.specs.declared.task.Task.{Task}
 use Rattle.wind_lists.specs.Records.{of_id, Rising}
@@ -27,6 +28,10 @@ task_id t = t.id
 -- the live task of this id
 abbrev pub task_of : List Task → ℕ → Option Task
 task_of ts id = of_id task_id ts id
+
+-- the task of this name that has the least id
+abbrev pub task_named : List Task → List ℕ → Option Task
+task_named ts name = find (λ t. bytes_eq t.name name) ts
 
 -- the task of this id lives
 abbrev pub Lives : KernState → ℕ → Type 0

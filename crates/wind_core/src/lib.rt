@@ -6,6 +6,7 @@ mod clock;
 mod fields;
 mod kern;
 mod laws;
+mod queries;
 mod scans;
 mod tasks;
 #[cfg(test)]

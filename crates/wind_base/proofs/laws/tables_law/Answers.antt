@@ -1,4 +1,5 @@
 use Rattle.wind_base.proofs.Tables.{names_apart, numbers_apart}
+use Rattle.wind_base.proofs.Gating.{gates_stand}
 use Rattle.wind_base.proofs.laws.tables_law.Goals as goal
 
 pub returns-clause-names : goal.returns-clause-names
@@ -6,3 +7,6 @@ returns-clause-names c = names_apart
 
 pub returns-clause-numbers : goal.returns-clause-numbers
 returns-clause-numbers c = numbers_apart
+
+pub returns-clause-gates : goal.returns-clause-gates
+returns-clause-gates c = gates_stand

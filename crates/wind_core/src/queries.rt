@@ -1,0 +1,51 @@
+//! What is asked of the tasks before a call is made.
+
+ghost use Rattle.std.specs.Prelude.{◌≡◌, option_copied};
+ghost use Rattle.std.specs.Option.{option_map};
+ghost use Rattle.id_table.specs.Rows.{objects};
+ghost use Rattle.wind_core.specs.State.{task_id, task_named};
+ghost use Rattle.wind_core.specs.Moves.{spawn_refusal as spawn_refusal_lem};
+
+use crate::kern::Kern;
+use id_table::{Ident, Table};
+use task_block::Task;
+use wind_base::Errno;
+use wind_base::limits::TASKS;
+
+// The task of this name that has the least id.
+fn first_named<'a>(tasks: &'a Table<Task>, name: &[u8]) -> Option<&'a Task>
+    ensures { option_copied result ≡ task_named (objects tasks.now.rows) name.now }
+{
+    for index in 0..tasks.len() {
+        let task = tasks.value_at(index);
+        if task.name.bytes() == name {
+            return Some(task);
+        }
+    }
+    None
+}
+
+impl Kern {
+    /// Why no task can be made now, if none can: `TooMany` where 256 tasks live, else `IdsSpent` where no id is left.
+    pub fn spawn_refusal(&self) -> Option<Errno>
+        ensures { result ≡ spawn_refusal_lem self.now }
+    {
+        if self.tasks.len() >= TASKS as usize {
+            return Some(Errno::TooMany);
+        }
+        match self.ids.peek() {
+            Some(_) => None,
+            None => Some(Errno::IdsSpent),
+        }
+    }
+
+    /// The id of the task of this name; the least, where several have it.
+    pub fn named(&self, name: &[u8]) -> Option<Ident>
+        ensures { result ≡ option_map task_id (task_named self.now.tasks name.now) }
+    {
+        match first_named(&self.tasks, name) {
+            Some(task) => Some(task.id),
+            None => None,
+        }
+    }
+}
