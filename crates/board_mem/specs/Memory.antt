@@ -1,5 +1,6 @@
 -- Memory: RAM as a list of bytes, and numbers of several bytes in it, the most significant byte first (Power ISA, Book I, byte ordering).
 use Rattle.std.specs.Prelude.{ℕ, ◌+◌, ◌^◌, ◌%◌, Bool, ◌||◌, if◌then◌else◌, ◌==◌, nat_le, List, ◌++◌, length, take, drop, Option, Some, None, position}
+use Rattle.std.specs.Option.{option_map}
 use Rattle.byteorder.specs.Endian.{big_number, big_bytes}
 use Rattle.wind_base.specs.Limits.{longest_string}
 
@@ -42,6 +43,10 @@ written n ram at value = if has ram at n then with_number n ram at value else ra
 -- how many bytes stand before the first zero from an address on, where one stands among as many bytes as the longest string has with its zero
 abbrev pub string_length : List ℕ → ℕ → Option ℕ
 string_length ram at = position (λ b. b == 0) (bytes_at ram at (longest_string + 1))
+
+-- the string at an address, without its zero
+abbrev pub string_at : List ℕ → ℕ → Option (List ℕ)
+string_at ram at = option_map (bytes_at ram at) (string_length ram at)
 
 -- these bytes after the string at an address is copied to their front
 abbrev pub string_over : List ℕ → ℕ → Option ℕ → List ℕ → List ℕ

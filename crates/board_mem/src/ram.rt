@@ -1,7 +1,7 @@
 //! RAM.
 
 ghost use Rattle.std.specs.Prelude.{◌≡◌, ◌<◌, ◌≤◌, ◌+◌, ◌^◌, ◌==◌, ◌↔◌, IsTrue, IsOk, IfOk, IfSome, Some, None, if◌then◌else◌, length, take, drop, position, replicate, option_copied};
-ghost use Rattle.board_mem.specs.Memory.{has, read, written, bytes_at, with_bytes, string_length, string_over};
+ghost use Rattle.board_mem.specs.Memory.{has, read, written, bytes_at, with_bytes, string_length, string_at, string_over};
 
 use byteorder::{BigEndian, ByteOrder};
 use std::alloc::Global;
@@ -204,6 +204,16 @@ impl Ram {
         }
         let at = from as usize;
         self.bytes.copy_within(at..at + n as usize, to as usize);
+    }
+
+    /// The string at an address, which a zero ends, without its zero. None where no zero stands among the first 1,024
+    /// bytes, or a byte before it is outside.
+    pub fn string(&self, addr: u32) -> Option<&[u8]>
+        ensures { option_copied result ≡ string_at self.now addr }
+    {
+        let window = front(self.bytes_from(addr), STRING_ROOM);
+        let n = place_of_zero(window)?;
+        Some(&window[..n])
     }
 
     /// Copies the string at an address, which a zero ends, to the front of `dst`, without its zero, and answers its

@@ -1,0 +1,53 @@
+-- The facts that the world has at the start and every call keeps.
+use Rattle.std.specs.Prelude.{◌≡◌, ℕ, ◌+◌, ◌^◌, ◌<◌, ◌≤◌, List, [], ◌∷◌, length, map, false, IsSome}
+use Rattle.std.specs.List.{All, AllPairs}
+use Rattle.wind_base.specs.Limits.{ram_bytes, pool_start, most_blocks, most_symbols}
+use Rattle.mem_partition.specs.State.{PartState, IsPart, own_block}
+use Rattle.mem_partition.specs.declared.block.Class.TheVariants.{Kernel}
+use Rattle.wind_core.specs.State.{KernState, IsKern}
+use Rattle.kernel_calls.specs.State.{WorldState}
+use Rattle.kernel_calls.specs.Opening.{interrupt_stack}
+
+-- the pool is that of the board
+pub record KeepsPool (p : PartState) : Type 0 where
+  pub blocks : IsPart p
+  pub start : p.start ≡ pool_start
+  pub end : p.end ≡ ram_bytes
+  pub room : p.room ≡ most_blocks
+
+-- the stacks of the live tasks, by rising id
+abbrev pub task_stacks : KernState → List ℕ
+task_stacks k = map (λ t. t.stack) k.tasks
+
+-- a Kernel block begins at the address
+abbrev pub IsKernels : PartState → ℕ → Type 0
+IsKernels p at = IsSome (own_block p.blocks at Kernel)
+
+-- these are the addresses of Kernel blocks, and no two are one
+pub record AreStacks (p : PartState) (ats : List ℕ) : Type 0 where
+  pub kernels : All (IsKernels p) ats
+  pub apart : AllPairs (λ a b. a ≡ b → ⊥) ats
+
+-- the interrupt stack and those of the live tasks are Kernel blocks, all distinct
+abbrev pub KeepsStacks : KernState → PartState → Type 0
+KeepsStacks k p = AreStacks p (interrupt_stack ∷ task_stacks k)
+
+pub record KeepsWorld (w : WorldState) : Type 0 where
+  pub kern : IsKern w.kern
+  -- the kernel has its ids
+  pub home : w.kern.lent ≡ false
+  pub pool : KeepsPool w.part
+  pub stacks : KeepsStacks w.kern w.part
+  pub ram : length w.ram ≡ ram_bytes
+  pub symbols : length w.symbols ≤ most_symbols
+
+-- the same, whatever stands in the slots
+abbrev pub IsWorld : WorldState → Type 0
+IsWorld w = KeepsWorld (record w { slots = [] })
+
+-- the counters lie far below their ends
+pub record IsEarly (w : WorldState) : Type 0 where
+  pub sinces : w.kern.next_since < 2 ^ 60
+  pub ticks : w.kern.tick < 2 ^ 60
+  pub locks : All (λ t. t.locks < 2 ^ 60) w.kern.tasks
+  pub names : w.names < 2 ^ 60

@@ -1,0 +1,11 @@
+pub mod State
+pub mod Actors
+pub mod TaskRows
+pub mod MemoryRows
+pub mod SymbolRows
+pub mod Starting
+pub mod Spawning
+pub mod Calls
+pub mod Seen
+pub mod Opening
+pub mod Kept

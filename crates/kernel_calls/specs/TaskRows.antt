@@ -1,0 +1,92 @@
+-- The rows of the calls that touch the kernel's tasks and counters alone.
+use Rattle.std.specs.Prelude.{ℕ, ◌+◌, ◌-◌, ◌%◌, ◌^◌, List, [], Option, None, Some, ◌==◌, nat_le, if◌then◌else◌}
+use Rattle.std.specs.Option.{option_map}
+use Rattle.wind_base.specs.Limits.{least_urgent, ok_word}
+use Rattle.wind_base.specs.declared.errno.Errno.{Errno}
+use Rattle.wind_base.specs.declared.errno.Errno.TheVariants as errors
+use Rattle.task_block.specs.declared.task.Task.{Task as TaskRecord}
+use Rattle.wind_core.specs.State.{KernState, task_id, task_of, task_named}
+use Rattle.wind_core.specs.Moves.{live_id, suspend, resume, change_pri, set_normal, set_locks, delay}
+use Rattle.kernel_calls.specs.declared.actor.Actor.{Actor}
+use Rattle.kernel_calls.specs.declared.actor.Actor.TheVariants.{Task, Interrupt}
+use Rattle.kernel_calls.specs.declared.reply.Reply.{Reply}
+use Rattle.kernel_calls.specs.declared.reply.Reply.TheVariants.{Answer, Refusal, Later}
+
+-- the kernel after the effect of a call, and how its caller is answered
+pub record KernRow : Type 0 where
+  pub kern : KernState
+  pub reply : Reply
+
+abbrev pub done : KernState → KernRow
+done k = record { kern = k; reply = Answer ok_word }
+
+abbrev pub told : KernState → ℕ → KernRow
+told k value = record { kern = k; reply = Answer value }
+
+abbrev pub refused : KernState → Errno → KernRow
+refused k e = record { kern = k; reply = Refusal e }
+
+-- the task that an id of a call means: 0 is the caller, where that is a task
+abbrev pub target : KernState → Actor → ℕ → Option ℕ
+target k (Task who) id = if id == 0 then Some who else live_id k.tasks id
+target k Interrupt id = live_id k.tasks id
+
+-- taskSuspend
+abbrev pub suspend_row : KernState → Option ℕ → KernRow
+suspend_row k None = refused k errors.ObjIdError
+suspend_row k (Some id) = done (suspend k id)
+
+-- taskResume
+abbrev pub resume_row : KernState → Option ℕ → KernRow
+resume_row k None = refused k errors.ObjIdError
+resume_row k (Some id) = done (resume k id)
+
+-- the priority that the task was given and the one by which it is scheduled; no task inherits one yet
+abbrev pub priority_set : KernState → ℕ → ℕ → KernState
+priority_set k id pri = change_pri (set_normal k id pri) id pri
+
+-- taskPrioritySet
+abbrev pub priority_row : KernState → ℕ → Option ℕ → KernRow
+priority_row k pri None = refused k errors.ObjIdError
+priority_row k pri (Some id) = if nat_le pri least_urgent then done (priority_set k id pri) else refused k errors.IllegalPriority
+
+-- taskDelay: the answer comes when the delay ends, or at once for 0
+abbrev pub delay_row : KernState → ℕ → ℕ → KernRow
+delay_row k who n = record { kern = delay k who n; reply = if n == 0 then Answer ok_word else Later }
+
+-- how often the task has locked the scheduler and not unlocked it
+abbrev pub locks_in : Option TaskRecord → ℕ
+locks_in None = 0
+locks_in (Some t) = t.locks
+
+abbrev pub locks_of : KernState → ℕ → ℕ
+locks_of k who = locks_in (task_of k.tasks who)
+
+-- taskLock and taskUnlock
+abbrev pub lock_row : KernState → ℕ → KernRow
+lock_row k who = done (set_locks k who (locks_of k who + 1))
+
+abbrev pub unlock_row : KernState → ℕ → KernRow
+unlock_row k who = done (set_locks k who (locks_of k who - 1))
+
+-- taskIdVerify: no task has id 0
+abbrev pub verify_row : KernState → Option ℕ → KernRow
+verify_row k None = refused k errors.ObjIdError
+verify_row k (Some id) = done k
+
+-- taskNameToId: of the name that the string holds
+abbrev pub found_row : KernState → Option TaskRecord → KernRow
+found_row k None = refused k errors.TaskNotFound
+found_row k (Some t) = told k t.id
+
+abbrev pub name_row : KernState → Option (List ℕ) → KernRow
+name_row k None = refused k errors.BadAddress
+name_row k (Some name) = found_row k (task_named k.tasks name)
+
+-- kernelTimeSlice
+abbrev pub slice_row : KernState → ℕ → KernRow
+slice_row k n = done (record k { slice = n })
+
+-- tickGet: the low word of the count
+abbrev pub tick_row : KernState → KernRow
+tick_row k = told k (k.tick % 2 ^ 32)

@@ -1,0 +1,54 @@
+//! Who makes a call of the kernel, and the words that it hands in.
+
+ghost use Rattle.std.specs.Prelude.{◌≡◌, ◌<◌, option_copied};
+ghost use Rattle.kernel_calls.specs.Actors.{regs_of, register_in, stack_word as stack_word_lem};
+
+use board_mem::Ram;
+use id_table::Ident;
+use wind_base::Regs;
+use wind_core::Kern;
+
+/// Who makes a call of the kernel.
+#[derive(Clone, Copy, Debug, PartialEq, Eq)]
+pub enum Actor {
+    /// The task of this id.
+    Task(Ident),
+    /// The interrupt routine that is active.
+    Interrupt,
+}
+
+// Its registers.
+pub(crate) fn regs<'a>(kern: &'a Kern, level: &'a Option<Regs>, who: Actor) -> Option<&'a Regs>
+    ensures { option_copied result ≡ regs_of kern.now level.now who }
+{
+    match who {
+        Actor::Task(id) => match kern.task(id) {
+            Some(task) => Some(&task.regs),
+            None => None,
+        },
+        Actor::Interrupt => level.as_ref(),
+    }
+}
+
+/// A register of the caller, by its number; 0 where there is no such caller.
+pub fn register(kern: &Kern, level: &Option<Regs>, who: Actor, number: usize) -> u32
+    requires { number < 32 }
+    ensures { result ≡ register_in number (regs_of kern.now level.now who) }
+{
+    match regs(kern, level, who) {
+        Some(regs) => regs.gpr[number],
+        None => 0,
+    }
+}
+
+// The word of this number behind those in registers. None where a byte of it is outside RAM.
+pub(crate) fn stack_word(ram: &Ram, pointer: u32, number: u32) -> Option<u32>
+    requires { number < 8 }
+    ensures { result ≡ stack_word_lem ram.now pointer number }
+{
+    let at = u64::from(pointer) + u64::from(8 + 4 * number);
+    if at >= u64::from(ram.size()) {
+        return None;
+    }
+    ram.read32(at as u32)
+}

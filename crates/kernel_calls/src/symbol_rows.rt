@@ -1,0 +1,90 @@
+//! The call that adds a symbol.
+
+ghost use Rattle.std.specs.Prelude.{◌≡◌, ◌≤◌, length, IfOk, OnErr};
+ghost use Rattle.wind_base.specs.Limits.{longest_name};
+ghost use Rattle.board_mem.specs.Memory.{string_at};
+ghost use Rattle.kernel_calls.specs.SymbolRows.{kind_of_number as kind_of_number_lem, with_name as with_name_lem, with_kind as with_kind_lem, symbol_row};
+
+use crate::reply::{DONE, Reply};
+use board_mem::Ram;
+use std::alloc::Global;
+use symbol_table::{SymKind, Symbol, Symbols};
+use wind_base::limits::{NAME_BYTES, SYMBOLS};
+use wind_base::{Errno, Name, NoMemory};
+
+// The words of the call behind the name of the table: the address of its name, its value, and the number of its kind.
+#[derive(Clone, Copy)]
+pub(crate) struct NewSymbol {
+    pub(crate) name: u32,
+    pub(crate) value: u32,
+    pub(crate) kind: u32,
+}
+
+// The kind of a number.
+fn kind_of_number(number: u32) -> Option<SymKind>
+    ensures { result ≡ kind_of_number_lem number }
+{
+    match number {
+        1 => Some(SymKind::TextSym),
+        2 => Some(SymKind::DataSym),
+        3 => Some(SymKind::BssSym),
+        4 => Some(SymKind::AbsSym),
+        _ => None,
+    }
+}
+
+// Adds a global symbol of group 0, where its kind is one. For want of memory the symbols stay.
+fn add_kind(
+    alloc: Global,
+    syms: &mut Symbols,
+    name: &[u8],
+    value: u32,
+    kind: Option<SymKind>,
+) -> Result<Reply, NoMemory>
+    requires { length name.now ≤ longest_name }
+    ensures ok { IfOk result (λ r. (r ≡ (with_kind_lem syms.old.list name.now value kind).reply) × (syms.new.list ≡ (with_kind_lem syms.old.list name.now value kind).symbols)) }
+    ensures err { OnErr result (syms.new.list ≡ syms.old.list) }
+{
+    let Some(kind) = kind else {
+        return Ok(Reply::Refusal(Errno::BadKind));
+    };
+    if syms.len() >= SYMBOLS {
+        return Ok(Reply::Refusal(Errno::SymbolsFull));
+    }
+    let Ok(name) = Name::new(alloc, name) else {
+        return Err(NoMemory);
+    };
+    let Ok(()) = syms.reserve(1) else {
+        return Err(NoMemory);
+    };
+    syms.add(Symbol {
+        name,
+        value,
+        kind,
+        global: true,
+        group: 0,
+    });
+    Ok(DONE)
+}
+
+pub(crate) fn add_symbol(
+    alloc: Global,
+    syms: &mut Symbols,
+    ram: &Ram,
+    table: u32,
+    symbol: NewSymbol,
+) -> Result<Reply, NoMemory>
+    ensures ok { IfOk result (λ r. (r ≡ (symbol_row syms.old.list ram.now table symbol.name symbol.value symbol.kind).reply) × (syms.new.list ≡ (symbol_row syms.old.list ram.now table symbol.name symbol.value symbol.kind).symbols)) }
+    ensures err { OnErr result (syms.new.list ≡ syms.old.list) }
+{
+    if table != 0 {
+        return Ok(Reply::Refusal(Errno::ObjIdError));
+    }
+    let Some(name) = ram.string(symbol.name) else {
+        return Ok(Reply::Refusal(Errno::BadAddress));
+    };
+    if name.is_empty() || name.len() > NAME_BYTES {
+        return Ok(Reply::Refusal(Errno::BadAddress));
+    }
+    add_kind(alloc, syms, name, symbol.value, kind_of_number(symbol.kind))
+}

@@ -1,0 +1,134 @@
+//! The calls that touch the kernel's tasks and counters alone.
+
+ghost use Rattle.std.specs.Prelude.{◌≡◌, ◌+◌, ◌^◌, ◌<◌, IfSome};
+ghost use Rattle.wind_core.specs.State.{Lives};
+ghost use Rattle.wind_core.specs.Moves.{live_id};
+ghost use Rattle.kernel_calls.specs.Actors.{Acts};
+ghost use Rattle.kernel_calls.specs.TaskRows.{target as target_lem, suspend_row, resume_row, priority_row, delay_row, lock_row, unlock_row, verify_row, name_row, slice_row, tick_row, locks_of};
+ghost use Rattle.board_mem.specs.Memory.{string_at};
+
+use crate::actor::Actor;
+use crate::reply::{DONE, Reply};
+use board_mem::Ram;
+use id_table::Ident;
+use wind_base::{Errno, Pri};
+use wind_core::Kern;
+
+// The task that an id of a call means: 0 is the caller, where that is a task. None where no such task lives.
+#[tactic(auto, using(crate::proofs::Living::live_found))]
+pub(crate) fn target(kern: &Kern, who: Actor, id: u32) -> Option<Ident>
+    requires { Acts kern.now who }
+    ensures task { result ≡ target_lem kern.now who id }
+    ensures live { IfSome result (λ t. Lives kern.now t) }
+{
+    match who {
+        Actor::Task(caller) if id == 0 => Some(caller),
+        _ => kern.find(id),
+    }
+}
+
+pub(crate) fn suspend(kern: &mut Kern, target: Option<Ident>) -> Reply
+    requires { IfSome target (λ t. Lives kern.old t) }
+    ensures kern { kern.new ≡ (suspend_row kern.old target).kern }
+    ensures reply { result ≡ (suspend_row kern.old target).reply }
+{
+    let Some(id) = target else {
+        return Reply::Refusal(Errno::ObjIdError);
+    };
+    kern.suspend(id);
+    DONE
+}
+
+pub(crate) fn resume(kern: &mut Kern, target: Option<Ident>) -> Reply
+    requires live { IfSome target (λ t. Lives kern.old t) }
+    requires since { kern.old.next_since + 1 < 2 ^ 64 }
+    ensures kern { kern.new ≡ (resume_row kern.old target).kern }
+    ensures reply { result ≡ (resume_row kern.old target).reply }
+{
+    let Some(id) = target else {
+        return Reply::Refusal(Errno::ObjIdError);
+    };
+    kern.resume(id);
+    DONE
+}
+
+#[tactic(auto, using(crate::proofs::Living::set_normal_lives))]
+pub(crate) fn set_priority(kern: &mut Kern, pri: u32, target: Option<Ident>) -> Reply
+    requires live { IfSome target (λ t. Lives kern.old t) }
+    requires since { kern.old.next_since + 1 < 2 ^ 64 }
+    ensures kern { kern.new ≡ (priority_row kern.old pri target).kern }
+    ensures reply { result ≡ (priority_row kern.old pri target).reply }
+{
+    let Some(id) = target else {
+        return Reply::Refusal(Errno::ObjIdError);
+    };
+    let Some(pri) = Pri::new(pri) else {
+        return Reply::Refusal(Errno::IllegalPriority);
+    };
+    kern.set_normal(id, pri);
+    kern.change_pri(id, pri);
+    DONE
+}
+
+pub(crate) fn delay(kern: &mut Kern, who: Ident, ticks: u32) -> Reply
+    requires live { Lives kern.old who }
+    requires since { kern.old.next_since + 1 < 2 ^ 64 }
+    requires tick { kern.old.tick < 2 ^ 63 }
+    ensures kern { kern.new ≡ (delay_row kern.old who ticks).kern }
+    ensures reply { result ≡ (delay_row kern.old who ticks).reply }
+{
+    kern.delay(who, ticks);
+    if ticks == 0 { DONE } else { Reply::Later }
+}
+
+// How often the task has locked the scheduler and not unlocked it.
+fn locks(kern: &Kern, who: Ident) -> u64
+    ensures { result ≡ locks_of kern.now who }
+{
+    match kern.task(who) {
+        Some(task) => task.locks,
+        None => 0,
+    }
+}
+
+pub(crate) fn lock(kern: &mut Kern, who: Ident) -> Reply
+    requires live { Lives kern.old who }
+    requires locks { locks_of kern.old who + 1 < 2 ^ 64 }
+    ensures kern { kern.new ≡ (lock_row kern.old who).kern }
+    ensures reply { result ≡ (lock_row kern.old who).reply }
+{
+    let locks = locks(kern, who);
+    kern.set_locks(who, locks + 1);
+    DONE
+}
+
+pub(crate) fn unlock(kern: &mut Kern, who: Ident) -> Reply
+    requires { Lives kern.old who }
+    ensures kern { kern.new ≡ (unlock_row kern.old who).kern }
+    ensures reply { result ≡ (unlock_row kern.old who).reply }
+{
+    let locks = locks(kern, who);
+    kern.set_locks(who, locks.saturating_sub(1));
+    DONE
+}
+
+pub(crate) fn verify(kern: &Kern, id: u32) -> Reply
+    ensures { result ≡ (verify_row kern.now (live_id kern.now.tasks id)).reply }
+{
+    match kern.find(id) {
+        Some(_) => DONE,
+        None => Reply::Refusal(Errno::ObjIdError),
+    }
+}
+
+pub(crate) fn task_of_name(kern: &Kern, ram: &Ram, address: u32) -> Reply
+    ensures { result ≡ (name_row kern.now (string_at ram.now address)).reply }
+{
+    let Some(name) = ram.string(address) else {
+        return Reply::Refusal(Errno::BadAddress);
+    };
+    match kern.named(name) {
+        Some(id) => Reply::Answer(id.get()),
+        None => Reply::Refusal(Errno::TaskNotFound),
+    }
+}

@@ -1,0 +1,28 @@
+//! The world of the kernel's calls.
+
+use board_bus::BoardBus;
+use mem_partition::Part;
+use symbol_table::Symbols;
+use wind_base::{OutBuf, Regs};
+use wind_core::Kern;
+
+/// All that a call of the kernel may read or change.
+#[derive(Drop)]
+pub struct World {
+    /// The kernel's tasks and counters.
+    pub kern: Kern,
+    /// The memory partition.
+    pub part: Part,
+    /// The symbols.
+    pub syms: Symbols,
+    /// RAM and the device slots.
+    pub bus: BoardBus,
+    /// The bytes that the step has written.
+    pub out: OutBuf,
+    /// The number of the next task without a name.
+    pub names: u64,
+    /// The registers of the interrupt routine that is active.
+    pub level: Option<Regs>,
+    /// The number of the last error at interrupt level.
+    pub int_errno: u32,
+}
