@@ -1,10 +1,11 @@
 -- Who makes a call of the kernel, and the words that it hands in.
-use Rattle.std.specs.Prelude.{ℕ, ◌+◌, ◌-◌, ◌*◌, Bool, true, false, ◌==◌, nat_lt, if◌then◌else◌, List, [], ◌∷◌, slice_index, Option, None, Some}
+use Rattle.std.specs.Prelude.{ℕ, ◌+◌, ◌*◌, Bool, true, false, ◌==◌, List, [], ◌∷◌, Option, None, Some, unwrap_or}
 use Rattle.std.specs.Option.{option_map}
 use Rattle.wind_base.specs.declared.regs.Regs.{Regs}
 use Rattle.board_mem.specs.Memory.{read}
 use Rattle.wind_core.specs.State.{KernState, Lives, task_of}
 use Rattle.kernel_calls.specs.State.{WorldState}
+use Rattle.kernel_calls.specs.Starting.{no_regs}
 use Rattle.kernel_calls.specs.declared.actor.Actor.{Actor}
 use Rattle.kernel_calls.specs.declared.actor.Actor.TheVariants.{Task, Interrupt}
 
@@ -32,20 +33,17 @@ abbrev pub regs_of : KernState → Option Regs → Actor → Option Regs
 regs_of k level (Task who) = option_map (λ t. t.regs) (task_of k.tasks who)
 regs_of k level Interrupt = level
 
-abbrev pub register_in : ℕ → Option Regs → ℕ
-register_in i None = 0
-register_in i (Some r) = slice_index r.gpr i
+-- no register has a value where there is no such caller
+abbrev pub caller_regs : KernState → Option Regs → Actor → Regs
+caller_regs k level a = unwrap_or (regs_of k level a) no_regs
 
-abbrev pub register : WorldState → Actor → ℕ → ℕ
-register w a i = register_in i (regs_of w.kern w.level a)
+-- its registers r0 to r31
+abbrev pub caller_words : WorldState → Actor → List ℕ
+caller_words w a = (caller_regs w.kern w.level a).gpr
 
 -- the k-th word behind those in registers: a word of RAM at 8(r1), 12(r1) and on; none where a byte of it is outside RAM (System V ABI, PowerPC supplement, parameter passing)
 abbrev pub stack_word : List ℕ → ℕ → ℕ → Option ℕ
 stack_word ram pointer k = read 4 ram (pointer + (8 + 4 * k))
-
--- the i-th word of a call, counted from 0: the first eight are in r3 to r10
-abbrev pub argument : WorldState → Actor → ℕ → Option ℕ
-argument w a i = if nat_lt i 8 then Some (register w a (3 + i)) else stack_word w.ram (register w a 1) (i - 8)
 
 -- all of these, where there is none missing
 abbrev pub all_there : List (Option ℕ) → Option (List ℕ)

@@ -1,5 +1,5 @@
 -- The kernel's calls, one row for each gate.
-use Rattle.std.specs.Prelude.{ℕ, List, ◌++◌, slice_set, Option, None, Some, Bool, true, false, ◌&&◌, ◌||◌, not, if◌then◌else◌}
+use Rattle.std.specs.Prelude.{ℕ, List, ◌++◌, slice_index, slice_set, Option, None, Some, Bool, true, false, ◌&&◌, not, if◌then◌else◌}
 use Rattle.std.specs.Option.{option_map}
 use Rattle.wind_base.specs.Limits.{error_word, ok_word}
 use Rattle.wind_base.specs.Errno.{errno_number}
@@ -13,11 +13,11 @@ use Rattle.board_mem.specs.Memory.{has, with_word, string_at}
 use Rattle.wind_core.specs.State.{KernState, task_of}
 use Rattle.wind_core.specs.Moves.{live_id, leave_gate, answer, set_errno}
 use Rattle.kernel_calls.specs.State.{WorldState}
-use Rattle.kernel_calls.specs.Actors.{is_interrupt, is_shell, register}
-use Rattle.kernel_calls.specs.TaskRows.{KernRow, target, told, done, suspend_row, resume_row, priority_row, delay_row, lock_row, unlock_row, verify_row, name_row, slice_row, tick_row}
+use Rattle.kernel_calls.specs.Actors.{is_interrupt, is_shell, caller_words}
+use Rattle.kernel_calls.specs.TaskRows.{KernRow, target, suspend_row, resume_row, priority_row, delay_row, lock_row, unlock_row, self_row, verify_row, name_row, slice_row, tick_row}
 use Rattle.kernel_calls.specs.MemoryRows.{PartRow, malloc_row, align_row, free_row}
 use Rattle.kernel_calls.specs.SymbolRows.{SymbolRow, symbol_row}
-use Rattle.kernel_calls.specs.Spawning.{SpawnRow, Wanted, spawned_if, task_wanted, quick_wanted, quick_text}
+use Rattle.kernel_calls.specs.Spawning.{SpawnState, SpawnRow, spawn_parts, spawned_if, task_wanted, quick_wanted, quick_text}
 use Rattle.kernel_calls.specs.declared.actor.Actor.{Actor}
 use Rattle.kernel_calls.specs.declared.actor.Actor.TheVariants.{Task, Interrupt}
 use Rattle.kernel_calls.specs.declared.reply.Reply.{Reply}
@@ -92,6 +92,11 @@ makes_object g = false
 abbrev pub refusal_word : Gate → ℕ
 refusal_word g = if makes_object g then ok_word else error_word
 
+-- the calls that may lack host memory
+abbrev pub may_lack_memory : Gate → Bool
+may_lack_memory gates.SymAdd = true
+may_lack_memory g = false
+
 -- ---- the effect of a call, and how its caller is answered
 pub record Row : Type 0 where
   pub world : WorldState
@@ -110,12 +115,18 @@ of_part w r = with_reply (record w { part = r.part }) r.reply
 abbrev pub of_symbols : WorldState → SymbolRow → Row
 of_symbols w r = with_reply (record w { symbols = r.symbols }) r.reply
 
+abbrev pub spawn_state : WorldState → SpawnState
+spawn_state w = spawn_parts w.kern w.part w.ram w.names
+
+abbrev pub after_spawn : WorldState → SpawnState → WorldState
+after_spawn w s = record w { kern = s.kern; part = s.part; ram = s.ram; names = s.names }
+
 abbrev pub of_spawn : WorldState → SpawnRow → Row
-of_spawn w r = with_reply (record w { kern = r.kern; part = r.part; ram = r.ram; names = r.names }) r.reply
+of_spawn w r = with_reply (after_spawn w r.after) r.reply
 
 -- sp writes what it has made
 abbrev pub of_quick : WorldState → SpawnRow → Row
-of_quick w r = with_reply (record w { kern = r.kern; part = r.part; ram = r.ram; names = r.names; output = w.output ++ quick_text w.names r.reply }) r.reply
+of_quick w r = with_reply (record (after_spawn w r.after) { output = w.output ++ quick_text w.names r.reply }) r.reply
 
 -- taskPriorityGet: the priority goes to a word of RAM
 abbrev pub priority_in : WorldState → ℕ → Option TaskRecord → Row
@@ -141,34 +152,29 @@ abbrev pub with_errno : WorldState → Actor → ℕ → WorldState
 with_errno w (Task who) n = record w { kern = set_errno w.kern who n }
 with_errno w Interrupt n = record w { int_errno = n }
 
--- the calls that only a task makes
-abbrev pub by_task : (WorldState → ℕ → Row) → WorldState → Actor → Row
-by_task f w (Task who) = f w who
-by_task f w Interrupt = with_reply w (Refusal errors.NotIsrCallable)
-
--- the row of a gate; one that isn't built changes nothing
-abbrev pub row : Gate → WorldState → Actor → Row
-row gates.TaskSpawn w a = of_spawn w (spawned_if w (task_wanted w a))
-row gates.Sp w a = of_quick w (spawned_if w (quick_wanted w a))
-row gates.TaskSuspend w a = of_kern w (suspend_row w.kern (target w.kern a (register w a 3)))
-row gates.TaskResume w a = of_kern w (resume_row w.kern (target w.kern a (register w a 3)))
-row gates.TaskPrioritySet w a = of_kern w (priority_row w.kern (register w a 4) (target w.kern a (register w a 3)))
-row gates.TaskPriorityGet w a = priority_in w (register w a 4) (task_at w.kern (target w.kern a (register w a 3)))
-row gates.TaskDelay w a = by_task (λ v who. of_kern v (delay_row v.kern who (register v a 3))) w a
-row gates.TaskLock w a = by_task (λ v who. of_kern v (lock_row v.kern who)) w a
-row gates.TaskUnlock w a = by_task (λ v who. of_kern v (unlock_row v.kern who)) w a
-row gates.TaskIdSelf w a = by_task (λ v who. of_kern v (told v.kern who)) w a
-row gates.TaskIdVerify w a = of_kern w (verify_row w.kern (live_id w.kern.tasks (register w a 3)))
-row gates.TaskNameToId w a = of_kern w (name_row w.kern (string_at w.ram (register w a 3)))
-row gates.KernelTimeSlice w a = of_kern w (slice_row w.kern (register w a 3))
-row gates.TickGet w a = of_kern w (tick_row w.kern)
-row gates.Malloc w a = of_part w (malloc_row w.part (register w a 3))
-row gates.Free w a = of_part w (free_row w.part (register w a 3))
-row gates.Memalign w a = of_part w (align_row w.part (register w a 3) (register w a 4))
-row gates.SymAdd w a = of_symbols w (symbol_row w.symbols w.ram (register w a 3) (register w a 4) (register w a 5) (register w a 6))
-row gates.ErrnoGet w a = with_reply w (Answer (errno_of w a))
-row gates.ErrnoSet w a = with_reply (with_errno w a (register w a 3)) (Answer ok_word)
-row g w a = with_reply w Later
+-- the row of a gate, with the words r in its caller's registers; one that isn't built changes nothing
+abbrev pub row : Gate → WorldState → Actor → List ℕ → Row
+row gates.TaskSpawn w a r = of_spawn w (spawned_if (spawn_state w) (task_wanted w.ram r))
+row gates.Sp w a r = of_quick w (spawned_if (spawn_state w) (quick_wanted w.ram r))
+row gates.TaskSuspend w a r = of_kern w (suspend_row w.kern (target w.kern a (slice_index r 3)))
+row gates.TaskResume w a r = of_kern w (resume_row w.kern (target w.kern a (slice_index r 3)))
+row gates.TaskPrioritySet w a r = of_kern w (priority_row w.kern (slice_index r 4) (target w.kern a (slice_index r 3)))
+row gates.TaskPriorityGet w a r = priority_in w (slice_index r 4) (task_at w.kern (target w.kern a (slice_index r 3)))
+row gates.TaskDelay w a r = of_kern w (delay_row w.kern a (slice_index r 3))
+row gates.TaskLock w a r = of_kern w (lock_row w.kern a)
+row gates.TaskUnlock w a r = of_kern w (unlock_row w.kern a)
+row gates.TaskIdSelf w a r = of_kern w (self_row w.kern a)
+row gates.TaskIdVerify w a r = of_kern w (verify_row w.kern (live_id w.kern.tasks (slice_index r 3)))
+row gates.TaskNameToId w a r = of_kern w (name_row w.kern (string_at w.ram (slice_index r 3)))
+row gates.KernelTimeSlice w a r = of_kern w (slice_row w.kern (slice_index r 3))
+row gates.TickGet w a r = of_kern w (tick_row w.kern)
+row gates.Malloc w a r = of_part w (malloc_row w.part (slice_index r 3))
+row gates.Free w a r = of_part w (free_row w.part (slice_index r 3))
+row gates.Memalign w a r = of_part w (align_row w.part (slice_index r 3) (slice_index r 4))
+row gates.SymAdd w a r = of_symbols w (symbol_row w.symbols w.ram (slice_index r 3) (slice_index r 4) (slice_index r 5) (slice_index r 6))
+row gates.ErrnoGet w a r = with_reply w (Answer (errno_of w a))
+row gates.ErrnoSet w a r = with_reply (with_errno w a (slice_index r 3)) (Answer ok_word)
+row g w a r = with_reply w Later
 
 -- ---- the frame of a call
 -- the caller goes on behind its gate: the program counter becomes the link register
@@ -201,7 +207,7 @@ abbrev pub allowed_row : Gate → WorldState → Actor → Row
 allowed_row g w a =
     if is_interrupt a && not (is_isr_callable g) then with_reply w (Refusal errors.NotIsrCallable)
     else if is_shells_own g && not (is_shell a) then with_reply w (Refusal errors.NotShell)
-    else row g w a
+    else row g w a (caller_words w a)
 
 -- a call: the caller goes on behind its gate, the effect is made, and the caller is answered
 abbrev pub call : Gate → WorldState → Actor → WorldState

@@ -50,9 +50,14 @@ abbrev pub priority_row : KernState → ℕ → Option ℕ → KernRow
 priority_row k pri None = refused k errors.ObjIdError
 priority_row k pri (Some id) = if nat_le pri least_urgent then done (priority_set k id pri) else refused k errors.IllegalPriority
 
+-- a call that a task alone makes
+abbrev pub by_task : KernState → Actor → (ℕ → KernRow) → KernRow
+by_task k (Task who) f = f who
+by_task k Interrupt f = refused k errors.NotIsrCallable
+
 -- taskDelay: the answer comes when the delay ends, or at once for 0
-abbrev pub delay_row : KernState → ℕ → ℕ → KernRow
-delay_row k who n = record { kern = delay k who n; reply = if n == 0 then Answer ok_word else Later }
+abbrev pub delay_row : KernState → Actor → ℕ → KernRow
+delay_row k a n = by_task k a (λ who. record { kern = delay k who n; reply = if n == 0 then Answer ok_word else Later })
 
 -- how often the task has locked the scheduler and not unlocked it
 abbrev pub locks_in : Option TaskRecord → ℕ
@@ -63,11 +68,15 @@ abbrev pub locks_of : KernState → ℕ → ℕ
 locks_of k who = locks_in (task_of k.tasks who)
 
 -- taskLock and taskUnlock
-abbrev pub lock_row : KernState → ℕ → KernRow
-lock_row k who = done (set_locks k who (locks_of k who + 1))
+abbrev pub lock_row : KernState → Actor → KernRow
+lock_row k a = by_task k a (λ who. done (set_locks k who (locks_of k who + 1)))
 
-abbrev pub unlock_row : KernState → ℕ → KernRow
-unlock_row k who = done (set_locks k who (locks_of k who - 1))
+abbrev pub unlock_row : KernState → Actor → KernRow
+unlock_row k a = by_task k a (λ who. done (set_locks k who (locks_of k who - 1)))
+
+-- taskIdSelf
+abbrev pub self_row : KernState → Actor → KernRow
+self_row k a = by_task k a (told k)
 
 -- taskIdVerify: no task has id 0
 abbrev pub verify_row : KernState → Option ℕ → KernRow

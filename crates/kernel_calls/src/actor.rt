@@ -1,8 +1,9 @@
 //! Who makes a call of the kernel, and the words that it hands in.
 
 ghost use Rattle.std.specs.Prelude.{◌≡◌, ◌<◌, option_copied};
-ghost use Rattle.kernel_calls.specs.Actors.{regs_of, register_in, stack_word as stack_word_lem};
+ghost use Rattle.kernel_calls.specs.Actors.{regs_of, caller_regs as caller_regs_lem, stack_word as stack_word_lem};
 
+use crate::starting::no_regs;
 use board_mem::Ram;
 use id_table::Ident;
 use wind_base::Regs;
@@ -18,7 +19,7 @@ pub enum Actor {
 }
 
 // Its registers.
-pub(crate) fn regs<'a>(kern: &'a Kern, level: &'a Option<Regs>, who: Actor) -> Option<&'a Regs>
+fn regs<'a>(kern: &'a Kern, level: &'a Option<Regs>, who: Actor) -> Option<&'a Regs>
     ensures { option_copied result ≡ regs_of kern.now level.now who }
 {
     match who {
@@ -30,14 +31,13 @@ pub(crate) fn regs<'a>(kern: &'a Kern, level: &'a Option<Regs>, who: Actor) -> O
     }
 }
 
-/// A register of the caller, by its number; 0 where there is no such caller.
-pub fn register(kern: &Kern, level: &Option<Regs>, who: Actor, number: usize) -> u32
-    requires { number < 32 }
-    ensures { result ≡ register_in number (regs_of kern.now level.now who) }
+/// Its registers, where no register has a value if there is no such caller.
+pub fn caller_regs(kern: &Kern, level: &Option<Regs>, who: Actor) -> Regs
+    ensures { result ≡ caller_regs_lem kern.now level.now who }
 {
     match regs(kern, level, who) {
-        Some(regs) => regs.gpr[number],
-        None => 0,
+        Some(regs) => *regs,
+        None => no_regs(),
     }
 }
 

@@ -2,13 +2,17 @@
 #![tactic(auto)]
 
 mod actor;
+mod gates;
 mod memory_rows;
 mod reply;
+mod rows;
 mod spawning;
+mod starting;
 mod symbol_rows;
 mod task_rows;
 mod world;
 
-pub use actor::{Actor, register};
-pub use spawning::{put_frame, starting_regs};
+pub use actor::{Actor, caller_regs};
+pub use gates::is_built;
+pub use starting::{put_frame, starting_regs};
 pub use world::World;

@@ -4,11 +4,8 @@ ghost use Rattle.std.specs.Prelude.{◌≡◌};
 ghost use Rattle.kernel_calls.specs.MemoryRows.{block_error as block_error_lem, malloc_row, align_row, free_row};
 
 use crate::reply::{DONE, Reply};
-use mem_partition::{Class, Part, PartErr};
+use mem_partition::{Class, GRAIN, Part, PartErr};
 use wind_base::Errno;
-
-// Every block begins at a multiple of this.
-const GRAIN: u32 = 16;
 
 // The error of a block that the partition refuses to give.
 fn block_error(refusal: PartErr) -> Errno

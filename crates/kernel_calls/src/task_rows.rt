@@ -1,10 +1,11 @@
 //! The calls that touch the kernel's tasks and counters alone.
 
 ghost use Rattle.std.specs.Prelude.{◌≡◌, ◌+◌, ◌^◌, ◌<◌, IfSome};
-ghost use Rattle.wind_core.specs.State.{Lives};
+ghost use Rattle.std.specs.List.{All};
+ghost use Rattle.wind_core.specs.State.{Lives, KernState};
 ghost use Rattle.wind_core.specs.Moves.{live_id};
 ghost use Rattle.kernel_calls.specs.Actors.{Acts};
-ghost use Rattle.kernel_calls.specs.TaskRows.{target as target_lem, suspend_row, resume_row, priority_row, delay_row, lock_row, unlock_row, verify_row, name_row, slice_row, tick_row, locks_of};
+ghost use Rattle.kernel_calls.specs.TaskRows.{target as target_lem, suspend_row, resume_row, priority_row, delay_row, lock_row, unlock_row, self_row, verify_row, name_row, slice_row, tick_row, locks_of};
 ghost use Rattle.board_mem.specs.Memory.{string_at};
 
 use crate::actor::Actor;
@@ -27,25 +28,25 @@ pub(crate) fn target(kern: &Kern, who: Actor, id: u32) -> Option<Ident>
     }
 }
 
-pub(crate) fn suspend(kern: &mut Kern, target: Option<Ident>) -> Reply
-    requires { IfSome target (λ t. Lives kern.old t) }
-    ensures kern { kern.new ≡ (suspend_row kern.old target).kern }
-    ensures reply { result ≡ (suspend_row kern.old target).reply }
+pub(crate) fn suspend(kern: &mut Kern, who: Actor, id: u32) -> Reply
+    requires { Acts kern.old who }
+    ensures kern { kern.new ≡ (suspend_row kern.old (target_lem kern.old who id)).kern }
+    ensures reply { result ≡ (suspend_row kern.old (target_lem kern.old who id)).reply }
 {
-    let Some(id) = target else {
+    let Some(id) = target(kern, who, id) else {
         return Reply::Refusal(Errno::ObjIdError);
     };
     kern.suspend(id);
     DONE
 }
 
-pub(crate) fn resume(kern: &mut Kern, target: Option<Ident>) -> Reply
-    requires live { IfSome target (λ t. Lives kern.old t) }
+pub(crate) fn resume(kern: &mut Kern, who: Actor, id: u32) -> Reply
+    requires live { Acts kern.old who }
     requires since { kern.old.next_since + 1 < 2 ^ 64 }
-    ensures kern { kern.new ≡ (resume_row kern.old target).kern }
-    ensures reply { result ≡ (resume_row kern.old target).reply }
+    ensures kern { kern.new ≡ (resume_row kern.old (target_lem kern.old who id)).kern }
+    ensures reply { result ≡ (resume_row kern.old (target_lem kern.old who id)).reply }
 {
-    let Some(id) = target else {
+    let Some(id) = target(kern, who, id) else {
         return Reply::Refusal(Errno::ObjIdError);
     };
     kern.resume(id);
@@ -53,13 +54,13 @@ pub(crate) fn resume(kern: &mut Kern, target: Option<Ident>) -> Reply
 }
 
 #[tactic(auto, using(crate::proofs::Living::set_normal_lives))]
-pub(crate) fn set_priority(kern: &mut Kern, pri: u32, target: Option<Ident>) -> Reply
-    requires live { IfSome target (λ t. Lives kern.old t) }
+pub(crate) fn set_priority(kern: &mut Kern, who: Actor, id: u32, pri: u32) -> Reply
+    requires live { Acts kern.old who }
     requires since { kern.old.next_since + 1 < 2 ^ 64 }
-    ensures kern { kern.new ≡ (priority_row kern.old pri target).kern }
-    ensures reply { result ≡ (priority_row kern.old pri target).reply }
+    ensures kern { kern.new ≡ (priority_row kern.old pri (target_lem kern.old who id)).kern }
+    ensures reply { result ≡ (priority_row kern.old pri (target_lem kern.old who id)).reply }
 {
-    let Some(id) = target else {
+    let Some(id) = target(kern, who, id) else {
         return Reply::Refusal(Errno::ObjIdError);
     };
     let Some(pri) = Pri::new(pri) else {
@@ -70,13 +71,16 @@ pub(crate) fn set_priority(kern: &mut Kern, pri: u32, target: Option<Ident>) -> 
     DONE
 }
 
-pub(crate) fn delay(kern: &mut Kern, who: Ident, ticks: u32) -> Reply
-    requires live { Lives kern.old who }
+pub(crate) fn delay(kern: &mut Kern, who: Actor, ticks: u32) -> Reply
+    requires live { Acts kern.old who }
     requires since { kern.old.next_since + 1 < 2 ^ 64 }
     requires tick { kern.old.tick < 2 ^ 63 }
     ensures kern { kern.new ≡ (delay_row kern.old who ticks).kern }
     ensures reply { result ≡ (delay_row kern.old who ticks).reply }
 {
+    let Actor::Task(who) = who else {
+        return Reply::Refusal(Errno::NotIsrCallable);
+    };
     kern.delay(who, ticks);
     if ticks == 0 { DONE } else { Reply::Later }
 }
@@ -91,25 +95,41 @@ fn locks(kern: &Kern, who: Ident) -> u64
     }
 }
 
-pub(crate) fn lock(kern: &mut Kern, who: Ident) -> Reply
-    requires live { Lives kern.old who }
-    requires locks { locks_of kern.old who + 1 < 2 ^ 64 }
+#[tactic(auto, using(crate::proofs::Living::locks_below))]
+pub(crate) fn lock(kern: &mut Kern, who: Actor) -> Reply
+    requires live { Acts kern.old who }
+    requires locks { All (λ t. t.locks < 2 ^ 60) kern.old.tasks }
     ensures kern { kern.new ≡ (lock_row kern.old who).kern }
     ensures reply { result ≡ (lock_row kern.old who).reply }
 {
+    let Actor::Task(who) = who else {
+        return Reply::Refusal(Errno::NotIsrCallable);
+    };
     let locks = locks(kern, who);
     kern.set_locks(who, locks + 1);
     DONE
 }
 
-pub(crate) fn unlock(kern: &mut Kern, who: Ident) -> Reply
-    requires { Lives kern.old who }
+pub(crate) fn unlock(kern: &mut Kern, who: Actor) -> Reply
+    requires { Acts kern.old who }
     ensures kern { kern.new ≡ (unlock_row kern.old who).kern }
     ensures reply { result ≡ (unlock_row kern.old who).reply }
 {
+    let Actor::Task(who) = who else {
+        return Reply::Refusal(Errno::NotIsrCallable);
+    };
     let locks = locks(kern, who);
     kern.set_locks(who, locks.saturating_sub(1));
     DONE
+}
+
+pub(crate) fn own_id(who: Actor) -> Reply
+    ensures { (k : KernState) → result ≡ (self_row k who).reply }
+{
+    match who {
+        Actor::Task(id) => Reply::Answer(id.get()),
+        Actor::Interrupt => Reply::Refusal(Errno::NotIsrCallable),
+    }
 }
 
 pub(crate) fn verify(kern: &Kern, id: u32) -> Reply
@@ -119,6 +139,20 @@ pub(crate) fn verify(kern: &Kern, id: u32) -> Reply
         Some(_) => DONE,
         None => Reply::Refusal(Errno::ObjIdError),
     }
+}
+
+pub(crate) fn slice(kern: &mut Kern, ticks: u32) -> Reply
+    ensures kern { kern.new ≡ (slice_row kern.old ticks).kern }
+    ensures reply { result ≡ (slice_row kern.old ticks).reply }
+{
+    kern.time_slice(ticks);
+    DONE
+}
+
+pub(crate) fn ticks(kern: &Kern) -> Reply
+    ensures { result ≡ (tick_row kern.now).reply }
+{
+    Reply::Answer((kern.ticks() % 0x1_0000_0000) as u32)
 }
 
 pub(crate) fn task_of_name(kern: &Kern, ram: &Ram, address: u32) -> Reply

@@ -11,7 +11,7 @@ use crate::block::Block;
 const GREATEST_ALIGN: u32 = 65_536;
 
 /// Every block begins at a multiple of this, and its size is one.
-const GRAIN: u64 = 16;
+pub const GRAIN: u32 = 16;
 
 /// Whether it is a power of two from 1 to 65,536.
 pub(crate) fn is_align(align: u32) -> bool
@@ -33,14 +33,14 @@ fn align_up(n: u64, align: u64) -> u64
     (n + align - 1) / align * align
 }
 
-/// The bytes of a block that is asked for with `n`.
+/// The bytes of a block that is asked for with `n`: at least 1, rounded up to a multiple of 16.
 #[tactic(auto, unfolding(crate::specs::Place::rounded))]
-pub(crate) fn round_up(n: u32) -> u64
+pub fn round_up(n: u32) -> u64
     ensures value { result ≡ rounded n }
     ensures some { 0 < result }
     ensures small { result < 2 ^ 33 }
 {
-    align_up(u64::from(n).max(1), GRAIN)
+    align_up(u64::from(n).max(1), u64::from(GRAIN))
 }
 
 /// The first place from `start` on, a multiple of `align`.
@@ -78,7 +78,7 @@ pub(crate) fn first_place(
     ensures value { result ≡ first_fit start end blocks.now size (max align grain) }
     ensures lies { IfSome result (λ at. Lies start end blocks.now size at) }
 {
-    let align = u64::from(align).max(GRAIN);
+    let align = u64::from(align).max(u64::from(GRAIN));
     let start = align_up(u64::from(start), align);
     scan(blocks, start, u64::from(end), size, align)
 }

@@ -10,5 +10,6 @@ mod part;
 mod tests;
 
 pub use block::{Block, Class, PartErr};
+pub use gaps::{GRAIN, round_up};
 pub use laws::{alloc_law, blocks_law, place_law};
 pub use part::Part;
