@@ -1,11 +1,8 @@
 -- The laws of the board's bus, proved: an access in RAM never faults, and no access changes how much RAM there is.
 use Rattle.std.specs.Prelude.{◌≡◌, ℕ, zero, suc, ◌+◌, ◌<◌, ◌≤◌, ◌^◌, ◌%◌, Bool, true, false, not, ◌&&◌, List, [], ◌++◌, length, take, drop, nat_lt, is_some, if◌then◌else◌}
 use Rattle.std.proofs.Common.{refl, sym, ap, ◌∙◌, arith, length-append, length-drop}
-use Rattle.std.proofs.lemmas.Bool.Decides.{nat_tests}
-use Rattle.std.proofs.lemmas.List.{length-take, length-take-le}
-use Rattle.byteorder.specs.Endian.{big_bytes}
-use Rattle.byteorder.specs.Numbers.{length-bytes_high_first}
-use Rattle.board_mem.specs.Memory.{has, with_bytes, with_number}
+use Rattle.board_mem.specs.Memory.{has, with_number}
+use Rattle.board_mem.proofs.Sizes.{length-with_number}
 use Rattle.ppc_core.specs.Buses.{IsLawful, all_ram}
 use Rattle.ppc_core.proofs.RamRanges.{all_ram-below}
 use Rattle.board_bus.specs.BusState.{BusState}
@@ -21,27 +18,6 @@ in_ram b n at h = has-all_ram b at n ∙ h
 
 never_faults : (b : BusState) (n at : ℕ) → 0 < n → all_ram board_meaning b at n ≡ true → faults_at b n at ≡ false
 never_faults b n at some h = ap (λ t. not t && not (is_some (reached b.slots n at))) (in_ram b n at h)
-
--- bytes that are put in place keep the length
-length-with_bytes : (ram : List ℕ) (at : ℕ) (bytes : List ℕ) → at + length bytes ≤ length ram → length (with_bytes ram at bytes) ≡ length ram
-length-with_bytes ram at bytes le =
-    length-append (take at ram ++ bytes) (drop (at + length bytes) ram) ∙ omega (arith, le, length-append (take at ram) bytes, length-take-le at ram (omega arith), length-drop (at + length bytes) ram)
-
--- and so does a range of no bytes, wherever it begins
-length-no_bytes : (ram : List ℕ) (at : ℕ) → length (with_bytes ram at []) ≡ length ram
-length-no_bytes ram at = length-append (take at ram ++ []) (drop (at + 0) ram) ∙ omega (arith, length-append (take at ram) [], length-drop (at + 0) ram, length-take at ram)
-
--- the end of a range that is there
-has_end : (ram : List ℕ) (at n : ℕ) → 0 < n → has ram at n ≡ true → at + n ≤ length ram
-has_end ram at n some h = grind (arith, nat_tests)
-
-length-with_number : (n : ℕ) (ram : List ℕ) (at v : ℕ) → has ram at n ≡ true → length (with_number n ram at v) ≡ length ram
-length-with_number zero ram at v h = length-no_bytes ram at
-length-with_number (suc n) ram at v h =
-    let bytes = big_bytes (suc n) (v % 256 ^ suc n) in
-    let size : length bytes ≡ suc n = length-bytes_high_first (suc n) (v % 256 ^ suc n) in
-    let le : at + suc n ≤ length ram = has_end ram at (suc n) (omega arith) h in
-    length-with_bytes ram at bytes (omega (arith, size, le))
 
 load_keeps : (b : BusState) (n at a : ℕ) → nat_lt a (length (loaded_at b n at).ram) ≡ nat_lt a (length b.ram)
 load_keeps b n at a = go (has b.ram at n) where

@@ -1,2 +1,4 @@
 pub mod Living
 pub mod Spawned
+pub mod Goes
+pub mod Stacks

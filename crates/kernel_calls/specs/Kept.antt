@@ -45,6 +45,10 @@ pub record KeepsWorld (w : WorldState) : Type 0 where
 abbrev pub IsWorld : WorldState → Type 0
 IsWorld w = KeepsWorld (record w { slots = [] })
 
+-- no task has locked the scheduler more often than n times
+abbrev pub LocksWithin : ℕ → KernState → Type 0
+LocksWithin n k = All (λ t. t.locks ≤ n) k.tasks
+
 -- the counters lie far below their ends
 pub record IsEarly (w : WorldState) : Type 0 where
   pub sinces : w.kern.next_since < 2 ^ 60

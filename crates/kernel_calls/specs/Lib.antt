@@ -9,3 +9,4 @@ pub mod Calls
 pub mod Seen
 pub mod Opening
 pub mod Kept
+pub mod Laws

@@ -3,3 +3,4 @@ pub mod Keeping
 pub mod Allocs
 mod Meeting
 mod Counting
+pub mod Owners

@@ -8,5 +8,6 @@ pub mod Lawful
 pub mod Ticking
 pub mod Stable
 pub mod Finding
+pub mod Standings
 pub mod Ids
 pub mod Releasing
