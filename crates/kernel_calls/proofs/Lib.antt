@@ -2,3 +2,5 @@ pub mod Living
 pub mod Spawned
 pub mod Goes
 pub mod Stacks
+pub mod TaskMoves
+pub mod Advancing
