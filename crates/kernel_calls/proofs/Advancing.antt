@@ -10,6 +10,7 @@ use Rattle.std.proofs.lemmas.List.Folds.{find-append}
 use Rattle.std.proofs.lemmas.List.Elements.{All-weaker, All-push}
 use Rattle.wind_base.specs.Limits.{most_symbols, longest_name, frame_bytes}
 use Rattle.wind_base.specs.Errno.{errno_number}
+use Rattle.wind_base.specs.declared.regs.Regs.{Regs}
 use Rattle.wind_base.specs.declared.gate.Gate.{Gate}
 use Rattle.wind_base.specs.declared.gate.Gate.TheVariants as gates
 use Rattle.wind_base.specs.declared.errno.Errno.{Errno}
@@ -28,13 +29,13 @@ use Rattle.wind_core.specs.Moves.{live_id, new_task, spawn, spawn_refusal}
 use Rattle.wind_core.proofs.Ids.{lives_by}
 use Rattle.wind_core.proofs.Keeping.{every_call_keeps}
 use Rattle.kernel_calls.specs.State.{WorldState}
-use Rattle.kernel_calls.specs.Actors.{caller_words, is_interrupt, is_shell}
+use Rattle.kernel_calls.specs.Actors.{caller_words}
 use Rattle.kernel_calls.specs.Starting.{cleared, framed}
 use Rattle.kernel_calls.specs.TaskRows.{target}
 use Rattle.kernel_calls.specs.MemoryRows.{PartRow, align_row, free_row, free_reply}
 use Rattle.kernel_calls.specs.SymbolRows.{refused_symbol, with_kind, with_name, symbol_row, kind_of_number}
 use Rattle.kernel_calls.specs.Spawning.{SpawnState, SpawnRow, stack_bytes, first_pointer, started, names_after, no_spawn, spawned_on, spawned_at, spawned_unless, spawned, spawned_if, task_wanted, quick_wanted, quick_text}
-use Rattle.kernel_calls.specs.Calls.{Row, with_reply, after_spawn, spawn_state, priority_in, task_at, with_errno, row, left_gate, with_answer, refusal_word, replied, answered, allowed_row, is_isr_callable, is_shells_own, call}
+use Rattle.kernel_calls.specs.Calls.{Row, with_reply, after_spawn, spawn_state, priority_in, task_at, with_errno, row, left_gate, with_answer, refusal_word, replied, refusal_before, row_unless, made, call, past_gate, in_r3}
 use Rattle.kernel_calls.specs.Opening.{interrupt_stack}
 use Rattle.kernel_calls.specs.Kept.{KeepsPool, task_stacks, AreStacks, KeepsWorld, IsWorld, LocksWithin}
 use Rattle.kernel_calls.specs.Laws.{Advances, CallLaw}
@@ -43,7 +44,7 @@ use Rattle.kernel_calls.specs.declared.actor.Actor.TheVariants.{Task, Interrupt}
 use Rattle.kernel_calls.specs.declared.reply.Reply.{Reply}
 use Rattle.kernel_calls.specs.declared.reply.Reply.TheVariants.{Answer, Refusal, Later}
 use Rattle.kernel_calls.specs.declared.spawning.Wanted.{Wanted}
-use Rattle.kernel_calls.proofs.Goes.{Goes, goes-leave_gate, goes-answer, goes-set_errno, goes_further}
+use Rattle.kernel_calls.proofs.Goes.{Goes, goes-leave_gate, goes-answer, goes-set_errno}
 use Rattle.kernel_calls.proofs.TaskMoves.{suspend_goes, resume_goes, priority_goes, delay_goes, lock_goes, unlock_goes, self_goes, verify_goes, name_goes, slice_goes, stays}
 use Rattle.kernel_calls.proofs.Stacks.{pool-alloc, pool-free, stacks-alloc, stacks-free, stacks-more}
 
@@ -278,3 +279,50 @@ module _ (w : WorldState) (kept : IsWorld w) where
     row_advances gates.ShellReturn a r = nowhere
     row_advances gates.InterruptReturn a r = nowhere
     row_advances g a r = nowhere
+
+-- ---- the frame of a call
+module _ (w : WorldState) (kept : IsWorld w) (n : ℕ) (within : LocksWithin n w.kern) where
+  -- registers of the interrupt level are no matter of the kept facts
+  level_advances : (level : Option Regs) → Advances w (record w { level = level }) n 0 0
+  level_advances level = record {
+    kept = record { kern = kept.kern; home = kept.home; pool = kept.pool; stacks = kept.stacks; ram = kept.ram; symbols = kept.symbols };
+    lives = λ who h. h;
+    locks = within;
+    sinces = omega arith;
+    count = refl;
+    names = omega arith;
+  }
+
+  pub left_advances : (a : Actor) → Advances w (left_gate w a) n 0 0
+  left_advances (Task who) = by_kern w kept _ n 0 (goes-leave_gate w.kern n kept.kern within who)
+  left_advances Interrupt = level_advances (option_map past_gate w.level)
+
+  answer_advances : (a : Actor) (value : ℕ) → Advances w (with_answer w a value) n 0 0
+  answer_advances (Task who) value = by_kern w kept _ n 0 (goes-answer w.kern n kept.kern within who value)
+  answer_advances Interrupt value = level_advances (option_map (in_r3 value) w.level)
+
+pub replied_advances : (w : WorldState) → IsWorld w → (n : ℕ) → LocksWithin n w.kern → (g : Gate) (a : Actor) (r : Reply) → Advances w (replied g w a r) n 0 0
+replied_advances w kept n within g a (Answer value) = answer_advances w kept n within a value
+replied_advances w kept n within g a (Refusal e) =
+    let set = errno_advances w kept n within a (errno_number e) in
+    let v = with_errno w a (errno_number e) in
+    advances_on w v (with_answer v a (refusal_word g)) n n 0 0 0 0 set (answer_advances v set.kept n set.locks a (refusal_word g))
+replied_advances w kept n within g a Later =
+    record { kept = kept; lives = λ who h. h; locks = within; sinces = omega arith; count = refl; names = omega arith }
+
+unless_row : (w : WorldState) (kept : IsWorld w) (n : ℕ) (within : LocksWithin n w.kern) (o : Option Errno) (g : Gate) (a : Actor) (r : List ℕ) → Advances w (row_unless o g w a r).world (n + 1) 2 1
+unless_row w kept n within (Some e) g a r = nowhere w kept n within
+unless_row w kept n within None g a r = row_advances w kept n within g a r
+
+pub made_advances : (g : Gate) (w : WorldState) (a : Actor) (n : ℕ) → IsWorld w → LocksWithin n w.kern → Advances w (made g w a).world (n + 1) 2 1
+made_advances g w a n kept within =
+    let left = left_advances w kept n within a in
+    let v = left_gate w a in
+    let rowed = unless_row v left.kept n left.locks (refusal_before g a) g a (caller_words w a) in
+    advances_on w v (made g w a).world n (n + 1) 0 2 0 1 left rowed
+
+pub call_advances : CallLaw
+call_advances g w a n kept within =
+    let m = made_advances g w a n kept within in
+    let r = made g w a in
+    advances_on w r.world (call g w a) (n + 1) (n + 1) 2 0 1 0 m (replied_advances r.world m.kept (n + 1) m.locks g a r.reply)

@@ -4,3 +4,4 @@ pub mod Goes
 pub mod Stacks
 pub mod TaskMoves
 pub mod Advancing
+pub mod Serving

@@ -203,15 +203,26 @@ abbrev pub answered : Gate → Actor → Row → WorldState
 answered g a r = replied g r.world a r.reply
 
 -- refused at interrupt level; then for another task than the shell's; then by the row
-abbrev pub allowed_row : Gate → WorldState → Actor → Row
-allowed_row g w a =
-    if is_interrupt a && not (is_isr_callable g) then with_reply w (Refusal errors.NotIsrCallable)
-    else if is_shells_own g && not (is_shell a) then with_reply w (Refusal errors.NotShell)
-    else row g w a (caller_words w a)
+abbrev pub refusal_before : Gate → Actor → Option Errno
+refusal_before g a =
+    if is_interrupt a && not (is_isr_callable g) then Some errors.NotIsrCallable
+    else if is_shells_own g && not (is_shell a) then Some errors.NotShell
+    else None
 
--- a call: the caller goes on behind its gate, the effect is made, and the caller is answered
+abbrev pub row_unless : Option Errno → Gate → WorldState → Actor → List ℕ → Row
+row_unless (Some e) g w a r = with_reply w (Refusal e)
+row_unless None g w a r = row g w a r
+
+abbrev pub allowed_row : Gate → WorldState → Actor → List ℕ → Row
+allowed_row g w a r = row_unless (refusal_before g a) g w a r
+
+-- what a call makes: the caller goes on behind its gate, and the effect is made, with the words in its registers
+abbrev pub made : Gate → WorldState → Actor → Row
+made g w a = allowed_row g (left_gate w a) a (caller_words w a)
+
+-- a call: then the caller is answered
 abbrev pub call : Gate → WorldState → Actor → WorldState
-call g w a = answered g a (allowed_row g (left_gate w a) a)
+call g w a = answered g a (made g w a)
 
 -- whether the caller pends
 abbrev pub is_later : Reply → Bool
@@ -219,4 +230,4 @@ is_later Later = true
 is_later r = false
 
 abbrev pub pends : Gate → WorldState → Actor → Bool
-pends g w a = is_later (allowed_row g (left_gate w a) a).reply
+pends g w a = is_later (made g w a).reply

@@ -50,8 +50,11 @@ abbrev pub LocksWithin : ℕ → KernState → Type 0
 LocksWithin n k = All (λ t. t.locks ≤ n) k.tasks
 
 -- the counters lie far below their ends
-pub record IsEarly (w : WorldState) : Type 0 where
+pub record Early (w : WorldState) : Type 0 where
   pub sinces : w.kern.next_since < 2 ^ 60
   pub ticks : w.kern.tick < 2 ^ 60
   pub locks : All (λ t. t.locks < 2 ^ 60) w.kern.tasks
   pub names : w.names < 2 ^ 60
+
+abbrev pub IsEarly : WorldState → Type 0
+IsEarly w = Early (record w { slots = [] })

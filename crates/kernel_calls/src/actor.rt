@@ -19,11 +19,11 @@ pub enum Actor {
 }
 
 // Its registers.
-fn regs<'a>(kern: &'a Kern, level: &'a Option<Regs>, who: Actor) -> Option<&'a Regs>
-    ensures { option_copied result ≡ regs_of kern.now level.now who }
+fn regs<'a>(kern: &'a Kern, level: &'a Option<Regs>, who: &Actor) -> Option<&'a Regs>
+    ensures { option_copied result ≡ regs_of kern.now level.now who.now }
 {
     match who {
-        Actor::Task(id) => match kern.task(id) {
+        Actor::Task(id) => match kern.task(*id) {
             Some(task) => Some(&task.regs),
             None => None,
         },
@@ -32,8 +32,8 @@ fn regs<'a>(kern: &'a Kern, level: &'a Option<Regs>, who: Actor) -> Option<&'a R
 }
 
 /// Its registers, where no register has a value if there is no such caller.
-pub fn caller_regs(kern: &Kern, level: &Option<Regs>, who: Actor) -> Regs
-    ensures { result ≡ caller_regs_lem kern.now level.now who }
+pub fn caller_regs(kern: &Kern, level: &Option<Regs>, who: &Actor) -> Regs
+    ensures { result ≡ caller_regs_lem kern.now level.now who.now }
 {
     match regs(kern, level, who) {
         Some(regs) => *regs,

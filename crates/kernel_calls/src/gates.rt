@@ -1,7 +1,7 @@
 //! What each gate's call allows.
 
 ghost use Rattle.std.specs.Prelude.{◌≡◌};
-ghost use Rattle.kernel_calls.specs.Calls.{is_built as is_built_lem, is_isr_callable as is_isr_callable_lem, is_shells_own as is_shells_own_lem, makes_object as makes_object_lem, refusal_word as refusal_word_lem};
+ghost use Rattle.kernel_calls.specs.Calls.{is_built as is_built_lem, is_isr_callable as is_isr_callable_lem, is_shells_own as is_shells_own_lem, makes_object as makes_object_lem, refusal_word as refusal_word_lem, may_lack_memory as may_lack_memory_lem};
 
 use wind_base::Gate;
 use wind_base::words::{ERROR, OK};
@@ -92,4 +92,11 @@ pub(crate) fn refusal_word(gate: Gate) -> u32
     ensures { result ≡ refusal_word_lem gate }
 {
     if makes_object(gate) { OK } else { ERROR }
+}
+
+/// Whether the call of the gate may lack host memory.
+pub fn may_lack_memory(gate: Gate) -> bool
+    ensures { result ≡ may_lack_memory_lem gate }
+{
+    matches!(gate, Gate::SymAdd)
 }

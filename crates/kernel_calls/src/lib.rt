@@ -2,6 +2,7 @@
 #![tactic(auto)]
 
 mod actor;
+mod calls;
 mod gates;
 mod memory_rows;
 mod reply;
@@ -13,6 +14,7 @@ mod task_rows;
 mod world;
 
 pub use actor::{Actor, caller_regs};
-pub use gates::is_built;
+pub use calls::{Called, kernel_call};
+pub use gates::{is_built, may_lack_memory};
 pub use starting::{put_frame, starting_regs};
 pub use world::World;

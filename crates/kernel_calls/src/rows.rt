@@ -9,7 +9,6 @@ ghost use Rattle.kernel_calls.specs.Actors.{Acts};
 ghost use Rattle.kernel_calls.specs.TaskRows.{target as target_lem};
 ghost use Rattle.kernel_calls.specs.Spawning.{spawned_if, task_wanted as task_wanted_lem, quick_wanted as quick_wanted_lem};
 ghost use Rattle.kernel_calls.specs.Calls.{is_built, with_reply, of_spawn, of_quick, spawn_state, priority_in, task_at, errno_of as errno_of_lem, with_errno, row as row_lem, may_lack_memory};
-ghost use Rattle.wind_base.specs.declared.gate.Gate.TheVariants as gates;
 ghost use Rattle.kernel_calls.specs.declared.actor.Actor.TheVariants as actors;
 ghost use Rattle.kernel_calls.specs.Kept.{IsEarly};
 ghost use Rattle.kernel_calls.specs.Seen.{world_seen, world_with};
@@ -99,33 +98,45 @@ fn errno_of(w: &World, who: Actor) -> u32
 }
 
 // errnoSet, and what a refusal sets
-pub(crate) fn set_errno(w: &mut World, who: Actor, number: u32)
-    requires { Acts w.old.kern who }
-    ensures world { world_seen ⟦<dyn Device as Device>⟧ w.new ≡ with_errno (world_seen ⟦<dyn Device as Device>⟧ w.old) who number }
+pub(crate) fn set_errno(w: &mut World, who: &Actor, number: u32)
+    requires { Acts w.old.kern who.now }
+    ensures world { world_seen ⟦<dyn Device as Device>⟧ w.new ≡ with_errno (world_seen ⟦<dyn Device as Device>⟧ w.old) who.now number }
     ensures out { w.new.out ≡ w.old.out }
 {
     match who {
-        Actor::Task(id) => w.kern.set_errno(id, number),
+        Actor::Task(id) => w.kern.set_errno(*id, number),
         Actor::Interrupt => w.int_errno = number,
     }
 }
 
-// symAdd
-fn add_global(alloc: Global, w: &mut World, gpr: &[u32; 32]) -> Result<Reply, NoMemory>
-    ensures ok { IfOk result (λ r. with_reply (world_seen ⟦<dyn Device as Device>⟧ w.new) r ≡ row_lem gates.SymAdd (world_seen ⟦<dyn Device as Device>⟧ w.old) actors.Interrupt gpr.now) }
+// The row of a gate that may lack memory. It reads nothing of its caller but the words in registers.
+pub(crate) fn lacking_row(
+    alloc: Global,
+    w: &mut World,
+    gate: Gate,
+    gpr: &[u32; 32],
+) -> Result<Reply, NoMemory>
+    requires { may_lack_memory gate ≡ true }
+    ensures ok { IfOk result (λ r. with_reply (world_seen ⟦<dyn Device as Device>⟧ w.new) r ≡ row_lem gate (world_seen ⟦<dyn Device as Device>⟧ w.old) actors.Interrupt gpr.now) }
     ensures err { OnErr result (world_seen ⟦<dyn Device as Device>⟧ w.new ≡ world_seen ⟦<dyn Device as Device>⟧ w.old) }
+    ensures kern { w.new.kern ≡ w.old.kern }
     ensures out { w.new.out ≡ w.old.out }
 {
-    let symbol = NewSymbol {
-        name: gpr[4],
-        value: gpr[5],
-        kind: gpr[6],
-    };
-    add_symbol(alloc, &mut w.syms, &w.bus.ram, gpr[3], symbol)
+    match gate {
+        Gate::SymAdd => {
+            let symbol = NewSymbol {
+                name: gpr[4],
+                value: gpr[5],
+                kind: gpr[6],
+            };
+            add_symbol(alloc, &mut w.syms, &w.bus.ram, gpr[3], symbol)
+        }
+        _ => unreachable!(),
+    }
 }
 
 // The row of a gate that takes no memory, with the words in its caller's registers.
-fn plain_row(w: &mut World, gate: Gate, who: Actor, gpr: &[u32; 32]) -> Reply
+pub(crate) fn plain_row(w: &mut World, gate: Gate, who: Actor, gpr: &[u32; 32]) -> Reply
     requires built { is_built gate ≡ true }
     requires plain { may_lack_memory gate ≡ false }
     requires live { Acts w.old.kern who }
@@ -156,7 +167,7 @@ fn plain_row(w: &mut World, gate: Gate, who: Actor, gpr: &[u32; 32]) -> Reply
         Gate::Memalign => memalign(&mut w.part, gpr[3], gpr[4]),
         Gate::ErrnoGet => Reply::Answer(errno_of(w, who)),
         Gate::ErrnoSet => {
-            set_errno(w, who, gpr[3]);
+            set_errno(w, &who, gpr[3]);
             DONE
         }
         _ => unreachable!(),

@@ -1,0 +1,8 @@
+use Rattle.std.proofs.Common.{sym, subst}
+use Rattle.kernel_calls.specs.State.{WorldState}
+use Rattle.kernel_calls.specs.Actors.{Acts}
+use Rattle.kernel_calls.proofs.Serving.{errno_acts}
+use Rattle.kernel_calls.proofs.calls.reply_to.Goals as goal
+
+pub give_answer-requires-in-Refusal : goal.give_answer-requires-in-Refusal
+give_answer-requires-in-Refusal g c = subst (λ (s : WorldState). Acts s.kern c.args.who.now) (sym c.set_errno.ensures.world) (errno_acts _ c.args.who.now _ c.requires)

@@ -1,0 +1,179 @@
+//! A call of the kernel: its frame, its refusals and its answer.
+
+ghost use Rattle.std.specs.Prelude.{◌≡◌, ◌≢◌, ◌+◌, ◌^◌, ◌<◌, ◌≤◌, [], true, false, IfOk, OnErr, if◌then◌else◌};
+ghost use Rattle.std.specs.Option.{option_map};
+ghost use Rattle.wind_base.specs.OutBuf.{KeepsSpace};
+ghost use Rattle.wind_base.specs.declared.gate.Gate.TheVariants as gates;
+ghost use Rattle.kernel_calls.specs.Actors.{Acts, is_shell as is_shell_lem, is_interrupt as is_interrupt_lem};
+ghost use Rattle.kernel_calls.specs.Kept.{IsWorld, IsEarly};
+ghost use Rattle.kernel_calls.specs.Calls.{is_built, may_lack_memory as may_lack_memory_lem, refusal_before as refusal_before_lem, left_gate, past_gate as past_gate_lem, in_r3, with_answer, replied, with_reply, is_later, made, call, pends};
+ghost use Rattle.kernel_calls.specs.declared.calls.Called.TheVariants as called;
+ghost use Rattle.kernel_calls.specs.Seen.{world_seen, world_with};
+
+use crate::actor::{Actor, caller_regs};
+use crate::gates::{is_isr_callable, is_shells_own, may_lack_memory, refusal_word};
+use crate::reply::Reply;
+use crate::rows::{lacking_row, plain_row, set_errno};
+use crate::world::World;
+use std::alloc::Global;
+use wind_base::{Errno, Gate, NoMemory, Regs};
+use wind_outside::Device;
+
+/// What a call of the kernel answers to the board.
+#[derive(Clone, Copy, Debug, PartialEq, Eq)]
+pub enum Called {
+    /// The call is done, and its caller is answered.
+    Done,
+    /// The caller pends, or is delayed, and is answered at the end of that.
+    Pended,
+    /// Host memory ran out. The world is as it was before.
+    NoMemory,
+}
+
+// Whether it is the shell's task.
+fn is_shell(who: &Actor) -> bool
+    ensures { result ≡ is_shell_lem who.now }
+{
+    match who {
+        Actor::Task(id) => id.get() == 1,
+        Actor::Interrupt => false,
+    }
+}
+
+// Whether it is the interrupt level.
+fn is_interrupt(who: &Actor) -> bool
+    ensures { result ≡ is_interrupt_lem who.now }
+{
+    matches!(who, Actor::Interrupt)
+}
+
+// Why the caller may not make the call at all.
+fn refusal_before(gate: Gate, who: &Actor) -> Option<Errno>
+    ensures { result ≡ refusal_before_lem gate who.now }
+{
+    if is_interrupt(who) && !is_isr_callable(gate) {
+        return Some(Errno::NotIsrCallable);
+    }
+    if is_shells_own(gate) && !is_shell(who) {
+        return Some(Errno::NotShell);
+    }
+    None
+}
+
+// The program counter becomes the link register.
+fn past_gate(level: &mut Option<Regs>)
+    ensures { level.new ≡ option_map past_gate_lem level.old }
+{
+    if let Some(regs) = level {
+        regs.pc = regs.lr;
+    }
+}
+
+// The answer stands in r3.
+fn put_in_r3(level: &mut Option<Regs>, value: u32)
+    ensures { level.new ≡ option_map (in_r3 value) level.old }
+{
+    if let Some(regs) = level {
+        regs.gpr[3] = value;
+    }
+}
+
+// The caller goes on behind its gate.
+fn leave_gate(w: &mut World, who: &Actor)
+    requires { Acts w.old.kern who.now }
+    ensures world { world_seen ⟦<dyn Device as Device>⟧ w.new ≡ left_gate (world_seen ⟦<dyn Device as Device>⟧ w.old) who.now }
+    ensures out { w.new.out ≡ w.old.out }
+{
+    match who {
+        Actor::Task(id) => w.kern.leave_gate(*id),
+        Actor::Interrupt => past_gate(&mut w.level),
+    }
+}
+
+// The caller is answered in r3.
+fn give_answer(w: &mut World, who: &Actor, value: u32)
+    requires { Acts w.old.kern who.now }
+    ensures world { world_seen ⟦<dyn Device as Device>⟧ w.new ≡ with_answer (world_seen ⟦<dyn Device as Device>⟧ w.old) who.now value }
+    ensures out { w.new.out ≡ w.old.out }
+{
+    match who {
+        Actor::Task(id) => w.kern.answer(*id, value),
+        Actor::Interrupt => put_in_r3(&mut w.level, value),
+    }
+}
+
+// The caller is answered; one that pends is answered later.
+fn reply_to(w: &mut World, gate: Gate, who: &Actor, reply: &Reply)
+    requires { Acts w.old.kern who.now }
+    ensures world { world_seen ⟦<dyn Device as Device>⟧ w.new ≡ replied gate (world_seen ⟦<dyn Device as Device>⟧ w.old) who.now reply.now }
+    ensures out { w.new.out ≡ w.old.out }
+{
+    match reply {
+        Reply::Answer(value) => give_answer(w, who, *value),
+        Reply::Refusal(errno) => {
+            set_errno(w, who, errno.number());
+            give_answer(w, who, refusal_word(gate));
+        }
+        Reply::Later => {}
+    }
+}
+
+// What the board is told of a reply.
+fn told(reply: &Reply) -> Called
+    ensures { result ≡ (if is_later reply.now then called.Pended else called.Done) }
+{
+    match reply {
+        Reply::Later => Called::Pended,
+        _ => Called::Done,
+    }
+}
+
+// What a call makes, before its caller is answered: it goes on behind its gate, and the effect is made. For want of
+// memory nothing changes.
+fn make(alloc: Global, w: &mut World, gate: Gate, who: &Actor) -> Result<Reply, NoMemory>
+    requires built { is_built gate ≡ true }
+    requires caller { Acts w.old.kern who.now }
+    requires kept { IsWorld (world_with [] w.old) }
+    requires early { IsEarly (world_with [] w.old) }
+    requires room { 4096 ≤ w.old.out.room }
+    ensures ok { IfOk result (λ r. with_reply (world_seen ⟦<dyn Device as Device>⟧ w.new) r ≡ made gate (world_seen ⟦<dyn Device as Device>⟧ w.old) who.now) }
+    ensures memory { OnErr result (may_lack_memory_lem gate ≡ true) }
+    ensures err { OnErr result (world_seen ⟦<dyn Device as Device>⟧ w.new ≡ world_seen ⟦<dyn Device as Device>⟧ w.old) }
+    ensures space { KeepsSpace w.old.out w.new.out }
+{
+    if let Some(errno) = refusal_before(gate, who) {
+        leave_gate(w, who);
+        return Ok(Reply::Refusal(errno));
+    }
+    let regs = caller_regs(&w.kern, &w.level, who);
+    if may_lack_memory(gate) {
+        let reply = lacking_row(alloc, w, gate, &regs.gpr)?;
+        leave_gate(w, who);
+        return Ok(reply);
+    }
+    leave_gate(w, who);
+    Ok(plain_row(w, gate, *who, &regs.gpr))
+}
+
+/// Makes a call of the kernel by its gate: the caller goes on behind its gate, the effect of the gate's row is made, and
+/// the caller is answered in r3, at once or at the end of its wait. Host memory may run out only at `symAdd`, and the
+/// world is then as it was.
+pub fn kernel_call(alloc: Global, w: &mut World, gate: Gate, who: &Actor) -> Called
+    requires built { is_built gate ≡ true }
+    requires caller { Acts w.old.kern who.now }
+    requires kept { IsWorld (world_with [] w.old) }
+    requires early { IsEarly (world_with [] w.old) }
+    requires room { 4096 ≤ w.old.out.room }
+    ensures made { result ≢ called.NoMemory → world_seen ⟦<dyn Device as Device>⟧ w.new ≡ call gate (world_seen ⟦<dyn Device as Device>⟧ w.old) who.now }
+    ensures answer { result ≢ called.NoMemory → result ≡ (if pends gate (world_seen ⟦<dyn Device as Device>⟧ w.old) who.now then called.Pended else called.Done) }
+    ensures memory { result ≡ called.NoMemory → may_lack_memory_lem gate ≡ true }
+    ensures unchanged { result ≡ called.NoMemory → world_seen ⟦<dyn Device as Device>⟧ w.new ≡ world_seen ⟦<dyn Device as Device>⟧ w.old }
+    ensures kept { IsWorld (world_with [] w.new) }
+    ensures space { KeepsSpace w.old.out w.new.out }
+{
+    let Ok(reply) = make(alloc, w, gate, who) else {
+        return Called::NoMemory;
+    };
+    reply_to(w, gate, who, &reply);
+    told(&reply)
+}
