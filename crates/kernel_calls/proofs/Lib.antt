@@ -5,3 +5,4 @@ pub mod Stacks
 pub mod TaskMoves
 pub mod Advancing
 pub mod Serving
+pub mod Opened

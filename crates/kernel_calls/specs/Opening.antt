@@ -54,9 +54,13 @@ abbrev pub symbols_of_gate : Gate → List Symbol
 symbols_of_gate g = if is_built g then symbol_if_named g (gate_name (gate_number g)) else []
 
 -- the symbols of the calls that are built, in the order of their gates
-unfoldable pub gate_symbols : List Gate → List Symbol
+abbrev pub gate_symbols : List Gate → List Symbol
 gate_symbols [] = []
 gate_symbols (g ∷ gs) = symbols_of_gate g ++ gate_symbols gs
+
+-- so many zeros
+unfoldable pub zeros : ℕ → List ℕ
+zeros n = replicate n 0
 
 -- the world at the start, over these devices
 unfoldable pub opening_world : List (Option DeviceState) → WorldState
@@ -64,7 +68,7 @@ opening_world slots = record {
   kern = opening_kern;
   part = opening_part;
   symbols = gate_symbols gates;
-  ram = replicate ram_bytes 0;
+  ram = zeros ram_bytes;
   slots = slots;
   output = [];
   names = 1;

@@ -2,8 +2,10 @@
 #![tactic(auto)]
 
 mod actor;
+mod boot;
 mod calls;
 mod gates;
+mod laws;
 mod memory_rows;
 mod reply;
 mod rows;
@@ -16,5 +18,6 @@ mod world;
 pub use actor::{Actor, caller_regs};
 pub use calls::{Called, kernel_call};
 pub use gates::{is_built, may_lack_memory};
+pub use laws::world_law;
 pub use starting::{put_frame, starting_regs};
 pub use world::World;

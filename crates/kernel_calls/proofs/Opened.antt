@@ -1,0 +1,119 @@
+-- The world at the start has the kept facts.
+use Rattle.std.proofs.Common.{◌≡◌, ℕ, true, false, not, cond, leb, ◌+◌, ◌<◌, ◌≤◌, List, [], ◌∷◌, length, Option, Some, None, Result, Ok, Err, refl, sym, ap, ◌∙◌, arith}
+use Rattle.std.specs.Prelude.{replicate}
+use Rattle.std.specs.Int.RustNames.{count_ones}
+use Rattle.std.proofs.lemmas.List.{length-replicate}
+use Rattle.std.proofs.lemmas.List.Elements.{All-cons}
+use Rattle.std.proofs.lemmas.List.Kept.{AllPairs-cons}
+use Rattle.wind_base.specs.Limits.{pool_start, ram_bytes, most_blocks}
+use Rattle.wind_base.specs.Gates.{gates, gate_name, names}
+use Rattle.mem_partition.specs.Place.{aligned, rounded, place}
+use Rattle.mem_partition.specs.State.{PartState, is_align, found_or, alloc_of, after_alloc}
+use Rattle.mem_partition.specs.declared.block.PartErr.TheVariants as errors
+use Rattle.mem_partition.specs.declared.block.Block.{Block}
+use Rattle.mem_partition.specs.declared.block.Class.TheVariants.{Kernel}
+use Rattle.mem_partition.proofs.Places.{gap_place}
+use Rattle.mem_partition.proofs.Allocs.{after_is}
+use Rattle.wind_core.specs.State.{IsKern}
+use Rattle.wind_core.proofs.Keeping.{every_call_keeps}
+use Rattle.kernel_calls.specs.Opening.{empty_kern, shell_record, opening_part, stack_block, gate_symbols, zeros, opening_world}
+use Rattle.kernel_calls.specs.Kept.{IsKernels, AreStacks}
+use Rattle.kernel_calls.specs.Laws.{OpeningLaw}
+
+-- the pool with these blocks
+abbrev pub pool : List Block → PartState
+pool bs = record { start = pool_start; end = ram_bytes; room = most_blocks; blocks = bs }
+
+place_first : place 65536 16777216 [] 20000 16 ≡ Some 65536
+unfolding place rounded aligned
+place_first = sym (gap_place 65536 16777216 [] 20000 16 (omega arith) (omega arith) tt)
+
+sixteen : is_align 16 ≡ true
+unfolding count_ones
+sixteen = refl
+
+-- with an alignment of 16 and room for a block, the place is the answer
+given_place : (p : PartState) (n at : ℕ) → leb p.room (length p.blocks) ≡ false → place p.start p.end p.blocks n 16 ≡ Some at → alloc_of p n 16 ≡ Ok at
+unfolding alloc_of
+given_place p n at room e =
+    ap (λ t. cond (not t) (Err errors.BadAlign) (cond (leb p.room (length p.blocks)) (Err errors.BlocksFull) (found_or errors.NoRoom (place p.start p.end p.blocks n 16)))) sixteen
+    ∙ ap (λ t. cond t (Err errors.BlocksFull) (found_or errors.NoRoom (place p.start p.end p.blocks n 16))) room
+    ∙ ap (found_or errors.NoRoom) e
+
+pub first_stack : alloc_of (pool []) 20000 16 ≡ Ok 65536
+first_stack = given_place (pool []) 20000 65536 refl place_first
+
+rounded_first : rounded 20000 ≡ 20000
+unfolding rounded aligned
+rounded_first = refl
+
+pub after_first : after_alloc (pool []) 20000 16 Kernel ≡ pool (stack_block 65536 20000 ∷ [])
+after_first = after_is (pool []) 20000 16 65536 Kernel first_stack ∙ ap (λ n. pool (stack_block 65536 n ∷ [])) rounded_first
+
+place_second : place 65536 16777216 (stack_block 65536 20000 ∷ []) 4096 16 ≡ Some 85536
+unfolding place rounded aligned
+place_second = sym (gap_place 65536 16777216 (stack_block 65536 20000 ∷ []) 4096 16 (omega arith) (omega arith) (omega arith, omega arith, omega arith, tt))
+
+pub second_stack : alloc_of (pool (stack_block 65536 20000 ∷ [])) 4096 16 ≡ Ok 85536
+second_stack = given_place (pool (stack_block 65536 20000 ∷ [])) 4096 85536 refl place_second
+
+rounded_second : rounded 4096 ≡ 4096
+unfolding rounded aligned
+rounded_second = refl
+
+pub after_second : after_alloc (pool (stack_block 65536 20000 ∷ [])) 4096 16 Kernel ≡ opening_part
+after_second =
+    after_is (pool (stack_block 65536 20000 ∷ [])) 4096 16 85536 Kernel second_stack
+    ∙ ap (λ n. pool (stack_block 65536 20000 ∷ stack_block 85536 n ∷ [])) rounded_second
+
+pub count_gates : length gates ≡ 52
+unfolding gates
+count_gates = refl
+
+pub zeros_is : (n : ℕ) → replicate n 0 ≡ zeros n
+unfolding zeros
+zeros_is n = refl
+
+length-zeros : (n : ℕ) → length (zeros n) ≡ n
+unfolding zeros
+length-zeros n = length-replicate n 0
+
+symbols_few : length (gate_symbols gates) ≤ 65536
+unfolding gates gate_name names
+symbols_few = omega arith
+
+empty_keeps : IsKern empty_kern
+empty_keeps = record {
+  few = omega arith;
+  rising = λ i j d lt within. absurd (omega arith);
+  ids = λ i d within. absurd (omega arith);
+  first_id = omega arith;
+  last_id = omega arith;
+  distinct = λ i j d lt within. absurd (omega arith);
+  sinces = λ i d within. absurd (omega arith);
+  ahead = λ i d within. absurd (omega arith);
+}
+
+two_apart : AreStacks opening_part (85536 ∷ 65536 ∷ [])
+two_apart = record {
+  kernels = All-cons (IsKernels opening_part) 85536 (65536 ∷ []) refl (All-cons (IsKernels opening_part) 65536 [] refl (λ i d within. absurd (omega arith)));
+  apart = AllPairs-cons (λ a b. a ≡ b → ⊥) 85536 (65536 ∷ [])
+      (All-cons (λ b. 85536 ≡ b → ⊥) 65536 [] (λ e. omega arith) (λ i d within. absurd (omega arith)))
+      (λ i j d lt within. absurd (omega arith));
+}
+
+pub opens : OpeningLaw
+unfolding opening_world
+opens slots = record {
+  kern = (every_call_keeps empty_kern empty_keeps).spawning shell_record refl;
+  home = refl;
+  pool = record {
+    blocks = record { laid = (omega arith, omega arith, omega arith, (omega arith, omega arith, omega arith, tt)); few = omega arith; bound = omega arith };
+    start = refl;
+    end = refl;
+    room = refl;
+  };
+  stacks = two_apart;
+  ram = length-zeros ram_bytes;
+  symbols = symbols_few;
+}

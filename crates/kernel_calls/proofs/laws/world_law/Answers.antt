@@ -1,0 +1,9 @@
+use Rattle.kernel_calls.proofs.Opened.{opens}
+use Rattle.kernel_calls.proofs.Advancing.{call_advances}
+use Rattle.kernel_calls.proofs.laws.world_law.Goals as goal
+
+pub returns-clause-opening : goal.returns-clause-opening
+returns-clause-opening c = opens
+
+pub returns-clause-call : goal.returns-clause-call
+returns-clause-call c = call_advances

@@ -1,0 +1,10 @@
+//! What follows of the definitions of the calls alone.
+
+ghost use Rattle.kernel_calls.specs.Laws.{OpeningLaw, CallLaw};
+
+/// The law of the kept facts: the world at the start has them, and every call keeps them, whoever makes it. Tasks that
+/// live live on, and a call gives out few numbers.
+pub fn world_law()
+    ensures opening { OpeningLaw }
+    ensures call { CallLaw }
+{}
