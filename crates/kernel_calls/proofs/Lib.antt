@@ -6,3 +6,4 @@ pub mod TaskMoves
 pub mod Advancing
 pub mod Serving
 pub mod Opened
+pub mod Departing

@@ -5,6 +5,7 @@ use Rattle.wind_outside.specs.Devices.{DeviceState}
 use Rattle.wind_core.specs.State.{Lives}
 use Rattle.kernel_calls.specs.State.{WorldState}
 use Rattle.kernel_calls.specs.Calls.{call}
+use Rattle.kernel_calls.specs.Ending.{ended}
 use Rattle.kernel_calls.specs.Opening.{opening_world}
 use Rattle.kernel_calls.specs.Kept.{IsWorld, LocksWithin}
 use Rattle.kernel_calls.specs.declared.actor.Actor.{Actor}
@@ -25,3 +26,15 @@ OpeningLaw = (slots : List (Option DeviceState)) → IsWorld (opening_world slot
 -- every call keeps them, whoever makes it
 abbrev pub CallLaw : Type 0
 CallLaw = (g : Gate) (w : WorldState) (a : Actor) (n : ℕ) → IsWorld w → LocksWithin n w.kern → Advances w (call g w a) (n + 1) 2 1
+
+-- so does the end of a task; the others live on, and no counter goes on
+pub record Ends (w v : WorldState) (who n : ℕ) : Type 0 where
+  pub kept : IsWorld v
+  pub lives : (id : ℕ) → (id ≡ who → ⊥) → Lives w.kern id → Lives v.kern id
+  pub locks : LocksWithin n v.kern
+  pub sinces : v.kern.next_since ≡ w.kern.next_since
+  pub count : v.kern.tick ≡ w.kern.tick
+  pub names : v.names ≡ w.names
+
+abbrev pub EndLaw : Type 0
+EndLaw = (w : WorldState) (who n : ℕ) → IsWorld w → LocksWithin n w.kern → Ends w (ended w who) who n

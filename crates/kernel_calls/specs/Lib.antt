@@ -10,3 +10,4 @@ pub mod Seen
 pub mod Opening
 pub mod Kept
 pub mod Laws
+pub mod Ending

@@ -1,10 +1,11 @@
 //! What follows of the definitions of the calls alone.
 
-ghost use Rattle.kernel_calls.specs.Laws.{OpeningLaw, CallLaw};
+ghost use Rattle.kernel_calls.specs.Laws.{OpeningLaw, CallLaw, EndLaw};
 
 /// The law of the kept facts: the world at the start has them, and every call keeps them, whoever makes it. Tasks that
-/// live live on, and a call gives out few numbers.
+/// live live on, and a call gives out few numbers. The end of a task keeps them too.
 pub fn world_law()
     ensures opening { OpeningLaw }
     ensures call { CallLaw }
+    ensures end { EndLaw }
 {}

@@ -4,6 +4,7 @@
 mod actor;
 mod boot;
 mod calls;
+mod ending;
 mod gates;
 mod laws;
 mod memory_rows;
@@ -17,6 +18,7 @@ mod world;
 
 pub use actor::{Actor, caller_regs};
 pub use calls::{Called, kernel_call};
+pub use ending::end_task;
 pub use gates::{is_built, may_lack_memory};
 pub use laws::world_law;
 pub use starting::{put_frame, starting_regs};

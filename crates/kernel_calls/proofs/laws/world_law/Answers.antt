@@ -1,5 +1,6 @@
 use Rattle.kernel_calls.proofs.Opened.{opens}
 use Rattle.kernel_calls.proofs.Advancing.{call_advances}
+use Rattle.kernel_calls.proofs.Departing.{ends}
 use Rattle.kernel_calls.proofs.laws.world_law.Goals as goal
 
 pub returns-clause-opening : goal.returns-clause-opening
@@ -7,3 +8,6 @@ returns-clause-opening c = opens
 
 pub returns-clause-call : goal.returns-clause-call
 returns-clause-call c = call_advances
+
+pub returns-clause-end : goal.returns-clause-end
+returns-clause-end c = ends

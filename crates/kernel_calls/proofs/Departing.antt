@@ -1,0 +1,139 @@
+-- What the end of a task keeps.
+use Rattle.std.proofs.Common.{◌≡◌, ℕ, zero, suc, ◌+◌, ◌<◌, ◌≤◌, Bool, true, false, not, cond, eqb, List, [], ◌∷◌, length, get_or, map, Option, Some, None, IsSome, refl, sym, ap, ◌∙◌, subst, arith}
+use Rattle.std.specs.List.{All, AllPairs, filter, find}
+use Rattle.std.proofs.lemmas.Bool.{eqb-true, ne_eqb}
+use Rattle.std.proofs.lemmas.List.Elements.{All-head, All-tail, All-cons, All-filter}
+use Rattle.std.proofs.lemmas.List.Kept.{AllPairs-cons}
+use Rattle.mem_partition.specs.State.{PartState, after_free}
+use Rattle.mem_partition.specs.declared.block.Class.TheVariants.{Kernel}
+use Rattle.task_block.specs.declared.task.Task.{Task}
+use Rattle.wind_lists.specs.Records.{without}
+use Rattle.wind_core.specs.State.{KernState, task_id, task_of}
+use Rattle.wind_core.specs.Moves.{remove}
+use Rattle.wind_core.proofs.Keeping.{every_call_keeps}
+use Rattle.kernel_calls.specs.State.{WorldState}
+use Rattle.kernel_calls.specs.Ending.{without_stack, ended}
+use Rattle.kernel_calls.specs.Opening.{interrupt_stack}
+use Rattle.kernel_calls.specs.Kept.{KeepsPool, IsKernels, AreStacks, task_stacks, IsWorld, LocksWithin}
+use Rattle.kernel_calls.specs.Laws.{Ends, EndLaw}
+use Rattle.kernel_calls.proofs.Stacks.{pool-free, kernels-other}
+
+-- the stacks of tasks
+abbrev stacks : List Task → List ℕ
+stacks ts = map (λ t. t.stack) ts
+
+
+-- what holds of each stack holds of fewer
+fewer : (P : ℕ → Type 0) (ts : List Task) (who : ℕ) → All P (stacks ts) → All P (stacks (without task_id ts who))
+fewer P [] who all = all
+fewer P (t ∷ ts) who all =
+    let head : P t.stack = All-head P t.stack (stacks ts) all in
+    let tail : All P (stacks ts) = All-tail P t.stack (stacks ts) all in
+    elim (eqb t.id who) as (λ b. All P (stacks (cond (not b) (t ∷ without task_id ts who) (without task_id ts who)))) [
+      | true ↦ fewer P ts who tail
+      | false ↦ All-cons P t.stack (stacks (without task_id ts who)) head (fewer P ts who tail)
+    ]
+
+-- the first of a list differs from all others, and these from each other
+
+first_differs : (a : ℕ) (more : List ℕ) → AllPairs (λ x y. x ≡ y → ⊥) (a ∷ more) → All (λ b. a ≡ b → ⊥) more
+first_differs a more pairs k d within = pairs 0 (suc k) d (omega arith) (omega arith)
+
+others_differ : (a : ℕ) (more : List ℕ) → AllPairs (λ x y. x ≡ y → ⊥) (a ∷ more) → AllPairs (λ x y. x ≡ y → ⊥) more
+others_differ a more pairs i j d lt within = pairs (suc i) (suc j) d (omega arith) (omega arith)
+
+fewer_differ : (ts : List Task) (who : ℕ) → AllPairs (λ x y. x ≡ y → ⊥) (stacks ts) → AllPairs (λ x y. x ≡ y → ⊥) (stacks (without task_id ts who))
+fewer_differ [] who pairs = pairs
+fewer_differ (t ∷ ts) who pairs =
+    let head = first_differs t.stack (stacks ts) pairs in
+    let tail = fewer_differ ts who (others_differ t.stack (stacks ts) pairs) in
+    elim (eqb t.id who) as (λ b. AllPairs (λ x y. x ≡ y → ⊥) (stacks (cond (not b) (t ∷ without task_id ts who) (without task_id ts who)))) [
+      | true ↦ tail
+      | false ↦ AllPairs-cons (λ x y. x ≡ y → ⊥) t.stack (stacks (without task_id ts who)) (fewer (λ b. t.stack ≡ b → ⊥) ts who head) tail
+    ]
+
+-- what holds of each stack holds of that of a task that lives
+of_found : (P : ℕ → Type 0) (ts : List Task) (who : ℕ) (t : Task) → All P (stacks ts) → task_of ts who ≡ Some t → P t.stack
+of_found P [] who t all e = absurd (cc)
+of_found P (u ∷ us) who t all e =
+    elim (eqb u.id who) as (λ b. cond b (Some u) (task_of us who) ≡ Some t → P t.stack) [
+      | true ↦ λ same. let one : u ≡ t = some_one u t same in subst (λ (x : Task). P x.stack) one (All-head P u.stack (stacks us) all)
+      | false ↦ λ rest. of_found P us who t (All-tail P u.stack (stacks us) all) rest
+    ] e
+  where
+    some_one : (a b : Task) → Some a ≡ Some b → a ≡ b
+    some_one a b h = cc
+
+-- the stacks of the others are not that of the task that goes
+none_same : (ts : List Task) (who : ℕ) (t : Task) → AllPairs (λ x y. x ≡ y → ⊥) (stacks ts) → task_of ts who ≡ Some t → All (λ a. a ≡ t.stack → ⊥) (stacks (without task_id ts who))
+none_same [] who t pairs e = absurd (cc)
+none_same (u ∷ us) who t pairs e =
+    let head = first_differs u.stack (stacks us) pairs in
+    let tail = others_differ u.stack (stacks us) pairs in
+    elim (eqb u.id who) as (λ b. cond b (Some u) (task_of us who) ≡ Some t → All (λ a. a ≡ t.stack → ⊥) (stacks (cond (not b) (u ∷ without task_id us who) (without task_id us who)))) [
+      | true ↦ λ same.
+          let one : u ≡ t = some_one u t same in
+          fewer (λ a. a ≡ t.stack → ⊥) us who (λ k d within h. head k d within (ap (λ (x : Task). x.stack) one ∙ sym h))
+      | false ↦ λ rest.
+          All-cons (λ a. a ≡ t.stack → ⊥) u.stack (stacks (without task_id us who)) (of_found (λ b. u.stack ≡ b → ⊥) us who t head rest) (none_same us who t tail rest)
+    ] e
+  where
+    some_one : (a b : Task) → Some a ≡ Some b → a ≡ b
+    some_one a b h = cc
+
+all_with : (P Q : ℕ → Type 0) (R : ℕ → Type 0) (xs : List ℕ) → ((a : ℕ) → P a → Q a → R a) → All P xs → All Q xs → All R xs
+all_with P Q R xs f p q k d within = f (get_or xs k d) (p k d within) (q k d within)
+
+-- who is another lives on
+others_live : (ts : List Task) (who id : ℕ) → (id ≡ who → ⊥) → IsSome (task_of ts id) → IsSome (task_of (without task_id ts who) id)
+others_live [] who id differ h = h
+others_live (t ∷ ts) who id differ h =
+    elim (eqb t.id who) as (λ b. eqb t.id who ≡ b → IsSome (task_of (cond (not b) (t ∷ without task_id ts who) (without task_id ts who)) id)) [
+      | true ↦ λ e.
+          let other : eqb t.id id ≡ false = ne_eqb t.id id (λ same. differ (sym same ∙ eqb-true t.id who e)) in
+          others_live ts who id differ (subst (λ b. IsSome (cond b (Some t) (task_of ts id))) other h)
+      | false ↦ λ e.
+          elim (eqb t.id id) as (λ b. IsSome (cond b (Some t) (task_of ts id)) → IsSome (cond b (Some t) (task_of (without task_id ts who) id))) [
+            | true ↦ λ k. refl
+            | false ↦ λ k. others_live ts who id differ k
+          ] h
+    ] refl
+
+stacks_left : (p : PartState) (ts : List Task) (who : ℕ) (o : Option Task) → task_of ts who ≡ o → AreStacks p (interrupt_stack ∷ stacks ts) → AreStacks (without_stack p o) (interrupt_stack ∷ stacks (without task_id ts who))
+stacks_left p ts who None e s = record {
+  kernels = All-cons (IsKernels p) interrupt_stack (stacks (without task_id ts who)) (All-head (IsKernels p) interrupt_stack (stacks ts) s.kernels)
+      (fewer (IsKernels p) ts who (All-tail (IsKernels p) interrupt_stack (stacks ts) s.kernels));
+  apart = AllPairs-cons (λ x y. x ≡ y → ⊥) interrupt_stack (stacks (without task_id ts who)) (fewer (λ b. interrupt_stack ≡ b → ⊥) ts who (first_differs interrupt_stack (stacks ts) s.apart))
+      (fewer_differ ts who (others_differ interrupt_stack (stacks ts) s.apart));
+}
+stacks_left p ts who (Some t) e s =
+    let pairs = others_differ interrupt_stack (stacks ts) s.apart in
+    let above = first_differs interrupt_stack (stacks ts) s.apart in
+    let kernels = fewer (IsKernels p) ts who (All-tail (IsKernels p) interrupt_stack (stacks ts) s.kernels) in
+    record {
+      kernels = All-cons (IsKernels (after_free p t.stack Kernel)) interrupt_stack (stacks (without task_id ts who))
+          (kernels-other p t.stack interrupt_stack (of_found (λ b. interrupt_stack ≡ b → ⊥) ts who t above e) (All-head (IsKernels p) interrupt_stack (stacks ts) s.kernels))
+          (all_with (IsKernels p) (λ a. a ≡ t.stack → ⊥) (IsKernels (after_free p t.stack Kernel)) (stacks (without task_id ts who)) (λ a h differ. kernels-other p t.stack a differ h) kernels (none_same ts who t pairs e));
+      apart = AllPairs-cons (λ x y. x ≡ y → ⊥) interrupt_stack (stacks (without task_id ts who)) (fewer (λ b. interrupt_stack ≡ b → ⊥) ts who above) (fewer_differ ts who pairs);
+    }
+
+pool_left : (p : PartState) (o : Option Task) → KeepsPool p → KeepsPool (without_stack p o)
+pool_left p None k = k
+pool_left p (Some t) k = pool-free p t.stack Kernel k
+
+pub ends : EndLaw
+ends w who n kept within = record {
+  kept = record {
+    kern = (every_call_keeps w.kern kept.kern).removing who;
+    home = kept.home;
+    pool = pool_left w.part (task_of w.kern.tasks who) kept.pool;
+    stacks = stacks_left w.part w.kern.tasks who (task_of w.kern.tasks who) refl kept.stacks;
+    ram = kept.ram;
+    symbols = kept.symbols;
+  };
+  lives = λ id differ live. others_live w.kern.tasks who id differ live;
+  locks = All-filter (λ t. not (eqb t.id who)) (λ t. t.locks ≤ n) w.kern.tasks within;
+  sinces = refl;
+  count = refl;
+  names = refl;
+}
