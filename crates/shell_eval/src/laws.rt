@@ -1,13 +1,12 @@
-//! What follows of the definitions alone, whatever the code does.
+//! Laws of the definitions.
 
-ghost use Rattle.shell_eval.specs.Laws.{FewerLaw, OverLaw, SameLaw, BuiltLaw};
+ghost use Rattle.shell_eval.specs.Laws.{SmallerLaw, RepeatsLaw, CallLaw, FillLaw};
 
-/// The law of evaluation: a due call that is filled in is one call fewer, so that evaluation ends; a statement
-/// without a due call and without an unknown callee has no call; where no call is due, nothing is filled in; and
-/// a due call is built, and has ten words.
+/// Each reduction makes the tree smaller, and evaluation repeats it.
 pub fn evaluation_law()
-    ensures fewer { FewerLaw }
-    ensures over { OverLaw }
-    ensures same { SameLaw }
-    ensures built { BuiltLaw }
-{}
+    ensures smaller { SmallerLaw }
+    ensures repeats { RepeatsLaw }
+    ensures call { CallLaw }
+    ensures fill { FillLaw }
+{
+}

@@ -1,6 +1,6 @@
-use Rattle.shell_eval.proofs.Calls.{fewer, over, same}
-use Rattle.shell_eval.proofs.Built.{all_built}
+use Rattle.shell_eval.proofs.Smaller.{smaller, repeats}
+use Rattle.shell_eval.proofs.CallLaws.{calls_leave, fills_holes}
 use Rattle.shell_eval.proofs.laws.evaluation_law.Goals as goal
 
 pub returns : goal.returns
-returns c = record { fewer = fewer; over = over; same = same; built = all_built }
+returns c = record { smaller = smaller; repeats = repeats; call = calls_leave; fill = fills_holes }
