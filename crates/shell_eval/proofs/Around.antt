@@ -7,8 +7,9 @@ use Rattle.shell_eval.specs.declared.code.Turn.{Turn}
 use Rattle.shell_eval.specs.declared.code.Turn.TheVariants as turns
 use Rattle.shell_eval.specs.declared.code.Entry.{Entry}
 use Rattle.shell_eval.specs.declared.code.Entry.TheVariants as entries
+use Rattle.shell_eval.specs.Operators.{before_word}
 use Rattle.shell_eval.specs.State.{State}
-use Rattle.shell_eval.specs.Words.{combined, before_word, word_read, word_stored, variable_made}
+use Rattle.shell_eval.specs.Words.{combined, word_read, word_stored, variable_made}
 use Rattle.shell_eval.specs.Pending.{Pending, Number, Lone, Word, Unary, Binary, Choice, SetName, SetWord, New, Call, Hole, Args, End, Then, Logic, All, Any, begun, begun_all}
 use Rattle.shell_eval.specs.Reduce.{Outcome, Is, Steps, Calls, Faults, Waits, reduce, reduce_all, within, given, padded, chosen, set_at}
 use Rattle.shell_eval.specs.Code.{turned}

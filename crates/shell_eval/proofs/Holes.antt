@@ -7,8 +7,8 @@ use Rattle.shell_eval.specs.declared.code.Entry.{Entry}
 use Rattle.shell_eval.specs.declared.code.Entry.TheVariants as entries
 use Rattle.shell_parse.specs.Trees as trees
 use Rattle.shell_parse.specs.Trees.{PlainTree, Arguments}
-use Rattle.shell_eval.specs.Pending.{Pending, Number, Word, Unary, Binary, Choice, SetName, SetWord, New, Call, Hole, Args, End, Then, Logic, All, Any, logic_of, two_sided, begun, begun_all, filled, filled_all}
-use Rattle.shell_eval.specs.Laws.{holes, holes_all}
+use Rattle.shell_eval.specs.Pending.{Pending, Number, Word, Unary, Binary, Choice, SetName, SetWord, New, Call, Hole, Args, End, Then, Logic, All, Any, logic_of, two_sided, begun, begun_all, begun_expr, begun_stmt, filled, filled_all}
+use Rattle.shell_eval.specs.Laws.{holes, holes_all, BegunLaw}
 use Rattle.shell_eval.specs.Code.{turned}
 use Rattle.shell_eval.specs.Frames.{Frame, InWord, InUnary, OnLeft, OnRight, OnTurn, Over, AsCallee, AsArgument, over, before, plugged}
 
@@ -118,3 +118,22 @@ filled_round v (AsArgument callee vs es ∷ fs) t =
     filled_round v fs (Call (Number callee) (before vs (Then t (begun_all es))))
     ∙ (ap (λ c. plugged fs (Call (Number callee) c)) (filled_before v vs (Then t (begun_all es)))
     ∙ ap (λ c. plugged fs (Call (Number callee) (before vs (Then (filled v t) c)))) (all_filled v es))
+
+-- a statement has no hole
+no_hole_expr : (t : PlainTree) → holes (begun_expr t) ≡ 0
+no_hole_expr (trees.Name x) = refl
+no_hole_expr (trees.Number n) = refl
+no_hole_expr (trees.Str b) = refl
+no_hole_expr (trees.Address x) = refl
+no_hole_expr (trees.Word a) = no_hole (trees.Word a)
+no_hole_expr (trees.Unary o a) = no_hole (trees.Unary o a)
+no_hole_expr (trees.Binary o a b) = no_hole (trees.Binary o a b)
+no_hole_expr (trees.SetName aop x e) = no_hole (trees.SetName aop x e)
+no_hole_expr (trees.SetWord aop a e) = no_hole (trees.SetWord aop a e)
+no_hole_expr (trees.Call f es) = no_hole (trees.Call f es)
+
+pub begun_whole : BegunLaw
+begun_whole trees.Nothing = refl
+begun_whole (trees.Load file) = refl
+begun_whole (trees.Command x es) = no_holes es
+begun_whole (trees.Expr t) = no_hole_expr t

@@ -7,8 +7,10 @@ use Rattle.symbol_table.specs.declared.symbol.SymKind.{SymKind}
 use Rattle.symbol_table.specs.declared.symbol.SymKind.TheVariants.{TextSym, DataSym, BssSym, AbsSym}
 use Rattle.shell_eval.specs.declared.fault.EvalFault.TheVariants.{AccessAt}
 use Rattle.symbol_table.specs.Newest.{find}
+use Rattle.ppc_core.specs.Words.{bit}
+use Rattle.shell_eval.specs.Operators.{before_word}
 use Rattle.shell_eval.specs.State.{State}
-use Rattle.shell_eval.specs.Words.{Made, Tried, number_of, before_word, combined, word_read, word_stored, is_value, name_word, name_value, string_made, variable_made}
+use Rattle.shell_eval.specs.Words.{Made, Tried, combined, word_read, word_stored, is_value, name_word, name_value, string_made, variable_made}
 use Rattle.shell_eval.specs.Pending.{Pending, Number, Str, Name, Lone, Address, Word, Unary, Binary, Choice, SetName, SetWord, New, Call, Hole, Args, End, Then, Logic, All, Any, weight, weight_all}
 use Rattle.shell_eval.specs.Reduce.{Outcome, Is, Steps, Calls, Faults, Waits, reduce, reduce_all, within, given, padded, decides, chosen, lone_by, lone, kind_or_data, old_read, resolved, left_by, set_at}
 use Rattle.shell_eval.specs.Evaluate.{Evaluated, Fault, goes_on, reduced, evaluate}
@@ -78,7 +80,7 @@ mutual
   lessens s (Number n) = tt
   lessens s (Str b) = less_given 1 (string_made s b) (omega arith)
   lessens s (Name x) = less_given 1 (name_word s x) (omega arith)
-  lessens s (Lone x) = less_lone s x (newest x s.symbols) (kind_or_data (newest x s.symbols))
+  lessens s (Lone x) = less_lone s x (find s.symbols x) (kind_or_data (find s.symbols x))
   lessens s (Address x) = less_given 1 (name_value s x) (omega arith)
   lessens s (Word a) =
       less_within (weight a) (weight a + 1) weight weight (reduce s a) Word (λ n. given (word_read s n)) (lessens s a) (λ t l. omega arith)
@@ -94,7 +96,7 @@ mutual
   lessens s (Choice w a b) =
       less_within (weight a) (weight a + weight b + 2) weight weight (reduce s a) (λ t. Choice w t b) (λ n. Steps s (chosen w n b)) (lessens s a)
       (λ t l. omega arith) (λ n. less_chosen (weight a + weight b + 2) s (decides w n) _ b (omega arith))
-  lessens s (SetName aop x e) = less_left s aop x e (newest x s.symbols)
+  lessens s (SetName aop x e) = less_left s aop x e (find s.symbols x)
   lessens s (SetWord aop a e) =
       less_within (weight a) (weight (SetWord aop a e)) weight weight (reduce s a) (λ t. SetWord aop t e) (λ at. set_at s aop at e (reduce s e)) (lessens s a)
       (λ t l. set_less aop a e t l) (λ at. less_set s aop a at e (reduce s e) (lessens s e))

@@ -99,7 +99,6 @@ pub came_at : (r : Went) (s : State) (c : List Op) (st : List Entry) → came r 
 came_at (went.Value n) s c st = refl
 came_at (went.Call callee words) s c st = refl
 came_at (went.Fault f) s c st = refl
-came_at went.NoMemory s c st = refl
 
 -- how many answers are awaited
 pub holes_inside : (w : Bool) (c : List Op) (st : Entries) → IsEval w c st → holes (tree_at w c st.list) ≡ room_of w

@@ -18,8 +18,10 @@ use Rattle.symbol_table.specs.declared.symbol.Symbol.{Symbol}
 use Rattle.symbol_table.specs.declared.symbol.SymKind.{SymKind}
 use Rattle.symbol_table.specs.declared.symbol.SymKind.TheVariants.{TextSym, DataSym, BssSym, AbsSym}
 use Rattle.symbol_table.specs.Newest.{find}
+use Rattle.ppc_core.specs.Words.{bit}
+use Rattle.shell_eval.specs.Operators.{between_words, before_word}
 use Rattle.shell_eval.specs.State.{State}
-use Rattle.shell_eval.specs.Words.{Made, Tried, number_of, between_words, before_word, combined, combined_by, word_read, word_stored, is_value, name_word, name_value, string_made, variable_made}
+use Rattle.shell_eval.specs.Words.{Made, Tried, combined, combined_by, word_read, word_stored, is_value, name_word, name_value, string_made, variable_made}
 use Rattle.shell_parse.specs.Trees as trees
 use Rattle.shell_parse.specs.Trees.{PlainTree, Arguments}
 use Rattle.shell_eval.specs.Pending.{Pending, Number, Str, Name, Lone, Address, Word, Unary, Binary, Choice, SetName, SetWord, New, Call, Hole, Args, End, Then, Logic, All, Any, logic_of, two_sided, begun, begun_all}
@@ -27,7 +29,7 @@ use Rattle.shell_eval.specs.Reduce.{Outcome, Is, Steps, Calls, Faults, Waits, re
 use Rattle.shell_eval.specs.Evaluate.{Fault, ended, evaluate}
 use Rattle.shell_eval.specs.Evaluate.{Value as ValueEnd, Call as CallEnd}
 use Rattle.shell_eval.specs.Code.{compiled, compiled_all, count_onto, turn_of, turned, behind_left, items_of, shown}
-use Rattle.shell_eval.specs.Machine.{Moved, Ends, Goes, Makes, Stops, top_word, top_entry, below, pushes, argument, arguments, calls, alone_by, alone, mixes, places, left_step, decides_step, turn_step, mixed_step, close_step, op_step, move}
+use Rattle.shell_eval.specs.Machine.{Effect, Puts, Asks, Fails, Moved, Ends, Goes, Makes, Stops, onward, top_word, top_entry, below, pushes, argument, arguments, asks, alone_by, alone, mixes, places, left_effect, decides_step, turn_step, mixed_effect, close_effect, op_step, move}
 use Rattle.shell_eval.specs.Frames.{Frame, InWord, InUnary, OnLeft, OnRight, OnTurn, Over, AsCallee, AsArgument, Part, Source, Alone, Value, over, before, plugged, code_after, stack_under, words_onto, code_at, stack_at, part_tree, Stands, Awaits}
 use Rattle.shell_eval.specs.Follows.{tree_of, tree_with_hole, Goes_on, Comes_to_call, Follows}
 use Rattle.shell_eval.proofs.Shown.{shows_at, shows_part}
@@ -56,7 +58,7 @@ to_value : (fs : List Frame) (s : State) (t : Pending) (s' : State) (n : ℕ) �
 to_value fs s t s' n e = goes s (plugged fs t) s' (Value n) fs (stepped fs s t s' (Number n) e)
 
 -- a part becomes a value, or a fault
-to_given : (fs : List Frame) (s : State) (t : Pending) (r : Tried) → reduce s t ≡ given r → Follows s (plugged fs t) (pushes s r (code_after fs) (stack_under fs))
+to_given : (fs : List Frame) (s : State) (t : Pending) (r : Tried) → reduce s t ≡ given r → Follows s (plugged fs t) (onward (code_after fs) (pushes s r (stack_under fs)))
 to_given fs s t (Ok m) e = to_value fs s t m.state m.word e
 to_given fs s t (Err f) e = faulted fs s t f e
 
@@ -69,10 +71,10 @@ to_call fs s t f vs e = record {
 
 -- an assignment at a known address
 places_follow : (fs : List Frame) (s : State) (aop : Option BinOp) (at : ℕ) (e : PlainTree) (t : Pending) → reduce s t ≡ resolved s aop at (begun e) →
-    Follows s (plugged fs t) (places s aop at (compiled e (op.Close ∷ code_after fs)) (stack_under fs))
+    Follows s (plugged fs t) (onward (compiled e (op.Close ∷ code_after fs)) (places s aop at (stack_under fs)))
 places_follow fs s None at e t h = goes s (plugged fs t) s (Source e) (Over (entries.Place at) ∷ fs) (stepped fs s t s (SetWord None (Number at) (begun e)) h)
 places_follow fs s (Some o) at e t h = by_old (word_read s at) h where
-  by_old : (r : Tried) → reduce s t ≡ old_read o at (begun e) r → Follows s (plugged fs t) (mixes s o at r (compiled e (op.Close ∷ code_after fs)) (stack_under fs))
+  by_old : (r : Tried) → reduce s t ≡ old_read o at (begun e) r → Follows s (plugged fs t) (onward (compiled e (op.Close ∷ code_after fs)) (mixes s o at r (stack_under fs)))
   by_old (Ok m) k =
       goes s (plugged fs t) m.state (Source e) (Over (entries.Mixed o at m.word) ∷ fs) (stepped fs s t m.state (SetWord None (Number at) (Binary o (Number m.word) (begun e))) k)
   by_old (Err f) k = faulted fs s t f k
@@ -80,12 +82,12 @@ places_follow fs s (Some o) at e t h = by_old (word_read s at) h where
 -- the left name of an assignment
 kind_follows : (b : Bool) (fs : List Frame) (s : State) (aop : Option BinOp) (at : ℕ) (e : PlainTree) (t : Pending) →
     reduce s t ≡ (if b then Faults (AccessAt at) else resolved s aop at (begun e)) →
-    Follows s (plugged fs t) (if b then Stops s (AccessAt at) else places s aop at (compiled e (op.Close ∷ code_after fs)) (stack_under fs))
+    Follows s (plugged fs t) (onward (compiled e (op.Close ∷ code_after fs)) (if b then Fails s (AccessAt at) else places s aop at (stack_under fs)))
 kind_follows true fs s aop at e t h = faulted fs s t (AccessAt at) h
 kind_follows false fs s aop at e t h = places_follow fs s aop at e t h
 
 left_follows : (y : Option Symbol) (fs : List Frame) (s : State) (aop : Option BinOp) (x : List ℕ) (e : PlainTree) (t : Pending) → reduce s t ≡ left_by s aop x (begun e) y →
-    Follows s (plugged fs t) (left_step s aop x y (compiled e (op.Close ∷ code_after fs)) (stack_under fs))
+    Follows s (plugged fs t) (onward (compiled e (op.Close ∷ code_after fs)) (left_effect s aop x y (stack_under fs)))
 left_follows None fs s None x e t h = goes s (plugged fs t) s (Source e) (Over (entries.Unknown x) ∷ fs) (stepped fs s t s (New x (begun e)) h)
 left_follows None fs s (Some o) x e t h = faulted fs s t (Undefined x) h
 left_follows (Some y) fs s None x e t h = kind_follows (is_value y.kind) fs s None y.value e t h
@@ -93,7 +95,7 @@ left_follows (Some y) fs s (Some o) x e t h = kind_follows (is_value y.kind) fs 
 
 -- a name alone
 alone_follows : (y : Option Symbol) (k : SymKind) (fs : List Frame) (s : State) (x : List ℕ) (t : Pending) → reduce s t ≡ lone_by s x y k →
-    Follows s (plugged fs t) (alone_by s x y k (code_after fs) (stack_under fs))
+    Follows s (plugged fs t) (onward (code_after fs) (alone_by s x y k (stack_under fs)))
 alone_follows (Some y) TextSym fs s x t h = record {
   awaits = record { frames = fs; code_is = refl; stack_is = refl };
   same = stepped fs s t s (Call (Number y.value) End) h ∙ (to_call fs s (Call (Number y.value) End) y.value (padded []) refl).same;
@@ -119,7 +121,7 @@ source_follows (trees.Address x) fs s = to_given fs s (Address x) (name_value s 
 source_follows (trees.Word a) fs s = source_follows a (InWord ∷ fs) s
 source_follows (trees.Unary o a) fs s = source_follows a (InUnary o ∷ fs) s
 source_follows (trees.Binary o a b) fs s = two_follow (logic_of o) fs s o a b (λ gs. source_follows a gs s)
-source_follows (trees.SetName aop x e) fs s = left_follows (newest x s.symbols) fs s aop x e (SetName aop x (begun e)) refl
+source_follows (trees.SetName aop x e) fs s = left_follows (find s.symbols x) fs s aop x e (SetName aop x (begun e)) refl
 source_follows (trees.SetWord aop a e) fs s = source_follows a (OnTurn (turns.Place aop) e ∷ fs) s
 source_follows (trees.Call f es) fs s = source_follows f (AsCallee es ∷ fs) s
 
@@ -160,7 +162,7 @@ argument_is vs st p = elim (cases_lt p (length vs)) [
   ]
 
 calls_are : (s : State) (vs : List ℕ) (callee : ℕ) (c : List Op) (st : List Entry) →
-    calls s (length vs) c (words_onto vs (entries.Word callee ∷ st)) ≡ Makes s callee (padded (in_order vs [])) c st
+    onward c (asks s (length vs) (words_onto vs (entries.Word callee ∷ st))) ≡ Makes s callee (padded (in_order vs [])) c st
 calls_are s vs callee c st =
     let all : List Entry = words_onto vs (entries.Word callee ∷ st) in
     let f : top_word (drop (length vs) all) ≡ callee = ap top_word (callee_below vs (entries.Word callee ∷ st)) in
@@ -190,29 +192,29 @@ decided false fs s b n t h c e =
 
 turn_follows : (w : Turn) (fs : List Frame) (s : State) (b : PlainTree) (n : ℕ) →
     Follows s (plugged fs (turned w (Number n) (begun b))) (turn_step s w (length (code_after fs)) n (compiled b (op.Close ∷ code_after fs)) (stack_under fs))
-turn_follows turns.All fs s b n = decided (decides All n) fs s b (number_of (not (n == 0))) (Choice All (Number n) (begun b)) refl (compiled b (op.Close ∷ code_after fs)) refl
-turn_follows turns.Any fs s b n = decided (decides Any n) fs s b (number_of (not (n == 0))) (Choice Any (Number n) (begun b)) refl (compiled b (op.Close ∷ code_after fs)) refl
+turn_follows turns.All fs s b n = decided (decides All n) fs s b (bit (not (n == 0))) (Choice All (Number n) (begun b)) refl (compiled b (op.Close ∷ code_after fs)) refl
+turn_follows turns.Any fs s b n = decided (decides Any n) fs s b (bit (not (n == 0))) (Choice Any (Number n) (begun b)) refl (compiled b (op.Close ∷ code_after fs)) refl
 turn_follows (turns.Place None) fs s b n = goes s (plugged fs (SetWord None (Number n) (begun b))) s (Source b) (Over (entries.Place n) ∷ fs) refl
 turn_follows (turns.Place (Some o)) fs s b n = places_follow fs s (Some o) n b (SetWord (Some o) (Number n) (begun b)) refl
 
 mixed_follows : (r : Tried) (fs : List Frame) (s : State) (at : ℕ) (t : Pending) → reduce s t ≡ given r →
-    Follows s (plugged fs (SetWord None (Number at) t)) (mixed_step s at r (code_after fs) (stack_under fs))
+    Follows s (plugged fs (SetWord None (Number at) t)) (onward (code_after fs) (mixed_effect s at r (stack_under fs)))
 mixed_follows (Ok m) fs s at t h =
-    along (pushes m.state (word_stored m.state at m.word) (code_after fs) (stack_under fs)) s m.state (plugged fs (SetWord None (Number at) t))
+    along (onward (code_after fs) (pushes m.state (word_stored m.state at m.word) (stack_under fs))) s m.state (plugged fs (SetWord None (Number at) t))
         (plugged fs (SetWord None (Number at) (Number m.word))) (stepped (Over (entries.Place at) ∷ fs) s t m.state (Number m.word) h)
         (to_given fs m.state (SetWord None (Number at) (Number m.word)) (word_stored m.state at m.word) refl)
 mixed_follows (Err f) fs s at t h = faulted (Over (entries.Place at) ∷ fs) s t f h
 
-close_follows : (e : Entry) (fs : List Frame) (s : State) (n : ℕ) → Follows s (plugged fs (over e (Number n))) (close_step s n (Some e) (code_after fs) (stack_under fs))
+close_follows : (e : Entry) (fs : List Frame) (s : State) (n : ℕ) → Follows s (plugged fs (over e (Number n))) (onward (code_after fs) (close_effect s n (Some e) (stack_under fs)))
 close_follows (entries.Word m) fs s n = goes s (plugged fs (Number n)) s (Value n) fs refl
-close_follows entries.Truth fs s n = to_value fs s (Binary ops.Ne (Number n) (Number 0)) s (number_of (not (n == 0))) refl
+close_follows entries.Truth fs s n = to_value fs s (Binary ops.Ne (Number n) (Number 0)) s (bit (not (n == 0))) refl
 close_follows (entries.Place at) fs s n = to_given fs s (SetWord None (Number at) (Number n)) (word_stored s at n) refl
 close_follows (entries.Mixed o at w) fs s n = mixed_follows (combined s o w n) fs s at (Binary o (Number w) (Number n)) refl
 close_follows (entries.Unknown x) fs s n = to_given fs s (New x (Number n)) (variable_made s x n) refl
 
 -- the call of this callee with these arguments
 call_follows : (vs : List ℕ) (fs : List Frame) (s : State) (callee : ℕ) →
-    Follows s (plugged fs (Call (Number callee) (before vs End))) (calls s (length vs) (code_after fs) (words_onto vs (entries.Word callee ∷ stack_under fs)))
+    Follows s (plugged fs (Call (Number callee) (before vs End))) (onward (code_after fs) (asks s (length vs) (words_onto vs (entries.Word callee ∷ stack_under fs))))
 call_follows vs fs s callee =
     let t : Pending = Call (Number callee) (before vs End) in
     let e : reduce s t ≡ Calls callee (padded (in_order vs [])) Hole =
@@ -234,7 +236,7 @@ value_follows n (AsArgument callee vs (trees.Then e es) ∷ fs) s = source_follo
 
 part_follows : (p : Part) (fs : List Frame) (s : State) → Follows s (plugged fs (part_tree p)) (move s (code_at p fs) (stack_at p fs))
 part_follows (Source t) fs s = source_follows t fs s
-part_follows (Alone x) fs s = alone_follows (newest x s.symbols) (kind_or_data (newest x s.symbols)) fs s x (Lone x) refl
+part_follows (Alone x) fs s = alone_follows (find s.symbols x) (kind_or_data (find s.symbols x)) fs s x (Lone x) refl
 part_follows (Value n) fs s = value_follows n fs s
 
 -- what the next operation does to code and entries that stand in a tree

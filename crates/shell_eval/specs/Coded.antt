@@ -1,57 +1,11 @@
 -- How trees under evaluation are stored as ghost values, and read back.
-use Rattle.std.specs.Prelude.{◌≡◌, ℕ, zero, suc, List, [], ◌∷◌, Option, Some, None, refl}
+use Rattle.std.specs.Prelude.{◌≡◌, ℕ, zero, suc, refl}
 use Rattle.std.proofs.Common.{ap, sym, ◌∙◌}
-use Rattle.shell_parse.specs.declared.tree.BinOp.{BinOp}
-use Rattle.shell_parse.specs.declared.tree.BinOp.TheVariants as ops
-use Rattle.shell_parse.specs.declared.tree.UnOp.{UnOp}
-use Rattle.shell_parse.specs.declared.tree.UnOp.TheVariants.{Neg, Not}
+use Rattle.shell_parse.specs.Codes.{op_number, op_of_number, op_again, set_number, set_of_number, set_again, un_number, un_of_number, un_again, bytes_code, bytes_of_code, bytes_again}
 use Rattle.shell_eval.specs.Pending.{Pending, Number, Str, Name, Lone, Address, Word, Unary, Binary, Choice, SetName, SetWord, New, Call, Hole, Args, End, Then, Logic, All, Any}
 use base.Stored.{Gv, gnil, gnum, gcons, Coded}
 
--- the number of an operator; 0 is none
-abbrev pub aop_number : Option BinOp → ℕ
-aop_number None = 0
-aop_number (Some ops.OrElse) = 1
-aop_number (Some ops.AndAlso) = 2
-aop_number (Some ops.Ne) = 3
-aop_number (Some ops.Plus) = 4
-aop_number (Some ops.Minus) = 5
-aop_number (Some ops.Over) = 6
-
-abbrev pub aop_of : ℕ → Option BinOp
-aop_of zero = None
-aop_of (suc zero) = Some ops.OrElse
-aop_of (suc (suc zero)) = Some ops.AndAlso
-aop_of (suc (suc (suc zero))) = Some ops.Ne
-aop_of (suc (suc (suc (suc zero)))) = Some ops.Plus
-aop_of (suc (suc (suc (suc (suc zero))))) = Some ops.Minus
-aop_of (suc (suc (suc (suc (suc (suc n)))))) = Some ops.Over
-
-pub aop_again : (o : Option BinOp) → aop_of (aop_number o) ≡ o
-aop_again None = refl
-aop_again (Some ops.OrElse) = refl
-aop_again (Some ops.AndAlso) = refl
-aop_again (Some ops.Ne) = refl
-aop_again (Some ops.Plus) = refl
-aop_again (Some ops.Minus) = refl
-aop_again (Some ops.Over) = refl
-
-abbrev pub op_or : Option BinOp → BinOp
-op_or None = ops.Plus
-op_or (Some o) = o
-
-abbrev pub unary_number : UnOp → ℕ
-unary_number Neg = 0
-unary_number Not = 1
-
-abbrev pub unary_of : ℕ → UnOp
-unary_of zero = Neg
-unary_of (suc n) = Not
-
-pub unary_again : (o : UnOp) → unary_of (unary_number o) ≡ o
-unary_again Neg = refl
-unary_again Not = refl
-
+-- the number of a logic, and back
 abbrev pub logic_number : Logic → ℕ
 logic_number All = 0
 logic_number Any = 1
@@ -64,20 +18,7 @@ pub logic_again : (w : Logic) → logic_of_number (logic_number w) ≡ w
 logic_again All = refl
 logic_again Any = refl
 
--- bytes as a ghost value
-abbrev pub bytes_code : List ℕ → Gv
-bytes_code [] = gnil
-bytes_code (b ∷ bs) = gcons (gnum b) (bytes_code bs)
-
-abbrev pub bytes_of : Gv → List ℕ
-bytes_of (gcons (gnum b) bs) = b ∷ bytes_of bs
-bytes_of _ = []
-
-pub bytes_again : (bs : List ℕ) → bytes_of (bytes_code bs) ≡ bs
-bytes_again [] = refl
-bytes_again (b ∷ bs) = ap (λ cs. b ∷ cs) (bytes_again bs)
-
--- each kind has a shape of its own: a list of as many `gnil` as its number, then its parts
+-- a tree and arguments as ghost values: a number for the kind, then the parts
 abbrev mutual
   pub tree_code : Pending → Gv
   tree_code Hole = gnil
@@ -87,11 +28,11 @@ abbrev mutual
   tree_code (Lone x) = gcons (gnum 3) (bytes_code x)
   tree_code (Address x) = gcons (gnum 4) (bytes_code x)
   tree_code (Word a) = gcons (gnum 5) (tree_code a)
-  tree_code (Unary o a) = gcons (gnum 6) (gcons (gnum (unary_number o)) (tree_code a))
-  tree_code (Binary o a b) = gcons (gnum 7) (gcons (gnum (aop_number (Some o))) (gcons (tree_code a) (tree_code b)))
+  tree_code (Unary o a) = gcons (gnum 6) (gcons (gnum (un_number o)) (tree_code a))
+  tree_code (Binary o a b) = gcons (gnum 7) (gcons (gnum (op_number o)) (gcons (tree_code a) (tree_code b)))
   tree_code (Choice w a b) = gcons (gnum 8) (gcons (gnum (logic_number w)) (gcons (tree_code a) (tree_code b)))
-  tree_code (SetName aop x e) = gcons (gnum 9) (gcons (gnum (aop_number aop)) (gcons (bytes_code x) (tree_code e)))
-  tree_code (SetWord aop a e) = gcons (gnum 10) (gcons (gnum (aop_number aop)) (gcons (tree_code a) (tree_code e)))
+  tree_code (SetName aop x e) = gcons (gnum 9) (gcons (gnum (set_number aop)) (gcons (bytes_code x) (tree_code e)))
+  tree_code (SetWord aop a e) = gcons (gnum 10) (gcons (gnum (set_number aop)) (gcons (tree_code a) (tree_code e)))
   tree_code (New x e) = gcons (gnum 11) (gcons (bytes_code x) (tree_code e))
   tree_code (Call f es) = gcons (gnum 12) (gcons (tree_code f) (args_code es))
 
@@ -102,17 +43,17 @@ abbrev mutual
 abbrev mutual
   pub tree_of_code : Gv → Pending
   tree_of_code (gcons (gnum zero) (gnum n)) = Number n
-  tree_of_code (gcons (gnum (suc zero)) b) = Str (bytes_of b)
-  tree_of_code (gcons (gnum (suc (suc zero))) x) = Name (bytes_of x)
-  tree_of_code (gcons (gnum (suc (suc (suc zero)))) x) = Lone (bytes_of x)
-  tree_of_code (gcons (gnum (suc (suc (suc (suc zero))))) x) = Address (bytes_of x)
+  tree_of_code (gcons (gnum (suc zero)) b) = Str (bytes_of_code b)
+  tree_of_code (gcons (gnum (suc (suc zero))) x) = Name (bytes_of_code x)
+  tree_of_code (gcons (gnum (suc (suc (suc zero)))) x) = Lone (bytes_of_code x)
+  tree_of_code (gcons (gnum (suc (suc (suc (suc zero))))) x) = Address (bytes_of_code x)
   tree_of_code (gcons (gnum (suc (suc (suc (suc (suc zero)))))) a) = Word (tree_of_code a)
-  tree_of_code (gcons (gnum (suc (suc (suc (suc (suc (suc zero))))))) (gcons (gnum o) a)) = Unary (unary_of o) (tree_of_code a)
-  tree_of_code (gcons (gnum (suc (suc (suc (suc (suc (suc (suc zero)))))))) (gcons (gnum o) (gcons a b))) = Binary (op_or (aop_of o)) (tree_of_code a) (tree_of_code b)
+  tree_of_code (gcons (gnum (suc (suc (suc (suc (suc (suc zero))))))) (gcons (gnum o) a)) = Unary (un_of_number o) (tree_of_code a)
+  tree_of_code (gcons (gnum (suc (suc (suc (suc (suc (suc (suc zero)))))))) (gcons (gnum o) (gcons a b))) = Binary (op_of_number o) (tree_of_code a) (tree_of_code b)
   tree_of_code (gcons (gnum (suc (suc (suc (suc (suc (suc (suc (suc zero))))))))) (gcons (gnum w) (gcons a b))) = Choice (logic_of_number w) (tree_of_code a) (tree_of_code b)
-  tree_of_code (gcons (gnum (suc (suc (suc (suc (suc (suc (suc (suc (suc zero)))))))))) (gcons (gnum o) (gcons x e))) = SetName (aop_of o) (bytes_of x) (tree_of_code e)
-  tree_of_code (gcons (gnum (suc (suc (suc (suc (suc (suc (suc (suc (suc (suc zero))))))))))) (gcons (gnum o) (gcons a e))) = SetWord (aop_of o) (tree_of_code a) (tree_of_code e)
-  tree_of_code (gcons (gnum (suc (suc (suc (suc (suc (suc (suc (suc (suc (suc (suc zero)))))))))))) (gcons x e)) = New (bytes_of x) (tree_of_code e)
+  tree_of_code (gcons (gnum (suc (suc (suc (suc (suc (suc (suc (suc (suc zero)))))))))) (gcons (gnum o) (gcons x e))) = SetName (set_of_number o) (bytes_of_code x) (tree_of_code e)
+  tree_of_code (gcons (gnum (suc (suc (suc (suc (suc (suc (suc (suc (suc (suc zero))))))))))) (gcons (gnum o) (gcons a e))) = SetWord (set_of_number o) (tree_of_code a) (tree_of_code e)
+  tree_of_code (gcons (gnum (suc (suc (suc (suc (suc (suc (suc (suc (suc (suc (suc zero)))))))))))) (gcons x e)) = New (bytes_of_code x) (tree_of_code e)
   tree_of_code (gcons (gnum (suc (suc (suc (suc (suc (suc (suc (suc (suc (suc (suc (suc n)))))))))))))  (gcons f es)) = Call (tree_of_code f) (args_of_code es)
   tree_of_code _ = Hole
 
@@ -129,11 +70,11 @@ mutual
   tree_again (Lone x) = ap Lone (bytes_again x)
   tree_again (Address x) = ap Address (bytes_again x)
   tree_again (Word a) = ap Word (tree_again a)
-  tree_again (Unary o a) = λ i. Unary (unary_again o i) (tree_again a i)
-  tree_again (Binary o a b) = λ i. Binary (op_or (aop_again (Some o) i)) (tree_again a i) (tree_again b i)
+  tree_again (Unary o a) = λ i. Unary (un_again o i) (tree_again a i)
+  tree_again (Binary o a b) = λ i. Binary (op_again o i) (tree_again a i) (tree_again b i)
   tree_again (Choice w a b) = λ i. Choice (logic_again w i) (tree_again a i) (tree_again b i)
-  tree_again (SetName aop x e) = λ i. SetName (aop_again aop i) (bytes_again x i) (tree_again e i)
-  tree_again (SetWord aop a e) = λ i. SetWord (aop_again aop i) (tree_again a i) (tree_again e i)
+  tree_again (SetName aop x e) = λ i. SetName (set_again aop i) (bytes_again x i) (tree_again e i)
+  tree_again (SetWord aop a e) = λ i. SetWord (set_again aop i) (tree_again a i) (tree_again e i)
   tree_again (New x e) = λ i. New (bytes_again x i) (tree_again e i)
   tree_again (Call f es) = λ i. Call (tree_again f i) (args_again es i)
 

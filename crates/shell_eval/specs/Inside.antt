@@ -22,8 +22,12 @@ abbrev pub room_of : Bool → ℕ
 room_of true = 1
 room_of false = 0
 
+-- how many operations there are at most
+abbrev pub most_operations : ℕ
+most_operations = 65536
+
 -- the entries have room for all that the code can put
 pub record IsEval (waits : Bool) (code : List Op) (stack : Entries) : Type 0 where
   pub at : IsAt waits code stack.list
   pub room : length code + room_of waits ≤ stack.room
-  pub few : length code ≤ 65536
+  pub few : length code ≤ most_operations

@@ -2,7 +2,8 @@
 use Rattle.std.specs.Prelude.{◌≡◌, ℕ, ◌+◌, ◌<◌, List}
 use Rattle.shell_eval.specs.declared.fault.EvalFault.{EvalFault}
 use Rattle.shell_eval.specs.State.{State}
-use Rattle.shell_eval.specs.Pending.{Pending, Args, weight, Number, Str, Name, Lone, Address, Word, Unary, Binary, Choice, SetName, SetWord, New, Call, Hole, End, Then, filled}
+use Rattle.shell_parse.specs.Trees.{PlainStmt}
+use Rattle.shell_eval.specs.Pending.{Pending, Args, weight, begun_stmt, Number, Str, Name, Lone, Address, Word, Unary, Binary, Choice, SetName, SetWord, New, Call, Hole, End, Then, filled}
 use Rattle.shell_eval.specs.Reduce.{Outcome, Is, Steps, Calls, Faults, Waits, reduce}
 use Rattle.shell_eval.specs.Evaluate.{evaluate, goes_on}
 
@@ -36,9 +37,18 @@ abbrev mutual
   holes_all End = 0
   holes_all (Then e es) = holes e + holes_all es
 
--- where no answer is awaited, a call that is due awaits one, and filling it in leaves none
+-- a statement awaits no answer at its beginning
+abbrev pub BegunLaw : Type 0
+BegunLaw = (t : PlainStmt) → holes (begun_stmt t) ≡ 0
+
+-- where no answer is awaited, none is after a reduction
+abbrev pub StepLaw : Type 0
+StepLaw = (s : State) (p : Pending) (t : State) (q : Pending) → reduce s p ≡ Steps t q → holes p ≡ 0 → holes q ≡ 0
+
+-- where no answer is awaited, one is after a call that is due
 abbrev pub CallLaw : Type 0
 CallLaw = (s : State) (p : Pending) (f : ℕ) (vs : List ℕ) (q : Pending) → reduce s p ≡ Calls f vs q → holes p ≡ 0 → holes q ≡ 1
 
+-- an answer that is filled in leaves none awaited
 abbrev pub FillLaw : Type 0
 FillLaw = (p : Pending) (v : ℕ) → holes (filled v p) ≡ 0

@@ -40,6 +40,7 @@ logic_of ops.OrElse = Some Any
 logic_of ops.AndAlso = Some All
 logic_of _ = None
 
+-- an operator between two sides
 abbrev pub two_sided : Option Logic → BinOp → Pending → Pending → Pending
 two_sided None op a b = Binary op a b
 two_sided (Some w) op a b = Choice w a b
@@ -67,7 +68,7 @@ abbrev pub begun_expr : PlainTree → Pending
 begun_expr (trees.Name x) = Lone x
 begun_expr t = begun t
 
--- a statement, before anything is evaluated; `ld < file` is the call `ld (0, 0, "file")`
+-- a statement, before anything is evaluated: `ld < file` is the call `ld (0, 0, "file")`, and one without a token is 0
 abbrev pub begun_stmt : PlainStmt → Pending
 begun_stmt trees.Nothing = Number 0
 begun_stmt (trees.Load file) = Call (Name (codes "ld")) (Then (Number 0) (Then (Number 0) (Then (Str file) End)))

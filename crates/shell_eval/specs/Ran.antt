@@ -13,6 +13,7 @@ use Rattle.shell_eval.specs.declared.went.Went.TheVariants as went
 use Rattle.shell_eval.specs.Frames.{Stands, Awaits}
 use Rattle.shell_eval.specs.Machine.{Moved, Ends, Goes, Makes, Stops}
 
+-- an operation's outcome
 abbrev pub of_step : Stepped → Advanced
 of_step steps.Goes = code.Goes
 of_step (steps.Calls callee words) = code.Calls callee words
@@ -44,17 +45,15 @@ abbrev pub IsAfter : Went → List Op → List Entry → Type 0
 IsAfter (went.Value n) c st = Stands c st
 IsAfter (went.Call callee words) c st = Awaits c st
 IsAfter (went.Fault f) c st = Unit {0}
-IsAfter went.NoMemory c st = ⊥
 
+-- the room that a call's answer takes, or the value behind a fault
 abbrev pub room_after : Went → ℕ
 room_after (went.Value n) = 0
 room_after (went.Call callee words) = 1
 room_after (went.Fault f) = 1
-room_after went.NoMemory = 1
 
 -- whether it came to a call
 abbrev pub is_call : Went → Bool
 is_call (went.Value n) = false
 is_call (went.Call callee words) = true
 is_call (went.Fault f) = false
-is_call went.NoMemory = false

@@ -9,8 +9,10 @@ use Rattle.symbol_table.specs.declared.symbol.SymKind.TheVariants.{TextSym, Data
 use Rattle.shell_eval.specs.declared.fault.EvalFault.{EvalFault}
 use Rattle.shell_eval.specs.declared.fault.EvalFault.TheVariants.{Undefined, AccessAt}
 use Rattle.symbol_table.specs.Newest.{find}
+use Rattle.ppc_core.specs.Words.{bit}
+use Rattle.shell_eval.specs.Operators.{before_word}
 use Rattle.shell_eval.specs.State.{State}
-use Rattle.shell_eval.specs.Words.{Made, Tried, number_of, before_word, combined, word_read, word_stored, is_value, name_word, name_value, string_made, variable_made}
+use Rattle.shell_eval.specs.Words.{Made, Tried, combined, word_read, word_stored, is_value, name_word, name_value, string_made, variable_made}
 use Rattle.shell_eval.specs.Pending.{Pending, Number, Str, Name, Lone, Address, Word, Unary, Binary, Choice, SetName, SetWord, New, Call, Hole, Args, End, Then, Logic, All, Any}
 
 -- of a tree or of arguments T, whose values are V: it is a value; one reduction is made;
@@ -46,7 +48,7 @@ decides Any n = not (n == 0)
 
 -- the left side decides, or the value is whether the right side is not 0
 abbrev pub chosen : Logic → ℕ → Pending → Pending
-chosen w n b = if decides w n then Number (number_of (not (n == 0))) else Binary ops.Ne b (Number 0)
+chosen w n b = if decides w n then Number (bit (not (n == 0))) else Binary ops.Ne b (Number 0)
 
 -- a name alone: the call of a text symbol, else the name's word
 abbrev pub lone_by : State → List ℕ → Option Symbol → SymKind → Outcome ℕ Pending
@@ -58,7 +60,7 @@ kind_or_data None = DataSym
 kind_or_data (Some y) = y.kind
 
 abbrev pub lone : State → List ℕ → Outcome ℕ Pending
-lone s x = lone_by s x (newest x s.symbols) (kind_or_data (newest x s.symbols))
+lone s x = lone_by s x (find s.symbols x) (kind_or_data (find s.symbols x))
 
 -- an assignment by an operator has read the old word
 abbrev pub old_read : BinOp → ℕ → Pending → Tried → Outcome ℕ Pending
@@ -93,7 +95,7 @@ abbrev mutual
   reduce s (Binary op a b) =
       within (reduce s a) (λ t. Binary op t b) (λ m. within (reduce s b) (Binary op (Number m)) (λ n. given (combined s op m n)))
   reduce s (Choice w a b) = within (reduce s a) (λ t. Choice w t b) (λ n. Steps s (chosen w n b))
-  reduce s (SetName aop x e) = left_by s aop x e (newest x s.symbols)
+  reduce s (SetName aop x e) = left_by s aop x e (find s.symbols x)
   reduce s (SetWord aop a e) = within (reduce s a) (λ t. SetWord aop t e) (λ at. set_at s aop at e (reduce s e))
   reduce s (New x e) = within (reduce s e) (New x) (λ v. given (variable_made s x v))
   reduce s (Call f es) =

@@ -1,17 +1,21 @@
--- What names, strings and operators give.
-use Rattle.std.specs.Prelude.{◌≡◌, ℕ, suc, ◌+◌, ◌-◌, ◌*◌, ◌/◌, ◌%◌, ◌^◌, Bool, true, false, ◌==◌, ◌&&◌, ◌||◌, not, if◌then◌else◌, List, [], ◌∷◌, ◌++◌, length, Option, Some, None, Result, Ok, Err, codes, nat_le}
-use Rattle.shell_parse.specs.declared.tree.BinOp.{BinOp}
-use Rattle.shell_parse.specs.declared.tree.BinOp.TheVariants as ops
-use Rattle.shell_parse.specs.declared.tree.UnOp.{UnOp}
-use Rattle.shell_parse.specs.declared.tree.UnOp.TheVariants.{Neg, Not}
+-- What names, strings, addresses and new variables give.
+use Rattle.std.specs.Prelude.{ℕ, ◌+◌, Bool, true, false, if◌then◌else◌, List, [], ◌∷◌, ◌++◌, length, replicate, Option, Some, None, Result, Ok, Err, codes, nat_le}
+use Rattle.std.specs.Result.{result_ok}
+use Rattle.wind_base.specs.Limits.{most_symbols}
+use Rattle.board_mem.specs.Memory.{with_bytes}
+use Rattle.board_bus.specs.BusState.{BusState}
+use Rattle.board_bus.specs.Access.{faults_at, answer_at, loaded_at, stored_at}
+use Rattle.mem_partition.specs.Place.{rounded}
+use Rattle.mem_partition.specs.State.{PartState, alloc_of, after_alloc}
+use Rattle.mem_partition.specs.declared.block.Class.TheVariants.{Kernel}
+use Rattle.symbol_table.specs.Newest.{find}
 use Rattle.symbol_table.specs.declared.symbol.Symbol.{Symbol}
 use Rattle.symbol_table.specs.declared.symbol.SymKind.{SymKind}
 use Rattle.symbol_table.specs.declared.symbol.SymKind.TheVariants.{TextSym, DataSym, BssSym, AbsSym}
+use Rattle.shell_parse.specs.declared.tree.BinOp.{BinOp}
 use Rattle.shell_eval.specs.declared.fault.EvalFault.{EvalFault}
 use Rattle.shell_eval.specs.declared.fault.EvalFault.TheVariants.{Undefined, AccessAt, DivideByZero, NoRoom, SymbolsFull}
-use Rattle.shell_eval.specs.Table.{Pool}
-use Rattle.small_bus.specs.Memory.{Memory, Loaded, load_of, store_of, text_in}
-use Rattle.shell_eval.specs.Parts.{newest, Placed, alloc_of}
+use Rattle.shell_eval.specs.Operators.{between_words}
 use Rattle.shell_eval.specs.State.{State}
 
 -- a word, and the state that its making leaves
@@ -23,49 +27,30 @@ pub record Made : Type 0 where
 abbrev pub Tried : Type 0
 Tried = Result Made EvalFault
 
--- 1 for what is so
-abbrev pub number_of : Bool → ℕ
-number_of b = if b then 1 else 0
+-- this word, with this state left
+abbrev pub made : ℕ → State → Tried
+made word s = Ok (record { word = word; state = s })
 
--- the value of an operator before a word
-abbrev pub before_word : UnOp → ℕ → ℕ
-before_word Neg a = (2 ^ 32 - a) % 2 ^ 32
-before_word Not a = number_of (a == 0)
-
--- the value of an operator between two words, or nothing for a zero divisor
-abbrev pub between_words : BinOp → ℕ → ℕ → Option ℕ
-between_words ops.OrElse a b = Some (number_of (not (a == 0 && b == 0)))
-between_words ops.AndAlso a b = Some (number_of (not (a == 0 || b == 0)))
-between_words ops.Ne a b = Some (number_of (not (a == b)))
-between_words ops.Plus a b = Some ((a + b) % 2 ^ 32)
-between_words ops.Minus a b = Some (((a + 2 ^ 32) - b) % 2 ^ 32)
-between_words ops.Over a b = if b == 0 then None else Some (a / b)
-
--- the same as a step
+-- the value of an operator between two words
 abbrev pub combined_by : State → Option ℕ → Tried
 combined_by s None = Err DivideByZero
-combined_by s (Some n) = Ok (record { word = n; state = s })
+combined_by s (Some n) = made n s
 
 abbrev pub combined : State → BinOp → ℕ → ℕ → Tried
 combined s op a b = combined_by s (between_words op a b)
 
--- the word at an address
-abbrev pub loaded_by : State → ℕ → Option ℕ → Memory → Tried
-loaded_by s at None m = Err (AccessAt at)
-loaded_by s at (Some w) m = Ok (record { word = w; state = record s { memory = m } })
-
+-- the word at an address, over the bus
 unfoldable pub word_read : State → ℕ → Tried
-word_read s at = loaded_by s at (load_of s.memory at).word (load_of s.memory at).memory
+word_read s at =
+    if faults_at s.memory 4 at then Err (AccessAt at)
+    else made (answer_at s.memory 4 at) (record s { memory = loaded_at s.memory 4 at })
 
--- a word stored at an address
-abbrev pub stored_by : State → ℕ → ℕ → Option Memory → Tried
-stored_by s at v None = Err (AccessAt at)
-stored_by s at v (Some m) = Ok (record { word = v; state = record s { memory = m } })
-
+-- a word stored at an address, over the bus
 unfoldable pub word_stored : State → ℕ → ℕ → Tried
-word_stored s at v = stored_by s at v (store_of s.memory at v)
+word_stored s at v =
+    if faults_at s.memory 4 at then Err (AccessAt at) else made v (record s { memory = stored_at s.memory 4 at v })
 
--- whether a symbol of this kind is its value; the others stand for the word there
+-- whether a symbol of this kind stands for its value; the others stand for the word there
 abbrev pub is_value : SymKind → Bool
 is_value TextSym = true
 is_value AbsSym = true
@@ -75,43 +60,66 @@ is_value BssSym = false
 -- the word of a name, by its newest symbol
 abbrev pub name_by : State → List ℕ → Option Symbol → Tried
 name_by s x None = Err (Undefined x)
-name_by s x (Some y) = if is_value y.kind then Ok (record { word = y.value; state = s }) else word_read s y.value
+name_by s x (Some y) = if is_value y.kind then made y.value s else word_read s y.value
 
 unfoldable pub name_word : State → List ℕ → Tried
-name_word s x = name_by s x (newest x s.symbols)
+name_word s x = name_by s x (find s.symbols x)
 
 -- the value of a name's newest symbol
 abbrev pub address_by : State → List ℕ → Option Symbol → Tried
 address_by s x None = Err (Undefined x)
-address_by s x (Some y) = Ok (record { word = y.value; state = s })
+address_by s x (Some y) = made y.value s
 
 unfoldable pub name_value : State → List ℕ → Tried
-name_value s x = address_by s x (newest x s.symbols)
+name_value s x = address_by s x (find s.symbols x)
 
--- a string in a block of its own
-abbrev pub string_by : State → List ℕ → Option ℕ → Pool → Tried
-string_by s text None p = Err NoRoom
-string_by s text (Some at) p = Ok (record { word = at; state = record s { pool = p; memory = text_in s.memory at text } })
+-- the Kernel block of n bytes that the partition gives, if it gives one, and the partition then
+abbrev pub block_of : PartState → ℕ → Option ℕ
+block_of pool n = result_ok (alloc_of pool n 1)
+
+abbrev pub with_block_of : PartState → ℕ → PartState
+with_block_of pool n = after_alloc pool n 1 Kernel
+
+-- memory with these bytes from an address of RAM on
+abbrev pub with_ram : BusState → ℕ → List ℕ → BusState
+with_ram memory at bytes = record memory { ram = with_bytes memory.ram at bytes }
+
+-- a string with a zero behind it, at the address of its block
+abbrev pub string_by : State → List ℕ → Option ℕ → Tried
+string_by s text None = Err NoRoom
+string_by s text (Some at) =
+    made at (record s { pool = with_block_of s.pool (length text + 1); memory = with_ram s.memory at (text ++ 0 ∷ []) })
 
 unfoldable pub string_made : State → List ℕ → Tried
-string_made s text = string_by s text (alloc_of s.pool (length text + 1)).found (alloc_of s.pool (length text + 1)).pool
+string_made s text = string_by s text (block_of s.pool (length text + 1))
+
+-- how many bytes a variable has
+abbrev pub variable_bytes : ℕ
+variable_bytes = 4
 
 -- the line that tells of a new symbol
 unfoldable pub announcement : List ℕ → List ℕ
-announcement x = codes "new symbol \"" ++ x ++ codes "\" added to symbol table." ++ 10 ∷ []
+announcement x = codes "new symbol \"" ++ x ++ codes "\" added to symbol table.\n"
 
 -- the symbol of a new variable at this address
 abbrev pub variable : List ℕ → ℕ → Symbol
 variable x at = record { name = x; value = at; kind = DataSym; global = true; group = 0 }
 
--- a new variable at a block's address, with the announcement, and its first word
-abbrev pub variable_by : State → List ℕ → ℕ → Option ℕ → Pool → Tried
-variable_by s x v None p = Err NoRoom
-variable_by s x v (Some at) p =
-    word_stored (record { symbols = s.symbols ++ variable x at ∷ []; pool = p; memory = s.memory; output = s.output ++ announcement x }) at v
+-- the state with a new variable at the address of its block, which is zeroed whole, and with the announcement
+abbrev pub with_variable : State → List ℕ → ℕ → State
+with_variable s x at = record {
+  symbols = s.symbols ++ variable x at ∷ [];
+  pool = with_block_of s.pool variable_bytes;
+  memory = with_ram s.memory at (replicate (rounded variable_bytes) 0);
+  output = s.output ++ announcement x;
+}
 
--- a new variable with its first word
+-- a new variable takes its first word
+abbrev pub variable_by : State → List ℕ → ℕ → Option ℕ → Tried
+variable_by s x v None = Err NoRoom
+variable_by s x v (Some at) = word_stored (with_variable s x at) at v
+
 unfoldable pub variable_made : State → List ℕ → ℕ → Tried
 variable_made s x v =
-    if nat_le 65536 (length s.symbols) then Err SymbolsFull
-    else variable_by s x v (alloc_of s.pool 4).found (alloc_of s.pool 4).pool
+    if nat_le most_symbols (length s.symbols) then Err SymbolsFull
+    else variable_by s x v (block_of s.pool variable_bytes)

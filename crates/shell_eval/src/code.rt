@@ -1,12 +1,12 @@
 //! Postfix code, and the values that it works on.
 
-ghost use Rattle.std.specs.Prelude.{◌≡◌, ℕ, ◌+◌, ◌-◌, ◌<◌, ◌≤◌, List, [], ◌∷◌, ◌++◌, length, drop, reverse, OnOk, IfOk, MatchOption};
+ghost use Rattle.std.specs.Prelude.{◌≡◌, ◌+◌, ◌-◌, ◌<◌, ◌≤◌, [], ◌∷◌, ◌++◌, length, drop, reverse, OnOk, IfOk, MatchOption};
 ghost use Rattle.shell_eval.specs.Machine.{top_word, top_entry, below};
 
 use std::alloc::Global;
 use std::marker::Model;
 use wind_base::NoMemory;
-use crate::tree::{BinOp, Text, UnOp};
+use shell_parse::{BinOp, UnOp};
 use wind_base::Name;
 
 /// What becomes of a left side before its right side runs.
@@ -62,6 +62,45 @@ pub enum Entry {
     Mixed(BinOp, u32, u32),
     /// The right side goes to a new variable of this name.
     Unknown(Name),
+}
+
+/// The bytes of a string, which are kept with the zero that ends them in memory. Contracts see them without it.
+#[derive(Drop)]
+pub struct Text {
+    kept: Vec<u8>,
+}
+
+impl Model for Text {
+    ghost use Rattle.std.specs.Prelude.{◌≡◌, ℕ, List, ◌-◌, [], ◌∷◌, ◌++◌, length, take};
+
+    ghost Value = { List ℕ };
+
+    ghost view = { λ t. take (length t.kept.items - 1) t.kept.items };
+
+    ghost invariant = { λ t. t.kept.items ≡ take (length t.kept.items - 1) t.kept.items ++ 0 ∷ [] };
+}
+
+impl Text {
+    /// A copy of these bytes.
+    #[tactic(auto, using(crate::proofs::Reversed::all_but_last))]
+    pub fn new(alloc: Global, bytes: &[u8]) -> Result<Text, NoMemory>
+        ensures { IfOk result (λ text. text ≡ bytes.now) }
+    {
+        let Ok(mut kept) = bytes.to_vec(alloc) else {
+            return Err(NoMemory);
+        };
+        if kept.push(0).is_err() {
+            return Err(NoMemory);
+        }
+        Ok(Text { kept })
+    }
+
+    /// The bytes, and a zero behind them.
+    pub fn with_zero(&self) -> &[u8]
+        ensures { result.now ≡ self.now ++ 0 ∷ [] }
+    {
+        &self.kept
+    }
 }
 
 /// Operations, the next one first.

@@ -1,12 +1,12 @@
 //! A statement as postfix code.
 
 ghost use Rattle.std.specs.Prelude.{◌≡◌, ◌∷◌, ◌<◌, ◌≤◌, ◌+◌, length, [], IfOk, OnOk, option_map};
-ghost use Rattle.shell_eval.specs.Trees.{plain_tree, plain_arguments, plain_stmt, Load};
+ghost use Rattle.shell_parse.specs.Trees.{plain_tree, plain_arguments, plain_stmt, Load};
 ghost use Rattle.shell_eval.specs.Pending.{logic_of};
 ghost use Rattle.shell_eval.specs.Code.{compiled, compiled_all, compiled_stmt, compiled_expr, behind_left, turn_of as turn_of_lem, count_onto};
 
-use crate::code::{Code, Op, Turn};
-use crate::tree::{BinOp, Stmt, Text, Tree};
+use crate::code::{Code, Op, Text, Turn};
+use shell_parse::{BinOp, Stmt, Tree};
 use std::alloc::Global;
 use wind_base::{Name, NoMemory};
 

@@ -1,27 +1,30 @@
 //! The evaluation of a statement.
 
-ghost use Rattle.std.specs.Prelude.{◌≡◌, ℕ, ◌+◌, ◌≤◌, length, IfOk};
-ghost use Rattle.shell_eval.specs.Trees.{plain_stmt};
-ghost use Rattle.shell_eval.specs.Pending.{begun_stmt, filled, Number};
+ghost use Rattle.std.specs.Prelude.{◌≡◌, ◌≤◌, length, IfOk, OnOk, OnErr};
+ghost use Rattle.shell_parse.specs.Trees.{plain_stmt};
+ghost use Rattle.shell_eval.specs.Pending.{begun_stmt, filled};
 ghost use Rattle.shell_eval.specs.Laws.{holes};
 ghost use Rattle.shell_eval.specs.Evaluate.{evaluate};
-ghost use Rattle.shell_eval.specs.Seen.{seen, SameEnv, SameSize};
+ghost use Rattle.shell_eval.specs.Seen.{seen, SameEnv, kept_free};
 ghost use Rattle.shell_eval.specs.Moved.{came};
 ghost use Rattle.shell_eval.specs.Ran.{is_call as is_call_lem};
 ghost use Rattle.shell_eval.specs.Inside.{room_of};
 
-use wind_outside::Device;
 use crate::code::{Code, Entry, Stack};
 use crate::compile::emit_stmt;
 use crate::env::Env;
 use crate::run::{go_on, is_call};
-use crate::tree::Stmt;
 use crate::went::Went;
+use shell_parse::Stmt;
 use std::alloc::Global;
 use std::marker::Model;
 use wind_base::NoMemory;
+use wind_outside::Device;
 
-/// A statement under evaluation.
+// How many operations a statement has at most. A line of 255 bytes comes nowhere near.
+const MOST_OPERATIONS: usize = 65_536;
+
+/// A statement under evaluation. Contracts see the tree that is left of it.
 #[derive(Drop)]
 pub struct Eval {
     code: Code,
@@ -44,13 +47,13 @@ impl Model for Eval {
 }
 
 impl Eval {
-    /// The evaluation of a statement, from its beginning.
+    /// The evaluation of a statement, from its beginning. A statement without a token has the value 0.
     pub fn start(alloc: Global, s: &Stmt) -> Result<Eval, NoMemory>
         ensures { IfOk result (λ e. e ≡ begun_stmt (plain_stmt s.now)) }
     {
         let mut code = Code::new(alloc);
         emit_stmt(&mut code, alloc, s)?;
-        if code.len() > 65536 {
+        if code.len() > MOST_OPERATIONS {
             return Err(NoMemory);
         }
         let stack = Stack::with_room(alloc, code.len())?;
@@ -61,19 +64,22 @@ impl Eval {
         })
     }
 
-    /// Goes on to the next call, or to the end. Where memory runs out nothing changes.
-    pub fn go(&mut self, env: &mut Env<'_>) -> Went
+    /// Goes on to its value, to the next call or to a fault, and leaves room for 512 bytes in `out`. Where memory runs
+    /// out, nothing changes.
+    pub fn go(&mut self, env: &mut Env<'_>) -> Result<Went, NoMemory>
         requires pool { env.old.part.now.end ≤ length env.old.bus.now.ram }
         requires waits { holes self.old ≡ 0 }
-        ensures went { (result ≡ Went.NoMemory → ⊥) → came result (seen ⟦<dyn Device as Device>⟧ env.new) self.new ≡ evaluate (seen ⟦<dyn Device as Device>⟧ env.old) self.old }
-        ensures no_memory { result ≡ Went.NoMemory → (seen ⟦<dyn Device as Device>⟧ env.new ≡ seen ⟦<dyn Device as Device>⟧ env.old) × (self.new ≡ self.old) }
-        ensures holes { holes self.new ≡ room_of (is_call_lem result) }
-        ensures room { (result ≡ Went.NoMemory → ⊥) → 512 ≤ env.new.out.now.room }
+        ensures went { IfOk result (λ went. came went (seen ⟦<dyn Device as Device>⟧ env.new) self.new
+            ≡ evaluate (seen ⟦<dyn Device as Device>⟧ env.old) self.old) }
+        ensures holes { IfOk result (λ went. holes self.new ≡ room_of (is_call_lem went)) }
+        ensures room { OnOk result (kept_free ≤ env.new.out.now.room) }
+        ensures no_memory { OnErr result (seen ⟦<dyn Device as Device>⟧ env.new ≡ seen ⟦<dyn Device as Device>⟧ env.old) }
+        ensures kept { OnErr result (self.new ≡ self.old) }
         ensures same { SameEnv env.old env.new }
     {
-        let went = go_on(&mut self.code, &mut self.stack, env);
+        let went = go_on(&mut self.code, &mut self.stack, env)?;
         self.waits = is_call(&went);
-        went
+        Ok(went)
     }
 
     /// Puts the answer of the call that is waited for in its place.

@@ -1,23 +1,30 @@
 //! Postfix code runs up to a value, a call or a fault.
 
-ghost use Rattle.std.specs.Prelude.{◌≡◌, ℕ, ◌+◌, ◌*◌, ◌<◌, ◌≤◌, length, List, [], ◌∷◌, false, OnOk};
-ghost use Rattle.wind_base.specs.OutBuf.{Output};
-ghost use Rattle.shell_eval.specs.Seen.{seen, SameEnv, SameSize, KeptParts, Ready};
-ghost use Rattle.shell_eval.specs.Machine.{move, Ends};
+ghost use Rattle.std.specs.Prelude.{◌≡◌, ◌+◌, ◌*◌, ◌<◌, ◌≤◌, length, false, OnOk, OnErr, IfOk};
+ghost use Rattle.shell_eval.specs.Seen.{seen, SameEnv, SameSize, Ready, most_announced, kept_free};
+ghost use Rattle.shell_eval.specs.Machine.{move};
 ghost use Rattle.shell_eval.specs.Follows.{tree_of, tree_with_hole, Follows};
 ghost use Rattle.shell_eval.specs.Evaluate.{evaluate};
 ghost use Rattle.shell_eval.specs.Moved.{came};
 ghost use Rattle.shell_eval.specs.Frames.{Stands};
 ghost use Rattle.shell_eval.specs.Ran.{of_step, advanced, left_room, IsEnd, IsAfter, room_after, is_call as is_call_lem};
-ghost use Rattle.shell_eval.specs.Inside.{IsEval};
+ghost use Rattle.shell_eval.specs.Inside.{IsEval, most_operations};
+ghost use Rattle.std.specs.Prelude.{◌-◌, min};
+ghost use Rattle.wind_base.specs.Limits.{most_symbols};
 
-use wind_outside::Device;
 use crate::code::{Code, Entry, Stack};
 use crate::env::Env;
 use crate::fault::EvalFault;
 use crate::step::{Stepped, step};
 use crate::went::Went;
+use symbol_table::Symbols;
+use wind_base::limits::SYMBOLS;
 use wind_base::{NoMemory, OutBuf};
+use wind_outside::Device;
+
+// How many bytes an operation writes at most, and how many are kept free behind an evaluation.
+const MOST_ANNOUNCED: usize = 300;
+const KEPT_FREE: usize = 512;
 
 /// What the next operation came to.
 #[derive(Drop)]
@@ -48,7 +55,8 @@ fn advance(code: &mut Code, stack: &mut Stack, env: &mut Env<'_>) -> Advanced
     requires room { length code.old ≤ stack.old.room }
     requires ready { Ready (length code.old) env.old }
     ensures end { IsEnd result code.old code.new stack.old stack.new }
-    ensures moved { advanced result (seen ⟦<dyn Device as Device>⟧ env.new) code.new stack.new.list ≡ move (seen ⟦<dyn Device as Device>⟧ env.old) code.old stack.old.list }
+    ensures moved { advanced result (seen ⟦<dyn Device as Device>⟧ env.new) code.new stack.new.list
+        ≡ move (seen ⟦<dyn Device as Device>⟧ env.old) code.old stack.old.list }
     ensures less { result ≡ Advanced.Goes → length code.new < length code.old }
     ensures code { length code.new ≤ length code.old }
     ensures room { length code.new + left_room result ≤ stack.new.room }
@@ -67,7 +75,8 @@ fn next(code: &mut Code, stack: &mut Stack, env: &mut Env<'_>) -> Advanced
     requires room { length code.old ≤ stack.old.room }
     requires ready { Ready (length code.old) env.old }
     ensures end { IsEnd result code.old code.new stack.old stack.new }
-    ensures follows { Follows (seen ⟦<dyn Device as Device>⟧ env.old) (tree_of code.old stack.old.list) (advanced result (seen ⟦<dyn Device as Device>⟧ env.new) code.new stack.new.list) }
+    ensures follows { Follows (seen ⟦<dyn Device as Device>⟧ env.old) (tree_of code.old stack.old.list)
+        (advanced result (seen ⟦<dyn Device as Device>⟧ env.new) code.new stack.new.list) }
     ensures less { result ≡ Advanced.Goes → length code.new < length code.old }
     ensures code { length code.new ≤ length code.old }
     ensures room { length code.new + left_room result ≤ stack.new.room }
@@ -82,71 +91,82 @@ pub(crate) fn run(code: &mut Code, stack: &mut Stack, env: &mut Env<'_>) -> Went
     requires stands { Stands code.old stack.old.list }
     requires room { length code.old ≤ stack.old.room }
     requires ready { Ready (length code.old) env.old }
-    ensures came { came result (seen ⟦<dyn Device as Device>⟧ env.new) (tree_with_hole code.new stack.new.list) ≡ evaluate (seen ⟦<dyn Device as Device>⟧ env.old) (tree_of code.old stack.old.list) }
+    ensures came { came result (seen ⟦<dyn Device as Device>⟧ env.new) (tree_with_hole code.new stack.new.list)
+        ≡ evaluate (seen ⟦<dyn Device as Device>⟧ env.old) (tree_of code.old stack.old.list) }
     ensures at { IsAfter result code.new stack.new.list }
     ensures room { length code.new + room_after result ≤ stack.new.room }
     ensures code { length code.new ≤ length code.old }
-    ensures output { 512 ≤ env.new.out.now.room }
+    ensures output { kept_free ≤ env.new.out.now.room }
     ensures same { SameEnv env.old env.new }
 {
     loop {
         match next(code, stack, env) {
             Advanced::Goes => {}
             Advanced::Ends(n) => return Went::Value(n),
-            Advanced::Calls(callee, args) => return Went::Call { callee, args },
+            Advanced::Calls(callee, words) => return Went::Call { callee, words },
             Advanced::Faults(fault) => return Went::Fault(fault),
         }
     }
 }
 
-// Makes room for what n operations can write, and for 512 bytes behind.
+// Makes room for what n operations can write, and for what is kept free.
 fn make_room(out: &mut OutBuf, n: usize) -> Result<(), NoMemory>
-    requires { n ≤ 65536 }
-    ensures room { OnOk result (n * 300 + 512 ≤ out.new.room) }
+    requires { n ≤ most_operations }
+    ensures room { OnOk result (n * most_announced + kept_free ≤ out.new.room) }
     ensures bytes { out.new.bytes ≡ out.old.bytes }
 {
-    let wanted = n * 300 + 512;
+    let wanted = n * MOST_ANNOUNCED + KEPT_FREE;
     if wanted <= out.room() {
         return Ok(());
     }
     out.grow((wanted - out.room()) as u32)
 }
 
+// Makes room for the symbols that n operations can add, as far as the table takes them.
+fn make_spare(syms: &mut Symbols, n: usize) -> Result<(), NoMemory>
+    ensures spare { OnOk result (min n (most_symbols - length syms.new.list) ≤ syms.new.spare) }
+    ensures list { syms.new.list ≡ syms.old.list }
+{
+    let wanted = n.min(SYMBOLS.saturating_sub(syms.len()) as usize);
+    match syms.reserve(wanted as u32) {
+        Ok(()) => Ok(()),
+        Err(_) => Err(NoMemory),
+    }
+}
+
 /// Takes what n operations can need. Nothing that contracts compare changes.
 pub(crate) fn prepare(n: usize, env: &mut Env<'_>) -> Result<(), NoMemory>
-    requires few { n ≤ 65536 }
+    requires few { n ≤ most_operations }
     requires pool { env.old.part.now.end ≤ length env.old.bus.now.ram }
     ensures ready { OnOk result (Ready n env.new) }
     ensures kept { seen ⟦<dyn Device as Device>⟧ env.new ≡ seen ⟦<dyn Device as Device>⟧ env.old }
-    ensures size { SameSize env.old env.new }
     ensures same { SameEnv env.old env.new }
 {
-    let symbols = n.min(65536usize.saturating_sub(env.syms.len()));
-    env.syms.reserve(symbols)?;
+    make_spare(env.syms, n)?;
     make_room(env.out, n)
 }
 
-// Takes the memory that may be needed, runs, and leaves a value behind a fault.
-pub(crate) fn go_on(code: &mut Code, stack: &mut Stack, env: &mut Env<'_>) -> Went
+/// Takes the memory that may be needed, and runs. Behind a fault a value is left.
+pub(crate) fn go_on(code: &mut Code, stack: &mut Stack, env: &mut Env<'_>) -> Result<Went, NoMemory>
     requires at { IsEval false code.old stack.old }
     requires pool { env.old.part.now.end ≤ length env.old.bus.now.ram }
-    ensures went { (result ≡ Went.NoMemory → ⊥) → came result (seen ⟦<dyn Device as Device>⟧ env.new) (tree_with_hole code.new stack.new.list) ≡ evaluate (seen ⟦<dyn Device as Device>⟧ env.old) (tree_of code.old stack.old.list) }
-    ensures at { IsEval (is_call_lem result) code.new stack.new }
-    ensures no_memory { result ≡ Went.NoMemory → (seen ⟦<dyn Device as Device>⟧ env.new ≡ seen ⟦<dyn Device as Device>⟧ env.old) × (code.new ≡ code.old) × (stack.new ≡ stack.old) }
-    ensures room { (result ≡ Went.NoMemory → ⊥) → 512 ≤ env.new.out.now.room }
+    ensures went { IfOk result (λ went.
+        came went (seen ⟦<dyn Device as Device>⟧ env.new) (tree_with_hole code.new stack.new.list)
+        ≡ evaluate (seen ⟦<dyn Device as Device>⟧ env.old) (tree_of code.old stack.old.list)) }
+    ensures at { IfOk result (λ went. IsEval (is_call_lem went) code.new stack.new) }
+    ensures no_memory { OnErr result (seen ⟦<dyn Device as Device>⟧ env.new ≡ seen ⟦<dyn Device as Device>⟧ env.old) }
+    ensures kept { OnErr result ((code.new ≡ code.old) × (stack.new ≡ stack.old)) }
+    ensures room { OnOk result (kept_free ≤ env.new.out.now.room) }
     ensures same { SameEnv env.old env.new }
 {
-    if prepare(code.len(), env).is_err() {
-        return Went::NoMemory;
-    }
+    prepare(code.len(), env)?;
     match run(code, stack, env) {
-        Went::Value(n) => Went::Value(n),
-        Went::Call { callee, args } => Went::Call { callee, args },
+        Went::Value(n) => Ok(Went::Value(n)),
+        Went::Call { callee, words } => Ok(Went::Call { callee, words }),
         Went::Fault(fault) => {
             settle(code, stack);
-            Went::Fault(fault)
+            Ok(Went::Fault(fault))
         }
-        Went::NoMemory => unreachable!(),
     }
 }
 

@@ -1,21 +1,23 @@
 //! What one operation does.
 
-ghost use Rattle.std.specs.Prelude.{◌≡◌, ℕ, ◌+◌, ◌-◌, ◌*◌, ◌<◌, ◌≤◌, not, ◌==◌, length, List, [], ◌∷◌, drop, if◌then◌else◌, Ok, Err, None, OnErr};
-ghost use Rattle.shell_eval.specs.Words.{Tried, combined, before_word, number_of};
+ghost use Rattle.std.specs.Prelude.{◌≡◌, ◌+◌, ◌-◌, ◌<◌, ◌≤◌, not, ◌==◌, length, ◌∷◌, drop, if◌then◌else◌, None};
+ghost use Rattle.wind_base.specs.Limits.{most_symbols};
+ghost use Rattle.ppc_core.specs.Words.{bit};
+ghost use Rattle.symbol_table.specs.Newest.{find};
 ghost use Rattle.shell_eval.specs.State.{State};
-ghost use Rattle.shell_eval.specs.Seen.{seen, attempt, SameEnv, SameSize, KeptParts, Ready};
-ghost use Rattle.shell_eval.specs.Machine.{pushes, mixes, Goes, places, left_step, decides_step, turn_step, mixed_step, close_step, alone as alone_lem, calls, op_step, argument as argument_lem, top_word, top_entry, below};
-ghost use Rattle.shell_eval.specs.Parts.{newest};
-ghost use Rattle.shell_eval.specs.Moved.{moved, held};
-ghost use Rattle.shell_eval.specs.declared.code.Op.{Op as OpType};
+ghost use Rattle.shell_eval.specs.Seen.{seen, SameEnv, SameSize, KeptParts, Ready, most_announced};
+ghost use Rattle.shell_eval.specs.Machine.{pushes, places, left_effect, decides_step, turn_step, mixed_effect, close_effect, alone as alone_lem, asks, op_step, argument as argument_lem, top_word, top_entry, below};
+ghost use Rattle.shell_eval.specs.Moved.{attempt, effect_of, moved, held};
 
-use wind_outside::Device;
 use crate::code::{Code, Entry, Op, Stack, Turn, take_word};
-use crate::env::{Env, SymKind};
+use crate::env::Env;
 use crate::fault::EvalFault;
-use crate::tree::{BinOp, UnOp};
+use crate::operators::{before, combine};
 use crate::words::{is_value, looked_up, name_value, name_word, string_made, variable_made, word_read, word_stored};
+use shell_parse::BinOp;
+use symbol_table::SymKind;
 use wind_base::Name;
+use wind_outside::Device;
 
 /// What came of an operation.
 #[derive(Drop)]
@@ -31,7 +33,7 @@ pub(crate) enum Stepped {
 // A word goes on top, or the fault is answered.
 fn put_word(stack: &mut Stack, word: Result<u32, EvalFault>) -> Stepped
     requires { 0 < stack.old.room }
-    ensures stepped { (s : State) → (c : List OpType) → moved result s c stack.new.list ≡ pushes s (attempt word s) c stack.old.list }
+    ensures effect { (s : State) → effect_of result s stack.new.list ≡ pushes s (attempt word s) stack.old.list }
     ensures room { stack.old.room + held result ≤ stack.new.room + 1 }
 {
     match word {
@@ -43,44 +45,11 @@ fn put_word(stack: &mut Stack, word: Result<u32, EvalFault>) -> Stepped
     }
 }
 
-// The value of an operator before a word.
-fn before(op: UnOp, a: u32) -> u32
-    ensures { result ≡ before_word op a }
-{
-    match op {
-        UnOp::Neg => 0u32.wrapping_sub(a),
-        UnOp::Not => u32::from(a == 0),
-    }
-}
-
-// The value of an operator between two words.
-fn between(op: BinOp, a: u32, b: u32) -> Result<u32, EvalFault>
-    ensures { (s : State) → attempt result s ≡ combined s op a b }
-{
-    match op {
-        BinOp::OrElse => Ok(u32::from(!(a == 0 && b == 0))),
-        BinOp::AndAlso => Ok(u32::from(!(a == 0 || b == 0))),
-        BinOp::Ne => Ok(u32::from(a != b)),
-        BinOp::Plus => Ok(a.wrapping_add(b)),
-        BinOp::Minus => Ok(a.wrapping_sub(b)),
-        BinOp::Over => quotient(a, b),
-    }
-}
-
-// The quotient.
-fn quotient(a: u32, b: u32) -> Result<u32, EvalFault>
-    ensures { (s : State) → attempt result s ≡ combined s BinOp.Over a b }
-{
-    if b == 0 {
-        return Err(EvalFault::DivideByZero);
-    }
-    Ok(a / b)
-}
-
 // The place of an assignment on top, with its old word where an operator is to combine it.
 fn place(env: &mut Env<'_>, stack: &mut Stack, aop: Option<BinOp>, at: u32) -> Stepped
     requires { 0 < stack.old.room }
-    ensures stepped { (c : List OpType) → moved result (seen ⟦<dyn Device as Device>⟧ env.new) c stack.new.list ≡ places (seen ⟦<dyn Device as Device>⟧ env.old) aop at c stack.old.list }
+    ensures effect { effect_of result (seen ⟦<dyn Device as Device>⟧ env.new) stack.new.list
+        ≡ places (seen ⟦<dyn Device as Device>⟧ env.old) aop at stack.old.list }
     ensures room { stack.old.room + held result ≤ stack.new.room + 1 }
     ensures parts { KeptParts env.old env.new }
     ensures same { SameEnv env.old env.new }
@@ -102,7 +71,8 @@ fn place(env: &mut Env<'_>, stack: &mut Stack, aop: Option<BinOp>, at: u32) -> S
 // The left name of an assignment.
 fn left(env: &mut Env<'_>, stack: &mut Stack, aop: Option<BinOp>, name: Name) -> Stepped
     requires { 0 < stack.old.room }
-    ensures stepped { (c : List OpType) → moved result (seen ⟦<dyn Device as Device>⟧ env.new) c stack.new.list ≡ left_step (seen ⟦<dyn Device as Device>⟧ env.old) aop name (newest name env.old.syms.now.list) c stack.old.list }
+    ensures effect { effect_of result (seen ⟦<dyn Device as Device>⟧ env.new) stack.new.list
+        ≡ left_effect (seen ⟦<dyn Device as Device>⟧ env.old) aop name (find env.old.syms.now.list name) stack.old.list }
     ensures room { stack.old.room + held result ≤ stack.new.room + 1 }
     ensures parts { KeptParts env.old env.new }
     ensures same { SameEnv env.old env.new }
@@ -123,7 +93,7 @@ fn left(env: &mut Env<'_>, stack: &mut Stack, aop: Option<BinOp>, name: Name) ->
 // A left name that no symbol has.
 fn unknown(stack: &mut Stack, aop: Option<BinOp>, name: Name) -> Stepped
     requires { 0 < stack.old.room }
-    ensures stepped { (s : State) → (c : List OpType) → moved result s c stack.new.list ≡ left_step s aop name None c stack.old.list }
+    ensures effect { (s : State) → effect_of result s stack.new.list ≡ left_effect s aop name None stack.old.list }
     ensures room { stack.old.room + held result ≤ stack.new.room + 1 }
 {
     match aop {
@@ -138,7 +108,8 @@ fn unknown(stack: &mut Stack, aop: Option<BinOp>, name: Name) -> Stepped
 // What a left side that may decide comes to.
 fn decide(code: &mut Code, stack: &mut Stack, decides: bool, n: u32, keep: usize) -> Stepped
     requires { 0 < stack.old.room }
-    ensures stepped { (s : State) → moved result s code.new stack.new.list ≡ (if decides then Goes s (drop (length code.old - keep) code.old) (Entry.Word (number_of (not (n == 0))) ∷ stack.old.list) else Goes s code.old (Entry.Truth ∷ stack.old.list)) }
+    ensures stepped { (s : State) → moved result s code.new stack.new.list
+        ≡ decides_step s decides keep n code.old stack.old.list }
     ensures room { stack.old.room + held result ≤ stack.new.room + 1 }
     ensures code { length code.new ≤ length code.old }
 {
@@ -154,7 +125,8 @@ fn decide(code: &mut Code, stack: &mut Stack, decides: bool, n: u32, keep: usize
 // A left side is used up.
 fn turned(env: &mut Env<'_>, code: &mut Code, stack: &mut Stack, turn: Turn, keep: usize) -> Stepped
     requires { 0 < stack.old.room }
-    ensures stepped { moved result (seen ⟦<dyn Device as Device>⟧ env.new) code.new stack.new.list ≡ turn_step (seen ⟦<dyn Device as Device>⟧ env.old) turn keep (top_word stack.old.list) code.old (below stack.old.list) }
+    ensures stepped { moved result (seen ⟦<dyn Device as Device>⟧ env.new) code.new stack.new.list
+        ≡ turn_step (seen ⟦<dyn Device as Device>⟧ env.old) turn keep (top_word stack.old.list) code.old (below stack.old.list) }
     ensures room { stack.old.room + held result ≤ stack.new.room + 1 }
     ensures code { length code.new ≤ length code.old }
     ensures parts { KeptParts env.old env.new }
@@ -172,7 +144,8 @@ fn turned(env: &mut Env<'_>, code: &mut Code, stack: &mut Stack, turn: Turn, kee
 // An assignment by an operator, with its right side.
 fn mixed(env: &mut Env<'_>, stack: &mut Stack, at: u32, word: Result<u32, EvalFault>) -> Stepped
     requires { 0 < stack.old.room }
-    ensures stepped { (c : List OpType) → moved result (seen ⟦<dyn Device as Device>⟧ env.new) c stack.new.list ≡ mixed_step (seen ⟦<dyn Device as Device>⟧ env.old) at (attempt word (seen ⟦<dyn Device as Device>⟧ env.old)) c stack.old.list }
+    ensures effect { effect_of result (seen ⟦<dyn Device as Device>⟧ env.new) stack.new.list
+        ≡ mixed_effect (seen ⟦<dyn Device as Device>⟧ env.old) at (attempt word (seen ⟦<dyn Device as Device>⟧ env.old)) stack.old.list }
     ensures room { stack.old.room + held result ≤ stack.new.room + 1 }
     ensures parts { KeptParts env.old env.new }
     ensures same { SameEnv env.old env.new }
@@ -190,14 +163,17 @@ fn mixed(env: &mut Env<'_>, stack: &mut Stack, at: u32, word: Result<u32, EvalFa
 // The form that a left side began, with its right side.
 fn closed(env: &mut Env<'_>, stack: &mut Stack) -> Stepped
     requires entry { 0 < stack.old.room }
-    requires spare { length env.old.syms.now.list < 65536 → 0 < env.old.syms.now.spare }
-    requires room { 300 ≤ env.old.out.now.room }
+    requires spare { length env.old.syms.now.list < most_symbols → 0 < env.old.syms.now.spare }
+    requires room { most_announced ≤ env.old.out.now.room }
     requires pool { env.old.part.now.end ≤ length env.old.bus.now.ram }
-    ensures stepped { (c : List OpType) → moved result (seen ⟦<dyn Device as Device>⟧ env.new) c stack.new.list ≡ close_step (seen ⟦<dyn Device as Device>⟧ env.old) (top_word stack.old.list) (top_entry (below stack.old.list)) c (below (below stack.old.list)) }
+    ensures effect { effect_of result (seen ⟦<dyn Device as Device>⟧ env.new) stack.new.list
+        ≡ close_effect (seen ⟦<dyn Device as Device>⟧ env.old) (top_word stack.old.list) (top_entry (below stack.old.list))
+            (below (below stack.old.list)) }
     ensures entry { stack.old.room + held result ≤ stack.new.room + 1 }
-    ensures spare { length env.old.syms.now.list + env.old.syms.now.spare ≤ length env.new.syms.now.list + env.new.syms.now.spare }
+    ensures spare { length env.old.syms.now.list + env.old.syms.now.spare
+        ≤ length env.new.syms.now.list + env.new.syms.now.spare }
     ensures list { length env.new.syms.now.list ≤ length env.old.syms.now.list + 1 }
-    ensures room { env.old.out.now.room ≤ env.new.out.now.room + 300 }
+    ensures room { env.old.out.now.room ≤ env.new.out.now.room + most_announced }
     ensures same { SameEnv env.old env.new }
     ensures size { SameSize env.old env.new }
 {
@@ -208,7 +184,7 @@ fn closed(env: &mut Env<'_>, stack: &mut Stack) -> Stepped
             let stored = word_stored(env, at, v);
             put_word(stack, stored)
         }
-        Some(Entry::Mixed(op, at, word)) => mixed(env, stack, at, between(op, word, v)),
+        Some(Entry::Mixed(op, at, word)) => mixed(env, stack, at, combine(op, word, v)),
         Some(Entry::Unknown(name)) => {
             let made = variable_made(env, name, v);
             put_word(stack, made)
@@ -230,7 +206,7 @@ fn argument(stack: &Stack, n: usize, place: usize) -> u32
 
 // The call that is due.
 fn called(stack: &mut Stack, n: usize) -> Stepped
-    ensures stepped { (s : State) → (c : List OpType) → moved result s c stack.new.list ≡ calls s n c stack.old.list }
+    ensures effect { (s : State) → effect_of result s stack.new.list ≡ asks s n stack.old.list }
     ensures room { stack.old.room ≤ stack.new.room }
 {
     let words = [
@@ -253,7 +229,8 @@ fn called(stack: &mut Stack, n: usize) -> Stepped
 // A name alone.
 fn alone(env: &mut Env<'_>, stack: &mut Stack, name: Name) -> Stepped
     requires { 0 < stack.old.room }
-    ensures stepped { (c : List OpType) → moved result (seen ⟦<dyn Device as Device>⟧ env.new) c stack.new.list ≡ alone_lem (seen ⟦<dyn Device as Device>⟧ env.old) name c stack.old.list }
+    ensures effect { effect_of result (seen ⟦<dyn Device as Device>⟧ env.new) stack.new.list
+        ≡ alone_lem (seen ⟦<dyn Device as Device>⟧ env.old) name stack.old.list }
     ensures room { stack.old.room + held result ≤ stack.new.room + 1 }
     ensures parts { KeptParts env.old env.new }
     ensures same { SameEnv env.old env.new }
@@ -272,7 +249,8 @@ fn alone(env: &mut Env<'_>, stack: &mut Stack, name: Name) -> Stepped
 pub(crate) fn step(op: Op, code: &mut Code, stack: &mut Stack, env: &mut Env<'_>) -> Stepped
     requires room { length code.old + 1 ≤ stack.old.room }
     requires ready { Ready (length code.old + 1) env.old }
-    ensures stepped { moved result (seen ⟦<dyn Device as Device>⟧ env.new) code.new stack.new.list ≡ op_step (seen ⟦<dyn Device as Device>⟧ env.old) op code.old stack.old.list }
+    ensures stepped { moved result (seen ⟦<dyn Device as Device>⟧ env.new) code.new stack.new.list
+        ≡ op_step (seen ⟦<dyn Device as Device>⟧ env.old) op code.old stack.old.list }
     ensures room { length code.new + held result ≤ stack.new.room }
     ensures code { length code.new ≤ length code.old }
     ensures ready { Ready (length code.new) env.new }
@@ -305,7 +283,7 @@ pub(crate) fn step(op: Op, code: &mut Code, stack: &mut Stack, env: &mut Env<'_>
         Op::Binary(op) => {
             let b = take_word(stack);
             let a = take_word(stack);
-            put_word(stack, between(op, a, b))
+            put_word(stack, combine(op, a, b))
         }
         Op::Turn(turn, keep) => turned(env, code, stack, turn, keep),
         Op::Left(aop, name) => left(env, stack, aop, name),
