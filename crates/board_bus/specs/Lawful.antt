@@ -23,7 +23,7 @@ never_faults : (b : BusState) (n at : ℕ) → 0 < n → all_ram board_meaning b
 never_faults b n at some h = ap (λ t. not t && not (is_some (reached b.slots n at))) (in_ram b n at h)
 
 -- bytes that are put in place keep the length
-length-with_bytes : (ram : List ℕ) (at : ℕ) (bytes : List ℕ) → at + length bytes ≤ length ram → length (with_bytes ram at bytes) ≡ length ram
+pub length-with_bytes : (ram : List ℕ) (at : ℕ) (bytes : List ℕ) → at + length bytes ≤ length ram → length (with_bytes ram at bytes) ≡ length ram
 length-with_bytes ram at bytes le =
     length-append (take at ram ++ bytes) (drop (at + length bytes) ram) ∙ omega (arith, le, length-append (take at ram) bytes, length-take-le at ram (omega arith), length-drop (at + length bytes) ram)
 
