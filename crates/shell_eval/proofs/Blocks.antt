@@ -9,7 +9,7 @@ use Rattle.mem_partition.proofs.Allocs.{alloc_lies, rounded_holds}
 use Rattle.shell_eval.specs.Words.{block_of, with_block_of}
 
 -- an answer that is a block's address
-ok_was : (r : Result ℕ PartErr) (at : ℕ) → result_ok r ≡ Some at → r ≡ Ok at
+pub ok_was : (r : Result ℕ PartErr) (at : ℕ) → result_ok r ≡ Some at → r ≡ Ok at
 ok_was (Ok n) at e = cc
 ok_was (Err f) at e = absurd (cc)
 

@@ -135,5 +135,5 @@ no_hole_expr (trees.Call f es) = no_hole (trees.Call f es)
 pub begun_whole : BegunLaw
 begun_whole trees.Nothing = refl
 begun_whole (trees.Load file) = refl
-begun_whole (trees.Command x es) = no_holes es
+begun_whole (trees.Command x es) = let q = no_holes es in omega (arith, q)
 begun_whole (trees.Expr t) = no_hole_expr t

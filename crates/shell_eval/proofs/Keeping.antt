@@ -1,6 +1,6 @@
 -- What evaluation keeps of the state.
 use Rattle.std.proofs.Common.{◌≡◌, ℕ, zero, suc, ◌+◌, ◌<◌, ◌≤◌, Bool, true, false, cond, ltb, leb, if◌then◌else◌, List, [], ◌∷◌, ◌++◌, length, replicate, Option, Some, None, Result, Ok, Err, inl, inr, refl, sym, ap, ◌∙◌, subst, append_assoc, length-append, arith}
-use Rattle.std.specs.Prelude.{◌⊎◌, slice_index_or}
+use Rattle.std.specs.Prelude.{◌⊎◌}
 use Rattle.std.specs.List.{Contains}
 use Rattle.std.proofs.lemmas.Bool.{leb-false}
 use Rattle.std.proofs.lemmas.List.{append-nil, length-replicate}
@@ -80,32 +80,35 @@ keeps_memory s m e = record {
 
 -- ---- a block more
 
+-- what is in a list is in another, and so behind one element more
+one_on : (x : Block) (xs ys : List Block) (c : Block) → (Contains xs c → Contains ys c) → Contains (x ∷ xs) c → Contains (x ∷ ys) c
+one_on x xs ys c f (zero, h, e) = (0, omega arith, e)
+one_on x xs ys c f (suc k, h, e) = let (i, m, g) = f (k, omega arith, e) in (suc i, omega arith, g)
+
+one_or : (x b : Block) (xs ys : List Block) (c : Block) → (Contains ys c → Contains xs c ⊎ (c ≡ b)) → Contains (x ∷ ys) c → Contains (x ∷ xs) c ⊎ (c ≡ b)
+one_or x b xs ys c f (zero, h, e) = inl (0, omega arith, e)
+one_or x b xs ys c f (suc k, h, e) = elim (f (k, omega arith, e)) [
+    inl d ↦ let (j, l, g) = d in inl (suc j, omega arith, g)
+  | inr g ↦ inr g
+  ]
+
+first_or : (b : Block) (xs : List Block) (c : Block) → Contains (b ∷ xs) c → Contains xs c ⊎ (c ≡ b)
+first_or b xs c (zero, h, e) = inr (sym e)
+first_or b xs c (suc k, h, e) = inl (k, omega arith, e)
+
 with_stays : (b : Block) (bs : List Block) (c : Block) → Contains bs c → Contains (with_block b bs) c
 with_stays b [] c (k, h, e) = absurd (omega arith)
 with_stays b (x ∷ xs) c (k, h, e) = elim (ltb b.addr x.addr) as (λ t. Contains (cond t (b ∷ x ∷ xs) (x ∷ with_block b xs)) c) [
-    | true ↦ (suc k, omega arith, e)
-    | false ↦ behind k h e
-  ] where
-  behind : (j : ℕ) → j < length (x ∷ xs) → slice_index_or (x ∷ xs) j c ≡ c → Contains (x ∷ with_block b xs) c
-  behind zero l f = (0, omega arith, f)
-  behind (suc j) l f = let (i, m, g) = with_stays b xs c (j, omega arith, f) in (suc i, omega arith, g)
+      | true ↦ (suc k, omega arith, e)
+      | false ↦ one_on x xs (with_block b xs) c (with_stays b xs c) (k, h, e)
+    ]
 
 with_added : (b : Block) (bs : List Block) (c : Block) → Contains (with_block b bs) c → Contains bs c ⊎ (c ≡ b)
-with_added b [] c (zero, h, e) = inr (sym e)
-with_added b [] c (suc k, h, e) = absurd (omega arith)
-with_added b (x ∷ xs) c = elim (ltb b.addr x.addr) as (λ t. Contains (cond t (b ∷ x ∷ xs) (x ∷ with_block b xs)) c → Contains (x ∷ xs) c ⊎ (c ≡ b)) [
-    | true ↦ before
-    | false ↦ behind
-  ] where
-  before : Contains (b ∷ x ∷ xs) c → Contains (x ∷ xs) c ⊎ (c ≡ b)
-  before (zero, h, e) = inr (sym e)
-  before (suc k, h, e) = inl (k, omega arith, e)
-  behind : Contains (x ∷ with_block b xs) c → Contains (x ∷ xs) c ⊎ (c ≡ b)
-  behind (zero, h, e) = inl (0, omega arith, e)
-  behind (suc k, h, e) = elim (with_added b xs c (k, omega arith, e)) [
-    inl d ↦ let (j, l, f) = d in inl (suc j, omega arith, f)
-  | inr f ↦ inr f
-  ]
+with_added b [] c h = first_or b [] c h
+with_added b (x ∷ xs) c h = elim (ltb b.addr x.addr) as (λ t. Contains (cond t (b ∷ x ∷ xs) (x ∷ with_block b xs)) c → Contains (x ∷ xs) c ⊎ (c ≡ b)) [
+    | true ↦ first_or b (x ∷ xs) c
+    | false ↦ one_or x b xs (with_block b xs) c (with_added b xs c)
+  ] h
 
 -- the pool with a Kernel block more, which is where it is given
 pool_is : (p : PartState) (n at : ℕ) → block_of p n ≡ Some at → with_block_of p n ≡ record p { blocks = with_block (given_block n at Kernel) p.blocks }
@@ -172,15 +175,15 @@ stored_length b at v h = same_below (length (stored_at b 4 at v).ram) (length b.
 pub read_safe : (n : ℕ) (s : State) (at : ℕ) → Safe n s (word_read s at)
 unfolding word_read
 read_safe n s at = elim (faults_at s.memory 4 at) as (λ t. Safe n s (if t then Err (AccessAt at) else made (answer_at s.memory 4 at) (record s { memory = loaded_at s.memory 4 at }))) [
-  | true ↦ tt
-  | false ↦ (keeps_memory s (loaded_at s.memory 4 at) (loaded_length s.memory at), omega arith)
+    | true ↦ tt
+    | false ↦ (keeps_memory s (loaded_at s.memory 4 at) (loaded_length s.memory at), omega arith)
   ]
 
 pub stored_safe : (n : ℕ) (s : State) (at v : ℕ) → Safe n s (word_stored s at v)
 unfolding word_stored
 stored_safe n s at v = elim (faults_at s.memory 4 at) as (λ t. faults_at s.memory 4 at ≡ t → Safe n s (if t then Err (AccessAt at) else made v (record s { memory = stored_at s.memory 4 at v }))) [
-  | true ↦ λ e. tt
-  | false ↦ λ e. (keeps_memory s (stored_at s.memory 4 at v) (stored_length s.memory at v e), omega arith)
+    | true ↦ λ e. tt
+    | false ↦ λ e. (keeps_memory s (stored_at s.memory 4 at v) (stored_length s.memory at v e), omega arith)
   ] refl
 
 value_safe : (n : ℕ) (s : State) (b : Bool) (at : ℕ) → Safe n s (if b then made at s else word_read s at)
@@ -217,29 +220,33 @@ safe_after : (n m : ℕ) (s t : State) (r : Tried) → Writes n s t → Safe m t
 safe_after n m s t (Err f) h k = tt
 safe_after n m s t (Ok a) (h, l) (k, g) = (keeps_then s t a.state h k, omega arith)
 
+at_most : (n : ℕ) (s : State) (r : Tried) → Safe (n + 0) s r → Safe n s r
+at_most n s (Ok m) (k, l) = (k, omega arith)
+at_most n s (Err f) h = tt
+
+variable_by_safe : (s : State) (x : List ℕ) (v : ℕ) → IsPoolInRam s → length s.symbols < most_symbols → (at : Option ℕ) → block_of s.pool variable_bytes ≡ at →
+    Safe (length (announcement x)) s (variable_by s x v at)
+variable_by_safe s x v inside few None e = tt
+variable_by_safe s x v inside few (Some at) e =
+    let high = block_lies s.pool variable_bytes at e in
+    let zeros : List ℕ = replicate (rounded variable_bytes) 0 in
+    let l : length (with_bytes s.memory.ram at zeros) ≡ length s.memory.ram =
+        length-with_bytes s.memory.ram at zeros (omega (arith, length-replicate {A = ℕ} (rounded variable_bytes) 0)) in
+    let t : State = record s { pool = with_block_of s.pool variable_bytes; memory = with_ram s.memory at zeros } in
+    let one : Keeps s t = keeps_block s variable_bytes at (with_ram s.memory at zeros) e l in
+    let two : Keeps t (with_variable s x at) = keeps_symbol t (variable x at) (announcement x) few in
+    let written : length (s.output ++ announcement x) ≡ length s.output + length (announcement x) = length-append s.output (announcement x) in
+    let both : Writes (length (announcement x)) s (with_variable s x at) = (keeps_then s t (with_variable s x at) one two, omega arith) in
+    at_most (length (announcement x)) s (word_stored (with_variable s x at) at v)
+        (safe_after (length (announcement x)) 0 s (with_variable s x at) (word_stored (with_variable s x at) at v) both (stored_safe 0 (with_variable s x at) at v))
+
 pub variable_safe : (s : State) (x : List ℕ) (v : ℕ) → IsPoolInRam s → Safe (length (announcement x)) s (variable_made s x v)
 unfolding variable_made
 variable_safe s x v inside = elim (leb most_symbols (length s.symbols)) as (λ t. leb most_symbols (length s.symbols) ≡ t →
       Safe (length (announcement x)) s (if t then Err SymbolsFull else variable_by s x v (block_of s.pool variable_bytes))) [
     | true ↦ λ e. tt
-    | false ↦ λ e. go (leb-false most_symbols (length s.symbols) e) (block_of s.pool variable_bytes) refl
-  ] refl where
-  go : length s.symbols < most_symbols → (at : Option ℕ) → block_of s.pool variable_bytes ≡ at → Safe (length (announcement x)) s (variable_by s x v at)
-  go few None e = tt
-  go few (Some at) e =
-      let high = block_lies s.pool variable_bytes at e in
-      let zeros : List ℕ = replicate (rounded variable_bytes) 0 in
-      let l : length (with_bytes s.memory.ram at zeros) ≡ length s.memory.ram = length-with_bytes s.memory.ram at zeros (omega (arith, length-replicate (rounded variable_bytes) 0)) in
-      let t : State = record s { pool = with_block_of s.pool variable_bytes; memory = with_ram s.memory at zeros } in
-      let one : Keeps s t = keeps_block s variable_bytes at (with_ram s.memory at zeros) e l in
-      let two : Keeps t (with_variable s x at) = keeps_symbol t (variable x at) (announcement x) few in
-      let written : length (s.output ++ announcement x) ≡ length s.output + length (announcement x) = length-append s.output (announcement x) in
-      let both : Writes (length (announcement x)) s (with_variable s x at) = (keeps_then s t (with_variable s x at) one two, omega arith) in
-      at_most (length (announcement x)) s (word_stored (with_variable s x at) at v)
-          (safe_after (length (announcement x)) 0 s (with_variable s x at) (word_stored (with_variable s x at) at v) both (stored_safe 0 (with_variable s x at) at v))
-  at_most : (n : ℕ) (s : State) (r : Tried) → Safe (n + 0) s r → Safe n s r
-  at_most n s (Ok m) (k, l) = (k, omega arith)
-  at_most n s (Err f) h = tt
+    | false ↦ λ e. variable_by_safe s x v inside (leb-false most_symbols (length s.symbols) e) (block_of s.pool variable_bytes) refl
+  ] refl
 
 pub combined_safe : (n : ℕ) (s : State) (op : BinOp) (a b : ℕ) → Safe n s (combined s op a b)
 combined_safe n s op a b = go (between_words op a b) where

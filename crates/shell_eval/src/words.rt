@@ -110,12 +110,13 @@ pub(crate) fn is_value(kind: SymKind) -> bool
 }
 
 // A Kernel block of n bytes, where the partition gives one.
-#[tactic(auto, using(crate::proofs::Blocks::block_lies, crate::proofs::Blocks::block_stays, crate::proofs::Blocks::block_end))]
+#[tactic(auto, using(crate::proofs::Blocks::block_lies, crate::proofs::Blocks::block_holds, crate::proofs::Blocks::block_stays, crate::proofs::Blocks::block_end))]
 fn block_for(part: &mut Part, n: u32) -> Option<u32>
     ensures found { result ≡ block_of part.old n }
     ensures pool { part.new ≡ with_block_of part.old n }
     ensures kept { result ≡ None → part.new ≡ part.old }
     ensures inside { IfSome result (λ at. at + rounded n ≤ part.old.end) }
+    ensures holds { IfSome result (λ at. at + n ≤ part.old.end) }
     ensures end { part.new.end ≡ part.old.end }
 {
     part.alloc(n, 1, Class::Kernel).ok()
@@ -160,7 +161,8 @@ pub(crate) fn string_made(env: &mut Env<'_>, text: &Text) -> Result<u32, EvalFau
     let Some(at) = block_with_room(env.part, bytes) else {
         return Err(EvalFault::NoRoom);
     };
-    put_bytes(&mut env.bus.ram, at, bytes);
+    let bus = &mut *env.bus;
+    put_bytes(&mut bus.ram, at, bytes);
     Ok(at)
 }
 
@@ -212,7 +214,8 @@ pub(crate) fn variable_made(env: &mut Env<'_>, name: Name, v: u32) -> Result<u32
     let Some(at) = block_for(env.part, VARIABLE_BYTES) else {
         return Err(EvalFault::NoRoom);
     };
-    zero_block(&mut env.bus.ram, at);
+    let bus = &mut *env.bus;
+    zero_block(&mut bus.ram, at);
     announce(env.out, name.bytes());
     env.syms.add(Symbol {
         name,
