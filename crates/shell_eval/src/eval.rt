@@ -5,7 +5,7 @@ ghost use Rattle.shell_parse.specs.Trees.{plain_stmt};
 ghost use Rattle.shell_eval.specs.Pending.{begun_stmt, filled};
 ghost use Rattle.shell_eval.specs.Laws.{holes};
 ghost use Rattle.shell_eval.specs.Evaluate.{evaluate};
-ghost use Rattle.shell_eval.specs.Seen.{seen, SameEnv, kept_free};
+ghost use Rattle.shell_eval.specs.Seen.{seen, SameEnv, SameSize, kept_free};
 ghost use Rattle.shell_eval.specs.Moved.{came};
 ghost use Rattle.shell_eval.specs.Ran.{is_call as is_call_lem};
 ghost use Rattle.shell_eval.specs.Inside.{room_of};
@@ -76,6 +76,7 @@ impl Eval {
         ensures no_memory { OnErr result (seen ⟦<dyn Device as Device>⟧ env.new ≡ seen ⟦<dyn Device as Device>⟧ env.old) }
         ensures kept { OnErr result (self.new ≡ self.old) }
         ensures same { SameEnv env.old env.new }
+        ensures size { SameSize env.old env.new }
     {
         let went = go_on(&mut self.code, &mut self.stack, env)?;
         self.waits = is_call(&went);

@@ -62,6 +62,7 @@ fn advance(code: &mut Code, stack: &mut Stack, env: &mut Env<'_>) -> Advanced
     ensures room { length code.new + left_room result ≤ stack.new.room }
     ensures ready { Ready (length code.new) env.new }
     ensures same { SameEnv env.old env.new }
+    ensures size { SameSize env.old env.new }
 {
     match code.pop() {
         Some(op) => from_step(step(op, code, stack, env)),
@@ -82,6 +83,7 @@ fn next(code: &mut Code, stack: &mut Stack, env: &mut Env<'_>) -> Advanced
     ensures room { length code.new + left_room result ≤ stack.new.room }
     ensures ready { Ready (length code.new) env.new }
     ensures same { SameEnv env.old env.new }
+    ensures size { SameSize env.old env.new }
 {
     advance(code, stack, env)
 }
@@ -98,6 +100,7 @@ pub(crate) fn run(code: &mut Code, stack: &mut Stack, env: &mut Env<'_>) -> Went
     ensures code { length code.new ≤ length code.old }
     ensures output { kept_free ≤ env.new.out.now.room }
     ensures same { SameEnv env.old env.new }
+    ensures size { SameSize env.old env.new }
 {
     loop {
         match next(code, stack, env) {
@@ -141,6 +144,7 @@ pub(crate) fn prepare(n: usize, env: &mut Env<'_>) -> Result<(), NoMemory>
     ensures ready { OnOk result (Ready n env.new) }
     ensures kept { seen ⟦<dyn Device as Device>⟧ env.new ≡ seen ⟦<dyn Device as Device>⟧ env.old }
     ensures same { SameEnv env.old env.new }
+    ensures size { SameSize env.old env.new }
 {
     make_spare(env.syms, n)?;
     make_room(env.out, n)
@@ -158,6 +162,7 @@ pub(crate) fn go_on(code: &mut Code, stack: &mut Stack, env: &mut Env<'_>) -> Re
     ensures kept { OnErr result ((code.new ≡ code.old) × (stack.new ≡ stack.old)) }
     ensures room { OnOk result (kept_free ≤ env.new.out.now.room) }
     ensures same { SameEnv env.old env.new }
+    ensures size { SameSize env.old env.new }
 {
     prepare(code.len(), env)?;
     match run(code, stack, env) {

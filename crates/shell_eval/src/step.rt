@@ -255,6 +255,7 @@ pub(crate) fn step(op: Op, code: &mut Code, stack: &mut Stack, env: &mut Env<'_>
     ensures code { length code.new ≤ length code.old }
     ensures ready { Ready (length code.new) env.new }
     ensures same { SameEnv env.old env.new }
+    ensures size { SameSize env.old env.new }
 {
     match op {
         Op::Push(n) => put_word(stack, Ok(n)),
