@@ -53,7 +53,8 @@ fn emit_behind(code: &mut Code, alloc: Global, op: BinOp, right: &Tree) -> Resul
 // The code behind the address of an assignment.
 #[cycle(emit)]
 fn emit_place(code: &mut Code, alloc: Global, aop: Option<BinOp>, right: &Tree) -> Result<(), NoMemory>
-    ensures { OnOk result (code.new ≡ Op.Turn (Turn.Place aop) (length code.old) ∷ compiled (plain_tree right.now) (Op.Close ∷ code.old)) }
+    ensures { OnOk result (code.new
+        ≡ Op.Turn (Turn.Place aop) (length code.old) ∷ compiled (plain_tree right.now) (Op.Close ∷ code.old)) }
 {
     let keep = code.len();
     code.push(Op::Close)?;
@@ -103,7 +104,8 @@ fn emit(code: &mut Code, alloc: Global, tree: &Tree) -> Result<(), NoMemory>
 #[cycle(emit)]
 #[tactic(auto, using(crate::proofs::Counted::counts))]
 fn emit_call(code: &mut Code, alloc: Global, arguments: &[Tree]) -> Result<(), NoMemory>
-    ensures { OnOk result (code.new ≡ compiled_all (plain_arguments arguments.now) (Op.Call (count_onto (plain_arguments arguments.now) 0) ∷ code.old)) }
+    ensures { OnOk result (code.new ≡ compiled_all (plain_arguments arguments.now)
+        (Op.Call (count_onto (plain_arguments arguments.now) 0) ∷ code.old)) }
 {
     code.push(Op::Call(arguments.len()))?;
     emit_all(code, alloc, arguments)

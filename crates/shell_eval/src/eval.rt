@@ -73,7 +73,8 @@ impl Eval {
             ≡ evaluate (seen ⟦<dyn Device as Device>⟧ env.old) self.old) }
         ensures holes { IfOk result (λ went. holes self.new ≡ room_of (is_call_lem went)) }
         ensures room { OnOk result (kept_free ≤ env.new.out.now.room) }
-        ensures no_memory { OnErr result (seen ⟦<dyn Device as Device>⟧ env.new ≡ seen ⟦<dyn Device as Device>⟧ env.old) }
+        ensures no_memory { OnErr result (seen ⟦<dyn Device as Device>⟧ env.new
+            ≡ seen ⟦<dyn Device as Device>⟧ env.old) }
         ensures kept { OnErr result (self.new ≡ self.old) }
         ensures same { SameEnv env.old env.new }
         ensures size { SameSize env.old env.new }

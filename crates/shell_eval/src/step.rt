@@ -72,7 +72,8 @@ fn place(env: &mut Env<'_>, stack: &mut Stack, aop: Option<BinOp>, at: u32) -> S
 fn left(env: &mut Env<'_>, stack: &mut Stack, aop: Option<BinOp>, name: Name) -> Stepped
     requires { 0 < stack.old.room }
     ensures effect { effect_of result (seen ⟦<dyn Device as Device>⟧ env.new) stack.new.list
-        ≡ left_effect (seen ⟦<dyn Device as Device>⟧ env.old) aop name (find env.old.syms.now.list name) stack.old.list }
+        ≡ left_effect (seen ⟦<dyn Device as Device>⟧ env.old) aop name (find env.old.syms.now.list name)
+            stack.old.list }
     ensures room { stack.old.room + held result ≤ stack.new.room + 1 }
     ensures parts { KeptParts env.old env.new }
     ensures same { SameEnv env.old env.new }
@@ -126,7 +127,8 @@ fn decide(code: &mut Code, stack: &mut Stack, decides: bool, n: u32, keep: usize
 fn turned(env: &mut Env<'_>, code: &mut Code, stack: &mut Stack, turn: Turn, keep: usize) -> Stepped
     requires { 0 < stack.old.room }
     ensures stepped { moved result (seen ⟦<dyn Device as Device>⟧ env.new) code.new stack.new.list
-        ≡ turn_step (seen ⟦<dyn Device as Device>⟧ env.old) turn keep (top_word stack.old.list) code.old (below stack.old.list) }
+        ≡ turn_step (seen ⟦<dyn Device as Device>⟧ env.old) turn keep (top_word stack.old.list) code.old
+            (below stack.old.list) }
     ensures room { stack.old.room + held result ≤ stack.new.room + 1 }
     ensures code { length code.new ≤ length code.old }
     ensures parts { KeptParts env.old env.new }
@@ -145,7 +147,8 @@ fn turned(env: &mut Env<'_>, code: &mut Code, stack: &mut Stack, turn: Turn, kee
 fn mixed(env: &mut Env<'_>, stack: &mut Stack, at: u32, word: Result<u32, EvalFault>) -> Stepped
     requires { 0 < stack.old.room }
     ensures effect { effect_of result (seen ⟦<dyn Device as Device>⟧ env.new) stack.new.list
-        ≡ mixed_effect (seen ⟦<dyn Device as Device>⟧ env.old) at (attempt word (seen ⟦<dyn Device as Device>⟧ env.old)) stack.old.list }
+        ≡ mixed_effect (seen ⟦<dyn Device as Device>⟧ env.old) at (attempt word (seen ⟦<dyn Device as Device>⟧ env.old))
+            stack.old.list }
     ensures room { stack.old.room + held result ≤ stack.new.room + 1 }
     ensures parts { KeptParts env.old env.new }
     ensures same { SameEnv env.old env.new }
@@ -167,8 +170,8 @@ fn closed(env: &mut Env<'_>, stack: &mut Stack) -> Stepped
     requires room { most_announced ≤ env.old.out.now.room }
     requires pool { env.old.part.now.end ≤ length env.old.bus.now.ram }
     ensures effect { effect_of result (seen ⟦<dyn Device as Device>⟧ env.new) stack.new.list
-        ≡ close_effect (seen ⟦<dyn Device as Device>⟧ env.old) (top_word stack.old.list) (top_entry (below stack.old.list))
-            (below (below stack.old.list)) }
+        ≡ close_effect (seen ⟦<dyn Device as Device>⟧ env.old) (top_word stack.old.list)
+            (top_entry (below stack.old.list)) (below (below stack.old.list)) }
     ensures entry { stack.old.room + held result ≤ stack.new.room + 1 }
     ensures spare { length env.old.syms.now.list + env.old.syms.now.spare
         ≤ length env.new.syms.now.list + env.new.syms.now.spare }

@@ -1,6 +1,6 @@
 //! Lines with what they come to, worked out by hand, each test in an environment of its own.
 
-use crate::shown::{add_symbol, run, run_with};
+use crate::rows::{add_symbol, run, run_with};
 use std::test::Fail;
 use symbol_table::{SymKind, Symbols};
 use wind_base::limits::SYMBOLS;
