@@ -1,15 +1,14 @@
 -- The code of a tree lies ahead of what is behind it.
-use Rattle.std.proofs.Common.{◌≡◌, ℕ, zero, suc, ◌+◌, ◌-◌, ◌<◌, ◌≤◌, List, [], ◌∷◌, ◌++◌, length, drop, Option, Some, None, refl, sym, ap, ◌∙◌, subst, arith, append_assoc}
+use Rattle.std.proofs.Common.{◌≡◌, ◌-◌, List, [], ◌∷◌, ◌++◌, length, drop, Option, Some, None, refl, sym, ap, ◌∙◌, arith, append_assoc}
 use Rattle.std.proofs.lemmas.List.{length-append}
 use Rattle.std.proofs.Math.Seq.{drop-append_seam}
 use Rattle.shell_parse.specs.declared.tree.BinOp.{BinOp}
-use Rattle.shell_eval.specs.declared.code.Turn.{Turn}
 use Rattle.shell_eval.specs.declared.code.Turn.TheVariants as turns
 use Rattle.shell_eval.specs.declared.code.Op.{Op}
 use Rattle.shell_eval.specs.declared.code.Op.TheVariants as op
 use Rattle.shell_parse.specs.Trees as trees
 use Rattle.shell_parse.specs.Trees.{PlainTree, Arguments}
-use Rattle.shell_eval.specs.Pending.{Logic, All, Any, logic_of}
+use Rattle.shell_eval.specs.Pending.{Logic, logic_of}
 use Rattle.shell_eval.specs.Code.{compiled, compiled_all, count_onto, turn_of, behind_left}
 
 -- c is something ahead of k
@@ -47,7 +46,7 @@ mutual
   ahead (trees.SetWord aop a e) k =
       let d : List Op = op.Turn (turns.Place aop) (length k) ∷ compiled e (op.Close ∷ k) in
       both (compiled a d) d k (ahead a d)
-          (one (op.Turn (turns.Place aop) (length k)) (compiled e (op.Close ∷ k)) k (both (compiled e (op.Close ∷ k)) (op.Close ∷ k) k (ahead e (op.Close ∷ k)) (one op.Close k k (here k))))
+      (one (op.Turn (turns.Place aop) (length k)) (compiled e (op.Close ∷ k)) k (both (compiled e (op.Close ∷ k)) (op.Close ∷ k) k (ahead e (op.Close ∷ k)) (one op.Close k k (here k))))
   ahead (trees.Call f es) k =
       let c : List Op = op.Call (count_onto es 0) ∷ k in
       both (compiled f (compiled_all es c)) (compiled_all es c) k (ahead f (compiled_all es c)) (both (compiled_all es c) c k (ahead_all es c) (one (op.Call (count_onto es 0)) k k (here k)))

@@ -1,5 +1,5 @@
 -- What is due of a part is due of the tree round it.
-use Rattle.std.proofs.Common.{◌≡◌, ℕ, zero, suc, ◌+◌, List, [], ◌∷◌, length, Option, Some, None, refl, sym, ap, ◌∙◌}
+use Rattle.std.proofs.Common.{◌≡◌, ℕ, List, [], ◌∷◌, None, refl, ap, ◌∙◌}
 use Rattle.shell_eval.specs.declared.fault.EvalFault.{EvalFault}
 use Rattle.shell_parse.specs.declared.tree.BinOp.{BinOp}
 use Rattle.shell_parse.specs.declared.tree.BinOp.TheVariants as ops
@@ -10,10 +10,10 @@ use Rattle.shell_eval.specs.declared.code.Entry.TheVariants as entries
 use Rattle.shell_eval.specs.Operators.{before_word}
 use Rattle.shell_eval.specs.State.{State}
 use Rattle.shell_eval.specs.Words.{combined, word_read, word_stored, variable_made}
-use Rattle.shell_eval.specs.Pending.{Pending, Number, Lone, Word, Unary, Binary, Choice, SetName, SetWord, New, Call, Hole, Args, End, Then, Logic, All, Any, begun, begun_all}
+use Rattle.shell_eval.specs.Pending.{Pending, Number, Word, Unary, Binary, Choice, SetWord, New, Call, Hole, Args, Then, All, Any, begun, begun_all}
 use Rattle.shell_eval.specs.Reduce.{Outcome, Is, Steps, Calls, Faults, Waits, reduce, reduce_all, within, given, padded, chosen, set_at}
 use Rattle.shell_eval.specs.Code.{turned}
-use Rattle.shell_eval.specs.Evaluate.{Evaluated, Value, Call as CallEnd, Fault, Waiting, goes_on, ended, evaluate}
+use Rattle.shell_eval.specs.Evaluate.{Call as CallEnd, Fault, goes_on, ended, evaluate}
 use Rattle.shell_eval.specs.Frames.{Frame, InWord, InUnary, OnLeft, OnRight, OnTurn, Over, AsCallee, AsArgument, over, before, plugged}
 use Rattle.shell_eval.proofs.Smaller.{repeats}
 
@@ -90,18 +90,18 @@ before_round : (vs : List ℕ) (s : State) (es : Args) (r : Outcome (List ℕ) A
 before_round [] s es r e h = e ∙ mapped_same [] r h
 before_round (v ∷ vs) s es r e h =
     before_round vs s (Then (Number v) es) (mapped [] (Then (Number v)) r)
-        (part_within [] (reduce_all s es) r (Then (Number v)) (λ ws. Is (v ∷ ws)) e h) (mapped_due [] (Then (Number v)) r h)
+    (part_within [] (reduce_all s es) r (Then (Number v)) (λ ws. Is (v ∷ ws)) e h) (mapped_due [] (Then (Number v)) r h)
     ∙ mapped_twice [] [] (Then (Number v)) (before vs) r
 
 argument_round : (callee : ℕ) (vs : List ℕ) (s : State) (t : Pending) (es : Args) (r : Outcome ℕ Pending) → reduce s t ≡ r → IsDue r →
     reduce s (Call (Number callee) (before vs (Then t es))) ≡ mapped 0 (λ u. Call (Number callee) (before vs (Then u es))) r
 argument_round callee vs s t es r e h =
     let first : reduce_all s (Then t es) ≡ mapped [] (λ u. Then u es) r =
-        part_within [] (reduce s t) r (λ u. Then u es) (λ v. within (reduce_all s es) (Then (Number v)) (λ ws. Is (v ∷ ws))) e h in
+    part_within [] (reduce s t) r (λ u. Then u es) (λ v. within (reduce_all s es) (Then (Number v)) (λ ws. Is (v ∷ ws))) e h in
     let all : reduce_all s (before vs (Then t es)) ≡ mapped [] (before vs) (mapped [] (λ u. Then u es) r) =
-        before_round vs s (Then t es) (mapped [] (λ u. Then u es) r) first (mapped_due [] (λ u. Then u es) r h) in
+    before_round vs s (Then t es) (mapped [] (λ u. Then u es) r) first (mapped_due [] (λ u. Then u es) r h) in
     part_within 0 (reduce_all s (before vs (Then t es))) (mapped [] (before vs) (mapped [] (λ u. Then u es) r)) (Call (Number callee))
-        (λ ws. Calls callee (padded ws) Hole) all (mapped_due [] (before vs) (mapped [] (λ u. Then u es) r) (mapped_due [] (λ u. Then u es) r h))
+    (λ ws. Calls callee (padded ws) Hole) all (mapped_due [] (before vs) (mapped [] (λ u. Then u es) r) (mapped_due [] (λ u. Then u es) r h))
     ∙ (mapped_twice [] 0 (before vs) (Call (Number callee)) (mapped [] (λ u. Then u es) r)
     ∙ mapped_twice [] 0 (λ u. Then u es) (λ ds. Call (Number callee) (before vs ds)) r)
 
@@ -117,7 +117,7 @@ due_round (InUnary o ∷ fs) s t r e h =
 due_round (OnLeft o b ∷ fs) s t r e h =
     let form : Pending → Pending = λ u. Binary o u (begun b) in
     let one : reduce s (form t) ≡ mapped 0 form r =
-        part_within 0 (reduce s t) r form (λ m. within (reduce s (begun b)) (Binary o (Number m)) (λ n. given (combined s o m n))) e h in
+    part_within 0 (reduce s t) r form (λ m. within (reduce s (begun b)) (Binary o (Number m)) (λ n. given (combined s o m n))) e h in
     due_round fs s (form t) (mapped 0 form r) one (mapped_due 0 form r h) ∙ mapped_twice 0 0 form (plugged fs) r
 due_round (OnRight o n ∷ fs) s t r e h =
     let one : reduce s (Binary o (Number n) t) ≡ mapped 0 (Binary o (Number n)) r = right_round s o n t r e h in
@@ -130,7 +130,7 @@ due_round (Over n ∷ fs) s t r e h =
 due_round (AsCallee es ∷ fs) s t r e h =
     let form : Pending → Pending = λ u. Call u (begun_all es) in
     let one : reduce s (form t) ≡ mapped 0 form r =
-        part_within 0 (reduce s t) r form (λ callee. within (reduce_all s (begun_all es)) (Call (Number callee)) (λ vs. Calls callee (padded vs) Hole)) e h in
+    part_within 0 (reduce s t) r form (λ callee. within (reduce_all s (begun_all es)) (Call (Number callee)) (λ vs. Calls callee (padded vs) Hole)) e h in
     due_round fs s (form t) (mapped 0 form r) one (mapped_due 0 form r h) ∙ mapped_twice 0 0 form (plugged fs) r
 due_round (AsArgument callee vs es ∷ fs) s t r e h =
     let form : Pending → Pending = λ u. Call (Number callee) (before vs (Then u (begun_all es))) in

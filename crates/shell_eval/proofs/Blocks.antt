@@ -2,7 +2,7 @@
 use Rattle.std.proofs.Common.{◌≡◌, ℕ, ◌+◌, ◌<◌, ◌≤◌, Option, Some, None, Result, Ok, Err, refl, arith}
 use Rattle.std.specs.Result.{result_ok}
 use Rattle.mem_partition.specs.Place.{rounded}
-use Rattle.mem_partition.specs.State.{PartState, IsPart, alloc_of, after_alloc, taken_at}
+use Rattle.mem_partition.specs.State.{PartState, alloc_of, after_alloc, taken_at}
 use Rattle.mem_partition.specs.declared.block.PartErr.{PartErr}
 use Rattle.mem_partition.specs.declared.block.Class.TheVariants.{Kernel}
 use Rattle.mem_partition.proofs.Allocs.{alloc_lies, rounded_holds}

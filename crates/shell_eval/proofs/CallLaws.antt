@@ -1,5 +1,5 @@
 -- A call leaves one hole, and an answer fills it.
-use Rattle.std.proofs.Common.{◌≡◌, ℕ, zero, suc, ◌+◌, Bool, true, false, if◌then◌else◌, List, [], ◌∷◌, Option, Some, None, Result, Ok, Err, refl, sym, ap, ◌∙◌, subst, arith}
+use Rattle.std.proofs.Common.{◌≡◌, ℕ, Bool, true, false, if◌then◌else◌, List, ◌∷◌, Option, Some, None, Ok, Err, refl, subst, arith}
 use Rattle.shell_parse.specs.declared.tree.BinOp.{BinOp}
 use Rattle.shell_parse.specs.declared.tree.BinOp.TheVariants as ops
 use Rattle.symbol_table.specs.declared.symbol.Symbol.{Symbol}
@@ -9,8 +9,8 @@ use Rattle.shell_eval.specs.declared.fault.EvalFault.TheVariants.{AccessAt}
 use Rattle.symbol_table.specs.Newest.{find}
 use Rattle.shell_eval.specs.Operators.{before_word}
 use Rattle.shell_eval.specs.State.{State}
-use Rattle.shell_eval.specs.Words.{Made, Tried, combined, word_read, word_stored, is_value, name_word, name_value, string_made, variable_made}
-use Rattle.shell_eval.specs.Pending.{Pending, Number, Str, Name, Lone, Address, Word, Unary, Binary, Choice, SetName, SetWord, New, Call, Hole, Args, End, Then, filled, filled_all}
+use Rattle.shell_eval.specs.Words.{Tried, combined, word_read, word_stored, is_value, name_word, name_value, string_made, variable_made}
+use Rattle.shell_eval.specs.Pending.{Pending, Number, Str, Name, Lone, Address, Word, Unary, Binary, Choice, SetName, SetWord, New, Call, Hole, Args, End, Then, filled_all}
 use Rattle.shell_eval.specs.Reduce.{Outcome, Is, Steps, Calls, Faults, Waits, reduce, reduce_all, within, given, padded, decides, chosen, lone_by, kind_or_data, old_read, resolved, left_by, set_at}
 use Rattle.shell_eval.specs.Laws.{holes, holes_all, StepLaw, CallLaw, FillLaw}
 
@@ -101,30 +101,30 @@ mutual
       leaves_within holes holes (reduce s a) (Unary op) (λ n. Steps s (Number (before_word op n))) (leaves s a z) (λ k t l. l) (λ n. refl)
   leaves s (Binary op a b) z =
       leaves_within holes holes (reduce s a) (λ t. Binary op t b) (λ m. within (reduce s b) (Binary op (Number m)) (λ n. given (combined s op m n)))
-          (leaves s a (omega arith)) (λ k t l. omega arith)
-          (λ m. leaves_within holes holes (reduce s b) (Binary op (Number m)) (λ n. given (combined s op m n)) (leaves s b (omega arith)) (λ k t l. omega arith)
-              (λ n. leaves_given (combined s op m n)))
+      (leaves s a (omega arith)) (λ k t l. omega arith)
+      (λ m. leaves_within holes holes (reduce s b) (Binary op (Number m)) (λ n. given (combined s op m n)) (leaves s b (omega arith)) (λ k t l. omega arith)
+      (λ n. leaves_given (combined s op m n)))
   leaves s (Choice w a b) z =
       leaves_within holes holes (reduce s a) (λ t. Choice w t b) (λ n. Steps s (chosen w n b)) (leaves s a (omega arith)) (λ k t l. omega arith)
-          (λ n. leaves_chosen s (decides w n) _ b (omega arith))
+      (λ n. leaves_chosen s (decides w n) _ b (omega arith))
   leaves s (SetName aop x e) z = leaves_left s aop x e (find s.symbols x) z
   leaves s (SetWord aop a e) z =
       leaves_within holes holes (reduce s a) (λ t. SetWord aop t e) (λ at. set_at s aop at e (reduce s e)) (leaves s a (omega arith)) (λ k t l. omega arith)
-          (λ at. leaves_set s aop at e (reduce s e) (leaves s e (omega arith)) (omega arith))
+      (λ at. leaves_set s aop at e (reduce s e) (leaves s e (omega arith)) (omega arith))
   leaves s (New x e) z = leaves_within holes holes (reduce s e) (New x) (λ v. given (variable_made s x v)) (leaves s e z) (λ k t l. l) (λ v. leaves_given (variable_made s x v))
   leaves s (Call f es) z =
       leaves_within holes holes (reduce s f) (λ t. Call t es) (λ callee. within (reduce_all s es) (Call (Number callee)) (λ vs. Calls callee (padded vs) Hole))
-          (leaves s f (omega arith)) (λ k t l. omega arith)
-          (λ callee. leaves_within holes_all holes (reduce_all s es) (Call (Number callee)) (λ vs. Calls callee (padded vs) Hole) (leaves_all s es (omega arith))
-              (λ k t l. omega arith) (λ vs. refl))
+      (leaves s f (omega arith)) (λ k t l. omega arith)
+      (λ callee. leaves_within holes_all holes (reduce_all s es) (Call (Number callee)) (λ vs. Calls callee (padded vs) Hole) (leaves_all s es (omega arith))
+      (λ k t l. omega arith) (λ vs. refl))
   leaves s Hole z = tt
 
   leaves_all : (s : State) (ps : Args) → holes_all ps ≡ 0 → Leaves holes_all (reduce_all s ps)
   leaves_all s End z = tt
   leaves_all s (Then e es) z =
       leaves_within holes holes_all (reduce s e) (λ t. Then t es) (λ v. within (reduce_all s es) (Then (Number v)) (λ vs. Is (v ∷ vs))) (leaves s e (omega arith))
-          (λ k t l. omega arith)
-          (λ v. leaves_within holes_all holes_all (reduce_all s es) (Then (Number v)) (λ vs. Is (v ∷ vs)) (leaves_all s es (omega arith)) (λ k t l. omega arith) (λ vs. tt))
+      (λ k t l. omega arith)
+      (λ v. leaves_within holes_all holes_all (reduce_all s es) (Then (Number v)) (λ vs. Is (v ∷ vs)) (leaves_all s es (omega arith)) (λ k t l. omega arith) (λ vs. tt))
 
 pub calls_leave : CallLaw
 calls_leave s p f vs q e z = subst (λ (r : Outcome ℕ Pending). Leaves holes r) e (leaves s p z)

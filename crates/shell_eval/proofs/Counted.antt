@@ -1,7 +1,7 @@
 -- How many arguments there are.
-use Rattle.std.proofs.Common.{◌≡◌, ℕ, zero, suc, ◌+◌, List, [], ◌∷◌, length, refl, sym, ap, ◌∙◌, arith}
+use Rattle.std.proofs.Common.{◌≡◌, ℕ, suc, ◌+◌, List, [], ◌∷◌, length, ◌∙◌, arith}
 use Rattle.shell_parse.specs.declared.tree.Tree.{Tree}
-use Rattle.shell_parse.specs.Trees.{plain_tree, plain_arguments}
+use Rattle.shell_parse.specs.Trees.{plain_arguments}
 use Rattle.shell_eval.specs.Code.{count_onto}
 
 counts_onto : (xs : List Tree) (m : ℕ) → count_onto (plain_arguments xs) m ≡ m + length xs

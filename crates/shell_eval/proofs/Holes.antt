@@ -1,5 +1,5 @@
 -- A call's answer goes into the one hole.
-use Rattle.std.proofs.Common.{◌≡◌, ℕ, zero, suc, ◌+◌, List, [], ◌∷◌, Option, Some, None, refl, sym, ap, ◌∙◌, arith}
+use Rattle.std.proofs.Common.{◌≡◌, ℕ, ◌+◌, List, [], ◌∷◌, Option, Some, None, refl, ap, ◌∙◌, arith}
 use Rattle.shell_parse.specs.declared.tree.BinOp.{BinOp}
 use Rattle.shell_eval.specs.declared.code.Turn.{Turn}
 use Rattle.shell_eval.specs.declared.code.Turn.TheVariants as turns
@@ -7,7 +7,7 @@ use Rattle.shell_eval.specs.declared.code.Entry.{Entry}
 use Rattle.shell_eval.specs.declared.code.Entry.TheVariants as entries
 use Rattle.shell_parse.specs.Trees as trees
 use Rattle.shell_parse.specs.Trees.{PlainTree, Arguments}
-use Rattle.shell_eval.specs.Pending.{Pending, Number, Word, Unary, Binary, Choice, SetName, SetWord, New, Call, Hole, Args, End, Then, Logic, All, Any, logic_of, two_sided, begun, begun_all, begun_expr, begun_stmt, filled, filled_all}
+use Rattle.shell_eval.specs.Pending.{Pending, Number, Word, Unary, Binary, SetName, SetWord, Call, Args, Then, Logic, logic_of, two_sided, begun, begun_all, begun_expr, filled, filled_all}
 use Rattle.shell_eval.specs.Laws.{holes, holes_all, BegunLaw}
 use Rattle.shell_eval.specs.Code.{turned}
 use Rattle.shell_eval.specs.Frames.{Frame, InWord, InUnary, OnLeft, OnRight, OnTurn, Over, AsCallee, AsArgument, over, before, plugged}

@@ -1,5 +1,5 @@
 -- What each reduction keeps, and so evaluation.
-use Rattle.std.proofs.Common.{◌≡◌, ℕ, zero, suc, ◌+◌, ◌≤◌, Bool, true, false, if◌then◌else◌, List, [], ◌∷◌, length, Option, Some, None, Result, Ok, Err, arith}
+use Rattle.std.proofs.Common.{ℕ, zero, suc, ◌+◌, ◌≤◌, Bool, true, false, if◌then◌else◌, List, ◌∷◌, length, Option, Some, None, Ok, Err, arith}
 use Rattle.symbol_table.specs.Newest.{find}
 use Rattle.symbol_table.specs.declared.symbol.Symbol.{Symbol}
 use Rattle.symbol_table.specs.declared.symbol.SymKind.{SymKind}
@@ -9,8 +9,8 @@ use Rattle.shell_parse.specs.declared.tree.BinOp.TheVariants as ops
 use Rattle.shell_eval.specs.declared.fault.EvalFault.TheVariants.{AccessAt}
 use Rattle.shell_eval.specs.Operators.{before_word}
 use Rattle.shell_eval.specs.State.{State}
-use Rattle.shell_eval.specs.Words.{Made, Tried, combined, word_read, word_stored, is_value, name_word, name_value, string_made, announcement, variable_made}
-use Rattle.shell_eval.specs.Pending.{Pending, Number, Str, Name, Lone, Address, Word, Unary, Binary, Choice, SetName, SetWord, New, Call, Hole, Args, End, Then, Logic, All, Any, weight}
+use Rattle.shell_eval.specs.Words.{Tried, combined, word_read, word_stored, is_value, name_word, name_value, string_made, announcement, variable_made}
+use Rattle.shell_eval.specs.Pending.{Pending, Number, Str, Name, Lone, Address, Word, Unary, Binary, Choice, SetName, SetWord, New, Call, Hole, Args, End, Then, weight}
 use Rattle.shell_eval.specs.Reduce.{Outcome, Is, Steps, Calls, Faults, Waits, reduce, reduce_all, within, given, padded, decides, chosen, lone_by, kind_or_data, old_read, resolved, left_by, set_at}
 use Rattle.shell_eval.specs.Evaluate.{Evaluated, goes_on, reduced, evaluate}
 use Rattle.shell_eval.specs.Kept.{IsPoolInRam, Keeps, told, told_all, KeepsLaw, OutputLaw}
@@ -70,7 +70,7 @@ holds_chosen s m false n e le = (keeps_same s, omega arith)
 holds_set : (s : State) (m : ℕ) (aop : Option BinOp) (at : ℕ) (e : Pending) (r : Outcome ℕ Pending) → Holds s (told e) told r → told e ≤ m → Holds s m told (set_at s aop at e r)
 holds_set s m None at e r h le =
     holds_within s (told e) m told told r (SetWord None (Number at)) (λ v. given (word_stored s at v)) h (λ a b t l. omega arith)
-        (λ v. holds_given s m 0 (word_stored s at v) (stored_safe 0 s at v) (omega arith))
+    (λ v. holds_given s m 0 (word_stored s at v) (stored_safe 0 s at v) (omega arith))
 holds_set s m (Some op) at e r h le = holds_old s m op at e (word_read s at) (read_safe 0 s at) le
 
 mutual
@@ -82,39 +82,39 @@ mutual
   holds s (Address x) i = holds_given s 0 0 (name_value s x) (address_safe 0 s x) (omega arith)
   holds s (Word a) i =
       holds_within s (told a) (told a) told told (reduce s a) Word (λ n. given (word_read s n)) (holds s a i) (λ c d t l. l)
-          (λ n. holds_given s (told a) 0 (word_read s n) (read_safe 0 s n) (omega arith))
+      (λ n. holds_given s (told a) 0 (word_read s n) (read_safe 0 s n) (omega arith))
   holds s (Unary op a) i =
       holds_within s (told a) (told a) told told (reduce s a) (Unary op) (λ n. Steps s (Number (before_word op n))) (holds s a i) (λ c d t l. l)
-          (λ n. (keeps_same s, omega arith))
+      (λ n. (keeps_same s, omega arith))
   holds s (Binary op a b) i =
       holds_within s (told a) (told a + told b) told told (reduce s a) (λ t. Binary op t b)
-          (λ m. within (reduce s b) (Binary op (Number m)) (λ n. given (combined s op m n))) (holds s a i) (λ c d t l. omega arith)
-          (λ m. holds_within s (told b) (told a + told b) told told (reduce s b) (Binary op (Number m)) (λ n. given (combined s op m n)) (holds s b i)
-              (λ c d t l. omega arith) (λ n. holds_given s (told a + told b) 0 (combined s op m n) (combined_safe 0 s op m n) (omega arith)))
+      (λ m. within (reduce s b) (Binary op (Number m)) (λ n. given (combined s op m n))) (holds s a i) (λ c d t l. omega arith)
+      (λ m. holds_within s (told b) (told a + told b) told told (reduce s b) (Binary op (Number m)) (λ n. given (combined s op m n)) (holds s b i)
+      (λ c d t l. omega arith) (λ n. holds_given s (told a + told b) 0 (combined s op m n) (combined_safe 0 s op m n) (omega arith)))
   holds s (Choice w a b) i =
       holds_within s (told a) (told a + told b) told told (reduce s a) (λ t. Choice w t b) (λ n. Steps s (chosen w n b)) (holds s a i) (λ c d t l. omega arith)
-          (λ n. holds_chosen s (told a + told b) (decides w n) _ b (omega arith))
+      (λ n. holds_chosen s (told a + told b) (decides w n) _ b (omega arith))
   holds s (SetName aop x e) i = holds_left s aop x e (find s.symbols x)
   holds s (SetWord aop a e) i =
       holds_within s (told a) (told a + told e) told told (reduce s a) (λ t. SetWord aop t e) (λ at. set_at s aop at e (reduce s e)) (holds s a i)
-          (λ c d t l. omega arith) (λ at. holds_set s (told a + told e) aop at e (reduce s e) (holds s e i) (omega arith))
+      (λ c d t l. omega arith) (λ at. holds_set s (told a + told e) aop at e (reduce s e) (holds s e i) (omega arith))
   holds s (New x e) i =
       holds_within s (told e) (told e + length (announcement x)) told told (reduce s e) (New x) (λ v. given (variable_made s x v)) (holds s e i) (λ c d t l. omega arith)
-          (λ v. holds_given s (told e + length (announcement x)) (length (announcement x)) (variable_made s x v) (variable_safe s x v i) (omega arith))
+      (λ v. holds_given s (told e + length (announcement x)) (length (announcement x)) (variable_made s x v) (variable_safe s x v i) (omega arith))
   holds s (Call f es) i =
       holds_within s (told f) (told f + told_all es) told told (reduce s f) (λ t. Call t es)
-          (λ callee. within (reduce_all s es) (Call (Number callee)) (λ vs. Calls callee (padded vs) Hole)) (holds s f i) (λ c d t l. omega arith)
-          (λ callee. holds_within s (told_all es) (told f + told_all es) told_all told (reduce_all s es) (Call (Number callee))
-              (λ vs. Calls callee (padded vs) Hole) (holds_all s es i) (λ c d t l. omega arith) (λ vs. tt))
+      (λ callee. within (reduce_all s es) (Call (Number callee)) (λ vs. Calls callee (padded vs) Hole)) (holds s f i) (λ c d t l. omega arith)
+      (λ callee. holds_within s (told_all es) (told f + told_all es) told_all told (reduce_all s es) (Call (Number callee))
+      (λ vs. Calls callee (padded vs) Hole) (holds_all s es i) (λ c d t l. omega arith) (λ vs. tt))
   holds s Hole i = tt
 
   holds_all : (s : State) (ps : Args) → IsPoolInRam s → Holds s (told_all ps) told_all (reduce_all s ps)
   holds_all s End i = tt
   holds_all s (Then e es) i =
       holds_within s (told e) (told e + told_all es) told told_all (reduce s e) (λ t. Then t es)
-          (λ v. within (reduce_all s es) (Then (Number v)) (λ vs. Is (v ∷ vs))) (holds s e i) (λ c d t l. omega arith)
-          (λ v. holds_within s (told_all es) (told e + told_all es) told_all told_all (reduce_all s es) (Then (Number v)) (λ vs. Is (v ∷ vs)) (holds_all s es i)
-              (λ c d t l. omega arith) (λ vs. tt))
+      (λ v. within (reduce_all s es) (Then (Number v)) (λ vs. Is (v ∷ vs))) (holds s e i) (λ c d t l. omega arith)
+      (λ v. holds_within s (told_all es) (told e + told_all es) told_all told_all (reduce_all s es) (Then (Number v)) (λ vs. Is (v ∷ vs)) (holds_all s es i)
+      (λ c d t l. omega arith) (λ vs. tt))
 
 -- ---- evaluation
 

@@ -1,8 +1,6 @@
 -- Code and entries show the tree round the part where they stand.
-use Rattle.std.proofs.Common.{◌≡◌, ℕ, zero, suc, ◌+◌, List, [], ◌∷◌, length, Option, Some, None, refl, sym, ap, ◌∙◌}
+use Rattle.std.proofs.Common.{◌≡◌, ℕ, suc, List, [], ◌∷◌, length, Option, Some, None, refl, ap, ◌∙◌}
 use Rattle.shell_parse.specs.declared.tree.BinOp.{BinOp}
-use Rattle.shell_parse.specs.declared.tree.BinOp.TheVariants as ops
-use Rattle.shell_eval.specs.declared.code.Turn.{Turn}
 use Rattle.shell_eval.specs.declared.code.Turn.TheVariants as turns
 use Rattle.shell_eval.specs.declared.code.Op.{Op}
 use Rattle.shell_eval.specs.declared.code.Op.TheVariants as op
@@ -10,8 +8,8 @@ use Rattle.shell_eval.specs.declared.code.Entry.{Entry}
 use Rattle.shell_eval.specs.declared.code.Entry.TheVariants as entries
 use Rattle.shell_parse.specs.Trees as trees
 use Rattle.shell_parse.specs.Trees.{PlainTree, Arguments}
-use Rattle.shell_eval.specs.Pending.{Pending, Number, Lone, Word, Unary, Binary, Choice, SetName, SetWord, New, Call, Hole, Args, End, Then, Logic, All, Any, logic_of, two_sided, begun, begun_all}
-use Rattle.shell_eval.specs.Code.{compiled, compiled_all, count_onto, turn_of, turned, behind_left, Item, Whole, Left, item_of, items_of, shown, gathered, on_right}
+use Rattle.shell_eval.specs.Pending.{Pending, Number, Lone, Word, Unary, Binary, Choice, SetName, SetWord, Call, Args, End, Then, Logic, All, Any, logic_of, two_sided, begun, begun_all}
+use Rattle.shell_eval.specs.Code.{compiled, compiled_all, count_onto, turned, behind_left, Item, Whole, Left, item_of, items_of, shown, gathered, on_right}
 use Rattle.shell_eval.specs.Frames.{Frame, InWord, InUnary, OnLeft, OnRight, OnTurn, Over, AsCallee, AsArgument, Part, Source, Alone, Value, over, before, plugged, code_after, stack_under, words_onto, code_at, stack_at, part_tree}
 
 -- arguments before others
@@ -90,9 +88,9 @@ shows_part (AsArgument callee vs es ∷ fs) t =
     let st : List Item = Whole t ∷ items_of (words_onto vs (entries.Word callee ∷ stack_under fs)) in
     shows_all es (op.Call (count_onto es (suc (length vs))) ∷ code_after fs) st
     ∙ (ap (shown (code_after fs))
-        (gathers es (suc (length vs)) st End
-        ∙ (ap (λ ds. gathered (suc (length vs)) st ds) (joined_end (begun_all es))
-        ∙ gathers_values vs callee (stack_under fs) (Then t (begun_all es))))
+    (gathers es (suc (length vs)) st End
+    ∙ (ap (λ ds. gathered (suc (length vs)) st ds) (joined_end (begun_all es))
+    ∙ gathers_values vs callee (stack_under fs) (Then t (begun_all es))))
     ∙ shows_part fs (Call (Number callee) (before vs (Then t (begun_all es)))))
 
 -- where code and entries stand at a part

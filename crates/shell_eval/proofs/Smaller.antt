@@ -1,5 +1,5 @@
 -- Each reduction makes the tree smaller, so evaluation is what it repeats.
-use Rattle.std.proofs.Common.{◌≡◌, ℕ, zero, suc, ◌+◌, ◌<◌, ◌≤◌, Bool, true, false, cond, if◌then◌else◌, List, [], ◌∷◌, Option, Some, None, Result, Ok, Err, refl, sym, ap, ◌∙◌, subst, arith}
+use Rattle.std.proofs.Common.{◌≡◌, ℕ, zero, suc, ◌+◌, ◌<◌, Bool, true, false, if◌then◌else◌, List, ◌∷◌, Option, Some, None, Ok, Err, refl, subst, arith}
 use Rattle.shell_parse.specs.declared.tree.BinOp.{BinOp}
 use Rattle.shell_parse.specs.declared.tree.BinOp.TheVariants as ops
 use Rattle.symbol_table.specs.declared.symbol.Symbol.{Symbol}
@@ -7,13 +7,12 @@ use Rattle.symbol_table.specs.declared.symbol.SymKind.{SymKind}
 use Rattle.symbol_table.specs.declared.symbol.SymKind.TheVariants.{TextSym, DataSym, BssSym, AbsSym}
 use Rattle.shell_eval.specs.declared.fault.EvalFault.TheVariants.{AccessAt}
 use Rattle.symbol_table.specs.Newest.{find}
-use Rattle.ppc_core.specs.Words.{bit}
 use Rattle.shell_eval.specs.Operators.{before_word}
 use Rattle.shell_eval.specs.State.{State}
-use Rattle.shell_eval.specs.Words.{Made, Tried, combined, word_read, word_stored, is_value, name_word, name_value, string_made, variable_made}
-use Rattle.shell_eval.specs.Pending.{Pending, Number, Str, Name, Lone, Address, Word, Unary, Binary, Choice, SetName, SetWord, New, Call, Hole, Args, End, Then, Logic, All, Any, weight, weight_all}
-use Rattle.shell_eval.specs.Reduce.{Outcome, Is, Steps, Calls, Faults, Waits, reduce, reduce_all, within, given, padded, decides, chosen, lone_by, lone, kind_or_data, old_read, resolved, left_by, set_at}
-use Rattle.shell_eval.specs.Evaluate.{Evaluated, Fault, goes_on, reduced, evaluate}
+use Rattle.shell_eval.specs.Words.{Tried, combined, word_read, word_stored, is_value, name_word, name_value, string_made, variable_made}
+use Rattle.shell_eval.specs.Pending.{Pending, Number, Str, Name, Lone, Address, Word, Unary, Binary, Choice, SetName, SetWord, New, Call, Hole, Args, End, Then, weight, weight_all}
+use Rattle.shell_eval.specs.Reduce.{Outcome, Is, Steps, Calls, Faults, Waits, reduce, reduce_all, within, given, padded, decides, chosen, lone_by, kind_or_data, old_read, resolved, left_by, set_at}
+use Rattle.shell_eval.specs.Evaluate.{Evaluated, goes_on, reduced, evaluate}
 use Rattle.shell_eval.specs.Laws.{SmallerLaw, RepeatsLaw}
 
 -- a step makes it lighter than n
@@ -92,7 +91,7 @@ mutual
       less_within (weight a) (weight a + weight b + 1) weight weight (reduce s a) (λ t. Binary op t b)
       (λ m. within (reduce s b) (Binary op (Number m)) (λ n. given (combined s op m n))) (lessens s a) (λ t l. omega arith)
       (λ m. less_within (weight b) (weight a + weight b + 1) weight weight (reduce s b) (Binary op (Number m)) (λ n. given (combined s op m n)) (lessens s b)
-          (λ t l. omega arith) (λ n. less_given (weight a + weight b + 1) (combined s op m n) (omega arith)))
+      (λ t l. omega arith) (λ n. less_given (weight a + weight b + 1) (combined s op m n) (omega arith)))
   lessens s (Choice w a b) =
       less_within (weight a) (weight a + weight b + 2) weight weight (reduce s a) (λ t. Choice w t b) (λ n. Steps s (chosen w n b)) (lessens s a)
       (λ t l. omega arith) (λ n. less_chosen (weight a + weight b + 2) s (decides w n) _ b (omega arith))
@@ -107,7 +106,7 @@ mutual
       less_within (weight f) (weight f + weight_all es + 1) weight weight (reduce s f) (λ t. Call t es)
       (λ callee. within (reduce_all s es) (Call (Number callee)) (λ vs. Calls callee (padded vs) Hole)) (lessens s f) (λ t l. omega arith)
       (λ callee. less_within (weight_all es) (weight f + weight_all es + 1) weight_all weight (reduce_all s es) (Call (Number callee))
-          (λ vs. Calls callee (padded vs) Hole) (lessens_all s es) (λ t l. omega arith) (λ vs. tt))
+      (λ vs. Calls callee (padded vs) Hole) (lessens_all s es) (λ t l. omega arith) (λ vs. tt))
   lessens s Hole = tt
 
   lessens_all : (s : State) (ps : Args) → Lessens (weight_all ps) weight_all (reduce_all s ps)
@@ -116,7 +115,7 @@ mutual
       less_within (weight e) (weight e + weight_all es) weight weight_all (reduce s e) (λ t. Then t es)
       (λ v. within (reduce_all s es) (Then (Number v)) (λ vs. Is (v ∷ vs))) (lessens s e) (λ t l. omega arith)
       (λ v. less_within (weight_all es) (weight e + weight_all es) weight_all weight_all (reduce_all s es) (Then (Number v)) (λ vs. Is (v ∷ vs)) (lessens_all s es)
-          (λ t l. omega arith) (λ vs. tt))
+      (λ t l. omega arith) (λ vs. tt))
 
 pub smaller : SmallerLaw
 smaller s p t q e = subst (λ (r : Outcome ℕ Pending). Lessens (weight p) weight r) e (lessens s p)

@@ -1,5 +1,5 @@
 -- What is inside an evaluation, by what it shows.
-use Rattle.std.proofs.Common.{◌≡◌, ℕ, ◌+◌, ◌<◌, ◌≤◌, Bool, true, false, List, [], ◌∷◌, length, ◌-◌, refl, sym, ap, ◌∙◌, subst, arith}
+use Rattle.std.proofs.Common.{◌≡◌, ℕ, ◌<◌, ◌≤◌, Bool, true, false, List, [], ◌∷◌, length, ◌-◌, refl, sym, ap, ◌∙◌, subst, arith}
 use Rattle.shell_eval.specs.declared.code.Op.{Op}
 use Rattle.shell_eval.specs.declared.code.Entry.{Entry}
 use Rattle.shell_eval.specs.declared.code.Entry.TheVariants as entries
@@ -10,10 +10,10 @@ use Rattle.shell_eval.specs.State.{State}
 use Rattle.shell_eval.specs.Moved.{came}
 use Rattle.shell_eval.specs.Ran.{is_call}
 use Rattle.shell_eval.specs.Room.{Entries}
-use Rattle.shell_eval.specs.Pending.{Pending, Number, Lone, Hole, begun, filled}
+use Rattle.shell_eval.specs.Pending.{Pending, Hole, filled}
 use Rattle.shell_eval.specs.Laws.{holes}
 use Rattle.shell_eval.specs.Code.{compiled_stmt}
-use Rattle.shell_eval.specs.Frames.{Part, Source, Alone, Value, part_tree, code_after, stack_under, plugged, Stands, Awaits}
+use Rattle.shell_eval.specs.Frames.{Part, Source, Alone, Value, part_tree, plugged, Stands, Awaits}
 use Rattle.shell_eval.specs.Follows.{tree_of, tree_with_hole}
 use Rattle.shell_eval.specs.Inside.{IsAt, tree_at, room_of, IsEval}
 use Rattle.shell_eval.proofs.Holes.{no_hole, holes_round, filled_round}

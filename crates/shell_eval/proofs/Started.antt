@@ -1,15 +1,14 @@
 -- The code of a statement stands at its beginning.
-use Rattle.std.proofs.Common.{◌≡◌, ℕ, List, [], ◌∷◌, refl, sym, ap, ◌∙◌}
+use Rattle.std.proofs.Common.{◌≡◌, ℕ, List, [], ◌∷◌, refl, ◌∙◌}
 use Rattle.std.specs.Prelude.{codes}
-use Rattle.shell_eval.specs.declared.code.Op.{Op}
 use Rattle.shell_eval.specs.declared.code.Entry.{Entry}
 use Rattle.shell_eval.specs.declared.code.Entry.TheVariants as entries
 use Rattle.shell_parse.specs.Trees as trees
 use Rattle.shell_parse.specs.Trees.{PlainTree, Arguments, PlainStmt}
-use Rattle.shell_eval.specs.Pending.{Pending, begun, begun_expr, begun_stmt}
-use Rattle.shell_eval.specs.Code.{compiled, compiled_expr, compiled_stmt, shown}
-use Rattle.shell_eval.specs.Frames.{Part, Source, Alone, Value, part_tree, code_at, stack_at, plugged, Stands, Awaits}
-use Rattle.shell_eval.specs.Follows.{tree_of, tree_with_hole}
+use Rattle.shell_eval.specs.Pending.{begun_expr, begun_stmt}
+use Rattle.shell_eval.specs.Code.{compiled_expr, compiled_stmt}
+use Rattle.shell_eval.specs.Frames.{Part, Source, Alone, Value, part_tree, code_at, stack_at, Stands}
+use Rattle.shell_eval.specs.Follows.{tree_of}
 use Rattle.shell_eval.proofs.Steps.{tree_at}
 
 -- the part that an expression, or a statement, is at its beginning

@@ -1,10 +1,9 @@
 -- Each operation is some reductions of the tree that code and entries show.
-use Rattle.std.proofs.Common.{◌≡◌, ℕ, zero, suc, pred, ◌+◌, ◌-◌, ◌<◌, ◌≤◌, Bool, true, false, cond, if◌then◌else◌, ◌==◌, not, List, [], ◌∷◌, ◌++◌, length, map, drop, Option, Some, None, Result, Ok, Err, inl, inr, refl, sym, ap, ◌∙◌, subst, arith}
-use Rattle.std.specs.Prelude.{slice_index, nat_lt}
+use Rattle.std.proofs.Common.{◌≡◌, ℕ, suc, ◌-◌, ◌<◌, ◌≤◌, Bool, true, false, if◌then◌else◌, ◌==◌, not, List, [], ◌∷◌, length, map, drop, Option, Some, None, Ok, Err, inl, inr, refl, sym, ap, ◌∙◌, subst, arith}
+use Rattle.std.specs.Prelude.{slice_index}
 use Rattle.std.specs.List.{range_with_len}
 use Rattle.std.proofs.Math.Path.{fun_ext}
 use Rattle.std.proofs.lemmas.Bool.{cases_lt, lt-ltb, le-ltb}
-use Rattle.shell_eval.specs.declared.fault.EvalFault.{EvalFault}
 use Rattle.shell_eval.specs.declared.fault.EvalFault.TheVariants.{Undefined, AccessAt}
 use Rattle.shell_parse.specs.declared.tree.BinOp.{BinOp}
 use Rattle.shell_parse.specs.declared.tree.BinOp.TheVariants as ops
@@ -19,18 +18,18 @@ use Rattle.symbol_table.specs.declared.symbol.SymKind.{SymKind}
 use Rattle.symbol_table.specs.declared.symbol.SymKind.TheVariants.{TextSym, DataSym, BssSym, AbsSym}
 use Rattle.symbol_table.specs.Newest.{find}
 use Rattle.ppc_core.specs.Words.{bit}
-use Rattle.shell_eval.specs.Operators.{between_words, before_word}
+use Rattle.shell_eval.specs.Operators.{before_word}
 use Rattle.shell_eval.specs.State.{State}
-use Rattle.shell_eval.specs.Words.{Made, Tried, combined, combined_by, word_read, word_stored, is_value, name_word, name_value, string_made, variable_made}
+use Rattle.shell_eval.specs.Words.{Tried, combined, word_read, word_stored, is_value, name_word, name_value, string_made, variable_made}
 use Rattle.shell_parse.specs.Trees as trees
 use Rattle.shell_parse.specs.Trees.{PlainTree, Arguments}
-use Rattle.shell_eval.specs.Pending.{Pending, Number, Str, Name, Lone, Address, Word, Unary, Binary, Choice, SetName, SetWord, New, Call, Hole, Args, End, Then, Logic, All, Any, logic_of, two_sided, begun, begun_all}
-use Rattle.shell_eval.specs.Reduce.{Outcome, Is, Steps, Calls, Faults, Waits, reduce, reduce_all, within, given, padded, decides, chosen, lone_by, lone, kind_or_data, old_read, resolved, left_by, set_at}
-use Rattle.shell_eval.specs.Evaluate.{Fault, ended, evaluate}
-use Rattle.shell_eval.specs.Evaluate.{Value as ValueEnd, Call as CallEnd}
-use Rattle.shell_eval.specs.Code.{compiled, compiled_all, count_onto, turn_of, turned, behind_left, items_of, shown}
-use Rattle.shell_eval.specs.Machine.{Effect, Puts, Asks, Fails, Moved, Ends, Goes, Makes, Stops, onward, top_word, top_entry, below, pushes, argument, arguments, asks, alone_by, alone, mixes, places, left_effect, decides_step, turn_step, mixed_effect, close_effect, op_step, move}
-use Rattle.shell_eval.specs.Frames.{Frame, InWord, InUnary, OnLeft, OnRight, OnTurn, Over, AsCallee, AsArgument, Part, Source, Alone, Value, over, before, plugged, code_after, stack_under, words_onto, code_at, stack_at, part_tree, Stands, Awaits}
+use Rattle.shell_eval.specs.Pending.{Pending, Number, Str, Name, Lone, Address, Word, Unary, Binary, Choice, SetName, SetWord, New, Call, Hole, Args, End, Then, Logic, All, Any, logic_of, two_sided, begun}
+use Rattle.shell_eval.specs.Reduce.{Is, Steps, Calls, Faults, reduce, reduce_all, within, given, padded, decides, lone_by, kind_or_data, old_read, resolved, left_by}
+use Rattle.shell_eval.specs.Evaluate.{ended, evaluate}
+use Rattle.shell_eval.specs.Evaluate.{Call as CallEnd}
+use Rattle.shell_eval.specs.Code.{compiled, turned, behind_left}
+use Rattle.shell_eval.specs.Machine.{Fails, Moved, Ends, Goes, Makes, Stops, onward, top_word, below, pushes, argument, arguments, asks, alone_by, mixes, places, left_effect, turn_step, mixed_effect, close_effect, move}
+use Rattle.shell_eval.specs.Frames.{Frame, InWord, InUnary, OnLeft, OnRight, OnTurn, Over, AsCallee, AsArgument, Part, Source, Alone, Value, over, before, plugged, code_after, stack_under, words_onto, code_at, stack_at, part_tree, Stands}
 use Rattle.shell_eval.specs.Follows.{tree_of, tree_with_hole, Goes_on, Comes_to_call, Follows}
 use Rattle.shell_eval.proofs.Shown.{shows_at, shows_part}
 use Rattle.shell_eval.proofs.Smaller.{repeats}
@@ -146,20 +145,20 @@ found_back (v ∷ vs) ws p h = let e : p - length vs ≡ suc (p - suc (length vs
 found_front : (vs ws : List ℕ) (st : List Entry) (p : ℕ) → p < length vs → slice_index (in_order vs ws) p ≡ top_word (drop (length vs - 1 - p) (words_onto vs st))
 found_front [] ws st p h = absurd (omega arith)
 found_front (v ∷ vs) ws st p h = elim (cases_lt p (length vs)) [
-    inl l ↦
+  | inl l ↦
       let e : suc (length vs) - 1 - p ≡ suc (length vs - 1 - p) = omega arith in
       found_front vs (v ∷ ws) st p l ∙ sym (ap (λ k. top_word (drop k (entries.Word v ∷ words_onto vs st))) e)
   | inr g ↦
       let e : p - length vs ≡ 0 = omega arith in
       let d : suc (length vs) - 1 - p ≡ 0 = omega arith in
       found_back vs (v ∷ ws) p g ∙ (ap (slice_index (v ∷ ws)) e ∙ sym (ap (λ k. top_word (drop k (entries.Word v ∷ words_onto vs st))) d))
-  ]
+]
 
 argument_is : (vs : List ℕ) (st : List Entry) (p : ℕ) → argument (length vs) (words_onto vs st) p ≡ slice_index (in_order vs []) p
 argument_is vs st p = elim (cases_lt p (length vs)) [
-    inl h ↦ ap (λ b. if b then top_word (drop (length vs - 1 - p) (words_onto vs st)) else 0) (lt-ltb p (length vs) h) ∙ sym (found_front vs [] st p h)
+  | inl h ↦ ap (λ b. if b then top_word (drop (length vs - 1 - p) (words_onto vs st)) else 0) (lt-ltb p (length vs) h) ∙ sym (found_front vs [] st p h)
   | inr g ↦ ap (λ b. if b then top_word (drop (length vs - 1 - p) (words_onto vs st)) else 0) (le-ltb p (length vs) g) ∙ sym (found_back vs [] p g)
-  ]
+]
 
 calls_are : (s : State) (vs : List ℕ) (callee : ℕ) (c : List Op) (st : List Entry) →
     onward c (asks s (length vs) (words_onto vs (entries.Word callee ∷ st))) ≡ Makes s callee (padded (in_order vs [])) c st
@@ -188,7 +187,7 @@ decided true fs s b n t h c e =
     subst (λ d. Goes_on s (plugged fs t) s d (entries.Word n ∷ stack_under fs)) (sym left) (to_value fs s t s n h)
 decided false fs s b n t h c e =
     subst (λ d. Goes_on s (plugged fs t) s d (entries.Truth ∷ stack_under fs)) (sym e)
-        (goes s (plugged fs t) s (Source b) (Over entries.Truth ∷ fs) (stepped fs s t s (Binary ops.Ne (begun b) (Number 0)) h))
+    (goes s (plugged fs t) s (Source b) (Over entries.Truth ∷ fs) (stepped fs s t s (Binary ops.Ne (begun b) (Number 0)) h))
 
 turn_follows : (w : Turn) (fs : List Frame) (s : State) (b : PlainTree) (n : ℕ) →
     Follows s (plugged fs (turned w (Number n) (begun b))) (turn_step s w (length (code_after fs)) n (compiled b (op.Close ∷ code_after fs)) (stack_under fs))
@@ -201,8 +200,8 @@ mixed_follows : (r : Tried) (fs : List Frame) (s : State) (at : ℕ) (t : Pendin
     Follows s (plugged fs (SetWord None (Number at) t)) (onward (code_after fs) (mixed_effect s at r (stack_under fs)))
 mixed_follows (Ok m) fs s at t h =
     along (onward (code_after fs) (pushes m.state (word_stored m.state at m.word) (stack_under fs))) s m.state (plugged fs (SetWord None (Number at) t))
-        (plugged fs (SetWord None (Number at) (Number m.word))) (stepped (Over (entries.Place at) ∷ fs) s t m.state (Number m.word) h)
-        (to_given fs m.state (SetWord None (Number at) (Number m.word)) (word_stored m.state at m.word) refl)
+    (plugged fs (SetWord None (Number at) (Number m.word))) (stepped (Over (entries.Place at) ∷ fs) s t m.state (Number m.word) h)
+    (to_given fs m.state (SetWord None (Number at) (Number m.word)) (word_stored m.state at m.word) refl)
 mixed_follows (Err f) fs s at t h = faulted (Over (entries.Place at) ∷ fs) s t f h
 
 close_follows : (e : Entry) (fs : List Frame) (s : State) (n : ℕ) → Follows s (plugged fs (over e (Number n))) (onward (code_after fs) (close_effect s n (Some e) (stack_under fs)))
@@ -218,7 +217,7 @@ call_follows : (vs : List ℕ) (fs : List Frame) (s : State) (callee : ℕ) →
 call_follows vs fs s callee =
     let t : Pending = Call (Number callee) (before vs End) in
     let e : reduce s t ≡ Calls callee (padded (in_order vs [])) Hole =
-        ap (λ q. within q (Call (Number callee)) (λ ws. Calls callee (padded ws) Hole)) (values_before vs s End [] refl) in
+    ap (λ q. within q (Call (Number callee)) (λ ws. Calls callee (padded ws) Hole)) (values_before vs s End [] refl) in
     subst (Follows s (plugged fs t)) (sym (calls_are s vs callee (code_after fs) (stack_under fs))) (to_call fs s t callee (padded (in_order vs [])) e)
 
 value_follows : (n : ℕ) (fs : List Frame) (s : State) → Follows s (plugged fs (Number n)) (move s (code_after fs) (entries.Word n ∷ stack_under fs))
@@ -243,7 +242,7 @@ part_follows (Value n) fs s = value_follows n fs s
 pub moves_follow : (s : State) (c : List Op) (st : List Entry) → Stands c st → Follows s (tree_of c st) (move s c st)
 moves_follow s c st h =
     let at : Follows s (tree_of (code_at h.part h.frames) (stack_at h.part h.frames)) (move s (code_at h.part h.frames) (stack_at h.part h.frames)) =
-        subst (λ q. Follows s q (move s (code_at h.part h.frames) (stack_at h.part h.frames))) (sym (tree_at h.part h.frames)) (part_follows h.part h.frames s) in
+    subst (λ q. Follows s q (move s (code_at h.part h.frames) (stack_at h.part h.frames))) (sym (tree_at h.part h.frames)) (part_follows h.part h.frames s) in
     let below_code : Follows s (tree_of (code_at h.part h.frames) st) (move s (code_at h.part h.frames) st) =
-        subst (λ ts. Follows s (tree_of (code_at h.part h.frames) ts) (move s (code_at h.part h.frames) ts)) (sym h.stack_is) at in
+    subst (λ ts. Follows s (tree_of (code_at h.part h.frames) ts) (move s (code_at h.part h.frames) ts)) (sym h.stack_is) at in
     subst (λ d. Follows s (tree_of d st) (move s d st)) (sym h.code_is) below_code

@@ -1,5 +1,5 @@
 -- Postfix code: what a tree is as code, and what code and entries are as a tree.
-use Rattle.std.specs.Prelude.{ℕ, zero, suc, List, [], ◌∷◌, length, map, Option, Some, None, codes}
+use Rattle.std.specs.Prelude.{ℕ, zero, suc, List, [], ◌∷◌, length, Option, Some, None, codes}
 use Rattle.shell_parse.specs.declared.tree.BinOp.{BinOp}
 use Rattle.shell_parse.specs.declared.tree.BinOp.TheVariants as ops
 use Rattle.shell_eval.specs.declared.code.Turn.{Turn}
@@ -10,7 +10,7 @@ use Rattle.shell_eval.specs.declared.code.Entry.{Entry}
 use Rattle.shell_eval.specs.declared.code.Entry.TheVariants as entries
 use Rattle.shell_parse.specs.Trees as trees
 use Rattle.shell_parse.specs.Trees.{PlainTree, Arguments, PlainStmt}
-use Rattle.shell_eval.specs.Pending.{Pending, Number, Str, Name, Lone, Address, Word, Unary, Binary, Choice, SetName, SetWord, New, Call, Hole, Args, End, Then, Logic, All, Any, logic_of}
+use Rattle.shell_eval.specs.Pending.{Pending, Number, Str, Name, Lone, Address, Word, Unary, Binary, Choice, SetName, SetWord, New, Call, Args, End, Then, Logic, All, Any, logic_of}
 
 abbrev pub turn_of : Logic → Turn
 turn_of All = turns.All

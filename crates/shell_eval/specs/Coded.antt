@@ -54,7 +54,7 @@ abbrev mutual
   tree_of_code (gcons (gnum (suc (suc (suc (suc (suc (suc (suc (suc (suc zero)))))))))) (gcons (gnum o) (gcons x e))) = SetName (set_of_number o) (bytes_of_code x) (tree_of_code e)
   tree_of_code (gcons (gnum (suc (suc (suc (suc (suc (suc (suc (suc (suc (suc zero))))))))))) (gcons (gnum o) (gcons a e))) = SetWord (set_of_number o) (tree_of_code a) (tree_of_code e)
   tree_of_code (gcons (gnum (suc (suc (suc (suc (suc (suc (suc (suc (suc (suc (suc zero)))))))))))) (gcons x e)) = New (bytes_of_code x) (tree_of_code e)
-  tree_of_code (gcons (gnum (suc (suc (suc (suc (suc (suc (suc (suc (suc (suc (suc (suc n)))))))))))))  (gcons f es)) = Call (tree_of_code f) (args_of_code es)
+  tree_of_code (gcons (gnum (suc (suc (suc (suc (suc (suc (suc (suc (suc (suc (suc (suc n))))))))))))) (gcons f es)) = Call (tree_of_code f) (args_of_code es)
   tree_of_code _ = Hole
 
   pub args_of_code : Gv → Args

@@ -5,7 +5,7 @@ use Rattle.shell_eval.specs.declared.code.Entry.{Entry}
 use Rattle.shell_eval.specs.State.{State}
 use Rattle.shell_eval.specs.Pending.{Pending, Hole}
 use Rattle.shell_eval.specs.Evaluate.{Value, Call, Fault, ended, evaluate}
-use Rattle.shell_eval.specs.Code.{Item, Whole, items_of, shown}
+use Rattle.shell_eval.specs.Code.{Whole, items_of, shown}
 use Rattle.shell_eval.specs.Machine.{Moved, Ends, Goes, Makes, Stops}
 use Rattle.shell_eval.specs.Frames.{Stands, Awaits}
 

@@ -1,5 +1,5 @@
 -- Where evaluation stands: what surrounds the part that is looked at.
-use Rattle.std.specs.Prelude.{◌≡◌, ℕ, suc, List, [], ◌∷◌, ◌++◌, length, Option, None}
+use Rattle.std.specs.Prelude.{◌≡◌, ℕ, suc, List, [], ◌∷◌, length, None}
 use Rattle.shell_parse.specs.declared.tree.BinOp.{BinOp}
 use Rattle.shell_parse.specs.declared.tree.BinOp.TheVariants as ops
 use Rattle.shell_parse.specs.declared.tree.UnOp.{UnOp}
@@ -9,7 +9,7 @@ use Rattle.shell_eval.specs.declared.code.Op.TheVariants as op
 use Rattle.shell_eval.specs.declared.code.Entry.{Entry}
 use Rattle.shell_eval.specs.declared.code.Entry.TheVariants as entries
 use Rattle.shell_parse.specs.Trees.{PlainTree, Arguments}
-use Rattle.shell_eval.specs.Pending.{Pending, Number, Lone, Word, Unary, Binary, SetWord, New, Call, Hole, Args, End, Then, begun, begun_all}
+use Rattle.shell_eval.specs.Pending.{Pending, Number, Lone, Word, Unary, Binary, SetWord, New, Call, Args, Then, begun, begun_all}
 use Rattle.shell_eval.specs.Code.{compiled, compiled_all, count_onto, turned}
 
 -- what is round the part: an operator before it; an operator with its right side to come, or with its left value;

@@ -1,5 +1,5 @@
 -- What is inside an evaluation.
-use Rattle.std.specs.Prelude.{◌≡◌, ℕ, ◌+◌, ◌≤◌, Bool, true, false, List, length, if◌then◌else◌}
+use Rattle.std.specs.Prelude.{ℕ, ◌+◌, ◌≤◌, Bool, true, false, List, length}
 use Rattle.shell_eval.specs.declared.code.Op.{Op}
 use Rattle.shell_eval.specs.declared.code.Entry.{Entry}
 use Rattle.shell_eval.specs.Room.{Entries}

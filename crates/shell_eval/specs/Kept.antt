@@ -1,5 +1,5 @@
 -- What evaluation keeps of the state, whatever is evaluated.
-use Rattle.std.specs.Prelude.{◌≡◌, ℕ, ◌+◌, ◌≤◌, ◌⊎◌, List, ◌++◌, length, Option, Some, None}
+use Rattle.std.specs.Prelude.{◌≡◌, ℕ, ◌+◌, ◌≤◌, ◌⊎◌, List, ◌++◌, length, Some, None}
 use Rattle.std.specs.List.{Contains}
 use Rattle.wind_base.specs.Limits.{most_symbols}
 use Rattle.mem_partition.specs.State.{IsPart}

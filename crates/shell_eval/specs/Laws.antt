@@ -1,10 +1,9 @@
 -- What follows of the definitions alone.
 use Rattle.std.specs.Prelude.{◌≡◌, ℕ, ◌+◌, ◌<◌, List}
-use Rattle.shell_eval.specs.declared.fault.EvalFault.{EvalFault}
 use Rattle.shell_eval.specs.State.{State}
 use Rattle.shell_parse.specs.Trees.{PlainStmt}
 use Rattle.shell_eval.specs.Pending.{Pending, Args, weight, begun_stmt, Number, Str, Name, Lone, Address, Word, Unary, Binary, Choice, SetName, SetWord, New, Call, Hole, End, Then, filled}
-use Rattle.shell_eval.specs.Reduce.{Outcome, Is, Steps, Calls, Faults, Waits, reduce}
+use Rattle.shell_eval.specs.Reduce.{Steps, Calls, reduce}
 use Rattle.shell_eval.specs.Evaluate.{evaluate, goes_on}
 
 -- each reduction makes the tree smaller

@@ -1,5 +1,5 @@
 -- What one operation does to the code, the entries and the state.
-use Rattle.std.specs.Prelude.{◌≡◌, ℕ, zero, suc, ◌+◌, ◌-◌, Bool, true, false, ◌==◌, not, if◌then◌else◌, List, [], ◌∷◌, length, map, drop, Option, Some, None, Result, Ok, Err, nat_lt}
+use Rattle.std.specs.Prelude.{ℕ, ◌-◌, Bool, ◌==◌, not, if◌then◌else◌, List, [], ◌∷◌, length, map, drop, Option, Some, None, Ok, Err, nat_lt}
 use Rattle.std.specs.List.{range_with_len}
 use Rattle.shell_parse.specs.declared.tree.BinOp.{BinOp}
 use Rattle.shell_eval.specs.declared.code.Turn.{Turn}
@@ -10,15 +10,15 @@ use Rattle.shell_eval.specs.declared.code.Entry.{Entry}
 use Rattle.shell_eval.specs.declared.code.Entry.TheVariants as entries
 use Rattle.symbol_table.specs.declared.symbol.Symbol.{Symbol}
 use Rattle.symbol_table.specs.declared.symbol.SymKind.{SymKind}
-use Rattle.symbol_table.specs.declared.symbol.SymKind.TheVariants.{TextSym, DataSym, BssSym, AbsSym}
+use Rattle.symbol_table.specs.declared.symbol.SymKind.TheVariants.{TextSym}
 use Rattle.shell_eval.specs.declared.fault.EvalFault.{EvalFault}
 use Rattle.shell_eval.specs.declared.fault.EvalFault.TheVariants.{Undefined, AccessAt}
 use Rattle.symbol_table.specs.Newest.{find}
 use Rattle.shell_eval.specs.State.{State}
 use Rattle.ppc_core.specs.Words.{bit}
 use Rattle.shell_eval.specs.Operators.{before_word}
-use Rattle.shell_eval.specs.Words.{Made, Tried, combined, word_read, word_stored, is_value, name_word, name_value, string_made, variable_made}
-use Rattle.shell_eval.specs.Pending.{Logic, All, Any}
+use Rattle.shell_eval.specs.Words.{Tried, combined, word_read, word_stored, is_value, name_word, name_value, string_made, variable_made}
+use Rattle.shell_eval.specs.Pending.{All, Any}
 use Rattle.shell_eval.specs.Reduce.{decides, kind_or_data, padded}
 
 -- what an operation that leaves the code as it is makes of the state and the entries: it goes on; a call is due; or a fault

@@ -1,5 +1,5 @@
 -- The tree under evaluation: the statement's tree, and what reduction makes of it.
-use Rattle.std.specs.Prelude.{ℕ, suc, ◌+◌, List, [], ◌∷◌, Option, Some, None, codes}
+use Rattle.std.specs.Prelude.{ℕ, ◌+◌, List, Option, Some, None, codes}
 use Rattle.shell_parse.specs.declared.tree.BinOp.{BinOp}
 use Rattle.shell_parse.specs.declared.tree.BinOp.TheVariants as ops
 use Rattle.shell_parse.specs.declared.tree.UnOp.{UnOp}

@@ -1,5 +1,5 @@
 -- What came of running code.
-use Rattle.std.specs.Prelude.{◌≡◌, ℕ, ◌+◌, ◌<◌, ◌≤◌, Bool, true, false, List}
+use Rattle.std.specs.Prelude.{◌≡◌, ℕ, Bool, true, false, List}
 use Rattle.shell_eval.specs.declared.code.Op.{Op}
 use Rattle.shell_eval.specs.declared.code.Entry.{Entry}
 use Rattle.shell_eval.specs.declared.step.Stepped.{Stepped}

@@ -1,5 +1,5 @@
 -- Room that was taken ahead.
-use Rattle.std.specs.Prelude.{ℕ, ◌+◌, ◌-◌, ◌*◌, ◌≤◌, min, Bool, true, false, List, [], ◌∷◌, length}
+use Rattle.std.specs.Prelude.{ℕ, List}
 use Rattle.shell_eval.specs.declared.code.Entry.{Entry}
 
 -- entries, the last one first, and how many more fit

@@ -3,11 +3,10 @@
 ghost use Rattle.std.specs.Prelude.{◌≡◌, ◌+◌, ◌-◌, ◌<◌, ◌≤◌, [], ◌∷◌, ◌++◌, length, drop, reverse, OnOk, IfOk, MatchOption};
 ghost use Rattle.shell_eval.specs.Machine.{top_word, top_entry, below};
 
+use shell_parse::{BinOp, UnOp};
 use std::alloc::Global;
 use std::marker::Model;
-use wind_base::NoMemory;
-use shell_parse::{BinOp, UnOp};
-use wind_base::Name;
+use wind_base::{Name, NoMemory};
 
 /// What becomes of a left side before its right side runs.
 #[derive(Clone, Copy, Debug, PartialEq, Eq)]

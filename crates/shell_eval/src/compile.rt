@@ -52,7 +52,12 @@ fn emit_behind(code: &mut Code, alloc: Global, op: BinOp, right: &Tree) -> Resul
 
 // The code behind the address of an assignment.
 #[cycle(emit)]
-fn emit_place(code: &mut Code, alloc: Global, aop: Option<BinOp>, right: &Tree) -> Result<(), NoMemory>
+fn emit_place(
+    code: &mut Code,
+    alloc: Global,
+    aop: Option<BinOp>,
+    right: &Tree,
+) -> Result<(), NoMemory>
     ensures { OnOk result (code.new
         ≡ Op.Turn (Turn.Place aop) (length code.old) ∷ compiled (plain_tree right.now) (Op.Close ∷ code.old)) }
 {

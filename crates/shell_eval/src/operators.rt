@@ -25,7 +25,9 @@ fn quotient(a: u32, b: u32) -> u32
     requires { 0 < b }
     ensures { result ≡ quotient_lem a b }
 {
-    a.cast_signed().wrapping_div(b.cast_signed()).cast_unsigned()
+    a.cast_signed()
+        .wrapping_div(b.cast_signed())
+        .cast_unsigned()
 }
 
 // What their quotient leaves.
@@ -33,7 +35,9 @@ fn remainder(a: u32, b: u32) -> u32
     requires { 0 < b }
     ensures { result ≡ remainder_lem a b }
 {
-    a.cast_signed().wrapping_rem(b.cast_signed()).cast_unsigned()
+    a.cast_signed()
+        .wrapping_rem(b.cast_signed())
+        .cast_unsigned()
 }
 
 // A signed number moved to the right.

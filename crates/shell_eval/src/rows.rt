@@ -85,7 +85,10 @@ fn add_number(text: &mut Vec<u8>, alloc: Global, n: u32) -> Result<(), Fail> {
 fn add_call(text: &mut Vec<u8>, alloc: Global, callee: u32, words: &[u32]) -> Result<(), Fail> {
     add_number(text, alloc, callee)?;
     text.extend_from_slice(b"(")?;
-    let count = words.iter().rposition(|word| *word != 0).map_or(0, |last| last + 1);
+    let count = words
+        .iter()
+        .rposition(|word| *word != 0)
+        .map_or(0, |last| last + 1);
     for (place, word) in words.iter().take(count).enumerate() {
         if place > 0 {
             text.extend_from_slice(b",")?;
@@ -171,7 +174,12 @@ fn outcome(alloc: Global, line: &[u8], env: &mut Env<'_>) -> Result<Vec<u8>, Fai
 
 /// Stops where a line comes to something else than what is wanted, in the environment that the rows before left. Each
 /// row is a line, ` => ` and what it comes to.
-pub(crate) fn run_with(rt: &impl Abort, alloc: Global, syms: &mut Symbols, rows: &str) -> Result<(), Fail> {
+pub(crate) fn run_with(
+    rt: &impl Abort,
+    alloc: Global,
+    syms: &mut Symbols,
+    rows: &str,
+) -> Result<(), Fail> {
     let mut part = Part::new(alloc, POOL.0, POOL.1).or(Err("memory"))?;
     let mut bus = bus(alloc)?;
     let mut out = OutBuf::reserved(alloc, 0).or(Err("memory"))?;

@@ -24,6 +24,7 @@ use wind_outside::Device;
 
 // How many bytes an operation writes at most, and how many are kept free behind an evaluation.
 const MOST_ANNOUNCED: usize = 300;
+
 const KEPT_FREE: usize = 512;
 
 /// What the next operation came to.

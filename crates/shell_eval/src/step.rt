@@ -13,7 +13,9 @@ use crate::code::{Code, Entry, Op, Stack, Turn, take_word};
 use crate::env::Env;
 use crate::fault::EvalFault;
 use crate::operators::{before, combine};
-use crate::words::{is_value, looked_up, name_value, name_word, string_made, variable_made, word_read, word_stored};
+use crate::words::{
+    is_value, looked_up, name_value, name_word, string_made, variable_made, word_read, word_stored,
+};
 use shell_parse::BinOp;
 use symbol_table::SymKind;
 use wind_base::Name;
@@ -73,7 +75,7 @@ fn left(env: &mut Env<'_>, stack: &mut Stack, aop: Option<BinOp>, name: Name) ->
     requires { 0 < stack.old.room }
     ensures effect { effect_of result (seen ⟦<dyn Device as Device>⟧ env.new) stack.new.list
         ≡ left_effect (seen ⟦<dyn Device as Device>⟧ env.old) aop name (find env.old.syms.now.list name)
-            stack.old.list }
+        stack.old.list }
     ensures room { stack.old.room + held result ≤ stack.new.room + 1 }
     ensures parts { KeptParts env.old env.new }
     ensures same { SameEnv env.old env.new }
@@ -128,7 +130,7 @@ fn turned(env: &mut Env<'_>, code: &mut Code, stack: &mut Stack, turn: Turn, kee
     requires { 0 < stack.old.room }
     ensures stepped { moved result (seen ⟦<dyn Device as Device>⟧ env.new) code.new stack.new.list
         ≡ turn_step (seen ⟦<dyn Device as Device>⟧ env.old) turn keep (top_word stack.old.list) code.old
-            (below stack.old.list) }
+        (below stack.old.list) }
     ensures room { stack.old.room + held result ≤ stack.new.room + 1 }
     ensures code { length code.new ≤ length code.old }
     ensures parts { KeptParts env.old env.new }
@@ -148,7 +150,7 @@ fn mixed(env: &mut Env<'_>, stack: &mut Stack, at: u32, word: Result<u32, EvalFa
     requires { 0 < stack.old.room }
     ensures effect { effect_of result (seen ⟦<dyn Device as Device>⟧ env.new) stack.new.list
         ≡ mixed_effect (seen ⟦<dyn Device as Device>⟧ env.old) at (attempt word (seen ⟦<dyn Device as Device>⟧ env.old))
-            stack.old.list }
+        stack.old.list }
     ensures room { stack.old.room + held result ≤ stack.new.room + 1 }
     ensures parts { KeptParts env.old env.new }
     ensures same { SameEnv env.old env.new }
@@ -171,7 +173,7 @@ fn closed(env: &mut Env<'_>, stack: &mut Stack) -> Stepped
     requires pool { env.old.part.now.end ≤ length env.old.bus.now.ram }
     ensures effect { effect_of result (seen ⟦<dyn Device as Device>⟧ env.new) stack.new.list
         ≡ close_effect (seen ⟦<dyn Device as Device>⟧ env.old) (top_word stack.old.list)
-            (top_entry (below stack.old.list)) (below (below stack.old.list)) }
+        (top_entry (below stack.old.list)) (below (below stack.old.list)) }
     ensures entry { stack.old.room + held result ≤ stack.new.room + 1 }
     ensures spare { length env.old.syms.now.list + env.old.syms.now.spare
         ≤ length env.new.syms.now.list + env.new.syms.now.spare }

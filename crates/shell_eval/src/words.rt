@@ -168,6 +168,7 @@ pub(crate) fn string_made(env: &mut Env<'_>, text: &Text) -> Result<u32, EvalFau
 
 // The bytes of a variable, and those of its block.
 const VARIABLE_BYTES: u32 = 4;
+
 const VARIABLE_BLOCK: u32 = 16;
 
 // Writes zeros to the block of a variable.

@@ -12,8 +12,8 @@ invariant-loop-n g l = record {
   code : length l.code ≤ length l.initial.code;
   ready : Ready (length l.code) l.env;
   same :
-    evaluate (seen_by (λ d. (goal.Device-dyn g (d.vtable, d.value)).kind_of d.value) (λ d. (goal.Device-dyn g (d.vtable, d.value)).words_of d.value) l.initial.env) (tree_of l.initial.code l.initial.stack.list)
-    ≡ evaluate (seen_by (λ d. (goal.Device-dyn g (d.vtable, d.value)).kind_of d.value) (λ d. (goal.Device-dyn g (d.vtable, d.value)).words_of d.value) l.env) (tree_of l.code l.stack.list);
+      evaluate (seen_by (λ d. (goal.Device-dyn g (d.vtable, d.value)).kind_of d.value) (λ d. (goal.Device-dyn g (d.vtable, d.value)).words_of d.value) l.initial.env) (tree_of l.initial.code l.initial.stack.list)
+      ≡ evaluate (seen_by (λ d. (goal.Device-dyn g (d.vtable, d.value)).kind_of d.value) (λ d. (goal.Device-dyn g (d.vtable, d.value)).words_of d.value) l.env) (tree_of l.code l.stack.list);
   parts : SameEnv l.initial.env l.env;
   sizes : SameSize l.initial.env l.env;
 }

@@ -23,7 +23,7 @@ joins r w s t c st p q e f h = ap (Î» (b : Bool). came r s (tree_at b c st)) e â
 pub returns-clause-went : goal.returns-clause-went
 returns-clause-went g c =
     joins _ _ _ _ _ _ _ _ c.is_call-self-inside.ensures c.in_ok-went.ensures.went
-        (shown_not_waiting c.self.inside.waits c.self.inside.code c.self.inside.stack c.args.self.now c.self.invariant c.self.view_is c.requires.waits)
+    (shown_not_waiting c.self.inside.waits c.self.inside.code c.self.inside.stack c.args.self.now c.self.invariant c.self.view_is c.requires.waits)
 
 pub returns-clause-holes : goal.returns-clause-holes
 returns-clause-holes g c =

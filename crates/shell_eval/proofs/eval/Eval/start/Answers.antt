@@ -1,4 +1,4 @@
-use Rattle.std.proofs.Common.{◌≡◌, ◌≤◌, length, ap, ◌∙◌, arith}
+use Rattle.std.proofs.Common.{◌∙◌, arith}
 use Rattle.shell_parse.specs.Trees.{plain_stmt}
 use Rattle.shell_eval.specs.Follows.{tree_of}
 use Rattle.shell_eval.proofs.Standing.{begins_inside}
