@@ -12,7 +12,9 @@ use Rattle.shell_eval.specs.State.{State}
 use Rattle.shell_eval.specs.Words.{Tried, combined, word_read, word_stored, is_value, name_word, name_value, string_made, variable_made}
 use Rattle.shell_eval.specs.Pending.{Pending, Number, Str, Name, Lone, Address, Word, Unary, Binary, Choice, SetName, SetWord, New, Call, Hole, Args, End, Then, filled_all}
 use Rattle.shell_eval.specs.Reduce.{Outcome, Is, Steps, Calls, Faults, Waits, reduce, reduce_all, within, given, padded, decides, chosen, lone_by, kind_or_data, old_read, resolved, left_by, set_at}
-use Rattle.shell_eval.specs.Laws.{holes, holes_all, StepLaw, CallLaw, FillLaw}
+use Rattle.shell_eval.specs.Evaluate.{Evaluated, goes_on, reduced, evaluate}
+use Rattle.shell_eval.specs.Laws.{holes, holes_all, StepLaw, CallLaw, FillLaw, IsEnd, EndsLaw}
+use Rattle.shell_eval.proofs.Smaller.{smaller}
 
 mutual
   pub fills_holes : FillLaw
@@ -35,13 +37,13 @@ mutual
   fills_all End v = refl
   fills_all (Then e es) v = let p = fills_holes e v in let q = fills_all es v in omega (arith, p, q)
 
--- nothing awaited after a step, and one answer after a call that is due
+-- nothing awaited after a step, one answer after a call that is due, and nothing to wait for
 abbrev Leaves : {V T : Type 0} → (T → ℕ) → Outcome V T → Type 0
 Leaves count (Is v) = Unit {0}
 Leaves count (Steps s t) = count t ≡ 0
 Leaves count (Calls f vs t) = count t ≡ 1
 Leaves count (Faults e) = Unit {0}
-Leaves count Waits = Unit {0}
+Leaves count Waits = ⊥
 
 leaves_within : {V T W U : Type 0} (cT : T → ℕ) (cU : U → ℕ) (r : Outcome V T) (around : T → U) (go : V → Outcome W U) →
     Leaves cT r → ((k : ℕ) (t : T) → cT t ≡ k → cU (around t) ≡ k) → ((v : V) → Leaves cU (go v)) → Leaves cU (within r around go)
@@ -49,7 +51,7 @@ leaves_within cT cU (Is v) around go h f g = g v
 leaves_within cT cU (Steps s t) around go h f g = f 0 t h
 leaves_within cT cU (Calls c vs t) around go h f g = f 1 t h
 leaves_within cT cU (Faults e) around go h f g = tt
-leaves_within cT cU Waits around go h f g = tt
+leaves_within cT cU Waits around go h f g = h
 
 leaves_given : (r : Tried) → Leaves holes (given r)
 leaves_given (Ok a) = refl
@@ -117,7 +119,7 @@ mutual
       (leaves s f (omega arith)) (λ k t l. omega arith)
       (λ callee. leaves_within holes_all holes (reduce_all s es) (Call (Number callee)) (λ vs. Calls callee (padded vs) Hole) (leaves_all s es (omega arith))
       (λ k t l. omega arith) (λ vs. refl))
-  leaves s Hole z = tt
+  leaves s Hole z = absurd (omega arith)
 
   leaves_all : (s : State) (ps : Args) → holes_all ps ≡ 0 → Leaves holes_all (reduce_all s ps)
   leaves_all s End z = tt
@@ -131,3 +133,21 @@ calls_leave s p f vs q e z = subst (λ (r : Outcome ℕ Pending). Leaves holes r
 
 pub steps_leave : StepLaw
 steps_leave s p t q e z = subst (λ (r : Outcome ℕ Pending). Leaves holes r) e (leaves s p z)
+
+-- evaluation never waits
+ends_on : (s : State) (r : Outcome ℕ Pending) (more : State → Pending → Evaluated) → Leaves holes r →
+    ((t : State) (q : Pending) → r ≡ Steps t q → holes q ≡ 0 → IsEnd (more t q).ending) → IsEnd (goes_on r s more).ending
+ends_on s (Is v) more h go = tt
+ends_on s (Steps t q) more h go = go t q refl h
+ends_on s (Calls f vs q) more h go = h
+ends_on s (Faults e) more h go = tt
+ends_on s Waits more h go = h
+
+ends_by : (n : ℕ) (s : State) (p : Pending) → weight p < n → holes p ≡ 0 → IsEnd (reduced n s p).ending
+ends_by zero s p h z = absurd (omega arith)
+ends_by (suc n) s p h z =
+    ends_on s (reduce s p) (reduced n) (leaves s p z) (λ t q e k. let l = smaller s p t q e in ends_by n t q (omega arith) k)
+
+pub ends : EndsLaw
+unfolding evaluate
+ends s p z = ends_by (suc (weight p)) s p (omega arith) z

@@ -12,6 +12,7 @@ use Rattle.shell_parse.specs.Trees as trees
 use Rattle.shell_parse.specs.Trees.{PlainTree, Arguments, PlainStmt}
 use Rattle.shell_eval.specs.Pending.{Pending, Number, Str, Name, Lone, Address, Word, Unary, Binary, Choice, SetName, SetWord, New, Call, Args, End, Then, Logic, All, Any, logic_of}
 
+-- what becomes of the left side of `&&` or `||`
 abbrev pub turn_of : Logic → Turn
 turn_of All = turns.All
 turn_of Any = turns.Any
@@ -49,6 +50,7 @@ abbrev pub compiled_expr : PlainTree → List Op
 compiled_expr (trees.Name x) = op.Lone x ∷ []
 compiled_expr t = compiled t []
 
+-- the code of a statement, whatever it is
 abbrev pub compiled_stmt : PlainStmt → List Op
 compiled_stmt trees.Nothing = op.Push 0 ∷ []
 compiled_stmt (trees.Load file) = op.Name (codes "ld") ∷ op.Push 0 ∷ op.Push 0 ∷ op.Str file ∷ op.Call 3 ∷ []
@@ -68,6 +70,7 @@ item_of (entries.Place at) = Left (SetWord None (Number at))
 item_of (entries.Mixed o at w) = Left (λ e. SetWord None (Number at) (Binary o (Number w) e))
 item_of (entries.Unknown x) = Left (New x)
 
+-- entries as items
 abbrev pub items_of : List Entry → List Item
 items_of [] = []
 items_of (e ∷ es) = item_of e ∷ items_of es
@@ -78,23 +81,28 @@ turned turns.All a b = Choice All a b
 turned turns.Any a b = Choice Any a b
 turned (turns.Place aop) a b = SetWord aop a b
 
+-- a form round the tree on top
 abbrev pub on_one : (Pending → Pending) → List Item → List Item
 on_one f (Whole a ∷ st) = Whole (f a) ∷ st
 on_one f st = st
 
+-- a form of the two trees on top
 abbrev pub on_two : (Pending → Pending → Pending) → List Item → List Item
 on_two f (Whole b ∷ Whole a ∷ st) = Whole (f a b) ∷ st
 on_two f st = st
 
+-- the tree on top becomes a left side
 abbrev pub on_left : Turn → List Item → List Item
 on_left w (Whole a ∷ st) = Left (turned w a) ∷ st
 on_left w st = st
 
+-- the tree on top is the right side of the form below, or stands for it
 abbrev pub on_right : List Item → List Item
 on_right (Whole e ∷ Left f ∷ st) = Whole (f e) ∷ st
 on_right (Whole e ∷ Whole n ∷ st) = Whole e ∷ st
 on_right st = st
 
+-- a call of what lies below the n trees on top, with them before these arguments
 abbrev pub gathered : ℕ → List Item → Args → List Item
 gathered zero (Whole f ∷ st) es = Whole (Call f es) ∷ st
 gathered (suc n) (Whole e ∷ st) es = gathered n st (Then e es)

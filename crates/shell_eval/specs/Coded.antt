@@ -5,11 +5,12 @@ use Rattle.shell_parse.specs.Codes.{op_number, op_of_number, op_again, set_numbe
 use Rattle.shell_eval.specs.Pending.{Pending, Number, Str, Name, Lone, Address, Word, Unary, Binary, Choice, SetName, SetWord, New, Call, Hole, Args, End, Then, Logic, All, Any}
 use base.Stored.{Gv, gnil, gnum, gcons, Coded}
 
--- the number of a logic, and back
+-- the number of a logic
 abbrev pub logic_number : Logic → ℕ
 logic_number All = 0
 logic_number Any = 1
 
+-- the logic of a number
 abbrev pub logic_of_number : ℕ → Logic
 logic_of_number zero = All
 logic_of_number (suc n) = Any
@@ -40,6 +41,7 @@ abbrev mutual
   args_code End = gnil
   args_code (Then e es) = gcons (tree_code e) (args_code es)
 
+-- the tree and the arguments of a ghost value
 abbrev mutual
   pub tree_of_code : Gv → Pending
   tree_of_code (gcons (gnum zero) (gnum n)) = Number n

@@ -27,6 +27,7 @@ pub record Comes_to_call (s : State) (p : Pending) (t : State) (f : ℕ) (vs : L
   pub awaits : Awaits c st
   pub same : evaluate s p ≡ ended t (Call f vs (tree_with_hole c st))
 
+-- what an operation makes of code and entries is what evaluation makes of their tree
 abbrev pub Follows : State → Pending → Moved → Type 0
 Follows s p (Ends t n) = evaluate s p ≡ ended t (Value n)
 Follows s p (Goes t c st) = Goes_on s p t c st

@@ -85,16 +85,19 @@ pub data Part : Type 0 where
   Alone : List ℕ → Part
   Value : ℕ → Part
 
+-- the code at a part
 abbrev pub code_at : Part → List Frame → List Op
 code_at (Source t) fs = compiled t (code_after fs)
 code_at (Alone x) fs = op.Lone x ∷ code_after fs
 code_at (Value n) fs = code_after fs
 
+-- the entries at a part
 abbrev pub stack_at : Part → List Frame → List Entry
 stack_at (Source t) fs = stack_under fs
 stack_at (Alone x) fs = stack_under fs
 stack_at (Value n) fs = entries.Word n ∷ stack_under fs
 
+-- the part as a tree
 abbrev pub part_tree : Part → Pending
 part_tree (Source t) = begun t
 part_tree (Alone x) = Lone x

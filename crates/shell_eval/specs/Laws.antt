@@ -51,3 +51,14 @@ CallLaw = (s : State) (p : Pending) (f : ℕ) (vs : List ℕ) (q : Pending) → 
 -- an answer that is filled in leaves none awaited
 abbrev pub FillLaw : Type 0
 FillLaw = (p : Pending) (v : ℕ) → holes (filled v p) ≡ 0
+
+-- it ends by a value, a fault, or a call whose answer alone is awaited
+abbrev pub IsEnd : Ending → Type 0
+IsEnd (Value n) = Unit {0}
+IsEnd (Call f vs q) = holes q ≡ 1
+IsEnd (Fault e) = Unit {0}
+IsEnd Waiting = ⊥
+
+-- where no answer is awaited, evaluation ends so
+abbrev pub EndsLaw : Type 0
+EndsLaw = (s : State) (p : Pending) → holes p ≡ 0 → IsEnd (evaluate s p).ending

@@ -40,15 +40,17 @@ onward c (Puts s st) = Goes s c st
 onward c (Asks s callee words st) = Makes s callee words c st
 onward c (Fails s f) = Stops s f
 
--- the value on top, and the entries below
+-- the value on top
 abbrev pub top_word : List Entry → ℕ
 top_word (entries.Word n ∷ st) = n
 top_word st = 0
 
+-- the entry on top
 abbrev pub top_entry : List Entry → Option Entry
 top_entry [] = None
 top_entry (e ∷ st) = Some e
 
+-- the entries below
 abbrev pub below : List Entry → List Entry
 below [] = []
 below (e ∷ st) = st
@@ -70,11 +72,12 @@ arguments n st = map (argument n st) (range_with_len 0 10)
 abbrev pub asks : State → ℕ → List Entry → Effect
 asks s n st = Asks s (top_word (drop n st)) (arguments n st) (below (drop n st))
 
--- a name alone, by its newest symbol
+-- a name alone, by the symbol that it is and its kind
 abbrev pub alone_by : State → List ℕ → Option Symbol → SymKind → List Entry → Effect
 alone_by s x (Some y) TextSym st = Asks s y.value (padded []) st
 alone_by s x y _ st = pushes s (name_word s x) st
 
+-- a name alone
 abbrev pub alone : State → List ℕ → List Entry → Effect
 alone s x st = alone_by s x (find s.symbols x) (kind_or_data (find s.symbols x)) st
 

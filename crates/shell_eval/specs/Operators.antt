@@ -13,17 +13,19 @@ before_word Neg a = (2 ^ 32 - a) % 2 ^ 32
 before_word Not a = bit (a == 0)
 before_word Com a = complement a
 
--- the quotient of two words read as signed, toward 0, and what it leaves
+-- the quotient of two words read as signed, toward 0
 abbrev pub quotient : ℕ → ℕ → ℕ
 quotient a b = cast_unsigned w32 (int_div (signed a) (signed b))
 
+-- what the quotient of two words read as signed leaves
 abbrev pub remainder : ℕ → ℕ → ℕ
 remainder a b = cast_unsigned w32 (int_rem (signed a) (signed b))
 
--- a word moved to the left and, read as signed, to the right, by the last five bits of another
+-- a word moved to the left, by the last five bits of another
 abbrev pub moved_left : ℕ → ℕ → ℕ
 moved_left a b = (a * 2 ^ (b % 32)) % 2 ^ 32
 
+-- a word, read as signed, moved to the right
 abbrev pub moved_right : ℕ → ℕ → ℕ
 moved_right a b = cast_unsigned w32 (int_shr (signed a) (b % 32))
 

@@ -50,15 +50,17 @@ decides Any n = not (n == 0)
 abbrev pub chosen : Logic → ℕ → Pending → Pending
 chosen w n b = if decides w n then Number (bit (not (n == 0))) else Binary ops.Ne b (Number 0)
 
--- a name alone: the call of a text symbol, else the name's word
+-- a name alone, by the symbol that it is and its kind
 abbrev pub lone_by : State → List ℕ → Option Symbol → SymKind → Outcome ℕ Pending
 lone_by s x (Some y) TextSym = Steps s (Call (Number y.value) End)
 lone_by s x y _ = given (name_word s x)
 
+-- the kind of a symbol, where there is one
 abbrev pub kind_or_data : Option Symbol → SymKind
 kind_or_data None = DataSym
 kind_or_data (Some y) = y.kind
 
+-- a name alone: the call of a text symbol, else the name's word
 abbrev pub lone : State → List ℕ → Outcome ℕ Pending
 lone s x = lone_by s x (find s.symbols x) (kind_or_data (find s.symbols x))
 
@@ -83,6 +85,7 @@ abbrev pub set_at : State → Option BinOp → ℕ → Pending → Outcome ℕ P
 set_at s None at e due = within due (SetWord None (Number at)) (λ v. given (word_stored s at v))
 set_at s (Some op) at e due = resolved s (Some op) at e
 
+-- the reduction that is due of a tree, and of arguments
 abbrev mutual
   pub reduce : State → Pending → Outcome ℕ Pending
   reduce s (Number n) = Is n

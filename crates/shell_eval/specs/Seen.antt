@@ -29,10 +29,11 @@ pub record SameSize {I : Type 0} {X : I → Type 0} (old new : Env I X) : Type 0
   pub memory : length new.bus.now.ram ≡ length old.bus.now.ram
   pub pool : new.part.now.end ≡ old.part.now.end
 
--- how many bytes an operation writes at most, and how many are kept free behind an evaluation
+-- how many bytes an operation writes at most
 abbrev pub most_announced : ℕ
 most_announced = 300
 
+-- how many bytes are kept free behind an evaluation
 abbrev pub kept_free : ℕ
 kept_free = 512
 

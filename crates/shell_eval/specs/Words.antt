@@ -31,11 +31,12 @@ Tried = Result Made EvalFault
 abbrev pub made : ℕ → State → Tried
 made word s = Ok (record { word = word; state = s })
 
--- the value of an operator between two words
+-- a value, or the fault of a zero divisor
 abbrev pub combined_by : State → Option ℕ → Tried
 combined_by s None = Err DivideByZero
 combined_by s (Some n) = made n s
 
+-- an operator between two words, as a step
 abbrev pub combined : State → BinOp → ℕ → ℕ → Tried
 combined s op a b = combined_by s (between_words op a b)
 
@@ -57,26 +58,29 @@ is_value AbsSym = true
 is_value DataSym = false
 is_value BssSym = false
 
--- the word of a name, by its newest symbol
+-- the word of a name, by the symbol that it is
 abbrev pub name_by : State → List ℕ → Option Symbol → Tried
 name_by s x None = Err (Undefined x)
 name_by s x (Some y) = if is_value y.kind then made y.value s else word_read s y.value
 
+-- the word of a name: its newest symbol's value, or the word there
 unfoldable pub name_word : State → List ℕ → Tried
 name_word s x = name_by s x (find s.symbols x)
 
--- the value of a name's newest symbol
+-- the value of a name, by the symbol that it is
 abbrev pub address_by : State → List ℕ → Option Symbol → Tried
 address_by s x None = Err (Undefined x)
 address_by s x (Some y) = made y.value s
 
+-- the value of a name's newest symbol
 unfoldable pub name_value : State → List ℕ → Tried
 name_value s x = address_by s x (find s.symbols x)
 
--- the Kernel block of n bytes that the partition gives, if it gives one, and the partition then
+-- the Kernel block of n bytes that the partition gives, if it gives one
 abbrev pub block_of : PartState → ℕ → Option ℕ
 block_of pool n = result_ok (alloc_of pool n 1)
 
+-- the partition then
 abbrev pub with_block_of : PartState → ℕ → PartState
 with_block_of pool n = after_alloc pool n 1 Kernel
 
@@ -84,12 +88,13 @@ with_block_of pool n = after_alloc pool n 1 Kernel
 abbrev pub with_ram : BusState → ℕ → List ℕ → BusState
 with_ram memory at bytes = record memory { ram = with_bytes memory.ram at bytes }
 
--- a string with a zero behind it, at the address of its block
+-- a string in the block at this address, where there is one, with a zero behind it
 abbrev pub string_by : State → List ℕ → Option ℕ → Tried
 string_by s text None = Err NoRoom
 string_by s text (Some at) =
     made at (record s { pool = with_block_of s.pool (length text + 1); memory = with_ram s.memory at (text ++ 0 ∷ []) })
 
+-- a string takes a block, whose address is its value
 unfoldable pub string_made : State → List ℕ → Tried
 string_made s text = string_by s text (block_of s.pool (length text + 1))
 
@@ -114,11 +119,12 @@ with_variable s x at = record {
   output = s.output ++ announcement x;
 }
 
--- a new variable takes its first word
+-- a new variable in the block at this address, where there is one, takes its first word
 abbrev pub variable_by : State → List ℕ → ℕ → Option ℕ → Tried
 variable_by s x v None = Err NoRoom
 variable_by s x v (Some at) = word_stored (with_variable s x at) at v
 
+-- a new variable takes a symbol and a block
 unfoldable pub variable_made : State → List ℕ → ℕ → Tried
 variable_made s x v =
     if nat_le most_symbols (length s.symbols) then Err SymbolsFull

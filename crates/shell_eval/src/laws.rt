@@ -1,6 +1,6 @@
 //! What follows of the definitions alone.
 
-ghost use Rattle.shell_eval.specs.Laws.{SmallerLaw, RepeatsLaw, BegunLaw, StepLaw, CallLaw, FillLaw};
+ghost use Rattle.shell_eval.specs.Laws.{SmallerLaw, RepeatsLaw, BegunLaw, StepLaw, CallLaw, FillLaw, EndsLaw};
 ghost use Rattle.shell_eval.specs.Kept.{KeepsLaw, OutputLaw};
 
 /// Evaluation makes one reduction after another, of which each makes the tree smaller, so it ends. One call's answer is
@@ -12,6 +12,7 @@ pub fn evaluation_law()
     ensures step { StepLaw }
     ensures call { CallLaw }
     ensures fill { FillLaw }
+    ensures ends { EndsLaw }
 {}
 
 /// What evaluation keeps, whatever is evaluated, and how much it writes.
