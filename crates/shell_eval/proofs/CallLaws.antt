@@ -1,5 +1,5 @@
 -- A call leaves one hole, and an answer fills it.
-use Rattle.std.proofs.Common.{◌≡◌, ℕ, Bool, true, false, if◌then◌else◌, List, ◌∷◌, Option, Some, None, Ok, Err, refl, subst, arith}
+use Rattle.std.proofs.Common.{◌≡◌, ℕ, zero, suc, ◌<◌, Bool, true, false, if◌then◌else◌, List, ◌∷◌, Option, Some, None, Ok, Err, refl, subst, arith}
 use Rattle.shell_parse.specs.declared.tree.BinOp.{BinOp}
 use Rattle.shell_parse.specs.declared.tree.BinOp.TheVariants as ops
 use Rattle.symbol_table.specs.declared.symbol.Symbol.{Symbol}
@@ -10,7 +10,7 @@ use Rattle.symbol_table.specs.Newest.{find}
 use Rattle.shell_eval.specs.Operators.{before_word}
 use Rattle.shell_eval.specs.State.{State}
 use Rattle.shell_eval.specs.Words.{Tried, combined, word_read, word_stored, is_value, name_word, name_value, string_made, variable_made}
-use Rattle.shell_eval.specs.Pending.{Pending, Number, Str, Name, Lone, Address, Word, Unary, Binary, Choice, SetName, SetWord, New, Call, Hole, Args, End, Then, filled_all}
+use Rattle.shell_eval.specs.Pending.{Pending, Number, Str, Name, Lone, Address, Word, Unary, Binary, Choice, SetName, SetWord, New, Call, Hole, Args, End, Then, filled_all, weight}
 use Rattle.shell_eval.specs.Reduce.{Outcome, Is, Steps, Calls, Faults, Waits, reduce, reduce_all, within, given, padded, decides, chosen, lone_by, kind_or_data, old_read, resolved, left_by, set_at}
 use Rattle.shell_eval.specs.Evaluate.{Evaluated, goes_on, reduced, evaluate}
 use Rattle.shell_eval.specs.Laws.{holes, holes_all, StepLaw, CallLaw, FillLaw, IsEnd, EndsLaw}

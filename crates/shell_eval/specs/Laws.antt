@@ -4,7 +4,7 @@ use Rattle.shell_eval.specs.State.{State}
 use Rattle.shell_parse.specs.Trees.{PlainStmt}
 use Rattle.shell_eval.specs.Pending.{Pending, Args, weight, begun_stmt, Number, Str, Name, Lone, Address, Word, Unary, Binary, Choice, SetName, SetWord, New, Call, Hole, End, Then, filled}
 use Rattle.shell_eval.specs.Reduce.{Steps, Calls, reduce}
-use Rattle.shell_eval.specs.Evaluate.{evaluate, goes_on}
+use Rattle.shell_eval.specs.Evaluate.{Ending, Value, Call as CallEnd, Fault, Waiting, evaluate, goes_on}
 
 -- each reduction makes the tree smaller
 abbrev pub SmallerLaw : Type 0
@@ -55,7 +55,7 @@ FillLaw = (p : Pending) (v : ℕ) → holes (filled v p) ≡ 0
 -- it ends by a value, a fault, or a call whose answer alone is awaited
 abbrev pub IsEnd : Ending → Type 0
 IsEnd (Value n) = Unit {0}
-IsEnd (Call f vs q) = holes q ≡ 1
+IsEnd (CallEnd f vs q) = holes q ≡ 1
 IsEnd (Fault e) = Unit {0}
 IsEnd Waiting = ⊥
 
