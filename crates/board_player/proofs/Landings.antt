@@ -2,8 +2,8 @@
 use Rattle.std.proofs.Common.{refl}
 use Rattle.std.specs.List.{All}
 use Rattle.std.proofs.lemmas.List.Elements.{All-from_recursion, All-contains}
-use Rattle.shell_eval.specs.Gates.{built_gates}
-use Rattle.shell_eval.proofs.Built.{all_built}
+use Rattle.shell_due.specs.Gates.{built_gates}
+use Rattle.shell_due.proofs.Built.{all_built}
 use Rattle.board_player.specs.Laws.{LandsAt, GatesLaw}
 use Rattle.board_player.specs.declared.gate.Gate.TheVariants as gates
 

@@ -15,7 +15,7 @@ use Rattle.wind_core.proofs.Keeping.{every_call_keeps}
 use Rattle.wind_core.proofs.Ticking.{tick_keeps, tick_ahead}
 use Rattle.shell_parse.specs.Trees.{PlainStmt}
 use Rattle.shell_parse.specs.Reading.{read_line}
-use Rattle.shell_eval.specs.Due.{PlainDue, Empty, Value, Made, Missing, Unevaluated}
+use Rattle.shell_due.specs.Due.{PlainDue, Empty, Value, Made, Missing, Unevaluated}
 use Rattle.con_line.specs.State.{ConsoleState}
 use Rattle.con_line.specs.Lines.{KeepsLines, has_line, front_line, line_dropped}
 use Rattle.con_line.proofs.Kept.{drop_keeps}

@@ -7,7 +7,7 @@ use Rattle.tick_file.specs.Laws.{IsEarly}
 use Rattle.wind_core.specs.Orders.{running}
 use Rattle.wind_core.specs.Laws.{MayRun}
 use Rattle.shell_parse.specs.Trees.{PlainStmt}
-use Rattle.shell_eval.specs.Due.{Made, due_of}
+use Rattle.shell_due.specs.Due.{Made, due_of}
 use Rattle.board_player.specs.State.{State}
 use Rattle.board_player.specs.Good.{Good}
 use Rattle.board_player.specs.Run.{after}

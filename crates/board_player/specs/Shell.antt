@@ -4,8 +4,8 @@ use Rattle.task_block.specs.declared.task.Task.{Task}
 use Rattle.wind_core.specs.State.{KernState}
 use Rattle.shell_parse.specs.Trees.{PlainStmt, Nothing}
 use Rattle.shell_parse.specs.Reading.{Reading, Statements, Refused}
-use Rattle.shell_eval.specs.Filled.{filled_stmt}
-use Rattle.shell_eval.specs.Due.{PlainDue, Empty, Value, Made, Missing, Unevaluated, due_of}
+use Rattle.shell_due.specs.Filled.{filled_stmt}
+use Rattle.shell_due.specs.Due.{PlainDue, Empty, Value, Made, Missing, Unevaluated, due_of}
 use Rattle.board_player.specs.State.{ShellState}
 use Rattle.board_player.specs.Task.{shell_id, shell_task, listening, calling}
 use Rattle.board_player.specs.Calls.{landing, call, argument}

@@ -12,7 +12,7 @@ use crate::gate::{Landing, landed_at};
 use crate::shell::Shell;
 use crate::task::{begin_call, listen, shell_id};
 use crate::text::{add_undefined, add_value};
-use shell_eval::Due;
+use shell_due::Due;
 use wind_base::OutBuf;
 use wind_base::text::add;
 use wind_core::Kern;

@@ -5,13 +5,13 @@ ghost use Rattle.wind_base.specs.OutBuf.{KeepsSpace};
 ghost use Rattle.wind_base.specs.Limits.{longest_line};
 ghost use Rattle.shell_parse.specs.Reading.{read_line};
 ghost use Rattle.shell_parse.specs.Trees.{plain_stmt};
-ghost use Rattle.shell_eval.specs.Due.{plain_due};
+ghost use Rattle.shell_due.specs.Due.{plain_due};
 ghost use Rattle.board_player.specs.declared.phase.Phase.TheVariants as phases;
 ghost use Rattle.board_player.specs.Shell.{at_prompt, prompted, is_nothing as is_nothing_lem, begun, shell_read, read_text, phase_with, rest_of, moved_on, due_of_first, fill_first as fill_first_lem, returned};
 
 use crate::phase::Phase;
 use crate::text::add_syntax;
-use shell_eval::{Due, due, fill};
+use shell_due::{Due, due, fill};
 use shell_parse::{ParseErr, Stmt, parse};
 use std::alloc::Global;
 use std::marker::Model;

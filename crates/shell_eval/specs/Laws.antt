@@ -1,59 +1,64 @@
 -- What follows of the definitions alone.
-use Rattle.std.specs.Prelude.{◌≡◌, ℕ, ◌+◌, Bool, true, false, List, length, is_some, if◌then◌else◌}
-use Rattle.std.specs.List.{Contains}
-use Rattle.shell_parse.specs.Trees.{PlainTree, Unary, Binary, Call, Arguments, End, Then, PlainStmt, Nothing, Load, Command, Expr}
-use Rattle.shell_eval.specs.Gates.{built_gates}
-use Rattle.shell_eval.specs.Evaluated.{name_of}
-use Rattle.shell_eval.specs.Filled.{filled_stmt}
-use Rattle.shell_eval.specs.Due.{PlainDue, Empty, Value, Made, Missing, Unevaluated, due_of}
+use Rattle.std.specs.Prelude.{◌≡◌, ℕ, ◌+◌, ◌<◌, List}
+use Rattle.shell_eval.specs.State.{State}
+use Rattle.shell_parse.specs.Trees.{PlainStmt}
+use Rattle.shell_eval.specs.Pending.{Pending, Args, weight, begun_stmt, Number, Str, Name, Lone, Address, Word, Unary, Binary, Choice, SetName, SetWord, New, Call, Hole, End, Then, filled}
+use Rattle.shell_eval.specs.Reduce.{Steps, Calls, reduce}
+use Rattle.shell_eval.specs.Evaluate.{Ending, Value, Call as CallEnd, Fault, Waiting, evaluate, goes_on}
 
--- how many calls of names are evaluated in an expression, and in arguments
+-- each reduction makes the tree smaller
+abbrev pub SmallerLaw : Type 0
+SmallerLaw = (s : State) (p : Pending) (t : State) (q : Pending) → reduce s p ≡ Steps t q → weight q < weight p
+
+-- evaluation makes the reduction that is due, and goes on from what it leaves
+abbrev pub RepeatsLaw : Type 0
+RepeatsLaw = (s : State) (p : Pending) → evaluate s p ≡ goes_on (reduce s p) s evaluate
+
+-- how many answers of calls are awaited
 abbrev mutual
-  pub calls_of : PlainTree → ℕ
-  calls_of (Unary op a) = calls_of a
-  calls_of (Binary op a b) = calls_of a + calls_of b
-  calls_of (Call callee es) = if is_some (name_of callee) then calls_of_all es + 1 else 0
-  calls_of _ = 0
+  pub holes : Pending → ℕ
+  holes (Number n) = 0
+  holes (Str b) = 0
+  holes (Name x) = 0
+  holes (Lone x) = 0
+  holes (Address x) = 0
+  holes (Word a) = holes a
+  holes (Unary op a) = holes a
+  holes (Binary op a b) = holes a + holes b
+  holes (Choice w a b) = holes a + holes b
+  holes (SetName aop x e) = holes e
+  holes (SetWord aop a e) = holes a + holes e
+  holes (New x e) = holes e
+  holes (Call f es) = holes f + holes_all es
+  holes Hole = 1
 
-  pub calls_of_all : Arguments → ℕ
-  calls_of_all End = 0
-  calls_of_all (Then e es) = calls_of e + calls_of_all es
+  pub holes_all : Args → ℕ
+  holes_all End = 0
+  holes_all (Then e es) = holes e + holes_all es
 
--- how many calls are evaluated in a statement; a name alone is one
-abbrev pub calls_in : PlainStmt → ℕ
-calls_in Nothing = 0
-calls_in (Load file) = 0
-calls_in (Command callee es) = calls_of_all es + 1
-calls_in (Expr t) = if is_some (name_of t) then 1 else calls_of t
+-- a statement awaits no answer at its beginning
+abbrev pub BegunLaw : Type 0
+BegunLaw = (t : PlainStmt) → holes (begun_stmt t) ≡ 0
 
--- whether it is evaluated, no call is due and no callee is unknown
-abbrev pub is_over : PlainDue → Bool
-is_over Empty = true
-is_over (Value v) = true
-is_over (Made gate words) = false
-is_over (Missing callee) = false
-is_over Unevaluated = false
+-- where no answer is awaited, none is after a reduction
+abbrev pub StepLaw : Type 0
+StepLaw = (s : State) (p : Pending) (t : State) (q : Pending) → reduce s p ≡ Steps t q → holes p ≡ 0 → holes q ≡ 0
 
--- whether a call is due
-abbrev pub is_made : PlainDue → Bool
-is_made Empty = false
-is_made (Value v) = false
-is_made (Made gate words) = true
-is_made (Missing callee) = false
-is_made Unevaluated = false
+-- where no answer is awaited, one is after a call that is due
+abbrev pub CallLaw : Type 0
+CallLaw = (s : State) (p : Pending) (f : ℕ) (vs : List ℕ) (q : Pending) → reduce s p ≡ Calls f vs q → holes p ≡ 0 → holes q ≡ 1
 
--- a due call that is filled in is one call fewer
-abbrev pub FewerLaw : Type 0
-FewerLaw = (s : PlainStmt) (gate : ℕ) (words : List ℕ) (v : ℕ) → due_of s ≡ Made gate words → calls_in (filled_stmt v s) + 1 ≡ calls_in s
+-- an answer that is filled in leaves none awaited
+abbrev pub FillLaw : Type 0
+FillLaw = (p : Pending) (v : ℕ) → holes (filled v p) ≡ 0
 
--- a statement that is over has no call
-abbrev pub OverLaw : Type 0
-OverLaw = (s : PlainStmt) → is_over (due_of s) ≡ true → calls_in s ≡ 0
+-- it ends by a value, a fault, or a call whose answer alone is awaited
+abbrev pub IsEnd : Ending → Type 0
+IsEnd (Value n) = Unit {0}
+IsEnd (CallEnd f vs q) = holes q ≡ 1
+IsEnd (Fault e) = Unit {0}
+IsEnd Waiting = ⊥
 
--- where no call is due, nothing is filled in
-abbrev pub SameLaw : Type 0
-SameLaw = (s : PlainStmt) (v : ℕ) → is_made (due_of s) ≡ false → filled_stmt v s ≡ s
-
--- a due call is built, and has ten words
-abbrev pub BuiltLaw : Type 0
-BuiltLaw = (s : PlainStmt) (gate : ℕ) (words : List ℕ) → due_of s ≡ Made gate words → Contains built_gates gate × (length words ≡ 10)
+-- where no answer is awaited, evaluation ends so
+abbrev pub EndsLaw : Type 0
+EndsLaw = (s : State) (p : Pending) → holes p ≡ 0 → IsEnd (evaluate s p).ending

@@ -1,9 +1,49 @@
--- What is wanted, as the code answers it, without where it lies in memory.
-use Rattle.shell_eval.specs.Wanted.{Wanted, Settled, Calls, Unknown}
-use Rattle.shell_eval.specs.declared.answers.Wanted as declared
-use Rattle.shell_eval.specs.declared.answers.Wanted.TheVariants as code
+-- What contracts see of the environment.
+use Rattle.std.specs.Prelude.{◌≡◌, ℕ, List, ◌+◌, ◌-◌, ◌*◌, ◌≤◌, min, length}
+use Rattle.std.specs.declared.dyn_box.DynBox.{DynBox}
+use Rattle.std.specs.declared.alloc.Global.{Global}
+use Rattle.wind_outside.specs.declared.device.DeviceKind.{DeviceKind}
+use Rattle.wind_outside.specs.declared.device.Device.{Ghosts}
+use Rattle.wind_base.specs.Limits.{most_symbols}
+use Rattle.board_bus.specs.Seen.{bus_by}
+use Rattle.shell_eval.specs.declared.env.Env.{Env}
+use Rattle.shell_eval.specs.State.{State, state_of}
 
-abbrev pub plain_wanted : declared.Wanted → Wanted
-plain_wanted code.Settled = Settled
-plain_wanted (code.Calls gate words) = Calls gate words
-plain_wanted (code.Unknown callee) = Unknown callee.now
+-- the state of an environment, where a device is seen by these
+abbrev pub seen_by : {I : Type 0} {X : I → Type 0} → (DynBox I Global X → DeviceKind) → (DynBox I Global X → List ℕ) → Env I X → State
+seen_by kind_of words_of e = state_of e.syms.now e.part.now (bus_by kind_of words_of e.bus.now) e.out.now
+
+-- the state of an environment, where a device is seen as its kind and its words
+abbrev pub seen : {I : Type 0} {X : I → Type 0} → ((i : I) → Ghosts (X i)) → Env I X → State
+seen devices e = seen_by (λ d. (devices d.vtable).kind_of d.value) (λ d. (devices d.vtable).words_of d.value) e
+
+-- the environment still borrows the same parts
+pub record SameEnv {I : Type 0} {X : I → Type 0} (old new : Env I X) : Type 0 where
+  pub syms : new.syms.ghost_name ≡ old.syms.ghost_name
+  pub part : new.part.ghost_name ≡ old.part.ghost_name
+  pub bus : new.bus.ghost_name ≡ old.bus.ghost_name
+  pub out : new.out.ghost_name ≡ old.out.ghost_name
+
+-- RAM is as long as it was, and the pool ends where it did
+pub record SameSize {I : Type 0} {X : I → Type 0} (old new : Env I X) : Type 0 where
+  pub memory : length new.bus.now.ram ≡ length old.bus.now.ram
+  pub pool : new.part.now.end ≡ old.part.now.end
+
+-- how many bytes an operation writes at most
+abbrev pub most_announced : ℕ
+most_announced = 300
+
+-- how many bytes are kept free behind an evaluation
+abbrev pub kept_free : ℕ
+kept_free = 512
+
+-- room for all that n operations can need, and for what is kept free; the pool lies in RAM
+pub record Ready {I : Type 0} {X : I → Type 0} (n : ℕ) (e : Env I X) : Type 0 where
+  pub symbols : min n (most_symbols - length e.syms.now.list) ≤ e.syms.now.spare
+  pub output : n * most_announced + kept_free ≤ e.out.now.room
+  pub pool : e.part.now.end ≤ length e.bus.now.ram
+
+-- the symbols and the output stay, with the room that they have
+pub record KeptParts {I : Type 0} {X : I → Type 0} (old new : Env I X) : Type 0 where
+  pub syms : new.syms.now ≡ old.syms.now
+  pub out : new.out.now ≡ old.out.now

@@ -1,13 +1,22 @@
-//! What follows of the definitions alone, whatever the code does.
+//! What follows of the definitions alone.
 
-ghost use Rattle.shell_eval.specs.Laws.{FewerLaw, OverLaw, SameLaw, BuiltLaw};
+ghost use Rattle.shell_eval.specs.Laws.{SmallerLaw, RepeatsLaw, BegunLaw, StepLaw, CallLaw, FillLaw, EndsLaw};
+ghost use Rattle.shell_eval.specs.Kept.{KeepsLaw, OutputLaw};
 
-/// The law of evaluation: a due call that is filled in is one call fewer, so that evaluation ends; a statement
-/// without a due call and without an unknown callee has no call; where no call is due, nothing is filled in; and
-/// a due call is built, and has ten words.
+/// Evaluation makes one reduction after another, of which each makes the tree smaller, so it ends. One call's answer is
+/// awaited at most.
 pub fn evaluation_law()
-    ensures fewer { FewerLaw }
-    ensures over { OverLaw }
-    ensures same { SameLaw }
-    ensures built { BuiltLaw }
+    ensures smaller { SmallerLaw }
+    ensures repeats { RepeatsLaw }
+    ensures begun { BegunLaw }
+    ensures step { StepLaw }
+    ensures call { CallLaw }
+    ensures fill { FillLaw }
+    ensures ends { EndsLaw }
+{}
+
+/// What evaluation keeps, whatever is evaluated, and how much it writes.
+pub fn keeping_law()
+    ensures keeps { KeepsLaw }
+    ensures output { OutputLaw }
 {}

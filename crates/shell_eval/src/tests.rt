@@ -1,217 +1,305 @@
-//! Statements with what they go on to, worked out by hand.
+//! Lines with what they come to, worked out by hand, each test in an environment of its own.
 
-use crate::{Due, due, fill, gate_of};
-use shell_parse::{BinOp, Stmt, Tree, UnOp};
-use std::alloc::Global;
-use std::process::Abort;
+use crate::rows::{add_symbol, run, run_with};
 use std::test::Fail;
-use wind_base::Name;
+use symbol_table::{SymKind, Symbols};
+use wind_base::limits::SYMBOLS;
 
-// What a statement goes on to, with the bytes of an unknown callee.
-#[derive(Clone, Copy, Debug, PartialEq, Eq)]
-enum Seen<'a> {
-    Nothing,
-    Value(u32),
-    Call(u32, [u32; 10]),
-    Unknown(&'a [u8]),
-    NotEvaluated,
-}
-
-fn go_on(stmt: &Stmt) -> Seen<'_> {
-    match due(stmt) {
-        Due::Nothing => Seen::Nothing,
-        Due::Value(value) => Seen::Value(value),
-        Due::Call { gate, arguments } => Seen::Call(gate, arguments),
-        Due::Unknown(callee) => Seen::Unknown(callee.bytes()),
-        Due::NotEvaluated => Seen::NotEvaluated,
-    }
-}
-
-type Made = Result<Tree, &'static str>;
-
-fn number(n: u32) -> Made {
-    Ok(Tree::Number(n))
-}
-
-fn minus(alloc: Global, a: Made) -> Made {
-    let a = Box::new(alloc, a?).or(Err("memory"))?;
-    Ok(Tree::Unary(UnOp::Neg, a))
-}
-
-fn two(alloc: Global, op: BinOp, a: Made, b: Made) -> Made {
-    let a = Box::new(alloc, a?).or(Err("memory"))?;
-    let b = Box::new(alloc, b?).or(Err("memory"))?;
-    Ok(Tree::Binary(op, a, b))
-}
-
-fn name(alloc: Global, bytes: &[u8]) -> Result<Name, &'static str> {
-    Name::new(alloc, bytes).or(Err("memory"))
-}
-
-fn named(alloc: Global, bytes: &[u8]) -> Made {
-    Ok(Tree::Name(name(alloc, bytes)?))
-}
-
-fn callee(alloc: Global, bytes: &[u8]) -> Result<Box<Tree>, &'static str> {
-    Box::new(alloc, named(alloc, bytes)?).or(Err("memory"))
-}
-
-fn list(alloc: Global, a: Made) -> Result<Vec<Tree>, &'static str> {
-    let mut trees = Vec::new(alloc);
-    trees.push(a?).or(Err("memory"))?;
-    Ok(trees)
-}
-
-// A call without arguments, with one and with two.
-fn bare(alloc: Global, name: &[u8]) -> Made {
-    Ok(Tree::Call(callee(alloc, name)?, Vec::new(alloc)))
-}
-
-fn call(alloc: Global, name: &[u8], a: Made) -> Made {
-    let callee = callee(alloc, name)?;
-    Ok(Tree::Call(callee, list(alloc, a)?))
-}
-
-fn call_two(alloc: Global, name: &[u8], a: Made, b: Made) -> Made {
-    let callee = callee(alloc, name)?;
-    let mut arguments = list(alloc, a)?;
-    arguments.push(b?).or(Err("memory"))?;
-    Ok(Tree::Call(callee, arguments))
-}
-
-// A call with these first two words.
-fn with(gate: u32, a: u32, b: u32) -> Seen<'static> {
-    Seen::Call(gate, [a, b, 0, 0, 0, 0, 0, 0, 0, 0])
-}
-
-// The statement goes on so, with a value filled in each time.
-fn plays(rt: &impl Abort, mut stmt: Stmt, steps: &[(Seen<'_>, u32)]) {
-    for (wanted, value) in steps {
-        assert_eq!(rt; go_on(&stmt), *wanted);
-        fill(&mut stmt, *value);
-    }
-}
-
-// 1 + 2 - 3, and 0 - 1
 #[test]
-fn sums_and_differences(rt: HostRuntime) -> Result<(), Fail> {
-    let alloc = rt.alloc();
-    let sum = two(alloc, BinOp::Plus, number(1), number(2));
-    let tree = two(alloc, BinOp::Minus, sum, number(3))?;
-    plays(&rt, Stmt::Expr(tree), &[(Seen::Value(0), 7)]);
-    let tree = two(alloc, BinOp::Minus, number(0), number(1))?;
-    plays(&rt, Stmt::Expr(tree), &[(Seen::Value(0xffff_ffff), 7)]);
-    plays(&rt, Stmt::Nothing, &[(Seen::Nothing, 7)]);
-    Ok(())
-}
-
-// -5, and --5
-#[test]
-fn minus_once_and_twice(rt: HostRuntime) -> Result<(), Fail> {
-    let alloc = rt.alloc();
-    let tree = minus(alloc, number(5))?;
-    plays(&rt, Stmt::Expr(tree), &[(Seen::Value(0xffff_fffb), 7)]);
-    let tree = minus(alloc, minus(alloc, number(5)))?;
-    plays(&rt, Stmt::Expr(tree), &[(Seen::Value(5), 7)]);
-    Ok(())
-}
-
-// taskDelay(tickGet() + 1) - taskIdSelf()
-#[test]
-fn calls_from_left_to_right(rt: HostRuntime) -> Result<(), Fail> {
-    let alloc = rt.alloc();
-    let inner = two(alloc, BinOp::Plus, bare(alloc, b"tickGet"), number(1));
-    let left = call(alloc, b"taskDelay", inner);
-    let tree = two(alloc, BinOp::Minus, left, bare(alloc, b"taskIdSelf"))?;
-    let steps = [
-        (with(19, 0, 0), 7),
-        (with(10, 8, 0), 100),
-        (with(15, 0, 0), 1),
-        (Seen::Value(99), 5),
-        (Seen::Value(99), 5),
-    ];
-    plays(&rt, Stmt::Expr(tree), &steps);
-    Ok(())
-}
-
-// taskPrioritySet(tickGet() + 1, errnoGet())
-#[test]
-fn arguments_in_their_order(rt: HostRuntime) -> Result<(), Fail> {
-    let alloc = rt.alloc();
-    let first = two(alloc, BinOp::Plus, bare(alloc, b"tickGet"), number(1));
-    let tree = call_two(alloc, b"taskPrioritySet", first, bare(alloc, b"errnoGet"))?;
-    let steps = [
-        (with(19, 0, 0), 1),
-        (with(44, 0, 0), 7),
-        (with(8, 2, 7), 0xffff_ffff),
-        (Seen::Value(0xffff_ffff), 5),
-    ];
-    plays(&rt, Stmt::Expr(tree), &steps);
-    Ok(())
-}
-
-// f(taskDelay(1)), and taskDelay(1) + f()
-#[test]
-fn an_unknown_callee_before_its_arguments(rt: HostRuntime) -> Result<(), Fail> {
-    let alloc = rt.alloc();
-    let tree = call(alloc, b"f", call(alloc, b"taskDelay", number(1)))?;
-    let unknown = (Seen::Unknown(b"f"), 7);
-    plays(&rt, Stmt::Expr(tree), &[unknown, unknown]);
-    let left = call(alloc, b"taskDelay", number(1));
-    let tree = two(alloc, BinOp::Plus, left, bare(alloc, b"f"))?;
-    plays(&rt, Stmt::Expr(tree), &[(with(10, 1, 0), 7), unknown]);
-    Ok(())
-}
-
-// taskDelay 1+1, taskSpawn, and tickGet
-#[test]
-fn commands(rt: HostRuntime) -> Result<(), Fail> {
-    let alloc = rt.alloc();
-    let arguments = list(alloc, two(alloc, BinOp::Plus, number(1), number(1)))?;
-    let stmt = Stmt::Call(name(alloc, b"taskDelay")?, arguments);
-    plays(&rt, stmt, &[(with(10, 2, 0), 0), (Seen::Value(0), 7)]);
-    let stmt = Stmt::Expr(named(alloc, b"taskSpawn")?);
-    plays(&rt, stmt, &[(Seen::Unknown(b"taskSpawn"), 7)]);
-    let stmt = Stmt::Expr(named(alloc, b"tickGet")?);
-    plays(&rt, stmt, &[(with(19, 0, 0), 9), (Seen::Value(9), 7)]);
-    Ok(())
-}
-
-// 2*3, tickGet()*2, tickGet+1, and (tickGet())()
-#[test]
-fn what_is_not_evaluated(rt: HostRuntime) -> Result<(), Fail> {
-    let alloc = rt.alloc();
-    let tree = two(alloc, BinOp::Times, number(2), number(3))?;
-    plays(&rt, Stmt::Expr(tree), &[(Seen::NotEvaluated, 7)]);
-    let tree = two(alloc, BinOp::Times, bare(alloc, b"tickGet"), number(2))?;
-    let never = (Seen::NotEvaluated, 7);
-    plays(&rt, Stmt::Expr(tree), &[never, never]);
-    let tree = two(alloc, BinOp::Plus, named(alloc, b"tickGet"), number(1))?;
-    plays(&rt, Stmt::Expr(tree), &[never]);
-    let inner = Box::new(alloc, bare(alloc, b"tickGet")?).or(Err("memory"))?;
-    plays(
+fn sums_products_and_quotients(rt: HostRuntime) -> Result<(), Fail> {
+    run(
         &rt,
-        Stmt::Expr(Tree::Call(inner, Vec::new(alloc))),
-        &[never],
-    );
-    Ok(())
+        rt.alloc(),
+        r#"1+2 => 3
+0xffffffff+2 => 1
+2-3 => -1
+0-0x80000000 => -2147483648
+-0x80000000 => -2147483648
+- -5 => 5
+!0 => 1
+!7 => 0
+~0 => -1
+~5 => -6
+3*4 => 12
+0x10000*0x10000 => 0
+0x7fffffff*2 => -2
+-3*4 => -12
+7/2 => 3
+-7/2 => -3
+7/-2 => -3
+-7/-2 => 3
+0x80000000/-1 => -2147483648
+0x80000000/1 => -2147483648
+7%2 => 1
+-7%2 => -1
+7%-2 => 1
+-7%-2 => -1
+0x80000000%-1 => 0
+1/0 => divide
+1%0 => divide
+2*(3+4)-5/2%2 => 14"#,
+    )
 }
 
 #[test]
-fn gates_of_the_built_calls(rt: HostRuntime) {
-    let gates: [(&[u8], Option<u32>); 10] = [
-        (b"taskSuspend", Some(6)),
-        (b"taskResume", Some(7)),
-        (b"taskLock", Some(11)),
-        (b"taskUnlock", Some(12)),
-        (b"taskIdVerify", Some(16)),
-        (b"kernelTimeSlice", Some(18)),
-        (b"errnoSet", Some(45)),
-        (b"taskDelete", None),
-        (b"tickget", None),
-        (b"", None),
-    ];
-    for (name, gate) in gates {
-        assert_eq!(rt; gate_of(name), gate);
+fn comparisons_shifts_and_bits(rt: HostRuntime) -> Result<(), Fail> {
+    run(
+        &rt,
+        rt.alloc(),
+        r#"1<2 => 1
+2<1 => 0
+1<1 => 0
+-1<0 => 1
+0x80000000<0x7fffffff => 1
+1<=1 => 1
+2<=1 => 0
+1>2 => 0
+0>-1 => 1
+3>=3 => 1
+-4>=-3 => 0
+0xffffffff==-1 => 1
+1==2 => 0
+1!=2 => 1
+2!=2 => 0
+1<<31 => -2147483648
+1<<32 => 1
+1<<33 => 2
+3<<31 => -2147483648
+1<<-1 => -2147483648
+-8>>1 => -4
+-1>>31 => -1
+0x80000000>>32 => -2147483648
+0x7fffffff>>30 => 1
+8>>35 => 1
+6&3 => 2
+6|3 => 7
+6^3 => 5
+-1&0xff => 255"#,
+    )
+}
+
+#[test]
+fn the_left_side_may_decide(rt: HostRuntime) -> Result<(), Fail> {
+    run(
+        &rt,
+        rt.alloc(),
+        r#"0&&nosuch => 0
+1||nosuch => 1
+5&&7 => 1
+5&&0 => 0
+0||0 => 0
+0||9 => 1
+1&&nosuch => undefined nosuch
+0||nosuch => undefined nosuch
+0&&f(1) => 0
+1&&f(1) => 1000(1) 1
+f(1)||f(2) => 1000(1) 1
+0||d => 0
+0&&1||1 => 1
+1||0&&0 => 1
+d = 0 && 1/0 => 0"#,
+    )
+}
+
+#[test]
+fn names_and_addresses(rt: HostRuntime) -> Result<(), Fail> {
+    run(
+        &rt,
+        rt.alloc(),
+        r#"*16 = 7 => 7
+d => 7
+d+1 => 8
+&d => 16
+*&d => 7
+b => 0
+&b => 32
+k => 40
+k+2 => 42
+&k => 40
+f => 1000() 100
+(f) => 1000() 100
+f+0 => 1000
+&f => 1000
+far => access 8192
+&far => 8192
+nosuch => undefined nosuch
+&nosuch => undefined nosuch
+*8188 => 0
+*8189 => access 8189
+*-1 => access -1
+*17 => 1792
+'a' => 97"#,
+    )
+}
+
+#[test]
+fn assignments_to_known_places(rt: HostRuntime) -> Result<(), Fail> {
+    run(
+        &rt,
+        rt.alloc(),
+        r#"d = 7 => 7
+d += 3 => 10
+d -= 4 => 6
+d *= 5 => 30
+d /= 4 => 7
+d %= 4 => 3
+d |= 8 => 11
+d &= 9 => 9
+d ^= 1 => 8
+d <<= 2 => 32
+d >>= 3 => 4
+d /= 0 => divide
+d => 4
+d = b = 9 => 9
+d == b => 1
+*16 = 5 => 5
+*(8+8) += 2 => 7
+d => 7
+*16 = *16 + *16 => 14
+d += d = 3 => 17
+d => 17
+*(d = 16) = d => 16
+f = nosuch => access 1000
+f += nosuch => access 1000
+k = nosuch => access 40
+far = nosuch => undefined nosuch
+far = 1 => access 8192
+far += nosuch => access 8192
+*8192 = nosuch => undefined nosuch
+*8192 += nosuch => access 8192
+*nosuch = 1/0 => undefined nosuch
+d = 1/0 => divide
+d => 16"#,
+    )
+}
+
+#[test]
+fn new_variables(rt: HostRuntime) -> Result<(), Fail> {
+    run(
+        &rt,
+        rt.alloc(),
+        r#"nosuch += 1/0 => undefined nosuch
+x = 1/0 => divide
+x => undefined x
+*4108 = -1 => -1
+x = 3 => 3 | new symbol "x" added to symbol table.
+*4108 => 0
+&x => 4096
+x => 3
+x += x => 6
+y = z = 2 => 2 | new symbol "z" added to symbol table. | new symbol "y" added to symbol table.
+&z => 4112
+&y => 4128
+w = (w = 5) + 1 => 6 | new symbol "w" added to symbol table. | new symbol "w" added to symbol table.
+&w => 4160
+*4144 => 5
+w => 6
+v = 1 + (v = 4) / 0 => divide | new symbol "v" added to symbol table.
+v => 4
+u = u => undefined u"#,
+    )
+}
+
+#[test]
+fn calls(rt: HostRuntime) -> Result<(), Fail> {
+    run(
+        &rt,
+        rt.alloc(),
+        r#"f(1,2,3) => 1000(1,2,3) 100
+f 1, 2 => 1000(1,2) 100
+f() + 1 => 1000() 101
+f(1,2,3,4,5,6,7,8,9,10) => 1000(1,2,3,4,5,6,7,8,9,10) 100
+g(f(1), 2) => 1000(1) 2000(100,2) 100
+f(1) - g(2) * 2 => 1000(1) 2000(2) -100
+(1000)(5) => 1000(5) 100
+(f)(1)(2) => 1000(1) 100(2) 100
+nosuch(1/0) => undefined nosuch
+f(1/0) => divide
+f(d = 3, d, d += 1) => 1000(3,3,4) 100
+d = f(3) => 1000(3) 100
+d => 100
+*(f(0)-84) = 5 => 1000() 5
+d += f(1) => 1000(1) 105
+d(1) => 105(1) 100
+x = f() => 1000() 100 | new symbol "x" added to symbol table.
+f(f(f(1))) => 1000(1) 1000(100) 1000(100) 100
+1/0 + f(1) => divide
+f(1) / 0 => 1000(1) divide"#,
+    )
+}
+
+#[test]
+fn strings(rt: HostRuntime) -> Result<(), Fail> {
+    run(
+        &rt,
+        rt.alloc(),
+        r#"*4096 = -1; *4100 = -1 => -1; -1
+"abc" => 4096
+*4096 => 1633837824
+*4100 => -1
+"" => 4112
+f("hi", 1) => 1000(4128,1) 100
+*4128 => 1751711744
+"0123456789abcdef" => 4144
+"z" => 4176
+"0123456789012345678901234567890123456789012345678901234567890123456789012345678901234567890123456789012345678901234567890123456789012345678901234567890123456789" => no room
+"012345678901234567890123456789012345678901234567890123456789012345678901234567890123456789012345678901234567890123456789012345678901234567890123456789012345678" => 4192
+"" => no room
+n = 1 => no room
+n => undefined n
+f("" + nosuch) => no room"#,
+    )
+}
+
+#[test]
+fn files_to_load(rt: HostRuntime) -> Result<(), Fail> {
+    run(
+        &rt,
+        rt.alloc(),
+        r#"ld < a.o => undefined ld
+ld = 3000 => 3000 | new symbol "ld" added to symbol table.
+&ld => 4096
+ld < a.o => 3000(0,0,4112) 100
+*4112 => 1630433024
+ld(1) => 3000(1) 100"#,
+    )
+}
+
+#[test]
+fn devices(rt: HostRuntime) -> Result<(), Fail> {
+    run(
+        &rt,
+        rt.alloc(),
+        r#"*0xe0002000 = 5 => 5
+*0xe0002000 += 2 => 7
+*0xe0002000 => 12
+*0xe0001000 = 65; *0xe0001000 = 66 => 65; 66
+*0xe0001000 - *0xe0001000 => -1
+*0xe0001004 => 0
+*0xe000000c = 9 => 9
+*0xe000000c => 9
+*0xe0000002 => access -536870910
+*0xe0003000 = 1 => access -536858624
+*0xe0003000 => access -536858624"#,
+    )
+}
+
+#[test]
+fn a_full_table(rt: HostRuntime) -> Result<(), Fail> {
+    let mut syms = Symbols::new(rt.alloc()).or(Err("memory"))?;
+    for value in 0..SYMBOLS - 1 {
+        add_symbol(rt.alloc(), &mut syms, b"s", SymKind::AbsSym, value)?;
     }
+    run_with(
+        &rt,
+        rt.alloc(),
+        &mut syms,
+        r#"s => 65534
+x = 1 => 1 | new symbol "x" added to symbol table.
+y = 1/0 => divide
+y = 1 => full
+y => undefined y
+x = 2 => 2
+"" => 4112"#,
+    )
 }

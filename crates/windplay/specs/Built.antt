@@ -3,7 +3,7 @@ use Rattle.std.specs.Prelude.{ℕ, ◌+◌, List, [], ◌∷◌, Option, Some, N
 use Rattle.std.specs.List.{list_all}
 use Rattle.wind_base.specs.Limits.{longest_line}
 use Rattle.shell_parse.specs.Reading.{Reading, Statements, Refused, read_line}
-use Rattle.shell_eval.specs.Evaluated.{is_evaluated}
+use Rattle.shell_due.specs.Evaluated.{is_evaluated}
 use Rattle.tick_file.specs.Lines.{pieces}
 
 -- a byte from 0x20 to 0x7E

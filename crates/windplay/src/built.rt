@@ -5,10 +5,10 @@ ghost use Rattle.std.specs.List.{list_all};
 ghost use Rattle.wind_base.specs.Limits.{longest_line};
 ghost use Rattle.shell_parse.specs.Reading.{read_line};
 ghost use Rattle.shell_parse.specs.Trees.{plain_stmts};
-ghost use Rattle.shell_eval.specs.Evaluated.{is_evaluated as is_evaluated_lem};
+ghost use Rattle.shell_due.specs.Evaluated.{is_evaluated as is_evaluated_lem};
 ghost use Rattle.windplay.specs.Built.{is_printable, is_evaluated_line as is_evaluated_line_lem, is_built as is_built_lem, unbuilt_line};
 
-use shell_eval::is_evaluated;
+use shell_due::is_evaluated;
 use shell_parse::{ParseErr, Stmt, parse};
 use std::alloc::Global;
 use wind_base::limits::LINE_BYTES;

@@ -1,7 +1,7 @@
 use Rattle.std.proofs.Common.{◌≡◌, drop}
 use Rattle.std.specs.List.{list_all}
 use Rattle.shell_parse.specs.Trees.{plain_stmts}
-use Rattle.shell_eval.specs.Evaluated.{is_evaluated}
+use Rattle.shell_due.specs.Evaluated.{is_evaluated}
 use Rattle.windplay.proofs.built.all_evaluated.Given as goal
 
 -- the statements that are left say what all say

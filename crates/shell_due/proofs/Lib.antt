@@ -1,0 +1,4 @@
+pub mod Arguments
+pub mod Trees
+pub mod Calls
+pub mod Built

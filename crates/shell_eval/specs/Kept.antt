@@ -1,0 +1,64 @@
+-- What evaluation keeps of the state, whatever is evaluated.
+use Rattle.std.specs.Prelude.{◌≡◌, ℕ, ◌+◌, ◌≤◌, ◌⊎◌, List, ◌++◌, length, Some, None}
+use Rattle.std.specs.List.{Contains}
+use Rattle.wind_base.specs.Limits.{most_symbols}
+use Rattle.mem_partition.specs.State.{IsPart}
+use Rattle.mem_partition.specs.declared.block.Block.{Block}
+use Rattle.mem_partition.specs.declared.block.Class.TheVariants.{Kernel}
+use Rattle.shell_eval.specs.State.{State}
+use Rattle.shell_eval.specs.Words.{announcement}
+use Rattle.shell_eval.specs.Pending.{Pending, Number, Str, Name, Lone, Address, Word, Unary, Binary, Choice, SetName, SetWord, New, Call, Hole, Args, End, Then}
+use Rattle.shell_eval.specs.Evaluate.{evaluate}
+
+-- a list goes on from another
+abbrev pub GoesOn : {X : Type 0} → List X → List X → Type 0
+GoesOn {X} xs ys = (more : List X) × (ys ≡ xs ++ more)
+
+-- the pool lies in RAM
+abbrev pub IsPoolInRam : State → Type 0
+IsPoolInRam s = s.pool.end ≤ length s.memory.ram
+
+-- RAM is as long as it was; the pool stays, and so does each block, while only Kernel blocks are added;
+-- symbols and bytes written are added behind the others
+pub record Keeps (old new : State) : Type 0 where
+  pub ram : length new.memory.ram ≡ length old.memory.ram
+  pub start : new.pool.start ≡ old.pool.start
+  pub end : new.pool.end ≡ old.pool.end
+  pub room : new.pool.room ≡ old.pool.room
+  pub stays : (b : Block) → Contains old.pool.blocks b → Contains new.pool.blocks b
+  pub added : (b : Block) → Contains new.pool.blocks b → Contains old.pool.blocks b ⊎ (b.class ≡ Kernel)
+  pub sound : IsPart old.pool → IsPart new.pool
+  pub symbols : GoesOn old.symbols new.symbols
+  pub few : length old.symbols ≤ most_symbols → length new.symbols ≤ most_symbols
+  pub output : GoesOn old.output new.output
+
+-- how many bytes the announcements of a tree's assignments have together
+abbrev mutual
+  pub told : Pending → ℕ
+  told (Number n) = 0
+  told (Str text) = 0
+  told (Name x) = 0
+  told (Lone x) = 0
+  told (Address x) = 0
+  told (Word a) = told a
+  told (Unary op a) = told a
+  told (Binary op a b) = told a + told b
+  told (Choice w a b) = told a + told b
+  told (SetName None x e) = told e + length (announcement x)
+  told (SetName (Some op) x e) = told e
+  told (SetWord aop a e) = told a + told e
+  told (New x e) = told e + length (announcement x)
+  told (Call f es) = told f + told_all es
+  told Hole = 0
+
+  pub told_all : Args → ℕ
+  told_all End = 0
+  told_all (Then e es) = told e + told_all es
+
+-- evaluation keeps this where the pool lies in RAM
+abbrev pub KeepsLaw : Type 0
+KeepsLaw = (s : State) (p : Pending) → IsPoolInRam s → Keeps s (evaluate s p).state
+
+-- and writes no more than the announcements
+abbrev pub OutputLaw : Type 0
+OutputLaw = (s : State) (p : Pending) → IsPoolInRam s → length (evaluate s p).state.output ≤ length s.output + told p

@@ -1,0 +1,121 @@
+-- The tree under evaluation: the statement's tree, and what reduction makes of it.
+use Rattle.std.specs.Prelude.{ℕ, ◌+◌, List, Option, Some, None, codes}
+use Rattle.shell_parse.specs.declared.tree.BinOp.{BinOp}
+use Rattle.shell_parse.specs.declared.tree.BinOp.TheVariants as ops
+use Rattle.shell_parse.specs.declared.tree.UnOp.{UnOp}
+use Rattle.shell_parse.specs.Trees as trees
+use Rattle.shell_parse.specs.Trees.{PlainTree, Arguments, PlainStmt}
+
+-- `&&` wants all of its sides, `||` any
+pub data Logic : Type 0 where
+  All : Logic
+  Any : Logic
+
+-- A number is a value. `Choice` is `&&` or `||`. `Lone` is a name that stands alone as a statement.
+-- `New` is an assignment to a name that was found unknown. `Hole` awaits the answer of a call.
+mutual
+  pub data Pending : Type 0 where
+    Number : ℕ → Pending
+    Str : List ℕ → Pending
+    Name : List ℕ → Pending
+    Lone : List ℕ → Pending
+    Address : List ℕ → Pending
+    Word : Pending → Pending
+    Unary : UnOp → Pending → Pending
+    Binary : BinOp → Pending → Pending → Pending
+    Choice : Logic → Pending → Pending → Pending
+    SetName : Option BinOp → List ℕ → Pending → Pending
+    SetWord : Option BinOp → Pending → Pending → Pending
+    New : List ℕ → Pending → Pending
+    Call : Pending → Args → Pending
+    Hole : Pending
+
+  pub data Args : Type 0 where
+    End : Args
+    Then : Pending → Args → Args
+
+-- whether an operator leaves out its right side where the left decides
+abbrev pub logic_of : BinOp → Option Logic
+logic_of ops.OrElse = Some Any
+logic_of ops.AndAlso = Some All
+logic_of _ = None
+
+-- an operator between two sides
+abbrev pub two_sided : Option Logic → BinOp → Pending → Pending → Pending
+two_sided None op a b = Binary op a b
+two_sided (Some w) op a b = Choice w a b
+
+-- a tree of the grammar, before anything is evaluated
+abbrev mutual
+  pub begun : PlainTree → Pending
+  begun (trees.Number n) = Number n
+  begun (trees.Str b) = Str b
+  begun (trees.Name x) = Name x
+  begun (trees.Address x) = Address x
+  begun (trees.Word a) = Word (begun a)
+  begun (trees.Unary op a) = Unary op (begun a)
+  begun (trees.Binary op a b) = two_sided (logic_of op) op (begun a) (begun b)
+  begun (trees.SetName aop x e) = SetName aop x (begun e)
+  begun (trees.SetWord aop a e) = SetWord aop (begun a) (begun e)
+  begun (trees.Call f es) = Call (begun f) (begun_all es)
+
+  pub begun_all : Arguments → Args
+  begun_all trees.End = End
+  begun_all (trees.Then e es) = Then (begun e) (begun_all es)
+
+-- an expression that is a statement: a name alone may be a call
+abbrev pub begun_expr : PlainTree → Pending
+begun_expr (trees.Name x) = Lone x
+begun_expr t = begun t
+
+-- a statement, before anything is evaluated: `ld < file` is the call `ld (0, 0, "file")`, and one without a token is 0
+abbrev pub begun_stmt : PlainStmt → Pending
+begun_stmt trees.Nothing = Number 0
+begun_stmt (trees.Load file) = Call (Name (codes "ld")) (Then (Number 0) (Then (Number 0) (Then (Str file) End)))
+begun_stmt (trees.Command x es) = Call (Name x) (begun_all es)
+begun_stmt (trees.Expr t) = begun_expr t
+
+-- the answer of a call in its place
+abbrev mutual
+  pub filled : ℕ → Pending → Pending
+  filled v (Number n) = Number n
+  filled v (Str b) = Str b
+  filled v (Name x) = Name x
+  filled v (Lone x) = Lone x
+  filled v (Address x) = Address x
+  filled v (Word a) = Word (filled v a)
+  filled v (Unary op a) = Unary op (filled v a)
+  filled v (Binary op a b) = Binary op (filled v a) (filled v b)
+  filled v (Choice w a b) = Choice w (filled v a) (filled v b)
+  filled v (SetName aop x e) = SetName aop x (filled v e)
+  filled v (SetWord aop a e) = SetWord aop (filled v a) (filled v e)
+  filled v (New x e) = New x (filled v e)
+  filled v (Call f es) = Call (filled v f) (filled_all v es)
+  filled v Hole = Number v
+
+  pub filled_all : ℕ → Args → Args
+  filled_all v End = End
+  filled_all v (Then e es) = Then (filled v e) (filled_all v es)
+
+-- how many reductions a tree can still take, at most
+abbrev mutual
+  pub weight : Pending → ℕ
+  weight (Number n) = 0
+  weight (Str b) = 1
+  weight (Name x) = 1
+  weight (Lone x) = 2
+  weight (Address x) = 1
+  weight (Word a) = weight a + 1
+  weight (Unary op a) = weight a + 1
+  weight (Binary op a b) = weight a + weight b + 1
+  weight (Choice w a b) = weight a + weight b + 2
+  weight (SetName aop x e) = weight e + 3
+  weight (SetWord None a e) = weight a + weight e + 1
+  weight (SetWord (Some op) a e) = weight a + weight e + 3
+  weight (New x e) = weight e + 1
+  weight (Call f es) = weight f + weight_all es + 1
+  weight Hole = 0
+
+  pub weight_all : Args → ℕ
+  weight_all End = 0
+  weight_all (Then e es) = weight e + weight_all es

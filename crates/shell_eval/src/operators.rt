@@ -1,0 +1,101 @@
+//! What the operators make of words.
+
+ghost use Rattle.std.specs.Prelude.{◌≡◌, ◌<◌};
+ghost use Rattle.shell_eval.specs.Operators.{before_word, quotient as quotient_lem, remainder as remainder_lem, moved_right as moved_right_lem, by_divisor, between_words};
+ghost use Rattle.shell_eval.specs.Words.{combined};
+ghost use Rattle.shell_eval.specs.State.{State};
+ghost use Rattle.shell_eval.specs.Moved.{attempt};
+
+use crate::fault::EvalFault;
+use shell_parse::{BinOp, UnOp};
+
+/// The value of an operator before a word.
+pub(crate) fn before(op: UnOp, a: u32) -> u32
+    ensures { result ≡ before_word op a }
+{
+    match op {
+        UnOp::Neg => a.wrapping_neg(),
+        UnOp::Not => u32::from(a == 0),
+        UnOp::Com => !a,
+    }
+}
+
+// The quotient of signed numbers, toward 0.
+fn quotient(a: u32, b: u32) -> u32
+    requires { 0 < b }
+    ensures { result ≡ quotient_lem a b }
+{
+    a.cast_signed()
+        .wrapping_div(b.cast_signed())
+        .cast_unsigned()
+}
+
+// What their quotient leaves.
+fn remainder(a: u32, b: u32) -> u32
+    requires { 0 < b }
+    ensures { result ≡ remainder_lem a b }
+{
+    a.cast_signed()
+        .wrapping_rem(b.cast_signed())
+        .cast_unsigned()
+}
+
+// A signed number moved to the right.
+fn moved_right(a: u32, b: u32) -> u32
+    ensures { result ≡ moved_right_lem a b }
+{
+    a.cast_signed().wrapping_shr(b).cast_unsigned()
+}
+
+// The quotient, where the divisor is not 0.
+fn divided(a: u32, b: u32) -> Option<u32>
+    ensures { result ≡ by_divisor b (quotient_lem a b) }
+{
+    if b == 0 {
+        return None;
+    }
+    Some(quotient(a, b))
+}
+
+// The remainder, where the divisor is not 0.
+fn left_over(a: u32, b: u32) -> Option<u32>
+    ensures { result ≡ by_divisor b (remainder_lem a b) }
+{
+    if b == 0 {
+        return None;
+    }
+    Some(remainder(a, b))
+}
+
+// The value of an operator between two words; none for a zero divisor.
+fn between(op: BinOp, a: u32, b: u32) -> Option<u32>
+    ensures { result ≡ between_words op a b }
+{
+    match op {
+        BinOp::OrElse => Some(u32::from(a != 0 || b != 0)),
+        BinOp::AndAlso => Some(u32::from(a != 0 && b != 0)),
+        BinOp::Or => Some(a | b),
+        BinOp::Xor => Some(a ^ b),
+        BinOp::And => Some(a & b),
+        BinOp::Eq => Some(u32::from(a == b)),
+        BinOp::Ne => Some(u32::from(a != b)),
+        BinOp::Lt => Some(u32::from(a.cast_signed() < b.cast_signed())),
+        BinOp::Le => Some(u32::from(a.cast_signed() <= b.cast_signed())),
+        BinOp::Gt => Some(u32::from(a.cast_signed() > b.cast_signed())),
+        BinOp::Ge => Some(u32::from(a.cast_signed() >= b.cast_signed())),
+        BinOp::Shl => Some(a.wrapping_shl(b)),
+        BinOp::Shr => Some(moved_right(a, b)),
+        BinOp::Plus => Some(a.wrapping_add(b)),
+        BinOp::Minus => Some(a.wrapping_sub(b)),
+        BinOp::Times => Some(a.wrapping_mul(b)),
+        BinOp::Over => divided(a, b),
+        BinOp::Rest => left_over(a, b),
+    }
+}
+
+/// The value of an operator between two words, or the fault of a zero divisor.
+pub(crate) fn combine(op: BinOp, a: u32, b: u32) -> Result<u32, EvalFault>
+    ensures { (s : State) → attempt result s ≡ combined s op a b }
+{
+    between(op, a, b).ok_or(EvalFault::DivideByZero)
+}
