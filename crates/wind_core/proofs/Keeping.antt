@@ -11,7 +11,7 @@ use Rattle.task_block.specs.Standing.{is_ready}
 use Rattle.wind_lists.specs.Records.{of_id, change}
 use Rattle.wind_lists.proofs.Records.{replace-change}
 use Rattle.wind_core.specs.State.{KernState, IsKern, WakesAhead, task_id, task_of}
-use Rattle.wind_core.specs.Moves.{renewed, settled, change_task, renew_task, move_found, move_task, new_task, spawn, spawn_refusal, wake_at, pended, delayed, released, answered, end_wait, end_waits, suspended, resumed, resume, is_suspended, unmarked, with_pri, has_pri, change_pri, past_gate, with_answer, with_refusal}
+use Rattle.wind_core.specs.Moves.{renewed, settled, change_task, renew_task, move_found, move_task, new_task, spawn, spawn_refusal, wake_at, pended, delayed, released, answered, end_wait, end_waits, suspended, resumed, resume, is_suspended, unmarked, with_pri, has_pri, change_pri, past_gate, with_answer, with_refusal, unreserved}
 use Rattle.wind_core.specs.Orders.{waiters}
 use Rattle.wind_core.specs.Laws.{KeptLaw}
 use Rattle.wind_core.proofs.Writes.{MayFollow, IsKern-replace, settled_follows, wake_ahead, delayed_id, delayed_ahead}
@@ -19,7 +19,7 @@ use Rattle.wind_core.proofs.Comings.{without_keeps, push_keeps}
 
 -- ---- one task is changed
 -- where no record has the id, none changes
-not_there : {X : Type 0} (id : X → ℕ) (xs : List X) (n : ℕ) (f : X → X) → of_id id xs n ≡ None → change id xs n f ≡ xs
+pub not_there : {X : Type 0} (id : X → ℕ) (xs : List X) (n : ℕ) (f : X → X) → of_id id xs n ≡ None → change id xs n f ≡ xs
 not_there id [] n f e = refl
 not_there id (x ∷ xs) n f e =
     elim (eqb (id x) n) as (λ b. cond b (Some x) (of_id id xs n) ≡ None → cond b (f x) x ∷ change id xs n f ≡ x ∷ xs) [
@@ -155,6 +155,7 @@ every_call_keeps s is = record {
   leaving_gate = λ who. writes s who past_gate is (λ t. refl) (λ t. refl) (λ t. refl);
   giving_answer = λ who value. writes s who (with_answer value) is (λ t. refl) (λ t. refl) (λ t. refl);
   refusing = λ who e. writes s who (with_refusal e) is (λ t. refl) (λ t. refl) (λ t. refl);
+  unreserving = λ who. writes s who unreserved is (λ t. refl) (λ t. refl) (λ t. refl);
   noting_last = λ last. last_keeps s last is;
   slicing = λ n. slice_keeps s n is;
 }

@@ -10,7 +10,7 @@ use Rattle.task_block.specs.declared.task.NewTask.{NewTask}
 use Rattle.task_block.specs.Standing.{is_ready}
 use Rattle.wind_core.specs.State.{KernState, IsKern, WakesAhead}
 use Rattle.wind_core.specs.Orders.{is_before, waits_before, arrives_before, waiters, running}
-use Rattle.wind_core.specs.Moves.{spawn, spawn_refusal, remove, pend, delay, release, end_wait, wake_all, suspend, resume, reset, change_pri, set_locks, set_normal, set_safe, set_held, set_errno, set_int_locked, set_again, set_regs, leave_gate, answer, refuse}
+use Rattle.wind_core.specs.Moves.{spawn, spawn_refusal, remove, pend, delay, release, end_wait, wake_all, suspend, resume, reset, change_pri, set_locks, set_normal, set_safe, set_held, set_errno, set_int_locked, set_again, set_regs, leave_gate, answer, refuse, unreserve}
 use Rattle.wind_core.specs.Tick.{tick}
 
 -- a task that may run: it lives and is ready, and no ready task is before it, unless it ran last and holds the lock
@@ -76,6 +76,7 @@ pub record KeptBy (s : KernState) : Type 0 where
   pub leaving_gate : (who : ℕ) → IsKern (leave_gate s who)
   pub giving_answer : (who value : ℕ) → IsKern (answer s who value)
   pub refusing : (who : ℕ) (e : Errno) → IsKern (refuse s who e)
+  pub unreserving : (who : ℕ) → IsKern (unreserve s who)
   pub noting_last : (last : Option ℕ) → IsKern (record s { last = last })
   pub slicing : (n : ℕ) → IsKern (record s { slice = n })
 

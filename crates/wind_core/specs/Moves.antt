@@ -209,6 +209,14 @@ set_again s who on = change_task s who (λ t. record t { again = on })
 abbrev pub set_regs : KernState → ℕ → Regs → KernState
 set_regs s who regs = change_task s who (λ t. record t { regs = regs })
 
+-- ---- reservations (Power ISA, lwarx and stwcx.)
+-- without its reservation
+abbrev pub unreserved : Task → Task
+unreserved t = record t { regs = record t.regs { reserve = None } }
+
+abbrev pub unreserve : KernState → ℕ → KernState
+unreserve s who = change_task s who unreserved
+
 -- ---- a call of the kernel
 -- behind its call: the program counter becomes the link register
 abbrev pub past_gate : Task → Task

@@ -2,10 +2,10 @@
 
 ghost use Rattle.std.specs.Prelude.{◌≡◌};
 ghost use Rattle.wind_core.specs.State.{Lives};
-ghost use Rattle.wind_core.specs.Moves.{leave_gate, answer, refuse, set_regs, live_id};
+ghost use Rattle.wind_core.specs.Moves.{leave_gate, answer, refuse, set_regs, live_id, unreserve};
 
 use crate::kern::Kern;
-use crate::tasks::{pass_gate, put_answer, put_refusal};
+use crate::tasks::{drop_reservation, pass_gate, put_answer, put_refusal};
 use id_table::Ident;
 use wind_base::{Errno, Regs};
 
@@ -46,6 +46,14 @@ impl Kern {
         ensures { self.new ≡ refuse self.old who errno }
     {
         put_refusal(self.tasks.object_mut(who), errno);
+    }
+
+    /// The task has no reservation any more.
+    pub fn unreserve(&mut self, who: Ident)
+        requires { Lives self.old who }
+        ensures { self.new ≡ unreserve self.old who }
+    {
+        drop_reservation(self.tasks.object_mut(who));
     }
 
     /// The task's registers are these.

@@ -39,6 +39,13 @@ impl Kern {
         }
     }
 
+    /// The id of the task that ran last.
+    pub fn last(&self) -> Option<Ident>
+        ensures { result ≡ self.now.last }
+    {
+        self.last
+    }
+
     /// The id of the task of this name; the least, where several have it.
     pub fn named(&self, name: &[u8]) -> Option<Ident>
         ensures { result ≡ option_map task_id (task_named self.now.tasks name.now) }

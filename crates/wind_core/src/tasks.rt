@@ -2,7 +2,7 @@
 
 ghost use Rattle.std.specs.Prelude.{◌≡◌, ◌<◌, ◌+◌, ◌^◌, nat_le, if◌then◌else◌};
 ghost use Rattle.task_block.specs.Standing.{is_ready};
-ghost use Rattle.wind_core.specs.Moves.{new_task, renewed, pended, delayed, wake_at, is_endless as is_endless_lem, released, answered, settled, suspended, resumed, unmarked, with_pri, past_gate, with_answer, with_refusal};
+ghost use Rattle.wind_core.specs.Moves.{new_task, renewed, pended, delayed, wake_at, is_endless as is_endless_lem, released, answered, settled, suspended, resumed, unmarked, with_pri, past_gate, with_answer, with_refusal, unreserved};
 ghost use Rattle.wind_core.specs.Tick.{turn_task};
 
 use id_table::sides::{CONSOLE, DELETION};
@@ -171,6 +171,13 @@ pub(crate) fn count_turn(task: &mut Task, next_since: &mut u64, slice: u32)
     } else {
         task.turns += 1;
     }
+}
+
+// The task has no reservation.
+pub(crate) fn drop_reservation(task: &mut Task)
+    ensures { task.new ≡ unreserved task.old }
+{
+    task.regs.reserve = None;
 }
 
 // The task goes on behind its call.
