@@ -1,21 +1,24 @@
 -- The parts of a board as a state.
 use Rattle.std.specs.Prelude.{ℕ, List, []}
 use Rattle.tick_file.specs.Schedule.{Timetable}
-use Rattle.wind_core.specs.State.{KernState}
 use Rattle.con_line.specs.State.{ConsoleState}
+use Rattle.kernel_calls.specs.Seen.{world_with}
+use Rattle.kernel_calls.specs.State.{WorldState}
+use Rattle.kernel_calls.specs.declared.world.World.{World}
 use Rattle.board_player.specs.State.{ShellState, State}
 use Rattle.board_player.specs.declared.clock.Clock.{Clock}
 
--- without slots
-abbrev pub inside : List ℕ → ConsoleState → ShellState → KernState → Timetable → Clock → List ℕ → State
-inside left console shell kern schedule clock output = record {
+abbrev pub state_with : List ℕ → ConsoleState → ShellState → WorldState → Timetable → Clock → State
+state_with left console shell world schedule clock = record {
   left = left;
   console = console;
   shell = shell;
-  kern = kern;
+  world = world;
   schedule = schedule;
   time = clock.time;
   steps = clock.steps;
-  output = output;
-  slots = [];
 }
+
+-- without slots
+abbrev pub inside : {I : Type 0} {X : I → Type 0} → List ℕ → ConsoleState → ShellState → World I X → Timetable → Clock → State
+inside left console shell world schedule clock = state_with left console shell (world_with [] world) schedule clock
