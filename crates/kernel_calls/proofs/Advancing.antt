@@ -1,5 +1,5 @@
 -- What every call keeps.
-use Rattle.std.proofs.Common.{◌≡◌, ℕ, ◌+◌, ◌<◌, ◌≤◌, Bool, true, false, not, ◌&&◌, cond, eqb, leb, ltb, List, [], ◌∷◌, ◌++◌, length, map, replicate, Option, None, Some, IsSome, Result, Ok, Err, refl, sym, ap, ◌∙◌, subst, arith, length-append}
+use Rattle.std.proofs.Common.{◌≡◌, ℕ, ◌+◌, ◌<◌, ◌≤◌, Bool, true, false, not, ◌&&◌, cond, eqb, leb, ltb, List, [], ◌∷◌, ◌++◌, length, map, replicate, Option, None, Some, IsSome, inl, ◌⊎◌, Result, Ok, Err, refl, sym, ap, ◌∙◌, subst, arith, length-append}
 use Rattle.std.specs.Option.{option_or}
 use Rattle.std.specs.Prelude.{◌||◌, nat_le, nat_lt, slice_index}
 use Rattle.std.specs.List.{All, find}
@@ -44,7 +44,7 @@ use Rattle.kernel_calls.specs.declared.actor.Actor.TheVariants.{Task, Interrupt}
 use Rattle.kernel_calls.specs.declared.reply.Reply.{Reply}
 use Rattle.kernel_calls.specs.declared.reply.Reply.TheVariants.{Answer, Refusal, Later}
 use Rattle.kernel_calls.specs.declared.spawning.Wanted.{Wanted}
-use Rattle.kernel_calls.proofs.Goes.{Goes, goes-leave_gate, goes-answer, goes-set_errno}
+use Rattle.kernel_calls.proofs.Goes.{Goes, goes-leave_gate, goes-answer, goes-set_errno, reserved_by}
 use Rattle.kernel_calls.proofs.TaskMoves.{suspend_goes, resume_goes, priority_goes, delay_goes, lock_goes, unlock_goes, self_goes, verify_goes, name_goes, slice_goes, stays}
 use Rattle.kernel_calls.proofs.Stacks.{pool-alloc, pool-free, stacks-alloc, stacks-free, stacks-more}
 
@@ -57,6 +57,8 @@ advances_on w v u l n d e m o a b = record {
   kept = b.kept;
   lives = λ who h. b.lives who (a.lives who h);
   locks = b.locks;
+  last = b.last ∙ a.last;
+  reserves = λ who h. b.reserves who (a.reserves who h);
   sinces = omega (arith, a.sinces, b.sinces);
   count = b.count ∙ a.count;
   names = omega (arith, a.names, b.names);
@@ -67,6 +69,8 @@ advances_more w v l n d e m o locks sinces names a = record {
   kept = a.kept;
   lives = a.lives;
   locks = All-weaker (λ t. t.locks ≤ l) (λ t. t.locks ≤ n) (λ t h. omega (arith, h, locks)) v.kern.tasks a.locks;
+  last = a.last;
+  reserves = a.reserves;
   sinces = omega (arith, a.sinces, sinces);
   count = a.count;
   names = omega (arith, a.names, names);
@@ -86,6 +90,8 @@ module _ (w : WorldState) (kept : IsWorld w) where
     };
     lives = λ who h. lives_by j.tasks w.kern.tasks who g.alone h;
     locks = g.locks;
+    last = g.last;
+    reserves = λ who h. reserved_by w.kern.tasks j.tasks who g.alone g.reserves h;
     sinces = g.sinces;
     count = g.count;
     names = omega arith;
@@ -97,7 +103,7 @@ module _ (w : WorldState) (kept : IsWorld w) where
 
     -- nothing of the kept facts is touched
     pub nowhere : Advances w w (n + 1) 2 1
-    nowhere = record { kept = kept; lives = λ who h. h; locks = more_locks; sinces = omega arith; count = refl; names = omega arith }
+    nowhere = record { kept = kept; lives = λ who h. h; locks = more_locks; last = refl; reserves = λ who h. h; sinces = omega arith; count = refl; names = omega arith }
 
     of_tasks : (j : KernState) → Goes w.kern j (n + 1) 2 → Advances w (record w { kern = j }) (n + 1) 2 1
     of_tasks j g = advances_more w (record w { kern = j }) (n + 1) (n + 1) 2 2 0 1 (omega arith) (omega arith) (omega arith) (by_kern j (n + 1) 2 g)
@@ -107,6 +113,8 @@ module _ (w : WorldState) (kept : IsWorld w) where
       kept = record { kern = kept.kern; home = kept.home; pool = pool; stacks = stacks; ram = kept.ram; symbols = kept.symbols };
       lives = λ who h. h;
       locks = more_locks;
+      last = refl;
+      reserves = λ who h. h;
       sinces = omega arith;
       count = refl;
       names = omega arith;
@@ -117,6 +125,8 @@ module _ (w : WorldState) (kept : IsWorld w) where
       kept = record { kern = kept.kern; home = kept.home; pool = kept.pool; stacks = kept.stacks; ram = kept.ram; symbols = few };
       lives = λ who h. h;
       locks = more_locks;
+      last = refl;
+      reserves = λ who h. h;
       sinces = omega arith;
       count = refl;
       names = omega arith;
@@ -127,6 +137,8 @@ module _ (w : WorldState) (kept : IsWorld w) where
       kept = record { kern = kept.kern; home = kept.home; pool = kept.pool; stacks = kept.stacks; ram = same ∙ kept.ram; symbols = kept.symbols };
       lives = λ who h. h;
       locks = more_locks;
+      last = refl;
+      reserves = λ who h. h;
       sinces = omega arith;
       count = refl;
       names = omega arith;
@@ -181,7 +193,7 @@ module _ (w : WorldState) (kept : IsWorld w) where
 
     errno_advances : (a : Actor) (e : ℕ) → Advances w (with_errno w a e) n 0 0
     errno_advances (Task who) e = by_kern _ n 0 (goes-set_errno w.kern n kept.kern within who e)
-    errno_advances Interrupt e = record { kept = record { kern = kept.kern; home = kept.home; pool = kept.pool; stacks = kept.stacks; ram = kept.ram; symbols = kept.symbols }; lives = λ who h. h; locks = within; sinces = omega arith; count = refl; names = omega arith }
+    errno_advances Interrupt e = record { kept = record { kern = kept.kern; home = kept.home; pool = kept.pool; stacks = kept.stacks; ram = kept.ram; symbols = kept.symbols }; lives = λ who h. h; locks = within; last = refl; reserves = λ who h. h; sinces = omega arith; count = refl; names = omega arith }
 
     -- ---- a spawn
     framed_size : (at : ℕ) (words : List ℕ) → length (framed w.ram at words) ≡ length w.ram
@@ -223,6 +235,8 @@ module _ (w : WorldState) (kept : IsWorld w) where
           };
           lives = lives_more t;
           locks = All-push (λ u. u.locks ≤ n + 1) w.kern.tasks t more_locks (omega arith);
+          last = refl;
+          reserves = λ who h. All-push (λ u. (u.regs.reserve ≡ None) ⊎ (who ≡ Some u.id)) w.kern.tasks t h (inl refl);
           sinces = omega arith;
           count = refl;
           names = names_few s.name;
@@ -246,6 +260,8 @@ module _ (w : WorldState) (kept : IsWorld w) where
       kept = record { kern = a.kept.kern; home = a.kept.home; pool = a.kept.pool; stacks = a.kept.stacks; ram = a.kept.ram; symbols = a.kept.symbols };
       lives = a.lives;
       locks = a.locks;
+      last = a.last;
+      reserves = a.reserves;
       sinces = a.sinces;
       count = a.count;
       names = a.names;
@@ -288,6 +304,8 @@ module _ (w : WorldState) (kept : IsWorld w) (n : ℕ) (within : LocksWithin n w
     kept = record { kern = kept.kern; home = kept.home; pool = kept.pool; stacks = kept.stacks; ram = kept.ram; symbols = kept.symbols };
     lives = λ who h. h;
     locks = within;
+    last = refl;
+    reserves = λ who h. h;
     sinces = omega arith;
     count = refl;
     names = omega arith;
@@ -308,7 +326,7 @@ replied_advances w kept n within g a (Refusal e) =
     let v = with_errno w a (errno_number e) in
     advances_on w v (with_answer v a (refusal_word g)) n n 0 0 0 0 set (answer_advances v set.kept n set.locks a (refusal_word g))
 replied_advances w kept n within g a Later =
-    record { kept = kept; lives = λ who h. h; locks = within; sinces = omega arith; count = refl; names = omega arith }
+    record { kept = kept; lives = λ who h. h; locks = within; last = refl; reserves = λ who h. h; sinces = omega arith; count = refl; names = omega arith }
 
 unless_row : (w : WorldState) (kept : IsWorld w) (n : ℕ) (within : LocksWithin n w.kern) (o : Option Errno) (g : Gate) (a : Actor) (r : List ℕ) → Advances w (row_unless o g w a r).world (n + 1) 2 1
 unless_row w kept n within (Some e) g a r = nowhere w kept n within

@@ -76,4 +76,4 @@ module _ (k : KernState) (n : ℕ) (is : IsKern k) (within : LocksWithin n k) wh
   name_goes (Some name) = found_goes (task_named k.tasks name)
 
   pub slice_goes : (m : ℕ) → Goes k (slice_row k m).kern (n + 1) 2
-  slice_goes m = record { kern = (every_call_keeps k is).slicing m; alone = refl; stacks = refl; lent = refl; locks = stays.locks; sinces = omega arith; count = refl }
+  slice_goes m = record { kern = (every_call_keeps k is).slicing m; alone = refl; stacks = refl; lent = refl; last = refl; reserves = refl; locks = stays.locks; sinces = omega arith; count = refl }

@@ -7,14 +7,16 @@ use Rattle.kernel_calls.specs.State.{WorldState}
 use Rattle.kernel_calls.specs.Calls.{call}
 use Rattle.kernel_calls.specs.Ending.{ended}
 use Rattle.kernel_calls.specs.Opening.{opening_world}
-use Rattle.kernel_calls.specs.Kept.{IsWorld, LocksWithin}
+use Rattle.kernel_calls.specs.Kept.{IsWorld, LocksWithin, ReservedBy}
 use Rattle.kernel_calls.specs.declared.actor.Actor.{Actor}
 
--- from one world to another within one call: the kept facts hold, whoever lives lives on, locks stay within n, at most d order numbers and m name numbers were given out, and the tick count stood
+-- from one world to another within one call: the kept facts hold, whoever lives lives on, locks stay within n, no task has a reservation that had none, at most d order numbers and m name numbers were given out, and the tick count stood
 pub record Advances (w v : WorldState) (n d m : ℕ) : Type 0 where
   pub kept : IsWorld v
   pub lives : (who : ℕ) → Lives w.kern who → Lives v.kern who
   pub locks : LocksWithin n v.kern
+  pub last : v.kern.last ≡ w.kern.last
+  pub reserves : (who : Option ℕ) → ReservedBy who w.kern → ReservedBy who v.kern
   pub sinces : v.kern.next_since ≤ w.kern.next_since + d
   pub count : v.kern.tick ≡ w.kern.tick
   pub names : v.names ≤ w.names + m
@@ -32,6 +34,7 @@ pub record Ends (w v : WorldState) (who n : ℕ) : Type 0 where
   pub kept : IsWorld v
   pub lives : (id : ℕ) → (id ≡ who → ⊥) → Lives w.kern id → Lives v.kern id
   pub locks : LocksWithin n v.kern
+  pub reserves : (who : Option ℕ) → ReservedBy who w.kern → ReservedBy who v.kern
   pub sinces : v.kern.next_since ≡ w.kern.next_since
   pub count : v.kern.tick ≡ w.kern.tick
   pub names : v.names ≡ w.names

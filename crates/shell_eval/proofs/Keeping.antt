@@ -10,8 +10,8 @@ use Rattle.board_mem.specs.Memory.{has, with_bytes}
 use Rattle.board_bus.specs.BusState.{BusState}
 use Rattle.board_bus.specs.Access.{faults_at, answer_at, loaded_at, stored_at}
 use Rattle.board_bus.specs.Slots.{slots_loaded}
-use Rattle.board_mem.proofs.Sizes.{length-with_bytes}
 use Rattle.board_bus.specs.Lawful.{board_lawful}
+use Rattle.board_mem.proofs.Sizes.{length-with_bytes}
 use Rattle.mem_partition.specs.Place.{rounded}
 use Rattle.mem_partition.specs.State.{PartState, alloc_of, with_block}
 use Rattle.mem_partition.specs.declared.block.Block.{Block}

@@ -29,6 +29,10 @@ pub record SameSize {I : Type 0} {X : I → Type 0} (old new : Env I X) : Type 0
   pub memory : length new.bus.now.ram ≡ length old.bus.now.ram
   pub pool : new.part.now.end ≡ old.part.now.end
 
+-- what the output holds and what fits besides are together as many bytes as before, or more
+abbrev pub SpaceGrows : {I : Type 0} {X : I → Type 0} → Env I X → Env I X → Type 0
+SpaceGrows old new = old.out.now.room + length old.out.now.bytes ≤ new.out.now.room + length new.out.now.bytes
+
 -- how many bytes an operation writes at most
 abbrev pub most_announced : ℕ
 most_announced = 300

@@ -5,7 +5,7 @@ ghost use Rattle.shell_parse.specs.Trees.{plain_stmt};
 ghost use Rattle.shell_eval.specs.Pending.{begun_stmt, filled};
 ghost use Rattle.shell_eval.specs.Laws.{holes};
 ghost use Rattle.shell_eval.specs.Evaluate.{evaluate};
-ghost use Rattle.shell_eval.specs.Seen.{seen, SameEnv, SameSize, kept_free};
+ghost use Rattle.shell_eval.specs.Seen.{seen, SameEnv, SameSize, SpaceGrows, kept_free};
 ghost use Rattle.shell_eval.specs.Moved.{came};
 ghost use Rattle.shell_eval.specs.Ran.{is_call as is_call_lem};
 ghost use Rattle.shell_eval.specs.Inside.{room_of};
@@ -65,7 +65,7 @@ impl Eval {
     }
 
     /// Goes on to its value, to the next call or to a fault, and leaves room for 512 bytes in `out`. Where memory runs
-    /// out, nothing changes.
+    /// out, nothing changes. The bytes that `out` holds and those that fit besides are together never fewer than before.
     pub fn go(&mut self, env: &mut Env<'_>) -> Result<Went, NoMemory>
         requires pool { env.old.part.now.end ≤ length env.old.bus.now.ram }
         requires waits { holes self.old ≡ 0 }
@@ -73,6 +73,7 @@ impl Eval {
             ≡ evaluate (seen ⟦<dyn Device as Device>⟧ env.old) self.old) }
         ensures holes { IfOk result (λ went. holes self.new ≡ room_of (is_call_lem went)) }
         ensures room { OnOk result (kept_free ≤ env.new.out.now.room) }
+        ensures space { SpaceGrows env.old env.new }
         ensures no_memory { OnErr result (seen ⟦<dyn Device as Device>⟧ env.new
             ≡ seen ⟦<dyn Device as Device>⟧ env.old) }
         ensures kept { OnErr result (self.new ≡ self.old) }

@@ -1,7 +1,7 @@
 //! Postfix code runs up to a value, a call or a fault.
 
 ghost use Rattle.std.specs.Prelude.{◌≡◌, ◌+◌, ◌*◌, ◌<◌, ◌≤◌, length, false, OnOk, OnErr, IfOk};
-ghost use Rattle.shell_eval.specs.Seen.{seen, SameEnv, SameSize, Ready, most_announced, kept_free};
+ghost use Rattle.shell_eval.specs.Seen.{seen, SameEnv, SameSize, SpaceGrows, Ready, most_announced, kept_free};
 ghost use Rattle.shell_eval.specs.Machine.{move};
 ghost use Rattle.shell_eval.specs.Follows.{tree_of, tree_with_hole, Follows};
 ghost use Rattle.shell_eval.specs.Evaluate.{evaluate};
@@ -11,6 +11,7 @@ ghost use Rattle.shell_eval.specs.Ran.{of_step, advanced, left_room, IsEnd, IsAf
 ghost use Rattle.shell_eval.specs.Inside.{IsEval, most_operations};
 ghost use Rattle.std.specs.Prelude.{◌-◌, min};
 ghost use Rattle.wind_base.specs.Limits.{most_symbols};
+ghost use Rattle.wind_base.specs.OutBuf.{KeepsSpace};
 
 use crate::code::{Code, Entry, Stack};
 use crate::env::Env;
@@ -62,6 +63,7 @@ fn advance(code: &mut Code, stack: &mut Stack, env: &mut Env<'_>) -> Advanced
     ensures code { length code.new ≤ length code.old }
     ensures room { length code.new + left_room result ≤ stack.new.room }
     ensures ready { Ready (length code.new) env.new }
+    ensures space { KeepsSpace env.old.out.now env.new.out.now }
     ensures same { SameEnv env.old env.new }
     ensures size { SameSize env.old env.new }
 {
@@ -83,6 +85,7 @@ fn next(code: &mut Code, stack: &mut Stack, env: &mut Env<'_>) -> Advanced
     ensures code { length code.new ≤ length code.old }
     ensures room { length code.new + left_room result ≤ stack.new.room }
     ensures ready { Ready (length code.new) env.new }
+    ensures space { KeepsSpace env.old.out.now env.new.out.now }
     ensures same { SameEnv env.old env.new }
     ensures size { SameSize env.old env.new }
 {
@@ -100,6 +103,7 @@ pub(crate) fn run(code: &mut Code, stack: &mut Stack, env: &mut Env<'_>) -> Went
     ensures room { length code.new + room_after result ≤ stack.new.room }
     ensures code { length code.new ≤ length code.old }
     ensures output { kept_free ≤ env.new.out.now.room }
+    ensures space { KeepsSpace env.old.out.now env.new.out.now }
     ensures same { SameEnv env.old env.new }
     ensures size { SameSize env.old env.new }
 {
@@ -118,6 +122,7 @@ fn make_room(out: &mut OutBuf, n: usize) -> Result<(), NoMemory>
     requires { n ≤ most_operations }
     ensures room { OnOk result (n * most_announced + kept_free ≤ out.new.room) }
     ensures bytes { out.new.bytes ≡ out.old.bytes }
+    ensures grows { out.old.room ≤ out.new.room }
 {
     let wanted = n * MOST_ANNOUNCED + KEPT_FREE;
     if wanted <= out.room() {
@@ -144,6 +149,7 @@ pub(crate) fn prepare(n: usize, env: &mut Env<'_>) -> Result<(), NoMemory>
     requires pool { env.old.part.now.end ≤ length env.old.bus.now.ram }
     ensures ready { OnOk result (Ready n env.new) }
     ensures kept { seen ⟦<dyn Device as Device>⟧ env.new ≡ seen ⟦<dyn Device as Device>⟧ env.old }
+    ensures space { SpaceGrows env.old env.new }
     ensures same { SameEnv env.old env.new }
     ensures size { SameSize env.old env.new }
 {
@@ -162,6 +168,7 @@ pub(crate) fn go_on(code: &mut Code, stack: &mut Stack, env: &mut Env<'_>) -> Re
     ensures no_memory { OnErr result (seen ⟦<dyn Device as Device>⟧ env.new ≡ seen ⟦<dyn Device as Device>⟧ env.old) }
     ensures kept { OnErr result ((code.new ≡ code.old) × (stack.new ≡ stack.old)) }
     ensures room { OnOk result (kept_free ≤ env.new.out.now.room) }
+    ensures space { SpaceGrows env.old env.new }
     ensures same { SameEnv env.old env.new }
     ensures size { SameSize env.old env.new }
 {

@@ -2,6 +2,7 @@
 
 ghost use Rattle.std.specs.Prelude.{◌≡◌, ◌+◌, ◌-◌, ◌<◌, ◌≤◌, not, ◌==◌, length, ◌∷◌, drop, if◌then◌else◌, None};
 ghost use Rattle.wind_base.specs.Limits.{most_symbols};
+ghost use Rattle.wind_base.specs.OutBuf.{KeepsSpace};
 ghost use Rattle.ppc_core.specs.Words.{bit};
 ghost use Rattle.symbol_table.specs.Newest.{find};
 ghost use Rattle.shell_eval.specs.State.{State};
@@ -179,6 +180,7 @@ fn closed(env: &mut Env<'_>, stack: &mut Stack) -> Stepped
         ≤ length env.new.syms.now.list + env.new.syms.now.spare }
     ensures list { length env.new.syms.now.list ≤ length env.old.syms.now.list + 1 }
     ensures room { env.old.out.now.room ≤ env.new.out.now.room + most_announced }
+    ensures space { KeepsSpace env.old.out.now env.new.out.now }
     ensures same { SameEnv env.old env.new }
     ensures size { SameSize env.old env.new }
 {
@@ -259,6 +261,7 @@ pub(crate) fn step(op: Op, code: &mut Code, stack: &mut Stack, env: &mut Env<'_>
     ensures room { length code.new + held result ≤ stack.new.room }
     ensures code { length code.new ≤ length code.old }
     ensures ready { Ready (length code.new) env.new }
+    ensures space { KeepsSpace env.old.out.now env.new.out.now }
     ensures same { SameEnv env.old env.new }
     ensures size { SameSize env.old env.new }
 {

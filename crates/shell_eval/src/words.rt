@@ -2,7 +2,7 @@
 
 ghost use Rattle.std.specs.Prelude.{◌≡◌, ◌+◌, ◌<◌, ◌≤◌, length, replicate, None, OnErr, IsOk, IsSome, IfSome};
 ghost use Rattle.std.specs.Option.{option_map};
-ghost use Rattle.wind_base.specs.OutBuf.{Added};
+ghost use Rattle.wind_base.specs.OutBuf.{Added, KeepsSpace};
 ghost use Rattle.wind_base.specs.Limits.{longest_name, most_symbols};
 ghost use Rattle.board_mem.specs.Memory.{with_bytes};
 ghost use Rattle.mem_partition.specs.Place.{rounded};
@@ -206,6 +206,7 @@ pub(crate) fn variable_made(env: &mut Env<'_>, name: Name, v: u32) -> Result<u32
         ≤ length env.new.syms.now.list + env.new.syms.now.spare }
     ensures list { length env.new.syms.now.list ≤ length env.old.syms.now.list + 1 }
     ensures room { env.old.out.now.room ≤ env.new.out.now.room + most_announced }
+    ensures space { KeepsSpace env.old.out.now env.new.out.now }
     ensures same { SameEnv env.old env.new }
     ensures size { SameSize env.old env.new }
 {

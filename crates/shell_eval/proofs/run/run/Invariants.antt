@@ -1,4 +1,5 @@
 use Rattle.std.proofs.Common.{◌≡◌, ◌≤◌, length}
+use Rattle.wind_base.specs.OutBuf.{KeepsSpace}
 use Rattle.shell_eval.specs.Seen.{seen_by, SameEnv, SameSize, Ready}
 use Rattle.shell_eval.specs.Frames.{Stands}
 use Rattle.shell_eval.specs.Follows.{tree_of}
@@ -16,6 +17,7 @@ invariant-loop-n g l = record {
       ≡ evaluate (seen_by (λ d. (goal.Device-dyn g (d.vtable, d.value)).kind_of d.value) (λ d. (goal.Device-dyn g (d.vtable, d.value)).words_of d.value) l.env) (tree_of l.code l.stack.list);
   parts : SameEnv l.initial.env l.env;
   sizes : SameSize l.initial.env l.env;
+  space : KeepsSpace l.initial.env.out.now l.env.out.now;
 }
 
 abbrev pub decreases-loop-n : goal.decreases-loop-n
