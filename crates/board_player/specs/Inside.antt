@@ -4,9 +4,9 @@ use Rattle.tick_file.specs.Schedule.{Timetable}
 use Rattle.con_line.specs.State.{ConsoleState}
 use Rattle.kernel_calls.specs.Seen.{world_with}
 use Rattle.kernel_calls.specs.State.{WorldState}
-use Rattle.kernel_calls.specs.declared.world.World.{World}
 use Rattle.board_player.specs.State.{ShellState, State}
 use Rattle.board_player.specs.declared.clock.Clock.{Clock}
+use Rattle.board_player.specs.declared.parts.Parts.{Parts}
 
 abbrev pub state_with : List ℕ → ConsoleState → ShellState → WorldState → Timetable → Clock → State
 state_with left console shell world schedule clock = record {
@@ -20,5 +20,5 @@ state_with left console shell world schedule clock = record {
 }
 
 -- without slots
-abbrev pub inside : {I : Type 0} {X : I → Type 0} → List ℕ → ConsoleState → ShellState → World I X → Timetable → Clock → State
-inside left console shell world schedule clock = state_with left console shell (world_with [] world) schedule clock
+abbrev pub inside : {I : Type 0} {X : I → Type 0} → Parts I X → State
+inside p = state_with p.feed p.console p.shell (world_with [] p.world) p.schedule p.clock

@@ -1,5 +1,5 @@
 -- Where the program counter of a task has got to, and what its step makes of that.
-use Rattle.std.specs.Prelude.{ℕ, Option, None, Some, ◌==◌, if◌then◌else◌, slice_index}
+use Rattle.std.specs.Prelude.{ℕ, Option, None, Some, Result, Ok, Err, ◌==◌, if◌then◌else◌, slice_index}
 use Rattle.wind_base.specs.Limits.{gates_start}
 use Rattle.wind_base.specs.Gates.{gate_at}
 use Rattle.wind_base.specs.declared.gate.Gate.{Gate}
@@ -54,10 +54,23 @@ faulted shell w t trap =
     if t.id == shell_id then part_of at_prompt (writing (record w { kern = aborted w.kern }) (exception_text trap t))
     else part_of shell (writing (record w { kern = suspend w.kern t.id }) (exception_text trap t))
 
--- an instruction: new registers and a new bus, or an exception
+-- the world after an instruction: with new registers and a new bus, or as it was
+abbrev pub after_exec : WorldState → ℕ → Outcome BusState → WorldState
+after_exec w who (Done regs bus) = record w { kern = set_regs w.kern who regs; ram = bus.ram; slots = bus.slots }
+after_exec w who (Trapped trap) = w
+
+-- what it answers
+abbrev pub exec_answer : Outcome BusState → Result (Unit {0}) Trap
+exec_answer (Done regs bus) = Ok tt
+exec_answer (Trapped trap) = Err trap
+
+-- an exception, where it is one
+abbrev pub faulted_if : ShellState → WorldState → Task → Result (Unit {0}) Trap → Part
+faulted_if shell w t (Ok u) = part_of shell w
+faulted_if shell w t (Err trap) = faulted shell w t trap
+
 abbrev pub executed : ShellState → WorldState → Task → Outcome BusState → Part
-executed shell w t (Done regs bus) = part_of shell (record w { kern = set_regs w.kern t.id regs; ram = bus.ram; slots = bus.slots })
-executed shell w t (Trapped trap) = faulted shell w t trap
+executed shell w t o = faulted_if shell (after_exec w t.id o) t (exec_answer o)
 
 -- the world without the reservations of other tasks, or without any
 abbrev pub with_own : WorldState → ℕ → WorldState
@@ -68,9 +81,9 @@ with_none w = record w { kern = all_unreserved w.kern }
 
 -- what the step of a task makes, by where it has got to
 abbrev pub landed : ShellState → WorldState → Task → Landing → Part
-landed shell w t Ends = part_of shell (ended (with_none w) t.id)
+landed shell w t Ends = part_of shell (with_none (ended w t.id))
 landed shell w t Returns = part_of (returned (slice_index t.regs.gpr 3) shell) (with_none w)
-landed shell w t (Calls g) = part_of shell (call g (with_none w) (actors.Task t.id))
+landed shell w t (Calls g) = part_of shell (with_none (call g w (actors.Task t.id)))
 landed shell w t (Runs word) = executed shell (with_own w t.id) t (exec_of board_meaning t.regs word (bus_of w))
 landed shell w t Faults = faulted shell (with_own w t.id) t Access
 

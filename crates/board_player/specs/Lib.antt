@@ -6,6 +6,8 @@ pub mod Reservations
 pub mod Shell
 pub mod ShellInside
 pub mod Landing
+pub mod Evaluating
+pub mod Room
 pub mod Machine
 pub mod Run
 pub mod Good

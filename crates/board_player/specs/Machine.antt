@@ -24,9 +24,9 @@ use Rattle.kernel_calls.specs.Actors.{shell_id}
 use Rattle.kernel_calls.specs.Calls.{may_lack_memory as call_may_lack}
 use Rattle.kernel_calls.specs.Opening.{opening_world}
 use Rattle.board_player.specs.Task.{waits_for_console, aborted}
-use Rattle.board_player.specs.Reservations.{others_unreserved, all_unreserved}
+use Rattle.board_player.specs.Reservations.{all_unreserved}
 use Rattle.board_player.specs.Shell.{Part, at_prompt, prompt_part, read_part, eval_part}
-use Rattle.board_player.specs.Landing.{landing, task_part}
+use Rattle.board_player.specs.Landing.{with_own, landing, task_part}
 use Rattle.board_player.specs.declared.landing.Landing.{Landing}
 use Rattle.board_player.specs.declared.landing.Landing.TheVariants.{Ends, Returns, Calls, Runs, Faults}
 use Rattle.board_player.specs.declared.phase.Phase.{Phase}
@@ -111,22 +111,25 @@ jump s e = record s { world = record s.world { output = [] }; time = e.time; ste
 abbrev pub ran : WorldState → ℕ → WorldState
 ran w who = record w { kern = record w.kern { last = Some who } }
 
-abbrev pub stepped : State → ℕ → Part → State
-stepped s who p = record s { shell = p.shell; world = ran p.world who; time = s.time + 1; steps = s.steps + 1 }
+abbrev pub noted : State → ℕ → State
+noted s who = record s { world = ran s.world who; time = s.time + 1; steps = s.steps + 1 }
 
--- the shell's task makes one, where it is in no call; it drops the reservations of all others
-abbrev pub shell_world : WorldState → WorldState
-shell_world w = record w { kern = others_unreserved w.kern shell_id }
+abbrev pub stepped : State → ℕ → Part → State
+stepped s who p = noted (record s { shell = p.shell; world = p.world }) who
+
+-- the shell's task makes one, where it is in no call; that drops the reservations of all others
+abbrev pub alone : Part → Part
+alone p = record p { world = with_own p.world shell_id }
 
 abbrev pub prompt_step : State → State
-prompt_step s = stepped s shell_id (prompt_part (has_line s.console) s.shell (shell_world s.world))
+prompt_step s = stepped s shell_id (alone (prompt_part (has_line s.console) s.shell s.world))
 
 -- the line that it reads goes
 abbrev pub read_step : State → State
-read_step s = stepped (record s { console = line_dropped s.console }) shell_id (read_part (read_line (front_line s.console)) (shell_world s.world))
+read_step s = stepped (record s { console = line_dropped s.console }) shell_id (alone (read_part (read_line (front_line s.console)) s.world))
 
 abbrev pub eval_step : State → State
-eval_step s = stepped s shell_id (eval_part s.shell.tree s.shell (shell_world s.world))
+eval_step s = stepped s shell_id (alone (eval_part s.shell.tree s.shell s.world))
 
 -- any task makes one by its program counter
 abbrev pub task_step : State → Task → State

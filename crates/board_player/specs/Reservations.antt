@@ -1,7 +1,7 @@
 -- Reservations (Power ISA, lwarx and stwcx.): who loses them by a step.
-use Rattle.std.specs.Prelude.{◌≡◌, ℕ, ◌⊎◌, Option, Some, None, ◌==◌, if◌then◌else◌, map}
-use Rattle.std.specs.List.{All}
-use Rattle.wind_core.specs.State.{KernState}
+use Rattle.std.specs.Prelude.{ℕ, ◌==◌, if◌then◌else◌, map, Option, None, Some, is_some}
+use Rattle.kernel_calls.specs.Kept.{ReservedBy}
+use Rattle.wind_core.specs.State.{KernState, task_of}
 use Rattle.wind_core.specs.Moves.{unreserved}
 
 -- the step of a task drops those of all others
@@ -14,4 +14,12 @@ all_unreserved k = record k { tasks = map unreserved k.tasks }
 
 -- only the task that ran last has one
 abbrev pub LastReserves : KernState → Type 0
-LastReserves k = All (λ t. (t.regs.reserve ≡ None) ⊎ (k.last ≡ Some t.id)) k.tasks
+LastReserves k = ReservedBy k.last k
+
+-- the task that ran last, where it lives
+abbrev pub live_in : KernState → Option ℕ → Option ℕ
+live_in k None = None
+live_in k (Some id) = if is_some (task_of k.tasks id) then Some id else None
+
+abbrev pub live_last : KernState → Option ℕ
+live_last k = live_in k k.last
