@@ -1,6 +1,10 @@
 pub mod FeedLemmas
 pub mod Kept
 pub mod TaskLemmas
+pub mod Goes
 pub mod Hearing
-pub mod Trees
-pub mod Reserving
+pub mod Rows
+pub mod Steps
+pub mod Lives
+pub mod Landings
+pub mod Courses

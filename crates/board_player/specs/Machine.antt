@@ -19,16 +19,8 @@ use Rattle.con_line.specs.declared.console.ByteDone.{ByteDone}
 use Rattle.con_line.specs.declared.console.ByteDone.TheVariants as done
 use Rattle.board_player.specs.State.{ShellState, State}
 use Rattle.board_player.specs.Feed.{chunk, after_chunk, brought}
-use Rattle.kernel_calls.specs.State.{WorldState}
-use Rattle.kernel_calls.specs.Actors.{shell_id}
-use Rattle.kernel_calls.specs.Calls.{may_lack_memory as call_may_lack}
-use Rattle.kernel_calls.specs.Opening.{opening_world}
-use Rattle.board_player.specs.Task.{waits_for_console, aborted}
-use Rattle.board_player.specs.Reservations.{all_unreserved}
-use Rattle.board_player.specs.Shell.{Part, at_prompt, prompt_part, read_part, eval_part}
-use Rattle.board_player.specs.Landing.{with_own, landing, task_part}
-use Rattle.board_player.specs.declared.landing.Landing.{Landing}
-use Rattle.board_player.specs.declared.landing.Landing.TheVariants.{Ends, Returns, Calls, Runs, Faults}
+use Rattle.board_player.specs.Task.{shell_id, waits_for_console, aborted, opening_kern}
+use Rattle.board_player.specs.Shell.{Part, at_prompt, prompt_part, read_part, due_of_first, eval_part, call_part}
 use Rattle.board_player.specs.declared.phase.Phase.{Phase}
 use Rattle.board_player.specs.declared.phase.Phase.TheVariants as phases
 
@@ -67,19 +59,15 @@ heard_all h bytes = fold hear h bytes
 abbrev pub heard_from : ConsoleState → ShellState → KernState → List ℕ → Heard
 heard_from console shell kern echo = record { console = console; shell = shell; kern = kern; echo = echo }
 
--- what the events and the console change of the world: the kernel, and what the step has written
-abbrev pub world_with_kern : WorldState → KernState → List ℕ → WorldState
-world_with_kern w kern text = record w { kern = kern; output = text }
-
 -- an event, which leaves board time: bytes arrive, and others are left
 abbrev pub arrived : State → List ℕ → Heard → State
-arrived s left h = record s { left = left; console = h.console; shell = h.shell; world = world_with_kern s.world h.kern h.echo; steps = s.steps + 1 }
+arrived s left h = record s { left = left; console = h.console; shell = h.shell; kern = h.kern; steps = s.steps + 1; output = h.echo }
 
 -- the next chunk arrives
 abbrev pub arrival : State → State
-arrival s = arrived s (after_chunk s.left) (heard_all (heard_from s.console s.shell s.world.kern []) (chunk s.left))
+arrival s = arrived s (after_chunk s.left) (heard_all (heard_from s.console s.shell s.kern []) (chunk s.left))
 
--- ---- events of the tick file, which drop all reservations
+-- ---- events of the tick file
 abbrev pub next_event : State → Option Timed
 next_event s = first s.schedule.events
 
@@ -87,12 +75,11 @@ abbrev pub without_next : Timetable → Timetable
 without_next t = record t { events = drop 1 t.events }
 
 abbrev pub ticked : State → State
-ticked s = record s { world = world_with_kern s.world (tick (all_unreserved s.world.kern)) []; steps = s.steps + 1 }
+ticked s = record s { kern = tick s.kern; steps = s.steps + 1; output = [] }
 
 -- so many bytes arrive, as the tick file asks
 abbrev pub received : State → ℕ → State
-received s n =
-    arrived s (drop (brought n) s.left) (heard_all (heard_from s.console s.shell (all_unreserved s.world.kern) []) (take (brought n) s.left))
+received s n = arrived s (drop (brought n) s.left) (heard_all (heard_from s.console s.shell s.kern []) (take (brought n) s.left))
 
 abbrev pub event_comes : State → Event → State
 event_comes s Tick = ticked s
@@ -104,46 +91,38 @@ event_step s e = event_comes (record s { schedule = without_next s.schedule }) e
 
 -- board time becomes that of the next event
 abbrev pub jump : State → Timed → State
-jump s e = record s { world = record s.world { output = [] }; time = e.time; steps = s.steps + 1 }
+jump s e = record s { time = e.time; steps = s.steps + 1; output = [] }
 
--- ---- a task makes a step
+-- ---- the shell's task makes a step
 -- which adds 1 to board time, and is noted
-abbrev pub ran : WorldState → ℕ → WorldState
-ran w who = record w { kern = record w.kern { last = Some who } }
-
-abbrev pub noted : State → ℕ → State
-noted s who = record s { world = ran s.world who; time = s.time + 1; steps = s.steps + 1 }
-
-abbrev pub stepped : State → ℕ → Part → State
-stepped s who p = noted (record s { shell = p.shell; world = p.world }) who
-
--- the shell's task makes one, where it is in no call; that drops the reservations of all others
-abbrev pub alone : Part → Part
-alone p = record p { world = with_own p.world shell_id }
+abbrev pub stepped : State → Part → State
+stepped s p = record s {
+  shell = p.shell;
+  kern = record p.kern { last = Some shell_id };
+  time = s.time + 1;
+  steps = s.steps + 1;
+  output = p.text;
+}
 
 abbrev pub prompt_step : State → State
-prompt_step s = stepped s shell_id (alone (prompt_part (has_line s.console) s.shell s.world))
+prompt_step s = stepped s (prompt_part (has_line s.console) s.shell s.kern)
 
 -- the line that it reads goes
 abbrev pub read_step : State → State
-read_step s = stepped (record s { console = line_dropped s.console }) shell_id (alone (read_part (read_line (front_line s.console)) s.world))
+read_step s = stepped (record s { console = line_dropped s.console }) (read_part (read_line (front_line s.console)) s.kern)
 
 abbrev pub eval_step : State → State
-eval_step s = stepped s shell_id (alone (eval_part s.shell.tree s.shell s.world))
+eval_step s = stepped s (eval_part (due_of_first s.shell.stmts) s.shell s.kern)
 
--- any task makes one by its program counter
-abbrev pub task_step : State → Task → State
-task_step s t = stepped s t.id (task_part s.shell s.world t)
+abbrev pub call_step : State → Option State
+call_step s = option_map (stepped s) (call_part s.shell s.kern)
 
--- the step of the shell's task, by the shell's phase
-abbrev pub shell_step : Phase → State → Task → State
-shell_step phases.Prompt s t = prompt_step s
-shell_step phases.Read s t = read_step s
-shell_step phases.Eval s t = eval_step s
-shell_step phases.Call s t = task_step s t
-
-abbrev pub step_of : State → Task → State
-step_of s t = if t.id == shell_id then shell_step s.shell.phase s t else task_step s t
+-- a step by the shell's phase
+abbrev pub shell_step : Phase → State → Option State
+shell_step phases.Prompt s = Some (prompt_step s)
+shell_step phases.Read s = Some (read_step s)
+shell_step phases.Eval s = Some (eval_step s)
+shell_step phases.Call s = call_step s
 
 -- ---- the order of the next step
 -- whoever runs holds interrupts back
@@ -152,7 +131,7 @@ holds_back None = false
 holds_back (Some t) = t.int_locked
 
 abbrev pub is_open : State → Bool
-is_open s = not (holds_back (running s.world.kern))
+is_open s = not (holds_back (running s.kern))
 
 abbrev pub event_of : Timed → Event
 event_of e = e.event
@@ -167,19 +146,19 @@ due_event s = if is_open s then due_at s.time (next_event s) else None
 
 -- the console is due: input comes on demand, the shell waits for it, no finished line is kept, and bytes are left
 abbrev pub console_is_due : State → Bool
-console_is_due s = is_open s && (s.schedule.on_demand && (waits_for_console s.world.kern && (not (has_line s.console) && not (length s.left == 0))))
+console_is_due s = is_open s && (s.schedule.on_demand && (waits_for_console s.kern && (not (has_line s.console) && not (length s.left == 0))))
 
 abbrev pub jump_to : State → Option Timed → Option State
 jump_to s None = None
 jump_to s (Some e) = Some (jump s e)
 
--- whoever runs makes a step; where nobody runs, time goes on to the next event, if there is one
+-- whoever runs makes a step, which so far is the shell's task; where nobody runs, time goes on to the next event, if there is one
 abbrev pub run_step : State → Option Task → Option State
-run_step s (Some t) = Some (step_of s t)
+run_step s (Some t) = shell_step s.shell.phase s
 run_step s None = jump_to s (next_event s)
 
 abbrev pub quiet_step : State → Option State
-quiet_step s = if console_is_due s then Some (arrival s) else run_step s (running s.world.kern)
+quiet_step s = if console_is_due s then Some (arrival s) else run_step s (running s.kern)
 
 abbrev pub step_by : State → Option Timed → Option State
 step_by s (Some e) = Some (event_step s e)
@@ -189,32 +168,15 @@ step_by s None = quiet_step s
 unfoldable pub machine_step : State → Option State
 machine_step s = step_by s (due_event s)
 
--- ---- where a step may lack host memory: the shell's where it reads or evaluates, and a call of the kernel that may
-abbrev pub phase_may_lack : Phase → Bool
-phase_may_lack phases.Prompt = false
-phase_may_lack phases.Read = true
-phase_may_lack phases.Eval = true
-phase_may_lack phases.Call = false
+-- whether the next step is the shell's, and reads a line
+abbrev pub is_read : Phase → Bool
+is_read phases.Prompt = false
+is_read phases.Read = true
+is_read phases.Eval = false
+is_read phases.Call = false
 
-abbrev pub is_call : Phase → Bool
-is_call phases.Call = true
-is_call p = false
-
-abbrev pub landing_may_lack : Landing → Bool
-landing_may_lack (Calls g) = call_may_lack g
-landing_may_lack l = false
-
-abbrev pub step_may_lack : State → Task → Bool
-step_may_lack s t =
-    if t.id == shell_id && not (is_call s.shell.phase) then phase_may_lack s.shell.phase
-    else landing_may_lack (landing s.world t)
-
-abbrev pub runner_may_lack : State → Option Task → Bool
-runner_may_lack s None = false
-runner_may_lack s (Some t) = step_may_lack s t
-
-abbrev pub may_lack_memory : State → Bool
-may_lack_memory s = not (is_some (due_event s)) && (not (console_is_due s) && runner_may_lack s (running s.world.kern))
+abbrev pub reads_line : State → Bool
+reads_line s = not (is_some (due_event s)) && (not (console_is_due s) && (is_some (running s.kern) && is_read s.shell.phase))
 
 -- the state in which a board starts, with this console file, these events and these devices
 unfoldable pub opening : List ℕ → Timetable → List (Option DeviceState) → State
@@ -222,8 +184,10 @@ opening console schedule slots = record {
   left = console;
   console = opening_console;
   shell = at_prompt;
-  world = opening_world slots;
+  kern = opening_kern;
   schedule = schedule;
   time = 0;
   steps = 0;
+  output = [];
+  slots = slots;
 }

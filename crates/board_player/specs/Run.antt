@@ -11,7 +11,7 @@ after s (suc k) = unwrap_or (machine_step (after s k)) (after s k)
 -- what the first k steps write
 abbrev pub text : State → ℕ → List ℕ
 text s zero = []
-text s (suc k) = text s k ++ (after s (suc k)).world.output
+text s (suc k) = text s k ++ (after s (suc k)).output
 
 -- a run of at most n steps makes the first k: there is a step at each state before
 pub record IsPart (s : State) (n k : ℕ) : Type 0 where

@@ -1,16 +1,15 @@
 -- The state of the wind machine, as plain data.
 use Rattle.std.specs.Prelude.{ℕ, List, Option}
+use Rattle.wind_outside.specs.Devices.{DeviceState}
 use Rattle.shell_parse.specs.Trees.{PlainStmt}
-use Rattle.shell_eval.specs.Pending.{Pending}
 use Rattle.tick_file.specs.Schedule.{Timetable}
+use Rattle.wind_core.specs.State.{KernState}
 use Rattle.con_line.specs.State.{ConsoleState}
-use Rattle.kernel_calls.specs.State.{WorldState}
 use Rattle.board_player.specs.declared.phase.Phase.{Phase}
 
--- the shell: its phase, what is left of the current statement's tree, and the statements behind that; a statement without a token has no tree
+-- the shell: its phase, and the statements left, of which the first is under evaluation
 pub record ShellState : Type 0 where
   pub phase : Phase
-  pub tree : Option Pending
   pub stmts : List PlainStmt
 
 -- the wind machine
@@ -19,10 +18,13 @@ pub record State : Type 0 where
   pub left : List ℕ
   pub console : ConsoleState
   pub shell : ShellState
-  -- the kernel, memory with its devices, symbols, and the bytes that the last step wrote
-  pub world : WorldState
+  -- the kernel's tasks and counters
+  pub kern : KernState
   -- the events of the tick file that are to come
   pub schedule : Timetable
   -- board time, and how many steps were made
   pub time : ℕ
   pub steps : ℕ
+  -- the bytes that the last step wrote
+  pub output : List ℕ
+  pub slots : List (Option DeviceState)

@@ -1,6 +1,6 @@
 //! What follows of the machine's definitions alone, whatever the code does.
 
-ghost use Rattle.board_player.specs.Laws.{StartLaw, StepLaw, UrgencyLaw, RunLaw};
+ghost use Rattle.board_player.specs.Laws.{StartLaw, StepLaw, UrgencyLaw, RunLaw, GatesLaw};
 
 use tick_file::early_law;
 
@@ -28,3 +28,9 @@ pub fn run_law()
     urgency_law();
     early_law();
 }
+
+/// The law of the gates: a call that is due of a statement lands at the gate of its number. So the shell
+/// never waits for a call that is not built.
+pub fn gates_law()
+    ensures { GatesLaw }
+{}

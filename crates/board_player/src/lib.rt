@@ -3,24 +3,23 @@
 
 mod arrival;
 mod board;
+mod calls;
 mod clock;
+mod evaluate;
 mod feed;
-mod landing;
+mod gate;
 mod laws;
 mod machine;
-mod parts;
 mod phase;
-mod reservations;
 mod shell;
-mod shell_steps;
 mod task;
-mod task_steps;
 #[cfg(test)]
 mod tests;
 mod text;
 
 pub use board::Board;
-pub use laws::{run_law, step_law, urgency_law};
+pub use gate::Gate;
+pub use laws::{gates_law, run_law, step_law, urgency_law};
 pub use machine::Machine;
 pub use phase::Phase;
 

@@ -1,18 +1,17 @@
 //! The shell: its phase, and the line under evaluation.
 
-ghost use Rattle.std.specs.Prelude.{◌≡◌, ◌+◌, ◌≤◌, [], ◌++◌, Some, IfOk, OnOk, OnErr, IfSome, map, drop, length};
+ghost use Rattle.std.specs.Prelude.{◌≡◌, ◌+◌, ◌≤◌, [], ◌++◌, OnOk, OnErr, map, drop, length};
 ghost use Rattle.wind_base.specs.OutBuf.{KeepsSpace};
 ghost use Rattle.wind_base.specs.Limits.{longest_line};
 ghost use Rattle.shell_parse.specs.Reading.{read_line};
 ghost use Rattle.shell_parse.specs.Trees.{plain_stmt};
-ghost use Rattle.shell_eval.specs.Laws.{holes};
-ghost use Rattle.board_player.specs.ShellInside.{first_tree, rest_of};
+ghost use Rattle.shell_due.specs.Due.{plain_due};
 ghost use Rattle.board_player.specs.declared.phase.Phase.TheVariants as phases;
-ghost use Rattle.board_player.specs.Shell.{at_prompt, prompted, is_nothing as is_nothing_lem, begun, going_on as going_on_lem, shell_read, read_text, moved_on, returned};
+ghost use Rattle.board_player.specs.Shell.{at_prompt, prompted, is_nothing as is_nothing_lem, begun, shell_read, read_text, phase_with, rest_of, moved_on, due_of_first, fill_first as fill_first_lem, returned};
 
 use crate::phase::Phase;
 use crate::text::add_syntax;
-use shell_eval::Eval;
+use shell_due::{Due, due, fill};
 use shell_parse::{ParseErr, Stmt, parse};
 use std::alloc::Global;
 use std::marker::Model;
@@ -23,27 +22,22 @@ use wind_base::{NoMemory, OutBuf};
 pub(crate) struct Shell {
     alloc: Global,
     phase: Phase,
-    // the current statement is the first
     stmts: Vec<Stmt>,
-    // of the current statement, where its evaluation has begun
-    eval: Option<Eval>,
 }
 
 impl Model for Shell {
     ghost use Rattle.std.specs.Prelude.{map};
     ghost use Rattle.shell_parse.specs.Trees.{plain_stmt};
     ghost use Rattle.board_player.specs.State.{ShellState};
-    ghost use Rattle.board_player.specs.ShellInside.{shell_state};
 
     ghost Value = { ShellState };
 
     ghost use Rattle.std.specs.Coded.{codes};
     ghost use Rattle.shell_parse.specs.Codes.{coded_stmt};
-    ghost use Rattle.shell_eval.specs.Coded.{coded_pending};
 
-    ghost coded = { Prim.hlevel (codes, coded_stmt, coded_pending) };
+    ghost coded = { Prim.hlevel (codes, coded_stmt) };
 
-    ghost view = { λ s. shell_state s.phase (map plain_stmt s.stmts.items) s.eval };
+    ghost view = { λ s. record { phase = s.phase; stmts = map plain_stmt s.stmts.items } };
 }
 
 impl Shell {
@@ -55,7 +49,6 @@ impl Shell {
             alloc,
             phase: Phase::Prompt,
             stmts: Vec::new(alloc),
-            eval: None,
         }
     }
 
@@ -87,7 +80,6 @@ impl Shell {
         ensures { self.new ≡ at_prompt }
     {
         self.phase = Phase::Prompt;
-        self.eval = None;
         self.stmts.clear();
     }
 
@@ -125,69 +117,41 @@ impl Shell {
             self.abort();
             return;
         }
-        self.eval = None;
         self.phase = Phase::Eval;
         self.stmts = stmts;
     }
 
-    /// The evaluation of the current statement, taken out; it begins where it has not begun. None where the statement has
-    /// no token.
-    pub(crate) fn take_eval(&mut self) -> Result<Option<Eval>, NoMemory>
-        ensures ok { IfOk result (λ eval. eval ≡ self.old.tree) }
-        ensures phase { self.new.phase ≡ self.old.phase }
-        ensures stmts { self.new.stmts ≡ self.old.stmts }
-        ensures err { OnErr result (self.new ≡ self.old) }
+    /// What its first statement goes on to.
+    pub(crate) fn due(&self) -> Due<'_>
+        ensures { plain_due result ≡ due_of_first self.now.stmts }
     {
-        if let Some(eval) = self.eval.take() {
-            return Ok(Some(eval));
+        match self.stmts.first() {
+            Some(stmt) => due(stmt),
+            None => Due::Nothing,
         }
-        started(self.alloc, &self.stmts)
     }
 
-    /// Puts the evaluation of the current statement back.
-    pub(crate) fn put_eval(&mut self, eval: Eval)
-        ensures { self.new ≡ record self.old { tree = Some eval } }
-    {
-        self.eval = Some(eval);
-    }
-
-    /// The current statement is at its end.
+    /// The first statement is at its end.
     pub(crate) fn move_on(&mut self)
         ensures { self.new ≡ moved_on self.old }
     {
         drop_first(&mut self.stmts);
-        self.eval = None;
         self.phase = phase_of(&self.stmts);
     }
 
-    /// Its task begins a call, whose answer this evaluation awaits.
-    pub(crate) fn call(&mut self, eval: Eval)
-        ensures { self.new ≡ record self.old { phase = phases.Call; tree = Some eval } }
+    /// Its task begins a call.
+    pub(crate) fn call(&mut self)
+        ensures { self.new ≡ record self.old { phase = phases.Call } }
     {
-        self.eval = Some(eval);
         self.phase = Phase::Call;
     }
 
     /// A call has returned with this value.
-    #[tactic(auto, using(crate::proofs::Trees::none_awaited))]
     pub(crate) fn give_value(&mut self, value: u32)
-        requires { IfSome self.old.tree (λ p. holes p ≡ 1) }
         ensures { self.new ≡ returned value self.old }
     {
-        if let Some(eval) = &mut self.eval {
-            eval.fill(value);
-        }
+        fill_first(&mut self.stmts, value);
         self.phase = Phase::Eval;
-    }
-}
-
-// The evaluation of the first statement from its beginning. None where it has no token.
-fn started(alloc: Global, stmts: &[Stmt]) -> Result<Option<Eval>, NoMemory>
-    ensures { IfOk result (λ eval. eval ≡ first_tree (map plain_stmt stmts.now)) }
-{
-    match stmts {
-        [] | [Stmt::Nothing, ..] => Ok(None),
-        [stmt, ..] => Ok(Some(Eval::start(alloc, stmt)?)),
     }
 }
 
@@ -200,7 +164,7 @@ fn is_nothing(stmts: &[Stmt]) -> bool
 
 // The phase of a shell with these statements left.
 fn phase_of(stmts: &[Stmt]) -> Phase
-    ensures { result ≡ (going_on_lem (map plain_stmt stmts.now)).phase }
+    ensures { result ≡ phase_with (map plain_stmt stmts.now) }
 {
     if stmts.is_empty() {
         Phase::Prompt
@@ -215,5 +179,15 @@ fn drop_first(stmts: &mut Vec<Stmt>)
 {
     if !stmts.is_empty() {
         stmts.remove(0);
+    }
+}
+
+// Gives the due call of the first statement its value.
+fn fill_first(stmts: &mut [Stmt], value: u32)
+    ensures { map plain_stmt stmts.new ≡ fill_first_lem value (map plain_stmt stmts.old) }
+{
+    match stmts {
+        [] => {}
+        [stmt, ..] => fill(stmt, value),
     }
 }

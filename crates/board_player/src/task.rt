@@ -1,22 +1,20 @@
 //! The shell's task.
 
-ghost use Rattle.std.specs.Prelude.{◌≡◌, ◌+◌, ◌^◌, ◌<◌, ◌==◌};
+ghost use Rattle.std.specs.Prelude.{◌≡◌, ◌+◌, ◌*◌, ◌^◌, ◌<◌, not};
 ghost use Rattle.wind_core.specs.State.{Lives};
-ghost use Rattle.wind_core.specs.Orders.{waits_at};
+ghost use Rattle.wind_core.specs.Orders.{waits_at, running};
 ghost use Rattle.wind_core.specs.Moves.{release};
-ghost use Rattle.kernel_calls.specs.Actors.{shell_id as shell_id_lem};
-ghost use Rattle.kernel_calls.specs.Seen.{world_seen};
-ghost use Rattle.board_player.specs.Task.{console_place, waits_for_console as waits_for_console_lem, is_held as is_held_lem, shell_task, listening, let_go as let_go_lem, aborted, calling};
+ghost use Rattle.board_player.specs.Machine.{holds_back};
+ghost use Rattle.board_player.specs.Task.{console_place, waits_for_console as waits_for_console_lem, is_held as is_held_lem, shell_task, listening, let_go as let_go_lem, aborted, no_regs as no_regs_lem, call_regs as call_regs_lem, shell_record as shell_record_lem, calling};
 
+use crate::gate::{RETURN, address};
 use id_table::sides::CONSOLE;
 use id_table::{Ident, Place};
-use kernel_calls::{World, put_frame, starting_regs};
-use task_block::Task;
-use wind_base::Gate;
-use wind_base::limits::{FRAME_BYTES, GATES_START, POOL_START, SHELL_STACK_BYTES};
+use task_block::{NewTask, Task};
+use wind_base::limits::{FRAME_BYTES, POOL_START, SHELL_STACK_BYTES};
 use wind_base::words::WAIT_FOREVER;
+use wind_base::{Pri, Regs, ShortName};
 use wind_core::Kern;
-use wind_outside::Device;
 
 // r1 at the start of a call: a frame below the end of its stack, which begins where the pool does.
 const STACK_POINTER: u32 = POOL_START + SHELL_STACK_BYTES - FRAME_BYTES;
@@ -31,11 +29,14 @@ pub(crate) fn shell_id() -> Ident
     }
 }
 
-/// Whether it is the task of this id.
-pub(crate) fn is_shell(who: Ident) -> bool
-    ensures { result ≡ (who == shell_id_lem) }
+// Its priority.
+fn priority() -> Pri
+    ensures { result ≡ 1 }
 {
-    who.get() == 1
+    match Pri::new(1) {
+        Some(pri) => pri,
+        None => unreachable!(),
+    }
 }
 
 // Where it waits for the console.
@@ -45,6 +46,34 @@ fn console() -> Place
     Place {
         side: CONSOLE,
         id: shell_id(),
+    }
+}
+
+// No register has a value.
+fn no_regs() -> Regs
+    ensures { result ≡ no_regs_lem }
+{
+    Regs {
+        gpr: [0; 32],
+        cr: 0,
+        xer: 0,
+        lr: 0,
+        ctr: 0,
+        pc: 0,
+        reserve: None,
+    }
+}
+
+/// What it begins with.
+pub(crate) fn shell_record() -> NewTask
+    ensures { result ≡ shell_record_lem }
+{
+    NewTask {
+        name: ShortName::cut(b"tShell"),
+        entry: 0,
+        stack: POOL_START,
+        pri: priority(),
+        regs: no_regs(),
     }
 }
 
@@ -110,14 +139,66 @@ pub(crate) fn abort(kern: &mut Kern)
     kern.reset(shell_id());
 }
 
-/// It begins a call of an address with ten words, in registers and in the frame.
-pub(crate) fn begin_call(w: &mut World, callee: u32, words: &[u32; 10])
-    requires { Lives w.old.kern 1 }
-    ensures world { world_seen ⟦<dyn Device as Device>⟧ w.new ≡ calling (world_seen ⟦<dyn Device as Device>⟧ w.old) callee words.now }
-    ensures out { w.new.out ≡ w.old.out }
+// The registers of a call.
+fn call_regs(gate: u32, words: [u32; 10]) -> Regs
+    ensures { result ≡ call_regs_lem gate words }
 {
-    let link = Gate::ShellReturn.address(GATES_START);
-    w.kern
-        .set_regs(shell_id(), starting_regs(STACK_POINTER, link, callee, words));
-    put_frame(&mut w.bus.ram, STACK_POINTER, words);
+    let [a, b, c, d, e, f, g, h, _, _] = words;
+    Regs {
+        gpr: [
+            0,
+            STACK_POINTER,
+            0,
+            a,
+            b,
+            c,
+            d,
+            e,
+            f,
+            g,
+            h,
+            0,
+            0,
+            0,
+            0,
+            0,
+            0,
+            0,
+            0,
+            0,
+            0,
+            0,
+            0,
+            0,
+            0,
+            0,
+            0,
+            0,
+            0,
+            0,
+            0,
+            0,
+        ],
+        lr: RETURN,
+        pc: address(gate),
+        ..no_regs()
+    }
+}
+
+/// It begins a call.
+pub(crate) fn begin_call(kern: &mut Kern, gate: u32, words: [u32; 10])
+    requires { Lives kern.old 1 }
+    ensures { kern.new ≡ calling kern.old gate words }
+{
+    kern.set_regs(shell_id(), call_regs(gate, words));
+}
+
+/// Whether interrupts may come: whoever runs doesn't hold them back.
+pub(crate) fn is_open(kern: &Kern) -> bool
+    ensures { result ≡ not (holds_back (running kern.now)) }
+{
+    match kern.running() {
+        Some(task) => !task.int_locked,
+        None => true,
+    }
 }
