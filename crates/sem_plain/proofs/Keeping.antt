@@ -9,7 +9,7 @@ use Rattle.wind_base.specs.declared.errno.Errno.TheVariants as errors
 use Rattle.wind_base.specs.declared.semaphore.SemKind.{SemKind}
 use Rattle.wind_base.specs.declared.semaphore.SemKind.TheVariants as kinds
 use Rattle.wind_base.specs.SemBits.{is_priority}
-use Rattle.id_table.specs.Rows.{object_of, with_object, without}
+use Rattle.id_table.specs.Rows.{IdsBelow, object_of, with_object, without}
 use Rattle.id_table.specs.declared.ident.Place.{Place}
 use Rattle.id_table.proofs.Lookups.{object_of-write, object_of-without, object_of-push, All-write, found_has, found_below}
 use Rattle.task_block.specs.declared.task.Task.{Task}
@@ -115,11 +115,15 @@ empty_push ss next v (Some p) empty made =
       | false ↦ λ h. tt
     ] empty
 
+pub below_create : (next : ℕ) (ss : List (ℕ × Semaphore)) (v : Semaphore) → IdsBelow next ss → IdsBelow (next + 1) (ss ++ (next, v) ∷ [])
+below_create next ss v below =
+    All-push (λ r. r.0 < next + 1) ss (next, v) (All-weaker (λ r. r.0 < next) (λ r. r.0 < next + 1) (λ r h. omega (arith, h)) ss below) (omega arith)
+
 create_keeps : (s : SemState) (v : Semaphore) → KeepsSemaphores s → IsCount v → KeepsSemaphores (create s v)
 create_keeps s v kept count =
     let next = s.kern.next_id in
     record {
-      ids = All-push (λ r. r.0 < next + 1) s.semaphores (next, v) (All-weaker (λ r. r.0 < next) (λ r. r.0 < next + 1) (λ r below. omega (arith, below)) s.semaphores kept.ids) (omega arith);
+      ids = below_create next s.semaphores v kept.ids;
       counts = All-push (λ r. IsCount r.1) s.semaphores (next, v) kept.counts count;
       empty = λ i d within. empty_push s.semaphores next v (get_or s.kern.tasks i d).wait (kept.empty i d within) (kept.made i d within);
       made = made_later next (next + 1) s.kern.tasks (omega arith) kept.made;

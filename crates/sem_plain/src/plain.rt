@@ -6,7 +6,7 @@ ghost use Rattle.wind_base.specs.SemBits.{is_priority};
 ghost use Rattle.id_table.specs.Rows.{object_of, with_object, IdsBelow};
 ghost use Rattle.wind_core.specs.State.{Lives};
 ghost use Rattle.sem_plain.specs.State.{both, may_hold, sem_place, IsEarly};
-ghost use Rattle.sem_plain.specs.Calls.{create, create_refusal, new_semaphore, take, take_refusal, took, emptied, filled, give, give_refusal, flush, flush_refusal, delete, delete_refusal};
+ghost use Rattle.sem_plain.specs.Calls.{create, create_refusal, new_semaphore, take, take_refusal, took, awaited, emptied, filled, give, give_refusal, flush, flush_refusal, delete, delete_refusal};
 
 use crate::semaphore::{Semaphore, Took, empty, fill};
 use id_table::sides::OBJECT;
@@ -79,6 +79,18 @@ impl Plain {
         }
     }
 
+    // The task begins to wait for the semaphore of this id, as its options say.
+    fn wait(&self, kern: &mut Kern, who: Ident, id: Ident, timeout: u32)
+        requires there { IsSome (object_of self.now id) }
+        requires live { Lives kern.old who }
+        requires timeout { 0 < timeout }
+        requires early { IsEarly kern.old }
+        ensures { (v : Semaphore_lem) → object_of self.now id ≡ Some v → both kern.new self.now ≡ awaited (both kern.old self.now) who id timeout v }
+    {
+        let fifo = !self.semaphore(id).options.is_priority();
+        kern.pend(who, place_of(id), fifo, timeout);
+    }
+
     /// Makes a semaphore that can be taken so many times.
     ///
     /// # Errors
@@ -140,8 +152,7 @@ impl Plain {
         if timeout == NO_WAIT {
             return Err(Errno::ObjUnavailable);
         }
-        let fifo = !self.semaphore(id).options.is_priority();
-        kern.pend(caller, place_of(id), fifo, timeout);
+        self.wait(kern, caller, id, timeout);
         Ok(Took::Pended)
     }
 

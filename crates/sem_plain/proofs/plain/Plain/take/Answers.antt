@@ -4,5 +4,6 @@ use Rattle.sem_plain.proofs.plain.Plain.take.Goals as goal
 
 pub returns-clause-ok : goal.returns-clause-ok
 returns-clause-ok c =
-    pended_take (both c.args.kern.now c.args.self.now) c.args.caller c.in-Some.id c.args.id c.args.timeout c.semaphore.result.now c.semaphore-2.result.now c.place_of.result c.is_priority-fifo.result c.pend.new.self
-    c.in-Some.ensures.0 c.semaphore.ensures c.if-semaphore-gt0.false c.if-timeout-eq-NO_WAIT.false c.semaphore-2.ensures c.is_priority-fifo.ensures c.place_of.ensures c.pend.ensures
+    let v = c.semaphore.result.now in
+    pended_take (both c.args.kern.now c.args.self.now) c.args.caller c.in-Some.id c.args.id c.args.timeout v c.wait.new.kern
+    c.in-Some.ensures.0 c.semaphore.ensures c.if-semaphore-gt0.false c.if-timeout-eq-NO_WAIT.false (c.wait.ensures v c.semaphore.ensures)
