@@ -57,7 +57,8 @@ impl Plain {
 
     // The id of this number, where its semaphore is live.
     fn find(&self, number: u32) -> Option<Ident>
-        ensures { MatchOption result (object_of self.now number ≡ None) (λ id. (id ≡ number) × IsSome (object_of self.now id)) }
+        ensures { MatchOption result (object_of self.now number ≡ None)
+            (λ id. (id ≡ number) × IsSome (object_of self.now id)) }
     {
         self.table.facts();
         let id = Ident::new(number)?;
@@ -85,7 +86,8 @@ impl Plain {
         requires live { Lives kern.old who }
         requires timeout { 0 < timeout }
         requires early { IsEarly kern.old }
-        ensures { (v : Semaphore_lem) → object_of self.now id ≡ Some v → both kern.new self.now ≡ awaited (both kern.old self.now) who id timeout v }
+        ensures { (v : Semaphore_lem) → object_of self.now id ≡ Some v
+            → both kern.new self.now ≡ awaited (both kern.old self.now) who id timeout v }
     {
         let fifo = !self.semaphore(id).options.is_priority();
         kern.pend(who, place_of(id), fifo, timeout);
@@ -106,8 +108,12 @@ impl Plain {
         requires count { may_hold kind count ≡ true }
         requires ids { kern.old.lent ≡ false }
         requires below { IdsBelow kern.old.next_id self.old }
-        ensures ok { IfOk result (λ id. (create_refusal (both kern.old self.old) ≡ None) × (id ≡ kern.old.next_id) × (both kern.new self.new ≡ create (both kern.old self.old) (new_semaphore kind options count))) }
-        ensures err { IfErr result (λ e. (create_refusal (both kern.old self.old) ≡ Some e) × (both kern.new self.new ≡ both kern.old self.old)) }
+        ensures ok { IfOk result (λ id. (create_refusal (both kern.old self.old) ≡ None)
+            × (id ≡ kern.old.next_id)) }
+        ensures state { IfOk result (λ _. both kern.new self.new
+            ≡ create (both kern.old self.old) (new_semaphore kind options count)) }
+        ensures err { IfErr result (λ e. create_refusal (both kern.old self.old) ≡ Some e) }
+        ensures same { IfErr result (λ _. both kern.new self.new ≡ both kern.old self.old) }
     {
         if self.table.len() >= SEMAPHORES as usize {
             return Err(Errno::TooMany);
@@ -139,8 +145,11 @@ impl Plain {
     ) -> Result<Took, Errno>
         requires live { Lives kern.old caller }
         requires early { IsEarly kern.old }
-        ensures ok { IfOk result (λ t. (take_refusal (both kern.old self.old) id timeout ≡ None) × (t ≡ took (both kern.old self.old) id) × (both kern.new self.new ≡ take (both kern.old self.old) caller id timeout)) }
-        ensures err { IfErr result (λ e. (take_refusal (both kern.old self.old) id timeout ≡ Some e) × (both kern.new self.new ≡ both kern.old self.old)) }
+        ensures ok { IfOk result (λ t. (take_refusal (both kern.old self.old) id timeout ≡ None)
+            × (t ≡ took (both kern.old self.old) id)) }
+        ensures state { IfOk result (λ _. both kern.new self.new ≡ take (both kern.old self.old) caller id timeout) }
+        ensures err { IfErr result (λ e. take_refusal (both kern.old self.old) id timeout ≡ Some e) }
+        ensures same { IfErr result (λ _. both kern.new self.new ≡ both kern.old self.old) }
     {
         let Some(id) = self.find(id) else {
             return Err(Errno::ObjIdError);
@@ -165,8 +174,10 @@ impl Plain {
     /// 4,294,967,295. Nothing changes then.
     pub fn give(&mut self, kern: &mut Kern, id: u32) -> Result<(), Errno>
         requires early { IsEarly kern.old }
-        ensures ok { IfOk result (λ _. (give_refusal (both kern.old self.old) id ≡ None) × (both kern.new self.new ≡ give (both kern.old self.old) id)) }
-        ensures err { IfErr result (λ e. (give_refusal (both kern.old self.old) id ≡ Some e) × (both kern.new self.new ≡ both kern.old self.old)) }
+        ensures ok { IfOk result (λ _. give_refusal (both kern.old self.old) id ≡ None) }
+        ensures state { IfOk result (λ _. both kern.new self.new ≡ give (both kern.old self.old) id) }
+        ensures err { IfErr result (λ e. give_refusal (both kern.old self.old) id ≡ Some e) }
+        ensures same { IfErr result (λ _. both kern.new self.new ≡ both kern.old self.old) }
     {
         kern.facts();
         let Some(id) = self.find(id) else {
@@ -190,8 +201,10 @@ impl Plain {
     /// `ObjIdError` where there is no such semaphore. Nothing changes then.
     pub fn flush(&mut self, kern: &mut Kern, id: u32) -> Result<(), Errno>
         requires early { IsEarly kern.old }
-        ensures ok { IfOk result (λ _. (flush_refusal (both kern.old self.old) id ≡ None) × (both kern.new self.new ≡ flush (both kern.old self.old) id)) }
-        ensures err { IfErr result (λ e. (flush_refusal (both kern.old self.old) id ≡ Some e) × (both kern.new self.new ≡ both kern.old self.old)) }
+        ensures ok { IfOk result (λ _. flush_refusal (both kern.old self.old) id ≡ None) }
+        ensures state { IfOk result (λ _. both kern.new self.new ≡ flush (both kern.old self.old) id) }
+        ensures err { IfErr result (λ e. flush_refusal (both kern.old self.old) id ≡ Some e) }
+        ensures same { IfErr result (λ _. both kern.new self.new ≡ both kern.old self.old) }
     {
         let Some(id) = self.find(id) else {
             return Err(Errno::ObjIdError);
@@ -207,8 +220,10 @@ impl Plain {
     /// `ObjIdError` where there is no such semaphore. Nothing changes then.
     pub fn delete(&mut self, kern: &mut Kern, id: u32) -> Result<(), Errno>
         requires early { IsEarly kern.old }
-        ensures ok { IfOk result (λ _. (delete_refusal (both kern.old self.old) id ≡ None) × (both kern.new self.new ≡ delete (both kern.old self.old) id)) }
-        ensures err { IfErr result (λ e. (delete_refusal (both kern.old self.old) id ≡ Some e) × (both kern.new self.new ≡ both kern.old self.old)) }
+        ensures ok { IfOk result (λ _. delete_refusal (both kern.old self.old) id ≡ None) }
+        ensures state { IfOk result (λ _. both kern.new self.new ≡ delete (both kern.old self.old) id) }
+        ensures err { IfErr result (λ e. delete_refusal (both kern.old self.old) id ≡ Some e) }
+        ensures same { IfErr result (λ _. both kern.new self.new ≡ both kern.old self.old) }
     {
         let Some(id) = self.find(id) else {
             return Err(Errno::ObjIdError);
