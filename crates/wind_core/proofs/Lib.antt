@@ -10,3 +10,4 @@ pub mod Ticking
 pub mod Stable
 pub mod Finding
 pub mod Ids
+pub mod Releasing
