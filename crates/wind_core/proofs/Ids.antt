@@ -9,6 +9,7 @@ use Rattle.wind_core.specs.State.{KernState, task_id, task_of}
 use Rattle.wind_core.specs.Orders.{running, due}
 use Rattle.wind_core.specs.Moves.{renewed, settled, move_found, move_task, answered}
 use Rattle.wind_core.specs.Tick.{turn_task, turn_found, turn_of, take_turn, late_answer, late_errno, time_out, tick_counted, tick}
+use Rattle.wind_core.proofs.Unwritten.{map-change, map-move, map-take_turn, map-tick}
 use Rattle.wind_core.proofs.Ticks.{since-take_turn}
 use Rattle.wind_core.proofs.Waking.{since-end_wait, length-due}
 
@@ -17,44 +18,16 @@ abbrev pub ids : List Task → List ℕ
 ids ts = map task_id ts
 
 pub ids-change : (ts : List Task) (who : ℕ) (f : Task → Task) → ((t : Task) → (f t).id ≡ t.id) → ids (change task_id ts who f) ≡ ids ts
-ids-change [] who f keeps = refl
-ids-change (t ∷ ts) who f keeps =
-    elim (eqb t.id who) as (λ b. (cond b (f t) t).id ∷ ids (change task_id ts who f) ≡ t.id ∷ ids (change task_id ts who f)) [
-      | true ↦ ap (λ n. n ∷ ids (change task_id ts who f)) (keeps t)
-      | false ↦ refl
-    ]
-    ∙ ap (λ ns. t.id ∷ ns) (ids-change ts who f keeps)
-
-settled_id : (n : ℕ) (t : Task) → (settled n t).id ≡ t.id
-settled_id n t = elim (is_ready t) as (λ b. (cond b (renewed n t) t).id ≡ t.id) [ true ↦ refl | false ↦ refl ]
+ids-change = map-change task_id
 
 pub ids-move : (s : KernState) (who : ℕ) (f : Task → Task) → ((t : Task) → (f t).id ≡ t.id) → ids (move_task s who f).tasks ≡ ids s.tasks
-ids-move s who f keeps =
-    elim (task_of s.tasks who) as (λ o. ids (move_found s who f o).tasks ≡ ids s.tasks) [
-      | None ↦ refl
-      | Some t ↦ ids-change s.tasks who (λ u. settled s.next_since (f u)) (λ u. settled_id s.next_since (f u) ∙ keeps u)
-    ]
-
-turn_id : (slice since : ℕ) (t : Task) → (turn_task slice since t).id ≡ t.id
-turn_id slice since t = elim (leb slice (t.turns + 1)) as (λ b. (cond b (renewed since (record t { turns = 0 })) (record t { turns = t.turns + 1 })).id ≡ t.id) [ true ↦ refl | false ↦ refl ]
-
-ids-turn : (s : KernState) (o : Option Task) → ids (turn_of s o).tasks ≡ ids s.tasks
-ids-turn s None = refl
-ids-turn s (Some t) =
-    elim (eqb t.locks 0) as (λ b. ids (cond b (turn_found s t) s).tasks ≡ ids s.tasks) [
-      | true ↦ ids-change s.tasks t.id (turn_task s.slice s.next_since) (turn_id s.slice s.next_since)
-      | false ↦ refl
-    ]
+ids-move = map-move task_id (λ n t. refl)
 
 ids-take_turn : (s : KernState) → ids (take_turn s).tasks ≡ ids s.tasks
-ids-take_turn s = elim (eqb s.slice 0) as (λ b. ids (cond b s (turn_of s (running s))).tasks ≡ ids s.tasks) [ true ↦ refl | false ↦ ids-turn s (running s) ]
-
-ids-time_outs : (s : KernState) (ts : List Task) → ids (fold time_out s ts).tasks ≡ ids s.tasks
-ids-time_outs s [] = refl
-ids-time_outs s (t ∷ ts) = ids-time_outs (time_out s t) ts ∙ ids-move s t.id (answered (late_answer (is_some t.wait)) (late_errno (is_some t.wait))) (λ u. refl)
+ids-take_turn = map-take_turn task_id (λ n t. refl) (λ answer errno t. refl) (λ n t. refl)
 
 pub ids-tick : (s : KernState) → ids (tick s).tasks ≡ ids s.tasks
-ids-tick s = ids-time_outs (take_turn (tick_counted s)) (due (take_turn (tick_counted s)).tasks (s.tick + 1)) ∙ ids-take_turn (tick_counted s)
+ids-tick = map-tick task_id (λ n t. refl) (λ answer errno t. refl) (λ n t. refl)
 
 abbrev head_of : ℕ → List ℕ → ℕ
 head_of d [] = d

@@ -1,0 +1,1 @@
+//! Scenarios over the kernel's tasks.
