@@ -1,5 +1,5 @@
 -- What a move leaves of every task: a field that it doesn't write, or several.
-use Rattle.std.proofs.Common.{◌≡◌, ℕ, ◌+◌, true, false, cond, not, eqb, leb, List, [], ◌∷◌, ◌++◌, map, Option, None, Some, is_some, refl, sym, ap, ◌∙◌}
+use Rattle.std.proofs.Common.{◌≡◌, ℕ, ◌+◌, true, false, cond, not, eqb, leb, List, [], ◌∷◌, map, Option, None, Some, is_some, refl, sym, ap, ◌∙◌}
 use Rattle.std.specs.List.{fold}
 use Rattle.std.specs.Option.{option_map}
 use Rattle.std.proofs.lemmas.Bool.{eqb-true, ne_eqb}
@@ -110,8 +110,3 @@ task_of-without (t ∷ ts) who y other =
           task_of-without ts who y other ∙ sym (ap (λ c. cond c (Some t) (task_of ts y)) apart)
       | false ↦ λ b. ap (cond (eqb t.id y) (Some t)) (task_of-without ts who y other)
     ] refl
-
--- after another is added behind them
-pub task_of-push : (ts : List Task) (u : Task) (y : ℕ) → (u.id ≡ y → ⊥) → task_of (ts ++ u ∷ []) y ≡ task_of ts y
-task_of-push [] u y other = ap (λ c. cond c (Some u) None) (ne_eqb u.id y other)
-task_of-push (t ∷ ts) u y other = ap (cond (eqb t.id y) (Some t)) (task_of-push ts u y other)
