@@ -1,18 +1,17 @@
 -- Who goes by a call.
-use Rattle.std.proofs.Common.{◌≡◌, ℕ, ◌+◌, true, false, IsSome, refl, sym, ap, ◌∙◌, subst, ◌⊎◌, inl, inr, ⊎_elim}
+use Rattle.std.proofs.Common.{◌≡◌, ℕ, ◌+◌, true, false, IsSome, refl, sym, ap, ◌∙◌, subst, inl, inr, ⊎_elim}
 use Rattle.std.proofs.lemmas.Bool.{cases_eq}
 use Rattle.wind_base.specs.Limits.{wait_forever}
 use Rattle.id_table.specs.Sides.{deletion_side}
-use Rattle.wind_core.specs.State.{KernState, Lives, task_id, task_of}
+use Rattle.wind_core.specs.State.{KernState, Lives, task_of}
 use Rattle.wind_core.specs.Moves.{remove, set_again, pended, wake_at, renewed}
-use Rattle.wind_core.proofs.Ids.{ids, ids-change, lives_by}
+use Rattle.wind_core.proofs.Ids.{ids-change, lives_by}
 use Rattle.wind_core.proofs.Unwritten.{task_of-without}
-use Rattle.wind_base.specs.declared.errno.Errno.{Errno}
 use Rattle.task_safety.specs.declared.deleting.Deed.{Deed}
 use Rattle.task_safety.specs.declared.deleting.Deed.TheVariants.{Refuses, EndsItself, Removes, Awaits}
 use Rattle.task_safety.specs.Safety.{safe_of, deletion, make_safe}
-use Rattle.task_safety.specs.Deletion.{deed_of, asked, unguarded, awaiting, after, delete}
-use Rattle.task_safety.specs.Laws.{GoesUnsafe, GoneBy, GoneLaw}
+use Rattle.task_safety.specs.Deletion.{deed_of, asked, unguarded, awaiting, after}
+use Rattle.task_safety.specs.Laws.{GoesUnsafe, GoneLaw}
 use Rattle.task_safety.proofs.Targets.{again_lives, lessen_lives, deed_says, Says}
 
 -- whoever lived before another was taken out lives

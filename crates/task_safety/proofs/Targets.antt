@@ -1,5 +1,5 @@
 -- Whom a call names, and that it lives.
-use Rattle.std.proofs.Common.{◌≡◌, ℕ, ◌-◌, ◌<◌, Bool, true, false, cond, ◌&&◌, eqb, ltb, leb, List, map, Option, None, Some, IsSome, refl, sym, ap, ◌∙◌, subst, arith}
+use Rattle.std.proofs.Common.{◌≡◌, ℕ, ◌-◌, ◌<◌, Bool, true, false, cond, ◌&&◌, eqb, ltb, leb, List, map, None, Some, IsSome, refl, sym, ap, ◌∙◌, subst, arith}
 use Rattle.std.specs.Option.{option_map}
 use Rattle.std.proofs.lemmas.Bool.{eqb-true, eqb-false}
 use Rattle.std.proofs.lemmas.Option.{same_Some}
@@ -11,12 +11,11 @@ use Rattle.wind_core.specs.Moves.{live_id, set_again, set_safe}
 use Rattle.wind_core.specs.Releases.{release_all}
 use Rattle.wind_core.proofs.Ids.{ids, ids-change, lives_by}
 use Rattle.wind_core.proofs.Unwritten.{map-change, map-releases}
-use Rattle.wind_base.specs.declared.errno.Errno.{Errno}
 use Rattle.wind_base.specs.declared.errno.Errno.TheVariants as errors
 use Rattle.task_safety.specs.declared.deleting.Deed.{Deed}
 use Rattle.task_safety.specs.declared.deleting.Deed.TheVariants.{Refuses, EndsItself, Removes, Awaits}
-use Rattle.task_safety.specs.Safety.{safe_of, deletion, lessened, lessen}
-use Rattle.task_safety.specs.Deletion.{again_of, target_of, missing, deed_on, deed_at, deed_of}
+use Rattle.task_safety.specs.Safety.{safe_of, deletion, lessen}
+use Rattle.task_safety.specs.Deletion.{again_of, target_of, deed_on, deed_at, deed_of}
 
 -- ---- whoever lives goes on living
 -- a safe section's end leaves each task what it doesn't write

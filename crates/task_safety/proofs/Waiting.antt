@@ -3,7 +3,7 @@ use Rattle.std.proofs.Common.{◌≡◌, ℕ, ◌+◌, ◌-◌, ◌<◌, Bool, t
 use Rattle.std.specs.List.{All, Contains}
 use Rattle.std.specs.Option.{option_map}
 use Rattle.std.specs.Prelude.{unwrap_or}
-use Rattle.std.proofs.lemmas.Bool.{eqb-true, eq-eqb, ne_eqb, leb-false, lt-ltb, cases_eq}
+use Rattle.std.proofs.lemmas.Bool.{eq-eqb, ne_eqb, leb-false, lt-ltb, cases_eq}
 use Rattle.std.proofs.lemmas.List.Elements.{All-weaker, All-filter, All-push}
 use Rattle.wind_base.specs.Limits.{wait_forever}
 use Rattle.wind_base.specs.declared.errno.Errno.{Errno}
@@ -16,7 +16,7 @@ use Rattle.wind_lists.proofs.Records.{found_id, found_in}
 use Rattle.wind_lists.proofs.Passing.{none_passes}
 use Rattle.wind_core.specs.State.{KernState, IsKern, task_id, task_of}
 use Rattle.wind_core.specs.Orders.{waits_before, is_place, waits_at, waiters}
-use Rattle.wind_core.specs.Moves.{renewed, change_task, renew_task, move_task, new_task, spawn, remove, wake_at, pended, delayed, delay, released, release, answered, end_waits, suspended, resumed, is_suspended, resume, unmarked, reset, with_pri, has_pri, change_pri, set_safe, set_again, past_gate, with_answer, with_refusal}
+use Rattle.wind_core.specs.Moves.{renewed, change_task, renew_task, move_task, new_task, spawn, remove, wake_at, pended, delayed, released, release, answered, end_waits, suspended, resumed, is_suspended, resume, unmarked, reset, with_pri, has_pri, change_pri, set_safe, set_again, past_gate, with_answer, with_refusal}
 use Rattle.wind_core.specs.Releases.{releases, release_all}
 use Rattle.wind_core.specs.Tick.{tick}
 use Rattle.wind_core.proofs.Passes.{waits_before-order}
@@ -27,10 +27,10 @@ use Rattle.wind_core.proofs.Unwritten.{with_id, map-change, map-move, map-releas
 use Rattle.wind_core.proofs.Releasing.{releases-clear}
 use Rattle.task_safety.specs.declared.deleting.Deed.{Deed}
 use Rattle.task_safety.specs.declared.deleting.Deed.TheVariants.{Refuses, EndsItself, Removes, Awaits}
-use Rattle.task_safety.specs.Safety.{deletion, safe_of, make_safe, lessened, lessen}
-use Rattle.task_safety.specs.Deletion.{deed_of, asked, unguarded, awaiting, after, delete}
+use Rattle.task_safety.specs.Safety.{deletion, safe_of, lessen}
+use Rattle.task_safety.specs.Deletion.{deed_of, asked, unguarded, awaiting, after}
 use Rattle.task_safety.specs.Kept.{Deletes, IsSafe, KeepsDeleters, WaitsForNothing}
-use Rattle.task_safety.specs.Laws.{DeletersKept, KeptLaw}
+use Rattle.task_safety.specs.Laws.{KeptLaw}
 use Rattle.task_safety.proofs.Targets.{Says, deed_says}
 
 -- ---- safe counts
@@ -141,9 +141,9 @@ module _ (s : KernState) (kept : KeepsDeleters s) where
           elim t.wait as (λ w. is_place (deletion who) w ≡ false → IfSome w (λ p. p.side ≡ deletion_side → IsSafe s p.id × (t.again ≡ true)) → IfSome w (λ p. p.side ≡ deletion_side → IsSafe n p.id × (t.again ≡ true))) [
             | None ↦ λ a q. tt
             | Some p ↦ λ a q side. (
-                more p.id (λ own. let there : (eqb p.side 2 && eqb p.id who) ≡ true = ap (λ b. b && eqb p.id who) (eq-eqb p.side 2 side) ∙ eq-eqb p.id who own in absurd (cc)) (q side).0,
-                (q side).1,
-              )
+              more p.id (λ own. let there : (eqb p.side 2 && eqb p.id who) ≡ true = ap (λ b. b && eqb p.id who) (eq-eqb p.side 2 side) ∙ eq-eqb p.id who own in absurd (cc)) (q side).0,
+              (q side).1,
+            )
           ] apart h
 
   eases : IsKern s → (who n : ℕ) → KeepsDeleters (lessen s who n)

@@ -39,10 +39,11 @@ pub fn lessen(k: &mut Kern, who: Ident, n: u64)
     let count = safe_count(k, who);
     k.set_safe(who, count.saturating_sub(n));
     if 0 < count && count <= n {
-        k.release_all(Place {
+        let place = Place {
             side: DELETION,
             id: who,
-        });
+        };
+        k.release_all(place);
     }
 }
 

@@ -66,6 +66,13 @@ impl Kern {
         self.tick
     }
 
+    /// The order number that comes next: how many were given out so far.
+    pub fn next_since(&self) -> u64
+        ensures { result ≡ self.now.next_since }
+    {
+        self.next_since
+    }
+
     /// How many tasks live, 256 at most.
     pub fn live(&self) -> u32
         ensures { result ≡ length self.now.tasks }

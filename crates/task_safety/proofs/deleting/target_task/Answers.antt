@@ -1,5 +1,5 @@
 use Rattle.std.proofs.Common.{◌∙◌}
-use Rattle.task_safety.proofs.Targets.{named, not_named}
+use Rattle.task_safety.proofs.Targets.{named}
 use Rattle.task_safety.proofs.deleting.target_task.Goals as goal
 
 pub returns : goal.returns
