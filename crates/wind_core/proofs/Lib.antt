@@ -1,4 +1,3 @@
-pub mod Tables
 pub mod Writes
 pub mod Passes
 pub mod Comings

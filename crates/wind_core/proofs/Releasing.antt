@@ -1,18 +1,18 @@
 -- Waits end without an answer, one after the other.
-use Rattle.std.proofs.Common.{◌≡◌, ℕ, ◌+◌, ◌≤◌, true, false, cond, not, List, [], ◌∷◌, length, Option, None, Some, IsSome, refl, sym, ap, ◌∙◌, subst, arith}
+use Rattle.std.proofs.Common.{◌≡◌, ℕ, ◌+◌, ◌≤◌, true, false, cond, not, List, [], ◌∷◌, length, None, Some, IsSome, refl, sym, ap, ◌∙◌, subst, arith}
 use Rattle.std.specs.Option.{option_map}
 use Rattle.id_table.specs.declared.ident.Place.{Place}
 use Rattle.task_block.specs.declared.task.Task.{Task}
 use Rattle.wind_lists.specs.Records.{Rising}
-use Rattle.wind_lists.specs.Sorting.{first}
 use Rattle.wind_lists.proofs.Sorting.{first_is, no_first}
-use Rattle.wind_lists.proofs.Passing.{front_found, in_line-change}
+use Rattle.wind_lists.proofs.Passing.{front_found}
 use Rattle.wind_core.specs.State.{KernState, IsKern, Lives, task_id, task_of}
 use Rattle.wind_core.specs.Orders.{waits_before, waits_at, waiters, first_waiter}
 use Rattle.wind_core.specs.Moves.{released, settled, renewed, move_found, release}
 use Rattle.wind_core.specs.Releases.{releases, release_all}
 use Rattle.wind_core.proofs.Passes.{waits_before-order}
 use Rattle.wind_core.proofs.Keeping.{every_call_keeps}
+use Rattle.wind_core.proofs.Waking.{in_line-move, id_found, no_id}
 
 settled_waits : (place : Place) (since : ℕ) (t : Task) → waits_at place (settled since (released t)) ≡ false
 settled_waits place since t = elim t.suspended as (λ b. waits_at place (cond (not b) (renewed since (released t)) (released t)) ≡ false) [ true ↦ refl | false ↦ refl ]
@@ -26,17 +26,7 @@ since-release s who =
     ]
 
 pub waiters-release : (s : KernState) (place : Place) (x : Task) (rest : List Task) → Rising task_id s.tasks → waiters s.tasks place ≡ x ∷ rest → waiters (release s x.id).tasks place ≡ rest
-waiters-release s place x rest up e =
-    ap (λ o. waiters (move_found s x.id released o).tasks place) (front_found task_id waits_before waits_before-order (waits_at place) s.tasks x up (ap first e))
-    ∙ in_line-change task_id waits_before waits_before-order (waits_at place) s.tasks (λ t. settled s.next_since (released t)) x rest (settled_waits place s.next_since) up e
-
-id_found : (o : Option Task) (who : ℕ) → Some who ≡ option_map task_id o → (x : Task) × (o ≡ Some x) × (who ≡ x.id)
-id_found None who e = absurd (cc)
-id_found (Some x) who e = (x, refl, cc)
-
-no_id : (o : Option Task) → None ≡ option_map task_id o → o ≡ None
-no_id None e = refl
-no_id (Some x) e = absurd (cc)
+waiters-release s place x rest up e = in_line-move waits_before waits_before-order (waits_at place) s released x rest (settled_waits place s.next_since) up e
 
 -- one turn of the loop
 pub record Freed (s : KernState) (place : Place) (who : ℕ) : Type 0 where
