@@ -27,16 +27,16 @@ pub enum Deleted {
     SelfEnded(Task),
 }
 
-// What a call does.
+/// What a call to delete does, as it is decided before anything changes.
 #[derive(Drop)]
-pub(crate) enum Deed {
-    // nothing
+pub enum Deed {
+    /// Nothing: the call is refused.
     Refuses(Errno),
-    // the caller, which is safe so often, ends
+    /// The caller, which is safe so often, ends.
     EndsItself(u64),
-    // this task is removed
+    /// This task is removed.
     Removes(Ident),
-    // the caller waits for the end of this task's safe sections
+    /// The caller waits for the end of this task's safe sections.
     Awaits(Ident),
 }
 

@@ -7,6 +7,6 @@ mod safety;
 #[cfg(test)]
 mod tests;
 
-pub use deleting::{Deleted, delete};
+pub use deleting::{Deed, Deleted, delete};
 pub use laws::{gone_law, kept_law};
 pub use safety::{lessen, safe, unsafe_by};
