@@ -48,6 +48,13 @@ deed_of ts caller n =
     if n == shell_id then Refuses errors.InvalidOperation
     else deed_at caller (again_of (task_of ts caller)) (target_of ts n)
 
+-- the caller makes its call again when it goes on
+abbrev pub is_repeated : Deed → Bool
+is_repeated (Refuses e) = false
+is_repeated (EndsItself count) = false
+is_repeated (Removes who) = false
+is_repeated (Awaits who) = true
+
 -- ---- the kernel after it
 -- the caller repeats no call
 abbrev pub asked : KernState → ℕ → KernState

@@ -2,8 +2,8 @@
 
 ghost use Rattle.std.specs.Prelude.{◌≡◌, ◌<◌, ◌^◌, Some, option_copied};
 ghost use Rattle.wind_core.specs.State.{Lives, task_of};
-ghost use Rattle.wind_core.specs.Moves.{remove};
-ghost use Rattle.task_safety.specs.Deletion.{again_of, target_of, missing as missing_lem, deed_on, deed_of as deed_of_lem, delete_answer, delete as delete_lem};
+ghost use Rattle.wind_core.specs.Moves.{remove, set_again};
+ghost use Rattle.task_safety.specs.Deletion.{again_of, target_of, missing as missing_lem, deed_on, deed_of as deed_of_lem, is_repeated, delete_answer, delete as delete_lem};
 
 use crate::safety::lessen;
 use id_table::sides::DELETION;
@@ -95,6 +95,18 @@ fn deed_of(k: &Kern, caller: Ident, target: u32) -> Deed
     }
 }
 
+// Marks the caller where it is to repeat its call, and in no other case.
+fn mark(k: &mut Kern, caller: Ident, deed: &Deed)
+    requires { Lives k.old caller }
+    ensures { k.new ≡ set_again k.old caller (is_repeated deed.now) }
+{
+    let again = match deed {
+        Deed::Awaits(_) => true,
+        _ => false,
+    };
+    k.set_again(caller, again);
+}
+
 // Takes a task out that lives.
 fn take_out(k: &mut Kern, who: Ident) -> Task
     requires { Lives k.old who }
@@ -121,22 +133,16 @@ pub fn delete(k: &mut Kern, caller: Ident, target: u32) -> Result<Deleted, Errno
     ensures answer { delete_answer k.old caller target ≡ Some result }
     ensures kern { k.new ≡ delete_lem k.old caller target }
 {
-    match deed_of(k, caller, target) {
-        Deed::Refuses(errno) => {
-            k.set_again(caller, false);
-            Err(errno)
-        }
+    let deed = deed_of(k, caller, target);
+    mark(k, caller, &deed);
+    match deed {
+        Deed::Refuses(errno) => Err(errno),
         Deed::EndsItself(count) => {
-            k.set_again(caller, false);
             lessen(k, caller, count);
             Ok(Deleted::SelfEnded(take_out(k, caller)))
         }
-        Deed::Removes(target) => {
-            k.set_again(caller, false);
-            Ok(Deleted::Removed(take_out(k, target)))
-        }
+        Deed::Removes(target) => Ok(Deleted::Removed(take_out(k, target))),
         Deed::Awaits(target) => {
-            k.set_again(caller, true);
             let place = Place {
                 side: DELETION,
                 id: target,

@@ -1,5 +1,5 @@
 -- One task is changed, and what held of each task becomes another fact.
-use Rattle.std.proofs.Common.{◌≡◌, ℕ, ◌<◌, true, false, cond, eqb, List, length, get_or, Option, None, Some, refl, sym, ap, ◌∙◌, subst, arith, ⊎_elim}
+use Rattle.std.proofs.Common.{◌≡◌, ℕ, ◌<◌, true, false, cond, eqb, List, length, get_or, None, Some, refl, sym, ap, ◌∙◌, subst, arith, ⊎_elim}
 use Rattle.std.specs.List.{All, Contains}
 use Rattle.std.proofs.lemmas.Bool.{eqb-true, eqb-false, cases_eq}
 use Rattle.std.proofs.lemmas.Option.{same_Some}
@@ -10,7 +10,7 @@ use Rattle.task_block.specs.Standing.{is_ready}
 use Rattle.wind_lists.specs.Records.{change, Rising}
 use Rattle.wind_lists.proofs.Records.{found_at, found_in}
 use Rattle.wind_core.specs.State.{KernState, task_id, task_of}
-use Rattle.wind_core.specs.Moves.{renewed, settled, renew_task, move_found, with_pri, has_pri, change_pri}
+use Rattle.wind_core.specs.Moves.{renewed, settled, move_found, with_pri, has_pri, change_pri}
 
 -- what holds of each task, by its id
 pub found_all : (P : Task → Type 0) (ts : List Task) (who : ℕ) (t : Task) → All P ts → task_of ts who ≡ Some t → P t

@@ -1,14 +1,13 @@
 -- Which tasks live: a move keeps their ids.
-use Rattle.std.proofs.Common.{◌≡◌, ℕ, ◌+◌, ◌≤◌, true, false, cond, eqb, leb, List, [], ◌∷◌, map, length, Option, None, Some, IsSome, is_some, refl, sym, ap, ◌∙◌, subst, arith}
+use Rattle.std.proofs.Common.{◌≡◌, ℕ, ◌+◌, ◌≤◌, true, false, cond, eqb, List, [], ◌∷◌, map, length, Some, IsSome, is_some, refl, sym, ap, ◌∙◌, subst, arith}
 use Rattle.std.specs.List.{fold}
 use Rattle.std.proofs.lemmas.List.{length-map}
 use Rattle.task_block.specs.declared.task.Task.{Task}
-use Rattle.task_block.specs.Standing.{is_ready}
 use Rattle.wind_lists.specs.Records.{change}
 use Rattle.wind_core.specs.State.{KernState, task_id, task_of}
-use Rattle.wind_core.specs.Orders.{running, due}
-use Rattle.wind_core.specs.Moves.{renewed, settled, move_found, move_task, answered}
-use Rattle.wind_core.specs.Tick.{turn_task, turn_found, turn_of, take_turn, late_answer, late_errno, time_out, tick_counted, tick}
+use Rattle.wind_core.specs.Orders.{due}
+use Rattle.wind_core.specs.Moves.{move_task}
+use Rattle.wind_core.specs.Tick.{take_turn, late_answer, late_errno, time_out, tick_counted, tick}
 use Rattle.wind_core.proofs.Unwritten.{map-change, map-move, map-take_turn, map-tick}
 use Rattle.wind_core.proofs.Ticks.{since-take_turn}
 use Rattle.wind_core.proofs.Waking.{since-end_wait, length-due}
