@@ -21,7 +21,8 @@ pub fn more_urgent(a: Pri, b: Pri) -> Pri
 
 // The best so far, or that of a task that waits for `who`, whichever is more urgent.
 fn better(k: &Kern, mutexes: &Table<Mutex>, task: &Task, who: Ident, best: Pri) -> Pri
-    ensures { result ≡ (if reaches_lem (boss_lem k.now.tasks mutexes.now.rows) most_tasks task.now.id who then min task.now.pri best else best) }
+    ensures { result ≡ (if reaches_lem (boss_lem k.now.tasks mutexes.now.rows) most_tasks task.now.id who
+        then min task.now.pri best else best) }
 {
     if reaches(k, mutexes, task.id, who) {
         more_urgent(task.pri, best)

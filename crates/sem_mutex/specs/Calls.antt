@@ -59,11 +59,17 @@ owned who m = record m { owner = Some who; depth = 1 }
 
 -- the task becomes the owner
 abbrev pub hand : MutexState → ℕ → ℕ → Mutex → MutexState
-hand s who id m = record { kern = guarded (holding s.kern who m) who m; mutexes = with_object s.mutexes id (owned who m) }
+hand s who id m = record {
+  kern = guarded (holding s.kern who m) who m;
+  mutexes = with_object s.mutexes id (owned who m);
+}
 
 -- the owner takes it once more
 abbrev pub deepen : MutexState → ℕ → ℕ → Mutex → MutexState
-deepen s who id m = record { kern = guarded s.kern who m; mutexes = with_object s.mutexes id (record m { depth = m.depth + 1 }) }
+deepen s who id m = record {
+  kern = guarded s.kern who m;
+  mutexes = with_object s.mutexes id (record m { depth = m.depth + 1 });
+}
 
 -- the task waits for it, by urgency or by arrival
 abbrev pub await : MutexState → ℕ → ℕ → ℕ → Mutex → MutexState
@@ -122,7 +128,10 @@ give_up s who id m =
 
 -- the owner gives it once
 abbrev pub shallow : MutexState → ℕ → ℕ → Mutex → MutexState
-shallow s who id m = record { kern = eased s.kern who m 1; mutexes = with_object s.mutexes id (record m { depth = m.depth - 1 }) }
+shallow s who id m = record {
+  kern = eased s.kern who m 1;
+  mutexes = with_object s.mutexes id (record m { depth = m.depth - 1 });
+}
 
 -- the same of a mutex that is live
 abbrev pub passed_on : MutexState → ℕ → Option Mutex → MutexState
@@ -182,7 +191,9 @@ pri_after pri None = pri
 pri_after pri (Some t) = if t.held == 0 then pri else min t.pri pri
 
 abbrev pub priority_alone : MutexState → ℕ → ℕ → MutexState
-priority_alone s who pri = record s { kern = change_pri (set_normal s.kern who pri) who (pri_after pri (task_of s.kern.tasks who)) }
+priority_alone s who pri = record s {
+  kern = change_pri (set_normal s.kern who pri) who (pri_after pri (task_of s.kern.tasks who));
+}
 
 abbrev pub priority_set : MutexState → ℕ → ℕ → MutexState
 priority_set s who pri = raised (priority_alone s who pri)

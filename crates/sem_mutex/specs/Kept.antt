@@ -8,7 +8,7 @@ use Rattle.inheritance.specs.Mutexes.{MutexState, held_count}
 use Rattle.inheritance.specs.Reach.{mutex_at}
 use Rattle.inheritance.specs.Laws.{OwnersUrgent}
 
--- the owner of a mutex is a task that was made, and owns it at least once; its waiters lend only where they stand by urgency
+-- the owner of a mutex is a task that was made, and owns it at least once; waiters lend their urgency only where they stand by it
 pub record MutexKept (next : ℕ) (r : ℕ × Mutex) : Type 0 where
   pub id : r.0 < next
   pub owner : IfSome r.1.owner (λ o. o < next)

@@ -1,5 +1,5 @@
 -- What follows of the definitions alone.
-use Rattle.std.specs.Prelude.{◌≡◌, ℕ, ◌<◌, ◌≤◌, Bool, true, false, Option, None, Some}
+use Rattle.std.specs.Prelude.{◌≡◌, ℕ, ◌<◌, ◌≤◌, Bool, true, false, [], Option, None, Some}
 use Rattle.std.specs.List.{All}
 use Rattle.wind_base.specs.SemBits.{is_priority, is_inversion_safe}
 use Rattle.wind_base.specs.declared.semaphore.SemOptions.{SemOptions}
@@ -29,7 +29,8 @@ pub record KeptBeside (s : MutexState) : Type 0 where
   pub spawning : (n : NewTask) → Keeps s (spawn s.kern n)
   pub removing : (who : ℕ) → Keeps s (remove s.kern who)
   -- a wait for no mutex
-  pub pending : (who : ℕ) (place : Place) (fifo : Bool) (n : ℕ) → mutex_at s.mutexes (Some place) ≡ None → place.id < s.kern.next_id → Keeps s (pend s.kern who place fifo n)
+  pub pending : (who : ℕ) (place : Place) (fifo : Bool) (n : ℕ) → mutex_at s.mutexes (Some place) ≡ None → place.id < s.kern.next_id
+      → Keeps s (pend s.kern who place fifo n)
   pub delaying : (who n : ℕ) → Keeps s (delay s.kern who n)
   pub releasing : (who : ℕ) → Keeps s (release s.kern who)
   pub releasing_all : (place : Place) → Keeps s (release_all s.kern place)
@@ -66,15 +67,23 @@ IdleLaw = (s : MutexState) → IsKern s.kern → KeepsMutexes s → raised s ≡
 
 -- the calls on mutexes keep it
 pub record KeptByCalls (s : MutexState) : Type 0 where
-  pub taking : (who id n : ℕ) → Lives s.kern who → take_refusal who n (object_of s.mutexes id) ≡ None → KeepsMutexes (take s who id n)
-  pub giving : (who id : ℕ) → Lives s.kern who → give_refusal who (object_of s.mutexes id) ≡ None → KeepsMutexes (give s who id)
+  pub taking : (who id n : ℕ) → Lives s.kern who → take_refusal who n (object_of s.mutexes id) ≡ None
+      → KeepsMutexes (take s who id n)
+  pub giving : (who id : ℕ) → Lives s.kern who → give_refusal who (object_of s.mutexes id) ≡ None
+      → KeepsMutexes (give s who id)
   pub deleting : (id : ℕ) → delete_refusal (object_of s.mutexes id) ≡ None → KeepsMutexes (delete s id)
   pub setting_priority : (who pri : ℕ) → KeepsMutexes (priority_set s who pri)
-  pub creating : (options : SemOptions) → (is_inversion_safe options ≡ true → is_priority options ≡ true) → KeepsMutexes (create s (new_mutex options))
+  pub creating : (options : SemOptions) → (is_inversion_safe options ≡ true → is_priority options ≡ true)
+      → KeepsMutexes (create s (new_mutex options))
 
 abbrev pub CallsLaw : Type 0
 CallsLaw = (s : MutexState) → IsKern s.kern → AreMutexes s.mutexes → KeepsMutexes s → KeptByCalls s
 
 -- nobody waits for a mutex that was deleted
 abbrev pub GoneLaw : Type 0
-GoneLaw = (s : MutexState) (id : ℕ) → IsKern s.kern → delete_refusal (object_of s.mutexes id) ≡ None → All (λ t. waits_at (mutex_place id) t ≡ false) (delete s id).kern.tasks
+GoneLaw = (s : MutexState) (id : ℕ) → IsKern s.kern → delete_refusal (object_of s.mutexes id) ≡ None
+    → All (λ t. waits_at (mutex_place id) t ≡ false) (delete s id).kern.tasks
+
+-- it holds where there is no task and no mutex
+abbrev pub OpeningLaw : Type 0
+OpeningLaw = (s : MutexState) → s.kern.tasks ≡ [] → s.mutexes ≡ [] → KeepsMutexes s

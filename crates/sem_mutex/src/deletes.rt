@@ -42,8 +42,10 @@ impl Mutexes {
     pub fn delete(&mut self, k: &mut Kern, id: u32) -> Result<(), Errno>
         requires kept { KeepsMutexes (both k.old self.old) }
         requires early { IsEarly (both k.old self.old) }
-        ensures ok { IfOk result (λ _. (delete_refusal (object_of self.old id) ≡ None) × (both k.new self.new ≡ delete (both k.old self.old) id)) }
-        ensures err { IfErr result (λ e. (delete_refusal (object_of self.old id) ≡ Some e) × (both k.new self.new ≡ both k.old self.old)) }
+        ensures ok { IfOk result (λ _. (delete_refusal (object_of self.old id) ≡ None)
+            × (both k.new self.new ≡ delete (both k.old self.old) id)) }
+        ensures err { IfErr result (λ e. (delete_refusal (object_of self.old id) ≡ Some e)
+            × (both k.new self.new ≡ both k.old self.old)) }
         ensures kept { KeepsMutexes (both k.new self.new) }
     {
         k.facts();

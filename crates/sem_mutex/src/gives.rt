@@ -78,8 +78,10 @@ impl Mutexes {
         requires live { Lives k.old caller }
         requires kept { KeepsMutexes (both k.old self.old) }
         requires early { IsEarly (both k.old self.old) }
-        ensures ok { IfOk result (λ _. (give_refusal caller (object_of self.old id) ≡ None) × (both k.new self.new ≡ give (both k.old self.old) caller id)) }
-        ensures err { IfErr result (λ e. (give_refusal caller (object_of self.old id) ≡ Some e) × (both k.new self.new ≡ both k.old self.old)) }
+        ensures ok { IfOk result (λ _. (give_refusal caller (object_of self.old id) ≡ None)
+            × (both k.new self.new ≡ give (both k.old self.old) caller id)) }
+        ensures err { IfErr result (λ e. (give_refusal caller (object_of self.old id) ≡ Some e)
+            × (both k.new self.new ≡ both k.old self.old)) }
         ensures kept { KeepsMutexes (both k.new self.new) }
     {
         k.facts();

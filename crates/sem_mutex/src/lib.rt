@@ -7,6 +7,8 @@ mod laws;
 mod mutexes;
 mod owners;
 mod takes;
+#[cfg(test)]
+mod tests;
 mod took;
 
 pub use laws::kept_law;

@@ -94,8 +94,10 @@ impl Mutexes {
         requires options { is_inversion_safe options ≡ true → is_priority options ≡ true }
         requires ids { k.old.lent ≡ false }
         requires kept { KeepsMutexes (both k.old self.old) }
-        ensures ok { IfOk result (λ id. (create_refusal (both k.old self.old) ≡ None) × (id ≡ k.old.next_id) × (both k.new self.new ≡ create (both k.old self.old) (new_mutex options))) }
-        ensures err { IfErr result (λ e. (create_refusal (both k.old self.old) ≡ Some e) × (both k.new self.new ≡ both k.old self.old)) }
+        ensures ok { IfOk result (λ id. (create_refusal (both k.old self.old) ≡ None) × (id ≡ k.old.next_id)
+            × (both k.new self.new ≡ create (both k.old self.old) (new_mutex options))) }
+        ensures err { IfErr result (λ e. (create_refusal (both k.old self.old) ≡ Some e)
+            × (both k.new self.new ≡ both k.old self.old)) }
         ensures kept { KeepsMutexes (both k.new self.new) }
     {
         if self.table.len() >= MUTEXES as usize {

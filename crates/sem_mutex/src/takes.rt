@@ -71,8 +71,11 @@ impl Mutexes {
         requires live { Lives k.old caller }
         requires kept { KeepsMutexes (both k.old self.old) }
         requires early { IsEarly (both k.old self.old) }
-        ensures ok { IfOk result (λ t. (take_refusal caller timeout (object_of self.old id) ≡ None) × (t ≡ took caller (object_of self.old id)) × (both k.new self.new ≡ take (both k.old self.old) caller id timeout)) }
-        ensures err { IfErr result (λ e. (take_refusal caller timeout (object_of self.old id) ≡ Some e) × (both k.new self.new ≡ both k.old self.old)) }
+        ensures ok { IfOk result (λ t. (take_refusal caller timeout (object_of self.old id) ≡ None)
+            × (t ≡ took caller (object_of self.old id))
+            × (both k.new self.new ≡ take (both k.old self.old) caller id timeout)) }
+        ensures err { IfErr result (λ e. (take_refusal caller timeout (object_of self.old id) ≡ Some e)
+            × (both k.new self.new ≡ both k.old self.old)) }
         ensures kept { KeepsMutexes (both k.new self.new) }
     {
         k.facts();

@@ -55,7 +55,8 @@ pub fn lessen(k: &mut Kern, who: Ident, n: u64)
 pub fn unsafe_by(k: &mut Kern, who: Ident, n: u64) -> Result<(), Errno>
     requires live { Lives k.old who }
     requires since { k.old.next_since < 2 ^ 63 }
-    ensures ok { IfOk result (λ _. (unsafe_refusal (task_of k.old.tasks who) ≡ None) × (k.new ≡ lessen_lem k.old who n)) }
+    ensures ok { IfOk result (λ _. (unsafe_refusal (task_of k.old.tasks who) ≡ None)
+        × (k.new ≡ lessen_lem k.old who n)) }
     ensures err { IfErr result (λ e. (unsafe_refusal (task_of k.old.tasks who) ≡ Some e) × (k.new ≡ k.old)) }
 {
     if safe_count(k, who) == 0 {

@@ -1,4 +1,5 @@
 use Rattle.sem_mutex.proofs.Lawful as laws
+use Rattle.sem_mutex.proofs.Opening.{opening_keeps}
 use Rattle.sem_mutex.proofs.laws.kept_law.Goals as goal
 
 pub returns-clause-beside : goal.returns-clause-beside
@@ -12,3 +13,6 @@ returns-clause-idle c = laws.idle_law
 
 pub returns-clause-gone : goal.returns-clause-gone
 returns-clause-gone c = laws.gone_law
+
+pub returns-clause-opening : goal.returns-clause-opening
+returns-clause-opening c = opening_keeps
