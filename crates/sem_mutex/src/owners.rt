@@ -58,10 +58,11 @@ fn hold(k: &mut Kern, who: Ident, m: &Mutex)
     requires held { held_of (task_of k.old.tasks who) + 1 < 2 ^ 64 }
     ensures { k.new ≡ holding k.old who m.now }
 {
-    if m.inversion_safe {
-        let n = held(k, who);
-        k.set_held(who, n + 1);
+    if !m.inversion_safe {
+        return;
     }
+    let n = held(k, who);
+    k.set_held(who, n + 1);
 }
 
 // One more safe section, where it is delete-safe.

@@ -1,7 +1,7 @@
 use Rattle.std.proofs.Common.{◌≡◌, ℕ, ◌<◌, ◌^◌, length, get_or, ap, sym, ◌∙◌, subst, arith, ⊎_elim}
 use Rattle.std.proofs.lemmas.Bool.{cases_eq}
-use Rattle.std.proofs.lemmas.List.{get_or_default, get_or-map, length-map}
-use Rattle.id_table.specs.Rows.{row_object, objects}
+use Rattle.std.proofs.lemmas.List.{get_or-map, length-map}
+use Rattle.id_table.specs.Rows.{objects}
 use Rattle.inheritance.specs.declared.mutex.Mutex.{Mutex}
 use Rattle.sem_mutex.proofs.tests.are_shallow.Goals as goal
 
