@@ -1,21 +1,10 @@
 -- Tasks by id: what a look-up finds after a change.
-use Rattle.std.proofs.Common.{◌≡◌, ℕ, zero, suc, ◌<◌, true, false, cond, ◌||◌, eqb, List, [], ◌∷◌, map, length, get_or, Option, None, Some, is_some, refl, ap, ◌∙◌, arith}
+use Rattle.std.proofs.Common.{◌≡◌, ℕ, zero, suc, ◌<◌, true, false, cond, ◌||◌, eqb, List, [], ◌∷◌, map, length, get_or, Option, None, Some, is_some, refl, ap, arith}
 use Rattle.std.specs.List.{Contains}
-use Rattle.std.specs.Option.{option_map}
 use Rattle.std.proofs.lemmas.Bool.{eqb-true, eq-eqb}
-use Rattle.wind_lists.specs.Records.{of_id, change}
 use Rattle.task_block.specs.declared.task.Task.{Task}
 use Rattle.wind_core.specs.State.{task_id, task_of}
 use Rattle.inheritance.specs.Reach.{is_on}
-
-module _ {X : Type 0} (id : X → ℕ) where
-  pub of_id-change : (xs : List X) (n y : ℕ) (f : X → X) → ((x : X) → id (f x) ≡ id x) → of_id id (change id xs n f) y ≡ option_map (λ x. cond (eqb (id x) n) (f x) x) (of_id id xs y)
-  of_id-change [] n y f keeps = refl
-  of_id-change (x ∷ xs) n y f keeps =
-      let same : id (cond (eqb (id x) n) (f x) x) ≡ id x = elim (eqb (id x) n) as (λ b. id (cond b (f x) x) ≡ id x) [ true ↦ keeps x | false ↦ refl ] in
-      ap (λ m. cond (eqb m y) (Some (cond (eqb (id x) n) (f x) x)) (of_id id (change id xs n f) y)) same
-      ∙ ap (cond (eqb (id x) y) (Some (cond (eqb (id x) n) (f x) x))) (of_id-change xs n y f keeps)
-      ∙ elim (eqb (id x) y) as (λ b. cond b (Some (cond (eqb (id x) n) (f x) x)) (option_map (λ u. cond (eqb (id u) n) (f u) u) (of_id id xs y)) ≡ option_map (λ u. cond (eqb (id u) n) (f u) u) (cond b (Some x) (of_id id xs y))) [ true ↦ refl | false ↦ refl ]
 
 pub live_is : {X : Type 0} (o : Option X) → is_some o ≡ true → (t : X) × (o ≡ Some t)
 live_is None e = absurd (cc)

@@ -15,9 +15,10 @@ use Rattle.wind_core.proofs.Ids.{ids, ids-change}
 use Rattle.inheritance.specs.declared.mutex.Mutex.{Mutex}
 use Rattle.inheritance.specs.Reach.{boss, live_one, wait_of, owner_at, pri_of, pri_in, is_on, path, reaches, urgency, lifted, repried, raised_kern}
 use Rattle.inheritance.specs.Laws.{StaysIn}
-use Rattle.inheritance.proofs.Lookups.{of_id-change, live_is, on_ids, place_on, on_at, each_lives}
+use Rattle.inheritance.proofs.Lookups.{live_is, on_ids, place_on, on_at, each_lives}
 use Rattle.inheritance.proofs.Walk.{path_cases, most_own, most_of}
 use Rattle.inheritance.proofs.Long.{owner_law, most_each}
+use Rattle.wind_core.proofs.Unwritten.{task_of-change}
 
 -- ---- a change of a priority changes no wait, and that priority alone
 repri-id : (n pri : ℕ) (t : Task) → (settled n (with_pri pri t)).id ≡ t.id
@@ -50,12 +51,12 @@ moved_pri r id pri t e =
     let g : Task → Task = λ u. cond (eqb u.id id) (settled r.next_since (with_pri pri u)) u in
     record {
       alike = ids-change r.tasks id (λ u. settled r.next_since (with_pri pri u)) (repri-id r.next_since pri);
-      waits = λ y. ap (option_map (λ u. u.wait)) (of_id-change task_id r.tasks id y (λ u. settled r.next_since (with_pri pri u)) (repri-id r.next_since pri))
+      waits = λ y. ap (option_map (λ u. u.wait)) (task_of-change r.tasks id y (λ u. settled r.next_since (with_pri pri u)) (repri-id r.next_since pri))
           ∙ elim (task_of r.tasks y) as (λ o. option_map (λ u. u.wait) (option_map g o) ≡ option_map (λ u. u.wait) o) [
             | None ↦ refl
             | Some u ↦ elim (eqb u.id id) as (λ b. Some ((cond b (settled r.next_since (with_pri pri u)) u).wait) ≡ Some u.wait) [ true ↦ ap (λ w. Some w) (repri-wait r.next_since pri u) | false ↦ refl ]
           ];
-      pris = λ y. ap pri_in (of_id-change task_id r.tasks id y (λ u. settled r.next_since (with_pri pri u)) (repri-id r.next_since pri))
+      pris = λ y. ap pri_in (task_of-change r.tasks id y (λ u. settled r.next_since (with_pri pri u)) (repri-id r.next_since pri))
           ∙ elim (task_of r.tasks y) as (λ o. task_of r.tasks y ≡ o → pri_in (option_map g o) ≡ cond (eqb y id) pri (pri_in o)) [
             | None ↦ λ q. elim (eqb y id) as (λ b. eqb y id ≡ b → 256 ≡ cond b pri 256) [ true ↦ λ b. let same : task_of r.tasks id ≡ None = ap (task_of r.tasks) (sym (eqb-true y id b)) ∙ q in absurd (cc) | false ↦ λ b. refl ] refl
             | Some u ↦ λ q.

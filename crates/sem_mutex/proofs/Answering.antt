@@ -24,8 +24,7 @@ use Rattle.inheritance.specs.Mutexes.{MutexState, both, is_id, holds, held_count
 use Rattle.inheritance.specs.Reach.{raised}
 use Rattle.sem_mutex.specs.Calls.{held_of, holding, guarded, eased, restored, less_held, dropped, letting_go, pass_on, passed_on, give_up, shallow, hand, deepen, await, handed, deepened, awaited, taken, take_alone, take, is_others, take_refusal, took, give_alone, give, give_refusal, given_up, given_once, owner_ended, its_owner_ended, delete_refusal, delete, live_mutex}
 use Rattle.sem_mutex.specs.Kept.{TaskKept, KeepsMutexes, IsEarly}
-use Rattle.inheritance.proofs.Lookups.{of_id-change, live_is}
-use Rattle.sem_mutex.proofs.Owning.{found_all}
+use Rattle.inheritance.proofs.Lookups.{live_is}
 use Rattle.inheritance.proofs.Same.{same_law}
 use Rattle.sem_mutex.proofs.Handing.{found_row, hand_keeps, deepen_keeps}
 use Rattle.sem_mutex.proofs.Counting.{object_of-write}
@@ -34,6 +33,8 @@ use Rattle.sem_mutex.proofs.Giving.{kern_hand, ids_hand, next_owner, passed}
 use Rattle.sem_mutex.proofs.Keeping.{kern_guarded, take_keeps, give_same}
 use Rattle.sem_mutex.proofs.Ending.{delete_same}
 use Rattle.wind_base.specs.Limits.{error_word}
+use Rattle.wind_core.proofs.Becoming.{found_all}
+use Rattle.wind_core.proofs.Unwritten.{task_of-change}
 
 -- ---- the list of mutexes
 pub no_mutex : (ms : List (ℕ × Mutex)) (n : ℕ) → AreMutexes ms → ((0 < n) × (n ≤ 1048576) → ⊥) → None ≡ live_mutex ms n
@@ -59,7 +60,7 @@ pub holding_safe : (k : KernState) (who : ℕ) (m : Mutex) → safe_of (task_of 
 holding_safe k who m =
     elim m.inversion_safe as (λ b. safe_of (task_of (cond b (set_held k who (held_of (task_of k.tasks who) + 1)) k).tasks who) ≡ safe_of (task_of k.tasks who)) [
       | true ↦
-          ap safe_of (of_id-change task_id k.tasks who who (λ t. record t { held = held_of (task_of k.tasks who) + 1 }) (λ t. refl))
+          ap safe_of (task_of-change k.tasks who who (λ t. record t { held = held_of (task_of k.tasks who) + 1 }) (λ t. refl))
           ∙ same_safe who (held_of (task_of k.tasks who) + 1) (task_of k.tasks who)
       | false ↦ refl
     ]

@@ -20,13 +20,14 @@ use Rattle.sem_mutex.specs.Kept.{MutexKept, TaskKept, Holds, KeepsMutexes}
 use Rattle.sem_mutex.proofs.Following.{follows_keeps}
 use Rattle.sem_mutex.proofs.Beside.{follows-wake_all}
 use Rattle.sem_mutex.proofs.Counting.{one, mutex_at-without, count_without}
-use Rattle.sem_mutex.proofs.Owning.{From, All-change_at, All-change_pri}
+use Rattle.sem_mutex.proofs.Owning.{From}
 use Rattle.sem_mutex.proofs.Handing.{IsOwned}
 use Rattle.sem_mutex.proofs.Giving.{let_go_keeps}
 use Rattle.sem_mutex.proofs.Keeping.{kern_letting_go, kern_eased}
 use Rattle.sem_mutex.proofs.Lifting.{raised_keeps, next-change_pri}
 use Rattle.inheritance.proofs.Same.{same_law}
 use Rattle.wind_lists.specs.Records.{Rising}
+use Rattle.wind_core.proofs.Becoming.{All-change_at, All-change_pri}
 
 -- ---- a mutex is taken away
 gone : (count : ℕ → ℕ) (ms : List (ℕ × Mutex)) (k : KernState) (id : ℕ) → Holds count ms k → Holds count (without ms id) k

@@ -24,8 +24,9 @@ use Rattle.sem_mutex.specs.Kept.{MutexKept, TaskKept, Holds, KeepsMutexes}
 use Rattle.sem_mutex.proofs.Following.{Follows, holds_follows, urgent_follows, none_above, themselves}
 use Rattle.sem_mutex.proofs.Beside.{follows-set_safe, follows-lessen}
 use Rattle.sem_mutex.proofs.Counting.{one, mutex_at-write, mutex_at_place, count_write}
-use Rattle.sem_mutex.proofs.Owning.{From, Slack, urgent_slack, All-change_at, found_all, live_task, holds_more}
+use Rattle.sem_mutex.proofs.Owning.{From, Slack, urgent_slack, live_task, holds_more}
 use Rattle.wind_lists.specs.Records.{Rising}
+use Rattle.wind_core.proofs.Becoming.{All-change_at, found_all}
 
 -- ---- one mutex is written
 abbrev pub IsOwned : Bool → Mutex → Type 0

@@ -15,7 +15,8 @@ use Rattle.sem_mutex.specs.Kept.{MutexKept, TaskKept, Holds, KeepsMutexes}
 use Rattle.inheritance.proofs.Walk.{path_cases, most_own, most_least}
 use Rattle.inheritance.proofs.Same.{pri_is, boss_owner, raised_law}
 use Rattle.sem_mutex.proofs.Counting.{no_lender}
-use Rattle.sem_mutex.proofs.Owning.{From, All-change_pri}
+use Rattle.sem_mutex.proofs.Owning.{From}
+use Rattle.wind_core.proofs.Becoming.{All-change_pri}
 
 -- u is t, but for its priority and order number
 pub record Drifts (goal : ℕ → ℕ) (t u : Task) : Type 0 where

@@ -14,21 +14,12 @@ pub end_owner-requires-clause-since : goal.end_owner-requires-clause-since
 end_owner-requires-clause-since c =
     omega (arith, since_woken c.args.k.now c.wake_all.new.self (mutex_place c.in-Some.id) error_word (Some errors.ObjDeleted) c.facts.ensures c.wake_all.ensures, c.requires.early.sinces)
 
-pub returns-clause-ok : goal.returns-clause-ok
-returns-clause-ok c =
+pub returns : goal.returns
+returns c =
     let s = both c.args.k.now c.args.self.now in
     let f = found c.args.self.now c.args.id c.in-Some.id c.in-Some.ensures in
     let d = deleted s c.args.id c.wake_all.new.self c.end_owner.new.k c.remove.new.self.rows c.facts.ensures c.facts-2.ensures c.requires.kept f.there
     (c.wake_all.ensures ∙ ap (λ i. wake_all c.args.k.now (mutex_place i) error_word (Some errors.ObjDeleted)) f.same)
     (c.end_owner.ensures ∙ ap (λ i. its_owner_ended c.wake_all.new.self (object_of c.args.self.now i)) f.same)
     (ap (λ (t : table.Rows Mutex). t.rows) c.remove.ensures.rows ∙ ap (λ i. table.without c.self.inside.table.rows i) f.same ∙ ap (λ ms. table.without ms c.args.id) c.self.view_is) in
-    (d.fine, d.state)
-
-pub returns-clause-kept : goal.returns-clause-kept
-returns-clause-kept c =
-    let s = both c.args.k.now c.args.self.now in
-    let f = found c.args.self.now c.args.id c.in-Some.id c.in-Some.ensures in
-    (deleted s c.args.id c.wake_all.new.self c.end_owner.new.k c.remove.new.self.rows c.facts.ensures c.facts-2.ensures c.requires.kept f.there
-    (c.wake_all.ensures ∙ ap (λ i. wake_all c.args.k.now (mutex_place i) error_word (Some errors.ObjDeleted)) f.same)
-    (c.end_owner.ensures ∙ ap (λ i. its_owner_ended c.wake_all.new.self (object_of c.args.self.now i)) f.same)
-    (ap (λ (t : table.Rows Mutex). t.rows) c.remove.ensures.rows ∙ ap (λ i. table.without c.self.inside.table.rows i) f.same ∙ ap (λ ms. table.without ms c.args.id) c.self.view_is)).keeps
+    record { ok = (d.fine, d.state); err = tt; kept = d.keeps }
