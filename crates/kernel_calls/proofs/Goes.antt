@@ -10,7 +10,7 @@ use Rattle.wind_core.specs.Moves.{renewed, change_task, renew_task, move_found, 
 use Rattle.wind_core.proofs.Ids.{ids, ids-change, ids-move}
 use Rattle.wind_core.proofs.Keeping.{every_call_keeps}
 use Rattle.wind_core.proofs.Stable.{All-change, renew_task-stable, move_task-stable}
-use Rattle.wind_core.proofs.Standings.{fields-change, fields-renew, fields-move}
+use Rattle.wind_core.proofs.Unwritten.{map-change, map-renew, map-move}
 use Rattle.kernel_calls.specs.Kept.{task_stacks, LocksWithin}
 
 -- the reservations of tasks
@@ -64,10 +64,10 @@ by_change : (k : KernState) (who n : ℕ) (f : Task → Task) → IsKern (change
 by_change k who n f is id stack reserve locks within = record {
   kern = is;
   alone = ids-change k.tasks who f id;
-  stacks = fields-change (λ t. t.stack) k.tasks who f stack;
+  stacks = map-change (λ t. t.stack) k.tasks who f stack;
   lent = refl;
   last = refl;
-  reserves = fields-change (λ t. t.regs.reserve) k.tasks who f reserve;
+  reserves = map-change (λ t. t.regs.reserve) k.tasks who f reserve;
   locks = All-change (λ t. t.locks ≤ n) k.tasks who f locks within;
   sinces = omega arith;
   count = refl;
@@ -78,10 +78,10 @@ by_renewal : (k : KernState) (who n : ℕ) (f : Task → Task) → IsKern (renew
 by_renewal k who n f is id stack reserve locks within = record {
   kern = is;
   alone = ids-change k.tasks who (λ t. renewed k.next_since (f t)) id;
-  stacks = fields-renew (λ t. t.stack) (λ since t. refl) k who f stack;
+  stacks = map-renew (λ t. t.stack) (λ since t. refl) k who f stack;
   lent = refl;
   last = refl;
-  reserves = fields-renew (λ t. t.regs.reserve) (λ since t. refl) k who f reserve;
+  reserves = map-renew (λ t. t.regs.reserve) (λ since t. refl) k who f reserve;
   locks = renew_task-stable (λ t. t.locks ≤ n) (λ since t h. h) k who f locks within;
   sinces = omega arith;
   count = refl;
@@ -109,10 +109,10 @@ by_move : (k : KernState) (who n : ℕ) (f : Task → Task) → IsKern (move_tas
 by_move k who n f is id stack reserve locks within = record {
   kern = is;
   alone = ids-move k who f id;
-  stacks = fields-move (λ t. t.stack) (λ since t. refl) k who f stack;
+  stacks = map-move (λ t. t.stack) (λ since t. refl) k who f stack;
   lent = lent-move k who f;
   last = last-move k who f;
-  reserves = fields-move (λ t. t.regs.reserve) (λ since t. refl) k who f reserve;
+  reserves = map-move (λ t. t.regs.reserve) (λ since t. refl) k who f reserve;
   locks = move_task-stable (λ t. t.locks ≤ n) (λ since t h. h) k who f locks within;
   sinces = since-move k who f;
   count = count-move k who f;

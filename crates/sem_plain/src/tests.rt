@@ -32,7 +32,7 @@ const ERROR: u32 = u32::MAX;
 fn is_early(kern: &Kern) -> bool
     ensures { result ≡ true → IsEarly kern.now }
 {
-    kern.order_numbers() < 1 << 62 && kern.ticks() < 1 << 62
+    kern.next_since() < 1 << 62 && kern.ticks() < 1 << 62
 }
 
 fn change_pri(kern: &mut Kern, who: u32, pri: u32) -> Option<()> {

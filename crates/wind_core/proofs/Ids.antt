@@ -1,15 +1,14 @@
 -- Which tasks live: a move keeps their ids.
-use Rattle.std.proofs.Common.{◌≡◌, ℕ, ◌+◌, ◌≤◌, true, false, cond, eqb, leb, List, [], ◌∷◌, map, length, Option, None, Some, IsSome, is_some, refl, sym, ap, ◌∙◌, subst, arith}
+use Rattle.std.proofs.Common.{◌≡◌, ℕ, ◌+◌, ◌≤◌, true, false, cond, eqb, List, [], ◌∷◌, map, length, Some, IsSome, is_some, refl, sym, ap, ◌∙◌, subst, arith}
 use Rattle.std.specs.List.{fold}
 use Rattle.std.proofs.lemmas.List.{length-map}
 use Rattle.task_block.specs.declared.task.Task.{Task}
-use Rattle.task_block.specs.Standing.{is_ready}
 use Rattle.wind_lists.specs.Records.{change}
 use Rattle.wind_core.specs.State.{KernState, task_id, task_of}
-use Rattle.wind_core.specs.Orders.{running, due}
-use Rattle.wind_core.specs.Moves.{renewed, settled, move_found, move_task, answered}
-use Rattle.wind_core.specs.Tick.{turn_task, turn_found, turn_of, take_turn, late_answer, late_errno, time_out, tick_counted, tick}
-use Rattle.wind_core.proofs.Standings.{fields-change, fields-move, fields-take_turn, fields-tick}
+use Rattle.wind_core.specs.Orders.{due}
+use Rattle.wind_core.specs.Moves.{move_task}
+use Rattle.wind_core.specs.Tick.{take_turn, late_answer, late_errno, time_out, tick_counted, tick}
+use Rattle.wind_core.proofs.Unwritten.{map-change, map-move, map-take_turn, map-tick}
 use Rattle.wind_core.proofs.Ticks.{since-take_turn}
 use Rattle.wind_core.proofs.Waking.{since-end_wait, length-due}
 
@@ -18,16 +17,16 @@ abbrev pub ids : List Task → List ℕ
 ids ts = map task_id ts
 
 pub ids-change : (ts : List Task) (who : ℕ) (f : Task → Task) → ((t : Task) → (f t).id ≡ t.id) → ids (change task_id ts who f) ≡ ids ts
-ids-change = fields-change task_id
+ids-change = map-change task_id
 
 pub ids-move : (s : KernState) (who : ℕ) (f : Task → Task) → ((t : Task) → (f t).id ≡ t.id) → ids (move_task s who f).tasks ≡ ids s.tasks
-ids-move = fields-move task_id (λ n t. refl)
+ids-move = map-move task_id (λ n t. refl)
 
 ids-take_turn : (s : KernState) → ids (take_turn s).tasks ≡ ids s.tasks
-ids-take_turn = fields-take_turn task_id (λ n t. refl) (λ n t. refl)
+ids-take_turn = map-take_turn task_id (λ n t. refl) (λ answer errno t. refl) (λ n t. refl)
 
 pub ids-tick : (s : KernState) → ids (tick s).tasks ≡ ids s.tasks
-ids-tick = fields-tick task_id (λ n t. refl) (λ n t. refl) (λ a e t. refl)
+ids-tick = map-tick task_id (λ n t. refl) (λ answer errno t. refl) (λ n t. refl)
 
 abbrev head_of : ℕ → List ℕ → ℕ
 head_of d [] = d

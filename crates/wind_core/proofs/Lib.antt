@@ -7,7 +7,8 @@ pub mod Keeping
 pub mod Lawful
 pub mod Ticking
 pub mod Stable
+pub mod Becoming
 pub mod Finding
-pub mod Standings
+pub mod Unwritten
 pub mod Ids
 pub mod Releasing

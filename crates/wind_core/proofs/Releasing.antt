@@ -1,16 +1,17 @@
 -- Waits end without an answer, one after the other.
-use Rattle.std.proofs.Common.{◌≡◌, ℕ, ◌+◌, ◌≤◌, true, false, cond, not, List, ◌∷◌, length, None, Some, IsSome, refl, sym, ap, ◌∙◌, subst, arith}
+use Rattle.std.proofs.Common.{◌≡◌, ℕ, ◌+◌, ◌≤◌, true, false, cond, not, List, [], ◌∷◌, length, None, Some, IsSome, refl, sym, ap, ◌∙◌, subst, arith}
 use Rattle.std.specs.Option.{option_map}
 use Rattle.id_table.specs.declared.ident.Place.{Place}
 use Rattle.task_block.specs.declared.task.Task.{Task}
 use Rattle.wind_lists.specs.Records.{Rising}
 use Rattle.wind_lists.proofs.Sorting.{first_is, no_first}
 use Rattle.wind_lists.proofs.Passing.{front_found}
-use Rattle.wind_core.specs.State.{KernState, Lives, task_id, task_of}
+use Rattle.wind_core.specs.State.{KernState, IsKern, Lives, task_id, task_of}
 use Rattle.wind_core.specs.Orders.{waits_before, waits_at, waiters, first_waiter}
 use Rattle.wind_core.specs.Moves.{released, settled, renewed, move_found, release}
 use Rattle.wind_core.specs.Releases.{releases, release_all}
 use Rattle.wind_core.proofs.Passes.{waits_before-order}
+use Rattle.wind_core.proofs.Keeping.{every_call_keeps}
 use Rattle.wind_core.proofs.Waking.{in_line-move, id_found, no_id}
 
 settled_waits : (place : Place) (since : ℕ) (t : Task) → waits_at place (settled since (released t)) ≡ false
@@ -52,3 +53,16 @@ free_turn s place who up e =
 
 pub all_free : (s : KernState) (place : Place) → None ≡ option_map task_id (first_waiter s.tasks place) → release_all s place ≡ s
 all_free s place e = ap (λ ws. releases s ws) (no_first waits_before (waiters s.tasks place) (no_id (first_waiter s.tasks place) e))
+
+-- the kept facts hold again
+pub release_keeps : (s : KernState) (who : ℕ) → IsKern s → IsKern (release s who)
+release_keeps s who is = (every_call_keeps s is).releasing who
+
+pub releases_keep : (s : KernState) (ts : List Task) → IsKern s → IsKern (releases s ts)
+releases_keep s [] is = is
+releases_keep s (t ∷ ts) is = releases_keep (release s t.id) ts (release_keeps s t.id is)
+
+-- nobody waits there any more
+pub releases-clear : (s : KernState) (place : Place) (ts : List Task) → IsKern s → waiters s.tasks place ≡ ts → waiters (releases s ts).tasks place ≡ []
+releases-clear s place [] is e = e
+releases-clear s place (x ∷ rest) is e = releases-clear (release s x.id) place rest (release_keeps s x.id is) (waiters-release s place x rest is.rising e)

@@ -66,9 +66,8 @@ impl Kern {
         self.tick
     }
 
-    /// How many order numbers were given to tasks, so that a caller can test that they are far from their
-    /// end.
-    pub fn order_numbers(&self) -> u64
+    /// The order number that comes next: how many were given out so far.
+    pub fn next_since(&self) -> u64
         ensures { result ≡ self.now.next_since }
     {
         self.next_since

@@ -1,0 +1,40 @@
+-- The walk from owner to owner, and what raising leaves.
+use Rattle.std.specs.Prelude.{◌≡◌, ℕ, ◌≤◌, cond, nat_lt, true, length, List, Option, Some}
+use Rattle.std.specs.List.{All, Contains}
+use Rattle.task_block.specs.declared.task.Task.{Task}
+use Rattle.wind_core.specs.State.{IsKern}
+use Rattle.inheritance.specs.declared.mutex.Mutex.{Mutex}
+use Rattle.inheritance.specs.Mutexes.{MutexState}
+use Rattle.inheritance.specs.Reach.{owner_at, raised, path, is_on, urgency, front_while}
+
+-- each owner is at least as urgent as its waiters, but for the waiter w
+abbrev pub GoodBut : (ℕ → Option ℕ) → (ℕ → ℕ) → ℕ → Type 0
+GoodBut up pri w = (y x : ℕ) → (y ≡ w → ⊥) → up y ≡ Some x → pri x ≤ pri y
+
+-- the owners on the path of w before the first one that is at least as urgent as w get w's priority, and no other
+-- task's changes
+abbrev pub WalkLaw : Type 0
+WalkLaw = (up : ℕ → Option ℕ) (pri : ℕ → ℕ) (w n : ℕ) (ids : List ℕ) → GoodBut up pri w → Contains ids w
+    → (x : ℕ)
+    → urgency up pri n ids x ≡ cond (is_on (front_while (λ z. nat_lt (pri w) (pri z)) (path up n w)) x) (pri w) (pri x)
+
+-- all whom a task waits for are among these
+abbrev pub StaysIn : (ℕ → Option ℕ) → List ℕ → Type 0
+StaysIn up ids = (y x : ℕ) → up y ≡ Some x → is_on ids x ≡ true
+
+-- where a walk may be as long as there are tasks, an owner is at least as urgent as each of its waiters, also in a cycle
+abbrev pub OwnerLaw : Type 0
+OwnerLaw = (up : ℕ → Option ℕ) (pri : ℕ → ℕ) (n : ℕ) (ids : List ℕ) → StaysIn up ids → length ids ≤ n
+    → (y x : ℕ) → up y ≡ Some x → Contains ids y → urgency up pri n ids x ≤ urgency up pri n ids y
+
+-- each live owner of an inversion-safe mutex is at least as urgent as each of its waiters
+abbrev pub OwnersUrgent : List (ℕ × Mutex) → List Task → Type 0
+OwnersUrgent ms ts = All (λ y. All (λ x. owner_at ms y.wait ≡ Some x.id → x.pri ≤ y.pri) ts) ts
+
+-- after raising it is so
+abbrev pub RaisedLaw : Type 0
+RaisedLaw = (s : MutexState) → IsKern s.kern → OwnersUrgent s.mutexes (raised s).kern.tasks
+
+-- where it is so, raising changes nothing
+abbrev pub SameLaw : Type 0
+SameLaw = (s : MutexState) → IsKern s.kern → OwnersUrgent s.mutexes s.kern.tasks → raised s ≡ s

@@ -1,0 +1,3 @@
+pub mod Mutexes
+pub mod Reach
+pub mod Laws

@@ -1,0 +1,86 @@
+-- Who waits for whom, and what priority each task has by those that wait for it.
+use Rattle.std.specs.Prelude.{ℕ, zero, suc, Bool, cond, ◌==◌, if◌then◌else◌, min, List, [], ◌∷◌, map, Option, None, Some, is_some}
+use Rattle.std.specs.List.{filter, fold, list_any}
+use Rattle.id_table.specs.Rows.{object_of}
+use Rattle.id_table.specs.declared.ident.Place.{Place}
+use Rattle.task_block.specs.declared.task.Task.{Task}
+use Rattle.wind_core.specs.State.{KernState, task_id, task_of}
+use Rattle.wind_core.specs.Moves.{change_pri}
+use Rattle.inheritance.specs.declared.mutex.Mutex.{Mutex}
+use Rattle.inheritance.specs.Mutexes.{MutexState}
+
+-- ---- who waits for whom
+-- the mutex that is waited for, if it is one
+abbrev pub mutex_at : List (ℕ × Mutex) → Option Place → Option Mutex
+mutex_at ms None = None
+mutex_at ms (Some p) = if p.side == 0 then object_of ms p.id else None
+
+-- the owner of a mutex whose waiters lend their priority, live or ended
+abbrev pub lent_to : Option Mutex → Option ℕ
+lent_to None = None
+lent_to (Some m) = if m.inversion_safe then m.owner else None
+
+abbrev pub owner_at : List (ℕ × Mutex) → Option Place → Option ℕ
+owner_at ms w = lent_to (mutex_at ms w)
+
+abbrev pub wait_of : Option Task → Option Place
+wait_of None = None
+wait_of (Some t) = t.wait
+
+abbrev pub live_one : List Task → Option ℕ → Option ℕ
+live_one ts None = None
+live_one ts (Some id) = if is_some (task_of ts id) then Some id else None
+
+-- the live owner of the inversion-safe mutex that the task waits for
+abbrev pub boss : List Task → List (ℕ × Mutex) → ℕ → Option ℕ
+boss ts ms y = live_one ts (owner_at ms (wait_of (task_of ts y)))
+
+-- the boss, its boss and so on, for at most n tasks
+abbrev pub path : (ℕ → Option ℕ) → ℕ → ℕ → List ℕ
+path up zero y = []
+path up (suc n) y = elim (up y) [ None ↦ [] | Some x ↦ x ∷ path up n x ]
+
+abbrev pub is_on : List ℕ → ℕ → Bool
+is_on xs x = list_any (λ y. y == x) xs
+
+-- y waits for x, through at most n owners
+abbrev pub reaches : (ℕ → Option ℕ) → ℕ → ℕ → ℕ → Bool
+reaches up n y x = is_on (path up n y) x
+
+-- ---- priorities
+-- a task that does not live is less urgent than any
+abbrev pub pri_in : Option Task → ℕ
+pri_in None = 256
+pri_in (Some t) = t.pri
+
+abbrev pub pri_of : List Task → ℕ → ℕ
+pri_of ts id = pri_in (task_of ts id)
+
+-- the most urgent of these
+abbrev pub most : ℕ → List ℕ → ℕ
+most p [] = p
+most p (q ∷ qs) = min q (most p qs)
+
+-- the most urgent priority of the task and of those that reach it
+abbrev pub urgency : (ℕ → Option ℕ) → (ℕ → ℕ) → ℕ → List ℕ → ℕ → ℕ
+urgency up pri n ids x = most (pri x) (map pri (filter (λ y. reaches up n y x) ids))
+
+-- the same for a live task, along at most 256 owners
+abbrev pub lifted : KernState → List (ℕ × Mutex) → ℕ → ℕ
+lifted k ms x = urgency (boss k.tasks ms) (pri_of k.tasks) 256 (map task_id k.tasks) x
+
+-- each task of a list gets its priority, in order
+abbrev pub repried : KernState → (ℕ → ℕ) → List Task → KernState
+repried k goal ts = fold (λ r t. change_pri r t.id (goal t.id)) k ts
+
+-- each live task has the most urgent priority of itself and of all that reach it
+abbrev pub raised_kern : KernState → List (ℕ × Mutex) → KernState
+raised_kern k ms = repried k (lifted k ms) k.tasks
+
+abbrev pub raised : MutexState → MutexState
+raised s = record s { kern = raised_kern s.kern s.mutexes }
+
+-- the front of a list whose elements pass the test
+abbrev pub front_while : (ℕ → Bool) → List ℕ → List ℕ
+front_while test [] = []
+front_while test (x ∷ xs) = cond (test x) (x ∷ front_while test xs) []

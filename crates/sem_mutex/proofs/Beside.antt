@@ -1,0 +1,161 @@
+-- Each call of the kernel that mutexes don't read keeps what is kept of mutexes.
+use Rattle.std.proofs.Common.{◌≡◌, ℕ, ◌+◌, ◌-◌, ◌<◌, ◌≤◌, Bool, true, false, cond, ◌&&◌, not, eqb, ltb, leb, List, [], ◌∷◌, Option, None, Some, is_some, refl, ◌∙◌, arith, inr}
+use Rattle.std.specs.List.{All, fold}
+use Rattle.std.proofs.lemmas.List.Elements.{All-filter, All-push}
+use Rattle.wind_base.specs.declared.errno.Errno.{Errno}
+use Rattle.wind_base.specs.declared.regs.Regs.{Regs}
+use Rattle.id_table.specs.declared.ident.Place.{Place}
+use Rattle.task_block.specs.declared.task.Task.{Task}
+use Rattle.task_block.specs.declared.task.NewTask.{NewTask}
+use Rattle.wind_core.specs.State.{KernState, task_of}
+use Rattle.wind_core.specs.Orders.{waiters, due, running}
+use Rattle.wind_core.specs.Moves.{move_task, new_task, spawn, remove, wake_at, pended, pend, delayed, delay, released, release, answered, end_wait, end_waits, wake_all, suspended, suspend, resumed, is_suspended, resume, unmarked, reset, set_locks, set_safe, set_errno, set_int_locked, set_again, set_regs, past_gate, leave_gate, with_answer, answer, with_refusal, refuse}
+use Rattle.wind_core.specs.Releases.{releases, release_all}
+use Rattle.wind_core.specs.Tick.{turn_found, turn_of, take_turn, late_answer, late_errno, time_out, tick_counted, tick}
+use Rattle.wind_core.proofs.Stable.{move_task-stable, tick-stable}
+use Rattle.task_safety.specs.Safety.{deletion, safe_of, lessen}
+use Rattle.inheritance.specs.declared.mutex.Mutex.{Mutex}
+use Rattle.inheritance.specs.Reach.{mutex_at}
+use Rattle.sem_mutex.proofs.Following.{Same, Comes, Follows, alike, goes_on, comes_on, themselves, renews, next-move, by_change, by_renewal, by_move}
+
+-- from a to b, and from b to c
+pub follows_on : (ms : List (ℕ × Mutex)) (k m n : KernState) → m.next_id ≡ k.next_id → All (Comes ms k) n.tasks → n.next_id ≡ m.next_id → Follows ms k n
+follows_on ms k m n e all f = record { next = omega (arith, e, f); tasks = all }
+
+module _ (ms : List (ℕ × Mutex)) where
+  -- ---- several waits end
+  answers_on : (k r : KernState) (who a : ℕ) (e : Option Errno) → All (Comes ms k) r.tasks → All (Comes ms k) (end_wait r who a e).tasks
+  answers_on k r who a e all = move_task-stable (Comes ms k) (renews ms k) r who (answered a e) (λ t comes. comes_on ms k t (answered a e t) comes (goes_on ms k t (answered a e t) refl refl refl refl refl)) all
+
+  releases_on : (k r : KernState) (who : ℕ) → All (Comes ms k) r.tasks → All (Comes ms k) (release r who).tasks
+  releases_on k r who all = move_task-stable (Comes ms k) (renews ms k) r who released (λ t comes. comes_on ms k t (released t) comes (goes_on ms k t (released t) refl refl refl refl refl)) all
+
+  end_waits_on : (k r : KernState) (ts : List Task) (a : ℕ) (e : Option Errno) → r.next_id ≡ k.next_id → All (Comes ms k) r.tasks → Follows ms k (end_waits r ts a e)
+  end_waits_on k r [] a e same all = record { next = omega (arith, same); tasks = all }
+  end_waits_on k r (t ∷ ts) a e same all = end_waits_on k (end_wait r t.id a e) ts a e (next-move ms r t.id (answered a e) ∙ same) (answers_on k r t.id a e all)
+
+  all_released : (k r : KernState) (ts : List Task) → r.next_id ≡ k.next_id → All (Comes ms k) r.tasks → Follows ms k (releases r ts)
+  all_released k r [] same all = record { next = omega (arith, same); tasks = all }
+  all_released k r (t ∷ ts) same all = all_released k (release r t.id) ts (next-move ms r t.id released ∙ same) (releases_on k r t.id all)
+
+  -- ---- a tick
+  next-time_outs : (k : KernState) (ts : List Task) → (fold time_out k ts).next_id ≡ k.next_id
+  next-time_outs k [] = refl
+  next-time_outs k (t ∷ ts) = next-time_outs (time_out k t) ts ∙ next-move ms k t.id (answered (late_answer (is_some t.wait)) (late_errno (is_some t.wait)))
+
+  next-turn_of : (k : KernState) (o : Option Task) → (turn_of k o).next_id ≡ k.next_id
+  next-turn_of k None = refl
+  next-turn_of k (Some t) = elim (eqb t.locks 0) as (λ b. (cond b (turn_found k t) k).next_id ≡ k.next_id) [ true ↦ refl | false ↦ refl ]
+
+  next-take_turn : (k : KernState) → (take_turn k).next_id ≡ k.next_id
+  next-take_turn k = elim (eqb k.slice 0) as (λ b. (cond b k (turn_of k (running k))).next_id ≡ k.next_id) [ true ↦ refl | false ↦ next-turn_of k (running k) ]
+
+  module _ (k : KernState) where
+    pub follows-tick : Follows ms k (tick k)
+    follows-tick = record {
+      next = omega (arith, next-time_outs (take_turn (tick_counted k)) (due (take_turn (tick_counted k)).tasks (k.tick + 1)), next-take_turn (tick_counted k));
+      tasks = tick-stable (Comes ms k) (renews ms k)
+          (λ a e t comes. comes_on ms k t (answered a e t) comes (goes_on ms k t (answered a e t) refl refl refl refl refl))
+          (λ n t comes. comes_on ms k t (record t { turns = n }) comes (alike ms k t (record t { turns = n }) refl refl refl refl refl refl))
+          k (themselves ms k);
+    }
+
+    -- ---- waits
+    pub follows-pend : (who : ℕ) (place : Place) (fifo : Bool) (n : ℕ) → mutex_at ms (Some place) ≡ None → place.id < k.next_id → Follows ms k (pend k who place fifo n)
+    follows-pend who place fifo n other made =
+        by_renewal ms k who (pended place fifo (wake_at place.side k.tick n)) (λ t. record { id = refl; pri = refl; normal = refl; held = refl; wait = inr (record { other = other; made = made }) })
+
+    pub follows-delay : (who n : ℕ) → Follows ms k (delay k who n)
+    follows-delay who n =
+        by_renewal ms k who (delayed k.tick n) (λ t.
+        elim (eqb n 0) as (λ b. Same ms k.next_id t (cond b t (record t { wake = Some (k.tick + n); turns = 0 }))) [
+          | true ↦ alike ms k t t refl refl refl refl refl refl
+          | false ↦ alike ms k t (record t { wake = Some (k.tick + n); turns = 0 }) refl refl refl refl refl refl
+        ])
+
+    pub follows-release : (who : ℕ) → Follows ms k (release k who)
+    follows-release who = by_move ms k who released (λ t. goes_on ms k t (released t) refl refl refl refl refl)
+
+    pub follows-end_wait : (who a : ℕ) (e : Option Errno) → Follows ms k (end_wait k who a e)
+    follows-end_wait who a e = by_move ms k who (answered a e) (λ t. goes_on ms k t (answered a e t) refl refl refl refl refl)
+
+    pub follows-wake_all : (place : Place) (a : ℕ) (e : Option Errno) → Follows ms k (wake_all k place a e)
+    follows-wake_all place a e = end_waits_on k k (waiters k.tasks place) a e refl (themselves ms k)
+
+    pub follows-release_all : (place : Place) → Follows ms k (release_all k place)
+    follows-release_all place = all_released k k (waiters k.tasks place) refl (themselves ms k)
+
+    -- ---- tasks come and go
+    pub follows-remove : (who : ℕ) → Follows ms k (remove k who)
+    follows-remove who = record { next = omega arith; tasks = All-filter (λ t. not (eqb t.id who)) (Comes ms k) k.tasks (themselves ms k) }
+
+    pub follows-spawn : (n : NewTask) → Follows ms k (spawn k n)
+    follows-spawn n = record {
+      next = omega arith;
+      tasks = All-push (Comes ms k) k.tasks (new_task k.next_id k.next_since n) (themselves ms k) (inr (record { held = refl; pri = refl; id = omega arith; wait = record { other = refl; made = tt } }));
+    }
+
+    -- another object drew ids
+    pub follows-ids : (n : ℕ) → k.next_id ≤ n → Follows ms k (record k { next_id = n })
+    follows-ids n more = record { next = more; tasks = themselves ms k }
+
+    pub follows-lent : (on : Bool) → Follows ms k (record k { lent = on })
+    follows-lent on = record { next = omega arith; tasks = themselves ms k }
+
+    pub follows-last : (last : Option ℕ) → Follows ms k (record k { last = last })
+    follows-last last = record { next = omega arith; tasks = themselves ms k }
+
+    pub follows-slice : (n : ℕ) → Follows ms k (record k { slice = n })
+    follows-slice n = record { next = omega arith; tasks = themselves ms k }
+
+    -- ---- one task's other fields
+    pub follows-suspend : (who : ℕ) → Follows ms k (suspend k who)
+    follows-suspend who = by_change ms k who suspended (λ t. alike ms k t (suspended t) refl refl refl refl refl refl)
+
+    pub follows-resume : (who : ℕ) → Follows ms k (resume k who)
+    follows-resume who =
+        elim (is_suspended (task_of k.tasks who)) as (λ b. Follows ms k (cond b (move_task k who resumed) k)) [
+          | true ↦ by_move ms k who resumed (λ t. alike ms k t (resumed t) refl refl refl refl refl refl)
+          | false ↦ record { next = omega arith; tasks = themselves ms k }
+        ]
+
+    pub follows-reset : (who : ℕ) → Follows ms k (reset k who)
+    follows-reset who = by_renewal ms k who unmarked (λ t. alike ms k t (unmarked t) refl refl refl refl refl refl)
+
+    pub follows-set_locks : (who n : ℕ) → Follows ms k (set_locks k who n)
+    follows-set_locks who n = by_change ms k who (λ t. record t { locks = n }) (λ t. alike ms k t (record t { locks = n }) refl refl refl refl refl refl)
+
+    pub follows-set_safe : (who n : ℕ) → Follows ms k (set_safe k who n)
+    follows-set_safe who n = by_change ms k who (λ t. record t { safe = n }) (λ t. alike ms k t (record t { safe = n }) refl refl refl refl refl refl)
+
+    pub follows-set_errno : (who n : ℕ) → Follows ms k (set_errno k who n)
+    follows-set_errno who n = by_change ms k who (λ t. record t { errno = n }) (λ t. alike ms k t (record t { errno = n }) refl refl refl refl refl refl)
+
+    pub follows-set_int_locked : (who : ℕ) (on : Bool) → Follows ms k (set_int_locked k who on)
+    follows-set_int_locked who on = by_change ms k who (λ t. record t { int_locked = on }) (λ t. alike ms k t (record t { int_locked = on }) refl refl refl refl refl refl)
+
+    pub follows-set_again : (who : ℕ) (on : Bool) → Follows ms k (set_again k who on)
+    follows-set_again who on = by_change ms k who (λ t. record t { again = on }) (λ t. alike ms k t (record t { again = on }) refl refl refl refl refl refl)
+
+    pub follows-set_regs : (who : ℕ) (regs : Regs) → Follows ms k (set_regs k who regs)
+    follows-set_regs who regs = by_change ms k who (λ t. record t { regs = regs }) (λ t. alike ms k t (record t { regs = regs }) refl refl refl refl refl refl)
+
+    pub follows-leave_gate : (who : ℕ) → Follows ms k (leave_gate k who)
+    follows-leave_gate who = by_change ms k who past_gate (λ t. alike ms k t (past_gate t) refl refl refl refl refl refl)
+
+    pub follows-answer : (who value : ℕ) → Follows ms k (answer k who value)
+    follows-answer who value = by_change ms k who (with_answer value) (λ t. alike ms k t (with_answer value t) refl refl refl refl refl refl)
+
+    pub follows-refuse : (who : ℕ) (e : Errno) → Follows ms k (refuse k who e)
+    follows-refuse who e = by_change ms k who (with_refusal e) (λ t. alike ms k t (with_refusal e t) refl refl refl refl refl refl)
+
+    -- ---- safe sections
+    pub follows-lessen : (who n : ℕ) → Follows ms k (lessen k who n)
+    follows-lessen who n =
+        let count : ℕ = safe_of (task_of k.tasks who) in
+        let less : KernState = set_safe k who (count - n) in
+        let step = follows-set_safe who (count - n) in
+        elim (ltb 0 count && leb count n) as (λ b. Follows ms k (cond b (release_all less (deletion who)) less)) [
+          | true ↦ all_released k less (waiters less.tasks (deletion who)) refl step.tasks
+          | false ↦ step
+        ]

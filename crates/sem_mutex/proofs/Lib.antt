@@ -1,0 +1,14 @@
+pub mod Following
+pub mod Beside
+pub mod Counting
+pub mod Owning
+pub mod Lifting
+pub mod Handing
+pub mod Giving
+pub mod Keeping
+pub mod Ending
+pub mod Making
+pub mod Steady
+pub mod Opening
+pub mod Lawful
+pub mod Answering

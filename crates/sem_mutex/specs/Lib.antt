@@ -1,0 +1,4 @@
+pub mod Calls
+pub mod Kept
+pub mod Making
+pub mod Laws

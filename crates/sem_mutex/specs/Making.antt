@@ -1,0 +1,33 @@
+-- A mutex is made.
+use Rattle.std.specs.Prelude.{◌+◌, nat_le, nat_lt, if◌then◌else◌, [], ◌∷◌, ◌++◌, length, Option, None, Some}
+use Rattle.wind_base.specs.Limits.{most_mutexes, greatest_id}
+use Rattle.wind_base.specs.SemBits.{is_priority, is_delete_safe, is_inversion_safe}
+use Rattle.wind_base.specs.declared.semaphore.SemOptions.{SemOptions}
+use Rattle.wind_base.specs.declared.errno.Errno.{Errno}
+use Rattle.wind_base.specs.declared.errno.Errno.TheVariants as errors
+use Rattle.inheritance.specs.declared.mutex.Mutex.{Mutex}
+use Rattle.inheritance.specs.Mutexes.{MutexState}
+
+-- a mutex that nobody owns, with these options
+abbrev pub new_mutex : SemOptions → Mutex
+new_mutex options = record {
+  by_priority = is_priority options;
+  delete_safe = is_delete_safe options;
+  inversion_safe = is_inversion_safe options;
+  owner = None;
+  depth = 0;
+}
+
+-- why no mutex is made: as many live as there may be; else no id is left
+abbrev pub create_refusal : MutexState → Option Errno
+create_refusal s =
+    if nat_le most_mutexes (length s.mutexes) then Some errors.TooMany
+    else if nat_lt greatest_id s.kern.next_id then Some errors.IdsSpent
+    else None
+
+-- it is the last, since ids rise
+abbrev pub create : MutexState → Mutex → MutexState
+create s v = record {
+  kern = record s.kern { next_id = s.kern.next_id + 1 };
+  mutexes = s.mutexes ++ (s.kern.next_id, v) ∷ [];
+}

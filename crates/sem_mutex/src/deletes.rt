@@ -1,0 +1,61 @@
+//! A mutex is deleted.
+
+ghost use Rattle.std.specs.Prelude.{◌≡◌, ◌<◌, ◌+◌, ◌^◌, Some, None, IsSome, IfOk, IfErr};
+ghost use Rattle.id_table.specs.Rows.{object_of};
+ghost use Rattle.inheritance.specs.Mutexes.{both};
+ghost use Rattle.sem_mutex.specs.Kept.{KeepsMutexes, IsEarly};
+ghost use Rattle.sem_mutex.specs.Calls.{its_owner_ended, delete, delete_refusal};
+
+use crate::mutexes::Mutexes;
+use crate::owners::{ease, let_go};
+use id_table::sides::OBJECT;
+use id_table::{Ident, Place};
+use wind_base::Errno;
+use wind_base::words::ERROR;
+use wind_core::Kern;
+
+impl Mutexes {
+    // A live owner gives it in full.
+    fn end_owner(&self, k: &mut Kern, id: Ident)
+        requires there { IsSome (object_of self.now id) }
+        requires since { k.old.next_since + 1 < 2 ^ 63 }
+        ensures { k.new ≡ its_owner_ended k.old (object_of self.now id) }
+    {
+        let m = self.mutex(id);
+        let Some(owner) = m.owner else {
+            return;
+        };
+        let depth = m.depth;
+        if k.task(owner).is_none() {
+            return;
+        }
+        let_go(k, owner, m);
+        ease(k, owner, m, depth);
+    }
+
+    /// Takes the mutex away. All waits for it end with ERROR and `ObjDeleted`, in the order in which they stand,
+    /// and a live owner gives it in full.
+    ///
+    /// # Errors
+    ///
+    /// `ObjIdError` where there is no such mutex. Nothing changes then.
+    pub fn delete(&mut self, k: &mut Kern, id: u32) -> Result<(), Errno>
+        requires kept { KeepsMutexes (both k.old self.old) }
+        requires early { IsEarly (both k.old self.old) }
+        ensures ok { IfOk result (λ _. (delete_refusal (object_of self.old id) ≡ None)
+            × (both k.new self.new ≡ delete (both k.old self.old) id)) }
+        ensures err { IfErr result (λ e. (delete_refusal (object_of self.old id) ≡ Some e)
+            × (both k.new self.new ≡ both k.old self.old)) }
+        ensures kept { KeepsMutexes (both k.new self.new) }
+    {
+        k.facts();
+        self.facts();
+        let Some(id) = self.find(id) else {
+            return Err(Errno::ObjIdError);
+        };
+        k.wake_all(Place { side: OBJECT, id }, ERROR, Some(Errno::ObjDeleted));
+        self.end_owner(k, id);
+        self.table.remove(id);
+        Ok(())
+    }
+}

@@ -1,0 +1,105 @@
+//! The owner of a mutex gives it.
+
+ghost use Rattle.std.specs.Prelude.{◌≡◌, ◌<◌, ◌^◌, Some, None, IsSome, IfOk, IfErr};
+ghost use Rattle.id_table.specs.Rows.{object_of};
+ghost use Rattle.wind_core.specs.State.{Lives};
+ghost use Rattle.inheritance.specs.declared.mutex.Mutex.{Mutex as Mutex_lem};
+ghost use Rattle.inheritance.specs.Mutexes.{both};
+ghost use Rattle.sem_mutex.specs.Kept.{KeepsMutexes, IsEarly};
+ghost use Rattle.sem_mutex.specs.Calls.{passed_on, given_up, given_once, give, give_refusal};
+
+use crate::mutexes::Mutexes;
+use crate::owners::{ease, free, let_go, take_depth};
+use id_table::sides::OBJECT;
+use id_table::{Ident, Place};
+use wind_base::Errno;
+use wind_base::words::OK;
+use wind_core::Kern;
+
+impl Mutexes {
+    // How often its owner took it and did not give it back.
+    fn depth(&self, id: Ident) -> u64
+        requires { IsSome (object_of self.now id) }
+        ensures { (m : Mutex_lem) → object_of self.now id ≡ Some m → result ≡ m.depth }
+    {
+        self.mutex(id).depth
+    }
+
+    // The first waiter becomes the owner and goes on, or nobody owns it.
+    fn pass_on(&mut self, k: &mut Kern, id: Ident)
+        requires there { IsSome (object_of self.old id) }
+        requires kept { KeepsMutexes (both k.old self.old) }
+        requires early { IsEarly (both k.old self.old) }
+        ensures { both k.new self.new ≡ passed_on (both k.old self.old) id (object_of self.old id) }
+    {
+        k.facts();
+        self.facts();
+        let Some(next) = k.first_waiter(Place { side: OBJECT, id }) else {
+            free(self.table.object_mut(id));
+            return;
+        };
+        self.hand(k, next, id);
+        k.end_wait(next, OK, None);
+    }
+
+    // The owner gives it for the last time.
+    fn give_up(&mut self, k: &mut Kern, who: Ident, id: Ident)
+        requires live { Lives k.old who }
+        requires there { IsSome (object_of self.old id) }
+        requires kept { KeepsMutexes (both k.old self.old) }
+        requires early { IsEarly (both k.old self.old) }
+        ensures { both k.new self.new ≡ given_up (both k.old self.old) who id (object_of self.old id) }
+    {
+        k.facts();
+        self.pass_on(k, id);
+        let_go(k, who, self.mutex(id));
+        ease(k, who, self.mutex(id), 1);
+    }
+
+    // The owner gives it, and keeps it.
+    fn give_once(&mut self, k: &mut Kern, who: Ident, id: Ident)
+        requires live { Lives k.old who }
+        requires there { IsSome (object_of self.old id) }
+        requires since { k.old.next_since < 2 ^ 63 }
+        ensures { both k.new self.new ≡ given_once (both k.old self.old) who id (object_of self.old id) }
+    {
+        ease(k, who, self.mutex(id), 1);
+        take_depth(self.table.object_mut(id));
+    }
+
+    /// The owner gives the mutex. After the last give the first waiter has it, or it is free; then the giver
+    /// has its normal priority again where it owns no other that is inversion-safe; then it is safe once less.
+    ///
+    /// # Errors
+    ///
+    /// `ObjIdError` where there is no such mutex; `InvalidOperation` where the caller is not its owner.
+    /// Nothing changes then.
+    pub fn give(&mut self, k: &mut Kern, caller: Ident, id: u32) -> Result<(), Errno>
+        requires live { Lives k.old caller }
+        requires kept { KeepsMutexes (both k.old self.old) }
+        requires early { IsEarly (both k.old self.old) }
+        ensures ok { IfOk result (λ _. (give_refusal caller (object_of self.old id) ≡ None)
+            × (both k.new self.new ≡ give (both k.old self.old) caller id)) }
+        ensures err { IfErr result (λ e. (give_refusal caller (object_of self.old id) ≡ Some e)
+            × (both k.new self.new ≡ both k.old self.old)) }
+        ensures kept { KeepsMutexes (both k.new self.new) }
+    {
+        k.facts();
+        self.facts();
+        let Some(id) = self.find(id) else {
+            return Err(Errno::ObjIdError);
+        };
+        let Some(owner) = self.owner_by(id) else {
+            return Err(Errno::InvalidOperation);
+        };
+        if owner != caller {
+            return Err(Errno::InvalidOperation);
+        }
+        if self.depth(id) > 1 {
+            self.give_once(k, caller, id);
+        } else {
+            self.give_up(k, caller, id);
+        }
+        Ok(())
+    }
+}

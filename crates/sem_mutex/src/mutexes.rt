@@ -1,0 +1,150 @@
+//! The mutexes.
+
+ghost use Rattle.std.specs.Prelude.{◌≡◌, ◌<◌, ◌^◌, true, false, [], Some, None, IsSome, IfOk, IfErr, is_some};
+ghost use Rattle.wind_base.specs.SemBits.{is_priority, is_inversion_safe};
+ghost use Rattle.id_table.specs.Rows.{object_of};
+ghost use Rattle.wind_core.specs.State.{Lives};
+ghost use Rattle.inheritance.specs.Mutexes.{both, owner_in, AreMutexes};
+ghost use Rattle.sem_mutex.specs.Kept.{KeepsMutexes, IsEarly};
+ghost use Rattle.sem_mutex.specs.Calls.{live_mutex, priority_set};
+ghost use Rattle.sem_mutex.specs.Making.{create, create_refusal, new_mutex};
+
+use crate::owners::pri_after;
+use id_table::{Ident, Table};
+use inheritance::{Mutex, raise};
+use std::alloc::Global;
+use std::marker::Model;
+use wind_base::limits::MUTEXES;
+use wind_base::{Errno, NoMemory, Pri, SemOptions};
+use wind_core::Kern;
+
+/// The live mutexes, by their ids.
+#[derive(Drop)]
+pub struct Mutexes {
+    pub(crate) table: Table<Mutex>,
+}
+
+impl Model for Mutexes {
+    ghost use Rattle.std.specs.Prelude.{◌≡◌, ℕ, List};
+    ghost use Rattle.wind_base.specs.Limits.{most_mutexes};
+    ghost use Rattle.inheritance.specs.declared.mutex.Mutex.{Mutex as Mutex_lem};
+
+    ghost Value = { List (ℕ × Mutex_lem) };
+
+    ghost view = { λ m. m.table.rows };
+
+    ghost invariant = { λ m. m.table.room ≡ most_mutexes };
+}
+
+impl Mutexes {
+    /// No mutex, with room for 1,024. No other call takes memory.
+    pub fn reserved(alloc: Global) -> Result<Mutexes, NoMemory>
+        ensures { IfOk result (λ m. m ≡ []) }
+    {
+        Ok(Mutexes {
+            table: Table::reserved(alloc, MUTEXES)?,
+        })
+    }
+
+    /// Does nothing. Its contract tells the facts that the list of mutexes keeps.
+    pub fn facts(&self)
+        ensures { AreMutexes self.now }
+    {
+        self.table.facts();
+    }
+
+    // The mutex of this id, which there is.
+    pub(crate) fn mutex(&self, id: Ident) -> &Mutex
+        requires { IsSome (object_of self.now id) }
+        ensures { object_of self.now id ≡ Some result.now }
+    {
+        match self.table.get(id) {
+            Some(m) => m,
+            None => unreachable!(),
+        }
+    }
+
+    // The id of this number, where its mutex is live.
+    pub(crate) fn find(&self, id: u32) -> Option<Ident>
+        ensures { result ≡ live_mutex self.now id }
+    {
+        self.facts();
+        let id = Ident::new(id)?;
+        if self.table.contains(id) {
+            Some(id)
+        } else {
+            None
+        }
+    }
+
+    // Its owner.
+    pub(crate) fn owner_by(&self, id: Ident) -> Option<Ident>
+        ensures { result ≡ owner_in (object_of self.now id) }
+    {
+        self.table.get(id)?.owner
+    }
+
+    /// Makes a mutex that nobody owns. Options with inheritance have waiters by priority too, as all that
+    /// `SemOptions::read` gives for a mutex.
+    ///
+    /// # Errors
+    ///
+    /// `TooMany` where 1,024 are live, else `IdsSpent` where no id is left. Nothing changes then.
+    pub fn create(&mut self, k: &mut Kern, options: SemOptions) -> Result<Ident, Errno>
+        requires options { is_inversion_safe options ≡ true → is_priority options ≡ true }
+        requires ids { k.old.lent ≡ false }
+        requires kept { KeepsMutexes (both k.old self.old) }
+        ensures ok { IfOk result (λ id. (create_refusal (both k.old self.old) ≡ None) × (id ≡ k.old.next_id)
+            × (both k.new self.new ≡ create (both k.old self.old) (new_mutex options))) }
+        ensures err { IfErr result (λ e. (create_refusal (both k.old self.old) ≡ Some e)
+            × (both k.new self.new ≡ both k.old self.old)) }
+        ensures kept { KeepsMutexes (both k.new self.new) }
+    {
+        if self.table.len() >= MUTEXES as usize {
+            return Err(Errno::TooMany);
+        }
+        let mutex = Mutex {
+            by_priority: options.is_priority(),
+            delete_safe: options.is_delete_safe(),
+            inversion_safe: options.is_inversion_safe(),
+            owner: None,
+            depth: 0,
+        };
+        let Ok(id) = k.add_to(&mut self.table, mutex) else {
+            return Err(Errno::IdsSpent);
+        };
+        Ok(id)
+    }
+
+    /// Whether the number is the id of a live mutex.
+    pub fn is_live(&self, id: u32) -> bool
+        ensures { result ≡ is_some (object_of self.now id) }
+    {
+        self.find(id).is_some()
+    }
+
+    /// The number of the task that owns it, live or ended. None where there is no such mutex or it is free.
+    pub fn owner(&self, id: u32) -> Option<u32>
+        ensures { result ≡ owner_in (object_of self.now id) }
+    {
+        let id = self.find(id)?;
+        let owner = self.owner_by(id)?;
+        Some(owner.get())
+    }
+
+    /// Sets the task's normal priority. It is scheduled by that where it owns no inversion-safe mutex, else
+    /// by the more urgent of that and the priority that it has; and whom it waits for inherits that.
+    pub fn priority_set(&mut self, k: &mut Kern, who: Ident, pri: Pri)
+        requires live { Lives k.old who }
+        requires kept { KeepsMutexes (both k.old self.old) }
+        requires early { IsEarly (both k.old self.old) }
+        ensures state { both k.new self.new ≡ priority_set (both k.old self.old) who pri }
+        ensures kept { KeepsMutexes (both k.new self.new) }
+    {
+        k.facts();
+        let changed = pri_after(k, who, pri);
+        k.set_normal(who, pri);
+        k.change_pri(who, changed);
+        raise(k, &self.table);
+    }
+}

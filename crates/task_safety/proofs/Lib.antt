@@ -1,0 +1,3 @@
+pub mod Targets
+pub mod Going
+pub mod Waiting

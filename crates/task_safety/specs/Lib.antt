@@ -1,0 +1,4 @@
+pub mod Safety
+pub mod Deletion
+pub mod Kept
+pub mod Laws

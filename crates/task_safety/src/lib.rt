@@ -1,0 +1,12 @@
+//! Safe sections, and the deletion of tasks, which waits for their end.
+#![tactic(auto)]
+
+mod deleting;
+mod laws;
+mod safety;
+#[cfg(test)]
+mod tests;
+
+pub use deleting::{Deed, Deleted, delete};
+pub use laws::{gone_law, kept_law};
+pub use safety::{lessen, safe, unsafe_by};
