@@ -1,0 +1,30 @@
+use Rattle.std.proofs.Common.{ℕ, ◌<◌, ◌≤◌, not, eqb, ap, ◌∙◌, sym, subst, arith, Some, IsSome}
+use Rattle.wind_base.specs.declared.errno.Errno.TheVariants as errors
+use Rattle.id_table.specs.Rows.{Rows, object_of}
+use Rattle.msg_queue.specs.State.{QueueState, QueuesState, receivers}
+use Rattle.msg_queue.specs.Kept.{IsKept}
+use Rattle.msg_queue.specs.State.{scene}
+use Rattle.msg_queue.specs.Comings.{delete}
+use Rattle.msg_queue.specs.Machine.{deletes}
+use Rattle.msg_queue.specs.contracts.queues.Queues.{the_view}
+use Rattle.std.proofs.lemmas.List.Elements.{All-filter}
+use Rattle.msg_queue.proofs.Deletions.{since-wake_all, deleted_is}
+use Rattle.msg_queue.proofs.Events.{keeps}
+use Rattle.msg_queue.proofs.queues.Queues.delete.Goals as goal
+
+pub wake_all-requires-2 : goal.wake_all-requires-2
+wake_all-requires-2 c =
+    omega (arith, c.requires.since, since-wake_all c.args.kern.now c.wake_all.new.self (receivers c.in-Some.at) 4294967295 (Some errors.ObjDeleted) c.facts.ensures c.wake_all.ensures)
+
+pub invariant_of-self : goal.invariant_of-self
+invariant_of-self c = rw c.remove.ensures.rows (c.self.invariant.0, All-filter (λ (r : ℕ × QueueState). not (eqb r.0 c.in-Some.at)) (λ (r : ℕ × QueueState). (0 < r.0) × (r.0 ≤ 1048576)) c.self.inside.queues.rows c.self.invariant.1, c.self.invariant.2)
+
+pub returns-clause-kept : goal.returns-clause-kept
+returns-clause-kept c = λ ram kept.
+    let s = scene c.args.kern.now (the_view c.self.inside) ram in
+    subst IsKept
+    (sym (deleted_is s c.args.id c.in-Some.at c.wake_all.new.self c.wake_all-2.new.self c.remove.new.self.rows c.in-Some.ensures.0
+    (subst (λ (qs : QueuesState). IsSome (object_of qs.queues c.in-Some.at)) (sym c.self.view_is) c.in-Some.ensures.1) c.wake_all.ensures c.wake_all-2.ensures
+    (ap (λ (t : Rows QueueState). t.rows) c.remove.ensures.rows)
+    ∙ ap (λ qs. delete (scene c.args.kern.now qs ram) c.args.id) c.self.view_is))
+    (keeps (scene c.args.kern.now c.args.self.now ram) (deletes c.args.id) kept tt)
