@@ -6,14 +6,14 @@ use Rattle.std.specs.List.{AllPairs, All, find, cons_option, position, remove}
 use Rattle.std.proofs.lemmas.Grind.{common_steps}
 use Rattle.std.proofs.lemmas.Bool.{cases_eq, eqb-true, eq-eqb, ne_eqb}
 use Rattle.std.proofs.lemmas.List.{get_or_default, get_or-map, length-map, length_push, length-append, length-take, length-drop, get_or-take, get_or-drop}
-use Rattle.std.proofs.lemmas.List.Elements.{All-push, All-append, filter_map-append}
+use Rattle.std.proofs.lemmas.List.Elements.{All-cons, All-push, All-append, filter_map-append}
 use Rattle.std.proofs.lemmas.List.Quantifiers.{position-Some, all_pairs_push, all_pairs_remove}
 use Rattle.std.proofs.lemmas.Option.{same_Some}
 use Rattle.slab.proofs.SlabLemmas.{Updates-with_value}
 use Rattle.slab.specs.Slab.{Slab, get, slab_len, with_value, Updates}
 use Rattle.id_table.specs.declared.entry.Entry.{Entry}
-use Rattle.wind_lists.specs.Records.{of_id}
-use Rattle.id_table.specs.Rows.{Rows, Rises, row_id, row_object, ids, next_above, objects, object_of, with_object, without, IdsBelow}
+use Rattle.wind_lists.specs.Records.{of_id, Rising}
+use Rattle.id_table.specs.Rows.{Rows, IsId, IsTable, Rises, row_id, row_object, ids, next_above, objects, object_of, with_object, without, IdsBelow}
 use Rattle.id_table.specs.Inside.{row_at, rows_in, IsKept, EntryAt}
 
 -- ---- a search by id
@@ -142,6 +142,28 @@ module _ {T : Type 0} where
   pub rows_rise : (order : List Entry) (slots : Slab T) → Present order slots → AllPairs (λ c e. c.id < e.id) order → Rises (rows_in order slots)
   rows_rise order slots h up = subst (λ is. AllPairs (λ i j. i < j) is) (sym (ids_rows order slots h)) (rises_map order up)
 
+  rising_rows : (rs : List (ℕ × T)) → Rises rs → Rising row_id rs
+  rising_rows rs up i j d hij hj =
+      let within : j < length (ids rs) = omega (arith, length-map rs row_id) in
+      let at_i = get_or-map row_id rs i d d.0 (omega arith) in
+      let at_j = get_or-map row_id rs j d d.0 hj in
+      omega (arith, at_i, at_j, up i j d.0 hij within)
+
+  ranged_rows : (order : List Entry) (slots : Slab T) → Present order slots → All (λ e. IsId e.id) order → All (λ r. IsId r.0) (rows_in order slots)
+  ranged_rows [] slots h ranged = λ k d hk. absurd (omega arith)
+  ranged_rows (e ∷ es) slots h ranged =
+      let row = row_is slots e es (h 0 e (omega arith)) in
+      subst (All (λ r. IsId r.0)) (sym row.2)
+      (All-cons (λ (r : ℕ × T). IsId r.0) (e.id, row.0) (rows_in es slots) (ranged 0 e (omega arith)) (ranged_rows es slots (rest_present slots e es h) (λ k d hk. ranged (suc k) d (omega arith))))
+
+  -- what the rows keep
+  pub rows_sound : (order : List Entry) (slots : Slab T) (room : ℕ) → IsKept order slots room → IsTable (record { rows = rows_in order slots; room = room })
+  rows_sound order slots room is = record {
+    few = omega (arith, length-rows order slots is.present, is.fits);
+    rising = rising_rows (rows_in order slots) (rows_rise order slots is.present is.rising);
+    ranged = ranged_rows order slots is.present is.ranged;
+  }
+
   pub above_rows : (order : List Entry) (slots : Slab T) (n : ℕ) → Present order slots → next_above (rows_in order slots) n ≡ option_map (λ e. e.id) (find (λ (e : Entry). nat_lt n e.id) order)
   above_rows order slots n h = ap (find (λ id. nat_lt n id)) (ids_rows order slots h) ∙ above_ids order n
 
@@ -245,9 +267,9 @@ module _ {T : Type 0} where
   -- the invariant and the rows after an object is added
   pub IsKept-push : (order : List Entry) (old new : Slab T) (room : ℕ) (e : Entry) (value : T) → IsKept order old room → length order < room
       → Updates old new e.key (Some value) → get old e.key ≡ None → slab_len new ≡ slab_len old + 1 → new.capacity ≡ old.capacity
-      → ((k : ℕ) (d : Entry) → k < length order → (get_or order k d).id < e.id)
+      → ((k : ℕ) (d : Entry) → k < length order → (get_or order k d).id < e.id) → IsId e.id
       → IsKept (order ++ e ∷ []) new room × (rows_in (order ++ e ∷ []) new ≡ rows_in order old ++ (e.id, value) ∷ [])
-  IsKept-push order old new room e value is few u vacant len roomy below =
+  IsKept-push order old new room e value is few u vacant len roomy below ranged =
       let apart : (k : ℕ) (d : Entry) → k < length order → (get_or order k d).key ≡ e.key → ⊥ = λ k d hk q.
       let none : get old (get_or order k d).key ≡ None = ap (get old) q ∙ vacant in
       no_object (get old (get_or order k d).key) none (is.present k d hk) in
@@ -256,6 +278,7 @@ module _ {T : Type 0} where
           present = All-push (λ d. IsSome (get new d.key)) order e (λ k d hk. subst (λ o. IsSome o) (sym (same k d hk)) (is.present k d hk)) (subst (λ o. IsSome o) (sym u.changed) refl);
           apart = all_pairs_push (λ c d. c.key ≡ d.key → ⊥) order e is.apart apart;
           rising = all_pairs_push (λ c d. c.id < d.id) order e is.rising below;
+          ranged = All-push (λ d. IsId d.id) order e is.ranged ranged;
           all = len ∙ ap (λ n. n + 1) is.all ∙ sym (length_push order e);
           fits = omega (arith, length_push order e);
           space = omega (arith, is.space, roomy);
@@ -278,6 +301,9 @@ module _ {T : Type 0} where
               subst (λ e. IsSome (get new e.key)) (sym (get_or-drop (suc at) order k d)) (subst (λ o. IsSome o) (sym (same (suc at + k) d wk (λ q. omega arith))) (is.present (suc at + k) d wk)));
           apart = all_pairs_remove (λ c d. c.key ≡ d.key → ⊥) order at stands.within is.apart;
           rising = all_pairs_remove (λ c d. c.id < d.id) order at stands.within is.rising;
+          ranged = All-append (λ d. IsId d.id) (take at order) (drop (suc at) order)
+              (λ k d hk. let wk : k < at = omega (arith, length-take at order) in subst (λ e. IsId e.id) (sym (get_or-take at order k d wk)) (is.ranged k d (omega (arith, stands.within))))
+              (λ k d hk. let wk : suc at + k < length order = omega (arith, length-drop (suc at) order) in subst (λ e. IsId e.id) (sym (get_or-drop (suc at) order k d)) (is.ranged (suc at + k) d wk));
           all = omega (arith, len, is.all, fewer order at stands.within);
           fits = omega (arith, is.fits, fewer order at stands.within);
           space = omega (arith, is.space, roomy);

@@ -4,6 +4,7 @@ use Rattle.std.specs.List.{AllPairs, All, filter_map}
 use Rattle.std.specs.Option.{option_map}
 use Rattle.slab.specs.Slab.{Slab, get, slab_len}
 use Rattle.id_table.specs.declared.entry.Entry.{Entry}
+use Rattle.id_table.specs.Rows.{IsId}
 
 -- the entry of this id stands at this place
 pub record EntryAt (order : List Entry) (id place : ℕ) : Type 0 where
@@ -19,11 +20,12 @@ module _ {T : Type 0} where
   abbrev pub rows_in : List Entry → Slab T → List (ℕ × T)
   rows_in order slots = filter_map (row_at slots) order
 
-  -- each entry has an object of its own, and there is no other; the ids rise; the room is there
+  -- each entry has an object of its own, and there is no other; the ids are such, and rise; the room is there
   pub record IsKept (order : List Entry) (slots : Slab T) (room : ℕ) : Type 0 where
     pub present : All (λ e. IsSome (get slots e.key)) order
     pub apart : AllPairs (λ d e. d.key ≡ e.key → ⊥) order
     pub rising : AllPairs (λ d e. d.id < e.id) order
+    pub ranged : All (λ e. IsId e.id) order
     pub all : slab_len slots ≡ length order
     pub fits : length order ≤ room
     pub space : room ≤ slots.capacity

@@ -1,14 +1,19 @@
 -- What a contract sees of a table: its objects by rising id, and how many it may have.
-use Rattle.std.specs.Prelude.{ℕ, ◌<◌, nat_lt, List, [], ◌∷◌, ◌++◌, map, Option, refl}
+use Rattle.std.specs.Prelude.{ℕ, ◌<◌, ◌≤◌, nat_lt, List, [], ◌∷◌, ◌++◌, map, length, Option, refl}
 use Rattle.std.specs.List.{All, AllPairs, find}
 use Rattle.std.specs.Option.{option_map}
 use Rattle.std.specs.Coded.{Coded, code_by, coded×, coded_ℕ, coded_list}
+use Rattle.wind_base.specs.Limits.{greatest_id}
 use Rattle.wind_lists.specs.Records as records
 
 -- the ids with their objects, and the room
 pub record Rows (T : Type 0) : Type 0 where
   pub rows : List (ℕ × T)
   pub room : ℕ
+
+-- the number of an object
+abbrev pub IsId : ℕ → Type 0
+IsId n = (0 < n) × (n ≤ greatest_id)
 
 -- such a table, as a pair
 abbrev pub rows_code : {T : Type 0} → Coded T → Coded (Rows T)
@@ -69,3 +74,9 @@ module _ {T : Type 0} where
   -- the objects by rising id
   abbrev pub objects : List (ℕ × T) → List T
   objects rs = map row_object rs
+
+  -- what a table keeps: there are no more objects than room, and their ids are such, and rise
+  pub record IsTable (t : Rows T) : Type 0 where
+    pub few : length t.rows ≤ t.room
+    pub rising : records.Rising row_id t.rows
+    pub ranged : All (λ r. IsId r.0) t.rows

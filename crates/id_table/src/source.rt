@@ -58,6 +58,7 @@ impl IdSource {
     /// Gives the next id. None where none is left.
     pub(crate) fn draw(&mut self) -> Option<Ident>
         ensures id { SomeIff result (self.old ≤ greatest_id) self.old }
+        ensures above { 0 < self.old }
         ensures next { self.new ≡ (if nat_le self.old greatest_id then self.old + 1 else self.old) }
     {
         let id = Ident::new(self.next)?;

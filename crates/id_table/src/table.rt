@@ -4,7 +4,7 @@ ghost use Rattle.std.specs.Prelude.{◌≡◌, ◌<◌, ◌≤◌, ◌+◌, [], 
 ghost use Rattle.std.specs.Option.{option_copied_mut};
 ghost use Rattle.std.specs.Borrow.{sem};
 ghost use Rattle.wind_base.specs.Limits.{greatest_id};
-ghost use Rattle.id_table.specs.Rows.{object_of, objects, added, removed, IdsBelow, Rises, next_above};
+ghost use Rattle.id_table.specs.Rows.{object_of, objects, added, removed, IdsBelow, IsTable, Rises, next_above};
 
 use crate::entry::{Entry, entry_above, place_of};
 use crate::ident::Ident;
@@ -53,6 +53,14 @@ impl<T> Table<T> {
             return Err(NoMemory)
         };
         Ok(Table { room, order, slots })
+    }
+
+    /// Does nothing. Its contract tells the facts that the table keeps.
+    pub fn facts(&self)
+        ensures { IsTable self.now }
+    {
+        // to read the order is to know them
+        let _ = &self.order;
     }
 
     /// How many objects there are.

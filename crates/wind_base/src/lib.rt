@@ -1,6 +1,7 @@
 //! What every crate of windplay shares: the limits of the board, a buffer of bytes whose room is taken
 //! ahead, lines and decimal numbers, priorities, names, error numbers, the names of the kernel's calls,
-//! the registers of the processor, and the answers for want of memory and of room.
+//! the registers of the processor, kinds and options of semaphores, and the answers for want of memory and
+//! of room.
 #![tactic(auto)]
 
 mod errno;
@@ -13,6 +14,7 @@ mod number;
 mod out_buf;
 mod priority;
 mod regs;
+mod semaphore;
 #[cfg(test)]
 mod tests;
 pub mod text;
@@ -27,6 +29,7 @@ pub use number::decimal;
 pub use out_buf::OutBuf;
 pub use priority::Pri;
 pub use regs::Regs;
+pub use semaphore::{SemKind, SemOptions};
 use thiserror::Error;
 
 /// Host memory ran out. What the call was made on is as it was before.

@@ -6,13 +6,13 @@ use Rattle.std.proofs.lemmas.List.Kept.{AllPairs-filter}
 use Rattle.std.proofs.lemmas.List.Quantifiers.{all_pairs_push}
 use Rattle.id_table.specs.Rows.{objects, added, removed, IdsBelow}
 use Rattle.id_table.specs.Rows as table
+use Rattle.id_table.proofs.Owning.{objects-without}
 use Rattle.task_block.specs.declared.task.Task.{Task}
 use Rattle.wind_lists.proofs.Passing.{length-filter}
 use Rattle.wind_core.specs.State.{KernState, IsKern, WakesAhead, task_id}
 use Rattle.wind_core.specs.Moves.{remove}
 use Rattle.wind_core.specs.declared.kern.Kern.TheInside.{Inside}
 use Rattle.wind_core.specs.contracts.kern.Kern.{the_view}
-use Rattle.wind_core.proofs.Tables.{objects-without}
 use Rattle.wind_core.proofs.Writes.{Kept}
 
 -- ---- a task goes
@@ -34,7 +34,7 @@ abbrev taken_out : Inside → ℕ → Inside
 taken_out k who = record k { tasks = removed k.tasks who }
 
 pub removed_is : (k : Inside) (who : ℕ) → Kept k → the_view (taken_out k who) ≡ remove (the_view k) who
-removed_is k who kept = ap {B = KernState} (λ ts. record (the_view k) { tasks = ts }) (objects-without k.tasks.rows who kept.1)
+removed_is k who kept = ap {B = KernState} (λ ts. record (the_view k) { tasks = ts }) (objects-without task_id k.tasks.rows who kept.1)
 
 pub removed_keeps : (k : Inside) (who : ℕ) → Kept k → Kept (taken_out k who)
 removed_keeps k who kept = (

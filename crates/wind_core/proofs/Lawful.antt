@@ -57,7 +57,7 @@ total_orders = (
 
 -- ---- who runs
 -- an element that passes the test is one of those that do
-contains_filter : {X : Type 0} (p : X → Bool) (xs : List X) → All (λ y. p y ≡ true → Contains (filter p xs) y) xs
+pub contains_filter : {X : Type 0} (p : X → Bool) (xs : List X) → All (λ y. p y ≡ true → Contains (filter p xs) y) xs
 contains_filter p [] = λ k d h. absurd (omega arith)
 contains_filter p (x ∷ xs) =
     All-cons (λ y. p y ≡ true → Contains (filter p (x ∷ xs)) y) x xs

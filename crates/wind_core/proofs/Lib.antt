@@ -1,4 +1,3 @@
-pub mod Tables
 pub mod Writes
 pub mod Passes
 pub mod Comings
@@ -10,3 +9,4 @@ pub mod Ticking
 pub mod Stable
 pub mod Finding
 pub mod Ids
+pub mod Releasing

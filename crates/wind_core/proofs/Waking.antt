@@ -18,7 +18,7 @@ use Rattle.wind_core.proofs.Passes.{waits_before-order, arrives_before-order}
 
 -- ---- one task goes on
 -- after the front has gone on and passes no more, the others stand in line as before
-in_line-move : (lt : Task → Task → Bool) → IsStrictWeakOrder lt → (p : Task → Bool) (s : KernState) (f : Task → Task) (x : Task) (rest : List Task)
+pub in_line-move : (lt : Task → Task → Bool) → IsStrictWeakOrder lt → (p : Task → Bool) (s : KernState) (f : Task → Task) (x : Task) (rest : List Task)
     → ((t : Task) → p (settled s.next_since (f t)) ≡ false) → Rising task_id s.tasks → in_line lt p s.tasks ≡ x ∷ rest
     → in_line lt p (move_task s x.id f).tasks ≡ rest
 in_line-move lt order p s f x rest gone up e =
@@ -42,11 +42,11 @@ since-end_wait s who answer errno =
     ]
 
 -- what is read of the front
-id_found : (o : Option Task) (who : ℕ) → Some who ≡ option_map task_id o → (x : Task) × (o ≡ Some x) × (who ≡ x.id)
+pub id_found : (o : Option Task) (who : ℕ) → Some who ≡ option_map task_id o → (x : Task) × (o ≡ Some x) × (who ≡ x.id)
 id_found None who e = absurd (cc)
 id_found (Some x) who e = (x, refl, cc)
 
-no_id : (o : Option Task) → None ≡ option_map task_id o → o ≡ None
+pub no_id : (o : Option Task) → None ≡ option_map task_id o → o ≡ None
 no_id None e = refl
 no_id (Some x) e = absurd (cc)
 

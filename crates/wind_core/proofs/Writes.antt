@@ -5,6 +5,7 @@ use Rattle.std.proofs.lemmas.List.{length-map}
 use Rattle.std.proofs.lemmas.List.Elements.{All-contains, All-weaker}
 use Rattle.wind_base.specs.Limits.{most_tasks, wait_forever}
 use Rattle.id_table.specs.Rows.{object_of, objects, rewritten}
+use Rattle.id_table.proofs.Owning.{object-record, objects-replace, OwnIds-write}
 use Rattle.task_block.specs.declared.task.Task.{Task}
 use Rattle.task_block.specs.Standing.{is_ready}
 use Rattle.wind_lists.specs.Records.{replace, change}
@@ -14,7 +15,6 @@ use Rattle.wind_core.specs.Inside.{SameIds}
 use Rattle.wind_core.specs.Moves.{renewed, settled, change_task, renew_task, move_found, move_task, is_endless, wake_at, delayed}
 use Rattle.wind_core.specs.declared.kern.Kern.TheInside.{Inside}
 use Rattle.wind_core.specs.contracts.kern.Kern.{the_view}
-use Rattle.wind_core.proofs.Tables.{object-task, objects-replace, SameIds-write}
 
 -- what a kernel keeps by its type
 abbrev pub Kept : Inside → Type 0
@@ -26,17 +26,17 @@ written k who y n = record k { tasks = rewritten k.tasks who y; next_since = n }
 
 -- a task that lives is in the table
 pub object_lives : (k : Inside) (s : KernState) (who : ℕ) → Kept k → the_view k ≡ s → Lives s who → IsSome (object_of k.tasks.rows who)
-object_lives k s who kept is lives = subst (λ o. IsSome o) (sym (object-task k.tasks.rows who kept.1 ∙ ap (λ r. task_of r.tasks who) is)) lives
+object_lives k s who kept is lives = subst (λ o. IsSome o) (sym (object-record task_id k.tasks.rows who kept.1 ∙ ap (λ r. task_of r.tasks who) is)) lives
 
 pub found : (k : Inside) (who : ℕ) (x : Task) → Kept k → object_of k.tasks.rows who ≡ Some x → task_of (the_view k).tasks who ≡ Some x
-found k who x kept value = sym (object-task k.tasks.rows who kept.1) ∙ value
+found k who x kept value = sym (object-record task_id k.tasks.rows who kept.1) ∙ value
 
 -- ---- the state
 pub written_is : (k : Inside) (who n : ℕ) (x y : Task) (f : Task → Task) → Kept k → object_of k.tasks.rows who ≡ Some x → y ≡ f x
     → ◌≡◌ {A = KernState} (the_view (written k who y n)) (record (the_view k) { tasks = change task_id (the_view k).tasks who f; next_since = n })
 written_is k who n x y f kept value e =
     ap {B = KernState} (λ ts. record (the_view k) { tasks = ts; next_since = n })
-    (objects-replace k.tasks.rows who y kept.1
+    (objects-replace task_id k.tasks.rows who y kept.1
     ∙ ap (replace task_id (objects k.tasks.rows) who) e
     ∙ replace-change task_id (objects k.tasks.rows) who x f kept.2.rising (found k who x kept value))
 
@@ -90,8 +90,8 @@ pub written_keeps : (k : Inside) (who n : ℕ) (x y : Task) → Kept k → objec
 written_keeps k who n x y kept value may =
     let here = found k who x kept value in (
       kept.0,
-      SameIds-write k.tasks.rows who y kept.1 (may.id ∙ found_id task_id (objects k.tasks.rows) who x here),
-      subst (λ ts. IsKern (record (the_view k) { tasks = ts; next_since = n })) (sym (objects-replace k.tasks.rows who y kept.1)) (IsKern-replace (the_view k) who n x y kept.2 here may),
+      OwnIds-write task_id k.tasks.rows who y kept.1 (may.id ∙ found_id task_id (objects k.tasks.rows) who x here),
+      subst (λ ts. IsKern (record (the_view k) { tasks = ts; next_since = n })) (sym (objects-replace task_id k.tasks.rows who y kept.1)) (IsKern-replace (the_view k) who n x y kept.2 here may),
     )
 
 -- y has x's id and order number, and sleeps no longer

@@ -5,3 +5,4 @@ pub mod Tick
 pub mod Inside
 pub mod Lends
 pub mod Laws
+pub mod Releases

@@ -1,6 +1,6 @@
 //! The kernel's tasks and counters.
 
-ghost use Rattle.std.specs.Prelude.{◌≡◌, ◌<◌, ◌≤◌, ◌+◌, ◌^◌, ◌↔◌, true, false, [], length, Some, None, IfOk, IfErr, IsOk, option_copied};
+ghost use Rattle.std.specs.Prelude.{◌≡◌, ◌<◌, ◌≤◌, ◌+◌, ◌^◌, ◌↔◌, true, false, [], length, slice_index_or, Some, None, IfOk, IfErr, IsOk, option_copied};
 ghost use Rattle.std.specs.Borrow.{sem};
 ghost use Rattle.std.specs.Option.{option_map, option_copied_mut};
 ghost use Rattle.wind_base.specs.Limits.{greatest_id};
@@ -93,6 +93,14 @@ impl Kern {
         ensures { option_copied result ≡ task_of self.now.tasks id }
     {
         self.tasks.get(id)
+    }
+
+    /// The task at this place, counted from 0 by rising id.
+    pub fn task_at(&self, place: u32) -> &Task
+        requires { place < length self.now.tasks }
+        ensures { result.now ≡ slice_index_or self.now.tasks place result.now }
+    {
+        self.tasks.value_at(place as usize)
     }
 
     // The registers of a task that lives, to be written.

@@ -26,6 +26,8 @@ enum Act {
     Release(u32),
     // all that wait at side 0 of object 9 go on, with ERROR, since it was deleted
     WakeAll,
+    // all that wait there go on without an answer
+    ReleaseAll,
     Pri(u32, u32),
     Lock(u32, u64),
 }
@@ -99,6 +101,14 @@ fn wake_all(kern: &mut Kern) -> Option<()> {
     Some(())
 }
 
+fn release_all(kern: &mut Kern) -> Option<()> {
+    let id = Ident::new(9)?;
+    if is_early(kern) {
+        kern.release_all(Place { side: 0, id });
+    }
+    Some(())
+}
+
 // Makes a call on the task of a number.
 fn apply_to(kern: &mut Kern, number: u32, act: Act) -> Option<()> {
     let who = live(kern, number)?;
@@ -129,6 +139,7 @@ fn apply(kern: &mut Kern, act: Act) -> Option<()> {
         Act::Tick => tick(kern),
         Act::Pend(who, side, fifo, timeout) => pend(kern, who, side, fifo, timeout),
         Act::WakeAll => wake_all(kern),
+        Act::ReleaseAll => release_all(kern),
         Act::Suspend(who)
         | Act::Resume(who)
         | Act::Delay(who, _)
@@ -181,7 +192,7 @@ type Row = (&'static [Act], bool, Option<u64>, u64, u32, u32, u32);
 
 const END: u32 = u32::MAX;
 
-const ROWS: [Row; 23] = [
+const ROWS: [Row; 24] = [
     // waits: for 2 ticks, and without end
     (&[Act::Pend(2, 0, false, 2)], false, Some(2), 3, 5, 0, 1),
     (&[Act::Pend(2, 0, true, END)], false, None, 3, 5, 0, 1),
@@ -310,6 +321,20 @@ const ROWS: [Row; 23] = [
         END,
         0x3d_0003,
         2,
+    ),
+    // the same without an answer
+    (
+        &[
+            Act::Pend(3, 0, true, END),
+            Act::Pend(2, 0, true, END),
+            Act::ReleaseAll,
+        ],
+        true,
+        None,
+        6,
+        5,
+        0,
+        1,
     ),
     // the lock holds while its task is ready
     (

@@ -5,6 +5,7 @@ ghost use Rattle.std.specs.Option.{option_map};
 ghost use Rattle.wind_core.specs.State.{Lives, IsKern, task_id};
 ghost use Rattle.wind_core.specs.Orders.{first_waiter as first_waiter_lem};
 ghost use Rattle.wind_core.specs.Moves.{pend, delay, release, end_wait, wake_all};
+ghost use Rattle.wind_core.specs.Releases.{release_all};
 
 use crate::kern::Kern;
 use crate::scans::first_waiter;
@@ -88,6 +89,17 @@ impl Kern {
         let _ = &self.tasks;
         while let Some(who) = self.front_waiter(&place) {
             self.end_wait(who, answer, errno);
+        }
+    }
+
+    /// The waits of all tasks at a place end without an answer, in the order in which they stand there.
+    pub fn release_all(&mut self, place: Place)
+        requires { self.old.next_since < 2 ^ 63 }
+        ensures { self.new ≡ release_all self.old place }
+    {
+        let _ = &self.tasks;
+        while let Some(who) = self.front_waiter(&place) {
+            self.release(who);
         }
     }
 }

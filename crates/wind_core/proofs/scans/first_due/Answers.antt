@@ -1,6 +1,7 @@
 use Rattle.std.proofs.Common.{option_copied}
 use Rattle.wind_core.specs.Orders.{arrives_before, is_due}
-use Rattle.wind_core.proofs.Passes.{arrives_before-order, pass_more}
+use Rattle.id_table.proofs.Owning.{pass_more}
+use Rattle.wind_core.proofs.Passes.{arrives_before-order}
 use Rattle.wind_core.proofs.scans.first_due.Goals as goal
 
 pub loop-index-preserved : goal.loop-index-preserved

@@ -1,7 +1,8 @@
 use Rattle.std.proofs.Common.{option_copied}
 use Rattle.task_block.specs.Standing.{is_ready}
 use Rattle.wind_core.specs.Orders.{is_before}
-use Rattle.wind_core.proofs.Passes.{is_before-order, pass_more}
+use Rattle.id_table.proofs.Owning.{pass_more}
+use Rattle.wind_core.proofs.Passes.{is_before-order}
 use Rattle.wind_core.proofs.scans.most_urgent.Goals as goal
 
 pub loop-index-preserved : goal.loop-index-preserved
