@@ -10,6 +10,7 @@ use Rattle.task_block.specs.declared.task.Task.{Task}
 use Rattle.wind_core.specs.State.{KernState, IsKern, task_id, task_of}
 use Rattle.wind_core.specs.Orders.{running, due, waiters}
 use Rattle.wind_core.specs.Moves.{renewed, new_task, spawn, remove, wake_at, pended, pend, delayed, delay, released, release, answered, end_wait, end_waits, wake_all, suspended, is_suspended, resumed, resume, unmarked, reset, with_pri, has_pri, change_pri, move_found, move_task, change_task, renew_task, past_gate, with_answer, with_refusal}
+use Rattle.wind_core.specs.Releases.{releases, release_all}
 use Rattle.wind_core.specs.Tick.{tick, tick_counted, take_turn, turn_of, turn_found, time_out, late_answer, late_errno}
 use Rattle.wind_core.proofs.Stable as stable
 use Rattle.wind_core.proofs.Keeping.{every_call_keeps}
@@ -104,6 +105,11 @@ calm_end_wait rs k who answer errno is =
     calm_at rs k (end_wait k who answer errno) ((every_call_keeps k is).answering who answer errno) (next-move k who (answered answer errno))
     (still-move rs k k.next_id k who (answered answer errno) (λ t p. idle rs k k.next_id (answered answer errno t) refl) (at_first rs k k.next_id))
 
+calm_release : (rs : List (ℕ × QueueState)) (k : KernState) (who : ℕ) → IsKern k → IsCalm rs k (release k who)
+calm_release rs k who is =
+    calm_at rs k (release k who) ((every_call_keeps k is).releasing who) (next-move k who released)
+    (still-move rs k k.next_id k who released (λ t p. idle rs k k.next_id (released t) refl) (at_first rs k k.next_id))
+
 -- the kernel's state by fields that tell nothing of its tasks
 pub counters_keep : (k : KernState) (next slice : ℕ) (lent : Bool) (last : Option ℕ) → IsKern k → k.next_id ≤ next → next ≤ 1048577
     → IsKern (record k { next_id = next; slice = slice; lent = lent; last = last })
@@ -118,6 +124,28 @@ counters_keep k next slice lent last is more most = record {
   ahead = is.ahead;
 }
 
+-- of two such moves, one after the other
+elsewhere_later : (rs : List (ℕ × QueueState)) (n m : ℕ) (place : Place) → n ≤ m → IsElsewhere rs n place → IsElsewhere rs m place
+elsewhere_later rs n m place more other side = let is = other side in (is.0, omega (arith, is.1, more), is.2)
+
+pub calm_then : ThenLaw
+calm_then rs k l m first second = record {
+  kern = second.kern;
+  ids = omega (arith, first.ids, second.ids);
+  waits = each (BeginsNone rs k m.next_id) m.tasks (λ t at place here.
+      ⊎_elim {C = Waited k.tasks t.id place ⊎ IsElsewhere rs m.next_id place}
+      (λ from.
+      ⊎_elim {C = Waited k.tasks t.id place ⊎ IsElsewhere rs m.next_id place}
+      (λ before. inl (before.0, before.1, before.2 ∙ from.2, before.3))
+      (λ other. inr (elsewhere_later rs l.next_id m.next_id place second.ids other))
+      (All-contains (BeginsNone rs k l.next_id) l.tasks from.0 first.waits from.1 place from.3))
+      (λ other. inr other) (All-contains (BeginsNone rs l m.next_id) m.tasks t second.waits at place here));
+}
+
+calm-releases : (rs : List (ℕ × QueueState)) (k : KernState) (ts : List Task) → IsKern k → IsCalm rs k (releases k ts)
+calm-releases rs k [] is = calm_at rs k k is refl (at_first rs k k.next_id)
+calm-releases rs k (t ∷ ts) is = let once = calm_release rs k t.id is in calm_then rs k (release k t.id) (releases k (t ∷ ts)) once (calm-releases rs (release k t.id) ts once.kern)
+
 pub calms : CalmLaw
 calms rs k is =
     let by = every_call_keeps k is in
@@ -126,10 +154,11 @@ calms rs k is =
     record {
       staying = calm_at rs k k is refl first;
       ending = λ who answer errno. calm_end_wait rs k who answer errno is;
-      releasing = λ who. calm_at rs k (release k who) (by.releasing who) (next-move k who released) (still-move rs k n k who released (λ t p. idle rs k n (released t) refl) first);
+      releasing = λ who. calm_release rs k who is;
       waking = λ place answer errno.
           calm_at rs k (wake_all k place answer errno) (by.waking place answer errno) (next-end_waits k (waiters k.tasks place) answer errno)
           (still-end_waits rs k n k (waiters k.tasks place) answer errno first);
+      releasing_all = λ place. calm-releases rs k (waiters k.tasks place) is;
       ticking = calm_at rs k (tick k) (tick_keeps k is) (next-tick k) (still-tick rs k n k first);
       pending = λ who place fifo m some other.
           let f : Task → Task = pended place fifo (wake_at place.side k.tick m) in
@@ -175,20 +204,3 @@ calms rs k is =
         waits = at_first rs k next;
       };
     }
-
-elsewhere_later : (rs : List (ℕ × QueueState)) (n m : ℕ) (place : Place) → n ≤ m → IsElsewhere rs n place → IsElsewhere rs m place
-elsewhere_later rs n m place more other side = let is = other side in (is.0, omega (arith, is.1, more), is.2)
-
-pub calm_then : ThenLaw
-calm_then rs k l m first second = record {
-  kern = second.kern;
-  ids = omega (arith, first.ids, second.ids);
-  waits = each (BeginsNone rs k m.next_id) m.tasks (λ t at place here.
-      ⊎_elim {C = Waited k.tasks t.id place ⊎ IsElsewhere rs m.next_id place}
-      (λ from.
-      ⊎_elim {C = Waited k.tasks t.id place ⊎ IsElsewhere rs m.next_id place}
-      (λ before. inl (before.0, before.1, before.2 ∙ from.2, before.3))
-      (λ other. inr (elsewhere_later rs l.next_id m.next_id place second.ids other))
-      (All-contains (BeginsNone rs k l.next_id) l.tasks from.0 first.waits from.1 place from.3))
-      (λ other. inr other) (All-contains (BeginsNone rs l m.next_id) m.tasks t second.waits at place here));
-}

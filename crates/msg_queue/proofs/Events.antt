@@ -8,6 +8,7 @@ use Rattle.std.proofs.lemmas.List.Quantifiers.{all_pairs_push}
 use Rattle.wind_base.specs.declared.errno.Errno.{Errno}
 use Rattle.wind_base.specs.declared.errno.Errno.TheVariants as errors
 use Rattle.id_table.specs.Rows.{object_of, without, ids, IdsBelow}
+use Rattle.id_table.specs.declared.ident.Place.{Place}
 use Rattle.task_block.specs.declared.task.Task.{Task}
 use Rattle.wind_lists.specs.Sorting.{first}
 use Rattle.wind_lists.proofs.Passing.{none_passes}
@@ -26,7 +27,7 @@ use Rattle.msg_queue.specs.Receives.{denied, taken, starved, receive_deed, taken
 use Rattle.msg_queue.specs.Comings.{is_size, ids_refusal, create_refusal, IfRefused, new_queue, created, awakened, deleted}
 use Rattle.msg_queue.specs.Kept.{IsQueue, IsServable, WaitsWell, SendsToLive, WaitsForOld, IsKept, IsCaller, IsCalm}
 use Rattle.msg_queue.specs.Machine.{sends, receives, creates, deletes, ticks, others}
-use Rattle.msg_queue.specs.Laws.{KeptLaw, CreateLaw}
+use Rattle.msg_queue.specs.Laws.{StartLaw, KeptLaw, CreateLaw}
 use Rattle.msg_queue.proofs.Tables.{taken_same, taken_other, added_other, rises-without, written_twice}
 use Rattle.msg_queue.proofs.Members.{each}
 use Rattle.msg_queue.proofs.Deeds.{passed, not_false, ReceiveIs, receive_is}
@@ -170,6 +171,23 @@ keeps s (creates y) kept may = created_keeps s y kept may.0 may.2
 keeps s (deletes id) kept may = gone_keeps s id (queue_of s id) kept
 keeps s ticks kept may = calm_keeps s (tick s.kern) s.ram kept (calms s.queues.queues s.kern kept.kern).ticking refl
 keeps s (others k ram) kept may = calm_keeps s k ram kept may.0 may.1
+
+-- where there is no queue, and no task waits
+pub starts : StartLaw
+starts k ram is none =
+    let idle : (t : Task) (place : Place) → Contains k.tasks t → t.wait ≡ Some place → ⊥ =
+    λ t place at here. let free = All-contains (λ (u : Task). u.wait ≡ None) k.tasks t none at in absurd (cc) in
+    let qs : QueuesState = record { queues = []; asks = [] } in
+    record {
+      kern = is;
+      rising = λ i j d hij hj. absurd (omega arith);
+      ids = All-nil (λ (r : ℕ × QueueState). r.0 < k.next_id);
+      sound = All-nil (λ (r : ℕ × QueueState). IsQueue r.1);
+      single = λ i j d hij hj. absurd (omega arith);
+      well = each (WaitsWell (length ram) qs) k.tasks (λ t at place q here side there. absurd (idle t place at here));
+      live = each (SendsToLive qs) k.tasks (λ t at place here side. absurd (idle t place at here));
+      old_ids = each (WaitsForOld k.next_id) k.tasks (λ t at place here side. absurd (idle t place at here));
+    }
 
 -- ---- a new queue
 pub creates_keep : CreateLaw

@@ -1,5 +1,5 @@
 -- What the code of a receive does against what comes of it.
-use Rattle.std.proofs.Common.{◌≡◌, ℕ, ◌+◌, ◌<◌, ◌≤◌, Bool, true, false, not, leb, min, List, ◌∷◌, length, take, drop, Option, None, Some, IsSome, is_some, IfSome, Ok, Err, refl, sym, ap, ap₂, ◌∙◌, subst, arith}
+use Rattle.std.proofs.Common.{◌≡◌, ℕ, ◌+◌, ◌<◌, ◌≤◌, Bool, true, false, not, leb, min, List, [], ◌∷◌, length, take, drop, Option, None, Some, IsSome, IfSome, Ok, Err, refl, sym, ap, ap₂, ◌∙◌, subst, arith}
 use Rattle.std.specs.List.{All, filter}
 use Rattle.std.proofs.lemmas.Bool.{leb-true}
 use Rattle.std.proofs.lemmas.List.{length-take}
@@ -14,7 +14,7 @@ use Rattle.msg_queue.specs.declared.asks.Ask.{Ask}
 use Rattle.msg_queue.specs.declared.plans.ReceivePlan.TheVariants as plan
 use Rattle.msg_queue.specs.declared.words.Receiving.{Receiving}
 use Rattle.msg_queue.specs.declared.words.Got.TheVariants as got
-use Rattle.msg_queue.specs.State.{QueueState, QueuesState, Scene, scene, queue_of, lies_in, is_full, receivers, senders, first_asking, counts, with_new_ask, waiting}
+use Rattle.msg_queue.specs.State.{QueueState, QueuesState, Scene, scene, queue_of, lies_in, size_of, is_full, senders, first_asking, counts, with_new_ask, waiting}
 use Rattle.msg_queue.specs.Receives.{ReceiveDeed, denied, taken, starved, receive_deed, receive_ask, refilled, after_receive, receive, receive_answer}
 use Rattle.msg_queue.specs.Inside.{receive_plan}
 use Rattle.msg_queue.specs.Kept.{IsKept, IsCaller}
@@ -24,27 +24,36 @@ use Rattle.msg_queue.proofs.Traffic.{is_first, first_lives, stuck}
 use Rattle.msg_queue.proofs.Steps.{positive, good_of, length-with_bytes}
 use Rattle.msg_queue.proofs.Room.{room}
 
-denied_arm : (d : ReceiveDeed) (e : Errno) → plan.Denied e ≡ receive_plan d → d ≡ denied e
-denied_arm (denied f) e h = let same : f ≡ e = cc in ap denied same
-denied_arm (taken q m rest) e h = absurd (cc)
-denied_arm (starved q) e h = absurd (cc)
+module _ (id : ℕ) (x : Receiving) where
+  denied_arm : (d : ReceiveDeed) (e : Errno) → plan.Denied e ≡ receive_plan id x d → d ≡ denied e
+  denied_arm (denied f) e h = let same : f ≡ e = cc in ap denied same
+  denied_arm (taken q m rest) e h = absurd (cc)
+  denied_arm (starved q) e h = absurd (cc)
 
--- the front message, of the queue that has it
-record Front (d : ReceiveDeed) : Type 0 where
-  queue : QueueState
-  message : List ℕ
-  rest : List (List ℕ)
-  deed : d ≡ taken queue message rest
+  -- the front message, of the queue that has it
+  record Front (d : ReceiveDeed) (at : ℕ) : Type 0 where
+    queue : QueueState
+    message : List ℕ
+    rest : List (List ℕ)
+    deed : d ≡ taken queue message rest
+    same : at ≡ id
 
-taken_arm : (d : ReceiveDeed) → plan.Taken ≡ receive_plan d → Front d
-taken_arm (denied f) h = absurd (cc)
-taken_arm (taken q m rest) h = record { queue = q; message = m; rest = rest; deed = refl }
-taken_arm (starved q) h = absurd (cc)
+  taken_arm : (d : ReceiveDeed) (at : ℕ) → plan.Taken at ≡ receive_plan id x d → Front d at
+  taken_arm (denied f) at h = absurd (cc)
+  taken_arm (taken q m rest) at h = record { queue = q; message = m; rest = rest; deed = refl; same = cc }
+  taken_arm (starved q) at h = absurd (cc)
 
-starved_arm : (d : ReceiveDeed) (b : Bool) → plan.Starved b ≡ receive_plan d → (q : QueueState) × (d ≡ starved q) × (b ≡ not q.by_priority)
-starved_arm (denied f) b h = absurd (cc)
-starved_arm (taken q m rest) b h = absurd (cc)
-starved_arm (starved q) b h = (q, refl, cc)
+  -- for which queue the caller waits
+  record Waits (d : ReceiveDeed) (a : Ask) (b : Bool) : Type 0 where
+    queue : QueueState
+    deed : d ≡ starved queue
+    ask : a ≡ receive_ask id x
+    fifo : b ≡ not queue.by_priority
+
+  starved_arm : (d : ReceiveDeed) (a : Ask) (b : Bool) → plan.Starved a b ≡ receive_plan id x d → Waits d a b
+  starved_arm (denied f) a b h = absurd (cc)
+  starved_arm (taken q m rest) a b h = absurd (cc)
+  starved_arm (starved q) a b h = record { queue = q; deed = refl; ask = cc; fifo = cc }
 
 -- a sender that waits
 record IsSender (s : Scene) (q : QueueState) (a : Ask) : Type 0 where
@@ -67,46 +76,46 @@ module _ (s : Scene) (id : ℕ) (x : Receiving) where
   is_at : (d : ReceiveDeed) → receive_deed s id x ≡ d → ReceiveIs s id x d
   is_at d e = subst (ReceiveIs s id x) e (receive_is s id x)
 
-  pub got_denied : (e : Errno) → plan.Denied e ≡ receive_plan (receive_deed s id x) → s ≡ receive s id x
-  got_denied e h = sym (ap (after_receive s id x) (denied_arm (receive_deed s id x) e h))
+  pub got_denied : (e : Errno) → plan.Denied e ≡ receive_plan id x (receive_deed s id x) → s ≡ receive s id x
+  got_denied e h = sym (ap (after_receive s id x) (denied_arm id x (receive_deed s id x) e h))
 
-  pub answer_denied : (e : Errno) → plan.Denied e ≡ receive_plan (receive_deed s id x) → Err e ≡ receive_answer x (receive_deed s id x)
-  answer_denied e h = sym (ap (receive_answer x) (denied_arm (receive_deed s id x) e h))
+  pub answer_denied : (e : Errno) → plan.Denied e ≡ receive_plan id x (receive_deed s id x) → Err e ≡ receive_answer x (receive_deed s id x)
+  answer_denied e h = sym (ap (receive_answer x) (denied_arm id x (receive_deed s id x) e h))
 
-  module _ (b : Bool) (h : plan.Starved b ≡ receive_plan (receive_deed s id x)) where
-    at_wait : (q : QueueState) × (receive_deed s id x ≡ starved q) × (b ≡ not q.by_priority)
-    at_wait = starved_arm (receive_deed s id x) b h
+  module _ (a : Ask) (b : Bool) (h : plan.Starved a b ≡ receive_plan id x (receive_deed s id x)) where
+    at_wait : Waits id x (receive_deed s id x) a b
+    at_wait = starved_arm id x (receive_deed s id x) a b h
 
-    pub starved_live : IsSome (object_of s.queues.queues id)
-    starved_live = subst (λ o. IsSome o) (sym (is_at (starved at_wait.0) at_wait.1).0) refl
+    starved_is : (queue_of s id ≡ Some at_wait.queue) × (at_wait.queue.held ≡ []) × (lies_in (size_of s) x.buffer (min x.room at_wait.queue.max_len) ≡ true) × (x.timeout ≡ 0 → ⊥)
+    starved_is = is_at (starved at_wait.queue) at_wait.deed
+
+    pub starved_lives : IsCaller s.kern (Some x.caller) → Lives s.kern a.who
+    starved_lives ready = subst (λ (c : Ask). Lives s.kern c.who) (sym at_wait.ask) (subst (λ o. IsSome o) (sym ready.1) refl)
+
+    pub starved_room : IsKept s → IsCaller s.kern (Some x.caller) → length (filter (counts s.kern) s.queues.asks) < 256
+    starved_room kept ready = room s.kern s.queues.asks x.caller ready.0 kept.kern kept.single ready.1 ready.2
 
     pub starved_timeout : 0 < x.timeout
-    starved_timeout = positive x.timeout (is_at (starved at_wait.0) at_wait.1).3
+    starved_timeout = positive x.timeout starved_is.3
 
-    pub got_starved : (k : KernState) (qs : QueuesState) (at : ℕ) → at ≡ id → qs ≡ record s.queues { asks = with_new_ask s.kern s.queues.asks (receive_ask at x) } → k ≡ pend s.kern x.caller (receivers at) b x.timeout
+    pub got_starved : (k : KernState) (qs : QueuesState) → qs ≡ record s.queues { asks = with_new_ask s.kern s.queues.asks a } → k ≡ pend s.kern a.who a.place b x.timeout
         → scene k qs s.ram ≡ receive s id x
-    got_starved k qs at same e f =
+    got_starved k qs e f =
         ap₂ (λ l r. scene l r s.ram) f e
-        ∙ ap (λ n. scene (pend s.kern x.caller (receivers n) b x.timeout) (record s.queues { asks = with_new_ask s.kern s.queues.asks (receive_ask n x) }) s.ram) same
-        ∙ ap (λ v. waiting s (receive_ask id x) v x.timeout) at_wait.2
-        ∙ sym (ap (after_receive s id x) at_wait.1)
+        ∙ ap₂ (λ c v. waiting s c v x.timeout) at_wait.ask at_wait.fifo
+        ∙ sym (ap (after_receive s id x) at_wait.deed)
 
     pub answer_starved : Ok got.Pended ≡ receive_answer x (receive_deed s id x)
-    answer_starved = sym (ap (receive_answer x) at_wait.1)
+    answer_starved = sym (ap (receive_answer x) at_wait.deed)
 
-  pub caller_lives : IsCaller s.kern (Some x.caller) → Lives s.kern x.caller
-  caller_lives ready = subst (λ o. IsSome o) (sym ready.1) refl
-
-  pub caller_room : IsKept s → IsCaller s.kern (Some x.caller) → length (filter (counts s.kern) s.queues.asks) < 256
-  caller_room kept ready = room s.kern s.queues.asks x.caller ready.0 kept.kern kept.single ready.1 ready.2
-
-  pub not_live : object_of s.queues.queues id ≡ None → IsSome (object_of s.queues.queues id) → ⊥
-  not_live e h = let lost : is_some (object_of s.queues.queues id) ≡ false = ap is_some e in absurd (cc)
+  -- the code has the id as one
+  pub at_id : (at : ℕ) → plan.Taken at ≡ receive_plan id x (receive_deed s id x) → at ≡ id
+  at_id at h = (taken_arm id x (receive_deed s id x) at h).same
 
   -- the front message is taken
-  module _ (h : plan.Taken ≡ receive_plan (receive_deed s id x)) (kept : IsKept s) where
-    front : Front (receive_deed s id x)
-    front = taken_arm (receive_deed s id x) h
+  module _ (h : plan.Taken id ≡ receive_plan id x (receive_deed s id x)) (kept : IsKept s) where
+    front : Front id x (receive_deed s id x) id
+    front = taken_arm id x (receive_deed s id x) id h
 
     is : (queue_of s id ≡ Some front.queue) × (front.queue.held ≡ front.message ∷ front.rest) × (lies_in (length s.ram) x.buffer (min x.room front.queue.max_len) ≡ true)
     is = is_at (taken front.queue front.message front.rest) front.deed

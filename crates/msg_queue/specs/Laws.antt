@@ -1,5 +1,6 @@
 -- What follows of the definitions of message queues alone.
 use Rattle.std.specs.Prelude.{◌≡◌, ℕ, zero, suc, ◌+◌, ◌<◌, ◌≤◌, Bool, List, [], ◌++◌, length, Option, None, Some}
+use Rattle.std.specs.List.{All}
 use Rattle.std.specs.List.Sorted.{IsPermutation}
 use Rattle.wind_base.specs.Limits.{greatest_id}
 use Rattle.wind_base.specs.declared.errno.Errno.{Errno}
@@ -9,8 +10,9 @@ use Rattle.id_table.specs.declared.ident.Place.{Place}
 use Rattle.task_block.specs.declared.task.NewTask.{NewTask}
 use Rattle.wind_core.specs.State.{KernState, IsKern}
 use Rattle.wind_core.specs.Moves.{spawn, spawn_refusal, remove, pend, delay, release, end_wait, wake_all, suspend, resume, reset, change_pri, set_locks, set_normal, set_safe, set_held, set_errno, set_int_locked, set_again, set_regs, leave_gate, answer, refuse}
+use Rattle.wind_core.specs.Releases.{release_all}
 use Rattle.wind_core.specs.Tick.{tick}
-use Rattle.msg_queue.specs.State.{QueueState, Scene, queue_of}
+use Rattle.msg_queue.specs.State.{QueueState, Scene, scene, queue_of}
 use Rattle.msg_queue.specs.Comings.{create_refusal, new_queue, created}
 use Rattle.msg_queue.specs.Kept.{IsKept, IsCalm, IsElsewhere}
 use Rattle.msg_queue.specs.Machine.{Event, IsAllowed, after_event, Parcel, contents, AllPlain, after, accepted, taken_in}
@@ -19,6 +21,11 @@ use Rattle.msg_queue.specs.Machine.{Event, IsAllowed, after_event, Parcel, conte
 -- each step keeps them
 abbrev pub KeptLaw : Type 0
 KeptLaw = (s : Scene) (e : Event) → IsKept s → IsAllowed s e → IsKept (after_event s e)
+
+-- they hold where there is no queue, and no task waits
+abbrev pub StartLaw : Type 0
+StartLaw = (k : KernState) (ram : List ℕ) → IsKern k → All (λ t. t.wait ≡ None) k.tasks
+    → IsKept (scene k (record { queues = []; asks = [] }) ram)
 
 -- a new queue keeps them
 abbrev pub CreateLaw : Type 0
@@ -32,6 +39,7 @@ pub record IsCalmBy (rs : List (ℕ × QueueState)) (k : KernState) : Type 0 whe
   pub ending : (who answer : ℕ) (errno : Option Errno) → IsCalm rs k (end_wait k who answer errno)
   pub releasing : (who : ℕ) → IsCalm rs k (release k who)
   pub waking : (place : Place) (answer : ℕ) (errno : Option Errno) → IsCalm rs k (wake_all k place answer errno)
+  pub releasing_all : (place : Place) → IsCalm rs k (release_all k place)
   pub ticking : IsCalm rs k (tick k)
   -- a wait for something else that lives
   pub pending : (who : ℕ) (place : Place) (fifo : Bool) (n : ℕ) → 0 < n → IsElsewhere rs k.next_id place

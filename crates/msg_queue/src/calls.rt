@@ -10,7 +10,6 @@ ghost use Rattle.msg_queue.specs.Kept.{IsKept, IsCaller};
 ghost use Rattle.msg_queue.specs.declared.plans.ReceivePlan.TheVariants.{Taken};
 ghost use Rattle.msg_queue.specs.declared.words.Got.TheVariants.{Count};
 
-use crate::asks::Ask;
 use crate::effects::hand_over;
 use crate::plans::{ReceivePlan, SendPlan, plan_receive, plan_send};
 use crate::queues::Queues;
@@ -24,7 +23,7 @@ use wind_core::Kern;
 impl Queues {
     // What comes of a send.
     fn plan_send(&self, kern: &Kern, ram: &Ram, id: u32, words: &Sending) -> SendPlan
-        ensures { result ≡ send_plan (send_deed (scene kern.now self.now ram.now) id words.now) }
+        ensures { result ≡ send_plan id words.now (send_deed (scene kern.now self.now ram.now) id words.now) }
     {
         let Some(at) = self.find(id) else {
             return SendPlan::Declined(Errno::ObjIdError);
@@ -36,17 +35,17 @@ impl Queues {
                 id: at,
             },
         );
-        plan_send(self.queue(at), ram, words, first)
+        plan_send(self.queue(at), ram, at, words, first)
     }
 
     // What comes of a receive.
     fn plan_receive(&self, ram: &Ram, id: u32, words: &Receiving) -> ReceivePlan
-        ensures { (k : KernState) → result ≡ receive_plan (receive_deed (scene k self.now ram.now) id words.now) }
+        ensures { (k : KernState) → result ≡ receive_plan id words.now (receive_deed (scene k self.now ram.now) id words.now) }
     {
         let Some(at) = self.find(id) else {
             return ReceivePlan::Denied(Errno::ObjIdError);
         };
-        plan_receive(self.queue(at), ram, words)
+        plan_receive(self.queue(at), ram, at, words)
     }
 
     /// Sends a message (VxWorks 5.4 Reference Manual, msgQSend). The bytes go to the first receiver that waits, as many
@@ -73,27 +72,11 @@ impl Queues {
                 hand_over(kern, ram, words.buffer, words.count, ask);
                 Ok(Took::Taken)
             }
-            SendPlan::Queued => {
-                let Some(at) = self.find(id) else {
-                    unreachable!()
-                };
+            SendPlan::Queued(at) => {
                 self.put_message(ram, at, words.buffer, words.count, words.urgent);
                 Ok(Took::Taken)
             }
-            SendPlan::Blocked(who, fifo) => {
-                let Some(at) = self.find(id) else {
-                    unreachable!()
-                };
-                let ask = Ask {
-                    who,
-                    place: Place {
-                        side: SENDERS,
-                        id: at,
-                    },
-                    buffer: words.buffer,
-                    count: words.count,
-                    urgent: words.urgent,
-                };
+            SendPlan::Blocked(ask, fifo) => {
                 self.wait_for(kern, ask, fifo, words.timeout);
                 Ok(Took::Pended)
             }
@@ -104,7 +87,7 @@ impl Queues {
     fn take_front(&mut self, kern: &mut Kern, ram: &mut Ram, id: Ident, words: &Receiving) -> u32
         requires kept { IsKept (scene kern.old self.old ram.old) }
         requires since { kern.old.next_since < 2 ^ 62 }
-        requires taken { Taken ≡ receive_plan (receive_deed (scene kern.old self.old ram.old) id words.now) }
+        requires taken { Taken id ≡ receive_plan id words.now (receive_deed (scene kern.old self.old ram.old) id words.now) }
         ensures scene { scene kern.new self.new ram.new ≡ receive_lem (scene kern.old self.old ram.old) id words.now }
         ensures answer { Ok (Count result) ≡ receive_answer words.now (receive_deed (scene kern.old self.old ram.old) id words.now) }
     {
@@ -135,26 +118,8 @@ impl Queues {
     {
         match self.plan_receive(ram, id, &words) {
             ReceivePlan::Denied(e) => Err(e),
-            ReceivePlan::Taken => {
-                let Some(at) = self.find(id) else {
-                    unreachable!()
-                };
-                Ok(Got::Count(self.take_front(kern, ram, at, &words)))
-            }
-            ReceivePlan::Starved(fifo) => {
-                let Some(at) = self.find(id) else {
-                    unreachable!()
-                };
-                let ask = Ask {
-                    who: words.caller,
-                    place: Place {
-                        side: OBJECT,
-                        id: at,
-                    },
-                    buffer: words.buffer,
-                    count: words.room,
-                    urgent: false,
-                };
+            ReceivePlan::Taken(at) => Ok(Got::Count(self.take_front(kern, ram, at, &words))),
+            ReceivePlan::Starved(ask, fifo) => {
                 self.wait_for(kern, ask, fifo, words.timeout);
                 Ok(Got::Pended)
             }

@@ -1,6 +1,6 @@
 //! What follows of the definitions alone.
 
-ghost use Rattle.msg_queue.specs.Laws.{ConservationLaw, RunLaw, KeptLaw, CreateLaw, CalmLaw, ThenLaw};
+ghost use Rattle.msg_queue.specs.Laws.{ConservationLaw, RunLaw, StartLaw, KeptLaw, CreateLaw, CalmLaw, ThenLaw};
 
 /// For each queue that is live after some steps of the machine of calls, what was accepted was taken or is held, each
 /// byte list as often; where none was urgent, in the same order.
@@ -13,8 +13,9 @@ pub fn run_law()
     ensures { RunLaw }
 {}
 
-/// Each step keeps the kept facts, and so does a new queue.
+/// The kept facts hold where there is no queue and no task waits. Each step keeps them, and so does a new queue.
 pub fn kept_law()
+    ensures start { StartLaw }
     ensures steps { KeptLaw }
     ensures creates { CreateLaw }
 {}

@@ -1,15 +1,16 @@
 //! What comes of a call.
 
 ghost use Rattle.std.specs.Prelude.{◌≡◌, length, Option, Some, option_copied};
-ghost use Rattle.msg_queue.specs.Sends.{send_refusal as send_refusal_lem, sends_at, queued_or_blocked as queued_or_blocked_lem};
-ghost use Rattle.msg_queue.specs.Receives.{receive_refusal as receive_refusal_lem, receives_at};
+ghost use Rattle.msg_queue.specs.Sends.{send_refusal as send_refusal_lem, sends_at, queued_or_blocked as queued_or_blocked_lem, send_ask as send_ask_lem};
+ghost use Rattle.msg_queue.specs.Receives.{receive_refusal as receive_refusal_lem, receives_at, receive_ask as receive_ask_lem};
 ghost use Rattle.msg_queue.specs.Inside.{send_plan, receive_plan};
 
 use crate::asks::Ask;
 use crate::queue::Queue;
 use crate::words::{Receiving, Sending};
 use board_mem::Ram;
-use id_table::Ident;
+use id_table::sides::{OBJECT, SENDERS};
+use id_table::{Ident, Place};
 use wind_base::Errno;
 use wind_base::words::NO_WAIT;
 
@@ -17,20 +18,22 @@ use wind_base::words::NO_WAIT;
 #[derive(Clone, Copy)]
 pub(crate) enum SendPlan {
     Declined(Errno),
-    // the first receiver that waits gets the bytes
+    // the first receiver that waits gets the bytes, which asked for this
     PassedOn(Ask),
-    Queued,
-    // the caller waits, by arrival or not
-    Blocked(Ident, bool),
+    // they are added to this queue
+    Queued(Ident),
+    // the caller waits for room with this ask, by arrival or not
+    Blocked(Ask, bool),
 }
 
 // What comes of a receive.
 #[derive(Clone, Copy)]
 pub(crate) enum ReceivePlan {
     Denied(Errno),
-    Taken,
-    // the caller waits, by arrival or not
-    Starved(bool),
+    // the front message is taken from this queue
+    Taken(Ident),
+    // the caller waits for a message with this ask, by arrival or not
+    Starved(Ask, bool),
 }
 
 // Why a send to a queue is refused, where `stuck` says that it can't be done at once.
@@ -52,19 +55,53 @@ fn send_refusal(queue: &Queue, ram: &Ram, words: &Sending, stuck: bool) -> Optio
     None
 }
 
+// What a sender asks for that waits.
+fn send_ask(at: Ident, who: Ident, words: &Sending) -> Ask
+    ensures { result ≡ send_ask_lem at who words.now }
+{
+    Ask {
+        who,
+        place: Place {
+            side: SENDERS,
+            id: at,
+        },
+        buffer: words.buffer,
+        count: words.count,
+        urgent: words.urgent,
+    }
+}
+
+// What a receiver asks for that waits.
+fn receive_ask(at: Ident, words: &Receiving) -> Ask
+    ensures { result ≡ receive_ask_lem at words.now }
+{
+    Ask {
+        who: words.caller,
+        place: Place {
+            side: OBJECT,
+            id: at,
+        },
+        buffer: words.buffer,
+        count: words.room,
+        urgent: false,
+    }
+}
+
 // No receiver waits: there is room, or the caller waits.
-fn queued_or_blocked(queue: &Queue, words: &Sending) -> SendPlan
-    ensures { result ≡ send_plan (queued_or_blocked_lem queue.now words.now.caller) }
+fn queued_or_blocked(queue: &Queue, at: Ident, words: &Sending) -> SendPlan
+    ensures { result ≡ send_plan at words.now (queued_or_blocked_lem queue.now words.now.caller) }
 {
     match words.caller {
-        Some(who) if queue.is_full() => SendPlan::Blocked(who, !queue.by_priority()),
-        _ => SendPlan::Queued,
+        Some(who) if queue.is_full() => {
+            SendPlan::Blocked(send_ask(at, who, words), !queue.by_priority())
+        }
+        _ => SendPlan::Queued(at),
     }
 }
 
 // What comes of a send to a queue whose first waiting receiver asks for this.
-pub(crate) fn plan_send(queue: &Queue, ram: &Ram, words: &Sending, first: Option<Ask>) -> SendPlan
-    ensures { result ≡ send_plan (sends_at (length ram.now) words.now first (Some queue.now)) }
+pub(crate) fn plan_send(queue: &Queue, ram: &Ram, at: Ident, words: &Sending, first: Option<Ask>) -> SendPlan
+    ensures { result ≡ send_plan at words.now (sends_at (length ram.now) words.now first (Some queue.now)) }
 {
     let stuck = first.is_none() && queue.is_full();
     if let Some(e) = send_refusal(queue, ram, words, stuck) {
@@ -72,7 +109,7 @@ pub(crate) fn plan_send(queue: &Queue, ram: &Ram, words: &Sending, first: Option
     }
     match first {
         Some(ask) => SendPlan::PassedOn(ask),
-        None => queued_or_blocked(queue, words),
+        None => queued_or_blocked(queue, at, words),
     }
 }
 
@@ -90,15 +127,15 @@ fn receive_refusal(queue: &Queue, ram: &Ram, words: &Receiving) -> Option<Errno>
 }
 
 // What comes of a receive from a queue.
-pub(crate) fn plan_receive(queue: &Queue, ram: &Ram, words: &Receiving) -> ReceivePlan
-    ensures { result ≡ receive_plan (receives_at (length ram.now) words.now (Some queue.now)) }
+pub(crate) fn plan_receive(queue: &Queue, ram: &Ram, at: Ident, words: &Receiving) -> ReceivePlan
+    ensures { result ≡ receive_plan at words.now (receives_at (length ram.now) words.now (Some queue.now)) }
 {
     if let Some(e) = receive_refusal(queue, ram, words) {
         return ReceivePlan::Denied(e);
     }
     if queue.is_empty() {
-        ReceivePlan::Starved(!queue.by_priority())
+        ReceivePlan::Starved(receive_ask(at, words), !queue.by_priority())
     } else {
-        ReceivePlan::Taken
+        ReceivePlan::Taken(at)
     }
 }

@@ -25,13 +25,13 @@ impl Model for Queues {
     ghost use Rattle.std.specs.Prelude.{◌≡◌, ◌≤◌, vec_capacity};
     ghost use Rattle.wind_base.specs.Limits.{most_queues, most_tasks};
     ghost use Rattle.msg_queue.specs.State.{QueuesState};
-    ghost use Rattle.msg_queue.specs.Inside.{queues_in, HaveIds};
+    ghost use Rattle.msg_queue.specs.Inside.{queues_in};
 
     ghost Value = { QueuesState };
 
     ghost view = { λ q. queues_in q.queues.rows q.asks.items };
 
-    ghost invariant = { λ q. (q.queues.room ≡ most_queues) × HaveIds q.queues.rows × (most_tasks ≤ vec_capacity q.asks) };
+    ghost invariant = { λ q. (q.queues.room ≡ most_queues) × (most_tasks ≤ vec_capacity q.asks) };
 }
 
 impl Queues {
@@ -51,8 +51,7 @@ impl Queues {
         ensures { MatchOption result (object_of self.now.queues number ≡ None)
             (λ id. (id ≡ number) × IsSome (object_of self.now.queues id)) }
     {
-        // to read the table is to know that its ids are such
-        let _ = &self.queues;
+        self.queues.facts();
         let id = Ident::new(number)?;
         if self.queues.contains(id) {
             Some(id)

@@ -1,4 +1,4 @@
-use Rattle.std.proofs.Common.{ℕ, ◌<◌, ◌≤◌, not, eqb, ap, ◌∙◌, sym, subst, arith, Some, IsSome}
+use Rattle.std.proofs.Common.{ap, ◌∙◌, sym, subst, arith, Some, IsSome}
 use Rattle.wind_base.specs.declared.errno.Errno.TheVariants as errors
 use Rattle.id_table.specs.Rows.{Rows, object_of}
 use Rattle.msg_queue.specs.State.{QueueState, QueuesState, receivers}
@@ -7,7 +7,6 @@ use Rattle.msg_queue.specs.State.{scene}
 use Rattle.msg_queue.specs.Comings.{delete}
 use Rattle.msg_queue.specs.Machine.{deletes}
 use Rattle.msg_queue.specs.contracts.queues.Queues.{the_view}
-use Rattle.std.proofs.lemmas.List.Elements.{All-filter}
 use Rattle.msg_queue.proofs.Deletions.{since-wake_all, deleted_is}
 use Rattle.msg_queue.proofs.Events.{keeps}
 use Rattle.msg_queue.proofs.queues.Queues.delete.Goals as goal
@@ -15,9 +14,6 @@ use Rattle.msg_queue.proofs.queues.Queues.delete.Goals as goal
 pub wake_all-requires-2 : goal.wake_all-requires-2
 wake_all-requires-2 c =
     omega (arith, c.requires.since, since-wake_all c.args.kern.now c.wake_all.new.self (receivers c.in-Some.at) 4294967295 (Some errors.ObjDeleted) c.facts.ensures c.wake_all.ensures)
-
-pub invariant_of-self : goal.invariant_of-self
-invariant_of-self c = rw c.remove.ensures.rows (c.self.invariant.0, All-filter (λ (r : ℕ × QueueState). not (eqb r.0 c.in-Some.at)) (λ (r : ℕ × QueueState). (0 < r.0) × (r.0 ≤ 1048576)) c.self.inside.queues.rows c.self.invariant.1, c.self.invariant.2)
 
 pub returns-clause-kept : goal.returns-clause-kept
 returns-clause-kept c = λ ram kept.

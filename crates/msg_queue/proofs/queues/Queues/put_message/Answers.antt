@@ -1,15 +1,11 @@
-use Rattle.std.proofs.Common.{◌≡◌, ℕ, ◌<◌, ◌≤◌, List, Some, sym, ap, ◌∙◌, subst}
+use Rattle.std.proofs.Common.{◌≡◌, ℕ, List, Some, sym, ap, ◌∙◌, subst}
 use Rattle.std.proofs.lemmas.Option.{same_Some}
 use Rattle.id_table.specs.Rows.{Rows, object_of, with_object, rewritten}
 use Rattle.board_mem.specs.Memory.{bytes_at}
 use Rattle.msg_queue.specs.declared.asks.Ask.{Ask}
 use Rattle.msg_queue.specs.State.{QueueState, QueuesState, added}
 use Rattle.msg_queue.specs.Inside.{queues_in}
-use Rattle.msg_queue.proofs.Tables.{All-ids_written}
 use Rattle.msg_queue.proofs.queues.Queues.put_message.Goals as goal
-
-pub invariant_of-self : goal.invariant_of-self
-invariant_of-self c = (c.self.invariant.0, All-ids_written (λ n. (0 < n) × (n ≤ 1048576)) c.self.inside.queues.rows c.args.id c.push.new.self c.self.invariant.1, c.self.invariant.2)
 
 put_is : (f : QueueState → QueueState) (rs : List (ℕ × QueueState)) (asks : List Ask) (id : ℕ) (x y q : QueueState) → object_of rs id ≡ Some x → y ≡ f x → object_of rs id ≡ Some q
     → queues_in (with_object rs id y) asks ≡ queues_in (with_object rs id (f q)) asks
