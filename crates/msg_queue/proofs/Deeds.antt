@@ -41,10 +41,10 @@ sends_well size x stuck q e =
       timeless = λ h. eqb-true x.timeout 0 (not_false (eqb x.timeout 0) (both_false (is_none x.caller) (not (eqb x.timeout 0)) second.0 h));
       moves = λ h. unstuck stuck (eqb x.timeout 0) fourth.0 (eq-eqb x.timeout 0 h);
     }
- where
-  unstuck : (a b : Bool) → (a && b) ≡ false → b ≡ true → a ≡ false
-  unstuck false b e h = refl
-  unstuck true b e h = absurd (cc)
+  where
+    unstuck : (a b : Bool) → (a && b) ≡ false → b ≡ true → a ≡ false
+    unstuck false b e h = refl
+    unstuck true b e h = absurd (cc)
 
 -- what is known of a send
 abbrev pub SendIs : Scene → ℕ → Sending → SendDeed → Type 0

@@ -22,27 +22,27 @@ pub calm_keeps : (s : Scene) (k : KernState) (ram : List ℕ) → IsKept s → I
 calm_keeps s k ram kept calm size =
     let still : (t : Task) → Contains k.tasks t → BeginsNone s.queues.queues s.kern k.next_id t = λ t at. All-contains (BeginsNone s.queues.queues s.kern k.next_id) k.tasks t calm.waits at in
     record {
-  kern = calm.kern;
-  rising = kept.rising;
-  ids = All-weaker (λ (r : ℕ × QueueState). r.0 < s.kern.next_id) (λ (r : ℕ × QueueState). r.0 < k.next_id) (λ r h. omega (arith, h, calm.ids)) s.queues.queues kept.ids;
-  sound = kept.sound;
-  single = kept.single;
-  well = each (WaitsWell (length ram) s.queues) k.tasks (λ t at place q here side there.
-      ⊎_elim {C = IsServable (length ram) s.queues.asks t place q}
-      (λ from.
-      let is : IsServable (length ram) s.queues.asks from.0 place q =
-      subst (λ n. IsServable n s.queues.asks from.0 place q) (sym size) (All-contains (WaitsWell (length s.ram) s.queues) s.kern.tasks from.0 kept.well from.1 place q from.3 side there) in
-      servable_as (length ram) s.queues.asks from.0 t place q from.2 is)
-      (λ other. let none = (other side).2 in absurd (cc)) (still t at place here));
-  live = each (SendsToLive s.queues) k.tasks (λ t at place here side.
-      ⊎_elim {C = IsSome (object_of s.queues.queues place.id)}
-      (λ from. All-contains (SendsToLive s.queues) s.kern.tasks from.0 kept.live from.1 place from.3 side)
-      (λ other. let zero_side = (other (omega (arith, side))).0 in absurd (omega (arith, side, zero_side))) (still t at place here));
-  old_ids = each (WaitsForOld k.next_id) k.tasks (λ t at place here side.
-      ⊎_elim {C = place.id < k.next_id}
-      (λ from. let below = All-contains (WaitsForOld s.kern.next_id) s.kern.tasks from.0 kept.old_ids from.1 place from.3 side in omega (arith, below, calm.ids))
-      (λ other. (other side).1) (still t at place here));
-}
+      kern = calm.kern;
+      rising = kept.rising;
+      ids = All-weaker (λ (r : ℕ × QueueState). r.0 < s.kern.next_id) (λ (r : ℕ × QueueState). r.0 < k.next_id) (λ r h. omega (arith, h, calm.ids)) s.queues.queues kept.ids;
+      sound = kept.sound;
+      single = kept.single;
+      well = each (WaitsWell (length ram) s.queues) k.tasks (λ t at place q here side there.
+          ⊎_elim {C = IsServable (length ram) s.queues.asks t place q}
+          (λ from.
+          let is : IsServable (length ram) s.queues.asks from.0 place q =
+          subst (λ n. IsServable n s.queues.asks from.0 place q) (sym size) (All-contains (WaitsWell (length s.ram) s.queues) s.kern.tasks from.0 kept.well from.1 place q from.3 side there) in
+          servable_as (length ram) s.queues.asks from.0 t place q from.2 is)
+          (λ other. let none = (other side).2 in absurd (cc)) (still t at place here));
+      live = each (SendsToLive s.queues) k.tasks (λ t at place here side.
+          ⊎_elim {C = IsSome (object_of s.queues.queues place.id)}
+          (λ from. All-contains (SendsToLive s.queues) s.kern.tasks from.0 kept.live from.1 place from.3 side)
+          (λ other. let zero_side = (other (omega (arith, side))).0 in absurd (omega (arith, side, zero_side))) (still t at place here));
+      old_ids = each (WaitsForOld k.next_id) k.tasks (λ t at place here side.
+          ⊎_elim {C = place.id < k.next_id}
+          (λ from. let below = All-contains (WaitsForOld s.kern.next_id) s.kern.tasks from.0 kept.old_ids from.1 place from.3 side in omega (arith, below, calm.ids))
+          (λ other. (other side).1) (still t at place here));
+    }
 
 -- ---- one queue is written
 pub place_is : (p : Place) (side id : ℕ) → p.side ≡ side → id ≡ p.id → ◌≡◌ {A = Option Place} (Some p) (Some (record { side = side; id = id }))

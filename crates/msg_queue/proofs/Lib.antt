@@ -12,4 +12,5 @@ mod Conserved
 mod Room
 mod Arms
 mod Takes
+pub mod Counts
 mod Deletions

@@ -36,7 +36,6 @@ live_there : (a : Ask) (o : Option Task) → waits_there a.place o ≡ true → 
 live_there a None e = absurd (cc)
 live_there a (Some t) e = (t, refl)
 
-
 distinct_whos : (asks : List Ask) → AllPairs (λ a b. a.who ≡ b.who → ⊥) asks → AllPairs (λ m n. m ≢ n) (map (λ (a : Ask). a.who) asks)
 distinct_whos asks apart i j d hij hj =
     let long = length-map asks (λ (a : Ask). a.who) in

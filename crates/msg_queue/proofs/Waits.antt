@@ -28,10 +28,10 @@ waits_itself place o e =
 
 pub ready_waits : (t : Task) → is_ready t ≡ true → t.wait ≡ None
 ready_waits t e = no_place t.wait (and_parts (is_none t.wait) (is_none t.wake && not t.suspended) e).0
- where
-  no_place : (o : Option Place) → is_none o ≡ true → o ≡ None
-  no_place None e = refl
-  no_place (Some p) e = absurd (cc)
+  where
+    no_place : (o : Option Place) → is_none o ≡ true → o ≡ None
+    no_place None e = refl
+    no_place (Some p) e = absurd (cc)
 
 -- no ask that counts is of a task that does not wait
 pub other_asks : (k : KernState) (asks : List Ask) (who : ℕ) (t : Task) → task_of k.tasks who ≡ Some t → t.wait ≡ None → All (λ a. eqb a.who who ≡ false) (filter (counts k) asks)

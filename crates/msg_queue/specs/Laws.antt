@@ -2,7 +2,7 @@
 use Rattle.std.specs.Prelude.{◌≡◌, ℕ, zero, suc, ◌+◌, ◌<◌, ◌≤◌, Bool, List, [], ◌++◌, length, Option, None, Some}
 use Rattle.std.specs.List.{All}
 use Rattle.std.specs.List.Sorted.{IsPermutation}
-use Rattle.wind_base.specs.Limits.{greatest_id}
+use Rattle.wind_base.specs.Limits.{most_tasks, greatest_id}
 use Rattle.wind_base.specs.declared.errno.Errno.{Errno}
 use Rattle.wind_base.specs.declared.regs.Regs.{Regs}
 use Rattle.id_table.specs.Rows.{object_of, IdsBelow}
@@ -12,8 +12,12 @@ use Rattle.wind_core.specs.State.{KernState, IsKern}
 use Rattle.wind_core.specs.Moves.{spawn, spawn_refusal, remove, pend, delay, release, end_wait, wake_all, suspend, resume, reset, change_pri, set_locks, set_normal, set_safe, set_held, set_errno, set_int_locked, set_again, set_regs, leave_gate, answer, refuse}
 use Rattle.wind_core.specs.Releases.{release_all}
 use Rattle.wind_core.specs.Tick.{tick}
+use Rattle.msg_queue.specs.declared.words.Sending.{Sending}
+use Rattle.msg_queue.specs.declared.words.Receiving.{Receiving}
 use Rattle.msg_queue.specs.State.{QueueState, Scene, scene, queue_of}
-use Rattle.msg_queue.specs.Comings.{create_refusal, new_queue, created}
+use Rattle.msg_queue.specs.Sends.{send}
+use Rattle.msg_queue.specs.Receives.{receive}
+use Rattle.msg_queue.specs.Comings.{create_refusal, new_queue, created, delete}
 use Rattle.msg_queue.specs.Kept.{IsKept, IsCalm, IsElsewhere}
 use Rattle.msg_queue.specs.Machine.{Event, IsAllowed, after_event, Parcel, contents, AllPlain, after, accepted, taken_in}
 
@@ -74,6 +78,20 @@ CalmLaw = (rs : List (ℕ × QueueState)) (k : KernState) → IsKern k → IsCal
 -- of two such moves, one after the other, also both together
 abbrev pub ThenLaw : Type 0
 ThenLaw = (rs : List (ℕ × QueueState)) (k l m : KernState) → IsCalm rs k l → IsCalm rs l m → IsCalm rs k m
+
+-- ---- the counters
+-- the tick stays, whether ids are lent too, and at most so many order numbers are given
+pub record CountsOn (n : ℕ) (k l : KernState) : Type 0 where
+  pub tick : l.tick ≡ k.tick
+  pub lent : l.lent ≡ k.lent
+  pub sinces : l.next_since ≤ k.next_since + n
+
+-- each call; a deletion ends at most two waits of each task that lives
+pub record CountLaw : Type 0 where
+  pub sending : (s : Scene) (id : ℕ) (x : Sending) → CountsOn 1 s.kern (send s id x).kern
+  pub receiving : (s : Scene) (id : ℕ) (x : Receiving) → CountsOn 1 s.kern (receive s id x).kern
+  pub creating : (s : Scene) (q : QueueState) → CountsOn 0 s.kern (created s q).kern
+  pub deleting : (s : Scene) (id : ℕ) → IsKern s.kern → CountsOn (most_tasks + most_tasks) s.kern (delete s id).kern
 
 -- ---- conservation
 -- what comes next is allowed, at each state at which the kept facts hold

@@ -57,7 +57,13 @@ impl Queues {
     /// allows, `NonZeroTimeout` where no task calls and the timeout isn't 0, `BadAddress` where a byte is outside RAM,
     /// `ObjUnavailable` where no receiver waits, the queue is full and the timeout is 0; the first of these that holds.
     /// Nothing changes then.
-    pub fn send(&mut self, kern: &mut Kern, ram: &mut Ram, id: u32, words: Sending) -> Result<Took, Errno>
+    pub fn send(
+        &mut self,
+        kern: &mut Kern,
+        ram: &mut Ram,
+        id: u32,
+        words: Sending,
+    ) -> Result<Took, Errno>
         requires kept { IsKept (scene kern.old self.old ram.old) }
         requires caller { IsCaller kern.old words.caller }
         requires since { kern.old.next_since < 2 ^ 62 }
@@ -107,7 +113,13 @@ impl Queues {
     /// `ObjIdError` where no queue of the id lives, `BadAddress` where a byte of the room is outside RAM, of as much of
     /// it as a message of the queue may fill, `ObjUnavailable` where the queue is empty and the timeout is 0; the first
     /// of these that holds. Nothing changes then.
-    pub fn receive(&mut self, kern: &mut Kern, ram: &mut Ram, id: u32, words: Receiving) -> Result<Got, Errno>
+    pub fn receive(
+        &mut self,
+        kern: &mut Kern,
+        ram: &mut Ram,
+        id: u32,
+        words: Receiving,
+    ) -> Result<Got, Errno>
         requires kept { IsKept (scene kern.old self.old ram.old) }
         requires caller { IsCaller kern.old (Some words.caller) }
         requires since { kern.old.next_since < 2 ^ 62 }

@@ -36,13 +36,20 @@ fn refusal(live: usize, max_msgs: u32, max_len: u32, options: u32) -> Option<Err
 
 impl Queues {
     // Makes a queue.
-    fn make(&mut self, alloc: Global, kern: &mut Kern, max_msgs: u32, max_len: u32, options: u32) -> Result<Ident, MakeErr>
+    fn make(
+        &mut self,
+        alloc: Global,
+        kern: &mut Kern,
+        max_msgs: u32,
+        max_len: u32,
+        options: u32,
+    ) -> Result<Ident, MakeErr>
         requires ids { kern.old.lent ≡ false }
         requires below { IdsBelow kern.old.next_id self.old.queues }
         ensures ok { IfOk result (λ id. (create_refusal (length self.old.queues) kern.old.next_id max_msgs max_len options ≡ None)
             × (id ≡ kern.old.next_id)
             × ((ram : List ℕ) → scene kern.new self.new ram
-                ≡ created (scene kern.old self.old ram) (new_queue max_msgs max_len options))) }
+            ≡ created (scene kern.old self.old ram) (new_queue max_msgs max_len options))) }
         ensures err { IfErr result (λ e. (kern.new ≡ kern.old) × (self.new ≡ self.old) × IfRefused e
             (λ r. create_refusal (length self.old.queues) kern.old.next_id max_msgs max_len options ≡ Some r)) }
     {
@@ -66,13 +73,20 @@ impl Queues {
     /// `Refused`: `InvalidOption` where the options are none of these, `BadSize` where the queue would have no message
     /// or exceed a limit of its size, `TooMany` where 256 queues live, `IdsSpent` where no id is left; the first of these
     /// that holds. `NoMemory` where host memory ran out. Nothing changes then.
-    pub fn create(&mut self, alloc: Global, kern: &mut Kern, max_msgs: u32, max_len: u32, options: u32) -> Result<Ident, MakeErr>
+    pub fn create(
+        &mut self,
+        alloc: Global,
+        kern: &mut Kern,
+        max_msgs: u32,
+        max_len: u32,
+        options: u32,
+    ) -> Result<Ident, MakeErr>
         requires ids { kern.old.lent ≡ false }
         requires below { IdsBelow kern.old.next_id self.old.queues }
         ensures ok { IfOk result (λ id. (create_refusal (length self.old.queues) kern.old.next_id max_msgs max_len options ≡ None)
             × (id ≡ kern.old.next_id)
             × ((ram : List ℕ) → scene kern.new self.new ram
-                ≡ created (scene kern.old self.old ram) (new_queue max_msgs max_len options))) }
+            ≡ created (scene kern.old self.old ram) (new_queue max_msgs max_len options))) }
         ensures err { IfErr result (λ e. (kern.new ≡ kern.old) × (self.new ≡ self.old) × IfRefused e
             (λ r. create_refusal (length self.old.queues) kern.old.next_id max_msgs max_len options ≡ Some r)) }
         ensures kept { (ram : List ℕ) → IsKept (scene kern.old self.old ram) → IsKept (scene kern.new self.new ram) }

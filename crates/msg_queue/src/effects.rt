@@ -44,13 +44,20 @@ fn bytes_in(ram: &Ram, addr: u32, n: u32) -> &[u8]
 
 impl Queues {
     // The bytes from an address on are added to a queue.
-    pub(crate) fn put_message(&mut self, ram: &Ram, id: Ident, buffer: u32, count: u32, urgent: bool)
+    pub(crate) fn put_message(
+        &mut self,
+        ram: &Ram,
+        id: Ident,
+        buffer: u32,
+        count: u32,
+        urgent: bool,
+    )
         requires live { IsSome (object_of self.old.queues id) }
         requires there { IsTrue (has ram.now buffer count) }
         requires room { (q : QueueState) → object_of self.old.queues id ≡ Some q → is_full q ≡ false }
         requires short { (q : QueueState) → object_of self.old.queues id ≡ Some q → count ≤ q.max_len }
         ensures { (q : QueueState) → object_of self.old.queues id ≡ Some q → self.new ≡ record self.old {
-            queues = with_object self.old.queues id (added urgent (bytes_at ram.now buffer count) q)
+          queues = with_object self.old.queues id (added urgent (bytes_at ram.now buffer count) q);
         } }
     {
         let bytes = bytes_in(ram, buffer, count);
@@ -61,7 +68,7 @@ impl Queues {
     pub(crate) fn drop_front(&mut self, id: Ident)
         requires live { IsSome (object_of self.old.queues id) }
         ensures { (q : QueueState) → object_of self.old.queues id ≡ Some q → self.new ≡ record self.old {
-            queues = with_object self.old.queues id (record q { held = drop 1 q.held })
+          queues = with_object self.old.queues id (record q { held = drop 1 q.held });
         } }
     {
         self.queues.object_mut(id).drop_front();

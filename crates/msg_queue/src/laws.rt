@@ -1,6 +1,6 @@
 //! What follows of the definitions alone.
 
-ghost use Rattle.msg_queue.specs.Laws.{ConservationLaw, RunLaw, StartLaw, KeptLaw, CreateLaw, CalmLaw, ThenLaw};
+ghost use Rattle.msg_queue.specs.Laws.{ConservationLaw, RunLaw, StartLaw, CountLaw, KeptLaw, CreateLaw, CalmLaw, ThenLaw};
 
 /// For each queue that is live after some steps of the machine of calls, what was accepted was taken or is held, each
 /// byte list as often; where none was urgent, in the same order.
@@ -24,4 +24,9 @@ pub fn kept_law()
 pub fn calm_law()
     ensures one { CalmLaw }
     ensures both { ThenLaw }
+{}
+
+/// No call changes the tick, and each gives at most so many order numbers.
+pub fn count_law()
+    ensures { CountLaw }
 {}

@@ -100,7 +100,13 @@ fn queued_or_blocked(queue: &Queue, at: Ident, words: &Sending) -> SendPlan
 }
 
 // What comes of a send to a queue whose first waiting receiver asks for this.
-pub(crate) fn plan_send(queue: &Queue, ram: &Ram, at: Ident, words: &Sending, first: Option<Ask>) -> SendPlan
+pub(crate) fn plan_send(
+    queue: &Queue,
+    ram: &Ram,
+    at: Ident,
+    words: &Sending,
+    first: Option<Ask>,
+) -> SendPlan
     ensures { result ≡ send_plan at words.now (sends_at (length ram.now) words.now first (Some queue.now)) }
 {
     let stuck = first.is_none() && queue.is_full();

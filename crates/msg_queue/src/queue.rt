@@ -66,7 +66,12 @@ fn empty_messages(alloc: Global, n: u32, room: u32) -> Result<Vec<Message>, NoMe
 
 impl Queue {
     // An empty queue, with room for all its messages.
-    pub(crate) fn reserved(alloc: Global, max_msgs: u32, max_len: u32, by_priority: bool) -> Result<Queue, NoMemory>
+    pub(crate) fn reserved(
+        alloc: Global,
+        max_msgs: u32,
+        max_len: u32,
+        by_priority: bool,
+    ) -> Result<Queue, NoMemory>
         requires { 0 < max_msgs }
         ensures { IfOk result (λ q. q ≡ record { by_priority = by_priority; max_msgs = max_msgs; max_len = max_len; held = [] }) }
     {
