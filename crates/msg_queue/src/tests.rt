@@ -11,6 +11,7 @@ use crate::{
 };
 use board_mem::Ram;
 use id_table::Ident;
+use std::marker::Model;
 use std::test::Fail;
 use task_block::NewTask;
 use wind_base::words::{ERROR, NO_WAIT, WAIT_FOREVER};
@@ -54,9 +55,18 @@ struct Yard {
     ram: Ram,
     // as many order numbers were given at most
     given: u64,
-    ghost kept: { IsKept (scene kern queues ram) },
-    ghost ids: { kern.lent ≡ false },
-    ghost early: { kern.next_since ≤ given },
+}
+
+impl Model for Yard {
+    ghost use Rattle.std.specs.Prelude.{◌≡◌, ◌≤◌, false};
+    ghost use Rattle.msg_queue.specs.State.{Scene, scene};
+    ghost use Rattle.msg_queue.specs.Kept.{IsKept};
+
+    ghost Value = { Scene };
+
+    ghost view = { λ y. scene y.kern y.queues y.ram };
+
+    ghost invariant = { λ y. IsKept (scene y.kern y.queues y.ram) × (y.kern.lent ≡ false) × (y.kern.next_since ≤ y.given) };
 }
 
 // A new task of this priority.
@@ -86,6 +96,16 @@ fn spawn(kern: &mut Kern, pri: u32) -> Option<Ident>
     kern.spawn_record(task).ok()
 }
 
+// Whether the counters are far from their ends.
+fn is_early(kern: &Kern, given: u64) -> bool
+    requires { kern.now.next_since ≤ given }
+    ensures since { result ≡ true → kern.now.next_since < 2 ^ 61 }
+    ensures tick { result ≡ true → kern.now.tick < 2 ^ 61 }
+    ensures given { result ≡ true → given < 2 ^ 61 }
+{
+    given < 1 << 61 && kern.ticks() < 1 << 61
+}
+
 // Whether a call is made by a task that is ready, or by none.
 fn is_caller(kern: &Kern, who: Option<Ident>) -> bool
     ensures { result ≡ true → IsCaller kern.now who }
@@ -103,9 +123,9 @@ impl Yard {
     // Tasks 1, 2 and 3 of priorities 100, 100 and 50, whose r3 is 5, no queue, and 1,024 zeros.
     fn new(rt: &HostRuntime) -> Result<Yard, Fail> {
         let mut kern = Kern::new(rt.alloc()).or(Err("memory"))?;
-        for pri in [100, 100, 50] {
-            spawn(&mut kern, pri).ok_or("no task")?;
-        }
+        spawn(&mut kern, 100).ok_or("no task")?;
+        spawn(&mut kern, 100).ok_or("no task")?;
+        spawn(&mut kern, 50).ok_or("no task")?;
         let queues = Queues::reserved(rt.alloc()).or(Err("memory"))?;
         let ram = Ram::new(rt.alloc(), 0x400).or(Err("memory"))?;
         kern.facts();
@@ -116,15 +136,6 @@ impl Yard {
             ram,
             given: 3,
         })
-    }
-
-    // Whether the counters are far from their ends.
-    fn is_early(&self) -> bool
-        ensures since { result ≡ true → self.now.kern.next_since < 2 ^ 61 }
-        ensures tick { result ≡ true → self.now.kern.tick < 2 ^ 61 }
-        ensures given { result ≡ true → self.now.given < 2 ^ 61 }
-    {
-        self.given < 1 << 61 && self.kern.ticks() < 1 << 61
     }
 
     fn create(&mut self, rt: &HostRuntime, max_msgs: u32, max_len: u32, options: u32) -> Said {
@@ -139,7 +150,7 @@ impl Yard {
     }
 
     fn send(&mut self, id: u32, words: Sending) -> Option<Said> {
-        if !self.is_early() || !is_caller(&self.kern, words.caller) {
+        if !is_early(&self.kern, self.given) || !is_caller(&self.kern, words.caller) {
             return None;
         }
         count_law();
@@ -153,7 +164,7 @@ impl Yard {
     }
 
     fn receive(&mut self, id: u32, words: Receiving) -> Option<Said> {
-        if !self.is_early() || !is_caller(&self.kern, Some(words.caller)) {
+        if !is_early(&self.kern, self.given) || !is_caller(&self.kern, Some(words.caller)) {
             return None;
         }
         count_law();
@@ -169,7 +180,7 @@ impl Yard {
     }
 
     fn delete(&mut self, id: u32) -> Option<Said> {
-        if !self.is_early() {
+        if !is_early(&self.kern, self.given) {
             return None;
         }
         count_law();
@@ -183,7 +194,7 @@ impl Yard {
     }
 
     fn release(&mut self, who: Ident) -> Option<Said> {
-        if !self.is_early() || self.kern.task(who).is_none() {
+        if !is_early(&self.kern, self.given) || self.kern.task(who).is_none() {
             return None;
         }
         calm_law();
@@ -243,6 +254,16 @@ fn apply(rt: &HostRuntime, yard: &mut Yard, act: Act) -> Option<Said> {
         Act::Release(who) => yard.release(Ident::new(who)?),
         Act::Write(addr, bytes) => Some(yard.write(addr, bytes)),
     }
+}
+
+// Makes the calls, up to the first that doesn't answer as it stands beside it; None where each does.
+fn first_wrong(rt: &HostRuntime, yard: &mut Yard, acts: &[(Act, Said)]) -> Option<usize> {
+    for (i, (act, said)) in acts.iter().enumerate() {
+        if apply(rt, yard, *act) != Some(*said) {
+            return Some(i);
+        }
+    }
+    None
 }
 
 const EVER: u32 = WAIT_FOREVER;
@@ -320,9 +341,7 @@ const REFUSALS: [(Act, Said); 26] = [
 #[test]
 fn refuses_as_the_table_says(rt: HostRuntime) -> Result<(), Fail> {
     let mut yard = Yard::new(&rt)?;
-    for (act, said) in REFUSALS {
-        assert_eq!(rt; apply(&rt, &mut yard, act), Some(said));
-    }
+    assert_eq!(rt; first_wrong(&rt, &mut yard, &REFUSALS), None);
     Ok(())
 }
 
@@ -512,16 +531,25 @@ fn task_is(yard: &Yard, who: u32) -> Option<(bool, u32, u32)> {
     Some((task.ready(), task.regs.gpr[3], task.errno))
 }
 
+// The first address at which other bytes stand; None where there is none.
+fn first_other(ram: &Ram, wanted: &[(u32, &'static [u8])]) -> Option<u32> {
+    for (addr, bytes) in wanted {
+        let Ok(n) = u32::try_from(bytes.len()) else {
+            return Some(*addr);
+        };
+        if ram.bytes(*addr, n) != Some(*bytes) {
+            return Some(*addr);
+        }
+    }
+    None
+}
+
 #[test]
 fn bytes_pass_as_worked_out(rt: HostRuntime) -> Result<(), Fail> {
     for (acts, ram, tasks) in ROWS {
         let mut yard = Yard::new(&rt)?;
-        for (act, said) in acts {
-            assert_eq!(rt; apply(&rt, &mut yard, *act), Some(*said));
-        }
-        for (addr, bytes) in ram {
-            assert_eq!(rt; yard.ram.bytes(*addr, bytes.len() as u32), Some(*bytes));
-        }
+        assert_eq!(rt; first_wrong(&rt, &mut yard, acts), None);
+        assert_eq!(rt; first_other(&yard.ram, ram), None);
         let [first, second, third] = tasks;
         assert_eq!(rt; task_is(&yard, 1), Some(first));
         assert_eq!(rt; task_is(&yard, 2), Some(second));
