@@ -1,16 +1,16 @@
 -- The kernel's moves begin no wait at a queue.
 use Rattle.std.proofs.Common.{◌≡◌, ℕ, ◌+◌, ◌<◌, ◌≤◌, Bool, true, false, not, cond, eqb, is_some, List, [], ◌∷◌, Option, None, Some, refl, sym, ◌∙◌, subst, arith, ◌⊎◌, inl, inr, ⊎_elim}
-use Rattle.std.specs.List.{All, Contains, fold}
+use Rattle.std.specs.List.{All, fold}
 use Rattle.std.proofs.lemmas.List.Elements.{All-contains, All-filter, All-push, All-weaker}
 use Rattle.std.proofs.lemmas.Option.{same_Some}
 use Rattle.wind_base.specs.declared.errno.Errno.{Errno}
 use Rattle.wind_base.specs.declared.errno.Errno.TheVariants as errors
 use Rattle.id_table.specs.declared.ident.Place.{Place}
 use Rattle.task_block.specs.declared.task.Task.{Task}
-use Rattle.wind_core.specs.State.{KernState, IsKern, task_id, task_of}
+use Rattle.wind_core.specs.State.{KernState, IsKern, task_of}
 use Rattle.wind_core.specs.Orders.{running, due, waiters}
-use Rattle.wind_core.specs.Moves.{renewed, new_task, spawn, remove, wake_at, pended, pend, delayed, delay, released, release, answered, end_wait, end_waits, wake_all, suspended, is_suspended, resumed, resume, unmarked, reset, with_pri, has_pri, change_pri, move_found, move_task, change_task, renew_task, past_gate, with_answer, with_refusal}
-use Rattle.wind_core.specs.Releases.{releases, release_all}
+use Rattle.wind_core.specs.Moves.{renewed, new_task, remove, wake_at, pended, pend, delayed, delay, released, release, answered, end_wait, end_waits, wake_all, suspended, is_suspended, resumed, resume, unmarked, reset, with_pri, has_pri, change_pri, move_found, move_task, change_task, renew_task, past_gate, with_answer, with_refusal}
+use Rattle.wind_core.specs.Releases.{releases}
 use Rattle.wind_core.specs.Tick.{tick, tick_counted, take_turn, turn_of, turn_found, time_out, late_answer, late_errno}
 use Rattle.wind_core.proofs.Stable as stable
 use Rattle.wind_core.proofs.Keeping.{every_call_keeps}

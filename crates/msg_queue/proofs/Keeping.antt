@@ -1,5 +1,5 @@
 -- What keeps the kept facts: a move of the kernel that is calm, and a queue that is written where nobody waits for it.
-use Rattle.std.proofs.Common.{◌≡◌, ℕ, ◌<◌, ◌≤◌, true, false, eqb, List, [], length, Option, Some, IsSome, refl, sym, ap, ◌∙◌, subst, arith, ⊎_elim}
+use Rattle.std.proofs.Common.{◌≡◌, ℕ, ◌<◌, true, false, eqb, List, length, Option, Some, IsSome, refl, sym, ap, ◌∙◌, subst, arith, ⊎_elim}
 use Rattle.std.specs.List.{Contains}
 use Rattle.std.proofs.lemmas.Bool.{eqb-true, eqb-false}
 use Rattle.std.proofs.lemmas.Option.{same_Some}
@@ -10,7 +10,7 @@ use Rattle.task_block.specs.declared.task.Task.{Task}
 use Rattle.wind_core.specs.State.{KernState}
 use Rattle.msg_queue.specs.declared.asks.Ask.{Ask}
 use Rattle.msg_queue.specs.State.{QueueState, Scene, queue_of, receivers, senders, ask_of, with_queue}
-use Rattle.msg_queue.specs.Kept.{IsQueue, IsServable, AtObject, WaitsWell, SendsToLive, WaitsForOld, IsKept, BeginsNone, IsCalm}
+use Rattle.msg_queue.specs.Kept.{IsQueue, IsServable, WaitsWell, SendsToLive, WaitsForOld, IsKept, BeginsNone, IsCalm}
 use Rattle.msg_queue.proofs.Tables.{written_same, written_other, rises-written, All-ids_written, All-written}
 use Rattle.msg_queue.proofs.Members.{each}
 

@@ -1,5 +1,5 @@
 -- What each step accepts and takes goes with what the queues hold before and after it.
-use Rattle.std.proofs.Common.{◌≡◌, ℕ, ◌<◌, ◌≤◌, Bool, true, false, cond, eqb, List, [], ◌∷◌, ◌++◌, length, min, Option, None, Some, IsSome, refl, sym, ap, ◌∙◌, subst, arith}
+use Rattle.std.proofs.Common.{◌≡◌, ℕ, ◌≤◌, Bool, true, false, cond, eqb, List, [], ◌∷◌, ◌++◌, length, min, Option, None, Some, IsSome, refl, sym, ap, ◌∙◌, subst, arith}
 use Rattle.std.proofs.lemmas.Bool.{eqb-true, eqb-false, and_parts}
 use Rattle.std.specs.List.{Contains}
 use Rattle.std.specs.List.Sorted.{IsPermutation}
@@ -13,7 +13,7 @@ use Rattle.id_table.specs.declared.ident.Place.{Place}
 use Rattle.task_block.specs.declared.task.Task.{Task}
 use Rattle.wind_lists.proofs.Passing.{front_found, front_passes}
 use Rattle.wind_lists.proofs.Records.{found_at, found_in}
-use Rattle.wind_core.specs.State.{KernState, IsKern, Lives, task_id}
+use Rattle.wind_core.specs.State.{IsKern, Lives, task_id}
 use Rattle.wind_core.specs.Orders.{waits_before, waits_at, is_place, first_waiter}
 use Rattle.wind_core.specs.Moves.{answered}
 use Rattle.wind_core.proofs.Passes.{waits_before-order}
@@ -24,7 +24,7 @@ use Rattle.msg_queue.specs.State.{QueueState, Scene, queue_of, lies_in, added, r
 use Rattle.msg_queue.specs.Sends.{declined, passed_on, queued, blocked, send_deed, sent_bytes, after_send, handed}
 use Rattle.msg_queue.specs.Receives.{denied, taken, starved, receive_deed, taken_out, waited_bytes, refilled, after_receive}
 use Rattle.msg_queue.specs.Comings.{created, gone, deleted}
-use Rattle.msg_queue.specs.Kept.{IsKept, IsServable, AtObject, WaitsWell}
+use Rattle.msg_queue.specs.Kept.{IsKept, AtObject, WaitsWell}
 use Rattle.msg_queue.specs.Machine.{Parcel, contents, AllPlain, accepted_by_send, taken_by_send, refilled_with, accepted_by_receive, taken_by_receive, Event, sends, receives, creates, deletes, ticks, others, after_event, of_queue, accepted_by, taken_by, IsAllowed}
 use Rattle.msg_queue.specs.Laws.{Stock, IsBalanced}
 use Rattle.msg_queue.proofs.Tables.{not_live, written_same, written_other, taken_same, taken_other, added_other, added_same}

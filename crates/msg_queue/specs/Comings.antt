@@ -8,7 +8,7 @@ use Rattle.wind_core.specs.State.{KernState}
 use Rattle.wind_core.specs.Moves.{wake_all}
 use Rattle.msg_queue.specs.declared.words.MakeErr.{MakeErr}
 use Rattle.msg_queue.specs.declared.words.MakeErr.TheVariants as make
-use Rattle.msg_queue.specs.State.{QueueState, QueuesState, Scene, queue_of, receivers, senders}
+use Rattle.msg_queue.specs.State.{QueueState, Scene, queue_of, receivers, senders}
 
 -- ---- create
 -- the option MSG_Q_PRIORITY; without it, which is MSG_Q_FIFO, the tasks that wait stand by arrival

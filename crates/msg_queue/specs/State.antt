@@ -1,5 +1,5 @@
 -- What a contract sees of the message queues.
-use Rattle.std.specs.Prelude.{ℕ, ◌+◌, Bool, true, false, ◌||◌, ◌==◌, nat_le, if◌then◌else◌, List, [], ◌∷◌, ◌++◌, length, Option, None, Some}
+use Rattle.std.specs.Prelude.{ℕ, ◌+◌, Bool, false, ◌||◌, ◌==◌, nat_le, if◌then◌else◌, List, [], ◌∷◌, ◌++◌, length, Option, None, Some}
 use Rattle.std.specs.List.{filter, find}
 use Rattle.id_table.specs.Rows.{object_of, with_object}
 use Rattle.id_table.specs.Sides.{object_side, senders_side}

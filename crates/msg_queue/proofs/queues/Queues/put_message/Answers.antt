@@ -1,6 +1,6 @@
 use Rattle.std.proofs.Common.{◌≡◌, ℕ, List, Some, sym, ap, ◌∙◌, subst}
 use Rattle.std.proofs.lemmas.Option.{same_Some}
-use Rattle.id_table.specs.Rows.{Rows, object_of, with_object, rewritten}
+use Rattle.id_table.specs.Rows.{object_of, with_object}
 use Rattle.board_mem.specs.Memory.{bytes_at}
 use Rattle.msg_queue.specs.declared.asks.Ask.{Ask}
 use Rattle.msg_queue.specs.State.{QueueState, QueuesState, added}

@@ -3,7 +3,6 @@ use Rattle.msg_queue.specs.State.{scene}
 use Rattle.msg_queue.specs.Receives.{receive_deed, receive, receive_answer}
 use Rattle.msg_queue.specs.Inside.{receive_plan}
 use Rattle.msg_queue.specs.Kept.{IsKept}
-use Rattle.msg_queue.specs.declared.plans.ReceivePlan.TheVariants as plan
 use Rattle.msg_queue.proofs.Takes.{got_denied, answer_denied, at_id, starved_lives, starved_room, starved_timeout, got_starved, answer_starved}
 use Rattle.msg_queue.proofs.Events.{receive_keeps}
 use Rattle.msg_queue.proofs.queues.Queues.receive.Goals as goal

@@ -1,4 +1,4 @@
-use Rattle.std.proofs.Common.{◌≡◌, ◌≤◌, ℕ, true, false, cond, List, length, refl, sym, subst, arith}
+use Rattle.std.proofs.Common.{◌≡◌, ℕ, true, false, cond, List, length, refl, sym, subst, arith}
 use Rattle.board_mem.specs.Memory.{has, with_bytes}
 use Rattle.msg_queue.specs.State.{Scene, scene}
 use Rattle.msg_queue.specs.Kept.{IsKept}
