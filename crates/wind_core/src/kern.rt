@@ -66,6 +66,14 @@ impl Kern {
         self.tick
     }
 
+    /// How many order numbers were given to tasks, so that a caller can test that they are far from their
+    /// end.
+    pub fn order_numbers(&self) -> u64
+        ensures { result ≡ self.now.next_since }
+    {
+        self.next_since
+    }
+
     /// How many tasks live, 256 at most.
     pub fn live(&self) -> u32
         ensures { result ≡ length self.now.tasks }

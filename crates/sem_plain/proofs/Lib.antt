@@ -1,0 +1,5 @@
+pub mod Beginning
+pub mod Moving
+pub mod Keeping
+pub mod Living
+pub mod Coding

@@ -1,0 +1,130 @@
+-- No move of the kernel begins a wait, but a pend.
+use Rattle.std.proofs.Common.{◌≡◌, ℕ, ◌+◌, Bool, true, false, not, cond, eqb, List, [], ◌∷◌, Option, None, Some, is_some, refl, ◌∙◌, arith, inr}
+use Rattle.std.specs.List.{fold}
+use Rattle.std.proofs.lemmas.Bool.{eq-eqb, and_from}
+use Rattle.std.proofs.lemmas.List.Elements.{All-filter, All-push}
+use Rattle.wind_base.specs.declared.errno.Errno.{Errno}
+use Rattle.id_table.specs.declared.ident.Place.{Place}
+use Rattle.task_block.specs.declared.task.Task.{Task}
+use Rattle.task_block.specs.declared.task.NewTask.{NewTask}
+use Rattle.wind_core.specs.State.{KernState, task_of}
+use Rattle.wind_core.specs.Orders.{same_place, waiters, due, running}
+use Rattle.wind_core.specs.Moves.{change_task, move_task, new_task, spawn, remove, wake_at, pended, pend, delayed, delay, released, release, answered, end_wait, end_waits, wake_all, suspended, resumed, is_suspended, resume, unmarked, with_pri, has_pri, change_pri, past_gate, with_answer, with_refusal}
+use Rattle.wind_core.specs.Releases.{releases}
+use Rattle.wind_core.specs.Tick.{turn_found, turn_of, take_turn, late_answer, late_errno, time_out, tick_counted, tick}
+use Rattle.wind_core.proofs.Stable.{tick-stable}
+use Rattle.sem_plain.specs.Kept.{BeginsOnly}
+use Rattle.sem_plain.specs.Laws.{nowhere, KernelLaw}
+use Rattle.sem_plain.proofs.Beginning.{IsOld, themselves, next-move, by_change, by_renewal, by_move, by_tasks, then}
+
+pub stays : (k : KernState) → BeginsOnly nowhere k k
+stays k = by_tasks nowhere k k (omega arith) (themselves nowhere k)
+
+-- ---- waits
+pub same_itself : (place : Place) → same_place place place ≡ true
+same_itself place = and_from (eqb place.side place.side) (eqb place.id place.id) (eq-eqb place.side place.side refl) (eq-eqb place.id place.id refl)
+
+pub begins-pend : (k : KernState) (who : ℕ) (place : Place) (fifo : Bool) (n : ℕ) → BeginsOnly (same_place place) k (pend k who place fifo n)
+begins-pend k who place fifo n = by_renewal (same_place place) k who (pended place fifo (wake_at place.side k.tick n)) (λ t old. inr (same_itself place))
+
+begins-delay : (k : KernState) (who n : ℕ) → BeginsOnly nowhere k (delay k who n)
+begins-delay k who n =
+    by_renewal nowhere k who (delayed k.tick n)
+    (λ t old. elim (eqb n 0) as (λ b. IsOld nowhere k (cond b t (record t { wake = Some (k.tick + n); turns = 0 }))) [ true ↦ old | false ↦ old ])
+
+pub begins-end_wait : (k : KernState) (who answer : ℕ) (errno : Option Errno) → BeginsOnly nowhere k (end_wait k who answer errno)
+begins-end_wait k who answer errno = by_move nowhere k who (answered answer errno) (λ t old. tt)
+
+begins-release : (k : KernState) (who : ℕ) → BeginsOnly nowhere k (release k who)
+begins-release k who = by_move nowhere k who released (λ t old. tt)
+
+begins-end_waits : (k : KernState) (ts : List Task) (answer : ℕ) (errno : Option Errno) → BeginsOnly nowhere k (end_waits k ts answer errno)
+begins-end_waits k [] answer errno = stays k
+begins-end_waits k (t ∷ ts) answer errno =
+    then nowhere k (end_wait k t.id answer errno) (end_waits (end_wait k t.id answer errno) ts answer errno) (begins-end_wait k t.id answer errno) (begins-end_waits (end_wait k t.id answer errno) ts answer errno)
+
+pub begins-wake_all : (k : KernState) (place : Place) (answer : ℕ) (errno : Option Errno) → BeginsOnly nowhere k (wake_all k place answer errno)
+begins-wake_all k place answer errno = begins-end_waits k (waiters k.tasks place) answer errno
+
+begins-releases : (k : KernState) (ts : List Task) → BeginsOnly nowhere k (releases k ts)
+begins-releases k [] = stays k
+begins-releases k (t ∷ ts) = then nowhere k (release k t.id) (releases (release k t.id) ts) (begins-release k t.id) (begins-releases (release k t.id) ts)
+
+-- ---- a tick
+next-time_outs : (k : KernState) (ts : List Task) → (fold time_out k ts).next_id ≡ k.next_id
+next-time_outs k [] = refl
+next-time_outs k (t ∷ ts) = next-time_outs (time_out k t) ts ∙ next-move nowhere k t.id (answered (late_answer (is_some t.wait)) (late_errno (is_some t.wait)))
+
+next-turn_of : (k : KernState) (o : Option Task) → (turn_of k o).next_id ≡ k.next_id
+next-turn_of k None = refl
+next-turn_of k (Some t) = elim (eqb t.locks 0) as (λ b. (cond b (turn_found k t) k).next_id ≡ k.next_id) [ true ↦ refl | false ↦ refl ]
+
+next-take_turn : (k : KernState) → (take_turn k).next_id ≡ k.next_id
+next-take_turn k = elim (eqb k.slice 0) as (λ b. (cond b k (turn_of k (running k))).next_id ≡ k.next_id) [ true ↦ refl | false ↦ next-turn_of k (running k) ]
+
+next-tick : (k : KernState) → (tick k).next_id ≡ k.next_id
+next-tick k = next-time_outs (take_turn (tick_counted k)) (due (take_turn (tick_counted k)).tasks (k.tick + 1)) ∙ next-take_turn (tick_counted k)
+
+begins-tick : (k : KernState) → BeginsOnly nowhere k (tick k)
+begins-tick k =
+    by_tasks nowhere k (tick k) (omega (arith, next-tick k))
+    (tick-stable (IsOld nowhere k) (λ since t old. old) (λ answer errno t old. tt) (λ n t old. old) k (themselves nowhere k))
+
+-- ---- tasks come and go
+begins-spawn : (k : KernState) (n : NewTask) → BeginsOnly nowhere k (spawn k n)
+begins-spawn k n =
+    by_tasks nowhere k (spawn k n) (omega arith)
+    (All-push (IsOld nowhere k) k.tasks (new_task k.next_id k.next_since n) (themselves nowhere k) tt)
+
+begins-remove : (k : KernState) (who : ℕ) → BeginsOnly nowhere k (remove k who)
+begins-remove k who = by_tasks nowhere k (remove k who) (omega arith) (All-filter (λ t. not (eqb t.id who)) (IsOld nowhere k) k.tasks (themselves nowhere k))
+
+-- ---- one task's other fields
+writes : (k : KernState) (who : ℕ) (f : Task → Task) → ((t : Task) → IsOld nowhere k t → IsOld nowhere k (f t)) → BeginsOnly nowhere k (change_task k who f)
+writes k who f keeps = by_change nowhere k who f keeps
+
+begins-resume : (k : KernState) (who : ℕ) → BeginsOnly nowhere k (resume k who)
+begins-resume k who =
+    elim (is_suspended (task_of k.tasks who)) as (λ b. BeginsOnly nowhere k (cond b (move_task k who resumed) k)) [
+      | true ↦ by_move nowhere k who resumed (λ t old. old)
+      | false ↦ stays k
+    ]
+
+begins-change_pri : (k : KernState) (who pri : ℕ) → BeginsOnly nowhere k (change_pri k who pri)
+begins-change_pri k who pri =
+    elim (has_pri pri (task_of k.tasks who)) as (λ b. BeginsOnly nowhere k (cond b k (move_task k who (with_pri pri)))) [
+      | true ↦ stays k
+      | false ↦ by_move nowhere k who (with_pri pri) (λ t old. old)
+    ]
+
+pub moves : KernelLaw
+moves k = record {
+  staying = stays k;
+  pending = begins-pend k;
+  spawning = begins-spawn k;
+  removing = begins-remove k;
+  delaying = begins-delay k;
+  releasing = begins-release k;
+  releasing_all = λ place. begins-releases k (waiters k.tasks place);
+  ending_wait = begins-end_wait k;
+  waking = begins-wake_all k;
+  ticking = begins-tick k;
+  suspending = λ who. writes k who suspended (λ t old. old);
+  resuming = begins-resume k;
+  resetting = λ who. by_renewal nowhere k who unmarked (λ t old. old);
+  changing_pri = begins-change_pri k;
+  setting_locks = λ who n. writes k who (λ t. record t { locks = n }) (λ t old. old);
+  setting_normal = λ who pri. writes k who (λ t. record t { normal = pri }) (λ t old. old);
+  setting_safe = λ who n. writes k who (λ t. record t { safe = n }) (λ t old. old);
+  setting_held = λ who n. writes k who (λ t. record t { held = n }) (λ t old. old);
+  setting_errno = λ who n. writes k who (λ t. record t { errno = n }) (λ t old. old);
+  setting_int_locked = λ who on. writes k who (λ t. record t { int_locked = on }) (λ t old. old);
+  setting_again = λ who on. writes k who (λ t. record t { again = on }) (λ t old. old);
+  setting_regs = λ who regs. writes k who (λ t. record t { regs = regs }) (λ t old. old);
+  leaving_gate = λ who. writes k who past_gate (λ t old. old);
+  giving_answer = λ who value. writes k who (with_answer value) (λ t old. old);
+  refusing = λ who e. writes k who (with_refusal e) (λ t old. old);
+  noting_last = λ last. by_tasks nowhere k (record k { last = last }) (omega arith) (themselves nowhere k);
+  slicing = λ n. by_tasks nowhere k (record k { slice = n }) (omega arith) (themselves nowhere k);
+  drawing = λ n more. by_tasks nowhere k (record k { next_id = n }) more (themselves nowhere k);
+}

@@ -1,0 +1,12 @@
+//! Binary and counting semaphores (VxWorks 5.4 Reference Manual, semBLib, semCLib and semLib).
+#![tactic(auto)]
+
+mod laws;
+mod plain;
+mod semaphore;
+#[cfg(test)]
+mod tests;
+
+pub use laws::{calls_law, kernel_law, waiters_law};
+pub use plain::Plain;
+pub use semaphore::{Semaphore, Took, may_hold};

@@ -1,0 +1,235 @@
+//! The binary and counting semaphores, and the calls on them.
+
+ghost use Rattle.std.specs.Prelude.{◌≡◌, ◌<◌, ◌+◌, ◌^◌, ◌==◌, true, false, [], Some, None, IsSome, IfOk, IfErr, MatchOption};
+ghost use Rattle.wind_base.specs.Limits.{greatest_word};
+ghost use Rattle.wind_base.specs.SemBits.{is_priority};
+ghost use Rattle.id_table.specs.Rows.{object_of, with_object, IdsBelow};
+ghost use Rattle.wind_core.specs.State.{Lives};
+ghost use Rattle.sem_plain.specs.State.{both, may_hold, sem_place, IsEarly};
+ghost use Rattle.sem_plain.specs.Calls.{create, create_refusal, new_semaphore, take, take_refusal, took, awaited, emptied, filled, give, give_refusal, flush, flush_refusal, delete, delete_refusal};
+
+use crate::semaphore::{Semaphore, Took, empty, fill};
+use id_table::sides::OBJECT;
+use id_table::{Ident, Place, Table};
+use std::alloc::Global;
+use std::marker::Model;
+use wind_base::limits::SEMAPHORES;
+use wind_base::words::{ERROR, NO_WAIT, OK};
+use wind_base::{Errno, NoMemory, SemKind, SemOptions};
+use wind_core::Kern;
+
+/// The binary and counting semaphores.
+#[derive(Drop)]
+pub struct Plain {
+    table: Table<Semaphore>,
+}
+
+impl Model for Plain {
+    ghost use Rattle.std.specs.Prelude.{◌≡◌, ℕ, List};
+    ghost use Rattle.wind_base.specs.Limits.{most_semaphores};
+    ghost use Rattle.sem_plain.specs.declared.semaphore.Semaphore.{Semaphore as Semaphore_lem};
+
+    ghost Value = { List (ℕ × Semaphore_lem) };
+
+    ghost view = { λ p. p.table.rows };
+
+    ghost invariant = { λ p. p.table.room ≡ most_semaphores };
+}
+
+// Where tasks wait for the semaphore of this id.
+fn place_of(id: Ident) -> Place
+    ensures { result ≡ sem_place id }
+{
+    Place { side: OBJECT, id }
+}
+
+impl Plain {
+    ghost use Rattle.sem_plain.specs.declared.semaphore.Semaphore.{Semaphore as Semaphore_lem};
+
+    /// No semaphore, with room for 1,024. No other call takes memory.
+    pub fn reserved(alloc: Global) -> Result<Plain, NoMemory>
+        ensures { IfOk result (λ p. p ≡ []) }
+    {
+        Ok(Plain {
+            table: Table::reserved(alloc, SEMAPHORES)?,
+        })
+    }
+
+    // The id of this number, where its semaphore is live.
+    fn find(&self, number: u32) -> Option<Ident>
+        ensures { MatchOption result (object_of self.now number ≡ None)
+            (λ id. (id ≡ number) × IsSome (object_of self.now id)) }
+    {
+        self.table.facts();
+        let id = Ident::new(number)?;
+        if self.table.contains(id) {
+            Some(id)
+        } else {
+            None
+        }
+    }
+
+    // The semaphore of this id.
+    fn semaphore(&self, id: Ident) -> &Semaphore
+        requires { IsSome (object_of self.now id) }
+        ensures { object_of self.now id ≡ Some result.now }
+    {
+        match self.table.get(id) {
+            Some(semaphore) => semaphore,
+            None => unreachable!(),
+        }
+    }
+
+    // The task begins to wait for the semaphore of this id, as its options say.
+    fn wait(&self, kern: &mut Kern, who: Ident, id: Ident, timeout: u32)
+        requires there { IsSome (object_of self.now id) }
+        requires live { Lives kern.old who }
+        requires timeout { 0 < timeout }
+        requires early { IsEarly kern.old }
+        ensures { (v : Semaphore_lem) → object_of self.now id ≡ Some v
+            → both kern.new self.now ≡ awaited (both kern.old self.now) who id timeout v }
+    {
+        let fifo = !self.semaphore(id).options.is_priority();
+        kern.pend(who, place_of(id), fifo, timeout);
+    }
+
+    /// Makes a semaphore that can be taken so many times.
+    ///
+    /// # Errors
+    ///
+    /// `TooMany` where 1,024 are live, else `IdsSpent` where no id is left. Nothing changes then.
+    pub fn create(
+        &mut self,
+        kern: &mut Kern,
+        kind: SemKind,
+        options: SemOptions,
+        count: u32,
+    ) -> Result<Ident, Errno>
+        requires count { may_hold kind count ≡ true }
+        requires ids { kern.old.lent ≡ false }
+        requires below { IdsBelow kern.old.next_id self.old }
+        ensures ok { IfOk result (λ id. (create_refusal (both kern.old self.old) ≡ None)
+            × (id ≡ kern.old.next_id)) }
+        ensures state { IfOk result (λ _. both kern.new self.new
+            ≡ create (both kern.old self.old) (new_semaphore kind options count)) }
+        ensures err { IfErr result (λ e. create_refusal (both kern.old self.old) ≡ Some e) }
+        ensures same { IfErr result (λ _. both kern.new self.new ≡ both kern.old self.old) }
+    {
+        if self.table.len() >= SEMAPHORES as usize {
+            return Err(Errno::TooMany);
+        }
+        let semaphore = Semaphore {
+            kind,
+            options,
+            count,
+        };
+        let Ok(id) = kern.add_to(&mut self.table, semaphore) else {
+            return Err(Errno::IdsSpent);
+        };
+        Ok(id)
+    }
+
+    /// The caller takes the semaphore, or begins to wait for it for so many ticks, or without end where
+    /// `timeout` is `WAIT_FOREVER`: by priority, or by arrival, as the semaphore's options say.
+    ///
+    /// # Errors
+    ///
+    /// `ObjIdError` where there is no such semaphore; `ObjUnavailable` where it is empty and the timeout is
+    /// 0. Nothing changes then.
+    pub fn take(
+        &mut self,
+        kern: &mut Kern,
+        caller: Ident,
+        id: u32,
+        timeout: u32,
+    ) -> Result<Took, Errno>
+        requires live { Lives kern.old caller }
+        requires early { IsEarly kern.old }
+        ensures ok { IfOk result (λ t. (take_refusal (both kern.old self.old) id timeout ≡ None)
+            × (t ≡ took (both kern.old self.old) id)) }
+        ensures state { IfOk result (λ _. both kern.new self.new ≡ take (both kern.old self.old) caller id timeout) }
+        ensures err { IfErr result (λ e. take_refusal (both kern.old self.old) id timeout ≡ Some e) }
+        ensures same { IfErr result (λ _. both kern.new self.new ≡ both kern.old self.old) }
+    {
+        let Some(id) = self.find(id) else {
+            return Err(Errno::ObjIdError);
+        };
+        if self.semaphore(id).count > 0 {
+            empty(self.table.object_mut(id));
+            return Ok(Took::Taken);
+        }
+        if timeout == NO_WAIT {
+            return Err(Errno::ObjUnavailable);
+        }
+        self.wait(kern, caller, id, timeout);
+        Ok(Took::Pended)
+    }
+
+    /// Gives the semaphore: the first that waits for it has it and goes on with 0. Where none waits, a
+    /// binary one is full, and a counting one can be taken once more.
+    ///
+    /// # Errors
+    ///
+    /// `ObjIdError` where there is no such semaphore; `CountOver` where none waits and its count is
+    /// 4,294,967,295. Nothing changes then.
+    pub fn give(&mut self, kern: &mut Kern, id: u32) -> Result<(), Errno>
+        requires early { IsEarly kern.old }
+        ensures ok { IfOk result (λ _. give_refusal (both kern.old self.old) id ≡ None) }
+        ensures state { IfOk result (λ _. both kern.new self.new ≡ give (both kern.old self.old) id) }
+        ensures err { IfErr result (λ e. give_refusal (both kern.old self.old) id ≡ Some e) }
+        ensures same { IfErr result (λ _. both kern.new self.new ≡ both kern.old self.old) }
+    {
+        kern.facts();
+        let Some(id) = self.find(id) else {
+            return Err(Errno::ObjIdError);
+        };
+        if let Some(who) = kern.first_waiter(place_of(id)) {
+            kern.end_wait(who, OK, None);
+            return Ok(());
+        }
+        if self.semaphore(id).count == u32::MAX {
+            return Err(Errno::CountOver);
+        }
+        fill(self.table.object_mut(id));
+        Ok(())
+    }
+
+    /// All that wait for the semaphore go on with 0, in waiting order. Its count stays.
+    ///
+    /// # Errors
+    ///
+    /// `ObjIdError` where there is no such semaphore. Nothing changes then.
+    pub fn flush(&mut self, kern: &mut Kern, id: u32) -> Result<(), Errno>
+        requires early { IsEarly kern.old }
+        ensures ok { IfOk result (λ _. flush_refusal (both kern.old self.old) id ≡ None) }
+        ensures state { IfOk result (λ _. both kern.new self.new ≡ flush (both kern.old self.old) id) }
+        ensures err { IfErr result (λ e. flush_refusal (both kern.old self.old) id ≡ Some e) }
+        ensures same { IfErr result (λ _. both kern.new self.new ≡ both kern.old self.old) }
+    {
+        let Some(id) = self.find(id) else {
+            return Err(Errno::ObjIdError);
+        };
+        kern.wake_all(place_of(id), OK, None);
+        Ok(())
+    }
+
+    /// Deletes the semaphore. All that wait for it go on with ERROR and `ObjDeleted`, in waiting order.
+    ///
+    /// # Errors
+    ///
+    /// `ObjIdError` where there is no such semaphore. Nothing changes then.
+    pub fn delete(&mut self, kern: &mut Kern, id: u32) -> Result<(), Errno>
+        requires early { IsEarly kern.old }
+        ensures ok { IfOk result (λ _. delete_refusal (both kern.old self.old) id ≡ None) }
+        ensures state { IfOk result (λ _. both kern.new self.new ≡ delete (both kern.old self.old) id) }
+        ensures err { IfErr result (λ e. delete_refusal (both kern.old self.old) id ≡ Some e) }
+        ensures same { IfErr result (λ _. both kern.new self.new ≡ both kern.old self.old) }
+    {
+        let Some(id) = self.find(id) else {
+            return Err(Errno::ObjIdError);
+        };
+        kern.wake_all(place_of(id), ERROR, Some(Errno::ObjDeleted));
+        self.table.remove(id);
+        Ok(())
+    }
+}
