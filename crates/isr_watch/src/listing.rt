@@ -4,12 +4,12 @@ ghost use Rattle.std.specs.Prelude.{◌≡◌, ◌≤◌, ◌+◌, ◌++◌, map
 ghost use Rattle.std.specs.Option.{option_map};
 ghost use Rattle.std.specs.VecDeque.{deque_len, deque_capacity};
 ghost use Rattle.wind_base.specs.Limits.{frame_bytes};
-ghost use Rattle.id_table.specs.Rows.{objects};
+ghost use Rattle.id_table.specs.Rows.{objects, IsTable};
 ghost use Rattle.isr_watch.specs.State.{first_due as first_due_lem, due_watchdogs, watchdog_routine};
 ghost use Rattle.isr_watch.specs.Calls.{stop_due, level_of, rest_of};
-ghost use Rattle.isr_watch.specs.Inside.{IsOwned, fired as fired_lem};
+ghost use Rattle.isr_watch.specs.Inside.{SameIds, alarm_of as alarm_of_lem};
 
-use crate::watchdog::{Fired, Routine, Watchdog, better_due, fired, regs_of};
+use crate::watchdog::{Alarm, Routine, Watchdog, better_due, alarm_of, regs_of};
 use id_table::Table;
 use std::collections::VecDeque;
 use wind_base::Regs;
@@ -25,18 +25,21 @@ fn first_due(watchdogs: &Table<Watchdog>, tick: u64) -> Option<&Watchdog>
     best
 }
 
-fn front_due(watchdogs: &Table<Watchdog>, tick: u64) -> Option<Fired>
-    ensures { result ≡ option_map fired_lem (first_due_lem (objects watchdogs.now.rows) tick) }
+// The same, with the facts that the table keeps.
+fn front_due(watchdogs: &Table<Watchdog>, tick: u64) -> Option<Alarm>
+    ensures first { result ≡ option_map alarm_of_lem (first_due_lem (objects watchdogs.now.rows) tick) }
+    ensures sound { IsTable watchdogs.now }
 {
-    first_due(watchdogs, tick).map(|watchdog| fired(watchdog))
+    watchdogs.facts();
+    first_due(watchdogs, tick).map(|watchdog| alarm_of(watchdog))
 }
 
 // All that are due stop, and their routines are listed in order of start.
 pub(crate) fn list_due(watchdogs: &mut Table<Watchdog>, listed: &mut VecDeque<Routine>, tick: u64)
-    requires owned { IsOwned watchdogs.old }
+    requires own { SameIds watchdogs.old.rows }
     requires room { deque_len listed.old + length watchdogs.old.rows ≤ deque_capacity listed.old }
     ensures watchdogs { objects watchdogs.new.rows ≡ stop_due tick (objects watchdogs.old.rows) }
-    ensures owned { IsOwned watchdogs.new }
+    ensures own { SameIds watchdogs.new.rows }
     ensures room { watchdogs.new.room ≡ watchdogs.old.room }
     ensures listed { listed.new.items
         ≡ listed.old.items ++ map watchdog_routine (due_watchdogs (objects watchdogs.old.rows) tick) }

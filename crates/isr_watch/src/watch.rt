@@ -142,7 +142,14 @@ impl Watch {
         let Some(at) = self.find(id) else {
             return Err(Errno::ObjIdError);
         };
-        begin(self.watchdogs.object_mut(at), tick, delay, routine, self.next_start);
+        self.watchdogs.facts();
+        begin(
+            self.watchdogs.object_mut(at),
+            tick,
+            delay,
+            routine,
+            self.next_start,
+        );
         self.next_start += 1;
         Ok(())
     }
@@ -160,6 +167,7 @@ impl Watch {
         let Some(at) = self.find(id) else {
             return Err(Errno::ObjIdError);
         };
+        self.watchdogs.facts();
         self.watchdogs.object_mut(at).timer = None;
         Ok(())
     }

@@ -5,7 +5,7 @@ ghost use Rattle.wind_base.specs.Limits.{frame_bytes};
 ghost use Rattle.wind_lists.specs.Sorting.{pick};
 ghost use Rattle.isr_watch.specs.State.{is_due as is_due_lem, starts_before, start_of as start_of_lem};
 ghost use Rattle.isr_watch.specs.Calls.{new_watchdog, regs_of, started};
-ghost use Rattle.isr_watch.specs.Inside.{fired as fired_lem};
+ghost use Rattle.isr_watch.specs.Inside.{alarm_of as alarm_of_lem};
 
 use id_table::Ident;
 use wind_base::Regs;
@@ -45,7 +45,7 @@ pub struct Watchdog {
 
 // A watchdog that is due, with what it calls.
 #[derive(Clone, Copy)]
-pub(crate) struct Fired {
+pub(crate) struct Alarm {
     pub(crate) id: Ident,
     pub(crate) routine: Routine,
 }
@@ -96,10 +96,10 @@ pub(crate) fn better_due<'a>(
 }
 
 // The watchdog as one that is due.
-pub(crate) fn fired(watchdog: &Watchdog) -> Fired
-    ensures { result ≡ fired_lem watchdog.now }
+pub(crate) fn alarm_of(watchdog: &Watchdog) -> Alarm
+    ensures { result ≡ alarm_of_lem watchdog.now }
 {
-    Fired {
+    Alarm {
         id: watchdog.id,
         routine: watchdog.routine,
     }

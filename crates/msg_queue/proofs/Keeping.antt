@@ -9,9 +9,10 @@ use Rattle.id_table.specs.Rows.{object_of, with_object}
 use Rattle.task_block.specs.declared.task.Task.{Task}
 use Rattle.wind_core.specs.State.{KernState}
 use Rattle.msg_queue.specs.declared.asks.Ask.{Ask}
+use Rattle.id_table.proofs.Lookups.{All-write}
 use Rattle.msg_queue.specs.State.{QueueState, Scene, queue_of, receivers, senders, ask_of, with_queue}
 use Rattle.msg_queue.specs.Kept.{IsQueue, IsServable, WaitsWell, SendsToLive, WaitsForOld, IsKept, BeginsNone, IsCalm}
-use Rattle.msg_queue.proofs.Tables.{written_same, written_other, rises-written, All-ids_written, All-written}
+use Rattle.msg_queue.proofs.Tables.{written_same, written_other, rises-written}
 use Rattle.msg_queue.proofs.Members.{each}
 
 -- ---- where the queues stay
@@ -56,8 +57,8 @@ write_keeps s id q y kept here good long no_receiver full =
     record {
       kern = kept.kern;
       rising = rises-written rs id y kept.rising;
-      ids = All-ids_written (λ n. n < s.kern.next_id) rs id y kept.ids;
-      sound = All-written IsQueue rs id y kept.sound good;
+      ids = All-write (λ r. r.0 < s.kern.next_id) rs id y kept.ids (λ r h. h);
+      sound = All-write (λ r. IsQueue r.1) rs id y kept.sound (λ r h. good);
       single = kept.single;
       well = each (WaitsWell (length s.ram) (record s.queues { queues = with_object rs id y })) s.kern.tasks (λ t at place z wait side there.
           let old = All-contains (WaitsWell (length s.ram) s.queues) s.kern.tasks t kept.well at place in

@@ -18,7 +18,7 @@ use Rattle.msg_queue.specs.declared.words.Sending.{Sending}
 use Rattle.msg_queue.specs.State.{QueueState, Scene, queue_of, lies_in, is_full, added, receivers, senders, ask_of, asked_by, first_asking, with_queue, stored, served}
 use Rattle.msg_queue.specs.Sends.{declined, passed_on, queued, blocked, send_deed, sent_bytes, handed, send_ask, after_send}
 use Rattle.msg_queue.specs.Kept.{IsQueue, IsServable, AtObject, WaitsWell, IsKept, IsCaller}
-use Rattle.msg_queue.proofs.Tables.{object_has}
+use Rattle.id_table.proofs.Lookups.{found_has}
 use Rattle.msg_queue.proofs.Deeds.{SendIs, send_is}
 use Rattle.msg_queue.proofs.Calm.{calms, calm_end_wait}
 use Rattle.msg_queue.proofs.Keeping.{calm_keeps, write_keeps}
@@ -44,7 +44,7 @@ pub served_keeps : (s : Scene) (who answer : ℕ) → IsKept s → IsKept (serve
 served_keeps s who answer kept = calm_keeps s (end_wait s.kern who answer None) s.ram kept (calm_end_wait s.queues.queues s.kern who answer None kept.kern) refl
 
 pub good_of : (s : Scene) (id : ℕ) (q : QueueState) → IsKept s → queue_of s id ≡ Some q → IsQueue q
-good_of s id q kept here = object_has IsQueue s.queues.queues id q kept.sound here
+good_of s id q kept here = found_has IsQueue s.queues.queues id q kept.sound here
 
 -- ---- who waits at a queue
 pub well_at : (s : Scene) (t : Task) (place : Place) (q : QueueState) → IsKept s → Contains s.kern.tasks t → t.wait ≡ Some place → AtObject place → queue_of s place.id ≡ Some q

@@ -19,7 +19,7 @@ use Rattle.wind_core.proofs.Keeping.{every_call_keeps}
 use Rattle.msg_queue.specs.declared.asks.Ask.{Ask}
 use Rattle.msg_queue.specs.State.{QueueState, QueuesState, Scene, queue_of, ask_of, lies_in, waits_there, counts, with_new_ask, waiting}
 use Rattle.msg_queue.specs.Kept.{IsServable, AtObject, WaitsWell, SendsToLive, WaitsForOld, IsKept}
-use Rattle.msg_queue.proofs.Tables.{not_live}
+use Rattle.id_table.proofs.Lookups.{found_below}
 use Rattle.msg_queue.proofs.Members.{each, contains_map, find_passes, find_kept, find_behind}
 
 pub waits_itself : (place : Place) (o : Option Place) → o ≡ Some place → is_place place o ≡ true
@@ -52,13 +52,6 @@ ask_counts k u a place is at wait own there =
     ap (waits_there a.place) (ap (task_of k.tasks) own ∙ found_in task_id k.tasks u is.rising at) ∙ waits_itself a.place u.wait (wait ∙ ap {B = Option Place} (λ p. Some p) (sym there))
 
 -- ---- the wait
-pub live_below : (rs : List (ℕ × QueueState)) (next id : ℕ) (q : QueueState) → IdsBelow next rs → object_of rs id ≡ Some q → id < next
-live_below rs next id q below here =
-    elim (leb next id) as (λ b. leb next id ≡ b → id < next) [
-      | true ↦ λ e. let none = not_live rs next id below (leb-true next id e) in absurd (cc)
-      | false ↦ λ e. leb-false next id e
-    ] refl
-
 -- a new wait at a queue that can't serve it
 pub record WaitsAnew (s : Scene) (a : Ask) (q : QueueState) : Type 0 where
   pub side : AtObject a.place
@@ -123,7 +116,7 @@ module _ (s : Scene) (a : Ask) (fifo : Bool) (n : ℕ) (q : QueueState) (t : Tas
             elim (eqb v.0.id a.who) as (λ b. u ≡ cond b (g v.0) v.0 → place.id < k.next_id) [
               | true ↦ λ is.
                   let at_place = same_Some a.place place (sym (ap (λ (w : Task). w.wait) is) ∙ wait) in
-                  subst (λ (p : Place). p.id < k.next_id) at_place (live_below s.queues.queues k.next_id a.place.id q kept.ids anew.here)
+                  subst (λ (p : Place). p.id < k.next_id) at_place (found_below s.queues.queues k.next_id a.place.id q kept.ids anew.here)
               | false ↦ λ is. All-contains (WaitsForOld k.next_id) k.tasks v.0 kept.old_ids v.1 place (sym (ap (λ (w : Task). w.wait) is) ∙ wait) side
             ] v.2);
       }

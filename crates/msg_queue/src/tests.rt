@@ -53,12 +53,10 @@ struct Yard {
     kern: Kern,
     queues: Queues,
     ram: Ram,
-    // as many order numbers were given at most
-    given: u64,
 }
 
 impl Model for Yard {
-    ghost use Rattle.std.specs.Prelude.{◌≡◌, ◌≤◌, false};
+    ghost use Rattle.std.specs.Prelude.{◌≡◌, false};
     ghost use Rattle.msg_queue.specs.State.{Scene, scene};
     ghost use Rattle.msg_queue.specs.Kept.{IsKept};
 
@@ -66,7 +64,7 @@ impl Model for Yard {
 
     ghost view = { λ y. scene y.kern y.queues y.ram };
 
-    ghost invariant = { λ y. IsKept (scene y.kern y.queues y.ram) × (y.kern.lent ≡ false) × (y.kern.next_since ≤ y.given) };
+    ghost invariant = { λ y. IsKept (scene y.kern y.queues y.ram) × (y.kern.lent ≡ false) };
 }
 
 // A new task of this priority.
@@ -97,13 +95,11 @@ fn spawn(kern: &mut Kern, pri: u32) -> Option<Ident>
 }
 
 // Whether the counters are far from their ends.
-fn is_early(kern: &Kern, given: u64) -> bool
-    requires { kern.now.next_since ≤ given }
+fn is_early(kern: &Kern) -> bool
     ensures since { result ≡ true → kern.now.next_since < 2 ^ 61 }
     ensures tick { result ≡ true → kern.now.tick < 2 ^ 61 }
-    ensures given { result ≡ true → given < 2 ^ 61 }
 {
-    given < 1 << 61 && kern.ticks() < 1 << 61
+    kern.order_numbers() < 1 << 61 && kern.ticks() < 1 << 61
 }
 
 // Whether a call is made by a task that is ready, or by none.
@@ -130,12 +126,7 @@ impl Yard {
         let ram = Ram::new(rt.alloc(), 0x400).or(Err("memory"))?;
         kern.facts();
         kept_law();
-        Ok(Yard {
-            kern,
-            queues,
-            ram,
-            given: 3,
-        })
+        Ok(Yard { kern, queues, ram })
     }
 
     fn create(&mut self, rt: &HostRuntime, max_msgs: u32, max_len: u32, options: u32) -> Said {
@@ -150,12 +141,11 @@ impl Yard {
     }
 
     fn send(&mut self, id: u32, words: Sending) -> Option<Said> {
-        if !is_early(&self.kern, self.given) || !is_caller(&self.kern, words.caller) {
+        if !is_early(&self.kern) || !is_caller(&self.kern, words.caller) {
             return None;
         }
         count_law();
         let said = self.queues.send(&mut self.kern, &mut self.ram, id, words);
-        self.given += 1;
         Some(match said {
             Ok(Took::Taken) => Said::Done,
             Ok(Took::Pended) => Said::Waits,
@@ -164,14 +154,13 @@ impl Yard {
     }
 
     fn receive(&mut self, id: u32, words: Receiving) -> Option<Said> {
-        if !is_early(&self.kern, self.given) || !is_caller(&self.kern, Some(words.caller)) {
+        if !is_early(&self.kern) || !is_caller(&self.kern, Some(words.caller)) {
             return None;
         }
         count_law();
         let said = self
             .queues
             .receive(&mut self.kern, &mut self.ram, id, words);
-        self.given += 1;
         Some(match said {
             Ok(Got::Count(n)) => Said::Copied(n),
             Ok(Got::Pended) => Said::Waits,
@@ -180,13 +169,12 @@ impl Yard {
     }
 
     fn delete(&mut self, id: u32) -> Option<Said> {
-        if !is_early(&self.kern, self.given) {
+        if !is_early(&self.kern) {
             return None;
         }
         count_law();
         self.kern.facts();
         let said = self.queues.delete(&mut self.kern, id);
-        self.given += 512;
         Some(match said {
             Ok(()) => Said::Done,
             Err(e) => Said::Refused(e),
@@ -194,13 +182,12 @@ impl Yard {
     }
 
     fn release(&mut self, who: Ident) -> Option<Said> {
-        if !is_early(&self.kern, self.given) || self.kern.task(who).is_none() {
+        if !is_early(&self.kern) || self.kern.task(who).is_none() {
             return None;
         }
         calm_law();
         self.kern.facts();
         self.kern.release(who);
-        self.given += 1;
         Some(Said::Done)
     }
 

@@ -10,5 +10,4 @@ invariant_of-self c =
     let same = ap (λ (s : Scene). s.kern) (c.delete-said.ensures.scene k.ram) in (
       c.delete-said.ensures.kept k.ram c.self.invariant.0,
       ap (λ (l : KernState). l.lent) same ∙ counts.lent ∙ c.self.invariant.1,
-      omega (arith, ap (λ (l : KernState). l.next_since) same, counts.sinces, c.self.invariant.2),
     )

@@ -8,5 +8,4 @@ invariant_of-result c =
     let k = c.spawn-3.new.kern in
     let ram = c.in_ok-ram.ram in
     let none : c.in_ok-queues.queues ≡ record { queues = []; asks = [] } = search rules in
-    let few : k.next_since ≤ 3 = search rules in
-    (subst (λ qs. IsKept (scene k qs ram)) (sym none) (c.kept_law.ensures.start k ram c.facts.ensures c.spawn-3.ensures.idle), c.spawn-3.ensures.ids, few)
+    (subst (λ qs. IsKept (scene k qs ram)) (sym none) (c.kept_law.ensures.start k ram c.facts.ensures c.spawn-3.ensures.idle), c.spawn-3.ensures.ids)

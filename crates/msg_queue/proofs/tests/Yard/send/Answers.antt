@@ -10,5 +10,4 @@ invariant_of-self c =
     let same = ap (λ (s : Scene). s.kern) c.send-said.ensures.scene in (
       c.send-said.ensures.kept,
       ap (λ (l : KernState). l.lent) same ∙ counts.lent ∙ c.self.invariant.1,
-      omega (arith, ap (λ (l : KernState). l.next_since) same, counts.sinces, c.self.invariant.2),
     )

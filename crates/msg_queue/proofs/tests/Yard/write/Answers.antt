@@ -15,4 +15,4 @@ copied_keeps s at bytes kept =
 pub invariant_of-self : goal.invariant_of-self
 invariant_of-self c =
     let k = c.self.inside in
-    (subst (λ ram. IsKept (scene k.kern k.queues ram)) (sym c.copy_in.ensures.bytes) (copied_keeps (scene k.kern k.queues k.ram) c.args.addr c.args.bytes.now c.self.invariant.0), c.self.invariant.1, c.self.invariant.2)
+    (subst (λ ram. IsKept (scene k.kern k.queues ram)) (sym c.copy_in.ensures.bytes) (copied_keeps (scene k.kern k.queues k.ram) c.args.addr c.args.bytes.now c.self.invariant.0), c.self.invariant.1)
