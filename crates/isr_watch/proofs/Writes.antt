@@ -1,9 +1,11 @@
 -- The table of watchdogs, where one is written, added or taken out.
-use Rattle.std.proofs.Common.{◌≡◌, ℕ, ◌+◌, ◌<◌, List, [], ◌∷◌, length, get_or, Option, Some, IsSome, sym, ap, ◌∙◌, subst, arith}
+use Rattle.std.proofs.Common.{◌≡◌, ℕ, ◌+◌, ◌<◌, List, [], ◌∷◌, length, get_or, Option, None, Some, IsSome, Result, Ok, Err, IfOk, IfErr, refl, sym, ap, ◌∙◌, subst, arith}
 use Rattle.std.specs.List.{All}
 use Rattle.std.proofs.lemmas.List.{length-map, get_or-map}
+use Rattle.std.proofs.lemmas.List.Elements.{All-push}
+use Rattle.wind_base.specs.declared.errno.Errno.{Errno}
 use Rattle.wind_base.specs.declared.regs.Regs.{Regs}
-use Rattle.id_table.specs.Rows.{Rows, IdsBelow, IsTable, row_id, row_object, object_of, objects, with_object}
+use Rattle.id_table.specs.Rows.{Rows, IdsBelow, IsTable, row_id, row_object, object_of, objects, with_object, added}
 use Rattle.id_table.specs.Rows as table
 use Rattle.id_table.proofs.Owning.{object-record, objects-replace, objects-without, OwnIds-write}
 use Rattle.wind_lists.specs.Records.{of_id, change, Rising}
@@ -11,7 +13,7 @@ use Rattle.wind_lists.proofs.Records.{found_id, replace-change}
 use Rattle.isr_watch.specs.declared.watchdog.Watchdog.{Watchdog}
 use Rattle.isr_watch.specs.declared.watchdog.Routine.{Routine}
 use Rattle.isr_watch.specs.State.{WatchState, watchdog_id}
-use Rattle.isr_watch.specs.Calls.{started, start_found, start, stopped, cancel_found, cancel, deleted, delete}
+use Rattle.isr_watch.specs.Calls.{create_refusal, new_watchdog, started, start_found, start, stopped, cancel_found, cancel, deleted, delete}
 use Rattle.isr_watch.specs.Inside.{SameIds, watch_state}
 
 -- the ids rise along the records too
@@ -42,7 +44,23 @@ write_is : (rs : List (ℕ × Watchdog)) (n : ℕ) (v : Watchdog) (f : Watchdog 
 write_is rs n v f own up value =
     objects-replace watchdog_id rs n (f v) own ∙ replace-change watchdog_id (objects rs) n v f (rising_of rs own up) (found_record rs n v own value)
 
+-- where the records have it, the table has it
+pub lives_in : (rs : List (ℕ × Watchdog)) (n : ℕ) → SameIds rs → IsSome (of_id watchdog_id (objects rs) n) → (v : Watchdog) × (object_of rs n ≡ Some v)
+lives_in rs n own lives = some_of (object_of rs n) (subst (λ o. IsSome o) (sym (object-record watchdog_id rs n own)) lives)
+  where
+    some_of : (o : Option Watchdog) → IsSome o → (v : Watchdog) × (o ≡ Some v)
+    some_of None h = absurd (cc)
+    some_of (Some v) h = (v, refl)
+
 -- ---- the calls
+-- a watchdog is added, or all stays
+pub made_own : (t u : Rows Watchdog) (i j : ℕ) (r : Result ℕ Errno) → SameIds t.rows
+    → IfOk r (λ id. (create_refusal (length t.rows) i ≡ None) × (id ≡ i) × (j ≡ i + 1) × (u ≡ added t i (new_watchdog i)))
+    → IfErr r (λ e. (create_refusal (length t.rows) i ≡ Some e) × (j ≡ i) × (u ≡ t)) → SameIds u.rows × (u.room ≡ t.room)
+made_own t u i j (Ok id) own ok err =
+    subst (λ (v : Rows Watchdog). SameIds v.rows × (v.room ≡ t.room)) (sym ok.3) (All-push (λ (r : ℕ × Watchdog). r.1.id ≡ r.0) t.rows (i, new_watchdog i) own refl, refl)
+made_own t u i j (Err e) own ok err = subst (λ (v : Rows Watchdog). SameIds v.rows × (v.room ≡ t.room)) (sym err.2) (own, refl)
+
 module _ (rs : List (ℕ × Watchdog)) (level : Option Regs) (listed : List Routine) (next n id : ℕ) (v : Watchdog) (own : SameIds rs) (value : object_of rs n ≡ Some v) (same : n ≡ id) where
   pub cancelled_is : Rising row_id rs → watch_state (with_object rs n (stopped v)) level listed next ≡ cancel (watch_state rs level listed next) id
   cancelled_is up =
@@ -66,7 +84,3 @@ module _ (rs : List (ℕ × Watchdog)) (level : Option Regs) (listed : List Rout
       ∙ ap {B = WatchState} (λ ws. record s { watchdogs = ws; next_start = next + 1 }) (write_is rs n v (started tick delay routine next) own up value)
       ∙ ap (start_found s n tick delay routine) (sym (found_record rs n v own value))
       ∙ ap (λ m. start s m tick delay routine) same
-
--- where the records have it, the table has it
-pub lives_in : (rs : List (ℕ × Watchdog)) (n : ℕ) → SameIds rs → IsSome (of_id watchdog_id (objects rs) n) → IsSome (object_of rs n)
-lives_in rs n own = subst (λ o. IsSome o) (sym (object-record watchdog_id rs n own))

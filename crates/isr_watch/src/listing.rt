@@ -9,7 +9,7 @@ ghost use Rattle.isr_watch.specs.State.{first_due as first_due_lem, due_watchdog
 ghost use Rattle.isr_watch.specs.Calls.{stop_due, level_of, rest_of};
 ghost use Rattle.isr_watch.specs.Inside.{SameIds, alarm_of as alarm_of_lem};
 
-use crate::watchdog::{Alarm, Routine, Watchdog, better_due, alarm_of, regs_of};
+use crate::watchdog::{Alarm, Routine, Watchdog, alarm_of, better_due, regs_of};
 use id_table::Table;
 use std::collections::VecDeque;
 use wind_base::Regs;

@@ -126,8 +126,8 @@ impl Watch {
         }
     }
 
-    /// Starts a watchdog, anew where it runs (VxWorks 5.4 Reference Manual, wdStart): it is due after so many ticks from
-    /// `tick` on, and one at least, and is last in the order of start.
+    /// Starts a watchdog, anew where it runs (VxWorks 5.4 Reference Manual, wdStart): it is due `delay` ticks after
+    /// `tick`, and one tick after it where that is 0, and is last in the order of start.
     ///
     /// # Errors
     ///

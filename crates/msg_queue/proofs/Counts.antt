@@ -11,10 +11,10 @@ use Rattle.wind_core.proofs.Waking.{since-end_wait, length-waiters}
 use Rattle.wind_core.proofs.Keeping.{end_waits_keep}
 use Rattle.msg_queue.specs.declared.asks.Ask.{Ask}
 use Rattle.msg_queue.specs.declared.words.MakeErr.{MakeErr}
-use Rattle.msg_queue.specs.State.{QueueState, QueuesState, Scene, scene, queue_of, receivers, senders, first_asking}
+use Rattle.msg_queue.specs.State.{QueueState, QueuesState, Scene, queue_of, receivers, senders, first_asking}
 use Rattle.msg_queue.specs.Sends.{declined, passed_on, queued, blocked, send_deed, after_send}
 use Rattle.msg_queue.specs.Receives.{denied, taken, starved, receive_deed, taken_out, refilled, after_receive}
-use Rattle.msg_queue.specs.Comings.{create_refusal, IfRefused, new_queue, created, awakened, deleted}
+use Rattle.msg_queue.specs.Comings.{IsMade, IsNotMade, awakened, deleted}
 use Rattle.msg_queue.specs.Laws.{CountsOn, CountLaw}
 
 counts_itself : (k : KernState) (n : ℕ) → CountsOn n k k
@@ -76,9 +76,7 @@ counts = record {
 
 -- a call that makes a queue or changes nothing
 pub made_counts : (k l : KernState) (qs us : QueuesState) (max_msgs max_len options : ℕ) (r : Result ℕ MakeErr)
-    → IfOk r (λ id. (create_refusal (length qs.queues) k.next_id max_msgs max_len options ≡ None) × (id ≡ k.next_id)
-    × ((ram : List ℕ) → scene l us ram ≡ created (scene k qs ram) (new_queue max_msgs max_len options)))
-    → IfErr r (λ e. (l ≡ k) × (us ≡ qs) × IfRefused e (λ x. create_refusal (length qs.queues) k.next_id max_msgs max_len options ≡ Some x))
+    → IfOk r (IsMade k l qs us max_msgs max_len options) → IfErr r (IsNotMade k l qs us max_msgs max_len options)
     → CountsOn 0 k l
 made_counts k l qs us max_msgs max_len options (Ok id) ok err =
     subst (CountsOn 0 k) (sym (ap (λ (s : Scene). s.kern) (ok.2 []))) (record { tick = refl; lent = refl; sinces = omega arith })

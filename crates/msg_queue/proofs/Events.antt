@@ -24,7 +24,7 @@ use Rattle.msg_queue.specs.declared.words.Receiving.{Receiving}
 use Rattle.msg_queue.specs.declared.words.MakeErr.{MakeErr}
 use Rattle.msg_queue.specs.State.{QueueState, QueuesState, Scene, scene, queue_of, lies_in, size_of, added, receivers, senders, first_asking, with_queue, stored}
 use Rattle.msg_queue.specs.Receives.{denied, taken, starved, receive_deed, taken_out, waited_bytes, refilled, receive_ask, after_receive}
-use Rattle.msg_queue.specs.Comings.{is_size, ids_refusal, create_refusal, IfRefused, new_queue, created, awakened, deleted}
+use Rattle.msg_queue.specs.Comings.{is_size, ids_refusal, IsMade, IsNotMade, new_queue, created, awakened, deleted}
 use Rattle.msg_queue.specs.Kept.{IsQueue, IsServable, WaitsWell, SendsToLive, WaitsForOld, IsKept, IsCaller, IsCalm}
 use Rattle.msg_queue.specs.Machine.{sends, receives, creates, deletes, ticks, others}
 use Rattle.msg_queue.specs.Laws.{StartLaw, KeptLaw, CreateLaw}
@@ -206,9 +206,7 @@ creates_keep s max_msgs max_len options none kept =
 
 -- a call that makes a queue or changes nothing keeps them
 pub made_keeps : (k l : KernState) (qs us : QueuesState) (max_msgs max_len options : ℕ) (r : Result ℕ MakeErr)
-    → IfOk r (λ id. (create_refusal (length qs.queues) k.next_id max_msgs max_len options ≡ None) × (id ≡ k.next_id)
-    × ((ram : List ℕ) → scene l us ram ≡ created (scene k qs ram) (new_queue max_msgs max_len options)))
-    → IfErr r (λ e. (l ≡ k) × (us ≡ qs) × IfRefused e (λ x. create_refusal (length qs.queues) k.next_id max_msgs max_len options ≡ Some x))
+    → IfOk r (IsMade k l qs us max_msgs max_len options) → IfErr r (IsNotMade k l qs us max_msgs max_len options)
     → (ram : List ℕ) → IsKept (scene k qs ram) → IsKept (scene l us ram)
 made_keeps k l qs us max_msgs max_len options (Ok id) ok err ram kept = subst IsKept (sym (ok.2 ram)) (creates_keep (scene k qs ram) max_msgs max_len options ok.0 kept)
 made_keeps k l qs us max_msgs max_len options (Err e) ok err ram kept = subst IsKept (sym (ap₂ (λ m v. scene m v ram) err.0 err.1)) kept

@@ -1,5 +1,5 @@
 -- Queues come and go (VxWorks 5.4 Reference Manual, msgQCreate, msgQDelete, msgQNumMsgs). The limits and errors are this project's own.
-use Rattle.std.specs.Prelude.{ℕ, ◌+◌, ◌*◌, Bool, not, ◌&&◌, ◌==◌, nat_lt, nat_le, if◌then◌else◌, [], ◌∷◌, ◌++◌, length, Option, None, Some, Result, Ok, Err}
+use Rattle.std.specs.Prelude.{◌≡◌, ℕ, ◌+◌, ◌*◌, Bool, not, ◌&&◌, ◌==◌, nat_lt, nat_le, if◌then◌else◌, List, [], ◌∷◌, ◌++◌, length, Option, None, Some, Result, Ok, Err}
 use Rattle.wind_base.specs.Limits.{most_queues, greatest_id, error_word}
 use Rattle.wind_base.specs.declared.errno.Errno.{Errno}
 use Rattle.wind_base.specs.declared.errno.Errno.TheVariants as errors
@@ -8,7 +8,7 @@ use Rattle.wind_core.specs.State.{KernState}
 use Rattle.wind_core.specs.Moves.{wake_all}
 use Rattle.msg_queue.specs.declared.words.MakeErr.{MakeErr}
 use Rattle.msg_queue.specs.declared.words.MakeErr.TheVariants as make
-use Rattle.msg_queue.specs.State.{QueueState, Scene, queue_of, receivers, senders}
+use Rattle.msg_queue.specs.State.{QueueState, QueuesState, Scene, scene, queue_of, receivers, senders}
 
 -- ---- create
 -- the option MSG_Q_PRIORITY; without it, which is MSG_Q_FIFO, the tasks that wait stand by arrival
@@ -28,7 +28,8 @@ most_queue_bytes = 1048576
 -- the sizes that a queue may have
 abbrev pub is_size : ℕ → ℕ → Bool
 is_size max_msgs max_len =
-    nat_le 1 max_msgs && (nat_le max_msgs most_messages && (nat_le max_len longest_message && nat_le (max_msgs * max_len) most_queue_bytes))
+    nat_le 1 max_msgs && (nat_le max_msgs most_messages
+    && (nat_le max_len longest_message && nat_le (max_msgs * max_len) most_queue_bytes))
 
 -- none is left where this one is next
 abbrev pub ids_refusal : ℕ → Option Errno
@@ -62,10 +63,22 @@ abbrev pub IfRefused : MakeErr → (Errno → Type 0) → Type 0
 IfRefused (make.Refused e) P = P e
 IfRefused make.NoMemory P = Unit {0}
 
+-- a queue was made, under this id
+abbrev pub IsMade : KernState → KernState → QueuesState → QueuesState → ℕ → ℕ → ℕ → ℕ → Type 0
+IsMade k l qs us max_msgs max_len options id =
+    (create_refusal (length qs.queues) k.next_id max_msgs max_len options ≡ None) × (id ≡ k.next_id)
+    × ((ram : List ℕ) → scene l us ram ≡ created (scene k qs ram) (new_queue max_msgs max_len options))
+
+-- none was made, and all is as it was; want of memory alone has no other cause
+abbrev pub IsNotMade : KernState → KernState → QueuesState → QueuesState → ℕ → ℕ → ℕ → MakeErr → Type 0
+IsNotMade k l qs us max_msgs max_len options e =
+    (l ≡ k) × (us ≡ qs) × IfRefused e (λ r. create_refusal (length qs.queues) k.next_id max_msgs max_len options ≡ Some r)
+
 -- ---- delete
 -- all that wait at the queue go on, receivers and then senders, with ERROR and OBJ_DELETED
 abbrev pub awakened : KernState → ℕ → KernState
-awakened k id = wake_all (wake_all k (receivers id) error_word (Some errors.ObjDeleted)) (senders id) error_word (Some errors.ObjDeleted)
+awakened k id =
+    wake_all (wake_all k (receivers id) error_word (Some errors.ObjDeleted)) (senders id) error_word (Some errors.ObjDeleted)
 
 -- and the queue is gone
 abbrev pub gone : Scene → ℕ → Scene

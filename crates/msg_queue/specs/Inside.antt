@@ -22,7 +22,12 @@ abbrev pub texts : List Slot → List (List ℕ)
 texts ms = map (λ m. m.bytes) ms
 
 abbrev pub queue_in : Bool → ℕ → ℕ → List Slot → QueueState
-queue_in by_priority max_msgs max_len ms = record { by_priority = by_priority; max_msgs = max_msgs; max_len = max_len; held = texts ms }
+queue_in by_priority max_msgs max_len ms = record {
+  by_priority = by_priority;
+  max_msgs = max_msgs;
+  max_len = max_len;
+  held = texts ms;
+}
 
 -- there is an empty message for each that may come
 pub record IsStocked (max_msgs max_len : ℕ) (held spare : List Slot) : Type 0 where

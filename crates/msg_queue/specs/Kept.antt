@@ -38,7 +38,8 @@ WaitsWell size qs t = (place : Place) (q : QueueState) → t.wait ≡ Some place
 
 -- a wait at the side of senders names a live queue
 abbrev pub SendsToLive : QueuesState → Task → Type 0
-SendsToLive qs t = (place : Place) → t.wait ≡ Some place → place.side ≡ senders_side → IsSome (object_of qs.queues place.id)
+SendsToLive qs t = (place : Place) → t.wait ≡ Some place → place.side ≡ senders_side
+    → IsSome (object_of qs.queues place.id)
 
 -- nobody waits at an object that has no id yet
 abbrev pub WaitsForOld : ℕ → Task → Type 0
@@ -69,7 +70,8 @@ Waited ts who place = (u : Task) × Contains ts u × (u.id ≡ who) × (u.wait �
 
 -- a wait at an object that is no queue, but lives
 abbrev pub IsElsewhere : List (ℕ × QueueState) → ℕ → Place → Type 0
-IsElsewhere rs next place = AtObject place → (place.side ≡ object_side) × (place.id < next) × (object_of rs place.id ≡ None)
+IsElsewhere rs next place =
+    AtObject place → (place.side ≡ object_side) × (place.id < next) × (object_of rs place.id ≡ None)
 
 -- what the task waits for, it waited for before, or it is no queue
 abbrev pub BeginsNone : List (ℕ × QueueState) → KernState → ℕ → Task → Type 0

@@ -64,7 +64,8 @@ receive_ask id x = record { who = x.caller; place = receivers id; buffer = x.buf
 
 abbrev pub after_receive : Scene → ℕ → Receiving → ReceiveDeed → Scene
 after_receive s id x (denied e) = s
-after_receive s id x (taken q m rest) = refilled (taken_out s id x q m rest) id (record q { held = rest }) (first_asking s (senders id))
+after_receive s id x (taken q m rest) =
+    refilled (taken_out s id x q m rest) id (record q { held = rest }) (first_asking s (senders id))
 after_receive s id x (starved q) = waiting s (receive_ask id x) (not q.by_priority) x.timeout
 
 -- what a receive leaves

@@ -40,7 +40,8 @@ impl Queues {
 
     // What comes of a receive.
     fn plan_receive(&self, ram: &Ram, id: u32, words: &Receiving) -> ReceivePlan
-        ensures { (k : KernState) → result ≡ receive_plan id words.now (receive_deed (scene k self.now ram.now) id words.now) }
+        ensures { (k : KernState) → result
+            ≡ receive_plan id words.now (receive_deed (scene k self.now ram.now) id words.now) }
     {
         let Some(at) = self.find(id) else {
             return ReceivePlan::Denied(Errno::ObjIdError);
@@ -93,9 +94,11 @@ impl Queues {
     fn take_front(&mut self, kern: &mut Kern, ram: &mut Ram, id: Ident, words: &Receiving) -> u32
         requires kept { IsKept (scene kern.old self.old ram.old) }
         requires since { kern.old.next_since < 2 ^ 62 }
-        requires taken { Taken id ≡ receive_plan id words.now (receive_deed (scene kern.old self.old ram.old) id words.now) }
+        requires taken { Taken id
+            ≡ receive_plan id words.now (receive_deed (scene kern.old self.old ram.old) id words.now) }
         ensures scene { scene kern.new self.new ram.new ≡ receive_lem (scene kern.old self.old ram.old) id words.now }
-        ensures answer { Ok (Count result) ≡ receive_answer words.now (receive_deed (scene kern.old self.old ram.old) id words.now) }
+        ensures answer { Ok (Count result)
+            ≡ receive_answer words.now (receive_deed (scene kern.old self.old ram.old) id words.now) }
     {
         let count = self.copy_front(ram, id, words.buffer, words.room);
         self.drop_front(id);
@@ -104,9 +107,9 @@ impl Queues {
         count
     }
 
-    /// Receives the front message (VxWorks 5.4 Reference Manual, msgQReceive). As many of its bytes are copied as there
-    /// is room for; their number is the answer. Then the first sender that waits has its bytes added, as they lie in RAM
-    /// by then, and goes on. Where the queue is empty the caller waits.
+    /// Receives the front message (VxWorks 5.4 Reference Manual, msgQReceive). As many of its bytes are copied as
+    /// there is room for; their number is the answer. Then the first sender that waits has its bytes added, as they
+    /// lie in RAM by then, and goes on. Where the queue is empty the caller waits.
     ///
     /// # Errors
     ///

@@ -29,8 +29,8 @@ impl Queues {
         Ok(self.queue(at).count())
     }
 
-    /// Deletes a queue with its messages (VxWorks 5.4 Reference Manual, msgQDelete). All that wait there go on with ERROR
-    /// and `ObjDeleted`: the receivers, then the senders, each in the order in which they stand.
+    /// Deletes a queue with its messages (VxWorks 5.4 Reference Manual, msgQDelete). All that wait there go on with
+    /// ERROR and `ObjDeleted`: the receivers, then the senders, each in the order in which they stand.
     ///
     /// # Errors
     ///

@@ -1,9 +1,9 @@
 //! New queues.
 
-ghost use Rattle.std.specs.Prelude.{◌≡◌, ◌<◌, ◌+◌, false, None, Some, IfOk, IfErr, IfSome, IfNone, length, List, ℕ};
+ghost use Rattle.std.specs.Prelude.{◌≡◌, ◌<◌, false, Some, IfOk, IfErr, IfSome, IfNone, List, ℕ};
 ghost use Rattle.id_table.specs.Rows.{IdsBelow};
 ghost use Rattle.msg_queue.specs.State.{scene};
-ghost use Rattle.msg_queue.specs.Comings.{created, new_queue, create_refusal, ids_refusal, IfRefused};
+ghost use Rattle.msg_queue.specs.Comings.{create_refusal, ids_refusal, IsMade, IsNotMade};
 ghost use Rattle.msg_queue.specs.Kept.{IsKept};
 
 use crate::queue::Queue;
@@ -46,12 +46,8 @@ impl Queues {
     ) -> Result<Ident, MakeErr>
         requires ids { kern.old.lent ≡ false }
         requires below { IdsBelow kern.old.next_id self.old.queues }
-        ensures ok { IfOk result (λ id. (create_refusal (length self.old.queues) kern.old.next_id max_msgs max_len options ≡ None)
-            × (id ≡ kern.old.next_id)
-            × ((ram : List ℕ) → scene kern.new self.new ram
-            ≡ created (scene kern.old self.old ram) (new_queue max_msgs max_len options))) }
-        ensures err { IfErr result (λ e. (kern.new ≡ kern.old) × (self.new ≡ self.old) × IfRefused e
-            (λ r. create_refusal (length self.old.queues) kern.old.next_id max_msgs max_len options ≡ Some r)) }
+        ensures ok { IfOk result (IsMade kern.old kern.new self.old self.new max_msgs max_len options) }
+        ensures err { IfErr result (IsNotMade kern.old kern.new self.old self.new max_msgs max_len options) }
     {
         if let Some(e) = refusal(self.queues.len(), max_msgs, max_len, options) {
             return Err(MakeErr::Refused(e));
@@ -71,8 +67,8 @@ impl Queues {
     /// # Errors
     ///
     /// `Refused`: `InvalidOption` where the options are none of these, `BadSize` where the queue would have no message
-    /// or exceed a limit of its size, `TooMany` where 256 queues live, `IdsSpent` where no id is left; the first of these
-    /// that holds. `NoMemory` where host memory ran out. Nothing changes then.
+    /// or exceed a limit of its size, `TooMany` where 256 queues live, `IdsSpent` where no id is left; the first of
+    /// these that holds. `NoMemory` where host memory ran out. Nothing changes then.
     pub fn create(
         &mut self,
         alloc: Global,
@@ -83,12 +79,8 @@ impl Queues {
     ) -> Result<Ident, MakeErr>
         requires ids { kern.old.lent ≡ false }
         requires below { IdsBelow kern.old.next_id self.old.queues }
-        ensures ok { IfOk result (λ id. (create_refusal (length self.old.queues) kern.old.next_id max_msgs max_len options ≡ None)
-            × (id ≡ kern.old.next_id)
-            × ((ram : List ℕ) → scene kern.new self.new ram
-            ≡ created (scene kern.old self.old ram) (new_queue max_msgs max_len options))) }
-        ensures err { IfErr result (λ e. (kern.new ≡ kern.old) × (self.new ≡ self.old) × IfRefused e
-            (λ r. create_refusal (length self.old.queues) kern.old.next_id max_msgs max_len options ≡ Some r)) }
+        ensures ok { IfOk result (IsMade kern.old kern.new self.old self.new max_msgs max_len options) }
+        ensures err { IfErr result (IsNotMade kern.old kern.new self.old self.new max_msgs max_len options) }
         ensures kept { (ram : List ℕ) → IsKept (scene kern.old self.old ram) → IsKept (scene kern.new self.new ram) }
     {
         self.make(alloc, kern, max_msgs, max_len, options)

@@ -94,7 +94,8 @@ impl Queues {
         requires live { IsSome (object_of self.now.queues id) }
         requires there { (q : QueueState) → object_of self.now.queues id ≡ Some q
             → IsTrue (has ram.old buffer (min room q.max_len)) }
-        requires short { (q : QueueState) → object_of self.now.queues id ≡ Some q → All (λ m. length m ≤ q.max_len) q.held }
+        requires short { (q : QueueState) → object_of self.now.queues id ≡ Some q
+            → All (λ m. length m ≤ q.max_len) q.held }
         ensures count { (q : QueueState) (m : List ℕ) (rest : List (List ℕ)) → object_of self.now.queues id ≡ Some q
             → q.held ≡ m ∷ rest → result ≡ min (length m) room }
         ensures ram { (q : QueueState) (m : List ℕ) (rest : List (List ℕ)) → object_of self.now.queues id ≡ Some q
@@ -116,8 +117,10 @@ impl Queues {
         requires lives { IfSome sender (λ a. Lives kern.old a.who) }
         requires since { kern.old.next_since + 1 < 2 ^ 64 }
         requires there { IfSome sender (λ a. IsTrue (has ram.now a.buffer a.count)) }
-        requires room { IfSome sender (λ a. (q : QueueState) → object_of self.old.queues id ≡ Some q → is_full q ≡ false) }
-        requires short { IfSome sender (λ a. (q : QueueState) → object_of self.old.queues id ≡ Some q → a.count ≤ q.max_len) }
+        requires room { IfSome sender (λ a. (q : QueueState) → object_of self.old.queues id ≡ Some q
+            → is_full q ≡ false) }
+        requires short { IfSome sender (λ a. (q : QueueState) → object_of self.old.queues id ≡ Some q
+            → a.count ≤ q.max_len) }
         ensures { (q : QueueState) → object_of self.old.queues id ≡ Some q
             → scene kern.new self.new ram.now ≡ refilled (scene kern.old self.old ram.now) id q sender }
     {

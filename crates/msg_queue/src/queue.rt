@@ -33,7 +33,8 @@ impl Model for Queue {
 
     ghost view = { λ q. queue_in q.by_priority q.max_msgs q.max_len q.held.items };
 
-    ghost invariant = { λ q. IsStocked q.max_msgs q.max_len q.held.items q.spare.items × (q.max_msgs ≤ deque_capacity q.held) × (q.max_msgs ≤ vec_capacity q.spare) };
+    ghost invariant = { λ q. IsStocked q.max_msgs q.max_len q.held.items q.spare.items
+        × (q.max_msgs ≤ deque_capacity q.held) × (q.max_msgs ≤ vec_capacity q.spare) };
 }
 
 // The message goes to the front where it is urgent, else to the back.
@@ -73,7 +74,8 @@ impl Queue {
         by_priority: bool,
     ) -> Result<Queue, NoMemory>
         requires { 0 < max_msgs }
-        ensures { IfOk result (λ q. q ≡ record { by_priority = by_priority; max_msgs = max_msgs; max_len = max_len; held = [] }) }
+        ensures { IfOk result (λ q. q
+            ≡ record { by_priority = by_priority; max_msgs = max_msgs; max_len = max_len; held = [] }) }
     {
         let Ok(held) = VecDeque::with_capacity(alloc, max_msgs as usize) else {
             return Err(NoMemory);

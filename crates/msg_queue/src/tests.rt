@@ -23,7 +23,8 @@ use wind_core::Kern;
 enum Act {
     // a queue of so many messages and bytes, with these options
     Create(u32, u32, u32),
-    // to a queue, by a task or by none where it is 0: so many bytes from an address on, for so many ticks, urgent or not
+    // to a queue, by a task, or by none where it is 0: so many bytes from an address on, for so many ticks, urgent
+    // or not
     Send(u32, u32, u32, u32, u32, bool),
     // from a queue, by a task: to an address with so much room, for so many ticks
     Receive(u32, u32, u32, u32, u32),

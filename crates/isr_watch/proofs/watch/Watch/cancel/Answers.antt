@@ -6,7 +6,8 @@ use Rattle.isr_watch.proofs.watch.Watch.cancel.Goals as goal
 
 pub object_mut-requires : goal.object_mut-requires
 object_mut-requires c =
-    lives_in c.self.inside.watchdogs.rows c.in-Some.at c.self.invariant.0.own (subst (λ (s : WatchState). IsSome (watchdog_of s.watchdogs c.in-Some.at)) (sym c.self.view_is) c.in-Some.ensures.1)
+    let v = lives_in c.self.inside.watchdogs.rows c.in-Some.at c.self.invariant.0.own (subst (λ (s : WatchState). IsSome (watchdog_of s.watchdogs c.in-Some.at)) (sym c.self.view_is) c.in-Some.ensures.1) in
+    subst (λ o. IsSome o) (sym v.1) refl
 
 pub invariant_of-self : goal.invariant_of-self
 invariant_of-self c =

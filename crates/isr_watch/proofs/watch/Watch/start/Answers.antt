@@ -1,4 +1,4 @@
-use Rattle.std.proofs.Common.{ap, ◌∙◌, sym, subst, IsSome}
+use Rattle.std.proofs.Common.{ap, ◌∙◌, sym, subst, refl, IsSome}
 use Rattle.isr_watch.specs.declared.watchdog.Watchdog.{Watchdog}
 use Rattle.isr_watch.specs.State.{WatchState, watchdog_of}
 use Rattle.isr_watch.specs.Calls.{start}
@@ -7,7 +7,8 @@ use Rattle.isr_watch.proofs.watch.Watch.start.Goals as goal
 
 pub object_mut-requires : goal.object_mut-requires
 object_mut-requires c =
-    lives_in c.self.inside.watchdogs.rows c.in-Some.at c.self.invariant.0.own (subst (λ (s : WatchState). IsSome (watchdog_of s.watchdogs c.in-Some.at)) (sym c.self.view_is) c.in-Some.ensures.1)
+    let v = lives_in c.self.inside.watchdogs.rows c.in-Some.at c.self.invariant.0.own (subst (λ (s : WatchState). IsSome (watchdog_of s.watchdogs c.in-Some.at)) (sym c.self.view_is) c.in-Some.ensures.1) in
+    subst (λ o. IsSome o) (sym v.1) refl
 
 pub invariant_of-self : goal.invariant_of-self
 invariant_of-self c =
