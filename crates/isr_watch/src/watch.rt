@@ -90,6 +90,13 @@ impl Watch {
         self.watchdogs.facts();
     }
 
+    /// How many starts there were, so that a caller can test that they are far from their end.
+    pub fn starts(&self) -> u64
+        ensures { result ≡ self.now.next_start }
+    {
+        self.next_start
+    }
+
     /// Makes a watchdog that doesn't run (VxWorks 5.4 Reference Manual, wdCreate).
     ///
     /// # Errors
