@@ -11,7 +11,7 @@ ghost use Rattle.isr_watch.specs.State.{IsWatch, watchdog_of};
 ghost use Rattle.isr_watch.specs.Calls.{new_watchdog as new_watchdog_lem, create_refusal, created, delete, start, cancel, due, finish};
 
 use crate::listing::{list_due, next_level};
-use crate::watchdog::{Routine, Watchdog, begin, new_watchdog};
+use crate::watchdog::{Routine, Watchdog, begin, new_watchdog, stop};
 use id_table::{IdSource, Ident, Table};
 use std::alloc::Global;
 use std::collections::VecDeque;
@@ -175,7 +175,7 @@ impl Watch {
             return Err(Errno::ObjIdError);
         };
         self.watchdogs.facts();
-        self.watchdogs.object_mut(at).timer = None;
+        stop(self.watchdogs.object_mut(at));
         Ok(())
     }
 

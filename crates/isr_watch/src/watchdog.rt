@@ -4,7 +4,7 @@ ghost use Rattle.std.specs.Prelude.{◌≡◌, ◌<◌, ◌≤◌, ◌^◌, opti
 ghost use Rattle.wind_base.specs.Limits.{frame_bytes};
 ghost use Rattle.wind_lists.specs.Sorting.{pick};
 ghost use Rattle.isr_watch.specs.State.{is_due as is_due_lem, starts_before, start_of as start_of_lem};
-ghost use Rattle.isr_watch.specs.Calls.{new_watchdog, regs_of, started};
+ghost use Rattle.isr_watch.specs.Calls.{new_watchdog, regs_of, started, stopped};
 ghost use Rattle.isr_watch.specs.Inside.{alarm_of as alarm_of_lem};
 
 use id_table::Ident;
@@ -134,4 +134,11 @@ pub(crate) fn begin(watchdog: &mut Watchdog, tick: u64, delay: u32, routine: Rou
         due: tick + u64::from(delay.max(1)),
         start,
     });
+}
+
+// It stops.
+pub(crate) fn stop(watchdog: &mut Watchdog)
+    ensures { watchdog.new ≡ stopped watchdog.old }
+{
+    watchdog.timer = None;
 }
