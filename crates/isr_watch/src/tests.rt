@@ -74,7 +74,6 @@ impl Post {
     }
 
     fn create(&mut self) -> Said {
-        ids_law();
         match self.watch.create(&mut self.kern) {
             Ok(id) => Said::Made(id.get()),
             Err(e) => Said::Refused(e),
@@ -109,6 +108,7 @@ impl Post {
     }
 
     fn finish(&mut self) -> Said {
+        ids_law();
         self.watch.finish(TOP);
         Said::Done
     }
