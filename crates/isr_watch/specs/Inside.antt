@@ -1,0 +1,32 @@
+-- How the watchdogs are kept: a table by id, of records that have their ids too.
+use Rattle.std.specs.Prelude.{◌≡◌, ℕ, List, [], Option, None}
+use Rattle.std.specs.List.{All}
+use Rattle.wind_base.specs.Limits.{most_watchdogs}
+use Rattle.wind_base.specs.declared.regs.Regs.{Regs}
+use Rattle.id_table.specs.Rows.{Rows, objects}
+use Rattle.isr_watch.specs.declared.watchdog.Watchdog.{Watchdog}
+use Rattle.isr_watch.specs.declared.watchdog.Routine.{Routine}
+use Rattle.isr_watch.specs.declared.watchdog.Alarm.{Alarm}
+use Rattle.isr_watch.specs.State.{WatchState}
+
+-- each record has the id under which it is kept
+abbrev pub SameIds : List (ℕ × Watchdog) → Type 0
+SameIds rs = All (λ r. r.1.id ≡ r.0) rs
+
+abbrev pub watch_state : List (ℕ × Watchdog) → Option Regs → List Routine → ℕ → WatchState
+watch_state rs level listed next_start = record {
+  watchdogs = objects rs;
+  level = level;
+  listed = listed;
+  next_start = next_start;
+}
+
+-- nothing is listed where no routine is active
+pub record IsLevel (t : Rows Watchdog) (level : Option Regs) (listed : List Routine) : Type 0 where
+  pub own : SameIds t.rows
+  pub room : t.room ≡ most_watchdogs
+  pub idle : level ≡ None → listed ≡ []
+
+-- a watchdog that is due, as the code takes it from the table
+abbrev pub alarm_of : Watchdog → Alarm
+alarm_of w = record { id = w.id; routine = w.routine }

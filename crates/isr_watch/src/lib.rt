@@ -1,0 +1,13 @@
+//! Watchdog timers, and the interrupt level at which their routines run.
+#![tactic(auto)]
+
+mod laws;
+mod listing;
+#[cfg(test)]
+mod tests;
+mod watch;
+mod watchdog;
+
+pub use laws::ids_law;
+pub use watch::Watch;
+pub use watchdog::{Routine, Timer, Watchdog};

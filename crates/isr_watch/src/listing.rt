@@ -1,0 +1,63 @@
+//! What a tick lists.
+
+ghost use Rattle.std.specs.Prelude.{◌≡◌, ◌≤◌, ◌+◌, ◌++◌, map, length, option_copied};
+ghost use Rattle.std.specs.Option.{option_map};
+ghost use Rattle.std.specs.VecDeque.{deque_len, deque_capacity};
+ghost use Rattle.wind_base.specs.Limits.{frame_bytes};
+ghost use Rattle.id_table.specs.Rows.{objects, IsTable};
+ghost use Rattle.isr_watch.specs.State.{first_due as first_due_lem, due_watchdogs, watchdog_routine};
+ghost use Rattle.isr_watch.specs.Calls.{stop_due, level_of, rest_of};
+ghost use Rattle.isr_watch.specs.Inside.{SameIds, alarm_of as alarm_of_lem};
+
+use crate::watchdog::{Alarm, Routine, Watchdog, alarm_of, better_due, regs_of};
+use id_table::Table;
+use std::collections::VecDeque;
+use wind_base::Regs;
+
+// The first started of the watchdogs that are due.
+fn first_due(watchdogs: &Table<Watchdog>, tick: u64) -> Option<&Watchdog>
+    ensures { option_copied result ≡ first_due_lem (objects watchdogs.now.rows) tick }
+{
+    let mut best: Option<&Watchdog> = None;
+    for index in 0..watchdogs.len() {
+        best = better_due(best, watchdogs.value_at(index), tick);
+    }
+    best
+}
+
+// The same, with the facts that the table keeps.
+fn front_due(watchdogs: &Table<Watchdog>, tick: u64) -> Option<Alarm>
+    ensures first { result ≡ option_map alarm_of_lem (first_due_lem (objects watchdogs.now.rows) tick) }
+    ensures sound { IsTable watchdogs.now }
+{
+    watchdogs.facts();
+    first_due(watchdogs, tick).map(|watchdog| alarm_of(watchdog))
+}
+
+// All that are due stop, and their routines are listed in order of start.
+pub(crate) fn list_due(watchdogs: &mut Table<Watchdog>, listed: &mut VecDeque<Routine>, tick: u64)
+    requires own { SameIds watchdogs.old.rows }
+    requires room { deque_len listed.old + length watchdogs.old.rows ≤ deque_capacity listed.old }
+    ensures watchdogs { objects watchdogs.new.rows ≡ stop_due tick (objects watchdogs.old.rows) }
+    ensures own { SameIds watchdogs.new.rows }
+    ensures room { watchdogs.new.room ≡ watchdogs.old.room }
+    ensures listed { listed.new.items
+        ≡ listed.old.items ++ map watchdog_routine (due_watchdogs (objects watchdogs.old.rows) tick) }
+    ensures capacity { deque_capacity listed.new ≡ deque_capacity listed.old }
+{
+    while let Some(next) = front_due(watchdogs, tick) {
+        watchdogs.object_mut(next.id).timer = None;
+        listed.push_back_reserved(next.routine);
+    }
+}
+
+// The first listed routine begins, if there is one.
+pub(crate) fn next_level(listed: &mut VecDeque<Routine>, top: u32) -> Option<Regs>
+    requires { frame_bytes ≤ top }
+    ensures level { result ≡ level_of top listed.old.items }
+    ensures rest { listed.new.items ≡ rest_of listed.old.items }
+    ensures capacity { deque_capacity listed.new ≡ deque_capacity listed.old }
+{
+    let routine = listed.pop_front()?;
+    Some(regs_of(top, routine))
+}

@@ -1,0 +1,250 @@
+//! The watchdogs, and the interrupt level.
+
+ghost use Rattle.std.specs.Prelude.{◌≡◌, ◌<◌, ◌≤◌, ◌+◌, ◌^◌, ◌↔◌, false, [], length, None, Some, IsSome, is_some, IfOk, IfErr, IsOk, MatchOption};
+ghost use Rattle.std.specs.Borrow.{sem};
+ghost use Rattle.std.specs.List.{All};
+ghost use Rattle.std.specs.Option.{option_copied_mut};
+ghost use Rattle.wind_base.specs.Limits.{frame_bytes};
+ghost use Rattle.wind_base.specs.declared.errno.Errno.TheVariants.{ObjIdError};
+ghost use Rattle.id_table.specs.Rows.{IdsBelow, added};
+ghost use Rattle.isr_watch.specs.State.{IsWatch, watchdog_of};
+ghost use Rattle.isr_watch.specs.Calls.{new_watchdog as new_watchdog_lem, create_refusal, created, delete, start, cancel, due, finish};
+
+use crate::listing::{list_due, next_level};
+use crate::watchdog::{Routine, Watchdog, begin, new_watchdog, stop};
+use id_table::{IdSource, Ident, Table};
+use std::alloc::Global;
+use std::collections::VecDeque;
+use std::marker::Model;
+use wind_base::limits::WATCHDOGS;
+use wind_base::{Errno, NoMemory, Regs};
+use wind_core::Kern;
+
+/// The watchdogs, the routines that a tick listed, and the registers of the one that is active.
+#[derive(Drop)]
+pub struct Watch {
+    watchdogs: Table<Watchdog>,
+    level: Option<Regs>,
+    listed: VecDeque<Routine>,
+    next_start: u64,
+}
+
+impl Model for Watch {
+    ghost use Rattle.std.specs.Prelude.{◌≤◌};
+    ghost use Rattle.std.specs.VecDeque.{deque_capacity};
+    ghost use Rattle.wind_base.specs.Limits.{most_watchdogs};
+    ghost use Rattle.isr_watch.specs.State.{WatchState};
+    ghost use Rattle.isr_watch.specs.Inside.{watch_state, IsLevel};
+
+    ghost Value = { WatchState };
+
+    ghost view = { λ w. watch_state w.watchdogs.rows w.level w.listed.items w.next_start };
+
+    ghost invariant = { λ w. IsLevel w.watchdogs w.level w.listed.items × (most_watchdogs ≤ deque_capacity w.listed) };
+}
+
+// Adds a watchdog under the next id.
+fn add_watchdog(watchdogs: &mut Table<Watchdog>, ids: &mut IdSource) -> Result<Ident, Errno>
+    requires below { IdsBelow ids.old watchdogs.old.rows }
+    requires room { watchdogs.old.room ≡ 256 }
+    ensures ok { IfOk result (λ id. (create_refusal (length watchdogs.old.rows) ids.old ≡ None) × (id ≡ ids.old)
+        × (ids.new ≡ ids.old + 1) × (watchdogs.new ≡ added watchdogs.old ids.old (new_watchdog_lem ids.old))) }
+    ensures err { IfErr result (λ e. (create_refusal (length watchdogs.old.rows) ids.old ≡ Some e)
+        × (ids.new ≡ ids.old) × (watchdogs.new ≡ watchdogs.old)) }
+{
+    if watchdogs.len() >= WATCHDOGS as usize {
+        return Err(Errno::TooMany);
+    }
+    let Some(id) = ids.peek() else {
+        return Err(Errno::IdsSpent);
+    };
+    let Ok(id) = watchdogs.add(ids, new_watchdog(id)) else {
+        unreachable!()
+    };
+    Ok(id)
+}
+
+impl Watch {
+    ghost use Rattle.isr_watch.specs.Lends.{lends_regs, lends_found};
+
+    /// No watchdog, with room for 256. No other call takes memory.
+    pub fn reserved(alloc: Global) -> Result<Watch, NoMemory>
+        ensures { IfOk result (λ w. w ≡ record { watchdogs = []; level = None; listed = []; next_start = 0 }) }
+    {
+        let watchdogs = Table::reserved(alloc, WATCHDOGS)?;
+        let Ok(listed) = VecDeque::with_capacity(alloc, WATCHDOGS as usize) else {
+            return Err(NoMemory);
+        };
+        Ok(Watch {
+            watchdogs,
+            level: None,
+            listed,
+            next_start: 0,
+        })
+    }
+
+    /// Does nothing. Its contract tells the facts that the type keeps.
+    pub fn facts(&self)
+        ensures { IsWatch self.now }
+    {
+        self.watchdogs.facts();
+    }
+
+    /// How many starts there were, so that a caller can test that they are far from their end.
+    pub fn starts(&self) -> u64
+        ensures { result ≡ self.now.next_start }
+    {
+        self.next_start
+    }
+
+    /// Makes a watchdog that doesn't run (VxWorks 5.4 Reference Manual, wdCreate).
+    ///
+    /// # Errors
+    ///
+    /// `TooMany` where 256 watchdogs live, else `IdsSpent` where no id is left. Nothing changes then.
+    pub fn create(&mut self, kern: &mut Kern) -> Result<Ident, Errno>
+        requires ids { kern.old.lent ≡ false }
+        requires below { All (λ w. w.id < kern.old.next_id) self.old.watchdogs }
+        ensures ok { IfOk result (λ id. (create_refusal (length self.old.watchdogs) kern.old.next_id ≡ None)
+            × (id ≡ kern.old.next_id) × (self.new ≡ created self.old id)
+            × (kern.new ≡ record kern.old { next_id = id + 1 })) }
+        ensures err { IfErr result (λ e. (create_refusal (length self.old.watchdogs) kern.old.next_id ≡ Some e)
+            × (self.new ≡ self.old) × (kern.new ≡ kern.old)) }
+    {
+        let mut ids = kern.lend_ids();
+        let made = add_watchdog(&mut self.watchdogs, &mut ids);
+        kern.put_ids(ids);
+        made
+    }
+
+    // The id of this number, where its watchdog lives.
+    fn find(&self, number: u32) -> Option<Ident>
+        ensures { MatchOption result (watchdog_of self.now.watchdogs number ≡ None)
+            (λ id. (id ≡ number) × IsSome (watchdog_of self.now.watchdogs id)) }
+    {
+        self.watchdogs.facts();
+        let Some(id) = Ident::new(number) else {
+            return None;
+        };
+        if self.watchdogs.contains(id) {
+            Some(id)
+        } else {
+            None
+        }
+    }
+
+    /// Starts a watchdog, anew where it runs (VxWorks 5.4 Reference Manual, wdStart): it is due `delay` ticks after
+    /// `tick`, and one tick after it where that is 0, and is last in the order of start.
+    ///
+    /// # Errors
+    ///
+    /// `ObjIdError` where no watchdog of the id lives. Nothing changes then.
+    pub fn start(&mut self, id: u32, tick: u64, delay: u32, routine: Routine) -> Result<(), Errno>
+        requires tick { tick < 2 ^ 63 }
+        requires next { self.old.next_start < 2 ^ 63 }
+        ensures live { IsOk result ↔ IsSome (watchdog_of self.old.watchdogs id) }
+        ensures err { IfErr result (λ e. e ≡ ObjIdError) }
+        ensures state { self.new ≡ start self.old id tick delay routine }
+    {
+        let Some(at) = self.find(id) else {
+            return Err(Errno::ObjIdError);
+        };
+        self.watchdogs.facts();
+        begin(
+            self.watchdogs.object_mut(at),
+            tick,
+            delay,
+            routine,
+            self.next_start,
+        );
+        self.next_start += 1;
+        Ok(())
+    }
+
+    /// Stops a watchdog (VxWorks 5.4 Reference Manual, wdCancel). A routine that is listed stays listed.
+    ///
+    /// # Errors
+    ///
+    /// `ObjIdError` where no watchdog of the id lives. Nothing changes then.
+    pub fn cancel(&mut self, id: u32) -> Result<(), Errno>
+        ensures live { IsOk result ↔ IsSome (watchdog_of self.old.watchdogs id) }
+        ensures err { IfErr result (λ e. e ≡ ObjIdError) }
+        ensures state { self.new ≡ cancel self.old id }
+    {
+        let Some(at) = self.find(id) else {
+            return Err(Errno::ObjIdError);
+        };
+        self.watchdogs.facts();
+        stop(self.watchdogs.object_mut(at));
+        Ok(())
+    }
+
+    /// Deletes a watchdog, which stops it (VxWorks 5.4 Reference Manual, wdDelete). A routine that is listed stays
+    /// listed.
+    ///
+    /// # Errors
+    ///
+    /// `ObjIdError` where no watchdog of the id lives. Nothing changes then.
+    pub fn delete(&mut self, id: u32) -> Result<(), Errno>
+        ensures live { IsOk result ↔ IsSome (watchdog_of self.old.watchdogs id) }
+        ensures err { IfErr result (λ e. e ≡ ObjIdError) }
+        ensures state { self.new ≡ delete self.old id }
+    {
+        let Some(at) = self.find(id) else {
+            return Err(Errno::ObjIdError);
+        };
+        self.watchdogs.remove(at);
+        Ok(())
+    }
+
+    /// Whether a routine is active.
+    pub fn active(&self) -> bool
+        ensures { result ≡ is_some self.now.level }
+    {
+        self.level.is_some()
+    }
+
+    // The registers of the routine that is active, to be written.
+    fn level_mut(&mut self) -> &mut Regs
+        requires { IsSome self.old.level }
+        ensures* writes_back { sem 𝓛 (lends_regs self.entry result) }
+        ensures value { self.old.level ≡ Some result.now }
+    {
+        match &mut self.level {
+            Some(regs) => regs,
+            None => unreachable!(),
+        }
+    }
+
+    /// The registers of the active routine, to be written. None where no routine is active.
+    pub fn regs_mut(&mut self) -> Option<&mut Regs>
+        ensures* writes_back { sem 𝓛 (lends_found self.entry result) }
+        ensures value { option_copied_mut result ≡ self.old.level }
+    {
+        if self.active() {
+            Some(self.level_mut())
+        } else {
+            None
+        }
+    }
+
+    /// A tick: the watchdogs that are due stop, their routines are listed in order of start, and the first begins below
+    /// `top`, which is the end of the interrupt stack.
+    pub fn due(&mut self, tick: u64, top: u32)
+        requires top { frame_bytes ≤ top }
+        requires level { self.old.level ≡ None }
+        ensures { self.new ≡ due self.old tick top }
+    {
+        self.watchdogs.facts();
+        list_due(&mut self.watchdogs, &mut self.listed, tick);
+        self.level = next_level(&mut self.listed, top);
+    }
+
+    /// The active routine is done: the next listed one begins below `top`, if there is one.
+    pub fn finish(&mut self, top: u32)
+        requires { frame_bytes ≤ top }
+        ensures { self.new ≡ finish self.old top }
+    {
+        self.level = next_level(&mut self.listed, top);
+    }
+}

@@ -1,0 +1,144 @@
+//! One watchdog, and the routine that it calls.
+
+ghost use Rattle.std.specs.Prelude.{◌≡◌, ◌<◌, ◌≤◌, ◌^◌, option_copied};
+ghost use Rattle.wind_base.specs.Limits.{frame_bytes};
+ghost use Rattle.wind_lists.specs.Sorting.{pick};
+ghost use Rattle.isr_watch.specs.State.{is_due as is_due_lem, starts_before, start_of as start_of_lem};
+ghost use Rattle.isr_watch.specs.Calls.{new_watchdog, regs_of, started, stopped};
+ghost use Rattle.isr_watch.specs.Inside.{alarm_of as alarm_of_lem};
+
+use id_table::Ident;
+use wind_base::Regs;
+use wind_base::limits::{FRAME_BYTES, GATE_BYTES, GATES_START};
+
+// The gate at which a routine's return ends it.
+const ROUTINE_GATE: u32 = GATES_START + 2 * GATE_BYTES;
+
+/// A routine with its parameter.
+#[derive(Clone, Copy, Debug, PartialEq, Eq)]
+pub struct Routine {
+    /// The address at which it begins.
+    pub entry: u32,
+    /// What it finds in r3.
+    pub param: u32,
+}
+
+/// When a running watchdog is due.
+#[derive(Clone, Copy)]
+pub struct Timer {
+    /// The tick.
+    pub due: u64,
+    /// The number of its start: the lower came earlier.
+    pub start: u64,
+}
+
+/// A watchdog.
+#[derive(Drop)]
+pub struct Watchdog {
+    /// The number by which it is named in calls.
+    pub id: Ident,
+    /// What it calls.
+    pub routine: Routine,
+    /// When it is due, where it runs.
+    pub timer: Option<Timer>,
+}
+
+// A watchdog that is due, with what it calls.
+#[derive(Clone, Copy)]
+pub(crate) struct Alarm {
+    pub(crate) id: Ident,
+    pub(crate) routine: Routine,
+}
+
+// A watchdog that was never started.
+pub(crate) fn new_watchdog(id: Ident) -> Watchdog
+    ensures { result ≡ new_watchdog id }
+{
+    Watchdog {
+        id,
+        routine: Routine { entry: 0, param: 0 },
+        timer: None,
+    }
+}
+
+// Whether a watchdog runs and its tick has come.
+fn is_due(watchdog: &Watchdog, tick: u64) -> bool
+    ensures { result ≡ is_due_lem tick watchdog.now }
+{
+    match watchdog.timer {
+        Some(timer) => timer.due <= tick,
+        None => false,
+    }
+}
+
+fn start_of(watchdog: &Watchdog) -> u64
+    ensures { result ≡ start_of_lem watchdog.now.timer }
+{
+    match watchdog.timer {
+        Some(timer) => timer.start,
+        None => 0,
+    }
+}
+
+// The watchdog, where it is due and was started before the best so far; or else that one.
+pub(crate) fn better_due<'a>(
+    best: Option<&'a Watchdog>,
+    next: &'a Watchdog,
+    tick: u64,
+) -> Option<&'a Watchdog>
+    ensures { option_copied result ≡ pick starts_before (is_due_lem tick) (option_copied best.entry) next.now }
+{
+    match best {
+        Some(b) if is_due(next, tick) && start_of(next) < start_of(b) => Some(next),
+        None if is_due(next, tick) => Some(next),
+        _ => best,
+    }
+}
+
+// The watchdog as one that is due.
+pub(crate) fn alarm_of(watchdog: &Watchdog) -> Alarm
+    ensures { result ≡ alarm_of_lem watchdog.now }
+{
+    Alarm {
+        id: watchdog.id,
+        routine: watchdog.routine,
+    }
+}
+
+// The registers with which a routine begins.
+pub(crate) fn regs_of(top: u32, routine: Routine) -> Regs
+    requires { frame_bytes ≤ top }
+    ensures { result ≡ regs_of top routine }
+{
+    let mut gpr = [0; 32];
+    gpr[1] = top - FRAME_BYTES;
+    gpr[3] = routine.param;
+    Regs {
+        gpr,
+        cr: 0,
+        xer: 0,
+        lr: ROUTINE_GATE,
+        ctr: 0,
+        pc: routine.entry,
+        reserve: None,
+    }
+}
+
+// It runs, from this tick on: for so many ticks, and one at least.
+pub(crate) fn begin(watchdog: &mut Watchdog, tick: u64, delay: u32, routine: Routine, start: u64)
+    requires { tick < 2 ^ 63 }
+    ensures { watchdog.new ≡ started tick delay routine start watchdog.old }
+{
+    watchdog.routine = routine;
+    watchdog.timer = Some(Timer {
+        due: tick + u64::from(delay.max(1)),
+        start,
+    });
+}
+
+// It stops.
+pub(crate) fn stop(watchdog: &mut Watchdog)
+    ensures { watchdog.new ≡ stopped watchdog.old }
+{
+    watchdog.timer = None;
+}

@@ -1,0 +1,206 @@
+-- The kernel's moves begin no wait at a queue.
+use Rattle.std.proofs.Common.{◌≡◌, ℕ, ◌+◌, ◌<◌, ◌≤◌, Bool, true, false, not, cond, eqb, is_some, List, [], ◌∷◌, Option, None, Some, refl, sym, ◌∙◌, subst, arith, ◌⊎◌, inl, inr, ⊎_elim}
+use Rattle.std.specs.List.{All, fold}
+use Rattle.std.proofs.lemmas.List.Elements.{All-contains, All-filter, All-push, All-weaker}
+use Rattle.std.proofs.lemmas.Option.{same_Some}
+use Rattle.wind_base.specs.declared.errno.Errno.{Errno}
+use Rattle.wind_base.specs.declared.errno.Errno.TheVariants as errors
+use Rattle.id_table.specs.declared.ident.Place.{Place}
+use Rattle.task_block.specs.declared.task.Task.{Task}
+use Rattle.wind_core.specs.State.{KernState, IsKern, task_of}
+use Rattle.wind_core.specs.Orders.{running, due, waiters}
+use Rattle.wind_core.specs.Moves.{renewed, new_task, remove, wake_at, pended, pend, delayed, delay, released, release, answered, end_wait, end_waits, wake_all, suspended, is_suspended, resumed, resume, unmarked, reset, with_pri, has_pri, change_pri, move_found, move_task, change_task, renew_task, past_gate, with_answer, with_refusal}
+use Rattle.wind_core.specs.Releases.{releases}
+use Rattle.wind_core.specs.Tick.{tick, tick_counted, take_turn, turn_of, turn_found, time_out, late_answer, late_errno}
+use Rattle.wind_core.proofs.Stable as stable
+use Rattle.wind_core.proofs.Keeping.{every_call_keeps}
+use Rattle.wind_core.proofs.Ticking.{tick_keeps}
+use Rattle.msg_queue.specs.State.{QueueState, receivers, senders}
+use Rattle.msg_queue.specs.Comings.{awakened}
+use Rattle.msg_queue.specs.Kept.{Waited, IsElsewhere, BeginsNone, IsCalm}
+use Rattle.msg_queue.specs.Laws.{CalmLaw, ThenLaw}
+use Rattle.msg_queue.proofs.Members.{each}
+
+-- ---- the next id stays
+pub next-move : (k : KernState) (who : ℕ) (f : Task → Task) → (move_task k who f).next_id ≡ k.next_id
+next-move k who f = elim (task_of k.tasks who) as (λ o. (move_found k who f o).next_id ≡ k.next_id) [ None ↦ refl | Some t ↦ refl ]
+
+pub next-end_waits : (k : KernState) (ts : List Task) (answer : ℕ) (errno : Option Errno) → (end_waits k ts answer errno).next_id ≡ k.next_id
+next-end_waits k [] answer errno = refl
+next-end_waits k (t ∷ ts) answer errno = next-end_waits (end_wait k t.id answer errno) ts answer errno ∙ next-move k t.id (answered answer errno)
+
+pub next-awakened : (k : KernState) (id : ℕ) → (awakened k id).next_id ≡ k.next_id
+next-awakened k id =
+    let first = wake_all k (receivers id) 4294967295 (Some errors.ObjDeleted) in
+    next-end_waits first (waiters first.tasks (senders id)) 4294967295 (Some errors.ObjDeleted) ∙ next-end_waits k (waiters k.tasks (receivers id)) 4294967295 (Some errors.ObjDeleted)
+
+next-turn_of : (k : KernState) (o : Option Task) → (turn_of k o).next_id ≡ k.next_id
+next-turn_of k None = refl
+next-turn_of k (Some t) = elim (eqb t.locks 0) as (λ b. (cond b (turn_found k t) k).next_id ≡ k.next_id) [ true ↦ refl | false ↦ refl ]
+
+next-take_turn : (k : KernState) → (take_turn k).next_id ≡ k.next_id
+next-take_turn k = elim (eqb k.slice 0) as (λ b. (cond b k (turn_of k (running k))).next_id ≡ k.next_id) [ true ↦ refl | false ↦ next-turn_of k (running k) ]
+
+next-time_outs : (k : KernState) (ts : List Task) → (fold time_out k ts).next_id ≡ k.next_id
+next-time_outs k [] = refl
+next-time_outs k (t ∷ ts) = next-time_outs (time_out k t) ts ∙ next-move k t.id (answered (late_answer (is_some t.wait)) (late_errno (is_some t.wait)))
+
+pub next-tick : (k : KernState) → (tick k).next_id ≡ k.next_id
+next-tick k = let turned = take_turn (tick_counted k) in next-time_outs turned (due turned.tasks (k.tick + 1)) ∙ next-take_turn (tick_counted k)
+
+-- ---- no wait at a queue begins
+module _ (rs : List (ℕ × QueueState)) (k : KernState) (n : ℕ) where
+  abbrev still : Task → Type 0
+  still = BeginsNone rs k n
+
+  pub at_first : All still k.tasks
+  at_first = each still k.tasks (λ t at place here. inl (t, at, refl, here))
+
+  -- a task that waits for nothing
+  pub idle : (t : Task) → t.wait ≡ None → still t
+  idle t e place here = absurd (cc)
+
+  renews : (since : ℕ) (t : Task) → still t → still (renewed since t)
+  renews since t p = p
+
+  pub still-change : (l : KernState) (who : ℕ) (f : Task → Task) → ((t : Task) → still t → still (f t)) → All still l.tasks → All still (change_task l who f).tasks
+  still-change l who f keeps all = stable.All-change still l.tasks who f keeps all
+
+  pub still-renew : (l : KernState) (who : ℕ) (f : Task → Task) → ((t : Task) → still t → still (f t)) → All still l.tasks → All still (renew_task l who f).tasks
+  still-renew l who f keeps all = stable.renew_task-stable still renews l who f keeps all
+
+  pub still-move : (l : KernState) (who : ℕ) (f : Task → Task) → ((t : Task) → still t → still (f t)) → All still l.tasks → All still (move_task l who f).tasks
+  still-move l who f keeps all = stable.move_task-stable still renews l who f keeps all
+
+  pub still-end_waits : (l : KernState) (ts : List Task) (answer : ℕ) (errno : Option Errno) → All still l.tasks → All still (end_waits l ts answer errno).tasks
+  still-end_waits l [] answer errno all = all
+  still-end_waits l (t ∷ ts) answer errno all =
+      still-end_waits (end_wait l t.id answer errno) ts answer errno (still-move l t.id (answered answer errno) (λ u p. idle (answered answer errno u) refl) all)
+
+  pub still-tick : (l : KernState) → All still l.tasks → All still (tick l).tasks
+  still-tick l all = stable.tick-stable still renews (λ answer errno t p. idle (answered answer errno t) refl) (λ m t p. p) l all
+
+  -- the same of what is done only at times
+  still-if : (b : Bool) (l m : KernState) → All still l.tasks → All still m.tasks → All still (cond b l m).tasks
+  still-if true l m first second = first
+  still-if false l m first second = second
+
+next-if : (b : Bool) (k l m : KernState) → l.next_id ≡ k.next_id → m.next_id ≡ k.next_id → (cond b l m).next_id ≡ k.next_id
+next-if true k l m first second = first
+next-if false k l m first second = second
+
+pub calm_at : (rs : List (ℕ × QueueState)) (k l : KernState) → IsKern l → l.next_id ≡ k.next_id → All (BeginsNone rs k k.next_id) l.tasks → IsCalm rs k l
+calm_at rs k l is same all = record { kern = is; ids = omega (arith, same); waits = subst (λ n. All (BeginsNone rs k n) l.tasks) (sym same) all }
+
+-- a field is written that is no wait
+pub calm_set : (rs : List (ℕ × QueueState)) (k : KernState) (who : ℕ) (f : Task → Task) → ((t : Task) → (f t).id ≡ t.id) → ((t : Task) → (f t).wait ≡ t.wait) → IsKern (change_task k who f)
+    → IsCalm rs k (change_task k who f)
+calm_set rs k who f id wait is =
+    calm_at rs k (change_task k who f) is refl
+    (still-change rs k k.next_id k who f
+    (λ t p place here. subst (λ i. Waited k.tasks i place ⊎ IsElsewhere rs k.next_id place) (sym (id t)) (p place (sym (wait t) ∙ here))) (at_first rs k k.next_id))
+
+pub calm_end_wait : (rs : List (ℕ × QueueState)) (k : KernState) (who answer : ℕ) (errno : Option Errno) → IsKern k → IsCalm rs k (end_wait k who answer errno)
+calm_end_wait rs k who answer errno is =
+    calm_at rs k (end_wait k who answer errno) ((every_call_keeps k is).answering who answer errno) (next-move k who (answered answer errno))
+    (still-move rs k k.next_id k who (answered answer errno) (λ t p. idle rs k k.next_id (answered answer errno t) refl) (at_first rs k k.next_id))
+
+calm_release : (rs : List (ℕ × QueueState)) (k : KernState) (who : ℕ) → IsKern k → IsCalm rs k (release k who)
+calm_release rs k who is =
+    calm_at rs k (release k who) ((every_call_keeps k is).releasing who) (next-move k who released)
+    (still-move rs k k.next_id k who released (λ t p. idle rs k k.next_id (released t) refl) (at_first rs k k.next_id))
+
+-- the kernel's state by fields that tell nothing of its tasks
+pub counters_keep : (k : KernState) (next slice : ℕ) (lent : Bool) (last : Option ℕ) → IsKern k → k.next_id ≤ next → next ≤ 1048577
+    → IsKern (record k { next_id = next; slice = slice; lent = lent; last = last })
+counters_keep k next slice lent last is more most = record {
+  few = is.few;
+  rising = is.rising;
+  ids = All-weaker (λ (t : Task). t.id < k.next_id) (λ (t : Task). t.id < next) (λ t h. omega (arith, h, more)) k.tasks is.ids;
+  first_id = omega (arith, is.first_id, more);
+  last_id = most;
+  distinct = is.distinct;
+  sinces = is.sinces;
+  ahead = is.ahead;
+}
+
+-- of two such moves, one after the other
+elsewhere_later : (rs : List (ℕ × QueueState)) (n m : ℕ) (place : Place) → n ≤ m → IsElsewhere rs n place → IsElsewhere rs m place
+elsewhere_later rs n m place more other side = let is = other side in (is.0, omega (arith, is.1, more), is.2)
+
+pub calm_then : ThenLaw
+calm_then rs k l m first second = record {
+  kern = second.kern;
+  ids = omega (arith, first.ids, second.ids);
+  waits = each (BeginsNone rs k m.next_id) m.tasks (λ t at place here.
+      ⊎_elim {C = Waited k.tasks t.id place ⊎ IsElsewhere rs m.next_id place}
+      (λ from.
+      ⊎_elim {C = Waited k.tasks t.id place ⊎ IsElsewhere rs m.next_id place}
+      (λ before. inl (before.0, before.1, before.2 ∙ from.2, before.3))
+      (λ other. inr (elsewhere_later rs l.next_id m.next_id place second.ids other))
+      (All-contains (BeginsNone rs k l.next_id) l.tasks from.0 first.waits from.1 place from.3))
+      (λ other. inr other) (All-contains (BeginsNone rs l m.next_id) m.tasks t second.waits at place here));
+}
+
+calm-releases : (rs : List (ℕ × QueueState)) (k : KernState) (ts : List Task) → IsKern k → IsCalm rs k (releases k ts)
+calm-releases rs k [] is = calm_at rs k k is refl (at_first rs k k.next_id)
+calm-releases rs k (t ∷ ts) is = let once = calm_release rs k t.id is in calm_then rs k (release k t.id) (releases k (t ∷ ts)) once (calm-releases rs (release k t.id) ts once.kern)
+
+pub calms : CalmLaw
+calms rs k is =
+    let by = every_call_keeps k is in
+    let n = k.next_id in
+    let first = at_first rs k n in
+    record {
+      staying = calm_at rs k k is refl first;
+      ending = λ who answer errno. calm_end_wait rs k who answer errno is;
+      releasing = λ who. calm_release rs k who is;
+      waking = λ place answer errno.
+          calm_at rs k (wake_all k place answer errno) (by.waking place answer errno) (next-end_waits k (waiters k.tasks place) answer errno)
+          (still-end_waits rs k n k (waiters k.tasks place) answer errno first);
+      releasing_all = λ place. calm-releases rs k (waiters k.tasks place) is;
+      ticking = calm_at rs k (tick k) (tick_keeps k is) (next-tick k) (still-tick rs k n k first);
+      pending = λ who place fifo m some other.
+          let f : Task → Task = pended place fifo (wake_at place.side k.tick m) in
+          calm_at rs k (pend k who place fifo m) (by.pending who place fifo m some) refl
+          (still-renew rs k n k who f (λ t p there here. inr (subst (IsElsewhere rs n) (same_Some place there here) other)) first);
+      delaying = λ who m.
+          calm_at rs k (delay k who m) (by.delaying who m) refl
+          (still-renew rs k n k who (delayed k.tick m) (λ t p. elim (eqb m 0) as (λ b. BeginsNone rs k n (cond b t (record t { wake = Some (k.tick + m); turns = 0 }))) [ true ↦ p | false ↦ p ]) first);
+      spawning = λ new none. record {
+        kern = by.spawning new none;
+        ids = omega arith;
+        waits = All-push (BeginsNone rs k (n + 1)) k.tasks (new_task n k.next_since new) (at_first rs k (n + 1)) (idle rs k (n + 1) (new_task n k.next_since new) refl);
+      };
+      removing = λ who. calm_at rs k (remove k who) (by.removing who) refl (All-filter (λ (t : Task). not (eqb t.id who)) (BeginsNone rs k n) k.tasks first);
+      suspending = λ who. calm_set rs k who suspended (λ t. refl) (λ t. refl) (by.suspending who);
+      resuming = λ who.
+          let moved = move_task k who resumed in
+          let b = is_suspended (task_of k.tasks who) in
+          calm_at rs k (resume k who) (by.resuming who) (next-if b k moved k (next-move k who resumed) refl)
+          (still-if rs k n b moved k (still-move rs k n k who resumed (λ t p. p) first) first);
+      resetting = λ who. calm_at rs k (reset k who) (by.resetting who) refl (still-renew rs k n k who unmarked (λ t p. p) first);
+      changing_pri = λ who pri.
+          let moved = move_task k who (with_pri pri) in
+          let b = has_pri pri (task_of k.tasks who) in
+          calm_at rs k (change_pri k who pri) (by.changing_pri who pri) (next-if b k k moved refl (next-move k who (with_pri pri)))
+          (still-if rs k n b k moved first (still-move rs k n k who (with_pri pri) (λ t p. p) first));
+      setting_locks = λ who m. calm_set rs k who (λ t. record t { locks = m }) (λ t. refl) (λ t. refl) (by.setting_locks who m);
+      setting_normal = λ who pri. calm_set rs k who (λ t. record t { normal = pri }) (λ t. refl) (λ t. refl) (by.setting_normal who pri);
+      setting_safe = λ who m. calm_set rs k who (λ t. record t { safe = m }) (λ t. refl) (λ t. refl) (by.setting_safe who m);
+      setting_held = λ who m. calm_set rs k who (λ t. record t { held = m }) (λ t. refl) (λ t. refl) (by.setting_held who m);
+      setting_errno = λ who m. calm_set rs k who (λ t. record t { errno = m }) (λ t. refl) (λ t. refl) (by.setting_errno who m);
+      setting_int_locked = λ who on. calm_set rs k who (λ t. record t { int_locked = on }) (λ t. refl) (λ t. refl) (by.setting_int_locked who on);
+      setting_again = λ who on. calm_set rs k who (λ t. record t { again = on }) (λ t. refl) (λ t. refl) (by.setting_again who on);
+      setting_regs = λ who regs. calm_set rs k who (λ t. record t { regs = regs }) (λ t. refl) (λ t. refl) (by.setting_regs who regs);
+      leaving_gate = λ who. calm_set rs k who past_gate (λ t. refl) (λ t. refl) (by.leaving_gate who);
+      giving_answer = λ who value. calm_set rs k who (with_answer value) (λ t. refl) (λ t. refl) (by.giving_answer who value);
+      refusing = λ who e. calm_set rs k who (with_refusal e) (λ t. refl) (λ t. refl) (by.refusing who e);
+      noting_last = λ last. calm_at rs k (record k { last = last }) (by.noting_last last) refl first;
+      slicing = λ m. calm_at rs k (record k { slice = m }) (by.slicing m) refl first;
+      giving_ids = λ next lent more most. record {
+        kern = counters_keep k next k.slice lent k.last is more most;
+        ids = more;
+        waits = at_first rs k next;
+      };
+    }

@@ -1,0 +1,146 @@
+-- What follows of the definitions of message queues alone.
+use Rattle.std.specs.Prelude.{◌≡◌, ℕ, zero, suc, ◌+◌, ◌<◌, ◌≤◌, Bool, List, [], ◌++◌, length, Option, None, Some}
+use Rattle.std.specs.List.{All}
+use Rattle.std.specs.List.Sorted.{IsPermutation}
+use Rattle.wind_base.specs.Limits.{most_tasks, greatest_id}
+use Rattle.wind_base.specs.declared.errno.Errno.{Errno}
+use Rattle.wind_base.specs.declared.regs.Regs.{Regs}
+use Rattle.id_table.specs.Rows.{object_of, IdsBelow}
+use Rattle.id_table.specs.declared.ident.Place.{Place}
+use Rattle.task_block.specs.declared.task.NewTask.{NewTask}
+use Rattle.wind_core.specs.State.{KernState, IsKern}
+use Rattle.wind_core.specs.Moves.{spawn, spawn_refusal, remove, pend, delay, release, end_wait, wake_all, suspend, resume, reset, change_pri, set_locks, set_normal, set_safe, set_held, set_errno, set_int_locked, set_again, set_regs, leave_gate, answer, refuse}
+use Rattle.wind_core.specs.Releases.{release_all}
+use Rattle.wind_core.specs.Tick.{tick}
+use Rattle.msg_queue.specs.declared.words.Sending.{Sending}
+use Rattle.msg_queue.specs.declared.words.Receiving.{Receiving}
+use Rattle.msg_queue.specs.State.{QueueState, Scene, scene, queue_of}
+use Rattle.msg_queue.specs.Sends.{send}
+use Rattle.msg_queue.specs.Receives.{receive}
+use Rattle.msg_queue.specs.Comings.{create_refusal, new_queue, created, delete}
+use Rattle.msg_queue.specs.Kept.{IsKept, IsCalm, IsElsewhere}
+use Rattle.msg_queue.specs.Machine.{Event, IsAllowed, after_event, Parcel, contents, AllPlain, after, accepted, taken_in}
+
+-- ---- the kept facts
+-- each step keeps them
+abbrev pub KeptLaw : Type 0
+KeptLaw = (s : Scene) (e : Event) → IsKept s → IsAllowed s e → IsKept (after_event s e)
+
+-- they hold where there is no queue, and no task waits
+abbrev pub StartLaw : Type 0
+StartLaw = (k : KernState) (ram : List ℕ) → IsKern k → All (λ t. t.wait ≡ None) k.tasks
+    → IsKept (scene k (record { queues = []; asks = [] }) ram)
+
+-- a new queue keeps them
+abbrev pub CreateLaw : Type 0
+CreateLaw = (s : Scene) (max_msgs max_len options : ℕ)
+    → create_refusal (length s.queues.queues) s.kern.next_id max_msgs max_len options ≡ None
+    → IsKept s → IsKept (created s (new_queue max_msgs max_len options))
+
+-- each move of the kernel may come between two calls on queues, since it begins no wait at a queue
+pub record IsCalmBy (rs : List (ℕ × QueueState)) (k : KernState) : Type 0 where
+  pub staying : IsCalm rs k k
+  pub ending : (who answer : ℕ) (errno : Option Errno) → IsCalm rs k (end_wait k who answer errno)
+  pub releasing : (who : ℕ) → IsCalm rs k (release k who)
+  pub waking : (place : Place) (answer : ℕ) (errno : Option Errno) → IsCalm rs k (wake_all k place answer errno)
+  pub releasing_all : (place : Place) → IsCalm rs k (release_all k place)
+  pub ticking : IsCalm rs k (tick k)
+  -- a wait for something else that lives
+  pub pending : (who : ℕ) (place : Place) (fifo : Bool) (n : ℕ) → 0 < n → IsElsewhere rs k.next_id place
+      → IsCalm rs k (pend k who place fifo n)
+  pub delaying : (who n : ℕ) → IsCalm rs k (delay k who n)
+  pub spawning : (n : NewTask) → spawn_refusal k ≡ None → IsCalm rs k (spawn k n)
+  pub removing : (who : ℕ) → IsCalm rs k (remove k who)
+  pub suspending : (who : ℕ) → IsCalm rs k (suspend k who)
+  pub resuming : (who : ℕ) → IsCalm rs k (resume k who)
+  pub resetting : (who : ℕ) → IsCalm rs k (reset k who)
+  pub changing_pri : (who pri : ℕ) → IsCalm rs k (change_pri k who pri)
+  pub setting_locks : (who n : ℕ) → IsCalm rs k (set_locks k who n)
+  pub setting_normal : (who pri : ℕ) → IsCalm rs k (set_normal k who pri)
+  pub setting_safe : (who n : ℕ) → IsCalm rs k (set_safe k who n)
+  pub setting_held : (who n : ℕ) → IsCalm rs k (set_held k who n)
+  pub setting_errno : (who n : ℕ) → IsCalm rs k (set_errno k who n)
+  pub setting_int_locked : (who : ℕ) (on : Bool) → IsCalm rs k (set_int_locked k who on)
+  pub setting_again : (who : ℕ) (on : Bool) → IsCalm rs k (set_again k who on)
+  pub setting_regs : (who : ℕ) (regs : Regs) → IsCalm rs k (set_regs k who regs)
+  pub leaving_gate : (who : ℕ) → IsCalm rs k (leave_gate k who)
+  pub giving_answer : (who value : ℕ) → IsCalm rs k (answer k who value)
+  pub refusing : (who : ℕ) (e : Errno) → IsCalm rs k (refuse k who e)
+  pub noting_last : (last : Option ℕ) → IsCalm rs k (record k { last = last })
+  pub slicing : (n : ℕ) → IsCalm rs k (record k { slice = n })
+  -- an object of another kind is made
+  pub giving_ids : (next : ℕ) (lent : Bool) → k.next_id ≤ next → next ≤ greatest_id + 1
+      → IsCalm rs k (record k { next_id = next; lent = lent })
+
+abbrev pub CalmLaw : Type 0
+CalmLaw = (rs : List (ℕ × QueueState)) (k : KernState) → IsKern k → IsCalmBy rs k
+
+-- of two such moves, one after the other, also both together
+abbrev pub ThenLaw : Type 0
+ThenLaw = (rs : List (ℕ × QueueState)) (k l m : KernState) → IsCalm rs k l → IsCalm rs l m → IsCalm rs k m
+
+-- ---- the counters
+-- the tick stays, whether ids are lent too, and at most so many order numbers are given
+pub record CountsOn (n : ℕ) (k l : KernState) : Type 0 where
+  pub tick : l.tick ≡ k.tick
+  pub lent : l.lent ≡ k.lent
+  pub sinces : l.next_since ≤ k.next_since + n
+
+-- each call; a deletion ends at most two waits of each task that lives
+pub record CountLaw : Type 0 where
+  pub sending : (s : Scene) (id : ℕ) (x : Sending) → CountsOn 1 s.kern (send s id x).kern
+  pub receiving : (s : Scene) (id : ℕ) (x : Receiving) → CountsOn 1 s.kern (receive s id x).kern
+  pub creating : (s : Scene) (q : QueueState) → CountsOn 0 s.kern (created s q).kern
+  pub deleting : (s : Scene) (id : ℕ) → IsKern s.kern → CountsOn (most_tasks + most_tasks) s.kern (delete s id).kern
+
+-- ---- conservation
+-- what comes next is allowed, at each state at which the kept facts hold
+abbrev pub IsPlan : (Scene → Option Event) → Type 0
+IsPlan next = (s : Scene) (e : Event) → IsKept s → next s ≡ Some e → IsAllowed s e
+
+-- what was accepted was taken or is held: the same byte lists, each as often
+pub record IsConserved (accepted : List Parcel) (taken held : List (List ℕ)) : Type 0 where
+  pub same : IsPermutation (contents accepted) (taken ++ held)
+  -- where none was urgent, in the same order
+  pub in_order : AllPlain accepted → contents accepted ≡ taken ++ held
+
+-- from a state without queues on, for each queue that is live after k steps
+abbrev pub ConservationLaw : Type 0
+ConservationLaw = (next : Scene → Option Event) (s : Scene) → IsPlan next → IsKept s → s.queues.queues ≡ []
+    → (k q : ℕ) (y : QueueState) → queue_of (after next s k) q ≡ Some y
+    → IsConserved (accepted next s q k) (taken_in next s q k) y.held
+
+-- the queues of a state, and the id that comes next
+pub record Stock : Type 0 where
+  pub queues : List (ℕ × QueueState)
+  pub next_id : ℕ
+
+-- what a step accepts and takes of each queue goes with what the queues hold before and after it
+pub record IsBalanced (s t : Stock) (accepts : ℕ → List Parcel) (takes : ℕ → List (List ℕ)) : Type 0 where
+  -- a queue that is there after the step and was not before is new and empty
+  pub born : (q : ℕ) (y : QueueState) → object_of t.queues q ≡ Some y → object_of s.queues q ≡ None
+      → (s.next_id ≤ q) × (y.held ≡ [])
+  -- nothing goes into a queue that is not there, or comes out of it
+  pub idle : (q : ℕ) → object_of s.queues q ≡ None → (accepts q ≡ []) × (takes q ≡ [])
+  pub stays : (q : ℕ) (x y : QueueState) → object_of s.queues q ≡ Some x → object_of t.queues q ≡ Some y
+      → IsPermutation (contents (accepts q) ++ x.held) (takes q ++ y.held)
+  pub in_order : (q : ℕ) (x y : QueueState) → object_of s.queues q ≡ Some x → object_of t.queues q ≡ Some y
+      → AllPlain (accepts q) → x.held ++ contents (accepts q) ≡ takes q ++ y.held
+  pub ids : s.next_id ≤ t.next_id
+
+-- a run of any machine that has queues: its state after k steps, what each step accepts and takes of a queue
+pub record IsRun (stock : ℕ → Stock) (accepts : ℕ → ℕ → List Parcel) (takes : ℕ → ℕ → List (List ℕ)) : Type 0 where
+  pub none : (stock 0).queues ≡ []
+  pub below : (k : ℕ) → IdsBelow (stock k).next_id (stock k).queues
+  pub balanced : (k : ℕ) → IsBalanced (stock k) (stock (suc k)) (accepts k) (takes k)
+
+-- what the first k steps gave, in order
+abbrev pub gathered : {X : Type 0} → (ℕ → ℕ → List X) → ℕ → ℕ → List X
+gathered given q zero = []
+gathered given q (suc k) = gathered given q k ++ given k q
+
+-- whatever the machine, where each step is balanced
+abbrev pub RunLaw : Type 0
+RunLaw = (stock : ℕ → Stock) (accepts : ℕ → ℕ → List Parcel) (takes : ℕ → ℕ → List (List ℕ)) → IsRun stock accepts takes
+    → (k q : ℕ) (y : QueueState) → object_of (stock k).queues q ≡ Some y
+    → IsConserved (gathered accepts q k) (gathered takes q k) y.held

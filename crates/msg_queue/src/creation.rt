@@ -1,0 +1,88 @@
+//! New queues.
+
+ghost use Rattle.std.specs.Prelude.{◌≡◌, ◌<◌, false, Some, IfOk, IfErr, IfSome, IfNone, List, ℕ};
+ghost use Rattle.id_table.specs.Rows.{IdsBelow};
+ghost use Rattle.msg_queue.specs.State.{scene};
+ghost use Rattle.msg_queue.specs.Comings.{create_refusal, ids_refusal, IsMade, IsNotMade};
+ghost use Rattle.msg_queue.specs.Kept.{IsKept};
+
+use crate::queue::Queue;
+use crate::queues::Queues;
+use crate::size::{MSG_Q_PRIORITY, is_size};
+use crate::words::MakeErr;
+use id_table::Ident;
+use std::alloc::Global;
+use wind_base::Errno;
+use wind_base::limits::QUEUES;
+use wind_core::Kern;
+
+// Why no queue is made where so many live, but for want of ids.
+fn refusal(live: usize, max_msgs: u32, max_len: u32, options: u32) -> Option<Errno>
+    ensures some { (next : ℕ) → IfSome result (λ e. create_refusal live next max_msgs max_len options ≡ Some e) }
+    ensures none { (next : ℕ) → IfNone result (create_refusal live next max_msgs max_len options ≡ ids_refusal next) }
+    ensures size { IfNone result (0 < max_msgs) }
+{
+    if options > MSG_Q_PRIORITY {
+        return Some(Errno::InvalidOption);
+    }
+    if !is_size(max_msgs, max_len) {
+        return Some(Errno::BadSize);
+    }
+    if live >= QUEUES as usize {
+        return Some(Errno::TooMany);
+    }
+    None
+}
+
+impl Queues {
+    // Makes a queue.
+    fn make(
+        &mut self,
+        alloc: Global,
+        kern: &mut Kern,
+        max_msgs: u32,
+        max_len: u32,
+        options: u32,
+    ) -> Result<Ident, MakeErr>
+        requires ids { kern.old.lent ≡ false }
+        requires below { IdsBelow kern.old.next_id self.old.queues }
+        ensures ok { IfOk result (IsMade kern.old kern.new self.old self.new max_msgs max_len options) }
+        ensures err { IfErr result (IsNotMade kern.old kern.new self.old self.new max_msgs max_len options) }
+    {
+        if let Some(e) = refusal(self.queues.len(), max_msgs, max_len, options) {
+            return Err(MakeErr::Refused(e));
+        }
+        let Ok(queue) = Queue::reserved(alloc, max_msgs, max_len, options == MSG_Q_PRIORITY) else {
+            return Err(MakeErr::NoMemory);
+        };
+        match kern.add_to(&mut self.queues, queue) {
+            Ok(id) => Ok(id),
+            Err(_) => Err(MakeErr::Refused(Errno::IdsSpent)),
+        }
+    }
+
+    /// Makes a queue, empty, with the room for all its messages (VxWorks 5.4 Reference Manual, msgQCreate). The tasks
+    /// that wait there stand by priority with the options `MSG_Q_PRIORITY`, and by arrival with `MSG_Q_FIFO`.
+    ///
+    /// # Errors
+    ///
+    /// `Refused`: `InvalidOption` where the options are none of these, `BadSize` where the queue would have no message
+    /// or exceed a limit of its size, `TooMany` where 256 queues live, `IdsSpent` where no id is left; the first of
+    /// these that holds. `NoMemory` where host memory ran out. Nothing changes then.
+    pub fn create(
+        &mut self,
+        alloc: Global,
+        kern: &mut Kern,
+        max_msgs: u32,
+        max_len: u32,
+        options: u32,
+    ) -> Result<Ident, MakeErr>
+        requires ids { kern.old.lent ≡ false }
+        requires below { IdsBelow kern.old.next_id self.old.queues }
+        ensures ok { IfOk result (IsMade kern.old kern.new self.old self.new max_msgs max_len options) }
+        ensures err { IfErr result (IsNotMade kern.old kern.new self.old self.new max_msgs max_len options) }
+        ensures kept { (ram : List ℕ) → IsKept (scene kern.old self.old ram) → IsKept (scene kern.new self.new ram) }
+    {
+        self.make(alloc, kern, max_msgs, max_len, options)
+    }
+}

@@ -1,0 +1,23 @@
+//! Message queues: sends, receives, and the tasks that wait for them.
+#![tactic(auto)]
+
+mod asks;
+mod calls;
+mod comings;
+mod creation;
+mod effects;
+mod laws;
+mod message;
+mod plans;
+mod queue;
+mod queues;
+mod size;
+#[cfg(test)]
+mod tests;
+mod words;
+
+pub use asks::Ask;
+pub use laws::{calm_law, conservation_law, count_law, kept_law, run_law};
+pub use queues::Queues;
+pub use size::{LONGEST_MESSAGE, MESSAGES, MSG_Q_FIFO, MSG_Q_PRIORITY, QUEUE_BYTES};
+pub use words::{Got, MakeErr, Receiving, Sending, Took};

@@ -1,0 +1,81 @@
+//! The message queues.
+
+ghost use Rattle.std.specs.Prelude.{◌≡◌, IfOk, IsSome, MatchOption, Some, None, [], is_some};
+ghost use Rattle.id_table.specs.Rows.{object_of};
+ghost use Rattle.wind_core.specs.Orders.{first_waiter};
+ghost use Rattle.msg_queue.specs.State.{asked_by};
+
+use crate::asks::{Ask, ask_of};
+use crate::queue::Queue;
+use id_table::{Ident, Place, Table};
+use std::alloc::Global;
+use std::marker::Model;
+use wind_base::NoMemory;
+use wind_base::limits::{QUEUES, TASKS};
+use wind_core::Kern;
+
+/// The message queues, and what the calls that wait at them ask for.
+#[derive(Drop)]
+pub struct Queues {
+    pub(crate) queues: Table<Queue>,
+    pub(crate) asks: Vec<Ask>,
+}
+
+impl Model for Queues {
+    ghost use Rattle.std.specs.Prelude.{◌≡◌, ◌≤◌, vec_capacity};
+    ghost use Rattle.wind_base.specs.Limits.{most_queues, most_tasks};
+    ghost use Rattle.msg_queue.specs.State.{QueuesState};
+    ghost use Rattle.msg_queue.specs.Inside.{queues_in};
+
+    ghost Value = { QueuesState };
+
+    ghost view = { λ q. queues_in q.queues.rows q.asks.items };
+
+    ghost invariant = { λ q. (q.queues.room ≡ most_queues) × (most_tasks ≤ vec_capacity q.asks) };
+}
+
+impl Queues {
+    /// No queue, with room for 256 and for the asks of 256 tasks. No other call but `create` takes memory.
+    pub fn reserved(alloc: Global) -> Result<Queues, NoMemory>
+        ensures { IfOk result (λ q. q ≡ record { queues = []; asks = [] }) }
+    {
+        let queues = Table::reserved(alloc, QUEUES)?;
+        let Ok(asks) = Vec::with_capacity(alloc, TASKS as usize) else {
+            return Err(NoMemory);
+        };
+        Ok(Queues { queues, asks })
+    }
+
+    // The id of this number, where its queue is live.
+    pub(crate) fn find(&self, number: u32) -> Option<Ident>
+        ensures { MatchOption result (object_of self.now.queues number ≡ None)
+            (λ id. (id ≡ number) × IsSome (object_of self.now.queues id)) }
+    {
+        self.queues.facts();
+        let id = Ident::new(number)?;
+        if self.queues.contains(id) {
+            Some(id)
+        } else {
+            None
+        }
+    }
+
+    // The queue of this id, which is live.
+    pub(crate) fn queue(&self, id: Ident) -> &Queue
+        requires { IsSome (object_of self.now.queues id) }
+        ensures { object_of self.now.queues id ≡ Some result.now }
+    {
+        match self.queues.get(id) {
+            Some(queue) => queue,
+            None => unreachable!(),
+        }
+    }
+
+    // What the first that waits at a place asks for.
+    pub(crate) fn first_asking(&self, kern: &Kern, place: Place) -> Option<Ask>
+        ensures { result ≡ asked_by self.now.asks (first_waiter kern.now.tasks place) }
+    {
+        let who = kern.first_waiter(place)?;
+        ask_of(&self.asks, who).copied()
+    }
+}
