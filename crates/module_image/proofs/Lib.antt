@@ -1,0 +1,7 @@
+pub mod Known
+pub mod Fitting
+pub mod Made
+pub mod Counts
+pub mod Tables
+pub mod Linking
+pub mod Agreement

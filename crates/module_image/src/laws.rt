@@ -1,0 +1,20 @@
+//! What follows of the definitions alone.
+
+ghost use Rattle.module_image.specs.Laws.{AgreementLaw, CountLaw};
+ghost use Rattle.module_image.specs.Link.{LinkLaw};
+
+/// What an object file may say is what relocation and the partition take: widths of relocations, and alignments.
+pub fn agreement_law()
+    ensures { AgreementLaw }
+{}
+
+/// A load adds as many symbols as are counted before, whatever its places and its id.
+pub fn count_law()
+    ensures { CountLaw }
+{}
+
+/// For any list of loads over a table, each of which finds the symbols that the ones before left, the images are
+/// those of one static link at the same places.
+pub fn link_law()
+    ensures { LinkLaw }
+{}

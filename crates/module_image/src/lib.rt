@@ -1,0 +1,16 @@
+//! The image of a module: where its sections and symbols lie in its three segments, the bytes that are loaded,
+//! the symbols that it exports, and the static link of several modules.
+#![tactic(auto)]
+
+mod bytes;
+mod exports;
+mod laws;
+mod layout;
+mod making;
+mod sizes;
+mod segments;
+
+pub use laws::{agreement_law, count_law, link_law};
+pub use making::{NameList, PrepareErr, Prepared, prepare};
+pub use sizes::{count_added, measure};
+pub use segments::{Ends, Need, Needs, Places, SegmentKind};
