@@ -1,8 +1,8 @@
 -- What an object file may say is what relocation and the partition take.
-use Rattle.std.proofs.Common.{◌≡◌, ℕ, zero, suc, ◌+◌, ◌*◌, ◌/◌, ◌%◌, ◌<◌, ◌≤◌, ◌^◌, Bool, true, false, cond, eqb, ◌&&◌, List, [], ◌∷◌, Option, Some, None, inl, inr, refl, sym, ◌∙◌, ap, subst, arith}
+use Rattle.std.proofs.Common.{◌≡◌, ℕ, zero, suc, ◌+◌, ◌/◌, ◌%◌, ◌<◌, ◌≤◌, ◌^◌, Bool, true, false, cond, List, [], ◌∷◌, Some, None, inl, inr, refl, sym, ◌∙◌, ap, subst, arith}
 use Rattle.std.specs.Prelude.{◌==◌, ◌||◌, nat_le, count_ones}
 use Rattle.std.specs.Int.{is_power_of_two}
-use Rattle.std.specs.List.{AllByRecursion, list_any, find, range_with_len}
+use Rattle.std.specs.List.{AllByRecursion, find, range_with_len}
 use Rattle.std.proofs.lemmas.Bool.{cases_lt, cases_eq, ne_eqb, eq-eqb, eqb-true, leb-true, le-leb, and_parts, and_from}
 use Rattle.std.proofs.lemmas.Nat.{zero_from_ones, ones_le_self}
 use lib.Count.{ones_step}

@@ -1,10 +1,9 @@
 -- A load adds as many symbols as are counted.
-use Rattle.std.proofs.Common.{◌≡◌, ℕ, ◌+◌, ◌%◌, ◌^◌, Bool, true, false, cond, ◌&&◌, List, [], ◌∷◌, ◌++◌, length, get_or, Option, Some, None, refl, sym, ◌∙◌, ap}
+use Rattle.std.proofs.Common.{◌≡◌, ℕ, ◌+◌, ◌%◌, ◌^◌, Bool, true, false, cond, ◌&&◌, List, [], ◌∷◌, length, get_or, refl, sym, ◌∙◌, ap}
 use Rattle.std.proofs.lemmas.List.{length-append}
 use Rattle.std.proofs.lemmas.List.Sums.{sum_by-cons}
 use Rattle.symbol_table.specs.declared.symbol.Symbol.{Symbol}
 use Rattle.mem_partition.specs.Place.{aligned}
-use Rattle.elf_read.specs.declared.module.Module.{Module}
 use Rattle.elf_read.specs.declared.module.Sect.{Sect}
 use Rattle.elf_read.specs.declared.module.Sym.{Sym}
 use Rattle.elf_read.specs.declared.module.SymPlace.{SymPlace}

@@ -1,5 +1,5 @@
 -- The sections' places lie in the bytes that are laid.
-use Rattle.std.proofs.Common.{◌≡◌, ℕ, zero, suc, ◌+◌, ◌-◌, ◌*◌, ◌/◌, ◌%◌, ◌^◌, ◌<◌, ◌≤◌, Bool, true, false, cond, List, [], ◌∷◌, ◌++◌, length, map, get_or, replicate, refl, sym, ap, ◌∙◌, subst, arith}
+use Rattle.std.proofs.Common.{◌≡◌, ℕ, zero, suc, ◌+◌, ◌-◌, ◌*◌, ◌/◌, ◌^◌, ◌<◌, ◌≤◌, true, false, cond, List, [], ◌∷◌, ◌++◌, length, map, get_or, replicate, refl, sym, ap, ◌∙◌, subst, arith}
 use Rattle.std.specs.List.{All}
 use Rattle.std.proofs.lemmas.List.{length-append, length-replicate, length-map, get_or-map}
 use Rattle.std.proofs.Math.Nat.{lt-div-mul-add, mod-eq_of_lt}
@@ -22,9 +22,9 @@ use Rattle.module_image.specs.declared.segments.SegmentKind.TheVariants.{Text, D
 use Rattle.elf_read.specs.declared.module.Sym.{Sym}
 use Rattle.mem_partition.specs.Place.{aligned}
 use Rattle.elf_read.specs.Modules.{IsModule, IsRel, size_of}
-use Rattle.module_image.specs.Layout.{segment_of, place_of, end_in, with_end, after_section, offset_in, addresses_from, addresses, ends_from, ends_of, no_ends, after_symbol, values_from, values, IsSectRoom}
+use Rattle.module_image.specs.Layout.{segment_of, place_of, end_in, with_end, after_section, offset_in, addresses_from, addresses, ends_from, ends_of, no_ends, after_symbol, values_from, IsSectRoom}
 use Rattle.module_image.specs.Needs.{same_segment}
-use Rattle.module_image.specs.Image.{body_bytes, padded, laid, laid_both, flat, binding_of, patched_of}
+use Rattle.module_image.specs.Image.{body_bytes, padded, laid, flat, binding_of, patched_of}
 use Rattle.module_image.specs.Making.{IsPatched}
 use Rattle.module_image.proofs.Known.{sects_room, HasBytes, has_bytes, within_body}
 use Rattle.module_image.proofs.Agreement.{widths}

@@ -4,7 +4,7 @@ use Rattle.std.proofs.Math.Path.{fun_ext}
 use Rattle.symbol_table.specs.declared.symbol.Symbol.{Symbol}
 use Rattle.module_image.specs.Binding.{bind}
 use Rattle.module_image.specs.Exports.{exports}
-use Rattle.module_image.specs.Image.{Images, image, image_by}
+use Rattle.module_image.specs.Image.{image, image_by}
 use Rattle.module_image.specs.Link.{Load, told_by, value_else, meaning, link_after, link, images_of, LinkLaw}
 use Rattle.module_image.proofs.Tables.{bind-exports}
 

@@ -1,12 +1,11 @@
 -- What is made apart from memory is the image.
-use Rattle.std.proofs.Common.{◌≡◌, ℕ, ◌+◌, ◌<◌, ◌^◌, List, [], ◌∷◌, length, take, drop, replicate, Option, Some, None, refl, sym, ap, ◌∙◌, subst, arith}
+use Rattle.std.proofs.Common.{◌≡◌, ℕ, ◌+◌, ◌<◌, ◌^◌, List, [], ◌∷◌, length, take, drop, replicate, Option, refl, sym, ap, ◌∙◌, arith}
 use Rattle.reloc_link.specs.Patched.{Patched}
 use Rattle.symbol_table.specs.declared.symbol.Symbol.{Symbol}
 use Rattle.elf_read.specs.declared.module.Module.{Module}
 use Rattle.elf_read.specs.declared.module.Sym.{Sym}
 use Rattle.elf_read.specs.declared.module.Sect.{Sect}
 use Rattle.module_image.specs.declared.segments.Ends.{Ends}
-use Rattle.module_image.specs.declared.segments.Needs.{Needs}
 use Rattle.module_image.specs.declared.segments.Places.{Places}
 use Rattle.module_image.specs.Binding.{bind}
 use Rattle.module_image.specs.Layout.{addresses, addresses_from, ends_of, ends_from, no_ends, values, values_from, commons_end}

@@ -1,5 +1,5 @@
 -- What a name means that a module doesn't define.
-use Rattle.std.specs.Prelude.{ℕ, Bool, true, false, ◌&&◌, not, ◌==◌, is_some, List, map, Option, Some, None}
+use Rattle.std.specs.Prelude.{ℕ, Bool, false, ◌&&◌, not, ◌==◌, is_some, List, map, Option, Some, None}
 use Rattle.std.specs.List.{filter}
 use Rattle.symbol_table.specs.declared.symbol.Symbol.{Symbol}
 use Rattle.symbol_table.specs.Newest.{find_global}

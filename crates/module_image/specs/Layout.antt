@@ -1,6 +1,6 @@
 -- Where the parts of a module lie in its three segments. Sections, and behind them common symbols, are laid one behind
 -- another, each at the next multiple of its alignment.
-use Rattle.std.specs.Prelude.{ℕ, ◌+◌, ◌%◌, ◌^◌, ◌≤◌, All, ◌==◌, if◌then◌else◌, bit_and, List, [], ◌∷◌, slice_index, Option, Some, None}
+use Rattle.std.specs.Prelude.{ℕ, ◌+◌, ◌%◌, ◌^◌, ◌≤◌, ◌==◌, if◌then◌else◌, bit_and, List, [], ◌∷◌, slice_index, Option, Some, None}
 use Rattle.wind_base.specs.Limits.{most_section_bytes}
 use Rattle.mem_partition.specs.Place.{aligned, greatest_align}
 use Rattle.elf_read.specs.declared.module.Body.{Body}

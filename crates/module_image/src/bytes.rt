@@ -7,8 +7,8 @@ ghost use Rattle.module_image.specs.Layout.{IsSectRoom};
 ghost use Rattle.module_image.specs.Image.{padded, laid, binding_of};
 
 use crate::layout::{align_up, segment, size};
-use crate::sizes::is_same;
 use crate::segments::SegmentKind;
+use crate::sizes::is_same;
 use elf_read::{Body, Rel, Sect};
 use reloc_link::{Binding, RelocErr, patch};
 use std::alloc::{AllocError, Global};

@@ -1,6 +1,6 @@
 //! What follows of the definitions alone.
 
-ghost use Rattle.module_image.specs.Laws.{AgreementLaw, CountLaw};
+ghost use Rattle.module_image.specs.Laws.{AgreementLaw, CountLaw, SizeLaw};
 ghost use Rattle.module_image.specs.Link.{LinkLaw};
 
 /// What an object file may say is what relocation and the partition take: widths of relocations, and alignments.
@@ -11,6 +11,11 @@ pub fn agreement_law()
 /// A load adds as many symbols as are counted before, whatever its places and its id.
 pub fn count_law()
     ensures { CountLaw }
+{}
+
+/// An image has as many bytes as its module needs.
+pub fn size_law()
+    ensures { SizeLaw }
 {}
 
 /// For any list of loads over a table, each of which finds the symbols that the ones before left, the images are

@@ -7,10 +7,10 @@ mod exports;
 mod laws;
 mod layout;
 mod making;
-mod sizes;
 mod segments;
+mod sizes;
 
-pub use laws::{agreement_law, count_law, link_law};
+pub use laws::{agreement_law, count_law, link_law, size_law};
 pub use making::{NameList, PrepareErr, Prepared, prepare};
-pub use sizes::{count_added, measure};
 pub use segments::{Ends, Need, Needs, Places, SegmentKind};
+pub use sizes::{count_added, measure};

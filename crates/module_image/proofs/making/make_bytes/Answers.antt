@@ -1,10 +1,11 @@
-use Rattle.std.proofs.Common.{◌≡◌, ◌+◌, length, refl, sym, ap, ◌∙◌, subst, arith}
+use Rattle.std.proofs.Common.{◌≡◌, ◌+◌, length, sym, ap, ◌∙◌, subst, arith}
 use Rattle.module_image.specs.declared.segments.Ends.{Ends}
 use Rattle.module_image.specs.Image.{patched_of}
 use Rattle.module_image.specs.Making.{IsPatched}
 use Rattle.module_image.proofs.Fitting.{AreReady, ready, length-flat, whole_back, patched_is}
 use Rattle.module_image.proofs.making.make_bytes.Goals as goal
 use Rattle.module_image.proofs.making.make_bytes.Goals.{After-as_slice-2}
+
 abbrev all_ready : (c : After-as_slice-2) → AreReady c.deref.result.now c.args.own.now c.args.means.now (length c.deref_mut.result.now) c.as_slice-2.result.now
 all_ready c =
     ready c.args.m.now c.args.ends c.flat_places.result c.as_slice.result.now c.deref.result.now c.args.own.now c.args.means.now (length c.deref_mut.result.now) c.as_slice-2.result.now

@@ -1,4 +1,3 @@
-use Rattle.std.proofs.Common.{◌≡◌, ◌+◌, refl}
 use Rattle.module_image.proofs.Made.{all_made}
 use Rattle.module_image.proofs.making.prepare.Goals as goal
 
