@@ -1,8 +1,8 @@
 -- The sections' places lie in the bytes that are laid.
-use Rattle.std.proofs.Common.{◌≡◌, ℕ, zero, suc, ◌+◌, ◌-◌, ◌*◌, ◌/◌, ◌^◌, ◌<◌, ◌≤◌, true, false, cond, List, [], ◌∷◌, ◌++◌, length, map, get_or, replicate, refl, sym, ap, ◌∙◌, subst, arith}
+use Rattle.std.proofs.Common.{◌≡◌, ℕ, zero, suc, ◌+◌, ◌-◌, ◌^◌, ◌<◌, ◌≤◌, true, false, cond, List, [], ◌∷◌, ◌++◌, length, map, get_or, replicate, refl, sym, ap, ◌∙◌, subst, arith}
 use Rattle.std.specs.List.{All}
 use Rattle.std.proofs.lemmas.List.{length-append, length-replicate, length-map, get_or-map}
-use Rattle.std.proofs.Math.Nat.{lt-div-mul-add, mod-eq_of_lt}
+use Rattle.std.proofs.Math.Nat.{mod-eq_of_lt}
 use Rattle.reloc_link.specs.declared.patching.Binding.{Binding}
 use Rattle.reloc_link.specs.Types.{width_of}
 use Rattle.reloc_link.specs.Patched.{LiesWithin, Patched, written, asked, after_field, patched, numbered}
@@ -21,6 +21,7 @@ use Rattle.module_image.specs.declared.segments.SegmentKind.{SegmentKind}
 use Rattle.module_image.specs.declared.segments.SegmentKind.TheVariants.{Text, Data, Bss}
 use Rattle.elf_read.specs.declared.module.Sym.{Sym}
 use Rattle.mem_partition.specs.Place.{aligned}
+use Rattle.mem_partition.proofs.Places.{aligned_above}
 use Rattle.elf_read.specs.Modules.{IsModule, IsRel, size_of}
 use Rattle.module_image.specs.Layout.{segment_of, place_of, end_in, with_end, after_section, offset_in, addresses_from, addresses, ends_from, ends_of, no_ends, after_symbol, values_from, IsSectRoom}
 use Rattle.module_image.specs.Needs.{same_segment}
@@ -29,12 +30,7 @@ use Rattle.module_image.specs.Making.{IsPatched}
 use Rattle.module_image.proofs.Known.{sects_room, HasBytes, has_bytes, within_body}
 use Rattle.module_image.proofs.Agreement.{widths}
 
-pub aligned_above : (n align : ℕ) → 1 ≤ align → n ≤ aligned n align
-unfolding aligned
-aligned_above n align h =
-    let k : n + align - 1 < (n + align - 1) / align * align + align = lt-div-mul-add h in omega arith
-
-same_refl : (g : SegmentKind) → same_segment g g ≡ true
+pub same_refl : (g : SegmentKind) → same_segment g g ≡ true
 same_refl Text = refl
 same_refl Data = refl
 same_refl Bss = refl
@@ -51,13 +47,13 @@ end_by e Bss Text align size = refl
 end_by e Bss Data align size = refl
 end_by e Bss Bss align size = refl
 
-end_after : (e : Ends) (s : Sect) (g : SegmentKind) → end_in (after_section e s) g ≡ cond (same_segment g (segment_of s)) (aligned (end_in e g) s.align + size_of s.body) (end_in e g)
+pub end_after : (e : Ends) (s : Sect) (g : SegmentKind) → end_in (after_section e s) g ≡ cond (same_segment g (segment_of s)) (aligned (end_in e g) s.align + size_of s.body) (end_in e g)
 end_after e s g = end_by e (segment_of s) g s.align (size_of s.body)
 
-small_tail : (s : Sect) (ss : List Sect) → All IsSectRoom (s ∷ ss) → All IsSectRoom ss
+pub small_tail : (s : Sect) (ss : List Sect) → All IsSectRoom (s ∷ ss) → All IsSectRoom ss
 small_tail s ss all k d h = all (suc k) d (omega arith)
 
-small_head : (s : Sect) (ss : List Sect) → All IsSectRoom (s ∷ ss) → IsSectRoom s
+pub small_head : (s : Sect) (ss : List Sect) → All IsSectRoom (s ∷ ss) → IsSectRoom s
 small_head s ss all = all 0 s (omega arith)
 
 -- no segment shrinks
@@ -71,11 +67,11 @@ grows e (s ∷ ss) g all =
       | false ↦ λ q. omega arith
     ] (end_after e s g)
 
-length-body : (b : Body) → length (body_bytes b) ≡ size_of b
+pub length-body : (b : Body) → length (body_bytes b) ≡ size_of b
 length-body (body.Bytes xs) = refl
 length-body (body.Size n) = length-replicate n 0
 
-length-padded : (from : ℕ) (s : Sect) → 1 ≤ s.align → length (padded from s) + from ≡ aligned from s.align + size_of s.body
+pub length-padded : (from : ℕ) (s : Sect) → 1 ≤ s.align → length (padded from s) + from ≡ aligned from s.align + size_of s.body
 length-padded from s h =
     let up = aligned_above from s.align h in
     let one : length (padded from s) ≡ length (replicate {A = ℕ} (aligned from s.align - from) 0) + length (body_bytes s.body) = length-append (replicate {A = ℕ} (aligned from s.align - from) 0) (body_bytes s.body) in

@@ -5,4 +5,5 @@ pub mod Binding
 pub mod Image
 pub mod Making
 pub mod Link
+pub mod LayoutLaw
 pub mod Laws

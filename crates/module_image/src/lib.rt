@@ -10,7 +10,7 @@ mod making;
 mod segments;
 mod sizes;
 
-pub use laws::{agreement_law, count_law, link_law, size_law};
+pub use laws::{agreement_law, count_law, layout_law, link_law, size_law};
 pub use making::{NameList, PrepareErr, Prepared, prepare};
 pub use segments::{Ends, Need, Needs, Places, SegmentKind};
 pub use sizes::{count_added, measure};
