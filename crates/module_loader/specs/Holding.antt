@@ -1,0 +1,60 @@
+-- The segments of the live modules, those without a block aside, are distinct Kernel blocks of the partition.
+use Rattle.std.specs.Prelude.{◌≡◌, ℕ, ◌+◌, ◌≤◌, ◌<◌, Bool, true, false, ◌==◌, if◌then◌else◌, is_some, List, [], ◌∷◌, ◌++◌, length, Option, Some, Ok}
+use Rattle.id_table.specs.Rows.{object_of, without, IdsBelow}
+use Rattle.mem_partition.specs.declared.block.Class.TheVariants.{Kernel}
+use Rattle.mem_partition.specs.State.{PartState, IsPart, own_block}
+use Rattle.elf_read.specs.declared.module.Module.{Module}
+use Rattle.elf_read.specs.Modules.{IsModule}
+use Rattle.module_image.specs.declared.segments.Places.{Places}
+use Rattle.module_loader.specs.declared.module.LoadedModule.{LoadedModule}
+use Rattle.module_loader.specs.declared.module.Segment.{Segment}
+use Rattle.module_loader.specs.Loading.{LoaderState, verdict, loaded}
+use Rattle.module_loader.specs.Modules.{without_all}
+
+-- the address of a segment's block, where it has one
+abbrev pub addr_of : Segment → List ℕ
+addr_of g = if g.size == 0 then [] else g.addr ∷ []
+
+abbrev pub addrs_of : List Segment → List ℕ
+addrs_of [] = []
+addrs_of (g ∷ gs) = addr_of g ++ addrs_of gs
+
+-- the addresses of all modules' blocks
+abbrev pub held_by : List (ℕ × LoadedModule) → List ℕ
+held_by [] = []
+held_by (r ∷ rs) = addrs_of r.1.segments ++ held_by rs
+
+-- how often an address stands in a list
+abbrev pub occurs : ℕ → List ℕ → ℕ
+occurs a [] = 0
+occurs a (b ∷ bs) = (if b == a then 1 else 0) + occurs a bs
+
+-- a Kernel block begins there
+abbrev pub is_kernel_block : PartState → ℕ → Bool
+is_kernel_block s at = is_some (own_block s.blocks at Kernel)
+
+-- each of the addresses is that of a Kernel block, and none stands twice
+pub record AreHeld (modules : List (ℕ × LoadedModule)) (s : PartState) : Type 0 where
+  pub blocks : (a : ℕ) → 0 < occurs a (held_by modules) → is_kernel_block s a ≡ true
+  pub distinct : (a : ℕ) → occurs a (held_by modules) ≤ 1
+
+-- what each load keeps: no ids are lent, each live module's is below the next, the pool lies in RAM, and the blocks are held
+pub record KeepsModules (s : LoaderState) : Type 0 where
+  pub ids : s.kern.lent ≡ false
+  pub below : IdsBelow s.kern.next_id s.modules
+  pub pool : s.part.end ≤ length s.ram
+  pub held : AreHeld s.modules s.part
+
+-- what holds of the blocks under loads and unloads
+pub record HoldLaw : Type 0 where
+  -- a load keeps it
+  pub load : (s : LoaderState) (name : List ℕ) (m : Module) (mode : ℕ) (at : Places)
+      → IsPart s.part → IsModule m → KeepsModules s → verdict s m mode ≡ Ok at → KeepsModules (loaded s name m mode at)
+  -- an unload keeps it, and the module's blocks are gone
+  pub unload : (rows : List (ℕ × LoadedModule)) (s : PartState) (id : ℕ) (m : LoadedModule)
+      → AreHeld rows s → object_of rows id ≡ Some m → AreHeld (without rows id) (without_all s m.segments)
+  pub gone : (s : PartState) (m : LoadedModule) (a : ℕ)
+      → 0 < occurs a (addrs_of m.segments) → is_kernel_block (without_all s m.segments) a ≡ false
+  -- a Kernel block that isn't the module's stays
+  pub stays : (s : PartState) (m : LoadedModule) (a : ℕ)
+      → occurs a (addrs_of m.segments) ≡ 0 → is_kernel_block (without_all s m.segments) a ≡ is_kernel_block s a

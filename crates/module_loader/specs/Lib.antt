@@ -1,0 +1,6 @@
+pub mod Placing
+pub mod Loading
+pub mod Modules
+pub mod Holding
+pub mod Steps
+pub mod Live
