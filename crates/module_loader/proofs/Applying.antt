@@ -1,13 +1,13 @@
 -- The three segments of an accepted load: where they lie, and that they meet nothing.
-use Rattle.std.proofs.Common.{◌≡◌, ℕ, zero, suc, ◌+◌, ◌-◌, ◌^◌, ◌<◌, ◌≤◌, min, Bool, true, false, cond, ltb, ◌&&◌, List, [], ◌∷◌, ◌++◌, length, map, Option, Some, None, Result, Ok, Err, refl, sym, ap, ◌∙◌, subst, inl, inr, ◌⊎◌, arith}
+use Rattle.std.proofs.Common.{◌≡◌, ℕ, ◌+◌, ◌≤◌, true, false, cond, ltb, List, [], ◌∷◌, length, map, Option, Some, None, Result, Ok, Err, refl, sym, ap, ◌∙◌, subst, inl, inr, ◌⊎◌, arith}
 use Rattle.std.proofs.lemmas.Bool.{and_parts}
 use Rattle.reloc_link.specs.declared.patching.RelocErr.{RelocErr}
 use Rattle.symbol_table.specs.declared.symbol.Symbol.{Symbol}
 use Rattle.mem_partition.specs.declared.block.Block.{Block as PartBlock}
 use Rattle.mem_partition.specs.declared.block.PartErr.{PartErr}
-use Rattle.mem_partition.specs.Place.{is_apart, meets_none, Lies}
+use Rattle.mem_partition.specs.Place.{is_apart, meets_none}
 use Rattle.mem_partition.specs.State.{PartState, IsPart, with_block}
-use Rattle.mem_partition.proofs.Keeping.{apart_cases, with_blocks}
+use Rattle.mem_partition.proofs.Keeping.{apart_cases}
 use Rattle.elf_read.specs.declared.module.Module.{Module}
 use Rattle.module_image.specs.declared.segments.Need.{Need}
 use Rattle.module_image.specs.declared.segments.Needs.{Needs}
@@ -16,13 +16,12 @@ use Rattle.module_image.specs.Needs.{needs_of}
 use Rattle.module_image.specs.Image.{Images, image}
 use Rattle.module_image.specs.Laws.{HasSizes}
 use Rattle.module_loader.specs.declared.module.LoadErr.{LoadErr}
-use Rattle.module_loader.specs.declared.module.LoadErr.TheVariants as refusal
-use Rattle.module_loader.specs.Placing.{place_seg, with_seg, with_text, with_data, with_needs, places_of}
+use Rattle.module_loader.specs.Placing.{with_seg, with_text, with_data, with_needs, places_of}
 use Rattle.module_loader.specs.Loading.{LoaderState, Piece, pieces_of, count_refusal, reloc_verdict, place_verdict, verdict_by, verdict}
 use Rattle.module_loader.specs.Live.{IsPiece}
-use Rattle.module_loader.proofs.Ram.{Block, block_of, Apart, IsAmong, Covers, IsHeldBy, Clear}
-use Rattle.module_loader.proofs.Taking.{seg_kept, ArePlaces, are_places}
-use Rattle.module_loader.proofs.Standing.{Stands, HasBlock, stands, same_end, in_pool, meets_with}
+use Rattle.module_loader.proofs.Ram.{Block, Apart, IsAmong, IsHeldBy, Clear}
+use Rattle.module_loader.proofs.Taking.{seg_kept, are_places}
+use Rattle.module_loader.proofs.Standing.{Stands, stands, same_end, in_pool}
 
 -- ---- what an accepted verdict says
 
@@ -203,4 +202,3 @@ keeps_all s z at x k among = seg_keeps (with_data s z) z.bss at.bss x k.bss (seg
 
 pub end_all : (s : PartState) (z : Needs) (at : Places) → AllStand s z at → (with_needs s z).end ≡ s.end
 end_all s z at k = same_end (with_data s z) z.bss at.bss k.bss ∙ (same_end (with_text s z) z.«data» at.«data» k.«data» ∙ same_end s z.text at.text k.text)
-

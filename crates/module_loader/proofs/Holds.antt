@@ -1,18 +1,16 @@
 -- A load and an unload keep the modules' blocks.
-use Rattle.std.proofs.Common.{◌≡◌, ℕ, zero, suc, ◌+◌, ◌-◌, ◌<◌, ◌≤◌, Bool, true, false, cond, eqb, ltb, not, ◌&&◌, is_some, List, [], ◌∷◌, ◌++◌, Option, Some, None, Result, Ok, Err, refl, sym, ap, ◌∙◌, subst, inl, inr, ◌⊎◌, arith}
-use Rattle.std.specs.List.{find, filter, All}
-use Rattle.std.specs.Prelude.{OnOk, OnErr, IsOk, IsSome, length}
+use Rattle.std.proofs.Common.{◌≡◌, ℕ, ◌+◌, ◌<◌, ◌≤◌, Bool, true, false, cond, eqb, ltb, not, ◌&&◌, is_some, List, [], ◌∷◌, ◌++◌, Option, Some, None, Result, Ok, Err, refl, sym, ap, ◌∙◌, subst, inl, inr, arith}
+use Rattle.std.specs.List.{find}
+use Rattle.std.specs.Prelude.{OnOk, OnErr, IsSome}
 use Rattle.std.proofs.lemmas.List.Elements.{All-cons, All-head, All-tail}
-use Rattle.std.proofs.lemmas.Bool.{and_parts, and_from, and_left, eqb-true, eqb-false, eq-eqb, ne_eqb, cases_eq}
+use Rattle.std.proofs.lemmas.Bool.{and_parts, and_from, and_left, eqb-true, eq-eqb, ne_eqb, cases_eq}
 use Rattle.std.specs.Option.{option_map}
 use Rattle.wind_lists.specs.Records.{of_id}
 use Rattle.id_table.specs.Rows.{row_id, row_object, object_of, without, IdsBelow}
 use Rattle.mem_partition.specs.declared.block.Block.{Block}
-use Rattle.mem_partition.specs.declared.block.PartErr.{PartErr}
-use Rattle.mem_partition.specs.declared.block.PartErr.TheVariants as errors
 use Rattle.mem_partition.specs.declared.block.Class.TheVariants.{Kernel}
-use Rattle.mem_partition.specs.Place.{is_apart, meets_none, Lies}
-use Rattle.mem_partition.specs.State.{PartState, IsPart, Laid, with_block, without_block, same_class, own_block, size_or, free_of, freed, after_free}
+use Rattle.mem_partition.specs.Place.{is_apart, meets_none}
+use Rattle.mem_partition.specs.State.{PartState, IsPart, Laid, with_block, without_block, same_class, own_block, size_or, freed, after_free}
 use Rattle.mem_partition.proofs.Allocs.{find_with}
 use Rattle.mem_partition.proofs.Keeping.{apart_cases, with_blocks}
 use Rattle.elf_read.specs.declared.module.Module.{Module}
@@ -30,10 +28,9 @@ use Rattle.module_loader.specs.Placing.{with_seg, with_text, with_data, with_nee
 use Rattle.module_loader.specs.Loading.{LoaderState, segment_at, segments_at, record_of, verdict, file_verdict, loaded, IsLoaded}
 use Rattle.module_loader.specs.Modules.{without_segment, without_segments, without_all}
 use Rattle.module_loader.specs.Holding.{addr_of, addrs_of, held_by, occurs, is_kernel_block, AreHeld, KeepsModules, HoldLaw}
-use Rattle.module_loader.specs.Live.{IsLoader}
 use Rattle.module_loader.proofs.Files.{is_file}
 use Rattle.module_loader.proofs.Taking.{seg_kept}
-use Rattle.module_loader.proofs.Standing.{Stands, HasBlock}
+use Rattle.module_loader.proofs.Standing.{Stands}
 use Rattle.module_loader.proofs.Applying.{is_accepted, AllStand, all_stand}
 use Rattle.module_loader.proofs.Running.{kept}
 

@@ -1,4 +1,5 @@
 pub mod Kernel
+pub mod Newest
 pub mod Files
 pub mod Ram
 pub mod Taking

@@ -1,5 +1,5 @@
 -- A load step by step is the load that is defined.
-use Rattle.std.proofs.Common.{◌≡◌, ℕ, ◌+◌, ◌-◌, ◌^◌, ◌<◌, ◌≤◌, List, [], ◌∷◌, ◌++◌, length, take, drop, replicate, Option, Some, None, Result, Ok, Err, refl, sym, ap, ◌∙◌, subst, arith}
+use Rattle.std.proofs.Common.{◌≡◌, ℕ, ◌+◌, ◌-◌, ◌^◌, ◌<◌, ◌≤◌, List, [], ◌∷◌, ◌++◌, length, take, drop, replicate, Option, Some, None, Result, Ok, Err, sym, ap, ◌∙◌, subst, arith}
 use Rattle.wind_core.specs.State.{KernState}
 use Rattle.reloc_link.specs.declared.patching.RelocErr.{RelocErr}
 use Rattle.symbol_table.specs.declared.symbol.Symbol.{Symbol}
@@ -10,18 +10,17 @@ use Rattle.module_image.specs.declared.segments.Needs.{Needs}
 use Rattle.module_image.specs.declared.segments.Places.{Places}
 use Rattle.module_image.specs.Needs.{needs_of}
 use Rattle.module_image.specs.Exports.{export_count, exports}
-use Rattle.module_image.specs.Binding.{unbound}
-use Rattle.module_image.specs.Image.{Images, image}
+use Rattle.module_image.specs.Image.{image}
 use Rattle.module_image.specs.Making.{IsMade}
 use Rattle.module_image.proofs.Made.{bss_is}
 use Rattle.module_loader.specs.declared.module.LoadErr.{LoadErr}
 use Rattle.module_loader.specs.declared.module.LoadErr.TheVariants as refusal
 use Rattle.module_loader.specs.declared.module.LoadedModule.{LoadedModule}
 use Rattle.module_loader.specs.Placing.{places_of, with_needs}
-use Rattle.module_loader.specs.Loading.{LoaderState, Piece, count_by, count_refusal, reloc_verdict, place_verdict, verdict_by, verdict, stored_all, pieces_of, record_of, loaded, IsLoaded, IsVerdict}
+use Rattle.module_loader.specs.Loading.{LoaderState, count_by, count_refusal, reloc_verdict, place_verdict, verdict_by, verdict, stored_all, pieces_of, record_of, loaded, IsLoaded, IsVerdict}
 use Rattle.module_loader.specs.Steps.{IsRefusedBy, state_of, three_pieces}
 use Rattle.module_loader.proofs.Standing.{total_small}
-use Rattle.module_loader.proofs.Applying.{AllStand, all_stand, AllFit, all_fit}
+use Rattle.module_loader.proofs.Applying.{all_stand, all_fit}
 
 -- text and data fit below 2^32 where they have places
 pub text_and_data : (s : PartState) (m : Module) (z : Needs) (at : Places) → IsPart s → z ≡ needs_of m → places_of s z ≡ Ok at

@@ -1,7 +1,6 @@
 -- What is stored is held, and stays held under what is stored apart from it.
-use Rattle.std.proofs.Common.{◌≡◌, ℕ, ◌+◌, ◌-◌, ◌≤◌, ◌<◌, ◌⊎◌, inl, inr, List, [], ◌∷◌, ◌++◌, length, take, drop, get_or, refl, sym, ◌∙◌, ap, subst, arith}
+use Rattle.std.proofs.Common.{◌≡◌, ℕ, ◌+◌, ◌≤◌, ◌<◌, ◌⊎◌, inl, inr, List, [], ◌∷◌, ◌++◌, length, get_or, refl, sym, ◌∙◌, subst, arith}
 use Rattle.std.proofs.lemmas.List.{places}
-use Rattle.board_mem.specs.Memory.{with_bytes}
 use Rattle.module_image.specs.Image.{Images}
 use Rattle.module_image.specs.Link.{Load}
 use Rattle.module_loader.specs.Loading.{Piece, stored, stored_all, pieces_of}

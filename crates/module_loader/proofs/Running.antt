@@ -1,19 +1,18 @@
 -- Accepted loads one after the other: the facts stay, RAM holds the images, and they are the static link.
-use Rattle.std.proofs.Common.{◌≡◌, ℕ, ◌+◌, ◌≤◌, List, [], ◌∷◌, ◌++◌, length, map, Ok, refl, sym, ap, ◌∙◌, subst, arith}
-use Rattle.symbol_table.specs.declared.symbol.Symbol.{Symbol}
+use Rattle.std.proofs.Common.{◌≡◌, ℕ, List, [], ◌∷◌, ◌++◌, length, map, Ok, refl, ap, ◌∙◌, arith}
 use Rattle.elf_read.specs.declared.module.Module.{Module}
 use Rattle.elf_read.specs.Contents.{module_at}
 use Rattle.elf_read.specs.Modules.{IsModule}
 use Rattle.module_image.specs.declared.segments.Places.{Places}
 use Rattle.module_image.specs.Needs.{needs_of}
 use Rattle.module_image.specs.Exports.{exports}
-use Rattle.module_image.specs.Image.{Images, image}
+use Rattle.module_image.specs.Image.{image}
 use Rattle.module_image.specs.Link.{Load, link, images_of}
 use Rattle.module_image.proofs.Lengths.{size_law}
 use Rattle.module_image.proofs.Linking.{link_law}
-use Rattle.module_loader.specs.Placing.{with_text, with_data, with_needs}
+use Rattle.module_loader.specs.Placing.{with_text, with_data}
 use Rattle.module_loader.specs.Loading.{LoaderState, pieces_of, verdict, loaded}
-use Rattle.module_loader.specs.Live.{Job, load_of, after_job, Runs, written_by, AllHeld, all_pieces, IsLoader, LiveLaw}
+use Rattle.module_loader.specs.Live.{Job, load_of, after_job, Runs, written_by, IsLoader, LiveLaw}
 use Rattle.module_loader.proofs.Files.{is_file}
 use Rattle.module_loader.proofs.Ram.{Stand, Accepted, Loads, size_all, held_at_the_end}
 use Rattle.module_loader.proofs.Taking.{seg_kept}

@@ -1,6 +1,6 @@
 -- Where the segments' blocks stand: in the pool, apart from the blocks before and from each other.
-use Rattle.std.proofs.Common.{◌≡◌, ℕ, ◌+◌, ◌^◌, ◌<◌, ◌≤◌, min, Bool, true, false, cond, eqb, ltb, ◌&&◌, List, [], ◌∷◌, Result, Ok, Err, refl, sym, ap, ◌∙◌, subst, inl, inr, ◌⊎◌, arith}
-use Rattle.std.proofs.lemmas.Bool.{cases_lt, and_parts, and_from, eqb-true, eqb-false, ltb-true, ltb-false}
+use Rattle.std.proofs.Common.{◌≡◌, ℕ, ◌+◌, ◌^◌, ◌<◌, ◌≤◌, min, true, false, cond, eqb, ltb, List, [], ◌∷◌, Result, Ok, refl, sym, ap, ◌∙◌, subst, inl, inr, ◌⊎◌, arith}
+use Rattle.std.proofs.lemmas.Bool.{cases_lt, and_parts, and_from, eqb-true}
 use Rattle.mem_partition.specs.declared.block.Block.{Block}
 use Rattle.mem_partition.specs.declared.block.Class.TheVariants.{Kernel}
 use Rattle.mem_partition.specs.declared.block.PartErr.{PartErr}
@@ -12,8 +12,8 @@ use Rattle.module_image.specs.declared.segments.Need.{Need}
 use Rattle.module_image.specs.declared.segments.Needs.{Needs}
 use Rattle.module_image.specs.declared.segments.Places.{Places}
 use Rattle.wind_base.specs.Limits.{greatest_word}
-use Rattle.module_loader.specs.Placing.{place_seg, with_seg, with_text, with_data, with_needs, places_of}
-use Rattle.module_loader.proofs.Taking.{seg_kept, ArePlaces, are_places}
+use Rattle.module_loader.specs.Placing.{place_seg, with_seg, with_text, places_of}
+use Rattle.module_loader.proofs.Taking.{seg_kept, are_places}
 
 -- what meets none of the blocks with one more meets neither that one nor those
 pub meets_with : (b : Block) (bs : List Block) (size at : ℕ) → meets_none (with_block b bs) size at ≡ true → (is_apart size at b ≡ true) × (meets_none bs size at ≡ true)

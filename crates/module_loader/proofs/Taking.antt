@@ -1,5 +1,5 @@
 -- The blocks of segments: given back, they leave the partition as it was.
-use Rattle.std.proofs.Common.{◌≡◌, ℕ, ◌+◌, ◌<◌, ◌≤◌, min, Bool, true, false, cond, eqb, Result, Ok, Err, refl, sym, ap, ◌∙◌, subst, arith}
+use Rattle.std.proofs.Common.{◌≡◌, ℕ, min, true, false, cond, eqb, Result, Ok, Err, refl, sym, ap, ◌∙◌, subst}
 use Rattle.mem_partition.specs.declared.block.Class.TheVariants.{Kernel}
 use Rattle.mem_partition.specs.declared.block.PartErr.{PartErr}
 use Rattle.mem_partition.specs.State.{PartState, IsPart, alloc_of, after_alloc, taken_at, after_free}

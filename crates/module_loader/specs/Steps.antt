@@ -1,5 +1,5 @@
 -- The steps of a load.
-use Rattle.std.specs.Prelude.{◌≡◌, ℕ, List, [], ◌∷◌, Option, Some, None, Result, Err}
+use Rattle.std.specs.Prelude.{◌≡◌, ℕ, List, [], ◌∷◌, Some, Result, Err}
 use Rattle.elf_read.specs.declared.error.ElfErr.{ElfErr}
 use Rattle.wind_core.specs.State.{KernState}
 use Rattle.symbol_table.specs.declared.symbol.Symbol.{Symbol}

@@ -8,6 +8,7 @@ mod laws;
 mod loader;
 mod module;
 mod modules;
+mod names;
 
 pub use laws::{hold_law, live_law};
 pub use module::{LoadErr, Loaded, LoadedModule, NoSuchModule, Segment};

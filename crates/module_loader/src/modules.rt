@@ -7,10 +7,11 @@ ghost use Rattle.elf_read.specs.Contents.{module_at};
 ghost use Rattle.module_loader.specs.Loading.{file_verdict, told, IsLoaded, IsVerdict};
 ghost use Rattle.module_loader.specs.Steps.{state_of};
 ghost use Rattle.module_loader.specs.Holding.{AreHeld, KeepsModules};
-ghost use Rattle.module_loader.specs.Modules.{HasIdent, without_segment, without_segments};
+ghost use Rattle.module_loader.specs.Modules.{HasIdent, newest_named, without_segment, without_segments};
 
 use crate::loader::load_file;
 use crate::module::{LoadErr, Loaded, LoadedModule, NoSuchModule, Segment};
+use crate::names::newest_in;
 use board_mem::Ram;
 use id_table::{Ident, Table};
 use mem_partition::{Class, Part};
@@ -110,6 +111,8 @@ impl Modules {
             ((self.new ≡ self.old) × (syms.new ≡ syms.old) × (part.new ≡ part.old)) }
         ensures held { AreHeld self.new part.new }
     {
+        // each id of the table is one, which is known once it is looked at
+        let _table = &self.table;
         let Some(id) = Ident::new(id) else {
             return Err(NoSuchModule);
         };
@@ -125,6 +128,13 @@ impl Modules {
             Some(id) => self.table.get(id),
             None => None,
         }
+    }
+
+    /// The newest live module of this name.
+    pub fn newest_named(&self, name: &[u8]) -> Option<Ident>
+        ensures { result ≡ newest_named self.now name.now }
+    {
+        newest_in(&self.table, name)
     }
 
     /// The least live id above a number.

@@ -1,4 +1,4 @@
-use Rattle.std.proofs.Common.{◌≡◌, ℕ, ◌+◌, ◌<◌, ◌≤◌, List, [], ◌∷◌, ◌++◌, length, take, drop, replicate, None, Ok, refl, sym, ap, ◌∙◌, subst, arith}
+use Rattle.std.proofs.Common.{◌≡◌, ◌+◌, List, [], ◌∷◌, ◌++◌, length, take, drop, replicate, None, Ok, ap, ◌∙◌, subst, arith}
 use Rattle.wind_core.specs.State.{KernState}
 use Rattle.symbol_table.specs.declared.symbol.Symbol.{Symbol}
 use Rattle.id_table.specs.Rows.{Rows}
