@@ -27,7 +27,7 @@ use Rattle.module_loader.specs.declared.module.Segment.{Segment}
 use Rattle.module_loader.specs.Placing.{with_seg, with_text, with_data, with_needs}
 use Rattle.module_loader.specs.Loading.{LoaderState, segment_at, segments_at, record_of, verdict, file_verdict, loaded, IsLoaded}
 use Rattle.module_loader.specs.Modules.{without_segment, without_segments, without_all}
-use Rattle.module_loader.specs.Holding.{addr_of, addrs_of, held_by, occurs, is_kernel_block, AreHeld, KeepsModules, HoldLaw}
+use Rattle.module_loader.specs.Holding.{addr_of, addrs_of, held_by, occurs, is_kernel_block, AreHeld, KeepsModules, unloaded, HoldLaw}
 use Rattle.module_loader.proofs.Files.{is_file}
 use Rattle.module_loader.proofs.Taking.{seg_kept}
 use Rattle.module_loader.proofs.Standing.{Stands}
@@ -317,10 +317,42 @@ load_keeps s name m mode at k km keeps h = record {
   held = load_holds s name m mode at k keeps.held h;
 }
 
+none_held : (s : PartState) → AreHeld [] s
+none_held s = record { blocks = λ a h. absurd (omega arith); distinct = λ a. omega arith }
+
+-- an unload leaves the pool, and the ids below the next
+end_freed : (s : PartState) (at : ℕ) → (after_free s at Kernel).end ≡ s.end
+unfolding after_free
+end_freed s at = elim (own_block s.blocks at Kernel) as (λ o. (freed s at (size_or o)).end ≡ s.end) [ None ↦ refl | Some b ↦ refl ]
+
+end_without : (gs : List Segment) (s : PartState) → (without_all s gs).end ≡ s.end
+end_without [] s = refl
+end_without (g ∷ gs) s =
+    end_without gs (without_segment s g)
+    ∙ elim (eqb g.size 0) as (λ t. (cond t s (after_free s g.addr Kernel)).end ≡ s.end) [ true ↦ refl | false ↦ end_freed s g.addr ]
+
+below_without : (rows : List (ℕ × LoadedModule)) (next id : ℕ) → IdsBelow next rows → IdsBelow next (without rows id)
+below_without [] next id all = all
+below_without (r ∷ rs) next id all =
+    let rest = below_without rs next id (All-tail (λ r. r.0 < next) r rs all) in
+    elim (eqb r.0 id) as (λ t. IdsBelow next (cond (not t) (r ∷ without rs id) (without rs id))) [
+      | true ↦ rest
+      | false ↦ All-cons (λ r. r.0 < next) r (without rs id) (All-head (λ r. r.0 < next) r rs all) rest
+    ]
+
+unload_keeps : (s : LoaderState) (id : ℕ) (m : LoadedModule) → KeepsModules s → object_of s.modules id ≡ Some m → KeepsModules (unloaded s id m)
+unload_keeps s id m keeps e = record {
+  ids = keeps.ids;
+  below = below_without s.modules s.kern.next_id id keeps.below;
+  pool = (let end = end_without m.segments s.part in let pool = keeps.pool in omega arith);
+  held = unload_holds s.modules s.part id m keeps.held e;
+}
+
 pub hold_law : HoldLaw
 hold_law = record {
+  none = none_held;
   load = load_keeps;
-  unload = unload_holds;
+  unload = unload_keeps;
   gone = λ s m a h. all_gone m.segments s a h;
   stays = λ s m a h. others_stay m.segments s a h;
 }

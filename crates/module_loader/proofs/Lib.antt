@@ -8,3 +8,4 @@ pub mod Applying
 pub mod Running
 pub mod Loads
 pub mod Holds
+pub mod Owning

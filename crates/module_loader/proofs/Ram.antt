@@ -57,11 +57,11 @@ pub length-stored : (ram : List ℕ) (p : Piece) → p.0 + length p.1 ≤ length
 unfolding stored
 length-stored ram p fits = grind (arith, places)
 
-byte_before : (ram : List ℕ) (q : Piece) (i : ℕ) → q.0 + length q.1 ≤ length ram → i < q.0 → get_or (stored ram q) i 0 ≡ get_or ram i 0
+pub byte_before : (ram : List ℕ) (q : Piece) (i : ℕ) → q.0 + length q.1 ≤ length ram → i < q.0 → get_or (stored ram q) i 0 ≡ get_or ram i 0
 unfolding stored
 byte_before ram q i fits h = grind (arith, places)
 
-byte_behind : (ram : List ℕ) (q : Piece) (i : ℕ) → q.0 + length q.1 ≤ length ram → q.0 + length q.1 ≤ i → get_or (stored ram q) i 0 ≡ get_or ram i 0
+pub byte_behind : (ram : List ℕ) (q : Piece) (i : ℕ) → q.0 + length q.1 ≤ length ram → q.0 + length q.1 ≤ i → get_or (stored ram q) i 0 ≡ get_or ram i 0
 unfolding stored
 byte_behind ram q i fits h = grind (arith, places)
 
@@ -73,7 +73,7 @@ stored_is_held ram p fits k h = grind (arith, places)
 abbrev pub Free : Piece → Piece → Type 0
 Free p q = (length p.1 ≡ 0) ⊎ ((length q.1 ≡ 0) ⊎ Apart (block_of p) (block_of q))
 
-empty_stored : (ram : List ℕ) (q : Piece) (i : ℕ) → length q.1 ≡ 0 → get_or (stored ram q) i 0 ≡ get_or ram i 0
+pub empty_stored : (ram : List ℕ) (q : Piece) (i : ℕ) → length q.1 ≡ 0 → get_or (stored ram q) i 0 ≡ get_or ram i 0
 unfolding stored
 empty_stored ram q i h = grind (arith, places)
 
@@ -104,10 +104,10 @@ free_by : (blocks : List Block) (p q : Piece) → ((b : Block) → IsAmong b blo
 free_by blocks p q clear (inl h) = inl h
 free_by blocks p q clear (inr (b, among, covers)) = elim (clear b among) [ inl e ↦ inr (inl e) | inr a ↦ inr (inr (apart_held p q b covers a)) ]
 
-fits_at : (size : ℕ) (ram : List ℕ) (p : Piece) → length ram ≡ size → p.0 + length p.1 ≤ size → p.0 + length p.1 ≤ length ram
+pub fits_at : (size : ℕ) (ram : List ℕ) (p : Piece) → length ram ≡ size → p.0 + length p.1 ≤ size → p.0 + length p.1 ≤ length ram
 fits_at size ram p e h = omega arith
 
-same_size : (size : ℕ) (ram : List ℕ) (p : Piece) → length ram ≡ size → p.0 + length p.1 ≤ size → length (stored ram p) ≡ size
+pub same_size : (size : ℕ) (ram : List ℕ) (p : Piece) → length ram ≡ size → p.0 + length p.1 ≤ size → length (stored ram p) ≡ size
 same_size size ram p e h = length-stored ram p (fits_at size ram p e h) ∙ e
 
 whole : (p : Piece) → Covers (block_of p) p

@@ -1,5 +1,6 @@
 -- The segments of the live modules, those without a block aside, are distinct Kernel blocks of the partition.
 use Rattle.std.specs.Prelude.{◌≡◌, ℕ, ◌+◌, ◌≤◌, ◌<◌, Bool, true, false, ◌==◌, if◌then◌else◌, is_some, List, [], ◌∷◌, ◌++◌, length, Some, Ok}
+use Rattle.symbol_table.specs.State.{without_group}
 use Rattle.id_table.specs.Rows.{object_of, without, IdsBelow}
 use Rattle.mem_partition.specs.declared.block.Class.TheVariants.{Kernel}
 use Rattle.mem_partition.specs.State.{PartState, IsPart, own_block}
@@ -45,16 +46,25 @@ pub record KeepsModules (s : LoaderState) : Type 0 where
   pub pool : s.part.end ≤ length s.ram
   pub held : AreHeld s.modules s.part
 
--- what holds of the blocks under loads and unloads
+-- what an unload of the module of an id leaves
+abbrev pub unloaded : LoaderState → ℕ → LoadedModule → LoaderState
+unloaded s id m = record s {
+  symbols = without_group id s.symbols;
+  modules = without s.modules id;
+  part = without_all s.part m.segments;
+}
+
+-- what holds of the modules and their blocks under loads and unloads
 pub record HoldLaw : Type 0 where
-  -- a load keeps it
+  -- before the first load it holds of every partition
+  pub none : (s : PartState) → AreHeld [] s
+  -- a load keeps it, and an unload
   pub load : (s : LoaderState) (name : List ℕ) (m : Module) (mode : ℕ) (at : Places)
       → IsPart s.part → IsModule m → KeepsModules s → verdict s m mode ≡ Ok at → KeepsModules (loaded s name m mode at)
-  -- an unload keeps it, and the module's blocks are gone
-  pub unload : (rows : List (ℕ × LoadedModule)) (s : PartState) (id : ℕ) (m : LoadedModule)
-      → AreHeld rows s → object_of rows id ≡ Some m → AreHeld (without rows id) (without_all s m.segments)
+  pub unload : (s : LoaderState) (id : ℕ) (m : LoadedModule)
+      → KeepsModules s → object_of s.modules id ≡ Some m → KeepsModules (unloaded s id m)
+  -- the blocks of a module that is unloaded are gone, and every other Kernel block stays
   pub gone : (s : PartState) (m : LoadedModule) (a : ℕ)
       → 0 < occurs a (addrs_of m.segments) → is_kernel_block (without_all s m.segments) a ≡ false
-  -- a Kernel block that isn't the module's stays
   pub stays : (s : PartState) (m : LoadedModule) (a : ℕ)
       → occurs a (addrs_of m.segments) ≡ 0 → is_kernel_block (without_all s m.segments) a ≡ is_kernel_block s a

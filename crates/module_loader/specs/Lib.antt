@@ -4,3 +4,4 @@ pub mod Modules
 pub mod Holding
 pub mod Steps
 pub mod Live
+pub mod Writes

@@ -10,6 +10,6 @@ mod module;
 mod modules;
 mod names;
 
-pub use laws::{hold_law, live_law};
+pub use laws::{hold_law, live_law, write_law};
 pub use module::{LoadErr, Loaded, LoadedModule, NoSuchModule, Segment};
 pub use modules::Modules;
