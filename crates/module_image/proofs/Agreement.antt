@@ -47,9 +47,9 @@ large_agree k h =
     none_there word_types k (omega arith, (omega arith, (omega arith, (omega arith, (omega arith, (omega arith, (omega arith, (omega arith, (omega arith, (omega arith, (omega arith, tt))))))))))) in
     let none : type_of k ≡ None =
     no_type types k (omega arith, (omega arith, (omega arith, (omega arith, (omega arith, (omega arith, (omega arith, (omega arith, (omega arith, (omega arith, (omega arith, (omega arith, (omega arith, (omega arith, (omega arith, (omega arith, (omega arith, tt))))))))))))))))) in
-    ap (λ b. cond b 2 (cond (has_number word_types k) 4 0)) half
-    ∙ ap (λ b. cond b 4 0) word
-    ∙ sym (ap width_or none)
+    let read : width k ≡ 0 = ap (λ b. cond b 2 (cond (has_number word_types k) 4 0)) half ∙ ap (λ b. cond b 4 0) word in
+    let made : width_of k ≡ 0 = ap width_or none in
+    read ∙ sym made
 
 pub widths : (k : ℕ) → Agrees k
 widths k = elim (cases_lt k 27) [

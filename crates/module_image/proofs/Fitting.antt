@@ -3,13 +3,10 @@ use Rattle.std.proofs.Common.{◌≡◌, ℕ, zero, suc, ◌+◌, ◌-◌, ◌^�
 use Rattle.std.specs.List.{All}
 use Rattle.std.proofs.lemmas.List.{length-append, length-replicate, length-map, get_or-map}
 use Rattle.std.proofs.Math.Nat.{mod-eq_of_lt}
-use Rattle.reloc_link.specs.declared.patching.Binding.{Binding}
-use Rattle.reloc_link.specs.Types.{width_of}
-use Rattle.reloc_link.specs.Patched.{LiesWithin, Patched, written, asked, after_field, patched, numbered}
-use Rattle.byteorder.specs.Endian.{big_bytes}
-use Rattle.byteorder.specs.Numbers.{length-bytes_high_first}
+use Rattle.reloc_link.proofs.Writing.{length-patched}
+use Rattle.reloc_link.specs.Patched.{LiesWithin, Patched, patched}
 use Rattle.std.proofs.lemmas.List.{places, take_at}
-use Rattle.std.proofs.Common.{Some, None, Ok, Err, take, drop}
+use Rattle.std.proofs.Common.{None, take, drop}
 use Rattle.elf_read.specs.declared.module.Body.{Body}
 use Rattle.elf_read.specs.declared.module.Body.TheVariants as body
 use Rattle.module_image.specs.declared.segments.Ends.{Ends}
@@ -192,21 +189,6 @@ length-flat m k =
     let two = length-laid no_ends m.sections Data (sects_room m k) in
     let both = length-append (laid Text 0 m.sections) (laid Data 0 m.sections) in
     omega arith
-
--- ---- the bytes stay as many under bindings
-
-length-written : (image : List ℕ) (b : Binding) (v : ℕ) → LiesWithin (length image) b → length (written image b v) ≡ length image
-unfolding written
-length-written image b v h = let n : length (big_bytes (width_of b.kind) v) ≡ width_of b.kind = length-bytes_high_first (width_of b.kind) v in grind (arith, places)
-
-pub length-patched : (i : ℕ) (image : List ℕ) (bs : List Binding) (size : ℕ) → length image ≡ size → All (LiesWithin size) bs → length (patched i image bs).image ≡ size
-length-patched i image [] size e all = e
-length-patched i image (b ∷ bs) size e all =
-    let here = all 0 b (omega arith) in
-    elim (asked image b) as (λ r. length (after_field r (λ v. patched (i + 1) (written image b v) bs) (λ f. record { image = image; fault = Some (numbered f i) })).image ≡ size) [
-      | Ok v ↦ length-patched (i + 1) (written image b v) bs size (length-written image b v (subst (λ n. LiesWithin n b) (sym e) here) ∙ e) (λ k d h. all (suc k) d (omega arith))
-      | Err f ↦ e
-    ]
 
 -- a whole vector lent and given back
 pub whole_back : (n : ℕ) (xs ys : List ℕ) → length xs ≡ length ys → n ≡ length ys → take n (xs ++ drop (length xs) ys) ≡ xs

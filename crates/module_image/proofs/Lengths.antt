@@ -1,6 +1,7 @@
 -- An image has as many bytes as its module needs.
 use Rattle.std.proofs.Common.{◌≡◌, ℕ, ◌+◌, ◌<◌, ◌^◌, List, length, map, take, drop, sym, ap, ◌∙◌, arith}
 use Rattle.std.proofs.lemmas.List.{length-take, length-drop, length-replicate}
+use Rattle.reloc_link.proofs.Writing.{length-patched}
 use Rattle.elf_read.specs.declared.module.Module.{Module}
 use Rattle.elf_read.specs.Modules.{IsModule}
 use Rattle.module_image.specs.declared.segments.Places.{Places}
@@ -9,7 +10,7 @@ use Rattle.module_image.specs.Layout.{addresses, addresses_from, ends_of, no_end
 use Rattle.module_image.specs.Needs.{needs_of}
 use Rattle.module_image.specs.Image.{Images, image, laid_both, binding_of, flat, meanings, patched_of}
 use Rattle.module_image.specs.Laws.{SizeLaw}
-use Rattle.module_image.proofs.Fitting.{ready_at, length-flat, length-patched, length_addresses, length_values}
+use Rattle.module_image.proofs.Fitting.{ready_at, length-flat, length_addresses, length_values}
 use Rattle.module_image.proofs.Made.{needs_text, needs_data, image_is, bss_is, length_means}
 
 length_patched_of : (m : Module) (own means : List ℕ) → IsModule m → (ends_of m).text + (ends_of m).«data» < 2 ^ 32 → length own ≡ length m.sections → length means ≡ length m.symbols + 1

@@ -28,7 +28,8 @@ pub record LiesIn (m : Module) (i : ℕ) (s : Sect) : Type 0 where
 
 -- the layout of a module
 pub record LayoutLaw : Type 0 where
-  pub each : (m : Module) (i : ℕ) (d : Sect) → IsModule m → i < length m.sections → LiesIn m i (slice_index_or m.sections i d)
+  pub each : (m : Module) (i : ℕ) (d : Sect)
+      → IsModule m → i < length m.sections → LiesIn m i (slice_index_or m.sections i d)
   -- of two sections of one segment the earlier ends before the later begins
   pub order : (m : Module) (i j : ℕ) (d : Sect) → IsModule m → i < j → j < length m.sections
       → segment_of (slice_index_or m.sections i d) ≡ segment_of (slice_index_or m.sections j d)

@@ -7,7 +7,7 @@ use Rattle.module_image.specs.declared.making.PrepareErr.TheVariants as errors
 use Rattle.module_image.specs.declared.segments.Needs.{Needs}
 use Rattle.module_image.specs.Image.{Images}
 
--- no relocation of the image is refused; its text is the front of the bytes, as long as is needed, and its data the rest
+-- no relocation of the image is refused; its text is the front of the bytes, and its data the rest
 pub record IsMade (i : Images) (z : Needs) (bytes : List ℕ) : Type 0 where
   pub text : i.text ≡ take z.text.size bytes
   pub «data» : i.«data» ≡ drop z.text.size bytes

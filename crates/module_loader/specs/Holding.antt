@@ -39,7 +39,7 @@ pub record AreHeld (modules : List (ℕ × LoadedModule)) (s : PartState) : Type
   pub blocks : (a : ℕ) → 0 < occurs a (held_by modules) → is_kernel_block s a ≡ true
   pub distinct : (a : ℕ) → occurs a (held_by modules) ≤ 1
 
--- what each load keeps: no ids are lent, each live module's is below the next, the pool lies in RAM, and the blocks are held
+-- what each load keeps: no ids are lent, each module's is below the next, the pool lies in RAM, the blocks are held
 pub record KeepsModules (s : LoaderState) : Type 0 where
   pub ids : s.kern.lent ≡ false
   pub below : IdsBelow s.kern.next_id s.modules

@@ -53,8 +53,9 @@ pub record IsLoader (s : LoaderState) : Type 0 where
   pub part : IsPart s.part
   pub pool : s.part.end ≤ length s.ram
 
--- for any list of accepted loads with nothing else between: what they write one after the other is the static link at the
--- same places over the symbols before, and RAM holds it all at the end
+-- for any list of accepted loads with nothing else between: what they write one after the other is the static link at
+-- the same places over the symbols before, and RAM holds it all at the end
 abbrev pub LiveLaw : Type 0
 LiveLaw = (s t : LoaderState) (js : List Job) → IsLoader s → Runs s js t
-    → (written_by s js ≡ link s.symbols (map load_of js)) × AllHeld t.ram (all_pieces (map load_of js) (written_by s js))
+    → (written_by s js ≡ link s.symbols (map load_of js))
+    × AllHeld t.ram (all_pieces (map load_of js) (written_by s js))

@@ -26,8 +26,8 @@ use Rattle.module_loader.specs.declared.module.Segment.{Segment}
 use Rattle.module_loader.specs.Placing.{places_of, with_needs}
 
 -- ---- the state
--- what a load reads and changes: the kernel, of which it takes an id, the symbols, the live modules by id, the partition
--- and RAM
+-- what a load reads and changes: the kernel, of which it takes an id, the symbols, the live modules by id, the
+-- partition and RAM
 pub record LoaderState : Type 0 where
   pub kern : KernState
   pub symbols : List Symbol
@@ -100,8 +100,8 @@ segments_at z at = segment_at z.text at.text ∷ segment_at z.«data» at.«data
 abbrev pub record_of : List ℕ → Needs → Places → LoadedModule
 record_of name z at = record { name = name; segments = segments_at z at }
 
--- what an accepted load leaves: an id less, its exports behind the symbols, its record behind the modules, its blocks, and
--- in RAM its image
+-- what an accepted load leaves: an id less, its exports behind the symbols, its record behind the modules, its blocks,
+-- and in RAM its image
 unfoldable pub loaded : LoaderState → List ℕ → Module → ℕ → Places → LoaderState
 loaded s name m mode at = record {
   kern = record s.kern { next_id = s.kern.next_id + 1 };

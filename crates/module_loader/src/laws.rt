@@ -16,9 +16,9 @@ pub fn write_law()
     ensures { WriteLaw }
 {}
 
-/// The segments of the live modules, those without a block aside, are distinct Kernel blocks of the partition, the modules'
-/// ids are below the next, and the pool lies in RAM: a load and an unload keep it. An unload gives back exactly the
-/// module's blocks.
+/// The segments of the live modules, those without a block aside, are distinct Kernel blocks of the partition, the ids
+/// of modules are below the next, and the pool lies in RAM: a load and an unload keep it. An unload gives back exactly
+/// the blocks of the module.
 pub fn hold_law()
     ensures { HoldLaw }
 {}
