@@ -1,0 +1,51 @@
+-- What a module of an object file is known to keep, in the words of its layout.
+use Rattle.std.proofs.Common.{◌≡◌, ℕ, ◌≤◌, Bool, true, false, cond, List, get_or}
+use Rattle.std.specs.List.{All}
+use Rattle.elf_read.specs.declared.module.Body.{Body}
+use Rattle.elf_read.specs.declared.module.Body.TheVariants as body
+use Rattle.elf_read.specs.declared.module.Module.{Module}
+use Rattle.elf_read.specs.declared.module.Sect.{Sect}
+use Rattle.elf_read.specs.declared.module.Sym.{Sym}
+use Rattle.elf_read.specs.declared.module.SymPlace.{SymPlace}
+use Rattle.elf_read.specs.declared.module.SymPlace.TheVariants.{Undefined, Absolute, Common, Section, Elsewhere}
+use Rattle.elf_read.specs.Modules.{IsModule, IsPlaced, HoldsBytes, size_of}
+use Rattle.elf_read.specs.Rules.{is_alignment}
+use Rattle.elf_read.proofs.AlignmentLemmas.{alignment_between}
+use Rattle.module_image.specs.declared.segments.SegmentKind.{SegmentKind}
+use Rattle.module_image.specs.declared.segments.SegmentKind.TheVariants.{Text, Data, Bss}
+use Rattle.module_image.specs.Layout.{segment_by, IsRoom, IsSectRoom, IsCommonRoom, IsSymRoom}
+
+room : (align size : ℕ) → is_alignment align ≡ true → size ≤ 16777216 → IsRoom align size
+room align size h n = let b = alignment_between align h in record { least = b.0; greatest = b.1; short = n }
+
+pub sects_room : (m : Module) → IsModule m → All IsSectRoom m.sections
+sects_room m k i d h = let s = k.sections i d h in room (get_or m.sections i d).align (size_of (get_or m.sections i d).body) s.align s.size
+
+sym_room : (ss : List Sect) (p : SymPlace) (y : Sym) → IsPlaced ss p y.value y.size → IsCommonRoom p y
+sym_room ss Undefined y h = tt
+sym_room ss Absolute y h = tt
+sym_room ss Common y h = room y.value y.size h.0 h.1
+sym_room ss (Section n) y h = tt
+sym_room ss Elsewhere y h = tt
+
+pub syms_room : (m : Module) → IsModule m → All IsSymRoom m.symbols
+syms_room m k i d h = let y = k.symbols i d h in sym_room m.sections (get_or m.symbols i d).place (get_or m.symbols i d) y.place
+
+-- a segment that has bytes
+abbrev pub HasBytes : SegmentKind → Type 0
+HasBytes Bss = ⊥
+HasBytes Text = Unit {0}
+HasBytes Data = Unit {0}
+
+bytes_by : (b : Bool) → HasBytes (cond b Data Text)
+bytes_by true = tt
+bytes_by false = tt
+
+-- a section that holds bytes lies in such a segment
+pub has_bytes : (b : Body) (flags n : ℕ) → HoldsBytes b n → HasBytes (segment_by b flags)
+has_bytes (body.Bytes xs) flags n h = bytes_by _
+has_bytes (body.Size k) flags n h = absurd h
+
+pub within_body : (b : Body) (n : ℕ) → HoldsBytes b n → n ≤ size_of b
+within_body (body.Bytes xs) n h = h
+within_body (body.Size k) n h = absurd h

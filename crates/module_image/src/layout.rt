@@ -1,0 +1,221 @@
+//! Where the sections and symbols of a module lie.
+
+ghost use Rattle.std.specs.Prelude.{◌≡◌, ◌+◌, ◌*◌, ◌≤◌, ◌<◌, ◌%◌, ◌^◌, length, All, IfOk};
+ghost use Rattle.wind_base.specs.Limits.{most_section_headers, most_symbol_entries};
+ghost use Rattle.mem_partition.specs.Place.{aligned};
+ghost use Rattle.elf_read.specs.Modules.{size_of};
+ghost use Rattle.module_image.specs.Layout.{segment_of, place_of, end_in, with_end, offset_in, after_section, addresses_from, ends_from, no_ends, value_in, after_symbol, commons_end, IsRoom, IsSectRoom, IsSymRoom, longest_step, AreWithin, values_from};
+
+use crate::segments::{Ends, Places, SegmentKind};
+use elf_read::{Body, Sect, Sym, SymPlace};
+use std::alloc::{AllocError, Global};
+
+/// The flag of a section that a program writes: `SHF_WRITE`.
+const SHF_WRITE: u32 = 1;
+
+/// How far one section or one common symbol takes a segment at most: its greatest size and alignment.
+const LONGEST_STEP: u64 = 0x101_0000;
+
+/// Addresses are modulo this.
+const WORDS: u64 = 0x1_0000_0000;
+
+/// Nothing is taken of any segment.
+pub(crate) const NO_ENDS: Ends = Ends {
+    text: 0,
+    data: 0,
+    bss: 0,
+};
+
+/// The next multiple of `align` from `n` on.
+#[tactic(auto, unfolding(mem_partition::specs::Place::aligned))]
+pub(crate) fn align_up(n: u64, align: u32) -> u64
+    requires some { 1 ≤ align }
+    requires small { n < 2 ^ 62 }
+    ensures value { result ≡ aligned n align }
+    ensures small { result < n + align }
+    ensures above { n ≤ result }
+{
+    let align = u64::from(align);
+    (n + align - 1) / align * align
+}
+
+/// How many bytes a section has.
+pub(crate) fn size(s: &Sect) -> u64
+    ensures { result ≡ size_of s.now.body }
+{
+    match &s.body {
+        Body::Bytes(bytes) => bytes.as_slice().len() as u64,
+        Body::Size(n) => u64::from(*n),
+    }
+}
+
+/// The segment of a section.
+pub(crate) fn segment(s: &Sect) -> SegmentKind
+    ensures { result ≡ segment_of s.now }
+{
+    match &s.body {
+        Body::Bytes(_) => {
+            if s.flags & SHF_WRITE == SHF_WRITE {
+                SegmentKind::Data
+            } else {
+                SegmentKind::Text
+            }
+        }
+        Body::Size(_) => SegmentKind::Bss,
+    }
+}
+
+fn end_at(ends: Ends, kind: SegmentKind) -> u64
+    ensures { result ≡ end_in ends kind }
+{
+    match kind {
+        SegmentKind::Text => ends.text,
+        SegmentKind::Data => ends.data,
+        SegmentKind::Bss => ends.bss,
+    }
+}
+
+fn put_end(ends: Ends, kind: SegmentKind, n: u64) -> Ends
+    ensures { result ≡ with_end ends kind n }
+{
+    match kind {
+        SegmentKind::Text => Ends { text: n, ..ends },
+        SegmentKind::Data => Ends { data: n, ..ends },
+        SegmentKind::Bss => Ends { bss: n, ..ends },
+    }
+}
+
+fn place_at(at: Places, kind: SegmentKind) -> u64
+    ensures value { result ≡ place_of at kind }
+    ensures small { result < 2 ^ 32 }
+{
+    match kind {
+        SegmentKind::Text => u64::from(at.text),
+        SegmentKind::Data => u64::from(at.data),
+        SegmentKind::Bss => u64::from(at.bss),
+    }
+}
+
+/// Where the section begins in its segment.
+fn offset(ends: Ends, s: &Sect) -> u64
+    requires room { IsSectRoom s.now }
+    requires within { AreWithin ends (2 ^ 60) }
+    ensures value { result ≡ offset_in ends s.now }
+    ensures bound { result ≤ end_in ends (segment_of s.now) + 65536 }
+{
+    align_up(end_at(ends, segment(s)), s.align)
+}
+
+/// How far the segments are taken behind the section.
+pub(crate) fn advance(ends: Ends, s: &Sect, n: u64) -> Ends
+    requires room { IsSectRoom s.now }
+    requires within { AreWithin ends n }
+    requires bound { n ≤ 2 ^ 59 }
+    ensures value { result ≡ after_section ends s.now }
+    ensures within { AreWithin result (n + longest_step) }
+{
+    put_end(ends, segment(s), offset(ends, s) + size(s))
+}
+
+/// How far the sections take each segment.
+pub(crate) fn find_ends(sections: &[Sect]) -> Ends
+    requires room { All IsSectRoom sections.now }
+    requires few { length sections.now ≤ most_section_headers }
+    ensures value { result ≡ ends_from no_ends sections.now }
+    ensures within { AreWithin result (2 ^ 40) }
+{
+    let mut ends = NO_ENDS;
+    for (i, s) in sections.iter().enumerate() {
+        ends = advance(ends, s, i as u64 * LONGEST_STEP);
+    }
+    ends
+}
+
+/// The addresses of the sections.
+pub(crate) fn section_addresses(
+    alloc: Global,
+    sections: &[Sect],
+    at: Places,
+) -> Result<Vec<u64>, AllocError>
+    requires room { All IsSectRoom sections.now }
+    requires few { length sections.now ≤ most_section_headers }
+    ensures { IfOk result (λ v. v.items ≡ addresses_from at no_ends sections.now) }
+{
+    let mut list = Vec::new(alloc);
+    let mut ends = NO_ENDS;
+    for (i, s) in sections.iter().enumerate() {
+        list.push(place_at(at, segment(s)) + offset(ends, s))?;
+        ends = advance(ends, s, i as u64 * LONGEST_STEP);
+    }
+    Ok(list)
+}
+
+/// The value of a symbol that the module defines.
+fn value(places: &[u64], at: Places, end: u64, y: &Sym) -> Option<u32>
+    requires room { IsSymRoom y.now }
+    requires end { end ≤ 2 ^ 60 }
+    ensures { result ≡ value_in places.now at end y.now }
+{
+    let own = y.value;
+    match y.place {
+        SymPlace::Undefined | SymPlace::Elsewhere => None,
+        SymPlace::Absolute => Some(own),
+        SymPlace::Common => Some(((u64::from(at.bss) + align_up(end, own)) % WORDS) as u32),
+        SymPlace::Section(n) => {
+            let start = places.get(n as usize).copied().unwrap_or(0);
+            Some(((start % WORDS + u64::from(own)) % WORDS) as u32)
+        }
+    }
+}
+
+/// How far the bss is taken behind a symbol.
+fn behind(end: u64, y: &Sym, n: u64) -> u64
+    requires room { IsSymRoom y.now }
+    requires within { end ≤ n }
+    requires bound { n ≤ 2 ^ 59 }
+    ensures value { result ≡ after_symbol end y.now y.now.place }
+    ensures within { result ≤ n + longest_step }
+{
+    let align = y.value;
+    let size = y.size;
+    match y.place {
+        SymPlace::Common => align_up(end, align) + u64::from(size),
+        _ => end,
+    }
+}
+
+/// How far the common symbols take the bss, which the sections take up to `start`.
+pub(crate) fn find_commons(start: u64, symbols: &[Sym]) -> u64
+    requires room { All IsSymRoom symbols.now }
+    requires few { length symbols.now ≤ most_symbol_entries }
+    requires start { start ≤ 2 ^ 40 }
+    ensures { result ≡ commons_end start symbols.now }
+{
+    let mut end = start;
+    for (i, y) in symbols.iter().enumerate() {
+        end = behind(end, y, start + i as u64 * LONGEST_STEP);
+    }
+    end
+}
+
+/// The values of the symbols.
+pub(crate) fn symbol_values(
+    alloc: Global,
+    places: &[u64],
+    at: Places,
+    start: u64,
+    symbols: &[Sym],
+) -> Result<Vec<Option<u32>>, AllocError>
+    requires room { All IsSymRoom symbols.now }
+    requires few { length symbols.now ≤ most_symbol_entries }
+    requires start { start ≤ 2 ^ 40 }
+    ensures { IfOk result (λ v. v.items ≡ values_from places.now at start symbols.now) }
+{
+    let mut list = Vec::new(alloc);
+    let mut end = start;
+    for (i, y) in symbols.iter().enumerate() {
+        list.push(value(places, at, end, y))?;
+        end = behind(end, y, start + i as u64 * LONGEST_STEP);
+    }
+    Ok(list)
+}

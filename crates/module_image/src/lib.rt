@@ -1,0 +1,16 @@
+//! The image of a module: where its sections and symbols lie in its three segments, the bytes that are loaded,
+//! the symbols that it exports, and the static link of several modules.
+#![tactic(auto)]
+
+mod bytes;
+mod exports;
+mod laws;
+mod layout;
+mod making;
+mod segments;
+mod sizes;
+
+pub use laws::{agreement_law, count_law, layout_law, link_law, size_law};
+pub use making::{NameList, PrepareErr, Prepared, prepare};
+pub use segments::{Ends, Need, Needs, Places, SegmentKind};
+pub use sizes::{count_added, measure};

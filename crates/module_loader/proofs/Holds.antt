@@ -1,0 +1,376 @@
+-- A load and an unload keep the modules' blocks.
+use Rattle.std.proofs.Common.{◌≡◌, ℕ, ◌+◌, ◌<◌, ◌≤◌, Bool, true, false, cond, eqb, ltb, not, ◌&&◌, is_some, List, [], ◌∷◌, ◌++◌, Option, Some, None, Result, Ok, Err, refl, sym, ap, ◌∙◌, subst, inl, inr, arith}
+use Rattle.std.specs.List.{find}
+use Rattle.std.specs.Prelude.{OnOk, OnErr, IsSome}
+use Rattle.std.proofs.lemmas.List.Elements.{All-cons, All-head, All-tail}
+use Rattle.std.proofs.lemmas.Bool.{and_parts, and_from, and_left, eqb-true, eq-eqb, ne_eqb, cases_eq}
+use Rattle.std.specs.Option.{option_map}
+use Rattle.wind_lists.specs.Records.{of_id}
+use Rattle.id_table.specs.Rows.{row_id, row_object, object_of, without, IdsBelow}
+use Rattle.mem_partition.specs.declared.block.Block.{Block}
+use Rattle.mem_partition.specs.declared.block.Class.TheVariants.{Kernel}
+use Rattle.mem_partition.specs.Place.{is_apart, meets_none}
+use Rattle.mem_partition.specs.State.{PartState, IsPart, Laid, with_block, without_block, same_class, own_block, size_or, freed, after_free}
+use Rattle.mem_partition.proofs.Allocs.{find_with}
+use Rattle.mem_partition.proofs.Keeping.{apart_cases, with_blocks}
+use Rattle.elf_read.specs.declared.module.Module.{Module}
+use Rattle.elf_read.specs.Contents.{module_at}
+use Rattle.elf_read.specs.Modules.{IsModule}
+use Rattle.module_image.specs.declared.segments.Need.{Need}
+use Rattle.module_image.specs.declared.segments.Needs.{Needs}
+use Rattle.module_image.specs.declared.segments.Places.{Places}
+use Rattle.module_image.specs.Needs.{needs_of}
+use Rattle.module_loader.specs.declared.module.LoadErr.{LoadErr}
+use Rattle.module_loader.specs.declared.module.Loaded.{Loaded}
+use Rattle.module_loader.specs.declared.module.LoadedModule.{LoadedModule}
+use Rattle.module_loader.specs.declared.module.Segment.{Segment}
+use Rattle.module_loader.specs.Placing.{with_seg, with_text, with_data, with_needs}
+use Rattle.module_loader.specs.Loading.{LoaderState, segment_at, segments_at, record_of, verdict, file_verdict, loaded, IsLoaded}
+use Rattle.module_loader.specs.Modules.{without_segment, without_segments, without_all}
+use Rattle.module_loader.specs.Holding.{addr_of, addrs_of, held_by, occurs, is_kernel_block, AreHeld, KeepsModules, unloaded, HoldLaw}
+use Rattle.module_loader.proofs.Files.{is_file}
+use Rattle.module_loader.proofs.Taking.{seg_kept}
+use Rattle.module_loader.proofs.Standing.{Stands}
+use Rattle.module_loader.proofs.Applying.{is_accepted, AllStand, all_stand}
+use Rattle.module_loader.proofs.Running.{kept}
+
+-- ---- counts
+
+occurs-append : (a : ℕ) (xs ys : List ℕ) → occurs a (xs ++ ys) ≡ occurs a xs + occurs a ys
+occurs-append a [] ys = omega arith
+occurs-append a (x ∷ xs) ys = let rest = occurs-append a xs ys in omega arith
+
+held_by-append : (a : ℕ) (rs ts : List (ℕ × LoadedModule)) → occurs a (held_by (rs ++ ts)) ≡ occurs a (held_by rs) + occurs a (held_by ts)
+held_by-append a [] ts = omega arith
+held_by-append a (r ∷ rs) ts =
+    let rest = held_by-append a rs ts in
+    let one = occurs-append a (addrs_of r.1.segments) (held_by (rs ++ ts)) in
+    let two = occurs-append a (addrs_of r.1.segments) (held_by rs) in
+    omega arith
+
+occurs_one : (x a : ℕ) → x ≡ a → occurs a (x ∷ []) ≡ 1
+occurs_one x a e = ap (λ t. cond t 1 0 + 0) (eq-eqb x a e)
+
+occurs_none : (x a : ℕ) → (x ≡ a → ⊥) → occurs a (x ∷ []) ≡ 0
+occurs_none x a e = ap (λ t. cond t 1 0 + 0) (ne_eqb x a e)
+
+-- ---- look-ups
+
+found_with : (p : Block → Bool) (b : Block) (bs : List Block) → is_some (find p bs) ≡ true → is_some (find p (with_block b bs)) ≡ true
+found_with p b [] h = absurd (cc)
+found_with p b (c ∷ cs) h =
+    elim (ltb b.addr c.addr) as (λ t. is_some (find p (cond t (b ∷ c ∷ cs) (c ∷ with_block b cs))) ≡ true) [
+      | true ↦ elim (p b) as (λ t. is_some (cond t (Some b) (find p (c ∷ cs))) ≡ true) [ true ↦ refl | false ↦ h ]
+      | false ↦ elim (p c) as (λ t. is_some (cond t (Some c) (find p cs)) ≡ true → is_some (cond t (Some c) (find p (with_block b cs))) ≡ true) [ true ↦ λ k. refl | false ↦ λ k. found_with p b cs k ] h
+    ]
+
+-- a block that is found doesn't begin where bytes meet none of the blocks
+found_apart : (bs : List Block) (lo hi a size at : ℕ) → Laid lo hi bs → is_some (own_block bs a Kernel) ≡ true → 0 < size → meets_none bs size at ≡ true → a ≡ at → ⊥
+found_apart [] lo hi a size at laid h some free e = cc
+found_apart (c ∷ cs) lo hi a size at (low, c_some, high, laid) h some free e =
+    let parts = and_parts (is_apart size at c) (meets_none cs size at) free in
+    elim (eqb c.addr a && same_class c.class Kernel) as (λ t. (eqb c.addr a && same_class c.class Kernel) ≡ t → is_some (cond t (Some c) (own_block cs a Kernel)) ≡ true → ⊥) [
+      | true ↦ λ q k.
+          let same = eqb-true c.addr a ((and_parts (eqb c.addr a) (same_class c.class Kernel) q).0) in
+          elim (apart_cases size at c parts.0) [ inl x ↦ omega arith | inr x ↦ omega arith ]
+      | false ↦ λ q k. found_apart cs (c.addr + c.size) hi a size at laid k some parts.1 e
+    ] refl h
+
+-- without the block of another address
+found_without : (bs : List Block) (a at : ℕ) → (at ≡ a → ⊥) → own_block (without_block at bs) a Kernel ≡ own_block bs a Kernel
+found_without [] a at h = refl
+found_without (c ∷ cs) a at h =
+    elim (cases_eq c.addr at) [
+      | inl same ↦
+          ap (λ t. own_block (cond (not t) (c ∷ without_block at cs) (without_block at cs)) a Kernel) (eq-eqb c.addr at same)
+          ∙ (found_without cs a at h
+          ∙ sym (ap (λ t. cond t (Some c) (own_block cs a Kernel)) (and_left (eqb c.addr a) (same_class c.class Kernel) (ne_eqb c.addr a (λ q. h (sym same ∙ q))))))
+      | inr other ↦
+          ap (λ t. own_block (cond (not t) (c ∷ without_block at cs) (without_block at cs)) a Kernel) (ne_eqb c.addr at other)
+          ∙ ap (λ o. cond (eqb c.addr a && same_class c.class Kernel) (Some c) o) (found_without cs a at h)
+    ]
+
+gone_without : (bs : List Block) (at : ℕ) → own_block (without_block at bs) at Kernel ≡ None
+gone_without [] at = refl
+gone_without (c ∷ cs) at =
+    elim (eqb c.addr at) as (λ t. eqb c.addr at ≡ t → own_block (cond (not t) (c ∷ without_block at cs) (without_block at cs)) at Kernel ≡ None) [
+      | true ↦ λ q. gone_without cs at
+      | false ↦ λ q. ap (λ t. cond t (Some c) (own_block (without_block at cs) at Kernel)) (and_left (eqb c.addr at) (same_class c.class Kernel) q) ∙ gone_without cs at
+    ] refl
+
+-- ---- freeing
+
+free_other : (s : PartState) (a at : ℕ) → (at ≡ a → ⊥) → is_kernel_block (after_free s at Kernel) a ≡ is_kernel_block s a
+unfolding after_free
+free_other s a at h =
+    elim (own_block s.blocks at Kernel) as (λ o. is_kernel_block (freed s at (size_or o)) a ≡ is_kernel_block s a) [
+      | None ↦ refl
+      | Some b ↦ ap is_some (found_without s.blocks a at h)
+    ]
+
+free_own : (s : PartState) (at : ℕ) → is_kernel_block (after_free s at Kernel) at ≡ false
+unfolding after_free
+free_own s at =
+    elim (own_block s.blocks at Kernel) as (λ o. own_block s.blocks at Kernel ≡ o → is_kernel_block (freed s at (size_or o)) at ≡ false) [
+      | None ↦ λ q. ap is_some q
+      | Some b ↦ λ q. ap is_some (gone_without s.blocks at)
+    ] refl
+
+-- a block of another address stays, and what is no block stays none
+segment_other : (s : PartState) (g : Segment) (a : ℕ) → occurs a (addr_of g) ≡ 0 → is_kernel_block (without_segment s g) a ≡ is_kernel_block s a
+segment_other s g a h =
+    elim (eqb g.size 0) as (λ t. occurs a (cond t [] (g.addr ∷ [])) ≡ 0 → is_kernel_block (cond t s (after_free s g.addr Kernel)) a ≡ is_kernel_block s a) [
+      | true ↦ λ k. refl
+      | false ↦ λ k. free_other s a g.addr (λ e.
+          let one : occurs a (g.addr ∷ []) ≡ 1 = occurs_one g.addr a e in omega arith)
+    ] h
+
+pub others_stay : (gs : List Segment) (s : PartState) (a : ℕ) → occurs a (addrs_of gs) ≡ 0 → is_kernel_block (without_all s gs) a ≡ is_kernel_block s a
+others_stay [] s a h = refl
+others_stay (g ∷ gs) s a h =
+    let n = occurs-append a (addr_of g) (addrs_of gs) in
+    others_stay gs (without_segment s g) a (omega arith) ∙ segment_other s g a (omega arith)
+
+free_none : (s : PartState) (a at : ℕ) → is_kernel_block s a ≡ false → is_kernel_block (after_free s at Kernel) a ≡ false
+free_none s a at h = elim (cases_eq at a) [
+  | inl same ↦ subst (λ x. is_kernel_block (after_free s at Kernel) x ≡ false) same (free_own s at)
+  | inr other ↦ free_other s a at other ∙ h
+]
+
+none_stay : (gs : List Segment) (s : PartState) (a : ℕ) → is_kernel_block s a ≡ false → is_kernel_block (without_all s gs) a ≡ false
+none_stay [] s a h = h
+none_stay (g ∷ gs) s a h = none_stay gs (without_segment s g) a
+    (elim (eqb g.size 0) as (λ t. is_kernel_block (cond t s (after_free s g.addr Kernel)) a ≡ false) [ true ↦ h | false ↦ free_none s a g.addr h ])
+
+segment_gone : (s : PartState) (g : Segment) (a : ℕ) → 0 < occurs a (addr_of g) → is_kernel_block (without_segment s g) a ≡ false
+segment_gone s g a h =
+    elim (eqb g.size 0) as (λ t. 0 < occurs a (cond t [] (g.addr ∷ [])) → is_kernel_block (cond t s (after_free s g.addr Kernel)) a ≡ false) [
+      | true ↦ λ k. absurd (omega arith)
+      | false ↦ λ k. elim (cases_eq g.addr a) [
+        | inl same ↦ subst (λ x. is_kernel_block (after_free s g.addr Kernel) x ≡ false) same (free_own s g.addr)
+        | inr other ↦ let none : occurs a (g.addr ∷ []) ≡ 0 = occurs_none g.addr a other in absurd (omega arith)
+      ]
+    ] h
+
+pub all_gone : (gs : List Segment) (s : PartState) (a : ℕ) → 0 < occurs a (addrs_of gs) → is_kernel_block (without_all s gs) a ≡ false
+all_gone [] s a h = absurd (omega arith)
+all_gone (g ∷ gs) s a h =
+    let n = occurs-append a (addr_of g) (addrs_of gs) in
+    elim (cases_eq (occurs a (addr_of g)) 0) [
+      | inl none ↦ all_gone gs (without_segment s g) a (omega arith)
+      | inr some ↦ none_stay gs (without_segment s g) a (segment_gone s g a (omega arith))
+    ]
+
+-- ---- an unload
+
+fewer : (rs : List (ℕ × LoadedModule)) (id a : ℕ) → occurs a (held_by (without rs id)) ≤ occurs a (held_by rs)
+fewer [] id a = omega arith
+fewer (r ∷ rs) id a =
+    let rest = fewer rs id a in
+    let n = occurs-append a (addrs_of r.1.segments) (held_by rs) in
+    elim (eqb r.0 id) as (λ t. occurs a (held_by (cond (not t) (r ∷ without rs id) (without rs id))) ≤ occurs a (held_by (r ∷ rs))) [
+      | true ↦ omega arith
+      | false ↦ let k = occurs-append a (addrs_of r.1.segments) (held_by (without rs id)) in omega arith
+    ]
+
+same_module : (x m : LoadedModule) (a : ℕ) → Some x ≡ Some m → occurs a (addrs_of x.segments) ≡ occurs a (addrs_of m.segments)
+same_module x m a e = let q : x ≡ m = cc in ap (λ (y : LoadedModule). occurs a (addrs_of y.segments)) q
+
+parted : (rs : List (ℕ × LoadedModule)) (id a : ℕ) (m : LoadedModule) → object_of rs id ≡ Some m
+    → occurs a (addrs_of m.segments) + occurs a (held_by (without rs id)) ≤ occurs a (held_by rs)
+parted [] id a m e = absurd (cc)
+parted (r ∷ rs) id a m e =
+    let less = fewer rs id a in
+    let n = occurs-append a (addrs_of r.1.segments) (held_by rs) in
+    elim (eqb r.0 id) as (λ t. option_map row_object (cond t (Some r) (of_id row_id rs id)) ≡ Some m
+    → occurs a (addrs_of m.segments) + occurs a (held_by (cond (not t) (r ∷ without rs id) (without rs id))) ≤ occurs a (held_by (r ∷ rs))) [
+      | true ↦ λ q. let same = same_module r.1 m a q in omega arith
+      | false ↦ λ q.
+          let rest = parted rs id a m q in
+          let k = occurs-append a (addrs_of r.1.segments) (held_by (without rs id)) in
+          omega arith
+    ] e
+
+pub unload_holds : (rows : List (ℕ × LoadedModule)) (s : PartState) (id : ℕ) (m : LoadedModule) → AreHeld rows s → object_of rows id ≡ Some m → AreHeld (without rows id) (without_all s m.segments)
+unload_holds rows s id m k e = record {
+  blocks = λ a h.
+      (let p = parted rows id a m e in
+      let d = k.distinct a in
+      others_stay m.segments s a (omega arith) ∙ k.blocks a (omega arith));
+  distinct = λ a. (let p = fewer rows id a in let d = k.distinct a in omega arith);
+}
+
+-- ---- a load
+
+-- counted addresses are Kernel blocks, and none is counted twice
+record Holds (s : PartState) (count : ℕ → ℕ) : Type 0 where
+  pub blocks : (a : ℕ) → 0 < count a → is_kernel_block s a ≡ true
+  pub distinct : (a : ℕ) → count a ≤ 1
+
+own_passes : (b : Block) → b.class ≡ Kernel → (eqb b.addr b.addr && same_class b.class Kernel) ≡ true
+own_passes b e = and_from (eqb b.addr b.addr) (same_class b.class Kernel) (eq-eqb b.addr b.addr refl) (ap (λ c. same_class c Kernel) e)
+
+new_block : (s : PartState) (b : Block) → IsPart s → b.class ≡ Kernel → 0 < b.size → meets_none s.blocks b.size b.addr ≡ true → is_kernel_block (with_blocks s (with_block b s.blocks)) b.addr ≡ true
+new_block s b k e some free =
+    ap is_some (find_with (λ c. eqb c.addr b.addr && same_class c.class Kernel) b s.start s.end s.blocks k.laid some free (own_passes b e)
+    (λ c q. and_left (eqb c.addr b.addr) (same_class c.class Kernel) (ne_eqb c.addr b.addr q)))
+
+count_of : (n : Need) (at a : ℕ) → ℕ
+count_of n at a = occurs a (addr_of (segment_at n at))
+
+no_count : (n : Need) (at a : ℕ) → n.size ≡ 0 → occurs a (addr_of (segment_at n at)) ≡ 0
+no_count n at a e = ap (λ t. occurs a (cond t [] (at ∷ []))) (eq-eqb n.size 0 e)
+
+count_small : (n : Need) (at a : ℕ) → occurs a (addr_of (segment_at n at)) ≤ 1
+count_small n at a = elim (eqb n.size 0) as (λ t. occurs a (cond t [] (at ∷ [])) ≤ 1) [
+  | true ↦ omega arith
+  | false ↦ elim (eqb at a) as (λ t. cond t 1 0 + 0 ≤ 1) [ true ↦ omega arith | false ↦ omega arith ]
+]
+
+other_count : (n : Need) (at a : ℕ) → (at ≡ a → ⊥) → occurs a (addr_of (segment_at n at)) ≡ 0
+other_count n at a h = elim (eqb n.size 0) as (λ t. occurs a (cond t [] (at ∷ [])) ≡ 0) [
+  | true ↦ refl
+  | false ↦ ap (λ t. cond t 1 0 + 0) (ne_eqb at a h)
+]
+
+step : (s : PartState) (n : Need) (at : ℕ) (count : ℕ → ℕ) → IsPart s → Stands s n at → Holds s count → Holds (with_seg s n) (λ a. count a + occurs a (addr_of (segment_at n at)))
+step s n at count k (inl h) held = record {
+  blocks = λ a p. (let z = no_count n at a h.0 in subst (λ (t : PartState). is_kernel_block t a ≡ true) (sym h.1) (held.blocks a (omega arith)));
+  distinct = λ a. (let z = no_count n at a h.0 in let d = held.distinct a in omega arith);
+}
+step s n at count k (inr (b, h)) held = record {
+  blocks = λ a p. elim (cases_eq at a) [
+    | inl same ↦ subst (λ (t : PartState). is_kernel_block t a ≡ true) (sym h.after)
+        (subst (λ x. is_kernel_block (with_blocks s (with_block b s.blocks)) x ≡ true) (h.addr ∙ same) (new_block s b k h.class h.some h.lies.apart))
+    | inr other ↦
+        (let z = other_count n at a other in
+        subst (λ (t : PartState). is_kernel_block t a ≡ true) (sym h.after)
+        (found_with (λ c. eqb c.addr a && same_class c.class Kernel) b s.blocks (held.blocks a (omega arith))))
+  ];
+  distinct = λ a. elim (cases_eq at a) [
+    | inl same ↦
+        (let one = count_small n at a in
+        elim (cases_eq (count a) 0) [
+          | inl none ↦ omega arith
+          | inr some ↦ absurd (found_apart s.blocks s.start s.end a b.size b.addr k.laid (held.blocks a (omega arith)) h.some h.lies.apart (sym same ∙ sym h.addr))
+        ])
+    | inr other ↦ (let z = other_count n at a other in let d = held.distinct a in omega arith)
+  ];
+}
+
+three : (z : Needs) (at : Places) (a : ℕ) → occurs a (addrs_of (segments_at z at))
+    ≡ occurs a (addr_of (segment_at z.text at.text)) + occurs a (addr_of (segment_at z.«data» at.«data»)) + occurs a (addr_of (segment_at z.bss at.bss))
+three z at a =
+    let one = occurs-append a (addr_of (segment_at z.text at.text)) (addr_of (segment_at z.«data» at.«data») ++ (addr_of (segment_at z.bss at.bss) ++ [])) in
+    let two = occurs-append a (addr_of (segment_at z.«data» at.«data»)) (addr_of (segment_at z.bss at.bss) ++ []) in
+    let last = occurs-append a (addr_of (segment_at z.bss at.bss)) [] in
+    omega arith
+
+same_counts : (s : PartState) (f g : ℕ → ℕ) → ((a : ℕ) → f a ≡ g a) → Holds s f → Holds s g
+same_counts s f g e k = record {
+  blocks = λ a h. (let q = e a in k.blocks a (omega arith));
+  distinct = λ a. (let q = e a in let d = k.distinct a in omega arith);
+}
+
+needs_hold : (s : PartState) (z : Needs) (at : Places) (count : ℕ → ℕ) → IsPart s → AllStand s z at → Holds s count
+    → Holds (with_needs s z) (λ a. count a + occurs a (addrs_of (segments_at z at)))
+needs_hold s z at count k st held =
+    let kt = seg_kept s z.text k in
+    let kv = seg_kept (with_text s z) z.«data» kt in
+    let one = step s z.text at.text count k st.text held in
+    let two = step (with_text s z) z.«data» at.«data» (λ a. count a + occurs a (addr_of (segment_at z.text at.text))) kt st.«data» one in
+    let last = step (with_data s z) z.bss at.bss (λ a. count a + occurs a (addr_of (segment_at z.text at.text)) + occurs a (addr_of (segment_at z.«data» at.«data»))) kv st.bss two in
+    same_counts (with_needs s z) (λ a. count a + occurs a (addr_of (segment_at z.text at.text)) + occurs a (addr_of (segment_at z.«data» at.«data»)) + occurs a (addr_of (segment_at z.bss at.bss)))
+    (λ a. count a + occurs a (addrs_of (segments_at z at))) (λ a. (let q = three z at a in omega arith)) last
+
+load_holds : (s : LoaderState) (name : List ℕ) (m : Module) (mode : ℕ) (at : Places) → IsPart s.part → AreHeld s.modules s.part → verdict s m mode ≡ Ok at
+    → AreHeld (loaded s name m mode at).modules (loaded s name m mode at).part
+unfolding loaded
+load_holds s name m mode at k held h =
+    let st = all_stand s.part (needs_of m) at k ((is_accepted s m mode at h).places) in
+    let all = needs_hold s.part (needs_of m) at (λ a. occurs a (held_by s.modules)) k st (record { blocks = held.blocks; distinct = held.distinct }) in
+    let row : ℕ × LoadedModule = (s.kern.next_id, record_of name (needs_of m) at) in
+    record {
+      blocks = λ a p.
+          (let n = held_by-append a s.modules (row ∷ []) in
+          let e = occurs-append a (addrs_of (segments_at (needs_of m) at)) [] in
+          all.blocks a (omega arith));
+      distinct = λ a.
+          (let n = held_by-append a s.modules (row ∷ []) in
+          let e = occurs-append a (addrs_of (segments_at (needs_of m) at)) [] in
+          let d = all.distinct a in omega arith);
+    }
+
+below_more : (rows : List (ℕ × LoadedModule)) (id : ℕ) (m : LoadedModule) → IdsBelow id rows → IdsBelow (id + 1) (rows ++ (id, m) ∷ [])
+below_more [] id m all = All-cons (λ r. r.0 < id + 1) (id, m) [] (omega arith) (λ k d h. absurd (omega arith))
+below_more (r ∷ rs) id m all =
+    let one = All-head (λ r. r.0 < id) r rs all in
+    All-cons (λ r. r.0 < id + 1) r (rs ++ (id, m) ∷ []) (omega arith) (below_more rs id m (All-tail (λ r. r.0 < id) r rs all))
+
+pub load_keeps : (s : LoaderState) (name : List ℕ) (m : Module) (mode : ℕ) (at : Places) → IsPart s.part → IsModule m → KeepsModules s → verdict s m mode ≡ Ok at
+    → KeepsModules (loaded s name m mode at)
+unfolding loaded
+load_keeps s name m mode at k km keeps h = record {
+  ids = keeps.ids;
+  below = below_more s.modules s.kern.next_id (record_of name (needs_of m) at) keeps.below;
+  pool = (kept s name m mode at (record { part = k; pool = keeps.pool }) km h).pool;
+  held = load_holds s name m mode at k keeps.held h;
+}
+
+none_held : (s : PartState) → AreHeld [] s
+none_held s = record { blocks = λ a h. absurd (omega arith); distinct = λ a. omega arith }
+
+-- an unload leaves the pool, and the ids below the next
+end_freed : (s : PartState) (at : ℕ) → (after_free s at Kernel).end ≡ s.end
+unfolding after_free
+end_freed s at = elim (own_block s.blocks at Kernel) as (λ o. (freed s at (size_or o)).end ≡ s.end) [ None ↦ refl | Some b ↦ refl ]
+
+end_without : (gs : List Segment) (s : PartState) → (without_all s gs).end ≡ s.end
+end_without [] s = refl
+end_without (g ∷ gs) s =
+    end_without gs (without_segment s g)
+    ∙ elim (eqb g.size 0) as (λ t. (cond t s (after_free s g.addr Kernel)).end ≡ s.end) [ true ↦ refl | false ↦ end_freed s g.addr ]
+
+below_without : (rows : List (ℕ × LoadedModule)) (next id : ℕ) → IdsBelow next rows → IdsBelow next (without rows id)
+below_without [] next id all = all
+below_without (r ∷ rs) next id all =
+    let rest = below_without rs next id (All-tail (λ r. r.0 < next) r rs all) in
+    elim (eqb r.0 id) as (λ t. IdsBelow next (cond (not t) (r ∷ without rs id) (without rs id))) [
+      | true ↦ rest
+      | false ↦ All-cons (λ r. r.0 < next) r (without rs id) (All-head (λ r. r.0 < next) r rs all) rest
+    ]
+
+unload_keeps : (s : LoaderState) (id : ℕ) (m : LoadedModule) → KeepsModules s → object_of s.modules id ≡ Some m → KeepsModules (unloaded s id m)
+unload_keeps s id m keeps e = record {
+  ids = keeps.ids;
+  below = below_without s.modules s.kern.next_id id keeps.below;
+  pool = (let end = end_without m.segments s.part in let pool = keeps.pool in omega arith);
+  held = unload_holds s.modules s.part id m keeps.held e;
+}
+
+pub hold_law : HoldLaw
+hold_law = record {
+  none = none_held;
+  load = load_keeps;
+  unload = unload_keeps;
+  gone = λ s m a h. all_gone m.segments s a h;
+  stays = λ s m a h. others_stay m.segments s a h;
+}
+
+-- ---- the same of what the calls answer
+of_verdict : (s t : LoaderState) (name file : List ℕ) (mode : ℕ) (v : Result Places LoadErr) → IsPart s.part → KeepsModules s → file_verdict s file mode ≡ v
+    → IsLoaded v s name (module_at file) mode t → KeepsModules t
+of_verdict s t name file mode (Ok at) k keeps e h =
+    let f = is_file s file mode at e in
+    subst (λ (x : LoaderState). KeepsModules x) (sym h) (load_keeps s name (module_at file) mode at k f.known keeps f.verdict)
+of_verdict s t name file mode (Err e) k keeps q h = absurd h
+
+pub kept_after_load : (r : Result Loaded LoadErr) (s t : LoaderState) (name file : List ℕ) (mode : ℕ) → KeepsModules s
+    → OnOk r (IsPart s.part) → OnOk r (IsLoaded (file_verdict s file mode) s name (module_at file) mode t) → OnErr r (t ≡ s) → KeepsModules t
+kept_after_load (Ok l) s t name file mode keeps part ok err = of_verdict s t name file mode (file_verdict s file mode) part keeps refl ok
+kept_after_load (Err e) s t name file mode keeps part ok err = subst (λ (x : LoaderState). KeepsModules x) (sym err) keeps
+
+pub of_module : (rows : List (ℕ × LoadedModule)) (s : PartState) (id : ℕ) (o : Option LoadedModule) → AreHeld rows s → object_of rows id ≡ o → IsSome o
+    → AreHeld (without rows id) (without_segments s o)
+of_module rows s id (Some m) held e h = unload_holds rows s id m held e
+of_module rows s id None held e h = absurd (cc)

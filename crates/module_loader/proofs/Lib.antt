@@ -1,0 +1,11 @@
+pub mod Kernel
+pub mod Newest
+pub mod Files
+pub mod Ram
+pub mod Taking
+pub mod Standing
+pub mod Applying
+pub mod Running
+pub mod Loads
+pub mod Holds
+pub mod Owning

@@ -1,0 +1,127 @@
+-- When a load is refused, where it goes, and what it leaves.
+use Rattle.std.specs.Prelude.{◌≡◌, ℕ, ◌+◌, nat_le, nat_lt, if◌then◌else◌, List, [], ◌∷◌, ◌++◌, length, Option, Some, None, Result, Ok, Err}
+use Rattle.wind_base.specs.Limits.{most_modules, greatest_id, most_symbols}
+use Rattle.wind_core.specs.State.{KernState}
+use Rattle.symbol_table.specs.declared.symbol.Symbol.{Symbol}
+use Rattle.mem_partition.specs.declared.block.PartErr.{PartErr}
+use Rattle.mem_partition.specs.State.{PartState}
+use Rattle.board_mem.specs.Memory.{with_bytes}
+use Rattle.reloc_link.specs.declared.patching.RelocErr.{RelocErr}
+use Rattle.elf_read.specs.declared.error.ElfErr.{ElfErr}
+use Rattle.elf_read.specs.declared.module.Module.{Module}
+use Rattle.elf_read.specs.Rules.{checked}
+use Rattle.elf_read.specs.Contents.{module_at}
+use Rattle.module_image.specs.declared.segments.Need.{Need}
+use Rattle.module_image.specs.declared.segments.Needs.{Needs}
+use Rattle.module_image.specs.declared.segments.Places.{Places}
+use Rattle.module_image.specs.Needs.{needs_of}
+use Rattle.module_image.specs.Exports.{export_count, exports}
+use Rattle.module_image.specs.Binding.{unbound}
+use Rattle.module_image.specs.Image.{Images, image}
+use Rattle.module_loader.specs.declared.module.LoadErr.{LoadErr}
+use Rattle.module_loader.specs.declared.module.LoadErr.TheVariants as refusal
+use Rattle.module_loader.specs.declared.module.Loaded.{Loaded}
+use Rattle.module_loader.specs.declared.module.LoadedModule.{LoadedModule}
+use Rattle.module_loader.specs.declared.module.Segment.{Segment}
+use Rattle.module_loader.specs.Placing.{places_of, with_needs}
+
+-- ---- the state
+-- what a load reads and changes: the kernel, of which it takes an id, the symbols, the live modules by id, the
+-- partition and RAM
+pub record LoaderState : Type 0 where
+  pub kern : KernState
+  pub symbols : List Symbol
+  pub modules : List (ℕ × LoadedModule)
+  pub part : PartState
+  pub ram : List ℕ
+
+-- ---- refusals
+-- the first of the refusals by counts: so many modules, this next id, so many symbols afterwards
+abbrev pub count_by : ℕ → ℕ → ℕ → Option LoadErr
+count_by modules next symbols =
+    if nat_le most_modules modules then Some refusal.ModulesFull else
+    (if nat_lt greatest_id next then Some refusal.IdsSpent else
+    (if nat_lt most_symbols symbols then Some refusal.TableFull else None))
+
+unfoldable pub count_refusal : LoaderState → Module → ℕ → Option LoadErr
+count_refusal s m mode = count_by (length s.modules) s.kern.next_id (length s.symbols + export_count mode m.symbols)
+
+-- the first relocation of the image that is refused
+abbrev pub reloc_verdict : Places → Option RelocErr → Result Places LoadErr
+reloc_verdict at None = Ok at
+reloc_verdict at (Some e) = Err (refusal.Reloc e)
+
+-- the first segment that has no place, and then relocation
+abbrev pub place_verdict : Module → List Symbol → Result Places PartErr → Result Places LoadErr
+place_verdict m tab (Err e) = Err (refusal.Part e)
+place_verdict m tab (Ok at) = reloc_verdict at (image m tab at).fault
+
+abbrev pub verdict_by : Option LoadErr → Result Places LoadErr → Result Places LoadErr
+verdict_by (Some e) r = Err e
+verdict_by None r = r
+
+-- where a load of the module goes, or its first refusal
+unfoldable pub verdict : LoaderState → Module → ℕ → Result Places LoadErr
+verdict s m mode = verdict_by (count_refusal s m mode) (place_verdict m s.symbols (places_of s.part (needs_of m)))
+
+-- the file is asked first: what refuses it refuses the load
+abbrev pub file_by : Result Unit ElfErr → Result Places LoadErr → Result Places LoadErr
+file_by (Err e) r = Err (refusal.Elf e)
+file_by (Ok _) r = r
+
+-- where a load of the file goes, or its first refusal
+unfoldable pub file_verdict : LoaderState → List ℕ → ℕ → Result Places LoadErr
+file_verdict s file mode = file_by (checked file) (verdict s (module_at file) mode)
+
+-- ---- an accepted load
+-- bytes at an address
+abbrev pub Piece : Type 0
+Piece = ℕ × List ℕ
+
+-- RAM with a piece, and with several, one after the other
+unfoldable pub stored : List ℕ → Piece → List ℕ
+stored ram p = with_bytes ram p.0 p.1
+
+abbrev pub stored_all : List ℕ → List Piece → List ℕ
+stored_all ram [] = ram
+stored_all ram (p ∷ ps) = stored_all (stored ram p) ps
+
+-- the segments of an image at their places
+abbrev pub pieces_of : Places → Images → List Piece
+pieces_of at i = (at.text, i.text) ∷ (at.«data», i.«data») ∷ (at.bss, i.bss) ∷ []
+
+-- the module's record: its name, and where its segments are and how many bytes they have
+abbrev pub segment_at : Need → ℕ → Segment
+segment_at n at = record { addr = at; size = n.size }
+
+abbrev pub segments_at : Needs → Places → List Segment
+segments_at z at = segment_at z.text at.text ∷ segment_at z.«data» at.«data» ∷ segment_at z.bss at.bss ∷ []
+
+abbrev pub record_of : List ℕ → Needs → Places → LoadedModule
+record_of name z at = record { name = name; segments = segments_at z at }
+
+-- what an accepted load leaves: an id less, its exports behind the symbols, its record behind the modules, its blocks,
+-- and in RAM its image
+unfoldable pub loaded : LoaderState → List ℕ → Module → ℕ → Places → LoaderState
+loaded s name m mode at = record {
+  kern = record s.kern { next_id = s.kern.next_id + 1 };
+  symbols = s.symbols ++ exports m mode at s.kern.next_id;
+  modules = s.modules ++ (s.kern.next_id, record_of name (needs_of m) at) ∷ [];
+  part = with_needs s.part (needs_of m);
+  ram = stored_all s.ram (pieces_of at (image m s.symbols at));
+}
+
+-- what it answers: the module's id, and the names that nothing defines, in symbol order
+abbrev pub told : LoaderState → Module → Loaded
+told s m = record { id = s.kern.next_id; undefined = unbound s.symbols m.symbols }
+
+-- ---- a load of a file
+-- it was accepted, this is what it answers, and this the state after it
+abbrev pub IsLoaded : Result Places LoadErr → LoaderState → List ℕ → Module → ℕ → LoaderState → Type 0
+IsLoaded (Ok at) s name m mode t = t ≡ loaded s name m mode at
+IsLoaded (Err e) s name m mode t = ⊥
+
+-- want of memory, or the first refusal
+abbrev pub IsVerdict : Result Places LoadErr → LoadErr → Type 0
+IsVerdict v refusal.NoMemory = Unit {0}
+IsVerdict v e = v ≡ Err e

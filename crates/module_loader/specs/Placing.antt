@@ -1,0 +1,51 @@
+-- The blocks of a module's segments.
+use Rattle.std.specs.Prelude.{ℕ, min, ◌==◌, if◌then◌else◌, Result, Ok, Err}
+use Rattle.wind_base.specs.Limits.{greatest_word}
+use Rattle.mem_partition.specs.declared.block.Class.TheVariants.{Kernel}
+use Rattle.mem_partition.specs.declared.block.PartErr.{PartErr}
+use Rattle.mem_partition.specs.State.{PartState, alloc_of, after_alloc, after_free}
+use Rattle.module_image.specs.declared.segments.Need.{Need}
+use Rattle.module_image.specs.declared.segments.Needs.{Needs}
+use Rattle.module_image.specs.declared.segments.Places.{Places}
+
+-- where a segment goes: one of size 0 has no block; one that is larger than a word can say is refused as the greatest
+-- word would be
+abbrev pub place_seg : PartState → Need → Result ℕ PartErr
+place_seg s n = if n.size == 0 then Ok 0 else alloc_of s (min n.size greatest_word) n.align
+
+-- the partition with the segment's block
+abbrev pub with_seg : PartState → Need → PartState
+with_seg s n = if n.size == 0 then s else after_alloc s (min n.size greatest_word) n.align Kernel
+
+-- and without it again
+abbrev pub without_seg : PartState → Need → ℕ → PartState
+without_seg s n at = if n.size == 0 then s else after_free s at Kernel
+
+-- blocks are taken in the order text, data, bss
+abbrev pub with_text : PartState → Needs → PartState
+with_text s z = with_seg s z.text
+
+abbrev pub with_data : PartState → Needs → PartState
+with_data s z = with_seg (with_text s z) z.«data»
+
+abbrev pub with_needs : PartState → Needs → PartState
+with_needs s z = with_seg (with_data s z) z.bss
+
+-- all three given back
+abbrev pub without_needs : PartState → Needs → Places → PartState
+without_needs s z at = without_seg (without_seg (without_seg s z.bss at.bss) z.«data» at.«data») z.text at.text
+
+abbrev pub places_by : Result ℕ PartErr → Result ℕ PartErr → Result ℕ PartErr → Result Places PartErr
+places_by (Err e) v b = Err e
+places_by (Ok t) (Err e) b = Err e
+places_by (Ok t) (Ok v) (Err e) = Err e
+places_by (Ok t) (Ok v) (Ok b) = Ok (record { text = t; «data» = v; bss = b })
+
+-- where the segments go, or the first refusal
+unfoldable pub places_of : PartState → Needs → Result Places PartErr
+places_of s z = places_by (place_seg s z.text) (place_seg (with_text s z) z.«data») (place_seg (with_data s z) z.bss)
+
+-- the partition after these places were asked for
+abbrev pub part_after : PartState → Needs → Result Places PartErr → PartState
+part_after s z (Ok at) = with_needs s z
+part_after s z (Err e) = s

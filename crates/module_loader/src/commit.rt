@@ -1,0 +1,154 @@
+//! All changes of a load, none of which fails.
+
+ghost use Rattle.std.specs.Prelude.{◌≡◌, ◌<◌, ◌≤◌, ◌+◌, ◌-◌, ◌^◌, ◌++◌, false, length, take, drop, replicate, All};
+ghost use Rattle.wind_base.specs.Limits.{greatest_id};
+ghost use Rattle.id_table.specs.Rows.{IdsBelow, added};
+ghost use Rattle.module_loader.specs.Loading.{stored, stored_all, segment_at, record_of};
+ghost use Rattle.module_loader.specs.Modules.{HasIdent};
+ghost use Rattle.module_loader.specs.Steps.{three_pieces};
+
+use crate::module::{Loaded, LoadedModule, Segment};
+use board_mem::Ram;
+use id_table::{Ident, Table};
+use module_image::{Need, Needs, Places, Prepared};
+use symbol_table::{Symbol, Symbols};
+use wind_base::Name;
+use wind_core::Kern;
+
+/// Writes bytes at an address of RAM.
+#[tactic(auto, unfolding(crate::specs::Loading::stored))]
+fn write(ram: &mut Ram, at: u32, src: &[u8])
+    requires { at + length src.now ≤ length ram.old }
+    ensures bytes { ram.new ≡ stored ram.old (at, src.now) }
+    ensures same { length ram.new ≡ length ram.old }
+{
+    let _ = ram.copy_in(at, src);
+}
+
+/// Writes zeros at an address of RAM.
+#[tactic(auto, unfolding(crate::specs::Loading::stored))]
+fn write_zeros(ram: &mut Ram, at: u32, n: u32)
+    requires { at + n ≤ length ram.old }
+    ensures bytes { ram.new ≡ stored ram.old (at, replicate n 0) }
+    ensures same { length ram.new ≡ length ram.old }
+{
+    let _ = ram.fill(at, n, 0);
+}
+
+/// Writes the three segments; text is the front of the bytes, up to `cut`, and data the rest.
+fn store(ram: &mut Ram, bytes: &[u8], cut: usize, at: Places, bss: u32)
+    requires cut { cut ≤ length bytes.now }
+    requires text { at.text + cut ≤ length ram.old }
+    requires data { at.«data» + (length bytes.now - cut) ≤ length ram.old }
+    requires bss { at.bss + bss ≤ length ram.old }
+    ensures { ram.new ≡ stored_all ram.old
+        (three_pieces at (take cut bytes.now) (drop cut bytes.now) (replicate bss 0)) }
+{
+    let text = &bytes[..cut];
+    let data = &bytes[cut..];
+    write(ram, at.text, text);
+    write(ram, at.data, data);
+    write_zeros(ram, at.bss, bss);
+}
+
+/// Adds the symbols in order, for which there is room.
+fn add_all(syms: &mut Symbols, list: &mut Vec<Symbol>)
+    requires { length list.old.items ≤ syms.old.spare }
+    ensures { syms.new.list ≡ syms.old.list ++ list.old.items }
+{
+    list.reverse();
+    while let Some(s) = list.pop() {
+        syms.add(s);
+    }
+}
+
+fn segment(need: Need, at: u32) -> Segment
+    requires { need.size < 2 ^ 32 }
+    ensures { result ≡ segment_at need at }
+{
+    Segment {
+        addr: at,
+        size: need.size as u32,
+    }
+}
+
+/// The record of a module.
+pub(crate) fn make_record(name: Name, needs: Needs, at: Places) -> LoadedModule
+    requires text { needs.text.size < 2 ^ 32 }
+    requires data { needs.«data».size < 2 ^ 32 }
+    requires bss { needs.bss.size < 2 ^ 32 }
+    ensures { result ≡ record_of name needs at }
+{
+    LoadedModule {
+        name,
+        segments: [
+            segment(needs.text, at.text),
+            segment(needs.data, at.data),
+            segment(needs.bss, at.bss),
+        ],
+    }
+}
+
+/// Adds the record, for which there are room and an id.
+#[tactic(auto, using(crate::proofs::Kernel::idents_more))]
+fn add_record(table: &mut Table<LoadedModule>, kern: &mut Kern, row: LoadedModule) -> Ident
+    requires room { length table.old.rows < table.old.room }
+    requires left { kern.old.next_id ≤ greatest_id }
+    requires ids { kern.old.lent ≡ false }
+    requires below { IdsBelow kern.old.next_id table.old.rows }
+    requires idents { All HasIdent table.old.rows }
+    ensures id { result ≡ kern.old.next_id }
+    ensures next { kern.new ≡ record kern.old { next_id = kern.old.next_id + 1 } }
+    ensures rows { table.new ≡ added table.old kern.old.next_id row }
+    ensures idents { All HasIdent table.new.rows }
+{
+    match kern.add_to(table, row) {
+        Ok(id) => {
+            let _is_one = id.get();
+            id
+        }
+        Err(_) => unreachable!(),
+    }
+}
+
+/// Writes the image into RAM, adds the symbols and the record, and gives the module its id.
+pub(crate) fn commit(
+    table: &mut Table<LoadedModule>,
+    kern: &mut Kern,
+    syms: &mut Symbols,
+    ram: &mut Ram,
+    row: LoadedModule,
+    cut: usize,
+    at: Places,
+    bss: u32,
+    made: Prepared,
+) -> Loaded
+    requires room { length table.old.rows < table.old.room }
+    requires left { kern.old.next_id ≤ greatest_id }
+    requires ids { kern.old.lent ≡ false }
+    requires below { IdsBelow kern.old.next_id table.old.rows }
+    requires idents { All HasIdent table.old.rows }
+    requires symbols { length made.exports.items ≤ syms.old.spare }
+    requires cut { cut ≤ length made.bytes.items }
+    requires text { at.text + cut ≤ length ram.old }
+    requires data { at.«data» + (length made.bytes.items - cut) ≤ length ram.old }
+    requires bss { at.bss + bss ≤ length ram.old }
+    ensures id { result.id ≡ kern.old.next_id }
+    ensures undefined { result.undefined ≡ made.undefined }
+    ensures next { kern.new ≡ record kern.old { next_id = kern.old.next_id + 1 } }
+    ensures rows { table.new ≡ added table.old kern.old.next_id row }
+    ensures idents { All HasIdent table.new.rows }
+    ensures symbols { syms.new.list ≡ syms.old.list ++ made.exports.items }
+    ensures ram { ram.new ≡ stored_all ram.old
+        (three_pieces at (take cut made.bytes.items) (drop cut made.bytes.items) (replicate bss 0)) }
+{
+    let Prepared {
+        bytes,
+        mut exports,
+        undefined,
+    } = made;
+    store(ram, &bytes, cut, at, bss);
+    add_all(syms, &mut exports);
+    let id = add_record(table, kern, row);
+    Loaded { id, undefined }
+}

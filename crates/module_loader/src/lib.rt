@@ -1,0 +1,15 @@
+//! The module loader: a module is loaded whole or not at all, and unloaded.
+#![tactic(auto)]
+
+mod blocks;
+mod commit;
+mod counts;
+mod laws;
+mod loader;
+mod module;
+mod modules;
+mod names;
+
+pub use laws::{hold_law, live_law, write_law};
+pub use module::{LoadErr, Loaded, LoadedModule, NoSuchModule, Segment};
+pub use modules::Modules;

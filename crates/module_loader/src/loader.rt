@@ -1,0 +1,172 @@
+//! Loading a module.
+
+ghost use Rattle.std.specs.Prelude.{◌≡◌, ◌<◌, ◌≤◌, ◌+◌, ◌^◌, Ok, false, IfOk, IfErr, OnOk, OnErr, length, All};
+ghost use Rattle.wind_base.specs.Limits.{most_modules};
+ghost use Rattle.id_table.specs.Rows.{IdsBelow};
+ghost use Rattle.mem_partition.specs.State.{IsPart};
+ghost use Rattle.elf_read.specs.Contents.{ModuleOf, module_at};
+ghost use Rattle.elf_read.specs.Modules.{IsModule};
+ghost use Rattle.elf_read.specs.Rules.{checked};
+ghost use Rattle.module_image.specs.Needs.{needs_of};
+ghost use Rattle.module_image.specs.Exports.{exports as exports_lem};
+ghost use Rattle.module_image.specs.Binding.{unbound};
+ghost use Rattle.module_image.specs.Image.{image};
+ghost use Rattle.module_image.specs.Making.{IsMade};
+ghost use Rattle.module_loader.specs.Placing.{places_of, with_needs};
+ghost use Rattle.module_loader.specs.Loading.{place_verdict, verdict, file_verdict, told, IsLoaded, IsVerdict};
+ghost use Rattle.module_loader.specs.Modules.{HasIdent};
+ghost use Rattle.module_loader.specs.Steps.{IsFileRefusal, state_of};
+
+use crate::blocks::{give_blocks, take_blocks};
+use crate::commit::{commit, make_record};
+use crate::counts::check_counts;
+use crate::module::{LoadErr, Loaded, LoadedModule};
+use board_mem::Ram;
+use elf_read::{ElfErr, Module, read};
+use id_table::Table;
+use mem_partition::Part;
+use module_image::{Needs, Places, PrepareErr, Prepared, count_added, measure, prepare};
+use std::alloc::Global;
+use symbol_table::Symbols;
+use wind_base::Name;
+use wind_core::Kern;
+
+/// Blocks for a module, and what goes into them. Where it can't be made, the blocks are given back.
+#[tactic(auto, using(crate::proofs::Loads::text_and_data, crate::proofs::Loads::placed_fault, crate::proofs::Taking::needs_back))]
+fn place(
+    alloc: Global,
+    part: &mut Part,
+    syms: &Symbols,
+    m: &Module,
+    needs: Needs,
+    mode: u32,
+    id: u32,
+) -> Result<(Places, Prepared), LoadErr>
+    requires module { IsModule m.now }
+    requires needs { needs ≡ needs_of m.now }
+    ensures placed { IfOk result (λ r. places_of part.old needs ≡ Ok r.0) }
+    ensures made { IfOk result (λ r. IsMade (image m.now syms.now.list r.0) needs r.1.bytes.items) }
+    ensures exports { IfOk result (λ r. r.1.exports.items ≡ exports_lem m.now mode r.0 id) }
+    ensures undefined { IfOk result (λ r. r.1.undefined ≡ unbound syms.now.list m.now.symbols) }
+    ensures after { OnOk result (part.new ≡ with_needs part.old needs) }
+    ensures unchanged { OnErr result (part.new ≡ part.old) }
+    ensures refused { IfErr result (IsVerdict (place_verdict m.now syms.now.list (places_of part.old needs))) }
+    ensures sound { IsPart part.old }
+{
+    let _end = part.end();
+    let at = match take_blocks(part, needs) {
+        Ok(at) => at,
+        Err(e) => return Err(LoadErr::Part(e)),
+    };
+    match prepare(alloc, m, syms, at, mode, id) {
+        Ok(made) => Ok((at, made)),
+        Err(PrepareErr::Reloc(e)) => {
+            give_blocks(part, needs, at);
+            Err(LoadErr::Reloc(e))
+        }
+        Err(PrepareErr::NoMemory) => {
+            give_blocks(part, needs, at);
+            Err(LoadErr::NoMemory)
+        }
+    }
+}
+
+/// Loads a module that was read.
+fn load_module(
+    alloc: Global,
+    table: &mut Table<LoadedModule>,
+    kern: &mut Kern,
+    part: &mut Part,
+    syms: &mut Symbols,
+    ram: &mut Ram,
+    name: Name,
+    m: &Module,
+    mode: u32,
+) -> Result<Loaded, LoadErr>
+    requires module { IsModule m.now }
+    requires room { table.old.room ≡ most_modules }
+    requires ids { kern.old.lent ≡ false }
+    requires below { IdsBelow kern.old.next_id table.old.rows }
+    requires idents { All HasIdent table.old.rows }
+    requires pool { part.old.end ≤ length ram.old }
+    ensures answer { IfOk result
+        (λ l. l ≡ told (state_of kern.old syms.old.list table.old.rows part.old ram.old) m.now) }
+    ensures accepted { OnOk result (IsLoaded
+        (verdict (state_of kern.old syms.old.list table.old.rows part.old ram.old) m.now mode)
+        (state_of kern.old syms.old.list table.old.rows part.old ram.old) name m.now mode
+        (state_of kern.new syms.new.list table.new.rows part.new ram.new)) }
+    ensures refused { IfErr result
+        (IsVerdict (verdict (state_of kern.old syms.old.list table.old.rows part.old ram.old) m.now mode)) }
+    ensures unchanged { OnErr result (state_of kern.new syms.new.list table.new.rows part.new ram.new
+        ≡ state_of kern.old syms.old.list table.old.rows part.old ram.old) }
+    ensures room { table.new.room ≡ most_modules }
+    ensures idents { All HasIdent table.new.rows }
+    ensures sound { OnOk result (IsPart part.old) }
+{
+    let needs = measure(m);
+    let added = count_added(m, mode);
+    let id = match check_counts(table, kern, syms, added) {
+        Ok(id) => id,
+        Err(e) => return Err(e),
+    };
+    let (at, made) = match place(alloc, part, syms, m, needs, mode, id.get()) {
+        Ok(r) => r,
+        Err(e) => return Err(e),
+    };
+    let row = make_record(name, needs, at);
+    let cut = needs.text.size as usize;
+    let bss = needs.bss.size as u32;
+    Ok(commit(table, kern, syms, ram, row, cut, at, bss, made))
+}
+
+/// What a file holds, or why it is refused.
+fn read_file(alloc: Global, file: &[u8]) -> Result<Module, LoadErr>
+    ensures module { IfOk result (ModuleOf file.now) }
+    ensures known { IfOk result IsModule }
+    ensures refused { IfErr result (IsFileRefusal (checked file.now)) }
+{
+    match read(alloc, file) {
+        Ok(m) => Ok(m),
+        Err(ElfErr::NoMemory) => Err(LoadErr::NoMemory),
+        Err(e) => Err(LoadErr::Elf(e)),
+    }
+}
+
+/// Loads the module of a file.
+#[tactic(auto, using(crate::proofs::Files::read_verdict, crate::proofs::Files::file_refused))]
+pub(crate) fn load_file(
+    alloc: Global,
+    table: &mut Table<LoadedModule>,
+    kern: &mut Kern,
+    part: &mut Part,
+    syms: &mut Symbols,
+    ram: &mut Ram,
+    name: Name,
+    file: &[u8],
+    mode: u32,
+) -> Result<Loaded, LoadErr>
+    requires room { table.old.room ≡ most_modules }
+    requires ids { kern.old.lent ≡ false }
+    requires below { IdsBelow kern.old.next_id table.old.rows }
+    requires idents { All HasIdent table.old.rows }
+    requires pool { part.old.end ≤ length ram.old }
+    ensures answer { IfOk result
+        (λ l. l ≡ told (state_of kern.old syms.old.list table.old.rows part.old ram.old) (module_at file.now)) }
+    ensures accepted { OnOk result (IsLoaded
+        (file_verdict (state_of kern.old syms.old.list table.old.rows part.old ram.old) file.now mode)
+        (state_of kern.old syms.old.list table.old.rows part.old ram.old) name (module_at file.now) mode
+        (state_of kern.new syms.new.list table.new.rows part.new ram.new)) }
+    ensures refused { IfErr result
+        (IsVerdict (file_verdict (state_of kern.old syms.old.list table.old.rows part.old ram.old) file.now mode)) }
+    ensures unchanged { OnErr result (state_of kern.new syms.new.list table.new.rows part.new ram.new
+        ≡ state_of kern.old syms.old.list table.old.rows part.old ram.old) }
+    ensures room { table.new.room ≡ most_modules }
+    ensures idents { All HasIdent table.new.rows }
+    ensures sound { OnOk result (IsPart part.old) }
+{
+    let m = match read_file(alloc, file) {
+        Ok(m) => m,
+        Err(e) => return Err(e),
+    };
+    load_module(alloc, table, kern, part, syms, ram, name, &m, mode)
+}

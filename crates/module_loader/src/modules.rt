@@ -1,0 +1,192 @@
+//! The live modules.
+
+ghost use Rattle.std.specs.Prelude.{◌≡◌, ◌↔◌, [], IfOk, IfErr, OnOk, OnErr, IsOk, IsSome, Some, option_copied, All};
+ghost use Rattle.id_table.specs.Rows.{object_of, next_above, without, removed};
+ghost use Rattle.symbol_table.specs.State.{without_group};
+ghost use Rattle.elf_read.specs.Contents.{module_at};
+ghost use Rattle.module_loader.specs.Loading.{file_verdict, told, IsLoaded, IsVerdict};
+ghost use Rattle.module_loader.specs.Steps.{state_of};
+ghost use Rattle.module_loader.specs.Holding.{AreHeld, KeepsModules};
+ghost use Rattle.module_loader.specs.Modules.{HasIdent, newest_named, without_segment, without_segments};
+
+use crate::loader::load_file;
+use crate::module::{LoadErr, Loaded, LoadedModule, NoSuchModule, Segment};
+use crate::names::newest_in;
+use board_mem::Ram;
+use id_table::{Ident, Table};
+use mem_partition::{Class, Part};
+use std::alloc::Global;
+use std::marker::Model;
+use symbol_table::Symbols;
+use wind_base::limits::MODULES;
+use wind_base::{Name, NoMemory};
+use wind_core::Kern;
+
+/// The live modules, 256 at most. Contracts see them by rising id.
+#[derive(Drop)]
+pub struct Modules {
+    alloc: Global,
+    table: Table<LoadedModule>,
+}
+
+impl Model for Modules {
+    ghost use Rattle.std.specs.Prelude.{◌≡◌, List, ℕ, All};
+    ghost use Rattle.wind_base.specs.Limits.{most_modules};
+    ghost use Rattle.module_loader.specs.declared.module.LoadedModule.{LoadedModule};
+    ghost use Rattle.module_loader.specs.Modules.{HasIdent};
+
+    ghost Value = { List (ℕ × LoadedModule) };
+
+    ghost view = { λ m. m.table.rows };
+
+    ghost invariant = { λ m. (m.table.room ≡ most_modules) × All HasIdent m.table.rows };
+}
+
+impl Modules {
+    /// No module, with room for 256.
+    pub fn new(alloc: Global) -> Result<Modules, NoMemory>
+        ensures { IfOk result (λ m. m ≡ []) }
+    {
+        Ok(Modules {
+            alloc,
+            table: Table::reserved(alloc, MODULES)?,
+        })
+    }
+
+    /// Loads the module of an object file under a name, with its segments text, data and bss in blocks of their own, or
+    /// changes nothing. The mode says which symbols are added: with 0xffffffff none, with 1 local ones too, and else
+    /// global and weak ones. A reference that the module doesn't define is bound to the newest global of its name, or
+    /// else counts as 0.
+    pub fn load(
+        &mut self,
+        kern: &mut Kern,
+        part: &mut Part,
+        syms: &mut Symbols,
+        ram: &mut Ram,
+        name: Name,
+        file: &[u8],
+        mode: u32,
+    ) -> Result<Loaded, LoadErr>
+        requires { KeepsModules (state_of kern.old syms.old.list self.old part.old ram.old) }
+        ensures answer { IfOk result
+            (λ l. l ≡ told (state_of kern.old syms.old.list self.old part.old ram.old) (module_at file.now)) }
+        ensures accepted { OnOk result (IsLoaded
+            (file_verdict (state_of kern.old syms.old.list self.old part.old ram.old) file.now mode)
+            (state_of kern.old syms.old.list self.old part.old ram.old) name (module_at file.now) mode
+            (state_of kern.new syms.new.list self.new part.new ram.new)) }
+        ensures refused { IfErr result
+            (IsVerdict (file_verdict (state_of kern.old syms.old.list self.old part.old ram.old) file.now mode)) }
+        ensures unchanged { OnErr result (state_of kern.new syms.new.list self.new part.new ram.new
+            ≡ state_of kern.old syms.old.list self.old part.old ram.old) }
+        ensures kept { KeepsModules (state_of kern.new syms.new.list self.new part.new ram.new) }
+    {
+        load_file(
+            self.alloc,
+            &mut self.table,
+            kern,
+            part,
+            syms,
+            ram,
+            name,
+            file,
+            mode,
+        )
+    }
+
+    /// Unloads a module: its record, its symbols and its blocks go. No byte of RAM changes, and what other modules
+    /// bound to its symbols stays as it was.
+    #[tactic(auto, using(crate::proofs::Kernel::no_live))]
+    pub fn unload(
+        &mut self,
+        part: &mut Part,
+        syms: &mut Symbols,
+        id: u32,
+    ) -> Result<(), NoSuchModule>
+        requires { AreHeld self.old part.old }
+        ensures live { IsOk result ↔ IsSome (object_of self.old id) }
+        ensures modules { OnOk result (self.new ≡ without self.old id) }
+        ensures symbols { OnOk result (syms.new.list ≡ without_group id syms.old.list) }
+        ensures blocks { OnOk result (part.new ≡ without_segments part.old (object_of self.old id)) }
+        ensures unchanged { OnErr result
+            ((self.new ≡ self.old) × (syms.new ≡ syms.old) × (part.new ≡ part.old)) }
+        ensures held { AreHeld self.new part.new }
+    {
+        // each id of the table is one, which is known once it is looked at
+        let _table = &self.table;
+        let Some(id) = Ident::new(id) else {
+            return Err(NoSuchModule);
+        };
+        unload_from(&mut self.table, part, syms, id)
+    }
+
+    /// The live module of this id.
+    #[tactic(auto, using(crate::proofs::Kernel::no_ident))]
+    pub fn get(&self, id: u32) -> Option<&LoadedModule>
+        ensures { option_copied result ≡ object_of self.now id }
+    {
+        match Ident::new(id) {
+            Some(id) => self.table.get(id),
+            None => None,
+        }
+    }
+
+    /// The newest live module of this name.
+    pub fn newest_named(&self, name: &[u8]) -> Option<Ident>
+        ensures { result ≡ newest_named self.now name.now }
+    {
+        newest_in(&self.table, name)
+    }
+
+    /// The least live id above a number.
+    pub fn next_after(&self, id: u32) -> Option<Ident>
+        ensures { result ≡ next_above self.now id }
+    {
+        self.table.next_after(id)
+    }
+}
+
+fn free_segment(part: &mut Part, segment: Segment)
+    ensures { part.new ≡ without_segment part.old segment }
+{
+    if segment.size != 0 {
+        let _ = part.free(segment.addr, Class::Kernel);
+    }
+}
+
+fn free_segments(part: &mut Part, row: &LoadedModule)
+    ensures { part.new ≡ without_segments part.old (Some row.now) }
+{
+    let segments: &[Segment] = &row.segments;
+    for g in segments {
+        free_segment(part, *g);
+    }
+}
+
+#[tactic(auto, using(crate::proofs::Holds::of_module, crate::proofs::Kernel::idents_without))]
+fn unload_from(
+    table: &mut Table<LoadedModule>,
+    part: &mut Part,
+    syms: &mut Symbols,
+    id: Ident,
+) -> Result<(), NoSuchModule>
+    requires held { AreHeld table.old.rows part.old }
+    requires idents { All HasIdent table.old.rows }
+    ensures held { AreHeld table.new.rows part.new }
+    ensures idents { All HasIdent table.new.rows }
+    ensures live { IsOk result ↔ IsSome (object_of table.old.rows id) }
+    ensures rows { OnOk result (table.new ≡ removed table.old id) }
+    ensures symbols { OnOk result (syms.new.list ≡ without_group id syms.old.list) }
+    ensures blocks { OnOk result (part.new ≡ without_segments part.old (object_of table.old.rows id)) }
+    ensures unchanged { OnErr result
+        ((table.new ≡ table.old) × (syms.new ≡ syms.old) × (part.new ≡ part.old)) }
+{
+    if !table.contains(id) {
+        return Err(NoSuchModule);
+    }
+    match table.remove(id) {
+        Some(row) => free_segments(part, &row),
+        None => unreachable!(),
+    }
+    let _ = syms.remove_group(id.get());
+    Ok(())
+}
