@@ -14,6 +14,8 @@ mod spawning;
 mod starting;
 mod symbol_rows;
 mod task_rows;
+#[cfg(test)]
+mod tests;
 mod world;
 
 pub use actor::{Actor, caller_regs};
