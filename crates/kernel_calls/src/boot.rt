@@ -128,7 +128,8 @@ impl World {
     #[tactic(auto, unfolding(crate::specs::Opening::opening_world))]
     pub fn boot(alloc: Global, slots: Slots) -> Result<World, Slots>
         requires { length slots.items ≤ most_slots }
-        ensures ok { IfOk result (λ w. world_seen ⟦<dyn Device as Device>⟧ w ≡ opening_world (slots_of kind_of words_of slots.items)) }
+        ensures ok { IfOk result (λ w. world_seen ⟦<dyn Device as Device>⟧ w
+            ≡ opening_world (slots_of kind_of words_of slots.items)) }
         ensures room { IfOk result (λ w. 12291 ≤ w.out.room) }
         ensures err { IfErr result (λ back. back ≡ slots) }
     {

@@ -81,7 +81,8 @@ fn put_in_r3(level: &mut Option<Regs>, value: u32)
 // The caller goes on behind its gate.
 fn leave_gate(w: &mut World, who: &Actor)
     requires { Acts w.old.kern who.now }
-    ensures world { world_seen ⟦<dyn Device as Device>⟧ w.new ≡ left_gate (world_seen ⟦<dyn Device as Device>⟧ w.old) who.now }
+    ensures world { world_seen ⟦<dyn Device as Device>⟧ w.new
+        ≡ left_gate (world_seen ⟦<dyn Device as Device>⟧ w.old) who.now }
     ensures out { w.new.out ≡ w.old.out }
 {
     match who {
@@ -93,7 +94,8 @@ fn leave_gate(w: &mut World, who: &Actor)
 // The caller is answered in r3.
 fn give_answer(w: &mut World, who: &Actor, value: u32)
     requires { Acts w.old.kern who.now }
-    ensures world { world_seen ⟦<dyn Device as Device>⟧ w.new ≡ with_answer (world_seen ⟦<dyn Device as Device>⟧ w.old) who.now value }
+    ensures world { world_seen ⟦<dyn Device as Device>⟧ w.new
+        ≡ with_answer (world_seen ⟦<dyn Device as Device>⟧ w.old) who.now value }
     ensures out { w.new.out ≡ w.old.out }
 {
     match who {
@@ -105,7 +107,8 @@ fn give_answer(w: &mut World, who: &Actor, value: u32)
 // The caller is answered; one that pends is answered later.
 fn reply_to(w: &mut World, gate: Gate, who: &Actor, reply: &Reply)
     requires { Acts w.old.kern who.now }
-    ensures world { world_seen ⟦<dyn Device as Device>⟧ w.new ≡ replied gate (world_seen ⟦<dyn Device as Device>⟧ w.old) who.now reply.now }
+    ensures world { world_seen ⟦<dyn Device as Device>⟧ w.new
+        ≡ replied gate (world_seen ⟦<dyn Device as Device>⟧ w.old) who.now reply.now }
     ensures out { w.new.out ≡ w.old.out }
 {
     match reply {
@@ -136,7 +139,8 @@ fn make(alloc: Global, w: &mut World, gate: Gate, who: &Actor) -> Result<Reply, 
     requires kept { IsWorld (world_with [] w.old) }
     requires early { IsEarly (world_with [] w.old) }
     requires room { 4096 ≤ w.old.out.room }
-    ensures ok { IfOk result (λ r. with_reply (world_seen ⟦<dyn Device as Device>⟧ w.new) r ≡ made gate (world_seen ⟦<dyn Device as Device>⟧ w.old) who.now) }
+    ensures ok { IfOk result (λ r. with_reply (world_seen ⟦<dyn Device as Device>⟧ w.new) r
+        ≡ made gate (world_seen ⟦<dyn Device as Device>⟧ w.old) who.now) }
     ensures memory { OnErr result (may_lack_memory_lem gate ≡ true) }
     ensures err { OnErr result (world_seen ⟦<dyn Device as Device>⟧ w.new ≡ world_seen ⟦<dyn Device as Device>⟧ w.old) }
     ensures space { KeepsSpace w.old.out w.new.out }
@@ -155,19 +159,23 @@ fn make(alloc: Global, w: &mut World, gate: Gate, who: &Actor) -> Result<Reply, 
     Ok(plain_row(w, gate, *who, &regs.gpr))
 }
 
-/// Makes a call of the kernel by its gate: the caller goes on behind its gate, the effect of the gate's row is made, and
-/// the caller is answered in r3, at once or at the end of its wait. Host memory may run out only at `symAdd`, and the
-/// world is then as it was.
+/// Makes a call of the kernel by its gate: the caller goes on behind its gate, the effect of the gate's row is made,
+/// and the caller is answered in r3, at once or at the end of its wait. Host memory may run out only at `symAdd`, and
+/// the world is then as it was.
 pub fn kernel_call(alloc: Global, w: &mut World, gate: Gate, who: &Actor) -> Called
     requires built { is_built gate ≡ true }
     requires caller { Acts w.old.kern who.now }
     requires kept { IsWorld (world_with [] w.old) }
     requires early { IsEarly (world_with [] w.old) }
     requires room { 4096 ≤ w.old.out.room }
-    ensures made { result ≢ called.NoMemory → world_seen ⟦<dyn Device as Device>⟧ w.new ≡ call gate (world_seen ⟦<dyn Device as Device>⟧ w.old) who.now }
-    ensures answer { result ≢ called.NoMemory → result ≡ (if pends gate (world_seen ⟦<dyn Device as Device>⟧ w.old) who.now then called.Pended else called.Done) }
+    ensures made { result ≢ called.NoMemory →
+        world_seen ⟦<dyn Device as Device>⟧ w.new ≡ call gate (world_seen ⟦<dyn Device as Device>⟧ w.old) who.now }
+    ensures answer { result ≢ called.NoMemory →
+        result ≡ (if pends gate (world_seen ⟦<dyn Device as Device>⟧ w.old) who.now
+            then called.Pended else called.Done) }
     ensures memory { result ≡ called.NoMemory → may_lack_memory_lem gate ≡ true }
-    ensures unchanged { result ≡ called.NoMemory → world_seen ⟦<dyn Device as Device>⟧ w.new ≡ world_seen ⟦<dyn Device as Device>⟧ w.old }
+    ensures unchanged { result ≡ called.NoMemory →
+        world_seen ⟦<dyn Device as Device>⟧ w.new ≡ world_seen ⟦<dyn Device as Device>⟧ w.old }
     ensures kept { IsWorld (world_with [] w.new) }
     ensures space { KeepsSpace w.old.out w.new.out }
 {

@@ -31,7 +31,10 @@ fn spawn_task(w: &mut World, gpr: &[u32; 32]) -> Reply
     requires home { w.old.kern.lent ≡ false }
     requires end { w.old.part.end ≡ ram_bytes }
     requires early { IsEarly (world_with [] w.old) }
-    ensures row { with_reply (world_seen ⟦<dyn Device as Device>⟧ w.new) result ≡ of_spawn (world_seen ⟦<dyn Device as Device>⟧ w.old) (spawned_if (spawn_state (world_seen ⟦<dyn Device as Device>⟧ w.old)) (task_wanted_lem w.old.bus.ram gpr.now)) }
+    ensures row { with_reply (world_seen ⟦<dyn Device as Device>⟧ w.new) result
+        ≡ of_spawn (world_seen ⟦<dyn Device as Device>⟧ w.old)
+            (spawned_if (spawn_state (world_seen ⟦<dyn Device as Device>⟧ w.old))
+                (task_wanted_lem w.old.bus.ram gpr.now)) }
     ensures out { w.new.out ≡ w.old.out }
 {
     let wanted = task_wanted(&w.bus.ram, gpr);
@@ -50,7 +53,10 @@ fn spawn_quickly(w: &mut World, gpr: &[u32; 32]) -> Reply
     requires end { w.old.part.end ≡ ram_bytes }
     requires early { IsEarly (world_with [] w.old) }
     requires room { 4096 ≤ w.old.out.room }
-    ensures row { with_reply (world_seen ⟦<dyn Device as Device>⟧ w.new) result ≡ of_quick (world_seen ⟦<dyn Device as Device>⟧ w.old) (spawned_if (spawn_state (world_seen ⟦<dyn Device as Device>⟧ w.old)) (quick_wanted_lem w.old.bus.ram gpr.now)) }
+    ensures row { with_reply (world_seen ⟦<dyn Device as Device>⟧ w.new) result
+        ≡ of_quick (world_seen ⟦<dyn Device as Device>⟧ w.old)
+            (spawned_if (spawn_state (world_seen ⟦<dyn Device as Device>⟧ w.old))
+                (quick_wanted_lem w.old.bus.ram gpr.now)) }
     ensures space { KeepsSpace w.old.out w.new.out }
 {
     let number = w.names;
@@ -69,7 +75,9 @@ fn spawn_quickly(w: &mut World, gpr: &[u32; 32]) -> Reply
 // taskPriorityGet: the priority goes to a word of RAM
 fn get_priority(w: &mut World, who: Actor, id: u32, address: u32) -> Reply
     requires live { Acts w.old.kern who }
-    ensures row { with_reply (world_seen ⟦<dyn Device as Device>⟧ w.new) result ≡ priority_in (world_seen ⟦<dyn Device as Device>⟧ w.old) address (task_at w.old.kern (target_lem w.old.kern who id)) }
+    ensures row { with_reply (world_seen ⟦<dyn Device as Device>⟧ w.new) result
+        ≡ priority_in (world_seen ⟦<dyn Device as Device>⟧ w.old) address
+            (task_at w.old.kern (target_lem w.old.kern who id)) }
     ensures out { w.new.out ≡ w.old.out }
 {
     let Some(id) = target(&w.kern, who, id) else {
@@ -100,7 +108,8 @@ fn errno_of(w: &World, who: Actor) -> u32
 // errnoSet, and what a refusal sets
 pub(crate) fn set_errno(w: &mut World, who: &Actor, number: u32)
     requires { Acts w.old.kern who.now }
-    ensures world { world_seen ⟦<dyn Device as Device>⟧ w.new ≡ with_errno (world_seen ⟦<dyn Device as Device>⟧ w.old) who.now number }
+    ensures world { world_seen ⟦<dyn Device as Device>⟧ w.new
+        ≡ with_errno (world_seen ⟦<dyn Device as Device>⟧ w.old) who.now number }
     ensures out { w.new.out ≡ w.old.out }
 {
     match who {
@@ -117,7 +126,8 @@ pub(crate) fn lacking_row(
     gpr: &[u32; 32],
 ) -> Result<Reply, NoMemory>
     requires { may_lack_memory gate ≡ true }
-    ensures ok { IfOk result (λ r. with_reply (world_seen ⟦<dyn Device as Device>⟧ w.new) r ≡ row_lem gate (world_seen ⟦<dyn Device as Device>⟧ w.old) actors.Interrupt gpr.now) }
+    ensures ok { IfOk result (λ r. with_reply (world_seen ⟦<dyn Device as Device>⟧ w.new) r
+        ≡ row_lem gate (world_seen ⟦<dyn Device as Device>⟧ w.old) actors.Interrupt gpr.now) }
     ensures err { OnErr result (world_seen ⟦<dyn Device as Device>⟧ w.new ≡ world_seen ⟦<dyn Device as Device>⟧ w.old) }
     ensures kern { w.new.kern ≡ w.old.kern }
     ensures out { w.new.out ≡ w.old.out }
@@ -144,7 +154,8 @@ pub(crate) fn plain_row(w: &mut World, gate: Gate, who: Actor, gpr: &[u32; 32]) 
     requires end { w.old.part.end ≡ ram_bytes }
     requires early { IsEarly (world_with [] w.old) }
     requires room { 4096 ≤ w.old.out.room }
-    ensures row { with_reply (world_seen ⟦<dyn Device as Device>⟧ w.new) result ≡ row_lem gate (world_seen ⟦<dyn Device as Device>⟧ w.old) who gpr.now }
+    ensures row { with_reply (world_seen ⟦<dyn Device as Device>⟧ w.new) result
+        ≡ row_lem gate (world_seen ⟦<dyn Device as Device>⟧ w.old) who gpr.now }
     ensures space { KeepsSpace w.old.out w.new.out }
 {
     match gate {

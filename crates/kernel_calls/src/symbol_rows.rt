@@ -42,7 +42,8 @@ fn add_kind(
     kind: Option<SymKind>,
 ) -> Result<Reply, NoMemory>
     requires { length name.now ≤ longest_name }
-    ensures ok { IfOk result (λ r. (r ≡ (with_kind_lem syms.old.list name.now value kind).reply) × (syms.new.list ≡ (with_kind_lem syms.old.list name.now value kind).symbols)) }
+    ensures ok { IfOk result (λ r. (r ≡ (with_kind_lem syms.old.list name.now value kind).reply)
+        × (syms.new.list ≡ (with_kind_lem syms.old.list name.now value kind).symbols)) }
     ensures err { OnErr result (syms.new.list ≡ syms.old.list) }
 {
     let Some(kind) = kind else {
@@ -74,7 +75,9 @@ pub(crate) fn add_symbol(
     table: u32,
     symbol: NewSymbol,
 ) -> Result<Reply, NoMemory>
-    ensures ok { IfOk result (λ r. (r ≡ (symbol_row syms.old.list ram.now table symbol.name symbol.value symbol.kind).reply) × (syms.new.list ≡ (symbol_row syms.old.list ram.now table symbol.name symbol.value symbol.kind).symbols)) }
+    ensures ok { IfOk result (λ r.
+        (r ≡ (symbol_row syms.old.list ram.now table symbol.name symbol.value symbol.kind).reply)
+        × (syms.new.list ≡ (symbol_row syms.old.list ram.now table symbol.name symbol.value symbol.kind).symbols)) }
     ensures err { OnErr result (syms.new.list ≡ syms.old.list) }
 {
     if table != 0 {

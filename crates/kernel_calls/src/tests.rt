@@ -3,7 +3,7 @@
 ghost use Rattle.std.specs.Prelude.{◌≡◌, ◌<◌, ◌+◌, ◌^◌, true};
 ghost use Rattle.kernel_calls.specs.Actors.{Acts};
 
-use crate::{Actor, Called, World, end_task, is_built, kernel_call, starting_regs, world_law};
+use crate::{Actor, Called, World, end_task, is_built, kernel_call, starting_regs};
 use id_table::Ident;
 use std::alloc::Global;
 use std::marker::Model;
@@ -58,7 +58,6 @@ fn acts(kern: &Kern, who: &Actor) -> bool
 impl Bench {
     // The world at the start, without devices.
     fn new(rt: &HostRuntime) -> Result<Bench, Fail> {
-        world_law();
         let slots: Slots = Vec::new(rt.alloc());
         let Ok(world) = World::boot(rt.alloc(), slots) else {
             return Err("memory")?;
@@ -98,14 +97,12 @@ impl Bench {
         if !is_built(gate) || !acts(&self.world.kern, who) {
             return None;
         }
-        world_law();
         let called = kernel_call(alloc, &mut self.world, gate, who);
         self.calls += 1;
         Some(called)
     }
 
     fn end(&mut self, who: Ident) {
-        world_law();
         end_task(&mut self.world, who);
     }
 }
