@@ -1,5 +1,5 @@
 -- What the calls on watchdogs make of them (VxWorks 5.4 Reference Manual, wdLib), and the interrupt level.
-use Rattle.std.specs.Prelude.{ℕ, ◌+◌, ◌*◌, ◌-◌, nat_lt, nat_le, if◌then◌else◌, max, List, [], ◌∷◌, ◌++◌, map, length, replicate, slice_set, Option, None, Some}
+use Rattle.std.specs.Prelude.{ℕ, ◌+◌, ◌*◌, ◌-◌, nat_lt, nat_le, if◌then◌else◌, max, List, [], ◌∷◌, ◌++◌, map, replicate, slice_set, Option, None, Some}
 use Rattle.wind_base.specs.Limits.{most_watchdogs, greatest_id, frame_bytes, gates_start, gate_bytes}
 use Rattle.wind_base.specs.declared.errno.Errno.{Errno}
 use Rattle.wind_base.specs.declared.errno.Errno.TheVariants as errors

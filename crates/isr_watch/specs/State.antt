@@ -1,5 +1,5 @@
 -- Watchdogs and the interrupt level, as a contract sees them.
-use Rattle.std.specs.Prelude.{◌≡◌, ℕ, ◌<◌, ◌≤◌, Bool, false, nat_lt, nat_le, List, [], length, Option, None, Some}
+use Rattle.std.specs.Prelude.{◌≡◌, ℕ, ◌≤◌, Bool, false, nat_lt, nat_le, List, [], length, Option, None, Some}
 use Rattle.wind_base.specs.Limits.{most_watchdogs}
 use Rattle.wind_base.specs.declared.regs.Regs.{Regs}
 use Rattle.wind_lists.specs.Records.{of_id, Rising}

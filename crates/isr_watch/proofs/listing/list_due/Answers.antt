@@ -1,4 +1,4 @@
-use Rattle.std.proofs.Common.{ℕ, ap, ◌∙◌, ◌++◌, [], ◌∷◌, map, refl, sym, arith, append_assoc}
+use Rattle.std.proofs.Common.{ap, ◌∙◌, ◌++◌, [], ◌∷◌, map, refl, sym, arith, append_assoc}
 use Rattle.std.proofs.lemmas.List.{length-map}
 use Rattle.id_table.specs.Rows.{row_object, objects, with_object}
 use Rattle.isr_watch.specs.State.{watchdog_routine, due_watchdogs}

@@ -5,7 +5,7 @@ use Rattle.wind_core.specs.State.{KernState}
 use Rattle.isr_watch.specs.declared.watchdog.Watchdog.{Watchdog}
 use Rattle.isr_watch.specs.State.{WatchState}
 use Rattle.isr_watch.specs.Calls.{create_refusal, created}
-use Rattle.isr_watch.specs.Laws.{AllBelow, IdsLaw}
+use Rattle.isr_watch.specs.Laws.{AllBelow}
 use Rattle.isr_watch.proofs.Ids.{ids_stay}
 use Rattle.isr_watch.proofs.tests.Post.create.Goals as goal
 
