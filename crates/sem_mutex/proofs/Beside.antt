@@ -9,7 +9,7 @@ use Rattle.task_block.specs.declared.task.Task.{Task}
 use Rattle.task_block.specs.declared.task.NewTask.{NewTask}
 use Rattle.wind_core.specs.State.{KernState, task_of}
 use Rattle.wind_core.specs.Orders.{waiters, due, running}
-use Rattle.wind_core.specs.Moves.{move_task, new_task, spawn, remove, wake_at, pended, pend, delayed, delay, released, release, answered, end_wait, end_waits, wake_all, suspended, suspend, resumed, is_suspended, resume, unmarked, reset, set_locks, set_safe, set_errno, set_int_locked, set_again, set_regs, past_gate, leave_gate, with_answer, answer, with_refusal, refuse}
+use Rattle.wind_core.specs.Moves.{move_task, new_task, spawn, remove, wake_at, pended, pend, delayed, delay, released, release, answered, end_wait, end_waits, wake_all, suspended, suspend, resumed, is_suspended, resume, unmarked, reset, set_locks, set_safe, set_errno, set_int_locked, set_again, set_regs, past_gate, leave_gate, with_answer, answer, with_refusal, refuse, unreserved, unreserve}
 use Rattle.wind_core.specs.Releases.{releases, release_all}
 use Rattle.wind_core.specs.Tick.{turn_found, turn_of, take_turn, late_answer, late_errno, time_out, tick_counted, tick}
 use Rattle.wind_core.proofs.Stable.{move_task-stable, tick-stable}
@@ -148,6 +148,9 @@ module _ (ms : List (ℕ × Mutex)) where
 
     pub follows-refuse : (who : ℕ) (e : Errno) → Follows ms k (refuse k who e)
     follows-refuse who e = by_change ms k who (with_refusal e) (λ t. alike ms k t (with_refusal e t) refl refl refl refl refl refl)
+
+    pub follows-unreserve : (who : ℕ) → Follows ms k (unreserve k who)
+    follows-unreserve who = by_change ms k who unreserved (λ t. alike ms k t (unreserved t) refl refl refl refl refl refl)
 
     -- ---- safe sections
     pub follows-lessen : (who n : ℕ) → Follows ms k (lessen k who n)

@@ -11,7 +11,7 @@ use Rattle.sem_mutex.specs.Laws.{BesideLaw, IdleLaw, CallsLaw, Keeps, GoneLaw}
 use Rattle.sem_mutex.proofs.Following.{Follows, follows_keeps}
 use Rattle.inheritance.proofs.Same.{same_law}
 use Rattle.sem_mutex.proofs.Keeping.{take_keeps, give_same}
-use Rattle.sem_mutex.proofs.Beside.{follows-tick, follows-pend, follows-delay, follows-release, follows-release_all, follows-end_wait, follows-wake_all, follows-remove, follows-spawn, follows-ids, follows-last, follows-slice, follows-suspend, follows-resume, follows-reset, follows-set_locks, follows-set_safe, follows-set_errno, follows-set_int_locked, follows-set_again, follows-set_regs, follows-leave_gate, follows-answer, follows-refuse, follows-lessen, follows-lent}
+use Rattle.sem_mutex.proofs.Beside.{follows-tick, follows-pend, follows-delay, follows-release, follows-release_all, follows-end_wait, follows-wake_all, follows-remove, follows-spawn, follows-ids, follows-last, follows-slice, follows-suspend, follows-resume, follows-reset, follows-set_locks, follows-set_safe, follows-set_errno, follows-set_int_locked, follows-set_again, follows-set_regs, follows-leave_gate, follows-answer, follows-refuse, follows-lessen, follows-lent, follows-unreserve}
 use Rattle.wind_lists.specs.Records.{Rising}
 use Rattle.task_safety.specs.declared.deleting.Deed.{Deed}
 use Rattle.task_safety.specs.declared.deleting.Deed.TheVariants.{Refuses, EndsItself, Removes, Awaits}
@@ -70,6 +70,7 @@ beside_law s kept =
       leaving_gate = λ who. by _ (follows-leave_gate ms k who);
       answering = λ who value. by _ (follows-answer ms k who value);
       refusing = λ who e. by _ (follows-refuse ms k who e);
+      unreserving = λ who. by _ (follows-unreserve ms k who);
       guarding = λ who. by _ (follows-set_safe ms k who (safe_of (task_of k.tasks who) + 1));
       lessening = λ who n. by _ (follows-lessen ms k who n);
       deleting = λ caller target is. task_deleted s caller target (deed_of k.tasks caller target) is (deed_says k.tasks caller target) kept;

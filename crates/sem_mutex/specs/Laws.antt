@@ -9,7 +9,7 @@ use Rattle.id_table.specs.declared.ident.Place.{Place}
 use Rattle.task_block.specs.declared.task.NewTask.{NewTask}
 use Rattle.wind_core.specs.State.{KernState, IsKern, Lives}
 use Rattle.wind_core.specs.Orders.{waits_at}
-use Rattle.wind_core.specs.Moves.{spawn, remove, pend, delay, release, end_wait, wake_all, suspend, resume, reset, set_locks, set_safe, set_errno, set_int_locked, set_again, set_regs, leave_gate, answer, refuse}
+use Rattle.wind_core.specs.Moves.{spawn, remove, pend, delay, release, end_wait, wake_all, suspend, resume, reset, set_locks, set_safe, set_errno, set_int_locked, set_again, set_regs, leave_gate, answer, refuse, unreserve}
 use Rattle.wind_core.specs.Releases.{release_all}
 use Rattle.wind_core.specs.Tick.{tick}
 use Rattle.task_safety.specs.Safety.{make_safe, lessen}
@@ -48,6 +48,7 @@ pub record KeptBeside (s : MutexState) : Type 0 where
   pub leaving_gate : (who : ℕ) → Keeps s (leave_gate s.kern who)
   pub answering : (who value : ℕ) → Keeps s (answer s.kern who value)
   pub refusing : (who : ℕ) (e : Errno) → Keeps s (refuse s.kern who e)
+  pub unreserving : (who : ℕ) → Keeps s (unreserve s.kern who)
   pub guarding : (who : ℕ) → Keeps s (make_safe s.kern who)
   pub lessening : (who n : ℕ) → Keeps s (lessen s.kern who n)
   pub deleting : (caller target : ℕ) → IsKern s.kern → Keeps s (delete_task s.kern caller target)

@@ -16,7 +16,7 @@ use Rattle.wind_lists.proofs.Records.{found_id, found_in}
 use Rattle.wind_lists.proofs.Passing.{none_passes}
 use Rattle.wind_core.specs.State.{KernState, IsKern, task_id, task_of}
 use Rattle.wind_core.specs.Orders.{waits_before, is_place, waits_at, waiters}
-use Rattle.wind_core.specs.Moves.{renewed, change_task, renew_task, move_task, new_task, spawn, remove, wake_at, pended, delayed, released, release, answered, end_waits, suspended, resumed, is_suspended, resume, unmarked, reset, with_pri, has_pri, change_pri, set_safe, set_again, past_gate, with_answer, with_refusal}
+use Rattle.wind_core.specs.Moves.{renewed, change_task, renew_task, move_task, new_task, spawn, remove, wake_at, pended, delayed, released, release, answered, end_waits, suspended, resumed, is_suspended, resume, unmarked, reset, with_pri, has_pri, change_pri, set_safe, set_again, past_gate, with_answer, with_refusal, unreserved}
 use Rattle.wind_core.specs.Releases.{releases, release_all}
 use Rattle.wind_core.specs.Tick.{tick}
 use Rattle.wind_core.proofs.Passes.{waits_before-order}
@@ -279,6 +279,7 @@ every_call s is kept = record {
   leaving_gate = λ who. changes s kept who past_gate (λ t. refl) (λ t h. h);
   giving_answer = λ who value. changes s kept who (with_answer value) (λ t. refl) (λ t h. h);
   refusing = λ who e. changes s kept who (with_refusal e) (λ t. refl) (λ t h. h);
+  unreserving = λ who. changes s kept who unreserved (λ t. refl) (λ t h. h);
   noting_last = λ last. kept;
   slicing = λ n. kept;
 }

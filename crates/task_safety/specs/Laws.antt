@@ -6,7 +6,7 @@ use Rattle.id_table.specs.Sides.{deletion_side}
 use Rattle.id_table.specs.declared.ident.Place.{Place}
 use Rattle.task_block.specs.declared.task.NewTask.{NewTask}
 use Rattle.wind_core.specs.State.{KernState, IsKern, Lives, task_of}
-use Rattle.wind_core.specs.Moves.{spawn, remove, pend, delay, release, end_wait, wake_all, suspend, resume, reset, change_pri, set_locks, set_normal, set_held, set_errno, set_int_locked, set_again, set_regs, leave_gate, answer, refuse}
+use Rattle.wind_core.specs.Moves.{spawn, remove, pend, delay, release, end_wait, wake_all, suspend, resume, reset, change_pri, set_locks, set_normal, set_held, set_errno, set_int_locked, set_again, set_regs, leave_gate, answer, refuse, unreserve}
 use Rattle.wind_core.specs.Tick.{tick}
 use Rattle.task_safety.specs.Safety.{safe_of, make_safe, lessen}
 use Rattle.task_safety.specs.Deletion.{delete}
@@ -57,6 +57,7 @@ pub record DeletersKept (s : KernState) : Type 0 where
   pub leaving_gate : (who : ℕ) → KeepsDeleters (leave_gate s who)
   pub giving_answer : (who value : ℕ) → KeepsDeleters (answer s who value)
   pub refusing : (who : ℕ) (e : Errno) → KeepsDeleters (refuse s who e)
+  pub unreserving : (who : ℕ) → KeepsDeleters (unreserve s who)
   pub noting_last : (last : Option ℕ) → KeepsDeleters (record s { last = last })
   pub slicing : (n : ℕ) → KeepsDeleters (record s { slice = n })
 
