@@ -376,9 +376,15 @@ fn symbols_are_added_as_worked_out(rt: HostRuntime) -> Result<(), Fail> {
     let mut bench = with_strings(&rt)?;
     assert_eq!(rt; first_wrong(&rt, &mut bench, &SYMBOL_ROWS), None);
     assert_eq!(rt; bench.world.syms.len(), 25);
-    let kinds = [SymKind::TextSym, SymKind::DataSym, SymKind::BssSym, SymKind::AbsSym];
-    for (i, kind) in (0..4).zip(kinds) {
-        assert_eq!(rt; symbol(&bench, 21 + i), Some((b"pump".as_slice(), 1 + i, kind, true, 0)));
+    let kinds = [
+        (21, 1, SymKind::TextSym),
+        (22, 2, SymKind::DataSym),
+        (23, 3, SymKind::BssSym),
+        (24, 4, SymKind::AbsSym),
+    ];
+    for (place, value, kind) in kinds {
+        let name = b"pump".as_slice();
+        assert_eq!(rt; symbol(&bench, place), Some((name, value, kind, true, 0)));
     }
     Ok(())
 }
@@ -427,8 +433,10 @@ const OVER_FRAME: u32 = 0x00ff_ffdd;
 
 // Words 4 to 10 of a spawn stand behind the registers, from 8(r1) on.
 fn put_more_words(bench: &mut Bench, frame: u32) {
-    for (i, word) in (0..7).zip([4, 5, 6, 7, 8, 9, 10]) {
-        bench.put_word(frame.wrapping_add(8 + 4 * i), word);
+    let mut address = frame.wrapping_add(8);
+    for word in [4, 5, 6, 7, 8, 9, 10] {
+        bench.put_word(address, word);
+        address = address.wrapping_add(4);
     }
 }
 
@@ -477,8 +485,10 @@ fn begun(bench: &Bench, who: u32) -> Option<(u32, u32, [u32; 11])> {
 // The 16 words from an address on.
 fn frame_words(bench: &Bench, address: u32) -> Option<[u32; 16]> {
     let mut words = [0; 16];
-    for (i, word) in (0..16).zip(&mut words) {
-        *word = bench.world.bus.ram.read32(address.wrapping_add(4 * i))?;
+    let mut at = address;
+    for word in &mut words {
+        *word = bench.world.bus.ram.read32(at)?;
+        at = at.wrapping_add(4);
     }
     Some(words)
 }
