@@ -7,4 +7,3 @@ pub mod Advancing
 pub mod Serving
 pub mod Opened
 pub mod Departing
-pub mod Benches

@@ -14,8 +14,6 @@ mod spawning;
 mod starting;
 mod symbol_rows;
 mod task_rows;
-#[cfg(test)]
-mod tests;
 mod world;
 
 pub use actor::{Actor, caller_regs};

@@ -1,5 +1,0 @@
-use Rattle.kernel_calls.proofs.Benches.{used_start}
-use Rattle.kernel_calls.proofs.tests.Bench.new.Goals as goal
-
-pub invariant_of-result : goal.invariant_of-result
-invariant_of-result g c = used_start _ _ c.in-Ok.ensures.ok
