@@ -161,7 +161,7 @@ module _ (w : WorldState) (kept : IsWorld w) where
     kind_few name value (Some kind) = go (leb most_symbols (length w.symbols)) refl where
       go : (b : Bool) → leb most_symbols (length w.symbols) ≡ b
           → length (cond b (refused_symbol w.symbols errors.SymbolsFull)
-              (record { symbols = w.symbols ++ record { name = name; value = value; kind = kind; global = true; group = 0 } ∷ []; reply = Answer 0 })).symbols ≤ most_symbols
+          (record { symbols = w.symbols ++ record { name = name; value = value; kind = kind; global = true; group = 0 } ∷ []; reply = Answer 0 })).symbols ≤ most_symbols
       go true e = kept.symbols
       go false e =
           let s : Symbol = record { name = name; value = value; kind = kind; global = true; group = 0 } in
@@ -200,10 +200,10 @@ module _ (w : WorldState) (kept : IsWorld w) where
     unfolding framed
     framed_size at words =
         let clear : length (cleared w.ram at frame_bytes) ≡ length w.ram =
-            elim (has w.ram at frame_bytes) as (λ b. has w.ram at frame_bytes ≡ b → length (cond b (with_bytes w.ram at (replicate frame_bytes 0)) w.ram) ≡ length w.ram) [
-              | true ↦ λ e. length-with_range w.ram at (replicate frame_bytes 0) e
-              | false ↦ λ e. refl
-            ] refl in
+        elim (has w.ram at frame_bytes) as (λ b. has w.ram at frame_bytes ≡ b → length (cond b (with_bytes w.ram at (replicate frame_bytes 0)) w.ram) ≡ length w.ram) [
+          | true ↦ λ e. length-with_range w.ram at (replicate frame_bytes 0) e
+          | false ↦ λ e. refl
+        ] refl in
         length-written 4 (written 4 (cleared w.ram at frame_bytes) (at + 8) (slice_index words 8)) (at + 12) (slice_index words 9)
         ∙ length-written 4 (cleared w.ram at frame_bytes) (at + 8) (slice_index words 8)
         ∙ clear

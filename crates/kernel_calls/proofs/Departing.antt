@@ -22,7 +22,6 @@ use Rattle.kernel_calls.proofs.Stacks.{pool-free, kernels-other}
 abbrev stacks : List Task → List ℕ
 stacks ts = map (λ t. t.stack) ts
 
-
 -- what holds of each stack holds of fewer
 fewer : (P : ℕ → Type 0) (ts : List Task) (who : ℕ) → All P (stacks ts) → All P (stacks (without task_id ts who))
 fewer P [] who all = all

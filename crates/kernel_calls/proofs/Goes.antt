@@ -176,7 +176,6 @@ module _ (k : KernState) (n : ℕ) (is : IsKern k) (within : LocksWithin n k) wh
   pub goes-delay : (who m : ℕ) → Goes k (delay k who m) n 1
   goes-delay who m = by_renewal k who n (delayed k.tick m) ((every_call_keeps k is).delaying who m) (delayed_id m) (delayed_stack m) (delayed_reserve m) (delayed_locks m) within
 
-
 -- who has no reservation has none after a move
 pub reserved_by : (ts us : List Task) (who : Option ℕ) → ids us ≡ ids ts → reservations us ≡ reservations ts
     → All (λ t. (t.regs.reserve ≡ None) ⊎ (who ≡ Some t.id)) ts → All (λ t. (t.regs.reserve ≡ None) ⊎ (who ≡ Some t.id)) us
@@ -195,5 +194,6 @@ reserved_by (t ∷ ts) (u ∷ us) who i r all =
   where
     heads : {A : Type 0} (a b : A) (xs ys : List A) → a ∷ xs ≡ b ∷ ys → a ≡ b
     heads a b xs ys e = cc
+
     tails : {A : Type 0} (a b : A) (xs ys : List A) → a ∷ xs ≡ b ∷ ys → xs ≡ ys
     tails a b xs ys e = cc

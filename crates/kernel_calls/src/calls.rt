@@ -172,7 +172,7 @@ pub fn kernel_call(alloc: Global, w: &mut World, gate: Gate, who: &Actor) -> Cal
         world_seen ⟦<dyn Device as Device>⟧ w.new ≡ call gate (world_seen ⟦<dyn Device as Device>⟧ w.old) who.now }
     ensures answer { result ≢ called.NoMemory →
         result ≡ (if pends gate (world_seen ⟦<dyn Device as Device>⟧ w.old) who.now
-            then called.Pended else called.Done) }
+        then called.Pended else called.Done) }
     ensures memory { result ≡ called.NoMemory → may_lack_memory_lem gate ≡ true }
     ensures unchanged { result ≡ called.NoMemory →
         world_seen ⟦<dyn Device as Device>⟧ w.new ≡ world_seen ⟦<dyn Device as Device>⟧ w.old }

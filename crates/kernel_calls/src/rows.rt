@@ -19,7 +19,8 @@ use crate::reply::{DONE, Reply};
 use crate::spawning::{quick_wanted, spawn_if, task_wanted, tell_spawn};
 use crate::symbol_rows::{NewSymbol, add_symbol};
 use crate::task_rows::{
-    delay, lock, own_id, resume, set_priority, slice, suspend, target, task_of_name, ticks, unlock, verify,
+    delay, lock, own_id, resume, set_priority, slice, suspend, target, task_of_name, ticks, unlock,
+    verify,
 };
 use crate::world::World;
 use std::alloc::Global;
@@ -33,8 +34,8 @@ fn spawn_task(w: &mut World, gpr: &[u32; 32]) -> Reply
     requires early { IsEarly (world_with [] w.old) }
     ensures row { with_reply (world_seen ⟦<dyn Device as Device>⟧ w.new) result
         ≡ of_spawn (world_seen ⟦<dyn Device as Device>⟧ w.old)
-            (spawned_if (spawn_state (world_seen ⟦<dyn Device as Device>⟧ w.old))
-                (task_wanted_lem w.old.bus.ram gpr.now)) }
+        (spawned_if (spawn_state (world_seen ⟦<dyn Device as Device>⟧ w.old))
+        (task_wanted_lem w.old.bus.ram gpr.now)) }
     ensures out { w.new.out ≡ w.old.out }
 {
     let wanted = task_wanted(&w.bus.ram, gpr);
@@ -55,8 +56,8 @@ fn spawn_quickly(w: &mut World, gpr: &[u32; 32]) -> Reply
     requires room { 4096 ≤ w.old.out.room }
     ensures row { with_reply (world_seen ⟦<dyn Device as Device>⟧ w.new) result
         ≡ of_quick (world_seen ⟦<dyn Device as Device>⟧ w.old)
-            (spawned_if (spawn_state (world_seen ⟦<dyn Device as Device>⟧ w.old))
-                (quick_wanted_lem w.old.bus.ram gpr.now)) }
+        (spawned_if (spawn_state (world_seen ⟦<dyn Device as Device>⟧ w.old))
+        (quick_wanted_lem w.old.bus.ram gpr.now)) }
     ensures space { KeepsSpace w.old.out w.new.out }
 {
     let number = w.names;
@@ -77,7 +78,7 @@ fn get_priority(w: &mut World, who: Actor, id: u32, address: u32) -> Reply
     requires live { Acts w.old.kern who }
     ensures row { with_reply (world_seen ⟦<dyn Device as Device>⟧ w.new) result
         ≡ priority_in (world_seen ⟦<dyn Device as Device>⟧ w.old) address
-            (task_at w.old.kern (target_lem w.old.kern who id)) }
+        (task_at w.old.kern (target_lem w.old.kern who id)) }
     ensures out { w.new.out ≡ w.old.out }
 {
     let Some(id) = target(&w.kern, who, id) else {

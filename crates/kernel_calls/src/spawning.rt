@@ -24,6 +24,7 @@ const LEAST_STACK: u32 = 512;
 
 // The priority and the stack of a task that `sp` makes.
 const QUICK_PRIORITY: u32 = 100;
+
 const QUICK_STACK: u32 = 20_000;
 
 // A task that is asked for.
@@ -122,7 +123,9 @@ pub(crate) fn quick_wanted(ram: &Ram, gpr: &[u32; 32]) -> Result<Wanted, Errno>
         pri: quick_priority(),
         stack: QUICK_STACK,
         start: gpr[3],
-        words: [gpr[4], gpr[5], gpr[6], gpr[7], gpr[8], gpr[9], gpr[10], h, i, 0],
+        words: [
+            gpr[4], gpr[5], gpr[6], gpr[7], gpr[8], gpr[9], gpr[10], h, i, 0,
+        ],
     })
 }
 
