@@ -100,7 +100,7 @@ fn is_early(kern: &Kern) -> bool
     ensures since { result ≡ true → kern.now.next_since < 2 ^ 61 }
     ensures tick { result ≡ true → kern.now.tick < 2 ^ 61 }
 {
-    kern.order_numbers() < 1 << 61 && kern.ticks() < 1 << 61
+    kern.next_since() < 1 << 61 && kern.ticks() < 1 << 61
 }
 
 // Whether a call is made by a task that is ready, or by none.
