@@ -4,7 +4,7 @@ use Rattle.std.specs.Prelude.{nat_lt, if◌then◌else◌}
 use Rattle.std.proofs.Math.Seq.{take-length}
 use Rattle.std.proofs.lemmas.List.{take_all, drop_all}
 use Rattle.std.proofs.lemmas.Bool.Decides.{nat_tests}
-use Rattle.board_player.specs.Feed.{first_end, taken_by, is_unended, supplied, chunk, after_chunk}
+use Rattle.wind_machine.specs.Feed.{first_end, taken_by, is_unended, supplied, chunk, after_chunk}
 
 -- the last chunk of a file without an end is all of it
 pub unended_chunk : (left : List ℕ) → first_end left ≡ None → length left ≤ 4096 → chunk left ≡ take (length left) left ++ supplied true

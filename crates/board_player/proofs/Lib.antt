@@ -1,10 +1,8 @@
+pub mod Blanks
+pub mod Bytes
+pub mod Dropped
+pub mod Executed
 pub mod FeedLemmas
-pub mod Kept
-pub mod TaskLemmas
-pub mod Goes
-pub mod Hearing
-pub mod Rows
-pub mod Steps
-pub mod Lives
-pub mod Landings
-pub mod Courses
+pub mod Keeping
+pub mod Readied
+pub mod Running

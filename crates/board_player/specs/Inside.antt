@@ -1,21 +1,39 @@
 -- The parts of a board as a state.
-use Rattle.std.specs.Prelude.{ℕ, List, []}
-use Rattle.tick_file.specs.Schedule.{Timetable}
-use Rattle.wind_core.specs.State.{KernState}
-use Rattle.con_line.specs.State.{ConsoleState}
-use Rattle.board_player.specs.State.{ShellState, State}
-use Rattle.board_player.specs.declared.clock.Clock.{Clock}
+use Rattle.std.specs.Prelude.{ℕ, ◌+◌, ◌≤◌, List, [], Option, length}
+use Rattle.std.specs.declared.dyn_box.DynBox.{DynBox}
+use Rattle.std.specs.declared.alloc.Global.{Global}
+use Rattle.wind_outside.specs.Devices.{DeviceState, slots_of}
+use Rattle.wind_outside.specs.declared.device.Device.{Ghosts}
+use Rattle.wind_outside.specs.declared.device.DeviceKind.{DeviceKind}
+use Rattle.kernel_calls.specs.Seen.{world_with}
+use Rattle.wind_machine.specs.State.{State}
+use Rattle.board_player.specs.declared.parts.Parts.{Parts}
+
+-- the parts, where these stand for the slots
+abbrev pub parts_with : {I : Type 0} {X : I → Type 0} → List (Option DeviceState) → Parts I X → State
+parts_with slots p = record {
+  left = p.feed;
+  console = p.console;
+  shell = p.shell;
+  world = world_with slots p.world;
+  schedule = p.schedule;
+  time = p.clock.time;
+  steps = p.clock.steps;
+}
 
 -- without slots
-abbrev pub inside : List ℕ → ConsoleState → ShellState → KernState → Timetable → Clock → List ℕ → State
-inside left console shell kern schedule clock output = record {
-  left = left;
-  console = console;
-  shell = shell;
-  kern = kern;
-  schedule = schedule;
-  time = clock.time;
-  steps = clock.steps;
-  output = output;
-  slots = [];
-}
+abbrev pub inside : {I : Type 0} {X : I → Type 0} → Parts I X → State
+inside p = parts_with [] p
+
+-- where a device is seen by these
+abbrev pub parts_by : {I : Type 0} {X : I → Type 0} → (DynBox I Global X → DeviceKind) → (DynBox I Global X → List ℕ) → Parts I X → State
+parts_by kind_of words_of p = parts_with (slots_of kind_of words_of p.world.bus.slots.items) p
+
+-- where a device is seen as its kind and its words
+abbrev pub parts_seen : {I : Type 0} {X : I → Type 0} → ((i : I) → Ghosts (X i)) → Parts I X → State
+parts_seen devices p = parts_by (λ d. (devices d.vtable).kind_of d.value) (λ d. (devices d.vtable).words_of d.value) p
+
+-- each of the two buffers has room for what a step writes: a byte of the console echoes three bytes at most, and an end may be supplied behind a chunk
+pub record IsSpacious {I : Type 0} {X : I → Type 0} (p : Parts I X) : Type 0 where
+  pub out : 12291 ≤ p.world.out.room + length p.world.out.bytes
+  pub spare : 12291 ≤ p.spare.room + length p.spare.bytes

@@ -2,17 +2,16 @@
 use Rattle.std.specs.Prelude.{ℕ, List}
 use Rattle.std.specs.declared.dyn_box.DynBox.{DynBox}
 use Rattle.std.specs.declared.alloc.Global.{Global}
-use Rattle.wind_outside.specs.Devices.{slots_of}
 use Rattle.wind_outside.specs.declared.device.Device.{Ghosts}
 use Rattle.wind_outside.specs.declared.device.DeviceKind.{DeviceKind}
-use Rattle.board_player.specs.State.{State}
-use Rattle.board_player.specs.Inside.{inside}
+use Rattle.wind_machine.specs.State.{State}
+use Rattle.board_player.specs.Inside.{parts_by, parts_seen}
 use Rattle.board_player.specs.declared.board.Board.{Board}
 
 -- a board, where a device is seen by these
 abbrev pub board_by : {I : Type 0} {X : I → Type 0} → (DynBox I Global X → DeviceKind) → (DynBox I Global X → List ℕ) → Board I X → State
-board_by kind_of words_of b = record (inside b.feed b.console b.shell b.kern b.schedule b.clock b.out.bytes) { slots = slots_of kind_of words_of b.slots.items }
+board_by kind_of words_of b = parts_by kind_of words_of b.parts
 
 -- a board, where a device is seen as its kind and its words
 abbrev pub seen : {I : Type 0} {X : I → Type 0} → ((i : I) → Ghosts (X i)) → Board I X → State
-seen devices b = board_by (λ d. (devices d.vtable).kind_of d.value) (λ d. (devices d.vtable).words_of d.value) b
+seen devices b = parts_seen devices b.parts

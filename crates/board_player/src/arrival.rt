@@ -3,10 +3,10 @@
 ghost use Rattle.std.specs.Prelude.{◌≡◌, ◌≤◌, ◌<◌, ◌+◌, ◌*◌, ◌^◌, ◌++◌, length};
 ghost use Rattle.wind_base.specs.OutBuf.{KeepsSpace};
 ghost use Rattle.wind_core.specs.State.{Lives};
-ghost use Rattle.board_player.specs.Feed.{supplied};
-ghost use Rattle.board_player.specs.Task.{waits_for_console as waits_for_console_lem};
+ghost use Rattle.wind_machine.specs.Feed.{supplied};
+ghost use Rattle.wind_machine.specs.Task.{waits_for_console as waits_for_console_lem};
 ghost use Rattle.con_line.specs.declared.console.ByteDone.TheVariants as done;
-ghost use Rattle.board_player.specs.Machine.{heard_from, hear as hear_lem, heard_all, shell_after, kern_after};
+ghost use Rattle.wind_machine.specs.Machine.{heard_from, hear as hear_lem, heard_all, shell_after, kern_after};
 
 use crate::shell::Shell;
 use crate::task::{abort, shell_id, waits_for_console};
@@ -45,12 +45,13 @@ fn hear_byte(done: ByteDone, shell: &mut Shell, kern: &mut Kern)
 }
 
 // One byte comes, and what it echoes is added.
-#[tactic(auto, using(crate::proofs::TaskLemmas::after_lives, crate::proofs::TaskLemmas::after_since))]
+#[tactic(auto, using(wind_machine::proofs::TaskLemmas::after_lives, wind_machine::proofs::TaskLemmas::after_since))]
 fn hear_one(byte: u8, console: &mut Console, shell: &mut Shell, kern: &mut Kern, out: &mut OutBuf)
     requires room { 3 ≤ out.old.room }
     requires live { Lives kern.old 1 }
     requires since { kern.old.next_since + 2 < 2 ^ 64 }
-    ensures heard { heard_from console.new shell.new kern.new out.new.bytes ≡ hear_lem (heard_from console.old shell.old kern.old out.old.bytes) byte }
+    ensures heard { heard_from console.new shell.new kern.new out.new.bytes
+        ≡ hear_lem (heard_from console.old shell.old kern.old out.old.bytes) byte }
     ensures room { out.old.room ≤ out.new.room + 3 }
     ensures space { KeepsSpace out.old out.new }
     ensures live { Lives kern.new 1 }
@@ -60,12 +61,13 @@ fn hear_one(byte: u8, console: &mut Console, shell: &mut Shell, kern: &mut Kern,
 }
 
 // Bytes come, each in turn, and what they echo is added.
-#[tactic(auto, unfolding(crate::specs::Machine::heard_all))]
+#[tactic(auto, unfolding(wind_machine::specs::Machine::heard_all))]
 fn hear(bytes: &[u8], console: &mut Console, shell: &mut Shell, kern: &mut Kern, out: &mut OutBuf)
     requires room { 3 * length bytes.now ≤ out.old.room }
     requires live { Lives kern.old 1 }
     requires since { kern.old.next_since + 2 * length bytes.now < 2 ^ 64 }
-    ensures heard { heard_from console.new shell.new kern.new out.new.bytes ≡ heard_all (heard_from console.old shell.old kern.old out.old.bytes) bytes.now }
+    ensures heard { heard_from console.new shell.new kern.new out.new.bytes
+        ≡ heard_all (heard_from console.old shell.old kern.old out.old.bytes) bytes.now }
     ensures room { out.old.room ≤ out.new.room + 3 * length bytes.now }
     ensures space { KeepsSpace out.old out.new }
     ensures live { Lives kern.new 1 }
@@ -77,7 +79,7 @@ fn hear(bytes: &[u8], console: &mut Console, shell: &mut Shell, kern: &mut Kern,
 }
 
 /// The bytes of a chunk come, with an end behind them where it is supplied.
-#[tactic(auto, unfolding(crate::specs::Machine::heard_all))]
+#[tactic(auto, unfolding(wind_machine::specs::Machine::heard_all))]
 pub(crate) fn hear_chunk(
     bytes: &[u8],
     is_unended: bool,
@@ -89,7 +91,8 @@ pub(crate) fn hear_chunk(
     requires room { 3 * (length bytes.now + 1) ≤ out.old.room }
     requires live { Lives kern.old 1 }
     requires since { kern.old.next_since + 2 * (length bytes.now + 1) < 2 ^ 64 }
-    ensures heard { heard_from console.new shell.new kern.new out.new.bytes ≡ heard_all (heard_from console.old shell.old kern.old out.old.bytes) (bytes.now ++ supplied is_unended) }
+    ensures heard { heard_from console.new shell.new kern.new out.new.bytes
+        ≡ heard_all (heard_from console.old shell.old kern.old out.old.bytes) (bytes.now ++ supplied is_unended) }
     ensures space { KeepsSpace out.old out.new }
 {
     hear(bytes, console, shell, kern, out);

@@ -2,7 +2,7 @@
 
 ghost use Rattle.std.specs.Prelude.{◌≡◌, ◌<◌, ◌≤◌, ◌++◌, IfSome, take, drop, length};
 ghost use Rattle.wind_base.specs.Limits.{longest_chunk};
-ghost use Rattle.board_player.specs.Feed.{is_end as is_end_lem, first_end as first_end_lem, chunk, after_chunk, supplied, brought as brought_by};
+ghost use Rattle.wind_machine.specs.Feed.{is_end as is_end_lem, first_end as first_end_lem, chunk, after_chunk, supplied, brought as brought_by};
 
 use std::marker::Model;
 use wind_base::limits::CHUNK_BYTES;

@@ -3,25 +3,21 @@
 
 mod arrival;
 mod board;
-mod calls;
 mod clock;
-mod evaluate;
 mod feed;
-mod gate;
-mod laws;
-mod machine;
-mod phase;
+mod order;
+mod parts;
+mod processor;
+mod reserving;
 mod shell;
+mod steps;
 mod task;
 #[cfg(test)]
 mod tests;
 mod text;
+mod turn;
 
 pub use board::Board;
-pub use gate::Gate;
-pub use laws::{gates_law, run_law, step_law, urgency_law};
-pub use machine::Machine;
-pub use phase::Phase;
 
 /// What a call for the next step answers.
 #[derive(Clone, Copy, Debug, PartialEq, Eq)]

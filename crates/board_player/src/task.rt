@@ -1,20 +1,23 @@
 //! The shell's task.
 
-ghost use Rattle.std.specs.Prelude.{◌≡◌, ◌+◌, ◌*◌, ◌^◌, ◌<◌, not};
+ghost use Rattle.std.specs.Prelude.{◌≡◌, ◌+◌, ◌^◌, ◌<◌, not, length};
+ghost use Rattle.wind_base.specs.Limits.{ram_bytes};
 ghost use Rattle.wind_core.specs.State.{Lives};
 ghost use Rattle.wind_core.specs.Orders.{waits_at, running};
-ghost use Rattle.wind_core.specs.Moves.{release};
-ghost use Rattle.board_player.specs.Machine.{holds_back};
-ghost use Rattle.board_player.specs.Task.{console_place, waits_for_console as waits_for_console_lem, is_held as is_held_lem, shell_task, listening, let_go as let_go_lem, aborted, no_regs as no_regs_lem, call_regs as call_regs_lem, shell_record as shell_record_lem, calling};
+ghost use Rattle.kernel_calls.specs.Seen.{world_seen};
+ghost use Rattle.wind_machine.specs.Machine.{holds_back};
+ghost use Rattle.wind_machine.specs.Shell.{calling};
+ghost use Rattle.wind_machine.specs.Task.{console_place, waits_for_console as waits_for_console_lem, is_held as is_held_lem, shell_task, listening, let_go as let_go_lem, aborted, stack_pointer, return_address as return_address_lem};
 
-use crate::gate::{RETURN, address};
 use id_table::sides::CONSOLE;
 use id_table::{Ident, Place};
-use task_block::{NewTask, Task};
-use wind_base::limits::{FRAME_BYTES, POOL_START, SHELL_STACK_BYTES};
+use kernel_calls::{World, put_frame, starting_regs};
+use task_block::Task;
+use wind_base::Gate;
+use wind_base::limits::{FRAME_BYTES, GATES_START, POOL_START, SHELL_STACK_BYTES};
 use wind_base::words::WAIT_FOREVER;
-use wind_base::{Pri, Regs, ShortName};
 use wind_core::Kern;
+use wind_outside::Device;
 
 // r1 at the start of a call: a frame below the end of its stack, which begins where the pool does.
 const STACK_POINTER: u32 = POOL_START + SHELL_STACK_BYTES - FRAME_BYTES;
@@ -29,16 +32,6 @@ pub(crate) fn shell_id() -> Ident
     }
 }
 
-// Its priority.
-fn priority() -> Pri
-    ensures { result ≡ 1 }
-{
-    match Pri::new(1) {
-        Some(pri) => pri,
-        None => unreachable!(),
-    }
-}
-
 // Where it waits for the console.
 fn console() -> Place
     ensures { result ≡ console_place }
@@ -46,34 +39,6 @@ fn console() -> Place
     Place {
         side: CONSOLE,
         id: shell_id(),
-    }
-}
-
-// No register has a value.
-fn no_regs() -> Regs
-    ensures { result ≡ no_regs_lem }
-{
-    Regs {
-        gpr: [0; 32],
-        cr: 0,
-        xer: 0,
-        lr: 0,
-        ctr: 0,
-        pc: 0,
-        reserve: None,
-    }
-}
-
-/// What it begins with.
-pub(crate) fn shell_record() -> NewTask
-    ensures { result ≡ shell_record_lem }
-{
-    NewTask {
-        name: ShortName::cut(b"tShell"),
-        entry: 0,
-        stack: POOL_START,
-        pri: priority(),
-        regs: no_regs(),
     }
 }
 
@@ -129,7 +94,7 @@ fn let_go(kern: &mut Kern)
 }
 
 /// It is aborted: no wait, no delay, and none of its marks is left.
-#[tactic(auto, using(crate::proofs::TaskLemmas::let_go_lives, crate::proofs::TaskLemmas::let_go_since))]
+#[tactic(auto, using(wind_machine::proofs::TaskLemmas::let_go_lives, wind_machine::proofs::TaskLemmas::let_go_since))]
 pub(crate) fn abort(kern: &mut Kern)
     requires live { Lives kern.old 1 }
     requires since { kern.old.next_since + 2 < 2 ^ 64 }
@@ -139,58 +104,25 @@ pub(crate) fn abort(kern: &mut Kern)
     kern.reset(shell_id());
 }
 
-// The registers of a call.
-fn call_regs(gate: u32, words: [u32; 10]) -> Regs
-    ensures { result ≡ call_regs_lem gate words }
+// The address to which a call of the shell returns.
+fn return_address() -> u32
+    ensures { result ≡ return_address_lem }
 {
-    let [a, b, c, d, e, f, g, h, _, _] = words;
-    Regs {
-        gpr: [
-            0,
-            STACK_POINTER,
-            0,
-            a,
-            b,
-            c,
-            d,
-            e,
-            f,
-            g,
-            h,
-            0,
-            0,
-            0,
-            0,
-            0,
-            0,
-            0,
-            0,
-            0,
-            0,
-            0,
-            0,
-            0,
-            0,
-            0,
-            0,
-            0,
-            0,
-            0,
-            0,
-            0,
-        ],
-        lr: RETURN,
-        pc: address(gate),
-        ..no_regs()
-    }
+    Gate::ShellReturn.address(GATES_START)
 }
 
-/// It begins a call.
-pub(crate) fn begin_call(kern: &mut Kern, gate: u32, words: [u32; 10])
-    requires { Lives kern.old 1 }
-    ensures { kern.new ≡ calling kern.old gate words }
+/// It begins a call: its registers are those of a call, and the frame is in RAM.
+pub(crate) fn begin_call(world: &mut World, callee: u32, words: &[u32; 10])
+    requires live { Lives world.old.kern 1 }
+    ensures called { world_seen ⟦<dyn Device as Device>⟧ world.new
+        ≡ calling (world_seen ⟦<dyn Device as Device>⟧ world.old) callee words.now }
+    ensures out { world.new.out ≡ world.old.out }
 {
-    kern.set_regs(shell_id(), call_regs(gate, words));
+    put_frame(&mut world.bus.ram, STACK_POINTER, words);
+    world.kern.set_regs(
+        shell_id(),
+        starting_regs(STACK_POINTER, return_address(), callee, words),
+    );
 }
 
 /// Whether interrupts may come: whoever runs doesn't hold them back.

@@ -1,6 +1,6 @@
 //! Consoles and tick files whose output was worked out by hand from the rules of the machine.
 
-use crate::{Board, Machine, Step};
+use crate::{Board, Step};
 use std::test::Fail;
 use tick_file::read_ticks;
 

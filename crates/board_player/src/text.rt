@@ -1,11 +1,14 @@
-//! The texts that the shell writes.
+//! The texts that the board writes.
 
-ghost use Rattle.std.specs.Prelude.{◌+◌, ◌≤◌, length};
+ghost use Rattle.std.specs.Prelude.{◌≡◌, ◌+◌, ◌*◌, ◌≤◌, length};
 ghost use Rattle.wind_base.specs.OutBuf.{Added};
-ghost use Rattle.board_player.specs.Text.{character_text, value_text, syntax_text, undefined_text};
+ghost use Rattle.wind_machine.specs.Text.{character_text, value_text, syntax_text, last_digits, eight_digits, fault_text, kind_text as kind_text_lem, cause_text, place_text, exception_text};
+ghost use Rattle.shell_eval.specs.declared.fault.EvalFault.TheVariants as faults;
 
-use wind_base::OutBuf;
+use ppc_core::Trap;
+use shell_eval::EvalFault;
 use wind_base::text::{add, add_decimal, add_hex, add_signed};
+use wind_base::{Name, OutBuf, ShortName};
 
 // Adds the character of a word that is a printable one of ASCII.
 fn add_character(out: &mut OutBuf, v: u32)
@@ -40,13 +43,103 @@ pub(crate) fn add_syntax(out: &mut OutBuf, column: u32)
     add(out, b"\n");
 }
 
-/// Adds the line that tells a name that means no call.
-#[tactic(auto, unfolding(crate::specs::Text::undefined_text))]
-pub(crate) fn add_undefined(out: &mut OutBuf, name: &[u8])
-    requires { 32 + length name.now ≤ out.old.room }
-    ensures { Added (32 + length name.now) out.old out.new (undefined_text name.now) }
+// Adds the lowest hexadecimal digits of a word, so many of them.
+fn add_last_digits(out: &mut OutBuf, v: u32, places: u32)
+    requires { 8 * places ≤ out.old.room }
+    ensures { Added (8 * places) out.old out.new (last_digits places v) }
+{
+    if places > 0 {
+        add_last_digits(out, v / 16, places - 1);
+        add_hex(out, v % 16);
+    }
+}
+
+// Adds a word in eight hexadecimal digits.
+#[tactic(auto, unfolding(wind_machine::specs::Text::eight_digits))]
+fn add_eight_digits(out: &mut OutBuf, v: u32)
+    requires { 64 ≤ out.old.room }
+    ensures { Added 64 out.old out.new (eight_digits v) }
+{
+    add_last_digits(out, v, 8);
+}
+
+// Adds the line that tells a name that means no symbol.
+fn add_undefined(out: &mut OutBuf, name: &Name)
+    requires { 300 ≤ out.old.room }
+    ensures { Added 300 out.old out.new (fault_text (faults.Undefined name.now)) }
 {
     add(out, b"undefined symbol: ");
-    add(out, name);
+    add(out, name.bytes());
     add(out, b"\n");
+}
+
+// Adds the line that tells an address that cannot be reached.
+fn add_access(out: &mut OutBuf, at: u32)
+    requires { 300 ≤ out.old.room }
+    ensures { Added 300 out.old out.new (fault_text (faults.AccessAt at)) }
+{
+    add(out, b"access fault at 0x");
+    add_eight_digits(out, at);
+    add(out, b"\n");
+}
+
+/// Adds the line that tells a fault of evaluation.
+#[tactic(auto, unfolding(wind_machine::specs::Text::fault_text))]
+pub(crate) fn add_fault(out: &mut OutBuf, fault: &EvalFault)
+    requires { 300 ≤ out.old.room }
+    ensures { Added 300 out.old out.new (fault_text fault.now) }
+{
+    match fault {
+        EvalFault::Undefined(name) => add_undefined(out, name),
+        EvalFault::AccessAt(at) => add_access(out, *at),
+        EvalFault::DivideByZero => add(out, b"divide by zero\n"),
+        EvalFault::NoRoom => add(out, b"not enough memory\n"),
+        EvalFault::SymbolsFull => add(out, b"symbol table full\n"),
+    }
+}
+
+// The word for the kind of an exception.
+fn kind_text(trap: Trap) -> &'static [u8]
+    ensures kind { result.now ≡ kind_text_lem trap }
+    ensures short { length result.now ≤ 9 }
+{
+    match trap {
+        Trap::Illegal => b"illegal",
+        Trap::Align => b"alignment",
+        Trap::Access => b"access",
+        Trap::TrapInsn => b"trap",
+        Trap::Sysc => b"sysc",
+    }
+}
+
+// Adds an end of line, and what kind of exception a task of this name has caused.
+fn add_cause(out: &mut OutBuf, trap: Trap, name: &ShortName)
+    requires { 60 ≤ out.old.room }
+    ensures { Added 60 out.old out.new (cause_text trap name.now) }
+{
+    add(out, b"\nexception ");
+    add(out, kind_text(trap));
+    add(out, b" in ");
+    add(out, name.bytes());
+}
+
+// Adds the id of a task, and an address, to the end of the line.
+fn add_place(out: &mut OutBuf, id: u32, at: u32)
+    requires { 96 ≤ out.old.room }
+    ensures { Added 96 out.old out.new (place_text id at) }
+{
+    add(out, b" (0x");
+    add_hex(out, id);
+    add(out, b") at 0x");
+    add_eight_digits(out, at);
+    add(out, b"\n");
+}
+
+/// Adds the line that tells an exception of the task of this name and id, behind an end of line.
+pub(crate) fn add_exception(out: &mut OutBuf, trap: Trap, name: &ShortName, id: u32, at: u32)
+    requires { 160 ≤ out.old.room }
+    ensures { Added 160 out.old out.new (exception_text trap name.now id at) }
+{
+    add_cause(out, trap, name);
+    add_place(out, id, at);
 }

@@ -1,5 +1,5 @@
 -- What every call keeps.
-use Rattle.std.proofs.Common.{◌≡◌, ℕ, ◌+◌, ◌<◌, ◌≤◌, Bool, true, false, not, ◌&&◌, cond, eqb, leb, ltb, List, [], ◌∷◌, ◌++◌, length, map, replicate, Option, None, Some, IsSome, inl, ◌⊎◌, Result, Ok, Err, refl, sym, ap, ◌∙◌, subst, arith, length-append}
+use Rattle.std.proofs.Common.{◌≡◌, ℕ, ◌+◌, ◌<◌, ◌≤◌, Bool, true, false, not, ◌&&◌, cond, eqb, leb, ltb, List, [], ◌∷◌, ◌++◌, length, map, replicate, Option, None, Some, IsSome, Result, Ok, Err, refl, sym, ap, ◌∙◌, subst, arith, length-append}
 use Rattle.std.specs.Option.{option_or}
 use Rattle.std.specs.Prelude.{◌||◌, nat_le, nat_lt, slice_index}
 use Rattle.std.specs.List.{All, find}
@@ -236,7 +236,7 @@ module _ (w : WorldState) (kept : IsWorld w) where
           lives = lives_more t;
           locks = All-push (λ u. u.locks ≤ n + 1) w.kern.tasks t more_locks (omega arith);
           last = refl;
-          reserves = λ who h. All-push (λ u. (u.regs.reserve ≡ None) ⊎ (who ≡ Some u.id)) w.kern.tasks t h (inl refl);
+          reserves = λ who h. All-push (λ u. IsSome u.regs.reserve → who ≡ Some u.id) w.kern.tasks t h (λ some. absurd (cc));
           sinces = omega arith;
           count = refl;
           names = names_few s.name;

@@ -1,5 +1,5 @@
 -- What the end of a task keeps.
-use Rattle.std.proofs.Common.{◌≡◌, ℕ, zero, suc, ◌+◌, ◌<◌, ◌≤◌, Bool, true, false, not, cond, eqb, List, [], ◌∷◌, length, get_or, map, Option, Some, None, IsSome, ◌⊎◌, refl, sym, ap, ◌∙◌, subst, arith}
+use Rattle.std.proofs.Common.{◌≡◌, ℕ, zero, suc, ◌+◌, ◌<◌, ◌≤◌, Bool, true, false, not, cond, eqb, List, [], ◌∷◌, length, get_or, map, Option, Some, None, IsSome, refl, sym, ap, ◌∙◌, subst, arith}
 use Rattle.std.specs.List.{All, AllPairs, filter, find}
 use Rattle.std.proofs.lemmas.Bool.{eqb-true, ne_eqb}
 use Rattle.std.proofs.lemmas.List.Elements.{All-head, All-tail, All-cons, All-filter}
@@ -132,7 +132,7 @@ ends w who n kept within = record {
   };
   lives = λ id differ live. others_live w.kern.tasks who id differ live;
   locks = All-filter (λ t. not (eqb t.id who)) (λ t. t.locks ≤ n) w.kern.tasks within;
-  reserves = λ o h. All-filter (λ t. not (eqb t.id who)) (λ t. (t.regs.reserve ≡ None) ⊎ (o ≡ Some t.id)) w.kern.tasks h;
+  reserves = λ o h. All-filter (λ t. not (eqb t.id who)) (λ t. IsSome t.regs.reserve → o ≡ Some t.id) w.kern.tasks h;
   sinces = refl;
   count = refl;
   names = refl;

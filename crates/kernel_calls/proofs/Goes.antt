@@ -1,5 +1,5 @@
 -- What a move of the kernel keeps, and how far it takes the counters.
-use Rattle.std.proofs.Common.{◌≡◌, ℕ, List, map, Option, ◌+◌, ◌≤◌, true, false, cond, eqb, [], ◌∷◌, None, Some, inl, inr, ◌⊎◌, refl, sym, ap, ◌∙◌, arith}
+use Rattle.std.proofs.Common.{◌≡◌, ℕ, List, map, Option, ◌+◌, ◌≤◌, true, false, cond, eqb, [], ◌∷◌, None, Some, IsSome, refl, sym, ap, ◌∙◌, subst, arith}
 use Rattle.std.specs.List.{All}
 use Rattle.std.proofs.lemmas.List.Elements.{All-weaker, All-head, All-tail, All-cons}
 use Rattle.wind_base.specs.declared.errno.Errno.{Errno}
@@ -178,19 +178,16 @@ module _ (k : KernState) (n : ℕ) (is : IsKern k) (within : LocksWithin n k) wh
 
 -- who has no reservation has none after a move
 pub reserved_by : (ts us : List Task) (who : Option ℕ) → ids us ≡ ids ts → reservations us ≡ reservations ts
-    → All (λ t. (t.regs.reserve ≡ None) ⊎ (who ≡ Some t.id)) ts → All (λ t. (t.regs.reserve ≡ None) ⊎ (who ≡ Some t.id)) us
+    → All (λ t. IsSome t.regs.reserve → who ≡ Some t.id) ts → All (λ t. IsSome t.regs.reserve → who ≡ Some t.id) us
 reserved_by [] [] who i r all = all
 reserved_by [] (u ∷ us) who i r all = absurd (cc)
 reserved_by (t ∷ ts) [] who i r all = absurd (cc)
 reserved_by (t ∷ ts) (u ∷ us) who i r all =
     let same : u.id ≡ t.id = heads u.id t.id (ids us) (ids ts) i in
     let reserve : u.regs.reserve ≡ t.regs.reserve = heads u.regs.reserve t.regs.reserve (reservations us) (reservations ts) r in
-    let head : (u.regs.reserve ≡ None) ⊎ (who ≡ Some u.id) = elim (All-head (λ t. (t.regs.reserve ≡ None) ⊎ (who ≡ Some t.id)) t ts all) [
-      | inl none ↦ inl (reserve ∙ none)
-      | inr own ↦ inr (own ∙ ap Some (sym same))
-    ] in
-    All-cons (λ t. (t.regs.reserve ≡ None) ⊎ (who ≡ Some t.id)) u us head
-    (reserved_by ts us who (tails u.id t.id (ids us) (ids ts) i) (tails u.regs.reserve t.regs.reserve (reservations us) (reservations ts) r) (All-tail (λ t. (t.regs.reserve ≡ None) ⊎ (who ≡ Some t.id)) t ts all))
+    let head : IsSome u.regs.reserve → who ≡ Some u.id = λ some. All-head (λ t. IsSome t.regs.reserve → who ≡ Some t.id) t ts all (subst (λ o. IsSome o) reserve some) ∙ ap Some (sym same) in
+    All-cons (λ t. IsSome t.regs.reserve → who ≡ Some t.id) u us head
+    (reserved_by ts us who (tails u.id t.id (ids us) (ids ts) i) (tails u.regs.reserve t.regs.reserve (reservations us) (reservations ts) r) (All-tail (λ t. IsSome t.regs.reserve → who ≡ Some t.id) t ts all))
   where
     heads : {A : Type 0} (a b : A) (xs ys : List A) → a ∷ xs ≡ b ∷ ys → a ≡ b
     heads a b xs ys e = cc

@@ -7,3 +7,4 @@ pub mod Advancing
 pub mod Serving
 pub mod Opened
 pub mod Departing
+mod Benches

@@ -1,5 +1,5 @@
 -- The facts that the world has at the start and every call keeps.
-use Rattle.std.specs.Prelude.{◌≡◌, ℕ, ◌^◌, ◌<◌, ◌≤◌, ◌⊎◌, List, [], ◌∷◌, length, map, false, Option, None, Some, IsSome}
+use Rattle.std.specs.Prelude.{◌≡◌, ℕ, ◌^◌, ◌<◌, ◌≤◌, List, [], ◌∷◌, length, map, false, Option, None, Some, IsSome}
 use Rattle.std.specs.List.{All, AllPairs}
 use Rattle.wind_base.specs.Limits.{ram_bytes, pool_start, most_blocks, most_symbols}
 use Rattle.mem_partition.specs.State.{PartState, IsPart, own_block}
@@ -47,7 +47,7 @@ IsWorld w = KeepsWorld (record w { slots = [] })
 
 -- no task but this one has a reservation (Power ISA, lwarx and stwcx.)
 abbrev pub ReservedBy : Option ℕ → KernState → Type 0
-ReservedBy who k = All (λ t. (t.regs.reserve ≡ None) ⊎ (who ≡ Some t.id)) k.tasks
+ReservedBy who k = All (λ t. IsSome t.regs.reserve → who ≡ Some t.id) k.tasks
 
 -- no task has locked the scheduler more often than n times
 abbrev pub LocksWithin : ℕ → KernState → Type 0

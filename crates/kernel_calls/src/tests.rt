@@ -1,27 +1,40 @@
-//! The world at its start, with ample memory.
+//! Calls over a world from its start on, with their answers worked out by hand.
 
-use crate::World;
-use std::test::Fail;
-use wind_base::limits::GATES_START;
-use wind_outside::Slots;
+mod bench;
+mod blocks;
+mod looks;
+mod opening;
+mod routines;
+mod spawns;
+mod steps;
+mod symbols;
+mod tasks;
 
-#[test]
-fn boots_with_ample_memory(rt: HostRuntime) -> Result<(), Fail> {
-    let slots: Slots = Vec::new(rt.alloc());
-    let Ok(world) = World::boot(rt.alloc(), slots) else {
-        return Err("memory")?;
-    };
-    assert_eq!(rt; world.kern.live(), 1);
-    assert_eq!(rt; world.names, 1);
-    // the pool is 0x10000 to 0x1000000, and holds stacks of 20,000 and of 4,096 bytes
-    assert_eq!(rt; world.part.size_of(0x1_0000), Some(20_000));
-    assert_eq!(rt; world.part.size_of(0x1_4e20), Some(4096));
-    assert_eq!(rt; world.bus.ram.size(), 0x100_0000);
-    // taskSpawn is gate 3, 16 bytes a gate
-    let Some(symbol) = world.syms.at(0) else {
-        return Err("no symbol")?;
-    };
-    assert_eq!(rt; symbol.name.bytes(), b"taskSpawn".as_slice());
-    assert_eq!(rt; symbol.value, GATES_START + 3 * 16);
-    Ok(())
-}
+// Error numbers, by the table in docs/calls.md.
+const OBJ_ID_ERROR: u32 = 0x3d_0001;
+
+const NOT_ENOUGH_MEMORY: u32 = 0x11_0001;
+
+const NOT_A_BLOCK: u32 = 0x11_0002;
+
+const BAD_ALIGN: u32 = 0x11_0003;
+
+const BAD_ADDRESS: u32 = 0x11_0004;
+
+const ILLEGAL_PRIORITY: u32 = 0x3_0001;
+
+const TOO_MANY: u32 = 0x3_0003;
+
+const TASK_NOT_FOUND: u32 = 0x3_0005;
+
+const SYMBOLS_FULL: u32 = 0x1c_0001;
+
+const BAD_KIND: u32 = 0x1c_0002;
+
+const NOT_ISR_CALLABLE: u32 = 0x43_0001;
+
+// The first address behind RAM.
+const RAM_END: u32 = 0x0100_0000;
+
+// Where the first block is given: behind the stack of the shell's task and the interrupt stack.
+const FIRST: u32 = 0x1_5e20;

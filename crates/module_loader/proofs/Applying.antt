@@ -17,11 +17,13 @@ use Rattle.module_image.specs.Image.{Images, image}
 use Rattle.module_image.specs.Laws.{HasSizes}
 use Rattle.module_loader.specs.declared.module.LoadErr.{LoadErr}
 use Rattle.module_loader.specs.Placing.{with_seg, with_text, with_data, with_needs, places_of}
-use Rattle.module_loader.specs.Loading.{LoaderState, Piece, pieces_of, count_refusal, reloc_verdict, place_verdict, verdict_by, verdict}
+use Rattle.module_loader.specs.Loading.{LoaderState, Piece, block_size, in_blocks, count_refusal, reloc_verdict, place_verdict, verdict_by, verdict}
 use Rattle.module_loader.specs.Live.{IsPiece}
 use Rattle.module_loader.proofs.Ram.{Block, Apart, IsAmong, IsHeldBy, Clear}
 use Rattle.module_loader.proofs.Taking.{seg_kept, are_places}
-use Rattle.module_loader.proofs.Standing.{Stands, stands, same_end, in_pool}
+use Rattle.module_loader.specs.Steps.{three_pieces}
+use Rattle.module_loader.proofs.Standing.{Stands, stands, same_end, block_none, block_in_pool}
+use Rattle.module_loader.proofs.Filling.{length-in_block}
 
 -- ---- what an accepted verdict says
 
@@ -71,10 +73,10 @@ shrink at size len x k (inl h) = inl (omega arith)
 shrink at size len x k (inr h) = inr h
 
 -- the bytes of a segment meet no block before it
-seg_apart : (s : PartState) (n : Need) (at : ℕ) (bytes : List ℕ) → Stands s n at → length bytes ≡ n.size → (x : Block) → IsAmong x (pairs s.blocks) → (length bytes ≡ 0) ⊎ Apart (at, length bytes) x
-seg_apart s n at bytes (inl h) e x among = let z = h.0 in inl (omega arith)
+seg_apart : (s : PartState) (n : Need) (at : ℕ) (bytes : List ℕ) → Stands s n at → length bytes ≡ block_size n.size → (x : Block) → IsAmong x (pairs s.blocks) → (length bytes ≡ 0) ⊎ Apart (at, length bytes) x
+seg_apart s n at bytes (inl h) e x among = let z = block_none n.size h.0 in inl (omega arith)
 seg_apart s n at bytes (inr (b, h)) e x among =
-    let holds = h.holds in
+    let full = h.full in
     inr (shrink at b.size (length bytes) x (omega arith) (apart_among s.blocks b.size at x (subst (λ a. meets_none s.blocks b.size a ≡ true) h.addr h.lies.apart) among))
 
 among_kept : (b : PartBlock) (bs : List PartBlock) (x : Block) → IsAmong x (pairs bs) → IsAmong x (pairs (with_block b bs))
@@ -97,10 +99,10 @@ seg_keeps : (s : PartState) (n : Need) (at : ℕ) (x : Block) → Stands s n at 
 seg_keeps s n at x (inl h) among = subst (λ (t : PartState). IsAmong x (pairs t.blocks)) (sym h.1) among
 seg_keeps s n at x (inr (b, h)) among = subst (λ (t : PartState). IsAmong x (pairs t.blocks)) (sym h.after) (among_kept b s.blocks x among)
 
-seg_held : (s : PartState) (n : Need) (at : ℕ) (bytes : List ℕ) → Stands s n at → length bytes ≡ n.size → IsHeldBy (pairs (with_seg s n).blocks) (at, bytes)
-seg_held s n at bytes (inl h) e = let z = h.0 in inl (omega arith)
+seg_held : (s : PartState) (n : Need) (at : ℕ) (bytes : List ℕ) → Stands s n at → length bytes ≡ block_size n.size → IsHeldBy (pairs (with_seg s n).blocks) (at, bytes)
+seg_held s n at bytes (inl h) e = let z = block_none n.size h.0 in inl (omega arith)
 seg_held s n at bytes (inr (b, h)) e =
-    let holds = h.holds in
+    let full = h.full in
     let addr = h.addr in
     inr (pair_of b, subst (λ (t : PartState). IsAmong (pair_of b) (pairs t.blocks)) (sym h.after) (among_new b s.blocks), (omega arith, omega arith))
 
@@ -109,11 +111,11 @@ held_later s n at p st (inl h) = inl h
 held_later s n at p st (inr (b, among, covers)) = inr (b, seg_keeps s n at b st among, covers)
 
 -- a later segment is apart from the bytes of an earlier one
-apart_earlier : (s t : PartState) (n1 n2 : Need) (at1 at2 : ℕ) (b1 b2 : List ℕ) → Stands s n1 at1 → length b1 ≡ n1.size → Stands t n2 at2 → length b2 ≡ n2.size
+apart_earlier : (s t : PartState) (n1 n2 : Need) (at1 at2 : ℕ) (b1 b2 : List ℕ) → Stands s n1 at1 → length b1 ≡ block_size n1.size → Stands t n2 at2 → length b2 ≡ block_size n2.size
     → ((x : Block) → IsAmong x (pairs (with_seg s n1).blocks) → IsAmong x (pairs t.blocks)) → (length b2 ≡ 0) ⊎ Apart (at2, length b2) (at1, length b1)
-apart_earlier s t n1 n2 at1 at2 b1 b2 (inl h) e1 st e2 keeps = let z = h.0 in let a = h.2 in inr (inr (omega arith))
+apart_earlier s t n1 n2 at1 at2 b1 b2 (inl h) e1 st e2 keeps = let z = block_none n1.size h.0 in let a = h.2 in inr (inr (omega arith))
 apart_earlier s t n1 n2 at1 at2 b1 b2 (inr (b, h)) e1 st e2 keeps =
-    let holds = h.holds in
+    let full = h.full in
     let addr = h.addr in
     elim (seg_apart t n2 at2 b2 st e2 (pair_of b) (keeps (pair_of b) (subst (λ (u : PartState). IsAmong (pair_of b) (pairs u.blocks)) (sym h.after) (among_new b s.blocks)))) [
       | inl z ↦ inl z
@@ -136,22 +138,36 @@ all_stand s z at k e =
       bss = stands (with_data s z) z.bss at.bss (seg_kept (with_text s z) z.«data» kt) p.bss;
     }
 
--- where the segments end
+-- where the segments' blocks end
 pub record AllFit (size : ℕ) (z : Needs) (at : Places) : Type 0 where
-  pub text : at.text + z.text.size ≤ size
-  pub «data» : at.«data» + z.«data».size ≤ size
-  pub bss : at.bss + z.bss.size ≤ size
+  pub text : at.text + block_size z.text.size ≤ size
+  pub «data» : at.«data» + block_size z.«data».size ≤ size
+  pub bss : at.bss + block_size z.bss.size ≤ size
+
+-- bytes as many as the segments' blocks have
+pub record FillBlocks (i : Images) (z : Needs) : Type 0 where
+  pub text : length i.text ≡ block_size z.text.size
+  pub «data» : length i.«data» ≡ block_size z.«data».size
+  pub bss : length i.bss ≡ block_size z.bss.size
+
+pub fill_blocks : (i : Images) (z : Needs) → HasSizes i z → FillBlocks (in_blocks i) z
+fill_blocks i z b = record {
+  text = length-in_block i.text ∙ ap block_size b.text;
+  «data» = length-in_block i.«data» ∙ ap block_size b.«data»;
+  bss = length-in_block i.bss ∙ ap block_size b.bss;
+}
 
 pub all_fit : (s : PartState) (z : Needs) (at : Places) (size : ℕ) → AllStand s z at → s.end ≤ size → AllFit size z at
 all_fit s z at size k h =
-    let one = in_pool s z.text at.text k.text in
-    let two = in_pool (with_text s z) z.«data» at.«data» k.«data» in
-    let three = in_pool (with_data s z) z.bss at.bss k.bss in
+    let one = block_in_pool s z.text at.text k.text in
+    let two = block_in_pool (with_text s z) z.«data» at.«data» k.«data» in
+    let three = block_in_pool (with_data s z) z.bss at.bss k.bss in
     let e1 = same_end s z.text at.text k.text in
     let e2 = same_end (with_text s z) z.«data» at.«data» k.«data» in
     record { text = omega arith; «data» = omega arith; bss = omega arith }
 
-pub clear_all : (s : PartState) (z : Needs) (at : Places) (i : Images) (size : ℕ) → AllStand s z at → HasSizes i z → s.end ≤ size → Clear size (pairs s.blocks) (pieces_of at i)
+pub clear_all : (s : PartState) (z : Needs) (at : Places) (i : Images) (size : ℕ) → AllStand s z at → FillBlocks i z → s.end ≤ size
+    → Clear size (pairs s.blocks) (three_pieces at i.text i.«data» i.bss)
 clear_all s z at i size k b h =
     let fit = all_fit s z at size k h in
     let bt = b.text in
@@ -186,7 +202,8 @@ clear_all s z at i size k b h =
       ),
     )
 
-pub held_all : (s : PartState) (z : Needs) (at : Places) (i : Images) → AllStand s z at → HasSizes i z → (p : Piece) → IsPiece p (pieces_of at i) → IsHeldBy (pairs (with_needs s z).blocks) p
+pub held_all : (s : PartState) (z : Needs) (at : Places) (i : Images) → AllStand s z at → FillBlocks i z
+    → (p : Piece) → IsPiece p (three_pieces at i.text i.«data» i.bss) → IsHeldBy (pairs (with_needs s z).blocks) p
 held_all s z at i k b p (inl e) =
     subst (λ (q : Piece). IsHeldBy (pairs (with_needs s z).blocks) q) (sym e)
     (held_later (with_data s z) z.bss at.bss (at.text, i.text) k.bss (held_later (with_text s z) z.«data» at.«data» (at.text, i.text) k.«data» (seg_held s z.text at.text i.text k.text b.text)))

@@ -3,6 +3,7 @@ pub mod Newest
 pub mod Files
 pub mod Ram
 pub mod Taking
+pub mod Filling
 pub mod Standing
 pub mod Applying
 pub mod Running

@@ -17,8 +17,9 @@ use Rattle.module_loader.specs.declared.module.LoadErr.{LoadErr}
 use Rattle.module_loader.specs.declared.module.LoadErr.TheVariants as refusal
 use Rattle.module_loader.specs.declared.module.LoadedModule.{LoadedModule}
 use Rattle.module_loader.specs.Placing.{places_of, with_needs}
-use Rattle.module_loader.specs.Loading.{LoaderState, count_by, count_refusal, reloc_verdict, place_verdict, verdict_by, verdict, stored_all, pieces_of, record_of, loaded, IsLoaded, IsVerdict}
+use Rattle.module_loader.specs.Loading.{LoaderState, count_by, count_refusal, reloc_verdict, place_verdict, verdict_by, verdict, block_size, in_block, stored_all, pieces_of, record_of, loaded, IsLoaded, IsVerdict}
 use Rattle.module_loader.specs.Steps.{IsRefusedBy, state_of, three_pieces}
+use Rattle.module_loader.proofs.Filling.{block_holds}
 use Rattle.module_loader.proofs.Standing.{total_small}
 use Rattle.module_loader.proofs.Applying.{all_stand, all_fit}
 
@@ -54,12 +55,12 @@ placed s m mode e h v = subst (λ r. IsVerdict r e) (sym (by_counts s m mode Non
 
 -- what was stored is the image
 made_pieces : (m : Module) (tab : List Symbol) (at : Places) (bytes : List ℕ) → IsMade (image m tab at) (needs_of m) bytes
-    → three_pieces at (take (needs_of m).text.size bytes) (drop (needs_of m).text.size bytes) (replicate (needs_of m).bss.size 0) ≡ pieces_of at (image m tab at)
+    → three_pieces at (in_block (take (needs_of m).text.size bytes)) (in_block (drop (needs_of m).text.size bytes)) (in_block (replicate (needs_of m).bss.size 0)) ≡ pieces_of at (image m tab at)
 made_pieces m tab at bytes k =
     let cut = (needs_of m).text.size in
-    ap (λ t. (at.text, t) ∷ (at.«data», drop cut bytes) ∷ (at.bss, replicate (needs_of m).bss.size 0) ∷ []) (sym k.text)
-    ∙ ap (λ v. (at.text, (image m tab at).text) ∷ (at.«data», v) ∷ (at.bss, replicate (needs_of m).bss.size 0) ∷ []) (sym k.«data»)
-    ∙ ap (λ b. (at.text, (image m tab at).text) ∷ (at.«data», (image m tab at).«data») ∷ (at.bss, b) ∷ []) (sym (bss_is m tab at))
+    ap (λ t. (at.text, in_block t) ∷ (at.«data», in_block (drop cut bytes)) ∷ (at.bss, in_block (replicate (needs_of m).bss.size 0)) ∷ []) (sym k.text)
+    ∙ ap (λ v. (at.text, in_block (image m tab at).text) ∷ (at.«data», in_block v) ∷ (at.bss, in_block (replicate (needs_of m).bss.size 0)) ∷ []) (sym k.«data»)
+    ∙ ap (λ b. (at.text, in_block (image m tab at).text) ∷ (at.«data», in_block (image m tab at).«data») ∷ (at.bss, in_block b) ∷ []) (sym (bss_is m tab at))
 
 alike : {a a' : KernState} {b b' : List Symbol} {c c' : List (ℕ × LoadedModule)} {d d' : PartState} {e e' : List ℕ}
     → a ≡ a' → b ≡ b' → c ≡ c' → d ≡ d' → e ≡ e' → state_of a b c d e ≡ state_of a' b' c' d' e'
@@ -70,7 +71,7 @@ alike {a} {a'} {b} {b'} {c} {c'} {d} {d'} {e} {e'} p q r s t =
 loaded_is : (s : LoaderState) (name : List ℕ) (m : Module) (mode : ℕ) (at : Places) (bytes : List ℕ) (added : List Symbol) (kern : KernState) (symbols : List Symbol) (modules : List (ℕ × LoadedModule)) (part : PartState) (ram : List ℕ)
     → IsMade (image m s.symbols at) (needs_of m) bytes → added ≡ exports m mode at s.kern.next_id → kern ≡ record s.kern { next_id = s.kern.next_id + 1 }
     → symbols ≡ s.symbols ++ added → modules ≡ s.modules ++ (s.kern.next_id, record_of name (needs_of m) at) ∷ [] → part ≡ with_needs s.part (needs_of m)
-    → ram ≡ stored_all s.ram (three_pieces at (take (needs_of m).text.size bytes) (drop (needs_of m).text.size bytes) (replicate (needs_of m).bss.size 0))
+    → ram ≡ stored_all s.ram (three_pieces at (in_block (take (needs_of m).text.size bytes)) (in_block (drop (needs_of m).text.size bytes)) (in_block (replicate (needs_of m).bss.size 0)))
     → state_of kern symbols modules part ram ≡ loaded s name m mode at
 unfolding loaded
 loaded_is s name m mode at bytes added kern symbols modules part ram made adds e a b c d =
@@ -84,7 +85,7 @@ pub is_loaded : (s : LoaderState) (name : List ℕ) (m : Module) (mode : ℕ) (a
     → count_by (length s.modules) s.kern.next_id (length s.symbols + export_count mode m.symbols) ≡ None → places_of s.part (needs_of m) ≡ Ok at
     → IsMade (image m s.symbols at) (needs_of m) bytes → added ≡ exports m mode at s.kern.next_id → kern ≡ record s.kern { next_id = s.kern.next_id + 1 }
     → symbols ≡ s.symbols ++ added → modules ≡ s.modules ++ (s.kern.next_id, record_of name (needs_of m) at) ∷ [] → part ≡ with_needs s.part (needs_of m)
-    → ram ≡ stored_all s.ram (three_pieces at (take (needs_of m).text.size bytes) (drop (needs_of m).text.size bytes) (replicate (needs_of m).bss.size 0))
+    → ram ≡ stored_all s.ram (three_pieces at (in_block (take (needs_of m).text.size bytes)) (in_block (drop (needs_of m).text.size bytes)) (in_block (replicate (needs_of m).bss.size 0)))
     → IsLoaded (verdict s m mode) s name m mode (state_of kern symbols modules part ram)
 is_loaded s name m mode at bytes added kern symbols modules part ram n p made adds e a b c d =
     subst (λ v. IsLoaded v s name m mode (state_of kern symbols modules part ram)) (sym (accepts s m mode at n p made.fault))
@@ -93,9 +94,9 @@ is_loaded s name m mode at bytes added kern symbols modules part ram n p made ad
 -- where the segments fit, for the code that stores them
 pub record Fitting (z : Needs) (at : Places) (size total : ℕ) : Type 0 where
   pub cut : z.text.size ≤ total
-  pub text : at.text + z.text.size ≤ size
-  pub «data» : at.«data» + (total - z.text.size) ≤ size
-  pub bss : at.bss + z.bss.size ≤ size
+  pub text : at.text + block_size z.text.size ≤ size
+  pub «data» : at.«data» + block_size (total - z.text.size) ≤ size
+  pub bss : at.bss + block_size z.bss.size ≤ size
   pub text_size : z.text.size < 2 ^ 32
   pub data_size : z.«data».size < 2 ^ 32
   pub bss_size : z.bss.size < 2 ^ 32
@@ -112,4 +113,16 @@ fitting s z at size total k pool sum h =
     let pt = pool_fit.text in
     let pd = pool_fit.«data» in
     let pb = pool_fit.bss in
-    record { cut = omega arith; text = omega arith; «data» = omega arith; bss = fit.bss; text_size = omega arith; data_size = omega arith; bss_size = omega arith }
+    let ht = block_holds z.text.size in
+    let hd = block_holds z.«data».size in
+    let hb = block_holds z.bss.size in
+    let rest : total - z.text.size ≡ z.«data».size = omega arith in
+    record {
+      cut = omega arith;
+      text = a;
+      «data» = subst (λ n. at.«data» + block_size n ≤ size) (sym rest) b;
+      bss = fit.bss;
+      text_size = omega arith;
+      data_size = omega arith;
+      bss_size = omega arith;
+    }

@@ -11,13 +11,13 @@ use Rattle.module_image.specs.Link.{Load, link, images_of}
 use Rattle.module_image.proofs.Lengths.{size_law}
 use Rattle.module_image.proofs.Linking.{link_law}
 use Rattle.module_loader.specs.Placing.{with_text, with_data}
-use Rattle.module_loader.specs.Loading.{LoaderState, pieces_of, verdict, loaded}
+use Rattle.module_loader.specs.Loading.{LoaderState, in_blocks, pieces_of, verdict, loaded}
 use Rattle.module_loader.specs.Live.{Job, load_of, after_job, Runs, written_by, IsLoader, LiveLaw}
 use Rattle.module_loader.proofs.Files.{is_file}
 use Rattle.module_loader.proofs.Ram.{Stand, Accepted, Loads, size_all, held_at_the_end}
 use Rattle.module_loader.proofs.Taking.{seg_kept}
 use Rattle.module_loader.proofs.Standing.{total_small}
-use Rattle.module_loader.proofs.Applying.{is_accepted, pairs, all_stand, clear_all, held_all, keeps_all, end_all}
+use Rattle.module_loader.proofs.Applying.{is_accepted, pairs, all_stand, fill_blocks, clear_all, held_all, keeps_all, end_all}
 
 -- what the law sees of the state
 abbrev stand_of : LoaderState → Stand
@@ -29,11 +29,11 @@ unfolding loaded
 accepted s name m mode at k km h =
     let a = is_accepted s m mode at h in
     let st = all_stand s.part (needs_of m) at k.part a.places in
-    let b = size_law m s.symbols at km (total_small s.part (needs_of m) at k.part a.places) in
+    let b = fill_blocks (image m s.symbols at) (needs_of m) (size_law m s.symbols at km (total_small s.part (needs_of m) at k.part a.places)) in
     record {
-      clear = clear_all s.part (needs_of m) at (image m s.symbols at) (length s.ram) st b k.pool;
+      clear = clear_all s.part (needs_of m) at (in_blocks (image m s.symbols at)) (length s.ram) st b k.pool;
       older_blocks = λ x among. keeps_all s.part (needs_of m) at x st among;
-      blocks = held_all s.part (needs_of m) at (image m s.symbols at) st b;
+      blocks = held_all s.part (needs_of m) at (in_blocks (image m s.symbols at)) st b;
       ram = refl;
     }
 
@@ -42,8 +42,8 @@ unfolding loaded
 kept s name m mode at k km h =
     let a = is_accepted s m mode at h in
     let st = all_stand s.part (needs_of m) at k.part a.places in
-    let b = size_law m s.symbols at km (total_small s.part (needs_of m) at k.part a.places) in
-    let size = size_all (length s.ram) (pairs s.part.blocks) (pieces_of at (image m s.symbols at)) s.ram refl (clear_all s.part (needs_of m) at (image m s.symbols at) (length s.ram) st b k.pool) in
+    let b = fill_blocks (image m s.symbols at) (needs_of m) (size_law m s.symbols at km (total_small s.part (needs_of m) at k.part a.places)) in
+    let size = size_all (length s.ram) (pairs s.part.blocks) (pieces_of at (image m s.symbols at)) s.ram refl (clear_all s.part (needs_of m) at (in_blocks (image m s.symbols at)) (length s.ram) st b k.pool) in
     let end = end_all s.part (needs_of m) at st in
     let pool = k.pool in
     record {

@@ -13,6 +13,7 @@ use Rattle.module_image.specs.declared.segments.Needs.{Needs}
 use Rattle.module_image.specs.declared.segments.Places.{Places}
 use Rattle.wind_base.specs.Limits.{greatest_word}
 use Rattle.module_loader.specs.Placing.{place_seg, with_seg, with_text, places_of}
+use Rattle.module_loader.specs.Loading.{block_size}
 use Rattle.module_loader.proofs.Taking.{seg_kept, are_places}
 
 -- what meets none of the blocks with one more meets neither that one nor those
@@ -31,6 +32,7 @@ meets_with b (c ∷ cs) size at h =
 pub record HasBlock (s : PartState) (n : Need) (at : ℕ) (b : Block) : Type 0 where
   pub addr : b.addr ≡ at
   pub holds : n.size ≤ b.size
+  pub full : b.size ≡ block_size n.size
   pub lies : Lies s.start s.end s.blocks b.size b.addr
   pub after : with_seg s n ≡ with_blocks s (with_block b s.blocks)
   pub class : b.class ≡ Kernel
@@ -52,11 +54,31 @@ holds_all size at end h k = elim (cases_lt size 4294967296) [
       absurd (omega arith)
 ]
 
+-- the block of a segment
+pub block_some : (n : ℕ) → eqb n 0 ≡ false → block_size n ≡ rounded n
+unfolding block_size
+block_some n h = ap (λ t. cond t 0 (rounded n)) h
+
+pub block_none : (n : ℕ) → n ≡ 0 → block_size n ≡ 0
+unfolding block_size
+block_none n h = ap (λ k. cond (eqb k 0) 0 (rounded k)) h
+
+full_all : (size at end : ℕ) → eqb size 0 ≡ false → end < 2 ^ 32 → at + rounded (min size greatest_word) ≤ end → rounded (min size greatest_word) ≡ block_size size
+full_all size at end some h k = elim (cases_lt size 4294967296) [
+  | inl small ↦
+      let e : min size greatest_word ≡ size = omega arith in
+      ap rounded e ∙ sym (block_some size some)
+  | inr large ↦
+      let e : min size greatest_word ≡ greatest_word = omega arith in
+      let r : rounded (min size greatest_word) ≡ 4294967296 = ap rounded e ∙ round_most in
+      absurd (omega arith)
+]
+
 -- the same as a tuple, while its parts are looked at
 abbrev StandsBy : PartState → Need → ℕ → PartState → Type 0
 StandsBy s n at t =
     ((n.size ≡ 0) × (t ≡ s) × (at ≡ 0))
-    ⊎ ((b : Block) × (b.addr ≡ at) × (n.size ≤ b.size) × Lies s.start s.end s.blocks b.size b.addr × (t ≡ with_blocks s (with_block b s.blocks)) × (b.class ≡ Kernel) × (0 < b.size))
+    ⊎ ((b : Block) × (b.addr ≡ at) × (n.size ≤ b.size) × Lies s.start s.end s.blocks b.size b.addr × (t ≡ with_blocks s (with_block b s.blocks)) × (b.class ≡ Kernel) × (0 < b.size) × (b.size ≡ block_size n.size))
 
 same_Ok : (a b : ℕ) → ◌≡◌ {A = Result ℕ PartErr} (Ok a) (Ok b) → a ≡ b
 same_Ok a b e = cc
@@ -68,13 +90,13 @@ stands_by s n at k e =
       | true ↦ λ q h. inl (eqb-true n.size 0 q, refl, sym (same_Ok 0 at h))
       | false ↦ λ q h.
           let lies = alloc_lies s (min n.size greatest_word) n.align at h in
-          inr (given_block (min n.size greatest_word) at Kernel, refl, holds_all n.size at s.end k.bound lies.high, lies, after_is s (min n.size greatest_word) n.align at Kernel h, refl, rounded_some (min n.size greatest_word))
+          inr (given_block (min n.size greatest_word) at Kernel, refl, holds_all n.size at s.end k.bound lies.high, lies, after_is s (min n.size greatest_word) n.align at Kernel h, refl, rounded_some (min n.size greatest_word), full_all n.size at s.end q k.bound lies.high)
     ] refl e
 
 pub stands : (s : PartState) (n : Need) (at : ℕ) → IsPart s → place_seg s n ≡ Ok at → Stands s n at
 stands s n at k e = elim (stands_by s n at k e) [
   | inl h ↦ inl h
-  | inr h ↦ inr (h.0, record { addr = h.1; holds = h.2; lies = h.3; after = h.4; class = h.5; some = h.6 })
+  | inr h ↦ inr (h.0, record { addr = h.1; holds = h.2; full = h.7; lies = h.3; after = h.4; class = h.5; some = h.6 })
 ]
 
 -- the pool stays
@@ -86,6 +108,11 @@ same_end s n at (inr h) = ap (λ (x : PartState). x.end) (h.1).after
 pub in_pool : (s : PartState) (n : Need) (at : ℕ) → Stands s n at → at + n.size ≤ s.end
 in_pool s n at (inl h) = let a = h.0 in let b = h.2 in omega arith
 in_pool s n at (inr h) = let a = (h.1).addr in let b = (h.1).holds in let c = (h.1).lies.high in omega arith
+
+-- and so does its block
+pub block_in_pool : (s : PartState) (n : Need) (at : ℕ) → Stands s n at → at + block_size n.size ≤ s.end
+block_in_pool s n at (inl h) = let z = block_none n.size h.0 in let b = h.2 in omega arith
+block_in_pool s n at (inr h) = let a = (h.1).addr in let b = (h.1).full in let c = (h.1).lies.high in omega arith
 
 -- size bytes at an address meet none of the blocks, or there are none
 abbrev pub Meets : List Block → ℕ → ℕ → Type 0

@@ -1,9 +1,10 @@
 -- When a load is refused, where it goes, and what it leaves.
-use Rattle.std.specs.Prelude.{◌≡◌, ℕ, ◌+◌, nat_le, nat_lt, if◌then◌else◌, List, [], ◌∷◌, ◌++◌, length, Option, Some, None, Result, Ok, Err}
+use Rattle.std.specs.Prelude.{◌≡◌, ℕ, ◌+◌, ◌-◌, nat_le, nat_lt, ◌==◌, if◌then◌else◌, List, [], ◌∷◌, ◌++◌, length, replicate, Option, Some, None, Result, Ok, Err}
 use Rattle.wind_base.specs.Limits.{most_modules, greatest_id, most_symbols}
 use Rattle.wind_core.specs.State.{KernState}
 use Rattle.symbol_table.specs.declared.symbol.Symbol.{Symbol}
 use Rattle.mem_partition.specs.declared.block.PartErr.{PartErr}
+use Rattle.mem_partition.specs.Place.{rounded}
 use Rattle.mem_partition.specs.State.{PartState}
 use Rattle.board_mem.specs.Memory.{with_bytes}
 use Rattle.reloc_link.specs.declared.patching.RelocErr.{RelocErr}
@@ -86,9 +87,20 @@ abbrev pub stored_all : List ℕ → List Piece → List ℕ
 stored_all ram [] = ram
 stored_all ram (p ∷ ps) = stored_all (stored ram p) ps
 
--- the segments of an image at their places
+-- how many bytes the block of a segment of n bytes has: one of size 0 has no block
+unfoldable pub block_size : ℕ → ℕ
+block_size n = if n == 0 then 0 else rounded n
+
+-- the bytes of a segment, and zeros to the end of its block
+unfoldable pub in_block : List ℕ → List ℕ
+in_block bytes = bytes ++ replicate (block_size (length bytes) - length bytes) 0
+
+-- the segments of an image at their places, each with its block filled up
+abbrev pub in_blocks : Images → Images
+in_blocks i = record { text = in_block i.text; «data» = in_block i.«data»; bss = in_block i.bss; fault = i.fault }
+
 abbrev pub pieces_of : Places → Images → List Piece
-pieces_of at i = (at.text, i.text) ∷ (at.«data», i.«data») ∷ (at.bss, i.bss) ∷ []
+pieces_of at i = (at.text, in_block i.text) ∷ (at.«data», in_block i.«data») ∷ (at.bss, in_block i.bss) ∷ []
 
 -- the module's record: its name, and where its segments are and how many bytes they have
 abbrev pub segment_at : Need → ℕ → Segment
@@ -101,7 +113,7 @@ abbrev pub record_of : List ℕ → Needs → Places → LoadedModule
 record_of name z at = record { name = name; segments = segments_at z at }
 
 -- what an accepted load leaves: an id less, its exports behind the symbols, its record behind the modules, its blocks,
--- and in RAM its image
+-- and in RAM its image, each segment with zeros to the end of its block
 unfoldable pub loaded : LoaderState → List ℕ → Module → ℕ → Places → LoaderState
 loaded s name m mode at = record {
   kern = record s.kern { next_id = s.kern.next_id + 1 };

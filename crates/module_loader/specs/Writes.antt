@@ -1,5 +1,5 @@
 -- Where an accepted load writes.
-use Rattle.std.specs.Prelude.{◌≡◌, ◌⊎◌, ℕ, ◌≤◌, List, length, slice_index, Ok}
+use Rattle.std.specs.Prelude.{◌≡◌, ◌⊎◌, ℕ, List, length, slice_index, Ok}
 use Rattle.std.specs.List.{All, Contains}
 use Rattle.mem_partition.specs.declared.block.Block.{Block}
 use Rattle.mem_partition.specs.declared.block.Class.TheVariants.{Kernel}
@@ -12,13 +12,13 @@ use Rattle.module_image.specs.Image.{image}
 use Rattle.module_loader.specs.Loading.{LoaderState, Piece, pieces_of, verdict, loaded}
 use Rattle.module_loader.specs.Live.{IsPiece, IsLoader}
 
--- a Kernel block of the partition begins where the piece does, and holds all of it
+-- a Kernel block of the partition begins where the piece does, and has as many bytes
 abbrev pub HasBlock : PartState → Piece → Type 0
-HasBlock s p = (b : Block) × Contains s.blocks b × (b.class ≡ Kernel) × (b.addr ≡ p.0) × (length p.1 ≤ b.size)
+HasBlock s p = (b : Block) × Contains s.blocks b × (b.class ≡ Kernel) × (b.addr ≡ p.0) × (b.size ≡ length p.1)
 
 -- what an accepted load of a module writes, and what it leaves
 pub record WriteLaw : Type 0 where
-  -- each segment that has bytes is written into a block of its own
+  -- each segment that has bytes fills a block of its own
   pub own : (s : LoaderState) (name : List ℕ) (m : Module) (mode : ℕ) (at : Places) (p : Piece)
       → IsLoader s → IsModule m → verdict s m mode ≡ Ok at → IsPiece p (pieces_of at (image m s.symbols at))
       → (length p.1 ≡ 0) ⊎ HasBlock (loaded s name m mode at).part p

@@ -3,46 +3,64 @@
 ghost use Rattle.std.specs.Prelude.{◌≡◌, ◌<◌, ◌≤◌, ◌+◌, ◌-◌, ◌^◌, ◌++◌, false, length, take, drop, replicate, All};
 ghost use Rattle.wind_base.specs.Limits.{greatest_id};
 ghost use Rattle.id_table.specs.Rows.{IdsBelow, added};
-ghost use Rattle.module_loader.specs.Loading.{stored, stored_all, segment_at, record_of};
+ghost use Rattle.module_loader.specs.Loading.{block_size as block_size_lem, in_block, stored, stored_all, segment_at, record_of};
 ghost use Rattle.module_loader.specs.Modules.{HasIdent};
 ghost use Rattle.module_loader.specs.Steps.{three_pieces};
 
 use crate::module::{Loaded, LoadedModule, Segment};
 use board_mem::Ram;
 use id_table::{Ident, Table};
+use mem_partition::round_up;
 use module_image::{Need, Needs, Places, Prepared};
 use symbol_table::{Symbol, Symbols};
 use wind_base::Name;
 use wind_core::Kern;
 
-/// Writes bytes at an address of RAM.
-#[tactic(auto, unfolding(crate::specs::Loading::stored))]
-fn write(ram: &mut Ram, at: u32, src: &[u8])
-    requires { at + length src.now ≤ length ram.old }
-    ensures bytes { ram.new ≡ stored ram.old (at, src.now) }
+/// How many bytes the block of a segment of `n` bytes has.
+#[tactic(auto, unfolding(crate::specs::Loading::block_size))]
+fn block_size(n: u32) -> u32
+    requires { block_size_lem n < 2 ^ 32 }
+    ensures { result ≡ block_size_lem n }
+{
+    if n == 0 {
+        return 0;
+    }
+    round_up(n) as u32
+}
+
+/// Fills a segment's block with zeros.
+#[tactic(auto, unfolding(crate::specs::Loading::stored), using(crate::proofs::Filling::zeros_in_block))]
+fn write_zeros(ram: &mut Ram, at: u32, n: u32)
+    requires { at + block_size_lem n ≤ length ram.old }
+    ensures bytes { ram.new ≡ stored ram.old (at, in_block (replicate n 0)) }
     ensures same { length ram.new ≡ length ram.old }
 {
+    // RAM has less than 2^32 bytes
+    let _size = ram.size();
+    let _ = ram.fill(at, block_size(n), 0);
+}
+
+/// Writes the bytes of a segment to the front of its block, and zeros behind them.
+#[tactic(auto, using(crate::proofs::Filling::after_copy, crate::proofs::Filling::block_holds))]
+fn write(ram: &mut Ram, at: u32, src: &[u8])
+    requires { at + block_size_lem (length src.now) ≤ length ram.old }
+    ensures bytes { ram.new ≡ stored ram.old (at, in_block src.now) }
+    ensures same { length ram.new ≡ length ram.old }
+{
+    let _size = ram.size();
+    write_zeros(ram, at, src.len() as u32);
     let _ = ram.copy_in(at, src);
 }
 
-/// Writes zeros at an address of RAM.
-#[tactic(auto, unfolding(crate::specs::Loading::stored))]
-fn write_zeros(ram: &mut Ram, at: u32, n: u32)
-    requires { at + n ≤ length ram.old }
-    ensures bytes { ram.new ≡ stored ram.old (at, replicate n 0) }
-    ensures same { length ram.new ≡ length ram.old }
-{
-    let _ = ram.fill(at, n, 0);
-}
-
-/// Writes the three segments; text is the front of the bytes, up to `cut`, and data the rest.
+/// Writes the three segments, each with zeros to the end of its block; text is the front of the bytes, up to `cut`, and
+/// data the rest.
 fn store(ram: &mut Ram, bytes: &[u8], cut: usize, at: Places, bss: u32)
     requires cut { cut ≤ length bytes.now }
-    requires text { at.text + cut ≤ length ram.old }
-    requires data { at.«data» + (length bytes.now - cut) ≤ length ram.old }
-    requires bss { at.bss + bss ≤ length ram.old }
+    requires text { at.text + block_size_lem cut ≤ length ram.old }
+    requires data { at.«data» + block_size_lem (length bytes.now - cut) ≤ length ram.old }
+    requires bss { at.bss + block_size_lem bss ≤ length ram.old }
     ensures { ram.new ≡ stored_all ram.old
-        (three_pieces at (take cut bytes.now) (drop cut bytes.now) (replicate bss 0)) }
+        (three_pieces at (in_block (take cut bytes.now)) (in_block (drop cut bytes.now)) (in_block (replicate bss 0))) }
 {
     let text = &bytes[..cut];
     let data = &bytes[cut..];
@@ -130,17 +148,17 @@ pub(crate) fn commit(
     requires idents { All HasIdent table.old.rows }
     requires symbols { length made.exports.items ≤ syms.old.spare }
     requires cut { cut ≤ length made.bytes.items }
-    requires text { at.text + cut ≤ length ram.old }
-    requires data { at.«data» + (length made.bytes.items - cut) ≤ length ram.old }
-    requires bss { at.bss + bss ≤ length ram.old }
+    requires text { at.text + block_size_lem cut ≤ length ram.old }
+    requires data { at.«data» + block_size_lem (length made.bytes.items - cut) ≤ length ram.old }
+    requires bss { at.bss + block_size_lem bss ≤ length ram.old }
     ensures id { result.id ≡ kern.old.next_id }
     ensures undefined { result.undefined ≡ made.undefined }
     ensures next { kern.new ≡ record kern.old { next_id = kern.old.next_id + 1 } }
     ensures rows { table.new ≡ added table.old kern.old.next_id row }
     ensures idents { All HasIdent table.new.rows }
     ensures symbols { syms.new.list ≡ syms.old.list ++ made.exports.items }
-    ensures ram { ram.new ≡ stored_all ram.old
-        (three_pieces at (take cut made.bytes.items) (drop cut made.bytes.items) (replicate bss 0)) }
+    ensures ram { ram.new ≡ stored_all ram.old (three_pieces at
+        (in_block (take cut made.bytes.items)) (in_block (drop cut made.bytes.items)) (in_block (replicate bss 0))) }
 {
     let Prepared {
         bytes,

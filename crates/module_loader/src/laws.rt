@@ -10,8 +10,8 @@ pub fn live_law()
     ensures { LiveLaw }
 {}
 
-/// An accepted load writes each segment into a Kernel block of its own, which has no byte in common with a block that
-/// there was, and no other byte of RAM.
+/// An accepted load fills for each segment that has bytes a Kernel block of its own, which has no byte in common with a
+/// block that there was, and writes no other byte of RAM.
 pub fn write_law()
     ensures { WriteLaw }
 {}

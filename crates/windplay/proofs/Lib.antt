@@ -1,4 +1,4 @@
-pub mod LineLemmas
+pub mod CommandLemmas
 pub mod PlanLemmas
 pub mod RunLemmas
 pub mod ToldLemmas

@@ -7,7 +7,7 @@ use Rattle.wind_outside.specs.Files.{Files, IsFetchOf}
 use Rattle.wind_outside.specs.declared.folder.Fetched.TheVariants as fetched
 use Rattle.tick_file.specs.Schedule.{Timetable}
 use Rattle.windplay.specs.Command.{CommandState}
-use Rattle.windplay.specs.Plan.{Plan, Refuse, Start, IsFilePlan, IsEntry, IsHeld, plan_file, plan_ticks, plan_of}
+use Rattle.windplay.specs.Plan.{Plan, Refuse, Start, IsFilePlan, IsPlan, IsEntry, IsHeld, plan_file, plan_ticks, plan_of}
 use Rattle.windplay.specs.Headline.{IsRefusal, IsUnread, Refuses, IsPlayed, IsComplete}
 use Rattle.windplay.specs.declared.ending.Status.{Status}
 use Rattle.windplay.specs.declared.ending.Status.TheVariants as status
@@ -57,7 +57,6 @@ refusal_up status.Usage plan rose later up h = h
 refusal_up (status.Absent file) plan rose later up h = h
 refusal_up (status.BadTicks line) plan rose later up h = h
 refusal_up (status.TooLong file) plan rose later up h = h
-refusal_up (status.NotBuilt what) plan rose later up h = h
 
 module _ (files : Option Files) (name : List ℕ) where
   -- the file that a fetch found
@@ -78,6 +77,14 @@ module _ (files : Option Files) (name : List ℕ) where
 
     pub unread_memory : IsUnread status.NoMemory file files name rose
     unread_memory = let some = some_entry files name in record { file = some.0; told = some.1; refused = λ next. tt }
+
+-- words ask for some plan, also where it is not known which
+pub some_plan : (files : Option Files) (command : Option CommandState) → (plan : Plan) × IsPlan files command plan
+some_plan files None = (Refuse status.Usage, refl)
+some_plan files (Some c) =
+    let console = some_entry files c.console in
+    let ticks = some_entry files c.ticks in
+    (plan_of console.0 ticks.0, record { console = console.0; ticks = ticks.0; console_told = console.1; ticks_told = ticks.1; plan_is = refl })
 
 module _ (files : Option Files) (command : CommandState) where
   -- the console file is refused
@@ -132,7 +139,6 @@ refusal_played status.Usage plan console schedule rose e fine h = let bad : Refu
 refusal_played (status.Absent file) plan console schedule rose e fine h = let bad : Refuse (status.Absent file) ≡ Start console schedule = sym h ∙ e in cc
 refusal_played (status.BadTicks line) plan console schedule rose e fine h = let bad : Refuse (status.BadTicks line) ≡ Start console schedule = sym h ∙ e in cc
 refusal_played (status.TooLong file) plan console schedule rose e fine h = let bad : Refuse (status.TooLong file) ≡ Start console schedule = sym h ∙ e in cc
-refusal_played (status.NotBuilt what) plan console schedule rose e fine h = let bad : Refuse (status.NotBuilt what) ≡ Start console schedule = sym h ∙ e in cc
 
 -- so what is refused without a fault had no plan to start
 pub complete_refused : (s : Status) (files : Option Files) (command : CommandState) (rose out_rose : Type 0) → Refuses s files command rose → IsComplete s (Some command) files rose out_rose

@@ -1,10 +1,10 @@
 -- Laws on the runs of the wind machine.
-use Rattle.std.proofs.Common.{◌≡◌, ◌≢◌, ℕ, suc, ◌+◌, ◌<◌, List, [], ◌++◌, Option, Some, refl, sym, ◌∙◌, ap, subst, arith, below_more, add-one}
+use Rattle.std.proofs.Common.{◌≡◌, ◌≢◌, ℕ, suc, ◌+◌, ◌<◌, List, [], ◌++◌, Option, Some, true, refl, sym, ◌∙◌, ap, subst, arith, below_more, add-one}
 use Rattle.std.specs.Prelude.{unwrap_or, IsSome, take}
 use Rattle.wind_outside.specs.Told.{Appended, AppendedFront}
-use Rattle.board_player.specs.State.{State}
-use Rattle.board_player.specs.Machine.{machine_step}
-use Rattle.board_player.specs.Run.{after, text, IsPart}
+use Rattle.wind_machine.specs.State.{State}
+use Rattle.wind_machine.specs.Machine.{machine_step, may_lack_memory}
+use Rattle.wind_machine.specs.Run.{after, text, IsPart}
 use Rattle.windplay.specs.Runs.{Ran}
 use Rattle.windplay.proofs.ToldLemmas.{appended_both}
 use Rattle.windplay.specs.declared.run.RunEnd.TheVariants as ends
@@ -22,7 +22,7 @@ part_more s t n i p h e = record {
 
 -- a put that fails behind a step cuts the run off
 pub cut_off : (s t : State) (n i : ℕ) (old mid new : Option (List ℕ)) → IsPart s n i → i < n → machine_step (after s i) ≡ Some t → t.steps ≡ i + 1
-    → Appended old mid (text s i) → AppendedFront mid new t.output → t.output ≢ [] → Ran ends.WriteFault s n t old new
+    → Appended old mid (text s i) → AppendedFront mid new t.world.output → t.world.output ≢ [] → Ran ends.WriteFault s n t old new
 cut_off s t n i old mid new p h e count told part some = record {
   k = suc i;
   counted = count ∙ add-one i;
@@ -31,9 +31,36 @@ cut_off s t n i old mid new p h e count told part some = record {
   written = record {
     before = i;
     last = refl;
-    wrote = subst (λ (u : State). u.output ≢ []) (after_more s t i e) some;
+    wrote = subst (λ (u : State). u.world.output ≢ []) (after_more s t i e) some;
     part = part.0;
-    gained = subst (λ (u : State). Appended old new (text s i ++ take part.0 u.output)) (after_more s t i e) (appended_both old mid new (text s i) _ told part.1);
+    gained = subst (λ (u : State). Appended old new (text s i ++ take part.0 u.world.output)) (after_more s t i e) (appended_both old mid new (text s i) _ told part.1);
   };
   ended = tt;
 }
+
+-- ---- behind i steps, a further one was made
+module _ (s t u : State) (i : ℕ) (here : u ≡ after s i) where
+  made : machine_step u ≡ Some t → machine_step (after s i) ≡ Some t
+  made e = subst (λ (v : State). machine_step v ≡ Some t) here e
+
+  pub state_on : machine_step u ≡ Some t → t ≡ after s (i + 1)
+  state_on e = subst (λ k. t ≡ after s k) (sym (add-one i)) (after_more s t i (made e))
+
+  pub part_on : (n : ℕ) → IsPart s n i → i < n → machine_step u ≡ Some t → IsPart s n (i + 1)
+  part_on n p h e = subst (IsPart s n) (sym (add-one i)) (part_more s t n i p h (made e))
+
+  pub text_on : (old mid new : Option (List ℕ)) → machine_step u ≡ Some t → Appended old mid (text s i) → Appended mid new t.world.output → Appended old new (text s (i + 1))
+  text_on old mid new e told more =
+      subst (λ k. Appended old new (text s k)) (sym (add-one i))
+      (subst (λ (v : State). Appended old new (text s i ++ v.world.output)) (after_more s t i (made e)) (appended_both old mid new (text s i) t.world.output told more))
+
+  -- memory ran out in it, and nothing changed
+  pub lacked : (n : ℕ) (old new : Option (List ℕ)) → t ≡ u → u.steps ≡ i → IsPart s n i → i < n → may_lack_memory u ≡ true → Appended old new (text s i) → Ran ends.NoMemory s n t old new
+  lacked n old new same count p h may told = record {
+    k = i;
+    counted = ap (λ (v : State). v.steps) same ∙ count;
+    part = p;
+    state = same ∙ here;
+    written = told;
+    ended = (h, subst (λ (v : State). may_lack_memory v ≡ true) here may);
+  }

@@ -5,7 +5,9 @@ use Rattle.std.proofs.lemmas.Bool.{cases_eq}
 use Rattle.std.proofs.lemmas.List.{append-nil, take-append-drop}
 use Rattle.wind_outside.specs.Counts.{Rose}
 use Rattle.wind_outside.specs.Told.{Appended, AppendedFront}
-use Rattle.windplay.specs.Texts.{IsCutShort, IsTold}
+use Rattle.windplay.specs.Texts.{IsCutShort, IsText, IsTold, memory_text, status_text}
+use Rattle.windplay.specs.Command.{CommandState}
+use Rattle.windplay.specs.declared.ending.Status.TheVariants as status
 
 -- a count that rose has risen also later, and from an earlier one
 pub rose_later : (a b c : ℕ) → Rose a b → b ≤ c → Rose a c
@@ -74,3 +76,9 @@ told_both old mid new text more rose later up p (inr cut) =
       gained = appended_both old mid new text cut.front p cut.gained;
       fault = up cut.fault;
     })
+
+-- the text for want of memory is one whatever the words are
+pub memory_is_text : (command : Option CommandState) → IsText command status.NoMemory memory_text
+unfolding status_text
+memory_is_text None = refl
+memory_is_text (Some c) = refl

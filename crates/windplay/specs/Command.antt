@@ -1,72 +1,63 @@
--- What the words of the command line ask for.
-use Rattle.std.specs.Prelude.{ℕ, List, [], ◌∷◌, Option, Some, None, unwrap_or, nat_le, if◌then◌else◌, length, codes}
-use Rattle.std.specs.Option.{option_map}
-use Rattle.std.specs.Str.{bytes_eq}
+-- What the words of the command line ask for, by the definition of a simple command of `clap`.
+use Rattle.std.specs.Prelude.{ℕ, List, [], ◌∷◌, Option, Some, None, option_map, unwrap_or, nat_le, if◌then◌else◌, length, codes}
 use Rattle.wind_base.specs.Limits.{most_steps}
 use Rattle.wind_base.specs.Decimal.{decimal_value}
+use Rattle.clap.specs.Kinds.{Kinds}
+use Rattle.clap.specs.Words.{App, Row, Rule, Text, fault_of, first_of, matches_of, new_app, new_rule, with_rule}
 
--- a command: the names of the console file and of the tick file, and how many steps the run makes at most
+-- a command: the names of the console file, of the tick file and of the folder of modules, and how many steps the run makes at most
 pub record CommandState : Type 0 where
   pub console : List ℕ
   pub ticks : List ℕ
+  pub modules : List ℕ
   pub limit : ℕ
 
--- the options that were given so far
-pub record OptionsState : Type 0 where
-  pub console : Option (List ℕ)
-  pub ticks : Option (List ℕ)
-  pub limit : Option ℕ
+-- an option with one value: its name and its default
+abbrev pub option_rule : Text → Text → Rule
+option_rule name default = record (new_rule name) { long = Some name; value_names = 1; defaults = default ∷ [] }
 
-abbrev pub no_options : OptionsState
-no_options = record { console = None; ticks = None; limit = None }
+abbrev pub with_option : Text → Text → App → App
+with_option name default app = with_rule app (option_rule name default)
 
--- a value for an option that was not given before; none where it was
-abbrev pub once : {A : Type 0} → Option A → A → Option (Option A)
-once None v = Some (Some v)
-once (Some u) v = None
+-- the command line, as clap reads it: its options with their defaults
+unfoldable pub app : App
+app =
+    with_option (codes "limit") (codes "1000000")
+    (with_option (codes "modules") (codes ".")
+    (with_option (codes "ticks") (codes "ticks.txt")
+    (with_option (codes "console") (codes "console.txt")
+    (new_app (codes "windplay")))))
 
 -- the most digits of a limit
 abbrev pub most_limit_digits : ℕ
 most_limit_digits = 13
 
 -- a limit of steps: 1 to so many decimal digits, and at most the most steps
-abbrev pub limit_value : List ℕ → Option ℕ
+abbrev pub limit_value : Text → Option ℕ
 limit_value text = if nat_le (length text) most_limit_digits then decimal_value most_steps text else None
 
--- the options with one more: the option of this name, with this value
-abbrev pub with_console : OptionsState → List ℕ → Option OptionsState
-with_console o value = option_map (λ v. record o { console = v }) (once o.console value)
+-- the value that clap gives for an option; it gives each option one, since each has a default
+abbrev pub value_of : Text → List Row → Text
+value_of name rows = unwrap_or (first_of name rows) []
 
-abbrev pub with_ticks : OptionsState → List ℕ → Option OptionsState
-with_ticks o value = option_map (λ v. record o { ticks = v }) (once o.ticks value)
-
-abbrev pub with_limit : OptionsState → Option ℕ → Option OptionsState
-with_limit o None = None
-with_limit o (Some n) = option_map (λ v. record o { limit = v }) (once o.limit n)
-
-unfoldable pub with_option : OptionsState → List ℕ → List ℕ → Option OptionsState
-with_option o name value =
-    if bytes_eq name (codes "--console") then with_console o value
-    else (if bytes_eq name (codes "--ticks") then with_ticks o value
-    else (if bytes_eq name (codes "--limit") then with_limit o (limit_value value)
-    else None))
-
--- the options with those of pairs of words, a name and its value each
-abbrev pub with_pairs : Option OptionsState → List (List ℕ) → Option OptionsState
-with_pairs None words = None
-with_pairs (Some o) [] = Some o
-with_pairs (Some o) (name ∷ []) = None
-with_pairs (Some o) (name ∷ value ∷ words) = with_pairs (with_option o name value) words
-
--- the defaults for what was not given
-abbrev pub with_defaults : OptionsState → CommandState
-with_defaults o = record {
-  console = unwrap_or o.console (codes "console.txt");
-  ticks = unwrap_or o.ticks (codes "ticks.txt");
-  limit = unwrap_or o.limit 1000000;
+-- the command of clap's matches, with this limit
+abbrev pub with_limit : List Row → ℕ → CommandState
+with_limit rows limit = record {
+  console = value_of (codes "console") rows;
+  ticks = value_of (codes "ticks") rows;
+  modules = value_of (codes "modules") rows;
+  limit = limit;
 }
 
--- the command of these words: the program's name, then options with their values, each at most once; none of other words
-abbrev pub command_of : List (List ℕ) → Option CommandState
-command_of [] = None
-command_of (name ∷ words) = option_map with_defaults (with_pairs (Some no_options) words)
+-- the command of clap's matches: none where the limit is out of form
+abbrev pub command_of_rows : List Row → Option CommandState
+command_of_rows rows = option_map (with_limit rows) (limit_value (value_of (codes "limit") rows))
+
+-- the command of a list of words in which clap finds no fault; a call for help is such a fault
+abbrev pub unless_fault : Kinds → List Row → Option CommandState
+unless_fault [] rows = command_of_rows rows
+unless_fault (kind ∷ kinds) rows = None
+
+-- the command of these words, of which the first is the program's name: none where clap finds a fault, and none where the limit is out of form
+unfoldable pub command_of : List Text → Option CommandState
+command_of words = unless_fault (fault_of app words) (matches_of app words)

@@ -4,9 +4,10 @@ use Rattle.std.specs.declared.dyn_box.DynBox.{DynBox}
 use Rattle.std.specs.declared.alloc.Global.{Global}
 use Rattle.wind_outside.specs.Devices.{DeviceState}
 use Rattle.wind_outside.specs.Files.{Files}
-use Rattle.board_player.specs.State.{State}
+use Rattle.wind_machine.specs.State.{State}
+use Rattle.wind_machine.specs.Good.{Good}
 use Rattle.board_player.specs.declared.board.Board.{Board}
-use Rattle.board_player.specs.Machine.{opening}
+use Rattle.wind_machine.specs.Machine.{opening}
 use Rattle.windplay.specs.Runs.{Ran}
 use Rattle.windplay.specs.Command.{CommandState}
 use Rattle.tick_file.specs.Schedule.{Timetable}
@@ -70,6 +71,11 @@ pub record Plays {I : Type 0} {X : I → Type 0} (state : Board I X → State) (
   pub plan : Plan
   pub planned : IsPlan files command plan
   pub leaves : Leaves state ending.status ending.stand plan (limit_of command) rose slots devices old new
+
+-- the board that is left has the kept facts
+abbrev pub IsKept : {I : Type 0} {X : I → Type 0} → (Board I X → State) → Stand I X → Type 0
+IsKept state (stands.NotBooted back) = Unit {0}
+IsKept state (stands.Booted board) = Good (state board)
 
 -- a status of a session that was played, or for which memory was short
 abbrev pub IsPlayed : Status → Type 0

@@ -1,6 +1,6 @@
-pub mod Built
 pub mod Command
 pub mod Headline
+pub mod Laws
 pub mod Plan
 pub mod Runs
 pub mod Status

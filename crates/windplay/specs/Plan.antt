@@ -4,31 +4,20 @@ use Rattle.wind_base.specs.Limits.{longest_text_file}
 use Rattle.wind_outside.specs.Files.{Files}
 use Rattle.tick_file.specs.Lines.{first_bad_line}
 use Rattle.tick_file.specs.Schedule.{Timetable, timetable_of}
-use Rattle.windplay.specs.Built.{unbuilt_line}
 use Rattle.windplay.specs.Command.{CommandState}
 use Rattle.windplay.specs.declared.ending.Status.{Status}
 use Rattle.windplay.specs.declared.ending.Status.TheVariants as status
 use Rattle.windplay.specs.declared.ending.Which.{Which}
 use Rattle.windplay.specs.declared.ending.Which.TheVariants as which
-use Rattle.windplay.specs.declared.ending.Unbuilt.TheVariants as unbuilt
 
 -- a refusal, or a console to play with the events of a tick file
 pub data Plan : Type 0 where
   Refuse : Status → Plan
   Start : List ℕ → Timetable → Plan
 
--- a console is played, unless a line of it is not built
-abbrev pub plan_built : List ℕ → Timetable → Option ℕ → Plan
-plan_built console schedule None = Start console schedule
-plan_built console schedule (Some n) = Refuse (status.NotBuilt (unbuilt.Line n))
-
--- a tick file that was read is built, unless it has a line of `rx`
-abbrev pub plan_read : List ℕ → Timetable → Plan
-plan_read console schedule = if schedule.on_demand then plan_built console schedule (unbuilt_line console) else Refuse (status.NotBuilt unbuilt.Ticks)
-
--- a tick file is read, unless a line of it is outside the grammar
+-- a console is played with the events of a tick file, unless a line of that is outside its grammar
 abbrev pub plan_lines : List ℕ → List ℕ → Option ℕ → Plan
-plan_lines console ticks None = plan_read console (timetable_of ticks)
+plan_lines console ticks None = Start console (timetable_of ticks)
 plan_lines console ticks (Some n) = Refuse (status.BadTicks n)
 
 -- a tick file, by its first line outside the grammar
@@ -40,7 +29,7 @@ abbrev pub plan_file : Which → (List ℕ → Plan) → Option (List ℕ) → P
 plan_file file next None = Refuse (status.Absent file)
 plan_file file next (Some bytes) = if nat_lt longest_text_file (length bytes) then Refuse (status.TooLong file) else next bytes
 
--- the order of refusals: the console file, the tick file, its lines, a line of `rx`, and the console's lines
+-- the order of refusals: the console file, the tick file, and its lines
 abbrev pub plan_of : Option (List ℕ) → Option (List ℕ) → Plan
 plan_of console ticks = plan_file which.Console (λ bytes. plan_file which.Ticks (plan_ticks bytes) ticks) console
 

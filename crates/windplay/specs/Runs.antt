@@ -1,26 +1,26 @@
 -- What a run of the wind machine leaves.
 use Rattle.std.specs.Prelude.{◌≡◌, ◌≢◌, ℕ, suc, ◌<◌, List, [], ◌++◌, Option, None, true, take}
 use Rattle.wind_outside.specs.Told.{Appended}
-use Rattle.board_player.specs.State.{State}
-use Rattle.board_player.specs.Machine.{machine_step, reads_line}
-use Rattle.board_player.specs.Run.{after, text, IsPart}
+use Rattle.wind_machine.specs.State.{State}
+use Rattle.wind_machine.specs.Machine.{machine_step, may_lack_memory}
+use Rattle.wind_machine.specs.Run.{after, text, IsPart}
 use Rattle.windplay.specs.declared.run.RunEnd.{RunEnd}
 use Rattle.windplay.specs.declared.run.RunEnd.TheVariants as ends
 
--- how a run of at most n steps from s ends behind k steps: with no further step, with n, or for want of memory where a line is read next
+-- how a run of at most n steps from s ends behind k steps: with no further step, with n, or for want of memory where the next step may lack it
 abbrev pub IsEnd : RunEnd → State → ℕ → ℕ → Type 0
 IsEnd ends.Quiet s n k = (k < n) × (machine_step (after s k) ≡ None)
 IsEnd ends.Limit s n k = k ≡ n
 IsEnd ends.WriteFault s n k = Unit {0}
-IsEnd ends.NoMemory s n k = (k < n) × (reads_line (after s k) ≡ true)
+IsEnd ends.NoMemory s n k = (k < n) × (may_lack_memory (after s k) ≡ true)
 
 -- the last of k steps wrote something, of which the sink gained a part, behind all that the steps before wrote
 pub record IsCutOff (s : State) (k : ℕ) (old new : Option (List ℕ)) : Type 0 where
   pub before : ℕ
   pub last : k ≡ suc before
-  pub wrote : (after s k).output ≢ []
+  pub wrote : (after s k).world.output ≢ []
   pub part : ℕ
-  pub gained : Appended old new (text s before ++ take part (after s k).output)
+  pub gained : Appended old new (text s before ++ take part (after s k).world.output)
 
 -- what the sink has gained behind k steps: all that they wrote, unless a put failed
 abbrev pub IsWritten : RunEnd → State → ℕ → Option (List ℕ) → Option (List ℕ) → Type 0

@@ -13,4 +13,3 @@ status_number status.WriteFault = 5
 status_number status.NoMemory = 6
 status_number (status.BadTicks line) = 7
 status_number (status.TooLong which) = 8
-status_number (status.NotBuilt what) = 9

@@ -1,10 +1,15 @@
 //! The words of the command line.
 
-ghost use Rattle.std.specs.Prelude.{◌≡◌, ◌≤◌, ◌^◌, IfSome, Some, map, option_map};
+ghost use Rattle.std.specs.Prelude.{◌≡◌, ◌≢◌, ◌≤◌, IfOk, IfErr, IfSome, Some, None, false, map};
+ghost use Rattle.clap.specs.Words.{app_of, found_of, rows_of, rule_of};
 ghost use Rattle.wind_base.specs.Limits.{most_steps};
-ghost use Rattle.windplay.specs.Command.{limit_value, with_option, with_pairs as with_pairs_lem, with_defaults as with_defaults_lem, command_of as command_of_lem};
-ghost use Rattle.windplay.specs.Words.{command_state, options_state};
+ghost use Rattle.windplay.specs.Command.{app as app_lem, command_of as command_of_lem, limit_value, option_rule, value_of as value_of_lem};
+ghost use Rattle.windplay.specs.Words.{command_state};
+ghost use Rattle.windplay.specs.declared.command.CommandErr.TheVariants as errors;
 
+use clap::error::ErrorKind;
+use clap::{Arg, ArgMatches, Error};
+use std::alloc::{AllocError, Global};
 use wind_base::decimal;
 use wind_base::limits::STEPS;
 
@@ -15,20 +20,37 @@ pub struct Command<'a> {
     pub console: &'a str,
     /// The name of the tick file.
     pub ticks: &'a str,
+    /// The name of the folder of modules.
+    pub modules: &'a str,
     /// How many steps the run makes at most.
     pub limit: u64,
 }
 
-// The options that were given so far.
-#[derive(Clone, Copy)]
-pub(crate) struct Options<'a> {
-    console: Option<&'a str>,
-    ticks: Option<&'a str>,
-    limit: Option<u64>,
+/// Why there is no command.
+#[derive(Debug, Drop)]
+pub enum CommandErr {
+    /// The words are not the command's, or ask for help; the text for the user.
+    Usage(String),
+    /// Host memory ran out.
+    NoMemory,
+}
+
+impl From<AllocError> for CommandErr {
+    ghost use Rattle.std.specs.Prelude.{◌≡◌};
+    ghost use Rattle.windplay.specs.declared.command.CommandErr.TheVariants as errors;
+
+    ghost from_gives = { λ _ e. e ≡ errors.NoMemory };
+
+    fn from(_error: AllocError) -> CommandErr {
+        CommandErr::NoMemory
+    }
 }
 
 // The most digits of a limit.
 const LIMIT_DIGITS: usize = 13;
+
+// What is told of a limit out of form.
+const BAD_LIMIT: &str = "'--limit <N>' takes 1 to 13 digits, and at most 1000000000000";
 
 // A limit of steps, in decimal digits.
 fn limit(text: &str) -> Option<u64>
@@ -41,81 +63,85 @@ fn limit(text: &str) -> Option<u64>
     decimal(text.as_bytes(), STEPS)
 }
 
-// The options with one more, where it was not given before.
-#[tactic(auto, unfolding(crate::specs::Command::with_option))]
-fn with<'a>(options: Options<'a>, name: &str, value: &'a str) -> Option<Options<'a>>
-    requires { IfSome options.limit (λ n. n ≤ most_steps) }
-    ensures value { option_map options_state result ≡ with_option (options_state options.entry) name.now value.now }
-    ensures within { IfSome result (λ o. IfSome o.limit (λ n. n ≤ most_steps)) }
+// An option with one value.
+fn option<'a>(
+    alloc: Global,
+    name: &'a str,
+    value: &'a str,
+    default: &'a str,
+    help: &'a str,
+) -> Arg<'a>
+    ensures rule { rule_of result ≡ option_rule name.now default.now }
+    ensures local { result.global ≡ false }
 {
-    match name {
-        "--console" if options.console.is_none() => Some(Options {
-            console: Some(value),
-            ticks: options.ticks,
-            limit: options.limit,
-        }),
-        "--ticks" if options.ticks.is_none() => Some(Options {
-            console: options.console,
-            ticks: Some(value),
-            limit: options.limit,
-        }),
-        "--limit" if options.limit.is_none() => Some(Options {
-            console: options.console,
-            ticks: options.ticks,
-            limit: Some(limit(value)?),
-        }),
-        _ => None,
+    Arg::new(alloc, name)
+        .long(name)
+        .value_name(value)
+        .default_value(default)
+        .help(help)
+}
+
+// The command line, as clap reads it.
+#[tactic(auto, unfolding(crate::specs::Command::app))]
+fn app<'a>(alloc: Global) -> Result<clap::Command<'a>, AllocError>
+    ensures { IfOk result (λ c. app_of c ≡ app_lem) }
+{
+    clap::Command::new(alloc, "windplay")
+        .about("Plays a session of a wind kernel's shell on a modelled board")
+        .arg(option(alloc, "console", "FILE", "console.txt", "The console file"))?
+        .arg(option(alloc, "ticks", "FILE", "ticks.txt", "The tick file"))?
+        .arg(option(alloc, "modules", "DIR", ".", "The folder of modules"))?
+        .arg(option(
+            alloc,
+            "limit",
+            "N",
+            "1000000",
+            "The most steps to make, up to 1000000000000",
+        ))
+}
+
+// The value of an option.
+fn value_of<'a>(matches: &ArgMatches<'a>, name: &str) -> &'a str
+    ensures { result.now ≡ value_of_lem name.now (rows_of (found_of matches.now)) }
+{
+    matches.get_str(name).unwrap_or("")
+}
+
+// What clap tells of the words.
+fn usage(alloc: Global, error: &Error) -> CommandErr {
+    match format!(in alloc; "{error}") {
+        Ok(text) => CommandErr::Usage(text),
+        Err(_) => CommandErr::NoMemory,
     }
 }
 
-// The options with those of pairs of words. No option is given twice, so this calls itself four times
-// at most.
-fn with_pairs<'a>(options: Options<'a>, words: &[&'a str]) -> Option<Options<'a>>
-    requires { IfSome options.limit (λ n. n ≤ most_steps) }
-    ensures value { option_map options_state result ≡ with_pairs_lem (Some (options_state options.entry)) (map (λ w. w.now) words.now) }
-    ensures within { IfSome result (λ o. IfSome o.limit (λ n. n ≤ most_steps)) }
-{
-    let Some((name, rest)) = words.split_first() else {
-        return Some(options);
-    };
-    let Some((value, rest)) = rest.split_first() else {
-        return None;
-    };
-    match with(options, name, value) {
-        Some(more) => with_pairs(more, rest),
-        None => None,
+// What is told of a limit out of form, as clap tells it.
+fn bad_limit(alloc: Global, app: &mut clap::Command<'_>) -> CommandErr {
+    match app.error(ErrorKind::ValueValidation, BAD_LIMIT) {
+        Ok(error) => usage(alloc, &error),
+        Err(_) => CommandErr::NoMemory,
     }
 }
 
-// The command with the defaults for what was not given.
-fn with_defaults<'a>(options: Options<'a>) -> Command<'a>
-    requires { IfSome options.limit (λ n. n ≤ most_steps) }
-    ensures value { command_state result ≡ with_defaults_lem (options_state options.entry) }
-    ensures within { result.limit ≤ most_steps }
+/// The command of these words, of which the first is the program's name.
+pub fn command_of<'a>(alloc: Global, words: &'a [&'a str]) -> Result<Command<'a>, CommandErr>
+    ensures value { IfOk result (λ c. command_of_lem (map (λ w. w.now) words.now) ≡ Some (command_state c)) }
+    ensures usage { IfErr result (λ e. e ≢ errors.NoMemory → command_of_lem (map (λ w. w.now) words.now) ≡ None) }
+    ensures within { IfOk result (λ c. c.limit ≤ most_steps) }
 {
-    Command {
-        console: options.console.unwrap_or("console.txt"),
-        ticks: options.ticks.unwrap_or("ticks.txt"),
-        limit: options.limit.unwrap_or(1_000_000),
-    }
-}
-
-/// The command of these words: the program's name, then options with their values, each at most once.
-/// None where the words are not of this form.
-pub fn command_of<'a>(words: &[&'a str]) -> Option<Command<'a>>
-    ensures value { option_map command_state result ≡ command_of_lem (map (λ w. w.now) words.now) }
-    ensures within { IfSome result (λ c. c.limit ≤ most_steps) }
-{
-    let Some((_, rest)) = words.split_first() else {
-        return None;
+    let mut app = app(alloc)?;
+    let matches = match app.try_get_matches_from_mut(words) {
+        Ok(matches) => matches,
+        Err(error) if error.kind() == ErrorKind::OutOfMemory => return Err(CommandErr::NoMemory),
+        Err(error) => return Err(usage(alloc, &error)),
     };
-    let none = Options {
-        console: None,
-        ticks: None,
-        limit: None,
+    let Some(limit) = limit(value_of(&matches, "limit")) else {
+        return Err(bad_limit(alloc, &mut app));
     };
-    match with_pairs(none, rest) {
-        Some(options) => Some(with_defaults(options)),
-        None => None,
-    }
+    Ok(Command {
+        console: value_of(&matches, "console"),
+        ticks: value_of(&matches, "ticks"),
+        modules: value_of(&matches, "modules"),
+        limit,
+    })
 }

@@ -14,15 +14,6 @@ pub enum Which {
     Ticks,
 }
 
-/// What is not built yet.
-#[derive(Clone, Copy, Debug, PartialEq, Eq)]
-pub enum Unbuilt {
-    /// A line of the console file, counted from 1.
-    Line(u64),
-    /// A line `rx` of the tick file.
-    Ticks,
-}
-
 /// The status of a session.
 #[derive(Clone, Copy, Debug, PartialEq, Eq)]
 pub enum Status {
@@ -44,8 +35,6 @@ pub enum Status {
     BadTicks(u64),
     /// A file is too long.
     TooLong(Which),
-    /// A file asks for what is not built yet.
-    NotBuilt(Unbuilt),
 }
 
 impl Status {
@@ -65,7 +54,6 @@ impl Status {
             Status::NoMemory => 6,
             Status::BadTicks(_) => 7,
             Status::TooLong(_) => 8,
-            Status::NotBuilt(_) => 9,
         }
     }
 }

@@ -2,9 +2,9 @@
 //! bytes of the console come out.
 #![tactic(auto)]
 
-mod built;
 mod command;
 mod ending;
+mod laws;
 mod play;
 mod report;
 mod run;
@@ -18,18 +18,27 @@ ghost use Rattle.windplay.specs.Status.{status_number};
 use ending::Status;
 use play::play;
 use report::tell_no_memory;
+use std::alloc::{AllocError, Global};
 use std::env;
 use std::io::ErrorKind;
 use std::process::ExitCode;
 use wind_base::NoMemory;
 use wind_outside::{HostFolder, HostSink, Sink};
 
-// The words of the command line; none at all, which is no command, where they are no text.
+// Words that are no command, for arguments that are no text.
+fn no_text(alloc: Global) -> Result<Vec<String>, AllocError> {
+    let mut words = Vec::new(alloc);
+    words.push("windplay".to_string(alloc)?)?;
+    words.push("(arguments that are no text)".to_string(alloc)?)?;
+    Ok(words)
+}
+
+// The words of the command line; some that are no command, where they are no text.
 fn words(rt: &HostRuntime) -> Result<Vec<String>, NoMemory> {
     match env::args(rt) {
         Ok(args) => args.collect(rt.alloc()).or(Err(NoMemory)),
         Err(error) if error.kind() == ErrorKind::OutOfMemory => Err(NoMemory),
-        Err(_) => Ok(Vec::new(rt.alloc())),
+        Err(_) => no_text(rt.alloc()).or(Err(NoMemory)),
     }
 }
 

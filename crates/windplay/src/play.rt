@@ -2,24 +2,22 @@
 
 ghost use Rattle.std.specs.Prelude.{◌≡◌, ◌≢◌, ℕ, ◌<◌, ◌≤◌, ◌^◌, ◌↔◌, List, Some, None, OnOk, IfOk, IfErr, map, length};
 ghost use Rattle.wind_base.specs.Limits.{most_steps};
-ghost use Rattle.tick_file.specs.Schedule.{Timetable};
 ghost use Rattle.wind_outside.specs.Counts.{Rose};
 ghost use Rattle.wind_outside.specs.Devices.{slots_of};
+ghost use Rattle.board_player.specs.Seen.{seen};
 ghost use Rattle.windplay.specs.Command.{command_of as command_of_lem};
 ghost use Rattle.windplay.specs.Words.{command_state};
-ghost use Rattle.windplay.specs.Built.{unbuilt_line};
-ghost use Rattle.windplay.specs.Plan.{Start, IsFilePlan, IsHeld, plan_ticks, plan_read, plan_built};
-ghost use Rattle.windplay.specs.Headline.{Plays, IsRefusal, IsUnread, Refuses, IsComplete, status_of as status_of_lem};
-ghost use Rattle.windplay.specs.Texts.{text_of, IsTold};
+ghost use Rattle.windplay.specs.Plan.{Start, IsFilePlan, IsHeld, plan_ticks};
+ghost use Rattle.windplay.specs.Headline.{Plays, IsRefusal, IsUnread, Refuses, IsComplete, IsKept, status_of as status_of_lem};
+ghost use Rattle.windplay.specs.Texts.{Tells};
 ghost use Rattle.windplay.specs.declared.ending.Status.TheVariants as status;
 ghost use Rattle.windplay.specs.declared.ending.Stand.TheVariants as stands;
 
-use crate::built::first_unbuilt;
-use crate::command::{Command, command_of};
-use crate::ending::{Ending, Stand, Status, Unbuilt, Which};
-use crate::report::{tell, tell_usage};
-use crate::run::{RunEnd, run_machine};
-use board_player::{Board, Machine};
+use crate::command::{Command, CommandErr, command_of};
+use crate::ending::{Ending, Stand, Status, Which};
+use crate::report::{tell, tell_no_memory, tell_usage};
+use crate::run::{RunEnd, run_board};
+use board_player::Board;
 use std::alloc::Global;
 use tick_file::{Schedule, TickErr, read_ticks};
 use wind_base::limits::TEXT_FILE_BYTES;
@@ -71,32 +69,15 @@ fn fetched<F: Folder>(
 
 // The schedule of a tick file, or why it is not played.
 fn schedule_of(alloc: Global, ticks: &[u8]) -> Result<Schedule, Status>
-    ensures read { IfOk result (λ schedule. (console : List ℕ) → plan_ticks console ticks.now ≡ plan_built console schedule (unbuilt_line console)) }
+    ensures read { IfOk result (λ schedule. (console : List ℕ) → plan_ticks console ticks.now
+        ≡ Start console schedule) }
     ensures refused { IfErr result (λ s. (console : List ℕ) → IsRefusal s (plan_ticks console ticks.now) ⊥) }
     ensures known { IfErr result (λ s. s ≢ status.Usage) }
 {
-    let schedule = match read_ticks(alloc, ticks) {
-        Ok(schedule) => schedule,
-        Err(TickErr::BadLine(line)) => return Err(Status::BadTicks(line)),
-        Err(TickErr::NoMemory) => return Err(Status::NoMemory),
-    };
-    if !schedule.on_demand() {
-        return Err(Status::NotBuilt(Unbuilt::Ticks));
-    }
-    Ok(schedule)
-}
-
-// Nothing where each line of a console is built, or why the console is not played.
-fn all_built(alloc: Global, console: &[u8]) -> Result<(), Status>
-    requires { length console.now < 2 ^ 63 }
-    ensures built { OnOk result (unbuilt_line console.now ≡ None) }
-    ensures refused { IfErr result (λ s. (schedule : Timetable) → IsRefusal s (plan_built console.now schedule (unbuilt_line console.now)) ⊥) }
-    ensures known { IfErr result (λ s. s ≢ status.Usage) }
-{
-    match first_unbuilt(alloc, console) {
-        Ok(None) => Ok(()),
-        Ok(Some(line)) => Err(Status::NotBuilt(Unbuilt::Line(line))),
-        Err(_) => Err(Status::NoMemory),
+    match read_ticks(alloc, ticks) {
+        Ok(schedule) => Ok(schedule),
+        Err(TickErr::BadLine(line)) => Err(Status::BadTicks(line)),
+        Err(TickErr::NoMemory) => Err(Status::NoMemory),
     }
 }
 
@@ -118,7 +99,6 @@ fn inputs_of<F: Folder>(alloc: Global, command: &Command, folder: &mut F) -> Res
     let console = fetched(alloc, folder, command.console, Which::Console)?;
     let ticks = fetched(alloc, folder, command.ticks, Which::Ticks)?;
     let schedule = schedule_of(alloc, &ticks)?;
-    all_built(alloc, &console)?;
     Ok(Inputs { console, schedule })
 }
 
@@ -132,9 +112,10 @@ fn session<F: Folder, O: Sink>(
 ) -> Ending
     requires devices { length devices.items ≤ 16 }
     requires limit { command.now.limit ≤ most_steps }
-    ensures machine { Plays ⟦<Board as Machine>⟧.state result (Some (command_state command.now)) (F.files folder.old) (Rose (F.faults folder.old) (F.faults folder.new)) devices (slots_of kind_of words_of devices.items) (O.bytes out.old) (O.bytes out.new) }
+    ensures machine { Plays (seen ⟦<dyn Device as Device>⟧) result (Some (command_state command.now)) (F.files folder.old) (Rose (F.faults folder.old) (F.faults folder.new)) devices (slots_of kind_of words_of devices.items) (O.bytes out.old) (O.bytes out.new) }
     ensures complete { IsComplete result.status (Some (command_state command.now)) (F.files folder.old) (Rose (F.faults folder.old) (F.faults folder.new)) (Rose (O.faults out.old) (O.faults out.new)) }
     ensures known { result.status ≢ status.Usage }
+    ensures kept { IsKept (seen ⟦<dyn Device as Device>⟧) result.stand }
     ensures write_fault { result.status ≡ status.WriteFault → Rose (O.faults out.old) (O.faults out.new) }
     ensures files { F.files folder.new ≡ F.files folder.old }
 {
@@ -147,7 +128,8 @@ fn session<F: Folder, O: Sink>(
         Ok(board) => board,
         Err(devices) => return refused(Status::NoMemory, devices),
     };
-    let end = run_machine(&mut board, out, command.limit);
+    let end = run_board(&mut board, out, command.limit);
+    board.facts();
     Ending {
         status: status_of(end),
         stand: Stand::Booted(board),
@@ -166,16 +148,26 @@ pub fn play<'a, F: Folder, O: Sink, E: Sink>(
     devices: Slots,
 ) -> Ending
     requires { length devices.items ≤ 16 }
-    ensures machine { Plays ⟦<Board as Machine>⟧.state result (command_of_lem (map (λ w. w.now) words.now)) (F.files folder.old) (Rose (F.faults folder.old) (F.faults folder.new)) devices (slots_of kind_of words_of devices.items) (O.bytes out.old) (O.bytes out.new) }
-    ensures usage { (result.status ≡ status.Usage) ↔ (command_of_lem (map (λ w. w.now) words.now) ≡ None) }
+    ensures machine { Plays (seen ⟦<dyn Device as Device>⟧) result (command_of_lem (map (λ w. w.now) words.now)) (F.files folder.old) (Rose (F.faults folder.old) (F.faults folder.new)) devices (slots_of kind_of words_of devices.items) (O.bytes out.old) (O.bytes out.new) }
+    ensures usage { result.status ≢ status.NoMemory →
+        ((result.status ≡ status.Usage) ↔ (command_of_lem (map (λ w. w.now) words.now)
+        ≡ None)) }
     ensures complete { IsComplete result.status (command_of_lem (map (λ w. w.now) words.now)) (F.files folder.old) (Rose (F.faults folder.old) (F.faults folder.new)) (Rose (O.faults out.old) (O.faults out.new)) }
+    ensures kept { IsKept (seen ⟦<dyn Device as Device>⟧) result.stand }
     ensures write_fault { result.status ≡ status.WriteFault → Rose (O.faults out.old) (O.faults out.new) }
     ensures files { F.files folder.new ≡ F.files folder.old }
-    ensures err { IsTold (E.bytes err.old) (E.bytes err.new) (text_of (command_of_lem (map (λ w. w.now) words.now)) result.status) (Rose (E.faults err.old) (E.faults err.new)) }
+    ensures err { Tells result.status (command_of_lem (map (λ w. w.now) words.now)) (E.bytes err.old) (E.bytes err.new) (Rose (E.faults err.old) (E.faults err.new)) }
 {
-    let Some(command) = command_of(words) else {
-        tell_usage(err);
-        return refused(Status::Usage, devices);
+    let command = match command_of(alloc, words) {
+        Ok(command) => command,
+        Err(CommandErr::Usage(text)) => {
+            tell_usage(err, &text);
+            return refused(Status::Usage, devices);
+        }
+        Err(CommandErr::NoMemory) => {
+            tell_no_memory(err);
+            return refused(Status::NoMemory, devices);
+        }
     };
     let ending = session(alloc, &command, folder, out, devices);
     tell(err, &command, ending.status);

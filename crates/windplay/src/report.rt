@@ -5,7 +5,7 @@ ghost use Rattle.std.specs.Fmt.{decimal};
 ghost use Rattle.wind_outside.specs.Counts.{Rose};
 ghost use Rattle.wind_outside.specs.Told.{Appended};
 ghost use Rattle.wind_outside.specs.declared.sink.Put.TheVariants as puts;
-ghost use Rattle.windplay.specs.Texts.{usage_text, memory_text, line_text, name_of as name_of_lem, status_text, IsCutShort, IsTold};
+ghost use Rattle.windplay.specs.Texts.{memory_text, line_text, name_of as name_of_lem, status_text, IsCutShort, IsTold};
 ghost use Rattle.windplay.specs.Words.{command_state};
 
 use crate::command::Command;
@@ -44,17 +44,11 @@ fn put_pieces<E: Sink>(err: &mut E, first: &[u8], second: &[u8], third: &[u8])
     }
 }
 
-/// Tells how the command is used.
-#[tactic(auto, unfolding(crate::specs::Texts::usage_text))]
-pub(crate) fn tell_usage<E: Sink>(err: &mut E)
-    ensures { IsTold (E.bytes err.old) (E.bytes err.new) usage_text (Rose (E.faults err.old) (E.faults err.new)) }
+/// Tells why the words are no command.
+pub(crate) fn tell_usage<E: Sink>(err: &mut E, text: &str)
+    ensures { IsTold (E.bytes err.old) (E.bytes err.new) text.now (Rose (E.faults err.old) (E.faults err.new)) }
 {
-    put_pieces(
-        err,
-        b"usage: windplay [--console FILE] [--ticks FILE] [--limit N]\n",
-        b"  --console FILE  the console file (default: console.txt)\n  --ticks FILE    the tick file (default: ticks.txt)\n",
-        b"  --limit N       the most steps to make, up to 1000000000000 (default: 1000000)\n",
-    );
+    put_pieces(err, text.as_bytes(), b"", b"");
 }
 
 /// Tells that host memory ran out.
@@ -87,14 +81,14 @@ fn name_of<'a>(command: &Command<'a>, file: Which) -> &'a [u8]
     }
 }
 
-/// Tells how a command's session ended; a quiet end is told by nothing.
+/// Tells how a command's session ended; a quiet end is told by nothing, and with a command there is no
+/// end by its usage.
 #[tactic(auto, unfolding(crate::specs::Texts::status_text))]
 pub(crate) fn tell<E: Sink>(err: &mut E, command: &Command, status: Status)
     ensures { IsTold (E.bytes err.old) (E.bytes err.new) (status_text (command_state command.now) status) (Rose (E.faults err.old) (E.faults err.new)) }
 {
     match status {
-        Status::Quiet => {}
-        Status::Usage => tell_usage(err),
+        Status::Quiet | Status::Usage => {}
         Status::Absent(file) => {
             let name = name_of(command, file);
             put_pieces(err, b"windplay: ", name, b": not found\n");
@@ -112,6 +106,5 @@ pub(crate) fn tell<E: Sink>(err: &mut E, command: &Command, status: Status)
             let name = name_of(command, file);
             put_pieces(err, b"windplay: ", name, b": too long\n");
         }
-        Status::NotBuilt(_) => put_pieces(err, b"windplay: ", b"not built yet", b"\n"),
     }
 }

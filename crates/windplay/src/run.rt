@@ -1,13 +1,16 @@
 //! The run of a board.
 
-ghost use Rattle.std.specs.Prelude.{◌≡◌, ◌^◌, ◌≤◌};
+ghost use Rattle.std.specs.Prelude.{◌≡◌, ◌≢◌, ◌^◌, ◌≤◌, []};
 ghost use Rattle.wind_base.specs.Limits.{most_steps};
 ghost use Rattle.wind_outside.specs.Counts.{Rose};
+ghost use Rattle.wind_outside.specs.Told.{Appended, AppendedFront};
+ghost use Rattle.wind_outside.specs.declared.sink.Put.TheVariants as puts;
+ghost use Rattle.board_player.specs.Seen.{seen};
 ghost use Rattle.windplay.specs.Runs.{Ran};
 ghost use Rattle.windplay.specs.declared.run.RunEnd.TheVariants as ends;
 
-use board_player::{Machine, Step};
-use wind_outside::{Put, Sink};
+use board_player::{Board, Step};
+use wind_outside::{Device, Put, Sink};
 
 /// How a run ends.
 #[derive(Clone, Copy, Debug, PartialEq, Eq)]
@@ -22,11 +25,26 @@ pub enum RunEnd {
     NoMemory,
 }
 
+// Puts what a step wrote, where it wrote something.
+fn put_some<O: Sink>(out: &mut O, bytes: &[u8]) -> Put
+    ensures done { result ≡ puts.Done → Appended (O.bytes out.old) (O.bytes out.new) bytes.now }
+    ensures part { result ≡ puts.Failed → AppendedFront (O.bytes out.old) (O.bytes out.new) bytes.now }
+    ensures some { result ≡ puts.Failed → bytes.now ≢ [] }
+    ensures failed { result ≡ puts.Failed → Rose (O.faults out.old) (O.faults out.new) }
+    ensures never_falls { O.faults out.old ≤ O.faults out.new }
+{
+    if bytes.is_empty() {
+        return Put::Done;
+    }
+    out.put(bytes)
+}
+
 /// Makes steps, at most as many as the limit, and puts what each of them writes.
-pub fn run_machine<M: Machine, O: Sink>(board: &mut M, out: &mut O, limit: u64) -> RunEnd
-    requires fresh { (M.state board.old).steps ≡ 0 }
+pub fn run_board<O: Sink>(board: &mut Board, out: &mut O, limit: u64) -> RunEnd
+    requires fresh { (seen ⟦<dyn Device as Device>⟧ board.old).steps ≡ 0 }
     requires bound { limit ≤ most_steps }
-    ensures ran { Ran result (M.state board.old) limit (M.state board.new) (O.bytes out.old) (O.bytes out.new) }
+    ensures ran { Ran result (seen ⟦<dyn Device as Device>⟧ board.old) limit (seen ⟦<dyn Device as Device>⟧ board.new)
+        (O.bytes out.old) (O.bytes out.new) }
     ensures fault { result ≡ ends.WriteFault → Rose (O.faults out.old) (O.faults out.new) }
     ensures faults { O.faults out.old ≤ O.faults out.new }
 {
@@ -36,8 +54,9 @@ pub fn run_machine<M: Machine, O: Sink>(board: &mut M, out: &mut O, limit: u64) 
             Step::Quiet => return RunEnd::Quiet,
             Step::NoMemory => return RunEnd::NoMemory,
         }
-        if !board.output().is_empty() && out.put(board.output()) == Put::Failed {
-            return RunEnd::WriteFault;
+        match put_some(out, board.output()) {
+            Put::Done => {}
+            Put::Failed => return RunEnd::WriteFault,
         }
     }
     RunEnd::Limit

@@ -1,5 +1,5 @@
 use Rattle.std.proofs.Common.{◌∙◌, arith}
-use Rattle.board_player.proofs.Hearing.{hear_more}
+use Rattle.board_player.proofs.Bytes.{hear_more}
 use Rattle.board_player.proofs.arrival.hear.Goals as goal
 
 pub loop-byte-preserved : goal.loop-byte-preserved

@@ -1,5 +1,5 @@
 use Rattle.std.proofs.Common.{append_assoc, arith}
-use Rattle.board_player.specs.Text.{syntax_text}
+use Rattle.wind_machine.specs.Text.{syntax_text}
 use Rattle.board_player.proofs.text.add_syntax.Goals as goal
 
 pub returns : goal.returns

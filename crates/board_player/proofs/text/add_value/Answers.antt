@@ -1,5 +1,5 @@
 use Rattle.std.proofs.Common.{append_assoc, arith}
-use Rattle.board_player.specs.Text.{value_text}
+use Rattle.wind_machine.specs.Text.{value_text}
 use Rattle.board_player.proofs.text.add_value.Goals as goal
 
 pub returns : goal.returns

@@ -10,7 +10,7 @@ use Rattle.module_image.specs.Making.{IsMade}
 use Rattle.module_image.proofs.Counts.{count_law}
 use Rattle.module_loader.specs.declared.module.LoadedModule.{LoadedModule}
 use Rattle.module_loader.specs.Placing.{places_of, with_needs}
-use Rattle.module_loader.specs.Loading.{LoaderState, count_by, place_verdict, stored_all, record_of, IsVerdict}
+use Rattle.module_loader.specs.Loading.{LoaderState, count_by, place_verdict, in_block, stored_all, record_of, IsVerdict}
 use Rattle.module_loader.specs.Steps.{IsRefusedBy, state_of, three_pieces}
 use Rattle.module_loader.proofs.Loads.{counted, placed, is_loaded, Fitting, fitting}
 use Rattle.module_loader.proofs.loader.load_module.Goals as goal
@@ -84,4 +84,4 @@ returns-clause-accepted c =
     ∙ ap (λ (x : KernState). c.args.table.now.rows ++ (x.next_id, c.make_record-row.result) ∷ []) same
     ∙ ap (λ (r : LoadedModule). c.args.table.now.rows ++ (c.args.kern.now.next_id, r) ∷ []) (c.make_record-row.ensures ∙ ap (λ (z : Needs). record_of c.args.name z at) c.measure-needs.ensures))
     (c.in-Ok-place.ensures.after ∙ ap (with_needs c.args.part.now) c.measure-needs.ensures)
-    (c.commit.ensures.ram ∙ ap (λ (z : Needs). stored_all c.args.ram.now (three_pieces at (take z.text.size bytes) (drop z.text.size bytes) (replicate z.bss.size 0))) c.measure-needs.ensures)
+    (c.commit.ensures.ram ∙ ap (λ (z : Needs). stored_all c.args.ram.now (three_pieces at (in_block (take z.text.size bytes)) (in_block (drop z.text.size bytes)) (in_block (replicate z.bss.size 0)))) c.measure-needs.ensures)

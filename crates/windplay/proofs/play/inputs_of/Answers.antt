@@ -1,8 +1,7 @@
-use Rattle.std.proofs.Common.{◌∙◌, List, ℕ, ap, sym}
+use Rattle.std.proofs.Common.{ap}
 use Rattle.std.proofs.lemmas.Result.{err_from_is_err_and}
 use Rattle.wind_outside.specs.Counts.{Rose}
-use Rattle.windplay.specs.Built.{unbuilt_line}
-use Rattle.windplay.specs.Plan.{plan_ticks, plan_built}
+use Rattle.windplay.specs.Plan.{plan_ticks}
 use Rattle.windplay.specs.Words.{command_state}
 use Rattle.windplay.proofs.PlanLemmas.{refuses_console, refuses_ticks, refuses_both}
 use Rattle.windplay.proofs.ToldLemmas.{rose_earlier}
@@ -37,19 +36,3 @@ returns-in_err-schedule-clause-refused g c =
     (rw c.fetched.ensures.files at c.in_ok-ticks.ensures.held)
     (ap (plan_ticks console) c.deref.ensures.value)
     (c.in_err-schedule.ensures.refused console))
-
-pub returns-in_err-all_built-clause-refused : goal.returns-in_err-all_built-clause-refused
-returns-in_err-all_built-clause-refused g c =
-    let p = err_from_is_err_and c.from_residual-in_err-all_built.result c.from_residual-in_err-all_built.ensures.1 in
-    let console = c.in_ok-console.console.items in
-    let schedule = c.in_ok-schedule.schedule in
-    rw (p.1, p.2)
-    (refuses_both (g.F.Folder.files c.args.folder.now) (command_state c.args.command.now) console c.in_ok-console.ensures.held c.in_err-all_built.field-0.0
-    c.in_ok-ticks.ticks.items
-    (plan_built c.deref-2.result.now schedule (unbuilt_line c.deref-2.result.now))
-    (Rose (g.F.Folder.faults c.args.folder.now) (g.F.Folder.faults c.fetched-2.new.folder))
-    (rw c.fetched.ensures.files at c.in_ok-ticks.ensures.held)
-    (ap (λ (bytes : List ℕ). plan_built bytes schedule (unbuilt_line bytes)) c.deref-2.ensures.value
-    ∙ sym (c.in_ok-schedule.ensures.read console)
-    ∙ ap (plan_ticks console) c.deref.ensures.value)
-    (c.in_err-all_built.ensures.refused schedule))

@@ -1,9 +1,23 @@
-use Rattle.std.proofs.Common.{refl}
+use Rattle.std.proofs.Common.{Bor, List, map, refl, ℕ}
+use Rattle.windplay.specs.Command.{command_of}
 use Rattle.windplay.specs.Plan.{Refuse}
+use Rattle.windplay.specs.Texts.{memory_text}
 use Rattle.windplay.specs.declared.ending.Status.TheVariants as status
+use Rattle.windplay.proofs.PlanLemmas.{some_plan}
+use Rattle.windplay.proofs.ToldLemmas.{memory_is_text}
 use Rattle.windplay.proofs.play.play.Goals as goal
 
 -- words that are no command
-pub returns-in_default-clause-machine : goal.returns-in_default-clause-machine
-returns-in_default-clause-machine g c =
-    rw c.refused.ensures (rw (← c.in_default.ensures.value) (record { plan = Refuse status.Usage; planned = refl; leaves = (refl, refl, refl) }))
+pub returns-in-Err-Usage-clause-machine : goal.returns-in-Err-Usage-clause-machine
+returns-in-Err-Usage-clause-machine g c =
+    rw c.refused.ensures (rw (c.in-Err-Usage.ensures.usage (λ e. cc)) (record { plan = Refuse status.Usage; planned = refl; leaves = (refl, refl, refl) }))
+
+-- want of memory, before it is known what the words are
+pub returns-in-Err-NoMemory-clause-machine : goal.returns-in-Err-NoMemory-clause-machine
+returns-in-Err-NoMemory-clause-machine g c =
+    let some = some_plan (g.F.Folder.files c.args.folder.now) (command_of (map {A = Bor (List ℕ)} {B = List ℕ} (λ w. w.now) c.args.words.now)) in
+    rw c.refused-in-Err-NoMemory.ensures (record { plan = some.0; planned = some.1; leaves = (refl, refl, tt) })
+
+pub returns-in-Err-NoMemory-clause-err : goal.returns-in-Err-NoMemory-clause-err
+returns-in-Err-NoMemory-clause-err g c =
+    rw c.refused-in-Err-NoMemory.ensures (record { text = memory_text; text_is = memory_is_text _; told = c.tell_no_memory.ensures })

@@ -1,6 +1,6 @@
 use Rattle.std.proofs.Common.{ap}
-use Rattle.board_player.specs.State.{State}
-use Rattle.board_player.specs.Machine.{opening}
+use Rattle.wind_machine.specs.State.{State}
+use Rattle.wind_machine.specs.Machine.{opening}
 use Rattle.wind_outside.specs.Counts.{Rose}
 use Rattle.windplay.specs.Words.{command_state}
 use Rattle.windplay.proofs.PlanLemmas.{complete_refused}
@@ -16,6 +16,6 @@ returns-in-Err-clause-complete g c =
     c.in-Err.ensures.refused)
 
 -- a machine that booted has made no step
-pub run_machine-end-requires-clause-fresh : goal.run_machine-end-requires-clause-fresh
+pub run_board-end-requires-clause-fresh : goal.run_board-end-requires-clause-fresh
 unfolding opening
-run_machine-end-requires-clause-fresh g c = ap (λ (s : State). s.steps) c.in-Ok-boot.ensures.ok
+run_board-end-requires-clause-fresh g c = ap (λ (s : State). s.steps) c.in-Ok-boot.ensures.ok

@@ -29,7 +29,3 @@ returns-in-BadTicks g c = rw c.in-BadTicks.is (rw c.name_of.ensures at c.tell_ba
 pub returns-in-TooLong : goal.returns-in-TooLong
 unfolding status_text
 returns-in-TooLong g c = rw c.in-TooLong.is (rw c.name_of-name-in-TooLong.ensures at c.put_pieces-in-TooLong.ensures.told)
-
-pub returns-in-NotBuilt : goal.returns-in-NotBuilt
-unfolding status_text
-returns-in-NotBuilt g c = rw c.in-NotBuilt.is c.put_pieces-in-NotBuilt.ensures.told

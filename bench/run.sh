@@ -1,0 +1,123 @@
+#!/bin/sh
+# Figures of speed and memory, a line each. It proves nothing, and is no part of the gate.
+#
+# usage: bench/run.sh [PROGRAM]     without a PROGRAM it proves and builds the one of this clone
+set -eu
+here=$(cd "$(dirname "$0")" && pwd)
+work=$(mktemp -d)
+trap 'rm -rf "$work"' EXIT
+
+if [ $# -gt 0 ]; then
+    program=$(cd "$(dirname "$1")" && pwd)/$(basename "$1")
+else
+    (cd "$here/../crates/windplay" && rt run >"$work/log" 2>&1) || { cat "$work/log" >&2; exit 1; }
+    program=$here/../crates/windplay/out/windplay
+fi
+
+# Plays the words in a folder. Sets `status`, `seconds`, and `peak` in KiB where the tool that tells it is installed.
+measure() {
+    folder=$1
+    shift
+    status=0
+    peak=-
+    start=$(date +%s%N)
+    if [ -x /usr/bin/time ]; then
+        (cd "$folder" && /usr/bin/time -q -o "$work/peak" -f %M "$program" "$@" >/dev/null 2>&1) || status=$?
+        peak=$(tail -n 1 "$work/peak")
+    else
+        (cd "$folder" && "$program" "$@" >/dev/null 2>&1) || status=$?
+    fi
+    seconds=$(awk "BEGIN { printf \"%.3f\", ($(date +%s%N) - $start) / 1e9 }")
+}
+
+# Tells how many of something come in a second.
+tell() {
+    awk "BEGIN { printf \"%-36s %12.0f %s a second (%s in %s s)\n\", \"$1\", $2 / ($seconds + 1e-9), \"$3\", \"$2\", \"$seconds\" }"
+}
+
+# Makes so many steps of a session that does not end before, and tells how many come in a second.
+steps() {
+    name=$1
+    folder=$2
+    limit=$3
+    measure "$folder" --limit "$limit"
+    case $status in
+        3) tell "$name" "$limit" steps ;;
+        9) printf '%-36s not played yet\n' "$name" ;;
+        *) printf '%-36s ended with status %s\n' "$name" "$status" ;;
+    esac
+}
+
+# Plays a console to its end, and tells how many of something come in a second.
+console() {
+    name=$1
+    folder=$2
+    count=$3
+    what=$4
+    measure "$folder" --limit 1000000000000
+    if [ "$status" -eq 0 ]; then tell "$name" "$count" "$what"; else printf '%-36s ended with status %s\n' "$name" "$status"; fi
+}
+
+# The loop of `tasks-1` as a program of the stock emulator, 25,000,000 times round: four instructions each.
+stock_program() {
+    for word in \
+        7f454c46 01020100 00000000 00000000 00020014 00000001 10000054 00000034 00000000 00000000 00340020 00010028 00000000 \
+        00000001 00000000 10000000 10000000 00000080 00020000 00000007 00010000 \
+        3c80017d 60847840 7c8903a6 3c601001 80a30000 38a50001 90a30000 4200fff4 38000001 38600000 44000002; do
+        for byte in $(echo "$word" | sed 's/../& /g'); do
+            printf "\\$(printf '%03o' "0x$byte")"
+        done
+    done
+}
+
+# The stock emulator over that loop, with these options.
+stock() {
+    name=$1
+    shift
+    start=$(date +%s%N)
+    if qemu-ppc "$@" "$work/stock" >/dev/null 2>&1; then
+        seconds=$(awk "BEGIN { printf \"%.3f\", ($(date +%s%N) - $start) / 1e9 }")
+        tell "$name" 100000000 instructions
+    else
+        printf '%-36s does not run\n' "$name"
+    fi
+}
+
+for tasks in 1 2 16 250; do
+    steps "instruction loop, tasks: $tasks" "$here/tasks-$tasks" 20000000
+done
+if command -v qemu-ppc >/dev/null; then
+    stock_program >"$work/stock"
+    chmod +x "$work/stock"
+    stock 'stock emulator, the same loop'
+    # The option has two names, by the emulator's version.
+    stock 'stock emulator, one at a time' "$(qemu-ppc -help | grep -o -m 1 -e '-one-insn-per-tb' -e '-singlestep' | head -n 1)"
+else
+    printf '%-36s not installed\n' 'stock emulator (qemu-ppc)'
+fi
+steps 'kernel calls of a task' "$here/task-calls" 20000000
+
+# 400 lines of 31 calls each.
+mkdir "$work/calls" "$work/lines" "$work/start"
+: >"$work/calls/ticks.txt"
+awk 'BEGIN { for (i = 0; i < 400; i++) { for (k = 0; k < 30; k++) printf "tickGet;"; print "tickGet" } }' >"$work/calls/console.txt"
+console 'kernel calls of the shell' "$work/calls" 12400 calls
+
+steps 'idle ticks' "$here/idle-ticks" 1000000
+
+# A console of 20,000 lines.
+: >"$work/lines/ticks.txt"
+awk 'BEGIN { for (i = 0; i < 20000; i++) print "1+2" }' >"$work/lines/console.txt"
+console 'a long console' "$work/lines" 20000 lines
+lines_peak=$peak
+
+: >"$work/start/ticks.txt"
+: >"$work/start/console.txt"
+start=$(date +%s%N)
+for _ in 1 2 3 4 5 6 7 8 9 10 11 12 13 14 15 16 17 18 19 20; do
+    (cd "$work/start" && "$program" >/dev/null)
+done
+awk "BEGIN { printf \"%-36s %12.2f ms\n\", \"start and end of a session\", ($(date +%s%N) - $start) / 20e6 }"
+measure "$work/start"
+printf '%-36s %12s KiB\n' 'peak memory, an empty console' "$peak"
+printf '%-36s %12s KiB\n' 'peak memory, a long console' "$lines_peak"

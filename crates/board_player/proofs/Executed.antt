@@ -1,0 +1,42 @@
+-- What an instruction leaves of the world.
+use Rattle.std.proofs.Common.{◌≡◌, ℕ, Option, None, Some, Result, refl, sym, ap, ◌∙◌, subst}
+use Rattle.std.specs.Prelude.{unwrap_or}
+use Rattle.std.specs.Option.{option_map}
+use Rattle.wind_base.specs.declared.regs.Regs.{Regs}
+use Rattle.task_block.specs.declared.task.Task.{Task}
+use Rattle.wind_core.specs.State.{KernState, IsKern, task_of}
+use Rattle.wind_core.specs.Moves.{set_regs}
+use Rattle.ppc_core.specs.Instructions.{exec_of}
+use Rattle.ppc_core.specs.Outcomes.{Outcome, Done, Trapped, Leaves}
+use Rattle.ppc_core.specs.declared.trap.Trap.{Trap}
+use Rattle.board_bus.specs.BusState.{BusState}
+use Rattle.board_bus.specs.Access.{board_meaning}
+use Rattle.kernel_calls.specs.State.{WorldState}
+use Rattle.kernel_calls.specs.Starting.{no_regs}
+use Rattle.wind_machine.specs.Part.{with_kern}
+use Rattle.wind_machine.specs.Processor.{bus_of, with_bus, regs_of}
+use Rattle.wind_machine.proofs.Reserving.{own_regs}
+use Rattle.board_player.specs.Running.{Ran}
+
+module _ (w : WorldState) (who : ℕ) (is : IsKern w.kern) where
+  -- the world with these registers of the task, and this bus
+  abbrev left_by : Regs → BusState → WorldState
+  left_by regs bus = with_bus (with_kern w (set_regs w.kern who regs)) bus
+
+  same_world : (old : Regs) → option_map (λ t. t.regs) (task_of w.kern.tasks who) ≡ Some old → left_by old (bus_of w) ≡ w
+  same_world old e = by_task (task_of w.kern.tasks who) refl e where
+    by_task : (o : Option Task) → task_of w.kern.tasks who ≡ o → option_map (λ t. t.regs) o ≡ Some old → left_by old (bus_of w) ≡ w
+    by_task None found d = absurd (cc)
+    by_task (Some t) found d = let same : t.regs ≡ old = cc in ap (λ r. left_by r (bus_of w)) (sym same) ∙ ap (λ k. with_kern w k) (own_regs w.kern who t is found)
+
+  by_outcome : (o : Outcome BusState) (r : Result (Unit {0}) Trap) (old regs : Regs) (bus : BusState) → option_map (λ t. t.regs) (task_of w.kern.tasks who) ≡ Some old
+      → Leaves o old (bus_of w) regs bus r → Ran o r who w (left_by regs bus)
+  by_outcome (Done after b) r old regs bus e l = (l.0, ap (λ x. left_by x bus) l.1 ∙ ap (left_by after) l.2)
+  by_outcome (Trapped trap) r old regs bus e l = (l.0, ap (λ x. left_by x bus) l.1 ∙ ap (left_by old) l.2 ∙ same_world old e)
+
+  pub ran_by : (word : ℕ) (r : Result (Unit {0}) Trap) (old regs : Regs) (bus : BusState) → option_map (λ t. t.regs) (task_of w.kern.tasks who) ≡ Some old
+      → Leaves (exec_of board_meaning old word (bus_of w)) old (bus_of w) regs bus r
+      → Ran (exec_of board_meaning (regs_of w who) word (bus_of w)) r who w (with_bus (with_kern w (set_regs w.kern who regs)) bus)
+  ran_by word r old regs bus e l =
+      let same : regs_of w who ≡ old = ap (λ o. unwrap_or o no_regs) e in
+      subst (λ x. Ran (exec_of board_meaning x word (bus_of w)) r who w (left_by regs bus)) (sym same) (by_outcome (exec_of board_meaning old word (bus_of w)) r old regs bus e l)

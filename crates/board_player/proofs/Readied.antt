@@ -1,0 +1,89 @@
+-- A turn begins, and may be given back.
+use Rattle.std.proofs.Common.{◌≡◌, ℕ, ◌-◌, ◌^◌, ◌≤◌, ◌<◌, Bool, true, false, cond, eqb, List, [], ◌∷◌, map, Option, None, Some, IsSome, IfSome, is_some, refl, sym, ap, ◌∙◌, subst, arith}
+use Rattle.std.specs.Option.{option_map}
+use Rattle.std.specs.Prelude.{unwrap_or}
+use Rattle.std.specs.List.{All}
+use Rattle.std.proofs.lemmas.List.Elements.{All-weaker}
+use Rattle.wind_base.specs.declared.regs.Regs.{Regs}
+use Rattle.task_block.specs.declared.task.Task.{Task}
+use Rattle.wind_lists.specs.Records.{change}
+use Rattle.wind_lists.proofs.Records.{found_id}
+use Rattle.wind_core.specs.State.{KernState, IsKern, Lives, task_id, task_of}
+use Rattle.wind_core.specs.Moves.{unreserved, unreserve, set_regs}
+use Rattle.wind_core.proofs.Keeping.{not_there}
+use Rattle.kernel_calls.specs.State.{WorldState}
+use Rattle.kernel_calls.specs.Starting.{no_regs}
+use Rattle.kernel_calls.specs.Kept.{IsWorld, IsEarly, ReservedBy, LocksWithin}
+use Rattle.wind_machine.specs.State.{State}
+use Rattle.wind_machine.specs.Good.{Good}
+use Rattle.wind_machine.specs.Machine.{at_turn}
+use Rattle.wind_machine.specs.Processor.{regs_of}
+use Rattle.wind_machine.specs.Reserving.{unless_own, drop_others, drop_all}
+use Rattle.wind_machine.proofs.Dropping.{others_advance, all_advance}
+use Rattle.wind_machine.proofs.Reserving.{regs_again}
+use Rattle.board_player.specs.Turns.{if_other, other_holder, with_regs, kept_if, kept_of, put_back, restored, without, Readies}
+use Rattle.board_player.proofs.Dropped.{dropped_others, not_own}
+
+-- ---- the counters lie far below their ends
+pub good_early : (s : State) → Good s → s.steps < 10 ^ 12 → IsEarly s.world
+good_early s g few = record {
+  sinces = omega (arith, g.sinces, few);
+  ticks = omega (arith, g.ticks, few);
+  locks = All-weaker (λ t. t.locks ≤ s.steps) (λ t. t.locks < 2 ^ 60) (λ t h. omega (arith, h, few)) s.world.kern.tasks g.locks;
+  names = omega (arith, g.names, few);
+}
+
+within : (w : WorldState) → IsEarly w → LocksWithin (2 ^ 60 - 1) w.kern
+within w early = All-weaker (λ t. t.locks < 2 ^ 60) (λ t. t.locks ≤ 2 ^ 60 - 1) (λ t h. omega (arith, h)) w.kern.tasks early.locks
+
+-- ---- a turn
+-- the task whose turn it is stays as it is
+own_found : (ts : List Task) (who : ℕ) → task_of (map (unless_own who) ts) who ≡ task_of ts who
+own_found [] who = refl
+own_found (t ∷ ts) who =
+    elim (eqb t.id who) as (λ b. eqb t.id who ≡ b → cond (eqb (cond b t (unreserved t)).id who) (Some (cond b t (unreserved t))) (task_of (map (unless_own who) ts) who) ≡ cond b (Some t) (task_of ts who)) [
+      | true ↦ λ e. ap (λ c. cond c (Some t) (task_of (map (unless_own who) ts) who)) e
+      | false ↦ λ e. ap (λ c. cond c (Some (unreserved t)) (task_of (map (unless_own who) ts) who)) e ∙ own_found ts who
+    ] refl
+
+pub readies : (w : WorldState) (who : ℕ) → IsWorld w → IsEarly w → Readies w (at_turn w who) who
+readies w who kept early =
+    let a = others_advance w (2 ^ 60 - 1) kept (within w early) who in
+    record {
+      kept = record { kern = a.kept.kern; home = a.kept.home; pool = a.kept.pool; stacks = a.kept.stacks; ram = a.kept.ram; symbols = a.kept.symbols };
+      early = record {
+        sinces = early.sinces;
+        ticks = early.ticks;
+        locks = All-weaker (λ t. t.locks ≤ 2 ^ 60 - 1) (λ t. t.locks < 2 ^ 60) (λ t h. omega (arith, h)) (drop_others w.kern who).tasks a.locks;
+        names = early.names;
+      };
+      lives = a.lives;
+      regs = ap (λ o. unwrap_or (option_map (λ t. t.regs) o) no_regs) (own_found w.kern.tasks who);
+    }
+
+-- ---- it is given back
+given : (k : KernState) (o : Option ℕ) → IsKern k → put_back (without k o) (kept_if k.tasks o) ≡ k
+given k None is = refl
+given k (Some last) is = by_task (task_of k.tasks last) refl where
+  by_task : (o : Option Task) → task_of k.tasks last ≡ o → put_back (unreserve k last) (with_regs o) ≡ k
+  by_task None e = not_own k last (ap is_some e)
+  by_task (Some t) e = ap (λ n. set_regs (unreserve k last) n t.regs) (found_id task_id k.tasks last t e) ∙ regs_again k last t is e
+
+pub given_back : (k : KernState) (who : ℕ) → IsKern k → ReservedBy k.last k → put_back (drop_others k who) (kept_of k who) ≡ k
+given_back k who is h = ap (λ j. put_back j (kept_of k who)) (sym (dropped_others k who h)) ∙ given k (other_holder k who) is
+
+pub world_back : (w : WorldState) (who : ℕ) → IsKern w.kern → ReservedBy w.kern.last w.kern → restored (at_turn w who) w.output (kept_of w.kern who) ≡ w
+world_back w who is h = ap (λ k. record w { kern = k }) (given_back w.kern who is h)
+
+-- registers of a task that doesn't live are not written
+pub not_written : (k : KernState) (who : ℕ) (regs : Regs) → is_some (task_of k.tasks who) ≡ false → set_regs k who regs ≡ k
+not_written k who regs e =
+    ap (λ ts. record k { tasks = ts }) (not_there task_id k.tasks who (λ t. record t { regs = regs }) (elim (task_of k.tasks who) as (λ o. is_some o ≡ false → o ≡ None) [ None ↦ λ d. refl | Some t ↦ λ d. absurd (cc) ] e))
+
+-- ---- an event
+pub all_live : (k : KernState) (who : ℕ) → Lives k who → Lives (drop_all k) who
+all_live k who live = all_found k.tasks who live where
+  all_found : (ts : List Task) (who : ℕ) → IsSome (task_of ts who) → IsSome (task_of (map unreserved ts) who)
+  all_found [] who h = h
+  all_found (t ∷ ts) who h =
+      elim (eqb t.id who) as (λ b. IsSome (cond b (Some t) (task_of ts who)) → IsSome (cond b (Some (unreserved t)) (task_of (map unreserved ts) who))) [ true ↦ λ d. refl | false ↦ λ d. all_found ts who d ] h

@@ -1,5 +1,0 @@
-use Rattle.board_player.proofs.Courses.{runs_keep}
-use Rattle.board_player.proofs.laws.run_law.Goals as goal
-
-pub returns : goal.returns
-returns c = runs_keep c.step_law.ensures.start c.step_law.ensures.step c.urgency_law.ensures c.early_law.ensures

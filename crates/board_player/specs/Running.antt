@@ -1,0 +1,14 @@
+-- What an instruction of a task leaves.
+use Rattle.std.specs.Prelude.{◌≡◌, ℕ, Result, Ok, Err}
+use Rattle.wind_core.specs.Moves.{set_regs}
+use Rattle.ppc_core.specs.Outcomes.{Outcome, Done, Trapped}
+use Rattle.ppc_core.specs.declared.trap.Trap.{Trap}
+use Rattle.board_bus.specs.BusState.{BusState}
+use Rattle.kernel_calls.specs.State.{WorldState}
+use Rattle.wind_machine.specs.Part.{with_kern}
+use Rattle.wind_machine.specs.Processor.{with_bus}
+
+-- it leaves this outcome: new registers of the task and a new bus; a trap changes nothing
+abbrev pub Ran : Outcome BusState → Result (Unit {0}) Trap → ℕ → WorldState → WorldState → Type 0
+Ran (Done regs bus) result who old new = (result ≡ Ok tt) × (new ≡ with_bus (with_kern old (set_regs old.kern who regs)) bus)
+Ran (Trapped trap) result who old new = (result ≡ Err trap) × (new ≡ old)

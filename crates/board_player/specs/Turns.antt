@@ -1,0 +1,58 @@
+-- How the step of a task begins, and how one that lacks memory leaves all as it was.
+use Rattle.std.specs.Prelude.{◌≡◌, ℕ, List, Option, None, Some, ◌==◌, if◌then◌else◌, is_some}
+use Rattle.wind_base.specs.declared.regs.Regs.{Regs}
+use Rattle.task_block.specs.declared.task.Task.{Task}
+use Rattle.wind_core.specs.State.{KernState, Lives, task_of}
+use Rattle.wind_core.specs.Moves.{set_regs, unreserve}
+use Rattle.kernel_calls.specs.State.{WorldState}
+use Rattle.kernel_calls.specs.Kept.{IsWorld, IsEarly}
+use Rattle.wind_machine.specs.Processor.{regs_of}
+
+-- the task that ran last, where it still lives
+abbrev pub if_live : List Task → Option ℕ → Option ℕ
+if_live ts None = None
+if_live ts (Some last) = if is_some (task_of ts last) then Some last else None
+
+abbrev pub last_live : KernState → Option ℕ
+last_live k = if_live k.tasks k.last
+
+-- that task, where it is another one
+abbrev pub if_other : ℕ → Option ℕ → Option ℕ
+if_other who None = None
+if_other who (Some last) = if last == who then None else Some last
+
+abbrev pub other_holder : KernState → ℕ → Option ℕ
+other_holder k who = if_other who (last_live k)
+
+-- that task with its registers
+abbrev pub with_regs : Option Task → Option (ℕ × Regs)
+with_regs None = None
+with_regs (Some t) = Some (t.id, t.regs)
+
+abbrev pub kept_if : List Task → Option ℕ → Option (ℕ × Regs)
+kept_if ts None = None
+kept_if ts (Some last) = with_regs (task_of ts last)
+
+abbrev pub kept_of : KernState → ℕ → Option (ℕ × Regs)
+kept_of k who = kept_if k.tasks (other_holder k who)
+
+-- a task has its registers again
+abbrev pub put_back : KernState → Option (ℕ × Regs) → KernState
+put_back k None = k
+put_back k (Some kept) = set_regs k kept.0 kept.1
+
+-- the world as it was before, with the bytes that were written then
+abbrev pub restored : WorldState → List ℕ → Option (ℕ × Regs) → WorldState
+restored w bytes kept = record w { kern = put_back w.kern kept; output = bytes }
+
+-- the kernel in which this task, if one, has no reservation
+abbrev pub without : KernState → Option ℕ → KernState
+without k None = k
+without k (Some last) = unreserve k last
+
+-- what a turn keeps: the facts, whoever lives, and the registers of the task whose turn it is
+pub record Readies (old new : WorldState) (who : ℕ) : Type 0 where
+  pub kept : IsWorld new
+  pub early : IsEarly new
+  pub lives : (id : ℕ) → Lives old.kern id → Lives new.kern id
+  pub regs : regs_of new who ≡ regs_of old who

@@ -1,0 +1,186 @@
+//! The order of the next step.
+
+ghost use Rattle.std.specs.Prelude.{◌≡◌, ◌≢◌, ◌↔◌, ◌^◌, ◌<◌, true, false, Some, None, IfSome, nat_le, if◌then◌else◌, option_map, OnOk, OnErr};
+ghost use Rattle.wind_base.specs.Limits.{most_steps};
+ghost use Rattle.tick_file.specs.Laws.{IsEarly};
+ghost use Rattle.wind_core.specs.State.{Lives};
+ghost use Rattle.wind_core.specs.Orders.{running};
+ghost use Rattle.wind_machine.specs.Good.{Good};
+ghost use Rattle.wind_machine.specs.Processor.{gate_under};
+ghost use Rattle.wind_machine.specs.Machine.{due_event as due_event_lem, event_of, console_is_due as console_is_due_lem, next_event, shell_step, step_of, jump_to, machine_step, phase_may, gate_may, who_may, may_lack_memory};
+ghost use Rattle.board_player.specs.Inside.{inside, parts_seen, IsSpacious};
+ghost use Rattle.board_player.specs.declared.Step.TheVariants as steps;
+
+use crate::Step;
+use crate::parts::Parts;
+use crate::steps::{arrive, come, evaluate, jump, prompt, read, run};
+use crate::task::{is_open, shell_id, waits_for_console};
+use id_table::Ident;
+use tick_file::Event;
+use wind_base::NoMemory;
+use wind_machine::Phase;
+use wind_outside::Device;
+
+// The event, where its time has come.
+fn when_due(next: (u64, Event), time: u128) -> Option<Event>
+    ensures { result ≡ (if nat_le next.0 time then Some next.1 else None) }
+{
+    if u128::from(next.0) <= time {
+        Some(next.1)
+    } else {
+        None
+    }
+}
+
+// The event that is due, if one is.
+fn due_event(parts: &Parts) -> Option<Event>
+    ensures { result ≡ option_map event_of (due_event_lem (parts_seen ⟦<dyn Device as Device>⟧ parts.now)) }
+{
+    if !is_open(&parts.world.kern) {
+        return None;
+    }
+    match parts.schedule.next() {
+        Some(next) => when_due(next, parts.clock.time),
+        None => None,
+    }
+}
+
+// Whether the next chunk of the console is due.
+fn console_is_due(parts: &Parts) -> bool
+    ensures { result ≡ console_is_due_lem (parts_seen ⟦<dyn Device as Device>⟧ parts.now) }
+{
+    is_open(&parts.world.kern)
+        && parts.schedule.on_demand()
+        && waits_for_console(&parts.world.kern)
+        && !parts.console.has_line()
+        && !parts.feed.left().is_empty()
+}
+
+// The shell's step, by its phase. For want of memory nothing changes.
+fn run_shell(parts: &mut Parts) -> Result<(), NoMemory>
+    requires good { Good (inside parts.old) }
+    requires few { parts.old.clock.steps < most_steps }
+    requires space { IsSpacious parts.old }
+    ensures ok { OnOk result (parts_seen ⟦<dyn Device as Device>⟧ parts.new
+        ≡ shell_step parts.old.shell.phase (parts_seen ⟦<dyn Device as Device>⟧ parts.old)) }
+    ensures memory { OnErr result (phase_may parts.old.shell.phase
+        (gate_may (gate_under (parts_seen ⟦<dyn Device as Device>⟧ parts.old).world 1)) ≡ true) }
+    ensures err { OnErr result (parts_seen ⟦<dyn Device as Device>⟧ parts.new
+        ≡ parts_seen ⟦<dyn Device as Device>⟧ parts.old) }
+    ensures space { IsSpacious parts.new }
+{
+    match parts.shell.phase() {
+        Phase::Prompt => {
+            prompt(parts);
+            Ok(())
+        }
+        Phase::Read => read(parts),
+        Phase::Eval => evaluate(parts),
+        Phase::Call => run(parts, shell_id()),
+    }
+}
+
+// The step of whoever runs. For want of memory nothing changes.
+fn run_task(parts: &mut Parts, who: Ident) -> Result<(), NoMemory>
+    requires good { Good (inside parts.old) }
+    requires few { parts.old.clock.steps < most_steps }
+    requires space { IsSpacious parts.old }
+    requires live { Lives parts.old.world.kern who }
+    ensures ok { OnOk result (parts_seen ⟦<dyn Device as Device>⟧ parts.new
+        ≡ step_of (parts_seen ⟦<dyn Device as Device>⟧ parts.old) who) }
+    ensures memory { OnErr result (who_may (parts_seen ⟦<dyn Device as Device>⟧ parts.old) who ≡ true) }
+    ensures err { OnErr result (parts_seen ⟦<dyn Device as Device>⟧ parts.new
+        ≡ parts_seen ⟦<dyn Device as Device>⟧ parts.old) }
+    ensures space { IsSpacious parts.new }
+{
+    if who == shell_id() {
+        run_shell(parts)
+    } else {
+        run(parts, who)
+    }
+}
+
+// Board time becomes that of the next event. False, and nothing changes, where there is none.
+fn jump_on(parts: &mut Parts) -> bool
+    requires few { parts.old.clock.steps < most_steps }
+    requires space { IsSpacious parts.old }
+    ensures made { result ≡ true →
+        jump_to (parts_seen ⟦<dyn Device as Device>⟧ parts.old) (next_event (parts_seen ⟦<dyn Device as Device>⟧ parts.old))
+        ≡ Some (parts_seen ⟦<dyn Device as Device>⟧ parts.new) }
+    ensures none { result ≡ false →
+        jump_to (parts_seen ⟦<dyn Device as Device>⟧ parts.old) (next_event (parts_seen ⟦<dyn Device as Device>⟧ parts.old))
+        ≡ None }
+    ensures same { result ≡ false → parts_seen ⟦<dyn Device as Device>⟧ parts.new
+        ≡ parts_seen ⟦<dyn Device as Device>⟧ parts.old }
+    ensures space { IsSpacious parts.new }
+{
+    let Some(next) = parts.schedule.next() else {
+        return false;
+    };
+    jump(parts, next.0);
+    true
+}
+
+// The answer of a step that may lack memory.
+fn step_of_result(made: Result<(), NoMemory>) -> Step
+    ensures ok { OnOk made (result ≡ steps.Stepped) }
+    ensures err { OnErr made (result ≡ steps.NoMemory) }
+{
+    match made {
+        Ok(()) => Step::Stepped,
+        Err(NoMemory) => Step::NoMemory,
+    }
+}
+
+// The answer of a step that may be none.
+fn stepped_if(made: bool) -> Step
+    ensures { result ≡ (if made then steps.Stepped else steps.Quiet) }
+{
+    if made { Step::Stepped } else { Step::Quiet }
+}
+
+// A time of 64 bits.
+fn is_time(time: u64)
+    ensures { time < 2 ^ 64 }
+{
+    let _ = time;
+}
+
+/// The next event comes before 2^64.
+#[tactic(auto, using(crate::proofs::Keeping::early_some, crate::proofs::Keeping::early_none))]
+pub(crate) fn is_early(parts: &Parts)
+    ensures { IfSome (next_event (parts_seen ⟦<dyn Device as Device>⟧ parts.now)) IsEarly }
+{
+    if let Some((time, _)) = parts.schedule.next() {
+        is_time(time);
+    }
+}
+
+/// Makes the next step, if there is one. For want of memory nothing changes.
+#[tactic(auto, unfolding(wind_machine::specs::Machine::machine_step))]
+pub(crate) fn make_step(parts: &mut Parts) -> Step
+    requires good { Good (inside parts.old) }
+    requires few { parts.old.clock.steps < most_steps }
+    requires space { IsSpacious parts.old }
+    ensures stepped { result ≡ steps.Stepped → machine_step (parts_seen ⟦<dyn Device as Device>⟧ parts.old)
+        ≡ Some (parts_seen ⟦<dyn Device as Device>⟧ parts.new) }
+    ensures quiet { (result ≡ steps.Quiet) ↔ (machine_step (parts_seen ⟦<dyn Device as Device>⟧ parts.old) ≡ None) }
+    ensures no_memory { result ≡ steps.NoMemory → may_lack_memory (parts_seen ⟦<dyn Device as Device>⟧ parts.old)
+        ≡ true }
+    ensures unchanged { result ≢ steps.Stepped → parts_seen ⟦<dyn Device as Device>⟧ parts.new
+        ≡ parts_seen ⟦<dyn Device as Device>⟧ parts.old }
+    ensures space { IsSpacious parts.new }
+{
+    if let Some(event) = due_event(parts) {
+        come(parts, event);
+        return Step::Stepped;
+    }
+    if console_is_due(parts) {
+        arrive(parts);
+        return Step::Stepped;
+    }
+    let Some(who) = parts.world.kern.runner() else {
+        return stepped_if(jump_on(parts));
+    };
+    step_of_result(run_task(parts, who))
+}

@@ -1,0 +1,243 @@
+//! The steps of the wind machine.
+
+ghost use Rattle.std.specs.Prelude.{◌≡◌, ◌+◌, ◌^◌, ◌<◌, ◌≤◌, true, length, take, OnOk, OnErr};
+ghost use Rattle.wind_base.specs.Limits.{most_steps, longest_line, longest_chunk};
+ghost use Rattle.con_line.specs.Lines.{front_line};
+ghost use Rattle.wind_core.specs.State.{Lives};
+ghost use Rattle.wind_machine.specs.Good.{Good};
+ghost use Rattle.wind_machine.specs.Processor.{gate_under};
+ghost use Rattle.wind_machine.specs.Machine.{prompt_step, read_step, eval_step, task_step, arrival, gate_may, ticked, received};
+ghost use Rattle.wind_machine.specs.declared.phase.Phase.TheVariants as phases;
+ghost use Rattle.board_player.specs.Inside.{inside, parts_seen, IsSpacious};
+ghost use Rattle.board_player.specs.Moves.{noted_step, heard_bytes, coming, jumped};
+
+use crate::arrival::hear_chunk;
+use crate::feed::{brought, chunk_len};
+use crate::parts::Parts;
+use crate::processor;
+use crate::reserving::drop_all;
+use crate::task::{listen, shell_id};
+use crate::turn::{begin, give_back, turn};
+use con_line::{Console, LINE_ROOM};
+use id_table::Ident;
+use tick_file::Event;
+use wind_base::NoMemory;
+use wind_base::text::add;
+use wind_outside::Device;
+
+// The step of a task is made: it is the one that ran last.
+fn end(parts: &mut Parts, who: Ident)
+    requires time { parts.old.clock.time < 2 ^ 65 }
+    requires few { parts.old.clock.steps < most_steps }
+    requires space { IsSpacious parts.old }
+    ensures step { parts_seen ⟦<dyn Device as Device>⟧ parts.new
+        ≡ noted_step (parts_seen ⟦<dyn Device as Device>⟧ parts.old) who }
+    ensures space { IsSpacious parts.new }
+{
+    parts.world.kern.ran(who);
+    parts.clock.step();
+}
+
+/// The shell writes its prompt, and waits for the console where no line is kept.
+#[tactic(auto, using(crate::proofs::Readied::good_early))]
+pub(crate) fn prompt(parts: &mut Parts)
+    requires good { Good (inside parts.old) }
+    requires few { parts.old.clock.steps < most_steps }
+    requires space { IsSpacious parts.old }
+    ensures step { parts_seen ⟦<dyn Device as Device>⟧ parts.new
+        ≡ prompt_step (parts_seen ⟦<dyn Device as Device>⟧ parts.old) }
+    ensures space { IsSpacious parts.new }
+{
+    turn(&mut parts.world, shell_id());
+    let has_line = parts.console.has_line();
+    add(&mut parts.world.out, b"-> ");
+    parts.shell.prompt(has_line);
+    if !has_line {
+        listen(&mut parts.world.kern);
+    }
+    end(parts, shell_id());
+}
+
+// Copies the first finished line to the front of a room, and tells how many bytes it has: 0 where no line is kept.
+fn copy_line(console: &Console, room: &mut [u8; LINE_ROOM]) -> usize
+    ensures line { take result room.new ≡ front_line console.now }
+    ensures short { result ≤ longest_line }
+{
+    match console.front_line(room) {
+        Some(len) => len as usize,
+        None => 0,
+    }
+}
+
+/// The shell takes a line and reads it. For want of memory nothing changes.
+#[tactic(auto, using(crate::proofs::Readied::good_early))]
+pub(crate) fn read(parts: &mut Parts) -> Result<(), NoMemory>
+    requires good { Good (inside parts.old) }
+    requires few { parts.old.clock.steps < most_steps }
+    requires space { IsSpacious parts.old }
+    ensures ok { OnOk result (parts_seen ⟦<dyn Device as Device>⟧ parts.new
+        ≡ read_step (parts_seen ⟦<dyn Device as Device>⟧ parts.old)) }
+    ensures err { OnErr result (parts_seen ⟦<dyn Device as Device>⟧ parts.new
+        ≡ parts_seen ⟦<dyn Device as Device>⟧ parts.old) }
+    ensures space { IsSpacious parts.new }
+{
+    let mut line = [0; LINE_ROOM];
+    let len = copy_line(&parts.console, &mut line);
+    let kept = begin(&mut parts.world, &mut parts.spare, shell_id());
+    if parts
+        .shell
+        .read(parts.alloc, &line[..len], &mut parts.world.out)
+        .is_err()
+    {
+        give_back(&mut parts.world, &mut parts.spare, kept);
+        return Err(NoMemory);
+    }
+    parts.console.drop_line();
+    end(parts, shell_id());
+    Ok(())
+}
+
+/// The shell goes on with its first statement. For want of memory nothing changes.
+#[tactic(auto, using(crate::proofs::Readied::good_early))]
+pub(crate) fn evaluate(parts: &mut Parts) -> Result<(), NoMemory>
+    requires good { Good (inside parts.old) }
+    requires few { parts.old.clock.steps < most_steps }
+    requires space { IsSpacious parts.old }
+    requires phase { parts.old.shell.phase ≡ phases.Eval }
+    ensures ok { OnOk result (parts_seen ⟦<dyn Device as Device>⟧ parts.new
+        ≡ eval_step (parts_seen ⟦<dyn Device as Device>⟧ parts.old)) }
+    ensures err { OnErr result (parts_seen ⟦<dyn Device as Device>⟧ parts.new
+        ≡ parts_seen ⟦<dyn Device as Device>⟧ parts.old) }
+    ensures space { IsSpacious parts.new }
+{
+    let kept = begin(&mut parts.world, &mut parts.spare, shell_id());
+    if parts.shell.evaluate(parts.alloc, &mut parts.world).is_err() {
+        give_back(&mut parts.world, &mut parts.spare, kept);
+        return Err(NoMemory);
+    }
+    end(parts, shell_id());
+    Ok(())
+}
+
+/// A task is at a gate, or makes an instruction. For want of memory, which comes only at a gate whose call may lack it,
+/// nothing changes.
+#[tactic(auto, using(crate::proofs::Readied::good_early))]
+pub(crate) fn run(parts: &mut Parts, who: Ident) -> Result<(), NoMemory>
+    requires good { Good (inside parts.old) }
+    requires few { parts.old.clock.steps < most_steps }
+    requires space { IsSpacious parts.old }
+    requires live { Lives parts.old.world.kern who }
+    requires phase { who ≡ 1 → parts.old.shell.phase ≡ phases.Call }
+    ensures ok { OnOk result (parts_seen ⟦<dyn Device as Device>⟧ parts.new
+        ≡ task_step (parts_seen ⟦<dyn Device as Device>⟧ parts.old) who) }
+    ensures memory { OnErr result (gate_may (gate_under (parts_seen ⟦<dyn Device as Device>⟧ parts.old).world who)
+        ≡ true) }
+    ensures err { OnErr result (parts_seen ⟦<dyn Device as Device>⟧ parts.new
+        ≡ parts_seen ⟦<dyn Device as Device>⟧ parts.old) }
+    ensures space { IsSpacious parts.new }
+{
+    let kept = begin(&mut parts.world, &mut parts.spare, who);
+    if processor::step(parts.alloc, &mut parts.shell, &mut parts.world, who).is_err() {
+        give_back(&mut parts.world, &mut parts.spare, kept);
+        return Err(NoMemory);
+    }
+    end(parts, who);
+    Ok(())
+}
+
+/// The next chunk of the console arrives.
+pub(crate) fn arrive(parts: &mut Parts)
+    requires good { Good (inside parts.old) }
+    requires few { parts.old.clock.steps < most_steps }
+    requires space { IsSpacious parts.old }
+    ensures step { parts_seen ⟦<dyn Device as Device>⟧ parts.new
+        ≡ arrival (parts_seen ⟦<dyn Device as Device>⟧ parts.old) }
+    ensures space { IsSpacious parts.new }
+{
+    let (len, is_unended) = chunk_len(parts.feed.left());
+    hear_bytes(parts, len, is_unended);
+    parts.clock.event();
+}
+
+// So many bytes come, with an end behind them where it is supplied.
+fn hear_bytes(parts: &mut Parts, len: usize, is_unended: bool)
+    requires live { Lives parts.old.world.kern 1 }
+    requires since { parts.old.world.kern.next_since + 8194 < 2 ^ 64 }
+    requires space { IsSpacious parts.old }
+    requires short { len ≤ longest_chunk }
+    requires within { len ≤ length parts.old.feed }
+    ensures heard { parts_seen ⟦<dyn Device as Device>⟧ parts.new
+        ≡ heard_bytes (parts_seen ⟦<dyn Device as Device>⟧ parts.old) len is_unended }
+    ensures space { IsSpacious parts.new }
+{
+    parts.world.out.clear();
+    hear_chunk(
+        &parts.feed.left()[..len],
+        is_unended,
+        &mut parts.console,
+        &mut parts.shell,
+        &mut parts.world.kern,
+        &mut parts.world.out,
+    );
+    parts.feed.advance(len);
+}
+
+// A tick comes.
+fn tick(parts: &mut Parts)
+    requires since { parts.old.world.kern.next_since < 2 ^ 63 }
+    requires tick { parts.old.world.kern.tick < 2 ^ 63 }
+    requires few { parts.old.clock.steps < most_steps }
+    requires space { IsSpacious parts.old }
+    ensures step { parts_seen ⟦<dyn Device as Device>⟧ parts.new
+        ≡ ticked (parts_seen ⟦<dyn Device as Device>⟧ parts.old) }
+    ensures space { IsSpacious parts.new }
+{
+    parts.world.out.clear();
+    parts.world.kern.tick();
+    parts.clock.event();
+}
+
+// So many bytes arrive, as the tick file asks.
+fn receive(parts: &mut Parts, n: u32)
+    requires live { Lives parts.old.world.kern 1 }
+    requires since { parts.old.world.kern.next_since + 8194 < 2 ^ 64 }
+    requires few { parts.old.clock.steps < most_steps }
+    requires space { IsSpacious parts.old }
+    ensures step { parts_seen ⟦<dyn Device as Device>⟧ parts.new
+        ≡ received (parts_seen ⟦<dyn Device as Device>⟧ parts.old) n }
+    ensures space { IsSpacious parts.new }
+{
+    let len = brought(parts.feed.left(), n);
+    hear_bytes(parts, len, false);
+    parts.clock.event();
+}
+
+/// The event that is due comes.
+#[tactic(auto, using(crate::proofs::Readied::all_live))]
+pub(crate) fn come(parts: &mut Parts, event: Event)
+    requires good { Good (inside parts.old) }
+    requires few { parts.old.clock.steps < most_steps }
+    requires space { IsSpacious parts.old }
+    ensures step { parts_seen ⟦<dyn Device as Device>⟧ parts.new
+        ≡ coming (parts_seen ⟦<dyn Device as Device>⟧ parts.old) event }
+    ensures space { IsSpacious parts.new }
+{
+    drop_all(&mut parts.world.kern);
+    parts.schedule.advance();
+    match event {
+        Event::Tick => tick(parts),
+        Event::Rx(n) => receive(parts, n),
+    }
+}
+
+/// Board time becomes that of an event.
+pub(crate) fn jump(parts: &mut Parts, time: u64)
+    requires few { parts.old.clock.steps < most_steps }
+    requires space { IsSpacious parts.old }
+    ensures step { parts_seen ⟦<dyn Device as Device>⟧ parts.new
+        ≡ jumped (parts_seen ⟦<dyn Device as Device>⟧ parts.old) time }
+    ensures space { IsSpacious parts.new }
+{
+    parts.world.out.clear();
+    parts.clock.jump(time);
+}

@@ -1,0 +1,179 @@
+//! A world from its start on, in which callers stand at gates and make their calls.
+
+ghost use Rattle.std.specs.Prelude.{◌≡◌, true};
+ghost use Rattle.kernel_calls.specs.Actors.{Acts};
+
+use crate::{Actor, Called, World, end_task, is_built, kernel_call, starting_regs};
+use id_table::Ident;
+use std::alloc::Global;
+use std::marker::Model;
+use std::test::Fail;
+use symbol_table::Symbol;
+use task_block::Task;
+use wind_base::limits::GATES_START;
+use wind_base::{Gate, Regs};
+use wind_core::Kern;
+use wind_outside::Slots;
+
+// The callers: the shell's task, by the number of its id, and the interrupt routine.
+pub(super) const SHELL: u32 = 1;
+
+pub(super) const ROUTINE: u32 = 0;
+
+// Where the callers have their frames, unless it is said otherwise.
+pub(super) const FRAME: u32 = 0x8000;
+
+// Where the calls return to.
+pub(super) const BACK: u32 = 0x2001;
+
+// A world from its start on, and how many calls were made in it.
+#[derive(Drop)]
+pub(super) struct Bench {
+    world: World,
+    calls: u32,
+}
+
+impl Model for Bench {
+    ghost use Rattle.std.specs.Prelude.{ℕ, ◌≡◌, ◌≤◌, ◌+◌, ◌*◌, []};
+    ghost use Rattle.kernel_calls.specs.Seen.{world_with};
+    ghost use Rattle.kernel_calls.specs.Kept.{IsWorld, LocksWithin};
+
+    ghost Value = { ℕ };
+
+    ghost view = { λ b. b.calls };
+
+    ghost invariant = { λ b. IsWorld (world_with [] b.world)
+        × LocksWithin b.calls b.world.kern
+        × (b.world.kern.next_since ≤ 1 + 2 * b.calls)
+        × (b.world.kern.tick ≡ 0)
+        × (b.world.names ≤ 1 + b.calls) };
+}
+
+// Whether the caller lives.
+fn acts(kern: &Kern, who: &Actor) -> bool
+    ensures { result ≡ true → Acts kern.now who.now }
+{
+    match who {
+        Actor::Task(id) => kern.task(*id).is_some(),
+        Actor::Interrupt => true,
+    }
+}
+
+impl Bench {
+    // The world at the start, without devices.
+    pub(super) fn new(rt: &HostRuntime) -> Result<Bench, Fail> {
+        let slots: Slots = Vec::new(rt.alloc());
+        let Ok(world) = World::boot(rt.alloc(), slots) else {
+            return Err("memory")?;
+        };
+        Ok(Bench { world, calls: 0 })
+    }
+
+    // These bytes stand in RAM from an address on. False where they don't fit.
+    pub(super) fn write(&mut self, address: u32, bytes: &[u8]) -> bool {
+        self.world.bus.ram.copy_in(address, bytes).is_ok()
+    }
+
+    // So many bytes do.
+    pub(super) fn fill(&mut self, address: u32, count: u32, byte: u8) -> bool {
+        self.world.bus.ram.fill(address, count, byte).is_ok()
+    }
+
+    // A task has other registers.
+    fn set_task(&mut self, who: Ident, regs: Regs) {
+        if self.world.kern.task(who).is_some() {
+            self.world.kern.set_regs(who, regs);
+        }
+    }
+
+    // The interrupt routine has.
+    fn set_routine(&mut self, regs: Regs) {
+        self.world.level = Some(regs);
+    }
+
+    // Makes the call. None where it can't be made.
+    fn make(&mut self, alloc: Global, gate: Gate, who: &Actor) -> Option<Called> {
+        if self.calls >= 1 << 20 || self.world.out.room() < 4096 {
+            return None;
+        }
+        if !is_built(gate) || !acts(&self.world.kern, who) {
+            return None;
+        }
+        let called = kernel_call(alloc, &mut self.world, gate, who);
+        self.calls += 1;
+        Some(called)
+    }
+
+    // A caller comes to a gate, with this r1 and these words, and makes its call.
+    pub(super) fn call(
+        &mut self,
+        alloc: Global,
+        who: u32,
+        gate: Gate,
+        frame: u32,
+        words: &[u32; 10],
+    ) -> Option<Called> {
+        let regs = starting_regs(frame, BACK, gate.address(GATES_START), words);
+        match Ident::new(who) {
+            Some(id) => {
+                self.set_task(id, regs);
+                self.make(alloc, gate, &Actor::Task(id))
+            }
+            None => {
+                self.set_routine(regs);
+                self.make(alloc, gate, &Actor::Interrupt)
+            }
+        }
+    }
+
+    fn end_task(&mut self, who: Ident) {
+        end_task(&mut self.world, who);
+    }
+
+    // A task ends. False where the number is no id.
+    pub(super) fn end(&mut self, who: u32) -> bool {
+        match Ident::new(who) {
+            Some(id) => {
+                self.end_task(id);
+                true
+            }
+            None => false,
+        }
+    }
+
+    pub(super) fn task(&self, who: u32) -> Option<&Task> {
+        self.world.kern.task(Ident::new(who)?)
+    }
+
+    pub(super) fn tasks(&self) -> u32 {
+        self.world.kern.live()
+    }
+
+    // The word of RAM at an address.
+    pub(super) fn word(&self, address: u32) -> Option<u32> {
+        self.world.bus.ram.read32(address)
+    }
+
+    pub(super) fn symbol(&self, place: u32) -> Option<&Symbol> {
+        self.world.syms.at(place)
+    }
+
+    pub(super) fn symbols(&self) -> u32 {
+        self.world.syms.len()
+    }
+
+    // What the calls have written.
+    pub(super) fn output(&self) -> &[u8] {
+        self.world.out.bytes()
+    }
+
+    // A caller's program counter, r3 and error number.
+    pub(super) fn standing(&self, who: u32) -> Option<(u32, u32, u32)> {
+        if who == ROUTINE {
+            let regs = self.world.level.as_ref()?;
+            return Some((regs.pc, regs.gpr[3], self.world.int_errno));
+        }
+        let task = self.task(who)?;
+        Some((task.regs.pc, task.regs.gpr[3], task.errno))
+    }
+}

@@ -1,0 +1,97 @@
+//! Steps over a world, in their order.
+
+use super::bench::{BACK, Bench, FRAME, SHELL};
+use super::looks::{Look, sees};
+use crate::Called;
+use std::test::Fail;
+use wind_base::Gate;
+
+// A step; callers and tasks go by the numbers of their ids, and the interrupt routine by 0.
+#[derive(Clone, Copy)]
+pub(super) enum Step {
+    // a caller makes the call of a gate with its first four words; then what stands in r3, and its error number
+    Call(u32, Gate, [u32; 4], u32, u32),
+    // the same by one that is answered later
+    Wait(u32, Gate, [u32; 4], u32, u32),
+    // the shell's task, whose r1 this is, asks by taskSpawn for a task of this name, priority and stack, which begins
+    // at 0x4000 with the words 1, 2 and 3, and seven above r1; then r3 and its error number
+    Spawn(u32, [u32; 3], u32, u32),
+    // the same by sp, with the words 1 to 7, and two above r1
+    Quick(u32, u32, u32),
+    // a task ends
+    End(u32),
+    // these bytes stand from an address on
+    Write(u32, &'static [u8]),
+    // so many bytes do
+    Fill(u32, u32, u8),
+    See(Look),
+}
+
+// Makes a call of the gate, and says whether it comes to this, and its caller stands behind it with this in r3 and this
+// error number.
+fn comes_to(
+    rt: &HostRuntime,
+    bench: &mut Bench,
+    call: (u32, Gate, u32, [u32; 10]),
+    told: (Called, u32, u32),
+) -> bool {
+    let (who, gate, frame, words) = call;
+    let (called, r3, errno) = told;
+    bench.call(rt.alloc(), who, gate, frame, &words) == Some(called)
+        && bench.standing(who) == Some((BACK, r3, errno))
+}
+
+// The words of a call.
+fn four([a, b, c, d]: [u32; 4]) -> [u32; 10] {
+    [a, b, c, d, 0, 0, 0, 0, 0, 0]
+}
+
+// The words of taskSpawn.
+fn spawning([name, pri, stack]: [u32; 3]) -> [u32; 10] {
+    [name, pri, 0, stack, 0x4000, 1, 2, 3, 0, 0]
+}
+
+// The words of sp.
+const QUICK: [u32; 10] = [0x4000, 1, 2, 3, 4, 5, 6, 7, 0, 0];
+
+// Makes a step, and says whether it is as it says.
+pub(super) fn goes(rt: &HostRuntime, bench: &mut Bench, step: Step) -> bool {
+    match step {
+        Step::Call(who, gate, words, r3, errno) => {
+            let call = (who, gate, FRAME, four(words));
+            comes_to(rt, bench, call, (Called::Done, r3, errno))
+        }
+        Step::Wait(who, gate, words, r3, errno) => {
+            let call = (who, gate, FRAME, four(words));
+            comes_to(rt, bench, call, (Called::Pended, r3, errno))
+        }
+        Step::Spawn(r1, asked, r3, errno) => {
+            let call = (SHELL, Gate::TaskSpawn, r1, spawning(asked));
+            comes_to(rt, bench, call, (Called::Done, r3, errno))
+        }
+        Step::Quick(r1, r3, errno) => {
+            let call = (SHELL, Gate::Sp, r1, QUICK);
+            comes_to(rt, bench, call, (Called::Done, r3, errno))
+        }
+        Step::End(who) => bench.end(who),
+        Step::Write(address, bytes) => bench.write(address, bytes),
+        Step::Fill(address, count, byte) => bench.fill(address, count, byte),
+        Step::See(look) => sees(bench, look),
+    }
+}
+
+// Makes the steps, up to the first that isn't as it says. None where each is.
+pub(super) fn first_wrong_in(rt: &HostRuntime, bench: &mut Bench, steps: &[Step]) -> Option<usize> {
+    for (i, step) in steps.iter().enumerate() {
+        if !goes(rt, bench, *step) {
+            return Some(i);
+        }
+    }
+    None
+}
+
+// The same over a world at its start.
+pub(super) fn first_wrong(rt: &HostRuntime, steps: &[Step]) -> Result<Option<usize>, Fail> {
+    let mut bench = Bench::new(rt)?;
+    Ok(first_wrong_in(rt, &mut bench, steps))
+}

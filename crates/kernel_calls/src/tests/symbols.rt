@@ -1,0 +1,95 @@
+//! symAdd, called by the shell's task.
+
+use super::bench::{Bench, SHELL};
+use super::looks::Look;
+use super::steps::{Step, first_wrong, first_wrong_in, goes};
+use super::{BAD_ADDRESS, BAD_KIND, OBJ_ID_ERROR, RAM_END, SYMBOLS_FULL};
+use std::test::Fail;
+use symbol_table::SymKind;
+use wind_base::Gate;
+use wind_base::words::{ERROR, OK};
+
+// Where the names are put: one of four bytes, one of none, one of 256 bytes, and 1,024 bytes without an end.
+const PUMP: u32 = 0x1000;
+
+const NO_NAME: u32 = 0x1020;
+
+const TOO_LONG: u32 = 0x1200;
+
+const ENDLESS: u32 = 0x2000;
+
+// The table, the name, the kind.
+const REFUSED: [Step; 13] = [
+    Step::Write(PUMP, b"pump\0"),
+    Step::Fill(TOO_LONG, 256, b'n'),
+    Step::Fill(ENDLESS, 1024, b'e'),
+    Step::Call(SHELL, Gate::SymAdd, [1, RAM_END, 5, 0], ERROR, OBJ_ID_ERROR),
+    Step::Call(SHELL, Gate::SymAdd, [0, RAM_END, 5, 0], ERROR, BAD_ADDRESS),
+    Step::Call(SHELL, Gate::SymAdd, [0, PUMP, 5, 0], ERROR, BAD_KIND),
+    Step::Call(SHELL, Gate::SymAdd, [0, NO_NAME, 5, 0], ERROR, BAD_ADDRESS),
+    Step::Call(SHELL, Gate::SymAdd, [0, PUMP, 5, 5], ERROR, BAD_KIND),
+    Step::Call(SHELL, Gate::SymAdd, [0, TOO_LONG, 5, 1], ERROR, BAD_ADDRESS),
+    Step::Call(SHELL, Gate::SymAdd, [0, ENDLESS, 5, 0], ERROR, BAD_ADDRESS),
+    Step::See(Look::Symbols(20)),
+    // 255 bytes are a name
+    Step::Call(
+        SHELL,
+        Gate::SymAdd,
+        [0, TOO_LONG + 1, 5, 1],
+        OK,
+        BAD_ADDRESS,
+    ),
+    Step::See(Look::Symbols(21)),
+];
+
+#[test]
+fn a_symbol_is_refused_in_order(rt: HostRuntime) -> Result<(), Fail> {
+    assert_eq!(rt; first_wrong(&rt, &REFUSED)?, None);
+    Ok(())
+}
+
+const ADDED: [Step; 9] = [
+    Step::Write(PUMP, b"pump\0"),
+    Step::Call(SHELL, Gate::SymAdd, [0, PUMP, 50, 1], OK, 0),
+    Step::Call(SHELL, Gate::SymAdd, [0, PUMP, 60, 2], OK, 0),
+    Step::Call(SHELL, Gate::SymAdd, [0, PUMP, 70, 3], OK, 0),
+    Step::Call(SHELL, Gate::SymAdd, [0, PUMP, 80, 4], OK, 0),
+    Step::See(Look::Symbol(20, b"pump", 50, SymKind::TextSym)),
+    Step::See(Look::Symbol(21, b"pump", 60, SymKind::DataSym)),
+    Step::See(Look::Symbol(22, b"pump", 70, SymKind::BssSym)),
+    Step::See(Look::Symbol(23, b"pump", 80, SymKind::AbsSym)),
+];
+
+#[test]
+fn a_symbol_has_one_of_four_kinds(rt: HostRuntime) -> Result<(), Fail> {
+    assert_eq!(rt; first_wrong(&rt, &ADDED)?, None);
+    Ok(())
+}
+
+// How many symbols are added, up to the first that isn't.
+fn count_added(rt: &HostRuntime, bench: &mut Bench) -> u32 {
+    for value in 0..70_000 {
+        let step = Step::Call(SHELL, Gate::SymAdd, [0, PUMP, value, 2], OK, 0);
+        if !goes(rt, bench, step) {
+            return value;
+        }
+    }
+    70_000
+}
+
+// The kind is looked at before.
+const FULL: [Step; 3] = [
+    Step::Call(SHELL, Gate::SymAdd, [0, PUMP, 5, 2], ERROR, SYMBOLS_FULL),
+    Step::Call(SHELL, Gate::SymAdd, [0, PUMP, 5, 5], ERROR, BAD_KIND),
+    Step::See(Look::Symbols(65_536)),
+];
+
+// There are 65,536 symbols at most, 20 calls among them.
+#[test]
+fn the_table_is_full(rt: HostRuntime) -> Result<(), Fail> {
+    let mut bench = Bench::new(&rt)?;
+    bench.write(PUMP, b"pump\0");
+    assert_eq!(rt; count_added(&rt, &mut bench), 65_516);
+    assert_eq!(rt; first_wrong_in(&rt, &mut bench, &FULL), None);
+    Ok(())
+}

@@ -1,0 +1,120 @@
+//! The parts that a load reads and changes.
+
+ghost use Rattle.std.specs.Prelude.{◌≡◌, false};
+
+use crate::opening::{filled, kern_after, part_after, symbols_after};
+use crate::reading::Trouble;
+use board_mem::Ram;
+use mem_partition::Part;
+use module_loader::{LoadErr, Loaded, Modules, NoSuchModule};
+use std::alloc::Global;
+use std::marker::Model;
+use symbol_table::Symbols;
+use wind_base::Name;
+use wind_core::Kern;
+
+/// What a board begins with.
+#[derive(Clone, Copy, Drop)]
+pub struct Opening {
+    /// Where the pool of the partition begins.
+    pub start: u32,
+    /// Where it ends, and RAM too.
+    pub end: u32,
+    /// How many ids are given out.
+    pub ids: u32,
+    /// How many blocks of 16 bytes are taken.
+    pub blocks: u32,
+    /// How many symbols there are.
+    pub symbols: u32,
+}
+
+/// Ids, partition, symbols, RAM and modules, as a load asks for them.
+#[derive(Drop)]
+pub struct Board {
+    kern: Kern,
+    part: Part,
+    syms: Symbols,
+    ram: Ram,
+    modules: Modules,
+}
+
+impl Model for Board {
+    ghost use Rattle.module_loader.specs.Holding.{KeepsModules};
+    ghost use Rattle.module_loader.specs.Loading.{LoaderState};
+    ghost use Rattle.module_loader.specs.Steps.{state_of};
+
+    ghost Value = { LoaderState };
+
+    ghost view = { λ b. state_of b.kern b.syms.list b.modules b.part b.ram };
+
+    ghost invariant = { λ b. KeepsModules (state_of b.kern b.syms.list b.modules b.part b.ram) };
+}
+
+impl Board {
+    /// A board without modules.
+    pub fn new(alloc: Global, opening: Opening) -> Result<Board, Trouble> {
+        let kern = kern_after(alloc, opening.ids)?;
+        let part = part_after(alloc, opening.start, opening.end, opening.blocks)?;
+        let syms = symbols_after(alloc, opening.symbols)?;
+        let ram = filled(alloc, opening.end)?;
+        let modules = Modules::new(alloc)?;
+        if part.end() > ram.size() {
+            return Err(Trouble::Unreadable);
+        }
+        Ok(Board {
+            kern,
+            part,
+            syms,
+            ram,
+            modules,
+        })
+    }
+
+    pub fn load(&mut self, name: Name, file: &[u8], mode: u32) -> Result<Loaded, LoadErr> {
+        self.modules.load(
+            &mut self.kern,
+            &mut self.part,
+            &mut self.syms,
+            &mut self.ram,
+            name,
+            file,
+            mode,
+        )
+    }
+
+    pub fn unload(&mut self, id: u32) -> Result<(), NoSuchModule> {
+        self.modules.unload(&mut self.part, &mut self.syms, id)
+    }
+
+    /// How many ids are left.
+    pub fn ids_left(&mut self) -> u32 {
+        ids_left(&mut self.kern)
+    }
+
+    pub fn part(&self) -> &Part {
+        &self.part
+    }
+
+    pub fn symbols(&self) -> &Symbols {
+        &self.syms
+    }
+
+    pub fn ram(&self) -> &Ram {
+        &self.ram
+    }
+
+    pub fn modules(&self) -> &Modules {
+        &self.modules
+    }
+}
+
+#[tactic(auto, using(module_loader::proofs::Kernel::put_back))]
+fn ids_left(kern: &mut Kern) -> u32
+    requires { kern.old.lent ≡ false }
+    ensures { kern.new ≡ kern.old }
+{
+    let ids = kern.lend_ids();
+    let left = ids.left();
+    kern.put_ids(ids);
+    left
+}

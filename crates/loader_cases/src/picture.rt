@@ -1,0 +1,90 @@
+//! All that a board holds, as a list of numbers, so that two moments can be compared.
+
+use crate::board::Board;
+use crate::opening::BLOCK;
+use mem_partition::Part;
+use module_loader::{LoadedModule, Modules, Segment};
+use std::alloc::{AllocError, Global};
+use symbol_table::{Symbol, Symbols};
+use wind_base::limits::MODULES;
+
+/// The ids that are left, the symbols, the modules, the blocks, and the bytes of RAM.
+pub fn picture(alloc: Global, board: &mut Board) -> Result<Vec<u64>, AllocError> {
+    let mut list = Vec::new(alloc);
+    list.push(u64::from(board.ids_left()))?;
+    put_symbols(&mut list, board.symbols())?;
+    put_modules(&mut list, board.modules())?;
+    put_blocks(&mut list, board.part())?;
+    let ram = board.ram();
+    if let Some(bytes) = ram.bytes(0, ram.size()) {
+        put_bytes(&mut list, bytes)?;
+    }
+    Ok(list)
+}
+
+// How many bytes there are, and these.
+fn put_bytes(list: &mut Vec<u64>, bytes: &[u8]) -> Result<(), AllocError> {
+    list.push(bytes.len() as u64)?;
+    for byte in bytes {
+        list.push(u64::from(*byte))?;
+    }
+    Ok(())
+}
+
+fn put_symbols(list: &mut Vec<u64>, syms: &Symbols) -> Result<(), AllocError> {
+    list.push(u64::from(syms.len()))?;
+    for i in 0..syms.len() {
+        if let Some(symbol) = syms.at(i) {
+            put_symbol(list, symbol)?;
+        }
+    }
+    Ok(())
+}
+
+fn put_symbol(list: &mut Vec<u64>, symbol: &Symbol) -> Result<(), AllocError> {
+    put_bytes(list, symbol.name.bytes())?;
+    list.push(u64::from(symbol.value))?;
+    list.push(symbol.kind as u64)?;
+    list.push(u64::from(symbol.global))?;
+    list.push(u64::from(symbol.group))?;
+    Ok(())
+}
+
+fn put_modules(list: &mut Vec<u64>, modules: &Modules) -> Result<(), AllocError> {
+    let mut last = 0;
+    for _ in 0..MODULES {
+        let Some(id) = modules.next_after(last) else {
+            break;
+        };
+        last = id.get();
+        list.push(u64::from(last))?;
+        if let Some(module) = modules.get(last) {
+            put_module(list, module)?;
+        }
+    }
+    list.push(0)?;
+    Ok(())
+}
+
+fn put_module(list: &mut Vec<u64>, module: &LoadedModule) -> Result<(), AllocError> {
+    put_bytes(list, module.name.bytes())?;
+    let segments: &[Segment] = &module.segments;
+    for segment in segments {
+        list.push(u64::from(segment.addr))?;
+        list.push(u64::from(segment.size))?;
+    }
+    Ok(())
+}
+
+// Each block with its address and its size: all begin at multiples of 16.
+fn put_blocks(list: &mut Vec<u64>, part: &Part) -> Result<(), AllocError> {
+    for n in 0..part.end() / BLOCK {
+        let at = n * BLOCK;
+        if let Some(size) = part.size_of(at) {
+            list.push(u64::from(at))?;
+            list.push(u64::from(size))?;
+        }
+    }
+    list.push(u64::from(part.free_total()))?;
+    Ok(())
+}

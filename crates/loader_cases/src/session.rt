@@ -1,0 +1,225 @@
+//! The lines of a session.
+
+use crate::board::{Board, Opening};
+use crate::draft::Draft;
+use crate::picture::picture;
+use crate::reading::{Trouble, byte, name, number};
+use crate::showing;
+use std::alloc::Global;
+use std::mem;
+
+/// What stands before the first line that makes a board.
+const NOTHING: Opening = Opening {
+    start: 0,
+    end: 0,
+    ids: 0,
+    blocks: 0,
+    symbols: 0,
+};
+
+// A file with its name.
+#[derive(Drop)]
+struct File {
+    name: String,
+    bytes: Vec<u8>,
+}
+
+/// A board, the files made so far, and the module that lines describe.
+#[derive(Drop)]
+pub struct Session {
+    alloc: Global,
+    board: Board,
+    draft: Draft,
+    files: Vec<File>,
+}
+
+impl Session {
+    pub fn new(alloc: Global) -> Result<Session, Trouble> {
+        Ok(Session {
+            alloc,
+            board: Board::new(alloc, NOTHING)?,
+            draft: Draft::new(alloc),
+            files: Vec::new(alloc),
+        })
+    }
+
+    /// Plays a line `COMMAND | ANSWER`, or `COMMAND` where nothing is answered. Gives the answer where it is another.
+    pub fn play(&mut self, line: &str) -> Result<Option<String>, Trouble> {
+        let (command, wanted) = match line.split_once('|') {
+            Some((command, wanted)) => (command, wanted.trim()),
+            None => (line, ""),
+        };
+        let mut words = Vec::new(self.alloc);
+        for word in command.split_whitespace() {
+            words.push(word)?;
+        }
+        let answer = self.answer(&words)?;
+        if answer.as_str() == wanted {
+            Ok(None)
+        } else {
+            Ok(Some(answer))
+        }
+    }
+
+    fn answer(&mut self, words: &[&str]) -> Result<String, Trouble> {
+        let [command, rest @ ..] = words else {
+            return Err(Trouble::Unreadable);
+        };
+        match *command {
+            "section" => self.draft.section(rest)?,
+            "zeros" => self.draft.zeros(rest)?,
+            "symbol" => self.draft.symbol(rest)?,
+            "reloc" => self.draft.reloc(rest)?,
+            "file" => return self.file(rest),
+            "cut" => self.cut(rest)?,
+            "byte" => self.change(rest)?,
+            "board" => self.open(rest)?,
+            "load" => return self.load(rest),
+            "loads" => return self.load_often(rest),
+            "unload" => return self.unload(rest),
+            _ => return self.question(command, rest),
+        }
+        Ok(String::new(self.alloc))
+    }
+}
+
+// Files.
+impl Session {
+    // `file NAME`: the module that the lines before describe, as a file of this name. A new one begins.
+    fn file(&mut self, words: &[&str]) -> Result<String, Trouble> {
+        let [label] = words else {
+            return Err(Trouble::Unreadable);
+        };
+        let draft = mem::replace(&mut self.draft, Draft::new(self.alloc));
+        let Some(bytes) = draft.file()? else {
+            return Ok(format!(in self.alloc; "no file")?);
+        };
+        let name = format!(in self.alloc; "{label}")?;
+        self.files.push(File { name, bytes })?;
+        Ok(String::new(self.alloc))
+    }
+
+    // `cut NAME LENGTH`: only so many bytes of a file stay.
+    fn cut(&mut self, words: &[&str]) -> Result<(), Trouble> {
+        let [label, length] = words else {
+            return Err(Trouble::Unreadable);
+        };
+        let length = number(length)?;
+        let file = find(&mut self.files, label)?;
+        file.truncate(length as usize);
+        Ok(())
+    }
+
+    // `byte NAME AT VALUE`: another byte in a file.
+    fn change(&mut self, words: &[&str]) -> Result<(), Trouble> {
+        let [label, at, value] = words else {
+            return Err(Trouble::Unreadable);
+        };
+        let at = number(at)?;
+        let value = byte(value)?;
+        let file = find(&mut self.files, label)?;
+        let Some(place) = file.get_mut(at as usize) else {
+            return Err(Trouble::Unreadable);
+        };
+        *place = value;
+        Ok(())
+    }
+}
+
+// The bytes of the newest file of a name.
+fn find<'a>(files: &'a mut [File], label: &str) -> Result<&'a mut Vec<u8>, Trouble> {
+    for file in files.iter_mut().rev() {
+        if file.name.as_str() == label {
+            return Ok(&mut file.bytes);
+        }
+    }
+    Err(Trouble::Unreadable)
+}
+
+// Loads and unloads.
+impl Session {
+    // `board START END IDS BLOCKS SYMBOLS`: a board without modules. The files stay.
+    fn open(&mut self, words: &[&str]) -> Result<(), Trouble> {
+        let [start, end, ids, blocks, symbols] = words else {
+            return Err(Trouble::Unreadable);
+        };
+        let opening = Opening {
+            start: number(start)?,
+            end: number(end)?,
+            ids: number(ids)?,
+            blocks: number(blocks)?,
+            symbols: number(symbols)?,
+        };
+        self.board = Board::new(self.alloc, opening)?;
+        Ok(())
+    }
+
+    // `load NAME MODE`: a file is loaded under its name.
+    fn load(&mut self, words: &[&str]) -> Result<String, Trouble> {
+        let [label, mode] = words else {
+            return Err(Trouble::Unreadable);
+        };
+        let mode = number(mode)?;
+        let before = picture(self.alloc, &mut self.board)?;
+        let name = name(self.alloc, label)?;
+        let file = find(&mut self.files, label)?;
+        match self.board.load(name, file, mode) {
+            Ok(answer) => showing::loaded(self.alloc, &answer),
+            Err(reason) => {
+                let after = picture(self.alloc, &mut self.board)?;
+                showing::refused(self.alloc, reason, after == before)
+            }
+        }
+    }
+
+    // `loads NAME MODE COUNT`: the same so many times. The answer is the last.
+    fn load_often(&mut self, words: &[&str]) -> Result<String, Trouble> {
+        let [label, mode, count] = words else {
+            return Err(Trouble::Unreadable);
+        };
+        let mut answer = String::new(self.alloc);
+        for _ in 0..number(count)? {
+            answer = self.load(&[*label, *mode])?;
+        }
+        Ok(answer)
+    }
+
+    // `unload ID`.
+    fn unload(&mut self, words: &[&str]) -> Result<String, Trouble> {
+        let [id] = words else {
+            return Err(Trouble::Unreadable);
+        };
+        match self.board.unload(number(id)?) {
+            Ok(()) => Ok(String::new(self.alloc)),
+            Err(reason) => Ok(format!(in self.alloc; "{reason}")?),
+        }
+    }
+}
+
+// Questions.
+impl Session {
+    fn question(&self, command: &str, words: &[&str]) -> Result<String, Trouble> {
+        match (command, words) {
+            ("free", []) => showing::hexadecimal(self.alloc, self.board.part().free_total()),
+            ("symbols", []) => showing::hexadecimal(self.alloc, self.board.symbols().len()),
+            ("find", [label]) => {
+                showing::symbol(self.alloc, self.board.symbols().find(label.as_bytes()))
+            }
+            ("newest", [label]) => {
+                showing::id(
+                    self.alloc,
+                    self.board.modules().newest_named(label.as_bytes()),
+                )
+            }
+            ("module", [id]) => showing::module(self.alloc, self.board.modules().get(number(id)?)),
+            ("next", [id]) => {
+                showing::id(self.alloc, self.board.modules().next_after(number(id)?))
+            }
+            ("ram", [at, count]) => showing::bytes(
+                self.alloc,
+                self.board.ram().bytes(number(at)?, number(count)?),
+            ),
+            _ => Err(Trouble::Unreadable),
+        }
+    }
+}

@@ -1,0 +1,97 @@
+//! Answers as text. Numbers are in hexadecimal digits.
+
+use crate::reading::Trouble;
+use id_table::Ident;
+use module_loader::{LoadErr, Loaded, LoadedModule, Segment};
+use std::alloc::{AllocError, Global};
+use symbol_table::{SymKind, Symbol};
+
+/// The id, and behind it the names that nothing defines.
+pub fn loaded(alloc: Global, answer: &Loaded) -> Result<String, Trouble> {
+    let mut text = format!(in alloc; "id {:x}", answer.id.get())?;
+    for name in answer.undefined.as_slice() {
+        text.push(' ')?;
+        put_bytes(&mut text, name.bytes())?;
+    }
+    Ok(text)
+}
+
+/// Why a load was refused, and whether all stands as before.
+pub fn refused(alloc: Global, reason: LoadErr, same: bool) -> Result<String, Trouble> {
+    let before = if same { "" } else { ", and something changed" };
+    Ok(format!(in alloc; "{reason}{before}")?)
+}
+
+/// The value, the kind, whether other modules see it, and its group.
+pub fn symbol(alloc: Global, found: Option<&Symbol>) -> Result<String, Trouble> {
+    let Some(symbol) = found else {
+        return none(alloc);
+    };
+    let kind = kind(symbol.kind);
+    let sight = if symbol.global { "global" } else { "local" };
+    Ok(format!(in alloc; "{:x} {kind} {sight} {:x}", symbol.value, symbol.group)?)
+}
+
+fn kind(kind: SymKind) -> &'static str {
+    match kind {
+        SymKind::TextSym => "text",
+        SymKind::DataSym => "data",
+        SymKind::BssSym => "bss",
+        SymKind::AbsSym => "number",
+    }
+}
+
+/// The name, and of each segment where it is and how many bytes it has.
+pub fn module(alloc: Global, found: Option<&LoadedModule>) -> Result<String, Trouble> {
+    let Some(module) = found else {
+        return none(alloc);
+    };
+    let mut text = String::new(alloc);
+    put_bytes(&mut text, module.name.bytes())?;
+    let segments: &[Segment] = &module.segments;
+    for segment in segments {
+        let piece = format!(in alloc; " {:x}+{:x}", segment.addr, segment.size)?;
+        text.push_str(piece.as_str())?;
+    }
+    Ok(text)
+}
+
+/// The number of an id.
+pub fn id(alloc: Global, found: Option<Ident>) -> Result<String, Trouble> {
+    match found {
+        Some(id) => hexadecimal(alloc, id.get()),
+        None => none(alloc),
+    }
+}
+
+pub fn hexadecimal(alloc: Global, n: u32) -> Result<String, Trouble> {
+    Ok(format!(in alloc; "{n:x}")?)
+}
+
+/// Two digits for each byte, in words of four bytes.
+pub fn bytes(alloc: Global, found: Option<&[u8]>) -> Result<String, Trouble> {
+    let Some(bytes) = found else {
+        return none(alloc);
+    };
+    let mut text = String::new(alloc);
+    for (i, byte) in bytes.iter().enumerate() {
+        if i > 0 && i % 4 == 0 {
+            text.push(' ')?;
+        }
+        let digits = format!(in alloc; "{byte:02x}")?;
+        text.push_str(digits.as_str())?;
+    }
+    Ok(text)
+}
+
+fn none(alloc: Global) -> Result<String, Trouble> {
+    Ok(format!(in alloc; "none")?)
+}
+
+// Bytes of a name, which are characters of ASCII.
+fn put_bytes(text: &mut String, bytes: &[u8]) -> Result<(), AllocError> {
+    for byte in bytes {
+        text.push(char::from(*byte))?;
+    }
+    Ok(())
+}

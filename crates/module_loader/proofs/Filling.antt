@@ -1,0 +1,92 @@
+-- A segment's bytes in its block: zeros are written over all of it, and then the bytes over its front.
+use Rattle.std.proofs.Common.{◌≡◌, ℕ, ◌+◌, ◌-◌, ◌≤◌, eqb, cond, true, false, List, [], ◌++◌, length, take, drop, refl, sym, ap, ◌∙◌, arith, length-append}
+use Rattle.std.specs.Prelude.{replicate}
+use Rattle.std.proofs.lemmas.Bool.{eqb-true}
+use Rattle.std.proofs.lemmas.Bool.Decides.{nat_tests}
+use Rattle.std.proofs.lemmas.List.{append_assoc, length-take, length-replicate, replicate-append-replicate, take-take, take-append-le, drop-drop, drop-append-le, drop_all, drop-replicate}
+use Rattle.board_mem.specs.Memory.{has, with_bytes}
+use Rattle.mem_partition.specs.Place.{rounded}
+use Rattle.mem_partition.proofs.Allocs.{rounded_holds}
+use Rattle.module_loader.specs.Loading.{block_size, in_block, stored}
+
+-- a block has all bytes of its segment
+pub block_holds : (n : ℕ) → n ≤ block_size n
+unfolding block_size
+block_holds n = elim (eqb n 0) as (λ t. eqb n 0 ≡ t → n ≤ cond t 0 (rounded n)) [
+  | true ↦ λ h. let z = eqb-true n 0 h in omega arith
+  | false ↦ λ h. rounded_holds n
+] refl
+
+-- so many zeros
+abbrev zeros : ℕ → List ℕ
+zeros n = replicate n 0
+
+length-zeros : (n : ℕ) → length (zeros n) ≡ n
+length-zeros n = length-replicate {A = ℕ} n 0
+
+pub length-in_block : (bytes : List ℕ) → length (in_block bytes) ≡ block_size (length bytes)
+unfolding in_block
+length-in_block bytes =
+    let n : ℕ = block_size (length bytes) - length bytes in
+    let holds = block_holds (length bytes) in
+    let many = length-zeros n in
+    length-append bytes (zeros n) ∙ omega (arith, many, holds)
+
+-- zeros fill the block
+pub zeros_in_block : (n : ℕ) → in_block (replicate n 0) ≡ replicate (block_size n) 0
+unfolding in_block
+zeros_in_block n =
+    let holds = block_holds n in
+    let sum : n + (block_size n - n) ≡ block_size n = omega (arith, holds) in
+    ap (λ k. zeros n ++ zeros (block_size k - k)) (length-zeros n)
+    ∙ replicate-append-replicate n (block_size n - n) 0 ∙ ap zeros sum
+
+-- zeros, and over their front the bytes, are the bytes and zeros behind them: in the parts of RAM
+over_parts : (ram front behind bytes rest : List ℕ) (at m : ℕ) → length front ≡ at → length bytes ≤ m → take at front ≡ front → rest ≡ zeros (m - length bytes)
+    → take at (front ++ zeros m ++ behind) ++ bytes ++ drop (at + length bytes) (front ++ zeros m ++ behind) ≡ front ++ (bytes ++ rest) ++ behind
+over_parts ram front behind bytes rest at m lf few same re =
+    let n : ℕ = length bytes in
+    let lz = length-zeros m in
+    let lb = length-append front (zeros m) in
+    let before : take at (front ++ zeros m ++ behind) ≡ front =
+    take-append-le at (front ++ zeros m) behind (omega arith) ∙ take-append-le at front (zeros m) (omega arith) ∙ same in
+    let none : drop at front ≡ [] = drop_all at front (omega arith) in
+    let inner : drop (at + n) (front ++ zeros m) ≡ rest =
+    sym (drop-drop n at (front ++ zeros m)) ∙ ap (drop n) (drop-append-le at front (zeros m) (omega arith) ∙ ap (λ x. x ++ zeros m) none) ∙ drop-replicate n m 0 ∙ sym re in
+    let after : drop (at + n) (front ++ zeros m ++ behind) ≡ rest ++ behind =
+    drop-append-le (at + n) (front ++ zeros m) behind (omega arith) ∙ ap (λ x. x ++ behind) inner in
+    ap (λ x. x ++ bytes ++ drop (at + n) (front ++ zeros m ++ behind)) before
+    ∙ ap (λ x. front ++ bytes ++ x) after
+    ∙ sym (append_assoc (front ++ bytes) rest behind)
+    ∙ ap (λ x. x ++ behind) (append_assoc front bytes rest)
+
+pub over_zeros : (ram bytes : List ℕ) (at m : ℕ) → length bytes ≤ m → at + m ≤ length ram
+    → with_bytes (with_bytes ram at (replicate m 0)) at bytes ≡ with_bytes ram at (bytes ++ replicate (m - length bytes) 0)
+over_zeros ram bytes at m few fits =
+    let n : ℕ = length bytes in
+    let lf : length (take at ram) ≡ at = length-take at ram ∙ omega arith in
+    let lz = length-zeros m in
+    let lr = length-zeros (m - n) in
+    let whole : length (zeros m) ≡ length (bytes ++ zeros (m - n)) = omega (arith, lz, lr, length-append bytes (zeros (m - n)), few) in
+    over_parts ram (take at ram) (drop (at + length (zeros m)) ram) bytes (zeros (m - n)) at m lf few (take-take at at ram (omega arith)) refl
+    ∙ ap (λ k. take at ram ++ (bytes ++ zeros (m - n)) ++ drop (at + k) ram) whole
+
+-- the bytes of a segment over a block of zeros
+pub filled_up : (ram bytes : List ℕ) (at : ℕ) → at + block_size (length bytes) ≤ length ram
+    → with_bytes (with_bytes ram at (in_block (replicate (length bytes) 0))) at bytes ≡ with_bytes ram at (in_block bytes)
+unfolding in_block
+filled_up ram bytes at fits =
+    ap (λ x. with_bytes (with_bytes ram at x) at bytes) (zeros_in_block (length bytes))
+    ∙ over_zeros ram bytes at (block_size (length bytes)) (block_holds (length bytes)) fits
+
+is_there : (ram : List ℕ) (at n : ℕ) → at + block_size n ≤ length ram → has ram at n ≡ true
+is_there ram at n fits = let holds = block_holds n in let within : at + n ≤ length ram = omega arith in grind (arith, nat_tests)
+
+-- what a copy leaves over the zeros
+pub after_copy : (ram zeroed new bytes : List ℕ) (at : ℕ) → at + block_size (length bytes) ≤ length ram → length zeroed ≡ length ram
+    → zeroed ≡ stored ram (at, in_block (replicate (length bytes) 0))
+    → new ≡ cond (has zeroed at (length bytes)) (with_bytes zeroed at bytes) zeroed → new ≡ stored ram (at, in_block bytes)
+unfolding stored
+after_copy ram zeroed new bytes at fits same zero made =
+    let there : has zeroed at (length bytes) ≡ true = is_there zeroed at (length bytes) (omega arith) in
+    made ∙ ap (λ t. cond t (with_bytes zeroed at bytes) zeroed) there ∙ ap (λ x. with_bytes x at bytes) zero ∙ filled_up ram bytes at fits

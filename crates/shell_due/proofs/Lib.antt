@@ -1,4 +1,0 @@
-pub mod Arguments
-pub mod Trees
-pub mod Calls
-pub mod Built

@@ -1,0 +1,135 @@
+-- What goes on where reservations are dropped.
+use Rattle.std.proofs.Common.{◌≡◌, ℕ, ◌<◌, ◌≤◌, Bool, true, false, cond, eqb, List, [], ◌∷◌, length, get_or, map, Option, Some, IfSome, IsSome, refl, sym, ap, ◌∙◌, subst, arith}
+use Rattle.std.specs.List.{All, AllPairs}
+use Rattle.std.proofs.lemmas.Bool.{eqb-true}
+use Rattle.std.proofs.lemmas.List.{length-map, get_or-map}
+use Rattle.std.proofs.lemmas.List.Elements.{All-map, All-weaker}
+use Rattle.task_block.specs.declared.task.Task.{Task}
+use Rattle.wind_core.specs.State.{KernState, IsKern, WakesAhead, task_id}
+use Rattle.wind_core.specs.Moves.{unreserved, unreserve}
+use Rattle.wind_core.proofs.Ids.{lives_by}
+use Rattle.kernel_calls.specs.State.{WorldState}
+use Rattle.kernel_calls.specs.Opening.{interrupt_stack}
+use Rattle.kernel_calls.specs.Kept.{AreStacks, IsWorld, LocksWithin, ReservedBy}
+use Rattle.kernel_calls.specs.Laws.{Advances}
+use Rattle.wind_machine.specs.Part.{with_kern}
+use Rattle.wind_machine.specs.Reserving.{unless_own, drop_others, drop_all}
+
+-- f leaves a task all of which the kept facts speak, and gives it no reservation
+pub record Drops (f : Task → Task) : Type 0 where
+  pub id : (t : Task) → (f t).id ≡ t.id
+  pub since : (t : Task) → (f t).since ≡ t.since
+  pub wake : (t : Task) → (f t).wake ≡ t.wake
+  pub stack : (t : Task) → (f t).stack ≡ t.stack
+  pub locks : (t : Task) → (f t).locks ≡ t.locks
+  pub reserve : (t : Task) → IsSome (f t).regs.reserve → IsSome t.regs.reserve
+
+abbrev pub mapped : (Task → Task) → KernState → KernState
+mapped f k = record k { tasks = map f k.tasks }
+
+pairs_map : (R : Task → Task → Type 0) (f : Task → Task) (ts : List Task) → ((t u : Task) → R t u → R (f t) (f u)) → AllPairs R ts → AllPairs R (map f ts)
+pairs_map R f ts keeps all i j d below within =
+    let size : length (map f ts) ≡ length ts = length-map ts f in
+    let last : j < length ts = omega (arith, within, size) in
+    let first : i < length ts = omega (arith, last, below) in
+    subst (λ t. R t (get_or (map f ts) j d)) (sym (get_or-map f ts i d d first))
+    (subst (λ u. R (f (get_or ts i d)) u) (sym (get_or-map f ts j d d last)) (keeps (get_or ts i d) (get_or ts j d) (all i j d below last)))
+
+all_map : (P : Task → Type 0) (f : Task → Task) (ts : List Task) → ((t : Task) → P t → P (f t)) → All P ts → All P (map f ts)
+all_map P f ts keeps all = All-map P f ts (All-weaker P (λ t. P (f t)) keeps ts all)
+
+same_field : (field : Task → ℕ) (f : Task → Task) (ts : List Task) → ((t : Task) → field (f t) ≡ field t) → map field (map f ts) ≡ map field ts
+same_field field f [] same = refl
+same_field field f (t ∷ ts) same = ap (λ n. n ∷ map field (map f ts)) (same t) ∙ ap (λ ns. field t ∷ ns) (same_field field f ts same)
+
+module _ (f : Task → Task) (drops : Drops f) where
+  mapped_is : (k : KernState) → IsKern k → IsKern (mapped f k)
+  mapped_is k is = record {
+    few = omega (arith, is.few, length-map k.tasks f);
+    rising = pairs_map (λ t u. task_id t < task_id u) f k.tasks (λ t u h. omega (arith, h, drops.id t, drops.id u)) is.rising;
+    ids = all_map (λ t. t.id < k.next_id) f k.tasks (λ t h. omega (arith, h, drops.id t)) is.ids;
+    first_id = is.first_id;
+    last_id = is.last_id;
+    distinct = pairs_map (λ t u. t.since ≡ u.since → ⊥) f k.tasks (λ t u h e. h (sym (drops.since t) ∙ e ∙ drops.since u)) is.distinct;
+    sinces = all_map (λ t. t.since < k.next_since) f k.tasks (λ t h. omega (arith, h, drops.since t)) is.sinces;
+    ahead = all_map (WakesAhead k.tick) f k.tasks (λ t h. subst (λ w. IfSome w (λ v. k.tick < v)) (sym (drops.wake t)) h) is.ahead;
+  }
+
+  mapped_reserves : (k : KernState) (who : Option ℕ) → ReservedBy who k → ReservedBy who (mapped f k)
+  mapped_reserves k who h = all_map (λ t. IsSome t.regs.reserve → who ≡ Some t.id) f k.tasks (λ t own some. own (drops.reserve t some) ∙ ap Some (sym (drops.id t))) h
+
+  pub drop_advances : (w : WorldState) (n : ℕ) → IsWorld w → LocksWithin n w.kern → Advances w (with_kern w (mapped f w.kern)) n 0 0
+  drop_advances w n kept within = record {
+    kept = record {
+      kern = mapped_is w.kern kept.kern;
+      home = kept.home;
+      pool = kept.pool;
+      stacks = subst (λ s. AreStacks w.part (interrupt_stack ∷ s)) (sym (same_field (λ t. t.stack) f w.kern.tasks drops.stack)) kept.stacks;
+      ram = kept.ram;
+      symbols = kept.symbols;
+    };
+    lives = λ who h. lives_by (map f w.kern.tasks) w.kern.tasks who (same_field task_id f w.kern.tasks drops.id) h;
+    locks = all_map (λ t. t.locks ≤ n) f w.kern.tasks (λ t h. omega (arith, h, drops.locks t)) within;
+    last = refl;
+    reserves = λ who h. mapped_reserves w.kern who h;
+    sinces = omega arith;
+    count = refl;
+    names = omega arith;
+  }
+
+-- ---- that of one task, of all, of all others
+unreserved_drops : Drops unreserved
+unreserved_drops = record { id = λ t. refl; since = λ t. refl; wake = λ t. refl; stack = λ t. refl; locks = λ t. refl; reserve = λ t some. absurd (cc) }
+
+-- where a test says whether a task's goes
+by_test : (f : Task → Task) → ((t : Task) → (b : Bool) × (f t ≡ cond b (unreserved t) t)) → Drops f
+by_test f tests = record {
+  id = λ t. one ℕ (λ u. u.id) t refl;
+  since = λ t. one ℕ (λ u. u.since) t refl;
+  wake = λ t. one (Option ℕ) (λ u. u.wake) t refl;
+  stack = λ t. one ℕ (λ u. u.stack) t refl;
+  locks = λ t. one ℕ (λ u. u.locks) t refl;
+  reserve = λ t some. reserve t (tests t).0 (tests t).1 some;
+}
+  where
+    one : (A : Type 0) (field : Task → A) (t : Task) → field (unreserved t) ≡ field t → field (f t) ≡ field t
+    one A field t same = ap field (tests t).1 ∙ elim (tests t).0 as (λ b. field (cond b (unreserved t) t) ≡ field t) [ true ↦ same | false ↦ refl ]
+
+    reserve : (t : Task) (b : Bool) → f t ≡ cond b (unreserved t) t → IsSome (f t).regs.reserve → IsSome t.regs.reserve
+    reserve t true e some = let none : IsSome (unreserved t).regs.reserve = subst (λ (u : Task). IsSome u.regs.reserve) e some in absurd (cc)
+    reserve t false e some = subst (λ (u : Task). IsSome u.regs.reserve) e some
+
+abbrev of_own : ℕ → Task → Task
+of_own who t = cond (eqb t.id who) (unreserved t) t
+
+own_drops : (who : ℕ) → Drops (of_own who)
+own_drops who = by_test (of_own who) (λ t. (eqb t.id who, refl))
+
+other_drops : (who : ℕ) → Drops (unless_own who)
+other_drops who = by_test (unless_own who) (λ t. elim (eqb t.id who) as (λ c. (b : Bool) × (cond c t (unreserved t) ≡ cond b (unreserved t) t)) [ true ↦ (false, refl) | false ↦ (true, refl) ])
+
+module _ (w : WorldState) (n : ℕ) (kept : IsWorld w) (within : LocksWithin n w.kern) where
+  pub unreserve_advances : (who : ℕ) → Advances w (with_kern w (unreserve w.kern who)) n 0 0
+  unreserve_advances who = drop_advances (of_own who) (own_drops who) w n kept within
+
+  pub others_advance : (who : ℕ) → Advances w (with_kern w (drop_others w.kern who)) n 0 0
+  others_advance who = drop_advances (unless_own who) (other_drops who) w n kept within
+
+  pub all_advance : Advances w (with_kern w (drop_all w.kern)) n 0 0
+  all_advance = drop_advances unreserved unreserved_drops w n kept within
+
+-- whoever has a reservation is this task, where the others' are dropped
+pub others_reserved : (k : KernState) (who : ℕ) → ReservedBy (Some who) (drop_others k who)
+others_reserved k who =
+    All-map (λ t. IsSome t.regs.reserve → Some who ≡ Some t.id) (unless_own who) k.tasks (λ i d within. own (get_or k.tasks i d))
+  where
+    own : (t : Task) → IsSome (unless_own who t).regs.reserve → Some who ≡ Some (unless_own who t).id
+    own t =
+        elim (eqb t.id who) as (λ b. eqb t.id who ≡ b → IsSome (cond b t (unreserved t)).regs.reserve → Some who ≡ Some (cond b t (unreserved t)).id) [
+          | true ↦ λ e some. ap Some (sym (eqb-true t.id who e))
+          | false ↦ λ e some. absurd (cc)
+        ] refl
+
+-- nobody has one, where all are dropped
+pub all_reserved : (k : KernState) (who : Option ℕ) → ReservedBy who (drop_all k)
+all_reserved k who = All-map (λ t. IsSome t.regs.reserve → who ≡ Some t.id) unreserved k.tasks (λ i d within some. absurd (cc))

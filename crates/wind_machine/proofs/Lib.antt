@@ -1,0 +1,13 @@
+pub mod Reserving
+pub mod TaskLemmas
+pub mod Executing
+pub mod Dropping
+pub mod Turns
+pub mod Moves
+pub mod Kept
+pub mod Hearing
+pub mod Parts
+pub mod Steps
+pub mod Beginning
+pub mod Courses
+pub mod Counting

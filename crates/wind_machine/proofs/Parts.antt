@@ -1,0 +1,157 @@
+-- What each step of a task keeps.
+use Rattle.std.proofs.Common.{◌≡◌, ◌≢◌, ℕ, ◌+◌, Bool, true, false, cond, eqb, List, [], ◌∷◌, ◌++◌, length, Option, None, Some, refl, arith}
+use Rattle.std.specs.Prelude.{slice_index}
+use Rattle.wind_base.specs.declared.gate.Gate.{Gate}
+use Rattle.ppc_core.specs.Instructions.{exec_of}
+use Rattle.ppc_core.specs.Outcomes.{Outcome, Done, Trapped}
+use Rattle.ppc_core.specs.declared.trap.Trap.{Trap}
+use Rattle.ppc_core.specs.declared.trap.Trap.TheVariants as traps
+use Rattle.board_bus.specs.BusState.{BusState}
+use Rattle.board_bus.specs.Access.{board_meaning, fetched}
+use Rattle.wind_core.specs.State.{task_of}
+use Rattle.wind_core.specs.Moves.{suspend}
+use Rattle.kernel_calls.specs.State.{WorldState}
+use Rattle.kernel_calls.specs.Actors.{shell_id}
+use Rattle.kernel_calls.specs.Calls.{call, is_built}
+use Rattle.kernel_calls.specs.Ending.{ended}
+use Rattle.kernel_calls.specs.Kept.{IsWorld, LocksWithin}
+use Rattle.kernel_calls.specs.declared.actor.Actor.TheVariants.{Task as by_task}
+use Rattle.kernel_calls.proofs.Goes.{goes-suspend}
+use Rattle.kernel_calls.proofs.Advancing.{advances_on, by_kern, call_advances}
+use Rattle.shell_eval.specs.Pending.{Pending}
+use Rattle.shell_eval.specs.Evaluate.{Ending, Value, Call, Fault, Waiting, evaluate}
+use Rattle.shell_eval.proofs.KeptSteps.{keeps}
+use Rattle.shell_parse.specs.Reading.{Reading}
+use Rattle.wind_machine.specs.State.{ShellState}
+use Rattle.wind_machine.specs.Good.{HasItsLine}
+use Rattle.wind_machine.specs.Part.{Part, part_of, with_kern, writing}
+use Rattle.wind_machine.specs.Task.{aborted, listening, stack_pointer, call_regs}
+use Rattle.wind_machine.specs.Text.{prompt_text, value_text, fault_text}
+use Rattle.wind_machine.specs.Shell.{at_prompt, shell_with, returned, prompt_part, read_part, read_text, eval_state, with_eval, calling, came_to, eval_part}
+use Rattle.wind_machine.specs.Processor.{bus_of, regs_of, told_of, trapped, is_return, without_own, return_part, call_part, gate_part, executed, word_part, part_at, gate_under, task_part}
+use Rattle.wind_machine.specs.declared.phase.Phase.TheVariants as phases
+use Rattle.wind_machine.proofs.Executing.{IfDone, executing_lasts, sizes_last}
+use Rattle.wind_machine.proofs.Dropping.{unreserve_advances}
+use Rattle.wind_machine.proofs.Moves.{goes-listening, goes-aborted}
+use Rattle.wind_machine.proofs.Turns.{Turns, turns_by, nowhere, more_locks, touched, wrote, gave_regs, ended_turns, framed_size, evaluated_turns}
+use Rattle.wind_machine.proofs.Kept.{needs_none}
+
+-- what a step of a task leaves: the world went on, and a shell that reads has its line
+pub record PartKeeps (w : WorldState) (p : Part) (who n : ℕ) (finished : List ℕ) : Type 0 where
+  pub turns : Turns w p.world who n
+  pub read : HasItsLine p.shell.phase finished
+
+module _ (w : WorldState) (n : ℕ) (kept : IsWorld w) (within : LocksWithin n w.kern) where
+  here : (who : ℕ) → Turns w w who (n + 1)
+  here who = more_locks w w who n (nowhere w who n kept within)
+
+  -- ---- the shell's own steps
+  pub prompt_turns : (has : Bool) (shell : ShellState) → Turns w (prompt_part has shell w).world shell_id (n + 1)
+  prompt_turns has shell =
+      elim has as (λ b. Turns w (writing (with_kern w (cond b w.kern (listening w.kern))) prompt_text) shell_id (n + 1)) [
+        | true ↦ wrote w w shell_id (n + 1) (here shell_id) (w.output ++ prompt_text)
+        | false ↦
+            let v = with_kern w (listening w.kern) in
+            let goes = turns_by w v shell_id n 1 0 (omega arith) (omega arith) (by_kern w kept (listening w.kern) n 1 (goes-listening w.kern n kept.kern within)) in
+            wrote w v shell_id (n + 1) (more_locks w v shell_id n goes) (w.output ++ prompt_text)
+      ]
+
+  pub read_turns : (reading : Reading) → Turns w (read_part reading w).world shell_id (n + 1)
+  read_turns reading = wrote w w shell_id (n + 1) (here shell_id) (w.output ++ read_text reading)
+
+  module _ (finished : List ℕ) where
+    -- a shell behind a statement does not read
+    behind_phase : (behind : List (Option Pending)) → (shell_with behind).phase ≢ phases.Read
+    behind_phase [] = λ e. cc
+    behind_phase (p ∷ ps) = λ e. cc
+
+    called : (v : WorldState) → Turns w v shell_id (n + 1) → (callee : ℕ) (words : List ℕ) → Turns w (calling v callee words) shell_id (n + 1)
+    called v t callee words =
+        let u = with_kern v (calling v callee words).kern in
+        touched w u shell_id (n + 1) (gave_regs w v shell_id (n + 1) t (call_regs callee words)) (calling v callee words).ram v.slots v.output (framed_size v.ram stack_pointer words)
+
+    comes_to : (e : Ending) (behind : List (Option Pending)) (v : WorldState) → Turns w v shell_id (n + 1) → PartKeeps w (came_to e behind v) shell_id (n + 1) finished
+    comes_to (Value value) behind v t = record { turns = wrote w v shell_id (n + 1) t (v.output ++ value_text value); read = needs_none (shell_with behind).phase finished (behind_phase behind) }
+    comes_to (Call callee words p) behind v t = record { turns = called v t callee words; read = needs_none phases.Call finished (λ e. cc) }
+    comes_to (Fault f) behind v t = record { turns = wrote w v shell_id (n + 1) t (v.output ++ fault_text f); read = needs_none phases.Prompt finished (λ e. cc) }
+    comes_to Waiting behind v t = record { turns = t; read = needs_none phases.Prompt finished (λ e. cc) }
+
+    pub eval_keeps : (trees : List (Option Pending)) → PartKeeps w (eval_part trees w) shell_id (n + 1) finished
+    eval_keeps [] = record { turns = here shell_id; read = needs_none phases.Prompt finished (λ e. cc) }
+    eval_keeps (None ∷ behind) = record { turns = here shell_id; read = needs_none (shell_with behind).phase finished (behind_phase behind) }
+    eval_keeps (Some p ∷ behind) =
+        let e = evaluate (eval_state w) p in
+        let v = with_eval w e.state in
+        comes_to e.ending behind v (more_locks w v shell_id n (evaluated_turns w shell_id n e.state kept within (keeps (eval_state w) p)))
+
+    -- ---- a step of any task
+    module _ (shell : ShellState) (read : HasItsLine shell.phase finished) (who : ℕ) where
+      suspended_keeps : (text : List ℕ) → PartKeeps w (part_of shell (writing (with_kern w (suspend w.kern who)) text)) who (n + 1) finished
+      suspended_keeps text =
+          let v = with_kern w (suspend w.kern who) in
+          let goes = turns_by w v who n 0 0 (omega arith) (omega arith) (by_kern w kept (suspend w.kern who) n 0 (goes-suspend w.kern n kept.kern within who)) in
+          record { turns = wrote w v who (n + 1) (more_locks w v who n goes) (w.output ++ text); read = read }
+
+      aborted_keeps : (text : List ℕ) → PartKeeps w (part_of at_prompt (writing (with_kern w (aborted w.kern)) text)) who (n + 1) finished
+      aborted_keeps text =
+          let v = with_kern w (aborted w.kern) in
+          let goes = turns_by w v who n 2 0 (omega arith) (omega arith) (by_kern w kept (aborted w.kern) n 2 (goes-aborted w.kern n kept.kern within)) in
+          record { turns = wrote w v who (n + 1) (more_locks w v who n goes) (w.output ++ text); read = needs_none phases.Prompt finished (λ e. cc) }
+
+      trapped_keeps : (trap : Trap) → PartKeeps w (trapped trap shell w who) who (n + 1) finished
+      trapped_keeps trap =
+          let text = told_of trap (task_of w.kern.tasks who) in
+          elim (eqb who shell_id) as (λ b. PartKeeps w (cond b (part_of at_prompt (writing (with_kern w (aborted w.kern)) text)) (part_of shell (writing (with_kern w (suspend w.kern who)) text))) who (n + 1) finished) [
+            | true ↦ aborted_keeps text
+            | false ↦ suspended_keeps text
+          ]
+
+      -- ---- at a gate
+      return_keeps : PartKeeps w (return_part shell w who) who (n + 1) finished
+      return_keeps =
+          let back = returned (slice_index (regs_of w who).gpr 3) shell in
+          let v = without_own w who in
+          elim (eqb who shell_id) as (λ b. eqb who shell_id ≡ b → PartKeeps w (cond b (part_of back v) (part_of shell (ended w who))) who (n + 1) finished) [
+            | true ↦ λ e.
+                let goes = turns_by w v who n 0 0 (omega arith) (omega arith) (unreserve_advances w n kept within who) in
+                record { turns = more_locks w v who n goes; read = needs_none phases.Eval finished (λ q. cc) }
+            | false ↦ λ e. record { turns = more_locks w (ended w who) who n (ended_turns w who n e kept within); read = read }
+          ] refl
+
+      call_keeps : (g : Gate) → PartKeeps w (call_part g shell w who) who (n + 1) finished
+      call_keeps g =
+          let v = call g w (by_task who) in
+          let u = without_own v who in
+          let made = call_advances g w (by_task who) n kept within in
+          record {
+            turns = turns_by w u who (n + 1) 2 1 (omega arith) (omega arith) (advances_on w v u (n + 1) (n + 1) 2 0 1 0 made (unreserve_advances v (n + 1) made.kept made.locks who));
+            read = read;
+          }
+
+      gate_keeps : (g : Gate) → PartKeeps w (gate_part g shell w who) who (n + 1) finished
+      gate_keeps g =
+          elim (is_return g who) as (λ b. PartKeeps w (cond b (return_part shell w who) (cond (is_built g) (call_part g shell w who) (trapped traps.Access shell w who))) who (n + 1) finished) [
+            | true ↦ return_keeps
+            | false ↦ elim (is_built g) as (λ b. PartKeeps w (cond b (call_part g shell w who) (trapped traps.Access shell w who)) who (n + 1) finished) [ true ↦ call_keeps g | false ↦ trapped_keeps traps.Access ]
+          ]
+
+      -- ---- an instruction
+      executed_keeps : (o : Outcome BusState) → IfDone (λ b. length b.ram ≡ length w.ram) o → PartKeeps w (executed o shell w who) who (n + 1) finished
+      executed_keeps (Done regs bus) same =
+          let t = gave_regs w w who (n + 1) (here who) regs in
+          record { turns = touched w _ who (n + 1) t bus.ram bus.slots w.output same; read = read }
+      executed_keeps (Trapped trap) same = trapped_keeps trap
+
+      word_keeps : (o : Option ℕ) → PartKeeps w (word_part o shell w who) who (n + 1) finished
+      word_keeps None = trapped_keeps traps.Access
+      word_keeps (Some word) =
+          executed_keeps (exec_of board_meaning (regs_of w who) word (bus_of w))
+          (executing_lasts board_meaning (λ b. length b.ram ≡ length w.ram) (sizes_last (length w.ram)) (regs_of w who) word (bus_of w) refl)
+
+      at_keeps : (o : Option Gate) → PartKeeps w (part_at o shell w who) who (n + 1) finished
+      at_keeps (Some g) = gate_keeps g
+      at_keeps None = word_keeps (fetched (bus_of w) (regs_of w who).pc)
+
+      pub task_keeps : PartKeeps w (task_part shell w who) who (n + 1) finished
+      unfolding task_part
+      task_keeps = at_keeps (gate_under w who)

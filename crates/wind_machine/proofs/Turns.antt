@@ -1,0 +1,196 @@
+-- What a step of a task keeps of the world.
+use Rattle.std.proofs.Common.{◌≡◌, ℕ, zero, suc, ◌+◌, ◌<◌, ◌≤◌, Bool, true, false, cond, eqb, List, [], ◌∷◌, length, replicate, Option, Some, IsSome, refl, sym, ap, ◌∙◌, subst, arith}
+use Rattle.std.specs.Prelude.{slice_index, slice_index_or}
+use Rattle.std.specs.List.{Contains, find}
+use Rattle.std.proofs.lemmas.Bool.{eqb-true}
+use Rattle.std.proofs.lemmas.List.Elements.{All-map, All-weaker}
+use Rattle.wind_base.specs.Limits.{frame_bytes}
+use Rattle.wind_base.specs.declared.regs.Regs.{Regs}
+use Rattle.wind_outside.specs.Devices.{DeviceState}
+use Rattle.task_block.specs.declared.task.Task.{Task}
+use Rattle.board_mem.specs.Memory.{has, with_bytes, written}
+use Rattle.board_mem.proofs.Sizes.{length-with_range, length-written}
+use Rattle.mem_partition.specs.State.{PartState}
+use Rattle.mem_partition.specs.declared.block.Block.{Block}
+use Rattle.mem_partition.specs.declared.block.Class.TheVariants.{Kernel}
+use Rattle.mem_partition.proofs.Owners.{is_own}
+use Rattle.wind_core.specs.State.{Lives}
+use Rattle.wind_core.specs.Moves.{set_regs}
+use Rattle.wind_core.proofs.Ids.{ids-change, lives_by}
+use Rattle.wind_core.proofs.Keeping.{every_call_keeps}
+use Rattle.wind_core.proofs.Stable.{All-change}
+use Rattle.wind_core.proofs.Unwritten.{map-change}
+use Rattle.kernel_calls.specs.State.{WorldState}
+use Rattle.kernel_calls.specs.Actors.{shell_id}
+use Rattle.kernel_calls.specs.Starting.{cleared, framed}
+use Rattle.kernel_calls.specs.Ending.{ended}
+use Rattle.kernel_calls.specs.Opening.{interrupt_stack}
+use Rattle.kernel_calls.specs.Kept.{IsKernels, AreStacks, task_stacks, IsWorld, LocksWithin, ReservedBy}
+use Rattle.kernel_calls.specs.Laws.{Advances}
+use Rattle.kernel_calls.proofs.Departing.{ends}
+use Rattle.shell_eval.specs.State.{State as EvalState}
+use Rattle.shell_eval.specs.Kept.{IsPoolInRam, Keeps}
+use Rattle.wind_machine.specs.Part.{with_kern}
+use Rattle.wind_machine.specs.Shell.{eval_state, with_eval}
+
+-- from a world to another within a step of a task: the kept facts hold, the shell's task lives on, locks stay within n, nobody else has a reservation that had none, few numbers were given out, and the tick count stood
+pub record Turns (w v : WorldState) (who n : ℕ) : Type 0 where
+  pub kept : IsWorld v
+  pub shell : Lives w.kern shell_id → Lives v.kern shell_id
+  pub locks : LocksWithin n v.kern
+  pub reserves : ReservedBy (Some who) w.kern → ReservedBy (Some who) v.kern
+  pub sinces : v.kern.next_since ≤ w.kern.next_since + 2
+  pub count : v.kern.tick ≡ w.kern.tick
+  pub names : v.names ≤ w.names + 1
+
+pub turns_by : (w v : WorldState) (who n d m : ℕ) → d ≤ 2 → m ≤ 1 → Advances w v n d m → Turns w v who n
+turns_by w v who n d m few one a = record {
+  kept = a.kept;
+  shell = a.lives shell_id;
+  locks = a.locks;
+  reserves = a.reserves (Some who);
+  sinces = omega (arith, a.sinces, few);
+  count = a.count;
+  names = omega (arith, a.names, one);
+}
+
+pub nowhere : (w : WorldState) (who n : ℕ) → IsWorld w → LocksWithin n w.kern → Turns w w who n
+nowhere w who n kept within = record { kept = kept; shell = λ h. h; locks = within; reserves = λ h. h; sinces = omega arith; count = refl; names = omega arith }
+
+pub more_locks : (w v : WorldState) (who n : ℕ) → Turns w v who n → Turns w v who (n + 1)
+more_locks w v who n t = record {
+  kept = t.kept;
+  shell = t.shell;
+  locks = All-weaker (λ u. u.locks ≤ n) (λ u. u.locks ≤ n + 1) (λ u h. omega (arith, h)) v.kern.tasks t.locks;
+  reserves = t.reserves;
+  sinces = t.sinces;
+  count = t.count;
+  names = t.names;
+}
+
+module _ (w v : WorldState) (who n : ℕ) (t : Turns w v who n) where
+  -- RAM, devices and what is written, where RAM is as long as it was
+  pub touched : (ram : List ℕ) (slots : List (Option DeviceState)) (output : List ℕ) → length ram ≡ length v.ram → Turns w (record v { ram = ram; slots = slots; output = output }) who n
+  touched ram slots output same = record {
+    kept = record { kern = t.kept.kern; home = t.kept.home; pool = t.kept.pool; stacks = t.kept.stacks; ram = same ∙ t.kept.ram; symbols = t.kept.symbols };
+    shell = t.shell;
+    locks = t.locks;
+    reserves = t.reserves;
+    sinces = t.sinces;
+    count = t.count;
+    names = t.names;
+  }
+
+  pub wrote : (output : List ℕ) → Turns w (record v { output = output }) who n
+  wrote output = touched v.ram v.slots output refl
+
+  -- the task's registers, with whatever reservation
+  own_reserved : (regs : Regs) → ReservedBy (Some who) v.kern → ReservedBy (Some who) (set_regs v.kern who regs)
+  own_reserved regs h =
+      let P : Task → Type 0 = λ u. IsSome u.regs.reserve → Some who ≡ Some u.id in
+      let g : Task → Task = λ u. cond (eqb u.id who) (record u { regs = regs }) u in
+      All-map P g v.kern.tasks (All-weaker P (λ u. P (g u)) one v.kern.tasks h)
+    where
+      one : (u : Task) → (IsSome u.regs.reserve → Some who ≡ Some u.id) → IsSome (cond (eqb u.id who) (record u { regs = regs }) u).regs.reserve → Some who ≡ Some (cond (eqb u.id who) (record u { regs = regs }) u).id
+      one u own =
+          elim (eqb u.id who) as (λ b. eqb u.id who ≡ b → IsSome (cond b (record u { regs = regs }) u).regs.reserve → Some who ≡ Some (cond b (record u { regs = regs }) u).id) [
+            | true ↦ λ e some. ap Some (sym (eqb-true u.id who e))
+            | false ↦ λ e. own
+          ] refl
+
+  pub gave_regs : (regs : Regs) → Turns w (with_kern v (set_regs v.kern who regs)) who n
+  gave_regs regs =
+      let f : Task → Task = λ u. record u { regs = regs } in
+      record {
+        kept = record {
+          kern = (every_call_keeps v.kern t.kept.kern).setting_regs who regs;
+          home = t.kept.home;
+          pool = t.kept.pool;
+          stacks = subst (λ s. AreStacks v.part (interrupt_stack ∷ s)) (sym (map-change (λ (u : Task). u.stack) v.kern.tasks who f (λ u. refl))) t.kept.stacks;
+          ram = t.kept.ram;
+          symbols = t.kept.symbols;
+        };
+        shell = λ h. lives_by (set_regs v.kern who regs).tasks v.kern.tasks shell_id (ids-change v.kern.tasks who f (λ u. refl)) (t.shell h);
+        locks = All-change (λ u. u.locks ≤ n) v.kern.tasks who f (λ u h. h) t.locks;
+        reserves = λ h. own_reserved regs (t.reserves h);
+        sinces = t.sinces;
+        count = t.count;
+        names = t.names;
+      }
+
+-- ---- another task than the shell's ends
+pub ended_turns : (w : WorldState) (who n : ℕ) → eqb who shell_id ≡ false → IsWorld w → LocksWithin n w.kern → Turns w (ended w who) who n
+ended_turns w who n other kept within =
+    let e = ends w who n kept within in
+    record {
+      kept = e.kept;
+      shell = e.lives shell_id differ;
+      locks = e.locks;
+      reserves = e.reserves (Some who);
+      sinces = omega (arith, e.sinces);
+      count = e.count;
+      names = omega (arith, e.names);
+    }
+  where
+    differ : shell_id ≡ who → ⊥
+    differ same = let clash : true ≡ false = ap (λ n. eqb n shell_id) same ∙ other in cc
+
+-- ---- a frame
+pub framed_size : (ram : List ℕ) (at : ℕ) (words : List ℕ) → length (framed ram at words) ≡ length ram
+unfolding framed
+framed_size ram at words =
+    let clear : length (cleared ram at frame_bytes) ≡ length ram =
+    elim (has ram at frame_bytes) as (λ b. has ram at frame_bytes ≡ b → length (cond b (with_bytes ram at (replicate frame_bytes 0)) ram) ≡ length ram) [
+      | true ↦ λ e. length-with_range ram at (replicate frame_bytes 0) e
+      | false ↦ λ e. refl
+    ] refl in
+    length-written 4 (written 4 (cleared ram at frame_bytes) (at + 8) (slice_index words 8)) (at + 12) (slice_index words 9)
+    ∙ length-written 4 (cleared ram at frame_bytes) (at + 8) (slice_index words 8)
+    ∙ clear
+
+-- ---- evaluation
+found_one : {X : Type 0} (p : X → Bool) (xs : List X) → IsSome (find p xs) → (x : X) × Contains xs x × (p x ≡ true)
+found_one p [] h = absurd (cc)
+found_one {X} p (x ∷ xs) h =
+    elim (p x) as (λ b. p x ≡ b → IsSome (cond b (Some x) (find p xs)) → (y : X) × Contains (x ∷ xs) y × (p y ≡ true)) [
+      | true ↦ λ e some. (x, (0, omega arith, refl), e)
+      | false ↦ λ e some. let rest = found_one p xs some in (rest.0, (suc rest.1.0, omega (arith, rest.1.1), rest.1.2), rest.2)
+    ] refl h
+
+at_found : {X : Type 0} (p : X → Bool) (xs : List X) (y : X) (k : ℕ) → k < length xs → slice_index_or xs k y ≡ y → p y ≡ true → IsSome (find p xs)
+at_found p [] y k within e passes = absurd (omega arith)
+at_found p (x ∷ xs) y zero within e passes = subst (λ b. IsSome (cond b (Some x) (find p xs))) (sym (ap p e ∙ passes)) refl
+at_found p (x ∷ xs) y (suc k) within e passes = elim (p x) as (λ b. IsSome (cond b (Some x) (find p xs))) [ true ↦ refl | false ↦ at_found p xs y k (omega arith) e passes ]
+
+-- a Kernel block stays one where all blocks stay
+kernels_stay : (p q : PartState) → ((b : Block) → Contains p.blocks b → Contains q.blocks b) → (at : ℕ) → IsKernels p at → IsKernels q at
+kernels_stay p q stays at h =
+    let one = found_one (is_own at Kernel) p.blocks h in
+    let there = stays one.0 one.1 in
+    at_found (is_own at Kernel) q.blocks one.0 there.0 there.1 there.2 one.2
+
+pool_lies : (w : WorldState) → IsWorld w → IsPoolInRam (eval_state w)
+pool_lies w kept = omega (arith, kept.pool.end, kept.ram)
+
+pub evaluated_turns : (w : WorldState) (who n : ℕ) (e : EvalState) → IsWorld w → LocksWithin n w.kern → (IsPoolInRam (eval_state w) → Keeps (eval_state w) e) → Turns w (with_eval w e) who n
+evaluated_turns w who n e kept within keeps =
+    let k = keeps (pool_lies w kept) in
+    record {
+      kept = record {
+        kern = kept.kern;
+        home = kept.home;
+        pool = record { blocks = k.sound kept.pool.blocks; start = k.start ∙ kept.pool.start; end = k.end ∙ kept.pool.end; room = k.room ∙ kept.pool.room };
+        stacks = record {
+          kernels = All-weaker (IsKernels w.part) (IsKernels e.pool) (kernels_stay w.part e.pool k.stays) (interrupt_stack ∷ task_stacks w.kern) kept.stacks.kernels;
+          apart = kept.stacks.apart;
+        };
+        ram = k.ram ∙ kept.ram;
+        symbols = k.few kept.symbols;
+      };
+      shell = λ h. h;
+      locks = within;
+      reserves = λ h. h;
+      sinces = omega arith;
+      count = refl;
+      names = omega arith;
+    }

@@ -1,0 +1,13 @@
+use Rattle.wind_machine.proofs.Beginning.{begins}
+use Rattle.wind_machine.proofs.Steps.{step_keeps}
+use Rattle.wind_machine.proofs.Counting.{counted}
+use Rattle.wind_machine.proofs.laws.step_law.Goals as goal
+
+pub returns-clause-start : goal.returns-clause-start
+returns-clause-start c = begins
+
+pub returns-clause-step : goal.returns-clause-step
+returns-clause-step c = step_keeps
+
+pub returns-clause-count : goal.returns-clause-count
+returns-clause-count c = counted

@@ -1,0 +1,36 @@
+-- The facts that the opening state has and every step keeps.
+use Rattle.std.specs.Prelude.{◌≡◌, ◌≢◌, ℕ, ◌+◌, ◌*◌, ◌^◌, ◌≤◌, List, []}
+use Rattle.con_line.specs.Lines.{KeepsLines}
+use Rattle.wind_core.specs.State.{Lives}
+use Rattle.kernel_calls.specs.Actors.{shell_id}
+use Rattle.kernel_calls.specs.Kept.{IsWorld, ReservedBy, LocksWithin}
+use Rattle.wind_machine.specs.State.{State}
+use Rattle.wind_machine.specs.declared.phase.Phase.{Phase}
+use Rattle.wind_machine.specs.declared.phase.Phase.TheVariants as phases
+
+-- a shell that reads has a finished line to read
+abbrev pub HasItsLine : Phase → List ℕ → Type 0
+HasItsLine phase finished = phase ≡ phases.Read → finished ≢ []
+
+pub record Keeps (s : State) : Type 0 where
+  -- the edited line and the finished lines are as a console keeps them
+  pub console : KeepsLines s.console.edited s.console.finished
+  -- in phase Read a finished line is kept
+  pub read : HasItsLine s.shell.phase s.console.finished
+  -- the kernel's tasks, the partition, the stacks, RAM and the symbols are as a world keeps them
+  pub world : IsWorld s.world
+  -- the shell's task lives
+  pub shell : Lives s.world.kern shell_id
+  -- whoever has a reservation ran last
+  pub reserved : ReservedBy s.world.kern.last s.world.kern
+  -- the counters are bounded by the steps made
+  pub sinces : s.world.kern.next_since ≤ 8192 * (s.steps + 1)
+  pub ticks : s.world.kern.tick ≤ s.steps
+  pub locks : LocksWithin s.steps s.world.kern
+  pub names : s.world.names ≤ s.steps + 1
+  -- board time goes beyond the steps made only by the time of an event
+  pub time : s.time ≤ 2 ^ 64 + s.steps
+
+-- the same, whatever stands in the slots
+abbrev pub Good : State → Type 0
+Good s = Keeps (record s { world = record s.world { slots = [] } })

@@ -1,0 +1,12 @@
+pub mod Feed
+pub mod Good
+pub mod Laws
+pub mod Machine
+pub mod Part
+pub mod Processor
+pub mod Reserving
+pub mod Run
+pub mod Shell
+pub mod State
+pub mod Task
+pub mod Text

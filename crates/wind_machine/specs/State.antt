@@ -1,0 +1,26 @@
+-- The state of the wind machine, as plain data.
+use Rattle.std.specs.Prelude.{ℕ, List, Option}
+use Rattle.shell_eval.specs.Pending.{Pending}
+use Rattle.tick_file.specs.Schedule.{Timetable}
+use Rattle.con_line.specs.State.{ConsoleState}
+use Rattle.kernel_calls.specs.State.{WorldState}
+use Rattle.wind_machine.specs.declared.phase.Phase.{Phase}
+
+-- the shell: its phase, and the trees of the statements left, of which the first is under evaluation; a statement without a token has none
+pub record ShellState : Type 0 where
+  pub phase : Phase
+  pub trees : List (Option Pending)
+
+-- the wind machine
+pub record State : Type 0 where
+  -- the bytes of the console file that have not come yet
+  pub left : List ℕ
+  pub console : ConsoleState
+  pub shell : ShellState
+  -- the kernel, the partition, the symbols, RAM and devices, and the bytes that the last step wrote
+  pub world : WorldState
+  -- the events of the tick file that are to come
+  pub schedule : Timetable
+  -- board time, and how many steps were made
+  pub time : ℕ
+  pub steps : ℕ

@@ -1,0 +1,61 @@
+-- The texts that the board writes. All but the prompt are this project's own.
+use Rattle.std.specs.Prelude.{ℕ, zero, suc, ◌/◌, ◌%◌, List, [], ◌∷◌, ◌++◌, ◌&&◌, false, nat_le, if◌then◌else◌, codes}
+use Rattle.std.specs.Fmt.{decimal, signed_decimal, digits}
+use Rattle.std.specs.Int.{cast_signed, w32}
+use Rattle.ppc_core.specs.declared.trap.Trap.{Trap}
+use Rattle.ppc_core.specs.declared.trap.Trap.TheVariants as traps
+use Rattle.shell_eval.specs.declared.fault.EvalFault.{EvalFault}
+use Rattle.shell_eval.specs.declared.fault.EvalFault.TheVariants as faults
+
+-- the prompt, `-> `
+abbrev pub prompt_text : List ℕ
+prompt_text = codes "-> "
+
+-- the character of a word that is a printable one of ASCII, as ` = 'c'`
+abbrev pub character_text : ℕ → List ℕ
+character_text v = if nat_le 32 v && nat_le v 126 then codes " = '" ++ v ∷ codes "'" else []
+
+-- the line that tells a value: signed in decimal digits, in hexadecimal digits, and as a character where it is one
+unfoldable pub value_text : ℕ → List ℕ
+value_text v = codes "value = " ++ signed_decimal (cast_signed w32 v) ++ codes " = 0x" ++ digits 16 false v ++ character_text v ++ codes "\n"
+
+-- the line that tells the column of the first token that is refused
+unfoldable pub syntax_text : ℕ → List ℕ
+syntax_text column = codes "syntax error at column " ++ decimal column ++ codes "\n"
+
+-- the lowest hexadecimal digits of a number, so many of them
+abbrev pub last_digits : ℕ → ℕ → List ℕ
+last_digits zero v = []
+last_digits (suc n) v = last_digits n (v / 16) ++ digits 16 false (v % 16)
+
+-- a word in eight hexadecimal digits
+unfoldable pub eight_digits : ℕ → List ℕ
+eight_digits v = last_digits 8 v
+
+-- the line that tells a fault of evaluation
+unfoldable pub fault_text : EvalFault → List ℕ
+fault_text (faults.Undefined name) = codes "undefined symbol: " ++ name ++ codes "\n"
+fault_text (faults.AccessAt at) = codes "access fault at 0x" ++ eight_digits at ++ codes "\n"
+fault_text faults.DivideByZero = codes "divide by zero\n"
+fault_text faults.NoRoom = codes "not enough memory\n"
+fault_text faults.SymbolsFull = codes "symbol table full\n"
+
+-- the word for the kind of an exception
+abbrev pub kind_text : Trap → List ℕ
+kind_text traps.Illegal = codes "illegal"
+kind_text traps.Align = codes "alignment"
+kind_text traps.Access = codes "access"
+kind_text traps.TrapInsn = codes "trap"
+kind_text traps.Sysc = codes "sysc"
+
+-- the kind of an exception and the name of its task, behind an end of line
+unfoldable pub cause_text : Trap → List ℕ → List ℕ
+cause_text trap name = codes "\nexception " ++ kind_text trap ++ codes " in " ++ name
+
+-- the task's id and an address, to the end of the line
+unfoldable pub place_text : ℕ → ℕ → List ℕ
+place_text id at = codes " (0x" ++ digits 16 false id ++ codes ") at 0x" ++ eight_digits at ++ codes "\n"
+
+-- the line that tells an exception of the task of this name and id
+unfoldable pub exception_text : Trap → List ℕ → ℕ → ℕ → List ℕ
+exception_text trap name id at = cause_text trap name ++ place_text id at
