@@ -43,7 +43,6 @@ steps() {
     measure "$folder" --limit "$limit"
     case $status in
         3) tell "$name" "$limit" steps ;;
-        9) printf '%-36s not played yet\n' "$name" ;;
         *) printf '%-36s ended with status %s\n' "$name" "$status" ;;
     esac
 }

@@ -38,12 +38,14 @@ dropped_others k who h = by_last k.last h where
   other : (last : ℕ) → ReservedBy (Some last) k → eqb last who ≡ false → unreserve k last ≡ drop_others k who
   other last r e = sym (ap (λ ts. record k { tasks = ts }) (last_other k.tasks who last e r))
 
-  live : (last : ℕ) → ReservedBy (Some last) k → (b c : Bool) → is_some (task_of k.tasks last) ≡ b → eqb last who ≡ c → without k (if_other who (cond b (Some last) None)) ≡ drop_others k who
-  live last r true true e d = ap (λ c. without k (cond c None (Some last))) d ∙ own last r d
-  live last r true false e d = ap (λ c. without k (cond c None (Some last))) d ∙ other last r d
-  live last r false true e d = own last r d
-  live last r false false e d = sym (not_own k last e) ∙ other last r d
+  lives : (last : ℕ) → ReservedBy (Some last) k → eqb last who ≡ false → (b : Bool) → is_some (task_of k.tasks last) ≡ b → without k (cond b (Some last) None) ≡ drop_others k who
+  lives last r d true e = other last r d
+  lives last r d false e = sym (not_own k last e) ∙ other last r d
 
-  by_last : (o : Option ℕ) → ReservedBy o k → without k (if_other who (if_live k.tasks o)) ≡ drop_others k who
+  apart : (last : ℕ) → ReservedBy (Some last) k → (c : Bool) → eqb last who ≡ c → without k (if_live k.tasks (cond c None (Some last))) ≡ drop_others k who
+  apart last r true d = own last r d
+  apart last r false d = lives last r d (is_some (task_of k.tasks last)) refl
+
+  by_last : (o : Option ℕ) → ReservedBy o k → without k (if_live k.tasks (if_other who o)) ≡ drop_others k who
   by_last None r = sym (ap (λ ts. record k { tasks = ts }) (last_none k.tasks who r))
-  by_last (Some last) r = live last r (is_some (task_of k.tasks last)) (eqb last who) refl refl
+  by_last (Some last) r = apart last r (eqb last who) refl

@@ -6,3 +6,4 @@ pub mod FeedLemmas
 pub mod Keeping
 pub mod Readied
 pub mod Running
+pub mod Stepping

@@ -16,13 +16,13 @@ if_live ts (Some last) = if is_some (task_of ts last) then Some last else None
 abbrev pub last_live : KernState → Option ℕ
 last_live k = if_live k.tasks k.last
 
--- that task, where it is another one
+-- the same, where that is another one
 abbrev pub if_other : ℕ → Option ℕ → Option ℕ
 if_other who None = None
 if_other who (Some last) = if last == who then None else Some last
 
 abbrev pub other_holder : KernState → ℕ → Option ℕ
-other_holder k who = if_other who (last_live k)
+other_holder k who = if_live k.tasks (if_other who k.last)
 
 -- that task with its registers
 abbrev pub with_regs : Option Task → Option (ℕ × Regs)

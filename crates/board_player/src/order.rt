@@ -3,18 +3,18 @@
 ghost use Rattle.std.specs.Prelude.{◌≡◌, ◌≢◌, ◌↔◌, ◌^◌, ◌<◌, true, false, Some, None, IfSome, nat_le, if◌then◌else◌, option_map, OnOk, OnErr};
 ghost use Rattle.wind_base.specs.Limits.{most_steps};
 ghost use Rattle.tick_file.specs.Laws.{IsEarly};
-ghost use Rattle.wind_core.specs.State.{Lives};
-ghost use Rattle.wind_core.specs.Orders.{running};
+ghost use Rattle.wind_core.specs.State.{Lives, task_id};
+ghost use Rattle.wind_core.specs.Orders.{running as running_lem};
 ghost use Rattle.wind_machine.specs.Good.{Good};
 ghost use Rattle.wind_machine.specs.Processor.{gate_under};
-ghost use Rattle.wind_machine.specs.Machine.{due_event as due_event_lem, event_of, console_is_due as console_is_due_lem, next_event, shell_step, step_of, jump_to, machine_step, phase_may, gate_may, who_may, may_lack_memory};
+ghost use Rattle.wind_machine.specs.Machine.{due_event as due_event_lem, event_of, console_is_due as console_is_due_lem, is_open as is_open_lem, next_event, shell_step, step_of, jump_to, machine_step, phase_may, gate_may, who_may, may_lack_memory};
 ghost use Rattle.board_player.specs.Inside.{inside, parts_seen, IsSpacious};
 ghost use Rattle.board_player.specs.declared.Step.TheVariants as steps;
 
 use crate::Step;
 use crate::parts::Parts;
 use crate::steps::{arrive, come, evaluate, jump, prompt, read, run};
-use crate::task::{is_open, shell_id, waits_for_console};
+use crate::task::{shell_id, waits_for_console};
 use id_table::Ident;
 use tick_file::Event;
 use wind_base::NoMemory;
@@ -32,11 +32,36 @@ fn when_due(next: (u64, Event), time: u128) -> Option<Event>
     }
 }
 
-// The event that is due, if one is.
-fn due_event(parts: &Parts) -> Option<Event>
+// Who runs, and whether interrupts may come meanwhile.
+#[derive(Clone, Copy, Debug, PartialEq, Eq)]
+struct Running {
+    who: Option<Ident>,
+    is_open: bool,
+}
+
+// Who runs, which is asked once a step.
+fn who_runs(parts: &Parts) -> Running
+    ensures who { result.who ≡ option_map task_id (running_lem parts.now.world.kern) }
+    ensures open { result.is_open ≡ is_open_lem (parts_seen ⟦<dyn Device as Device>⟧ parts.now) }
+{
+    match parts.world.kern.running() {
+        Some(task) => Running {
+            who: Some(task.id),
+            is_open: !task.int_locked,
+        },
+        None => Running {
+            who: None,
+            is_open: true,
+        },
+    }
+}
+
+// The event that is due, if one is, where it is known whether interrupts may come.
+fn due_event(parts: &Parts, is_open: bool) -> Option<Event>
+    requires { is_open ≡ is_open_lem (parts_seen ⟦<dyn Device as Device>⟧ parts.now) }
     ensures { result ≡ option_map event_of (due_event_lem (parts_seen ⟦<dyn Device as Device>⟧ parts.now)) }
 {
-    if !is_open(&parts.world.kern) {
+    if !is_open {
         return None;
     }
     match parts.schedule.next() {
@@ -46,14 +71,15 @@ fn due_event(parts: &Parts) -> Option<Event>
 }
 
 // Whether the next chunk of the console is due.
-fn console_is_due(parts: &Parts) -> bool
+fn console_is_due(parts: &Parts, is_open: bool) -> bool
+    requires { is_open ≡ is_open_lem (parts_seen ⟦<dyn Device as Device>⟧ parts.now) }
     ensures { result ≡ console_is_due_lem (parts_seen ⟦<dyn Device as Device>⟧ parts.now) }
 {
-    is_open(&parts.world.kern)
+    is_open
         && parts.schedule.on_demand()
+        && !parts.feed.left().is_empty()
         && waits_for_console(&parts.world.kern)
         && !parts.console.has_line()
-        && !parts.feed.left().is_empty()
 }
 
 // The shell's step, by its phase. For want of memory nothing changes.
@@ -171,15 +197,16 @@ pub(crate) fn make_step(parts: &mut Parts) -> Step
         ≡ parts_seen ⟦<dyn Device as Device>⟧ parts.old }
     ensures space { IsSpacious parts.new }
 {
-    if let Some(event) = due_event(parts) {
+    let now = who_runs(parts);
+    if let Some(event) = due_event(parts, now.is_open) {
         come(parts, event);
         return Step::Stepped;
     }
-    if console_is_due(parts) {
+    if console_is_due(parts, now.is_open) {
         arrive(parts);
         return Step::Stepped;
     }
-    let Some(who) = parts.world.kern.runner() else {
+    let Some(who) = now.who else {
         return stepped_if(jump_on(parts));
     };
     step_of_result(run_task(parts, who))

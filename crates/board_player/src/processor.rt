@@ -10,8 +10,7 @@ ghost use Rattle.kernel_calls.specs.Seen.{world_seen, world_with};
 ghost use Rattle.kernel_calls.specs.Calls.{is_built as is_built_lem, may_lack_memory};
 ghost use Rattle.wind_base.specs.OutBuf.{KeepsSpace};
 ghost use Rattle.wind_machine.specs.Part.{part_of, writing};
-ghost use Rattle.wind_machine.specs.Machine.{gate_may};
-ghost use Rattle.wind_machine.specs.Processor.{trapped, told_of, bus_of, is_return as is_return_lem, return_part, called as called_lem, gate_part, executed, word_part, part_at, gate_under as gate_under_lem, regs_of, task_part};
+ghost use Rattle.wind_machine.specs.Processor.{trapped, told_of, bus_of, is_return as is_return_lem, return_part, called as called_lem, gate_part, executed, word_part, regs_of};
 ghost use Rattle.wind_machine.specs.declared.phase.Phase.TheVariants as phases;
 ghost use Rattle.board_player.specs.Running.{Ran};
 
@@ -23,7 +22,6 @@ use id_table::Ident;
 use kernel_calls::{Actor, Called, World, end_task, is_built, kernel_call};
 use ppc_core::{Trap, exec};
 use std::alloc::Global;
-use wind_base::limits::GATES_START;
 use wind_base::{Gate, NoMemory};
 use wind_outside::Device;
 
@@ -125,8 +123,8 @@ fn call(alloc: Global, world: &mut World, who: Ident, gate: Gate) -> Result<(), 
     }
 }
 
-// What a task does at a gate.
-fn at_gate(
+/// What a task does at a gate. Host memory may run out only where the gate's call may lack it, and nothing changes then.
+pub(crate) fn at_gate(
     alloc: Global,
     shell: &mut Shell,
     world: &mut World,
@@ -172,8 +170,8 @@ fn run_word(world: &mut World, who: Ident, word: u32) -> Result<(), Trap>
     }
 }
 
-// The program counter of a task.
-fn counter(world: &World, who: Ident) -> u32
+/// The program counter of a task.
+pub(crate) fn counter(world: &World, who: Ident) -> u32
     ensures { result ≡ (regs_of (world_seen ⟦<dyn Device as Device>⟧ world.now) who).pc }
 {
     match world.kern.task(who) {
@@ -182,8 +180,8 @@ fn counter(world: &World, who: Ident) -> u32
     }
 }
 
-// The instruction at which a task stands is executed. Where none can be fetched it is an access to nothing.
-fn execute(shell: &mut Shell, world: &mut World, who: Ident, at: u32)
+/// The instruction at this address is executed by a task. Where none can be fetched it is an access to nothing.
+pub(crate) fn execute(shell: &mut Shell, world: &mut World, who: Ident, at: u32)
     requires live { Lives world.old.kern who }
     requires kern { IsKern world.old.kern }
     requires since { world.old.kern.next_since + 2 < 2 ^ 64 }
@@ -199,45 +197,5 @@ fn execute(shell: &mut Shell, world: &mut World, who: Ident, at: u32)
     };
     if let Err(trap) = run_word(world, who, word) {
         fault(shell, world, who, trap);
-    }
-}
-
-/// The gate at which a task stands.
-pub(crate) fn gate_under(world: &World, who: Ident) -> Option<Gate>
-    ensures { result ≡ gate_under_lem (world_seen ⟦<dyn Device as Device>⟧ world.now) who }
-{
-    Gate::at(counter(world, who), GATES_START)
-}
-
-/// A step of a task: at a gate, or an instruction. Host memory may run out only at a gate whose call may lack it, and
-/// nothing changes then.
-#[tactic(auto, unfolding(wind_machine::specs::Processor::task_part))]
-pub(crate) fn step(
-    alloc: Global,
-    shell: &mut Shell,
-    world: &mut World,
-    who: Ident,
-) -> Result<(), NoMemory>
-    requires phase { who ≡ 1 → shell.old.phase ≡ phases.Call }
-    requires live { Lives world.old.kern who }
-    requires kept { IsWorld (world_with [] world.old) }
-    requires early { IsEarly (world_with [] world.old) }
-    requires room { 4096 ≤ world.old.out.room }
-    ensures ok { OnOk result (part_of shell.new (world_seen ⟦<dyn Device as Device>⟧ world.new)
-        ≡ task_part shell.old (world_seen ⟦<dyn Device as Device>⟧ world.old) who) }
-    ensures memory { OnErr result (gate_may (gate_under_lem (world_seen ⟦<dyn Device as Device>⟧ world.old) who)
-        ≡ true) }
-    ensures err { OnErr result (world_seen ⟦<dyn Device as Device>⟧ world.new
-        ≡ world_seen ⟦<dyn Device as Device>⟧ world.old) }
-    ensures shell { OnErr result (shell.new ≡ shell.old) }
-    ensures space { KeepsSpace world.old.out world.new.out }
-{
-    match gate_under(world, who) {
-        Some(gate) => at_gate(alloc, shell, world, who, gate),
-        None => {
-            let at = counter(world, who);
-            execute(shell, world, who, at);
-            Ok(())
-        }
     }
 }

@@ -4,19 +4,29 @@ ghost use Rattle.std.specs.Prelude.{◌≡◌, IfSome};
 ghost use Rattle.wind_core.specs.State.{Lives};
 ghost use Rattle.wind_core.specs.Moves.{unreserve};
 ghost use Rattle.kernel_calls.specs.Kept.{ReservedBy};
-ghost use Rattle.board_player.specs.Turns.{last_live as last_live_lem, other_holder as other_holder_lem, without};
+ghost use Rattle.board_player.specs.Turns.{if_live as if_live_lem, if_other, other_holder as other_holder_lem, without};
 ghost use Rattle.wind_machine.specs.Reserving.{drop_others as drop_others_lem, drop_all as drop_all_lem};
 
 use id_table::Ident;
 use wind_core::Kern;
 
-// The task that ran last, where it still lives.
-fn last_live(kern: &Kern) -> Option<Ident>
-    ensures last { result ≡ last_live_lem kern.now }
-    ensures live { IfSome result (λ last. Lives kern.now last) }
+// The task, where it lives.
+fn if_live(kern: &Kern, who: Option<Ident>) -> Option<Ident>
+    ensures task { result ≡ if_live_lem kern.now.tasks who }
+    ensures live { IfSome result (λ id. Lives kern.now id) }
+{
+    match who {
+        Some(id) if kern.task(id).is_some() => Some(id),
+        _ => None,
+    }
+}
+
+// The task that ran last, where it is another one.
+fn other_last(kern: &Kern, who: Ident) -> Option<Ident>
+    ensures { result ≡ if_other who kern.now.last }
 {
     match kern.last() {
-        Some(last) if kern.task(last).is_some() => Some(last),
+        Some(last) if last != who => Some(last),
         _ => None,
     }
 }
@@ -26,10 +36,7 @@ pub(crate) fn other_holder(kern: &Kern, who: Ident) -> Option<Ident>
     ensures holder { result ≡ other_holder_lem kern.now who }
     ensures live { IfSome result (λ last. Lives kern.now last) }
 {
-    match last_live(kern) {
-        Some(last) if last != who => Some(last),
-        _ => None,
-    }
+    if_live(kern, other_last(kern, who))
 }
 
 // This task, if one, keeps no reservation.
@@ -58,7 +65,7 @@ pub(crate) fn drop_all(kern: &mut Kern)
     requires { ReservedBy kern.old.last kern.old }
     ensures { kern.new ≡ drop_all_lem kern.old }
 {
-    let holder = last_live(kern);
+    let holder = if_live(kern, kern.last());
     drop_of(kern, holder);
 }
 

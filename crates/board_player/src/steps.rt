@@ -1,11 +1,13 @@
 //! The steps of the wind machine.
 
-ghost use Rattle.std.specs.Prelude.{◌≡◌, ◌+◌, ◌^◌, ◌<◌, ◌≤◌, true, length, take, OnOk, OnErr};
-ghost use Rattle.wind_base.specs.Limits.{most_steps, longest_line, longest_chunk};
+ghost use Rattle.std.specs.Prelude.{◌≡◌, ◌+◌, ◌^◌, ◌<◌, ◌≤◌, true, Some, None, length, take, OnOk, OnErr};
+ghost use Rattle.wind_base.specs.Limits.{most_steps, longest_line, longest_chunk, gates_start};
 ghost use Rattle.con_line.specs.Lines.{front_line};
 ghost use Rattle.wind_core.specs.State.{Lives};
 ghost use Rattle.wind_machine.specs.Good.{Good};
-ghost use Rattle.wind_machine.specs.Processor.{gate_under};
+ghost use Rattle.wind_base.specs.Gates.{gate_at};
+ghost use Rattle.kernel_calls.specs.Calls.{may_lack_memory};
+ghost use Rattle.wind_machine.specs.Processor.{gate_under, regs_of};
 ghost use Rattle.wind_machine.specs.Machine.{prompt_step, read_step, eval_step, task_step, arrival, gate_may, ticked, received};
 ghost use Rattle.wind_machine.specs.declared.phase.Phase.TheVariants as phases;
 ghost use Rattle.board_player.specs.Inside.{inside, parts_seen, IsSpacious};
@@ -14,15 +16,16 @@ ghost use Rattle.board_player.specs.Moves.{noted_step, heard_bytes, coming, jump
 use crate::arrival::hear_chunk;
 use crate::feed::{brought, chunk_len};
 use crate::parts::Parts;
-use crate::processor;
+use crate::processor::{at_gate, counter, execute};
 use crate::reserving::drop_all;
 use crate::task::{listen, shell_id};
 use crate::turn::{begin, give_back, turn};
 use con_line::{Console, LINE_ROOM};
 use id_table::Ident;
 use tick_file::Event;
-use wind_base::NoMemory;
+use wind_base::limits::GATES_START;
 use wind_base::text::add;
+use wind_base::{Gate, NoMemory};
 use wind_outside::Device;
 
 // The step of a task is made: it is the one that ran last.
@@ -119,9 +122,57 @@ pub(crate) fn evaluate(parts: &mut Parts) -> Result<(), NoMemory>
     Ok(())
 }
 
+// An instruction of a task that stands at no gate.
+#[tactic(auto, using(crate::proofs::Readied::good_early))]
+fn run_word(parts: &mut Parts, who: Ident, at: u32)
+    requires good { Good (inside parts.old) }
+    requires few { parts.old.clock.steps < most_steps }
+    requires space { IsSpacious parts.old }
+    requires live { Lives parts.old.world.kern who }
+    requires counter { at ≡ (regs_of (parts_seen ⟦<dyn Device as Device>⟧ parts.old).world who).pc }
+    requires gate { gate_at gates_start at ≡ None }
+    ensures step { parts_seen ⟦<dyn Device as Device>⟧ parts.new
+        ≡ task_step (parts_seen ⟦<dyn Device as Device>⟧ parts.old) who }
+    ensures space { IsSpacious parts.new }
+{
+    turn(&mut parts.world, who);
+    execute(&mut parts.shell, &mut parts.world, who, at);
+    end(parts, who);
+}
+
+// What a task does at a gate. For want of memory nothing changes.
+#[tactic(auto, using(crate::proofs::Readied::good_early))]
+fn run_gate(parts: &mut Parts, who: Ident, at: u32, gate: Gate) -> Result<(), NoMemory>
+    requires good { Good (inside parts.old) }
+    requires few { parts.old.clock.steps < most_steps }
+    requires space { IsSpacious parts.old }
+    requires live { Lives parts.old.world.kern who }
+    requires phase { who ≡ 1 → parts.old.shell.phase ≡ phases.Call }
+    requires counter { at ≡ (regs_of (parts_seen ⟦<dyn Device as Device>⟧ parts.old).world who).pc }
+    requires gate { gate_at gates_start at ≡ Some gate }
+    ensures ok { OnOk result (parts_seen ⟦<dyn Device as Device>⟧ parts.new
+        ≡ task_step (parts_seen ⟦<dyn Device as Device>⟧ parts.old) who) }
+    ensures memory { OnErr result (may_lack_memory gate ≡ true) }
+    ensures err { OnErr result (parts_seen ⟦<dyn Device as Device>⟧ parts.new
+        ≡ parts_seen ⟦<dyn Device as Device>⟧ parts.old) }
+    ensures space { IsSpacious parts.new }
+{
+    let _ = at;
+    let kept = begin(&mut parts.world, &mut parts.spare, who);
+    match at_gate(parts.alloc, &mut parts.shell, &mut parts.world, who, gate) {
+        Ok(()) => {
+            end(parts, who);
+            Ok(())
+        }
+        Err(NoMemory) => {
+            give_back(&mut parts.world, &mut parts.spare, kept);
+            Err(NoMemory)
+        }
+    }
+}
+
 /// A task is at a gate, or makes an instruction. For want of memory, which comes only at a gate whose call may lack it,
 /// nothing changes.
-#[tactic(auto, using(crate::proofs::Readied::good_early))]
 pub(crate) fn run(parts: &mut Parts, who: Ident) -> Result<(), NoMemory>
     requires good { Good (inside parts.old) }
     requires few { parts.old.clock.steps < most_steps }
@@ -136,13 +187,14 @@ pub(crate) fn run(parts: &mut Parts, who: Ident) -> Result<(), NoMemory>
         ≡ parts_seen ⟦<dyn Device as Device>⟧ parts.old) }
     ensures space { IsSpacious parts.new }
 {
-    let kept = begin(&mut parts.world, &mut parts.spare, who);
-    if processor::step(parts.alloc, &mut parts.shell, &mut parts.world, who).is_err() {
-        give_back(&mut parts.world, &mut parts.spare, kept);
-        return Err(NoMemory);
+    let at = counter(&parts.world, who);
+    match Gate::at(at, GATES_START) {
+        Some(gate) => run_gate(parts, who, at, gate),
+        None => {
+            run_word(parts, who, at);
+            Ok(())
+        }
     }
-    end(parts, who);
-    Ok(())
 }
 
 /// The next chunk of the console arrives.

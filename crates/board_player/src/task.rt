@@ -1,11 +1,10 @@
 //! The shell's task.
 
-ghost use Rattle.std.specs.Prelude.{◌≡◌, ◌+◌, ◌^◌, ◌<◌, not, length};
+ghost use Rattle.std.specs.Prelude.{◌≡◌, ◌+◌, ◌^◌, ◌<◌};
 ghost use Rattle.wind_base.specs.Limits.{ram_bytes};
 ghost use Rattle.wind_core.specs.State.{Lives};
-ghost use Rattle.wind_core.specs.Orders.{waits_at, running};
+ghost use Rattle.wind_core.specs.Orders.{waits_at};
 ghost use Rattle.kernel_calls.specs.Seen.{world_seen};
-ghost use Rattle.wind_machine.specs.Machine.{holds_back};
 ghost use Rattle.wind_machine.specs.Shell.{calling};
 ghost use Rattle.wind_machine.specs.Task.{console_place, waits_for_console as waits_for_console_lem, is_held as is_held_lem, shell_task, listening, let_go as let_go_lem, aborted, stack_pointer, return_address as return_address_lem};
 
@@ -123,14 +122,4 @@ pub(crate) fn begin_call(world: &mut World, callee: u32, words: &[u32; 10])
         shell_id(),
         starting_regs(STACK_POINTER, return_address(), callee, words),
     );
-}
-
-/// Whether interrupts may come: whoever runs doesn't hold them back.
-pub(crate) fn is_open(kern: &Kern) -> bool
-    ensures { result ≡ not (holds_back (running kern.now)) }
-{
-    match kern.running() {
-        Some(task) => !task.int_locked,
-        None => true,
-    }
 }

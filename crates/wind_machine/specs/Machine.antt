@@ -175,9 +175,9 @@ due_at time (Some e) = if nat_le e.time time then Some e else None
 abbrev pub due_event : State → Option Timed
 due_event s = if is_open s then due_at s.time (next_event s) else None
 
--- the console is due: input comes on demand, the shell waits for it, no finished line is kept, and bytes are left
+-- the console is due: input comes on demand, bytes are left, the shell waits for them, and no finished line is kept
 abbrev pub console_is_due : State → Bool
-console_is_due s = is_open s && (s.schedule.on_demand && (waits_for_console s.world.kern && (not (has_line s.console) && not (length s.left == 0))))
+console_is_due s = is_open s && (s.schedule.on_demand && (not (length s.left == 0) && (waits_for_console s.world.kern && not (has_line s.console))))
 
 abbrev pub jump_to : State → Option Timed → Option State
 jump_to s None = None

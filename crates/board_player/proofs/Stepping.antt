@@ -1,0 +1,33 @@
+-- A step of a task, by where its program counter stands.
+use Rattle.std.proofs.Common.{◌≡◌, ℕ, Option, None, Some, sym, ap, ◌∙◌}
+use Rattle.wind_base.specs.Limits.{gates_start}
+use Rattle.wind_base.specs.Gates.{gate_at}
+use Rattle.wind_base.specs.declared.gate.Gate.{Gate}
+use Rattle.board_bus.specs.Access.{fetched}
+use Rattle.kernel_calls.specs.State.{WorldState}
+use Rattle.wind_machine.specs.State.{ShellState, State}
+use Rattle.wind_machine.specs.Part.{part_of}
+use Rattle.wind_machine.specs.Machine.{at_turn, stepped, task_step}
+use Rattle.wind_machine.specs.Processor.{bus_of, regs_of, gate_under, gate_part, word_part, part_at, task_part}
+use Rattle.board_player.specs.Moves.{noted_step}
+
+module _ (shell : ShellState) (w : WorldState) (who at : ℕ) (here : at ≡ (regs_of w who).pc) where
+  under : gate_under w who ≡ gate_at gates_start at
+  under = ap (gate_at gates_start) (sym here)
+
+  pub by_gate : (g : Gate) → gate_at gates_start at ≡ Some g → task_part shell w who ≡ gate_part g shell w who
+  unfolding task_part
+  by_gate g e = ap (λ o. part_at o shell w who) (under ∙ e)
+
+  pub by_word : gate_at gates_start at ≡ None → task_part shell w who ≡ word_part (fetched (bus_of w) at) shell w who
+  unfolding task_part
+  by_word e = ap (λ o. part_at o shell w who) (under ∙ e) ∙ ap (λ pc. word_part (fetched (bus_of w) pc) shell w who) (sym here)
+
+-- the step that the code has made
+pub word_stepped : (s : State) (who at : ℕ) (v x : WorldState) (shell : ShellState) → v ≡ at_turn s.world who → part_of shell x ≡ word_part (fetched (bus_of v) at) s.shell v who
+    → at ≡ (regs_of v who).pc → gate_at gates_start at ≡ None → noted_step (record s { shell = shell; world = x }) who ≡ task_step s who
+word_stepped s who at v x shell turned made here none = ap (stepped s who) (made ∙ sym (by_word s.shell v who at here none) ∙ ap (λ u. task_part s.shell u who) turned)
+
+pub gate_stepped : (s : State) (who at : ℕ) (g : Gate) (v x : WorldState) (shell : ShellState) → v ≡ at_turn s.world who → part_of shell x ≡ gate_part g s.shell v who
+    → at ≡ (regs_of v who).pc → gate_at gates_start at ≡ Some g → noted_step (record s { shell = shell; world = x }) who ≡ task_step s who
+gate_stepped s who at g v x shell turned made here some = ap (stepped s who) (made ∙ sym (by_gate s.shell v who at here g some) ∙ ap (λ u. task_part s.shell u who) turned)

@@ -1,0 +1,11 @@
+use Rattle.std.proofs.Common.{sym, ap, ◌∙◌}
+use Rattle.wind_base.specs.declared.regs.Regs.{Regs}
+use Rattle.board_player.specs.Inside.{parts_by}
+use Rattle.board_player.proofs.Stepping.{gate_stepped}
+use Rattle.board_player.proofs.steps.run_gate.Goals as goal
+
+pub returns-in-Ok-clause-ok : goal.returns-in-Ok-clause-ok
+returns-in-Ok-clause-ok g c =
+    c.end.ensures.step
+    ∙ gate_stepped (parts_by (λ d. (goal.Device-dyn g (d.vtable, d.value)).kind_of d.value) (λ d. (goal.Device-dyn g (d.vtable, d.value)).words_of d.value) c.args.parts.now)
+    c.args.who c.args.at c.args.gate _ _ _ c.begin-kept.ensures.world c.in-Ok.ensures.ok (c.requires.counter ∙ ap (λ (r : Regs). r.pc) (sym c.begin-kept.ensures.ready.regs)) c.requires.gate

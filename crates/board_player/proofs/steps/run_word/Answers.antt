@@ -1,0 +1,11 @@
+use Rattle.std.proofs.Common.{sym, ap, ◌∙◌}
+use Rattle.wind_base.specs.declared.regs.Regs.{Regs}
+use Rattle.board_player.specs.Inside.{parts_by}
+use Rattle.board_player.proofs.Stepping.{word_stepped}
+use Rattle.board_player.proofs.steps.run_word.Goals as goal
+
+pub returns-clause-step : goal.returns-clause-step
+returns-clause-step g c =
+    c.end.ensures.step
+    ∙ word_stepped (parts_by (λ d. (goal.Device-dyn g (d.vtable, d.value)).kind_of d.value) (λ d. (goal.Device-dyn g (d.vtable, d.value)).words_of d.value) c.args.parts.now)
+    c.args.who c.args.at _ _ _ c.turn.ensures.world c.execute.ensures.part (c.requires.counter ∙ ap (λ (r : Regs). r.pc) (sym c.turn.ensures.ready.regs)) c.requires.gate
