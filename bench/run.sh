@@ -82,9 +82,10 @@ stock() {
     fi
 }
 
-for tasks in 1 2 16 250; do
+for tasks in 1 2 16; do
     steps "instruction loop, tasks: $tasks" "$here/tasks-$tasks" 20000000
 done
+steps 'instruction loop, tasks: 250' "$here/tasks-250" 2000000
 if command -v qemu-ppc >/dev/null; then
     stock_program >"$work/stock"
     chmod +x "$work/stock"

@@ -12,8 +12,6 @@ mod reserving;
 mod shell;
 mod steps;
 mod task;
-#[cfg(test)]
-mod tests;
 mod text;
 mod turn;
 

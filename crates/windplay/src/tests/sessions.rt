@@ -153,6 +153,58 @@ fn interrupts_a_call(rt: HostRuntime) -> Result<(), Fail> {
     Ok(())
 }
 
+// A byte is erased, and there is no further one to erase; the line is cleared; the 0x0A behind a 0x0D is dropped.
+#[test]
+fn edits_lines(rt: HostRuntime) -> Result<(), Fail> {
+    let output = "-> 1\x08 \x082\nvalue = 2 = 0x2\n-> ";
+    assert!(rt; plays(rt.alloc(), "1\x08\x7f2\n", "", output, 5)?);
+    let output = "-> 1\n3\nvalue = 3 = 0x3\n-> ";
+    assert!(rt; plays(rt.alloc(), "1\x153\r\n", "", output, 6)?);
+    Ok(())
+}
+
+// An interrupt aborts a shell that sleeps.
+#[test]
+fn interrupts_a_delay(rt: HostRuntime) -> Result<(), Fail> {
+    let output = "-> taskDelay 9\n\n1\n-> value = 1 = 0x1\n-> ";
+    assert!(rt;
+        plays(
+            rt.alloc(),
+            "taskDelay 9\n\x031\n",
+            "rx 1 12\nrx 50 3\n",
+            output,
+            11
+        )?
+    );
+    Ok(())
+}
+
+// Ten arguments, and eleven.
+#[test]
+fn takes_ten_arguments(rt: HostRuntime) -> Result<(), Fail> {
+    let output = "-> taskIdSelf 1,2,3,4,5,6,7,8,9,10\nvalue = 1 = 0x1\n-> ";
+    assert!(rt;
+        plays(
+            rt.alloc(),
+            "taskIdSelf 1,2,3,4,5,6,7,8,9,10\n",
+            "",
+            output,
+            8
+        )?
+    );
+    let output = "-> taskIdSelf 1,2,3,4,5,6,7,8,9,10,11\nsyntax error at column 32\n-> ";
+    assert!(rt;
+        plays(
+            rt.alloc(),
+            "taskIdSelf 1,2,3,4,5,6,7,8,9,10,11\n",
+            "",
+            output,
+            4
+        )?
+    );
+    Ok(())
+}
+
 // Two tasks that count, each in a word of RAM, take turns of two ticks.
 #[test]
 fn tasks_take_turns(rt: HostRuntime) -> Result<(), Fail> {
