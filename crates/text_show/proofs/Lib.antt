@@ -1,0 +1,8 @@
+mod Digits
+mod Cells
+mod Order
+mod Lines
+mod Sorted
+mod Cut
+mod Pieces
+mod Strings

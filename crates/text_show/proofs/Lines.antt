@@ -1,0 +1,41 @@
+-- The lines of a dump.
+use Rattle.std.proofs.Common.{◌≡◌, ℕ, zero, suc, ◌+◌, ◌-◌, ◌*◌, ◌^◌, ◌<◌, ◌≤◌, List, [], ◌∷◌, ◌++◌, length, take, drop, append_assoc, refl, ap, sym, ◌∙◌, arith}
+use Rattle.std.specs.Prelude.{IsTrue}
+use Rattle.std.proofs.lemmas.Bool.Decides.{nat_tests}
+use Rattle.board_mem.specs.Memory.{has}
+use Rattle.text_show.specs.Dump.{dump_line, dump_lines}
+
+drop_more : (n k : ℕ) (xs : List ℕ) → drop n (drop k xs) ≡ drop (k + n) xs
+drop_more n zero xs = let e : 0 + n ≡ n = omega arith in rw e
+drop_more n (suc k) [] = let e : suc k + n ≡ suc (k + n) = omega arith in rw e (drop_none n)
+  where
+    drop_none : (n : ℕ) → drop n (let none : List ℕ = [] in none) ≡ []
+    drop_none zero = refl
+    drop_none (suc n) = refl
+drop_more n (suc k) (x ∷ xs) = let e : suc k + n ≡ suc (k + n) = omega arith in rw e (drop_more n k xs)
+
+-- one more line is written
+pub lines_more : (width at : ℕ) (bytes : List ℕ) (lines number : ℕ) (all page new : List ℕ) → number < lines
+    → page ++ dump_lines width (lines - number) (at + number * 16) (drop (number * 16) bytes) ≡ all
+    → new ≡ page ++ dump_line width (at + number * 16) (take 16 (drop (number * 16) bytes))
+    → new ++ dump_lines width (lines - (number + 1)) (at + (number + 1) * 16) (drop ((number + 1) * 16) bytes) ≡ all
+lines_more width at bytes lines number all page new below e w =
+    let this = dump_line width (at + number * 16) (take 16 (drop (number * 16) bytes)) in
+    let later = dump_lines width (lines - (number + 1)) (at + (number + 1) * 16) (drop ((number + 1) * 16) bytes) in
+    let left : lines - number ≡ suc (lines - (number + 1)) = omega arith in
+    let next : at + number * 16 + 16 ≡ at + (number + 1) * 16 = omega arith in
+    let place : number * 16 + 16 ≡ (number + 1) * 16 = omega arith in
+    let split : dump_lines width (lines - number) (at + number * 16) (drop (number * 16) bytes) ≡ this ++ later =
+    ap (λ k. dump_lines width k (at + number * 16) (drop (number * 16) bytes)) left
+    ∙ ap (λ a. this ++ dump_lines width (lines - (number + 1)) a (drop 16 (drop (number * 16) bytes))) next
+    ∙ ap (λ xs. this ++ dump_lines width (lines - (number + 1)) (at + (number + 1) * 16) xs) (drop_more 16 (number * 16) bytes ∙ ap (λ k. drop k bytes) place) in
+    ap (λ xs. xs ++ later) w ∙ append_assoc page this later ∙ ap (λ xs. page ++ xs) (sym split) ∙ e
+
+-- a range that is there ends below 2^32
+pub range_ends : (ram : List ℕ) (at n : ℕ) → IsTrue (has ram at n) → length ram < 2 ^ 32 → at < 2 ^ 32 → (n < 2 ^ 32) × (at + n ≤ 2 ^ 32)
+range_ends ram at n there size low = (grind (arith, nat_tests), grind (arith, nat_tests))
+
+pub take_within : (n : ℕ) (xs : List ℕ) → length (take n xs) ≤ n
+take_within zero xs = omega arith
+take_within (suc n) [] = omega arith
+take_within (suc n) (x ∷ xs) = let e = take_within n xs in omega arith

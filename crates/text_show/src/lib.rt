@@ -1,0 +1,17 @@
+//! The texts that calls of the kernel write: `printf`, and the shell's tables.
+#![tactic(auto)]
+
+mod format;
+mod memory;
+mod numeral;
+mod page;
+mod print;
+mod tasks;
+mod text;
+mod value;
+mod values;
+
+pub use memory::dump;
+pub use print::printf_text;
+pub use tasks::task_table;
+pub use value::value_line;

@@ -1,0 +1,109 @@
+//! Texts in columns, made aside: what is written waits until the whole text is there.
+
+ghost use Rattle.std.specs.Prelude.{◌≡◌, ◌+◌, ◌≤◌, take, ◌-◌, ◌++◌, ◌∷◌, [], map, length, replicate, OnOk, OnErr};
+ghost use Rattle.text_show.specs.Columns.{blanks, cell_text, row, row_rest, with_text};
+
+use std::alloc::Global;
+use wind_base::{NoMemory, OutBuf};
+
+/// A text in a column.
+#[derive(Clone, Copy)]
+pub(crate) enum Cell<'a> {
+    /// At the left of a place of this width.
+    Left(usize, &'a [u8]),
+    /// At its right.
+    Right(usize, &'a [u8]),
+}
+
+/// So many of the first bytes; all of them, where there are fewer.
+pub(crate) fn front(bytes: &[u8], most: usize) -> &[u8]
+    ensures value { result.now ≡ take most bytes.now }
+    ensures within { length result.now ≤ most }
+{
+    if bytes.len() <= most {
+        bytes
+    } else {
+        &bytes[..most]
+    }
+}
+
+/// Adds bytes.
+pub(crate) fn add(page: &mut Vec<u8>, piece: &[u8]) -> Result<(), NoMemory>
+    ensures { OnOk result (page.new.items ≡ page.old.items ++ piece.now) }
+{
+    if page.extend_from_slice(piece).is_err() {
+        return Err(NoMemory);
+    }
+    Ok(())
+}
+
+// Adds so many blanks.
+fn add_blanks(page: &mut Vec<u8>, n: usize) -> Result<(), NoMemory>
+    ensures { OnOk result (page.new.items ≡ page.old.items ++ blanks n) }
+{
+    for _ in 0..n {
+        add(page, b" ")?;
+    }
+    Ok(())
+}
+
+/// Adds a cell.
+pub(crate) fn add_cell(page: &mut Vec<u8>, cell: &Cell) -> Result<(), NoMemory>
+    ensures { OnOk result (page.new.items ≡ page.old.items ++ cell_text cell.now) }
+{
+    match *cell {
+        Cell::Left(width, text) => {
+            add(page, text)?;
+            add_blanks(page, width.saturating_sub(text.len()))
+        }
+        Cell::Right(width, text) => {
+            add_blanks(page, width.saturating_sub(text.len()))?;
+            add(page, text)
+        }
+    }
+}
+
+// Adds what follows the first cell of a row.
+fn add_rest(page: &mut Vec<u8>, cells: &[Cell]) -> Result<(), NoMemory>
+    ensures { OnOk result (page.new.items ≡ page.old.items ++ row_rest (map cell_text cells.now)) }
+{
+    for cell in cells {
+        add(page, b" ")?;
+        add_cell(page, cell)?;
+    }
+    add(page, b"\n")
+}
+
+/// Adds a row.
+pub(crate) fn add_row(page: &mut Vec<u8>, cells: &[Cell]) -> Result<(), NoMemory>
+    ensures { OnOk result (page.new.items ≡ page.old.items ++ row (map cell_text cells.now)) }
+{
+    match cells.split_first() {
+        Some((first, rest)) => {
+            add_cell(page, first)?;
+            add_rest(page, rest)
+        }
+        None => add(page, b"\n"),
+    }
+}
+
+/// Adds a cell behind another one.
+pub(crate) fn add_next(page: &mut Vec<u8>, cell: &Cell) -> Result<(), NoMemory>
+    ensures { OnOk result (page.new.items ≡ page.old.items ++ 32 ∷ cell_text cell.now) }
+{
+    add(page, b" ")?;
+    add_cell(page, cell)
+}
+
+/// Writes a text that was made aside, with room made for it. Nothing is written where memory runs out.
+pub(crate) fn write(out: &mut OutBuf, page: &[u8]) -> Result<(), NoMemory>
+    ensures ok { OnOk result (out.new ≡ with_text out.old page.now) }
+    ensures err { OnErr result (out.new ≡ out.old) }
+{
+    if page.len() > u32::MAX as usize || out.room() >= 1 << 62 {
+        return Err(NoMemory);
+    }
+    out.grow(page.len() as u32)?;
+    let _ = out.put(page);
+    Ok(())
+}
