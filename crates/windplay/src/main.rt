@@ -8,8 +8,6 @@ mod laws;
 mod play;
 mod report;
 mod run;
-#[cfg(test)]
-mod tests;
 
 ghost use Rattle.std.specs.Prelude.{◌≡◌};
 ghost use Rattle.std.specs.Process.{exit_status};
