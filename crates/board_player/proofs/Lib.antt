@@ -7,3 +7,4 @@ pub mod Keeping
 pub mod Readied
 pub mod Running
 pub mod Stepping
+pub mod Going

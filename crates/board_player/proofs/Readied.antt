@@ -13,12 +13,13 @@ use Rattle.wind_core.specs.Moves.{unreserved, unreserve, set_regs}
 use Rattle.wind_core.proofs.Keeping.{not_there}
 use Rattle.kernel_calls.specs.State.{WorldState}
 use Rattle.kernel_calls.specs.Starting.{no_regs}
-use Rattle.kernel_calls.specs.Kept.{IsWorld, IsEarly, ReservedBy, LocksWithin}
+use Rattle.kernel_calls.specs.Kept.{IsWorld, IsEarly, ReservedBy, HasCounts, Within}
 use Rattle.wind_machine.specs.State.{State}
 use Rattle.wind_machine.specs.Good.{Good}
 use Rattle.wind_machine.specs.Machine.{at_turn}
 use Rattle.wind_machine.specs.Processor.{regs_of}
 use Rattle.wind_machine.specs.Reserving.{unless_own, drop_others, drop_all}
+use Rattle.wind_machine.proofs.Free.{own_found, turn_ready}
 use Rattle.wind_machine.proofs.Dropping.{others_advance, all_advance}
 use Rattle.wind_machine.proofs.Reserving.{regs_again}
 use Rattle.board_player.specs.Turns.{if_other, other_holder, with_regs, kept_if, kept_of, put_back, restored, without, Readies}
@@ -29,35 +30,34 @@ pub good_early : (s : State) → Good s → s.steps < 10 ^ 12 → IsEarly s.worl
 good_early s g few = record {
   sinces = omega (arith, g.sinces, few);
   ticks = omega (arith, g.ticks, few);
-  locks = All-weaker (λ t. t.locks ≤ s.steps) (λ t. t.locks < 2 ^ 60) (λ t h. omega (arith, h, few)) s.world.kern.tasks g.locks;
+  locks = All-weaker (HasCounts s.steps) (λ t. t.locks < 2 ^ 60) (λ t h. omega (arith, h.0, few)) s.world.kern.tasks g.within.0;
+  safes = All-weaker (HasCounts s.steps) (λ t. t.safe < 2 ^ 60) (λ t h. omega (arith, h.1, few)) s.world.kern.tasks g.within.0;
+  depths = All-weaker (λ r. r.1.depth ≤ s.steps) (λ r. r.1.depth < 2 ^ 60) (λ r h. omega (arith, h, few)) s.world.objects.mutexes g.within.1;
   names = omega (arith, g.names, few);
 }
 
-within : (w : WorldState) → IsEarly w → LocksWithin (2 ^ 60 - 1) w.kern
-within w early = All-weaker (λ t. t.locks < 2 ^ 60) (λ t. t.locks ≤ 2 ^ 60 - 1) (λ t h. omega (arith, h)) w.kern.tasks early.locks
+within : (w : WorldState) → IsEarly w → Within (2 ^ 60 - 1) w
+within w early = (
+  λ k d h. (let below = early.locks k d h in omega (arith, below), let below = early.safes k d h in omega (arith, below)),
+  All-weaker (λ r. r.1.depth < 2 ^ 60) (λ r. r.1.depth ≤ 2 ^ 60 - 1) (λ r h. omega (arith, h)) w.objects.mutexes early.depths,
+)
 
 -- ---- a turn
--- the task whose turn it is stays as it is
-own_found : (ts : List Task) (who : ℕ) → task_of (map (unless_own who) ts) who ≡ task_of ts who
-own_found [] who = refl
-own_found (t ∷ ts) who =
-    elim (eqb t.id who) as (λ b. eqb t.id who ≡ b → cond (eqb (cond b t (unreserved t)).id who) (Some (cond b t (unreserved t))) (task_of (map (unless_own who) ts) who) ≡ cond b (Some t) (task_of ts who)) [
-      | true ↦ λ e. ap (λ c. cond c (Some t) (task_of (map (unless_own who) ts) who)) e
-      | false ↦ λ e. ap (λ c. cond c (Some (unreserved t)) (task_of (map (unless_own who) ts) who)) e ∙ own_found ts who
-    ] refl
-
 pub readies : (w : WorldState) (who : ℕ) → IsWorld w → IsEarly w → Readies w (at_turn w who) who
 readies w who kept early =
     let a = others_advance w (2 ^ 60 - 1) kept (within w early) who in
     record {
-      kept = record { kern = a.kept.kern; home = a.kept.home; pool = a.kept.pool; stacks = a.kept.stacks; ram = a.kept.ram; symbols = a.kept.symbols };
+      kept = record { kern = a.kept.kern; home = a.kept.home; objects = a.kept.objects; pool = a.kept.pool; stacks = a.kept.stacks; ram = a.kept.ram; symbols = a.kept.symbols };
       early = record {
         sinces = early.sinces;
         ticks = early.ticks;
-        locks = All-weaker (λ t. t.locks ≤ 2 ^ 60 - 1) (λ t. t.locks < 2 ^ 60) (λ t h. omega (arith, h)) (drop_others w.kern who).tasks a.locks;
+        locks = All-weaker (HasCounts (2 ^ 60 - 1)) (λ t. t.locks < 2 ^ 60) (λ t h. omega (arith, h.0)) (drop_others w.kern who).tasks a.within.0;
+        safes = All-weaker (HasCounts (2 ^ 60 - 1)) (λ t. t.safe < 2 ^ 60) (λ t h. omega (arith, h.1)) (drop_others w.kern who).tasks a.within.0;
+        depths = early.depths;
         names = early.names;
       };
       lives = a.lives;
+      ready = turn_ready w.kern who;
       regs = ap (λ o. unwrap_or (option_map (λ t. t.regs) o) no_regs) (own_found w.kern.tasks who);
     }
 

@@ -1,16 +1,25 @@
 -- Where nothing is due, whoever runs makes the step.
-use Rattle.std.proofs.Common.{◌≡◌, ℕ, Bool, true, false, cond, not, Option, None, Some, is_some, Result, Ok, Err, refl, sym, ap, ◌∙◌}
+use Rattle.std.proofs.Common.{◌≡◌, ℕ, Bool, true, false, cond, not, Option, None, Some, is_some, Result, Ok, Err, refl, sym, ap, ◌∙◌, subst}
 use Rattle.std.specs.Prelude.{OnOk, OnErr, ◌↔◌, ◌&&◌}
 use Rattle.std.specs.Option.{option_map}
 use Rattle.task_block.specs.declared.task.Task.{Task}
 use Rattle.tick_file.specs.Schedule.{Timed}
 use Rattle.wind_base.specs.declared.NoMemory.{NoMemory}
-use Rattle.wind_core.specs.State.{task_id}
+use Rattle.wind_core.specs.State.{KernState, IsKern, task_id}
 use Rattle.wind_core.specs.Orders.{running}
+use Rattle.kernel_calls.specs.Objects.{IsReady}
 use Rattle.wind_machine.specs.State.{State}
 use Rattle.wind_machine.specs.Machine.{event_of, due_event, console_is_due, arrival, step_of, run_step, quiet_step, step_by, machine_step, who_may, runner_may, may_lack_memory}
+use Rattle.wind_machine.proofs.Free.{runner_ready}
 use Rattle.board_player.specs.declared.Step.{Step}
 use Rattle.board_player.specs.declared.Step.TheVariants as steps
+
+-- whoever runs is ready
+pub runner_is_ready : (k : KernState) → IsKern k → (who : ℕ) → Some who ≡ option_map task_id (running k) → IsReady k who
+runner_is_ready k is who e = by_runner (running k) refl e where
+  by_runner : (o : Option Task) → running k ≡ o → Some who ≡ option_map task_id o → IsReady k who
+  by_runner None r q = absurd (cc)
+  by_runner (Some t) r q = let same : who ≡ t.id = cc in subst (IsReady k) (sym same) (runner_ready k is t r)
 
 not_due : (s : State) (o : Option Timed) → None ≡ option_map event_of o → step_by s o ≡ quiet_step s
 not_due s None e = refl
@@ -44,14 +53,14 @@ may s who none silent runner =
     ∙ whose s who (running s.world.kern) runner
 
 -- ---- the answer
-pub ran : (made : Result (Unit {0}) NoMemory) (r : Step) (s t : State) (who : ℕ) → machine_step s ≡ Some (step_of s who) → OnOk made (r ≡ steps.Stepped) → OnErr made (r ≡ steps.NoMemory) → OnOk made (t ≡ step_of s who) → r ≡ steps.Stepped → machine_step s ≡ Some t
+pub ran : {A : Type 0} (made : Result A NoMemory) (r : Step) (s t : State) (who : ℕ) → machine_step s ≡ Some (step_of s who) → OnOk made (r ≡ steps.Stepped) → OnErr made (r ≡ steps.NoMemory) → OnOk made (t ≡ step_of s who) → r ≡ steps.Stepped → machine_step s ≡ Some t
 ran (Ok u) r s t who e ok err made q = e ∙ ap Some (sym made)
 ran (Err n) r s t who e ok err made q = absurd (cc)
 
-pub never_quiet : (made : Result (Unit {0}) NoMemory) (r : Step) (s : State) (who : ℕ) → machine_step s ≡ Some (step_of s who) → OnOk made (r ≡ steps.Stepped) → OnErr made (r ≡ steps.NoMemory) → (r ≡ steps.Quiet) ↔ (machine_step s ≡ None)
+pub never_quiet : {A : Type 0} (made : Result A NoMemory) (r : Step) (s : State) (who : ℕ) → machine_step s ≡ Some (step_of s who) → OnOk made (r ≡ steps.Stepped) → OnErr made (r ≡ steps.NoMemory) → (r ≡ steps.Quiet) ↔ (machine_step s ≡ None)
 never_quiet (Ok u) r s who e ok err = (λ q. absurd (cc), λ none. absurd (cc))
 never_quiet (Err n) r s who e ok err = (λ q. absurd (cc), λ none. absurd (cc))
 
-pub lacks : (made : Result (Unit {0}) NoMemory) (r : Step) (s : State) (who : ℕ) → may_lack_memory s ≡ who_may s who → OnOk made (r ≡ steps.Stepped) → OnErr made (r ≡ steps.NoMemory) → OnErr made (who_may s who ≡ true) → r ≡ steps.NoMemory → may_lack_memory s ≡ true
+pub lacks : {A : Type 0} (made : Result A NoMemory) (r : Step) (s : State) (who : ℕ) → may_lack_memory s ≡ who_may s who → OnOk made (r ≡ steps.Stepped) → OnErr made (r ≡ steps.NoMemory) → OnErr made (who_may s who ≡ true) → r ≡ steps.NoMemory → may_lack_memory s ≡ true
 lacks (Ok u) r s who e ok err memory q = absurd (cc)
 lacks (Err n) r s who e ok err memory q = e ∙ memory

@@ -6,3 +6,4 @@ pub mod Turns
 pub mod Running
 pub mod Moves
 pub mod Facts
+pub mod Going

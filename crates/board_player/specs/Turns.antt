@@ -4,6 +4,7 @@ use Rattle.wind_base.specs.declared.regs.Regs.{Regs}
 use Rattle.task_block.specs.declared.task.Task.{Task}
 use Rattle.wind_core.specs.State.{KernState, Lives, task_of}
 use Rattle.wind_core.specs.Moves.{set_regs, unreserve}
+use Rattle.kernel_calls.specs.Objects.{IsReady}
 use Rattle.kernel_calls.specs.State.{WorldState}
 use Rattle.kernel_calls.specs.Kept.{IsWorld, IsEarly}
 use Rattle.wind_machine.specs.Processor.{regs_of}
@@ -50,9 +51,10 @@ abbrev pub without : KernState → Option ℕ → KernState
 without k None = k
 without k (Some last) = unreserve k last
 
--- what a turn keeps: the facts, whoever lives, and the registers of the task whose turn it is
+-- what a turn keeps: the facts, whoever lives, and, of the task whose turn it is, the registers and that it is ready
 pub record Readies (old new : WorldState) (who : ℕ) : Type 0 where
   pub kept : IsWorld new
   pub early : IsEarly new
   pub lives : (id : ℕ) → Lives old.kern id → Lives new.kern id
+  pub ready : IsReady old.kern who → IsReady new.kern who
   pub regs : regs_of new who ≡ regs_of old who

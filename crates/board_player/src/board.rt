@@ -3,13 +3,14 @@
 ghost use Rattle.std.specs.Prelude.{◌≡◌, ◌≤◌, ◌+◌, length};
 ghost use Rattle.std.proofs.Props.{props};
 ghost use Rattle.board_player.specs.Inside.{inside, IsSpacious};
-ghost use Rattle.board_player.specs.Facts.{Laid-prop};
+ghost use Rattle.board_player.specs.Going.{IsKnown};
+ghost use Rattle.board_player.specs.Facts.{Laid-prop, IsServable-prop, IsKnown-prop};
 ghost use Rattle.wind_machine.specs.Good.{Good};
 
 use crate::Step;
 use crate::clock::Clock;
 use crate::feed::Feed;
-use crate::order::{is_early, make_step};
+use crate::order::{Running, is_early, make_step};
 use crate::parts::Parts;
 use crate::shell::Shell;
 use con_line::Console;
@@ -29,8 +30,11 @@ const OUTPUT_BYTES: u32 = 3 * (CHUNK_BYTES as u32 + 1);
 #[derive(Drop)]
 pub struct Board {
     parts: Parts,
-    ghost good: { Good (inside parts) } by { Prim.hlevel (props, Laid-prop) },
+    // who runs, where it is known from the step before
+    known: Option<Running>,
+    ghost good: { Good (inside parts) } by { Prim.hlevel (props, Laid-prop, IsServable-prop) },
     ghost space: { IsSpacious parts },
+    ghost runs: { IsKnown parts.world.kern known } by { IsKnown-prop parts.world.kern known },
 }
 
 impl Board {
@@ -73,6 +77,7 @@ impl Board {
                 clock: Clock::new(),
                 spare,
             },
+            known: None,
         })
     }
 
@@ -113,7 +118,7 @@ impl Board {
     {
         step_law();
         is_early(&self.parts);
-        make_step(&mut self.parts)
+        make_step(&mut self.parts, &mut self.known)
     }
 
     /// The bytes that the last step wrote.

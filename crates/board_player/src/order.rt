@@ -1,14 +1,16 @@
 //! The order of the next step.
 
-ghost use Rattle.std.specs.Prelude.{◌≡◌, ◌≢◌, ◌↔◌, ◌^◌, ◌<◌, true, false, Some, None, IfSome, nat_le, if◌then◌else◌, option_map, OnOk, OnErr};
+ghost use Rattle.std.specs.Prelude.{◌≡◌, ◌≢◌, ◌↔◌, ◌^◌, ◌<◌, true, false, Some, None, Ok, IfSome, nat_le, if◌then◌else◌, option_map, OnOk, OnErr};
 ghost use Rattle.wind_base.specs.Limits.{most_steps};
 ghost use Rattle.tick_file.specs.Laws.{IsEarly};
 ghost use Rattle.wind_core.specs.State.{Lives, task_id};
 ghost use Rattle.wind_core.specs.Orders.{running as running_lem};
+ghost use Rattle.kernel_calls.specs.Objects.{IsReady};
 ghost use Rattle.wind_machine.specs.Good.{Good};
 ghost use Rattle.wind_machine.specs.Processor.{gate_under};
 ghost use Rattle.wind_machine.specs.Machine.{due_event as due_event_lem, event_of, console_is_due as console_is_due_lem, is_open as is_open_lem, next_event, shell_step, step_of, jump_to, machine_step, phase_may, gate_may, who_may, may_lack_memory};
 ghost use Rattle.board_player.specs.Inside.{inside, parts_seen, IsSpacious};
+ghost use Rattle.board_player.specs.Going.{IsKnown, OnlyStepped};
 ghost use Rattle.board_player.specs.declared.Step.TheVariants as steps;
 
 use crate::Step;
@@ -32,15 +34,15 @@ fn when_due(next: (u64, Event), time: u128) -> Option<Event>
     }
 }
 
-// Who runs, and whether interrupts may come meanwhile.
+/// Who runs, and whether interrupts may come meanwhile.
 #[derive(Clone, Copy, Debug, PartialEq, Eq)]
-struct Running {
+pub struct Running {
     who: Option<Ident>,
     is_open: bool,
 }
 
-// Who runs, which is asked once a step.
-fn who_runs(parts: &Parts) -> Running
+// Who runs, which is asked where it is not known.
+fn asked(parts: &Parts) -> Running
     ensures who { result.who ≡ option_map task_id (running_lem parts.now.world.kern) }
     ensures open { result.is_open ≡ is_open_lem (parts_seen ⟦<dyn Device as Device>⟧ parts.now) }
 {
@@ -53,6 +55,18 @@ fn who_runs(parts: &Parts) -> Running
             who: None,
             is_open: true,
         },
+    }
+}
+
+// Who runs, as it is known from the step before, or as it is asked.
+fn who_runs(parts: &Parts, known: Option<Running>) -> Running
+    requires { IsKnown parts.now.world.kern known }
+    ensures who { result.who ≡ option_map task_id (running_lem parts.now.world.kern) }
+    ensures open { result.is_open ≡ is_open_lem (parts_seen ⟦<dyn Device as Device>⟧ parts.now) }
+{
+    match known {
+        Some(now) => now,
+        None => asked(parts),
     }
 }
 
@@ -87,6 +101,7 @@ fn run_shell(parts: &mut Parts) -> Result<(), NoMemory>
     requires good { Good (inside parts.old) }
     requires few { parts.old.clock.steps < most_steps }
     requires space { IsSpacious parts.old }
+    requires ready { IsReady parts.old.world.kern 1 }
     ensures ok { OnOk result (parts_seen ⟦<dyn Device as Device>⟧ parts.new
         ≡ shell_step parts.old.shell.phase (parts_seen ⟦<dyn Device as Device>⟧ parts.old)) }
     ensures memory { OnErr result (phase_may parts.old.shell.phase
@@ -102,25 +117,32 @@ fn run_shell(parts: &mut Parts) -> Result<(), NoMemory>
         }
         Phase::Read => read(parts),
         Phase::Eval => evaluate(parts),
-        Phase::Call => run(parts, shell_id()),
+        Phase::Call => {
+            run(parts, shell_id())?;
+            Ok(())
+        }
     }
 }
 
-// The step of whoever runs. For want of memory nothing changes.
-fn run_task(parts: &mut Parts, who: Ident) -> Result<(), NoMemory>
+// The step of whoever runs. For want of memory nothing changes. Tells whether it was an instruction that came without an
+// exception.
+fn run_task(parts: &mut Parts, who: Ident) -> Result<bool, NoMemory>
     requires good { Good (inside parts.old) }
     requires few { parts.old.clock.steps < most_steps }
     requires space { IsSpacious parts.old }
     requires live { Lives parts.old.world.kern who }
+    requires ready { IsReady parts.old.world.kern who }
     ensures ok { OnOk result (parts_seen ⟦<dyn Device as Device>⟧ parts.new
         ≡ step_of (parts_seen ⟦<dyn Device as Device>⟧ parts.old) who) }
     ensures memory { OnErr result (who_may (parts_seen ⟦<dyn Device as Device>⟧ parts.old) who ≡ true) }
     ensures err { OnErr result (parts_seen ⟦<dyn Device as Device>⟧ parts.new
         ≡ parts_seen ⟦<dyn Device as Device>⟧ parts.old) }
+    ensures only { result ≡ Ok true → OnlyStepped parts.old.world.kern parts.new.world.kern who }
     ensures space { IsSpacious parts.new }
 {
     if who == shell_id() {
-        run_shell(parts)
+        run_shell(parts)?;
+        Ok(false)
     } else {
         run(parts, who)
     }
@@ -148,13 +170,23 @@ fn jump_on(parts: &mut Parts) -> bool
 }
 
 // The answer of a step that may lack memory.
-fn step_of_result(made: Result<(), NoMemory>) -> Step
+fn step_of_result(made: Result<bool, NoMemory>) -> Step
     ensures ok { OnOk made (result ≡ steps.Stepped) }
     ensures err { OnErr made (result ≡ steps.NoMemory) }
 {
     match made {
-        Ok(()) => Step::Stepped,
+        Ok(_) => Step::Stepped,
         Err(NoMemory) => Step::NoMemory,
+    }
+}
+
+// Who runs behind a step, where that is known: behind an instruction that came without an exception.
+fn runs_on(now: Running, made: Result<bool, NoMemory>) -> Option<Running>
+    ensures { IfSome result (λ known. (known ≡ now) × (made ≡ Ok true)) }
+{
+    match made {
+        Ok(true) => Some(now),
+        _ => None,
     }
 }
 
@@ -182,12 +214,13 @@ pub(crate) fn is_early(parts: &Parts)
     }
 }
 
-/// Makes the next step, if there is one. For want of memory nothing changes.
+/// Makes the next step, if there is one. For want of memory nothing changes. Who runs is kept where it is known.
 #[tactic(auto, unfolding(wind_machine::specs::Machine::machine_step))]
-pub(crate) fn make_step(parts: &mut Parts) -> Step
+pub(crate) fn make_step(parts: &mut Parts, known: &mut Option<Running>) -> Step
     requires good { Good (inside parts.old) }
     requires few { parts.old.clock.steps < most_steps }
     requires space { IsSpacious parts.old }
+    requires known { IsKnown parts.old.world.kern known.old }
     ensures stepped { result ≡ steps.Stepped → machine_step (parts_seen ⟦<dyn Device as Device>⟧ parts.old)
         ≡ Some (parts_seen ⟦<dyn Device as Device>⟧ parts.new) }
     ensures quiet { (result ≡ steps.Quiet) ↔ (machine_step (parts_seen ⟦<dyn Device as Device>⟧ parts.old) ≡ None) }
@@ -196,8 +229,9 @@ pub(crate) fn make_step(parts: &mut Parts) -> Step
     ensures unchanged { result ≢ steps.Stepped → parts_seen ⟦<dyn Device as Device>⟧ parts.new
         ≡ parts_seen ⟦<dyn Device as Device>⟧ parts.old }
     ensures space { IsSpacious parts.new }
+    ensures known { IsKnown parts.new.world.kern known.new }
 {
-    let now = who_runs(parts);
+    let now = who_runs(parts, known.take());
     if let Some(event) = due_event(parts, now.is_open) {
         come(parts, event);
         return Step::Stepped;
@@ -209,5 +243,7 @@ pub(crate) fn make_step(parts: &mut Parts) -> Step
     let Some(who) = now.who else {
         return stepped_if(jump_on(parts));
     };
-    step_of_result(run_task(parts, who))
+    let made = run_task(parts, who);
+    *known = runs_on(now, made);
+    step_of_result(made)
 }

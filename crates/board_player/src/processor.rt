@@ -6,6 +6,7 @@ ghost use Rattle.board_bus.specs.Access.{board_meaning, fetched};
 ghost use Rattle.ppc_core.specs.Instructions.{exec_of};
 ghost use Rattle.ppc_core.specs.declared.trap.Trap.TheVariants as traps;
 ghost use Rattle.kernel_calls.specs.Kept.{IsWorld, IsEarly};
+ghost use Rattle.kernel_calls.specs.Objects.{IsReady};
 ghost use Rattle.kernel_calls.specs.Seen.{world_seen, world_with};
 ghost use Rattle.kernel_calls.specs.Calls.{is_built as is_built_lem, may_lack_memory};
 ghost use Rattle.wind_base.specs.OutBuf.{KeepsSpace};
@@ -13,6 +14,7 @@ ghost use Rattle.wind_machine.specs.Part.{part_of, writing};
 ghost use Rattle.wind_machine.specs.Processor.{trapped, told_of, bus_of, is_return as is_return_lem, return_part, called as called_lem, gate_part, executed, word_part, regs_of};
 ghost use Rattle.wind_machine.specs.declared.phase.Phase.TheVariants as phases;
 ghost use Rattle.board_player.specs.Running.{Ran};
+ghost use Rattle.board_player.specs.Going.{OnlyRegs};
 
 use crate::reserving::drop_own;
 use crate::shell::Shell;
@@ -88,6 +90,7 @@ fn answer_of(world: &World, who: Ident) -> u32
 fn return_from(shell: &mut Shell, world: &mut World, who: Ident)
     requires live { Lives world.old.kern who }
     requires phase { who ≡ 1 → shell.old.phase ≡ phases.Call }
+    requires since { world.old.kern.next_since < 2 ^ 63 }
     ensures part { part_of shell.new (world_seen ⟦<dyn Device as Device>⟧ world.new)
         ≡ return_part shell.old (world_seen ⟦<dyn Device as Device>⟧ world.old) who }
     ensures out { world.new.out ≡ world.old.out }
@@ -104,6 +107,7 @@ fn return_from(shell: &mut Shell, world: &mut World, who: Ident)
 fn call(alloc: Global, world: &mut World, who: Ident, gate: Gate) -> Result<(), NoMemory>
     requires built { is_built_lem gate ≡ true }
     requires live { Lives world.old.kern who }
+    requires ready { IsReady world.old.kern who }
     requires kept { IsWorld (world_with [] world.old) }
     requires early { IsEarly (world_with [] world.old) }
     requires room { 4096 ≤ world.old.out.room }
@@ -116,7 +120,7 @@ fn call(alloc: Global, world: &mut World, who: Ident, gate: Gate) -> Result<(), 
 {
     match kernel_call(alloc, world, gate, &Actor::Task(who)) {
         Called::NoMemory => Err(NoMemory),
-        Called::Done | Called::Pended => {
+        Called::Done | Called::Pended | Called::Ended => {
             drop_own(&mut world.kern, who);
             Ok(())
         }
@@ -133,6 +137,7 @@ pub(crate) fn at_gate(
 ) -> Result<(), NoMemory>
     requires phase { who ≡ 1 → shell.old.phase ≡ phases.Call }
     requires live { Lives world.old.kern who }
+    requires ready { IsReady world.old.kern who }
     requires kept { IsWorld (world_with [] world.old) }
     requires early { IsEarly (world_with [] world.old) }
     requires room { 4096 ≤ world.old.out.room }
@@ -180,8 +185,9 @@ pub(crate) fn counter(world: &World, who: Ident) -> u32
     }
 }
 
-/// The instruction at this address is executed by a task. Where none can be fetched it is an access to nothing.
-pub(crate) fn execute(shell: &mut Shell, world: &mut World, who: Ident, at: u32)
+/// The instruction at this address is executed by a task. Where none can be fetched it is an access to nothing. Tells
+/// whether it came without an exception; only registers of the task and the bus change then.
+pub(crate) fn execute(shell: &mut Shell, world: &mut World, who: Ident, at: u32) -> bool
     requires live { Lives world.old.kern who }
     requires kern { IsKern world.old.kern }
     requires since { world.old.kern.next_since + 2 < 2 ^ 64 }
@@ -189,13 +195,18 @@ pub(crate) fn execute(shell: &mut Shell, world: &mut World, who: Ident, at: u32)
     ensures part { part_of shell.new (world_seen ⟦<dyn Device as Device>⟧ world.new)
         ≡ word_part (fetched (bus_of (world_seen ⟦<dyn Device as Device>⟧ world.old)) at) shell.old
         (world_seen ⟦<dyn Device as Device>⟧ world.old) who }
+    ensures registers { result ≡ true → OnlyRegs world.old.kern world.new.kern who }
     ensures space { KeepsSpace world.old.out world.new.out }
 {
     let Some(word) = world.bus.fetch(at) else {
         fault(shell, world, who, Trap::Access);
-        return;
+        return false;
     };
-    if let Err(trap) = run_word(world, who, word) {
-        fault(shell, world, who, trap);
+    match run_word(world, who, word) {
+        Ok(()) => true,
+        Err(trap) => {
+            fault(shell, world, who, trap);
+            false
+        }
     }
 }

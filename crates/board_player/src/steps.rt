@@ -1,9 +1,10 @@
 //! The steps of the wind machine.
 
-ghost use Rattle.std.specs.Prelude.{◌≡◌, ◌+◌, ◌^◌, ◌<◌, ◌≤◌, true, Some, None, length, take, OnOk, OnErr};
+ghost use Rattle.std.specs.Prelude.{◌≡◌, ◌+◌, ◌^◌, ◌<◌, ◌≤◌, true, Some, None, Ok, length, take, OnOk, OnErr};
 ghost use Rattle.wind_base.specs.Limits.{most_steps, longest_line, longest_chunk, gates_start};
 ghost use Rattle.con_line.specs.Lines.{front_line};
 ghost use Rattle.wind_core.specs.State.{Lives};
+ghost use Rattle.kernel_calls.specs.Objects.{IsReady};
 ghost use Rattle.wind_machine.specs.Good.{Good};
 ghost use Rattle.wind_base.specs.Gates.{gate_at};
 ghost use Rattle.kernel_calls.specs.Calls.{may_lack_memory};
@@ -11,6 +12,7 @@ ghost use Rattle.wind_machine.specs.Processor.{gate_under, regs_of};
 ghost use Rattle.wind_machine.specs.Machine.{prompt_step, read_step, eval_step, task_step, arrival, gate_may, ticked, received};
 ghost use Rattle.wind_machine.specs.declared.phase.Phase.TheVariants as phases;
 ghost use Rattle.board_player.specs.Inside.{inside, parts_seen, IsSpacious};
+ghost use Rattle.board_player.specs.Going.{OnlyStepped};
 ghost use Rattle.board_player.specs.Moves.{noted_step, heard_bytes, coming, jumped};
 
 use crate::arrival::hear_chunk;
@@ -122,9 +124,9 @@ pub(crate) fn evaluate(parts: &mut Parts) -> Result<(), NoMemory>
     Ok(())
 }
 
-// An instruction of a task that stands at no gate.
+// An instruction of a task that stands at no gate. Tells whether it came without an exception.
 #[tactic(auto, using(crate::proofs::Readied::good_early))]
-fn run_word(parts: &mut Parts, who: Ident, at: u32)
+fn run_word(parts: &mut Parts, who: Ident, at: u32) -> bool
     requires good { Good (inside parts.old) }
     requires few { parts.old.clock.steps < most_steps }
     requires space { IsSpacious parts.old }
@@ -133,11 +135,13 @@ fn run_word(parts: &mut Parts, who: Ident, at: u32)
     requires gate { gate_at gates_start at ≡ None }
     ensures step { parts_seen ⟦<dyn Device as Device>⟧ parts.new
         ≡ task_step (parts_seen ⟦<dyn Device as Device>⟧ parts.old) who }
+    ensures only { result ≡ true → OnlyStepped parts.old.world.kern parts.new.world.kern who }
     ensures space { IsSpacious parts.new }
 {
     turn(&mut parts.world, who);
-    execute(&mut parts.shell, &mut parts.world, who, at);
+    let is_done = execute(&mut parts.shell, &mut parts.world, who, at);
     end(parts, who);
+    is_done
 }
 
 // What a task does at a gate. For want of memory nothing changes.
@@ -147,6 +151,7 @@ fn run_gate(parts: &mut Parts, who: Ident, at: u32, gate: Gate) -> Result<(), No
     requires few { parts.old.clock.steps < most_steps }
     requires space { IsSpacious parts.old }
     requires live { Lives parts.old.world.kern who }
+    requires ready { IsReady parts.old.world.kern who }
     requires phase { who ≡ 1 → parts.old.shell.phase ≡ phases.Call }
     requires counter { at ≡ (regs_of (parts_seen ⟦<dyn Device as Device>⟧ parts.old).world who).pc }
     requires gate { gate_at gates_start at ≡ Some gate }
@@ -172,12 +177,13 @@ fn run_gate(parts: &mut Parts, who: Ident, at: u32, gate: Gate) -> Result<(), No
 }
 
 /// A task is at a gate, or makes an instruction. For want of memory, which comes only at a gate whose call may lack it,
-/// nothing changes.
-pub(crate) fn run(parts: &mut Parts, who: Ident) -> Result<(), NoMemory>
+/// nothing changes. Tells whether it was an instruction that came without an exception.
+pub(crate) fn run(parts: &mut Parts, who: Ident) -> Result<bool, NoMemory>
     requires good { Good (inside parts.old) }
     requires few { parts.old.clock.steps < most_steps }
     requires space { IsSpacious parts.old }
     requires live { Lives parts.old.world.kern who }
+    requires ready { IsReady parts.old.world.kern who }
     requires phase { who ≡ 1 → parts.old.shell.phase ≡ phases.Call }
     ensures ok { OnOk result (parts_seen ⟦<dyn Device as Device>⟧ parts.new
         ≡ task_step (parts_seen ⟦<dyn Device as Device>⟧ parts.old) who) }
@@ -185,15 +191,16 @@ pub(crate) fn run(parts: &mut Parts, who: Ident) -> Result<(), NoMemory>
         ≡ true) }
     ensures err { OnErr result (parts_seen ⟦<dyn Device as Device>⟧ parts.new
         ≡ parts_seen ⟦<dyn Device as Device>⟧ parts.old) }
+    ensures only { result ≡ Ok true → OnlyStepped parts.old.world.kern parts.new.world.kern who }
     ensures space { IsSpacious parts.new }
 {
     let at = counter(&parts.world, who);
     match Gate::at(at, GATES_START) {
-        Some(gate) => run_gate(parts, who, at, gate),
-        None => {
-            run_word(parts, who, at);
-            Ok(())
+        Some(gate) => {
+            run_gate(parts, who, at, gate)?;
+            Ok(false)
         }
+        None => Ok(run_word(parts, who, at)),
     }
 }
 

@@ -1,6 +1,6 @@
 -- A world keeps its facts, and its counters stay low, however often it is called.
 use Rattle.std.proofs.Common.{◌≡◌, ◌≢◌, ℕ, ◌+◌, ◌*◌, ◌<◌, ◌≤◌, true, false, cond, List, [], ◌∷◌, Option, length, refl, sym, ap, subst, ◌∙◌, arith}
-use Rattle.std.proofs.lemmas.List.Elements.{All-weaker, All-cons}
+use Rattle.std.proofs.lemmas.List.Elements.{All-cons}
 use Rattle.wind_base.specs.declared.gate.Gate.{Gate}
 use Rattle.wind_base.specs.declared.regs.Regs.{Regs}
 use Rattle.wind_outside.specs.Devices.{DeviceState}
@@ -13,73 +13,79 @@ use Rattle.wind_core.proofs.Keeping.{every_call_keeps}
 use Rattle.wind_core.proofs.Stable.{All-change}
 use Rattle.wind_core.proofs.Unwritten.{map-change}
 use Rattle.kernel_calls.specs.State.{WorldState}
-use Rattle.kernel_calls.specs.Kept.{IsWorld, LocksWithin, AreStacks, task_stacks}
+use Rattle.kernel_calls.specs.Kept.{IsWorld, HasCounts, Within, AreStacks, task_stacks}
+use Rattle.kernel_calls.specs.Objects.{IsFree}
+use Rattle.kernel_calls.specs.Actors.{MayCall}
 use Rattle.kernel_calls.specs.Calls.{call}
 use Rattle.kernel_calls.specs.Ending.{ended}
 use Rattle.kernel_calls.specs.Opening.{opening_world, interrupt_stack}
 use Rattle.kernel_calls.specs.declared.actor.Actor.{Actor}
 use Rattle.kernel_calls.specs.declared.calls.Called.{Called}
-use Rattle.kernel_calls.specs.declared.calls.Called.TheVariants.{Done, Pended, NoMemory}
-use Rattle.kernel_calls.proofs.Advancing.{call_advances}
+use Rattle.kernel_calls.specs.declared.calls.Called.TheVariants.{Done, Pended, Ended, NoMemory}
+use Rattle.kernel_calls.proofs.Advancing.{within_more}
+use Rattle.kernel_calls.proofs.Passing.{call_passes}
 use Rattle.kernel_calls.proofs.Departing.{ends}
+use Rattle.kernel_calls.proofs.ObjectMoves.{objects-set_regs}
 use Rattle.kernel_calls.proofs.Opened.{opens}
 
 -- the kept facts hold, and the counters are as low as n calls from the start leave them
 abbrev pub Used : WorldState → ℕ → Type 0
-Used w n = IsWorld w × LocksWithin n w.kern × (w.kern.next_since ≤ 1 + 2 * n) × (w.kern.tick ≡ 0) × (w.names ≤ 1 + n)
+Used w n = IsWorld w × Within n w × (w.kern.next_since ≤ 1 + 1024 * n) × (w.kern.tick ≡ 0) × (w.names ≤ 1 + n)
 
--- nobody has locked the scheduler at the start
-opening_locks : (slots : List (Option DeviceState)) → LocksWithin 0 (opening_world slots).kern
+-- no count is above 0 at the start
+opening_within : (slots : List (Option DeviceState)) → Within 0 (opening_world slots)
 unfolding opening_world
-opening_locks slots = All-cons (λ t. t.locks ≤ 0) _ [] (omega arith) (λ i d within. absurd (omega arith))
+opening_within slots = (All-cons (HasCounts 0) _ [] (omega arith, omega arith) (λ i d within. absurd (omega arith)), λ i d within. absurd (omega arith))
 
 opening_used : (slots : List (Option DeviceState)) → Used (opening_world slots) 0
 unfolding opening_world
-opening_used slots = (opens slots, opening_locks slots, omega arith, refl, omega arith)
+opening_used slots = (opens slots, opening_within slots, omega arith, refl, omega arith)
 
 pub used_start : (slots : List (Option DeviceState)) (w : WorldState) → w ≡ opening_world slots → Used w 0
 used_start slots w e = subst (λ v. Used v 0) (sym e) (opening_used slots)
 
-used_call : (g : Gate) (w : WorldState) (a : Actor) (n : ℕ) → Used w n → Used (call g w a) (n + 1)
-used_call g w a n (kept, locks, sinces, count, names) =
-    let b = call_advances g w a n kept locks in
-    (b.kept, b.locks, omega (arith, b.sinces, sinces), b.count ∙ count, omega (arith, b.names, names))
+used_call : (g : Gate) (w : WorldState) (a : Actor) (n : ℕ) → MayCall w.kern a → Used w n → Used (call g w a) (n + 1)
+used_call g w a n may (kept, within, sinces, count, names) =
+    let b = call_passes g w a n kept may within in
+    (b.kept, b.within, omega (arith, b.sinces, sinces), b.count ∙ count, omega (arith, b.names, names))
 
 used_more : (w : WorldState) (n : ℕ) → Used w n → Used w (n + 1)
-used_more w n (kept, locks, sinces, count, names) =
-    (kept, All-weaker (λ t. t.locks ≤ n) (λ t. t.locks ≤ n + 1) (λ t h. omega (arith, h)) w.kern.tasks locks, omega (arith, sinces), count, omega (arith, names))
+used_more w n (kept, within, sinces, count, names) = (kept, within_more w n (n + 1) (omega arith) within, omega (arith, sinces), count, omega (arith, names))
 
 -- after a call, which is made or leaves the world
-pub used_called : (r : Called) (g : Gate) (w v : WorldState) (a : Actor) (n : ℕ) → (r ≢ NoMemory → v ≡ call g w a) → (r ≡ NoMemory → v ≡ w) → Used w n → Used v (n + 1)
-used_called Done g w v a n made same u = subst (λ x. Used x (n + 1)) (sym (made (λ e. absurd (cc)))) (used_call g w a n u)
-used_called Pended g w v a n made same u = subst (λ x. Used x (n + 1)) (sym (made (λ e. absurd (cc)))) (used_call g w a n u)
-used_called NoMemory g w v a n made same u = subst (λ x. Used x (n + 1)) (sym (same refl)) (used_more w n u)
+pub used_called : (r : Called) (g : Gate) (w v : WorldState) (a : Actor) (n : ℕ) → MayCall w.kern a → (r ≢ NoMemory → v ≡ call g w a) → (r ≡ NoMemory → v ≡ w) → Used w n → Used v (n + 1)
+used_called Done g w v a n may made same u = subst (λ x. Used x (n + 1)) (sym (made (λ e. absurd (cc)))) (used_call g w a n may u)
+used_called Pended g w v a n may made same u = subst (λ x. Used x (n + 1)) (sym (made (λ e. absurd (cc)))) (used_call g w a n may u)
+used_called Ended g w v a n may made same u = subst (λ x. Used x (n + 1)) (sym (made (λ e. absurd (cc)))) (used_call g w a n may u)
+used_called NoMemory g w v a n may made same u = subst (λ x. Used x (n + 1)) (sym (same refl)) (used_more w n u)
 
 -- a task has other registers
-pub used_regs : (w : WorldState) (k : KernState) (who n : ℕ) (regs : Regs) → k ≡ set_regs w.kern who regs → Used w n → Used (record w { kern = k }) n
-used_regs w k who n regs e (kept, locks, sinces, count, names) =
+pub used_regs : (w : WorldState) (k : KernState) (who n : ℕ) (regs : Regs) → IsFree w.kern who → k ≡ set_regs w.kern who regs → Used w n → Used (record w { kern = k }) n
+used_regs w k who n regs free e (kept, within, sinces, count, names) =
     let f : Task → Task = λ t. record t { regs = regs } in
     let stacks : task_stacks (set_regs w.kern who regs) ≡ task_stacks w.kern = map-change (λ t. t.stack) w.kern.tasks who f (λ t. refl) in
     subst (λ j. Used (record w { kern = j }) n) (sym e) (
       record {
         kern = (every_call_keeps w.kern kept.kern).setting_regs who regs;
         home = kept.home;
+        objects = objects-set_regs w.kern w.objects kept.kern kept.objects who regs free;
         pool = kept.pool;
         stacks = subst (λ s. AreStacks w.part (interrupt_stack ∷ s)) (sym stacks) kept.stacks;
         ram = kept.ram;
         symbols = kept.symbols;
       },
-      All-change (λ t. t.locks ≤ n) w.kern.tasks who f (λ t h. h) locks,
+      (All-change (HasCounts n) w.kern.tasks who f (λ t h. h) within.0, within.1),
       sinces,
       count,
       names,
     )
 
 -- a task has ended
-pub used_end : (w v : WorldState) (who n : ℕ) → v ≡ ended w who → Used w n → Used v n
-used_end w v who n e (kept, locks, sinces, count, names) =
-    let b = ends w who n kept locks in
-    subst (λ x. Used x n) (sym e) (b.kept, b.locks, omega (arith, b.sinces, sinces), b.count ∙ count, omega (arith, b.names, names))
+pub used_end : (w v : WorldState) (who n : ℕ) → v ≡ ended w who → Used w n → Used v (n + 1)
+used_end w v who n e (kept, within, sinces, count, names) =
+    let b = ends w who n kept within in
+    subst (λ x. Used x (n + 1)) (sym e)
+    (b.kept, within_more (ended w who) n (n + 1) (omega arith) b.within, omega (arith, b.sinces, sinces), b.count ∙ count, omega (arith, b.names, names))
 
 -- bytes that are put where there is room for them keep the length
 sized : (ram : List ℕ) (at n : ℕ) (bytes : List ℕ) → length bytes ≡ n → length (cond (has ram at n) (with_bytes ram at bytes) ram) ≡ length ram
@@ -90,8 +96,8 @@ sized ram at n bytes size =
     ] refl
 
 used_ram : (w : WorldState) (ram : List ℕ) (n : ℕ) → length ram ≡ length w.ram → Used w n → Used (record w { ram = ram }) n
-used_ram w ram n e (kept, locks, sinces, count, names) =
-    (record { kern = kept.kern; home = kept.home; pool = kept.pool; stacks = kept.stacks; ram = e ∙ kept.ram; symbols = kept.symbols }, locks, sinces, count, names)
+used_ram w ram n e (kept, within, sinces, count, names) =
+    (record { kern = kept.kern; home = kept.home; objects = kept.objects; pool = kept.pool; stacks = kept.stacks; ram = e ∙ kept.ram; symbols = kept.symbols }, within, sinces, count, names)
 
 -- RAM has other bytes in a range
 pub used_bytes : (w : WorldState) (ram : List ℕ) (at n calls : ℕ) (bytes : List ℕ) → length bytes ≡ n → ram ≡ cond (has w.ram at n) (with_bytes w.ram at bytes) w.ram → Used w calls → Used (record w { ram = ram }) calls

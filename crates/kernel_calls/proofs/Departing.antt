@@ -1,26 +1,26 @@
--- What the end of a task keeps.
+-- What is kept where a task is taken out.
 use Rattle.std.proofs.Common.{◌≡◌, ℕ, zero, suc, ◌+◌, ◌<◌, ◌≤◌, Bool, true, false, not, cond, eqb, List, [], ◌∷◌, length, get_or, map, Option, Some, None, IsSome, refl, sym, ap, ◌∙◌, subst, arith}
 use Rattle.std.specs.List.{All, AllPairs, filter, find}
 use Rattle.std.proofs.lemmas.Bool.{eqb-true, ne_eqb}
-use Rattle.std.proofs.lemmas.List.Elements.{All-head, All-tail, All-cons, All-filter}
+use Rattle.std.proofs.lemmas.List.Elements.{All-head, All-tail, All-cons}
 use Rattle.std.proofs.lemmas.List.Kept.{AllPairs-cons}
 use Rattle.mem_partition.specs.State.{PartState, after_free}
 use Rattle.mem_partition.specs.declared.block.Class.TheVariants.{Kernel}
 use Rattle.task_block.specs.declared.task.Task.{Task}
 use Rattle.wind_lists.specs.Records.{without}
-use Rattle.wind_core.specs.State.{KernState, task_id, task_of}
+use Rattle.wind_core.specs.State.{KernState, Lives, task_id, task_of}
 use Rattle.wind_core.specs.Moves.{remove}
-use Rattle.wind_core.proofs.Keeping.{every_call_keeps}
+use Rattle.wind_core.proofs.Ids.{lives_by}
 use Rattle.kernel_calls.specs.State.{WorldState}
-use Rattle.kernel_calls.specs.Ending.{without_stack, ended}
+use Rattle.kernel_calls.specs.Objects.{KeepsObjects, DepthsWithin}
+use Rattle.kernel_calls.specs.Ending.{without_stack, unguarded, ended}
 use Rattle.kernel_calls.specs.Opening.{interrupt_stack}
-use Rattle.kernel_calls.specs.Kept.{KeepsPool, IsKernels, AreStacks, task_stacks, IsWorld, LocksWithin}
+use Rattle.kernel_calls.specs.Kept.{KeepsPool, IsKernels, AreStacks, IsWorld, Within, ReservedBy}
 use Rattle.kernel_calls.specs.Laws.{Ends, EndLaw}
+use Rattle.kernel_calls.proofs.SafetyGoes.{Leaves, ended_leaves}
 use Rattle.kernel_calls.proofs.Stacks.{pool-free, kernels-other}
-
--- the stacks of tasks
-abbrev stacks : List Task → List ℕ
-stacks ts = map (λ t. t.stack) ts
+use Rattle.kernel_calls.proofs.Taking.{stacks}
+use Rattle.kernel_calls.proofs.Deleting.{objects-ended}
 
 -- what holds of each stack holds of fewer
 fewer : (P : ℕ → Type 0) (ts : List Task) (who : ℕ) → All P (stacks ts) → All P (stacks (without task_id ts who))
@@ -120,20 +120,45 @@ pool_left : (p : PartState) (o : Option Task) → KeepsPool p → KeepsPool (wit
 pool_left p None k = k
 pool_left p (Some t) k = pool-free p t.stack Kernel k
 
+-- from one world to another, where a task is taken out and all others live on
+pub record Departs (w v : WorldState) (who n d : ℕ) : Type 0 where
+  pub kept : IsWorld v
+  pub lives : (id : ℕ) → (id ≡ who → ⊥) → Lives w.kern id → Lives v.kern id
+  pub within : Within n v
+  pub last : v.kern.last ≡ w.kern.last
+  pub reserves : (o : Option ℕ) → ReservedBy o w.kern → ReservedBy o v.kern
+  pub sinces : v.kern.next_since ≤ w.kern.next_since + d
+  pub count : v.kern.tick ≡ w.kern.tick
+  pub names : v.names ≡ w.names
+
+-- the world after that: the task's stack goes back
+abbrev pub parted : WorldState → KernState → ℕ → WorldState
+parted w j who = record w { kern = j; part = without_stack w.part (task_of w.kern.tasks who) }
+
+pub departs : (w : WorldState) (j : KernState) (who n d : ℕ) → IsWorld w → Leaves w.kern j who n d → KeepsObjects j w.objects → DepthsWithin n w.objects → Departs w (parted w j who) who n d
+departs w j who n d kept l objects depths =
+    let part : PartState = without_stack w.part (task_of w.kern.tasks who) in
+    record {
+      kept = record {
+        kern = l.kern;
+        home = l.lent ∙ kept.home;
+        objects = objects;
+        pool = pool_left w.part (task_of w.kern.tasks who) kept.pool;
+        stacks = subst (λ s. AreStacks part (interrupt_stack ∷ s)) (sym l.stacks) (stacks_left w.part w.kern.tasks who (task_of w.kern.tasks who) refl kept.stacks);
+        ram = kept.ram;
+        symbols = kept.symbols;
+      };
+      lives = λ id differ live. lives_by j.tasks (without task_id w.kern.tasks who) id l.alone (others_live w.kern.tasks who id differ live);
+      within = (l.counts, depths);
+      last = l.last;
+      reserves = l.reserves;
+      sinces = l.sinces;
+      count = l.count;
+      names = refl;
+    }
+
 pub ends : EndLaw
-ends w who n kept within = record {
-  kept = record {
-    kern = (every_call_keeps w.kern kept.kern).removing who;
-    home = kept.home;
-    pool = pool_left w.part (task_of w.kern.tasks who) kept.pool;
-    stacks = stacks_left w.part w.kern.tasks who (task_of w.kern.tasks who) refl kept.stacks;
-    ram = kept.ram;
-    symbols = kept.symbols;
-  };
-  lives = λ id differ live. others_live w.kern.tasks who id differ live;
-  locks = All-filter (λ t. not (eqb t.id who)) (λ t. t.locks ≤ n) w.kern.tasks within;
-  reserves = λ o h. All-filter (λ t. not (eqb t.id who)) (λ t. IsSome t.regs.reserve → o ≡ Some t.id) w.kern.tasks h;
-  sinces = refl;
-  count = refl;
-  names = refl;
-}
+ends w who n kept within =
+    let j : KernState = remove (unguarded w.kern who) who in
+    let d = departs w j who n 256 kept (ended_leaves w.kern n kept.kern within.0 who) (objects-ended w.kern w.objects kept.kern kept.objects who) within.1 in
+    record { kept = d.kept; lives = d.lives; within = d.within; reserves = d.reserves; sinces = omega (arith, d.sinces); count = d.count; names = d.names }

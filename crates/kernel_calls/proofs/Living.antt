@@ -1,12 +1,20 @@
 -- The tasks of a call live on.
-use Rattle.std.proofs.Common.{◌≡◌, ℕ, ◌<◌, ◌^◌, true, false, cond, eqb, List, Option, None, Some, IsSome, IfSome, refl, sym, subst, arith}
+use Rattle.std.proofs.Common.{◌≡◌, ℕ, ◌<◌, ◌^◌, true, false, not, ◌&&◌, cond, eqb, List, Option, None, Some, IsSome, IfSome, is_none, refl, sym, subst, arith}
 use Rattle.std.specs.List.{All}
 use Rattle.std.proofs.lemmas.List.Elements.{All-contains}
 use Rattle.std.specs.Option.{option_map}
 use Rattle.task_block.specs.declared.task.Task.{Task}
+use Rattle.task_block.specs.Standing.{is_ready}
 use Rattle.wind_lists.proofs.Records.{found_id, found_at}
 use Rattle.wind_core.specs.State.{KernState, Lives, task_id, task_of}
-use Rattle.wind_core.specs.Moves.{live_id, set_normal}
+use Rattle.wind_core.specs.Moves.{live_id, set_normal, past_gate, leave_gate, set_errno}
+use Rattle.task_safety.specs.Safety.{safe_of}
+use Rattle.kernel_calls.specs.State.{WorldState}
+use Rattle.kernel_calls.specs.Objects.{IsFree, IsReady}
+use Rattle.kernel_calls.specs.Actors.{Acts}
+use Rattle.kernel_calls.specs.Calls.{left_gate, with_errno}
+use Rattle.kernel_calls.specs.declared.actor.Actor.{Actor}
+use Rattle.kernel_calls.specs.declared.actor.Actor.TheVariants.{Task as ATask, Interrupt}
 use Rattle.kernel_calls.specs.TaskRows.{locks_in, locks_of}
 use Rattle.wind_core.proofs.Ids.{ids-change, lives_by}
 
@@ -32,3 +40,29 @@ locks_below k who below =
       | None ↦ λ e. omega arith
       | Some t ↦ λ e. All-contains (λ u. u.locks < 2 ^ 60) k.tasks t below (found_at task_id k.tasks who t e)
     ] refl
+
+-- the same of safe sections
+pub safes_below : (k : KernState) (who : ℕ) → All (λ t. t.safe < 2 ^ 60) k.tasks → safe_of (task_of k.tasks who) < 2 ^ 60
+safes_below k who below =
+    elim (task_of k.tasks who) as (λ o. task_of k.tasks who ≡ o → safe_of o < 2 ^ 60) [
+      | None ↦ λ e. omega arith
+      | Some t ↦ λ e. All-contains (λ u. u.safe < 2 ^ 60) k.tasks t below (found_at task_id k.tasks who t e)
+    ] refl
+
+-- who is ready waits for nothing
+ready_waits : (t : Task) → is_ready t ≡ true → t.wait ≡ None
+ready_waits t ready =
+    elim t.wait as (λ o. (is_none o && (is_none t.wake && not t.suspended)) ≡ true → o ≡ None) [ None ↦ λ e. refl | Some p ↦ λ e. absurd (cc) ] ready
+
+pub ready_free : (k : KernState) (who : ℕ) → IsReady k who → IsFree k who
+ready_free k who ready =
+    elim (task_of k.tasks who) as (λ o. IfSome o (λ t. is_ready t ≡ true) → IfSome o (λ t. t.wait ≡ None)) [ None ↦ λ h. tt | Some t ↦ ready_waits t ] ready
+
+-- so does a caller that goes on behind its gate, or whose error number is set
+pub left_acts : (w : WorldState) (a : Actor) → Acts w.kern a → Acts (left_gate w a).kern a
+left_acts w (ATask who) live = lives_by (leave_gate w.kern who).tasks w.kern.tasks who (ids-change w.kern.tasks who past_gate (λ t. refl)) live
+left_acts w Interrupt live = live
+
+pub errno_acts : (w : WorldState) (a : Actor) (e : ℕ) → Acts w.kern a → Acts (with_errno w a e).kern a
+errno_acts w (ATask who) e live = lives_by (set_errno w.kern who e).tasks w.kern.tasks who (ids-change w.kern.tasks who (λ t. record t { errno = e }) (λ t. refl)) live
+errno_acts w Interrupt e live = live

@@ -1,6 +1,8 @@
 -- The world at the start has the kept facts.
-use Rattle.std.proofs.Common.{◌≡◌, ℕ, true, false, not, cond, leb, ◌+◌, ◌<◌, ◌≤◌, List, [], ◌∷◌, length, Option, Some, None, Result, Ok, Err, refl, sym, ap, ◌∙◌, arith}
+use Rattle.std.proofs.Common.{◌≡◌, ℕ, true, false, not, cond, leb, ◌+◌, ◌<◌, ◌≤◌, List, [], ◌∷◌, length, IfSome, Option, Some, None, Result, Ok, Err, refl, sym, ap, ◌∙◌, arith}
 use Rattle.std.specs.Prelude.{replicate}
+use Rattle.std.specs.List.{All}
+use Rattle.task_block.specs.declared.task.Task.{Task}
 use Rattle.std.specs.Int.RustNames.{count_ones}
 use Rattle.std.proofs.lemmas.List.{length-replicate}
 use Rattle.std.proofs.lemmas.List.Elements.{All-cons}
@@ -15,8 +17,17 @@ use Rattle.mem_partition.specs.declared.block.Class.TheVariants.{Kernel}
 use Rattle.mem_partition.proofs.Places.{gap_place}
 use Rattle.mem_partition.proofs.Allocs.{after_is}
 use Rattle.wind_core.specs.State.{IsKern}
+use Rattle.wind_core.specs.Moves.{new_task}
 use Rattle.wind_core.proofs.Keeping.{every_call_keeps}
-use Rattle.kernel_calls.specs.Opening.{empty_kern, shell_record, opening_part, stack_block, gate_symbols, zeros, opening_world}
+use Rattle.id_table.specs.Rows.{IsId, object_of}
+use Rattle.sem_plain.specs.Kept.{IsCount, IsForEmpty, IsForMade}
+use Rattle.task_safety.specs.Kept.{Deletes, IsSafe}
+use Rattle.inheritance.specs.Mutexes.{both as with_mutexes}
+use Rattle.sem_mutex.proofs.Opening.{opening_keeps}
+use Rattle.sem_mutex.proofs.Lawful.{beside_law}
+use Rattle.msg_queue.proofs.Events.{starts}
+use Rattle.kernel_calls.specs.Objects.{no_objects, is_live, WaitsRight, KeepsObjects}
+use Rattle.kernel_calls.specs.Opening.{empty_kern, opening_kern, shell_record, opening_part, stack_block, gate_symbols, zeros, opening_world}
 use Rattle.kernel_calls.specs.Kept.{IsKernels, AreStacks}
 use Rattle.kernel_calls.specs.Laws.{OpeningLaw}
 
@@ -102,11 +113,40 @@ two_apart = record {
       (λ i j d lt within. absurd (omega arith));
 }
 
+none_yet : {A : Type 0} (P : A → Type 0) → All P []
+none_yet P = λ i d within. absurd (omega arith)
+
+of_one : (P : Task → Type 0) → P (new_task 1 0 shell_record) → All P opening_kern.tasks
+of_one P one = All-cons P (new_task 1 0 shell_record) [] one (none_yet P)
+
+-- the shell's task waits for nothing, and there is no object
+opening_objects : KeepsObjects opening_kern no_objects
+opening_objects = record {
+  waits = record {
+    semaphores = record {
+      ids = none_yet (λ r. r.0 < 2);
+      counts = none_yet (λ r. IsCount r.1);
+      empty = of_one (λ t. IsForEmpty [] t.wait) tt;
+      made = of_one (λ t. IsForMade 2 t.wait) tt;
+    };
+    deleters = of_one (Deletes (IsSafe opening_kern)) tt;
+    live = of_one (λ t. IfSome t.wait (λ p. is_live no_objects p ≡ true)) tt;
+    right = of_one WaitsRight (record { console = tt; repeats = tt });
+  };
+  mutexes = (beside_law (with_mutexes empty_kern []) (opening_keeps (with_mutexes empty_kern []) refl refl)).spawning shell_record;
+  table = record { few = omega arith; rising = λ i j d lt within. absurd (omega arith); ranged = none_yet (λ r. IsId r.0) };
+  queues = λ ram size. starts opening_kern ram ((every_call_keeps empty_kern empty_keeps).spawning shell_record refl) (of_one (λ t. t.wait ≡ None) refl);
+  queues_ranged = none_yet (λ r. 0 < r.0);
+  apart = none_yet (λ r. object_of [] r.0 ≡ None);
+  queues_apart = none_yet (λ r. (object_of [] r.0 ≡ None) × (object_of [] r.0 ≡ None));
+}
+
 pub opens : OpeningLaw
 unfolding opening_world
 opens slots = record {
   kern = (every_call_keeps empty_kern empty_keeps).spawning shell_record refl;
   home = refl;
+  objects = opening_objects;
   pool = record {
     blocks = record { laid = (omega arith, omega arith, omega arith, (omega arith, omega arith, omega arith, tt)); few = omega arith; bound = omega arith };
     start = refl;

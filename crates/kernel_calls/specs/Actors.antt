@@ -4,6 +4,7 @@ use Rattle.std.specs.Option.{option_map}
 use Rattle.wind_base.specs.declared.regs.Regs.{Regs}
 use Rattle.board_mem.specs.Memory.{read}
 use Rattle.wind_core.specs.State.{KernState, Lives, task_of}
+use Rattle.kernel_calls.specs.Objects.{IsReady}
 use Rattle.kernel_calls.specs.State.{WorldState}
 use Rattle.kernel_calls.specs.Starting.{no_regs}
 use Rattle.kernel_calls.specs.declared.actor.Actor.{Actor}
@@ -27,6 +28,11 @@ is_shell Interrupt = false
 abbrev pub Acts : KernState → Actor → Type 0
 Acts k (Task who) = Lives k who
 Acts k Interrupt = Unit {0}
+
+-- a task that makes a call is ready
+abbrev pub MayCall : KernState → Actor → Type 0
+MayCall k (Task who) = IsReady k who
+MayCall k Interrupt = Unit {0}
 
 -- its registers
 abbrev pub regs_of : KernState → Option Regs → Actor → Option Regs

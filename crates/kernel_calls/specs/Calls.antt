@@ -12,21 +12,28 @@ use Rattle.task_block.specs.declared.task.Task.{Task as TaskRecord}
 use Rattle.board_mem.specs.Memory.{has, with_word, string_at}
 use Rattle.wind_core.specs.State.{KernState, task_of}
 use Rattle.wind_core.specs.Moves.{live_id, leave_gate, answer, set_errno}
+use Rattle.msg_queue.specs.State.{Scene, scene}
 use Rattle.kernel_calls.specs.State.{WorldState}
 use Rattle.kernel_calls.specs.Actors.{is_interrupt, is_shell, caller_words}
-use Rattle.kernel_calls.specs.TaskRows.{KernRow, target, suspend_row, resume_row, priority_row, delay_row, lock_row, unlock_row, self_row, verify_row, name_row, slice_row, tick_row}
+use Rattle.kernel_calls.specs.TaskRows.{KernRow, target, suspend_row, resume_row, delay_row, lock_row, unlock_row, self_row, verify_row, name_row, slice_row, tick_row}
+use Rattle.kernel_calls.specs.SafetyRows.{DeleteRow, safe_row, unsafe_row, delete_row}
+use Rattle.kernel_calls.specs.SemRows as sem
+use Rattle.kernel_calls.specs.QueueRows as queue
 use Rattle.kernel_calls.specs.MemoryRows.{PartRow, malloc_row, align_row, free_row}
 use Rattle.kernel_calls.specs.SymbolRows.{SymbolRow, symbol_row}
 use Rattle.kernel_calls.specs.Spawning.{SpawnState, SpawnRow, spawn_parts, spawned_if, task_wanted, quick_wanted, quick_text}
 use Rattle.kernel_calls.specs.declared.actor.Actor.{Actor}
 use Rattle.kernel_calls.specs.declared.actor.Actor.TheVariants.{Task, Interrupt}
 use Rattle.kernel_calls.specs.declared.reply.Reply.{Reply}
-use Rattle.kernel_calls.specs.declared.reply.Reply.TheVariants.{Answer, Refusal, Later}
+use Rattle.kernel_calls.specs.declared.reply.Reply.TheVariants.{Answer, Refusal, Later, Gone}
+use Rattle.kernel_calls.specs.declared.calls.Called.{Called}
+use Rattle.kernel_calls.specs.declared.calls.Called.TheVariants as called
 
 -- the gates whose calls are built
 abbrev pub is_built : Gate → Bool
 is_built gates.TaskSpawn = true
 is_built gates.Sp = true
+is_built gates.TaskDelete = true
 is_built gates.TaskSuspend = true
 is_built gates.TaskResume = true
 is_built gates.TaskPrioritySet = true
@@ -34,11 +41,25 @@ is_built gates.TaskPriorityGet = true
 is_built gates.TaskDelay = true
 is_built gates.TaskLock = true
 is_built gates.TaskUnlock = true
+is_built gates.TaskSafe = true
+is_built gates.TaskUnsafe = true
 is_built gates.TaskIdSelf = true
 is_built gates.TaskIdVerify = true
 is_built gates.TaskNameToId = true
 is_built gates.KernelTimeSlice = true
 is_built gates.TickGet = true
+is_built gates.SemBCreate = true
+is_built gates.SemCCreate = true
+is_built gates.SemMCreate = true
+is_built gates.SemTake = true
+is_built gates.SemGive = true
+is_built gates.SemFlush = true
+is_built gates.SemDelete = true
+is_built gates.MsgQCreate = true
+is_built gates.MsgQSend = true
+is_built gates.MsgQReceive = true
+is_built gates.MsgQDelete = true
+is_built gates.MsgQNumMsgs = true
 is_built gates.Malloc = true
 is_built gates.Free = true
 is_built gates.Memalign = true
@@ -95,6 +116,7 @@ refusal_word g = if makes_object g then ok_word else error_word
 -- the calls that may lack host memory
 abbrev pub may_lack_memory : Gate → Bool
 may_lack_memory gates.SymAdd = true
+may_lack_memory gates.MsgQCreate = true
 may_lack_memory g = false
 
 -- ---- the effect of a call, and how its caller is answered
@@ -105,9 +127,21 @@ pub record Row : Type 0 where
 abbrev pub with_reply : WorldState → Reply → Row
 with_reply w r = record { world = w; reply = r }
 
--- a row of the kernel's tasks, of the partition, of the symbols, of a spawn
+-- a row of the kernel's tasks, of semaphores and mutexes, of queues, of a deletion, of the partition, of the symbols, of a spawn
 abbrev pub of_kern : WorldState → KernRow → Row
 of_kern w r = with_reply (record w { kern = r.kern }) r.reply
+
+abbrev pub of_objects : WorldState → sem.ObjectRow → Row
+of_objects w r = with_reply (record w { kern = r.kern; objects = r.objects }) r.reply
+
+abbrev pub scene_of : WorldState → Scene
+scene_of w = scene w.kern w.objects.queues w.ram
+
+abbrev pub of_queues : WorldState → queue.QueueRow → Row
+of_queues w r = with_reply (record w { kern = r.scene.kern; objects = record w.objects { queues = r.scene.queues }; ram = r.scene.ram }) r.reply
+
+abbrev pub of_deletion : WorldState → DeleteRow → Row
+of_deletion w r = with_reply (record w { kern = r.kern; part = r.part }) r.reply
 
 abbrev pub of_part : WorldState → PartRow → Row
 of_part w r = with_reply (record w { part = r.part }) r.reply
@@ -156,18 +190,33 @@ with_errno w Interrupt n = record w { int_errno = n }
 abbrev pub row : Gate → WorldState → Actor → List ℕ → Row
 row gates.TaskSpawn w a r = of_spawn w (spawned_if (spawn_state w) (task_wanted w.ram r))
 row gates.Sp w a r = of_quick w (spawned_if (spawn_state w) (quick_wanted w.ram r))
+row gates.TaskDelete w a r = of_deletion w (delete_row w.kern w.part a (slice_index r 3))
 row gates.TaskSuspend w a r = of_kern w (suspend_row w.kern (target w.kern a (slice_index r 3)))
 row gates.TaskResume w a r = of_kern w (resume_row w.kern (target w.kern a (slice_index r 3)))
-row gates.TaskPrioritySet w a r = of_kern w (priority_row w.kern (slice_index r 4) (target w.kern a (slice_index r 3)))
+row gates.TaskPrioritySet w a r = of_objects w (sem.priority_row w.kern w.objects (slice_index r 4) (target w.kern a (slice_index r 3)))
 row gates.TaskPriorityGet w a r = priority_in w (slice_index r 4) (task_at w.kern (target w.kern a (slice_index r 3)))
 row gates.TaskDelay w a r = of_kern w (delay_row w.kern a (slice_index r 3))
 row gates.TaskLock w a r = of_kern w (lock_row w.kern a)
 row gates.TaskUnlock w a r = of_kern w (unlock_row w.kern a)
+row gates.TaskSafe w a r = of_kern w (safe_row w.kern a)
+row gates.TaskUnsafe w a r = of_kern w (unsafe_row w.kern a)
 row gates.TaskIdSelf w a r = of_kern w (self_row w.kern a)
 row gates.TaskIdVerify w a r = of_kern w (verify_row w.kern (live_id w.kern.tasks (slice_index r 3)))
 row gates.TaskNameToId w a r = of_kern w (name_row w.kern (string_at w.ram (slice_index r 3)))
 row gates.KernelTimeSlice w a r = of_kern w (slice_row w.kern (slice_index r 3))
 row gates.TickGet w a r = of_kern w (tick_row w.kern)
+row gates.SemBCreate w a r = of_objects w (sem.binary_row w.kern w.objects (slice_index r 3) (slice_index r 4))
+row gates.SemCCreate w a r = of_objects w (sem.counting_row w.kern w.objects (slice_index r 3) (slice_index r 4))
+row gates.SemMCreate w a r = of_objects w (sem.mutex_row w.kern w.objects (slice_index r 3))
+row gates.SemTake w a r = of_objects w (sem.take_row w.kern w.objects a (slice_index r 3) (slice_index r 4))
+row gates.SemGive w a r = of_objects w (sem.give_row w.kern w.objects a (slice_index r 3))
+row gates.SemFlush w a r = of_objects w (sem.flush_row w.kern w.objects (slice_index r 3))
+row gates.SemDelete w a r = of_objects w (sem.delete_row w.kern w.objects (slice_index r 3))
+row gates.MsgQCreate w a r = of_queues w (queue.create_row (scene_of w) (slice_index r 3) (slice_index r 4) (slice_index r 5))
+row gates.MsgQSend w a r = of_queues w (queue.send_row (scene_of w) (slice_index r 3) (queue.sending a (slice_index r 4) (slice_index r 5) (slice_index r 6) (slice_index r 7)))
+row gates.MsgQReceive w a r = of_queues w (queue.receive_row (scene_of w) a (slice_index r 3) (slice_index r 4) (slice_index r 5) (slice_index r 6))
+row gates.MsgQDelete w a r = of_queues w (queue.delete_row (scene_of w) (slice_index r 3))
+row gates.MsgQNumMsgs w a r = of_queues w (queue.count_row (scene_of w) (slice_index r 3))
 row gates.Malloc w a r = of_part w (malloc_row w.part (slice_index r 3))
 row gates.Free w a r = of_part w (free_row w.part (slice_index r 3))
 row gates.Memalign w a r = of_part w (align_row w.part (slice_index r 3) (slice_index r 4))
@@ -193,11 +242,12 @@ abbrev pub with_answer : WorldState → Actor → ℕ → WorldState
 with_answer w (Task who) value = record w { kern = answer w.kern who value }
 with_answer w Interrupt value = record w { level = option_map (in_r3 value) w.level }
 
--- the caller is answered; one that pends is answered later
+-- the caller is answered; one that pends is answered later, and one that has ended is not
 abbrev pub replied : Gate → WorldState → Actor → Reply → WorldState
 replied g w a (Answer value) = with_answer w a value
 replied g w a (Refusal e) = with_answer (with_errno w a (errno_number e)) a (refusal_word g)
 replied g w a Later = w
+replied g w a Gone = w
 
 abbrev pub answered : Gate → Actor → Row → WorldState
 answered g a r = replied g r.world a r.reply
@@ -224,10 +274,12 @@ made g w a = allowed_row g (left_gate w a) a (caller_words w a)
 abbrev pub call : Gate → WorldState → Actor → WorldState
 call g w a = answered g a (made g w a)
 
--- whether the caller pends
-abbrev pub is_later : Reply → Bool
-is_later Later = true
-is_later r = false
+-- what the board is told
+abbrev pub told_by : Reply → Called
+told_by (Answer value) = called.Done
+told_by (Refusal e) = called.Done
+told_by Later = called.Pended
+told_by Gone = called.Ended
 
-abbrev pub pends : Gate → WorldState → Actor → Bool
-pends g w a = is_later (made g w a).reply
+abbrev pub told : Gate → WorldState → Actor → Called
+told g w a = told_by (made g w a).reply

@@ -4,7 +4,9 @@ use Rattle.std.specs.List.{All, AllPairs}
 use Rattle.wind_base.specs.Limits.{ram_bytes, pool_start, most_blocks, most_symbols}
 use Rattle.mem_partition.specs.State.{PartState, IsPart, own_block}
 use Rattle.mem_partition.specs.declared.block.Class.TheVariants.{Kernel}
+use Rattle.task_block.specs.declared.task.Task.{Task}
 use Rattle.wind_core.specs.State.{KernState, IsKern}
+use Rattle.kernel_calls.specs.Objects.{KeepsObjects, DepthsWithin}
 use Rattle.kernel_calls.specs.State.{WorldState}
 use Rattle.kernel_calls.specs.Opening.{interrupt_stack}
 
@@ -36,6 +38,7 @@ pub record KeepsWorld (w : WorldState) : Type 0 where
   pub kern : IsKern w.kern
   -- the kernel has its ids
   pub home : w.kern.lent ≡ false
+  pub objects : KeepsObjects w.kern w.objects
   pub pool : KeepsPool w.part
   pub stacks : KeepsStacks w.kern w.part
   pub ram : length w.ram ≡ ram_bytes
@@ -49,15 +52,24 @@ IsWorld w = KeepsWorld (record w { slots = [] })
 abbrev pub ReservedBy : Option ℕ → KernState → Type 0
 ReservedBy who k = All (λ t. IsSome t.regs.reserve → who ≡ Some t.id) k.tasks
 
--- no task has locked the scheduler more often than n times
-abbrev pub LocksWithin : ℕ → KernState → Type 0
-LocksWithin n k = All (λ t. t.locks ≤ n) k.tasks
+-- the task has locked the scheduler at most n times, and is safe at most n times
+abbrev pub HasCounts : ℕ → Task → Type 0
+HasCounts n t = (t.locks ≤ n) × (t.safe ≤ n)
+
+abbrev pub CountsWithin : ℕ → KernState → Type 0
+CountsWithin n k = All (HasCounts n) k.tasks
+
+-- no count of a task or of a mutex is above n
+abbrev pub Within : ℕ → WorldState → Type 0
+Within n w = CountsWithin n w.kern × DepthsWithin n w.objects
 
 -- the counters lie far below their ends
 pub record Early (w : WorldState) : Type 0 where
   pub sinces : w.kern.next_since < 2 ^ 60
   pub ticks : w.kern.tick < 2 ^ 60
   pub locks : All (λ t. t.locks < 2 ^ 60) w.kern.tasks
+  pub safes : All (λ t. t.safe < 2 ^ 60) w.kern.tasks
+  pub depths : All (λ r. r.1.depth < 2 ^ 60) w.objects.mutexes
   pub names : w.names < 2 ^ 60
 
 abbrev pub IsEarly : WorldState → Type 0

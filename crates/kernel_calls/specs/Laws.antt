@@ -1,20 +1,32 @@
 -- What follows of the definitions of the calls alone.
-use Rattle.std.specs.Prelude.{◌≡◌, ℕ, ◌+◌, ◌≤◌, List, Option}
+use Rattle.std.specs.Prelude.{◌≡◌, ℕ, ◌+◌, ◌≤◌, ◌⊎◌, List, Option}
 use Rattle.wind_base.specs.declared.gate.Gate.{Gate}
 use Rattle.wind_outside.specs.Devices.{DeviceState}
-use Rattle.wind_core.specs.State.{Lives}
+use Rattle.wind_core.specs.State.{Lives, task_of}
+use Rattle.task_safety.specs.Safety.{safe_of}
 use Rattle.kernel_calls.specs.State.{WorldState}
+use Rattle.kernel_calls.specs.Actors.{MayCall, shell_id}
 use Rattle.kernel_calls.specs.Calls.{call}
 use Rattle.kernel_calls.specs.Ending.{ended}
 use Rattle.kernel_calls.specs.Opening.{opening_world}
-use Rattle.kernel_calls.specs.Kept.{IsWorld, LocksWithin, ReservedBy}
+use Rattle.kernel_calls.specs.Kept.{IsWorld, Within, ReservedBy}
 use Rattle.kernel_calls.specs.declared.actor.Actor.{Actor}
+use Rattle.kernel_calls.specs.declared.actor.Actor.TheVariants.{Task}
 
--- from one world to another within one call: the kept facts hold, whoever lives lives on, locks stay within n, no task has a reservation that had none, at most d order numbers and m name numbers were given out, and the tick count stood
-pub record Advances (w v : WorldState) (n d m : ℕ) : Type 0 where
+-- a task that lives in one world and not in the next was not safe from deletion, or is the actor itself
+abbrev pub OnlyUnsafeGo : WorldState → Actor → WorldState → Type 0
+OnlyUnsafeGo w a v = (id : ℕ) → Lives w.kern id → (Lives v.kern id → ⊥) → (safe_of (task_of w.kern.tasks id) ≡ 0) ⊎ (a ≡ Task id)
+
+-- the most order numbers that one call gives out
+abbrev pub call_sinces : ℕ
+call_sinces = 1024
+
+-- from one world to another within one call: the kept facts hold, nobody safe is gone, the shell's task lives on, counts stay within n, no task has a reservation that had none, at most d order numbers and m name numbers were given out, and the tick count stood
+pub record Passes (w v : WorldState) (a : Actor) (n d m : ℕ) : Type 0 where
   pub kept : IsWorld v
-  pub lives : (who : ℕ) → Lives w.kern who → Lives v.kern who
-  pub locks : LocksWithin n v.kern
+  pub gone : OnlyUnsafeGo w a v
+  pub shell : Lives w.kern shell_id → Lives v.kern shell_id
+  pub within : Within n v
   pub last : v.kern.last ≡ w.kern.last
   pub reserves : (who : Option ℕ) → ReservedBy who w.kern → ReservedBy who v.kern
   pub sinces : v.kern.next_since ≤ w.kern.next_since + d
@@ -27,17 +39,17 @@ OpeningLaw = (slots : List (Option DeviceState)) → IsWorld (opening_world slot
 
 -- every call keeps them, whoever makes it
 abbrev pub CallLaw : Type 0
-CallLaw = (g : Gate) (w : WorldState) (a : Actor) (n : ℕ) → IsWorld w → LocksWithin n w.kern → Advances w (call g w a) (n + 1) 2 1
+CallLaw = (g : Gate) (w : WorldState) (a : Actor) (n : ℕ) → IsWorld w → MayCall w.kern a → Within n w → Passes w (call g w a) a (n + 1) call_sinces 1
 
--- so does the end of a task; the others live on, and no counter goes on
+-- so does the end of a task; the others live on
 pub record Ends (w v : WorldState) (who n : ℕ) : Type 0 where
   pub kept : IsWorld v
   pub lives : (id : ℕ) → (id ≡ who → ⊥) → Lives w.kern id → Lives v.kern id
-  pub locks : LocksWithin n v.kern
+  pub within : Within n v
   pub reserves : (who : Option ℕ) → ReservedBy who w.kern → ReservedBy who v.kern
-  pub sinces : v.kern.next_since ≡ w.kern.next_since
+  pub sinces : v.kern.next_since ≤ w.kern.next_since + call_sinces
   pub count : v.kern.tick ≡ w.kern.tick
   pub names : v.names ≡ w.names
 
 abbrev pub EndLaw : Type 0
-EndLaw = (w : WorldState) (who n : ℕ) → IsWorld w → LocksWithin n w.kern → Ends w (ended w who) who n
+EndLaw = (w : WorldState) (who n : ℕ) → IsWorld w → Within n w → Ends w (ended w who) who n

@@ -1,6 +1,11 @@
+pub mod Objects
 pub mod State
 pub mod Actors
 pub mod TaskRows
+pub mod Ending
+pub mod SafetyRows
+pub mod SemRows
+pub mod QueueRows
 pub mod MemoryRows
 pub mod SymbolRows
 pub mod Starting
@@ -10,4 +15,3 @@ pub mod Seen
 pub mod Opening
 pub mod Kept
 pub mod Laws
-pub mod Ending

@@ -12,6 +12,7 @@ use Rattle.symbol_table.specs.declared.symbol.Symbol.{Symbol}
 use Rattle.symbol_table.specs.declared.symbol.SymKind.TheVariants.{TextSym}
 use Rattle.wind_core.specs.State.{KernState}
 use Rattle.wind_core.specs.Moves.{spawn}
+use Rattle.kernel_calls.specs.Objects.{no_objects}
 use Rattle.kernel_calls.specs.State.{WorldState}
 use Rattle.kernel_calls.specs.Starting.{no_regs}
 use Rattle.kernel_calls.specs.Calls.{is_built}
@@ -66,6 +67,7 @@ zeros n = replicate n 0
 unfoldable pub opening_world : List (Option DeviceState) → WorldState
 opening_world slots = record {
   kern = opening_kern;
+  objects = no_objects;
   part = opening_part;
   symbols = gate_symbols gates;
   ram = zeros ram_bytes;

@@ -12,6 +12,7 @@ use Rattle.kernel_calls.specs.declared.world.World.{World}
 abbrev pub world_with : {I : Type 0} {X : I → Type 0} → List (Option DeviceState) → World I X → WorldState
 world_with slots w = record {
   kern = w.kern;
+  objects = w.objects;
   part = w.part;
   symbols = w.syms.list;
   ram = w.bus.ram;

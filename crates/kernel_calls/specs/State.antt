@@ -5,11 +5,14 @@ use Rattle.wind_outside.specs.Devices.{DeviceState}
 use Rattle.mem_partition.specs.State.{PartState}
 use Rattle.symbol_table.specs.declared.symbol.Symbol.{Symbol}
 use Rattle.wind_core.specs.State.{KernState}
+use Rattle.kernel_calls.specs.declared.objects.Objects.{Objects}
 
 -- all that a call of the kernel may read or change
 pub record WorldState : Type 0 where
   -- the kernel's tasks and counters
   pub kern : KernState
+  -- its semaphores, mutexes and message queues
+  pub objects : Objects
   -- the memory partition
   pub part : PartState
   -- the symbols, in order of adding

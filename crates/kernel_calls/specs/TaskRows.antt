@@ -1,12 +1,12 @@
 -- The rows of the calls that touch the kernel's tasks and counters alone.
-use Rattle.std.specs.Prelude.{ℕ, ◌+◌, ◌-◌, ◌%◌, ◌^◌, List, [], Option, None, Some, ◌==◌, nat_le, if◌then◌else◌}
+use Rattle.std.specs.Prelude.{ℕ, ◌+◌, ◌-◌, ◌%◌, ◌^◌, List, [], Option, None, Some, ◌==◌, if◌then◌else◌}
 use Rattle.std.specs.Option.{option_map}
-use Rattle.wind_base.specs.Limits.{least_urgent, ok_word}
+use Rattle.wind_base.specs.Limits.{ok_word}
 use Rattle.wind_base.specs.declared.errno.Errno.{Errno}
 use Rattle.wind_base.specs.declared.errno.Errno.TheVariants as errors
 use Rattle.task_block.specs.declared.task.Task.{Task as TaskRecord}
 use Rattle.wind_core.specs.State.{KernState, task_id, task_of, task_named}
-use Rattle.wind_core.specs.Moves.{live_id, suspend, resume, change_pri, set_normal, set_locks, delay}
+use Rattle.wind_core.specs.Moves.{live_id, suspend, resume, set_locks, delay}
 use Rattle.kernel_calls.specs.declared.actor.Actor.{Actor}
 use Rattle.kernel_calls.specs.declared.actor.Actor.TheVariants.{Task, Interrupt}
 use Rattle.kernel_calls.specs.declared.reply.Reply.{Reply}
@@ -40,15 +40,6 @@ suspend_row k (Some id) = done (suspend k id)
 abbrev pub resume_row : KernState → Option ℕ → KernRow
 resume_row k None = refused k errors.ObjIdError
 resume_row k (Some id) = done (resume k id)
-
--- the priority that the task was given and the one by which it is scheduled; no task inherits one yet
-abbrev pub priority_set : KernState → ℕ → ℕ → KernState
-priority_set k id pri = change_pri (set_normal k id pri) id pri
-
--- taskPrioritySet
-abbrev pub priority_row : KernState → ℕ → Option ℕ → KernRow
-priority_row k pri None = refused k errors.ObjIdError
-priority_row k pri (Some id) = if nat_le pri least_urgent then done (priority_set k id pri) else refused k errors.IllegalPriority
 
 -- a call that a task alone makes
 abbrev pub by_task : KernState → Actor → (ℕ → KernRow) → KernRow

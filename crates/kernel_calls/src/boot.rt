@@ -8,6 +8,7 @@ ghost use Rattle.kernel_calls.specs.Opening.{shell_record as shell_record_lem, o
 ghost use Rattle.kernel_calls.specs.Seen.{world_seen};
 
 use crate::gates::is_built;
+use crate::objects;
 use crate::starting::no_regs;
 use crate::world::World;
 use board_bus::BoardBus;
@@ -136,6 +137,9 @@ impl World {
         let Ok(kern) = opening_kern(alloc) else {
             return Err(slots);
         };
+        let Ok(objects) = objects::reserved(alloc) else {
+            return Err(slots);
+        };
         let Ok(part) = opening_part(alloc) else {
             return Err(slots);
         };
@@ -150,6 +154,7 @@ impl World {
         };
         Ok(World {
             kern,
+            objects,
             part,
             syms,
             bus: BoardBus::new(ram, slots),

@@ -1,13 +1,14 @@
 //! A call of the kernel: its frame, its refusals and its answer.
 
-ghost use Rattle.std.specs.Prelude.{◌≡◌, ◌≢◌, ◌+◌, ◌^◌, ◌<◌, ◌≤◌, [], true, false, IfOk, OnErr, if◌then◌else◌};
+ghost use Rattle.std.specs.Prelude.{◌≡◌, ◌≢◌, ◌+◌, ◌^◌, ◌<◌, ◌≤◌, [], true, false, IfOk, OnErr};
 ghost use Rattle.std.specs.Option.{option_map};
 ghost use Rattle.wind_base.specs.OutBuf.{KeepsSpace};
 ghost use Rattle.wind_base.specs.declared.gate.Gate.TheVariants as gates;
-ghost use Rattle.kernel_calls.specs.Actors.{Acts, is_shell as is_shell_lem, is_interrupt as is_interrupt_lem};
+ghost use Rattle.kernel_calls.specs.Actors.{Acts, MayCall, is_shell as is_shell_lem, is_interrupt as is_interrupt_lem};
 ghost use Rattle.kernel_calls.specs.Kept.{IsWorld, IsEarly};
-ghost use Rattle.kernel_calls.specs.Calls.{is_built, may_lack_memory as may_lack_memory_lem, refusal_before as refusal_before_lem, left_gate, past_gate as past_gate_lem, in_r3, with_answer, replied, with_reply, is_later, made, call, pends};
+ghost use Rattle.kernel_calls.specs.Calls.{is_built, may_lack_memory as may_lack_memory_lem, refusal_before as refusal_before_lem, left_gate, past_gate as past_gate_lem, in_r3, with_answer, replied, with_reply, told_by, told as told_lem, made, call};
 ghost use Rattle.kernel_calls.specs.declared.calls.Called.TheVariants as called;
+ghost use Rattle.kernel_calls.specs.declared.reply.Reply.TheVariants as replies;
 ghost use Rattle.kernel_calls.specs.Seen.{world_seen, world_with};
 
 use crate::actor::{Actor, caller_regs};
@@ -26,6 +27,8 @@ pub enum Called {
     Done,
     /// The caller pends, or is delayed, and is answered at the end of that.
     Pended,
+    /// The caller has ended itself.
+    Ended,
     /// Host memory ran out. The world is as it was before.
     NoMemory,
 }
@@ -104,9 +107,9 @@ fn give_answer(w: &mut World, who: &Actor, value: u32)
     }
 }
 
-// The caller is answered; one that pends is answered later.
+// The caller is answered; one that pends is answered later, and one that has ended is not.
 fn reply_to(w: &mut World, gate: Gate, who: &Actor, reply: &Reply)
-    requires { Acts w.old.kern who.now }
+    requires { reply.now ≢ replies.Gone → Acts w.old.kern who.now }
     ensures world { world_seen ⟦<dyn Device as Device>⟧ w.new
         ≡ replied gate (world_seen ⟦<dyn Device as Device>⟧ w.old) who.now reply.now }
     ensures out { w.new.out ≡ w.old.out }
@@ -117,17 +120,18 @@ fn reply_to(w: &mut World, gate: Gate, who: &Actor, reply: &Reply)
             set_errno(w, who, errno.number());
             give_answer(w, who, refusal_word(gate));
         }
-        Reply::Later => {}
+        Reply::Later | Reply::Gone => {}
     }
 }
 
 // What the board is told of a reply.
 fn told(reply: &Reply) -> Called
-    ensures { result ≡ (if is_later reply.now then called.Pended else called.Done) }
+    ensures { result ≡ told_by reply.now }
 {
     match reply {
+        Reply::Answer(_) | Reply::Refusal(_) => Called::Done,
         Reply::Later => Called::Pended,
-        _ => Called::Done,
+        Reply::Gone => Called::Ended,
     }
 }
 
@@ -136,6 +140,7 @@ fn told(reply: &Reply) -> Called
 fn make(alloc: Global, w: &mut World, gate: Gate, who: &Actor) -> Result<Reply, NoMemory>
     requires built { is_built gate ≡ true }
     requires caller { Acts w.old.kern who.now }
+    requires free { MayCall w.old.kern who.now }
     requires kept { IsWorld (world_with [] w.old) }
     requires early { IsEarly (world_with [] w.old) }
     requires room { 4096 ≤ w.old.out.room }
@@ -160,19 +165,19 @@ fn make(alloc: Global, w: &mut World, gate: Gate, who: &Actor) -> Result<Reply, 
 }
 
 /// Makes a call of the kernel by its gate: the caller goes on behind its gate, the effect of the gate's row is made,
-/// and the caller is answered in r3, at once or at the end of its wait. Host memory may run out only at `symAdd`, and
-/// the world is then as it was.
+/// and the caller is answered in r3, at once or at the end of its wait, unless it has ended itself. A task that calls is
+/// ready. Host memory may run out only at `symAdd` and `msgQCreate`, and the world is then as it was.
 pub fn kernel_call(alloc: Global, w: &mut World, gate: Gate, who: &Actor) -> Called
     requires built { is_built gate ≡ true }
     requires caller { Acts w.old.kern who.now }
+    requires free { MayCall w.old.kern who.now }
     requires kept { IsWorld (world_with [] w.old) }
     requires early { IsEarly (world_with [] w.old) }
     requires room { 4096 ≤ w.old.out.room }
     ensures made { result ≢ called.NoMemory →
         world_seen ⟦<dyn Device as Device>⟧ w.new ≡ call gate (world_seen ⟦<dyn Device as Device>⟧ w.old) who.now }
     ensures answer { result ≢ called.NoMemory →
-        result ≡ (if pends gate (world_seen ⟦<dyn Device as Device>⟧ w.old) who.now
-        then called.Pended else called.Done) }
+        result ≡ told_lem gate (world_seen ⟦<dyn Device as Device>⟧ w.old) who.now }
     ensures memory { result ≡ called.NoMemory → may_lack_memory_lem gate ≡ true }
     ensures unchanged { result ≡ called.NoMemory →
         world_seen ⟦<dyn Device as Device>⟧ w.new ≡ world_seen ⟦<dyn Device as Device>⟧ w.old }

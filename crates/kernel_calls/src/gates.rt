@@ -14,6 +14,7 @@ pub fn is_built(gate: Gate) -> bool
         gate,
         Gate::TaskSpawn
             | Gate::Sp
+            | Gate::TaskDelete
             | Gate::TaskSuspend
             | Gate::TaskResume
             | Gate::TaskPrioritySet
@@ -21,11 +22,25 @@ pub fn is_built(gate: Gate) -> bool
             | Gate::TaskDelay
             | Gate::TaskLock
             | Gate::TaskUnlock
+            | Gate::TaskSafe
+            | Gate::TaskUnsafe
             | Gate::TaskIdSelf
             | Gate::TaskIdVerify
             | Gate::TaskNameToId
             | Gate::KernelTimeSlice
             | Gate::TickGet
+            | Gate::SemBCreate
+            | Gate::SemCCreate
+            | Gate::SemMCreate
+            | Gate::SemTake
+            | Gate::SemGive
+            | Gate::SemFlush
+            | Gate::SemDelete
+            | Gate::MsgQCreate
+            | Gate::MsgQSend
+            | Gate::MsgQReceive
+            | Gate::MsgQDelete
+            | Gate::MsgQNumMsgs
             | Gate::Malloc
             | Gate::Free
             | Gate::Memalign
@@ -98,5 +113,5 @@ pub(crate) fn refusal_word(gate: Gate) -> u32
 pub fn may_lack_memory(gate: Gate) -> bool
     ensures { result ≡ may_lack_memory_lem gate }
 {
-    matches!(gate, Gate::SymAdd)
+    matches!(gate, Gate::SymAdd | Gate::MsgQCreate)
 }

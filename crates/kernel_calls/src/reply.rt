@@ -12,6 +12,8 @@ pub(crate) enum Reply {
     Refusal(Errno),
     /// At the end of its wait.
     Later,
+    /// Not at all: the caller has ended.
+    Gone,
 }
 
 /// A call that is done.

@@ -5,22 +5,26 @@ ghost use Rattle.std.specs.List.{All};
 ghost use Rattle.wind_base.specs.Limits.{ram_bytes};
 ghost use Rattle.wind_base.specs.OutBuf.{KeepsSpace};
 ghost use Rattle.board_mem.specs.Memory.{string_at};
-ghost use Rattle.kernel_calls.specs.Actors.{Acts};
+ghost use Rattle.kernel_calls.specs.Actors.{Acts, MayCall};
 ghost use Rattle.kernel_calls.specs.TaskRows.{target as target_lem};
 ghost use Rattle.kernel_calls.specs.Spawning.{spawned_if, task_wanted as task_wanted_lem, quick_wanted as quick_wanted_lem};
-ghost use Rattle.kernel_calls.specs.Calls.{is_built, with_reply, of_spawn, of_quick, spawn_state, priority_in, task_at, errno_of as errno_of_lem, with_errno, row as row_lem, may_lack_memory};
-ghost use Rattle.kernel_calls.specs.declared.actor.Actor.TheVariants as actors;
+ghost use Rattle.kernel_calls.specs.Calls.{is_built, with_reply, of_spawn, of_quick, spawn_state, priority_in, task_at, errno_of as errno_of_lem, with_errno, row as row_lem, left_gate, may_lack_memory};
+ghost use Rattle.wind_base.specs.declared.gate.Gate.TheVariants as gates;
+ghost use Rattle.kernel_calls.specs.declared.actor.Actor.{Actor};
 ghost use Rattle.kernel_calls.specs.Kept.{IsEarly};
+ghost use Rattle.kernel_calls.specs.Objects.{KeepsObjects};
 ghost use Rattle.kernel_calls.specs.Seen.{world_seen, world_with};
 
 use crate::actor::Actor;
 use crate::memory_rows::{free, malloc, memalign};
+use crate::queue_rows::{self, ReceiveWords, SendWords};
 use crate::reply::{DONE, Reply};
+use crate::safety_rows::{delete, make_safe, make_unsafe};
+use crate::sem_rows;
 use crate::spawning::{quick_wanted, spawn_if, task_wanted, tell_spawn};
 use crate::symbol_rows::{NewSymbol, add_symbol};
 use crate::task_rows::{
-    delay, lock, own_id, resume, set_priority, slice, suspend, target, task_of_name, ticks, unlock,
-    verify,
+    delay, lock, own_id, resume, slice, suspend, target, task_of_name, ticks, unlock, verify,
 };
 use crate::world::World;
 use std::alloc::Global;
@@ -119,18 +123,39 @@ pub(crate) fn set_errno(w: &mut World, who: &Actor, number: u32)
     }
 }
 
-// The row of a gate that may lack memory. It reads nothing of its caller but the words in registers.
+// msgQCreate, with the words in its caller's registers, who may leave the gate behind it. For want of memory nothing
+// changes.
+fn create_queue(alloc: Global, w: &mut World, gpr: &[u32; 32]) -> Result<Reply, NoMemory>
+    requires home { w.old.kern.lent ≡ false }
+    requires objects { KeepsObjects w.old.kern w.old.objects }
+    ensures ok { IfOk result (λ r. (a : Actor) → with_reply (left_gate (world_seen ⟦<dyn Device as Device>⟧ w.new) a) r
+        ≡ row_lem gates.MsgQCreate (left_gate (world_seen ⟦<dyn Device as Device>⟧ w.old) a) a gpr.now) }
+    ensures acts { (a : Actor) → Acts w.old.kern a → Acts w.new.kern a }
+    ensures err { OnErr result (world_seen ⟦<dyn Device as Device>⟧ w.new ≡ world_seen ⟦<dyn Device as Device>⟧ w.old) }
+    ensures out { w.new.out ≡ w.old.out }
+{
+    let Ok(reply) = queue_rows::create(alloc, &mut w.kern, &mut w.objects, gpr[3], gpr[4], gpr[5])
+    else {
+        return Err(NoMemory);
+    };
+    Ok(reply)
+}
+
+// The row of a gate that may lack memory. It reads nothing of its caller but the words in registers, so that the caller
+// may leave the gate behind it. For want of memory nothing changes.
 pub(crate) fn lacking_row(
     alloc: Global,
     w: &mut World,
     gate: Gate,
     gpr: &[u32; 32],
 ) -> Result<Reply, NoMemory>
-    requires { may_lack_memory gate ≡ true }
-    ensures ok { IfOk result (λ r. with_reply (world_seen ⟦<dyn Device as Device>⟧ w.new) r
-        ≡ row_lem gate (world_seen ⟦<dyn Device as Device>⟧ w.old) actors.Interrupt gpr.now) }
+    requires gate { may_lack_memory gate ≡ true }
+    requires home { w.old.kern.lent ≡ false }
+    requires objects { KeepsObjects w.old.kern w.old.objects }
+    ensures ok { IfOk result (λ r. (a : Actor) → with_reply (left_gate (world_seen ⟦<dyn Device as Device>⟧ w.new) a) r
+        ≡ row_lem gate (left_gate (world_seen ⟦<dyn Device as Device>⟧ w.old) a) a gpr.now) }
+    ensures acts { (a : Actor) → Acts w.old.kern a → Acts w.new.kern a }
     ensures err { OnErr result (world_seen ⟦<dyn Device as Device>⟧ w.new ≡ world_seen ⟦<dyn Device as Device>⟧ w.old) }
-    ensures kern { w.new.kern ≡ w.old.kern }
     ensures out { w.new.out ≡ w.old.out }
 {
     match gate {
@@ -142,8 +167,62 @@ pub(crate) fn lacking_row(
             };
             add_symbol(alloc, &mut w.syms, &w.bus.ram, gpr[3], symbol)
         }
+        Gate::MsgQCreate => create_queue(alloc, w, gpr),
         _ => unreachable!(),
     }
+}
+
+// msgQSend, with the words in its caller's registers
+fn send(w: &mut World, who: Actor, gpr: &[u32; 32]) -> Reply
+    requires live { Acts w.old.kern who }
+    requires ready { MayCall w.old.kern who }
+    requires objects { KeepsObjects w.old.kern w.old.objects }
+    requires ram { length w.old.bus.ram ≡ ram_bytes }
+    requires early { IsEarly (world_with [] w.old) }
+    ensures row { with_reply (world_seen ⟦<dyn Device as Device>⟧ w.new) result
+        ≡ row_lem gates.MsgQSend (world_seen ⟦<dyn Device as Device>⟧ w.old) who gpr.now }
+    ensures out { w.new.out ≡ w.old.out }
+{
+    let words = SendWords {
+        buffer: gpr[4],
+        count: gpr[5],
+        timeout: gpr[6],
+        priority: gpr[7],
+    };
+    queue_rows::send(
+        &mut w.kern,
+        &mut w.objects,
+        &mut w.bus.ram,
+        who,
+        gpr[3],
+        words,
+    )
+}
+
+// msgQReceive, with the words in its caller's registers
+fn receive(w: &mut World, who: Actor, gpr: &[u32; 32]) -> Reply
+    requires live { Acts w.old.kern who }
+    requires ready { MayCall w.old.kern who }
+    requires objects { KeepsObjects w.old.kern w.old.objects }
+    requires ram { length w.old.bus.ram ≡ ram_bytes }
+    requires early { IsEarly (world_with [] w.old) }
+    ensures row { with_reply (world_seen ⟦<dyn Device as Device>⟧ w.new) result
+        ≡ row_lem gates.MsgQReceive (world_seen ⟦<dyn Device as Device>⟧ w.old) who gpr.now }
+    ensures out { w.new.out ≡ w.old.out }
+{
+    let words = ReceiveWords {
+        buffer: gpr[4],
+        count: gpr[5],
+        timeout: gpr[6],
+    };
+    queue_rows::receive(
+        &mut w.kern,
+        &mut w.objects,
+        &mut w.bus.ram,
+        who,
+        gpr[3],
+        words,
+    )
 }
 
 // The row of a gate that takes no memory, with the words in its caller's registers.
@@ -153,6 +232,9 @@ pub(crate) fn plain_row(w: &mut World, gate: Gate, who: Actor, gpr: &[u32; 32]) 
     requires live { Acts w.old.kern who }
     requires home { w.old.kern.lent ≡ false }
     requires end { w.old.part.end ≡ ram_bytes }
+    requires ready { MayCall w.old.kern who }
+    requires objects { KeepsObjects w.old.kern w.old.objects }
+    requires ram { length w.old.bus.ram ≡ ram_bytes }
     requires early { IsEarly (world_with [] w.old) }
     requires room { 4096 ≤ w.old.out.room }
     ensures row { with_reply (world_seen ⟦<dyn Device as Device>⟧ w.new) result
@@ -162,18 +244,36 @@ pub(crate) fn plain_row(w: &mut World, gate: Gate, who: Actor, gpr: &[u32; 32]) 
     match gate {
         Gate::TaskSpawn => spawn_task(w, gpr),
         Gate::Sp => spawn_quickly(w, gpr),
+        Gate::TaskDelete => delete(&mut w.kern, &mut w.part, who, gpr[3]),
         Gate::TaskSuspend => suspend(&mut w.kern, who, gpr[3]),
         Gate::TaskResume => resume(&mut w.kern, who, gpr[3]),
-        Gate::TaskPrioritySet => set_priority(&mut w.kern, who, gpr[3], gpr[4]),
+        Gate::TaskPrioritySet => {
+            sem_rows::set_priority(&mut w.kern, &mut w.objects, who, gpr[3], gpr[4])
+        }
         Gate::TaskPriorityGet => get_priority(w, who, gpr[3], gpr[4]),
         Gate::TaskDelay => delay(&mut w.kern, who, gpr[3]),
         Gate::TaskLock => lock(&mut w.kern, who),
         Gate::TaskUnlock => unlock(&mut w.kern, who),
+        Gate::TaskSafe => make_safe(&mut w.kern, who),
+        Gate::TaskUnsafe => make_unsafe(&mut w.kern, who),
         Gate::TaskIdSelf => own_id(who),
         Gate::TaskIdVerify => verify(&w.kern, gpr[3]),
         Gate::TaskNameToId => task_of_name(&w.kern, &w.bus.ram, gpr[3]),
         Gate::KernelTimeSlice => slice(&mut w.kern, gpr[3]),
         Gate::TickGet => ticks(&w.kern),
+        Gate::SemBCreate => { sem_rows::create_binary(&mut w.kern, &mut w.objects, gpr[3], gpr[4]) }
+        Gate::SemCCreate => {
+            sem_rows::create_counting(&mut w.kern, &mut w.objects, gpr[3], gpr[4])
+        }
+        Gate::SemMCreate => sem_rows::create_mutex(&mut w.kern, &mut w.objects, gpr[3]),
+        Gate::SemTake => sem_rows::take(&mut w.kern, &mut w.objects, who, gpr[3], gpr[4]),
+        Gate::SemGive => sem_rows::give(&mut w.kern, &mut w.objects, who, gpr[3]),
+        Gate::SemFlush => sem_rows::flush(&mut w.kern, &mut w.objects, gpr[3]),
+        Gate::SemDelete => sem_rows::delete(&mut w.kern, &mut w.objects, gpr[3]),
+        Gate::MsgQSend => send(w, who, gpr),
+        Gate::MsgQReceive => receive(w, who, gpr),
+        Gate::MsgQDelete => queue_rows::delete(&mut w.kern, &mut w.objects, gpr[3]),
+        Gate::MsgQNumMsgs => queue_rows::count(&w.objects, gpr[3]),
         Gate::Malloc => malloc(&mut w.part, gpr[3]),
         Gate::Free => free(&mut w.part, gpr[3]),
         Gate::Memalign => memalign(&mut w.part, gpr[3], gpr[4]),

@@ -5,14 +5,14 @@ ghost use Rattle.std.specs.List.{All};
 ghost use Rattle.wind_core.specs.State.{Lives, KernState};
 ghost use Rattle.wind_core.specs.Moves.{live_id};
 ghost use Rattle.kernel_calls.specs.Actors.{Acts};
-ghost use Rattle.kernel_calls.specs.TaskRows.{target as target_lem, suspend_row, resume_row, priority_row, delay_row, lock_row, unlock_row, self_row, verify_row, name_row, slice_row, tick_row, locks_of};
+ghost use Rattle.kernel_calls.specs.TaskRows.{target as target_lem, suspend_row, resume_row, delay_row, lock_row, unlock_row, self_row, verify_row, name_row, slice_row, tick_row, locks_of};
 ghost use Rattle.board_mem.specs.Memory.{string_at};
 
 use crate::actor::Actor;
 use crate::reply::{DONE, Reply};
 use board_mem::Ram;
 use id_table::Ident;
-use wind_base::{Errno, Pri};
+use wind_base::Errno;
 use wind_core::Kern;
 
 // The task that an id of a call means: 0 is the caller, where that is a task. None where no such task lives.
@@ -50,24 +50,6 @@ pub(crate) fn resume(kern: &mut Kern, who: Actor, id: u32) -> Reply
         return Reply::Refusal(Errno::ObjIdError);
     };
     kern.resume(id);
-    DONE
-}
-
-#[tactic(auto, using(crate::proofs::Living::set_normal_lives))]
-pub(crate) fn set_priority(kern: &mut Kern, who: Actor, id: u32, pri: u32) -> Reply
-    requires live { Acts kern.old who }
-    requires since { kern.old.next_since + 1 < 2 ^ 64 }
-    ensures kern { kern.new ≡ (priority_row kern.old pri (target_lem kern.old who id)).kern }
-    ensures reply { result ≡ (priority_row kern.old pri (target_lem kern.old who id)).reply }
-{
-    let Some(id) = target(kern, who, id) else {
-        return Reply::Refusal(Errno::ObjIdError);
-    };
-    let Some(pri) = Pri::new(pri) else {
-        return Reply::Refusal(Errno::IllegalPriority);
-    };
-    kern.set_normal(id, pri);
-    kern.change_pri(id, pri);
     DONE
 }
 

@@ -5,6 +5,7 @@ mod blocks;
 mod looks;
 mod opening;
 mod routines;
+mod semaphores;
 mod spawns;
 mod steps;
 mod symbols;
@@ -26,6 +27,12 @@ const ILLEGAL_PRIORITY: u32 = 0x3_0001;
 const TOO_MANY: u32 = 0x3_0003;
 
 const TASK_NOT_FOUND: u32 = 0x3_0005;
+
+const NOT_SAFE: u32 = 0x3_0002;
+
+const OBJ_UNAVAILABLE: u32 = 0x3d_0002;
+
+const INVALID_OPERATION: u32 = 0x16_0003;
 
 const SYMBOLS_FULL: u32 = 0x1c_0001;
 

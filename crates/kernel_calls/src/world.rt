@@ -1,5 +1,6 @@
 //! The world of the kernel's calls.
 
+use crate::objects::Objects;
 use board_bus::BoardBus;
 use mem_partition::Part;
 use symbol_table::Symbols;
@@ -11,6 +12,8 @@ use wind_core::Kern;
 pub struct World {
     /// The kernel's tasks and counters.
     pub kern: Kern,
+    /// Its semaphores, mutexes and message queues.
+    pub objects: Objects,
     /// The memory partition.
     pub part: Part,
     /// The symbols.

@@ -5,6 +5,7 @@ use Rattle.task_block.specs.declared.task.Task.{Task}
 use Rattle.wind_core.specs.Moves.{new_task}
 use Rattle.con_line.proofs.Kept.{start_keeps}
 use Rattle.kernel_calls.specs.Opening.{shell_record, opening_kern, opening_world}
+use Rattle.kernel_calls.specs.Kept.{HasCounts}
 use Rattle.kernel_calls.proofs.Opened.{opens}
 use Rattle.wind_machine.specs.Laws.{StartLaw}
 use Rattle.wind_machine.specs.Machine.{opening}
@@ -26,7 +27,7 @@ begins console schedule slots = record {
   reserved = All-cons Unreserved first_task [] (λ some. absurd (cc)) (All-nil Unreserved);
   sinces = omega arith;
   ticks = omega arith;
-  locks = All-cons (λ (t : Task). t.locks ≤ 0) first_task [] (omega arith) (All-nil (λ (t : Task). t.locks ≤ 0));
+  within = (All-cons (HasCounts 0) first_task [] (omega arith, omega arith) (All-nil (HasCounts 0)), All-nil (λ r. r.1.depth ≤ 0));
   names = omega arith;
   time = omega arith;
 }

@@ -1,5 +1,5 @@
 -- Every step is counted.
-use Rattle.std.proofs.Common.{◌≡◌, ℕ, ◌+◌, Bool, true, false, cond, eqb, Option, None, Some, IfSome, refl, subst}
+use Rattle.std.proofs.Common.{◌≡◌, ℕ, ◌+◌, true, false, cond, eqb, Option, None, Some, IfSome, refl, subst}
 use Rattle.task_block.specs.declared.task.Task.{Task}
 use Rattle.tick_file.specs.Schedule.{Timed}
 use Rattle.tick_file.specs.declared.event.Event.{Event}
@@ -7,7 +7,7 @@ use Rattle.tick_file.specs.declared.event.Event.TheVariants.{Tick, Rx}
 use Rattle.wind_core.specs.Orders.{running}
 use Rattle.kernel_calls.specs.Actors.{shell_id}
 use Rattle.wind_machine.specs.State.{State}
-use Rattle.wind_machine.specs.Machine.{event_comes, event_step, unreserved_world, without_next, arrival, shell_step, task_step, step_of, next_event, jump_to, console_is_due, run_step, quiet_step, step_by, due_event, machine_step}
+use Rattle.wind_machine.specs.Machine.{event_comes, unreserved_world, without_next, arrival, shell_step, task_step, step_of, next_event, jump_to, console_is_due, run_step, quiet_step, step_by, due_event, machine_step}
 use Rattle.wind_machine.specs.declared.phase.Phase.{Phase}
 use Rattle.wind_machine.specs.declared.phase.Phase.TheVariants as phases
 

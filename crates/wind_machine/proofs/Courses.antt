@@ -1,5 +1,5 @@
 -- Every state of every run keeps the facts.
-use Rattle.std.proofs.Common.{◌≡◌, ℕ, zero, suc, true, false, cond, eqb, List, [], ◌∷◌, Option, None, Some, IfSome, refl, subst}
+use Rattle.std.proofs.Common.{◌≡◌, ℕ, zero, suc, true, false, cond, eqb, List, [], ◌∷◌, Option, None, Some, IfSome, add-one, refl, sym, subst}
 use Rattle.std.specs.Prelude.{unwrap_or}
 use Rattle.std.specs.List.{All}
 use Rattle.std.proofs.lemmas.List.Elements.{All-head, All-drop}
@@ -14,7 +14,7 @@ use Rattle.kernel_calls.specs.Actors.{shell_id}
 use Rattle.wind_machine.specs.State.{State}
 use Rattle.wind_machine.specs.Good.{Good}
 use Rattle.tick_file.specs.Laws.{IsEarly, EarlyLaw}
-use Rattle.wind_machine.specs.Laws.{StartLaw, StepLaw, UrgencyLaw, RunLaw}
+use Rattle.wind_machine.specs.Laws.{StartLaw, StepLaw, InstantLaw, SafetyLaw, OnlyUnsafeGo, RunLaw}
 use Rattle.wind_machine.specs.Run.{after}
 use Rattle.wind_machine.specs.Machine.{opening, shell_step, task_step, step_of, event_comes, unreserved_world, without_next, next_event, jump_to, arrival, console_is_due, run_step, quiet_step, step_by, due_event, machine_step}
 use Rattle.wind_machine.specs.declared.phase.Phase.{Phase}
@@ -75,10 +75,20 @@ course : StepLaw → (s : State) → Good s × IsOnTime s → (k : ℕ) → Good
 course step s h zero = h
 course step s h (suc k) = onward step (after s k) (course step s h k)
 
-pub runs_keep : StartLaw → StepLaw → UrgencyLaw → EarlyLaw → RunLaw
-runs_keep start step urgency early console ticks slots k =
+-- in the step that follows, if there is one
+next_safe : SafetyLaw → (s : State) → Good s → OnlyUnsafeGo s (unwrap_or (machine_step s) s)
+next_safe safety s g =
+    elim (machine_step s) as (λ o. machine_step s ≡ o → OnlyUnsafeGo s (unwrap_or o s)) [
+      | None ↦ λ e id live dead. absurd (dead live)
+      | Some t ↦ λ e. safety s t g e
+    ] refl
+
+pub runs_keep : StartLaw → StepLaw → InstantLaw → SafetyLaw → EarlyLaw → RunLaw
+runs_keep start step instant safety early console ticks slots k =
     let begun = opening console (timetable_of ticks) slots in
-    let good = (course step begun (start console (timetable_of ticks) slots, starts_early console (timetable_of ticks) slots (early ticks)) k).0 in (
-      good,
-      λ x runs. urgency (after begun k) x good runs,
-    )
+    let good = (course step begun (start console (timetable_of ticks) slots, starts_early console (timetable_of ticks) slots (early ticks)) k).0 in
+    record {
+      kept = good;
+      instant = instant (after begun k) good;
+      safety = subst (λ n. OnlyUnsafeGo (after begun k) (after begun n)) (sym (add-one k)) (next_safe safety (after begun k) good);
+    }

@@ -1,5 +1,5 @@
 -- What goes on where reservations are dropped.
-use Rattle.std.proofs.Common.{◌≡◌, ℕ, ◌<◌, ◌≤◌, Bool, true, false, cond, eqb, List, [], ◌∷◌, length, get_or, map, Option, Some, IfSome, IsSome, refl, sym, ap, ◌∙◌, subst, arith}
+use Rattle.std.proofs.Common.{◌≡◌, ℕ, ◌<◌, Bool, true, false, cond, eqb, List, [], ◌∷◌, length, get_or, map, Option, Some, IfSome, IsSome, refl, sym, ap, ◌∙◌, subst, arith}
 use Rattle.std.specs.List.{All, AllPairs}
 use Rattle.std.proofs.lemmas.Bool.{eqb-true}
 use Rattle.std.proofs.lemmas.List.{length-map, get_or-map}
@@ -10,8 +10,10 @@ use Rattle.wind_core.specs.Moves.{unreserved, unreserve}
 use Rattle.wind_core.proofs.Ids.{lives_by}
 use Rattle.kernel_calls.specs.State.{WorldState}
 use Rattle.kernel_calls.specs.Opening.{interrupt_stack}
-use Rattle.kernel_calls.specs.Kept.{AreStacks, IsWorld, LocksWithin, ReservedBy}
-use Rattle.kernel_calls.specs.Laws.{Advances}
+use Rattle.kernel_calls.specs.Kept.{AreStacks, IsWorld, HasCounts, Within, ReservedBy}
+use Rattle.kernel_calls.specs.Objects.{KeepsObjects}
+use Rattle.kernel_calls.proofs.ObjectMoves.{objects-unreserve, objects-drop}
+use Rattle.kernel_calls.proofs.Advancing.{Advances}
 use Rattle.wind_machine.specs.Part.{with_kern}
 use Rattle.wind_machine.specs.Reserving.{unless_own, drop_others, drop_all}
 
@@ -22,6 +24,7 @@ pub record Drops (f : Task → Task) : Type 0 where
   pub wake : (t : Task) → (f t).wake ≡ t.wake
   pub stack : (t : Task) → (f t).stack ≡ t.stack
   pub locks : (t : Task) → (f t).locks ≡ t.locks
+  pub safe : (t : Task) → (f t).safe ≡ t.safe
   pub reserve : (t : Task) → IsSome (f t).regs.reserve → IsSome t.regs.reserve
 
 abbrev pub mapped : (Task → Task) → KernState → KernState
@@ -58,18 +61,19 @@ module _ (f : Task → Task) (drops : Drops f) where
   mapped_reserves : (k : KernState) (who : Option ℕ) → ReservedBy who k → ReservedBy who (mapped f k)
   mapped_reserves k who h = all_map (λ t. IsSome t.regs.reserve → who ≡ Some t.id) f k.tasks (λ t own some. own (drops.reserve t some) ∙ ap Some (sym (drops.id t))) h
 
-  pub drop_advances : (w : WorldState) (n : ℕ) → IsWorld w → LocksWithin n w.kern → Advances w (with_kern w (mapped f w.kern)) n 0 0
-  drop_advances w n kept within = record {
+  pub drop_advances : (w : WorldState) (n : ℕ) → IsWorld w → Within n w → KeepsObjects (mapped f w.kern) w.objects → Advances w (with_kern w (mapped f w.kern)) n 0 0
+  drop_advances w n kept within objects = record {
     kept = record {
       kern = mapped_is w.kern kept.kern;
       home = kept.home;
+      objects = objects;
       pool = kept.pool;
       stacks = subst (λ s. AreStacks w.part (interrupt_stack ∷ s)) (sym (same_field (λ t. t.stack) f w.kern.tasks drops.stack)) kept.stacks;
       ram = kept.ram;
       symbols = kept.symbols;
     };
     lives = λ who h. lives_by (map f w.kern.tasks) w.kern.tasks who (same_field task_id f w.kern.tasks drops.id) h;
-    locks = all_map (λ t. t.locks ≤ n) f w.kern.tasks (λ t h. omega (arith, h, drops.locks t)) within;
+    within = (all_map (HasCounts n) f w.kern.tasks (λ t h. (omega (arith, h.0, drops.locks t), omega (arith, h.1, drops.safe t))) within.0, within.1);
     last = refl;
     reserves = λ who h. mapped_reserves w.kern who h;
     sinces = omega arith;
@@ -79,7 +83,7 @@ module _ (f : Task → Task) (drops : Drops f) where
 
 -- ---- that of one task, of all, of all others
 unreserved_drops : Drops unreserved
-unreserved_drops = record { id = λ t. refl; since = λ t. refl; wake = λ t. refl; stack = λ t. refl; locks = λ t. refl; reserve = λ t some. absurd (cc) }
+unreserved_drops = record { id = λ t. refl; since = λ t. refl; wake = λ t. refl; stack = λ t. refl; locks = λ t. refl; safe = λ t. refl; reserve = λ t some. absurd (cc) }
 
 -- where a test says whether a task's goes
 by_test : (f : Task → Task) → ((t : Task) → (b : Bool) × (f t ≡ cond b (unreserved t) t)) → Drops f
@@ -89,6 +93,7 @@ by_test f tests = record {
   wake = λ t. one (Option ℕ) (λ u. u.wake) t refl;
   stack = λ t. one ℕ (λ u. u.stack) t refl;
   locks = λ t. one ℕ (λ u. u.locks) t refl;
+  safe = λ t. one ℕ (λ u. u.safe) t refl;
   reserve = λ t some. reserve t (tests t).0 (tests t).1 some;
 }
   where
@@ -108,15 +113,15 @@ own_drops who = by_test (of_own who) (λ t. (eqb t.id who, refl))
 other_drops : (who : ℕ) → Drops (unless_own who)
 other_drops who = by_test (unless_own who) (λ t. elim (eqb t.id who) as (λ c. (b : Bool) × (cond c t (unreserved t) ≡ cond b (unreserved t) t)) [ true ↦ (false, refl) | false ↦ (true, refl) ])
 
-module _ (w : WorldState) (n : ℕ) (kept : IsWorld w) (within : LocksWithin n w.kern) where
+module _ (w : WorldState) (n : ℕ) (kept : IsWorld w) (within : Within n w) where
   pub unreserve_advances : (who : ℕ) → Advances w (with_kern w (unreserve w.kern who)) n 0 0
-  unreserve_advances who = drop_advances (of_own who) (own_drops who) w n kept within
+  unreserve_advances who = drop_advances (of_own who) (own_drops who) w n kept within (objects-unreserve w.kern w.objects kept.kern kept.objects who)
 
   pub others_advance : (who : ℕ) → Advances w (with_kern w (drop_others w.kern who)) n 0 0
-  others_advance who = drop_advances (unless_own who) (other_drops who) w n kept within
+  others_advance who = drop_advances (unless_own who) (other_drops who) w n kept within (objects-drop w.kern w.objects kept.objects (λ t. eqb t.id who))
 
   pub all_advance : Advances w (with_kern w (drop_all w.kern)) n 0 0
-  all_advance = drop_advances unreserved unreserved_drops w n kept within
+  all_advance = drop_advances unreserved unreserved_drops w n kept within (objects-drop w.kern w.objects kept.objects (λ t. false))
 
 -- whoever has a reservation is this task, where the others' are dropped
 pub others_reserved : (k : KernState) (who : ℕ) → ReservedBy (Some who) (drop_others k who)

@@ -1,5 +1,5 @@
 -- What bytes of the console keep of the kernel, and how many order numbers they give out.
-use Rattle.std.proofs.Common.{◌≡◌, ℕ, suc, ◌+◌, ◌*◌, ◌≤◌, ◌<◌, Bool, true, false, ◌||◌, cond, eqb, List, [], ◌∷◌, length, take, drop, Option, None, Some, is_some, get_or, drop-cons, add-one, refl, sym, ap, ◌∙◌, subst, arith, length-append}
+use Rattle.std.proofs.Common.{◌≡◌, ℕ, suc, ◌+◌, ◌*◌, ◌≤◌, ◌<◌, Bool, true, false, ◌||◌, cond, eqb, List, [], ◌∷◌, length, take, drop, Option, None, Some, IfSome, is_some, get_or, drop-cons, add-one, refl, sym, ap, ◌∙◌, subst, arith, length-append}
 use Rattle.std.specs.Option.{option_map}
 use Rattle.std.specs.List.{fold}
 use Rattle.std.proofs.lemmas.List.{length-take}
@@ -9,6 +9,7 @@ use Rattle.task_block.specs.Standing.{is_ready}
 use Rattle.wind_lists.specs.Records.{change}
 use Rattle.wind_core.specs.State.{KernState, IsKern, task_id, task_of}
 use Rattle.wind_core.specs.Moves.{renewed, settled, move_found, released, release, unmarked}
+use Rattle.wind_core.proofs.Keeping.{every_call_keeps}
 use Rattle.con_line.specs.State.{ConsoleState}
 use Rattle.con_line.specs.Keys.{byte_done}
 use Rattle.con_line.specs.Lines.{KeepsLines}
@@ -22,7 +23,10 @@ use Rattle.kernel_calls.specs.Actors.{shell_id}
 use Rattle.wind_machine.specs.Task.{shell_task, is_at_console, waits_for_console, is_held, let_go, aborted}
 use Rattle.wind_machine.specs.Machine.{Heard, hear, heard_all, heard_from, kern_after}
 use Rattle.wind_machine.proofs.TaskLemmas.{since-move}
-use Rattle.kernel_calls.specs.Kept.{LocksWithin}
+use Rattle.kernel_calls.specs.Kept.{CountsWithin}
+use Rattle.kernel_calls.specs.Objects.{KeepsObjects}
+use Rattle.kernel_calls.specs.declared.objects.Objects.{Objects}
+use Rattle.kernel_calls.proofs.ObjectMoves.{objects-release, objects-reset}
 use Rattle.kernel_calls.proofs.Goes.{Goes, goes_nowhere, goes_on, goes_further, goes-release}
 use Rattle.wind_machine.proofs.Moves.{goes-aborted}
 use Rattle.wind_machine.proofs.Kept.{byte_has_line}
@@ -113,9 +117,10 @@ pub record HeardWell (from : KernState) (h : Heard) (n d spent : ℕ) : Type 0 w
   pub lines : KeepsLines h.console.edited h.console.finished
   pub read : HasItsLine h.shell.phase h.console.finished
   pub goes : Goes from h.kern n d
+  pub objects : (o : Objects) → KeepsObjects from o → KeepsObjects h.kern o
   pub spends : h.kern.next_since + owed h.kern ≤ from.next_since + owed from + spent
 
-after_goes : (d : ByteDone) (waits : Bool) (k : KernState) (n : ℕ) → IsKern k → LocksWithin n k → Goes k (kern_after d waits k) n 2
+after_goes : (d : ByteDone) (waits : Bool) (k : KernState) (n : ℕ) → IsKern k → CountsWithin n k → Goes k (kern_after d waits k) n 2
 after_goes done.Abort waits k n is within = goes-aborted k n is within
 after_goes done.Line waits k n is within =
     elim waits as (λ b. Goes k (cond b (release k shell_id) k) n 2) [
@@ -124,35 +129,57 @@ after_goes done.Line waits k n is within =
     ]
 after_goes done.Kept waits k n is within = goes_further k k n n 0 2 (omega arith) (omega arith) (goes_nowhere k n is within)
 
+-- ---- objects
+task_free : (o : Option Task) → is_held o ≡ false → IfSome o (λ t. t.wait ≡ None)
+task_free None e = tt
+task_free (Some t) e = elim t.wait as (λ w. (is_some w || is_some t.wake) ≡ false → w ≡ None) [ None ↦ λ q. refl | Some p ↦ λ q. absurd (cc) ] e
+
+objects-let_go : (k : KernState) (o : Objects) → IsKern k → KeepsObjects k o → KeepsObjects (let_go k) o
+objects-let_go k o is kept = elim (is_held (shell_task k)) as (λ b. KeepsObjects (cond b (release k shell_id) k) o) [ true ↦ objects-release k o is kept shell_id | false ↦ kept ]
+
+is-let_go : (k : KernState) → IsKern k → IsKern (let_go k)
+is-let_go k is = elim (is_held (shell_task k)) as (λ b. IsKern (cond b (release k shell_id) k)) [ true ↦ (every_call_keeps k is).releasing shell_id | false ↦ is ]
+
+pub objects-aborted : (k : KernState) (o : Objects) → IsKern k → KeepsObjects k o → KeepsObjects (aborted k) o
+objects-aborted k o is kept =
+    objects-reset (let_go k) o (is-let_go k is) (objects-let_go k o is kept) shell_id (task_free (shell_task (let_go k)) (free_after_let_go k))
+
+after_objects : (d : ByteDone) (waits : Bool) (k : KernState) (o : Objects) → IsKern k → KeepsObjects k o → KeepsObjects (kern_after d waits k) o
+after_objects done.Abort waits k o is kept = objects-aborted k o is kept
+after_objects done.Line waits k o is kept = elim waits as (λ b. KeepsObjects (cond b (release k shell_id) k) o) [ true ↦ objects-release k o is kept shell_id | false ↦ kept ]
+after_objects done.Kept waits k o is kept = kept
+
 hear_well : (from : KernState) (h : Heard) (b n d spent : ℕ) → HeardWell from h n d spent → HeardWell from (hear h b) n (d + 2) (spent + 1)
 hear_well from h b n d spent w = record {
   lines = byte_keeps h.console b w.lines;
   read = byte_has_line h.console (waits_for_console h.kern) h.shell b w.read;
-  goes = goes_on from h.kern (hear h b).kern n n d 2 w.goes (after_goes (byte_done h.console b) (waits_for_console h.kern) h.kern n w.goes.kern w.goes.locks);
+  goes = goes_on from h.kern (hear h b).kern n n d 2 w.goes (after_goes (byte_done h.console b) (waits_for_console h.kern) h.kern n w.goes.kern w.goes.counts);
+  objects = λ o kept. after_objects (byte_done h.console b) (waits_for_console h.kern) h.kern o w.goes.kern (w.objects o kept);
   spends = omega (arith, w.spends, after_spends (byte_done h.console b) h.kern);
 }
 
 heard_well : (from : KernState) (h : Heard) (bytes : List ℕ) (n d spent : ℕ) → HeardWell from h n d spent → HeardWell from (heard_all h bytes) n (d + 2 * length bytes) (spent + length bytes)
 unfolding heard_all
-heard_well from h [] n d spent w = record { lines = w.lines; read = w.read; goes = goes_further from h.kern n n d (d + 2 * 0) (omega arith) (omega arith) w.goes; spends = omega (arith, w.spends) }
+heard_well from h [] n d spent w = record { lines = w.lines; read = w.read; goes = goes_further from h.kern n n d (d + 2 * 0) (omega arith) (omega arith) w.goes; objects = w.objects; spends = omega (arith, w.spends) }
 heard_well from h (b ∷ bs) n d spent w =
     let rest = heard_well from (hear h b) bs n (d + 2) (spent + 1) (hear_well from h b n d spent w) in
     record {
       lines = rest.lines;
       read = rest.read;
       goes = goes_further from (heard_all (hear h b) bs).kern n n (d + 2 + 2 * length bs) (d + 2 * suc (length bs)) (omega arith) (omega arith) rest.goes;
+      objects = rest.objects;
       spends = omega (arith, rest.spends);
     }
 
 -- bytes that come to a console and a kernel with the kept facts
-pub heard_keeps : (console : ConsoleState) (shell : ShellState) (k : KernState) (echo bytes : List ℕ) (n : ℕ) → KeepsLines console.edited console.finished → HasItsLine shell.phase console.finished → IsKern k → LocksWithin n k
+pub heard_keeps : (console : ConsoleState) (shell : ShellState) (k : KernState) (echo bytes : List ℕ) (n : ℕ) → KeepsLines console.edited console.finished → HasItsLine shell.phase console.finished → IsKern k → CountsWithin n k
     → (h : Heard) → h ≡ heard_all (heard_from console shell k echo) bytes
-    → KeepsLines h.console.edited h.console.finished × HasItsLine h.shell.phase h.console.finished × Goes k h.kern n (length bytes + 1)
+    → KeepsLines h.console.edited h.console.finished × HasItsLine h.shell.phase h.console.finished × Goes k h.kern n (length bytes + 1) × ((o : Objects) → KeepsObjects k o → KeepsObjects h.kern o)
 heard_keeps console shell k echo bytes n lines read is within h e =
-    let start : HeardWell k (heard_from console shell k echo) n 0 0 = record { lines = lines; read = read; goes = goes_nowhere k n is within; spends = omega arith } in
+    let start : HeardWell k (heard_from console shell k echo) n 0 0 = record { lines = lines; read = read; goes = goes_nowhere k n is within; objects = λ o kept. kept; spends = omega arith } in
     let w : HeardWell k h n (0 + 2 * length bytes) (0 + length bytes) = subst (λ g. HeardWell k g n (0 + 2 * length bytes) (0 + length bytes)) (sym e) (heard_well k (heard_from console shell k echo) bytes n 0 0 start) in
     let one : owed k ≤ 1 = elim (is_held (shell_task k)) as (λ b. cond b 1 0 ≤ 1) [ true ↦ omega arith | false ↦ omega arith ] in
-    (w.lines, w.read, record { kern = w.goes.kern; alone = w.goes.alone; stacks = w.goes.stacks; lent = w.goes.lent; last = w.goes.last; reserves = w.goes.reserves; locks = w.goes.locks; sinces = omega (arith, w.spends, one); count = w.goes.count })
+    (w.lines, w.read, record { kern = w.goes.kern; alone = w.goes.alone; stacks = w.goes.stacks; lent = w.goes.lent; last = w.goes.last; reserves = w.goes.reserves; counts = w.goes.counts; sinces = omega (arith, w.spends, one); count = w.goes.count }, w.objects)
 
 -- ---- a chunk has at most 4,097 bytes
 taken_short : (left : List ℕ) (o : Option ℕ) → first_end left ≡ o → taken_by o ≤ 4096

@@ -2,12 +2,15 @@ pub mod Reserving
 pub mod TaskLemmas
 pub mod Executing
 pub mod Dropping
+pub mod Free
 pub mod Turns
 pub mod Moves
 pub mod Kept
 pub mod Hearing
 pub mod Parts
+pub mod Instants
 pub mod Steps
+pub mod Going
 pub mod Beginning
 pub mod Courses
 pub mod Counting

@@ -1,5 +1,5 @@
 -- The moves of the shell's task that are the machine's own, and a tick.
-use Rattle.std.proofs.Common.{◌≡◌, ℕ, ◌+◌, ◌≤◌, true, false, cond, eqb, List, [], ◌∷◌, Option, None, Some, is_some, refl, ◌∙◌, arith}
+use Rattle.std.proofs.Common.{◌≡◌, ℕ, ◌+◌, true, false, cond, eqb, List, [], ◌∷◌, Option, None, Some, is_some, refl, ◌∙◌, arith}
 use Rattle.std.specs.List.{fold}
 use Rattle.task_block.specs.declared.task.Task.{Task}
 use Rattle.wind_core.specs.State.{KernState, IsKern, task_of}
@@ -11,12 +11,12 @@ use Rattle.wind_core.proofs.Keeping.{every_call_keeps}
 use Rattle.wind_core.proofs.Stable.{renew_task-stable, tick-stable}
 use Rattle.wind_core.proofs.Unwritten.{map-renew, map-tick}
 use Rattle.kernel_calls.specs.Actors.{shell_id}
-use Rattle.kernel_calls.specs.Kept.{LocksWithin, ReservedBy, task_stacks}
+use Rattle.kernel_calls.specs.Kept.{HasCounts, CountsWithin, ReservedBy, task_stacks}
 use Rattle.kernel_calls.proofs.Goes.{Goes, goes_nowhere, goes_on, goes_further, goes-release, goes-reset, reserved_by}
 use Rattle.wind_machine.specs.Task.{shell_task, console_place, is_held, listening, let_go, aborted}
 
 -- ---- the shell's task
-pub goes-listening : (k : KernState) (n : ℕ) → IsKern k → LocksWithin n k → Goes k (listening k) n 1
+pub goes-listening : (k : KernState) (n : ℕ) → IsKern k → CountsWithin n k → Goes k (listening k) n 1
 goes-listening k n is within =
     let f : Task → Task = pended console_place false (wake_at 3 k.tick 4294967295) in
     record {
@@ -26,22 +26,22 @@ goes-listening k n is within =
       lent = refl;
       last = refl;
       reserves = map-renew (λ (t : Task). t.regs.reserve) (λ since t. refl) k shell_id f (λ t. refl);
-      locks = renew_task-stable (λ t. t.locks ≤ n) (λ since t h. h) k shell_id f (λ t h. h) within;
+      counts = renew_task-stable (HasCounts n) (λ since t h. h) k shell_id f (λ t h. h) within;
       sinces = omega arith;
       count = refl;
     }
 
-pub goes-let_go : (k : KernState) (n : ℕ) → IsKern k → LocksWithin n k → Goes k (let_go k) n 1
+pub goes-let_go : (k : KernState) (n : ℕ) → IsKern k → CountsWithin n k → Goes k (let_go k) n 1
 goes-let_go k n is within =
     elim (is_held (shell_task k)) as (λ b. Goes k (cond b (release k shell_id) k) n 1) [
       | true ↦ goes-release k n is within shell_id
       | false ↦ goes_further k k n n 0 1 (omega arith) (omega arith) (goes_nowhere k n is within)
     ]
 
-pub goes-aborted : (k : KernState) (n : ℕ) → IsKern k → LocksWithin n k → Goes k (aborted k) n 2
+pub goes-aborted : (k : KernState) (n : ℕ) → IsKern k → CountsWithin n k → Goes k (aborted k) n 2
 goes-aborted k n is within =
     let a = goes-let_go k n is within in
-    goes_on k (let_go k) (aborted k) n n 1 1 a (goes-reset (let_go k) n a.kern a.locks shell_id)
+    goes_on k (let_go k) (aborted k) n n 1 1 a (goes-reset (let_go k) n a.kern a.counts shell_id)
 
 -- ---- a tick: what it leaves that is no task, order number or count
 module _ {A : Type 0} (part : KernState → A) (apart : (k : KernState) (ts : List Task) (n : ℕ) → part (record k { tasks = ts; next_since = n }) ≡ part k) where
@@ -74,5 +74,5 @@ stacks-tick k = map-tick (λ (t : Task). t.stack) (λ n t. refl) (λ answer errn
 pub reserved-tick : (k : KernState) (who : Option ℕ) → ReservedBy who k → ReservedBy who (tick k)
 reserved-tick k who h = reserved_by k.tasks (tick k).tasks who (ids-tick k) (map-tick (λ (t : Task). t.regs.reserve) (λ n t. refl) (λ answer errno t. refl) (λ n t. refl) k) h
 
-pub locks-tick : (k : KernState) (n : ℕ) → LocksWithin n k → LocksWithin n (tick k)
-locks-tick k n within = tick-stable (λ t. t.locks ≤ n) (λ since t h. h) (λ answer errno t h. h) (λ turns t h. h) k within
+pub counts-tick : (k : KernState) (n : ℕ) → CountsWithin n k → CountsWithin n (tick k)
+counts-tick k n within = tick-stable (HasCounts n) (λ since t h. h) (λ answer errno t h. h) (λ turns t h. h) k within

@@ -8,16 +8,22 @@ use Rattle.ppc_core.specs.declared.trap.Trap.{Trap}
 use Rattle.ppc_core.specs.declared.trap.Trap.TheVariants as traps
 use Rattle.board_bus.specs.BusState.{BusState}
 use Rattle.board_bus.specs.Access.{board_meaning, fetched}
-use Rattle.wind_core.specs.State.{task_of}
+use Rattle.wind_core.specs.State.{Lives, task_of}
 use Rattle.wind_core.specs.Moves.{suspend}
 use Rattle.kernel_calls.specs.State.{WorldState}
 use Rattle.kernel_calls.specs.Actors.{shell_id}
 use Rattle.kernel_calls.specs.Calls.{call, is_built}
 use Rattle.kernel_calls.specs.Ending.{ended}
-use Rattle.kernel_calls.specs.Kept.{IsWorld, LocksWithin}
+use Rattle.kernel_calls.specs.Kept.{IsWorld, Within}
 use Rattle.kernel_calls.specs.declared.actor.Actor.TheVariants.{Task as by_task}
 use Rattle.kernel_calls.proofs.Goes.{goes-suspend}
-use Rattle.kernel_calls.proofs.Advancing.{advances_on, by_kern, call_advances}
+use Rattle.kernel_calls.proofs.ObjectMoves.{objects-listen, objects-suspend}
+use Rattle.wind_machine.proofs.Hearing.{objects-aborted}
+use Rattle.kernel_calls.specs.Laws.{call_sinces}
+use Rattle.kernel_calls.specs.Objects.{IsFree, IsReady}
+use Rattle.kernel_calls.proofs.Living.{ready_free}
+use Rattle.kernel_calls.proofs.Advancing.{by_kern}
+use Rattle.kernel_calls.proofs.Passing.{call_passes}
 use Rattle.shell_eval.specs.Pending.{Pending}
 use Rattle.shell_eval.specs.Evaluate.{Ending, Value, Call, Fault, Waiting, evaluate}
 use Rattle.shell_eval.proofs.KeptSteps.{keeps}
@@ -33,7 +39,7 @@ use Rattle.wind_machine.specs.declared.phase.Phase.TheVariants as phases
 use Rattle.wind_machine.proofs.Executing.{IfDone, executing_lasts, sizes_last}
 use Rattle.wind_machine.proofs.Dropping.{unreserve_advances}
 use Rattle.wind_machine.proofs.Moves.{goes-listening, goes-aborted}
-use Rattle.wind_machine.proofs.Turns.{Turns, turns_by, nowhere, more_locks, touched, wrote, gave_regs, ended_turns, framed_size, evaluated_turns}
+use Rattle.wind_machine.proofs.Turns.{Turns, turns_by, turns_passed, turns_then, nowhere, more_counts, touched, wrote, gave_regs, ended_turns, framed_size, evaluated_turns}
 use Rattle.wind_machine.proofs.Kept.{needs_none}
 
 -- what a step of a task leaves: the world went on, and a shell that reads has its line
@@ -41,19 +47,19 @@ pub record PartKeeps (w : WorldState) (p : Part) (who n : ℕ) (finished : List 
   pub turns : Turns w p.world who n
   pub read : HasItsLine p.shell.phase finished
 
-module _ (w : WorldState) (n : ℕ) (kept : IsWorld w) (within : LocksWithin n w.kern) where
+module _ (w : WorldState) (n : ℕ) (kept : IsWorld w) (within : Within n w) where
   here : (who : ℕ) → Turns w w who (n + 1)
-  here who = more_locks w w who n (nowhere w who n kept within)
+  here who = more_counts w w who n (nowhere w who n kept within)
 
   -- ---- the shell's own steps
-  pub prompt_turns : (has : Bool) (shell : ShellState) → Turns w (prompt_part has shell w).world shell_id (n + 1)
-  prompt_turns has shell =
+  pub prompt_turns : Lives w.kern shell_id → (has : Bool) (shell : ShellState) → Turns w (prompt_part has shell w).world shell_id (n + 1)
+  prompt_turns live has shell =
       elim has as (λ b. Turns w (writing (with_kern w (cond b w.kern (listening w.kern))) prompt_text) shell_id (n + 1)) [
         | true ↦ wrote w w shell_id (n + 1) (here shell_id) (w.output ++ prompt_text)
         | false ↦
             let v = with_kern w (listening w.kern) in
-            let goes = turns_by w v shell_id n 1 0 (omega arith) (omega arith) (by_kern w kept (listening w.kern) n 1 (goes-listening w.kern n kept.kern within)) in
-            wrote w v shell_id (n + 1) (more_locks w v shell_id n goes) (w.output ++ prompt_text)
+            let goes = turns_by w v shell_id n 1 0 (omega arith) (omega arith) (by_kern w kept (listening w.kern) n 1 (goes-listening w.kern n kept.kern within.0) (objects-listen w.kern w.objects kept.kern kept.objects false 4294967295 live (omega arith)) within.1) in
+            wrote w v shell_id (n + 1) (more_counts w v shell_id n goes) (w.output ++ prompt_text)
       ]
 
   pub read_turns : (reading : Reading) → Turns w (read_part reading w).world shell_id (n + 1)
@@ -65,38 +71,38 @@ module _ (w : WorldState) (n : ℕ) (kept : IsWorld w) (within : LocksWithin n w
     behind_phase [] = λ e. cc
     behind_phase (p ∷ ps) = λ e. cc
 
-    called : (v : WorldState) → Turns w v shell_id (n + 1) → (callee : ℕ) (words : List ℕ) → Turns w (calling v callee words) shell_id (n + 1)
-    called v t callee words =
+    called : (v : WorldState) → IsFree v.kern shell_id → Turns w v shell_id (n + 1) → (callee : ℕ) (words : List ℕ) → Turns w (calling v callee words) shell_id (n + 1)
+    called v free t callee words =
         let u = with_kern v (calling v callee words).kern in
-        touched w u shell_id (n + 1) (gave_regs w v shell_id (n + 1) t (call_regs callee words)) (calling v callee words).ram v.slots v.output (framed_size v.ram stack_pointer words)
+        touched w u shell_id (n + 1) (gave_regs w v shell_id (n + 1) t (call_regs callee words) free) (calling v callee words).ram v.slots v.output (framed_size v.ram stack_pointer words)
 
-    comes_to : (e : Ending) (behind : List (Option Pending)) (v : WorldState) → Turns w v shell_id (n + 1) → PartKeeps w (came_to e behind v) shell_id (n + 1) finished
-    comes_to (Value value) behind v t = record { turns = wrote w v shell_id (n + 1) t (v.output ++ value_text value); read = needs_none (shell_with behind).phase finished (behind_phase behind) }
-    comes_to (Call callee words p) behind v t = record { turns = called v t callee words; read = needs_none phases.Call finished (λ e. cc) }
-    comes_to (Fault f) behind v t = record { turns = wrote w v shell_id (n + 1) t (v.output ++ fault_text f); read = needs_none phases.Prompt finished (λ e. cc) }
-    comes_to Waiting behind v t = record { turns = t; read = needs_none phases.Prompt finished (λ e. cc) }
+    comes_to : (e : Ending) (behind : List (Option Pending)) (v : WorldState) → IsFree v.kern shell_id → Turns w v shell_id (n + 1) → PartKeeps w (came_to e behind v) shell_id (n + 1) finished
+    comes_to (Value value) behind v free t = record { turns = wrote w v shell_id (n + 1) t (v.output ++ value_text value); read = needs_none (shell_with behind).phase finished (behind_phase behind) }
+    comes_to (Call callee words p) behind v free t = record { turns = called v free t callee words; read = needs_none phases.Call finished (λ e. cc) }
+    comes_to (Fault f) behind v free t = record { turns = wrote w v shell_id (n + 1) t (v.output ++ fault_text f); read = needs_none phases.Prompt finished (λ e. cc) }
+    comes_to Waiting behind v free t = record { turns = t; read = needs_none phases.Prompt finished (λ e. cc) }
 
-    pub eval_keeps : (trees : List (Option Pending)) → PartKeeps w (eval_part trees w) shell_id (n + 1) finished
-    eval_keeps [] = record { turns = here shell_id; read = needs_none phases.Prompt finished (λ e. cc) }
-    eval_keeps (None ∷ behind) = record { turns = here shell_id; read = needs_none (shell_with behind).phase finished (behind_phase behind) }
-    eval_keeps (Some p ∷ behind) =
+    pub eval_keeps : (trees : List (Option Pending)) → IsReady w.kern shell_id → PartKeeps w (eval_part trees w) shell_id (n + 1) finished
+    eval_keeps [] ready = record { turns = here shell_id; read = needs_none phases.Prompt finished (λ e. cc) }
+    eval_keeps (None ∷ behind) ready = record { turns = here shell_id; read = needs_none (shell_with behind).phase finished (behind_phase behind) }
+    eval_keeps (Some p ∷ behind) ready =
         let e = evaluate (eval_state w) p in
         let v = with_eval w e.state in
-        comes_to e.ending behind v (more_locks w v shell_id n (evaluated_turns w shell_id n e.state kept within (keeps (eval_state w) p)))
+        comes_to e.ending behind v (ready_free w.kern shell_id ready) (more_counts w v shell_id n (evaluated_turns w shell_id n e.state kept within (keeps (eval_state w) p)))
 
     -- ---- a step of any task
-    module _ (shell : ShellState) (read : HasItsLine shell.phase finished) (who : ℕ) where
+    module _ (shell : ShellState) (read : HasItsLine shell.phase finished) (who : ℕ) (live : Lives w.kern who) (ready : IsReady w.kern who) where
       suspended_keeps : (text : List ℕ) → PartKeeps w (part_of shell (writing (with_kern w (suspend w.kern who)) text)) who (n + 1) finished
       suspended_keeps text =
           let v = with_kern w (suspend w.kern who) in
-          let goes = turns_by w v who n 0 0 (omega arith) (omega arith) (by_kern w kept (suspend w.kern who) n 0 (goes-suspend w.kern n kept.kern within who)) in
-          record { turns = wrote w v who (n + 1) (more_locks w v who n goes) (w.output ++ text); read = read }
+          let goes = turns_by w v who n 0 0 (omega arith) (omega arith) (by_kern w kept (suspend w.kern who) n 0 (goes-suspend w.kern n kept.kern within.0 who) (objects-suspend w.kern w.objects kept.kern kept.objects who) within.1) in
+          record { turns = wrote w v who (n + 1) (more_counts w v who n goes) (w.output ++ text); read = read }
 
       aborted_keeps : (text : List ℕ) → PartKeeps w (part_of at_prompt (writing (with_kern w (aborted w.kern)) text)) who (n + 1) finished
       aborted_keeps text =
           let v = with_kern w (aborted w.kern) in
-          let goes = turns_by w v who n 2 0 (omega arith) (omega arith) (by_kern w kept (aborted w.kern) n 2 (goes-aborted w.kern n kept.kern within)) in
-          record { turns = wrote w v who (n + 1) (more_locks w v who n goes) (w.output ++ text); read = needs_none phases.Prompt finished (λ e. cc) }
+          let goes = turns_by w v who n 2 0 (omega arith) (omega arith) (by_kern w kept (aborted w.kern) n 2 (goes-aborted w.kern n kept.kern within.0) (objects-aborted w.kern w.objects kept.kern kept.objects) within.1) in
+          record { turns = wrote w v who (n + 1) (more_counts w v who n goes) (w.output ++ text); read = needs_none phases.Prompt finished (λ e. cc) }
 
       trapped_keeps : (trap : Trap) → PartKeeps w (trapped trap shell w who) who (n + 1) finished
       trapped_keeps trap =
@@ -114,17 +120,17 @@ module _ (w : WorldState) (n : ℕ) (kept : IsWorld w) (within : LocksWithin n w
           elim (eqb who shell_id) as (λ b. eqb who shell_id ≡ b → PartKeeps w (cond b (part_of back v) (part_of shell (ended w who))) who (n + 1) finished) [
             | true ↦ λ e.
                 let goes = turns_by w v who n 0 0 (omega arith) (omega arith) (unreserve_advances w n kept within who) in
-                record { turns = more_locks w v who n goes; read = needs_none phases.Eval finished (λ q. cc) }
-            | false ↦ λ e. record { turns = more_locks w (ended w who) who n (ended_turns w who n e kept within); read = read }
+                record { turns = more_counts w v who n goes; read = needs_none phases.Eval finished (λ q. cc) }
+            | false ↦ λ e. record { turns = more_counts w (ended w who) who n (ended_turns w who n e kept within); read = read }
           ] refl
 
       call_keeps : (g : Gate) → PartKeeps w (call_part g shell w who) who (n + 1) finished
       call_keeps g =
           let v = call g w (by_task who) in
           let u = without_own v who in
-          let made = call_advances g w (by_task who) n kept within in
+          let made = call_passes g w (by_task who) n kept ready within in
           record {
-            turns = turns_by w u who (n + 1) 2 1 (omega arith) (omega arith) (advances_on w v u (n + 1) (n + 1) 2 0 1 0 made (unreserve_advances v (n + 1) made.kept made.locks who));
+            turns = turns_then w v u who (n + 1) (turns_passed w v who (n + 1) call_sinces 1 (omega arith) (omega arith) made) (unreserve_advances v (n + 1) made.kept made.within who);
             read = read;
           }
 
@@ -138,7 +144,7 @@ module _ (w : WorldState) (n : ℕ) (kept : IsWorld w) (within : LocksWithin n w
       -- ---- an instruction
       executed_keeps : (o : Outcome BusState) → IfDone (λ b. length b.ram ≡ length w.ram) o → PartKeeps w (executed o shell w who) who (n + 1) finished
       executed_keeps (Done regs bus) same =
-          let t = gave_regs w w who (n + 1) (here who) regs in
+          let t = gave_regs w w who (n + 1) (here who) regs (ready_free w.kern who ready) in
           record { turns = touched w _ who (n + 1) t bus.ram bus.slots w.output same; read = read }
       executed_keeps (Trapped trap) same = trapped_keeps trap
 

@@ -1,12 +1,13 @@
 -- Every step keeps the facts.
 use Rattle.std.proofs.Common.{◌≡◌, ℕ, ◌+◌, ◌≤◌, true, false, cond, eqb, List, [], ◌∷◌, length, take, drop, Option, None, Some, IfSome, refl, sym, ◌∙◌, subst, arith}
+use Rattle.std.proofs.lemmas.Bool.{eqb-true}
 use Rattle.std.proofs.lemmas.List.{length-take}
-use Rattle.std.proofs.lemmas.List.Elements.{All-weaker}
 use Rattle.task_block.specs.declared.task.Task.{Task}
 use Rattle.tick_file.specs.Schedule.{Timed, Timetable}
 use Rattle.tick_file.specs.Laws.{IsEarly}
 use Rattle.tick_file.specs.declared.event.Event.{Event}
 use Rattle.tick_file.specs.declared.event.Event.TheVariants.{Tick, Rx}
+use Rattle.wind_core.specs.State.{Lives}
 use Rattle.wind_core.specs.Orders.{running}
 use Rattle.wind_core.specs.Tick.{tick}
 use Rattle.wind_core.proofs.Ids.{ids-tick, since-tick, lives_by}
@@ -18,9 +19,10 @@ use Rattle.con_line.specs.Lines.{KeepsLines, has_line, front_line, line_dropped}
 use Rattle.con_line.proofs.Kept.{drop_keeps}
 use Rattle.kernel_calls.specs.Actors.{shell_id}
 use Rattle.kernel_calls.specs.Opening.{interrupt_stack}
-use Rattle.kernel_calls.specs.Kept.{AreStacks, ReservedBy, LocksWithin}
-use Rattle.kernel_calls.specs.Laws.{Advances}
-use Rattle.kernel_calls.proofs.Advancing.{by_kern}
+use Rattle.kernel_calls.specs.Kept.{AreStacks, ReservedBy, Within}
+use Rattle.kernel_calls.specs.Objects.{IsReady}
+use Rattle.kernel_calls.proofs.ObjectMoves.{objects-last, objects-tick}
+use Rattle.kernel_calls.proofs.Advancing.{Advances, by_kern, within_more}
 use Rattle.wind_machine.specs.State.{State}
 use Rattle.wind_machine.specs.Good.{Good}
 use Rattle.wind_machine.specs.Feed.{chunk, after_chunk, brought}
@@ -32,24 +34,25 @@ use Rattle.wind_machine.specs.declared.phase.Phase.{Phase}
 use Rattle.wind_machine.specs.declared.phase.Phase.TheVariants as phases
 use Rattle.wind_machine.proofs.Kept.{needs_none, prompt_has_line, read_phase}
 use Rattle.wind_machine.proofs.Dropping.{others_advance, all_advance, others_reserved, all_reserved}
-use Rattle.wind_machine.proofs.Moves.{lent-tick, last-tick, stacks-tick, reserved-tick, locks-tick}
+use Rattle.wind_machine.proofs.Moves.{lent-tick, last-tick, stacks-tick, reserved-tick, counts-tick}
+use Rattle.wind_machine.proofs.Free.{runner_ready, runner_there, turn_ready}
 use Rattle.wind_machine.proofs.Hearing.{heard_keeps, chunk_short}
 use Rattle.wind_machine.proofs.Parts.{PartKeeps, prompt_turns, read_turns, eval_keeps, task_keeps}
 
 -- from a good state
 module _ (s : State) (g : Good s) where
-  more_locks : LocksWithin (s.steps + 1) s.world.kern
-  more_locks = All-weaker (λ t. t.locks ≤ s.steps) (λ t. t.locks ≤ s.steps + 1) (λ t h. omega (arith, h)) s.world.kern.tasks g.locks
+  more_counts : Within (s.steps + 1) s.world
+  more_counts = within_more s.world s.steps (s.steps + 1) (omega arith) g.within
 
   -- ---- a task makes a step
   -- the world at its turn
-  at_turn_advances : (who : ℕ) → Advances s.world (at_turn s.world who) s.steps 0 0
+  pub at_turn_advances : (who : ℕ) → Advances s.world (at_turn s.world who) s.steps 0 0
   at_turn_advances who =
-      let a = others_advance s.world s.steps g.world g.locks who in
+      let a = others_advance s.world s.steps g.world g.within who in
       record {
-        kept = record { kern = a.kept.kern; home = a.kept.home; pool = a.kept.pool; stacks = a.kept.stacks; ram = a.kept.ram; symbols = a.kept.symbols };
+        kept = record { kern = a.kept.kern; home = a.kept.home; objects = a.kept.objects; pool = a.kept.pool; stacks = a.kept.stacks; ram = a.kept.ram; symbols = a.kept.symbols };
         lives = a.lives;
-        locks = a.locks;
+        within = a.within;
         last = a.last;
         reserves = a.reserves;
         sinces = a.sinces;
@@ -65,65 +68,77 @@ module _ (s : State) (g : Good s) where
       record {
         console = lines;
         read = part.read;
-        world = record { kern = (every_call_keeps p.world.kern kept.kern).noting_last (Some who); home = kept.home; pool = kept.pool; stacks = kept.stacks; ram = kept.ram; symbols = kept.symbols };
+        world = record { kern = (every_call_keeps p.world.kern kept.kern).noting_last (Some who); home = kept.home; objects = objects-last p.world.kern p.world.objects kept.kern kept.objects (Some who); pool = kept.pool; stacks = kept.stacks; ram = kept.ram; symbols = kept.symbols };
         shell = turns.shell ((at_turn_advances who).lives shell_id g.shell);
         reserved = turns.reserves (others_reserved s.world.kern who);
         sinces = omega (arith, turns.sinces, g.sinces);
         ticks = omega (arith, turns.count, g.ticks);
-        locks = turns.locks;
+        within = turns.within;
         names = omega (arith, turns.names, g.names);
         time = omega (arith, g.time);
       }
 
-  prompt_keeps : Good (prompt_step s)
-  prompt_keeps =
+  -- what each of them does
+  pub prompts : PartKeeps (shell_world s) (prompt_part (has_line s.console) s.shell (shell_world s)) shell_id (s.steps + 1) s.console.finished
+  prompts =
       let a = at_turn_advances shell_id in
-      let p = prompt_part (has_line s.console) s.shell (shell_world s) in
-      stepped_keeps s.console shell_id p g.console
-      (record { turns = prompt_turns (shell_world s) s.steps a.kept a.locks (has_line s.console) s.shell; read = prompt_has_line s.console.finished s.shell g.read })
+      record { turns = prompt_turns (shell_world s) s.steps a.kept a.within (a.lives shell_id g.shell) (has_line s.console) s.shell; read = prompt_has_line s.console.finished s.shell g.read }
 
-  read_keeps : Good (read_step s)
-  read_keeps =
+  pub reads : PartKeeps (shell_world s) (read_part (read_line (front_line s.console)) (shell_world s)) shell_id (s.steps + 1) (line_dropped s.console).finished
+  reads =
       let a = at_turn_advances shell_id in
       let reading = read_line (front_line s.console) in
-      let console = line_dropped s.console in
-      stepped_keeps console shell_id (read_part reading (shell_world s)) (drop_keeps s.console g.console)
-      (record { turns = read_turns (shell_world s) s.steps a.kept a.locks reading; read = needs_none (shell_read reading).phase console.finished (read_phase reading) })
+      record { turns = read_turns (shell_world s) s.steps a.kept a.within reading; read = needs_none (shell_read reading).phase (line_dropped s.console).finished (read_phase reading) }
 
-  evals_keep : Good (eval_step s)
-  evals_keep =
+  pub evaluates : IsReady s.world.kern shell_id → PartKeeps (shell_world s) (eval_part s.shell.trees (shell_world s)) shell_id (s.steps + 1) s.console.finished
+  evaluates ready =
       let a = at_turn_advances shell_id in
-      stepped_keeps s.console shell_id (eval_part s.shell.trees (shell_world s)) g.console (eval_keeps (shell_world s) s.steps a.kept a.locks s.console.finished s.shell.trees)
+      eval_keeps (shell_world s) s.steps a.kept a.within s.console.finished s.shell.trees (turn_ready s.world.kern shell_id ready)
 
-  tasks_keep : (who : ℕ) → Good (task_step s who)
-  tasks_keep who =
+  pub acts : (who : ℕ) → Lives s.world.kern who → IsReady s.world.kern who → PartKeeps (at_turn s.world who) (task_part s.shell (at_turn s.world who) who) who (s.steps + 1) s.console.finished
+  acts who live ready =
       let a = at_turn_advances who in
-      let w = at_turn s.world who in
-      stepped_keeps s.console who (task_part s.shell w who) g.console (task_keeps w s.steps a.kept a.locks s.console.finished s.shell g.read who)
+      task_keeps (at_turn s.world who) s.steps a.kept a.within s.console.finished s.shell g.read who (a.lives who live) (turn_ready s.world.kern who ready)
 
-  shell_keeps : (p : Phase) → Good (shell_step p s)
-  shell_keeps phases.Prompt = prompt_keeps
-  shell_keeps phases.Read = read_keeps
-  shell_keeps phases.Eval = evals_keep
-  shell_keeps phases.Call = tasks_keep shell_id
+  prompt_keeps : Good (prompt_step s)
+  prompt_keeps = stepped_keeps s.console shell_id (prompt_part (has_line s.console) s.shell (shell_world s)) g.console prompts
 
-  whoever_keeps : (who : ℕ) → Good (step_of s who)
-  whoever_keeps who = elim (eqb who shell_id) as (λ b. Good (cond b (shell_step s.shell.phase s) (task_step s who))) [ true ↦ shell_keeps s.shell.phase | false ↦ tasks_keep who ]
+  read_keeps : Good (read_step s)
+  read_keeps = stepped_keeps (line_dropped s.console) shell_id (read_part (read_line (front_line s.console)) (shell_world s)) (drop_keeps s.console g.console) reads
+
+  evals_keep : IsReady s.world.kern shell_id → Good (eval_step s)
+  evals_keep ready = stepped_keeps s.console shell_id (eval_part s.shell.trees (shell_world s)) g.console (evaluates ready)
+
+  tasks_keep : (who : ℕ) → Lives s.world.kern who → IsReady s.world.kern who → Good (task_step s who)
+  tasks_keep who live ready = stepped_keeps s.console who (task_part s.shell (at_turn s.world who) who) g.console (acts who live ready)
+
+  shell_keeps : (p : Phase) → IsReady s.world.kern shell_id → Good (shell_step p s)
+  shell_keeps phases.Prompt ready = prompt_keeps
+  shell_keeps phases.Read ready = read_keeps
+  shell_keeps phases.Eval ready = evals_keep ready
+  shell_keeps phases.Call ready = tasks_keep shell_id g.shell ready
+
+  whoever_keeps : (who : ℕ) → Lives s.world.kern who → IsReady s.world.kern who → Good (step_of s who)
+  whoever_keeps who live ready =
+      elim (eqb who shell_id) as (λ b. eqb who shell_id ≡ b → Good (cond b (shell_step s.shell.phase s) (task_step s who))) [
+        | true ↦ λ e. shell_keeps s.shell.phase (subst (IsReady s.world.kern) (eqb-true who shell_id e) ready)
+        | false ↦ λ e. tasks_keep who live ready
+      ] refl
 
   -- ---- bytes arrive
   arrived_keeps : (left bytes : List ℕ) (h : Heard) → length bytes ≤ 4097 → h ≡ heard_by s bytes → Good (arrived s left h)
   arrived_keeps left bytes h short e =
-      let heard = heard_keeps s.console s.shell s.world.kern [] bytes (s.steps + 1) g.console g.read g.world.kern more_locks h e in
-      let a = by_kern s.world g.world h.kern (s.steps + 1) (length bytes + 1) heard.2 in
+      let heard = heard_keeps s.console s.shell s.world.kern [] bytes (s.steps + 1) g.console g.read g.world.kern more_counts.0 h e in
+      let a = by_kern s.world g.world h.kern (s.steps + 1) (length bytes + 1) heard.2 (heard.3 s.world.objects g.world.objects) more_counts.1 in
       record {
         console = heard.0;
         read = heard.1;
-        world = record { kern = a.kept.kern; home = a.kept.home; pool = a.kept.pool; stacks = a.kept.stacks; ram = a.kept.ram; symbols = a.kept.symbols };
+        world = record { kern = a.kept.kern; home = a.kept.home; objects = a.kept.objects; pool = a.kept.pool; stacks = a.kept.stacks; ram = a.kept.ram; symbols = a.kept.symbols };
         shell = a.lives shell_id g.shell;
         reserved = subst (λ who. ReservedBy who h.kern) (sym a.last) (a.reserves s.world.kern.last g.reserved);
         sinces = omega (arith, a.sinces, g.sinces, short);
         ticks = omega (arith, a.count, g.ticks);
-        locks = a.locks;
+        within = a.within;
         names = omega (arith, g.names);
         time = omega (arith, g.time);
       }
@@ -146,6 +161,7 @@ module _ (s : State) (g : Good s) where
         world = record {
           kern = tick_keeps k g.world.kern;
           home = lent-tick k ∙ g.world.home;
+          objects = objects-tick k s.world.objects g.world.kern g.world.objects;
           pool = g.world.pool;
           stacks = subst (λ ats. AreStacks s.world.part (interrupt_stack ∷ ats)) (sym (stacks-tick k)) g.world.stacks;
           ram = g.world.ram;
@@ -155,7 +171,7 @@ module _ (s : State) (g : Good s) where
         reserved = subst (λ who. ReservedBy who (tick k)) (sym (last-tick k)) (reserved-tick k k.last g.reserved);
         sinces = omega (arith, since-tick k, g.world.kern.few, g.sinces);
         ticks = omega (arith, (tick_ahead k g.world.kern).0, g.ticks);
-        locks = locks-tick k (s.steps + 1) more_locks;
+        within = (counts-tick k (s.steps + 1) more_counts.0, more_counts.1);
         names = omega (arith, g.names);
         time = omega (arith, g.time);
       }
@@ -165,9 +181,9 @@ module _ (s : State) (g : Good s) where
   comes_keeps (Rx n) = received_keeps n
 
   -- nobody has a reservation when it comes; the events to come have no part in the facts
-  unreserved_keeps : (t : Timetable) → Good (record s { schedule = t; world = unreserved_world s.world })
+  pub unreserved_keeps : (t : Timetable) → Good (record s { schedule = t; world = unreserved_world s.world })
   unreserved_keeps t =
-      let a = all_advance s.world s.steps g.world g.locks in
+      let a = all_advance s.world s.steps g.world g.within in
       record {
         console = g.console;
         read = g.read;
@@ -176,7 +192,7 @@ module _ (s : State) (g : Good s) where
         reserved = all_reserved s.world.kern s.world.kern.last;
         sinces = g.sinces;
         ticks = g.ticks;
-        locks = a.locks;
+        within = a.within;
         names = g.names;
         time = g.time;
       }
@@ -186,12 +202,12 @@ module _ (s : State) (g : Good s) where
   jump_keeps e early = record {
     console = g.console;
     read = g.read;
-    world = record { kern = g.world.kern; home = g.world.home; pool = g.world.pool; stacks = g.world.stacks; ram = g.world.ram; symbols = g.world.symbols };
+    world = record { kern = g.world.kern; home = g.world.home; objects = g.world.objects; pool = g.world.pool; stacks = g.world.stacks; ram = g.world.ram; symbols = g.world.symbols };
     shell = g.shell;
     reserved = g.reserved;
     sinces = omega (arith, g.sinces);
     ticks = omega (arith, g.ticks);
-    locks = more_locks;
+    within = more_counts;
     names = omega (arith, g.names);
     time = omega (arith, early);
   }
@@ -201,13 +217,13 @@ module _ (s : State) (g : Good s) where
   jumps_keep None early = tt
   jumps_keep (Some e) early = jump_keeps e early
 
-  run_keeps : (o : Option Task) → IfSome (next_event s) IsEarly → IfSome (run_step s o) Good
-  run_keeps None early = jumps_keep (next_event s) early
-  run_keeps (Some t) early = whoever_keeps t.id
+  run_keeps : (o : Option Task) → running s.world.kern ≡ o → IfSome (next_event s) IsEarly → IfSome (run_step s o) Good
+  run_keeps None e early = jumps_keep (next_event s) early
+  run_keeps (Some t) e early = whoever_keeps t.id (runner_there s.world.kern g.world.kern t e) (runner_ready s.world.kern g.world.kern t e)
 
   quiet_keeps : IfSome (next_event s) IsEarly → IfSome (quiet_step s) Good
   quiet_keeps early =
-      elim (console_is_due s) as (λ b. IfSome (cond b (Some (arrival s)) (run_step s (running s.world.kern))) Good) [ true ↦ arrival_keeps | false ↦ run_keeps (running s.world.kern) early ]
+      elim (console_is_due s) as (λ b. IfSome (cond b (Some (arrival s)) (run_step s (running s.world.kern))) Good) [ true ↦ arrival_keeps | false ↦ run_keeps (running s.world.kern) refl early ]
 
 event_keeps : (s : State) (e : Timed) → Good s → Good (event_step s e)
 event_keeps s e g =

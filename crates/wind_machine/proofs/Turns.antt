@@ -1,8 +1,8 @@
 -- What a step of a task keeps of the world.
-use Rattle.std.proofs.Common.{◌≡◌, ℕ, zero, suc, ◌+◌, ◌<◌, ◌≤◌, Bool, true, false, cond, eqb, List, [], ◌∷◌, length, replicate, Option, Some, IsSome, refl, sym, ap, ◌∙◌, subst, arith}
+use Rattle.std.proofs.Common.{◌≡◌, ℕ, zero, suc, ◌+◌, ◌<◌, ◌≤◌, Bool, true, false, cond, eqb, List, [], ◌∷◌, length, replicate, Option, Some, IsSome, refl, sym, ap, ◌∙◌, subst, arith, ◌⊎◌, inl, inr}
 use Rattle.std.specs.Prelude.{slice_index, slice_index_or}
 use Rattle.std.specs.List.{Contains, find}
-use Rattle.std.proofs.lemmas.Bool.{eqb-true}
+use Rattle.std.proofs.lemmas.Bool.{eqb-true, eq-eqb}
 use Rattle.std.proofs.lemmas.List.Elements.{All-map, All-weaker}
 use Rattle.wind_base.specs.Limits.{frame_bytes}
 use Rattle.wind_base.specs.declared.regs.Regs.{Regs}
@@ -14,7 +14,8 @@ use Rattle.mem_partition.specs.State.{PartState}
 use Rattle.mem_partition.specs.declared.block.Block.{Block}
 use Rattle.mem_partition.specs.declared.block.Class.TheVariants.{Kernel}
 use Rattle.mem_partition.proofs.Owners.{is_own}
-use Rattle.wind_core.specs.State.{Lives}
+use Rattle.wind_core.specs.State.{Lives, task_of}
+use Rattle.task_safety.specs.Safety.{safe_of}
 use Rattle.wind_core.specs.Moves.{set_regs}
 use Rattle.wind_core.proofs.Ids.{ids-change, lives_by}
 use Rattle.wind_core.proofs.Keeping.{every_call_keeps}
@@ -25,43 +26,80 @@ use Rattle.kernel_calls.specs.Actors.{shell_id}
 use Rattle.kernel_calls.specs.Starting.{cleared, framed}
 use Rattle.kernel_calls.specs.Ending.{ended}
 use Rattle.kernel_calls.specs.Opening.{interrupt_stack}
-use Rattle.kernel_calls.specs.Kept.{IsKernels, AreStacks, task_stacks, IsWorld, LocksWithin, ReservedBy}
-use Rattle.kernel_calls.specs.Laws.{Advances}
+use Rattle.kernel_calls.specs.Kept.{IsKernels, AreStacks, task_stacks, IsWorld, HasCounts, Within, ReservedBy}
+use Rattle.kernel_calls.specs.Laws.{Passes, call_sinces}
+use Rattle.kernel_calls.specs.Objects.{IsFree}
+use Rattle.kernel_calls.specs.declared.actor.Actor.TheVariants.{Task as by_task}
+use Rattle.kernel_calls.proofs.Advancing.{Advances, within_more}
+use Rattle.kernel_calls.proofs.ObjectMoves.{objects-set_regs}
 use Rattle.kernel_calls.proofs.Departing.{ends}
 use Rattle.shell_eval.specs.State.{State as EvalState}
 use Rattle.shell_eval.specs.Kept.{IsPoolInRam, Keeps}
 use Rattle.wind_machine.specs.Part.{with_kern}
 use Rattle.wind_machine.specs.Shell.{eval_state, with_eval}
 
--- from a world to another within a step of a task: the kept facts hold, the shell's task lives on, locks stay within n, nobody else has a reservation that had none, few numbers were given out, and the tick count stood
+-- from a world to another within a step of a task: the kept facts hold, the shell's task lives on, nobody safe from deletion goes but the task itself, counts stay within n, nobody else has a reservation that had none, few numbers were given out, and the tick count stood
 pub record Turns (w v : WorldState) (who n : ℕ) : Type 0 where
   pub kept : IsWorld v
   pub shell : Lives w.kern shell_id → Lives v.kern shell_id
-  pub locks : LocksWithin n v.kern
+  pub gone : (id : ℕ) → Lives w.kern id → (Lives v.kern id → ⊥) → (safe_of (task_of w.kern.tasks id) ≡ 0) ⊎ (who ≡ id)
+  pub within : Within n v
   pub reserves : ReservedBy (Some who) w.kern → ReservedBy (Some who) v.kern
-  pub sinces : v.kern.next_since ≤ w.kern.next_since + 2
+  pub sinces : v.kern.next_since ≤ w.kern.next_since + call_sinces
   pub count : v.kern.tick ≡ w.kern.tick
   pub names : v.names ≤ w.names + 1
 
-pub turns_by : (w v : WorldState) (who n d m : ℕ) → d ≤ 2 → m ≤ 1 → Advances w v n d m → Turns w v who n
+pub turns_by : (w v : WorldState) (who n d m : ℕ) → d ≤ call_sinces → m ≤ 1 → Advances w v n d m → Turns w v who n
 turns_by w v who n d m few one a = record {
   kept = a.kept;
   shell = a.lives shell_id;
-  locks = a.locks;
+  gone = λ id live dead. absurd (dead (a.lives id live));
+  within = a.within;
   reserves = a.reserves (Some who);
   sinces = omega (arith, a.sinces, few);
   count = a.count;
   names = omega (arith, a.names, one);
 }
 
-pub nowhere : (w : WorldState) (who n : ℕ) → IsWorld w → LocksWithin n w.kern → Turns w w who n
-nowhere w who n kept within = record { kept = kept; shell = λ h. h; locks = within; reserves = λ h. h; sinces = omega arith; count = refl; names = omega arith }
+-- by a call of a task
+pub turns_passed : (w v : WorldState) (who n d m : ℕ) → d ≤ call_sinces → m ≤ 1 → Passes w v (by_task who) n d m → Turns w v who n
+turns_passed w v who n d m few one p = record {
+  kept = p.kept;
+  shell = p.shell;
+  gone = λ id live dead. by_itself id (p.gone id live dead);
+  within = p.within;
+  reserves = p.reserves (Some who);
+  sinces = omega (arith, p.sinces, few);
+  count = p.count;
+  names = omega (arith, p.names, one);
+}
+  where
+    by_itself : (id : ℕ) → (safe_of (task_of w.kern.tasks id) ≡ 0) ⊎ (by_task who ≡ by_task id) → (safe_of (task_of w.kern.tasks id) ≡ 0) ⊎ (who ≡ id)
+    by_itself id (inl safe) = inl safe
+    by_itself id (inr same) = inr (let one : who ≡ id = cc in one)
 
-pub more_locks : (w v : WorldState) (who n : ℕ) → Turns w v who n → Turns w v who (n + 1)
-more_locks w v who n t = record {
+-- and then a move that gives out nothing
+pub turns_then : (w v u : WorldState) (who n : ℕ) → Turns w v who n → Advances v u n 0 0 → Turns w u who n
+turns_then w v u who n t a = record {
+  kept = a.kept;
+  shell = λ h. a.lives shell_id (t.shell h);
+  gone = λ id live dead. t.gone id live (λ h. dead (a.lives id h));
+  within = a.within;
+  reserves = λ h. a.reserves (Some who) (t.reserves h);
+  sinces = omega (arith, a.sinces, t.sinces);
+  count = a.count ∙ t.count;
+  names = omega (arith, a.names, t.names);
+}
+
+pub nowhere : (w : WorldState) (who n : ℕ) → IsWorld w → Within n w → Turns w w who n
+nowhere w who n kept within = record { kept = kept; shell = λ h. h; gone = λ id live dead. absurd (dead live); within = within; reserves = λ h. h; sinces = omega arith; count = refl; names = omega arith }
+
+pub more_counts : (w v : WorldState) (who n : ℕ) → Turns w v who n → Turns w v who (n + 1)
+more_counts w v who n t = record {
   kept = t.kept;
   shell = t.shell;
-  locks = All-weaker (λ u. u.locks ≤ n) (λ u. u.locks ≤ n + 1) (λ u h. omega (arith, h)) v.kern.tasks t.locks;
+  gone = t.gone;
+  within = within_more v n (n + 1) (omega arith) t.within;
   reserves = t.reserves;
   sinces = t.sinces;
   count = t.count;
@@ -72,9 +110,10 @@ module _ (w v : WorldState) (who n : ℕ) (t : Turns w v who n) where
   -- RAM, devices and what is written, where RAM is as long as it was
   pub touched : (ram : List ℕ) (slots : List (Option DeviceState)) (output : List ℕ) → length ram ≡ length v.ram → Turns w (record v { ram = ram; slots = slots; output = output }) who n
   touched ram slots output same = record {
-    kept = record { kern = t.kept.kern; home = t.kept.home; pool = t.kept.pool; stacks = t.kept.stacks; ram = same ∙ t.kept.ram; symbols = t.kept.symbols };
+    kept = record { kern = t.kept.kern; home = t.kept.home; objects = t.kept.objects; pool = t.kept.pool; stacks = t.kept.stacks; ram = same ∙ t.kept.ram; symbols = t.kept.symbols };
     shell = t.shell;
-    locks = t.locks;
+    gone = t.gone;
+    within = t.within;
     reserves = t.reserves;
     sinces = t.sinces;
     count = t.count;
@@ -98,20 +137,23 @@ module _ (w v : WorldState) (who n : ℕ) (t : Turns w v who n) where
             | false ↦ λ e. own
           ] refl
 
-  pub gave_regs : (regs : Regs) → Turns w (with_kern v (set_regs v.kern who regs)) who n
-  gave_regs regs =
+  pub gave_regs : (regs : Regs) → IsFree v.kern who → Turns w (with_kern v (set_regs v.kern who regs)) who n
+  gave_regs regs free =
       let f : Task → Task = λ u. record u { regs = regs } in
+      let lives_on : (id : ℕ) → Lives v.kern id → Lives (set_regs v.kern who regs) id = λ id h. lives_by (set_regs v.kern who regs).tasks v.kern.tasks id (ids-change v.kern.tasks who f (λ u. refl)) h in
       record {
         kept = record {
           kern = (every_call_keeps v.kern t.kept.kern).setting_regs who regs;
           home = t.kept.home;
+          objects = objects-set_regs v.kern v.objects t.kept.kern t.kept.objects who regs free;
           pool = t.kept.pool;
           stacks = subst (λ s. AreStacks v.part (interrupt_stack ∷ s)) (sym (map-change (λ (u : Task). u.stack) v.kern.tasks who f (λ u. refl))) t.kept.stacks;
           ram = t.kept.ram;
           symbols = t.kept.symbols;
         };
-        shell = λ h. lives_by (set_regs v.kern who regs).tasks v.kern.tasks shell_id (ids-change v.kern.tasks who f (λ u. refl)) (t.shell h);
-        locks = All-change (λ u. u.locks ≤ n) v.kern.tasks who f (λ u h. h) t.locks;
+        shell = λ h. lives_on shell_id (t.shell h);
+        gone = λ id live dead. t.gone id live (λ h. dead (lives_on id h));
+        within = (All-change (HasCounts n) v.kern.tasks who f (λ u h. h) t.within.0, t.within.1);
         reserves = λ h. own_reserved regs (t.reserves h);
         sinces = t.sinces;
         count = t.count;
@@ -119,13 +161,14 @@ module _ (w v : WorldState) (who n : ℕ) (t : Turns w v who n) where
       }
 
 -- ---- another task than the shell's ends
-pub ended_turns : (w : WorldState) (who n : ℕ) → eqb who shell_id ≡ false → IsWorld w → LocksWithin n w.kern → Turns w (ended w who) who n
+pub ended_turns : (w : WorldState) (who n : ℕ) → eqb who shell_id ≡ false → IsWorld w → Within n w → Turns w (ended w who) who n
 ended_turns w who n other kept within =
     let e = ends w who n kept within in
     record {
       kept = e.kept;
       shell = e.lives shell_id differ;
-      locks = e.locks;
+      gone = λ id live dead. by_test id live dead;
+      within = e.within;
       reserves = e.reserves (Some who);
       sinces = omega (arith, e.sinces);
       count = e.count;
@@ -134,6 +177,13 @@ ended_turns w who n other kept within =
   where
     differ : shell_id ≡ who → ⊥
     differ same = let clash : true ≡ false = ap (λ n. eqb n shell_id) same ∙ other in cc
+
+    by_test : (id : ℕ) → Lives w.kern id → (Lives (ended w who).kern id → ⊥) → (safe_of (task_of w.kern.tasks id) ≡ 0) ⊎ (who ≡ id)
+    by_test id live dead =
+        elim (eqb id who) as (λ b. eqb id who ≡ b → (safe_of (task_of w.kern.tasks id) ≡ 0) ⊎ (who ≡ id)) [
+          | true ↦ λ e. inr (sym (eqb-true id who e))
+          | false ↦ λ e. absurd (dead ((ends w who n kept within).lives id (λ same. let clash : true ≡ false = sym (eq-eqb id who same) ∙ e in cc) live))
+        ] refl
 
 -- ---- a frame
 pub framed_size : (ram : List ℕ) (at : ℕ) (words : List ℕ) → length (framed ram at words) ≡ length ram
@@ -172,13 +222,14 @@ kernels_stay p q stays at h =
 pool_lies : (w : WorldState) → IsWorld w → IsPoolInRam (eval_state w)
 pool_lies w kept = omega (arith, kept.pool.end, kept.ram)
 
-pub evaluated_turns : (w : WorldState) (who n : ℕ) (e : EvalState) → IsWorld w → LocksWithin n w.kern → (IsPoolInRam (eval_state w) → Keeps (eval_state w) e) → Turns w (with_eval w e) who n
+pub evaluated_turns : (w : WorldState) (who n : ℕ) (e : EvalState) → IsWorld w → Within n w → (IsPoolInRam (eval_state w) → Keeps (eval_state w) e) → Turns w (with_eval w e) who n
 evaluated_turns w who n e kept within keeps =
     let k = keeps (pool_lies w kept) in
     record {
       kept = record {
         kern = kept.kern;
         home = kept.home;
+        objects = kept.objects;
         pool = record { blocks = k.sound kept.pool.blocks; start = k.start ∙ kept.pool.start; end = k.end ∙ kept.pool.end; room = k.room ∙ kept.pool.room };
         stacks = record {
           kernels = All-weaker (IsKernels w.part) (IsKernels e.pool) (kernels_stay w.part e.pool k.stays) (interrupt_stack ∷ task_stacks w.kern) kept.stacks.kernels;
@@ -188,7 +239,8 @@ evaluated_turns w who n e kept within keeps =
         symbols = k.few kept.symbols;
       };
       shell = λ h. h;
-      locks = within;
+      gone = λ id live dead. absurd (dead live);
+      within = within;
       reserves = λ h. h;
       sinces = omega arith;
       count = refl;

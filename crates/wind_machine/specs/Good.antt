@@ -3,7 +3,7 @@ use Rattle.std.specs.Prelude.{◌≡◌, ◌≢◌, ℕ, ◌+◌, ◌*◌, ◌^�
 use Rattle.con_line.specs.Lines.{KeepsLines}
 use Rattle.wind_core.specs.State.{Lives}
 use Rattle.kernel_calls.specs.Actors.{shell_id}
-use Rattle.kernel_calls.specs.Kept.{IsWorld, ReservedBy, LocksWithin}
+use Rattle.kernel_calls.specs.Kept.{IsWorld, ReservedBy, Within}
 use Rattle.wind_machine.specs.State.{State}
 use Rattle.wind_machine.specs.declared.phase.Phase.{Phase}
 use Rattle.wind_machine.specs.declared.phase.Phase.TheVariants as phases
@@ -17,7 +17,7 @@ pub record Keeps (s : State) : Type 0 where
   pub console : KeepsLines s.console.edited s.console.finished
   -- in phase Read a finished line is kept
   pub read : HasItsLine s.shell.phase s.console.finished
-  -- the kernel's tasks, the partition, the stacks, RAM and the symbols are as a world keeps them
+  -- the kernel's tasks and objects, the partition, the stacks, RAM and the symbols are as a world keeps them
   pub world : IsWorld s.world
   -- the shell's task lives
   pub shell : Lives s.world.kern shell_id
@@ -26,7 +26,7 @@ pub record Keeps (s : State) : Type 0 where
   -- the counters are bounded by the steps made
   pub sinces : s.world.kern.next_since ≤ 8192 * (s.steps + 1)
   pub ticks : s.world.kern.tick ≤ s.steps
-  pub locks : LocksWithin s.steps s.world.kern
+  pub within : Within s.steps s.world
   pub names : s.world.names ≤ s.steps + 1
   -- board time goes beyond the steps made only by the time of an event
   pub time : s.time ≤ 2 ^ 64 + s.steps

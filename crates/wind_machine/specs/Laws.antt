@@ -1,13 +1,15 @@
 -- What follows of the machine's definitions alone.
-use Rattle.std.specs.Prelude.{◌≡◌, ℕ, ◌+◌, List, Option, Some, IfSome}
-use Rattle.task_block.specs.declared.task.Task.{Task}
+use Rattle.std.specs.Prelude.{◌≡◌, ℕ, ◌+◌, List, Option, Some, IfSome, ◌⊎◌}
+use Rattle.std.specs.Option.{option_map}
 use Rattle.wind_outside.specs.Devices.{DeviceState}
 use Rattle.tick_file.specs.Schedule.{Timetable, timetable_of}
 use Rattle.tick_file.specs.Laws.{IsEarly}
+use Rattle.wind_core.specs.State.{Lives, task_id, task_of}
 use Rattle.wind_core.specs.Orders.{running}
-use Rattle.wind_core.specs.Laws.{MayRun}
+use Rattle.task_safety.specs.Safety.{safe_of}
 use Rattle.wind_machine.specs.State.{State}
 use Rattle.wind_machine.specs.Good.{Good}
+use Rattle.wind_machine.specs.Instants.{IsInstant}
 use Rattle.wind_machine.specs.Run.{after}
 use Rattle.wind_machine.specs.Machine.{machine_step, next_event, opening}
 
@@ -23,15 +25,28 @@ StepLaw = (s t : State) → IfSome (next_event s) IsEarly → Good s → machine
 abbrev pub CountLaw : Type 0
 CountLaw = (s t : State) → machine_step s ≡ Some t → t.steps ≡ s.steps + 1
 
--- with the kept facts, whoever runs may run
-abbrev pub UrgencyLaw : Type 0
-UrgencyLaw = (s : State) (x : Task) → Good s → running s.world.kern ≡ Some x → MayRun s.world.kern x
+-- with the kept facts, whoever runs may run, owners inherit, and the others have their normal priority
+abbrev pub InstantLaw : Type 0
+InstantLaw = (s : State) → Good s → IsInstant s.world
 
--- at the state after k steps with this console file and these events, the kept facts hold, and whoever runs may run
-abbrev pub HoldsAfter : List ℕ → Timetable → List (Option DeviceState) → ℕ → Type 0
-HoldsAfter console schedule slots k =
-    Good (after (opening console schedule slots) k)
-    × ((x : Task) → running (after (opening console schedule slots) k).world.kern ≡ Some x → MayRun (after (opening console schedule slots) k).world.kern x)
+-- a task that lives before a step and not after it was not safe from deletion, or the step was its own
+abbrev pub OnlyUnsafeGo : State → State → Type 0
+OnlyUnsafeGo s t = (id : ℕ) → Lives s.world.kern id → (Lives t.world.kern id → ⊥)
+    → (safe_of (task_of s.world.kern.tasks id) ≡ 0) ⊎ (option_map task_id (running s.world.kern) ≡ Some id)
+
+-- so it is of every step from a state with the kept facts
+abbrev pub SafetyLaw : Type 0
+SafetyLaw = (s t : State) → Good s → machine_step s ≡ Some t → OnlyUnsafeGo s t
+
+-- the state after k steps with this console file and these events
+abbrev pub at_step : List ℕ → Timetable → List (Option DeviceState) → ℕ → State
+at_step console schedule slots k = after (opening console schedule slots) k
+
+-- what holds there: the kept facts, what is so at each instant, and that nobody safe goes in the step that follows
+pub record HoldsAfter (console : List ℕ) (schedule : Timetable) (slots : List (Option DeviceState)) (k : ℕ) : Type 0 where
+  pub kept : Good (at_step console schedule slots k)
+  pub instant : IsInstant (at_step console schedule slots k).world
+  pub safety : OnlyUnsafeGo (at_step console schedule slots k) (at_step console schedule slots (k + 1))
 
 -- so it is at every state of every run, whatever the console file, the tick file and the devices are
 abbrev pub RunLaw : Type 0

@@ -1,5 +1,6 @@
 pub mod Feed
 pub mod Good
+pub mod Instants
 pub mod Laws
 pub mod Machine
 pub mod Part

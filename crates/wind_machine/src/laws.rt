@@ -1,6 +1,6 @@
 //! What follows of the machine's definitions alone, whatever the code does.
 
-ghost use Rattle.wind_machine.specs.Laws.{StartLaw, StepLaw, CountLaw, UrgencyLaw, RunLaw};
+ghost use Rattle.wind_machine.specs.Laws.{StartLaw, StepLaw, CountLaw, InstantLaw, SafetyLaw, RunLaw};
 
 use tick_file::early_law;
 
@@ -13,19 +13,26 @@ pub fn step_law()
     ensures count { CountLaw }
 {}
 
-/// The law of urgency at each instant: in every state with the kept facts, whoever runs lives and is ready, and no ready
-/// task is before it, unless it ran last and holds the lock.
-pub fn urgency_law()
-    ensures { UrgencyLaw }
+/// The law of each instant: in every state with the kept facts, whoever runs lives and is ready, and no ready task is
+/// before it, unless it ran last and holds the lock; each live owner of an inversion-safe mutex is at least as urgent as
+/// whoever waits for it, itself or along further owners; and a task that owns none has its normal priority.
+pub fn instant_law()
+    ensures { InstantLaw }
+{}
+
+/// The law of safe sections: a task that lives before a step and not after it was not safe from deletion, or the step was
+/// its own.
+pub fn safety_law()
+    ensures { SafetyLaw }
 {}
 
 /// The law of runs: for every console file, tick file and list of devices, the state after any number of steps has the
-/// kept facts, and whoever runs there lives and is ready, and no ready task is before it, unless it ran last and holds
-/// the lock.
+/// kept facts and what is so at each instant, and nobody who is safe goes in the step that follows, unless it is its own.
 pub fn run_law()
     ensures { RunLaw }
 {
     step_law();
-    urgency_law();
+    instant_law();
+    safety_law();
     early_law();
 }

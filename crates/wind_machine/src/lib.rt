@@ -4,5 +4,5 @@
 mod laws;
 mod phase;
 
-pub use laws::{run_law, step_law, urgency_law};
+pub use laws::{instant_law, run_law, safety_law, step_law};
 pub use phase::Phase;

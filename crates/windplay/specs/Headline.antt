@@ -6,6 +6,7 @@ use Rattle.wind_outside.specs.Devices.{DeviceState}
 use Rattle.wind_outside.specs.Files.{Files}
 use Rattle.wind_machine.specs.State.{State}
 use Rattle.wind_machine.specs.Good.{Good}
+use Rattle.wind_machine.specs.Instants.{IsInstant}
 use Rattle.board_player.specs.declared.board.Board.{Board}
 use Rattle.wind_machine.specs.Machine.{opening}
 use Rattle.windplay.specs.Runs.{Ran}
@@ -72,10 +73,10 @@ pub record Plays {I : Type 0} {X : I → Type 0} (state : Board I X → State) (
   pub planned : IsPlan files command plan
   pub leaves : Leaves state ending.status ending.stand plan (limit_of command) rose slots devices old new
 
--- the board that is left has the kept facts
+-- the board that is left has the kept facts, and what is so at each instant
 abbrev pub IsKept : {I : Type 0} {X : I → Type 0} → (Board I X → State) → Stand I X → Type 0
 IsKept state (stands.NotBooted back) = Unit {0}
-IsKept state (stands.Booted board) = Good (state board)
+IsKept state (stands.Booted board) = Good (state board) × IsInstant (state board).world
 
 -- a status of a session that was played, or for which memory was short
 abbrev pub IsPlayed : Status → Type 0

@@ -21,6 +21,7 @@ use board_player::Board;
 use std::alloc::Global;
 use tick_file::{Schedule, TickErr, read_ticks};
 use wind_base::limits::TEXT_FILE_BYTES;
+use wind_machine::instant_law;
 use wind_outside::{Device, Fetched, Folder, Sink, Slots};
 
 // A session without a board.
@@ -130,6 +131,7 @@ fn session<F: Folder, O: Sink>(
     };
     let end = run_board(&mut board, out, command.limit);
     board.facts();
+    instant_law();
     Ending {
         status: status_of(end),
         stand: Stand::Booted(board),

@@ -1,7 +1,7 @@
 //! A world from its start on, in which callers stand at gates and make their calls.
 
 ghost use Rattle.std.specs.Prelude.{◌≡◌, true};
-ghost use Rattle.kernel_calls.specs.Actors.{Acts};
+ghost use Rattle.kernel_calls.specs.Actors.{Acts, MayCall};
 
 use crate::{Actor, Called, World, end_task, is_built, kernel_call, starting_regs};
 use id_table::Ident;
@@ -36,25 +36,29 @@ pub(super) struct Bench {
 impl Model for Bench {
     ghost use Rattle.std.specs.Prelude.{ℕ, ◌≡◌, ◌≤◌, ◌+◌, ◌*◌, []};
     ghost use Rattle.kernel_calls.specs.Seen.{world_with};
-    ghost use Rattle.kernel_calls.specs.Kept.{IsWorld, LocksWithin};
+    ghost use Rattle.kernel_calls.specs.Kept.{IsWorld, Within};
 
     ghost Value = { ℕ };
 
     ghost view = { λ b. b.calls };
 
     ghost invariant = { λ b. IsWorld (world_with [] b.world)
-        × LocksWithin b.calls b.world.kern
-        × (b.world.kern.next_since ≤ 1 + 2 * b.calls)
+        × Within b.calls (world_with [] b.world)
+        × (b.world.kern.next_since ≤ 1 + 1024 * b.calls)
         × (b.world.kern.tick ≡ 0)
         × (b.world.names ≤ 1 + b.calls) };
 }
 
-// Whether the caller lives.
-fn acts(kern: &Kern, who: &Actor) -> bool
-    ensures { result ≡ true → Acts kern.now who.now }
+// Whether the caller lives and is ready.
+fn may_call(kern: &Kern, who: &Actor) -> bool
+    ensures acts { result ≡ true → Acts kern.now who.now }
+    ensures free { result ≡ true → MayCall kern.now who.now }
 {
     match who {
-        Actor::Task(id) => kern.task(*id).is_some(),
+        Actor::Task(id) => match kern.task(*id) {
+            Some(task) => task.ready(),
+            None => false,
+        },
         Actor::Interrupt => true,
     }
 }
@@ -79,9 +83,9 @@ impl Bench {
         self.world.bus.ram.fill(address, count, byte).is_ok()
     }
 
-    // A task has other registers.
+    // A task that is ready has other registers.
     fn set_task(&mut self, who: Ident, regs: Regs) {
-        if self.world.kern.task(who).is_some() {
+        if may_call(&self.world.kern, &Actor::Task(who)) {
             self.world.kern.set_regs(who, regs);
         }
     }
@@ -96,7 +100,7 @@ impl Bench {
         if self.calls >= 1 << 20 || self.world.out.room() < 4096 {
             return None;
         }
-        if !is_built(gate) || !acts(&self.world.kern, who) {
+        if !is_built(gate) || !may_call(&self.world.kern, who) {
             return None;
         }
         let called = kernel_call(alloc, &mut self.world, gate, who);
@@ -126,17 +130,20 @@ impl Bench {
         }
     }
 
-    fn end_task(&mut self, who: Ident) {
+    // False where it doesn't live.
+    fn end_task(&mut self, who: Ident) -> bool {
+        if self.calls >= 1 << 20 || self.world.kern.task(who).is_none() {
+            return false;
+        }
         end_task(&mut self.world, who);
+        self.calls += 1;
+        true
     }
 
-    // A task ends. False where the number is no id.
+    // A task ends. False where none of this number lives.
     pub(super) fn end(&mut self, who: u32) -> bool {
         match Ident::new(who) {
-            Some(id) => {
-                self.end_task(id);
-                true
-            }
+            Some(id) => self.end_task(id),
             None => false,
         }
     }

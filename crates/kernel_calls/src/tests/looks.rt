@@ -31,6 +31,8 @@ pub(super) enum TaskLook {
     Priorities(u32, u32),
     // how often it has locked the scheduler
     Locks(u64),
+    // whether it waits for something
+    Waits(bool),
     // the tick at which it is ready, or that it is now
     Wake(Option<u64>),
     // its name, the address of its stack, r1 and its priority
@@ -61,6 +63,7 @@ fn sees_in(task: &Task, look: TaskLook) -> bool {
         TaskLook::Suspended(is) => task.suspended == is,
         TaskLook::Priorities(pri, normal) => task.pri.get() == pri && task.normal.get() == normal,
         TaskLook::Locks(n) => task.locks == n,
+        TaskLook::Waits(is) => task.wait.is_some() == is,
         TaskLook::Wake(tick) => task.wake == tick && task.ready() == tick.is_none(),
         TaskLook::Made(name, stack, r1, pri) => {
             task.name.bytes() == name

@@ -5,6 +5,7 @@ use super::looks::{Look, sees};
 use crate::Called;
 use std::test::Fail;
 use wind_base::Gate;
+use wind_base::limits::GATES_START;
 
 // A step; callers and tasks go by the numbers of their ids, and the interrupt routine by 0.
 #[derive(Clone, Copy)]
@@ -20,6 +21,10 @@ pub(super) enum Step {
     Quick(u32, u32, u32),
     // a task ends
     End(u32),
+    // a task ends itself by taskDelete
+    Leave(u32),
+    // the first task begins to wait until the second may be deleted
+    Await(u32, u32),
     // these bytes stand from an address on
     Write(u32, &'static [u8]),
     // so many bytes do
@@ -54,6 +59,20 @@ fn spawning([name, pri, stack]: [u32; 3]) -> [u32; 10] {
 // The words of sp.
 const QUICK: [u32; 10] = [0x4000, 1, 2, 3, 4, 5, 6, 7, 0, 0];
 
+// Whether a task that deletes itself is told to have ended.
+fn leaves(rt: &HostRuntime, bench: &mut Bench, who: u32) -> bool {
+    let called = bench.call(rt.alloc(), who, Gate::TaskDelete, FRAME, &four([0; 4]));
+    called == Some(Called::Ended) && bench.task(who).is_none()
+}
+
+// Whether a task that asks for a deletion pends, and stands at the gate of its call.
+fn awaits(rt: &HostRuntime, bench: &mut Bench, who: u32, target: u32) -> bool {
+    let words = four([target, 0, 0, 0]);
+    let called = bench.call(rt.alloc(), who, Gate::TaskDelete, FRAME, &words);
+    let gate = Gate::TaskDelete.address(GATES_START);
+    called == Some(Called::Pended) && bench.standing(who) == Some((gate, target, 0))
+}
+
 // Makes a step, and says whether it is as it says.
 pub(super) fn goes(rt: &HostRuntime, bench: &mut Bench, step: Step) -> bool {
     match step {
@@ -74,6 +93,8 @@ pub(super) fn goes(rt: &HostRuntime, bench: &mut Bench, step: Step) -> bool {
             comes_to(rt, bench, call, (Called::Done, r3, errno))
         }
         Step::End(who) => bench.end(who),
+        Step::Leave(who) => leaves(rt, bench, who),
+        Step::Await(who, target) => awaits(rt, bench, who, target),
         Step::Write(address, bytes) => bench.write(address, bytes),
         Step::Fill(address, count, byte) => bench.fill(address, count, byte),
         Step::See(look) => sees(bench, look),

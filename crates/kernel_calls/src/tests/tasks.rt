@@ -1,6 +1,6 @@
 //! The calls on tasks, made by the shell's task.
 
-use super::bench::SHELL;
+use super::bench::{ROUTINE, SHELL};
 use super::looks::{Look, TaskLook};
 use super::steps::{Step, first_wrong};
 use super::{BAD_ADDRESS, ILLEGAL_PRIORITY, OBJ_ID_ERROR, RAM_END, TASK_NOT_FOUND};
@@ -52,8 +52,8 @@ fn ids_and_error_numbers_are_told(rt: HostRuntime) -> Result<(), Fail> {
     Ok(())
 }
 
-// 0 is the caller.
-const SUSPENSIONS: [Step; 7] = [
+// 0 is the caller. Only another can resume it.
+const SUSPENSIONS: [Step; 6] = [
     Step::Call(
         SHELL,
         Gate::TaskSuspend,
@@ -61,9 +61,6 @@ const SUSPENSIONS: [Step; 7] = [
         ERROR,
         OBJ_ID_ERROR,
     ),
-    Step::Call(SHELL, Gate::TaskSuspend, [0; 4], OK, OBJ_ID_ERROR),
-    Step::See(Look::Task(SHELL, TaskLook::Suspended(true))),
-    Step::Call(SHELL, Gate::ErrnoSet, [0; 4], OK, 0),
     Step::Call(
         SHELL,
         Gate::TaskResume,
@@ -71,7 +68,9 @@ const SUSPENSIONS: [Step; 7] = [
         ERROR,
         OBJ_ID_ERROR,
     ),
-    Step::Call(SHELL, Gate::TaskResume, [SHELL, 0, 0, 0], OK, OBJ_ID_ERROR),
+    Step::Call(SHELL, Gate::TaskSuspend, [0; 4], OK, OBJ_ID_ERROR),
+    Step::See(Look::Task(SHELL, TaskLook::Suspended(true))),
+    Step::Call(ROUTINE, Gate::TaskResume, [SHELL, 0, 0, 0], OK, 0),
     Step::See(Look::Task(SHELL, TaskLook::Suspended(false))),
 ];
 

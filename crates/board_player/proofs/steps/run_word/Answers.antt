@@ -1,6 +1,9 @@
 use Rattle.std.proofs.Common.{sym, ap, ◌∙◌}
 use Rattle.wind_base.specs.declared.regs.Regs.{Regs}
+use Rattle.kernel_calls.specs.State.{WorldState}
+use Rattle.wind_machine.specs.State.{State}
 use Rattle.board_player.specs.Inside.{parts_by}
+use Rattle.board_player.proofs.Going.{only_stepped}
 use Rattle.board_player.proofs.Stepping.{word_stepped}
 use Rattle.board_player.proofs.steps.run_word.Goals as goal
 
@@ -8,4 +11,8 @@ pub returns-clause-step : goal.returns-clause-step
 returns-clause-step g c =
     c.end.ensures.step
     ∙ word_stepped (parts_by (λ d. (goal.Device-dyn g (d.vtable, d.value)).kind_of d.value) (λ d. (goal.Device-dyn g (d.vtable, d.value)).words_of d.value) c.args.parts.now)
-    c.args.who c.args.at _ _ _ c.turn.ensures.world c.execute.ensures.part (c.requires.counter ∙ ap (λ (r : Regs). r.pc) (sym c.turn.ensures.ready.regs)) c.requires.gate
+    c.args.who c.args.at _ _ _ c.turn.ensures.world c.execute-is_done.ensures.part (c.requires.counter ∙ ap (λ (r : Regs). r.pc) (sym c.turn.ensures.ready.regs)) c.requires.gate
+
+pub returns-clause-only : goal.returns-clause-only
+returns-clause-only g c done =
+    only_stepped _ _ _ _ c.args.who (ap (λ (w : WorldState). w.kern) c.turn.ensures.world) (c.execute-is_done.ensures.registers done) (ap (λ (s : State). s.world.kern) c.end.ensures.step)

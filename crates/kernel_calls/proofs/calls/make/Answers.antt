@@ -1,8 +1,13 @@
 use Rattle.std.proofs.Common.{sym, subst}
 use Rattle.kernel_calls.specs.State.{WorldState}
-use Rattle.kernel_calls.specs.Actors.{Acts}
+use Rattle.kernel_calls.specs.Actors.{Acts, MayCall}
+use Rattle.kernel_calls.specs.Objects.{KeepsObjects}
 use Rattle.kernel_calls.specs.Kept.{IsEarly}
-use Rattle.kernel_calls.proofs.Serving.{left_acts, left_early}
+use Rattle.kernel_calls.proofs.Living.{left_acts}
+use Rattle.kernel_calls.proofs.Early.{left_early}
+use Rattle.kernel_calls.proofs.Passing.{may_left}
+use Rattle.kernel_calls.proofs.Serving.{left_objects}
+use Rattle.kernel_calls.proofs.QueueCalls.{lacking_made}
 use Rattle.kernel_calls.proofs.calls.make.Goals as goal
 
 pub plain_row-requires-clause-live : goal.plain_row-requires-clause-live
@@ -10,3 +15,14 @@ plain_row-requires-clause-live g c = subst (λ (s : WorldState). Acts s.kern c.a
 
 pub plain_row-requires-clause-early : goal.plain_row-requires-clause-early
 plain_row-requires-clause-early g c = subst IsEarly (sym c.leave_gate-2.ensures.world) (left_early _ c.args.who.now c.requires.early)
+
+pub plain_row-requires-clause-objects : goal.plain_row-requires-clause-objects
+plain_row-requires-clause-objects g c =
+    subst (λ (s : WorldState). KeepsObjects s.kern s.objects) (sym c.leave_gate-2.ensures.world) (left_objects _ c.args.who.now c.requires.kept c.requires.free c.requires.early)
+
+pub plain_row-requires-clause-ready : goal.plain_row-requires-clause-ready
+plain_row-requires-clause-ready g c = subst (λ (s : WorldState). MayCall s.kern c.args.who.now) (sym c.leave_gate-2.ensures.world) (may_left _ c.args.who.now c.requires.free)
+
+pub returns-then-may_lack_memory-clause-ok : goal.returns-then-may_lack_memory-clause-ok
+returns-then-may_lack_memory-clause-ok g c =
+    lacking_made c.args.gate _ _ _ c.args.who.now c.in_ok-reply.reply c.caller_regs-regs.result c.in_default.ensures c.caller_regs-regs.ensures (c.in_ok-reply.ensures.ok c.args.who.now) c.leave_gate-then-may_lack_memory.ensures.world

@@ -19,3 +19,7 @@ returns-in-Err-clause-complete g c =
 pub run_board-end-requires-clause-fresh : goal.run_board-end-requires-clause-fresh
 unfolding opening
 run_board-end-requires-clause-fresh g c = ap (λ (s : State). s.steps) c.in-Ok-boot.ensures.ok
+
+-- the board that is left has the kept facts, and so what is so at each instant
+pub returns-clause-kept : goal.returns-clause-kept
+returns-clause-kept g c = (c.facts.ensures, c.instant_law.ensures _ c.facts.ensures)

@@ -1,0 +1,186 @@
+-- What every call keeps.
+use Rattle.std.proofs.Common.{◌≡◌, ℕ, ◌+◌, ◌≤◌, List, ◌++◌, Option, None, Some, IfSome, is_some, true, false, cond, eqb, refl, sym, ap, ◌∙◌, subst, arith}
+use Rattle.std.specs.Prelude.{slice_index}
+use Rattle.std.specs.Option.{option_map}
+use Rattle.wind_base.specs.Errno.{errno_number}
+use Rattle.wind_base.specs.declared.gate.Gate.{Gate}
+use Rattle.wind_base.specs.declared.gate.Gate.TheVariants as gates
+use Rattle.wind_base.specs.declared.errno.Errno.{Errno}
+use Rattle.id_table.specs.Rows.{object_of}
+use Rattle.task_block.specs.declared.task.Task.{Task as TaskRecord}
+use Rattle.task_block.specs.Standing.{is_ready}
+use Rattle.board_mem.specs.Memory.{string_at}
+use Rattle.wind_core.specs.State.{KernState, task_of}
+use Rattle.wind_core.specs.Moves.{live_id, past_gate, leave_gate}
+use Rattle.wind_core.proofs.Unwritten.{task_of-change}
+use Rattle.task_safety.specs.Safety.{safe_of}
+use Rattle.kernel_calls.specs.State.{WorldState}
+use Rattle.kernel_calls.specs.Objects.{KeepsObjects, DepthsWithin}
+use Rattle.kernel_calls.specs.Actors.{Acts, MayCall, caller_words}
+use Rattle.kernel_calls.specs.TaskRows.{KernRow, target}
+use Rattle.kernel_calls.specs.SafetyRows.{delete_row}
+use Rattle.kernel_calls.specs.SemRows.{ObjectRow, is_mutex}
+use Rattle.kernel_calls.specs.QueueRows.{QueueRow, sending}
+use Rattle.kernel_calls.specs.Spawning.{spawned_if, task_wanted, quick_wanted, quick_text}
+use Rattle.kernel_calls.specs.Calls.{Row, with_reply, of_kern, of_objects, scene_of, of_queues, of_deletion, after_spawn, spawn_state, task_at, with_errno, row, left_gate, with_answer, refusal_word, replied, refusal_before, row_unless, made, call, past_gate as level_past, in_r3}
+use Rattle.kernel_calls.specs.Kept.{IsWorld, Within}
+use Rattle.kernel_calls.specs.Laws.{CallLaw, Passes, call_sinces}
+use Rattle.kernel_calls.specs.declared.actor.Actor.{Actor}
+use Rattle.kernel_calls.specs.declared.actor.Actor.TheVariants.{Task, Interrupt}
+use Rattle.kernel_calls.specs.declared.reply.Reply.{Reply}
+use Rattle.kernel_calls.specs.declared.reply.Reply.TheVariants.{Answer, Refusal, Later, Gone}
+use Rattle.kernel_calls.proofs.Goes.{Goes, goes-leave_gate, goes-answer}
+use Rattle.kernel_calls.proofs.TaskMoves.{suspend_goes, resume_goes, delay_goes, lock_goes, unlock_goes, self_goes, verify_goes, name_goes, slice_goes, safe_goes, unsafe_goes}
+use Rattle.kernel_calls.proofs.ObjectMoves.{objects-leave_gate, objects-answer}
+use Rattle.kernel_calls.proofs.KernRows.{objects-suspend_row, objects-resume_row, objects-delay_row, objects-lock_row, objects-unlock_row, objects-self_row, objects-verify_row, objects-name_row, objects-slice_row}
+use Rattle.kernel_calls.proofs.Advancing.{Advances, advances_on, advances_more, beside, stays, nowhere, by_kern, of_tasks, of_both, of_scene, of_list, align_advances, free_advances, symbol_few, told_advances, errno_advances, spawn_advances, within_more}
+use Rattle.kernel_calls.proofs.QueueKept.{keeps-create_row, keeps-send_row, keeps-receive_row, keeps-delete_row as keeps-queue_delete_row}
+use Rattle.kernel_calls.proofs.QueueCalls.{is_caller}
+use Rattle.kernel_calls.proofs.QueueGoes.{IsNear, near_itself, create_near, send_near, receive_row_near, delete_near}
+use Rattle.kernel_calls.proofs.Living.{ready_free}
+use Rattle.kernel_calls.proofs.Serves.{Serves, served, acts_on, passes_behind, passes_before}
+use Rattle.kernel_calls.proofs.Callers.{mutex_callers, queue_callers}
+use Rattle.kernel_calls.proofs.Deletions.{delete_serves}
+use Rattle.kernel_calls.proofs.Deleting.{objects-safe_row, objects-unsafe_row}
+use Rattle.kernel_calls.proofs.ObjectRows.{keeps-binary_row, keeps-counting_row, keeps-mutex_row, keeps-take_row, keeps-give_row, keeps-flush_row, keeps-delete_row, keeps-priority_row}
+use Rattle.kernel_calls.proofs.SemGoes.{binary_goes, counting_goes, mutex_goes, take_goes, give_goes, flush_goes, delete_goes, priority_goes}
+use Rattle.kernel_calls.proofs.Depths.{binary_depths, counting_depths, mutex_depths, take_depths, give_depths, flush_depths, delete_depths, priority_depths}
+
+-- a deletion by whoever calls
+delete_row_serves : (w : WorldState) (kept : IsWorld w) (n : ℕ) (within : Within n w) (a : Actor) (id : ℕ) → MayCall w.kern a → Serves w a (of_deletion w (delete_row w.kern w.part a id)) (n + 1)
+delete_row_serves w kept n within (Task who) id may = delete_serves w kept n within who id may
+delete_row_serves w kept n within Interrupt id may = served w Interrupt (of_deletion w (delete_row w.kern w.part Interrupt id)) (n + 1) (nowhere w kept n within)
+
+-- ---- the row of each gate
+module _ (w : WorldState) (kept : IsWorld w) (n : ℕ) (within : Within n w) (a : Actor) where
+  -- nothing is done, whatever is answered
+  idle : (reply : Reply) → Serves w a (with_reply w reply) (n + 1)
+  idle reply = served w a (with_reply w reply) (n + 1) (nowhere w kept n within)
+
+  of_kern_row : (r : KernRow) → Goes w.kern r.kern (n + 1) call_sinces → KeepsObjects r.kern w.objects → Serves w a (of_kern w r) (n + 1)
+  of_kern_row r g objects = served w a (of_kern w r) (n + 1) (of_tasks w kept n within r.kern g objects)
+
+  of_object_row : (r : ObjectRow) → Goes w.kern r.kern (n + 1) call_sinces → KeepsObjects r.kern r.objects → DepthsWithin (n + 1) r.objects → Serves w a (of_objects w r) (n + 1)
+  of_object_row r g objects depths = served w a (of_objects w r) (n + 1) (of_both w kept n within r.kern r.objects g objects depths)
+
+  of_queue_row : (r : QueueRow) → IsNear (scene_of w) n kept.kern within.0 r.scene → KeepsObjects r.scene.kern (record w.objects { queues = r.scene.queues }) → Serves w a (of_queues w r) (n + 1)
+  of_queue_row r near objects = served w a (of_queues w r) (n + 1) (of_scene w kept n within r.scene near.0 near.1 objects)
+
+  -- what is written is no matter of the kept facts
+  writing : (v : WorldState) (text : List ℕ) → Advances w v (n + 1) call_sinces 1 → Advances w (record v { output = text }) (n + 1) call_sinces 1
+  writing v text g =
+      let more = beside v g.kept (n + 1) g.within v.slots text v.level v.int_errno in
+      advances_more w (record v { output = text }) (n + 1) (n + 1) (call_sinces + 0) call_sinces (1 + 0) 1 (omega arith) (omega arith) (omega arith)
+      (advances_on w v (record v { output = text }) (n + 1) (n + 1) call_sinces 0 1 0 g more)
+
+  -- whoever takes or gives a mutex, or calls on a queue, lives
+  pub row_serves : (g : Gate) (r : List ℕ) → (is_mutex w.objects (slice_index r 3) ≡ true → Acts w.kern a) → (is_some (object_of w.objects.queues.queues (slice_index r 3)) ≡ true → Acts w.kern a) → MayCall w.kern a → Serves w a (row g w a r) (n + 1)
+  row_serves gates.TaskSpawn r live there may = served w a _ (n + 1) (spawn_advances w kept n within (task_wanted w.ram r))
+  row_serves gates.Sp r live there may =
+      let s = spawned_if (spawn_state w) (quick_wanted w.ram r) in
+      served w a _ (n + 1) (writing (after_spawn w s.after) (w.output ++ quick_text w.names s.reply) (spawn_advances w kept n within (quick_wanted w.ram r)))
+  row_serves gates.TaskDelete r live there may = delete_row_serves w kept n within a (slice_index r 3) may
+  row_serves gates.TaskSuspend r live there may = of_kern_row _ (suspend_goes w.kern n kept.kern within.0 (target w.kern a (slice_index r 3))) (objects-suspend_row w.kern w.objects kept.kern kept.objects (target w.kern a (slice_index r 3)))
+  row_serves gates.TaskResume r live there may = of_kern_row _ (resume_goes w.kern n kept.kern within.0 (target w.kern a (slice_index r 3))) (objects-resume_row w.kern w.objects kept.kern kept.objects (target w.kern a (slice_index r 3)))
+  row_serves gates.TaskDelay r live there may = of_kern_row _ (delay_goes w.kern n kept.kern within.0 a (slice_index r 3)) (objects-delay_row w.kern w.objects kept.kern kept.objects a (slice_index r 3))
+  row_serves gates.TaskLock r live there may = of_kern_row _ (lock_goes w.kern n kept.kern within.0 a) (objects-lock_row w.kern w.objects kept.kern kept.objects a)
+  row_serves gates.TaskUnlock r live there may = of_kern_row _ (unlock_goes w.kern n kept.kern within.0 a) (objects-unlock_row w.kern w.objects kept.kern kept.objects a)
+  row_serves gates.TaskSafe r live there may = of_kern_row _ (safe_goes w.kern n kept.kern within.0 a) (objects-safe_row w.kern w.objects kept.kern kept.objects a)
+  row_serves gates.TaskUnsafe r live there may = of_kern_row _ (unsafe_goes w.kern n kept.kern within.0 a) (objects-unsafe_row w.kern w.objects kept.kern kept.objects a)
+  row_serves gates.TaskIdSelf r live there may = of_kern_row _ (self_goes w.kern n kept.kern within.0 a) (objects-self_row w.kern w.objects kept.kern kept.objects a)
+  row_serves gates.TaskIdVerify r live there may = of_kern_row _ (verify_goes w.kern n kept.kern within.0 (live_id w.kern.tasks (slice_index r 3))) (objects-verify_row w.kern w.objects kept.kern kept.objects (live_id w.kern.tasks (slice_index r 3)))
+  row_serves gates.TaskNameToId r live there may = of_kern_row _ (name_goes w.kern n kept.kern within.0 (string_at w.ram (slice_index r 3))) (objects-name_row w.kern w.objects kept.kern kept.objects (string_at w.ram (slice_index r 3)))
+  row_serves gates.KernelTimeSlice r live there may = of_kern_row _ (slice_goes w.kern n kept.kern within.0 (slice_index r 3)) (objects-slice_row w.kern w.objects kept.kern kept.objects (slice_index r 3))
+  row_serves gates.TaskPriorityGet r live there may = served w a _ (n + 1) (told_advances w kept n within (slice_index r 4) (task_at w.kern (target w.kern a (slice_index r 3))))
+  row_serves gates.TickGet r live there may = idle _
+  row_serves gates.TaskPrioritySet r live there may = of_object_row _ (priority_goes w.kern w.objects n kept.kern within.0 (slice_index r 4) (target w.kern a (slice_index r 3))) (keeps-priority_row w.kern w.objects kept.kern kept.objects (slice_index r 4) (target w.kern a (slice_index r 3))) (priority_depths w.kern w.objects n within.1 (slice_index r 4) (target w.kern a (slice_index r 3)))
+  row_serves gates.SemBCreate r live there may = of_object_row _ (binary_goes w.kern w.objects n kept.kern within.0 (slice_index r 3) (slice_index r 4)) (keeps-binary_row w.kern w.objects kept.kern kept.objects (slice_index r 3) (slice_index r 4)) (binary_depths w.kern w.objects n within.1 (slice_index r 3) (slice_index r 4))
+  row_serves gates.SemCCreate r live there may = of_object_row _ (counting_goes w.kern w.objects n kept.kern within.0 (slice_index r 3) (slice_index r 4)) (keeps-counting_row w.kern w.objects kept.kern kept.objects (slice_index r 3) (slice_index r 4)) (counting_depths w.kern w.objects n within.1 (slice_index r 3) (slice_index r 4))
+  row_serves gates.SemMCreate r live there may = of_object_row _ (mutex_goes w.kern w.objects n kept.kern within.0 (slice_index r 3)) (keeps-mutex_row w.kern w.objects kept.kern kept.objects (slice_index r 3)) (mutex_depths w.kern w.objects n within.1 (slice_index r 3))
+  row_serves gates.SemTake r live there may = of_object_row _ (take_goes w.kern w.objects n kept.kern within.0 a (slice_index r 3) (slice_index r 4)) (keeps-take_row w.kern w.objects kept.kern kept.objects a (slice_index r 3) (slice_index r 4) live) (take_depths w.kern w.objects n within.1 a (slice_index r 3) (slice_index r 4))
+  row_serves gates.SemGive r live there may = of_object_row _ (give_goes w.kern w.objects n kept.kern within.0 a (slice_index r 3)) (keeps-give_row w.kern w.objects kept.kern kept.objects a (slice_index r 3) live) (give_depths w.kern w.objects n within.1 a (slice_index r 3))
+  row_serves gates.SemFlush r live there may = of_object_row _ (flush_goes w.kern w.objects n kept.kern within.0 (slice_index r 3)) (keeps-flush_row w.kern w.objects kept.kern kept.objects (slice_index r 3)) (flush_depths w.kern w.objects n within.1 (slice_index r 3))
+  row_serves gates.SemDelete r live there may = of_object_row _ (delete_goes w.kern w.objects n kept.kern within.0 (slice_index r 3)) (keeps-delete_row w.kern w.objects kept.kern kept.objects (slice_index r 3)) (delete_depths w.kern w.objects n within.1 (slice_index r 3))
+  row_serves gates.MsgQCreate r live there may =
+      of_queue_row _ (create_near (scene_of w) n kept.kern within.0 (slice_index r 3) (slice_index r 4) (slice_index r 5))
+      (keeps-create_row w.kern w.objects w.ram kept.kern kept.objects kept.ram (slice_index r 3) (slice_index r 4) (slice_index r 5))
+  row_serves gates.MsgQSend r live there may =
+      let near = send_near (scene_of w) n kept.kern within.0 (kept.objects.queues w.ram kept.ram) (slice_index r 3) (sending a (slice_index r 4) (slice_index r 5) (slice_index r 6) (slice_index r 7)) in
+      of_queue_row _ near
+      (keeps-send_row w.kern w.objects w.ram kept.kern kept.objects kept.ram a (slice_index r 3) (slice_index r 4) (slice_index r 5) (slice_index r 6) (slice_index r 7) (λ h. is_caller w.kern a (there h) may) (near.1 ∙ kept.ram))
+  row_serves gates.MsgQReceive r live there may =
+      let near = receive_row_near (scene_of w) n kept.kern within.0 (kept.objects.queues w.ram kept.ram) a (slice_index r 3) (slice_index r 4) (slice_index r 5) (slice_index r 6) in
+      of_queue_row _ near
+      (keeps-receive_row w.kern w.objects w.ram kept.kern kept.objects kept.ram a (slice_index r 3) (slice_index r 4) (slice_index r 5) (slice_index r 6) (λ h. is_caller w.kern a (there h) may) (near.1 ∙ kept.ram))
+  row_serves gates.MsgQDelete r live there may = of_queue_row _ (delete_near (scene_of w) n kept.kern within.0 (slice_index r 3)) (keeps-queue_delete_row w.kern w.objects w.ram kept.kern kept.objects kept.ram (slice_index r 3))
+  row_serves gates.MsgQNumMsgs r live there may = of_queue_row _ (near_itself (scene_of w) n kept.kern within.0) kept.objects
+  row_serves gates.Malloc r live there may = served w a _ (n + 1) (align_advances w kept n within 16 (slice_index r 3))
+  row_serves gates.Free r live there may = served w a _ (n + 1) (free_advances w kept n within (slice_index r 3))
+  row_serves gates.Memalign r live there may = served w a _ (n + 1) (align_advances w kept n within (slice_index r 3) (slice_index r 4))
+  row_serves gates.SymAdd r live there may = served w a _ (n + 1) (of_list w kept n within _ (symbol_few w kept n within (slice_index r 3) (slice_index r 4) (slice_index r 5) (slice_index r 6)))
+  row_serves gates.ErrnoGet r live there may = idle _
+  row_serves gates.ErrnoSet r live there may =
+      served w a _ (n + 1) (advances_more w _ n (n + 1) 0 call_sinces 0 1 (omega arith) (omega arith) (omega arith) (errno_advances w kept n within a (slice_index r 3)))
+  row_serves g r live there may = idle Later
+
+-- ---- the frame of a call
+-- who goes on behind its gate is as safe as before
+safe_left : (w : WorldState) (a : Actor) (id : ℕ) → safe_of (task_of (left_gate w a).kern.tasks id) ≡ safe_of (task_of w.kern.tasks id)
+safe_left w (Task who) id =
+    ap safe_of (task_of-change w.kern.tasks who id past_gate (λ t. refl))
+    ∙ elim (task_of w.kern.tasks id) as (λ o. safe_of (option_map (λ t. cond (eqb t.id who) (past_gate t) t) o) ≡ safe_of o) [
+      | None ↦ refl
+      | Some t ↦ elim (eqb t.id who) as (λ b. (cond b (past_gate t) t).safe ≡ t.safe) [ true ↦ refl | false ↦ refl ]
+    ]
+safe_left w Interrupt id = refl
+
+-- and is ready then too
+pub may_left : (w : WorldState) (a : Actor) → MayCall w.kern a → MayCall (left_gate w a).kern a
+may_left w (Task who) may =
+    subst (λ o. IfSome o (λ t. is_ready t ≡ true)) (sym (task_of-change w.kern.tasks who who past_gate (λ t. refl)))
+    (elim (task_of w.kern.tasks who) as (λ o. IfSome o (λ t. is_ready t ≡ true) → IfSome (option_map (λ t. cond (eqb t.id who) (past_gate t) t) o) (λ t. is_ready t ≡ true)) [
+      | None ↦ λ h. tt
+      | Some t ↦ λ h. elim (eqb t.id who) as (λ b. is_ready (cond b (past_gate t) t) ≡ true) [ true ↦ h | false ↦ h ]
+    ] may)
+may_left w Interrupt may = may
+
+module _ (w : WorldState) (kept : IsWorld w) (n : ℕ) (within : Within n w) where
+  pub left_advances : (a : Actor) → MayCall w.kern a → Advances w (left_gate w a) n 0 0
+  left_advances (Task who) may = by_kern w kept _ n 0 (goes-leave_gate w.kern n kept.kern within.0 who) (objects-leave_gate w.kern w.objects kept.kern kept.objects who (ready_free w.kern who may)) within.1
+  left_advances Interrupt may = beside w kept n within w.slots w.output (option_map level_past w.level) w.int_errno
+
+  answer_advances : (a : Actor) (value : ℕ) → Advances w (with_answer w a value) n 0 0
+  answer_advances (Task who) value = by_kern w kept _ n 0 (goes-answer w.kern n kept.kern within.0 who value) (objects-answer w.kern w.objects kept.kern kept.objects who value) within.1
+  answer_advances Interrupt value = beside w kept n within w.slots w.output (option_map (in_r3 value) w.level) w.int_errno
+
+pub replied_advances : (w : WorldState) → IsWorld w → (n : ℕ) → Within n w → (g : Gate) (a : Actor) (r : Reply) → Advances w (replied g w a r) n 0 0
+replied_advances w kept n within g a (Answer value) = answer_advances w kept n within a value
+replied_advances w kept n within g a (Refusal e) =
+    let set = errno_advances w kept n within a (errno_number e) in
+    let v = with_errno w a (errno_number e) in
+    advances_on w v (with_answer v a (refusal_word g)) n n 0 0 0 0 set (answer_advances v set.kept n set.within a (refusal_word g))
+replied_advances w kept n within g a Later = stays w kept n within
+replied_advances w kept n within g a Gone = stays w kept n within
+
+unless_row : (w : WorldState) (kept : IsWorld w) (n : ℕ) (within : Within n w) (o : Option Errno) (g : Gate) (a : Actor) (r : List ℕ) → (is_mutex w.objects (slice_index r 3) ≡ true → Acts w.kern a)
+    → (is_some (object_of w.objects.queues.queues (slice_index r 3)) ≡ true → Acts w.kern a) → MayCall w.kern a → Serves w a (row_unless o g w a r) (n + 1)
+unless_row w kept n within (Some e) g a r live there may = idle w kept n within a (Refusal e)
+unless_row w kept n within None g a r live there may = row_serves w kept n within a g r live there may
+
+pub made_serves : (g : Gate) (w : WorldState) (a : Actor) (n : ℕ) → IsWorld w → MayCall w.kern a → Within n w → Serves w a (made g w a) (n + 1)
+made_serves g w a n kept may within =
+    let left = left_advances w kept n within a may in
+    let v = left_gate w a in
+    let live : is_mutex v.objects (slice_index (caller_words w a) 3) ≡ true → Acts v.kern a = λ h. acts_on w v a n 0 0 left (mutex_callers w a kept.kern kept.objects h) in
+    let there : is_some (object_of v.objects.queues.queues (slice_index (caller_words w a) 3)) ≡ true → Acts v.kern a = λ h. acts_on w v a n 0 0 left (queue_callers w a kept.objects h) in
+    let rowed = unless_row v left.kept n left.within (refusal_before g a) g a (caller_words w a) live there (may_left w a may) in
+    record {
+      passes = passes_behind w v (made g w a).world a n (n + 1) call_sinces 1 left (safe_left w a) rowed.passes;
+      acts = λ stays lives. rowed.acts stays (acts_on w v a n 0 0 left lives);
+    }
+
+pub call_passes : CallLaw
+call_passes g w a n kept may within =
+    let m = (made_serves g w a n kept may within).passes in
+    let r = made g w a in
+    passes_before w r.world (call g w a) a (n + 1) (n + 1) call_sinces 1 m (replied_advances r.world m.kept (n + 1) m.within g a r.reply)

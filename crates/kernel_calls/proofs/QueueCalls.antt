@@ -1,0 +1,98 @@
+-- What the calls on message queues ask for, and how the world shows what they did.
+use Rattle.std.proofs.Common.{◌≡◌, ℕ, List, length, Option, None, Some, IsSome, IfSome, Result, IfOk, true, refl, sym, ap, ◌∙◌, subst}
+use Rattle.std.specs.Prelude.{slice_index}
+use Rattle.wind_base.specs.declared.errno.Errno.{Errno}
+use Rattle.wind_base.specs.declared.regs.Regs.{Regs}
+use Rattle.wind_base.specs.declared.gate.Gate.{Gate}
+use Rattle.wind_base.specs.declared.gate.Gate.TheVariants as gates
+use Rattle.task_block.specs.declared.task.Task.{Task as TaskRecord}
+use Rattle.task_block.specs.Standing.{is_ready}
+use Rattle.board_mem.specs.Memory.{string_at}
+use Rattle.wind_core.specs.State.{KernState, task_of, task_named}
+use Rattle.msg_queue.specs.State.{QueuesState, Scene, scene}
+use Rattle.msg_queue.specs.Comings.{create_refusal, new_queue, created, IsMade}
+use Rattle.msg_queue.specs.Kept.{IsCaller}
+use Rattle.kernel_calls.specs.State.{WorldState}
+use Rattle.kernel_calls.specs.Actors.{Acts, MayCall, caller_regs, caller_words}
+use Rattle.kernel_calls.specs.QueueRows.{QueueRow, row_of, create_unless, create_row, task_in}
+use Rattle.kernel_calls.specs.Calls.{Row, with_reply, of_kern, of_queues, scene_of, left_gate, row, refusal_before, row_unless, made}
+use Rattle.kernel_calls.specs.TaskRows.{name_row, found_row}
+use Rattle.kernel_calls.specs.declared.objects.Objects.{Objects}
+use Rattle.kernel_calls.specs.declared.actor.Actor.{Actor}
+use Rattle.kernel_calls.specs.declared.actor.Actor.TheVariants.{Task, Interrupt}
+use Rattle.kernel_calls.specs.declared.reply.Reply.{Reply}
+use Rattle.kernel_calls.specs.declared.reply.Reply.TheVariants.{Answer}
+
+-- ---- what they ask for
+-- who may call is ready where it is a task
+pub is_caller : (k : KernState) (a : Actor) → Acts k a → MayCall k a → IsCaller k (task_in a)
+is_caller k (Task who) live ready = go (task_of k.tasks who) refl live ready where
+  go : (o : Option TaskRecord) → task_of k.tasks who ≡ o → IsSome o → IfSome o (λ t. is_ready t ≡ true) → (t : TaskRecord) × (task_of k.tasks who ≡ Some t) × (is_ready t ≡ true)
+  go None e live ready = absurd (cc)
+  go (Some t) e live ready = (t, e, ready)
+is_caller k Interrupt live ready = tt
+
+-- ---- msgQCreate
+pub made_row : (k l : KernState) (qs us : QueuesState) (max_msgs max_len options id : ℕ) → IsMade k l qs us max_msgs max_len options id
+    → (ram : List ℕ) → row_of (scene l us ram) (Answer id) ≡ create_row (scene k qs ram) max_msgs max_len options
+made_row k l qs us max_msgs max_len options id is ram =
+    let s : Scene = scene k qs ram in
+    let q = new_queue max_msgs max_len options in
+    ap (λ t. row_of t (Answer id)) (is.2 ram) ∙ ap (λ i. row_of (created s q) (Answer i)) is.1 ∙ sym (ap (λ o. create_unless o s q) is.0)
+
+-- the tasks are as they were
+pub create_tasks : (s : Scene) (max_msgs max_len options : ℕ) → (create_row s max_msgs max_len options).scene.kern.tasks ≡ s.kern.tasks
+create_tasks s max_msgs max_len options =
+    elim (create_refusal (length s.queues.queues) s.kern.next_id max_msgs max_len options) as (λ o. (create_unless o s (new_queue max_msgs max_len options)).scene.kern.tasks ≡ s.kern.tasks) [ None ↦ refl | Some e ↦ refl ]
+
+-- a queue may be made before the caller goes on behind its gate
+left_create : (w : WorldState) (a : Actor) (max_msgs max_len options : ℕ) → with_reply (left_gate (of_queues w (create_row (scene_of w) max_msgs max_len options)).world a) (create_row (scene_of w) max_msgs max_len options).reply
+    ≡ of_queues (left_gate w a) (create_row (scene_of (left_gate w a)) max_msgs max_len options)
+left_create w (Task who) max_msgs max_len options =
+    let q = new_queue max_msgs max_len options in
+    elim (create_refusal (length w.objects.queues.queues) w.kern.next_id max_msgs max_len options) as (λ o. with_reply (left_gate (of_queues w (create_unless o (scene_of w) q)).world (Task who)) (create_unless o (scene_of w) q).reply
+    ≡ of_queues (left_gate w (Task who)) (create_unless o (scene_of (left_gate w (Task who))) q)) [ None ↦ refl | Some e ↦ refl ]
+left_create w Interrupt max_msgs max_len options =
+    let q = new_queue max_msgs max_len options in
+    elim (create_refusal (length w.objects.queues.queues) w.kern.next_id max_msgs max_len options) as (λ o. with_reply (left_gate (of_queues w (create_unless o (scene_of w) q)).world Interrupt) (create_unless o (scene_of w) q).reply
+    ≡ of_queues (left_gate w Interrupt) (create_unless o (scene_of (left_gate w Interrupt)) q)) [ None ↦ refl | Some e ↦ refl ]
+
+pub created_behind : (w : WorldState) (k : KernState) (o : Objects) (reply : Reply) (r : List ℕ)
+    → row_of (scene k o.queues w.ram) reply ≡ create_row (scene_of w) (slice_index r 3) (slice_index r 4) (slice_index r 5) → o ≡ record w.objects { queues = o.queues }
+    → (a : Actor) → with_reply (left_gate (record w { kern = k; objects = o }) a) reply ≡ row gates.MsgQCreate (left_gate w a) a r
+created_behind w k o reply r e rest a =
+    ap (λ (p : Objects). with_reply (left_gate (record w { kern = k; objects = p }) a) reply) rest
+    ∙ ap (λ (x : QueueRow). with_reply (left_gate (of_queues w x).world a) x.reply) e
+    ∙ left_create w a (slice_index r 3) (slice_index r 4) (slice_index r 5)
+
+-- the same of a gate that is that of msgQCreate
+pub at_gate : {E : Type 0} (g h : Gate) (w v : WorldState) (r : List ℕ) (result : Result Reply E) → g ≡ h
+    → IfOk result (λ x. (a : Actor) → with_reply (left_gate v a) x ≡ row h (left_gate w a) a r) → IfOk result (λ x. (a : Actor) → with_reply (left_gate v a) x ≡ row g (left_gate w a) a r)
+at_gate g h w v r result e ok = subst (λ i. IfOk result (λ x. (a : Actor) → with_reply (left_gate v a) x ≡ row i (left_gate w a) a r)) (sym e) ok
+
+-- who acts goes on where the tasks are as they were
+pub created_acts : (k l : KernState) (qs us : QueuesState) (ram : List ℕ) (reply : Reply) (r : List ℕ)
+    → row_of (scene l us ram) reply ≡ create_row (scene k qs ram) (slice_index r 3) (slice_index r 4) (slice_index r 5) → (a : Actor) → Acts k a → Acts l a
+created_acts k l qs us ram reply r e (Task who) live =
+    let same : l.tasks ≡ k.tasks = ap (λ (x : QueueRow). x.scene.kern.tasks) e ∙ create_tasks (scene k qs ram) (slice_index r 3) (slice_index r 4) (slice_index r 5) in
+    subst (λ ts. IsSome (task_of ts who)) (sym same) live
+created_acts k l qs us ram reply r e Interrupt live = live
+
+-- a call that may lack memory is made before its caller goes on
+pub lacking_made : (g : Gate) (w v u : WorldState) (a : Actor) (reply : Reply) (regs : Regs) → None ≡ refusal_before g a → regs ≡ caller_regs w.kern w.level a
+    → with_reply (left_gate v a) reply ≡ row g (left_gate w a) a regs.gpr → u ≡ left_gate v a → with_reply u reply ≡ made g w a
+lacking_made g w v u a reply regs fine words rowed left =
+    ap (λ x. with_reply x reply) left
+    ∙ rowed
+    ∙ ap (λ (r : Regs). row g (left_gate w a) a r.gpr) words
+    ∙ ap (λ o. row_unless o g (left_gate w a) a (caller_words w a)) fine
+
+-- ---- taskNameToId: it changes nothing
+pub named_row : (g : Gate) (w : WorldState) (a : Actor) (r : List ℕ) (reply : Reply) → g ≡ gates.TaskNameToId → reply ≡ (name_row w.kern (string_at w.ram (slice_index r 3))).reply → with_reply w reply ≡ row g w a r
+named_row g w a r reply is told =
+    ap (λ t. with_reply w t) told ∙ still (string_at w.ram (slice_index r 3)) ∙ ap (λ h. row h w a r) (sym is)
+  where
+    still : (o : Option (List ℕ)) → with_reply w (name_row w.kern o).reply ≡ of_kern w (name_row w.kern o)
+    still None = refl
+    still (Some name) =
+        elim (task_named w.kern.tasks name) as (λ (o : Option TaskRecord). with_reply w (found_row w.kern o).reply ≡ of_kern w (found_row w.kern o)) [ None ↦ refl | Some t ↦ refl ]

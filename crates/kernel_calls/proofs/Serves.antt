@@ -1,0 +1,70 @@
+-- What holds from one world to the next within a call, whoever is taken out by it.
+use Rattle.std.proofs.Common.{◌≡◌, ℕ, ◌+◌, ◌≤◌, refl, sym, ap, ◌∙◌, arith, inl, inr, ⊎_elim}
+use Rattle.wind_core.specs.State.{task_of}
+use Rattle.task_safety.specs.Safety.{safe_of}
+use Rattle.kernel_calls.specs.State.{WorldState}
+use Rattle.kernel_calls.specs.Actors.{Acts}
+use Rattle.kernel_calls.specs.Calls.{Row}
+use Rattle.kernel_calls.specs.Laws.{Passes, call_sinces}
+use Rattle.kernel_calls.specs.declared.actor.Actor.{Actor}
+use Rattle.kernel_calls.specs.declared.actor.Actor.TheVariants.{Task, Interrupt}
+use Rattle.kernel_calls.specs.declared.reply.Reply.TheVariants.{Gone}
+use Rattle.kernel_calls.proofs.Advancing.{Advances}
+
+-- a row keeps what a call keeps, and its caller lives on where it is to be answered
+pub record Serves (w : WorldState) (a : Actor) (r : Row) (n : ℕ) : Type 0 where
+  pub passes : Passes w r.world a n call_sinces 1
+  pub acts : (r.reply ≡ Gone → ⊥) → Acts w.kern a → Acts r.world.kern a
+
+-- whoever acts goes on where all tasks live on
+pub acts_on : (w v : WorldState) (a : Actor) (n d m : ℕ) → Advances w v n d m → Acts w.kern a → Acts v.kern a
+acts_on w v (Task who) n d m g live = g.lives who live
+acts_on w v Interrupt n d m g live = live
+
+pub passes_by : (w v : WorldState) (a : Actor) (n d m : ℕ) → Advances w v n d m → Passes w v a n d m
+passes_by w v a n d m g = record {
+  kept = g.kept;
+  gone = λ id live dead. absurd (dead (g.lives id live));
+  shell = λ live. g.lives 1 live;
+  within = g.within;
+  last = g.last;
+  reserves = g.reserves;
+  sinces = g.sinces;
+  count = g.count;
+  names = g.names;
+}
+
+pub served : (w : WorldState) (a : Actor) (r : Row) (n : ℕ) → Advances w r.world n call_sinces 1 → Serves w a r n
+served w a r n g = record { passes = passes_by w r.world a n call_sinces 1 g; acts = λ stays live. acts_on w r.world a n call_sinces 1 g live }
+
+-- all live on first, as safe as they were
+pub passes_behind : (w v u : WorldState) (a : Actor) (l n d m : ℕ) → Advances w v l 0 0 → ((id : ℕ) → safe_of (task_of v.kern.tasks id) ≡ safe_of (task_of w.kern.tasks id))
+    → Passes v u a n d m → Passes w u a n d m
+passes_behind w v u a l n d m g safes p = record {
+  kept = p.kept;
+  gone = λ id live dead. ⊎_elim
+      (λ (z : safe_of (task_of v.kern.tasks id) ≡ 0). inl (sym (safes id) ∙ z))
+      (λ (e : a ≡ Task id). inr e)
+      (p.gone id (g.lives id live) dead);
+  shell = λ live. p.shell (g.lives 1 live);
+  within = p.within;
+  last = p.last ∙ g.last;
+  reserves = λ who h. p.reserves who (g.reserves who h);
+  sinces = omega (arith, g.sinces, p.sinces);
+  count = p.count ∙ g.count;
+  names = omega (arith, g.names, p.names);
+}
+
+-- all live on at last
+pub passes_before : (w v u : WorldState) (a : Actor) (l n d m : ℕ) → Passes w v a l d m → Advances v u n 0 0 → Passes w u a n d m
+passes_before w v u a l n d m p g = record {
+  kept = g.kept;
+  gone = λ id live dead. p.gone id live (λ there. dead (g.lives id there));
+  shell = λ live. g.lives 1 (p.shell live);
+  within = g.within;
+  last = g.last ∙ p.last;
+  reserves = λ who h. g.reserves who (p.reserves who h);
+  sinces = omega (arith, g.sinces, p.sinces);
+  count = g.count ∙ p.count;
+  names = omega (arith, g.names, p.names);
+}

@@ -1,0 +1,26 @@
+-- What is so at each instant of a run.
+use Rattle.std.specs.Prelude.{◌≡◌, ℕ, ◌≤◌, true, Some}
+use Rattle.std.specs.List.{All}
+use Rattle.task_block.specs.declared.task.Task.{Task}
+use Rattle.wind_core.specs.Orders.{running}
+use Rattle.wind_core.specs.Laws.{MayRun}
+use Rattle.inheritance.specs.Mutexes.{held_count}
+use Rattle.inheritance.specs.Reach.{boss, reaches, pri_of}
+use Rattle.kernel_calls.specs.State.{WorldState}
+
+-- whoever runs lives and is ready, and no ready task is before it, unless it ran last and holds the lock
+abbrev pub MostUrgentRuns : WorldState → Type 0
+MostUrgentRuns w = (x : Task) → running w.kern ≡ Some x → MayRun w.kern x
+
+-- each live owner of an inversion-safe mutex is at least as urgent as whoever waits for it, itself or along further owners, in cycles too
+abbrev pub OwnersInherit : WorldState → Type 0
+OwnersInherit w = (n y x : ℕ) → reaches (boss w.kern.tasks w.objects.mutexes) n y x ≡ true → pri_of w.kern.tasks x ≤ pri_of w.kern.tasks y
+
+-- a live task that owns no inversion-safe mutex has its normal priority
+abbrev pub OthersAreNormal : WorldState → Type 0
+OthersAreNormal w = All (λ t. held_count w.objects.mutexes t.id ≡ 0 → t.pri ≡ t.normal) w.kern.tasks
+
+pub record IsInstant (w : WorldState) : Type 0 where
+  pub urgency : MostUrgentRuns w
+  pub inheritance : OwnersInherit w
+  pub normal : OthersAreNormal w

@@ -1,0 +1,199 @@
+#!/bin/sh
+# Plays the cases of the folder `cases` with PROGRAM. It prints a line for each case that differs, and one that counts
+# them. It ends with 1 where a case differs, and with 2 where there is none or not all could be played.
+#
+# usage: tests/run.sh PROGRAM
+set -eu
+if [ $# -ne 1 ]; then
+    echo "usage: $0 PROGRAM" >&2
+    exit 2
+fi
+program=$(command -v "$1") || { echo "$0: $1: no such program" >&2; exit 2; }
+case $program in /*) ;; *) program=$PWD/$program ;; esac
+here=$(cd "$(dirname "$0")" && pwd)
+work=$(mktemp -d)
+all_played=no
+trap 'rm -rf "$work"; [ "$all_played" = yes ] || exit 2' EXIT
+# By whatever name the program lies, its usage line tells this one.
+ln -s "$program" "$work/windplay"
+
+# What the session writes with which each case begins.
+output='-> 1+2\nvalue = 3 = 0x3\n-> '
+
+cases=0
+differing=0
+told=yes
+
+# Begins a case, by what it shows: a folder with the console `1+2` and an empty tick file.
+shows() {
+    ended
+    name=$1
+    told=no
+    unset status
+    cases=$((cases + 1))
+    rm -rf "$work/session"
+    mkdir "$work/session"
+    console '1+2\n'
+    ticks ''
+}
+
+# Each case has to say how it ends.
+ended() {
+    [ "$told" = yes ] || { printf '%s\n' "$subject: $name: no end" >&2; exit 2; }
+}
+
+# Puts bytes into a file of the case. They are written as for the `%b` of printf: `\n`, `\0ooo`, `\\`.
+file() {
+    printf '%b' "$2" >"$work/session/$1"
+}
+
+console() {
+    file console.txt "$1"
+}
+
+ticks() {
+    file ticks.txt "$1"
+}
+
+# Puts so many blanks into a file of the case.
+blanks() {
+    printf "%$2s" '' >"$work/session/$1"
+}
+
+without() {
+    rm "$work/session/$1"
+}
+
+# Becomes the program with these words, in the folder of the case.
+become() {
+    cd "$work/session" && exec "$work/windplay" "$@"
+}
+
+# Plays the program with these words.
+plays() {
+    status=0
+    (become "$@") >"$work/stdout" 2>"$work/stderr" || status=$?
+}
+
+# The same, with standard output going to a file of the host.
+plays_out_to() {
+    status=0
+    : >"$work/stdout"
+    into=$1
+    shift
+    (become "$@") >"$into" 2>"$work/stderr" || status=$?
+}
+
+# The same, with standard error going to a file of the host.
+plays_err_to() {
+    status=0
+    : >"$work/stderr"
+    into=$1
+    shift
+    (become "$@") >"$work/stdout" 2>"$into" || status=$?
+}
+
+plays_with_out_closed() {
+    status=0
+    : >"$work/stdout"
+    (become "$@") >&- 2>"$work/stderr" || status=$?
+}
+
+plays_with_err_closed() {
+    status=0
+    : >"$work/stderr"
+    (become "$@") >"$work/stdout" 2>&- || status=$?
+}
+
+# Standard output is a pipe of which the first so many bytes are read; then it is closed.
+plays_before_a_reader_of() {
+    count=$1
+    shift
+    {
+        status=0
+        (become "$@") 2>"$work/stderr" || status=$?
+        echo "$status" >"$work/status"
+    } | dd bs=1 count="$count" >"$work/stdout" 2>"$work/log"
+    status=$(cat "$work/status")
+}
+
+# Standard output is a pipe that nobody reads any more.
+plays_without_a_reader() {
+    status=0
+    : >"$work/stdout"
+    rm -f "$work/pipe"
+    mkfifo "$work/pipe"
+    (
+        exec 3<>"$work/pipe" 4>"$work/pipe"
+        exec 3>&-
+        become "$@" >&4 4>&-
+    ) 2>"$work/stderr" || status=$?
+}
+
+# Notes a difference of the case.
+differs() {
+    difference="${difference:+$difference; }$1"
+}
+
+# Compares what was written with these bytes.
+compare() {
+    printf '%b' "$2" >"$work/expected"
+    place=$(cd "$work" && cmp expected "$1" 2>&1) || differs "$place"
+}
+
+# Ends the case.
+tell() {
+    told=yes
+    if [ -n "$difference" ]; then
+        printf '%s\n' "$subject: $name: $difference"
+        differing=$((differing + 1))
+    fi
+}
+
+# The case ends with this status, standard output and standard error.
+ends() {
+    difference=
+    [ "$status" = "$1" ] || differs "status $status, not $1"
+    compare stdout "$2"
+    compare stderr "$3"
+    tell
+}
+
+# Plays the case with no more words than a limit. It ends quiet behind exactly so many steps, with this standard output.
+lasts() {
+    difference=
+    plays --limit "$1"
+    [ "$status" = 3 ] || differs "status $status at a limit of $1, not 3"
+    compare stdout "$2"
+    compare stderr "windplay: limit of $1 steps reached\\n"
+    plays --limit "$(($1 + 1))"
+    [ "$status" = 0 ] || differs "status $status at a limit of one more, not 0"
+    compare stdout "$2"
+    compare stderr ''
+    tell
+}
+
+# The case is a refusal of its words: this is the first line on standard error, the last one leads to the help.
+refuses() {
+    difference=
+    [ "$status" = 1 ] || differs "status $status, not 1"
+    compare stdout ''
+    first=$(sed -n 1p "$work/stderr")
+    last=$(sed -n '$p' "$work/stderr")
+    [ "$first" = "error: $1" ] || differs "stderr begins: $first"
+    [ "$last" = "For more information, try '--help'." ] || differs "stderr ends: $last"
+    tell
+}
+
+for path in "$here"/cases/*.sh; do
+    [ -f "$path" ] || { echo "$0: no cases" >&2; exit 2; }
+    subject=$(basename "$path" .sh)
+    before=$cases
+    . "$path"
+    ended
+    [ "$cases" -gt "$before" ] || { echo "$subject: no case" >&2; exit 2; }
+done
+
+all_played=yes
+echo "$cases cases, $differing of them differ"
+[ "$differing" -eq 0 ]
