@@ -9,6 +9,7 @@ ghost use Rattle.kernel_calls.specs.Kept.{IsWorld, IsEarly};
 ghost use Rattle.kernel_calls.specs.Objects.{IsReady};
 ghost use Rattle.kernel_calls.specs.Seen.{world_seen, world_with};
 ghost use Rattle.kernel_calls.specs.Calls.{is_built as is_built_lem, may_lack_memory};
+ghost use Rattle.kernel_calls.specs.Space.{HoldsSpace};
 ghost use Rattle.wind_base.specs.OutBuf.{KeepsSpace};
 ghost use Rattle.wind_machine.specs.Part.{part_of, writing};
 ghost use Rattle.wind_machine.specs.Processor.{trapped, told_of, bus_of, is_return as is_return_lem, return_part, called as called_lem, gate_part, executed, word_part, regs_of};
@@ -116,7 +117,7 @@ fn call(alloc: Global, world: &mut World, who: Ident, gate: Gate) -> Result<(), 
     ensures memory { OnErr result (may_lack_memory gate ≡ true) }
     ensures err { OnErr result (world_seen ⟦<dyn Device as Device>⟧ world.new
         ≡ world_seen ⟦<dyn Device as Device>⟧ world.old) }
-    ensures space { KeepsSpace world.old.out world.new.out }
+    ensures space { HoldsSpace world.old.out world.new.out }
 {
     match kernel_call(alloc, world, gate, &Actor::Task(who)) {
         Called::NoMemory => Err(NoMemory),
@@ -147,7 +148,7 @@ pub(crate) fn at_gate(
     ensures err { OnErr result (world_seen ⟦<dyn Device as Device>⟧ world.new
         ≡ world_seen ⟦<dyn Device as Device>⟧ world.old) }
     ensures shell { OnErr result (shell.new ≡ shell.old) }
-    ensures space { KeepsSpace world.old.out world.new.out }
+    ensures space { HoldsSpace world.old.out world.new.out }
 {
     if is_return(gate, who) {
         return_from(shell, world, who);

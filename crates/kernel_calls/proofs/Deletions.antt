@@ -1,9 +1,9 @@
 -- What a call to delete a task keeps.
-use Rattle.std.proofs.Common.{◌≡◌, ℕ, ◌+◌, ◌<◌, ◌≤◌, false, true, List, Option, None, Some, refl, sym, ap, ◌∙◌, subst, arith, inl, inr, ⊎_elim}
+use Rattle.std.proofs.Common.{◌≡◌, ℕ, ◌+◌, List, refl, sym, ap, ◌∙◌, subst, arith, inl, inr, ⊎_elim}
 use Rattle.wind_base.specs.declared.errno.Errno.{Errno}
 use Rattle.wind_base.specs.declared.errno.Errno.TheVariants as errors
 use Rattle.task_block.specs.declared.task.Task.{Task as TaskRecord}
-use Rattle.wind_core.specs.State.{KernState, Lives, task_of}
+use Rattle.wind_core.specs.State.{KernState, task_of}
 use Rattle.task_safety.specs.Safety.{safe_of}
 use Rattle.task_safety.specs.declared.deleting.Deed.{Deed}
 use Rattle.task_safety.specs.declared.deleting.Deed.TheVariants.{Refuses, EndsItself, Removes, Awaits}

@@ -1,6 +1,6 @@
 -- What is kept where a task is taken out.
-use Rattle.std.proofs.Common.{◌≡◌, ℕ, zero, suc, ◌+◌, ◌<◌, ◌≤◌, Bool, true, false, not, cond, eqb, List, [], ◌∷◌, length, get_or, map, Option, Some, None, IsSome, refl, sym, ap, ◌∙◌, subst, arith}
-use Rattle.std.specs.List.{All, AllPairs, filter, find}
+use Rattle.std.proofs.Common.{◌≡◌, ℕ, suc, ◌+◌, ◌≤◌, true, false, not, cond, eqb, List, [], ◌∷◌, get_or, Option, Some, None, IsSome, refl, sym, ap, ◌∙◌, subst, arith}
+use Rattle.std.specs.List.{All, AllPairs}
 use Rattle.std.proofs.lemmas.Bool.{eqb-true, ne_eqb}
 use Rattle.std.proofs.lemmas.List.Elements.{All-head, All-tail, All-cons}
 use Rattle.std.proofs.lemmas.List.Kept.{AllPairs-cons}
@@ -13,10 +13,10 @@ use Rattle.wind_core.specs.Moves.{remove}
 use Rattle.wind_core.proofs.Ids.{lives_by}
 use Rattle.kernel_calls.specs.State.{WorldState}
 use Rattle.kernel_calls.specs.Objects.{KeepsObjects, DepthsWithin}
-use Rattle.kernel_calls.specs.Ending.{without_stack, unguarded, ended}
+use Rattle.kernel_calls.specs.Ending.{without_stack, unguarded}
 use Rattle.kernel_calls.specs.Opening.{interrupt_stack}
 use Rattle.kernel_calls.specs.Kept.{KeepsPool, IsKernels, AreStacks, IsWorld, Within, ReservedBy}
-use Rattle.kernel_calls.specs.Laws.{Ends, EndLaw}
+use Rattle.kernel_calls.specs.Laws.{EndLaw}
 use Rattle.kernel_calls.proofs.SafetyGoes.{Leaves, ended_leaves}
 use Rattle.kernel_calls.proofs.Stacks.{pool-free, kernels-other}
 use Rattle.kernel_calls.proofs.Taking.{stacks}

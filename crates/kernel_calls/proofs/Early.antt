@@ -1,5 +1,5 @@
 -- Counters that lie below a bound.
-use Rattle.std.proofs.Common.{◌≡◌, ℕ, ◌<◌, ◌≤◌, ◌^◌, length, get_or, List, arith}
+use Rattle.std.proofs.Common.{◌<◌, ◌≤◌, ◌^◌, List, arith}
 use Rattle.std.specs.List.{All}
 use Rattle.std.proofs.lemmas.List.Elements.{All-weaker}
 use Rattle.task_block.specs.declared.task.Task.{Task}

@@ -8,7 +8,7 @@ use Rattle.task_block.specs.declared.task.Task.{Task}
 use Rattle.task_block.specs.Standing.{is_ready}
 use Rattle.wind_core.specs.State.{KernState, IsKern, task_of}
 use Rattle.wind_core.specs.Orders.{waiters}
-use Rattle.wind_core.specs.Moves.{renewed, change_task, renew_task, move_found, move_task, pended, pend, wake_at, delayed, delay, released, release, answered, end_wait, end_waits, wake_all, unmarked, reset, suspended, suspend, resumed, resume, is_suspended, with_pri, has_pri, change_pri, set_locks, set_normal, set_safe, set_held, set_errno, set_again, past_gate, leave_gate, with_answer, answer, with_refusal, refuse}
+use Rattle.wind_core.specs.Moves.{renewed, change_task, renew_task, move_found, move_task, pended, pend, wake_at, delayed, delay, released, release, answered, end_wait, end_waits, wake_all, unmarked, reset, suspended, suspend, resumed, resume, is_suspended, with_pri, has_pri, change_pri, set_locks, set_normal, set_safe, set_held, set_errno, set_int_locked, set_again, past_gate, leave_gate, with_answer, answer, with_refusal, refuse}
 use Rattle.wind_core.specs.Releases.{releases, release_all}
 use Rattle.wind_core.proofs.Becoming.{found_all}
 use Rattle.wind_core.proofs.Ids.{ids, ids-change, ids-move}
@@ -169,6 +169,9 @@ module _ (k : KernState) (n : ℕ) (is : IsKern k) (within : CountsWithin n k) w
 
   pub goes-set_held : (who m : ℕ) → Goes k (set_held k who m) n 0
   goes-set_held who m = by_change k who n (λ t. record t { held = m }) ((every_call_keeps k is).setting_held who m) (λ t. refl) (λ t. refl) (λ t. refl) (λ t h. h) within
+
+  pub goes-set_int_locked : (who : ℕ) (on : Bool) → Goes k (set_int_locked k who on) n 0
+  goes-set_int_locked who on = by_change k who n (λ t. record t { int_locked = on }) ((every_call_keeps k is).setting_int_locked who on) (λ t. refl) (λ t. refl) (λ t. refl) (λ t h. h) within
 
   pub goes-set_again : (who : ℕ) (on : Bool) → Goes k (set_again k who on) n 0
   goes-set_again who on = by_change k who n (λ t. record t { again = on }) ((every_call_keeps k is).setting_again who on) (λ t. refl) (λ t. refl) (λ t. refl) (λ t h. h) within

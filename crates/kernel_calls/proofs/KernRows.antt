@@ -1,13 +1,13 @@
 -- What is kept of the objects is kept by each row of the calls that touch the kernel's tasks and counters alone.
-use Rattle.std.proofs.Common.{ℕ, ◌+◌, ◌-◌, List, Option, None, Some}
+use Rattle.std.proofs.Common.{ℕ, ◌+◌, ◌-◌, true, List, Option, None, Some}
 use Rattle.wind_core.specs.State.{KernState, IsKern, task_named}
 use Rattle.task_block.specs.declared.task.Task.{Task as TaskRecord}
 use Rattle.kernel_calls.specs.Objects.{KeepsObjects}
-use Rattle.kernel_calls.specs.TaskRows.{suspend_row, resume_row, delay_row, locks_of, lock_row, unlock_row, self_row, verify_row, found_row, name_row, slice_row, tick_row}
+use Rattle.kernel_calls.specs.TaskRows.{suspend_row, resume_row, delay_row, locks_of, lock_row, unlock_row, self_row, verify_row, found_row, name_row, slice_row, tick_row, int_lock_row, int_unlock_row, int_context_row}
 use Rattle.kernel_calls.specs.declared.objects.Objects.{Objects}
 use Rattle.kernel_calls.specs.declared.actor.Actor.{Actor}
 use Rattle.kernel_calls.specs.declared.actor.Actor.TheVariants.{Task, Interrupt}
-use Rattle.kernel_calls.proofs.ObjectMoves.{objects-suspend, objects-resume, objects-delay, objects-set_locks, objects-slice}
+use Rattle.kernel_calls.proofs.ObjectMoves.{objects-suspend, objects-resume, objects-delay, objects-set_locks, objects-set_int_locked, objects-slice}
 
 module _ (k : KernState) (o : Objects) (is : IsKern k) (kept : KeepsObjects k o) where
   pub objects-suspend_row : (target : Option ℕ) → KeepsObjects (suspend_row k target).kern o
@@ -51,3 +51,15 @@ module _ (k : KernState) (o : Objects) (is : IsKern k) (kept : KeepsObjects k o)
 
   pub objects-tick_row : KeepsObjects (tick_row k).kern o
   objects-tick_row = kept
+
+  pub objects-int_lock_row : (a : Actor) → KeepsObjects (int_lock_row k a).kern o
+  objects-int_lock_row (Task who) = objects-set_int_locked k o is kept who true
+  objects-int_lock_row Interrupt = kept
+
+  pub objects-int_unlock_row : (a : Actor) (key : ℕ) → KeepsObjects (int_unlock_row k a key).kern o
+  objects-int_unlock_row (Task who) key = objects-set_int_locked k o is kept who _
+  objects-int_unlock_row Interrupt key = kept
+
+  pub objects-int_context_row : (a : Actor) → KeepsObjects (int_context_row k a).kern o
+  objects-int_context_row (Task who) = kept
+  objects-int_context_row Interrupt = kept

@@ -29,4 +29,5 @@ pub mod Deletions
 pub mod Passing
 pub mod Serving
 pub mod Opened
+pub mod Shows
 mod Benches

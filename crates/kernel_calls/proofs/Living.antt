@@ -1,5 +1,5 @@
 -- The tasks of a call live on.
-use Rattle.std.proofs.Common.{◌≡◌, ℕ, ◌<◌, ◌^◌, true, false, not, ◌&&◌, cond, eqb, List, Option, None, Some, IsSome, IfSome, is_none, refl, sym, subst, arith}
+use Rattle.std.proofs.Common.{◌≡◌, ℕ, ◌<◌, ◌^◌, true, false, not, ◌&&◌, cond, eqb, List, None, Some, IsSome, IfSome, is_none, refl, sym, subst, arith}
 use Rattle.std.specs.List.{All}
 use Rattle.std.proofs.lemmas.List.Elements.{All-contains}
 use Rattle.std.specs.Option.{option_map}

@@ -1,5 +1,5 @@
 -- The world at the start has the kept facts.
-use Rattle.std.proofs.Common.{◌≡◌, ℕ, true, false, not, cond, leb, ◌+◌, ◌<◌, ◌≤◌, List, [], ◌∷◌, length, IfSome, Option, Some, None, Result, Ok, Err, refl, sym, ap, ◌∙◌, arith}
+use Rattle.std.proofs.Common.{◌≡◌, ℕ, true, false, not, cond, leb, ◌<◌, ◌≤◌, List, [], ◌∷◌, length, IfSome, Some, None, Ok, Err, refl, sym, ap, ◌∙◌, arith}
 use Rattle.std.specs.Prelude.{replicate}
 use Rattle.std.specs.List.{All}
 use Rattle.task_block.specs.declared.task.Task.{Task}

@@ -1,5 +1,5 @@
 -- What every call keeps.
-use Rattle.std.proofs.Common.{◌≡◌, ℕ, ◌+◌, ◌≤◌, List, ◌++◌, Option, None, Some, IfSome, is_some, true, false, cond, eqb, refl, sym, ap, ◌∙◌, subst, arith}
+use Rattle.std.proofs.Common.{◌≡◌, ℕ, ◌+◌, List, ◌++◌, Option, None, Some, IfSome, is_some, true, false, cond, eqb, refl, sym, ap, ◌∙◌, subst, arith}
 use Rattle.std.specs.Prelude.{slice_index}
 use Rattle.std.specs.Option.{option_map}
 use Rattle.wind_base.specs.Errno.{errno_number}
@@ -7,11 +7,10 @@ use Rattle.wind_base.specs.declared.gate.Gate.{Gate}
 use Rattle.wind_base.specs.declared.gate.Gate.TheVariants as gates
 use Rattle.wind_base.specs.declared.errno.Errno.{Errno}
 use Rattle.id_table.specs.Rows.{object_of}
-use Rattle.task_block.specs.declared.task.Task.{Task as TaskRecord}
 use Rattle.task_block.specs.Standing.{is_ready}
 use Rattle.board_mem.specs.Memory.{string_at}
-use Rattle.wind_core.specs.State.{KernState, task_of}
-use Rattle.wind_core.specs.Moves.{live_id, past_gate, leave_gate}
+use Rattle.wind_core.specs.State.{task_of}
+use Rattle.wind_core.specs.Moves.{live_id, past_gate}
 use Rattle.wind_core.proofs.Unwritten.{task_of-change}
 use Rattle.task_safety.specs.Safety.{safe_of}
 use Rattle.kernel_calls.specs.State.{WorldState}
@@ -21,19 +20,20 @@ use Rattle.kernel_calls.specs.TaskRows.{KernRow, target}
 use Rattle.kernel_calls.specs.SafetyRows.{delete_row}
 use Rattle.kernel_calls.specs.SemRows.{ObjectRow, is_mutex}
 use Rattle.kernel_calls.specs.QueueRows.{QueueRow, sending}
+use Rattle.kernel_calls.specs.ShowRows.{ShowRow}
 use Rattle.kernel_calls.specs.Spawning.{spawned_if, task_wanted, quick_wanted, quick_text}
-use Rattle.kernel_calls.specs.Calls.{Row, with_reply, of_kern, of_objects, scene_of, of_queues, of_deletion, after_spawn, spawn_state, task_at, with_errno, row, left_gate, with_answer, refusal_word, replied, refusal_before, row_unless, made, call, past_gate as level_past, in_r3}
+use Rattle.kernel_calls.specs.Calls.{with_reply, of_kern, of_objects, scene_of, of_queues, of_text, of_deletion, after_spawn, spawn_state, task_at, with_errno, row, left_gate, with_answer, refusal_word, replied, refusal_before, row_unless, made, call, past_gate as level_past, in_r3}
 use Rattle.kernel_calls.specs.Kept.{IsWorld, Within}
-use Rattle.kernel_calls.specs.Laws.{CallLaw, Passes, call_sinces}
+use Rattle.kernel_calls.specs.Laws.{CallLaw, call_sinces}
 use Rattle.kernel_calls.specs.declared.actor.Actor.{Actor}
 use Rattle.kernel_calls.specs.declared.actor.Actor.TheVariants.{Task, Interrupt}
 use Rattle.kernel_calls.specs.declared.reply.Reply.{Reply}
 use Rattle.kernel_calls.specs.declared.reply.Reply.TheVariants.{Answer, Refusal, Later, Gone}
 use Rattle.kernel_calls.proofs.Goes.{Goes, goes-leave_gate, goes-answer}
-use Rattle.kernel_calls.proofs.TaskMoves.{suspend_goes, resume_goes, delay_goes, lock_goes, unlock_goes, self_goes, verify_goes, name_goes, slice_goes, safe_goes, unsafe_goes}
+use Rattle.kernel_calls.proofs.TaskMoves.{suspend_goes, resume_goes, delay_goes, lock_goes, unlock_goes, self_goes, verify_goes, name_goes, slice_goes, int_lock_goes, int_unlock_goes, int_context_goes, safe_goes, unsafe_goes}
 use Rattle.kernel_calls.proofs.ObjectMoves.{objects-leave_gate, objects-answer}
-use Rattle.kernel_calls.proofs.KernRows.{objects-suspend_row, objects-resume_row, objects-delay_row, objects-lock_row, objects-unlock_row, objects-self_row, objects-verify_row, objects-name_row, objects-slice_row}
-use Rattle.kernel_calls.proofs.Advancing.{Advances, advances_on, advances_more, beside, stays, nowhere, by_kern, of_tasks, of_both, of_scene, of_list, align_advances, free_advances, symbol_few, told_advances, errno_advances, spawn_advances, within_more}
+use Rattle.kernel_calls.proofs.KernRows.{objects-suspend_row, objects-resume_row, objects-delay_row, objects-lock_row, objects-unlock_row, objects-self_row, objects-verify_row, objects-name_row, objects-slice_row, objects-int_lock_row, objects-int_unlock_row, objects-int_context_row}
+use Rattle.kernel_calls.proofs.Advancing.{Advances, advances_on, advances_more, beside, stays, nowhere, by_kern, of_tasks, of_both, of_scene, of_list, align_advances, free_advances, symbol_few, told_advances, errno_advances, spawn_advances}
 use Rattle.kernel_calls.proofs.QueueKept.{keeps-create_row, keeps-send_row, keeps-receive_row, keeps-delete_row as keeps-queue_delete_row}
 use Rattle.kernel_calls.proofs.QueueCalls.{is_caller}
 use Rattle.kernel_calls.proofs.QueueGoes.{IsNear, near_itself, create_near, send_near, receive_row_near, delete_near}
@@ -72,6 +72,9 @@ module _ (w : WorldState) (kept : IsWorld w) (n : ℕ) (within : Within n w) (a 
       let more = beside v g.kept (n + 1) g.within v.slots text v.level v.int_errno in
       advances_more w (record v { output = text }) (n + 1) (n + 1) (call_sinces + 0) call_sinces (1 + 0) 1 (omega arith) (omega arith) (omega arith)
       (advances_on w v (record v { output = text }) (n + 1) (n + 1) call_sinces 0 1 0 g more)
+
+  of_text_row : (r : ShowRow) → Serves w a (of_text w r) (n + 1)
+  of_text_row r = served w a (of_text w r) (n + 1) (writing w (w.output ++ r.text) (nowhere w kept n within))
 
   -- whoever takes or gives a mutex, or calls on a queue, lives
   pub row_serves : (g : Gate) (r : List ℕ) → (is_mutex w.objects (slice_index r 3) ≡ true → Acts w.kern a) → (is_some (object_of w.objects.queues.queues (slice_index r 3)) ≡ true → Acts w.kern a) → MayCall w.kern a → Serves w a (row g w a r) (n + 1)
@@ -114,13 +117,19 @@ module _ (w : WorldState) (kept : IsWorld w) (n : ℕ) (within : Within n w) (a 
       (keeps-receive_row w.kern w.objects w.ram kept.kern kept.objects kept.ram a (slice_index r 3) (slice_index r 4) (slice_index r 5) (slice_index r 6) (λ h. is_caller w.kern a (there h) may) (near.1 ∙ kept.ram))
   row_serves gates.MsgQDelete r live there may = of_queue_row _ (delete_near (scene_of w) n kept.kern within.0 (slice_index r 3)) (keeps-queue_delete_row w.kern w.objects w.ram kept.kern kept.objects kept.ram (slice_index r 3))
   row_serves gates.MsgQNumMsgs r live there may = of_queue_row _ (near_itself (scene_of w) n kept.kern within.0) kept.objects
+  row_serves gates.IntLock r live there may = of_kern_row _ (int_lock_goes w.kern n kept.kern within.0 a) (objects-int_lock_row w.kern w.objects kept.kern kept.objects a)
+  row_serves gates.IntUnlock r live there may = of_kern_row _ (int_unlock_goes w.kern n kept.kern within.0 a (slice_index r 3)) (objects-int_unlock_row w.kern w.objects kept.kern kept.objects a (slice_index r 3))
+  row_serves gates.IntContext r live there may = of_kern_row _ (int_context_goes w.kern n kept.kern within.0 a) (objects-int_context_row w.kern w.objects kept.kern kept.objects a)
   row_serves gates.Malloc r live there may = served w a _ (n + 1) (align_advances w kept n within 16 (slice_index r 3))
   row_serves gates.Free r live there may = served w a _ (n + 1) (free_advances w kept n within (slice_index r 3))
   row_serves gates.Memalign r live there may = served w a _ (n + 1) (align_advances w kept n within (slice_index r 3) (slice_index r 4))
   row_serves gates.SymAdd r live there may = served w a _ (n + 1) (of_list w kept n within _ (symbol_few w kept n within (slice_index r 3) (slice_index r 4) (slice_index r 5) (slice_index r 6)))
+  row_serves gates.Printf r live there may = of_text_row _
   row_serves gates.ErrnoGet r live there may = idle _
   row_serves gates.ErrnoSet r live there may =
       served w a _ (n + 1) (advances_more w _ n (n + 1) 0 call_sinces 0 1 (omega arith) (omega arith) (omega arith) (errno_advances w kept n within a (slice_index r 3)))
+  row_serves gates.I r live there may = of_text_row _
+  row_serves gates.D r live there may = of_text_row _
   row_serves g r live there may = idle Later
 
 -- ---- the frame of a call

@@ -1,7 +1,6 @@
 -- What the calls on message queues ask for, and how the world shows what they did.
-use Rattle.std.proofs.Common.{◌≡◌, ℕ, List, length, Option, None, Some, IsSome, IfSome, Result, IfOk, true, refl, sym, ap, ◌∙◌, subst}
+use Rattle.std.proofs.Common.{◌≡◌, ℕ, List, length, Option, None, Some, IsSome, IfSome, Result, Ok, Err, IfOk, true, refl, sym, ap, ◌∙◌, subst}
 use Rattle.std.specs.Prelude.{slice_index}
-use Rattle.wind_base.specs.declared.errno.Errno.{Errno}
 use Rattle.wind_base.specs.declared.regs.Regs.{Regs}
 use Rattle.wind_base.specs.declared.gate.Gate.{Gate}
 use Rattle.wind_base.specs.declared.gate.Gate.TheVariants as gates
@@ -15,7 +14,7 @@ use Rattle.msg_queue.specs.Kept.{IsCaller}
 use Rattle.kernel_calls.specs.State.{WorldState}
 use Rattle.kernel_calls.specs.Actors.{Acts, MayCall, caller_regs, caller_words}
 use Rattle.kernel_calls.specs.QueueRows.{QueueRow, row_of, create_unless, create_row, task_in}
-use Rattle.kernel_calls.specs.Calls.{Row, with_reply, of_kern, of_queues, scene_of, left_gate, row, refusal_before, row_unless, made}
+use Rattle.kernel_calls.specs.Calls.{with_reply, of_kern, of_queues, scene_of, left_gate, row, refusal_before, row_unless, made}
 use Rattle.kernel_calls.specs.TaskRows.{name_row, found_row}
 use Rattle.kernel_calls.specs.declared.objects.Objects.{Objects}
 use Rattle.kernel_calls.specs.declared.actor.Actor.{Actor}
@@ -65,10 +64,10 @@ created_behind w k o reply r e rest a =
     ∙ ap (λ (x : QueueRow). with_reply (left_gate (of_queues w x).world a) x.reply) e
     ∙ left_create w a (slice_index r 3) (slice_index r 4) (slice_index r 5)
 
--- the same of a gate that is that of msgQCreate
-pub at_gate : {E : Type 0} (g h : Gate) (w v : WorldState) (r : List ℕ) (result : Result Reply E) → g ≡ h
-    → IfOk result (λ x. (a : Actor) → with_reply (left_gate v a) x ≡ row h (left_gate w a) a r) → IfOk result (λ x. (a : Actor) → with_reply (left_gate v a) x ≡ row g (left_gate w a) a r)
-at_gate g h w v r result e ok = subst (λ i. IfOk result (λ x. (a : Actor) → with_reply (left_gate v a) x ≡ row i (left_gate w a) a r)) (sym e) ok
+-- the same of the gate that a call has
+pub at_gate : {E : Type 0} (g h : Gate) (w v : WorldState) (a : Actor) (r : List ℕ) (result : Result Reply E) → g ≡ h
+    → IfOk result (λ x. with_reply v x ≡ row h (left_gate w a) a r) → IfOk result (λ x. with_reply v x ≡ row g (left_gate w a) a r)
+at_gate g h w v a r result e ok = subst (λ i. IfOk result (λ x. with_reply v x ≡ row i (left_gate w a) a r)) (sym e) ok
 
 -- who acts goes on where the tasks are as they were
 pub created_acts : (k l : KernState) (qs us : QueuesState) (ram : List ℕ) (reply : Reply) (r : List ℕ)
@@ -78,12 +77,12 @@ created_acts k l qs us ram reply r e (Task who) live =
     subst (λ ts. IsSome (task_of ts who)) (sym same) live
 created_acts k l qs us ram reply r e Interrupt live = live
 
--- a call that may lack memory is made before its caller goes on
-pub lacking_made : (g : Gate) (w v u : WorldState) (a : Actor) (reply : Reply) (regs : Regs) → None ≡ refusal_before g a → regs ≡ caller_regs w.kern w.level a
-    → with_reply (left_gate v a) reply ≡ row g (left_gate w a) a regs.gpr → u ≡ left_gate v a → with_reply u reply ≡ made g w a
-lacking_made g w v u a reply regs fine words rowed left =
-    ap (λ x. with_reply x reply) left
-    ∙ rowed
+-- a call that may lack memory has its row made on the world that its caller has left
+pub lacking_made : {E : Type 0} (g : Gate) (w v : WorldState) (a : Actor) (result : Result Reply E) (regs : Regs) → None ≡ refusal_before g a → regs ≡ caller_regs w.kern w.level a
+    → IfOk result (λ x. with_reply v x ≡ row g (left_gate w a) a regs.gpr) → IfOk result (λ x. with_reply v x ≡ made g w a)
+lacking_made g w v a (Err e) regs fine words rowed = rowed
+lacking_made g w v a (Ok reply) regs fine words rowed =
+    rowed
     ∙ ap (λ (r : Regs). row g (left_gate w a) a r.gpr) words
     ∙ ap (λ o. row_unless o g (left_gate w a) a (caller_words w a)) fine
 

@@ -14,14 +14,14 @@ use Rattle.msg_queue.specs.declared.asks.Ask.{Ask}
 use Rattle.msg_queue.specs.declared.words.Sending.{Sending}
 use Rattle.msg_queue.specs.declared.words.Receiving.{Receiving}
 use Rattle.msg_queue.specs.State.{QueueState, Scene, queue_of, lies_in, size_of, is_full, receivers, senders, first_asking}
-use Rattle.msg_queue.specs.Sends.{declined, passed_on, queued, blocked, send_refusal, queued_or_blocked, sends_unless, sends_at, sent_bytes, handed, after_send, send}
-use Rattle.msg_queue.specs.Receives.{denied, taken, starved, is_empty, receive_refusal, takes_from, receives_unless, receives_at, taken_out, refilled, after_receive, receive}
-use Rattle.msg_queue.specs.Comings.{is_size, ids_refusal, create_refusal, new_queue, created, awakened, deleted, delete}
+use Rattle.msg_queue.specs.Sends.{queued, blocked, send_refusal, queued_or_blocked, sends_unless, sends_at, sent_bytes, handed, after_send, send}
+use Rattle.msg_queue.specs.Receives.{taken, is_empty, receive_refusal, takes_from, receives_unless, receives_at, taken_out, refilled, after_receive, receive}
+use Rattle.msg_queue.specs.Comings.{is_size, ids_refusal, create_refusal, new_queue, awakened, deleted, delete}
 use Rattle.msg_queue.specs.Kept.{IsQueue, IsKept}
 use Rattle.msg_queue.proofs.Traffic.{is_first, stuck}
 use Rattle.kernel_calls.specs.Kept.{CountsWithin}
 use Rattle.kernel_calls.specs.Laws.{call_sinces}
-use Rattle.kernel_calls.specs.QueueRows.{create_unless, create_row, sending, receive_row}
+use Rattle.kernel_calls.specs.QueueRows.{create_unless, create_row, receive_row}
 use Rattle.kernel_calls.specs.declared.actor.Actor.{Actor}
 use Rattle.kernel_calls.specs.declared.actor.Actor.TheVariants.{Task, Interrupt}
 use Rattle.kernel_calls.proofs.Goes.{Goes, goes_nowhere, goes_on, goes_further, goes-end_wait, goes-pend, goes-wake_all}

@@ -1,5 +1,5 @@
 -- What holds from one world to the next within a call, whoever is taken out by it.
-use Rattle.std.proofs.Common.{◌≡◌, ℕ, ◌+◌, ◌≤◌, refl, sym, ap, ◌∙◌, arith, inl, inr, ⊎_elim}
+use Rattle.std.proofs.Common.{◌≡◌, ℕ, sym, ◌∙◌, arith, inl, inr, ⊎_elim}
 use Rattle.wind_core.specs.State.{task_of}
 use Rattle.task_safety.specs.Safety.{safe_of}
 use Rattle.kernel_calls.specs.State.{WorldState}

@@ -1,5 +1,5 @@
 -- The caller of a call lives on until it is answered, unless it has ended itself, and the world keeps its facts.
-use Rattle.std.proofs.Common.{◌≡◌, ◌≢◌, ℕ, ◌+◌, ◌^◌, sym, subst}
+use Rattle.std.proofs.Common.{◌≡◌, ◌≢◌, ◌+◌, ◌^◌, sym, subst}
 use Rattle.wind_base.specs.declared.gate.Gate.{Gate}
 use Rattle.kernel_calls.specs.State.{WorldState}
 use Rattle.kernel_calls.specs.Objects.{KeepsObjects}

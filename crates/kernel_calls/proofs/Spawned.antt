@@ -1,5 +1,5 @@
 -- A spawn by its cases.
-use Rattle.std.proofs.Common.{◌≡◌, ℕ, ◌+◌, ◌<◌, ◌≤◌, None, Some, Option, Result, Ok, Err, refl, sym, ap, ◌∙◌, arith}
+use Rattle.std.proofs.Common.{◌≡◌, ℕ, ◌+◌, ◌≤◌, None, Ok, Err, sym, ap, ◌∙◌, arith}
 use Rattle.wind_base.specs.Limits.{ram_bytes}
 use Rattle.wind_base.specs.declared.errno.Errno.TheVariants as errors
 use Rattle.mem_partition.specs.Place.{rounded}
@@ -8,7 +8,7 @@ use Rattle.mem_partition.specs.declared.block.Class.{Class}
 use Rattle.mem_partition.specs.declared.block.PartErr.{PartErr}
 use Rattle.mem_partition.proofs.Allocs.{alloc_lies}
 use Rattle.wind_core.specs.Moves.{spawn_refusal}
-use Rattle.kernel_calls.specs.Spawning.{SpawnState, SpawnRow, no_spawn, spawned_on, spawned_at, spawned_unless, spawned, stack_bytes, first_pointer}
+use Rattle.kernel_calls.specs.Spawning.{SpawnState, no_spawn, spawned_on, spawned_at, spawned_unless, spawned, stack_bytes, first_pointer}
 use Rattle.kernel_calls.specs.declared.spawning.Wanted.{Wanted}
 use Rattle.kernel_calls.specs.declared.reply.Reply.TheVariants.{Answer}
 

@@ -1,11 +1,10 @@
 -- The stacks are Kernel blocks, whatever is given or taken back besides.
-use Rattle.std.proofs.Common.{◌≡◌, ℕ, ◌+◌, ◌<◌, ◌≤◌, true, false, cond, eqb, List, [], ◌∷◌, ◌++◌, length, get_or, map, Option, Some, None, IsSome, Result, Ok, Err, refl, sym, ap, ◌∙◌, subst, arith}
-use Rattle.std.specs.List.{All, AllPairs}
+use Rattle.std.proofs.Common.{◌≡◌, ℕ, true, eqb, List, [], ◌∷◌, ◌++◌, get_or, Option, Some, None, IsSome, Result, Ok, Err, refl, sym, subst}
 use Rattle.std.proofs.lemmas.List.Elements.{All-weaker, All-push}
 use Rattle.std.proofs.lemmas.List.Quantifiers.{all_pairs_push}
 use Rattle.std.proofs.lemmas.Bool.{eq-eqb, and_from}
 use Rattle.mem_partition.specs.Place.{rounded}
-use Rattle.mem_partition.specs.State.{PartState, IsPart, own_block, alloc_of, after_alloc, taken_at, free_of, size_or, freed, after_free, with_block}
+use Rattle.mem_partition.specs.State.{PartState, IsPart, own_block, alloc_of, after_alloc, taken_at, size_or, freed, after_free, with_block}
 use Rattle.mem_partition.specs.declared.block.Block.{Block}
 use Rattle.mem_partition.specs.declared.block.Class.{Class}
 use Rattle.mem_partition.specs.declared.block.Class.TheVariants.{User, Kernel}

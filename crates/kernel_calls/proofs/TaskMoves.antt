@@ -1,19 +1,19 @@
 -- What the rows of the kernel's tasks keep.
-use Rattle.std.proofs.Common.{◌≡◌, ℕ, ◌+◌, ◌-◌, ◌≤◌, List, Option, None, Some, refl, arith}
+use Rattle.std.proofs.Common.{◌≡◌, ℕ, ◌+◌, ◌-◌, ◌≤◌, Bool, true, List, Option, None, Some, refl, arith}
 use Rattle.wind_base.specs.declared.errno.Errno.{Errno}
 use Rattle.task_block.specs.declared.task.Task.{Task as TaskRecord}
 use Rattle.wind_core.specs.State.{KernState, IsKern, task_of, task_named}
-use Rattle.wind_core.specs.Moves.{suspend, resume, set_locks, delay}
+use Rattle.wind_core.specs.Moves.{suspend, resume, set_locks, set_int_locked, delay}
 use Rattle.wind_core.proofs.Becoming.{found_all}
 use Rattle.wind_core.proofs.Keeping.{every_call_keeps}
 use Rattle.task_safety.specs.Safety.{make_safe, lessen, unsafe_refusal}
 use Rattle.kernel_calls.specs.Kept.{HasCounts, CountsWithin}
 use Rattle.kernel_calls.specs.Laws.{call_sinces}
-use Rattle.kernel_calls.specs.TaskRows.{suspend_row, resume_row, delay_row, lock_row, unlock_row, self_row, verify_row, found_row, name_row, slice_row, locks_in, locks_of}
+use Rattle.kernel_calls.specs.TaskRows.{suspend_row, resume_row, delay_row, lock_row, unlock_row, self_row, verify_row, found_row, name_row, slice_row, locks_in, locks_of, int_lock_row, int_unlock_row, int_context_row}
 use Rattle.kernel_calls.specs.SafetyRows.{unsafe_unless, safe_row, unsafe_row}
 use Rattle.kernel_calls.specs.declared.actor.Actor.{Actor}
 use Rattle.kernel_calls.specs.declared.actor.Actor.TheVariants.{Task, Interrupt}
-use Rattle.kernel_calls.proofs.Goes.{Goes, goes_nowhere, goes_further, more_counts, goes-suspend, goes-resume, goes-set_locks, goes-delay, goes-make_safe, goes-lessen}
+use Rattle.kernel_calls.proofs.Goes.{Goes, goes_nowhere, goes_further, more_counts, goes-suspend, goes-resume, goes-set_locks, goes-set_int_locked, goes-delay, goes-make_safe, goes-lessen}
 
 pub locks_within : (k : KernState) (who n : ℕ) → CountsWithin n k → locks_of k who ≤ n
 locks_within k who n within =
@@ -68,6 +68,21 @@ module _ (k : KernState) (n : ℕ) (is : IsKern k) (within : CountsWithin n k) w
 
   pub slice_goes : (m : ℕ) → Goes k (slice_row k m).kern (n + 1) call_sinces
   slice_goes m = record { kern = (every_call_keeps k is).slicing m; alone = refl; stacks = refl; lent = refl; last = refl; reserves = refl; counts = stays.counts; sinces = omega arith; count = refl }
+
+  mark_goes : (who : ℕ) (on : Bool) → Goes k (set_int_locked k who on) (n + 1) call_sinces
+  mark_goes who on = goes_further k (set_int_locked k who on) n (n + 1) 0 call_sinces (omega arith) (omega arith) (goes-set_int_locked k n is within who on)
+
+  pub int_lock_goes : (a : Actor) → Goes k (int_lock_row k a).kern (n + 1) call_sinces
+  int_lock_goes (Task who) = mark_goes who true
+  int_lock_goes Interrupt = stays
+
+  pub int_unlock_goes : (a : Actor) (key : ℕ) → Goes k (int_unlock_row k a key).kern (n + 1) call_sinces
+  int_unlock_goes (Task who) key = mark_goes who _
+  int_unlock_goes Interrupt key = stays
+
+  pub int_context_goes : (a : Actor) → Goes k (int_context_row k a).kern (n + 1) call_sinces
+  int_context_goes (Task who) = stays
+  int_context_goes Interrupt = stays
 
   -- ---- safe sections
   pub safe_goes : (a : Actor) → Goes k (safe_row k a).kern (n + 1) call_sinces

@@ -15,10 +15,11 @@ use Rattle.wind_core.specs.Moves.{live_id, leave_gate, answer, set_errno}
 use Rattle.msg_queue.specs.State.{Scene, scene}
 use Rattle.kernel_calls.specs.State.{WorldState}
 use Rattle.kernel_calls.specs.Actors.{is_interrupt, is_shell, caller_words}
-use Rattle.kernel_calls.specs.TaskRows.{KernRow, target, suspend_row, resume_row, delay_row, lock_row, unlock_row, self_row, verify_row, name_row, slice_row, tick_row}
+use Rattle.kernel_calls.specs.TaskRows.{KernRow, target, suspend_row, resume_row, delay_row, lock_row, unlock_row, self_row, verify_row, name_row, slice_row, tick_row, int_lock_row, int_unlock_row, int_context_row}
 use Rattle.kernel_calls.specs.SafetyRows.{DeleteRow, safe_row, unsafe_row, delete_row}
 use Rattle.kernel_calls.specs.SemRows as sem
 use Rattle.kernel_calls.specs.QueueRows as queue
+use Rattle.kernel_calls.specs.ShowRows as show
 use Rattle.kernel_calls.specs.MemoryRows.{PartRow, malloc_row, align_row, free_row}
 use Rattle.kernel_calls.specs.SymbolRows.{SymbolRow, symbol_row}
 use Rattle.kernel_calls.specs.Spawning.{SpawnState, SpawnRow, spawn_parts, spawned_if, task_wanted, quick_wanted, quick_text}
@@ -60,12 +61,18 @@ is_built gates.MsgQSend = true
 is_built gates.MsgQReceive = true
 is_built gates.MsgQDelete = true
 is_built gates.MsgQNumMsgs = true
+is_built gates.IntLock = true
+is_built gates.IntUnlock = true
+is_built gates.IntContext = true
 is_built gates.Malloc = true
 is_built gates.Free = true
 is_built gates.Memalign = true
 is_built gates.SymAdd = true
+is_built gates.Printf = true
 is_built gates.ErrnoGet = true
 is_built gates.ErrnoSet = true
+is_built gates.I = true
+is_built gates.D = true
 is_built g = false
 
 -- the calls that an interrupt routine may make
@@ -117,6 +124,8 @@ refusal_word g = if makes_object g then ok_word else error_word
 abbrev pub may_lack_memory : Gate → Bool
 may_lack_memory gates.SymAdd = true
 may_lack_memory gates.MsgQCreate = true
+may_lack_memory gates.I = true
+may_lack_memory gates.D = true
 may_lack_memory g = false
 
 -- ---- the effect of a call, and how its caller is answered
@@ -127,7 +136,7 @@ pub record Row : Type 0 where
 abbrev pub with_reply : WorldState → Reply → Row
 with_reply w r = record { world = w; reply = r }
 
--- a row of the kernel's tasks, of semaphores and mutexes, of queues, of a deletion, of the partition, of the symbols, of a spawn
+-- a row of the kernel's tasks, of semaphores and mutexes, of queues, of texts, of a deletion, of the partition, of the symbols, of a spawn
 abbrev pub of_kern : WorldState → KernRow → Row
 of_kern w r = with_reply (record w { kern = r.kern }) r.reply
 
@@ -139,6 +148,9 @@ scene_of w = scene w.kern w.objects.queues w.ram
 
 abbrev pub of_queues : WorldState → queue.QueueRow → Row
 of_queues w r = with_reply (record w { kern = r.scene.kern; objects = record w.objects { queues = r.scene.queues }; ram = r.scene.ram }) r.reply
+
+abbrev pub of_text : WorldState → show.ShowRow → Row
+of_text w r = with_reply (record w { output = w.output ++ r.text }) r.reply
 
 abbrev pub of_deletion : WorldState → DeleteRow → Row
 of_deletion w r = with_reply (record w { kern = r.kern; part = r.part }) r.reply
@@ -217,12 +229,18 @@ row gates.MsgQSend w a r = of_queues w (queue.send_row (scene_of w) (slice_index
 row gates.MsgQReceive w a r = of_queues w (queue.receive_row (scene_of w) a (slice_index r 3) (slice_index r 4) (slice_index r 5) (slice_index r 6))
 row gates.MsgQDelete w a r = of_queues w (queue.delete_row (scene_of w) (slice_index r 3))
 row gates.MsgQNumMsgs w a r = of_queues w (queue.count_row (scene_of w) (slice_index r 3))
+row gates.IntLock w a r = of_kern w (int_lock_row w.kern a)
+row gates.IntUnlock w a r = of_kern w (int_unlock_row w.kern a (slice_index r 3))
+row gates.IntContext w a r = of_kern w (int_context_row w.kern a)
 row gates.Malloc w a r = of_part w (malloc_row w.part (slice_index r 3))
 row gates.Free w a r = of_part w (free_row w.part (slice_index r 3))
 row gates.Memalign w a r = of_part w (align_row w.part (slice_index r 3) (slice_index r 4))
 row gates.SymAdd w a r = of_symbols w (symbol_row w.symbols w.ram (slice_index r 3) (slice_index r 4) (slice_index r 5) (slice_index r 6))
+row gates.Printf w a r = of_text w (show.printf_row w.ram r)
 row gates.ErrnoGet w a r = with_reply w (Answer (errno_of w a))
 row gates.ErrnoSet w a r = with_reply (with_errno w a (slice_index r 3)) (Answer ok_word)
+row gates.I w a r = of_text w (show.tasks_row w.kern)
+row gates.D w a r = of_text w (show.dump_row w.ram (slice_index r 3) (slice_index r 4) (slice_index r 5))
 row g w a r = with_reply w Later
 
 -- ---- the frame of a call

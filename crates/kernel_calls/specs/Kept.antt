@@ -1,5 +1,5 @@
 -- The facts that the world has at the start and every call keeps.
-use Rattle.std.specs.Prelude.{◌≡◌, ℕ, ◌^◌, ◌<◌, ◌≤◌, List, [], ◌∷◌, length, map, false, Option, None, Some, IsSome}
+use Rattle.std.specs.Prelude.{◌≡◌, ℕ, ◌^◌, ◌<◌, ◌≤◌, List, [], ◌∷◌, length, map, false, Option, Some, IsSome}
 use Rattle.std.specs.List.{All, AllPairs}
 use Rattle.wind_base.specs.Limits.{ram_bytes, pool_start, most_blocks, most_symbols}
 use Rattle.mem_partition.specs.State.{PartState, IsPart, own_block}

@@ -7,11 +7,13 @@ pub mod SafetyRows
 pub mod SemRows
 pub mod QueueRows
 pub mod MemoryRows
+pub mod ShowRows
 pub mod SymbolRows
 pub mod Starting
 pub mod Spawning
 pub mod Calls
 pub mod Seen
+pub mod Space
 pub mod Opening
 pub mod Kept
 pub mod Laws

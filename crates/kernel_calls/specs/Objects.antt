@@ -1,5 +1,5 @@
 -- What is kept of the objects beside the kernel's tasks, and of the waits for them.
-use Rattle.std.specs.Prelude.{◌≡◌, ◌≢◌, ℕ, ◌==◌, ◌<◌, ◌≤◌, ◌&&◌, ◌||◌, Bool, true, false, List, [], length, Option, None, Some, IfSome, is_some}
+use Rattle.std.specs.Prelude.{◌≡◌, ℕ, ◌==◌, ◌<◌, ◌≤◌, ◌&&◌, ◌||◌, Bool, true, List, [], length, None, IfSome, is_some}
 use Rattle.std.specs.List.{All}
 use Rattle.wind_base.specs.Limits.{gates_start, ram_bytes}
 use Rattle.wind_base.specs.Gates.{gate_address}

@@ -1,9 +1,8 @@
 -- The rows of the calls on message queues.
-use Rattle.std.specs.Prelude.{ℕ, ◌==◌, List, length, Option, None, Some, Result, Ok, Err}
+use Rattle.std.specs.Prelude.{ℕ, ◌==◌, length, Option, None, Some, Result, Ok, Err}
 use Rattle.wind_base.specs.Limits.{ok_word}
 use Rattle.wind_base.specs.declared.errno.Errno.{Errno}
 use Rattle.wind_base.specs.declared.errno.Errno.TheVariants as errors
-use Rattle.wind_core.specs.State.{KernState}
 use Rattle.msg_queue.specs.declared.words.Sending.{Sending}
 use Rattle.msg_queue.specs.declared.words.Receiving.{Receiving}
 use Rattle.msg_queue.specs.declared.words.Took.{Took}

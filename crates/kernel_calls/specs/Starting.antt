@@ -1,5 +1,5 @@
 -- How a task begins, and the shell's task at a call: its registers and the frame on its stack.
-use Rattle.std.specs.Prelude.{ℕ, ◌+◌, List, [], ◌∷◌, Option, None, slice_index, replicate}
+use Rattle.std.specs.Prelude.{ℕ, ◌+◌, List, [], ◌∷◌, None, slice_index, replicate}
 use Rattle.wind_base.specs.Limits.{frame_bytes}
 use Rattle.wind_base.specs.declared.regs.Regs.{Regs}
 use Rattle.board_mem.specs.Memory.{has, written, with_bytes}

@@ -1,5 +1,5 @@
 -- The row of symAdd.
-use Rattle.std.specs.Prelude.{ℕ, List, [], ◌∷◌, ◌++◌, length, true, ◌==◌, ◌||◌, not, nat_le, nat_lt, if◌then◌else◌, Option, None, Some}
+use Rattle.std.specs.Prelude.{ℕ, List, [], ◌∷◌, ◌++◌, length, true, ◌==◌, ◌||◌, nat_le, nat_lt, if◌then◌else◌, Option, None, Some}
 use Rattle.wind_base.specs.Limits.{ok_word, longest_name, most_symbols}
 use Rattle.wind_base.specs.declared.errno.Errno.{Errno}
 use Rattle.wind_base.specs.declared.errno.Errno.TheVariants as errors

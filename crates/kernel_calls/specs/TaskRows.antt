@@ -1,12 +1,11 @@
 -- The rows of the calls that touch the kernel's tasks and counters alone.
-use Rattle.std.specs.Prelude.{ℕ, ◌+◌, ◌-◌, ◌%◌, ◌^◌, List, [], Option, None, Some, ◌==◌, if◌then◌else◌}
-use Rattle.std.specs.Option.{option_map}
+use Rattle.std.specs.Prelude.{ℕ, Bool, true, false, ◌+◌, ◌-◌, ◌%◌, ◌^◌, List, Option, None, Some, ◌==◌, if◌then◌else◌}
 use Rattle.wind_base.specs.Limits.{ok_word}
 use Rattle.wind_base.specs.declared.errno.Errno.{Errno}
 use Rattle.wind_base.specs.declared.errno.Errno.TheVariants as errors
 use Rattle.task_block.specs.declared.task.Task.{Task as TaskRecord}
-use Rattle.wind_core.specs.State.{KernState, task_id, task_of, task_named}
-use Rattle.wind_core.specs.Moves.{live_id, suspend, resume, set_locks, delay}
+use Rattle.wind_core.specs.State.{KernState, task_of, task_named}
+use Rattle.wind_core.specs.Moves.{live_id, suspend, resume, set_locks, set_int_locked, delay}
 use Rattle.kernel_calls.specs.declared.actor.Actor.{Actor}
 use Rattle.kernel_calls.specs.declared.actor.Actor.TheVariants.{Task, Interrupt}
 use Rattle.kernel_calls.specs.declared.reply.Reply.{Reply}
@@ -90,3 +89,26 @@ slice_row k n = done (record k { slice = n })
 -- tickGet: the low word of the count
 abbrev pub tick_row : KernState → KernRow
 tick_row k = told k (k.tick % 2 ^ 32)
+
+-- ---- interrupts held back: a mark of the task, which counts while it runs; an interrupt routine holds them back by itself
+abbrev pub mark_of : Option TaskRecord → Bool
+mark_of None = false
+mark_of (Some t) = t.int_locked
+
+abbrev pub mark_word : Bool → ℕ
+mark_word on = if on then 1 else 0
+
+-- intLock: the mark as it was is the answer
+abbrev pub int_lock_row : KernState → Actor → KernRow
+int_lock_row k (Task who) = told (set_int_locked k who true) (mark_word (mark_of (task_of k.tasks who)))
+int_lock_row k Interrupt = told k 1
+
+-- intUnlock: the mark becomes the lowest bit of the key
+abbrev pub int_unlock_row : KernState → Actor → ℕ → KernRow
+int_unlock_row k (Task who) key = done (set_int_locked k who (key % 2 == 1))
+int_unlock_row k Interrupt key = done k
+
+-- intContext
+abbrev pub int_context_row : KernState → Actor → KernRow
+int_context_row k (Task who) = told k 0
+int_context_row k Interrupt = told k 1

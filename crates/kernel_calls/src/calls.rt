@@ -6,13 +6,15 @@ ghost use Rattle.wind_base.specs.OutBuf.{KeepsSpace};
 ghost use Rattle.wind_base.specs.declared.gate.Gate.TheVariants as gates;
 ghost use Rattle.kernel_calls.specs.Actors.{Acts, MayCall, is_shell as is_shell_lem, is_interrupt as is_interrupt_lem};
 ghost use Rattle.kernel_calls.specs.Kept.{IsWorld, IsEarly};
-ghost use Rattle.kernel_calls.specs.Calls.{is_built, may_lack_memory as may_lack_memory_lem, refusal_before as refusal_before_lem, left_gate, past_gate as past_gate_lem, in_r3, with_answer, replied, with_reply, told_by, told as told_lem, made, call};
+ghost use Rattle.kernel_calls.specs.Calls.{is_built, may_lack_memory as may_lack_memory_lem, refusal_before as refusal_before_lem, in_r3, with_answer, replied, with_reply, told_by, told as told_lem, made, call};
 ghost use Rattle.kernel_calls.specs.declared.calls.Called.TheVariants as called;
 ghost use Rattle.kernel_calls.specs.declared.reply.Reply.TheVariants as replies;
 ghost use Rattle.kernel_calls.specs.Seen.{world_seen, world_with};
+ghost use Rattle.kernel_calls.specs.Space.{makes_room, HoldsSpace};
 
 use crate::actor::{Actor, caller_regs};
 use crate::gates::{is_isr_callable, is_shells_own, may_lack_memory, refusal_word};
+use crate::leaving::leave_gate;
 use crate::reply::Reply;
 use crate::rows::{lacking_row, plain_row, set_errno};
 use crate::world::World;
@@ -63,34 +65,12 @@ fn refusal_before(gate: Gate, who: &Actor) -> Option<Errno>
     None
 }
 
-// The program counter becomes the link register.
-fn past_gate(level: &mut Option<Regs>)
-    ensures { level.new ≡ option_map past_gate_lem level.old }
-{
-    if let Some(regs) = level {
-        regs.pc = regs.lr;
-    }
-}
-
 // The answer stands in r3.
 fn put_in_r3(level: &mut Option<Regs>, value: u32)
     ensures { level.new ≡ option_map (in_r3 value) level.old }
 {
     if let Some(regs) = level {
         regs.gpr[3] = value;
-    }
-}
-
-// The caller goes on behind its gate.
-fn leave_gate(w: &mut World, who: &Actor)
-    requires { Acts w.old.kern who.now }
-    ensures world { world_seen ⟦<dyn Device as Device>⟧ w.new
-        ≡ left_gate (world_seen ⟦<dyn Device as Device>⟧ w.old) who.now }
-    ensures out { w.new.out ≡ w.old.out }
-{
-    match who {
-        Actor::Task(id) => w.kern.leave_gate(*id),
-        Actor::Interrupt => past_gate(&mut w.level),
     }
 }
 
@@ -148,7 +128,8 @@ fn make(alloc: Global, w: &mut World, gate: Gate, who: &Actor) -> Result<Reply, 
         ≡ made gate (world_seen ⟦<dyn Device as Device>⟧ w.old) who.now) }
     ensures memory { OnErr result (may_lack_memory_lem gate ≡ true) }
     ensures err { OnErr result (world_seen ⟦<dyn Device as Device>⟧ w.new ≡ world_seen ⟦<dyn Device as Device>⟧ w.old) }
-    ensures space { KeepsSpace w.old.out w.new.out }
+    ensures space { makes_room gate ≡ false → KeepsSpace w.old.out w.new.out }
+    ensures holds { HoldsSpace w.old.out w.new.out }
 {
     if let Some(errno) = refusal_before(gate, who) {
         leave_gate(w, who);
@@ -156,9 +137,7 @@ fn make(alloc: Global, w: &mut World, gate: Gate, who: &Actor) -> Result<Reply, 
     }
     let regs = caller_regs(&w.kern, &w.level, who);
     if may_lack_memory(gate) {
-        let reply = lacking_row(alloc, w, gate, &regs.gpr)?;
-        leave_gate(w, who);
-        return Ok(reply);
+        return lacking_row(alloc, w, gate, who, &regs.gpr);
     }
     leave_gate(w, who);
     Ok(plain_row(w, gate, *who, &regs.gpr))
@@ -166,7 +145,7 @@ fn make(alloc: Global, w: &mut World, gate: Gate, who: &Actor) -> Result<Reply, 
 
 /// Makes a call of the kernel by its gate: the caller goes on behind its gate, the effect of the gate's row is made,
 /// and the caller is answered in r3, at once or at the end of its wait, unless it has ended itself. A task that calls is
-/// ready. Host memory may run out only at `symAdd` and `msgQCreate`, and the world is then as it was.
+/// ready. Host memory may run out only at `symAdd`, `msgQCreate`, `i` and `d`, and the world is then as it was.
 pub fn kernel_call(alloc: Global, w: &mut World, gate: Gate, who: &Actor) -> Called
     requires built { is_built gate ≡ true }
     requires caller { Acts w.old.kern who.now }
@@ -182,7 +161,8 @@ pub fn kernel_call(alloc: Global, w: &mut World, gate: Gate, who: &Actor) -> Cal
     ensures unchanged { result ≡ called.NoMemory →
         world_seen ⟦<dyn Device as Device>⟧ w.new ≡ world_seen ⟦<dyn Device as Device>⟧ w.old }
     ensures kept { IsWorld (world_with [] w.new) }
-    ensures space { KeepsSpace w.old.out w.new.out }
+    ensures space { makes_room gate ≡ false → KeepsSpace w.old.out w.new.out }
+    ensures holds { HoldsSpace w.old.out w.new.out }
 {
     let Ok(reply) = make(alloc, w, gate, who) else {
         return Called::NoMemory;

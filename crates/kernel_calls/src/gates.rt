@@ -41,12 +41,18 @@ pub fn is_built(gate: Gate) -> bool
             | Gate::MsgQReceive
             | Gate::MsgQDelete
             | Gate::MsgQNumMsgs
+            | Gate::IntLock
+            | Gate::IntUnlock
+            | Gate::IntContext
             | Gate::Malloc
             | Gate::Free
             | Gate::Memalign
             | Gate::SymAdd
+            | Gate::Printf
             | Gate::ErrnoGet
             | Gate::ErrnoSet
+            | Gate::I
+            | Gate::D
     )
 }
 
@@ -113,5 +119,5 @@ pub(crate) fn refusal_word(gate: Gate) -> u32
 pub fn may_lack_memory(gate: Gate) -> bool
     ensures { result ≡ may_lack_memory_lem gate }
 {
-    matches!(gate, Gate::SymAdd | Gate::MsgQCreate)
+    matches!(gate, Gate::SymAdd | Gate::MsgQCreate | Gate::I | Gate::D)
 }

@@ -14,20 +14,25 @@ ghost use Rattle.kernel_calls.specs.declared.actor.Actor.{Actor};
 ghost use Rattle.kernel_calls.specs.Kept.{IsEarly};
 ghost use Rattle.kernel_calls.specs.Objects.{KeepsObjects};
 ghost use Rattle.kernel_calls.specs.Seen.{world_seen, world_with};
+ghost use Rattle.kernel_calls.specs.Space.{makes_room, HoldsSpace};
 
 use crate::actor::Actor;
+use crate::leaving::leave_gate;
 use crate::memory_rows::{free, malloc, memalign};
 use crate::queue_rows::{self, ReceiveWords, SendWords};
 use crate::reply::{DONE, Reply};
 use crate::safety_rows::{delete, make_safe, make_unsafe};
 use crate::sem_rows;
+use crate::show_rows::{print, show_memory, show_tasks};
 use crate::spawning::{quick_wanted, spawn_if, task_wanted, tell_spawn};
 use crate::symbol_rows::{NewSymbol, add_symbol};
 use crate::task_rows::{
-    delay, lock, own_id, resume, slice, suspend, target, task_of_name, ticks, unlock, verify,
+    context, delay, lock, lock_interrupts, own_id, resume, slice, suspend, target, task_of_name,
+    ticks, unlock, unlock_interrupts, verify,
 };
 use crate::world::World;
 use std::alloc::Global;
+use text_show::task_table;
 use wind_base::{Errno, Gate, NoMemory};
 use wind_outside::Device;
 
@@ -141,33 +146,100 @@ fn create_queue(alloc: Global, w: &mut World, gpr: &[u32; 32]) -> Result<Reply, 
     Ok(reply)
 }
 
-// The row of a gate that may lack memory. It reads nothing of its caller but the words in registers, so that the caller
-// may leave the gate behind it. For want of memory nothing changes.
+// msgQCreate, whose caller leaves its gate behind it. For want of memory nothing changes.
+fn create_by(alloc: Global, w: &mut World, who: &Actor, gpr: &[u32; 32]) -> Result<Reply, NoMemory>
+    requires live { Acts w.old.kern who.now }
+    requires home { w.old.kern.lent ≡ false }
+    requires objects { KeepsObjects w.old.kern w.old.objects }
+    ensures ok { IfOk result (λ r. with_reply (world_seen ⟦<dyn Device as Device>⟧ w.new) r
+        ≡ row_lem gates.MsgQCreate (left_gate (world_seen ⟦<dyn Device as Device>⟧ w.old) who.now) who.now gpr.now) }
+    ensures err { OnErr result (world_seen ⟦<dyn Device as Device>⟧ w.new ≡ world_seen ⟦<dyn Device as Device>⟧ w.old) }
+    ensures out { w.new.out ≡ w.old.out }
+{
+    let reply = create_queue(alloc, w, gpr)?;
+    leave_gate(w, who);
+    Ok(reply)
+}
+
+// symAdd, whose caller leaves its gate behind it. For want of memory nothing changes.
+fn add_by(alloc: Global, w: &mut World, who: &Actor, gpr: &[u32; 32]) -> Result<Reply, NoMemory>
+    requires { Acts w.old.kern who.now }
+    ensures ok { IfOk result (λ r. with_reply (world_seen ⟦<dyn Device as Device>⟧ w.new) r
+        ≡ row_lem gates.SymAdd (left_gate (world_seen ⟦<dyn Device as Device>⟧ w.old) who.now) who.now gpr.now) }
+    ensures err { OnErr result (world_seen ⟦<dyn Device as Device>⟧ w.new ≡ world_seen ⟦<dyn Device as Device>⟧ w.old) }
+    ensures out { w.new.out ≡ w.old.out }
+{
+    let symbol = NewSymbol {
+        name: gpr[4],
+        value: gpr[5],
+        kind: gpr[6],
+    };
+    let reply = add_symbol(alloc, &mut w.syms, &w.bus.ram, gpr[3], symbol)?;
+    leave_gate(w, who);
+    Ok(reply)
+}
+
+// i: the table of the tasks, whose caller has left its gate. For want of memory nothing changes.
+fn list_tasks(alloc: Global, w: &mut World, who: &Actor, gpr: &[u32; 32]) -> Result<Reply, NoMemory>
+    requires { Acts w.old.kern who.now }
+    ensures ok { IfOk result (λ r. with_reply (world_seen ⟦<dyn Device as Device>⟧ w.new) r
+        ≡ row_lem gates.I (left_gate (world_seen ⟦<dyn Device as Device>⟧ w.old) who.now) who.now gpr.now) }
+    ensures err { OnErr result (world_seen ⟦<dyn Device as Device>⟧ w.new ≡ world_seen ⟦<dyn Device as Device>⟧ w.old) }
+    ensures space { HoldsSpace w.old.out w.new.out }
+{
+    match who {
+        Actor::Task(id) => show_tasks(alloc, &mut w.kern, *id, &mut w.out)?,
+        Actor::Interrupt => {
+            task_table(alloc, &w.kern, &mut w.out)?;
+            leave_gate(w, who);
+        }
+    }
+    Ok(DONE)
+}
+
+// d: the bytes of memory. Its caller leaves its gate behind it. For want of memory nothing changes.
+fn dump_memory(
+    alloc: Global,
+    w: &mut World,
+    who: &Actor,
+    gpr: &[u32; 32],
+) -> Result<Reply, NoMemory>
+    requires { Acts w.old.kern who.now }
+    ensures ok { IfOk result (λ r. with_reply (world_seen ⟦<dyn Device as Device>⟧ w.new) r
+        ≡ row_lem gates.D (left_gate (world_seen ⟦<dyn Device as Device>⟧ w.old) who.now) who.now gpr.now) }
+    ensures err { OnErr result (world_seen ⟦<dyn Device as Device>⟧ w.new ≡ world_seen ⟦<dyn Device as Device>⟧ w.old) }
+    ensures space { HoldsSpace w.old.out w.new.out }
+{
+    let bus = &w.bus;
+    let reply = show_memory(alloc, &bus.ram, gpr[3], gpr[4], gpr[5], &mut w.out)?;
+    leave_gate(w, who);
+    Ok(reply)
+}
+
+// The row of a gate that may lack memory, on the world that its caller has left, with the words in its caller's
+// registers. For want of memory nothing changes, and the caller stands at its gate.
 pub(crate) fn lacking_row(
     alloc: Global,
     w: &mut World,
     gate: Gate,
+    who: &Actor,
     gpr: &[u32; 32],
 ) -> Result<Reply, NoMemory>
     requires gate { may_lack_memory gate ≡ true }
+    requires live { Acts w.old.kern who.now }
     requires home { w.old.kern.lent ≡ false }
     requires objects { KeepsObjects w.old.kern w.old.objects }
-    ensures ok { IfOk result (λ r. (a : Actor) → with_reply (left_gate (world_seen ⟦<dyn Device as Device>⟧ w.new) a) r
-        ≡ row_lem gate (left_gate (world_seen ⟦<dyn Device as Device>⟧ w.old) a) a gpr.now) }
-    ensures acts { (a : Actor) → Acts w.old.kern a → Acts w.new.kern a }
+    ensures ok { IfOk result (λ r. with_reply (world_seen ⟦<dyn Device as Device>⟧ w.new) r
+        ≡ row_lem gate (left_gate (world_seen ⟦<dyn Device as Device>⟧ w.old) who.now) who.now gpr.now) }
     ensures err { OnErr result (world_seen ⟦<dyn Device as Device>⟧ w.new ≡ world_seen ⟦<dyn Device as Device>⟧ w.old) }
-    ensures out { w.new.out ≡ w.old.out }
+    ensures space { makes_room gate ≡ false → KeepsSpace w.old.out w.new.out }
+    ensures holds { HoldsSpace w.old.out w.new.out }
 {
     match gate {
-        Gate::SymAdd => {
-            let symbol = NewSymbol {
-                name: gpr[4],
-                value: gpr[5],
-                kind: gpr[6],
-            };
-            add_symbol(alloc, &mut w.syms, &w.bus.ram, gpr[3], symbol)
-        }
-        Gate::MsgQCreate => create_queue(alloc, w, gpr),
+        Gate::SymAdd => add_by(alloc, w, who, gpr),
+        Gate::MsgQCreate => create_by(alloc, w, who, gpr),
+        Gate::I => list_tasks(alloc, w, who, gpr),
+        Gate::D => dump_memory(alloc, w, who, gpr),
         _ => unreachable!(),
     }
 }
@@ -261,6 +333,9 @@ pub(crate) fn plain_row(w: &mut World, gate: Gate, who: Actor, gpr: &[u32; 32]) 
         Gate::TaskNameToId => task_of_name(&w.kern, &w.bus.ram, gpr[3]),
         Gate::KernelTimeSlice => slice(&mut w.kern, gpr[3]),
         Gate::TickGet => ticks(&w.kern),
+        Gate::IntLock => lock_interrupts(&mut w.kern, who),
+        Gate::IntUnlock => unlock_interrupts(&mut w.kern, who, gpr[3]),
+        Gate::IntContext => context(who),
         Gate::SemBCreate => { sem_rows::create_binary(&mut w.kern, &mut w.objects, gpr[3], gpr[4]) }
         Gate::SemCCreate => {
             sem_rows::create_counting(&mut w.kern, &mut w.objects, gpr[3], gpr[4])
@@ -277,6 +352,10 @@ pub(crate) fn plain_row(w: &mut World, gate: Gate, who: Actor, gpr: &[u32; 32]) 
         Gate::Malloc => malloc(&mut w.part, gpr[3]),
         Gate::Free => free(&mut w.part, gpr[3]),
         Gate::Memalign => memalign(&mut w.part, gpr[3], gpr[4]),
+        Gate::Printf => {
+            let bus = &w.bus;
+            print(&bus.ram, gpr, &mut w.out)
+        }
         Gate::ErrnoGet => Reply::Answer(errno_of(w, who)),
         Gate::ErrnoSet => {
             set_errno(w, &who, gpr[3]);

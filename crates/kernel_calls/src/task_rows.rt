@@ -2,10 +2,10 @@
 
 ghost use Rattle.std.specs.Prelude.{◌≡◌, ◌+◌, ◌^◌, ◌<◌, IfSome};
 ghost use Rattle.std.specs.List.{All};
-ghost use Rattle.wind_core.specs.State.{Lives, KernState};
+ghost use Rattle.wind_core.specs.State.{Lives, KernState, task_of};
 ghost use Rattle.wind_core.specs.Moves.{live_id};
 ghost use Rattle.kernel_calls.specs.Actors.{Acts};
-ghost use Rattle.kernel_calls.specs.TaskRows.{target as target_lem, suspend_row, resume_row, delay_row, lock_row, unlock_row, self_row, verify_row, name_row, slice_row, tick_row, locks_of};
+ghost use Rattle.kernel_calls.specs.TaskRows.{target as target_lem, suspend_row, resume_row, delay_row, lock_row, unlock_row, self_row, verify_row, name_row, slice_row, tick_row, locks_of, mark_of, int_lock_row, int_unlock_row, int_context_row};
 ghost use Rattle.board_mem.specs.Memory.{string_at};
 
 use crate::actor::Actor;
@@ -146,5 +146,48 @@ pub(crate) fn task_of_name(kern: &Kern, ram: &Ram, address: u32) -> Reply
     match kern.named(name) {
         Some(id) => Reply::Answer(id.get()),
         None => Reply::Refusal(Errno::TaskNotFound),
+    }
+}
+
+// Whether the task holds interrupts back.
+fn mark(kern: &Kern, who: Ident) -> bool
+    ensures { result ≡ mark_of (task_of kern.now.tasks who) }
+{
+    match kern.task(who) {
+        Some(task) => task.int_locked,
+        None => false,
+    }
+}
+
+pub(crate) fn lock_interrupts(kern: &mut Kern, who: Actor) -> Reply
+    requires { Acts kern.old who }
+    ensures kern { kern.new ≡ (int_lock_row kern.old who).kern }
+    ensures reply { result ≡ (int_lock_row kern.old who).reply }
+{
+    let Actor::Task(who) = who else {
+        return Reply::Answer(1);
+    };
+    let mark = mark(kern, who);
+    kern.set_int_locked(who, true);
+    Reply::Answer(if mark { 1 } else { 0 })
+}
+
+pub(crate) fn unlock_interrupts(kern: &mut Kern, who: Actor, key: u32) -> Reply
+    requires { Acts kern.old who }
+    ensures kern { kern.new ≡ (int_unlock_row kern.old who key).kern }
+    ensures reply { result ≡ (int_unlock_row kern.old who key).reply }
+{
+    if let Actor::Task(who) = who {
+        kern.set_int_locked(who, key % 2 == 1);
+    }
+    DONE
+}
+
+pub(crate) fn context(who: Actor) -> Reply
+    ensures { (k : KernState) → result ≡ (int_context_row k who).reply }
+{
+    match who {
+        Actor::Task(_) => Reply::Answer(0),
+        Actor::Interrupt => Reply::Answer(1),
     }
 }

@@ -10,6 +10,7 @@ mod spawns;
 mod steps;
 mod symbols;
 mod tasks;
+mod texts;
 
 // Error numbers, by the table in docs/calls.md.
 const OBJ_ID_ERROR: u32 = 0x3d_0001;

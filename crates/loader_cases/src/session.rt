@@ -7,6 +7,8 @@ use crate::reading::{Trouble, byte, name, number};
 use crate::showing;
 use std::alloc::Global;
 use std::mem;
+use text_show::module_rows;
+use wind_base::OutBuf;
 
 /// What stands before the first line that makes a board.
 const NOTHING: Opening = Opening {
@@ -215,11 +217,19 @@ impl Session {
             ("next", [id]) => {
                 showing::id(self.alloc, self.board.modules().next_after(number(id)?))
             }
+            ("table", [line]) => self.table_line(number(line)?),
             ("ram", [at, count]) => showing::bytes(
                 self.alloc,
                 self.board.ram().bytes(number(at)?, number(count)?),
             ),
             _ => Err(Trouble::Unreadable),
         }
+    }
+
+    // A line of the table of the modules.
+    fn table_line(&self, line: u32) -> Result<String, Trouble> {
+        let mut out = OutBuf::reserved(self.alloc, 0)?;
+        module_rows(self.alloc, self.board.modules(), &mut out)?;
+        showing::line(self.alloc, out.bytes(), line)
     }
 }

@@ -84,6 +84,22 @@ pub fn bytes(alloc: Global, found: Option<&[u8]>) -> Result<String, Trouble> {
     Ok(text)
 }
 
+/// The line of a number, counted from 0, in quotes; nothing between them where there is none. The text has characters
+/// of ASCII.
+pub fn line(alloc: Global, text: &[u8], number: u32) -> Result<String, Trouble> {
+    let mut shown = format!(in alloc; "\"")?;
+    let mut place = 0u32;
+    for byte in text {
+        if *byte == b'\n' {
+            place = place.wrapping_add(1);
+        } else if place == number {
+            shown.push(char::from(*byte))?;
+        }
+    }
+    shown.push('"')?;
+    Ok(shown)
+}
+
 fn none(alloc: Global) -> Result<String, Trouble> {
     Ok(format!(in alloc; "none")?)
 }

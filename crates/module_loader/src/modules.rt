@@ -1,7 +1,8 @@
 //! The live modules.
 
 ghost use Rattle.std.specs.Prelude.{◌≡◌, ◌↔◌, [], IfOk, IfErr, OnOk, OnErr, IsOk, IsSome, Some, option_copied, All};
-ghost use Rattle.id_table.specs.Rows.{object_of, next_above, without, removed};
+ghost use Rattle.wind_lists.specs.Records.{Rising};
+ghost use Rattle.id_table.specs.Rows.{object_of, next_above, row_id, without, removed};
 ghost use Rattle.symbol_table.specs.State.{without_group};
 ghost use Rattle.elf_read.specs.Contents.{module_at};
 ghost use Rattle.module_loader.specs.Loading.{file_verdict, told, IsLoaded, IsVerdict};
@@ -128,6 +129,14 @@ impl Modules {
             Some(id) => self.table.get(id),
             None => None,
         }
+    }
+
+    /// Does nothing. Its contract tells what the modules keep: their ids rise, and lie from 1 to 1,048,576.
+    pub fn facts(&self)
+        ensures rising { Rising row_id self.now }
+        ensures ranged { All HasIdent self.now }
+    {
+        self.table.facts();
     }
 
     /// The newest live module of this name.

@@ -6,3 +6,6 @@ mod Sorted
 mod Cut
 mod Pieces
 mod Strings
+mod Stable
+mod Shown
+mod Above

@@ -5,3 +5,5 @@ pub mod Dump
 pub mod Format
 pub mod Printf
 pub mod Value
+pub mod Symbols
+pub mod Modules

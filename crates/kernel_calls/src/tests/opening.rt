@@ -22,13 +22,13 @@ fn boots_with_ample_memory(rt: HostRuntime) -> Result<(), Fail> {
     Ok(())
 }
 
-// taskSpawn is gate 3 and errnoSet gate 45, 16 bytes a gate.
+// taskSpawn is gate 3 and d gate 51, 16 bytes a gate.
 const STANDING: [Step; 5] = [
     Step::See(Look::Tasks(1)),
     Step::See(Look::Task(SHELL, TaskLook::Made(b"tShell", 0x1_0000, 0, 1))),
-    Step::See(Look::Symbols(35)),
+    Step::See(Look::Symbols(41)),
     Step::See(Look::Symbol(0, b"taskSpawn", 0x0100_0030, SymKind::TextSym)),
-    Step::See(Look::Symbol(34, b"errnoSet", 0x0100_02d0, SymKind::TextSym)),
+    Step::See(Look::Symbol(40, b"d", 0x0100_0330, SymKind::TextSym)),
 ];
 
 #[test]

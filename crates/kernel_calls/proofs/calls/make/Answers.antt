@@ -25,4 +25,4 @@ plain_row-requires-clause-ready g c = subst (λ (s : WorldState). MayCall s.kern
 
 pub returns-then-may_lack_memory-clause-ok : goal.returns-then-may_lack_memory-clause-ok
 returns-then-may_lack_memory-clause-ok g c =
-    lacking_made c.args.gate _ _ _ c.args.who.now c.in_ok-reply.reply c.caller_regs-regs.result c.in_default.ensures c.caller_regs-regs.ensures (c.in_ok-reply.ensures.ok c.args.who.now) c.leave_gate-then-may_lack_memory.ensures.world
+    lacking_made c.args.gate _ _ c.args.who.now c.lacking_row.result c.caller_regs-regs.result c.in_default.ensures c.caller_regs-regs.ensures c.lacking_row.ensures.ok

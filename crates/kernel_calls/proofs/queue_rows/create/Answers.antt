@@ -1,4 +1,4 @@
-use Rattle.std.proofs.Common.{◌≡◌, sym, subst}
+use Rattle.std.proofs.Common.{sym, subst}
 use Rattle.msg_queue.specs.Comings.{IsMade}
 use Rattle.kernel_calls.proofs.Apart.{queue_ids}
 use Rattle.kernel_calls.proofs.QueueCalls.{made_row}

@@ -1,6 +1,15 @@
-use Rattle.wind_base.specs.declared.gate.Gate.TheVariants.{MsgQCreate}
+use Rattle.wind_base.specs.declared.gate.Gate.TheVariants.{SymAdd, MsgQCreate, I, D}
 use Rattle.kernel_calls.proofs.QueueCalls.{at_gate}
 use Rattle.kernel_calls.proofs.rows.lacking_row.Goals as goal
 
+pub returns-in-SymAdd-clause-ok : goal.returns-in-SymAdd-clause-ok
+returns-in-SymAdd-clause-ok g c = at_gate c.args.gate SymAdd _ _ c.args.who.now c.args.gpr.now c.add_by.result c.in-SymAdd.is c.add_by.ensures.ok
+
 pub returns-in-MsgQCreate-clause-ok : goal.returns-in-MsgQCreate-clause-ok
-returns-in-MsgQCreate-clause-ok g c = at_gate c.args.gate MsgQCreate _ _ c.args.gpr.now c.create_queue.result c.in-MsgQCreate.is c.create_queue.ensures.ok
+returns-in-MsgQCreate-clause-ok g c = at_gate c.args.gate MsgQCreate _ _ c.args.who.now c.args.gpr.now c.create_by.result c.in-MsgQCreate.is c.create_by.ensures.ok
+
+pub returns-in-I-clause-ok : goal.returns-in-I-clause-ok
+returns-in-I-clause-ok g c = at_gate c.args.gate I _ _ c.args.who.now c.args.gpr.now c.list_tasks.result c.in-I.is c.list_tasks.ensures.ok
+
+pub returns-in-D-clause-ok : goal.returns-in-D-clause-ok
+returns-in-D-clause-ok g c = at_gate c.args.gate D _ _ c.args.who.now c.args.gpr.now c.dump_memory.result c.in-D.is c.dump_memory.ensures.ok

@@ -1,9 +1,9 @@
-use Rattle.std.proofs.Common.{◌≡◌, ℕ, ◌+◌, ◌≤◌, None, sym, ap, ◌∙◌, arith}
+use Rattle.std.proofs.Common.{◌+◌, ◌≤◌, sym, ap, ◌∙◌, arith}
 use Rattle.wind_base.specs.Limits.{ram_bytes}
 use Rattle.mem_partition.specs.Place.{rounded}
-use Rattle.wind_core.specs.Moves.{spawn, spawn_refusal}
-use Rattle.kernel_calls.specs.Spawning.{spawn_parts, stack_bytes}
-use Rattle.kernel_calls.proofs.Spawned.{refused_part, block_within, pointer_within, spawned_is, spawned_none}
+use Rattle.wind_core.specs.Moves.{spawn}
+use Rattle.kernel_calls.specs.Spawning.{spawn_parts}
+use Rattle.kernel_calls.proofs.Spawned.{refused_part, block_within, spawned_is, spawned_none}
 use Rattle.kernel_calls.proofs.spawning.spawn.Goals as goal
 
 pub returns-in_default-alloc-clause-part : goal.returns-in_default-alloc-clause-part

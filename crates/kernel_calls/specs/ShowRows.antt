@@ -1,0 +1,69 @@
+-- The rows of the calls that write texts.
+use Rattle.std.specs.Prelude.{ℕ, ◌*◌, ◌/◌, ◌==◌, ◌||◌, Bool, nat_lt, if◌then◌else◌, List, [], ◌∷◌, length, slice_index, Option, None, Some}
+use Rattle.wind_base.specs.Limits.{ok_word}
+use Rattle.wind_base.specs.declared.errno.Errno.{Errno}
+use Rattle.wind_base.specs.declared.errno.Errno.TheVariants as errors
+use Rattle.board_mem.specs.Memory.{has}
+use Rattle.wind_core.specs.State.{KernState}
+use Rattle.text_show.specs.Printf.{Source, printf_of}
+use Rattle.text_show.specs.Tasks.{task_table_of}
+use Rattle.text_show.specs.Dump.{dump_of}
+use Rattle.kernel_calls.specs.declared.reply.Reply.{Reply}
+use Rattle.kernel_calls.specs.declared.reply.Reply.TheVariants.{Answer, Refusal}
+
+-- the bytes that a call writes, and how its caller is answered
+pub record ShowRow : Type 0 where
+  pub text : List ℕ
+  pub reply : Reply
+
+abbrev pub shows : List ℕ → ℕ → ShowRow
+shows text value = record { text = text; reply = Answer value }
+
+abbrev pub shows_none : Errno → ShowRow
+shows_none e = record { text = []; reply = Refusal e }
+
+-- ---- printf: the format in r3, the first values in r4 to r10, the others on the stack at r1
+abbrev pub values : List ℕ → List ℕ → Source
+values ram r = record {
+  first = slice_index r 4 ∷ slice_index r 5 ∷ slice_index r 6 ∷ slice_index r 7 ∷ slice_index r 8 ∷ slice_index r 9 ∷ slice_index r 10 ∷ [];
+  stack = slice_index r 1;
+  ram = ram;
+}
+
+-- the answer is the count of bytes written
+abbrev pub printed : Option (List ℕ) → ShowRow
+printed None = shows_none errors.BadAddress
+printed (Some text) = shows text (length text)
+
+abbrev pub printf_row : List ℕ → List ℕ → ShowRow
+printf_row ram r = printed (printf_of (values ram r) (slice_index r 3))
+
+-- ---- i: the table of the tasks
+abbrev pub tasks_row : KernState → ShowRow
+tasks_row k = shows (task_table_of k) ok_word
+
+-- ---- d: so many units of so many bytes; a width of 0 counts as 2, and no units as those of 128 bytes
+abbrev pub width_of : ℕ → ℕ
+width_of width = if width == 0 then 2 else width
+
+abbrev pub units_of : ℕ → ℕ → ℕ
+units_of units width = if units == 0 then 128 / width else units
+
+abbrev pub is_width : ℕ → Bool
+is_width width = width == 1 || (width == 2 || width == 4)
+
+-- the most bytes of a dump
+abbrev pub most_dumped : ℕ
+most_dumped = 65536
+
+abbrev pub dump_in : List ℕ → ℕ → ℕ → ℕ → ShowRow
+dump_in ram at units width =
+    if nat_lt most_dumped (units * width) then shows_none errors.BadSize
+    else if has ram at (units * width) then shows (dump_of ram at units width) ok_word
+    else shows_none errors.BadAddress
+
+abbrev pub dump_by : List ℕ → ℕ → ℕ → ℕ → ShowRow
+dump_by ram at units width = if is_width width then dump_in ram at (units_of units width) width else shows_none errors.BadSize
+
+abbrev pub dump_row : List ℕ → ℕ → ℕ → ℕ → ShowRow
+dump_row ram at units width = dump_by ram at units (width_of width)

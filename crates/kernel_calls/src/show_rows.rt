@@ -1,0 +1,121 @@
+//! The calls that write texts.
+
+ghost use Rattle.std.specs.Prelude.{◌≡◌, ◌++◌, ◌≤◌, IfOk, OnErr, OnOk};
+ghost use Rattle.wind_base.specs.OutBuf.{KeepsSpace};
+ghost use Rattle.wind_core.specs.State.{Lives};
+ghost use Rattle.wind_core.specs.Moves.{leave_gate};
+ghost use Rattle.text_show.specs.Columns.{with_text};
+ghost use Rattle.text_show.specs.Tasks.{task_table_of};
+ghost use Rattle.kernel_calls.specs.ShowRows.{printf_row, width_of as width_of_lem, units_of as units_of_lem, dump_in as dump_in_lem, dump_row};
+
+use crate::reply::{DONE, Reply};
+use board_mem::Ram;
+use id_table::Ident;
+use std::alloc::Global;
+use text_show::{dump, printf_text, task_table};
+use wind_base::{Errno, NoMemory, OutBuf};
+use wind_core::Kern;
+
+// The most bytes of a dump.
+const MOST_DUMPED: u64 = 65_536;
+
+// printf, with the words in its caller's registers.
+pub(crate) fn print(ram: &Ram, gpr: &[u32; 32], out: &mut OutBuf) -> Reply
+    requires { 4096 ≤ out.old.room }
+    ensures reply { result ≡ (printf_row ram.now gpr.now).reply }
+    ensures text { out.new.bytes ≡ out.old.bytes ++ (printf_row ram.now gpr.now).text }
+    ensures space { KeepsSpace out.old out.new }
+{
+    let first = [gpr[4], gpr[5], gpr[6], gpr[7], gpr[8], gpr[9], gpr[10]];
+    match printf_text(gpr[3], &first, gpr[1], ram, out) {
+        Some(count) => Reply::Answer(count),
+        None => Reply::Refusal(Errno::BadAddress),
+    }
+}
+
+// i, called by a task, which has left its gate where it is shown. For want of memory it stands there again, and nothing
+// is written.
+pub(crate) fn show_tasks(
+    alloc: Global,
+    kern: &mut Kern,
+    who: Ident,
+    out: &mut OutBuf,
+) -> Result<(), NoMemory>
+    requires { Lives kern.old who }
+    ensures ok { OnOk result (kern.new ≡ leave_gate kern.old who) }
+    ensures text { OnOk result (out.new ≡ with_text out.old (task_table_of (leave_gate kern.old who))) }
+    ensures err { OnErr result (kern.new ≡ kern.old) }
+    ensures same { OnErr result (out.new ≡ out.old) }
+{
+    kern.facts();
+    let Some(task) = kern.task(who) else {
+        unreachable!()
+    };
+    let regs = task.regs;
+    kern.leave_gate(who);
+    if task_table(alloc, kern, out).is_err() {
+        kern.set_regs(who, regs);
+        return Err(NoMemory);
+    }
+    Ok(())
+}
+
+// The width that a number asks for.
+fn width_of(width: u32) -> u32
+    ensures { result ≡ width_of_lem width }
+{
+    if width == 0 { 2 } else { width }
+}
+
+// How many units a number asks for.
+fn units_of(units: u32, width: u32) -> u32
+    requires { 1 ≤ width }
+    ensures { result ≡ units_of_lem units width }
+{
+    if units == 0 { 128 / width } else { units }
+}
+
+// Writes a dump where it isn't too long, and its bytes are there.
+fn dump_in(
+    alloc: Global,
+    ram: &Ram,
+    at: u32,
+    units: u32,
+    width: u32,
+    out: &mut OutBuf,
+) -> Result<Reply, NoMemory>
+    requires some { 1 ≤ width }
+    requires wide { width ≤ 4 }
+    ensures ok { IfOk result (λ r. (r ≡ (dump_in_lem ram.now at units width).reply)
+        × (out.new ≡ with_text out.old (dump_in_lem ram.now at units width).text)) }
+    ensures err { OnErr result (out.new ≡ out.old) }
+{
+    if u64::from(units) * u64::from(width) > MOST_DUMPED {
+        return Ok(Reply::Refusal(Errno::BadSize));
+    }
+    if !ram.has(at, units * width) {
+        return Ok(Reply::Refusal(Errno::BadAddress));
+    }
+    dump(alloc, ram, at, units, width, out)?;
+    Ok(DONE)
+}
+
+// d: units of so many bytes from an address on. For want of memory nothing is written.
+pub(crate) fn show_memory(
+    alloc: Global,
+    ram: &Ram,
+    at: u32,
+    units: u32,
+    width: u32,
+    out: &mut OutBuf,
+) -> Result<Reply, NoMemory>
+    ensures ok { IfOk result (λ r. (r ≡ (dump_row ram.now at units width).reply)
+        × (out.new ≡ with_text out.old (dump_row ram.now at units width).text)) }
+    ensures err { OnErr result (out.new ≡ out.old) }
+{
+    let width = width_of(width);
+    if width != 1 && width != 2 && width != 4 {
+        return Ok(Reply::Refusal(Errno::BadSize));
+    }
+    dump_in(alloc, ram, at, units_of(units, width), width, out)
+}

@@ -1,0 +1,113 @@
+//! Held-back interrupts, and the calls that write texts.
+
+use super::bench::{ROUTINE, SHELL};
+use super::looks::Look;
+use super::steps::{Step, first_wrong};
+use super::{BAD_ADDRESS, NOT_ISR_CALLABLE, RAM_END};
+use std::test::Fail;
+use wind_base::Gate;
+use wind_base::words::{ERROR, OK};
+
+const BAD_SIZE: u32 = 0x41_0003;
+
+// The mark of the shell's task, which no call at interrupt level changes.
+const MARKS: [Step; 11] = [
+    Step::Call(SHELL, Gate::IntLock, [0; 4], 0, 0),
+    Step::Call(SHELL, Gate::IntLock, [0; 4], 1, 0),
+    Step::Call(SHELL, Gate::IntUnlock, [2, 0, 0, 0], OK, 0),
+    Step::Call(SHELL, Gate::IntLock, [0; 4], 0, 0),
+    Step::Call(SHELL, Gate::IntUnlock, [3, 0, 0, 0], OK, 0),
+    Step::Call(ROUTINE, Gate::IntUnlock, [0; 4], OK, 0),
+    Step::Call(SHELL, Gate::IntLock, [0; 4], 1, 0),
+    Step::Call(SHELL, Gate::IntUnlock, [0; 4], OK, 0),
+    Step::Call(ROUTINE, Gate::IntLock, [0; 4], 1, 0),
+    Step::Call(SHELL, Gate::IntContext, [0; 4], 0, 0),
+    Step::Call(ROUTINE, Gate::IntContext, [0; 4], 1, 0),
+];
+
+#[test]
+fn interrupts_are_held_back_by_a_mark(rt: HostRuntime) -> Result<(), Fail> {
+    assert_eq!(rt; first_wrong(&rt, &MARKS)?, None);
+    Ok(())
+}
+
+const FORMAT: u32 = 0x1000;
+
+const PUMP: u32 = 0x1020;
+
+// A string that can't be read is the last value; nothing is then written.
+const PRINTED: [Step; 7] = [
+    Step::Write(FORMAT, b"%d-%s\n\0"),
+    Step::Write(PUMP, b"pump\0"),
+    Step::Call(SHELL, Gate::Printf, [FORMAT, 0xffff_fff9, PUMP, 0], 8, 0),
+    Step::Call(
+        SHELL,
+        Gate::Printf,
+        [FORMAT, 7, RAM_END, 0],
+        ERROR,
+        BAD_ADDRESS,
+    ),
+    Step::Call(
+        SHELL,
+        Gate::Printf,
+        [RAM_END, 7, PUMP, 0],
+        ERROR,
+        BAD_ADDRESS,
+    ),
+    Step::Call(
+        ROUTINE,
+        Gate::Printf,
+        [FORMAT, 7, PUMP, 0],
+        ERROR,
+        NOT_ISR_CALLABLE,
+    ),
+    Step::See(Look::Output(b"-7-pump\n")),
+];
+
+#[test]
+fn a_format_is_written(rt: HostRuntime) -> Result<(), Fail> {
+    assert_eq!(rt; first_wrong(&rt, &PRINTED)?, None);
+    Ok(())
+}
+
+// The caller is shown behind its gate.
+const TABLE: [Step; 3] = [
+    Step::Call(SHELL, Gate::I, [0; 4], OK, 0),
+    Step::Call(ROUTINE, Gate::I, [0; 4], ERROR, NOT_ISR_CALLABLE),
+    Step::See(Look::Output(
+        b"NAME              TID PRI STATUS   PC          ERRNO      DELAY\ntShell              1   1 READY    00002001        0          0\n",
+    )),
+];
+
+#[test]
+fn the_tasks_are_listed(rt: HostRuntime) -> Result<(), Fail> {
+    assert_eq!(rt; first_wrong(&rt, &TABLE)?, None);
+    Ok(())
+}
+
+// Without a width the units have two bytes, and without units there are 128 bytes. The width is looked at first, then
+// the size, then the address.
+const DUMPED: [Step; 10] = [
+    Step::Write(PUMP, b"pump\x00\x7f"),
+    Step::Call(SHELL, Gate::D, [PUMP, 3, 0, 0], OK, 0),
+    Step::Call(SHELL, Gate::D, [PUMP, 1, 4, 0], OK, 0),
+    Step::Call(SHELL, Gate::D, [RAM_END, 65_537, 3, 0], ERROR, BAD_SIZE),
+    Step::Call(SHELL, Gate::D, [RAM_END, 65_537, 1, 0], ERROR, BAD_SIZE),
+    Step::Call(
+        SHELL,
+        Gate::D,
+        [RAM_END, 0x4000_0001, 4, 0],
+        ERROR,
+        BAD_SIZE,
+    ),
+    Step::Call(SHELL, Gate::D, [RAM_END, 65_536, 1, 0], ERROR, BAD_ADDRESS),
+    Step::Call(SHELL, Gate::D, [RAM_END - 127, 0, 1, 0], ERROR, BAD_ADDRESS),
+    Step::Call(ROUTINE, Gate::D, [PUMP, 3, 0, 0], ERROR, NOT_ISR_CALLABLE),
+    Step::See(Look::Output(b"00001020: 7075 6d70 007f  *pump..*\n00001020: 70756d70  *pump*\n")),
+];
+
+#[test]
+fn memory_is_dumped(rt: HostRuntime) -> Result<(), Fail> {
+    assert_eq!(rt; first_wrong(&rt, &DUMPED)?, None);
+    Ok(())
+}

@@ -1,0 +1,35 @@
+-- Messages are conserved along every run of the machine.
+use Rattle.std.proofs.Common.{◌≡◌, ℕ, List, [], Option, refl}
+use Rattle.wind_outside.specs.Devices.{DeviceState}
+use Rattle.tick_file.specs.Schedule.{timetable_of}
+use Rattle.msg_queue.specs.Laws.{IsRun}
+use Rattle.msg_queue.proofs.Running.{run_conserved}
+use Rattle.kernel_calls.specs.Opening.{opening_world}
+use Rattle.kernel_calls.proofs.Apart.{queue_ids}
+use Rattle.wind_machine.specs.State.{State}
+use Rattle.wind_machine.specs.Good.{Good}
+use Rattle.wind_machine.specs.Machine.{opening}
+use Rattle.wind_machine.specs.Run.{after}
+use Rattle.wind_machine.specs.Laws.{RunLaw}
+use Rattle.wind_messages.specs.Messages.{step_accepts, step_takes}
+use Rattle.wind_messages.specs.Laws.{ConservationLaw}
+use Rattle.wind_messages.proofs.Rows.{stock_in}
+use Rattle.wind_messages.proofs.Steps.{step_goes}
+
+-- at the opening there is no queue
+none_yet : (console ticks : List ℕ) (slots : List (Option DeviceState)) → (stock_in (opening console (timetable_of ticks) slots).world).queues ≡ []
+unfolding opening opening_world
+none_yet console ticks slots = refl
+
+-- a run from a state without queues on, with the kept facts at each state
+runs : (s : State) → (stock_in s.world).queues ≡ [] → ((k : ℕ) → Good (after s k)) → IsRun (λ k. stock_in (after s k).world) (λ k. step_accepts (after s k)) (λ k. step_takes (after s k))
+runs s none good = record {
+  none = none;
+  below = λ k. queue_ids (after s k).world.kern (after s k).world.objects (good k).world.objects;
+  balanced = λ k. step_goes (after s k) (good k);
+}
+
+pub conserved : RunLaw → ConservationLaw
+conserved law console ticks slots k q y here =
+    let s : State = opening console (timetable_of ticks) slots in
+    run_conserved (λ j. stock_in (after s j).world) (λ j. step_accepts (after s j)) (λ j. step_takes (after s j)) (runs s (none_yet console ticks slots) (λ j. (law console ticks slots j).kept)) k q y here

@@ -1,0 +1,112 @@
+-- What a step of a task makes of the world goes with what the queues hold.
+use Rattle.std.proofs.Common.{◌≡◌, ℕ, Bool, true, false, cond, eqb, List, [], ◌∷◌, Option, None, Some, refl, sym, subst, arith}
+use Rattle.std.specs.Prelude.{slice_index}
+use Rattle.wind_base.specs.declared.gate.Gate.{Gate}
+use Rattle.ppc_core.specs.Instructions.{exec_of}
+use Rattle.ppc_core.specs.Outcomes.{Outcome, Done, Trapped}
+use Rattle.ppc_core.specs.declared.trap.Trap.{Trap}
+use Rattle.ppc_core.specs.declared.trap.Trap.TheVariants as traps
+use Rattle.board_bus.specs.BusState.{BusState}
+use Rattle.board_bus.specs.Access.{board_meaning, fetched}
+use Rattle.wind_core.specs.State.{KernState, task_of}
+use Rattle.wind_core.specs.Moves.{release, suspend}
+use Rattle.task_safety.specs.Safety.{safe_of}
+use Rattle.shell_eval.specs.Pending.{Pending}
+use Rattle.shell_eval.specs.Evaluate.{Ending, Value, Call, Fault, Waiting, evaluate}
+use Rattle.msg_queue.specs.State.{Scene}
+use Rattle.msg_queue.specs.Kept.{IsKept}
+use Rattle.kernel_calls.specs.State.{WorldState}
+use Rattle.kernel_calls.specs.Actors.{shell_id, caller_words}
+use Rattle.kernel_calls.specs.Calls.{scene_of, is_built, left_gate}
+use Rattle.kernel_calls.specs.Ending.{ended}
+use Rattle.kernel_calls.specs.declared.actor.Actor.TheVariants.{Task as by_task}
+use Rattle.wind_machine.specs.State.{ShellState}
+use Rattle.wind_machine.specs.Part.{part_of, with_kern, writing}
+use Rattle.wind_machine.specs.Task.{shell_task, is_held, listening, aborted}
+use Rattle.wind_machine.specs.Text.{prompt_text}
+use Rattle.wind_machine.specs.Shell.{at_prompt, returned, prompted, prompt_part, eval_state, with_eval, came_to, eval_part}
+use Rattle.wind_machine.specs.Processor.{bus_of, regs_of, told_of, trapped, is_return, without_own, return_part, call_part, gate_part, executed, word_part, part_at, gate_under, task_part}
+use Rattle.wind_messages.specs.Messages.{call_at, call_under}
+use Rattle.wind_messages.proofs.NextIds.{NextSame, next-if, next-release, next-lessen}
+use Rattle.wind_messages.proofs.Rows.{Balances, leaves}
+use Rattle.wind_messages.proofs.Calls.{none_missing, none_return, call_balances}
+
+-- ---- the shell's task is aborted
+pub next-aborted : (k : KernState) → NextSame k (aborted k)
+next-aborted k = next-if (is_held (shell_task k)) k (release k shell_id) k (next-release k shell_id) refl
+
+-- ---- no call on a queue
+module _ (w : WorldState) (s : Scene) where
+  -- the world v has the queues of w, and the id that comes next is not lower
+  left_alone : (v : WorldState) → v.objects.queues.queues ≡ w.objects.queues.queues → NextSame w.kern v.kern → Balances w v s None
+  left_alone v same ids = leaves w v s same (omega (arith, ids))
+
+  pub prompts : (has_line : Bool) (shell : ShellState) → Balances w (prompt_part has_line shell w).world s None
+  prompts has_line shell =
+      elim has_line as (λ b. Balances w (part_of (prompted b shell) (writing (with_kern w (cond b w.kern (listening w.kern))) prompt_text)).world s None) [
+        | true ↦ left_alone (writing w prompt_text) refl refl
+        | false ↦ left_alone (writing (with_kern w (listening w.kern)) prompt_text) refl refl
+      ]
+
+  comes_to : (e : Ending) (behind : List (Option Pending)) (v : WorldState) → v.objects.queues.queues ≡ w.objects.queues.queues → NextSame w.kern v.kern → Balances w (came_to e behind v).world s None
+  comes_to (Value x) behind v same ids = left_alone (came_to (Value x) behind v).world same ids
+  comes_to (Call callee words p) behind v same ids = left_alone (came_to (Call callee words p) behind v).world same ids
+  comes_to (Fault f) behind v same ids = left_alone (came_to (Fault f) behind v).world same ids
+  comes_to Waiting behind v same ids = left_alone v same ids
+
+  pub evaluates : (trees : List (Option Pending)) → Balances w (eval_part trees w).world s None
+  evaluates [] = left_alone w refl refl
+  evaluates (None ∷ behind) = left_alone w refl refl
+  evaluates (Some p ∷ behind) = let e = evaluate (eval_state w) p in comes_to e.ending behind (with_eval w e.state) refl refl
+
+  -- ---- a step of any task
+  module _ (shell : ShellState) (who : ℕ) where
+    traps_balance : (trap : Trap) → Balances w (trapped trap shell w who).world s None
+    traps_balance trap =
+        let text = told_of trap (task_of w.kern.tasks who) in
+        elim (eqb who shell_id) as (λ b. Balances w (cond b (part_of at_prompt (writing (with_kern w (aborted w.kern)) text)) (part_of shell (writing (with_kern w (suspend w.kern who)) text))).world s None) [
+          | true ↦ left_alone (writing (with_kern w (aborted w.kern)) text) refl (next-aborted w.kern)
+          | false ↦ left_alone (writing (with_kern w (suspend w.kern who)) text) refl refl
+        ]
+
+    returns_balance : Balances w (return_part shell w who).world s None
+    returns_balance =
+        elim (eqb who shell_id) as (λ b. Balances w (cond b (part_of (returned (slice_index (regs_of w who).gpr 3) shell) (without_own w who)) (part_of shell (ended w who))).world s None) [
+          | true ↦ left_alone (without_own w who) refl refl
+          | false ↦ left_alone (ended w who) refl (next-lessen w.kern who (safe_of (task_of w.kern.tasks who)))
+        ]
+
+    executes : (o : Outcome BusState) → Balances w (executed o shell w who).world s None
+    executes (Done regs bus) = left_alone (executed (Done regs bus) shell w who).world refl refl
+    executes (Trapped trap) = traps_balance trap
+
+    words_balance : (o : Option ℕ) → Balances w (word_part o shell w who).world s None
+    words_balance None = traps_balance traps.Access
+    words_balance (Some word) = executes (exec_of board_meaning (regs_of w who) word (bus_of w))
+
+-- ---- a step of a task, with the call on a queue that it is, if it is one
+module _ (w : WorldState) (shell : ShellState) (who : ℕ) (kept : IsKept (scene_of (left_gate w (by_task who)))) where
+  abbrev here : Scene
+  here = scene_of (left_gate w (by_task who))
+
+  abbrev words : List ℕ
+  words = caller_words w (by_task who)
+
+  gates_balance : (g : Gate) → Balances w (gate_part g shell w who).world here (call_at g who words)
+  gates_balance g =
+      elim (is_return g who) as (λ b. is_return g who ≡ b → Balances w (cond b (return_part shell w who) (cond (is_built g) (call_part g shell w who) (trapped traps.Access shell w who))).world here (call_at g who words)) [
+        | true ↦ λ e. subst (Balances w (return_part shell w who).world here) (sym (none_return who words g e)) (returns_balance w here shell who)
+        | false ↦ λ e.
+            elim (is_built g) as (λ b. is_built g ≡ b → Balances w (cond b (call_part g shell w who) (trapped traps.Access shell w who)).world here (call_at g who words)) [
+              | true ↦ λ built. call_balances w who kept g
+              | false ↦ λ built. subst (Balances w (trapped traps.Access shell w who).world here) (sym (none_missing who words g built)) (traps_balance w here shell who traps.Access)
+            ] refl
+      ] refl
+
+  at_balances : (o : Option Gate) → Balances w (part_at o shell w who).world here (call_under o who words)
+  at_balances None = words_balance w here shell who (fetched (bus_of w) (regs_of w who).pc)
+  at_balances (Some g) = gates_balance g
+
+  pub task_balances : Balances w (task_part shell w who).world here (call_under (gate_under w who) who words)
+  unfolding task_part
+  task_balances = at_balances (gate_under w who)

@@ -1,0 +1,252 @@
+-- Each row of the kernel's calls goes with what the queues hold: those on queues by what they move, and all others leave the queues alone.
+use Rattle.std.proofs.Common.{◌≡◌, ℕ, ◌≤◌, true, false, cond, leb, List, [], length, Option, None, Some, Result, Ok, Err, refl, arith}
+use Rattle.std.specs.Prelude.{slice_index}
+use Rattle.wind_base.specs.SemBits.{read_options}
+use Rattle.wind_base.specs.declared.errno.Errno.{Errno}
+use Rattle.wind_base.specs.declared.errno.Errno.TheVariants as errors
+use Rattle.wind_base.specs.declared.gate.Gate.{Gate}
+use Rattle.wind_base.specs.declared.gate.Gate.TheVariants as gates
+use Rattle.wind_base.specs.declared.semaphore.SemKind.TheVariants as kinds
+use Rattle.wind_base.specs.declared.semaphore.SemOptions.{SemOptions}
+use Rattle.id_table.specs.Rows.{object_of}
+use Rattle.mem_partition.specs.State.{PartState, alloc_of}
+use Rattle.mem_partition.specs.declared.block.PartErr.{PartErr}
+use Rattle.task_block.specs.declared.task.Task.{Task as TaskRecord}
+use Rattle.board_mem.specs.Memory.{has, with_word, string_at}
+use Rattle.wind_core.specs.State.{KernState, task_of, task_named}
+use Rattle.wind_core.specs.Moves.{live_id, spawn_refusal}
+use Rattle.task_safety.specs.Safety.{unsafe_refusal}
+use Rattle.task_safety.specs.Deletion.{deed_of, asked}
+use Rattle.task_safety.specs.declared.deleting.Deed.{Deed}
+use Rattle.task_safety.specs.declared.deleting.Deed.TheVariants.{Refuses, EndsItself, Removes, Awaits}
+use Rattle.sem_plain.specs.declared.semaphore.Semaphore.{Semaphore}
+use Rattle.sem_plain.specs.Calls as plain
+use Rattle.sem_mutex.specs.Calls as mutex
+use Rattle.sem_mutex.specs.Making as making
+use Rattle.msg_queue.specs.State.{QueueState, Scene, queue_of}
+use Rattle.msg_queue.specs.Comings.{create_refusal, new_queue}
+use Rattle.msg_queue.specs.Kept.{IsKept}
+use Rattle.msg_queue.specs.Machine.{Event, accepted_next, taken_next}
+use Rattle.msg_queue.specs.Laws.{Stock, IsBalanced}
+use Rattle.msg_queue.proofs.Traffic.{stock, balanced_still, balanced_send, balanced_receive, balanced_create, balanced_gone}
+use Rattle.kernel_calls.specs.State.{WorldState}
+use Rattle.kernel_calls.specs.declared.objects.Objects.{Objects}
+use Rattle.kernel_calls.specs.TaskRows.{done, refused, target, suspend_row, resume_row, verify_row, found_row, name_row}
+use Rattle.kernel_calls.specs.SafetyRows.{deletes, meant, unsafe_unless}
+use Rattle.kernel_calls.specs.SemRows as sem
+use Rattle.kernel_calls.specs.QueueRows as queue
+use Rattle.kernel_calls.specs.Spawning.{SpawnState, SpawnRow, spawned_at, spawned_unless, spawned_if, stack_bytes, task_wanted, quick_wanted}
+use Rattle.kernel_calls.specs.Calls.{with_reply, of_objects, of_queues, scene_of, spawn_state, priority_in, task_at, row}
+use Rattle.kernel_calls.specs.declared.actor.Actor.TheVariants.{Task as by_task}
+use Rattle.wind_messages.specs.Messages.{call_at}
+use Rattle.wind_messages.proofs.NextIds.{NextSame, next-resume, next-lessen, next-sem_take, next-sem_give, next-sem_flush, next-sem_delete, next-mutex_take, next-mutex_give, next-mutex_delete, next-priority_set}
+
+-- the queues of a world, and the id that comes next
+abbrev pub stock_in : WorldState → Stock
+stock_in w = stock (scene_of w)
+
+-- from a world to another, where this call on a queue is made in a scene, or none
+abbrev pub Balances : WorldState → WorldState → Scene → Option Event → Type 0
+Balances w v s e = IsBalanced (stock_in w) (stock_in v) (accepted_next s e) (taken_next s e)
+
+-- where none is made, and the queues are the same
+pub leaves : (w v : WorldState) (s : Scene) → v.objects.queues.queues ≡ w.objects.queues.queues → w.kern.next_id ≤ v.kern.next_id → Balances w v s None
+leaves w v s same ids = balanced_still (stock_in w) (stock_in v) (λ q. []) (λ q. []) (λ q. refl) (λ q. refl) same ids
+
+-- ---- rows that touch tasks alone
+suspends : (k : KernState) (o : Option ℕ) → NextSame k (suspend_row k o).kern
+suspends k None = refl
+suspends k (Some id) = refl
+
+resumes : (k : KernState) (o : Option ℕ) → NextSame k (resume_row k o).kern
+resumes k None = refl
+resumes k (Some id) = next-resume k id
+
+verifies : (k : KernState) (o : Option ℕ) → NextSame k (verify_row k o).kern
+verifies k None = refl
+verifies k (Some id) = refl
+
+finds : (k : KernState) (o : Option TaskRecord) → NextSame k (found_row k o).kern
+finds k None = refl
+finds k (Some t) = refl
+
+names : (k : KernState) (o : Option (List ℕ)) → NextSame k (name_row k o).kern
+names k None = refl
+names k (Some name) = finds k (task_named k.tasks name)
+
+unsafes : (k : KernState) (who : ℕ) (o : Option Errno) → NextSame k (unsafe_unless o k who).kern
+unsafes k who None = next-lessen k who 1
+unsafes k who (Some e) = refl
+
+deletions : (k : KernState) (p : PartState) (who : ℕ) (d : Deed) → NextSame k (deletes k p who d).kern
+deletions k p who (Refuses e) = refl
+deletions k p who (EndsItself count) = next-lessen (asked k who) who count
+deletions k p who (Removes id) = refl
+deletions k p who (Awaits id) = refl
+
+-- ---- spawns
+abbrev NextLater : SpawnState → SpawnRow → Type 0
+NextLater s r = s.kern.next_id ≤ r.after.kern.next_id
+
+spawns_at : (s : SpawnState) (x : _) (o : Result ℕ PartErr) → NextLater s (spawned_at s x o)
+spawns_at s x (Err e) = omega arith
+spawns_at s x (Ok at) = omega arith
+
+spawns_unless : (s : SpawnState) (x : _) (o : Option Errno) → NextLater s (spawned_unless s x o)
+spawns_unless s x None = spawns_at s x (alloc_of s.part (stack_bytes x.stack) 16)
+spawns_unless s x (Some e) = omega arith
+
+spawns : (s : SpawnState) (o : Result _ Errno) → NextLater s (spawned_if s o)
+spawns s (Err e) = omega arith
+spawns s (Ok x) = spawns_unless s x (spawn_refusal s.kern)
+
+-- ---- rows of semaphores and mutexes
+pub record LeavesQueues (k : KernState) (o : Objects) (r : sem.ObjectRow) : Type 0 where
+  pub queues : r.objects.queues.queues ≡ o.queues.queues
+  pub ids : k.next_id ≤ r.kern.next_id
+
+module _ (k : KernState) (o : Objects) where
+  unchanged : (e : Errno) → LeavesQueues k o (sem.refused k o e)
+  unchanged e = record { queues = refl; ids = omega arith }
+
+  making_one : (v : Semaphore) (r : Option Errno) → LeavesQueues k o (sem.made_unless r k o v)
+  making_one v None = record { queues = refl; ids = omega arith }
+  making_one v (Some e) = unchanged e
+
+  binaries : (state : ℕ) (options : Option SemOptions) → LeavesQueues k o (sem.binary_with k o state options)
+  binaries state None = unchanged errors.InvalidOption
+  binaries state (Some options) =
+      let v : Semaphore = plain.new_semaphore kinds.Binary options state in
+      elim (leb state 1) as (λ b. LeavesQueues k o (cond b (sem.made k o v) (sem.refused k o errors.InvalidState))) [ true ↦ making_one v (plain.create_refusal (sem.sems k o)) | false ↦ unchanged errors.InvalidState ]
+
+  countings : (count : ℕ) (options : Option SemOptions) → LeavesQueues k o (sem.counting_with k o count options)
+  countings count None = unchanged errors.InvalidOption
+  countings count (Some options) = making_one (plain.new_semaphore kinds.Counting options count) (plain.create_refusal (sem.sems k o))
+
+  mutex_unless : (options : SemOptions) (r : Option Errno) → LeavesQueues k o (sem.mutex_unless r k o options)
+  mutex_unless options None = record { queues = refl; ids = omega arith }
+  mutex_unless options (Some e) = unchanged e
+
+  mutexes : (options : Option SemOptions) → LeavesQueues k o (sem.mutex_with k o options)
+  mutexes None = unchanged errors.InvalidOption
+  mutexes (Some options) = mutex_unless options (making.create_refusal (sem.mutexes k o))
+
+  plain_takes : (who id n : ℕ) (r : Option Errno) → LeavesQueues k o (sem.plain_take_unless r k o who id n)
+  plain_takes who id n None = record { queues = refl; ids = omega (arith, next-sem_take (sem.sems k o) who id n (object_of o.semaphores id)) }
+  plain_takes who id n (Some e) = unchanged e
+
+  mutex_takes : (who id n : ℕ) (r : Option Errno) → LeavesQueues k o (sem.mutex_take_unless r k o who id n)
+  mutex_takes who id n None = record { queues = refl; ids = omega (arith, next-mutex_take (sem.mutexes k o) who id n) }
+  mutex_takes who id n (Some e) = unchanged e
+
+  takes : (who id n : ℕ) → LeavesQueues k o (sem.take_row k o (by_task who) id n)
+  takes who id n =
+      elim (sem.is_mutex o id) as (λ b. LeavesQueues k o (cond b (sem.mutex_take k o who id n) (sem.plain_take k o who id n))) [
+        | true ↦ mutex_takes who id n (mutex.take_refusal who n (object_of o.mutexes id))
+        | false ↦ plain_takes who id n (plain.take_refusal (sem.sems k o) id n)
+      ]
+
+  plain_gives : (id : ℕ) (r : Option Errno) → LeavesQueues k o (sem.plain_give_unless r k o id)
+  plain_gives id None = record { queues = refl; ids = omega (arith, next-sem_give (sem.sems k o) id (object_of o.semaphores id)) }
+  plain_gives id (Some e) = unchanged e
+
+  mutex_gives : (who id : ℕ) (r : Option Errno) → LeavesQueues k o (sem.mutex_give_unless r k o who id)
+  mutex_gives who id None = record { queues = refl; ids = omega (arith, next-mutex_give (sem.mutexes k o) who id) }
+  mutex_gives who id (Some e) = unchanged e
+
+  gives : (who id : ℕ) → LeavesQueues k o (sem.give_row k o (by_task who) id)
+  gives who id =
+      elim (sem.is_mutex o id) as (λ b. LeavesQueues k o (cond b (sem.mutex_give k o who id) (sem.plain_give k o id))) [
+        | true ↦ mutex_gives who id (mutex.give_refusal who (object_of o.mutexes id))
+        | false ↦ plain_gives id (plain.give_refusal (sem.sems k o) id)
+      ]
+
+  plain_flushes : (id : ℕ) (r : Option Errno) → LeavesQueues k o (sem.flush_unless r k o id)
+  plain_flushes id None = record { queues = refl; ids = omega (arith, next-sem_flush (sem.sems k o) id) }
+  plain_flushes id (Some e) = unchanged e
+
+  flushes : (id : ℕ) → LeavesQueues k o (sem.flush_row k o id)
+  flushes id =
+      elim (sem.is_mutex o id) as (λ b. LeavesQueues k o (cond b (sem.refused k o errors.InvalidOperation) (sem.flush_unless (plain.flush_refusal (sem.sems k o) id) k o id))) [
+        | true ↦ unchanged errors.InvalidOperation
+        | false ↦ plain_flushes id (plain.flush_refusal (sem.sems k o) id)
+      ]
+
+  plain_deletes : (id : ℕ) (r : Option Errno) → LeavesQueues k o (sem.plain_delete_unless r k o id)
+  plain_deletes id None = record { queues = refl; ids = omega (arith, next-sem_delete (sem.sems k o) id) }
+  plain_deletes id (Some e) = unchanged e
+
+  sem_deletes : (id : ℕ) → LeavesQueues k o (sem.delete_row k o id)
+  sem_deletes id =
+      elim (sem.is_mutex o id) as (λ b. LeavesQueues k o (cond b (sem.by_mutexes o (mutex.delete (sem.mutexes k o) id) (done k).reply) (sem.plain_delete_unless (plain.delete_refusal (sem.sems k o) id) k o id))) [
+        | true ↦ record { queues = refl; ids = omega (arith, next-mutex_delete (sem.mutexes k o) id) }
+        | false ↦ plain_deletes id (plain.delete_refusal (sem.sems k o) id)
+      ]
+
+  priorities : (pri : ℕ) (who : Option ℕ) → LeavesQueues k o (sem.priority_row k o pri who)
+  priorities pri None = unchanged errors.ObjIdError
+  priorities pri (Some id) =
+      elim (leb pri 255) as (λ b. LeavesQueues k o (cond b (sem.by_mutexes o (mutex.priority_set (sem.mutexes k o) id pri) (done k).reply) (sem.refused k o errors.IllegalPriority))) [
+        | true ↦ record { queues = refl; ids = omega (arith, next-priority_set (sem.mutexes k o) id pri) }
+        | false ↦ unchanged errors.IllegalPriority
+      ]
+
+-- ---- the row of each gate, by a task
+module _ (w : WorldState) (kept : IsKept (scene_of w)) (who : ℕ) (r : List ℕ) where
+  none : (v : WorldState) → v.objects.queues.queues ≡ w.objects.queues.queues → w.kern.next_id ≤ v.kern.next_id → Balances w v (scene_of w) None
+  none v same ids = leaves w v (scene_of w) same ids
+
+  abbrev behind : Gate → WorldState
+  behind g = (row g w (by_task who) r).world
+
+  by_tasks : (g : Gate) → (behind g).objects.queues.queues ≡ w.objects.queues.queues → NextSame w.kern (behind g).kern → Balances w (behind g) (scene_of w) None
+  by_tasks g queues same = none (behind g) queues (omega (arith, same))
+
+  by_objects : (x : sem.ObjectRow) → LeavesQueues w.kern w.objects x → Balances w (of_objects w x).world (scene_of w) None
+  by_objects x p = none (of_objects w x).world p.queues p.ids
+
+  tells : (at : ℕ) (o : Option TaskRecord) → Balances w (priority_in w at o).world (scene_of w) None
+  tells at None = none w refl (omega arith)
+  tells at (Some t) =
+      elim (has w.ram at 4) as (λ b. Balances w (cond b (with_reply (record w { ram = with_word w.ram at t.pri }) (done w.kern).reply) (with_reply w (refused w.kern errors.BadAddress).reply)).world (scene_of w) None) [ true ↦ none (record w { ram = with_word w.ram at t.pri }) refl (omega arith) | false ↦ none w refl (omega arith) ]
+
+  creates : (max_msgs max_len options : ℕ) → Balances w (of_queues w (queue.create_row (scene_of w) max_msgs max_len options)).world (scene_of w) None
+  creates max_msgs max_len options =
+      let q : QueueState = new_queue max_msgs max_len options in
+      elim (create_refusal (length w.objects.queues.queues) w.kern.next_id max_msgs max_len options) as (λ o. Balances w (of_queues w (queue.create_unless o (scene_of w) q)).world (scene_of w) None) [
+        | None ↦ balanced_create (scene_of w) q kept refl
+        | Some e ↦ none w refl (omega arith)
+      ]
+
+  pub row_balances : (g : Gate) → Balances w (row g w (by_task who) r).world (scene_of w) (call_at g who r)
+  row_balances gates.TaskSpawn = none (behind gates.TaskSpawn) refl (spawns (spawn_state w) (task_wanted w.ram r))
+  row_balances gates.Sp = none (behind gates.Sp) refl (spawns (spawn_state w) (quick_wanted w.ram r))
+  row_balances gates.TaskDelete =
+      by_tasks gates.TaskDelete refl (deletions w.kern w.part who (deed_of w.kern.tasks who (meant who (slice_index r 3))))
+  row_balances gates.TaskSuspend = by_tasks gates.TaskSuspend refl (suspends w.kern (target w.kern (by_task who) (slice_index r 3)))
+  row_balances gates.TaskResume = by_tasks gates.TaskResume refl (resumes w.kern (target w.kern (by_task who) (slice_index r 3)))
+  row_balances gates.TaskPrioritySet = by_objects _ (priorities w.kern w.objects (slice_index r 4) (target w.kern (by_task who) (slice_index r 3)))
+  row_balances gates.TaskPriorityGet = tells (slice_index r 4) (task_at w.kern (target w.kern (by_task who) (slice_index r 3)))
+  row_balances gates.TaskDelay = by_tasks gates.TaskDelay refl refl
+  row_balances gates.TaskLock = by_tasks gates.TaskLock refl refl
+  row_balances gates.TaskUnlock = by_tasks gates.TaskUnlock refl refl
+  row_balances gates.TaskSafe = by_tasks gates.TaskSafe refl refl
+  row_balances gates.TaskUnsafe = by_tasks gates.TaskUnsafe refl (unsafes w.kern who (unsafe_refusal (task_of w.kern.tasks who)))
+  row_balances gates.TaskIdSelf = by_tasks gates.TaskIdSelf refl refl
+  row_balances gates.TaskIdVerify = by_tasks gates.TaskIdVerify refl (verifies w.kern (live_id w.kern.tasks (slice_index r 3)))
+  row_balances gates.TaskNameToId = by_tasks gates.TaskNameToId refl (names w.kern (string_at w.ram (slice_index r 3)))
+  row_balances gates.KernelTimeSlice = by_tasks gates.KernelTimeSlice refl refl
+  row_balances gates.TickGet = by_tasks gates.TickGet refl refl
+  row_balances gates.SemBCreate = by_objects _ (binaries w.kern w.objects (slice_index r 4) (read_options (slice_index r 3) kinds.Binary))
+  row_balances gates.SemCCreate = by_objects _ (countings w.kern w.objects (slice_index r 4) (read_options (slice_index r 3) kinds.Counting))
+  row_balances gates.SemMCreate = by_objects _ (mutexes w.kern w.objects (read_options (slice_index r 3) kinds.Mutex))
+  row_balances gates.SemTake = by_objects _ (takes w.kern w.objects who (slice_index r 3) (slice_index r 4))
+  row_balances gates.SemGive = by_objects _ (gives w.kern w.objects who (slice_index r 3))
+  row_balances gates.SemFlush = by_objects _ (flushes w.kern w.objects (slice_index r 3))
+  row_balances gates.SemDelete = by_objects _ (sem_deletes w.kern w.objects (slice_index r 3))
+  row_balances gates.MsgQCreate = creates (slice_index r 3) (slice_index r 4) (slice_index r 5)
+  row_balances gates.MsgQSend = balanced_send (scene_of w) (slice_index r 3) (queue.sending (by_task who) (slice_index r 4) (slice_index r 5) (slice_index r 6) (slice_index r 7)) kept
+  row_balances gates.MsgQReceive =
+      balanced_receive (scene_of w) (slice_index r 3) (record { caller = who; buffer = slice_index r 4; room = slice_index r 5; timeout = slice_index r 6 }) kept
+  row_balances gates.MsgQDelete = balanced_gone (scene_of w) (slice_index r 3) (queue_of (scene_of w) (slice_index r 3))
+  row_balances g = none w refl (omega arith)

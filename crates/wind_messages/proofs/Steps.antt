@@ -1,0 +1,124 @@
+-- Each step of the machine goes with what the queues hold before and after it.
+use Rattle.std.proofs.Common.{◌≡◌, ℕ, Bool, true, false, cond, eqb, List, [], ◌∷◌, Option, None, Some, is_some, refl, sym, ◌∙◌, subst, arith}
+use Rattle.std.specs.Prelude.{unwrap_or, take, drop}
+use Rattle.std.specs.List.{fold}
+use Rattle.std.proofs.lemmas.Bool.{eqb-true}
+use Rattle.task_block.specs.declared.task.Task.{Task}
+use Rattle.tick_file.specs.Schedule.{Timed}
+use Rattle.tick_file.specs.declared.event.Event.{Event}
+use Rattle.tick_file.specs.declared.event.Event.TheVariants.{Tick, Rx}
+use Rattle.wind_core.specs.State.{KernState}
+use Rattle.wind_core.specs.Orders.{running}
+use Rattle.wind_core.specs.Moves.{release}
+use Rattle.con_line.specs.Keys.{byte_done}
+use Rattle.con_line.specs.Lines.{has_line, front_line}
+use Rattle.con_line.specs.declared.console.ByteDone.{ByteDone}
+use Rattle.con_line.specs.declared.console.ByteDone.TheVariants as done
+use Rattle.shell_parse.specs.Reading.{read_line}
+use Rattle.msg_queue.specs.Kept.{IsKept}
+use Rattle.msg_queue.specs.Machine.{Event as Call}
+use Rattle.msg_queue.proofs.Calm.{next-tick, calms}
+use Rattle.kernel_calls.specs.State.{WorldState}
+use Rattle.kernel_calls.specs.Actors.{shell_id, caller_words}
+use Rattle.kernel_calls.specs.Calls.{scene_of, left_gate}
+use Rattle.kernel_calls.specs.declared.actor.Actor.TheVariants.{Task as by_task}
+use Rattle.kernel_calls.proofs.Calming.{queues-calm}
+use Rattle.wind_machine.specs.State.{State}
+use Rattle.wind_machine.specs.Good.{Good}
+use Rattle.wind_machine.specs.Feed.{chunk, after_chunk, brought}
+use Rattle.wind_machine.specs.Task.{waits_for_console}
+use Rattle.wind_machine.specs.Shell.{read_part}
+use Rattle.wind_machine.specs.Processor.{gate_under}
+use Rattle.wind_machine.specs.Machine.{Heard, hear, heard_all, heard_from, heard_by, kern_after, arrived, arrival, event_comes, event_step, unreserved_world, without_next, next_event, jump_to, shell_world, task_step, shell_step, step_of, due_event, console_is_due, run_step, quiet_step, step_by, machine_step}
+use Rattle.wind_machine.specs.declared.phase.Phase.{Phase}
+use Rattle.wind_machine.specs.declared.phase.Phase.TheVariants as phases
+use Rattle.wind_machine.proofs.Steps.{at_turn_advances}
+use Rattle.wind_messages.specs.Messages.{is_call, turn_world, task_call, task_scene, call_under, stepping, call_of, scene_by}
+use Rattle.wind_messages.proofs.NextIds.{NextSame, next-if, next-release}
+use Rattle.wind_messages.proofs.Rows.{Balances, leaves}
+use Rattle.wind_messages.proofs.Parts.{next-aborted, prompts, evaluates, task_balances}
+
+-- ---- bytes arrive
+next-byte : (d : ByteDone) (waits : Bool) (k : KernState) → NextSame k (kern_after d waits k)
+next-byte done.Abort waits k = next-aborted k
+next-byte done.Line waits k = next-if waits k (release k shell_id) k (next-release k shell_id) refl
+next-byte done.Kept waits k = refl
+
+next-bytes : (h : Heard) (bytes : List ℕ) → NextSame h.kern (fold hear h bytes).kern
+next-bytes h [] = refl
+next-bytes h (b ∷ bytes) = next-bytes (hear h b) bytes ∙ next-byte (byte_done h.console b) (waits_for_console h.kern) h.kern
+
+next-heard : (s : State) (bytes : List ℕ) → NextSame s.world.kern (heard_by s bytes).kern
+unfolding heard_all
+next-heard s bytes = next-bytes (heard_from s.console s.shell s.world.kern []) bytes
+
+-- from a state to another, where whoever runs makes a step, or nobody does
+abbrev pub Goes : State → State → Option Task → Type 0
+Goes s t o = Balances s.world t.world (scene_by s o) (call_of s o)
+
+-- ---- the queues are left alone
+left_alone : (s t : State) → t.world.objects.queues.queues ≡ s.world.objects.queues.queues → NextSame s.world.kern t.world.kern → Goes s t None
+left_alone s t same ids = leaves s.world t.world (scene_of s.world) same (omega (arith, ids))
+
+arrivals : (s : State) (left bytes : List ℕ) → Goes s (arrived s left (heard_by s bytes)) None
+arrivals s left bytes = left_alone s (arrived s left (heard_by s bytes)) refl (next-heard s bytes)
+
+events : (s : State) (e : Event) → Goes s (event_comes s e) None
+events s Tick = left_alone s (event_comes s Tick) refl (next-tick s.world.kern)
+events s (Rx n) = arrivals s (drop (brought n) s.left) (take (brought n) s.left)
+
+due_events : (s : State) (e : Timed) → Goes s (event_step s e) None
+due_events s e = events (record s { schedule = without_next s.schedule; world = unreserved_world s.world }) e.event
+
+jumps : (s : State) (o : Option Timed) → Goes s (unwrap_or (jump_to s o) s) None
+jumps s None = left_alone s s refl refl
+jumps s (Some e) = left_alone s (unwrap_or (jump_to s (Some e)) s) refl refl
+
+-- ---- a task makes a step
+module _ (s : State) (g : Good s) where
+  -- what a call of it sees is kept
+  scene_kept : (who : ℕ) → IsKept (task_scene s who)
+  scene_kept who =
+      let w : WorldState = turn_world s who in
+      let kept = (at_turn_advances s g who).kept in
+      let calm = (calms w.objects.queues.queues w.kern kept.kern).leaving_gate who in
+      queues-calm w.kern (left_gate w (by_task who)).kern w.objects calm kept.objects.queues w.ram kept.ram
+
+  -- the call at its gate
+  abbrev gate_call : ℕ → Option Call
+  gate_call who = call_under (gate_under (turn_world s who) who) who (caller_words (turn_world s who) (by_task who))
+
+  tasks_go : (who : ℕ) → Balances s.world (task_step s who).world (task_scene s who) (gate_call who)
+  tasks_go who = task_balances (turn_world s who) s.shell who (scene_kept who)
+
+  shell_goes : (p : Phase) → Balances s.world (shell_step p s).world (task_scene s shell_id) (cond (is_call p) (gate_call shell_id) None)
+  shell_goes phases.Prompt = prompts (shell_world s) (task_scene s shell_id) (has_line s.console) s.shell
+  shell_goes phases.Read = leaves (shell_world s) (read_part (read_line (front_line s.console)) (shell_world s)).world (task_scene s shell_id) refl (omega arith)
+  shell_goes phases.Eval = evaluates (shell_world s) (task_scene s shell_id) s.shell.trees
+  shell_goes phases.Call = tasks_go shell_id
+
+  whoever_goes : (who : ℕ) → Balances s.world (step_of s who).world (task_scene s who) (task_call s who)
+  whoever_goes who =
+      let p : Phase = s.shell.phase in
+      elim (eqb who shell_id) as (λ b. eqb who shell_id ≡ b → Balances s.world (cond b (shell_step p s) (task_step s who)).world (task_scene s who) (cond (cond b (is_call p) true) (gate_call who) None)) [
+        | true ↦ λ e. subst (λ n. Balances s.world (shell_step p s).world (task_scene s n) (cond (is_call p) (gate_call n) None)) (sym (eqb-true who shell_id e)) (shell_goes p)
+        | false ↦ λ e. tasks_go who
+      ] refl
+
+  -- ---- by the order of the next step
+  runs_go : (o : Option Task) → Goes s (unwrap_or (run_step s o) s) o
+  runs_go None = jumps s (next_event s)
+  runs_go (Some t) = whoever_goes t.id
+
+  quiet_goes : Goes s (unwrap_or (quiet_step s) s) (cond (console_is_due s) None (running s.world.kern))
+  quiet_goes =
+      let o : Option Task = running s.world.kern in
+      elim (console_is_due s) as (λ b. Goes s (unwrap_or (cond b (Some (arrival s)) (run_step s o)) s) (cond b None o)) [ true ↦ arrivals s (after_chunk s.left) (chunk s.left) | false ↦ runs_go o ]
+
+  steps_go : (o : Option Timed) → Goes s (unwrap_or (step_by s o) s) (cond (is_some o) None (cond (console_is_due s) None (running s.world.kern)))
+  steps_go None = quiet_goes
+  steps_go (Some e) = due_events s e
+
+  pub step_goes : Goes s (unwrap_or (machine_step s) s) (stepping s)
+  unfolding machine_step
+  step_goes = steps_go (due_event s)

@@ -1,0 +1,81 @@
+-- Which messages each step of the wind machine moves into a queue and out of it.
+use Rattle.std.specs.Prelude.{ℕ, ◌==◌, Bool, true, false, if◌then◌else◌, List, Option, None, Some, is_some, slice_index}
+use Rattle.wind_base.specs.declared.gate.Gate.{Gate}
+use Rattle.wind_base.specs.declared.gate.Gate.TheVariants as gates
+use Rattle.task_block.specs.declared.task.Task.{Task}
+use Rattle.wind_core.specs.Orders.{running}
+use Rattle.msg_queue.specs.State.{Scene}
+use Rattle.msg_queue.specs.Machine.{Event, sends, receives, Parcel, accepted_next, taken_next}
+use Rattle.msg_queue.specs.Laws.{gathered}
+use Rattle.kernel_calls.specs.State.{WorldState}
+use Rattle.kernel_calls.specs.Actors.{shell_id, caller_words}
+use Rattle.kernel_calls.specs.Calls.{left_gate, scene_of}
+use Rattle.kernel_calls.specs.QueueRows.{sending}
+use Rattle.kernel_calls.specs.declared.actor.Actor.TheVariants.{Task as by_task}
+use Rattle.wind_machine.specs.State.{State}
+use Rattle.wind_machine.specs.Run.{after}
+use Rattle.wind_machine.specs.Machine.{due_event, console_is_due, at_turn}
+use Rattle.wind_machine.specs.Processor.{gate_under}
+use Rattle.wind_machine.specs.declared.phase.Phase.{Phase}
+use Rattle.wind_machine.specs.declared.phase.Phase.TheVariants as phases
+
+-- the call on a queue that a task makes at a gate, with these words in its registers, if it is a send or a receive
+abbrev pub call_at : Gate → ℕ → List ℕ → Option Event
+call_at gates.MsgQSend who r = Some (sends (slice_index r 3) (sending (by_task who) (slice_index r 4) (slice_index r 5) (slice_index r 6) (slice_index r 7)))
+call_at gates.MsgQReceive who r =
+    Some (receives (slice_index r 3) (record { caller = who; buffer = slice_index r 4; room = slice_index r 5; timeout = slice_index r 6 }))
+call_at g who r = None
+
+abbrev pub call_under : Option Gate → ℕ → List ℕ → Option Event
+call_under None who r = None
+call_under (Some g) who r = call_at g who r
+
+-- the shell's task is at a gate in a call alone; every other task may be at one
+abbrev pub is_call : Phase → Bool
+is_call phases.Call = true
+is_call p = false
+
+abbrev pub is_at_work : State → ℕ → Bool
+is_at_work s who = if who == shell_id then is_call s.shell.phase else true
+
+-- the world at the turn of a task
+abbrev pub turn_world : State → ℕ → WorldState
+turn_world s who = at_turn s.world who
+
+-- the call on a queue that its step is, if it is one
+abbrev pub task_call : State → ℕ → Option Event
+task_call s who =
+    if is_at_work s who then call_under (gate_under (turn_world s who) who) who (caller_words (turn_world s who) (by_task who)) else None
+
+-- what such a call sees: the caller has left its gate
+abbrev pub task_scene : State → ℕ → Scene
+task_scene s who = scene_of (left_gate (turn_world s who) (by_task who))
+
+-- ---- the next step
+-- whose step it is, if it is a task's
+abbrev pub stepping : State → Option Task
+stepping s = if is_some (due_event s) then None else (if console_is_due s then None else running s.world.kern)
+
+abbrev pub call_of : State → Option Task → Option Event
+call_of s None = None
+call_of s (Some t) = task_call s t.id
+
+abbrev pub scene_by : State → Option Task → Scene
+scene_by s None = scene_of s.world
+scene_by s (Some t) = task_scene s t.id
+
+-- what the next step adds to the queue q or hands to a receiver of it, and what it hands to one or takes from the front
+abbrev pub step_accepts : State → ℕ → List Parcel
+step_accepts s q = accepted_next (scene_by s (stepping s)) (call_of s (stepping s)) q
+
+abbrev pub step_takes : State → ℕ → List (List ℕ)
+step_takes s q = taken_next (scene_by s (stepping s)) (call_of s (stepping s)) q
+
+-- ---- a run
+-- what the first k steps from a state on added to the queue q or handed to a receiver of it, in order of the steps
+abbrev pub accepted : State → ℕ → ℕ → List Parcel
+accepted s q k = gathered (λ j. step_accepts (after s j)) q k
+
+-- what they handed to a receiver of q or took from the front of q, each whole
+abbrev pub taken : State → ℕ → ℕ → List (List ℕ)
+taken s q k = gathered (λ j. step_takes (after s j)) q k
