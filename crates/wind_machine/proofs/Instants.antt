@@ -3,11 +3,12 @@ use Rattle.std.proofs.Common.{◌≡◌, ℕ, zero, suc, ◌≤◌, true, Option
 use Rattle.std.proofs.lemmas.List.Elements.{All-weaker}
 use Rattle.wind_core.specs.State.{KernState}
 use Rattle.wind_core.proofs.Lawful.{runner_may}
-use Rattle.inheritance.specs.Mutexes.{held_count}
+use Rattle.inheritance.specs.Mutexes.{both, held_count}
 use Rattle.inheritance.specs.Reach.{boss, path, is_on, pri_of}
 use Rattle.inheritance.proofs.Walk.{path_cases}
 use Rattle.inheritance.proofs.Same.{urgent_at}
 use Rattle.sem_mutex.specs.Kept.{TaskKept}
+use Rattle.sem_mutex.proofs.Lawful.{idle_law}
 use Rattle.wind_machine.specs.State.{State}
 use Rattle.wind_machine.specs.Good.{Good}
 use Rattle.wind_machine.specs.Instants.{OwnersInherit, OthersAreNormal}
@@ -40,4 +41,5 @@ instants s g = record {
   urgency = λ x e. runner_may s.world.kern g.world.kern x e;
   inheritance = owners_inherit s g;
   normal = others_normal s g;
+  raising = idle_law (both s.world.kern s.world.objects.mutexes) g.world.kern g.world.objects.mutexes;
 }

@@ -4,8 +4,8 @@ use Rattle.std.specs.List.{All}
 use Rattle.task_block.specs.declared.task.Task.{Task}
 use Rattle.wind_core.specs.Orders.{running}
 use Rattle.wind_core.specs.Laws.{MayRun}
-use Rattle.inheritance.specs.Mutexes.{held_count}
-use Rattle.inheritance.specs.Reach.{boss, reaches, pri_of}
+use Rattle.inheritance.specs.Mutexes.{both, held_count}
+use Rattle.inheritance.specs.Reach.{boss, reaches, pri_of, raised}
 use Rattle.kernel_calls.specs.State.{WorldState}
 
 -- whoever runs lives and is ready, and no ready task is before it, unless it ran last and holds the lock
@@ -20,7 +20,12 @@ OwnersInherit w = (n y x : ℕ) → reaches (boss w.kern.tasks w.objects.mutexes
 abbrev pub OthersAreNormal : WorldState → Type 0
 OthersAreNormal w = All (λ t. held_count w.objects.mutexes t.id ≡ 0 → t.pri ≡ t.normal) w.kern.tasks
 
+-- raising would change nothing: each task has the most urgent priority of itself and of all that reach it
+abbrev pub IsRaised : WorldState → Type 0
+IsRaised w = raised (both w.kern w.objects.mutexes) ≡ both w.kern w.objects.mutexes
+
 pub record IsInstant (w : WorldState) : Type 0 where
   pub urgency : MostUrgentRuns w
   pub inheritance : OwnersInherit w
   pub normal : OthersAreNormal w
+  pub raising : IsRaised w
