@@ -1,6 +1,6 @@
 #!/bin/sh
-# Plays each session of this folder with PROGRAM, and compares its standard output with the file `stdout` beside it.
-# Each has to end quiet, with status 0. It prints a line for each, and ends with 1 where one differs.
+# Plays each session of this folder with PROGRAM, with the words of its file `words` if there is one, and compares its
+# standard output with the file `stdout` beside it. Each has to end quiet, with status 0. It prints a line for each, and ends with 1 where one differs.
 #
 # usage: examples/replay.sh PROGRAM
 if [ $# -ne 1 ]; then
@@ -16,7 +16,10 @@ differs=0
 for expected in "$(dirname "$0")"/*/stdout; do
     session=$(dirname "$expected")
     status=0
-    (cd "$session" && exec "$program") >"$output" || status=$?
+    words=
+    [ ! -f "$session/words" ] || words=$(cat "$session/words")
+    # shellcheck disable=SC2086 # the words of a session stand apart by blanks
+    (cd "$session" && exec "$program" $words) >"$output" || status=$?
     if [ "$status" -ne 0 ]; then
         echo "$(basename "$session"): status $status"
         differs=1

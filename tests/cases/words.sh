@@ -9,6 +9,7 @@ Options:
       --ticks <FILE>    The tick file [default: ticks.txt]
       --modules <DIR>   The folder of modules [default: .]
       --limit <N>       The most steps to make, up to 1000000000000 [default: 1000000]
+      --generate <N>    Plays a session of N generated rounds, up to 10000, and tells of it in one line [default: 0]
   -h, --help            Print help
 "
 
@@ -149,7 +150,7 @@ plays x
 refuses "unexpected argument 'x' found"
 
 # The last word is an option without its value, or another option stands in its place.
-for option in '--console <FILE>' '--ticks <FILE>' '--modules <DIR>' '--limit <N>'; do
+for option in '--console <FILE>' '--ticks <FILE>' '--modules <DIR>' '--limit <N>' '--generate <N>'; do
     long=${option% *}
     shows "$long without a value is refused"
     plays "$long"

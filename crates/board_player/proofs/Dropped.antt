@@ -4,7 +4,7 @@ use Rattle.task_block.specs.declared.task.Task.{Task}
 use Rattle.wind_lists.specs.Records.{change}
 use Rattle.wind_core.specs.State.{KernState, task_id, task_of}
 use Rattle.wind_core.specs.Moves.{unreserved, unreserve}
-use Rattle.wind_core.proofs.Keeping.{not_there}
+use Rattle.wind_lists.proofs.Places.{not_there}
 use Rattle.kernel_calls.specs.Kept.{ReservedBy}
 use Rattle.wind_machine.specs.Reserving.{unless_own, drop_others, drop_all}
 use Rattle.wind_machine.proofs.Reserving.{last_own, last_other, last_none, all_none, all_last}

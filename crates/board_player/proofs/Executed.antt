@@ -11,12 +11,14 @@ use Rattle.ppc_core.specs.Outcomes.{Outcome, Done, Trapped, Leaves}
 use Rattle.ppc_core.specs.declared.trap.Trap.{Trap}
 use Rattle.board_bus.specs.BusState.{BusState}
 use Rattle.board_bus.specs.Access.{board_meaning}
+use Rattle.isr_watch.specs.Calls.{with_level}
 use Rattle.kernel_calls.specs.State.{WorldState}
 use Rattle.kernel_calls.specs.Starting.{no_regs}
 use Rattle.wind_machine.specs.Part.{with_kern}
 use Rattle.wind_machine.specs.Processor.{bus_of, with_bus, regs_of}
 use Rattle.wind_machine.proofs.Reserving.{own_regs}
-use Rattle.board_player.specs.Running.{Ran}
+use Rattle.wind_machine.specs.Routine.{with_watch, routine_regs}
+use Rattle.board_player.specs.Running.{Ran, RoutineRan}
 
 module _ (w : WorldState) (who : ℕ) (is : IsKern w.kern) where
   -- the world with these registers of the task, and this bus
@@ -40,3 +42,23 @@ module _ (w : WorldState) (who : ℕ) (is : IsKern w.kern) where
   ran_by word r old regs bus e l =
       let same : regs_of w who ≡ old = ap (λ o. unwrap_or o no_regs) e in
       subst (λ x. Ran (exec_of board_meaning x word (bus_of w)) r who w (left_by regs bus)) (sym same) (by_outcome (exec_of board_meaning old word (bus_of w)) r old regs bus e l)
+
+-- ---- what one of an interrupt routine leaves
+module _ (w : WorldState) where
+  -- the world with these registers of the routine, and this bus
+  abbrev routine_left : Regs → BusState → WorldState
+  routine_left regs bus = with_bus (with_watch w (with_level w.watch regs)) bus
+
+  same_routine : (old : Regs) → w.watch.level ≡ Some old → routine_left old (bus_of w) ≡ w
+  same_routine old e = ap (λ o. record w { watch = record w.watch { level = o } }) (sym e)
+
+  by_routine : (o : Outcome BusState) (r : Result (Unit {0}) Trap) (old regs : Regs) (bus : BusState) → w.watch.level ≡ Some old → Leaves o old (bus_of w) regs bus r → RoutineRan o r w (routine_left regs bus)
+  by_routine (Done after b) r old regs bus e l = (l.0, ap (λ x. routine_left x bus) l.1 ∙ ap (routine_left after) l.2)
+  by_routine (Trapped trap) r old regs bus e l = (l.0, ap (λ x. routine_left x bus) l.1 ∙ ap (routine_left old) l.2 ∙ same_routine old e)
+
+  pub routine_ran : (word : ℕ) (r : Result (Unit {0}) Trap) (old regs : Regs) (bus : BusState) → w.watch.level ≡ Some old
+      → Leaves (exec_of board_meaning old word (bus_of w)) old (bus_of w) regs bus r
+      → RoutineRan (exec_of board_meaning (routine_regs w) word (bus_of w)) r w (routine_left regs bus)
+  routine_ran word r old regs bus e l =
+      let same : routine_regs w ≡ old = ap (λ o. unwrap_or o no_regs) e in
+      subst (λ x. RoutineRan (exec_of board_meaning x word (bus_of w)) r w (routine_left regs bus)) (sym same) (by_routine (exec_of board_meaning old word (bus_of w)) r old regs bus e l)

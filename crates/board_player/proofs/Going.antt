@@ -1,5 +1,5 @@
 -- Behind an instruction of a task, whoever ran runs on.
-use Rattle.std.proofs.Common.{◌≡◌, ℕ, Bool, true, false, cond, eqb, not, List, [], ◌∷◌, map, Option, None, Some, IfSome, Result, Ok, refl, sym, ap, ◌∙◌, subst}
+use Rattle.std.proofs.Common.{◌≡◌, ℕ, Bool, true, false, cond, eqb, not, List, [], ◌∷◌, map, Option, None, Some, is_some, IfSome, Result, Ok, refl, sym, ap, ◌∙◌, subst}
 use Rattle.std.specs.List.{filter, find}
 use Rattle.std.specs.Option.{option_map}
 use Rattle.std.proofs.lemmas.Option.{same_Some}
@@ -18,6 +18,7 @@ use Rattle.wind_core.proofs.Waking.{id_found}
 use Rattle.ppc_core.specs.Outcomes.{Outcome, Done, Trapped}
 use Rattle.ppc_core.specs.declared.trap.Trap.{Trap}
 use Rattle.board_bus.specs.BusState.{BusState}
+use Rattle.isr_watch.specs.State.{WatchState}
 use Rattle.kernel_calls.specs.State.{WorldState}
 use Rattle.wind_machine.specs.Reserving.{unless_own, drop_others}
 use Rattle.wind_machine.specs.Machine.{holds_back}
@@ -142,35 +143,41 @@ runs_again k x up e =
     ∙ again (last_task k.tasks k.last) (most_urgent k.tasks) x e
 
 -- ---- behind a step in which only registers change
-runs_on : (k : KernState) (r : Running) (regs : Regs) (x : Task) → Rising task_id k.tasks → running k ≡ Some x → IsRunner k r
-    → IsRunner (record (set_regs (drop_others k x.id) x.id regs) { last = Some x.id }) r
-runs_on k r regs x up e is =
+runs_on : (k : KernState) (level : Option Regs) (r : Running) (regs : Regs) (x : Task) → Rising task_id k.tasks → running k ≡ Some x → IsRunner k level r
+    → IsRunner (record (set_regs (drop_others k x.id) x.id regs) { last = Some x.id }) level r
+runs_on k level r regs x up e is =
     let on : running (record (set_regs (drop_others k x.id) x.id regs) { last = Some x.id }) ≡ Some (left x.id regs x) =
     running_left x.id regs k ∙ ap (option_map (left x.id regs)) (runs_again k x up e) in
     record {
       who = is.who ∙ ap (option_map task_id) e ∙ ap Some (sym (same_id x.id regs x)) ∙ ap (option_map task_id) (sym on);
       back = is.back ∙ ap (λ o. not (holds_back o)) e ∙ ap not (sym (same_lock x.id regs x)) ∙ ap (λ o. not (holds_back o)) (sym on);
+      idle = is.idle;
     }
 
-pub goes_on : (old new : KernState) (r : Running) (who : ℕ) → Rising task_id old.tasks → IsRunner old r → r.who ≡ Some who → OnlyStepped old new who → IsRunner new r
-goes_on old new r who up is some stepped =
+pub goes_on : (old new : KernState) (level : Option Regs) (r : Running) (who : ℕ) → Rising task_id old.tasks → IsRunner old level r → r.who ≡ Some who → OnlyStepped old new who → IsRunner new level r
+goes_on old new level r who up is some stepped =
     let x = id_found (running old) who (sym some ∙ is.who) in
-    subst (λ k. IsRunner k r) (sym stepped.1)
-    (subst (λ n. IsRunner (record (set_regs (drop_others old n) n stepped.0) { last = Some n }) r) (sym x.2) (runs_on old r stepped.0 x.0 up x.1 is))
+    subst (λ k. IsRunner k level r) (sym stepped.1)
+    (subst (λ n. IsRunner (record (set_regs (drop_others old n) n stepped.0) { last = Some n }) level r) (sym x.2) (runs_on old level r stepped.0 x.0 up x.1 is))
 
--- ---- what an instruction and its step leave of the kernel
+-- ---- what an instruction and its step leave of the kernel, and of the watchdogs
 pub only_regs : (o : Outcome BusState) (r : Result (Unit {0}) Trap) (who : ℕ) (old new : WorldState) → Ran o r who old new → r ≡ Ok tt → OnlyRegs old.kern new.kern who
 only_regs (Done regs bus) r who old new ran ok = (regs, ap (λ w. w.kern) ran.1)
 only_regs (Trapped trap) r who old new ran ok = absurd (cc)
+
+pub same_watch : (o : Outcome BusState) (r : Result (Unit {0}) Trap) (who : ℕ) (old new : WorldState) → Ran o r who old new → r ≡ Ok tt → new.watch ≡ old.watch
+same_watch (Done regs bus) r who old new ran ok = ap (λ w. w.watch) ran.1
+same_watch (Trapped trap) r who old new ran ok = absurd (cc)
 
 pub only_stepped : (k turned done new : KernState) (who : ℕ) → turned ≡ drop_others k who → OnlyRegs turned done who → new ≡ record done { last = Some who } → OnlyStepped k new who
 only_stepped k turned done new who began others ended =
     (others.0, ended ∙ ap (λ (j : KernState). record j { last = Some who }) others.1 ∙ ap (λ (j : KernState). record (set_regs j who others.0) { last = Some who }) began)
 
 -- who runs is known behind a step of whoever ran, where that was such an instruction
-pub known_on : (old new : KernState) (now : Running) (who : ℕ) (known : Option Running) (made : Result Bool NoMemory) → Rising task_id old.tasks
+pub known_on : (old new : KernState) (watch then : WatchState) (now : Running) (who : ℕ) (known : Option Running) (made : Result Bool NoMemory) → Rising task_id old.tasks → is_some watch.level ≡ false
     → now.who ≡ option_map task_id (running old) → now.is_open ≡ not (holds_back (running old)) → now.who ≡ Some who
-    → IfSome known (λ r. (r ≡ now) × (made ≡ Ok true)) → (made ≡ Ok true → OnlyStepped old new who) → IsKnown new known
-known_on old new now who None made up runner back some kept only = tt
-known_on old new now who (Some r) made up runner back some kept only =
-    subst (IsRunner new) (sym kept.0) (goes_on old new now who up (record { who = runner; back = back }) some (only kept.1))
+    → IfSome known (λ r. (r ≡ now) × (made ≡ Ok true)) → (made ≡ Ok true → OnlyStepped old new who) → (made ≡ Ok true → then ≡ watch) → IsKnown new then.level known
+known_on old new watch then now who None made up idle runner back some kept only same = tt
+known_on old new watch then now who (Some r) made up idle runner back some kept only same =
+    subst (IsRunner new then.level) (sym kept.0)
+    (goes_on old new then.level now who up (record { who = runner; back = back; idle = subst (λ (s : WatchState). is_some s.level ≡ false) (sym (same kept.1)) idle }) some (only kept.1))

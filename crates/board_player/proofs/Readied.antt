@@ -10,19 +10,19 @@ use Rattle.wind_lists.specs.Records.{change}
 use Rattle.wind_lists.proofs.Records.{found_id}
 use Rattle.wind_core.specs.State.{KernState, IsKern, Lives, task_id, task_of}
 use Rattle.wind_core.specs.Moves.{unreserved, unreserve, set_regs}
-use Rattle.wind_core.proofs.Keeping.{not_there}
+use Rattle.wind_lists.proofs.Places.{not_there}
 use Rattle.kernel_calls.specs.State.{WorldState}
 use Rattle.kernel_calls.specs.Starting.{no_regs}
 use Rattle.kernel_calls.specs.Kept.{IsWorld, IsEarly, ReservedBy, HasCounts, Within}
 use Rattle.wind_machine.specs.State.{State}
 use Rattle.wind_machine.specs.Good.{Good}
-use Rattle.wind_machine.specs.Machine.{at_turn}
+use Rattle.wind_machine.specs.Machine.{at_turn, cleared, unreserved_world}
 use Rattle.wind_machine.specs.Processor.{regs_of}
 use Rattle.wind_machine.specs.Reserving.{unless_own, drop_others, drop_all}
 use Rattle.wind_machine.proofs.Free.{own_found, turn_ready}
 use Rattle.wind_machine.proofs.Dropping.{others_advance, all_advance}
 use Rattle.wind_machine.proofs.Reserving.{regs_again}
-use Rattle.board_player.specs.Turns.{if_other, other_holder, with_regs, kept_if, kept_of, put_back, restored, without, Readies}
+use Rattle.board_player.specs.Turns.{if_other, other_holder, with_regs, kept_if, kept_of, put_back, restored, without, Readies, IsReadied}
 use Rattle.board_player.proofs.Dropped.{dropped_others, not_own}
 
 -- ---- the counters lie far below their ends
@@ -34,6 +34,7 @@ good_early s g few = record {
   safes = All-weaker (HasCounts s.steps) (λ t. t.safe < 2 ^ 60) (λ t h. omega (arith, h.1, few)) s.world.kern.tasks g.within.0;
   depths = All-weaker (λ r. r.1.depth ≤ s.steps) (λ r. r.1.depth < 2 ^ 60) (λ r h. omega (arith, h, few)) s.world.objects.mutexes g.within.1;
   names = omega (arith, g.names, few);
+  starts = omega (arith, g.starts, few);
 }
 
 within : (w : WorldState) → IsEarly w → Within (2 ^ 60 - 1) w
@@ -47,7 +48,7 @@ pub readies : (w : WorldState) (who : ℕ) → IsWorld w → IsEarly w → Readi
 readies w who kept early =
     let a = others_advance w (2 ^ 60 - 1) kept (within w early) who in
     record {
-      kept = record { kern = a.kept.kern; home = a.kept.home; objects = a.kept.objects; pool = a.kept.pool; stacks = a.kept.stacks; ram = a.kept.ram; symbols = a.kept.symbols };
+      kept = record { kern = a.kept.kern; home = a.kept.home; objects = a.kept.objects; pool = a.kept.pool; stacks = a.kept.stacks; modules = a.kept.modules; ram = a.kept.ram; symbols = a.kept.symbols; watch = a.kept.watch };
       early = record {
         sinces = early.sinces;
         ticks = early.ticks;
@@ -55,10 +56,28 @@ readies w who kept early =
         safes = All-weaker (HasCounts (2 ^ 60 - 1)) (λ t. t.safe < 2 ^ 60) (λ t h. omega (arith, h.1)) (drop_others w.kern who).tasks a.within.0;
         depths = early.depths;
         names = early.names;
+        starts = early.starts;
       };
       lives = a.lives;
       ready = turn_ready w.kern who;
       regs = ap (λ o. unwrap_or (option_map (λ t. t.regs) o) no_regs) (own_found w.kern.tasks who);
+    }
+
+-- that of an interrupt routine
+pub all_ready : (w : WorldState) → IsWorld w → IsEarly w → IsReadied (cleared (unreserved_world w))
+all_ready w kept early =
+    let a = all_advance w (2 ^ 60 - 1) kept (within w early) in
+    record {
+      kept = record { kern = a.kept.kern; home = a.kept.home; objects = a.kept.objects; pool = a.kept.pool; stacks = a.kept.stacks; modules = a.kept.modules; ram = a.kept.ram; symbols = a.kept.symbols; watch = a.kept.watch };
+      early = record {
+        sinces = early.sinces;
+        ticks = early.ticks;
+        locks = All-weaker (HasCounts (2 ^ 60 - 1)) (λ t. t.locks < 2 ^ 60) (λ t h. omega (arith, h.0)) (drop_all w.kern).tasks a.within.0;
+        safes = All-weaker (HasCounts (2 ^ 60 - 1)) (λ t. t.safe < 2 ^ 60) (λ t h. omega (arith, h.1)) (drop_all w.kern).tasks a.within.0;
+        depths = early.depths;
+        names = early.names;
+        starts = early.starts;
+      };
     }
 
 -- ---- it is given back

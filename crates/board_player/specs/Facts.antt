@@ -4,6 +4,7 @@ use mathlib.Core.HLevel.{Σ_prop_path}
 use Rattle.std.specs.Prelude.{◌≡◌, ℕ, ◌+◌, ◌≤◌, ◌<◌, true, min, List, [], ◌∷◌, length, Option, None, Some}
 use Rattle.std.proofs.Props.{props}
 use Rattle.std.specs.Coded.{Unit-prop}
+use Rattle.wind_base.specs.declared.regs.Regs.{Regs}
 use Rattle.mem_partition.specs.State.{Laid}
 use Rattle.mem_partition.specs.declared.block.Block.{Block}
 use Rattle.id_table.specs.Sides.{object_side, senders_side}
@@ -47,6 +48,6 @@ IsServable-prop size asks t place q s u =
     (one_ask (ask_of asks t.id) s.ask u.ask s.own u.own))
 
 -- who runs is known in one way
-pub IsKnown-prop : (k : KernState) (known : Option Running) → IsProp (IsKnown k known)
-IsKnown-prop k None = Unit-prop
-IsKnown-prop k (Some r) = let one : IsProp (IsRunner k r) = hlevel props in one
+pub IsKnown-prop : (k : KernState) (level : Option Regs) (known : Option Running) → IsProp (IsKnown k level known)
+IsKnown-prop k level None = Unit-prop
+IsKnown-prop k level (Some r) = let one : IsProp (IsRunner k level r) = hlevel props in one

@@ -1,7 +1,6 @@
 pub mod Inside
 pub mod Seen
 pub mod ShellInside
-pub mod Spaces
 pub mod Turns
 pub mod Running
 pub mod Moves

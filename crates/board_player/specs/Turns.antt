@@ -58,3 +58,8 @@ pub record Readies (old new : WorldState) (who : ℕ) : Type 0 where
   pub lives : (id : ℕ) → Lives old.kern id → Lives new.kern id
   pub ready : IsReady old.kern who → IsReady new.kern who
   pub regs : regs_of new who ≡ regs_of old who
+
+-- the facts of a world at a turn
+pub record IsReadied (w : WorldState) : Type 0 where
+  pub kept : IsWorld w
+  pub early : IsEarly w

@@ -30,11 +30,11 @@ const OUTPUT_BYTES: u32 = 3 * (CHUNK_BYTES as u32 + 1);
 #[derive(Drop)]
 pub struct Board {
     parts: Parts,
-    // who runs, where it is known from the step before
+    // which task runs, where it is known from the step before
     known: Option<Running>,
     ghost good: { Good (inside parts) } by { Prim.hlevel (props, Laid-prop, IsServable-prop) },
     ghost space: { IsSpacious parts },
-    ghost runs: { IsKnown parts.world.kern known } by { IsKnown-prop parts.world.kern known },
+    ghost runs: { IsKnown parts.world.kern parts.world.watch.level known } by { IsKnown-prop parts.world.kern parts.world.watch.level known },
 }
 
 impl Board {

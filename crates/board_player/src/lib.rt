@@ -9,6 +9,7 @@ mod order;
 mod parts;
 mod processor;
 mod reserving;
+mod routine;
 mod shell;
 mod steps;
 mod task;

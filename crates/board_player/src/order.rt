@@ -1,6 +1,6 @@
 //! The order of the next step.
 
-ghost use Rattle.std.specs.Prelude.{◌≡◌, ◌≢◌, ◌↔◌, ◌^◌, ◌<◌, true, false, Some, None, Ok, IfSome, nat_le, if◌then◌else◌, option_map, OnOk, OnErr};
+ghost use Rattle.std.specs.Prelude.{◌≡◌, ◌≢◌, ◌↔◌, ◌^◌, ◌<◌, true, false, Some, None, Ok, IfSome, nat_le, if◌then◌else◌, not, option_map, OnOk, OnErr};
 ghost use Rattle.wind_base.specs.Limits.{most_steps};
 ghost use Rattle.tick_file.specs.Laws.{IsEarly};
 ghost use Rattle.wind_core.specs.State.{Lives, task_id};
@@ -8,13 +8,14 @@ ghost use Rattle.wind_core.specs.Orders.{running as running_lem};
 ghost use Rattle.kernel_calls.specs.Objects.{IsReady};
 ghost use Rattle.wind_machine.specs.Good.{Good};
 ghost use Rattle.wind_machine.specs.Processor.{gate_under};
-ghost use Rattle.wind_machine.specs.Machine.{due_event as due_event_lem, event_of, console_is_due as console_is_due_lem, is_open as is_open_lem, next_event, shell_step, step_of, jump_to, machine_step, phase_may, gate_may, who_may, may_lack_memory};
+ghost use Rattle.wind_machine.specs.Machine.{due_event as due_event_lem, event_of, console_is_due as console_is_due_lem, is_open as is_open_lem, is_active as is_active_lem, holds_back, next_event, shell_step, step_of, jump_to, machine_step, phase_may, gate_may, who_may, may_lack_memory};
 ghost use Rattle.board_player.specs.Inside.{inside, parts_seen, IsSpacious};
 ghost use Rattle.board_player.specs.Going.{IsKnown, OnlyStepped};
 ghost use Rattle.board_player.specs.declared.Step.TheVariants as steps;
 
 use crate::Step;
 use crate::parts::Parts;
+use crate::routine::step_routine;
 use crate::steps::{arrive, come, evaluate, jump, prompt, read, run};
 use crate::task::{shell_id, waits_for_console};
 use id_table::Ident;
@@ -34,17 +35,17 @@ fn when_due(next: (u64, Event), time: u128) -> Option<Event>
     }
 }
 
-/// Who runs, and whether interrupts may come meanwhile.
+/// Which task runs, and whether interrupts may come meanwhile.
 #[derive(Clone, Copy, Debug, PartialEq, Eq)]
 pub struct Running {
     who: Option<Ident>,
     is_open: bool,
 }
 
-// Who runs, which is asked where it is not known.
+// Which task runs, which is asked where it is not known.
 fn asked(parts: &Parts) -> Running
     ensures who { result.who ≡ option_map task_id (running_lem parts.now.world.kern) }
-    ensures open { result.is_open ≡ is_open_lem (parts_seen ⟦<dyn Device as Device>⟧ parts.now) }
+    ensures back { result.is_open ≡ not (holds_back (running_lem parts.now.world.kern)) }
 {
     match parts.world.kern.running() {
         Some(task) => Running {
@@ -58,11 +59,11 @@ fn asked(parts: &Parts) -> Running
     }
 }
 
-// Who runs, as it is known from the step before, or as it is asked.
+// Which task runs, as it is known from the step before, or as it is asked.
 fn who_runs(parts: &Parts, known: Option<Running>) -> Running
-    requires { IsKnown parts.now.world.kern known }
+    requires { IsKnown parts.now.world.kern parts.now.world.watch.level known }
     ensures who { result.who ≡ option_map task_id (running_lem parts.now.world.kern) }
-    ensures open { result.is_open ≡ is_open_lem (parts_seen ⟦<dyn Device as Device>⟧ parts.now) }
+    ensures back { result.is_open ≡ not (holds_back (running_lem parts.now.world.kern)) }
 {
     match known {
         Some(now) => now,
@@ -138,6 +139,7 @@ fn run_task(parts: &mut Parts, who: Ident) -> Result<bool, NoMemory>
     ensures err { OnErr result (parts_seen ⟦<dyn Device as Device>⟧ parts.new
         ≡ parts_seen ⟦<dyn Device as Device>⟧ parts.old) }
     ensures only { result ≡ Ok true → OnlyStepped parts.old.world.kern parts.new.world.kern who }
+    ensures watch { result ≡ Ok true → parts.new.world.watch ≡ parts.old.world.watch }
     ensures space { IsSpacious parts.new }
 {
     if who == shell_id() {
@@ -214,13 +216,15 @@ pub(crate) fn is_early(parts: &Parts)
     }
 }
 
-/// Makes the next step, if there is one. For want of memory nothing changes. Who runs is kept where it is known.
-#[tactic(auto, unfolding(wind_machine::specs::Machine::machine_step))]
-pub(crate) fn make_step(parts: &mut Parts, known: &mut Option<Running>) -> Step
+// Makes the next step, if there is one, where no interrupt routine is active. For want of memory nothing changes. Who
+// runs is kept where it is known.
+#[tactic(auto, unfolding(wind_machine::specs::Machine::machine_step), using(crate::proofs::Running::opens))]
+fn step_tasks(parts: &mut Parts, known: &mut Option<Running>) -> Step
+    requires idle { is_active_lem (parts_seen ⟦<dyn Device as Device>⟧ parts.old).world ≡ false }
     requires good { Good (inside parts.old) }
     requires few { parts.old.clock.steps < most_steps }
     requires space { IsSpacious parts.old }
-    requires known { IsKnown parts.old.world.kern known.old }
+    requires known { IsKnown parts.old.world.kern parts.old.world.watch.level known.old }
     ensures stepped { result ≡ steps.Stepped → machine_step (parts_seen ⟦<dyn Device as Device>⟧ parts.old)
         ≡ Some (parts_seen ⟦<dyn Device as Device>⟧ parts.new) }
     ensures quiet { (result ≡ steps.Quiet) ↔ (machine_step (parts_seen ⟦<dyn Device as Device>⟧ parts.old) ≡ None) }
@@ -229,7 +233,7 @@ pub(crate) fn make_step(parts: &mut Parts, known: &mut Option<Running>) -> Step
     ensures unchanged { result ≢ steps.Stepped → parts_seen ⟦<dyn Device as Device>⟧ parts.new
         ≡ parts_seen ⟦<dyn Device as Device>⟧ parts.old }
     ensures space { IsSpacious parts.new }
-    ensures known { IsKnown parts.new.world.kern known.new }
+    ensures known { IsKnown parts.new.world.kern parts.new.world.watch.level known.new }
 {
     let now = who_runs(parts, known.take());
     if let Some(event) = due_event(parts, now.is_open) {
@@ -246,4 +250,40 @@ pub(crate) fn make_step(parts: &mut Parts, known: &mut Option<Running>) -> Step
     let made = run_task(parts, who);
     *known = runs_on(now, made);
     step_of_result(made)
+}
+
+// Whether an interrupt routine is active. Where it is known which task runs, none is.
+fn is_active(parts: &Parts, known: &Option<Running>) -> bool
+    requires { IsKnown parts.now.world.kern parts.now.world.watch.level known.now }
+    ensures { result ≡ is_active_lem (parts_seen ⟦<dyn Device as Device>⟧ parts.now).world }
+{
+    match known {
+        Some(_) => false,
+        None => parts.world.watch.active(),
+    }
+}
+
+/// Makes the next step, if there is one. For want of memory nothing changes. Which task runs is kept where it is known.
+#[tactic(auto, using(crate::proofs::Running::routine_runs))]
+pub(crate) fn make_step(parts: &mut Parts, known: &mut Option<Running>) -> Step
+    requires good { Good (inside parts.old) }
+    requires few { parts.old.clock.steps < most_steps }
+    requires space { IsSpacious parts.old }
+    requires known { IsKnown parts.old.world.kern parts.old.world.watch.level known.old }
+    ensures stepped { result ≡ steps.Stepped → machine_step (parts_seen ⟦<dyn Device as Device>⟧ parts.old)
+        ≡ Some (parts_seen ⟦<dyn Device as Device>⟧ parts.new) }
+    ensures quiet { (result ≡ steps.Quiet) ↔ (machine_step (parts_seen ⟦<dyn Device as Device>⟧ parts.old) ≡ None) }
+    ensures no_memory { result ≡ steps.NoMemory → may_lack_memory (parts_seen ⟦<dyn Device as Device>⟧ parts.old)
+        ≡ true }
+    ensures unchanged { result ≢ steps.Stepped → parts_seen ⟦<dyn Device as Device>⟧ parts.new
+        ≡ parts_seen ⟦<dyn Device as Device>⟧ parts.old }
+    ensures space { IsSpacious parts.new }
+    ensures known { IsKnown parts.new.world.kern parts.new.world.watch.level known.new }
+{
+    if is_active(parts, known) {
+        step_routine(parts);
+        *known = None;
+        return Step::Stepped;
+    }
+    step_tasks(parts, known)
 }

@@ -197,6 +197,7 @@ pub(crate) fn execute(shell: &mut Shell, world: &mut World, who: Ident, at: u32)
         ≡ word_part (fetched (bus_of (world_seen ⟦<dyn Device as Device>⟧ world.old)) at) shell.old
         (world_seen ⟦<dyn Device as Device>⟧ world.old) who }
     ensures registers { result ≡ true → OnlyRegs world.old.kern world.new.kern who }
+    ensures watch { result ≡ true → world.new.watch ≡ world.old.watch }
     ensures space { KeepsSpace world.old.out world.new.out }
 {
     let Some(word) = world.bus.fetch(at) else {

@@ -14,7 +14,7 @@ ghost use Rattle.shell_eval.specs.Ran.{is_call};
 ghost use Rattle.shell_eval.specs.Inside.{room_of};
 ghost use Rattle.kernel_calls.specs.Seen.{world_seen};
 ghost use Rattle.board_player.specs.ShellInside.{trees_of, holes_of, IsBlank};
-ghost use Rattle.board_player.specs.Spaces.{SpaceGrows};
+ghost use Rattle.kernel_calls.specs.Space.{HoldsSpace};
 ghost use Rattle.wind_machine.specs.Part.{part_of};
 ghost use Rattle.wind_machine.specs.declared.phase.Phase.TheVariants as phases;
 ghost use Rattle.wind_machine.specs.Shell.{at_prompt, prompted, is_nothing as is_nothing_lem, begun_tree, begun, shell_read, read_text, shell_with, fill_first, returned, eval_state, with_eval, eval_part};
@@ -165,7 +165,7 @@ impl Shell {
         ensures err { OnErr result (self.new ≡ self.old) }
         ensures unchanged { OnErr result (world_seen ⟦<dyn Device as Device>⟧ world.new
             ≡ world_seen ⟦<dyn Device as Device>⟧ world.old) }
-        ensures space { SpaceGrows world.old.out world.new.out }
+        ensures space { HoldsSpace world.old.out world.new.out }
     {
         begin_first(alloc, &mut self.current, &mut self.stmts)?;
         let Some(eval) = &mut self.current else {
@@ -290,7 +290,7 @@ fn go(eval: &mut Eval, world: &mut World) -> Result<Went, NoMemory>
     ensures kern { world.new.kern ≡ world.old.kern }
     ensures ram { length world.new.bus.ram ≡ length world.old.bus.ram }
     ensures room { OnOk result (kept_free ≤ world.new.out.room) }
-    ensures space { SpaceGrows world.old.out world.new.out }
+    ensures space { HoldsSpace world.old.out world.new.out }
 {
     let mut env = Env {
         syms: &mut world.syms,

@@ -1,6 +1,6 @@
 //! The steps of the wind machine.
 
-ghost use Rattle.std.specs.Prelude.{◌≡◌, ◌+◌, ◌^◌, ◌<◌, ◌≤◌, true, Some, None, Ok, length, take, OnOk, OnErr};
+ghost use Rattle.std.specs.Prelude.{◌≡◌, ◌+◌, ◌^◌, ◌<◌, ◌≤◌, true, false, Some, None, Ok, length, take, OnOk, OnErr};
 ghost use Rattle.wind_base.specs.Limits.{most_steps, longest_line, longest_chunk, gates_start};
 ghost use Rattle.con_line.specs.Lines.{front_line};
 ghost use Rattle.wind_core.specs.State.{Lives};
@@ -9,7 +9,7 @@ ghost use Rattle.wind_machine.specs.Good.{Good};
 ghost use Rattle.wind_base.specs.Gates.{gate_at};
 ghost use Rattle.kernel_calls.specs.Calls.{may_lack_memory};
 ghost use Rattle.wind_machine.specs.Processor.{gate_under, regs_of};
-ghost use Rattle.wind_machine.specs.Machine.{prompt_step, read_step, eval_step, task_step, arrival, gate_may, ticked, received};
+ghost use Rattle.wind_machine.specs.Machine.{prompt_step, read_step, eval_step, task_step, is_active, arrival, gate_may, ticked, received};
 ghost use Rattle.wind_machine.specs.declared.phase.Phase.TheVariants as phases;
 ghost use Rattle.board_player.specs.Inside.{inside, parts_seen, IsSpacious};
 ghost use Rattle.board_player.specs.Going.{OnlyStepped};
@@ -20,6 +20,7 @@ use crate::feed::{brought, chunk_len};
 use crate::parts::Parts;
 use crate::processor::{at_gate, counter, execute};
 use crate::reserving::drop_all;
+use crate::routine::INTERRUPT_TOP;
 use crate::task::{listen, shell_id};
 use crate::turn::{begin, give_back, turn};
 use con_line::{Console, LINE_ROOM};
@@ -136,6 +137,7 @@ fn run_word(parts: &mut Parts, who: Ident, at: u32) -> bool
     ensures step { parts_seen ⟦<dyn Device as Device>⟧ parts.new
         ≡ task_step (parts_seen ⟦<dyn Device as Device>⟧ parts.old) who }
     ensures only { result ≡ true → OnlyStepped parts.old.world.kern parts.new.world.kern who }
+    ensures watch { result ≡ true → parts.new.world.watch ≡ parts.old.world.watch }
     ensures space { IsSpacious parts.new }
 {
     turn(&mut parts.world, who);
@@ -192,6 +194,7 @@ pub(crate) fn run(parts: &mut Parts, who: Ident) -> Result<bool, NoMemory>
     ensures err { OnErr result (parts_seen ⟦<dyn Device as Device>⟧ parts.new
         ≡ parts_seen ⟦<dyn Device as Device>⟧ parts.old) }
     ensures only { result ≡ Ok true → OnlyStepped parts.old.world.kern parts.new.world.kern who }
+    ensures watch { result ≡ Ok true → parts.new.world.watch ≡ parts.old.world.watch }
     ensures space { IsSpacious parts.new }
 {
     let at = counter(&parts.world, who);
@@ -245,6 +248,7 @@ fn hear_bytes(parts: &mut Parts, len: usize, is_unended: bool)
 fn tick(parts: &mut Parts)
     requires since { parts.old.world.kern.next_since < 2 ^ 63 }
     requires tick { parts.old.world.kern.tick < 2 ^ 63 }
+    requires idle { is_active (parts_seen ⟦<dyn Device as Device>⟧ parts.old).world ≡ false }
     requires few { parts.old.clock.steps < most_steps }
     requires space { IsSpacious parts.old }
     ensures step { parts_seen ⟦<dyn Device as Device>⟧ parts.new
@@ -253,6 +257,8 @@ fn tick(parts: &mut Parts)
 {
     parts.world.out.clear();
     parts.world.kern.tick();
+    let now = parts.world.kern.ticks();
+    parts.world.watch.due(now, INTERRUPT_TOP);
     parts.clock.event();
 }
 
@@ -274,6 +280,7 @@ fn receive(parts: &mut Parts, n: u32)
 /// The event that is due comes.
 #[tactic(auto, using(crate::proofs::Readied::all_live))]
 pub(crate) fn come(parts: &mut Parts, event: Event)
+    requires idle { is_active (parts_seen ⟦<dyn Device as Device>⟧ parts.old).world ≡ false }
     requires good { Good (inside parts.old) }
     requires few { parts.old.clock.steps < most_steps }
     requires space { IsSpacious parts.old }

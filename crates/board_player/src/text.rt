@@ -2,7 +2,7 @@
 
 ghost use Rattle.std.specs.Prelude.{◌≡◌, ◌+◌, ◌*◌, ◌≤◌, length};
 ghost use Rattle.wind_base.specs.OutBuf.{Added};
-ghost use Rattle.wind_machine.specs.Text.{character_text, value_text, syntax_text, last_digits, eight_digits, fault_text, kind_text as kind_text_lem, cause_text, place_text, exception_text};
+ghost use Rattle.wind_machine.specs.Text.{character_text, value_text, syntax_text, last_digits, eight_digits, fault_text, kind_text as kind_text_lem, cause_text, place_text, exception_text, level_text, routine_text};
 ghost use Rattle.shell_eval.specs.declared.fault.EvalFault.TheVariants as faults;
 
 use ppc_core::Trap;
@@ -112,15 +112,16 @@ fn kind_text(trap: Trap) -> &'static [u8]
     }
 }
 
-// Adds an end of line, and what kind of exception a task of this name has caused.
-fn add_cause(out: &mut OutBuf, trap: Trap, name: &ShortName)
-    requires { 60 ≤ out.old.room }
+// Adds an end of line, and what kind of exception a context of this name has caused.
+fn add_cause(out: &mut OutBuf, trap: Trap, name: &[u8])
+    requires room { 60 ≤ out.old.room }
+    requires short { length name.now ≤ 31 }
     ensures { Added 60 out.old out.new (cause_text trap name.now) }
 {
     add(out, b"\nexception ");
     add(out, kind_text(trap));
     add(out, b" in ");
-    add(out, name.bytes());
+    add(out, name);
 }
 
 // Adds the id of a task, and an address, to the end of the line.
@@ -140,6 +141,25 @@ pub(crate) fn add_exception(out: &mut OutBuf, trap: Trap, name: &ShortName, id: 
     requires { 160 ≤ out.old.room }
     ensures { Added 160 out.old out.new (exception_text trap name.now id at) }
 {
-    add_cause(out, trap, name);
+    add_cause(out, trap, name.bytes());
     add_place(out, id, at);
+}
+
+// Adds an address, to the end of the line.
+fn add_level(out: &mut OutBuf, at: u32)
+    requires { 80 ≤ out.old.room }
+    ensures { Added 80 out.old out.new (level_text at) }
+{
+    add(out, b" at 0x");
+    add_eight_digits(out, at);
+    add(out, b"\n");
+}
+
+/// Adds the line that tells an exception of an interrupt routine, behind an end of line.
+pub(crate) fn add_routine_exception(out: &mut OutBuf, trap: Trap, at: u32)
+    requires { 160 ≤ out.old.room }
+    ensures { Added 160 out.old out.new (routine_text trap at) }
+{
+    add_cause(out, trap, b"interrupt");
+    add_level(out, at);
 }

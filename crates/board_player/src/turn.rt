@@ -3,10 +3,10 @@
 ghost use Rattle.std.specs.Prelude.{◌≡◌, ◌+◌, [], Some, length};
 ghost use Rattle.kernel_calls.specs.Kept.{ReservedBy, IsWorld, IsEarly};
 ghost use Rattle.kernel_calls.specs.Seen.{world_seen, world_with};
-ghost use Rattle.wind_machine.specs.Machine.{at_turn};
-ghost use Rattle.board_player.specs.Turns.{kept_of as kept_of_lem, put_back as put_back_lem, restored, Readies};
+ghost use Rattle.wind_machine.specs.Machine.{at_turn, cleared, unreserved_world};
+ghost use Rattle.board_player.specs.Turns.{kept_of as kept_of_lem, put_back as put_back_lem, restored, Readies, IsReadied};
 
-use crate::reserving::{drop_others, other_holder};
+use crate::reserving::{drop_all, drop_others, other_holder};
 use id_table::Ident;
 use kernel_calls::World;
 use std::mem::swap;
@@ -27,6 +27,23 @@ pub(crate) fn turn(world: &mut World, who: Ident)
     ensures room { world.new.out.room ≡ world.old.out.room + length world.old.out.bytes }
 {
     drop_others(&mut world.kern, who);
+    world.out.clear();
+}
+
+/// The turn of an interrupt routine begins: nothing is written yet, and no task has a reservation.
+#[tactic(auto, using(crate::proofs::Readied::all_ready))]
+pub(crate) fn routine_turn(world: &mut World)
+    requires reserved { ReservedBy world.old.kern.last world.old.kern }
+    requires kept { IsWorld (world_with [] world.old) }
+    requires early { IsEarly (world_with [] world.old) }
+    ensures world { world_seen ⟦<dyn Device as Device>⟧ world.new
+        ≡ cleared (unreserved_world (world_seen ⟦<dyn Device as Device>⟧ world.old)) }
+    ensures ready { IsReadied (world_with [] world.new) }
+    ensures watch { world.new.watch ≡ world.old.watch }
+    ensures bytes { world.new.out.bytes ≡ [] }
+    ensures room { world.new.out.room ≡ world.old.out.room + length world.old.out.bytes }
+{
+    drop_all(&mut world.kern);
     world.out.clear();
 }
 

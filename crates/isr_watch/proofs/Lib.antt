@@ -1,3 +1,4 @@
 pub mod Writes
 pub mod Stops
 pub mod Ids
+pub mod Keeping

@@ -1,9 +1,10 @@
 -- What follows of the definitions of watchdogs alone.
-use Rattle.std.specs.Prelude.{ℕ, ◌+◌, ◌<◌, ◌≤◌}
+use Rattle.std.specs.Prelude.{◌≡◌, ℕ, ◌+◌, ◌<◌, ◌≤◌, length, None, IsSome}
 use Rattle.std.specs.List.{All}
+use Rattle.wind_base.specs.declared.regs.Regs.{Regs}
 use Rattle.isr_watch.specs.declared.watchdog.Routine.{Routine}
-use Rattle.isr_watch.specs.State.{WatchState}
-use Rattle.isr_watch.specs.Calls.{created, delete, start, cancel, due, finish}
+use Rattle.isr_watch.specs.State.{WatchState, IsWatch}
+use Rattle.isr_watch.specs.Calls.{create_refusal, created, delete, start, cancel, due, finish, with_level}
 
 -- each watchdog's id lies below this number
 abbrev pub AllBelow : ℕ → WatchState → Type 0
@@ -21,3 +22,17 @@ pub record IdsStay (n : ℕ) (s : WatchState) : Type 0 where
 
 abbrev pub IdsLaw : Type 0
 IdsLaw = (n : ℕ) (s : WatchState) → AllBelow n s → IdsStay n s
+
+-- each call keeps what is kept of watchdogs; one that is made has the next id
+pub record WatchStays (n : ℕ) (s : WatchState) : Type 0 where
+  pub creating : create_refusal (length s.watchdogs) n ≡ None → IsWatch (created s n)
+  pub deleting : (id : ℕ) → IsWatch (delete s id)
+  pub starting : (id tick delay : ℕ) (routine : Routine) → IsWatch (start s id tick delay routine)
+  pub cancelling : (id : ℕ) → IsWatch (cancel s id)
+  pub ticking : (tick top : ℕ) → IsWatch (due s tick top)
+  pub finishing : (top : ℕ) → IsWatch (finish s top)
+  -- so do the registers with which the active routine goes on
+  pub going_on : (regs : Regs) → IsSome s.level → IsWatch (with_level s regs)
+
+abbrev pub KeptLaw : Type 0
+KeptLaw = (n : ℕ) (s : WatchState) → IsWatch s → AllBelow n s → WatchStays n s

@@ -8,6 +8,6 @@ mod tests;
 mod watch;
 mod watchdog;
 
-pub use laws::ids_law;
+pub use laws::{ids_law, kept_law};
 pub use watch::Watch;
 pub use watchdog::{Routine, Timer, Watchdog};

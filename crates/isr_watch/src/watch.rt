@@ -1,6 +1,6 @@
 //! The watchdogs, and the interrupt level.
 
-ghost use Rattle.std.specs.Prelude.{◌≡◌, ◌<◌, ◌≤◌, ◌+◌, ◌^◌, ◌↔◌, false, [], length, None, Some, IsSome, is_some, IfOk, IfErr, IsOk, MatchOption};
+ghost use Rattle.std.specs.Prelude.{◌≡◌, ◌<◌, ◌≤◌, ◌+◌, ◌^◌, ◌↔◌, false, [], length, None, Some, IsSome, is_some, IfOk, IfErr, IsOk, MatchOption, option_copied};
 ghost use Rattle.std.specs.Borrow.{sem};
 ghost use Rattle.std.specs.List.{All};
 ghost use Rattle.std.specs.Option.{option_copied_mut};
@@ -202,6 +202,13 @@ impl Watch {
         ensures { result ≡ is_some self.now.level }
     {
         self.level.is_some()
+    }
+
+    /// The registers of the active routine. None where no routine is active.
+    pub fn regs(&self) -> Option<&Regs>
+        ensures { option_copied result ≡ self.now.level }
+    {
+        self.level.as_ref()
     }
 
     // The registers of the routine that is active, to be written.

@@ -1,6 +1,6 @@
 -- What a call keeps while all its tasks live on: the kept facts, and the counters within their bounds.
-use Rattle.std.proofs.Common.{◌≡◌, ℕ, ◌+◌, ◌≤◌, Bool, true, false, cond, eqb, leb, ltb, List, [], ◌∷◌, ◌++◌, length, replicate, Option, None, Some, IsSome, Result, Ok, Err, refl, sym, ◌∙◌, subst, arith}
-use Rattle.std.specs.Option.{option_or}
+use Rattle.std.proofs.Common.{◌≡◌, ℕ, ◌+◌, ◌<◌, ◌≤◌, Bool, true, false, cond, eqb, leb, ltb, List, [], ◌∷◌, ◌++◌, length, replicate, Option, None, Some, IsSome, Result, Ok, Err, refl, sym, ◌∙◌, subst, arith}
+use Rattle.std.specs.Option.{option_or, option_map}
 use Rattle.std.specs.Prelude.{◌||◌, slice_index}
 use Rattle.std.specs.List.{find}
 use Rattle.std.proofs.lemmas.Bool.{leb-false}
@@ -18,6 +18,7 @@ use Rattle.board_mem.specs.Memory.{has, with_word, with_bytes, written, string_a
 use Rattle.board_mem.proofs.Sizes.{length-with_number, length-written, length-with_range}
 use Rattle.symbol_table.specs.declared.symbol.Symbol.{Symbol}
 use Rattle.symbol_table.specs.declared.symbol.SymKind.{SymKind}
+use Rattle.module_loader.specs.declared.module.LoadedModule.{LoadedModule}
 use Rattle.mem_partition.specs.State.{PartState, alloc_of, after_alloc, free_of, after_free}
 use Rattle.mem_partition.specs.declared.block.PartErr.{PartErr}
 use Rattle.mem_partition.specs.declared.block.Class.TheVariants.{User, Kernel}
@@ -26,15 +27,16 @@ use Rattle.wind_core.specs.Moves.{new_task, spawn, spawn_refusal}
 use Rattle.wind_core.proofs.Ids.{lives_by}
 use Rattle.wind_core.proofs.Keeping.{every_call_keeps}
 use Rattle.msg_queue.specs.State.{Scene}
+use Rattle.isr_watch.specs.State.{WatchState, IsWatch}
 use Rattle.kernel_calls.specs.State.{WorldState}
 use Rattle.kernel_calls.specs.Objects.{KeepsObjects, DepthsWithin}
 use Rattle.kernel_calls.specs.Starting.{cleared, framed}
 use Rattle.kernel_calls.specs.MemoryRows.{PartRow, align_row, free_row, free_reply}
 use Rattle.kernel_calls.specs.SymbolRows.{refused_symbol, with_kind, with_name, symbol_row, kind_of_number}
 use Rattle.kernel_calls.specs.Spawning.{stack_bytes, first_pointer, started, names_after, spawned_on, spawned_at, spawned_unless, spawned_if}
-use Rattle.kernel_calls.specs.Calls.{with_reply, after_spawn, spawn_state, priority_in, with_errno}
+use Rattle.kernel_calls.specs.Calls.{with_reply, level_by, at_level, after_spawn, spawn_state, priority_in, with_errno}
 use Rattle.kernel_calls.specs.Opening.{interrupt_stack}
-use Rattle.kernel_calls.specs.Kept.{KeepsPool, task_stacks, AreStacks, IsWorld, ReservedBy, HasCounts, Within}
+use Rattle.kernel_calls.specs.Kept.{KeepsPool, KeepsLoaded, task_stacks, AreStacks, KeepsWatch, IsWorld, ReservedBy, HasCounts, Within}
 use Rattle.kernel_calls.specs.Laws.{call_sinces}
 use Rattle.kernel_calls.specs.declared.objects.Objects.{Objects}
 use Rattle.kernel_calls.specs.declared.actor.Actor.{Actor}
@@ -42,14 +44,15 @@ use Rattle.kernel_calls.specs.declared.actor.Actor.TheVariants.{Task, Interrupt}
 use Rattle.kernel_calls.specs.declared.reply.Reply.{Reply}
 use Rattle.kernel_calls.specs.declared.reply.Reply.TheVariants.{Answer, Refusal}
 use Rattle.kernel_calls.specs.declared.spawning.Wanted.{Wanted}
-use Rattle.kernel_calls.proofs.Goes.{Goes, more_counts, goes-set_errno, reserved_by}
+use Rattle.kernel_calls.proofs.Goes.{Goes, goes_nowhere, more_counts, goes-set_errno, reserved_by}
 use Rattle.kernel_calls.proofs.ObjectMoves.{objects-set_errno, objects-spawn}
-use Rattle.kernel_calls.proofs.Stacks.{pool-alloc, pool-free, stacks-alloc, stacks-free, stacks-more}
+use Rattle.kernel_calls.proofs.Stacks.{pool-alloc, pool-free, kernels-alloc, kernels-free, stacks-alloc, stacks-free, stacks-more}
+use Rattle.kernel_calls.proofs.Holding.{loaded_on, loaded_with, loaded_more}
 
 abbrev part_row : PartState → Reply → PartRow
 part_row p r = record { part = p; reply = r }
 
--- from one world to another: the kept facts hold, tasks that live live on, counts stay within n, no task has a reservation that had none, at most d order numbers and m name numbers were given out, and the tick count stood
+-- from one world to another: the kept facts hold, tasks that live live on, counts stay within n, no task has a reservation that had none, at most d order numbers, m name numbers and m numbers of a watchdog's start were given out, and the tick count stood
 pub record Advances (w v : WorldState) (n d m : ℕ) : Type 0 where
   pub kept : IsWorld v
   pub lives : (who : ℕ) → Lives w.kern who → Lives v.kern who
@@ -59,11 +62,24 @@ pub record Advances (w v : WorldState) (n d m : ℕ) : Type 0 where
   pub sinces : v.kern.next_since ≤ w.kern.next_since + d
   pub count : v.kern.tick ≡ w.kern.tick
   pub names : v.names ≤ w.names + m
+  pub starts : v.watch.next_start ≤ w.watch.next_start + m
 
 -- a bound of counts may rise
 pub within_more : (w : WorldState) (l n : ℕ) → l ≤ n → Within l w → Within n w
 within_more w l n more within =
     (more_counts w.kern l n more within.0, All-weaker (λ r. r.1.depth ≤ l) (λ r. r.1.depth ≤ n) (λ r h. omega (arith, h, more)) w.objects.mutexes within.1)
+
+-- the ids of watchdogs lie below a later id too
+pub watch_on : (m n : ℕ) (s : WatchState) → m ≤ n → KeepsWatch m s → KeepsWatch n s
+watch_on m n s more h = record { watch = h.watch; ids = All-weaker (λ v. v.id < m) (λ v. v.id < n) (λ v below. omega (arith, below, more)) s.watchdogs h.ids }
+
+-- nothing is listed where no routine is active, whatever registers the active one has
+level_is : (f : Regs → Regs) (s : WatchState) → IsWatch s → IsWatch (level_by f s)
+level_is f s is = record {
+  few = is.few;
+  rising = is.rising;
+  idle = λ none. is.idle (elim s.level as (λ o. option_map f o ≡ None → o ≡ None) [ None ↦ λ e. refl | Some r ↦ λ e. absurd (cc) ] none);
+}
 
 -- ---- one after the other
 pub advances_on : (w v u : WorldState) (l n d e m o : ℕ) → Advances w v l d m → Advances v u n e o → Advances w u n (d + e) (m + o)
@@ -76,6 +92,7 @@ advances_on w v u l n d e m o a b = record {
   sinces = omega (arith, a.sinces, b.sinces);
   count = b.count ∙ a.count;
   names = omega (arith, a.names, b.names);
+  starts = omega (arith, a.starts, b.starts);
 }
 
 pub advances_more : (w v : WorldState) (l n d e m o : ℕ) → l ≤ n → d ≤ e → m ≤ o → Advances w v l d m → Advances w v n e o
@@ -88,14 +105,14 @@ advances_more w v l n d e m o more sinces names a = record {
   sinces = omega (arith, a.sinces, sinces);
   count = a.count;
   names = omega (arith, a.names, names);
+  starts = omega (arith, a.starts, names);
 }
 
 module _ (w : WorldState) (kept : IsWorld w) where
-  -- the same world, where what a step writes and the interrupt level are other
-  pub kept_beside : (slots : List (Option DeviceState)) (output : List ℕ) (level : Option Regs) (errno : ℕ)
-      → IsWorld (record w { slots = slots; output = output; level = level; int_errno = errno })
-  kept_beside slots output level errno =
-      record { kern = kept.kern; home = kept.home; objects = kept.objects; pool = kept.pool; stacks = kept.stacks; ram = kept.ram; symbols = kept.symbols }
+  -- the same world, where what a step writes and the error number of the interrupt level are other
+  pub kept_beside : (slots : List (Option DeviceState)) (output : List ℕ) (errno : ℕ) → IsWorld (record w { slots = slots; output = output; int_errno = errno })
+  kept_beside slots output errno =
+      record { kern = kept.kern; home = kept.home; objects = kept.objects; pool = kept.pool; stacks = kept.stacks; modules = kept.modules; ram = kept.ram; symbols = kept.symbols; watch = kept.watch }
 
   -- the tasks go, and the objects with them
   pub by_objects : (j : KernState) (o : Objects) (n d : ℕ) → Goes w.kern j n d → KeepsObjects j o → DepthsWithin n o → Advances w (record w { kern = j; objects = o }) n d 0
@@ -106,8 +123,10 @@ module _ (w : WorldState) (kept : IsWorld w) where
       objects = objects;
       pool = kept.pool;
       stacks = subst (λ s. AreStacks w.part (interrupt_stack ∷ s)) (sym g.stacks) kept.stacks;
+      modules = loaded_on w.kern w.part w.modules kept.modules j g.next g.stacks;
       ram = kept.ram;
       symbols = kept.symbols;
+      watch = watch_on w.kern.next_id j.next_id w.watch g.next kept.watch;
     };
     lives = λ who h. lives_by j.tasks w.kern.tasks who g.alone h;
     within = (g.counts, depths);
@@ -116,6 +135,7 @@ module _ (w : WorldState) (kept : IsWorld w) where
     sinces = g.sinces;
     count = g.count;
     names = omega arith;
+    starts = omega arith;
   }
 
   pub by_kern : (j : KernState) (n d : ℕ) → Goes w.kern j n d → KeepsObjects j w.objects → DepthsWithin n w.objects → Advances w (record w { kern = j }) n d 0
@@ -126,10 +146,9 @@ module _ (w : WorldState) (kept : IsWorld w) where
     more = within_more w n (n + 1) (omega arith) within
 
     -- nothing is touched but what is no matter of the kept facts
-    pub beside : (slots : List (Option DeviceState)) (output : List ℕ) (level : Option Regs) (errno : ℕ)
-        → Advances w (record w { slots = slots; output = output; level = level; int_errno = errno }) n 0 0
-    beside slots output level errno = record {
-      kept = kept_beside slots output level errno;
+    pub beside : (slots : List (Option DeviceState)) (output : List ℕ) (errno : ℕ) → Advances w (record w { slots = slots; output = output; int_errno = errno }) n 0 0
+    beside slots output errno = record {
+      kept = kept_beside slots output errno;
       lives = λ who h. h;
       within = within;
       last = refl;
@@ -137,10 +156,44 @@ module _ (w : WorldState) (kept : IsWorld w) where
       sinces = omega arith;
       count = refl;
       names = omega arith;
+      starts = omega arith;
     }
 
     pub stays : Advances w w n 0 0
-    stays = beside w.slots w.output w.level w.int_errno
+    stays = beside w.slots w.output w.int_errno
+
+    -- the watchdogs go, and what has become of the next id with them
+    pub of_watches : (j : KernState) (s : WatchState) (m : ℕ) → Goes w.kern j n 0 → KeepsObjects j w.objects → KeepsWatch j.next_id s → s.next_start ≤ w.watch.next_start + m
+        → Advances w (record w { kern = j; watch = s }) n 0 m
+    of_watches j s m g objects watch starts =
+        let moved = by_kern j n 0 g objects within.1 in
+        record {
+          kept = record {
+            kern = moved.kept.kern;
+            home = moved.kept.home;
+            objects = moved.kept.objects;
+            pool = moved.kept.pool;
+            stacks = moved.kept.stacks;
+            modules = moved.kept.modules;
+            ram = moved.kept.ram;
+            symbols = moved.kept.symbols;
+            watch = watch;
+          };
+          lives = moved.lives;
+          within = moved.within;
+          last = moved.last;
+          reserves = moved.reserves;
+          sinces = moved.sinces;
+          count = moved.count;
+          names = omega arith;
+          starts = starts;
+        }
+
+    -- the active routine's registers are others
+    pub at_routine : (f : Regs → Regs) → Advances w (at_level w f) n 0 0
+    at_routine f =
+        of_watches w.kern (level_by f w.watch) 0 (goes_nowhere w.kern n kept.kern within.0) kept.objects
+        (record { watch = level_is f w.watch kept.watch.watch; ids = kept.watch.ids }) (omega arith)
 
     pub nowhere : Advances w w (n + 1) call_sinces 1
     nowhere = advances_more w w n (n + 1) 0 call_sinces 0 1 (omega arith) (omega arith) (omega arith) stays
@@ -167,8 +220,10 @@ module _ (w : WorldState) (kept : IsWorld w) where
             objects = both.kept.objects;
             pool = both.kept.pool;
             stacks = both.kept.stacks;
+            modules = both.kept.modules;
             ram = size ∙ kept.ram;
             symbols = kept.symbols;
+            watch = both.kept.watch;
           };
           lives = both.lives;
           within = both.within;
@@ -177,11 +232,12 @@ module _ (w : WorldState) (kept : IsWorld w) where
           sinces = both.sinces;
           count = both.count;
           names = both.names;
+          starts = both.starts;
         }
 
-    pub of_blocks : (p : PartState) → KeepsPool p → AreStacks p (interrupt_stack ∷ task_stacks w.kern) → Advances w (record w { part = p }) (n + 1) call_sinces 1
-    of_blocks p pool stacks = record {
-      kept = record { kern = kept.kern; home = kept.home; objects = kept.objects; pool = pool; stacks = stacks; ram = kept.ram; symbols = kept.symbols };
+    pub of_blocks : (p : PartState) → KeepsPool p → AreStacks p (interrupt_stack ∷ task_stacks w.kern) → KeepsLoaded w.kern p w.modules → Advances w (record w { part = p }) (n + 1) call_sinces 1
+    of_blocks p pool stacks modules = record {
+      kept = record { kern = kept.kern; home = kept.home; objects = kept.objects; pool = pool; stacks = stacks; modules = modules; ram = kept.ram; symbols = kept.symbols; watch = kept.watch };
       lives = λ who h. h;
       within = more;
       last = refl;
@@ -189,11 +245,12 @@ module _ (w : WorldState) (kept : IsWorld w) where
       sinces = omega arith;
       count = refl;
       names = omega arith;
+      starts = omega arith;
     }
 
     pub of_list : (ss : List Symbol) → length ss ≤ most_symbols → Advances w (record w { symbols = ss }) (n + 1) call_sinces 1
     of_list ss few = record {
-      kept = record { kern = kept.kern; home = kept.home; objects = kept.objects; pool = kept.pool; stacks = kept.stacks; ram = kept.ram; symbols = few };
+      kept = record { kern = kept.kern; home = kept.home; objects = kept.objects; pool = kept.pool; stacks = kept.stacks; modules = kept.modules; ram = kept.ram; symbols = few; watch = kept.watch };
       lives = λ who h. h;
       within = more;
       last = refl;
@@ -201,11 +258,27 @@ module _ (w : WorldState) (kept : IsWorld w) where
       sinces = omega arith;
       count = refl;
       names = omega arith;
+      starts = omega arith;
+    }
+
+    -- symbols, modules and blocks
+    pub of_unload : (ss : List Symbol) (ms : List (ℕ × LoadedModule)) (p : PartState) → length ss ≤ most_symbols → KeepsPool p → AreStacks p (interrupt_stack ∷ task_stacks w.kern) → KeepsLoaded w.kern p ms
+        → Advances w (record w { symbols = ss; modules = ms; part = p }) (n + 1) call_sinces 1
+    of_unload ss ms p few pool stacks modules = record {
+      kept = record { kern = kept.kern; home = kept.home; objects = kept.objects; pool = pool; stacks = stacks; modules = modules; ram = kept.ram; symbols = few; watch = kept.watch };
+      lives = λ who h. h;
+      within = more;
+      last = refl;
+      reserves = λ who h. h;
+      sinces = omega arith;
+      count = refl;
+      names = omega arith;
+      starts = omega arith;
     }
 
     of_memory : (ram : List ℕ) → length ram ≡ length w.ram → Advances w (record w { ram = ram }) (n + 1) call_sinces 1
     of_memory ram same = record {
-      kept = record { kern = kept.kern; home = kept.home; objects = kept.objects; pool = kept.pool; stacks = kept.stacks; ram = same ∙ kept.ram; symbols = kept.symbols };
+      kept = record { kern = kept.kern; home = kept.home; objects = kept.objects; pool = kept.pool; stacks = kept.stacks; modules = kept.modules; ram = same ∙ kept.ram; symbols = kept.symbols; watch = kept.watch };
       lives = λ who h. h;
       within = more;
       last = refl;
@@ -213,17 +286,22 @@ module _ (w : WorldState) (kept : IsWorld w) where
       sinces = omega arith;
       count = refl;
       names = omega arith;
+      starts = omega arith;
     }
 
     -- ---- blocks
     pub align_advances : (align m : ℕ) → Advances w (record w { part = (align_row w.part align m).part }) (n + 1) call_sinces 1
-    align_advances align m = of_blocks (after_alloc w.part m align User) (pool-alloc w.part m align User kept.pool) (stacks-alloc w.part m align User (interrupt_stack ∷ task_stacks w.kern) kept.stacks)
+    align_advances align m =
+        of_blocks (after_alloc w.part m align User) (pool-alloc w.part m align User kept.pool) (stacks-alloc w.part m align User (interrupt_stack ∷ task_stacks w.kern) kept.stacks)
+        (loaded_with w.kern w.part w.modules kept.modules (after_alloc w.part m align User) (kernels-alloc w.part m align User))
 
     pub free_advances : (at : ℕ) → Advances w (record w { part = (free_row w.part at).part }) (n + 1) call_sinces 1
     free_advances at =
         elim (eqb at 0) as (λ b. Advances w (record w { part = (cond b (part_row w.part (Answer 0)) (part_row (after_free w.part at User) (free_reply (free_of w.part at User)))).part }) (n + 1) call_sinces 1) [
           | true ↦ nowhere
-          | false ↦ of_blocks (after_free w.part at User) (pool-free w.part at User kept.pool) (stacks-free w.part at (interrupt_stack ∷ task_stacks w.kern) kept.pool.blocks kept.stacks)
+          | false ↦
+              of_blocks (after_free w.part at User) (pool-free w.part at User kept.pool) (stacks-free w.part at (interrupt_stack ∷ task_stacks w.kern) kept.pool.blocks kept.stacks)
+              (loaded_with w.kern w.part w.modules kept.modules (after_free w.part at User) (λ a h. kernels-free w.part at a kept.pool.blocks h))
         ]
 
     -- ---- a symbol
@@ -264,7 +342,7 @@ module _ (w : WorldState) (kept : IsWorld w) where
 
     pub errno_advances : (a : Actor) (e : ℕ) → Advances w (with_errno w a e) n 0 0
     errno_advances (Task who) e = by_kern _ n 0 (goes-set_errno w.kern n kept.kern within.0 who e) (objects-set_errno w.kern w.objects kept.kern kept.objects who e) within.1
-    errno_advances Interrupt e = beside w.slots w.output w.level e
+    errno_advances Interrupt e = beside w.slots w.output e
 
     -- ---- a spawn
     framed_size : (at : ℕ) (words : List ℕ) → length (framed w.ram at words) ≡ length w.ram
@@ -302,8 +380,10 @@ module _ (w : WorldState) (kept : IsWorld w) where
             pool = pool-alloc w.part (stack_bytes s.stack) 16 Kernel kept.pool;
             stacks = subst (λ ss. AreStacks (after_alloc w.part (stack_bytes s.stack) 16 Kernel) (interrupt_stack ∷ ss)) (sym stacks)
                 (stacks-more w.part (stack_bytes s.stack) 16 at (interrupt_stack ∷ task_stacks w.kern) kept.pool.blocks ok kept.stacks);
+            modules = loaded_more w.kern w.part w.modules kept.modules (spawn w.kern task) (stack_bytes s.stack) 16 at kept.pool.blocks ok (omega arith) stacks;
             ram = framed_size (first_pointer at (stack_bytes s.stack)) s.words ∙ kept.ram;
             symbols = kept.symbols;
+            watch = watch_on w.kern.next_id (w.kern.next_id + 1) w.watch (omega arith) kept.watch;
           };
           lives = lives_more t;
           within = (All-push (HasCounts (n + 1)) w.kern.tasks t more.0 (omega arith, omega arith), more.1);
@@ -312,6 +392,7 @@ module _ (w : WorldState) (kept : IsWorld w) where
           sinces = omega arith;
           count = refl;
           names = names_few s.name;
+          starts = omega arith;
         }
 
     at_advances : (s : Wanted) (r : Result ℕ PartErr) → spawn_refusal w.kern ≡ None → alloc_of w.part (stack_bytes s.stack) 16 ≡ r → Advances w (after_spawn w (spawned_at (spawn_state w) s r).after) (n + 1) call_sinces 1

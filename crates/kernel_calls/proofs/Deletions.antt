@@ -45,6 +45,7 @@ module _ (w : WorldState) (kept : IsWorld w) (n : ℕ) (within : Within n w) (ca
     sinces = omega (arith, d.sinces);
     count = d.count;
     names = omega (arith, d.names);
+    starts = omega (arith, d.starts);
   }
 
   more : Within (n + 1) w

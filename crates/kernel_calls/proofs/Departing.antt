@@ -1,12 +1,14 @@
 -- What is kept where a task is taken out.
-use Rattle.std.proofs.Common.{◌≡◌, ℕ, suc, ◌+◌, ◌≤◌, true, false, not, cond, eqb, List, [], ◌∷◌, get_or, Option, Some, None, IsSome, refl, sym, ap, ◌∙◌, subst, arith}
+use Rattle.std.proofs.Common.{◌≡◌, ℕ, suc, ◌+◌, ◌<◌, ◌≤◌, true, false, not, cond, eqb, List, [], ◌∷◌, get_or, Option, Some, None, IsSome, refl, sym, ap, ◌∙◌, subst, arith}
 use Rattle.std.specs.List.{All, AllPairs}
 use Rattle.std.proofs.lemmas.Bool.{eqb-true, ne_eqb}
-use Rattle.std.proofs.lemmas.List.Elements.{All-head, All-tail, All-cons}
+use Rattle.std.proofs.lemmas.List.Elements.{All-weaker, All-head, All-tail, All-cons}
 use Rattle.std.proofs.lemmas.List.Kept.{AllPairs-cons}
 use Rattle.mem_partition.specs.State.{PartState, after_free}
 use Rattle.mem_partition.specs.declared.block.Class.TheVariants.{Kernel}
 use Rattle.task_block.specs.declared.task.Task.{Task}
+use Rattle.module_loader.specs.declared.module.LoadedModule.{LoadedModule}
+use Rattle.module_loader.specs.Holding.{held_by, occurs}
 use Rattle.wind_lists.specs.Records.{without}
 use Rattle.wind_core.specs.State.{KernState, Lives, task_id, task_of}
 use Rattle.wind_core.specs.Moves.{remove}
@@ -15,12 +17,14 @@ use Rattle.kernel_calls.specs.State.{WorldState}
 use Rattle.kernel_calls.specs.Objects.{KeepsObjects, DepthsWithin}
 use Rattle.kernel_calls.specs.Ending.{without_stack, unguarded}
 use Rattle.kernel_calls.specs.Opening.{interrupt_stack}
-use Rattle.kernel_calls.specs.Kept.{KeepsPool, IsKernels, AreStacks, IsWorld, Within, ReservedBy}
+use Rattle.kernel_calls.specs.Kept.{KeepsPool, IsKernels, AreStacks, KeepsLoaded, task_stacks, IsWorld, Within, ReservedBy}
 use Rattle.kernel_calls.specs.Laws.{EndLaw}
+use Rattle.kernel_calls.proofs.Advancing.{watch_on}
 use Rattle.kernel_calls.proofs.SafetyGoes.{Leaves, ended_leaves}
 use Rattle.kernel_calls.proofs.Stacks.{pool-free, kernels-other}
 use Rattle.kernel_calls.proofs.Taking.{stacks}
 use Rattle.kernel_calls.proofs.Deleting.{objects-ended}
+use Rattle.kernel_calls.proofs.Holding.{IsNoModules, loaded_on}
 
 -- what holds of each stack holds of fewer
 fewer : (P : ℕ → Type 0) (ts : List Task) (who : ℕ) → All P (stacks ts) → All P (stacks (without task_id ts who))
@@ -116,6 +120,27 @@ stacks_left p ts who (Some t) e s =
       apart = AllPairs-cons (λ x y. x ≡ y → ⊥) interrupt_stack (stacks (without task_id ts who)) (fewer (λ b. interrupt_stack ≡ b → ⊥) ts who above) (fewer_differ ts who pairs);
     }
 
+-- the modules' blocks stay where the stack of a task goes
+loaded_left : (k : KernState) (p : PartState) (ms : List (ℕ × LoadedModule)) → KeepsLoaded k p ms → (who : ℕ) (o : Option Task) → task_of k.tasks who ≡ o → (j : KernState) → k.next_id ≤ j.next_id
+    → task_stacks j ≡ stacks (without task_id k.tasks who) → KeepsLoaded j (without_stack p o) ms
+loaded_left k p ms kept who o e j more same = record {
+  few = kept.few;
+  rising = kept.rising;
+  below = All-weaker (λ r. r.0 < k.next_id) (λ r. r.0 < j.next_id) (λ r h. omega (arith, h, more)) ms kept.below;
+  held = record { blocks = λ a some. stays o e a some (kept.held.blocks a some); distinct = kept.held.distinct };
+  apart = subst (λ s. All (IsNoModules ms) (interrupt_stack ∷ s)) (sym same)
+      (All-cons (IsNoModules ms) interrupt_stack (stacks (without task_id k.tasks who)) (All-head (IsNoModules ms) interrupt_stack (stacks k.tasks) kept.apart) (fewer (IsNoModules ms) k.tasks who others));
+}
+  where
+    others : All (IsNoModules ms) (stacks k.tasks)
+    others = All-tail (IsNoModules ms) interrupt_stack (stacks k.tasks) kept.apart
+
+    stays : (q : Option Task) → task_of k.tasks who ≡ q → (a : ℕ) → 0 < occurs a (held_by ms) → IsKernels p a → IsKernels (without_stack p q) a
+    stays None found a some h = h
+    stays (Some t) found a some h =
+        let none : IsNoModules ms t.stack = of_found (IsNoModules ms) k.tasks who t others found in
+        kernels-other p t.stack a (λ is. (let zero : IsNoModules ms a = subst (IsNoModules ms) (sym is) none in omega (arith, some, zero))) h
+
 pool_left : (p : PartState) (o : Option Task) → KeepsPool p → KeepsPool (without_stack p o)
 pool_left p None k = k
 pool_left p (Some t) k = pool-free p t.stack Kernel k
@@ -130,6 +155,7 @@ pub record Departs (w v : WorldState) (who n d : ℕ) : Type 0 where
   pub sinces : v.kern.next_since ≤ w.kern.next_since + d
   pub count : v.kern.tick ≡ w.kern.tick
   pub names : v.names ≡ w.names
+  pub starts : v.watch.next_start ≡ w.watch.next_start
 
 -- the world after that: the task's stack goes back
 abbrev pub parted : WorldState → KernState → ℕ → WorldState
@@ -145,8 +171,10 @@ departs w j who n d kept l objects depths =
         objects = objects;
         pool = pool_left w.part (task_of w.kern.tasks who) kept.pool;
         stacks = subst (λ s. AreStacks part (interrupt_stack ∷ s)) (sym l.stacks) (stacks_left w.part w.kern.tasks who (task_of w.kern.tasks who) refl kept.stacks);
+        modules = loaded_left w.kern w.part w.modules kept.modules who (task_of w.kern.tasks who) refl j l.next l.stacks;
         ram = kept.ram;
         symbols = kept.symbols;
+        watch = watch_on w.kern.next_id j.next_id w.watch l.next kept.watch;
       };
       lives = λ id differ live. lives_by j.tasks (without task_id w.kern.tasks who) id l.alone (others_live w.kern.tasks who id differ live);
       within = (l.counts, depths);
@@ -155,10 +183,11 @@ departs w j who n d kept l objects depths =
       sinces = l.sinces;
       count = l.count;
       names = refl;
+      starts = refl;
     }
 
 pub ends : EndLaw
 ends w who n kept within =
     let j : KernState = remove (unguarded w.kern who) who in
     let d = departs w j who n 256 kept (ended_leaves w.kern n kept.kern within.0 who) (objects-ended w.kern w.objects kept.kern kept.objects who) within.1 in
-    record { kept = d.kept; lives = d.lives; within = d.within; reserves = d.reserves; sinces = omega (arith, d.sinces); count = d.count; names = d.names }
+    record { kept = d.kept; lives = d.lives; within = d.within; reserves = d.reserves; sinces = omega (arith, d.sinces); count = d.count; names = d.names; starts = d.starts }

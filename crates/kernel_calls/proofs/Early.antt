@@ -38,5 +38,6 @@ left_early w (ATask who) e = record {
   safes = All-change (λ t. t.safe < 2 ^ 60) w.kern.tasks who past_gate (λ t h. h) e.safes;
   depths = e.depths;
   names = e.names;
+  starts = e.starts;
 }
-left_early w Interrupt e = record { sinces = e.sinces; ticks = e.ticks; locks = e.locks; safes = e.safes; depths = e.depths; names = e.names }
+left_early w Interrupt e = record { sinces = e.sinces; ticks = e.ticks; locks = e.locks; safes = e.safes; depths = e.depths; names = e.names; starts = e.starts }

@@ -19,13 +19,14 @@ use Rattle.wind_core.proofs.Waking.{length-waiters}
 use Rattle.task_safety.specs.Safety.{deletion, safe_of, make_safe, lessen}
 use Rattle.inheritance.specs.declared.mutex.Mutex.{Mutex}
 use Rattle.inheritance.specs.Reach.{lifted, repried, raised_kern}
+use Rattle.msg_queue.proofs.Calm.{next-move}
 use Rattle.kernel_calls.specs.Kept.{task_stacks, HasCounts, CountsWithin}
 
 -- the reservations of tasks
 abbrev pub reservations : List Task → List (Option ℕ)
 reservations ts = map (λ t. t.regs.reserve) ts
 
--- from k to j: the kept facts hold, the same tasks live on the same stacks, the ids are where they were, the counts of locks and safe sections stay within n, at most d order numbers were given out, and the tick count stood
+-- from k to j: the kept facts hold, the same tasks live on the same stacks, the ids are where they were, the counts of locks and safe sections stay within n, at most d order numbers were given out, ids rose, and the tick count stood
 pub record Goes (k j : KernState) (n d : ℕ) : Type 0 where
   pub kern : IsKern j
   pub alone : ids j.tasks ≡ ids k.tasks
@@ -35,10 +36,11 @@ pub record Goes (k j : KernState) (n d : ℕ) : Type 0 where
   pub reserves : reservations j.tasks ≡ reservations k.tasks
   pub counts : CountsWithin n j
   pub sinces : j.next_since ≤ k.next_since + d
+  pub next : k.next_id ≤ j.next_id
   pub count : j.tick ≡ k.tick
 
 pub goes_nowhere : (k : KernState) (n : ℕ) → IsKern k → CountsWithin n k → Goes k k n 0
-goes_nowhere k n is within = record { kern = is; alone = refl; stacks = refl; lent = refl; last = refl; reserves = refl; counts = within; sinces = omega arith; count = refl }
+goes_nowhere k n is within = record { kern = is; alone = refl; stacks = refl; lent = refl; last = refl; reserves = refl; counts = within; sinces = omega arith; next = omega arith; count = refl }
 
 pub goes_on : (k j i : KernState) (m n d e : ℕ) → Goes k j m d → Goes j i n e → Goes k i n (d + e)
 goes_on k j i m n d e a b = record {
@@ -50,6 +52,7 @@ goes_on k j i m n d e a b = record {
   reserves = b.reserves ∙ a.reserves;
   counts = b.counts;
   sinces = omega (arith, a.sinces, b.sinces);
+  next = omega (arith, a.next, b.next);
   count = b.count ∙ a.count;
 }
 
@@ -67,6 +70,7 @@ goes_further k j m n d e more longer g = record {
   reserves = g.reserves;
   counts = more_counts j m n more g.counts;
   sinces = omega (arith, g.sinces, longer);
+  next = g.next;
   count = g.count;
 }
 
@@ -82,6 +86,7 @@ by_change k who n f is id stack reserve counts within = record {
   reserves = map-change (λ t. t.regs.reserve) k.tasks who f reserve;
   counts = All-change (HasCounts n) k.tasks who f counts within;
   sinces = omega arith;
+  next = omega arith;
   count = refl;
 }
 
@@ -96,6 +101,7 @@ by_renewal k who n f is id stack reserve counts within = record {
   reserves = map-renew (λ t. t.regs.reserve) (λ since t. refl) k who f reserve;
   counts = renew_task-stable (HasCounts n) (λ since t h. h) k who f counts within;
   sinces = omega arith;
+  next = omega arith;
   count = refl;
 }
 
@@ -127,6 +133,7 @@ by_move k who n f is id stack reserve counts within = record {
   reserves = map-move (λ t. t.regs.reserve) (λ since t. refl) k who f reserve;
   counts = move_task-stable (HasCounts n) (λ since t h. h) k who f counts within;
   sinces = since-move k who f;
+  next = omega (arith, next-move k who f);
   count = count-move k who f;
 }
 

@@ -2,6 +2,7 @@ pub mod Living
 pub mod Early
 pub mod Spawned
 pub mod Stacks
+pub mod Holding
 pub mod Taking
 pub mod Calming
 pub mod Apart
@@ -23,7 +24,9 @@ pub mod QueueCalls
 pub mod QueueKept
 pub mod KernRows
 pub mod Advancing
+pub mod WatchGoes
 pub mod Departing
+pub mod Unloading
 pub mod Serves
 pub mod Deletions
 pub mod Passing

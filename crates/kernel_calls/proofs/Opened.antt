@@ -27,9 +27,10 @@ use Rattle.sem_mutex.proofs.Opening.{opening_keeps}
 use Rattle.sem_mutex.proofs.Lawful.{beside_law}
 use Rattle.msg_queue.proofs.Events.{starts}
 use Rattle.kernel_calls.specs.Objects.{no_objects, is_live, WaitsRight, KeepsObjects}
-use Rattle.kernel_calls.specs.Opening.{empty_kern, opening_kern, shell_record, opening_part, stack_block, gate_symbols, zeros, opening_world}
+use Rattle.kernel_calls.specs.Opening.{empty_kern, opening_kern, shell_record, interrupt_stack, opening_part, stack_block, gate_symbols, zeros, opening_world}
 use Rattle.kernel_calls.specs.Kept.{IsKernels, AreStacks}
 use Rattle.kernel_calls.specs.Laws.{OpeningLaw}
+use Rattle.kernel_calls.proofs.Holding.{IsNoModules}
 
 -- the pool with these blocks
 abbrev pub pool : List Block → PartState
@@ -154,6 +155,14 @@ opens slots = record {
     room = refl;
   };
   stacks = two_apart;
+  modules = record {
+    few = omega arith;
+    rising = λ i j d lt within. absurd (omega arith);
+    below = none_yet (λ r. r.0 < 2);
+    held = record { blocks = λ a some. absurd (omega arith); distinct = λ a. omega arith };
+    apart = All-cons (IsNoModules []) interrupt_stack (pool_start ∷ []) refl (All-cons (IsNoModules []) pool_start [] refl (none_yet (IsNoModules [])));
+  };
   ram = length-zeros ram_bytes;
   symbols = symbols_few;
+  watch = record { watch = record { few = omega arith; rising = λ i j d lt within. absurd (omega arith); idle = λ none. refl }; ids = λ i d within. absurd (omega arith) };
 }

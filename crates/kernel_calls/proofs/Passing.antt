@@ -20,9 +20,10 @@ use Rattle.kernel_calls.specs.TaskRows.{KernRow, target}
 use Rattle.kernel_calls.specs.SafetyRows.{delete_row}
 use Rattle.kernel_calls.specs.SemRows.{ObjectRow, is_mutex}
 use Rattle.kernel_calls.specs.QueueRows.{QueueRow, sending}
+use Rattle.kernel_calls.specs.WatchRows.{WatchRow, routine_of}
 use Rattle.kernel_calls.specs.ShowRows.{ShowRow}
 use Rattle.kernel_calls.specs.Spawning.{spawned_if, task_wanted, quick_wanted, quick_text}
-use Rattle.kernel_calls.specs.Calls.{with_reply, of_kern, of_objects, scene_of, of_queues, of_text, of_deletion, after_spawn, spawn_state, task_at, with_errno, row, left_gate, with_answer, refusal_word, replied, refusal_before, row_unless, made, call, past_gate as level_past, in_r3}
+use Rattle.kernel_calls.specs.Calls.{with_reply, of_kern, of_objects, scene_of, of_queues, of_watch, of_text, of_deletion, after_spawn, spawn_state, task_at, with_errno, row, left_gate, with_answer, refusal_word, replied, refusal_before, row_unless, made, call, past_gate as level_past, in_r3}
 use Rattle.kernel_calls.specs.Kept.{IsWorld, Within}
 use Rattle.kernel_calls.specs.Laws.{CallLaw, call_sinces}
 use Rattle.kernel_calls.specs.declared.actor.Actor.{Actor}
@@ -33,11 +34,13 @@ use Rattle.kernel_calls.proofs.Goes.{Goes, goes-leave_gate, goes-answer}
 use Rattle.kernel_calls.proofs.TaskMoves.{suspend_goes, resume_goes, delay_goes, lock_goes, unlock_goes, self_goes, verify_goes, name_goes, slice_goes, int_lock_goes, int_unlock_goes, int_context_goes, safe_goes, unsafe_goes}
 use Rattle.kernel_calls.proofs.ObjectMoves.{objects-leave_gate, objects-answer}
 use Rattle.kernel_calls.proofs.KernRows.{objects-suspend_row, objects-resume_row, objects-delay_row, objects-lock_row, objects-unlock_row, objects-self_row, objects-verify_row, objects-name_row, objects-slice_row, objects-int_lock_row, objects-int_unlock_row, objects-int_context_row}
-use Rattle.kernel_calls.proofs.Advancing.{Advances, advances_on, advances_more, beside, stays, nowhere, by_kern, of_tasks, of_both, of_scene, of_list, align_advances, free_advances, symbol_few, told_advances, errno_advances, spawn_advances}
+use Rattle.kernel_calls.proofs.Advancing.{Advances, advances_on, advances_more, beside, at_routine, stays, nowhere, by_kern, of_tasks, of_both, of_scene, of_list, align_advances, free_advances, symbol_few, told_advances, errno_advances, spawn_advances}
 use Rattle.kernel_calls.proofs.QueueKept.{keeps-create_row, keeps-send_row, keeps-receive_row, keeps-delete_row as keeps-queue_delete_row}
 use Rattle.kernel_calls.proofs.QueueCalls.{is_caller}
 use Rattle.kernel_calls.proofs.QueueGoes.{IsNear, near_itself, create_near, send_near, receive_row_near, delete_near}
+use Rattle.kernel_calls.proofs.WatchGoes.{create_advances, start_advances, cancel_advances, delete_advances}
 use Rattle.kernel_calls.proofs.Living.{ready_free}
+use Rattle.kernel_calls.proofs.Unloading.{unload_advances}
 use Rattle.kernel_calls.proofs.Serves.{Serves, served, acts_on, passes_behind, passes_before}
 use Rattle.kernel_calls.proofs.Callers.{mutex_callers, queue_callers}
 use Rattle.kernel_calls.proofs.Deletions.{delete_serves}
@@ -66,10 +69,13 @@ module _ (w : WorldState) (kept : IsWorld w) (n : ℕ) (within : Within n w) (a 
   of_queue_row : (r : QueueRow) → IsNear (scene_of w) n kept.kern within.0 r.scene → KeepsObjects r.scene.kern (record w.objects { queues = r.scene.queues }) → Serves w a (of_queues w r) (n + 1)
   of_queue_row r near objects = served w a (of_queues w r) (n + 1) (of_scene w kept n within r.scene near.0 near.1 objects)
 
+  of_watch_row : (r : WatchRow) → Advances w (of_watch w r).world n 0 1 → Serves w a (of_watch w r) (n + 1)
+  of_watch_row r g = served w a (of_watch w r) (n + 1) (advances_more w (of_watch w r).world n (n + 1) 0 call_sinces 1 1 (omega arith) (omega arith) (omega arith) g)
+
   -- what is written is no matter of the kept facts
   writing : (v : WorldState) (text : List ℕ) → Advances w v (n + 1) call_sinces 1 → Advances w (record v { output = text }) (n + 1) call_sinces 1
   writing v text g =
-      let more = beside v g.kept (n + 1) g.within v.slots text v.level v.int_errno in
+      let more = beside v g.kept (n + 1) g.within v.slots text v.int_errno in
       advances_more w (record v { output = text }) (n + 1) (n + 1) (call_sinces + 0) call_sinces (1 + 0) 1 (omega arith) (omega arith) (omega arith)
       (advances_on w v (record v { output = text }) (n + 1) (n + 1) call_sinces 0 1 0 g more)
 
@@ -117,6 +123,10 @@ module _ (w : WorldState) (kept : IsWorld w) (n : ℕ) (within : Within n w) (a 
       (keeps-receive_row w.kern w.objects w.ram kept.kern kept.objects kept.ram a (slice_index r 3) (slice_index r 4) (slice_index r 5) (slice_index r 6) (λ h. is_caller w.kern a (there h) may) (near.1 ∙ kept.ram))
   row_serves gates.MsgQDelete r live there may = of_queue_row _ (delete_near (scene_of w) n kept.kern within.0 (slice_index r 3)) (keeps-queue_delete_row w.kern w.objects w.ram kept.kern kept.objects kept.ram (slice_index r 3))
   row_serves gates.MsgQNumMsgs r live there may = of_queue_row _ (near_itself (scene_of w) n kept.kern within.0) kept.objects
+  row_serves gates.WdCreate r live there may = of_watch_row _ (create_advances w kept n within)
+  row_serves gates.WdStart r live there may = of_watch_row _ (start_advances w kept n within (slice_index r 3) (slice_index r 4) (routine_of (slice_index r 5) (slice_index r 6)))
+  row_serves gates.WdCancel r live there may = of_watch_row _ (cancel_advances w kept n within (slice_index r 3))
+  row_serves gates.WdDelete r live there may = of_watch_row _ (delete_advances w kept n within (slice_index r 3))
   row_serves gates.IntLock r live there may = of_kern_row _ (int_lock_goes w.kern n kept.kern within.0 a) (objects-int_lock_row w.kern w.objects kept.kern kept.objects a)
   row_serves gates.IntUnlock r live there may = of_kern_row _ (int_unlock_goes w.kern n kept.kern within.0 a (slice_index r 3)) (objects-int_unlock_row w.kern w.objects kept.kern kept.objects a (slice_index r 3))
   row_serves gates.IntContext r live there may = of_kern_row _ (int_context_goes w.kern n kept.kern within.0 a) (objects-int_context_row w.kern w.objects kept.kern kept.objects a)
@@ -129,6 +139,9 @@ module _ (w : WorldState) (kept : IsWorld w) (n : ℕ) (within : Within n w) (a 
   row_serves gates.ErrnoSet r live there may =
       served w a _ (n + 1) (advances_more w _ n (n + 1) 0 call_sinces 0 1 (omega arith) (omega arith) (omega arith) (errno_advances w kept n within a (slice_index r 3)))
   row_serves gates.I r live there may = of_text_row _
+  row_serves gates.Unld r live there may = served w a _ (n + 1) (unload_advances w kept n within (slice_index r 3))
+  row_serves gates.Lkup r live there may = of_text_row _
+  row_serves gates.ModuleShow r live there may = of_text_row _
   row_serves gates.D r live there may = of_text_row _
   row_serves g r live there may = idle Later
 
@@ -156,11 +169,11 @@ may_left w Interrupt may = may
 module _ (w : WorldState) (kept : IsWorld w) (n : ℕ) (within : Within n w) where
   pub left_advances : (a : Actor) → MayCall w.kern a → Advances w (left_gate w a) n 0 0
   left_advances (Task who) may = by_kern w kept _ n 0 (goes-leave_gate w.kern n kept.kern within.0 who) (objects-leave_gate w.kern w.objects kept.kern kept.objects who (ready_free w.kern who may)) within.1
-  left_advances Interrupt may = beside w kept n within w.slots w.output (option_map level_past w.level) w.int_errno
+  left_advances Interrupt may = at_routine w kept n within level_past
 
   answer_advances : (a : Actor) (value : ℕ) → Advances w (with_answer w a value) n 0 0
   answer_advances (Task who) value = by_kern w kept _ n 0 (goes-answer w.kern n kept.kern within.0 who value) (objects-answer w.kern w.objects kept.kern kept.objects who value) within.1
-  answer_advances Interrupt value = beside w kept n within w.slots w.output (option_map (in_r3 value) w.level) w.int_errno
+  answer_advances Interrupt value = at_routine w kept n within (in_r3 value)
 
 pub replied_advances : (w : WorldState) → IsWorld w → (n : ℕ) → Within n w → (g : Gate) (a : Actor) (r : Reply) → Advances w (replied g w a r) n 0 0
 replied_advances w kept n within g a (Answer value) = answer_advances w kept n within a value

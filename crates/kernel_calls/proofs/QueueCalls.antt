@@ -69,6 +69,9 @@ pub at_gate : {E : Type 0} (g h : Gate) (w v : WorldState) (a : Actor) (r : List
     → IfOk result (λ x. with_reply v x ≡ row h (left_gate w a) a r) → IfOk result (λ x. with_reply v x ≡ row g (left_gate w a) a r)
 at_gate g h w v a r result e ok = subst (λ i. IfOk result (λ x. with_reply v x ≡ row i (left_gate w a) a r)) (sym e) ok
 
+pub plain_at_gate : (g h : Gate) (w v : WorldState) (a : Actor) (r : List ℕ) (reply : Reply) → g ≡ h → with_reply v reply ≡ row h w a r → with_reply v reply ≡ row g w a r
+plain_at_gate g h w v a r reply e done = subst (λ i. with_reply v reply ≡ row i w a r) (sym e) done
+
 -- who acts goes on where the tasks are as they were
 pub created_acts : (k l : KernState) (qs us : QueuesState) (ram : List ℕ) (reply : Reply) (r : List ℕ)
     → row_of (scene l us ram) reply ≡ create_row (scene k qs ram) (slice_index r 3) (slice_index r 4) (slice_index r 5) → (a : Actor) → Acts k a → Acts l a
@@ -78,7 +81,7 @@ created_acts k l qs us ram reply r e (Task who) live =
 created_acts k l qs us ram reply r e Interrupt live = live
 
 -- a call that may lack memory has its row made on the world that its caller has left
-pub lacking_made : {E : Type 0} (g : Gate) (w v : WorldState) (a : Actor) (result : Result Reply E) (regs : Regs) → None ≡ refusal_before g a → regs ≡ caller_regs w.kern w.level a
+pub lacking_made : {E : Type 0} (g : Gate) (w v : WorldState) (a : Actor) (result : Result Reply E) (regs : Regs) → None ≡ refusal_before g a → regs ≡ caller_regs w.kern w.watch.level a
     → IfOk result (λ x. with_reply v x ≡ row g (left_gate w a) a regs.gpr) → IfOk result (λ x. with_reply v x ≡ made g w a)
 lacking_made g w v a (Err e) regs fine words rowed = rowed
 lacking_made g w v a (Ok reply) regs fine words rowed =

@@ -38,7 +38,7 @@ module _ (k : KernState) (n : ℕ) (is : IsKern k) (within : CountsWithin n k) w
       goes_on k waits (back_at_gate waits who) n n 1 0 (goes_on k marked waits n n 0 1 one two) (goes-back_at_gate waits n two.kern two.counts who)
 
 -- ---- a task goes
--- from k to j: the kept facts hold, all live on but this one, on the same stacks, the ids are where they were, counts stay within n, no task has a reservation that had none, at most d order numbers were given out, and the tick count stood
+-- from k to j: the kept facts hold, all live on but this one, on the same stacks, the ids are where they were, counts stay within n, no task has a reservation that had none, at most d order numbers were given out, ids rose, and the tick count stood
 pub record Leaves (k j : KernState) (who n d : ℕ) : Type 0 where
   pub kern : IsKern j
   pub alone : ids j.tasks ≡ ids (without task_id k.tasks who)
@@ -48,6 +48,7 @@ pub record Leaves (k j : KernState) (who n d : ℕ) : Type 0 where
   pub reserves : (o : Option ℕ) → ReservedBy o k → ReservedBy o j
   pub counts : CountsWithin n j
   pub sinces : j.next_since ≤ k.next_since + d
+  pub next : k.next_id ≤ j.next_id
   pub count : j.tick ≡ k.tick
 
 pub leaves_further : (k j : KernState) (who m n d e : ℕ) → m ≤ n → d ≤ e → Leaves k j who m d → Leaves k j who n e
@@ -60,6 +61,7 @@ leaves_further k j who m n d e more longer g = record {
   reserves = g.reserves;
   counts = more_counts j m n more g.counts;
   sinces = omega (arith, g.sinces, longer);
+  next = g.next;
   count = g.count;
 }
 
@@ -95,6 +97,7 @@ goes_leaves k j who n d g = record {
   reserves = λ o h. All-filter (λ t. not (eqb t.id who)) (λ t. IsSome t.regs.reserve → o ≡ Some t.id) j.tasks (reserved_by k.tasks j.tasks o g.alone g.reserves h);
   counts = All-filter (λ t. not (eqb t.id who)) (HasCounts n) j.tasks g.counts;
   sinces = g.sinces;
+  next = g.next;
   count = g.count;
 }
 

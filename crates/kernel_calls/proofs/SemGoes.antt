@@ -32,7 +32,7 @@ use Rattle.kernel_calls.proofs.Goes.{Goes, goes_nowhere, goes_on, goes_further, 
 
 -- ---- an id is drawn
 -- where making is not refused, an id is left
-id_left : (most m id : ℕ) (e f : Errno) → cond (leb most m) (Some e) (cond (leb 1048577 id) (Some f) None) ≡ None → id ≤ 1048576
+pub id_left : (most m id : ℕ) (e f : Errno) → cond (leb most m) (Some e) (cond (leb 1048577 id) (Some f) None) ≡ None → id ≤ 1048576
 id_left most m id e f none =
     elim (leb most m) as (λ b. cond b (Some e) (cond (leb 1048577 id) (Some f) None) ≡ None → id ≤ 1048576) [
       | true ↦ λ q. absurd (cc)
@@ -65,6 +65,7 @@ goes-draw k n is within left = record {
   reserves = refl;
   counts = within;
   sinces = omega arith;
+  next = omega arith;
   count = refl;
 }
 

@@ -32,6 +32,7 @@ passes_by w v a n d m g = record {
   sinces = g.sinces;
   count = g.count;
   names = g.names;
+  starts = g.starts;
 }
 
 pub served : (w : WorldState) (a : Actor) (r : Row) (n : ℕ) → Advances w r.world n call_sinces 1 → Serves w a r n
@@ -53,6 +54,7 @@ passes_behind w v u a l n d m g safes p = record {
   sinces = omega (arith, g.sinces, p.sinces);
   count = p.count ∙ g.count;
   names = omega (arith, g.names, p.names);
+  starts = omega (arith, g.starts, p.starts);
 }
 
 -- all live on at last
@@ -67,4 +69,5 @@ passes_before w v u a l n d m p g = record {
   sinces = omega (arith, g.sinces, p.sinces);
   count = g.count ∙ p.count;
   names = omega (arith, g.names, p.names);
+  starts = omega (arith, g.starts, p.starts);
 }

@@ -1,12 +1,17 @@
 -- The caller of a call lives on until it is answered, unless it has ended itself, and the world keeps its facts.
-use Rattle.std.proofs.Common.{◌≡◌, ◌≢◌, ◌+◌, ◌^◌, sym, subst}
+use Rattle.std.proofs.Common.{◌≡◌, ◌≢◌, ◌+◌, ◌^◌, true, false, not, ◌&&◌, cond, None, Some, Result, Ok, Err, refl, ap, ◌∙◌, sym, subst}
+use Rattle.std.specs.Prelude.{OnErr}
 use Rattle.wind_base.specs.declared.gate.Gate.{Gate}
+use Rattle.module_loader.specs.Holding.{AreHeld}
+use Rattle.wind_base.specs.declared.gate.Gate.TheVariants as gates
+use Rattle.wind_base.specs.declared.errno.Errno.TheVariants as errors
 use Rattle.kernel_calls.specs.State.{WorldState}
 use Rattle.kernel_calls.specs.Objects.{KeepsObjects}
-use Rattle.kernel_calls.specs.Actors.{Acts, MayCall}
-use Rattle.kernel_calls.specs.Kept.{IsWorld, IsEarly}
-use Rattle.kernel_calls.specs.Calls.{Row, with_reply, left_gate, replied, made}
+use Rattle.kernel_calls.specs.Actors.{is_interrupt, Acts, MayCall}
+use Rattle.kernel_calls.specs.Kept.{KeepsWatch, IsWorld, IsEarly}
+use Rattle.kernel_calls.specs.Calls.{Row, with_reply, left_gate, is_isr_callable, is_shells_own, may_lack_memory, refusal_before, replied, made}
 use Rattle.kernel_calls.specs.declared.actor.Actor.{Actor}
+use Rattle.kernel_calls.specs.declared.actor.Actor.TheVariants.{Task, Interrupt}
 use Rattle.kernel_calls.specs.declared.reply.Reply.{Reply}
 use Rattle.kernel_calls.specs.declared.reply.Reply.TheVariants.{Gone}
 use Rattle.kernel_calls.proofs.Serves.{Serves}
@@ -16,6 +21,36 @@ use Rattle.kernel_calls.proofs.Early.{early_within}
 -- the objects have their facts behind the gate too
 pub left_objects : (w : WorldState) (a : Actor) → IsWorld w → MayCall w.kern a → IsEarly w → KeepsObjects (left_gate w a).kern (left_gate w a).objects
 left_objects w a kept may early = (left_advances w kept (2 ^ 60) (early_within w early) a may).kept.objects
+
+-- so do the modules
+pub left_modules : (w : WorldState) (a : Actor) → IsWorld w → MayCall w.kern a → IsEarly w → AreHeld (left_gate w a).modules (left_gate w a).part
+left_modules w a kept may early = (left_advances w kept (2 ^ 60) (early_within w early) a may).kept.modules.held
+
+-- so have the watchdogs
+pub left_watch : (w : WorldState) (a : Actor) → IsWorld w → MayCall w.kern a → IsEarly w → KeepsWatch (left_gate w a).kern.next_id (left_gate w a).watch
+left_watch w a kept may early = (left_advances w kept (2 ^ 60) (early_within w early) a may).kept.watch
+
+-- a call that may lack memory is that of a task, as a routine's is refused before
+none_lacks : (g : Gate) → may_lack_memory g ≡ true → is_isr_callable g ≡ false
+none_lacks gates.SymAdd h = refl
+none_lacks gates.MsgQCreate h = refl
+none_lacks gates.I h = refl
+none_lacks gates.Lkup h = refl
+none_lacks gates.ModuleShow h = refl
+none_lacks gates.D h = refl
+none_lacks g h = absurd (cc)
+
+by_task : (g : Gate) (a : Actor) → None ≡ refusal_before g a → may_lack_memory g ≡ true → is_interrupt a ≡ false
+by_task g (Task who) fine lacks = refl
+by_task g Interrupt fine lacks =
+    let refused : refusal_before g Interrupt ≡ Some errors.NotIsrCallable =
+    ap (λ b. cond (not b) (Some errors.NotIsrCallable) (cond (is_shells_own g && true) (Some errors.NotShell) None)) (none_lacks g lacks) in
+    let clash : None ≡ Some errors.NotIsrCallable = fine ∙ refused in
+    absurd (cc)
+
+pub of_task : {A E : Type 0} (g : Gate) (a : Actor) (r : Result A E) → None ≡ refusal_before g a → may_lack_memory g ≡ true → OnErr r (is_interrupt a ≡ false)
+of_task g a (Ok x) fine lacks = tt
+of_task g a (Err e) fine lacks = by_task g a fine lacks
 
 module _ (g : Gate) (w v : WorldState) (a : Actor) (r : Reply) (kept : IsWorld w) (may : MayCall w.kern a) (early : IsEarly w) (done : with_reply v r ≡ made g w a) where
   serves : Serves w a (with_reply v r) (2 ^ 60 + 1)

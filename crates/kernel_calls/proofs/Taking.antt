@@ -10,7 +10,7 @@ use Rattle.wind_lists.proofs.Records.{change_alike}
 use Rattle.wind_core.specs.State.{KernState, IsKern, task_id, task_of}
 use Rattle.wind_core.specs.Moves.{remove, set_regs}
 use Rattle.wind_core.proofs.Ids.{ids, ids-change}
-use Rattle.wind_core.proofs.Keeping.{not_there}
+use Rattle.wind_lists.proofs.Places.{not_there}
 use Rattle.wind_core.proofs.Unwritten.{map-change}
 use Rattle.task_safety.specs.declared.deleting.Deed.{Deed}
 use Rattle.task_safety.specs.declared.deleting.Deed.TheVariants.{Refuses, EndsItself, Removes, Awaits}

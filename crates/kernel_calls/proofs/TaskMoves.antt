@@ -67,7 +67,7 @@ module _ (k : KernState) (n : ℕ) (is : IsKern k) (within : CountsWithin n k) w
   name_goes (Some name) = found_goes (task_named k.tasks name)
 
   pub slice_goes : (m : ℕ) → Goes k (slice_row k m).kern (n + 1) call_sinces
-  slice_goes m = record { kern = (every_call_keeps k is).slicing m; alone = refl; stacks = refl; lent = refl; last = refl; reserves = refl; counts = stays.counts; sinces = omega arith; count = refl }
+  slice_goes m = record { kern = (every_call_keeps k is).slicing m; alone = refl; stacks = refl; lent = refl; last = refl; reserves = refl; counts = stays.counts; sinces = omega arith; next = omega arith; count = refl }
 
   mark_goes : (who : ℕ) (on : Bool) → Goes k (set_int_locked k who on) (n + 1) call_sinces
   mark_goes who on = goes_further k (set_int_locked k who on) n (n + 1) 0 call_sinces (omega arith) (omega arith) (goes-set_int_locked k n is within who on)

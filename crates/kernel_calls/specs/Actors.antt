@@ -45,7 +45,7 @@ caller_regs k level a = unwrap_or (regs_of k level a) no_regs
 
 -- its registers r0 to r31
 abbrev pub caller_words : WorldState → Actor → List ℕ
-caller_words w a = (caller_regs w.kern w.level a).gpr
+caller_words w a = (caller_regs w.kern w.watch.level a).gpr
 
 -- the k-th word behind those in registers: a word of RAM at 8(r1), 12(r1) and on; none where a byte of it is outside RAM (System V ABI, PowerPC supplement, parameter passing)
 abbrev pub stack_word : List ℕ → ℕ → ℕ → Option ℕ

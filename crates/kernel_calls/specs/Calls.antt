@@ -13,15 +13,18 @@ use Rattle.board_mem.specs.Memory.{has, with_word, string_at}
 use Rattle.wind_core.specs.State.{KernState, task_of}
 use Rattle.wind_core.specs.Moves.{live_id, leave_gate, answer, set_errno}
 use Rattle.msg_queue.specs.State.{Scene, scene}
+use Rattle.isr_watch.specs.State.{WatchState}
 use Rattle.kernel_calls.specs.State.{WorldState}
 use Rattle.kernel_calls.specs.Actors.{is_interrupt, is_shell, caller_words}
 use Rattle.kernel_calls.specs.TaskRows.{KernRow, target, suspend_row, resume_row, delay_row, lock_row, unlock_row, self_row, verify_row, name_row, slice_row, tick_row, int_lock_row, int_unlock_row, int_context_row}
 use Rattle.kernel_calls.specs.SafetyRows.{DeleteRow, safe_row, unsafe_row, delete_row}
 use Rattle.kernel_calls.specs.SemRows as sem
 use Rattle.kernel_calls.specs.QueueRows as queue
+use Rattle.kernel_calls.specs.WatchRows as watch
 use Rattle.kernel_calls.specs.ShowRows as show
 use Rattle.kernel_calls.specs.MemoryRows.{PartRow, malloc_row, align_row, free_row}
 use Rattle.kernel_calls.specs.SymbolRows.{SymbolRow, symbol_row}
+use Rattle.kernel_calls.specs.ModuleRows.{ModuleRow, unload_row}
 use Rattle.kernel_calls.specs.Spawning.{SpawnState, SpawnRow, spawn_parts, spawned_if, task_wanted, quick_wanted, quick_text}
 use Rattle.kernel_calls.specs.declared.actor.Actor.{Actor}
 use Rattle.kernel_calls.specs.declared.actor.Actor.TheVariants.{Task, Interrupt}
@@ -61,6 +64,10 @@ is_built gates.MsgQSend = true
 is_built gates.MsgQReceive = true
 is_built gates.MsgQDelete = true
 is_built gates.MsgQNumMsgs = true
+is_built gates.WdCreate = true
+is_built gates.WdStart = true
+is_built gates.WdCancel = true
+is_built gates.WdDelete = true
 is_built gates.IntLock = true
 is_built gates.IntUnlock = true
 is_built gates.IntContext = true
@@ -71,7 +78,10 @@ is_built gates.SymAdd = true
 is_built gates.Printf = true
 is_built gates.ErrnoGet = true
 is_built gates.ErrnoSet = true
+is_built gates.Unld = true
 is_built gates.I = true
+is_built gates.Lkup = true
+is_built gates.ModuleShow = true
 is_built gates.D = true
 is_built g = false
 
@@ -125,6 +135,8 @@ abbrev pub may_lack_memory : Gate → Bool
 may_lack_memory gates.SymAdd = true
 may_lack_memory gates.MsgQCreate = true
 may_lack_memory gates.I = true
+may_lack_memory gates.Lkup = true
+may_lack_memory gates.ModuleShow = true
 may_lack_memory gates.D = true
 may_lack_memory g = false
 
@@ -136,7 +148,7 @@ pub record Row : Type 0 where
 abbrev pub with_reply : WorldState → Reply → Row
 with_reply w r = record { world = w; reply = r }
 
--- a row of the kernel's tasks, of semaphores and mutexes, of queues, of texts, of a deletion, of the partition, of the symbols, of a spawn
+-- a row of the kernel's tasks, of semaphores and mutexes, of queues, of watchdogs, of texts, of a deletion, of the partition, of the symbols, of a spawn
 abbrev pub of_kern : WorldState → KernRow → Row
 of_kern w r = with_reply (record w { kern = r.kern }) r.reply
 
@@ -149,6 +161,9 @@ scene_of w = scene w.kern w.objects.queues w.ram
 abbrev pub of_queues : WorldState → queue.QueueRow → Row
 of_queues w r = with_reply (record w { kern = r.scene.kern; objects = record w.objects { queues = r.scene.queues }; ram = r.scene.ram }) r.reply
 
+abbrev pub of_watch : WorldState → watch.WatchRow → Row
+of_watch w r = with_reply (record w { kern = r.kern; watch = r.watch }) r.reply
+
 abbrev pub of_text : WorldState → show.ShowRow → Row
 of_text w r = with_reply (record w { output = w.output ++ r.text }) r.reply
 
@@ -160,6 +175,10 @@ of_part w r = with_reply (record w { part = r.part }) r.reply
 
 abbrev pub of_symbols : WorldState → SymbolRow → Row
 of_symbols w r = with_reply (record w { symbols = r.symbols }) r.reply
+
+-- of an unload
+abbrev pub of_modules : WorldState → ModuleRow → Row
+of_modules w r = with_reply (record w { symbols = r.symbols; modules = r.modules; part = r.part }) r.reply
 
 abbrev pub spawn_state : WorldState → SpawnState
 spawn_state w = spawn_parts w.kern w.part w.ram w.names
@@ -229,6 +248,10 @@ row gates.MsgQSend w a r = of_queues w (queue.send_row (scene_of w) (slice_index
 row gates.MsgQReceive w a r = of_queues w (queue.receive_row (scene_of w) a (slice_index r 3) (slice_index r 4) (slice_index r 5) (slice_index r 6))
 row gates.MsgQDelete w a r = of_queues w (queue.delete_row (scene_of w) (slice_index r 3))
 row gates.MsgQNumMsgs w a r = of_queues w (queue.count_row (scene_of w) (slice_index r 3))
+row gates.WdCreate w a r = of_watch w (watch.create_row w.kern w.watch)
+row gates.WdStart w a r = of_watch w (watch.start_row w.kern w.watch (slice_index r 3) (slice_index r 4) (watch.routine_of (slice_index r 5) (slice_index r 6)))
+row gates.WdCancel w a r = of_watch w (watch.cancel_row w.kern w.watch (slice_index r 3))
+row gates.WdDelete w a r = of_watch w (watch.delete_row w.kern w.watch (slice_index r 3))
 row gates.IntLock w a r = of_kern w (int_lock_row w.kern a)
 row gates.IntUnlock w a r = of_kern w (int_unlock_row w.kern a (slice_index r 3))
 row gates.IntContext w a r = of_kern w (int_context_row w.kern a)
@@ -240,6 +263,9 @@ row gates.Printf w a r = of_text w (show.printf_row w.ram r)
 row gates.ErrnoGet w a r = with_reply w (Answer (errno_of w a))
 row gates.ErrnoSet w a r = with_reply (with_errno w a (slice_index r 3)) (Answer ok_word)
 row gates.I w a r = of_text w (show.tasks_row w.kern)
+row gates.Unld w a r = of_modules w (unload_row w.symbols w.modules w.part w.ram (slice_index r 3))
+row gates.Lkup w a r = of_text w (show.lookup_row w.symbols w.ram (slice_index r 3))
+row gates.ModuleShow w a r = of_text w (show.modules_row w.modules)
 row gates.D w a r = of_text w (show.dump_row w.ram (slice_index r 3) (slice_index r 4) (slice_index r 5))
 row g w a r = with_reply w Later
 
@@ -248,9 +274,16 @@ row g w a r = with_reply w Later
 abbrev pub past_gate : Regs → Regs
 past_gate r = record r { pc = r.lr }
 
+-- the world in which f is made of the active routine's registers
+abbrev pub level_by : (Regs → Regs) → WatchState → WatchState
+level_by f s = record s { level = option_map f s.level }
+
+abbrev pub at_level : WorldState → (Regs → Regs) → WorldState
+at_level w f = record w { watch = level_by f w.watch }
+
 abbrev pub left_gate : WorldState → Actor → WorldState
 left_gate w (Task who) = record w { kern = leave_gate w.kern who }
-left_gate w Interrupt = record w { level = option_map past_gate w.level }
+left_gate w Interrupt = at_level w past_gate
 
 -- the answer stands in r3
 abbrev pub in_r3 : ℕ → Regs → Regs
@@ -258,7 +291,7 @@ in_r3 value r = record r { gpr = slice_set r.gpr 3 value }
 
 abbrev pub with_answer : WorldState → Actor → ℕ → WorldState
 with_answer w (Task who) value = record w { kern = answer w.kern who value }
-with_answer w Interrupt value = record w { level = option_map (in_r3 value) w.level }
+with_answer w Interrupt value = at_level w (in_r3 value)
 
 -- the caller is answered; one that pends is answered later, and one that has ended is not
 abbrev pub replied : Gate → WorldState → Actor → Reply → WorldState

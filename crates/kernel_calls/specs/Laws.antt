@@ -21,7 +21,7 @@ OnlyUnsafeGo w a v = (id : ℕ) → Lives w.kern id → (Lives v.kern id → ⊥
 abbrev pub call_sinces : ℕ
 call_sinces = 1024
 
--- from one world to another within one call: the kept facts hold, nobody safe is gone, the shell's task lives on, counts stay within n, no task has a reservation that had none, at most d order numbers and m name numbers were given out, and the tick count stood
+-- from one world to another within one call: the kept facts hold, nobody safe is gone, the shell's task lives on, counts stay within n, no task has a reservation that had none, at most d order numbers, m name numbers and m numbers of a watchdog's start were given out, and the tick count stood
 pub record Passes (w v : WorldState) (a : Actor) (n d m : ℕ) : Type 0 where
   pub kept : IsWorld v
   pub gone : OnlyUnsafeGo w a v
@@ -32,6 +32,7 @@ pub record Passes (w v : WorldState) (a : Actor) (n d m : ℕ) : Type 0 where
   pub sinces : v.kern.next_since ≤ w.kern.next_since + d
   pub count : v.kern.tick ≡ w.kern.tick
   pub names : v.names ≤ w.names + m
+  pub starts : v.watch.next_start ≤ w.watch.next_start + m
 
 -- the world at the start has the kept facts
 abbrev pub OpeningLaw : Type 0
@@ -50,6 +51,7 @@ pub record Ends (w v : WorldState) (who n : ℕ) : Type 0 where
   pub sinces : v.kern.next_since ≤ w.kern.next_since + call_sinces
   pub count : v.kern.tick ≡ w.kern.tick
   pub names : v.names ≡ w.names
+  pub starts : v.watch.next_start ≡ w.watch.next_start
 
 abbrev pub EndLaw : Type 0
 EndLaw = (w : WorldState) (who n : ℕ) → IsWorld w → Within n w → Ends w (ended w who) who n

@@ -6,9 +6,11 @@ pub mod Ending
 pub mod SafetyRows
 pub mod SemRows
 pub mod QueueRows
+pub mod WatchRows
 pub mod MemoryRows
 pub mod ShowRows
 pub mod SymbolRows
+pub mod ModuleRows
 pub mod Starting
 pub mod Spawning
 pub mod Calls

@@ -11,6 +11,7 @@ use Rattle.mem_partition.specs.declared.block.Class.TheVariants.{Kernel}
 use Rattle.symbol_table.specs.declared.symbol.Symbol.{Symbol}
 use Rattle.symbol_table.specs.declared.symbol.SymKind.TheVariants.{TextSym}
 use Rattle.wind_core.specs.State.{KernState}
+use Rattle.isr_watch.specs.State.{WatchState}
 use Rattle.wind_core.specs.Moves.{spawn}
 use Rattle.kernel_calls.specs.Objects.{no_objects}
 use Rattle.kernel_calls.specs.State.{WorldState}
@@ -59,6 +60,10 @@ abbrev pub gate_symbols : List Gate → List Symbol
 gate_symbols [] = []
 gate_symbols (g ∷ gs) = symbols_of_gate g ++ gate_symbols gs
 
+-- no watchdog lives, and no routine is active
+abbrev pub no_watch : WatchState
+no_watch = record { watchdogs = []; level = None; listed = []; next_start = 0 }
+
 -- so many zeros
 unfoldable pub zeros : ℕ → List ℕ
 zeros n = replicate n 0
@@ -70,10 +75,11 @@ opening_world slots = record {
   objects = no_objects;
   part = opening_part;
   symbols = gate_symbols gates;
+  modules = [];
   ram = zeros ram_bytes;
   slots = slots;
   output = [];
   names = 1;
-  level = None;
+  watch = no_watch;
   int_errno = 0;
 }

@@ -15,11 +15,12 @@ world_with slots w = record {
   objects = w.objects;
   part = w.part;
   symbols = w.syms.list;
+  modules = w.mods;
   ram = w.bus.ram;
   slots = slots;
   output = w.out.bytes;
   names = w.names;
-  level = w.level;
+  watch = w.watch;
   int_errno = w.int_errno;
 }
 

@@ -3,11 +3,15 @@ use Rattle.std.specs.Prelude.{ℕ, ◌*◌, ◌/◌, ◌==◌, ◌||◌, Bool, n
 use Rattle.wind_base.specs.Limits.{ok_word}
 use Rattle.wind_base.specs.declared.errno.Errno.{Errno}
 use Rattle.wind_base.specs.declared.errno.Errno.TheVariants as errors
-use Rattle.board_mem.specs.Memory.{has}
+use Rattle.board_mem.specs.Memory.{has, string_at}
+use Rattle.symbol_table.specs.declared.symbol.Symbol.{Symbol}
+use Rattle.module_loader.specs.declared.module.LoadedModule.{LoadedModule}
 use Rattle.wind_core.specs.State.{KernState}
 use Rattle.text_show.specs.Printf.{Source, printf_of}
 use Rattle.text_show.specs.Tasks.{task_table_of}
 use Rattle.text_show.specs.Dump.{dump_of}
+use Rattle.text_show.specs.Symbols.{symbol_rows_of}
+use Rattle.text_show.specs.Modules.{module_table_of}
 use Rattle.kernel_calls.specs.declared.reply.Reply.{Reply}
 use Rattle.kernel_calls.specs.declared.reply.Reply.TheVariants.{Answer, Refusal}
 
@@ -41,6 +45,22 @@ printf_row ram r = printed (printf_of (values ram r) (slice_index r 3))
 -- ---- i: the table of the tasks
 abbrev pub tasks_row : KernState → ShowRow
 tasks_row k = shows (task_table_of k) ok_word
+
+-- ---- lkup: the symbols whose names have the text at an address
+-- that text; at address 0 there is the empty one, which every name has
+abbrev pub text_wanted : List ℕ → ℕ → Option (List ℕ)
+text_wanted ram at = if at == 0 then Some [] else string_at ram at
+
+abbrev pub lookup_by : List Symbol → Option (List ℕ) → ShowRow
+lookup_by ss None = shows_none errors.BadAddress
+lookup_by ss (Some text) = shows (symbol_rows_of ss text) ok_word
+
+abbrev pub lookup_row : List Symbol → List ℕ → ℕ → ShowRow
+lookup_row ss ram at = lookup_by ss (text_wanted ram at)
+
+-- ---- moduleShow: the table of the modules
+abbrev pub modules_row : List (ℕ × LoadedModule) → ShowRow
+modules_row ms = shows (module_table_of ms) ok_word
 
 -- ---- d: so many units of so many bytes; a width of 0 counts as 2, and no units as those of 128 bytes
 abbrev pub width_of : ℕ → ℕ

@@ -7,6 +7,8 @@ use Rattle.wind_base.specs.declared.gate.Gate.TheVariants as gates
 -- the calls that make room of their own for what they write
 abbrev pub makes_room : Gate → Bool
 makes_room gates.I = true
+makes_room gates.Lkup = true
+makes_room gates.ModuleShow = true
 makes_room gates.D = true
 makes_room g = false
 

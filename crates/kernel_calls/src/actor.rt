@@ -6,6 +6,7 @@ ghost use Rattle.kernel_calls.specs.Actors.{regs_of, caller_regs as caller_regs_
 use crate::starting::no_regs;
 use board_mem::Ram;
 use id_table::Ident;
+use isr_watch::Watch;
 use wind_base::Regs;
 use wind_core::Kern;
 
@@ -19,23 +20,23 @@ pub enum Actor {
 }
 
 // Its registers.
-fn regs<'a>(kern: &'a Kern, level: &'a Option<Regs>, who: &Actor) -> Option<&'a Regs>
-    ensures { option_copied result ≡ regs_of kern.now level.now who.now }
+fn regs<'a>(kern: &'a Kern, watch: &'a Watch, who: &Actor) -> Option<&'a Regs>
+    ensures { option_copied result ≡ regs_of kern.now watch.now.level who.now }
 {
     match who {
         Actor::Task(id) => match kern.task(*id) {
             Some(task) => Some(&task.regs),
             None => None,
         },
-        Actor::Interrupt => level.as_ref(),
+        Actor::Interrupt => watch.regs(),
     }
 }
 
 /// Its registers, where no register has a value if there is no such caller.
-pub fn caller_regs(kern: &Kern, level: &Option<Regs>, who: &Actor) -> Regs
-    ensures { result ≡ caller_regs_lem kern.now level.now who.now }
+pub fn caller_regs(kern: &Kern, watch: &Watch, who: &Actor) -> Regs
+    ensures { result ≡ caller_regs_lem kern.now watch.now.level who.now }
 {
-    match regs(kern, level, who) {
+    match regs(kern, watch, who) {
         Some(regs) => *regs,
         None => no_regs(),
     }

@@ -13,7 +13,9 @@ use crate::starting::no_regs;
 use crate::world::World;
 use board_bus::BoardBus;
 use board_mem::Ram;
+use isr_watch::Watch;
 use mem_partition::{Class, GRAIN, Part};
+use module_loader::Modules;
 use std::alloc::Global;
 use symbol_table::{SymKind, Symbol, Symbols};
 use task_block::NewTask;
@@ -146,6 +148,12 @@ impl World {
         let Ok(syms) = gate_symbols(alloc) else {
             return Err(slots);
         };
+        let Ok(mods) = Modules::new(alloc) else {
+            return Err(slots);
+        };
+        let Ok(watch) = Watch::reserved(alloc) else {
+            return Err(slots);
+        };
         let Ok(ram) = cleared_ram(alloc, RAM_BYTES) else {
             return Err(slots);
         };
@@ -157,10 +165,11 @@ impl World {
             objects,
             part,
             syms,
+            mods,
             bus: BoardBus::new(ram, slots),
             out,
             names: 1,
-            level: None,
+            watch,
             int_errno: 0,
         })
     }

@@ -1,12 +1,11 @@
 //! A call of the kernel: its frame, its refusals and its answer.
 
 ghost use Rattle.std.specs.Prelude.{◌≡◌, ◌≢◌, ◌+◌, ◌^◌, ◌<◌, ◌≤◌, [], true, false, IfOk, OnErr};
-ghost use Rattle.std.specs.Option.{option_map};
 ghost use Rattle.wind_base.specs.OutBuf.{KeepsSpace};
 ghost use Rattle.wind_base.specs.declared.gate.Gate.TheVariants as gates;
 ghost use Rattle.kernel_calls.specs.Actors.{Acts, MayCall, is_shell as is_shell_lem, is_interrupt as is_interrupt_lem};
 ghost use Rattle.kernel_calls.specs.Kept.{IsWorld, IsEarly};
-ghost use Rattle.kernel_calls.specs.Calls.{is_built, may_lack_memory as may_lack_memory_lem, refusal_before as refusal_before_lem, in_r3, with_answer, replied, with_reply, told_by, told as told_lem, made, call};
+ghost use Rattle.kernel_calls.specs.Calls.{is_built, may_lack_memory as may_lack_memory_lem, refusal_before as refusal_before_lem, in_r3, level_by, with_answer, replied, with_reply, told_by, told as told_lem, made, call};
 ghost use Rattle.kernel_calls.specs.declared.calls.Called.TheVariants as called;
 ghost use Rattle.kernel_calls.specs.declared.reply.Reply.TheVariants as replies;
 ghost use Rattle.kernel_calls.specs.Seen.{world_seen, world_with};
@@ -18,8 +17,9 @@ use crate::leaving::leave_gate;
 use crate::reply::Reply;
 use crate::rows::{lacking_row, plain_row, set_errno};
 use crate::world::World;
+use isr_watch::Watch;
 use std::alloc::Global;
-use wind_base::{Errno, Gate, NoMemory, Regs};
+use wind_base::{Errno, Gate, NoMemory};
 use wind_outside::Device;
 
 /// What a call of the kernel answers to the board.
@@ -66,10 +66,10 @@ fn refusal_before(gate: Gate, who: &Actor) -> Option<Errno>
 }
 
 // The answer stands in r3.
-fn put_in_r3(level: &mut Option<Regs>, value: u32)
-    ensures { level.new ≡ option_map (in_r3 value) level.old }
+fn put_in_r3(watch: &mut Watch, value: u32)
+    ensures { watch.new ≡ level_by (in_r3 value) watch.old }
 {
-    if let Some(regs) = level {
+    if let Some(regs) = watch.regs_mut() {
         regs.gpr[3] = value;
     }
 }
@@ -83,7 +83,7 @@ fn give_answer(w: &mut World, who: &Actor, value: u32)
 {
     match who {
         Actor::Task(id) => w.kern.answer(*id, value),
-        Actor::Interrupt => put_in_r3(&mut w.level, value),
+        Actor::Interrupt => put_in_r3(&mut w.watch, value),
     }
 }
 
@@ -127,6 +127,7 @@ fn make(alloc: Global, w: &mut World, gate: Gate, who: &Actor) -> Result<Reply, 
     ensures ok { IfOk result (λ r. with_reply (world_seen ⟦<dyn Device as Device>⟧ w.new) r
         ≡ made gate (world_seen ⟦<dyn Device as Device>⟧ w.old) who.now) }
     ensures memory { OnErr result (may_lack_memory_lem gate ≡ true) }
+    ensures task { OnErr result (is_interrupt_lem who.now ≡ false) }
     ensures err { OnErr result (world_seen ⟦<dyn Device as Device>⟧ w.new ≡ world_seen ⟦<dyn Device as Device>⟧ w.old) }
     ensures space { makes_room gate ≡ false → KeepsSpace w.old.out w.new.out }
     ensures holds { HoldsSpace w.old.out w.new.out }
@@ -135,7 +136,7 @@ fn make(alloc: Global, w: &mut World, gate: Gate, who: &Actor) -> Result<Reply, 
         leave_gate(w, who);
         return Ok(Reply::Refusal(errno));
     }
-    let regs = caller_regs(&w.kern, &w.level, who);
+    let regs = caller_regs(&w.kern, &w.watch, who);
     if may_lack_memory(gate) {
         return lacking_row(alloc, w, gate, who, &regs.gpr);
     }
@@ -145,7 +146,8 @@ fn make(alloc: Global, w: &mut World, gate: Gate, who: &Actor) -> Result<Reply, 
 
 /// Makes a call of the kernel by its gate: the caller goes on behind its gate, the effect of the gate's row is made,
 /// and the caller is answered in r3, at once or at the end of its wait, unless it has ended itself. A task that calls is
-/// ready. Host memory may run out only at `symAdd`, `msgQCreate`, `i` and `d`, and the world is then as it was.
+/// ready. Host memory may run out only at `symAdd`, `msgQCreate`, `i`, `lkup`, `moduleShow` and `d` of a task, and the
+/// world is then as it was.
 pub fn kernel_call(alloc: Global, w: &mut World, gate: Gate, who: &Actor) -> Called
     requires built { is_built gate ≡ true }
     requires caller { Acts w.old.kern who.now }
@@ -158,6 +160,7 @@ pub fn kernel_call(alloc: Global, w: &mut World, gate: Gate, who: &Actor) -> Cal
     ensures answer { result ≢ called.NoMemory →
         result ≡ told_lem gate (world_seen ⟦<dyn Device as Device>⟧ w.old) who.now }
     ensures memory { result ≡ called.NoMemory → may_lack_memory_lem gate ≡ true }
+    ensures task { result ≡ called.NoMemory → is_interrupt_lem who.now ≡ false }
     ensures unchanged { result ≡ called.NoMemory →
         world_seen ⟦<dyn Device as Device>⟧ w.new ≡ world_seen ⟦<dyn Device as Device>⟧ w.old }
     ensures kept { IsWorld (world_with [] w.new) }

@@ -41,6 +41,10 @@ pub fn is_built(gate: Gate) -> bool
             | Gate::MsgQReceive
             | Gate::MsgQDelete
             | Gate::MsgQNumMsgs
+            | Gate::WdCreate
+            | Gate::WdStart
+            | Gate::WdCancel
+            | Gate::WdDelete
             | Gate::IntLock
             | Gate::IntUnlock
             | Gate::IntContext
@@ -51,7 +55,10 @@ pub fn is_built(gate: Gate) -> bool
             | Gate::Printf
             | Gate::ErrnoGet
             | Gate::ErrnoSet
+            | Gate::Unld
             | Gate::I
+            | Gate::Lkup
+            | Gate::ModuleShow
             | Gate::D
     )
 }
@@ -119,5 +126,8 @@ pub(crate) fn refusal_word(gate: Gate) -> u32
 pub fn may_lack_memory(gate: Gate) -> bool
     ensures { result ≡ may_lack_memory_lem gate }
 {
-    matches!(gate, Gate::SymAdd | Gate::MsgQCreate | Gate::I | Gate::D)
+    matches!(
+        gate,
+        Gate::SymAdd | Gate::MsgQCreate | Gate::I | Gate::Lkup | Gate::ModuleShow | Gate::D
+    )
 }

@@ -1,21 +1,20 @@
 //! The caller of a call goes on behind its gate.
 
 ghost use Rattle.std.specs.Prelude.{◌≡◌};
-ghost use Rattle.std.specs.Option.{option_map};
 ghost use Rattle.kernel_calls.specs.Actors.{Acts};
-ghost use Rattle.kernel_calls.specs.Calls.{left_gate, past_gate as past_gate_lem};
+ghost use Rattle.kernel_calls.specs.Calls.{left_gate, level_by, past_gate as past_gate_lem};
 ghost use Rattle.kernel_calls.specs.Seen.{world_seen};
 
 use crate::actor::Actor;
 use crate::world::World;
-use wind_base::Regs;
+use isr_watch::Watch;
 use wind_outside::Device;
 
 // The program counter becomes the link register.
-fn past_gate(level: &mut Option<Regs>)
-    ensures { level.new ≡ option_map past_gate_lem level.old }
+fn past_gate(watch: &mut Watch)
+    ensures { watch.new ≡ level_by past_gate_lem watch.old }
 {
-    if let Some(regs) = level {
+    if let Some(regs) = watch.regs_mut() {
         regs.pc = regs.lr;
     }
 }
@@ -29,6 +28,6 @@ pub(crate) fn leave_gate(w: &mut World, who: &Actor)
 {
     match who {
         Actor::Task(id) => w.kern.leave_gate(*id),
-        Actor::Interrupt => past_gate(&mut w.level),
+        Actor::Interrupt => past_gate(&mut w.watch),
     }
 }

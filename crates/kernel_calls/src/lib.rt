@@ -9,6 +9,7 @@ mod gates;
 mod laws;
 mod leaving;
 mod memory_rows;
+mod module_rows;
 mod objects;
 mod queue_rows;
 mod reply;
@@ -22,6 +23,7 @@ mod symbol_rows;
 mod task_rows;
 #[cfg(test)]
 mod tests;
+mod watch_rows;
 mod world;
 
 pub use actor::{Actor, caller_regs};

@@ -1,17 +1,19 @@
 //! The row of each gate: the effect of its call, and how the caller is answered.
 
-ghost use Rattle.std.specs.Prelude.{◌≡◌, ◌≢◌, ◌+◌, ◌^◌, ◌<◌, ◌≤◌, [], true, false, length, IfOk, OnErr};
+ghost use Rattle.std.specs.Prelude.{◌≡◌, ◌≢◌, ◌+◌, ◌^◌, ◌<◌, ◌≤◌, [], true, false, length, IfOk, OnErr, slice_index};
 ghost use Rattle.std.specs.List.{All};
 ghost use Rattle.wind_base.specs.Limits.{ram_bytes};
 ghost use Rattle.wind_base.specs.OutBuf.{KeepsSpace};
 ghost use Rattle.board_mem.specs.Memory.{string_at};
+ghost use Rattle.module_loader.specs.Holding.{AreHeld};
 ghost use Rattle.kernel_calls.specs.Actors.{Acts, MayCall};
 ghost use Rattle.kernel_calls.specs.TaskRows.{target as target_lem};
 ghost use Rattle.kernel_calls.specs.Spawning.{spawned_if, task_wanted as task_wanted_lem, quick_wanted as quick_wanted_lem};
-ghost use Rattle.kernel_calls.specs.Calls.{is_built, with_reply, of_spawn, of_quick, spawn_state, priority_in, task_at, errno_of as errno_of_lem, with_errno, row as row_lem, left_gate, may_lack_memory};
+ghost use Rattle.kernel_calls.specs.Calls.{is_built, with_reply, of_spawn, of_quick, spawn_state, priority_in, task_at, errno_of as errno_of_lem, with_errno, of_watch, row as row_lem, left_gate, may_lack_memory};
+ghost use Rattle.kernel_calls.specs.WatchRows.{start_row, routine_of};
 ghost use Rattle.wind_base.specs.declared.gate.Gate.TheVariants as gates;
 ghost use Rattle.kernel_calls.specs.declared.actor.Actor.{Actor};
-ghost use Rattle.kernel_calls.specs.Kept.{IsEarly};
+ghost use Rattle.kernel_calls.specs.Kept.{IsEarly, KeepsWatch};
 ghost use Rattle.kernel_calls.specs.Objects.{KeepsObjects};
 ghost use Rattle.kernel_calls.specs.Seen.{world_seen, world_with};
 ghost use Rattle.kernel_calls.specs.Space.{makes_room, HoldsSpace};
@@ -19,11 +21,11 @@ ghost use Rattle.kernel_calls.specs.Space.{makes_room, HoldsSpace};
 use crate::actor::Actor;
 use crate::leaving::leave_gate;
 use crate::memory_rows::{free, malloc, memalign};
+use crate::module_rows::unload;
 use crate::queue_rows::{self, ReceiveWords, SendWords};
 use crate::reply::{DONE, Reply};
 use crate::safety_rows::{delete, make_safe, make_unsafe};
-use crate::sem_rows;
-use crate::show_rows::{print, show_memory, show_tasks};
+use crate::show_rows::{print, show_memory, show_modules, show_symbols, show_tasks};
 use crate::spawning::{quick_wanted, spawn_if, task_wanted, tell_spawn};
 use crate::symbol_rows::{NewSymbol, add_symbol};
 use crate::task_rows::{
@@ -31,6 +33,8 @@ use crate::task_rows::{
     ticks, unlock, unlock_interrupts, verify,
 };
 use crate::world::World;
+use crate::{sem_rows, watch_rows};
+use isr_watch::Routine;
 use std::alloc::Global;
 use text_show::task_table;
 use wind_base::{Errno, Gate, NoMemory};
@@ -216,6 +220,43 @@ fn dump_memory(
     Ok(reply)
 }
 
+// lkup: the rows of symbols. Its caller leaves its gate behind it. For want of memory nothing changes.
+fn list_symbols(
+    alloc: Global,
+    w: &mut World,
+    who: &Actor,
+    gpr: &[u32; 32],
+) -> Result<Reply, NoMemory>
+    requires { Acts w.old.kern who.now }
+    ensures ok { IfOk result (λ r. with_reply (world_seen ⟦<dyn Device as Device>⟧ w.new) r
+        ≡ row_lem gates.Lkup (left_gate (world_seen ⟦<dyn Device as Device>⟧ w.old) who.now) who.now gpr.now) }
+    ensures err { OnErr result (world_seen ⟦<dyn Device as Device>⟧ w.new ≡ world_seen ⟦<dyn Device as Device>⟧ w.old) }
+    ensures space { HoldsSpace w.old.out w.new.out }
+{
+    let bus = &w.bus;
+    let reply = show_symbols(alloc, &w.syms, &bus.ram, gpr[3], &mut w.out)?;
+    leave_gate(w, who);
+    Ok(reply)
+}
+
+// moduleShow: the table of the modules. Its caller leaves its gate behind it. For want of memory nothing changes.
+fn list_modules(
+    alloc: Global,
+    w: &mut World,
+    who: &Actor,
+    gpr: &[u32; 32],
+) -> Result<Reply, NoMemory>
+    requires { Acts w.old.kern who.now }
+    ensures ok { IfOk result (λ r. with_reply (world_seen ⟦<dyn Device as Device>⟧ w.new) r
+        ≡ row_lem gates.ModuleShow (left_gate (world_seen ⟦<dyn Device as Device>⟧ w.old) who.now) who.now gpr.now) }
+    ensures err { OnErr result (world_seen ⟦<dyn Device as Device>⟧ w.new ≡ world_seen ⟦<dyn Device as Device>⟧ w.old) }
+    ensures space { HoldsSpace w.old.out w.new.out }
+{
+    let reply = show_modules(alloc, &w.mods, &mut w.out)?;
+    leave_gate(w, who);
+    Ok(reply)
+}
+
 // The row of a gate that may lack memory, on the world that its caller has left, with the words in its caller's
 // registers. For want of memory nothing changes, and the caller stands at its gate.
 pub(crate) fn lacking_row(
@@ -239,6 +280,8 @@ pub(crate) fn lacking_row(
         Gate::SymAdd => add_by(alloc, w, who, gpr),
         Gate::MsgQCreate => create_by(alloc, w, who, gpr),
         Gate::I => list_tasks(alloc, w, who, gpr),
+        Gate::Lkup => list_symbols(alloc, w, who, gpr),
+        Gate::ModuleShow => list_modules(alloc, w, who, gpr),
         Gate::D => dump_memory(alloc, w, who, gpr),
         _ => unreachable!(),
     }
@@ -297,6 +340,32 @@ fn receive(w: &mut World, who: Actor, gpr: &[u32; 32]) -> Reply
     )
 }
 
+// unld
+fn unload_module(w: &mut World, gpr: &[u32; 32]) -> Reply
+    requires held { AreHeld w.old.mods w.old.part }
+    ensures row { (a : Actor) → with_reply (world_seen ⟦<dyn Device as Device>⟧ w.new) result
+        ≡ row_lem gates.Unld (world_seen ⟦<dyn Device as Device>⟧ w.old) a gpr.now }
+    ensures out { w.new.out ≡ w.old.out }
+{
+    let bus = &w.bus;
+    unload(&mut w.mods, &mut w.part, &mut w.syms, &bus.ram, gpr[3])
+}
+
+// wdStart, with the words in its caller's registers
+fn start_watchdog(w: &mut World, gpr: &[u32; 32]) -> Reply
+    requires early { IsEarly (world_with [] w.old) }
+    ensures row { with_reply (world_seen ⟦<dyn Device as Device>⟧ w.new) result
+        ≡ of_watch (world_seen ⟦<dyn Device as Device>⟧ w.old) (start_row w.old.kern w.old.watch (slice_index gpr.now 3)
+        (slice_index gpr.now 4) (routine_of (slice_index gpr.now 5) (slice_index gpr.now 6))) }
+    ensures out { w.new.out ≡ w.old.out }
+{
+    let routine = Routine {
+        entry: gpr[5],
+        param: gpr[6],
+    };
+    watch_rows::start(&w.kern, &mut w.watch, gpr[3], gpr[4], routine)
+}
+
 // The row of a gate that takes no memory, with the words in its caller's registers.
 pub(crate) fn plain_row(w: &mut World, gate: Gate, who: Actor, gpr: &[u32; 32]) -> Reply
     requires built { is_built gate ≡ true }
@@ -306,7 +375,9 @@ pub(crate) fn plain_row(w: &mut World, gate: Gate, who: Actor, gpr: &[u32; 32]) 
     requires end { w.old.part.end ≡ ram_bytes }
     requires ready { MayCall w.old.kern who }
     requires objects { KeepsObjects w.old.kern w.old.objects }
+    requires watch { KeepsWatch w.old.kern.next_id w.old.watch }
     requires ram { length w.old.bus.ram ≡ ram_bytes }
+    requires modules { AreHeld w.old.mods w.old.part }
     requires early { IsEarly (world_with [] w.old) }
     requires room { 4096 ≤ w.old.out.room }
     ensures row { with_reply (world_seen ⟦<dyn Device as Device>⟧ w.new) result
@@ -349,9 +420,14 @@ pub(crate) fn plain_row(w: &mut World, gate: Gate, who: Actor, gpr: &[u32; 32]) 
         Gate::MsgQReceive => receive(w, who, gpr),
         Gate::MsgQDelete => queue_rows::delete(&mut w.kern, &mut w.objects, gpr[3]),
         Gate::MsgQNumMsgs => queue_rows::count(&w.objects, gpr[3]),
+        Gate::WdCreate => watch_rows::create(&mut w.kern, &mut w.watch),
+        Gate::WdStart => start_watchdog(w, gpr),
+        Gate::WdCancel => watch_rows::cancel(&mut w.watch, gpr[3]),
+        Gate::WdDelete => watch_rows::delete(&mut w.watch, gpr[3]),
         Gate::Malloc => malloc(&mut w.part, gpr[3]),
         Gate::Free => free(&mut w.part, gpr[3]),
         Gate::Memalign => memalign(&mut w.part, gpr[3], gpr[4]),
+        Gate::Unld => unload_module(w, gpr),
         Gate::Printf => {
             let bus = &w.bus;
             print(&bus.ram, gpr, &mut w.out)

@@ -1,18 +1,20 @@
 //! The calls that write texts.
 
-ghost use Rattle.std.specs.Prelude.{◌≡◌, ◌++◌, ◌≤◌, IfOk, OnErr, OnOk};
+ghost use Rattle.std.specs.Prelude.{◌≡◌, ◌++◌, ◌≤◌, IfOk, OnErr, OnOk, option_copied};
 ghost use Rattle.wind_base.specs.OutBuf.{KeepsSpace};
 ghost use Rattle.wind_core.specs.State.{Lives};
 ghost use Rattle.wind_core.specs.Moves.{leave_gate};
 ghost use Rattle.text_show.specs.Columns.{with_text};
 ghost use Rattle.text_show.specs.Tasks.{task_table_of};
-ghost use Rattle.kernel_calls.specs.ShowRows.{printf_row, width_of as width_of_lem, units_of as units_of_lem, dump_in as dump_in_lem, dump_row};
+ghost use Rattle.kernel_calls.specs.ShowRows.{printf_row, width_of as width_of_lem, units_of as units_of_lem, dump_in as dump_in_lem, dump_row, text_wanted as text_wanted_lem, lookup_row, modules_row};
 
 use crate::reply::{DONE, Reply};
 use board_mem::Ram;
 use id_table::Ident;
+use module_loader::Modules;
 use std::alloc::Global;
-use text_show::{dump, printf_text, task_table};
+use symbol_table::Symbols;
+use text_show::{dump, module_rows, printf_text, symbol_rows, task_table};
 use wind_base::{Errno, NoMemory, OutBuf};
 use wind_core::Kern;
 
@@ -58,6 +60,46 @@ pub(crate) fn show_tasks(
         return Err(NoMemory);
     }
     Ok(())
+}
+
+// The text that the names of symbols are to have: the empty one, which each has, where the address is 0.
+fn text_wanted(ram: &Ram, at: u32) -> Option<&[u8]>
+    ensures { option_copied result ≡ text_wanted_lem ram.now at }
+{
+    if at == 0 { Some(&[]) } else { ram.string(at) }
+}
+
+// lkup: the symbols whose names have the text at an address. For want of memory nothing is written.
+pub(crate) fn show_symbols(
+    alloc: Global,
+    syms: &Symbols,
+    ram: &Ram,
+    at: u32,
+    out: &mut OutBuf,
+) -> Result<Reply, NoMemory>
+    ensures ok { IfOk result (λ r. (r ≡ (lookup_row syms.now.list ram.now at).reply)
+        × (out.new ≡ with_text out.old (lookup_row syms.now.list ram.now at).text)) }
+    ensures err { OnErr result (out.new ≡ out.old) }
+{
+    let Some(text) = text_wanted(ram, at) else {
+        return Ok(Reply::Refusal(Errno::BadAddress));
+    };
+    symbol_rows(alloc, syms, text, out)?;
+    Ok(DONE)
+}
+
+// moduleShow: the table of the modules. For want of memory nothing is written.
+pub(crate) fn show_modules(
+    alloc: Global,
+    mods: &Modules,
+    out: &mut OutBuf,
+) -> Result<Reply, NoMemory>
+    ensures ok { IfOk result (λ r. (r ≡ (modules_row mods.now).reply)
+        × (out.new ≡ with_text out.old (modules_row mods.now).text)) }
+    ensures err { OnErr result (out.new ≡ out.old) }
+{
+    module_rows(alloc, mods, out)?;
+    Ok(DONE)
 }
 
 // The width that a number asks for.

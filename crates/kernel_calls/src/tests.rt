@@ -11,6 +11,7 @@ mod steps;
 mod symbols;
 mod tasks;
 mod texts;
+mod watchdogs;
 
 // Error numbers, by the table in docs/calls.md.
 const OBJ_ID_ERROR: u32 = 0x3d_0001;

@@ -2,9 +2,11 @@
 
 use crate::objects::Objects;
 use board_bus::BoardBus;
+use isr_watch::Watch;
 use mem_partition::Part;
+use module_loader::Modules;
 use symbol_table::Symbols;
-use wind_base::{OutBuf, Regs};
+use wind_base::OutBuf;
 use wind_core::Kern;
 
 /// All that a call of the kernel may read or change.
@@ -18,14 +20,16 @@ pub struct World {
     pub part: Part,
     /// The symbols.
     pub syms: Symbols,
+    /// The modules.
+    pub mods: Modules,
     /// RAM and the device slots.
     pub bus: BoardBus,
     /// The bytes that the step has written.
     pub out: OutBuf,
     /// The number of the next task without a name.
     pub names: u64,
-    /// The registers of the interrupt routine that is active.
-    pub level: Option<Regs>,
+    /// The watchdogs, and the interrupt routines that are active and listed.
+    pub watch: Watch,
     /// The number of the last error at interrupt level.
     pub int_errno: u32,
 }

@@ -61,6 +61,14 @@ alloc_lies s n align at e = (given s n align at e).lies
 pub place_of_alloc : (s : PartState) (n align at : ℕ) → alloc_of s n align ≡ Ok at → place s.start s.end s.blocks n align ≡ Some at
 place_of_alloc s n align at e = (given s n align at e).answer
 
+pub room_of_alloc : (s : PartState) (n align at : ℕ) → alloc_of s n align ≡ Ok at → length s.blocks < s.room
+room_of_alloc s n align at e = (given s n align at e).room
+
+-- a refusal changes nothing
+pub refused_is : (s : PartState) (n align : ℕ) (class : Class) (e : PartErr) → alloc_of s n align ≡ Err e → after_alloc s n align class ≡ s
+unfolding after_alloc
+refused_is s n align class e h = ap (taken_at s n class) h
+
 abbrev pub given_block : ℕ → ℕ → Class → Block
 given_block n at class = record { addr = at; size = rounded n; class = class }
 

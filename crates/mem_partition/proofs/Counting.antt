@@ -60,20 +60,20 @@ abbrev in_block : Block → ℕ → Bool
 in_block b a = leb b.addr a && ltb a (b.addr + b.size)
 
 -- an address before all blocks lies in none
-before_all : (lo hi a : ℕ) (bs : List Block) → Laid lo hi bs → a < lo → is_free bs a ≡ true
+pub before_all : (lo hi a : ℕ) (bs : List Block) → Laid lo hi bs → a < lo → is_free bs a ≡ true
 before_all lo hi a [] laid h = refl
 before_all lo hi a (b ∷ bs) (low, some, high, laid) h =
     let outside = and_left (leb b.addr a) (ltb a (b.addr + b.size)) (lt-leb b.addr a (omega arith)) in
     ap (λ t. not (t || list_any (λ c. in_block c a) bs)) outside ∙ before_all (b.addr + b.size) hi a bs laid (omega arith)
 
 -- an address of the first block is not free
-in_first : (b : Block) (bs : List Block) (a : ℕ) → b.addr ≤ a → a < b.addr + b.size → is_free (b ∷ bs) a ≡ false
+pub in_first : (b : Block) (bs : List Block) (a : ℕ) → b.addr ≤ a → a < b.addr + b.size → is_free (b ∷ bs) a ≡ false
 in_first b bs a low high =
     ap (λ t. not (t || list_any (λ c. in_block c a) bs))
     (and_from (leb b.addr a) (ltb a (b.addr + b.size)) (le-leb b.addr a low) (lt-ltb a (b.addr + b.size) high))
 
 -- behind the first block the others decide
-behind_first : (b : Block) (bs : List Block) (a : ℕ) → b.addr + b.size ≤ a → is_free (b ∷ bs) a ≡ is_free bs a
+pub behind_first : (b : Block) (bs : List Block) (a : ℕ) → b.addr + b.size ≤ a → is_free (b ∷ bs) a ≡ is_free bs a
 behind_first b bs a h =
     ap (λ t. not (t || list_any (λ c. in_block c a) bs))
     (and_right (leb b.addr a) (ltb a (b.addr + b.size)) (le-ltb a (b.addr + b.size) h))

@@ -59,7 +59,7 @@ length-with_block b (c ∷ cs) = elim (ltb b.addr c.addr) as (λ t. length (cond
 ]
 
 -- blocks that begin behind an address are not the one at it
-none_behind : (lo hi at : ℕ) (bs : List Block) → Laid lo hi bs → at < lo → without_block at bs ≡ bs
+pub none_behind : (lo hi at : ℕ) (bs : List Block) → Laid lo hi bs → at < lo → without_block at bs ≡ bs
 none_behind lo hi at [] laid h = refl
 none_behind lo hi at (b ∷ bs) (low, some, high, laid) h =
     ap (λ t. cond (not t) (b ∷ without_block at bs) (without_block at bs)) (ne_eqb b.addr at (λ e. omega arith))
@@ -83,11 +83,22 @@ length-without at (b ∷ bs) =
     ]
 
 -- the block at a place begins at lo or behind
-place_behind : (lo hi : ℕ) (bs : List Block) (k : ℕ) (d : Block) → Laid lo hi bs → k < length bs → lo ≤ (get_or bs k d).addr
+pub place_behind : (lo hi : ℕ) (bs : List Block) (k : ℕ) (d : Block) → Laid lo hi bs → k < length bs → lo ≤ (get_or bs k d).addr
 place_behind lo hi [] k d laid h = omega arith
 place_behind lo hi (b ∷ bs) zero d (low, some, high, laid) h = low
 place_behind lo hi (b ∷ bs) (suc k) d (low, some, high, laid) h =
     let rest = place_behind (b.addr + b.size) hi bs k d laid (omega arith) in omega arith
+
+-- it is not empty, and ends in the pool
+pub place_full : (lo hi : ℕ) (bs : List Block) (k : ℕ) (d : Block) → Laid lo hi bs → k < length bs → 0 < (get_or bs k d).size
+place_full lo hi [] k d laid h = absurd (omega arith)
+place_full lo hi (b ∷ bs) zero d (low, some, high, laid) h = some
+place_full lo hi (b ∷ bs) (suc k) d (low, some, high, laid) h = place_full (b.addr + b.size) hi bs k d laid (omega arith)
+
+pub place_inside : (lo hi : ℕ) (bs : List Block) (k : ℕ) (d : Block) → Laid lo hi bs → k < length bs → (get_or bs k d).addr + (get_or bs k d).size ≤ hi
+place_inside lo hi [] k d laid h = absurd (omega arith)
+place_inside lo hi (b ∷ bs) zero d (low, some, high, laid) h = high
+place_inside lo hi (b ∷ bs) (suc k) d (low, some, high, laid) h = place_inside (b.addr + b.size) hi bs k d laid (omega arith)
 
 pub removed_at : (lo hi at : ℕ) (bs : List Block) (k : ℕ) (d : Block) → Laid lo hi bs → k < length bs → (get_or bs k d).addr ≡ at → remove bs k ≡ without_block at bs
 removed_at lo hi at [] k d laid h e = absurd (omega arith)
@@ -149,6 +160,11 @@ unfolding after_free
 freed_is s at class k bs kept own e =
     let d : Block = record { addr = 0; size = 0; class = class } in
     with_same s (own_removed s at class k bs kept own e) ∙ sym (ap (λ o. freed s at (size_or o)) (own.block d))
+
+-- a refusal changes nothing
+pub not_freed : (s : PartState) (at : ℕ) (class : Class) → own_block s.blocks at class ≡ None → after_free s at class ≡ s
+unfolding after_free
+not_freed s at class e = ap (λ o. freed s at (size_or o)) e
 
 freed_kept : (s : PartState) (at : ℕ) (o : Option Block) → IsPart s → IsPart (freed s at (size_or o))
 freed_kept s at None k = k

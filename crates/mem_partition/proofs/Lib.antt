@@ -4,3 +4,7 @@ pub mod Allocs
 mod Meeting
 mod Counting
 pub mod Owners
+mod Splitting
+mod Merging
+mod Rising
+mod Steps

@@ -1,14 +1,13 @@
 -- Which blocks begin where after a block is given or taken back.
-use Rattle.std.proofs.Common.{◌≡◌, ℕ, ◌+◌, ◌<◌, ◌≤◌, Bool, true, false, cond, leb, ltb, eqb, not, ◌&&◌, List, [], ◌∷◌, Option, Some, None, IsSome, Result, Ok, Err, inl, inr, refl, sym, ap, ◌∙◌, subst, arith}
-use Rattle.std.specs.List.{filter, find}
-use Rattle.std.proofs.lemmas.Bool.{eq-eqb, eqb-true, ne_eqb, and_parts}
+use Rattle.std.proofs.Common.{◌≡◌, ℕ, ◌+◌, ◌<◌, ◌≤◌, Bool, true, false, cond, ltb, eqb, not, ◌&&◌, List, [], ◌∷◌, Some, None, IsSome, inl, inr, refl, sym, ap, ◌∙◌, subst, arith}
+use Rattle.std.specs.List.{find}
+use Rattle.std.proofs.lemmas.Bool.{eqb-true, ne_eqb, and_parts}
 use Rattle.mem_partition.specs.declared.block.Block.{Block}
 use Rattle.mem_partition.specs.declared.block.Class.{Class}
 use Rattle.mem_partition.specs.declared.block.Class.TheVariants.{User, Kernel}
-use Rattle.mem_partition.specs.Place.{is_apart, meets_none, rounded}
-use Rattle.mem_partition.specs.State.{PartState, IsPart, Laid, with_block, without_block, same_class, own_block, alloc_of, after_alloc, taken_at, free_of, size_or, freed, after_free}
+use Rattle.mem_partition.specs.Place.{is_apart, meets_none}
+use Rattle.mem_partition.specs.State.{Laid, with_block, without_block, same_class, own_block}
 use Rattle.mem_partition.proofs.Keeping.{apart_cases}
-use Rattle.mem_partition.proofs.Allocs.{rounded_some, alloc_lies, after_is}
 
 -- the block of this class begins at this address
 abbrev pub is_own : ℕ → Class → Block → Bool

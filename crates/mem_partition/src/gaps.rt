@@ -1,11 +1,8 @@
-//! Where a block is put among blocks that stand in order of address.
+//! Alignments and sizes of blocks.
 
-ghost use Rattle.std.specs.Prelude.{◌≡◌, ◌+◌, ◌≤◌, ◌<◌, ◌^◌, max, IfSome};
-ghost use Rattle.mem_partition.specs.Place.{grain, greatest_align, aligned, rounded, first_fit, Lies};
-ghost use Rattle.mem_partition.specs.State.{is_align as is_align_lem, Laid};
-ghost use Rattle.mem_partition.specs.Gaps.{gap_from};
-
-use crate::block::Block;
+ghost use Rattle.std.specs.Prelude.{◌≡◌, ◌+◌, ◌≤◌, ◌<◌, ◌^◌};
+ghost use Rattle.mem_partition.specs.Place.{aligned, rounded};
+ghost use Rattle.mem_partition.specs.State.{is_align as is_align_lem};
 
 /// The greatest alignment that may be asked for.
 const GREATEST_ALIGN: u32 = 65_536;
@@ -22,7 +19,7 @@ pub(crate) fn is_align(align: u32) -> bool
 
 /// The next multiple of `align` from `n` on.
 #[tactic(auto, unfolding(crate::specs::Place::aligned))]
-fn align_up(n: u64, align: u64) -> u64
+pub(crate) fn align_up(n: u64, align: u64) -> u64
     requires some { 1 ≤ align }
     requires least { align < 2 ^ 32 }
     requires small { n < 2 ^ 62 }
@@ -41,44 +38,4 @@ pub fn round_up(n: u32) -> u64
     ensures small { result < 2 ^ 33 }
 {
     align_up(u64::from(n).max(1), u64::from(GRAIN))
-}
-
-/// The first place from `start` on, a multiple of `align`.
-fn scan(blocks: &[Block], start: u64, end: u64, size: u64, align: u64) -> Option<u64>
-    requires some { 1 ≤ align }
-    requires align { align ≤ greatest_align }
-    requires start { start < 2 ^ 33 }
-    requires size { size < 2 ^ 33 }
-    ensures { result ≡ gap_from end size align start blocks.now }
-{
-    let mut at = start;
-    for block in blocks {
-        if at + size <= u64::from(block.addr) {
-            return Some(at);
-        }
-        at = at.max(align_up(u64::from(block.addr) + u64::from(block.size), align));
-    }
-    if at + size <= end { Some(at) } else { None }
-}
-
-/// The place of a block of `size` bytes, for an alignment as it is asked for.
-#[tactic(auto, using(crate::proofs::Places::gap_place, crate::proofs::Places::first_lies))]
-pub(crate) fn first_place(
-    blocks: &[Block],
-    start: u32,
-    end: u32,
-    size: u64,
-    align: u32,
-) -> Option<u64>
-    requires some { 1 ≤ align }
-    requires align { align ≤ greatest_align }
-    requires bytes { 0 < size }
-    requires size { size < 2 ^ 33 }
-    requires laid { Laid start end blocks.now }
-    ensures value { result ≡ first_fit start end blocks.now size (max align grain) }
-    ensures lies { IfSome result (λ at. Lies start end blocks.now size at) }
-{
-    let align = u64::from(align).max(u64::from(GRAIN));
-    let start = align_up(u64::from(start), align);
-    scan(blocks, start, u64::from(end), size, align)
 }

@@ -4,6 +4,8 @@
 mod block;
 mod gaps;
 mod held;
+mod hole;
+mod holes;
 mod laws;
 mod part;
 #[cfg(test)]
@@ -11,5 +13,7 @@ mod tests;
 
 pub use block::{Block, Class, PartErr};
 pub use gaps::{GRAIN, round_up};
-pub use laws::{alloc_law, blocks_law, place_law};
+pub use hole::Hole;
+pub use holes::Holes;
+pub use laws::{alloc_law, blocks_law, holes_law, place_law};
 pub use part::Part;

@@ -1,6 +1,6 @@
 //! Tables of calls with what they answer, worked out by hand, and partitions with ample memory.
 
-use crate::{Class, Part, PartErr};
+use crate::{Class, Hole, Part, PartErr};
 use std::test::Fail;
 
 /// A call with its arguments: of `alloc` the bytes and the alignment, of `free` the address.
@@ -101,5 +101,36 @@ fn holds_16384_blocks_and_no_more(rt: HostRuntime) -> Result<(), Fail> {
     for (place, (call, want)) in calls.iter().enumerate() {
         assert_eq!(rt; answer(&mut part, *call), *want, "call {place}");
     }
+    Ok(())
+}
+
+#[test]
+fn freed_blocks_merge_with_both_holes(rt: HostRuntime) -> Result<(), Fail> {
+    let mut part = Part::new(rt.alloc(), 0, 0x4_0000).or(Err("memory"))?;
+    for _ in 0..1_024u32 {
+        part.alloc(256, 1, Kernel).or(Err("room"))?;
+    }
+    assert_eq!(rt; part.holes().list().len(), 0);
+    // every second block leaves a hole of its own
+    for place in 0..512u32 {
+        assert_eq!(rt; part.free(512 * place, Kernel), Ok(256));
+    }
+    assert_eq!(rt; part.holes().list().len(), 512);
+    assert_eq!(rt;
+        part.holes().list().get(1).copied(),
+        Some(Hole {
+            start: 512,
+            end: 768
+        })
+    );
+    // each other block joins the hole before it with the one behind it
+    for place in 0..512u32 {
+        assert_eq!(rt; part.free(512 * place + 256, Kernel), Ok(256));
+    }
+    let whole = [Hole {
+        start: 0,
+        end: 0x4_0000,
+    }];
+    assert_eq!(rt; part.holes().list(), whole.as_slice());
     Ok(())
 }

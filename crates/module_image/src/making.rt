@@ -108,6 +108,17 @@ fn unbound_names(alloc: Global, syms: &Symbols, symbols: &[Sym]) -> Result<NameL
     Ok(Items::from_vec(list))
 }
 
+/// The names of the symbols that a load of the module would leave without a binding, in symbol order: of those of other
+/// modules that are not weak, and of which the table has no global.
+pub fn undefined_names(alloc: Global, syms: &Symbols, m: &Module) -> Result<NameList, NoMemory>
+    ensures { IfOk result (λ v. v ≡ unbound syms.now.list m.now.symbols) }
+{
+    match unbound_names(alloc, syms, m.symbols.as_slice()) {
+        Ok(names) => Ok(names),
+        Err(_) => Err(NoMemory),
+    }
+}
+
 /// Text and data before relocation.
 #[tactic(auto, using(crate::proofs::Known::sects_room))]
 fn lay_both(alloc: Global, m: &Module) -> Result<Vec<u8>, AllocError>

@@ -36,11 +36,11 @@ use Rattle.module_loader.proofs.Running.{kept}
 
 -- ---- counts
 
-occurs-append : (a : ℕ) (xs ys : List ℕ) → occurs a (xs ++ ys) ≡ occurs a xs + occurs a ys
+pub occurs-append : (a : ℕ) (xs ys : List ℕ) → occurs a (xs ++ ys) ≡ occurs a xs + occurs a ys
 occurs-append a [] ys = omega arith
 occurs-append a (x ∷ xs) ys = let rest = occurs-append a xs ys in omega arith
 
-held_by-append : (a : ℕ) (rs ts : List (ℕ × LoadedModule)) → occurs a (held_by (rs ++ ts)) ≡ occurs a (held_by rs) + occurs a (held_by ts)
+pub held_by-append : (a : ℕ) (rs ts : List (ℕ × LoadedModule)) → occurs a (held_by (rs ++ ts)) ≡ occurs a (held_by rs) + occurs a (held_by ts)
 held_by-append a [] ts = omega arith
 held_by-append a (r ∷ rs) ts =
     let rest = held_by-append a rs ts in
@@ -163,7 +163,7 @@ all_gone (g ∷ gs) s a h =
 
 -- ---- an unload
 
-fewer : (rs : List (ℕ × LoadedModule)) (id a : ℕ) → occurs a (held_by (without rs id)) ≤ occurs a (held_by rs)
+pub fewer : (rs : List (ℕ × LoadedModule)) (id a : ℕ) → occurs a (held_by (without rs id)) ≤ occurs a (held_by rs)
 fewer [] id a = omega arith
 fewer (r ∷ rs) id a =
     let rest = fewer rs id a in
@@ -176,7 +176,7 @@ fewer (r ∷ rs) id a =
 same_module : (x m : LoadedModule) (a : ℕ) → Some x ≡ Some m → occurs a (addrs_of x.segments) ≡ occurs a (addrs_of m.segments)
 same_module x m a e = let q : x ≡ m = cc in ap (λ (y : LoadedModule). occurs a (addrs_of y.segments)) q
 
-parted : (rs : List (ℕ × LoadedModule)) (id a : ℕ) (m : LoadedModule) → object_of rs id ≡ Some m
+pub parted : (rs : List (ℕ × LoadedModule)) (id a : ℕ) (m : LoadedModule) → object_of rs id ≡ Some m
     → occurs a (addrs_of m.segments) + occurs a (held_by (without rs id)) ≤ occurs a (held_by rs)
 parted [] id a m e = absurd (cc)
 parted (r ∷ rs) id a m e =
@@ -203,7 +203,7 @@ unload_holds rows s id m k e = record {
 -- ---- a load
 
 -- counted addresses are Kernel blocks, and none is counted twice
-record Holds (s : PartState) (count : ℕ → ℕ) : Type 0 where
+pub record Holds (s : PartState) (count : ℕ → ℕ) : Type 0 where
   pub blocks : (a : ℕ) → 0 < count a → is_kernel_block s a ≡ true
   pub distinct : (a : ℕ) → count a ≤ 1
 
@@ -272,7 +272,7 @@ same_counts s f g e k = record {
   distinct = λ a. (let q = e a in let d = k.distinct a in omega arith);
 }
 
-needs_hold : (s : PartState) (z : Needs) (at : Places) (count : ℕ → ℕ) → IsPart s → AllStand s z at → Holds s count
+pub needs_hold : (s : PartState) (z : Needs) (at : Places) (count : ℕ → ℕ) → IsPart s → AllStand s z at → Holds s count
     → Holds (with_needs s z) (λ a. count a + occurs a (addrs_of (segments_at z at)))
 needs_hold s z at count k st held =
     let kt = seg_kept s z.text k in
@@ -283,7 +283,7 @@ needs_hold s z at count k st held =
     same_counts (with_needs s z) (λ a. count a + occurs a (addr_of (segment_at z.text at.text)) + occurs a (addr_of (segment_at z.«data» at.«data»)) + occurs a (addr_of (segment_at z.bss at.bss)))
     (λ a. count a + occurs a (addrs_of (segments_at z at))) (λ a. (let q = three z at a in omega arith)) last
 
-load_holds : (s : LoaderState) (name : List ℕ) (m : Module) (mode : ℕ) (at : Places) → IsPart s.part → AreHeld s.modules s.part → verdict s m mode ≡ Ok at
+pub load_holds : (s : LoaderState) (name : List ℕ) (m : Module) (mode : ℕ) (at : Places) → IsPart s.part → AreHeld s.modules s.part → verdict s m mode ≡ Ok at
     → AreHeld (loaded s name m mode at).modules (loaded s name m mode at).part
 unfolding loaded
 load_holds s name m mode at k held h =
@@ -300,6 +300,35 @@ load_holds s name m mode at k held h =
           let e = occurs-append a (addrs_of (segments_at (needs_of m) at)) [] in
           let d = all.distinct a in omega arith);
     }
+
+-- the addresses of the modules' blocks behind a load
+pub held_by-loaded : (s : LoaderState) (name : List ℕ) (m : Module) (mode : ℕ) (at : Places) (a : ℕ)
+    → occurs a (held_by (loaded s name m mode at).modules) ≡ occurs a (held_by s.modules) + occurs a (addrs_of (segments_at (needs_of m) at))
+unfolding loaded
+held_by-loaded s name m mode at a =
+    let row : ℕ × LoadedModule = (s.kern.next_id, record_of name (needs_of m) at) in
+    let n = held_by-append a s.modules (row ∷ []) in
+    let e = occurs-append a (addrs_of (segments_at (needs_of m) at)) [] in
+    omega arith
+
+-- none of the module's blocks begins where a Kernel block did before
+pub none_before : (s : LoaderState) (m : Module) (mode : ℕ) (at : Places) (a : ℕ) → IsPart s.part → verdict s m mode ≡ Ok at → is_kernel_block s.part a ≡ true
+    → occurs a (addrs_of (segments_at (needs_of m) at)) ≡ 0
+none_before s m mode at a k h there =
+    let st = all_stand s.part (needs_of m) at k ((is_accepted s m mode at h).places) in
+    let all = needs_hold s.part (needs_of m) at (λ b. occurs b (a ∷ [])) k st (record { blocks = one; distinct = once }) in
+    let d = all.distinct a in
+    let e = occurs_one a a refl in
+    omega arith
+  where
+    one : (b : ℕ) → 0 < occurs b (a ∷ []) → is_kernel_block s.part b ≡ true
+    one b some = elim (cases_eq a b) [
+      | inl same ↦ subst (λ x. is_kernel_block s.part x ≡ true) same there
+      | inr other ↦ (let none = occurs_none a b other in absurd (omega arith))
+    ]
+
+    once : (b : ℕ) → occurs b (a ∷ []) ≤ 1
+    once b = elim (eqb a b) as (λ t. cond t 1 0 + 0 ≤ 1) [ true ↦ omega arith | false ↦ omega arith ]
 
 below_more : (rows : List (ℕ × LoadedModule)) (id : ℕ) (m : LoadedModule) → IdsBelow id rows → IdsBelow (id + 1) (rows ++ (id, m) ∷ [])
 below_more [] id m all = All-cons (λ r. r.0 < id + 1) (id, m) [] (omega arith) (λ k d h. absurd (omega arith))
@@ -325,13 +354,13 @@ end_freed : (s : PartState) (at : ℕ) → (after_free s at Kernel).end ≡ s.en
 unfolding after_free
 end_freed s at = elim (own_block s.blocks at Kernel) as (λ o. (freed s at (size_or o)).end ≡ s.end) [ None ↦ refl | Some b ↦ refl ]
 
-end_without : (gs : List Segment) (s : PartState) → (without_all s gs).end ≡ s.end
+pub end_without : (gs : List Segment) (s : PartState) → (without_all s gs).end ≡ s.end
 end_without [] s = refl
 end_without (g ∷ gs) s =
     end_without gs (without_segment s g)
     ∙ elim (eqb g.size 0) as (λ t. (cond t s (after_free s g.addr Kernel)).end ≡ s.end) [ true ↦ refl | false ↦ end_freed s g.addr ]
 
-below_without : (rows : List (ℕ × LoadedModule)) (next id : ℕ) → IdsBelow next rows → IdsBelow next (without rows id)
+pub below_without : (rows : List (ℕ × LoadedModule)) (next id : ℕ) → IdsBelow next rows → IdsBelow next (without rows id)
 below_without [] next id all = all
 below_without (r ∷ rs) next id all =
     let rest = below_without rs next id (All-tail (λ r. r.0 < next) r rs all) in
@@ -364,6 +393,17 @@ of_verdict s t name file mode (Ok at) k keeps e h =
     let f = is_file s file mode at e in
     subst (λ (x : LoaderState). KeepsModules x) (sym h) (load_keeps s name (module_at file) mode at k f.known keeps f.verdict)
 of_verdict s t name file mode (Err e) k keeps q h = absurd h
+
+-- of a module that was read
+of_module_verdict : (s t : LoaderState) (name : List ℕ) (m : Module) (mode : ℕ) (v : Result Places LoadErr) → IsPart s.part → IsModule m → KeepsModules s → verdict s m mode ≡ v
+    → IsLoaded v s name m mode t → KeepsModules t
+of_module_verdict s t name m mode (Ok at) k known keeps e h = subst (λ (x : LoaderState). KeepsModules x) (sym h) (load_keeps s name m mode at k known keeps e)
+of_module_verdict s t name m mode (Err e) k known keeps q h = absurd h
+
+pub kept_after_module : (r : Result Loaded LoadErr) (s t : LoaderState) (name : List ℕ) (m : Module) (mode : ℕ) → IsModule m → KeepsModules s
+    → OnOk r (IsPart s.part) → OnOk r (IsLoaded (verdict s m mode) s name m mode t) → OnErr r (t ≡ s) → KeepsModules t
+kept_after_module (Ok l) s t name m mode known keeps part ok err = of_module_verdict s t name m mode (verdict s m mode) part known keeps refl ok
+kept_after_module (Err e) s t name m mode known keeps part ok err = subst (λ (x : LoaderState). KeepsModules x) (sym err) keeps
 
 pub kept_after_load : (r : Result Loaded LoadErr) (s t : LoaderState) (name file : List ℕ) (mode : ℕ) → KeepsModules s
     → OnOk r (IsPart s.part) → OnOk r (IsLoaded (file_verdict s file mode) s name (module_at file) mode t) → OnErr r (t ≡ s) → KeepsModules t

@@ -72,7 +72,7 @@ fn place(
 }
 
 /// Loads a module that was read.
-fn load_module(
+pub(crate) fn load_module(
     alloc: Global,
     table: &mut Table<LoadedModule>,
     kern: &mut Kern,

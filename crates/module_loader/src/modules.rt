@@ -5,15 +5,17 @@ ghost use Rattle.wind_lists.specs.Records.{Rising};
 ghost use Rattle.id_table.specs.Rows.{object_of, next_above, row_id, without, removed};
 ghost use Rattle.symbol_table.specs.State.{without_group};
 ghost use Rattle.elf_read.specs.Contents.{module_at};
-ghost use Rattle.module_loader.specs.Loading.{file_verdict, told, IsLoaded, IsVerdict};
+ghost use Rattle.elf_read.specs.Modules.{IsModule};
+ghost use Rattle.module_loader.specs.Loading.{file_verdict, verdict, told, IsLoaded, IsVerdict};
 ghost use Rattle.module_loader.specs.Steps.{state_of};
 ghost use Rattle.module_loader.specs.Holding.{AreHeld, KeepsModules};
 ghost use Rattle.module_loader.specs.Modules.{HasIdent, newest_named, without_segment, without_segments};
 
-use crate::loader::load_file;
+use crate::loader::{load_file, load_module};
 use crate::module::{LoadErr, Loaded, LoadedModule, NoSuchModule, Segment};
 use crate::names::newest_in;
 use board_mem::Ram;
+use elf_read::Module;
 use id_table::{Ident, Table};
 use mem_partition::{Class, Part};
 use std::alloc::Global;
@@ -90,6 +92,44 @@ impl Modules {
             ram,
             name,
             file,
+            mode,
+        )
+    }
+
+    /// The same of a module that was read from its file.
+    pub fn load_module(
+        &mut self,
+        kern: &mut Kern,
+        part: &mut Part,
+        syms: &mut Symbols,
+        ram: &mut Ram,
+        name: Name,
+        m: &Module,
+        mode: u32,
+    ) -> Result<Loaded, LoadErr>
+        requires module { IsModule m.now }
+        requires kept { KeepsModules (state_of kern.old syms.old.list self.old part.old ram.old) }
+        ensures answer { IfOk result
+            (λ l. l ≡ told (state_of kern.old syms.old.list self.old part.old ram.old) m.now) }
+        ensures accepted { OnOk result (IsLoaded
+            (verdict (state_of kern.old syms.old.list self.old part.old ram.old) m.now mode)
+            (state_of kern.old syms.old.list self.old part.old ram.old) name m.now mode
+            (state_of kern.new syms.new.list self.new part.new ram.new)) }
+        ensures refused { IfErr result
+            (IsVerdict (verdict (state_of kern.old syms.old.list self.old part.old ram.old) m.now mode)) }
+        ensures unchanged { OnErr result (state_of kern.new syms.new.list self.new part.new ram.new
+            ≡ state_of kern.old syms.old.list self.old part.old ram.old) }
+        ensures kept { KeepsModules (state_of kern.new syms.new.list self.new part.new ram.new) }
+    {
+        load_module(
+            self.alloc,
+            &mut self.table,
+            kern,
+            part,
+            syms,
+            ram,
+            name,
+            m,
             mode,
         )
     }

@@ -11,14 +11,13 @@ use Rattle.std.proofs.lemmas.List.Elements.{All-contains}
 use Rattle.id_table.specs.Rows.{object_of, with_object, row_id}
 use Rattle.task_block.specs.declared.task.Task.{Task}
 use Rattle.wind_lists.proofs.Records.{found_at, found_in}
-use Rattle.wind_lists.proofs.Passing.{front_passes, front_found, none_passes}
+use Rattle.wind_lists.proofs.Passing.{contains_filter, front_passes, front_found, none_passes}
 use Rattle.wind_lists.proofs.Orders.{first_least}
 use Rattle.wind_core.specs.State.{KernState, IsKern, Lives, task_id, task_of}
 use Rattle.wind_core.specs.Orders.{is_less, is_place, waits_at, waits_before, wait_pri, first_waiter}
 use Rattle.wind_core.specs.Moves.{answered, end_wait, set_held}
 use Rattle.wind_core.proofs.Passes.{waits_before-order}
 use Rattle.wind_core.proofs.Keeping.{every_call_keeps}
-use Rattle.wind_core.proofs.Lawful.{contains_filter}
 use Rattle.wind_core.proofs.Ids.{ids, ids-change, ids-move, lives_by}
 use Rattle.task_safety.specs.Safety.{make_safe, safe_of}
 use Rattle.inheritance.specs.declared.mutex.Mutex.{Mutex}

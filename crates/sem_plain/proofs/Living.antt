@@ -12,12 +12,12 @@ use Rattle.id_table.proofs.Lookups.{object_of-write, object_of-without, object_o
 use Rattle.task_block.specs.declared.task.Task.{Task}
 use Rattle.wind_lists.specs.Sorting.{first}
 use Rattle.wind_lists.proofs.Orders.{first_least}
-use Rattle.wind_lists.proofs.Passing.{front_passes, none_passes}
+use Rattle.wind_lists.proofs.Passing.{contains_filter, front_passes, none_passes}
 use Rattle.wind_core.specs.State.{KernState, IsKern, task_id}
 use Rattle.wind_core.specs.Orders.{same_place, is_place, waits_at, waits_before}
 use Rattle.wind_core.specs.Moves.{pend, end_wait, wake_all}
 use Rattle.wind_core.proofs.Passes.{waits_before-order}
-use Rattle.wind_core.proofs.Lawful.{none_left, contains_filter}
+use Rattle.wind_core.proofs.Lawful.{none_left}
 use Rattle.sem_plain.specs.declared.semaphore.Semaphore.{Semaphore}
 use Rattle.sem_plain.specs.State.{SemState, both, sem_place}
 use Rattle.sem_plain.specs.Calls.{live, written, new_semaphore, emptied, awaited, take_found, take, filled, next_of, handed, give_found, give}

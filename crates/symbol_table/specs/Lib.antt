@@ -1,3 +1,4 @@
 pub mod Newest
 pub mod State
 pub mod Laws
+pub mod Chains

@@ -1,6 +1,7 @@
 //! What follows of the definitions alone.
 
 ghost use Rattle.symbol_table.specs.Laws.{NewestLaw, RemovalLaw};
+ghost use Rattle.symbol_table.specs.Chains.{ChainsLaw};
 
 /// A look-up answers an entry that passes, behind which none passes, and none only where none passes. Of a table
 /// with one symbol more, it answers that symbol where it passes, and else what it answered before.
@@ -12,4 +13,9 @@ pub fn newest_law()
 /// answers as before.
 pub fn removal_law()
     ensures { RemovalLaw }
+{}
+
+/// From the head of a hash the links lead through exactly its entries, from the newest to the oldest.
+pub fn chains_law()
+    ensures { ChainsLaw }
 {}

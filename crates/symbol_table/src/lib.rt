@@ -1,13 +1,16 @@
 //! The symbol table: symbols in order of adding, of which a look-up answers the newest.
 #![tactic(auto)]
 
+mod chains;
 mod laws;
+mod links;
 mod search;
 mod symbol;
 mod table;
 #[cfg(test)]
 mod tests;
 
-pub use laws::{newest_law, removal_law};
+pub use chains::Chains;
+pub use laws::{chains_law, newest_law, removal_law};
 pub use symbol::{SymErr, SymKind, Symbol};
 pub use table::Symbols;

@@ -1,39 +1,80 @@
-//! Look-ups in a list of symbols, from its end.
+//! Look-ups along the chains of a list of symbols.
 
-ghost use Rattle.std.specs.Prelude.{◌≡◌, option_copied};
-ghost use Rattle.symbol_table.specs.Newest.{is_named, is_global_named, find, find_global, find_by_value};
+ghost use Rattle.std.specs.Prelude.{◌≡◌, ◌≤◌, length, option_copied, map, vec_capacity};
+ghost use Rattle.wind_base.specs.Limits.{most_symbols};
+ghost use Rattle.symbol_table.specs.Newest.{newest, has_value};
+ghost use Rattle.symbol_table.specs.Chains.{most_heads, AreChained, hash_by_name, hash_by_value, is_sought, state_of};
 
+use crate::links::{Links, hash_name, hash_value};
 use crate::symbol::Symbol;
 
-fn has_name(symbol: &Symbol, name: &[u8]) -> bool
-    ensures { result ≡ is_named name.now symbol.now }
+fn is_sought_for(symbol: &Symbol, global_only: bool, name: &[u8]) -> bool
+    ensures { result ≡ is_sought global_only name.now symbol.now }
 {
-    symbol.name.bytes() == name
+    (!global_only || symbol.global) && symbol.name.bytes() == name
 }
 
-fn is_global(symbol: &Symbol, name: &[u8]) -> bool
-    ensures { result ≡ is_global_named name.now symbol.now }
+/// The newest symbol of a name, or the newest global one.
+pub(crate) fn newest_named<'a>(
+    list: &'a [Symbol],
+    links: &Links,
+    name: &[u8],
+    global_only: bool,
+) -> Option<&'a Symbol>
+    requires { AreChained (map hash_by_name list.now) (state_of links.now) }
+    ensures { option_copied result ≡ newest (is_sought global_only name.now) list.now }
 {
-    symbol.global && has_name(symbol, name)
-}
-
-/// The newest symbol of a name.
-pub(crate) fn newest_named<'a>(list: &'a [Symbol], name: &[u8]) -> Option<&'a Symbol>
-    ensures { option_copied result ≡ find list.now name.now }
-{
-    list.iter().rev().find(|symbol| has_name(symbol, name))
-}
-
-/// The newest global symbol of a name.
-pub(crate) fn newest_global<'a>(list: &'a [Symbol], name: &[u8]) -> Option<&'a Symbol>
-    ensures { option_copied result ≡ find_global list.now name.now }
-{
-    list.iter().rev().find(|symbol| is_global(symbol, name))
+    let mut at = links.heads[hash_name(name) as usize] as usize;
+    while at != 0 {
+        let symbol = &list[at - 1];
+        if is_sought_for(symbol, global_only, name) {
+            return Some(symbol);
+        }
+        at = links.before[at - 1] as usize;
+    }
+    None
 }
 
 /// The newest symbol of a value.
-pub(crate) fn newest_valued(list: &[Symbol], value: u32) -> Option<&Symbol>
-    ensures { option_copied result ≡ find_by_value list.now value }
+pub(crate) fn newest_valued<'a>(list: &'a [Symbol], links: &Links, value: u32) -> Option<&'a Symbol>
+    requires { AreChained (map hash_by_value list.now) (state_of links.now) }
+    ensures { option_copied result ≡ newest (has_value value) list.now }
 {
-    list.iter().rev().find(|symbol| symbol.value == value)
+    let mut at = links.heads[hash_value(value) as usize] as usize;
+    while at != 0 {
+        let symbol = &list[at - 1];
+        if symbol.value == value {
+            return Some(symbol);
+        }
+        at = links.before[at - 1] as usize;
+    }
+    None
+}
+
+/// Puts the symbols into chains by name.
+pub(crate) fn link_by_name(list: &[Symbol], links: &mut Links)
+    requires heads { length links.old.heads.items ≡ most_heads }
+    requires few { length list.now ≤ most_symbols }
+    requires room { length list.now ≤ vec_capacity links.old.before }
+    ensures chained { AreChained (map hash_by_name list.now) (state_of links.new) }
+    ensures capacity { vec_capacity links.new.before ≡ vec_capacity links.old.before }
+{
+    links.clear();
+    for symbol in list {
+        links.add(hash_name(symbol.name.bytes()));
+    }
+}
+
+/// Puts the symbols into chains by value.
+pub(crate) fn link_by_value(list: &[Symbol], links: &mut Links)
+    requires heads { length links.old.heads.items ≡ most_heads }
+    requires few { length list.now ≤ most_symbols }
+    requires room { length list.now ≤ vec_capacity links.old.before }
+    ensures chained { AreChained (map hash_by_value list.now) (state_of links.new) }
+    ensures capacity { vec_capacity links.new.before ≡ vec_capacity links.old.before }
+{
+    links.clear();
+    for symbol in list {
+        links.add(hash_value(symbol.value));
+    }
 }

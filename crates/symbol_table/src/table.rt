@@ -1,36 +1,32 @@
 //! The table and its calls.
 
-ghost use Rattle.std.specs.Prelude.{◌≡◌, ◌<◌, ◌≤◌, ◌-◌, ◌+◌, ◌↔◌, [], length, count_by, ◌==◌, IfOk, OnOk, OnErr, Err, slice_get, option_copied, vec_capacity};
+ghost use Rattle.std.specs.Prelude.{◌≡◌, ◌<◌, ◌≤◌, ◌+◌, ◌↔◌, [], length, IfOk, OnOk, Err, slice_get, option_copied};
 ghost use Rattle.wind_base.specs.Limits.{most_symbols};
 ghost use Rattle.symbol_table.specs.Newest.{find, find_global, find_by_value};
 ghost use Rattle.symbol_table.specs.State.{IsTable, added, without_group, count_of};
+ghost use Rattle.symbol_table.specs.Chains.{table_of};
 ghost use Rattle.symbol_table.specs.declared.symbol.SymErr.TheVariants as errors;
 
-use crate::search::{newest_global, newest_named, newest_valued};
+use crate::chains::Chains;
 use crate::symbol::{SymErr, Symbol};
 use std::alloc::Global;
 use std::marker::Model;
 use wind_base::NoMemory;
-use wind_base::limits::SYMBOLS;
 
 /// Symbols in order of adding, 65,536 at most. Contracts see them as a list, beside how many more there is
 /// room for.
 #[derive(Drop)]
 pub struct Symbols {
-    list: Vec<Symbol>,
-    spare: u32,
+    chains: Chains,
 }
 
 impl Model for Symbols {
-    ghost use Rattle.std.specs.Prelude.{◌≤◌, ◌+◌, length, vec_capacity};
-    ghost use Rattle.symbol_table.specs.State.{TableState, IsTable};
+    ghost use Rattle.symbol_table.specs.State.{TableState};
+    ghost use Rattle.symbol_table.specs.Chains.{table_of};
 
     ghost Value = { TableState };
 
-    ghost view = { λ t. record { list = t.list.items; spare = t.spare } };
-
-    ghost invariant = { λ t. (length t.list.items + t.spare ≤ vec_capacity t.list)
-        × IsTable (record { list = t.list.items; spare = t.spare }) };
+    ghost view = { λ t. table_of t.chains };
 }
 
 impl Symbols {
@@ -38,10 +34,10 @@ impl Symbols {
     pub fn new(alloc: Global) -> Result<Symbols, NoMemory>
         ensures { IfOk result (λ t. t ≡ record { list = []; spare = 0 }) }
     {
-        Ok(Symbols {
-            list: Vec::new(alloc),
-            spare: 0,
-        })
+        match Chains::new(alloc) {
+            Ok(chains) => Ok(Symbols { chains }),
+            Err(NoMemory) => Err(NoMemory),
+        }
     }
 
     /// Makes room for `n` symbols more than there are. Refused exactly where these would be more than 65,536
@@ -52,17 +48,7 @@ impl Symbols {
         ensures room { OnOk result (n ≤ self.new.spare) }
         ensures no_less { self.old.spare ≤ self.new.spare }
     {
-        if self.list.len() as u64 + u64::from(n) > u64::from(SYMBOLS) {
-            return Err(SymErr::TableFull);
-        }
-        if n <= self.spare {
-            return Ok(());
-        }
-        let Ok(()) = self.list.reserve(n as usize) else {
-            return Err(SymErr::NoMemory);
-        };
-        self.spare = n;
-        Ok(())
+        self.chains.reserve(n)
     }
 
     /// How many symbols there are. It also says what every table keeps.
@@ -70,14 +56,14 @@ impl Symbols {
         ensures count { result ≡ length self.now.list }
         ensures sound { IsTable self.now }
     {
-        self.list.len() as u32
+        self.chains.entries().len() as u32
     }
 
     /// The symbol of this number, counted from 0 in order of adding.
     pub fn at(&self, i: u32) -> Option<&Symbol>
         ensures { option_copied result ≡ slice_get self.now.list i }
     {
-        self.list.get(i as usize)
+        self.chains.entries().get(i as usize)
     }
 
     /// Adds a symbol behind the others, where there is room for it.
@@ -85,29 +71,28 @@ impl Symbols {
         requires { 0 < self.old.spare }
         ensures { self.new ≡ added self.old symbol }
     {
-        self.list.push_reserved(symbol);
-        self.spare -= 1;
+        self.chains.add(symbol);
     }
 
     /// The newest symbol of the name.
     pub fn find(&self, name: &[u8]) -> Option<&Symbol>
         ensures { option_copied result ≡ find self.now.list name.now }
     {
-        newest_named(&self.list, name)
+        self.chains.find_named(name, false)
     }
 
     /// The newest global symbol of the name.
     pub fn find_global(&self, name: &[u8]) -> Option<&Symbol>
         ensures { option_copied result ≡ find_global self.now.list name.now }
     {
-        newest_global(&self.list, name)
+        self.chains.find_named(name, true)
     }
 
     /// The newest symbol of the value.
     pub fn find_by_value(&self, value: u32) -> Option<&Symbol>
         ensures { option_copied result ≡ find_by_value self.now.list value }
     {
-        newest_valued(&self.list, value)
+        self.chains.find_valued(value)
     }
 
     /// Removes the symbols of a module's group, and answers how many they were. The others stay in order.
@@ -117,16 +102,13 @@ impl Symbols {
         ensures list { self.new.list ≡ without_group group self.old.list }
         ensures spare { self.new.spare ≡ self.old.spare }
     {
-        let before = self.list.len();
-        drop_group(&mut self.list, group);
-        (before - self.list.len()) as u32
+        self.chains.remove_group(group)
     }
-}
 
-fn drop_group(list: &mut Vec<Symbol>, group: u32)
-    ensures items { list.new.items ≡ without_group group list.old.items }
-    ensures capacity { vec_capacity list.new ≡ vec_capacity list.old }
-    ensures counted { length list.new.items + count_of group list.old.items ≡ length list.old.items }
-{
-    list.retain(|symbol| symbol.group != group);
+    /// The symbols in their chains, which are over exactly the entries of the table.
+    pub fn chains(&self) -> &Chains
+        ensures { table_of result.now ≡ self.now }
+    {
+        &self.chains
+    }
 }

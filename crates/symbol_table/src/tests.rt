@@ -64,6 +64,26 @@ fn newest_of_one_name_in_three_groups(rt: HostRuntime) -> Result<(), Fail> {
 }
 
 #[test]
+fn two_names_of_one_chain(rt: HostRuntime) -> Result<(), Fail> {
+    let mut table = Symbols::new(rt.alloc()).or(Err("memory"))?;
+    // 33 * 'a' + 'b' is 33 * 'b' + 'A'
+    for (name, value, group) in [(b"ab", 1, 1), (b"bA", 2, 2), (b"ab", 3, 2), (b"bA", 4, 3)] {
+        table.reserve(1).or(Err("room"))?;
+        table.add(symbol(rt.alloc(), name, value, true, group)?);
+    }
+    assert_eq!(rt; value_of(table.find(b"ab")), Some(3));
+    assert_eq!(rt; value_of(table.find(b"bA")), Some(4));
+    assert_eq!(rt; table.remove_group(2), 2);
+    assert_eq!(rt; table.chains().entries().len(), 2);
+    assert_eq!(rt; value_of(table.find(b"ab")), Some(1));
+    assert_eq!(rt; value_of(table.find(b"bA")), Some(4));
+    assert_eq!(rt; table.remove_group(3), 1);
+    assert_eq!(rt; table.find(b"bA").is_none(), true);
+    assert_eq!(rt; value_of(table.find_global(b"ab")), Some(1));
+    Ok(())
+}
+
+#[test]
 fn names_of_1_and_255_bytes(rt: HostRuntime) -> Result<(), Fail> {
     let longest = [b'a'; 255];
     let mut table = Symbols::new(rt.alloc()).or(Err("memory"))?;

@@ -124,21 +124,3 @@ module _ {X : Type 0} (lt : X → X → Bool) (w : IsStrictWeakOrder lt) where
   pub stable_sorted : (xs ys : List X) → IsSortedBy lt ys → IsStableBy lt xs ys → ys ≡ sorted lt xs
   stable_sorted xs ys up stable =
       same ys (sorted lt xs) (in_order_of ys (sorted_far lt w ys up)) (in_order_sorted lt w xs) (λ x. stable x ∙ sym (ties_stay x xs))
-
--- ---- elements that are seen by a function
-module _ {X Y : Type 0} (f : X → Y) (lt : Y → Y → Bool) where
-  abbrev pub seen_by : X → X → Bool
-  seen_by a b = lt (f a) (f b)
-
-  seen_insert : (x : X) (ys : List X) → map f (insert_sorted seen_by x ys) ≡ insert_sorted lt (f x) (map f ys)
-  seen_insert x [] = refl
-  seen_insert x (y ∷ ys) =
-      elim (lt (f y) (f x)) as (λ b. map f (cond b (y ∷ insert_sorted seen_by x ys) (x ∷ y ∷ ys)) ≡ cond b (f y ∷ insert_sorted lt (f x) (map f ys)) (f x ∷ f y ∷ map f ys)) [
-        | true ↦ ap (λ vs. f y ∷ vs) (seen_insert x ys)
-        | false ↦ refl
-      ]
-
-  -- to sort elements is to sort what is seen of them
-  pub seen_sorted : (xs : List X) → map f (sorted seen_by xs) ≡ sorted lt (map f xs)
-  seen_sorted [] = refl
-  seen_sorted (x ∷ xs) = seen_insert x (sorted seen_by xs) ∙ ap (insert_sorted lt (f x)) (seen_sorted xs)

@@ -11,7 +11,7 @@ pub enum Event {
 
 /// The rule of one line. Times and periods are of board time.
 #[derive(Clone, Copy)]
-pub(crate) enum Rule {
+pub enum Rule {
     /// One event, at this time.
     At(u64, Event),
     /// Ticks a period apart, the first one period from 0: the period, and how many there are.
@@ -20,7 +20,7 @@ pub(crate) enum Rule {
 
 /// What a line says.
 #[derive(Clone, Copy)]
-pub(crate) enum Said {
+pub enum Said {
     /// The line is blank or a comment.
     Nothing,
     /// The line has this rule.

@@ -14,7 +14,7 @@ mod schedule;
 #[cfg(test)]
 mod tests;
 
-pub use event::Event;
+pub use event::{Event, Rule, Said};
 pub use reading::{TickErr, read_ticks};
 pub use schedule::Schedule;
 

@@ -1,5 +1,5 @@
 -- Every call of the kernel keeps the kept facts, whether the task that it names lives or not.
-use Rattle.std.proofs.Common.{◌≡◌, ℕ, ◌+◌, ◌<◌, ◌≤◌, true, false, cond, eqb, leb, List, [], ◌∷◌, length, Option, None, Some, IfSome, refl, sym, ap, ◌∙◌, subst, arith, inl, inr}
+use Rattle.std.proofs.Common.{◌≡◌, ℕ, ◌+◌, ◌<◌, ◌≤◌, true, false, cond, leb, List, [], ◌∷◌, length, Option, None, Some, IfSome, refl, sym, ◌∙◌, subst, arith, inl, inr}
 use Rattle.std.proofs.lemmas.Bool.{leb-false}
 use Rattle.std.proofs.lemmas.List.Elements.{All-weaker}
 use Rattle.std.proofs.lemmas.Option.{same_Some}
@@ -8,8 +8,9 @@ use Rattle.wind_base.specs.declared.errno.Errno.TheVariants as errors
 use Rattle.task_block.specs.declared.task.Task.{Task}
 use Rattle.task_block.specs.declared.task.NewTask.{NewTask}
 use Rattle.task_block.specs.Standing.{is_ready}
-use Rattle.wind_lists.specs.Records.{of_id, change}
+use Rattle.wind_lists.specs.Records.{change}
 use Rattle.wind_lists.proofs.Records.{replace-change}
+use Rattle.wind_lists.proofs.Places.{not_there}
 use Rattle.wind_core.specs.State.{KernState, IsKern, WakesAhead, task_id, task_of}
 use Rattle.wind_core.specs.Moves.{renewed, settled, change_task, renew_task, move_found, move_task, new_task, spawn, spawn_refusal, wake_at, pended, delayed, released, answered, end_wait, end_waits, suspended, resumed, resume, is_suspended, unmarked, with_pri, has_pri, change_pri, past_gate, with_answer, with_refusal, unreserved}
 use Rattle.wind_core.specs.Orders.{waiters}
@@ -18,15 +19,6 @@ use Rattle.wind_core.proofs.Writes.{MayFollow, IsKern-replace, settled_follows, 
 use Rattle.wind_core.proofs.Comings.{without_keeps, push_keeps}
 
 -- ---- one task is changed
--- where no record has the id, none changes
-pub not_there : {X : Type 0} (id : X → ℕ) (xs : List X) (n : ℕ) (f : X → X) → of_id id xs n ≡ None → change id xs n f ≡ xs
-not_there id [] n f e = refl
-not_there id (x ∷ xs) n f e =
-    elim (eqb (id x) n) as (λ b. cond b (Some x) (of_id id xs n) ≡ None → cond b (f x) x ∷ change id xs n f ≡ x ∷ xs) [
-      | true ↦ λ q. absurd (cc)
-      | false ↦ λ q. ap (λ ys. x ∷ ys) (not_there id xs n f q)
-    ] e
-
 -- the next order number may rise
 more_sinces : (s : KernState) (n : ℕ) → s.next_since ≤ n → IsKern s → IsKern (record s { next_since = n })
 more_sinces s n more is = record {

@@ -1,11 +1,11 @@
 -- The laws of who runs, of the orders in which tasks stand, and of waking all.
-use Rattle.std.proofs.Common.{◌≡◌, ℕ, suc, ◌<◌, Bool, true, false, cond, ltb, List, [], ◌∷◌, Option, None, Some, refl, sym, ap, ◌∙◌, subst, arith, inl, inr}
+use Rattle.std.proofs.Common.{◌≡◌, ℕ, ◌<◌, true, false, cond, ltb, List, [], ◌∷◌, Option, None, Some, refl, sym, ap, ◌∙◌, subst, inl, inr}
 use Rattle.std.specs.Cmp.Lexicographic.{slice_cmp, nat_list_cmp_total}
 use Rattle.std.specs.Ordering.{is_lt, nat_cmp, ordering_reverse}
 use Rattle.std.specs.declared.cmp.Ordering.TheVariants.{Less, Equal, Greater}
-use Rattle.std.specs.List.{All, Contains, filter}
+use Rattle.std.specs.List.{Contains, filter}
 use Rattle.std.proofs.lemmas.Bool.{and_parts, and_from, ltb-true, lt-ltb}
-use Rattle.std.proofs.lemmas.List.Elements.{All-cons, All-weaker, All-contains}
+use Rattle.std.proofs.lemmas.List.Elements.{All-contains}
 use Rattle.std.proofs.lemmas.Map.Lookups.{exact_bytes}
 use Rattle.std.proofs.lemmas.Option.{same_Some}
 use Rattle.wind_base.specs.declared.errno.Errno.{Errno}
@@ -14,7 +14,7 @@ use Rattle.task_block.specs.declared.task.Task.{Task}
 use Rattle.task_block.specs.Standing.{is_ready}
 use Rattle.wind_lists.proofs.Records.{found_id, found_at, found_in}
 use Rattle.wind_lists.proofs.Orders.{first_least}
-use Rattle.wind_lists.proofs.Passing.{front_found, front_passes, none_passes}
+use Rattle.wind_lists.proofs.Passing.{contains_filter, front_found, front_passes, none_passes}
 use Rattle.wind_core.specs.State.{KernState, IsKern, task_id, task_of}
 use Rattle.wind_core.specs.Orders.{is_less, urgency, arrival, wait_key, is_before, waiters, keeps_running, keeper, last_task, or_else, most_urgent}
 use Rattle.wind_core.specs.Moves.{end_wait, end_waits}
@@ -56,18 +56,6 @@ total_orders = (
 )
 
 -- ---- who runs
--- an element that passes the test is one of those that do
-pub contains_filter : {X : Type 0} (p : X → Bool) (xs : List X) → All (λ y. p y ≡ true → Contains (filter p xs) y) xs
-contains_filter p [] = λ k d h. absurd (omega arith)
-contains_filter p (x ∷ xs) =
-    All-cons (λ y. p y ≡ true → Contains (filter p (x ∷ xs)) y) x xs
-    (λ px. subst (λ b. Contains (cond b (x ∷ filter p xs) (filter p xs)) x) (sym px) (0, omega arith, refl))
-    (All-weaker (λ y. p y ≡ true → Contains (filter p xs) y) (λ y. p y ≡ true → Contains (filter p (x ∷ xs)) y)
-    (λ y inner py.
-    let at : Contains (filter p xs) y = inner py in
-    elim (p x) as (λ b. Contains (cond b (x ∷ filter p xs) (filter p xs)) y) [ true ↦ (suc at.0, omega (arith, at.1), at.2) | false ↦ at ])
-    xs (contains_filter p xs))
-
 -- a task that is kept on is the one that ran last, is ready and holds the lock
 record IsKept (s : KernState) (x : Task) : Type 0 where
   found : task_of s.tasks x.id ≡ Some x

@@ -1,3 +1,4 @@
+pub mod Waiting
 pub mod Writes
 pub mod Passes
 pub mod Comings

@@ -11,6 +11,8 @@ use Rattle.task_block.specs.Standing.{is_ready}
 use Rattle.wind_lists.specs.Records.{Rising, change}
 use Rattle.wind_lists.proofs.Records.{found_id}
 use Rattle.wind_lists.proofs.Passing.{front_found, none_passes}
+use Rattle.wait_order.specs.Line.{Line, without_waiter}
+use Rattle.wind_core.specs.Waiting.{mended}
 use Rattle.wind_core.specs.State.{KernState, Lives, WakesAhead, task_id, task_of}
 use Rattle.wind_core.specs.Orders.{keeps_running, keeper, last_task, or_else, most_urgent, is_before, running, has_come, is_due, arrives_before, due, first_due}
 use Rattle.wind_core.specs.Moves.{renewed, move_found, answered, end_wait}
@@ -20,7 +22,7 @@ use Rattle.wind_core.specs.declared.clock.Late.{Late}
 use Rattle.wind_core.specs.contracts.kern.Kern.{the_view}
 use Rattle.wind_core.proofs.Passes.{is_before-order, arrives_before-order}
 use Rattle.wind_core.proofs.Waking.{time_out_turn}
-use Rattle.wind_core.proofs.Writes.{MayFollow, Kept, written, written_is, written_keeps, found}
+use Rattle.wind_core.proofs.Writes.{MayFollow, Kept, rekeyed, written, written_is, written_keeps, line_mended, mend_fits, found}
 
 -- ---- who runs lives
 kept_by : (o : Option Task) (x : Task) → keeper o ≡ Some x → o ≡ Some x
@@ -95,12 +97,15 @@ turned_is k s who n x y kept is value free e next =
     ∙ ap (turn_of (the_view k)) (sym here)
     ∙ ap (λ r. turn_of r (task_of r.tasks who)) is
 
-pub turned_keeps : (k : Inside) (who n : ℕ) (x y : Task) → Kept k → object_of k.tasks.rows who ≡ Some x → y ≡ turn_task k.slice k.next_since x
-    → n ≡ k.next_since + cond (leb k.slice (x.turns + 1)) 1 0 → Kept (written k who y n)
-turned_keeps k who n x y kept value e next =
-    subst (λ t. Kept (written k who t n)) (sym e)
-    (subst (λ m. Kept (written k who (turn_task k.slice k.next_since x) m)) (sym next)
-    (written_keeps k who (k.next_since + cond (leb k.slice (x.turns + 1)) 1 0) x (turn_task k.slice k.next_since x) kept value (turn_follows (the_view k) k.slice x)))
+pub turned_keeps : (k : Inside) (who n : ℕ) (x y : Task) (l : Line) → Kept k → object_of k.tasks.rows who ≡ Some x → y ≡ turn_task k.slice k.next_since x
+    → n ≡ k.next_since + cond (leb k.slice (x.turns + 1)) 1 0 → l ≡ mended k.waits y → Kept (rekeyed k who y n l)
+turned_keeps k who n x y l kept value e next mends =
+    let may = subst (λ t. MayFollow (the_view k) x t n) (sym e)
+    (subst (MayFollow (the_view k) x (turn_task k.slice k.next_since x)) (sym next) (turn_follows (the_view k) k.slice x)) in
+    written_keeps k who n x y l kept value may (line_mended k who x y l kept value may.id mends)
+
+pub turned_fits : (k : Inside) (who : ℕ) (x y : Task) → Kept k → object_of k.tasks.rows who ≡ Some x → y ≡ turn_task k.slice k.next_since x → length (without_waiter k.waits y.id).waiters < k.waits.room
+turned_fits k who x y kept value e = mend_fits k who x y kept value (ap (λ (t : Task). t.id) e ∙ (turn_follows (the_view k) k.slice x).id)
 
 -- at most one order number is given
 pub since-turn_of : (s : KernState) (o : Option Task) → (turn_of s o).next_since ≤ s.next_since + 1
@@ -166,6 +171,7 @@ counted_keeps k n kept e = (
     sinces = kept.2.sinces;
     ahead = none_due (the_view k).tasks n e;
   },
+  kept.3,
 )
 
 -- the count stands still in the runner's turn

@@ -6,3 +6,4 @@ pub mod Inside
 pub mod Lends
 pub mod Laws
 pub mod Releases
+pub mod Waiting

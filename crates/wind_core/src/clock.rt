@@ -8,6 +8,7 @@ ghost use Rattle.wind_core.specs.Tick.{late_of, late_answer, late_errno, is_free
 ghost use Rattle.wind_core.specs.Moves.{end_wait};
 
 use crate::kern::Kern;
+use crate::keys::mend;
 use crate::scans::{first_due, most_urgent};
 use crate::tasks::count_turn;
 use id_table::Ident;
@@ -88,7 +89,9 @@ impl Kern {
             return;
         }
         let slice = self.slice;
-        count_turn(self.tasks.object_mut(who), &mut self.next_since, slice);
+        let task = self.tasks.object_mut(who);
+        count_turn(task, &mut self.next_since, slice);
+        mend(&mut self.waits, task);
     }
 
     // One more tick of the runner's turn, where turns are counted.

@@ -5,6 +5,7 @@ ghost use Rattle.wind_core.specs.State.{Lives, task_of};
 ghost use Rattle.wind_core.specs.Moves.{suspend, resume, reset, change_pri, set_locks, set_normal, set_safe, set_held, set_errno, set_int_locked, set_again, is_suspended as is_suspended_lem, has_pri as has_pri_lem};
 
 use crate::kern::Kern;
+use crate::keys::mend;
 use crate::tasks::{renew, set_pri, settle, suspend_task, take_marks, take_suspension};
 use id_table::Ident;
 use wind_base::Pri;
@@ -53,6 +54,7 @@ impl Kern {
         let task = self.tasks.object_mut(who);
         take_marks(task);
         renew(task, &mut self.next_since);
+        mend(&mut self.waits, task);
     }
 
     // Whether the task of this id has this priority.
@@ -77,6 +79,7 @@ impl Kern {
         let task = self.tasks.object_mut(who);
         set_pri(task, pri);
         settle(task, &mut self.next_since);
+        mend(&mut self.waits, task);
     }
 
     /// Sets how often the task has locked the scheduler and not unlocked it.

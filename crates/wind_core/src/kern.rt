@@ -7,12 +7,14 @@ ghost use Rattle.wind_base.specs.Limits.{greatest_id};
 ghost use Rattle.id_table.specs.Rows.{IdsBelow, added};
 ghost use Rattle.wind_core.specs.State.{Lives, IsKern, task_of, task_above};
 ghost use Rattle.wind_core.specs.Moves.{spawn, spawn_refusal, remove};
+ghost use Rattle.wind_core.specs.Waiting.{task_waits};
 
 use crate::tasks::made;
 use id_table::{IdSource, Ident, Table};
 use std::alloc::Global;
 use std::marker::Model;
 use task_block::{NewTask, Task};
+use wait_order::Waits;
 use wind_base::limits::TASKS;
 use wind_base::{Errno, NoMemory, Regs};
 
@@ -20,6 +22,8 @@ use wind_base::{Errno, NoMemory, Regs};
 #[derive(Drop)]
 pub struct Kern {
     pub(crate) tasks: Table<Task>,
+    // the tasks that wait, each by its key
+    pub(crate) waits: Waits,
     pub(crate) ids: IdSource,
     pub(crate) lent: bool,
     pub(crate) next_since: u64,
@@ -33,12 +37,14 @@ impl Model for Kern {
     ghost use Rattle.wind_base.specs.Limits.{most_tasks};
     ghost use Rattle.wind_core.specs.State.{KernState, IsKern};
     ghost use Rattle.wind_core.specs.Inside.{kern_state, SameIds};
+    ghost use Rattle.wind_core.specs.Waiting.{task_waits};
+    ghost use Rattle.id_table.specs.Rows.{objects};
 
     ghost Value = { KernState };
 
     ghost view = { λ k. kern_state k.tasks.rows k.ids k.lent k.next_since k.tick k.slice k.last };
 
-    ghost invariant = { λ k. (k.tasks.room ≡ most_tasks) × SameIds k.tasks.rows × IsKern (kern_state k.tasks.rows k.ids k.lent k.next_since k.tick k.slice k.last) };
+    ghost invariant = { λ k. (k.tasks.room ≡ most_tasks) × SameIds k.tasks.rows × IsKern (kern_state k.tasks.rows k.ids k.lent k.next_since k.tick k.slice k.last) × (k.waits ≡ task_waits (objects k.tasks.rows)) };
 }
 
 impl Kern {
@@ -50,6 +56,7 @@ impl Kern {
     {
         Ok(Kern {
             tasks: Table::reserved(alloc, TASKS)?,
+            waits: Waits::reserved(alloc, TASKS)?,
             ids: IdSource::new(),
             lent: false,
             next_since: 0,
@@ -86,6 +93,13 @@ impl Kern {
     {
         // to read the table is to know them
         let _ = &self.tasks;
+    }
+
+    /// The tasks that wait, each with its place and the key by which it stands there.
+    pub fn waits(&self) -> &Waits
+        ensures { result.now ≡ task_waits self.now.tasks }
+    {
+        &self.waits
     }
 
     /// The least live id above a number. None where there is none.
@@ -163,6 +177,7 @@ impl Kern {
         ensures value { result ≡ task_of self.old.tasks who }
         ensures tasks { self.new ≡ remove self.old who }
     {
+        self.waits.take(who);
         self.tasks.remove(who)
     }
 

@@ -5,6 +5,7 @@ mod calls;
 mod clock;
 mod fields;
 mod kern;
+mod keys;
 mod laws;
 mod queries;
 mod scans;

@@ -4,9 +4,9 @@ ghost use Rattle.std.specs.Prelude.{◌≡◌, option_copied};
 ghost use Rattle.id_table.specs.Rows.{objects};
 ghost use Rattle.task_block.specs.Standing.{is_ready};
 ghost use Rattle.wind_lists.specs.Sorting.{pick};
-ghost use Rattle.wind_core.specs.Orders.{is_before, waits_before as waits_before_lem, wait_pri as wait_pri_lem, arrives_before as arrives_before_lem, waits_at as waits_at_lem, is_due as is_due_lem, most_urgent as most_urgent_lem, first_waiter as first_waiter_lem, first_due as first_due_lem};
+ghost use Rattle.wind_core.specs.Orders.{is_before, arrives_before as arrives_before_lem, is_due as is_due_lem, most_urgent as most_urgent_lem, first_due as first_due_lem};
 
-use id_table::{Place, Table};
+use id_table::Table;
 use task_block::Task;
 
 // Whether `a` arrived before `b`.
@@ -22,31 +22,6 @@ fn precedes(a: &Task, b: &Task) -> bool
 {
     let (p, q) = (a.pri.get(), b.pri.get());
     p < q || p == q && arrives_before(a, b)
-}
-
-// The priority by which a task waits: one that waits in order of arrival counts as most urgent.
-fn wait_pri(task: &Task) -> u32
-    ensures { result ≡ wait_pri_lem task.now }
-{
-    if task.fifo { 0 } else { task.pri.get() }
-}
-
-// Whether the waiter `a` stands before the waiter `b`.
-fn waits_before(a: &Task, b: &Task) -> bool
-    ensures { result ≡ waits_before_lem a.now b.now }
-{
-    let (p, q) = (wait_pri(a), wait_pri(b));
-    p < q || p == q && arrives_before(a, b)
-}
-
-// Whether the task waits at this place.
-fn waits_at(task: &Task, place: &Place) -> bool
-    ensures { result ≡ waits_at_lem place.now task.now }
-{
-    match task.wait {
-        Some(at) => at.side == place.side && at.id == place.id,
-        None => false,
-    }
 }
 
 // Whether the tick at which the task wakes has come.
@@ -70,17 +45,6 @@ fn better_ready<'a>(best: Option<&'a Task>, task: &'a Task) -> Option<&'a Task>
     }
 }
 
-// The task, where it waits at the place before the first so far, or else that one.
-fn better_waiter<'a>(best: Option<&'a Task>, task: &'a Task, place: &Place) -> Option<&'a Task>
-    ensures { option_copied result ≡ pick waits_before_lem (waits_at_lem place.now) (option_copied best.entry) task.now }
-{
-    match best {
-        Some(b) if waits_at(task, place) && waits_before(task, b) => Some(task),
-        None if waits_at(task, place) => Some(task),
-        _ => best,
-    }
-}
-
 // The task, where its tick has come and it arrived before the first so far, or else that one.
 fn better_due<'a>(best: Option<&'a Task>, task: &'a Task, tick: u64) -> Option<&'a Task>
     ensures { option_copied result ≡ pick arrives_before_lem (is_due_lem tick) (option_copied best.entry) task.now }
@@ -99,17 +63,6 @@ pub(crate) fn most_urgent(tasks: &Table<Task>) -> Option<&Task>
     let mut best: Option<&Task> = None;
     for index in 0..tasks.len() {
         best = better_ready(best, tasks.value_at(index));
-    }
-    best
-}
-
-// The first of the tasks that wait at a place.
-pub(crate) fn first_waiter<'a>(tasks: &'a Table<Task>, place: &Place) -> Option<&'a Task>
-    ensures { option_copied result ≡ first_waiter_lem (objects tasks.now.rows) place.now }
-{
-    let mut best: Option<&Task> = None;
-    for index in 0..tasks.len() {
-        best = better_waiter(best, tasks.value_at(index), place);
     }
     best
 }

@@ -8,7 +8,7 @@ ghost use Rattle.wind_core.specs.Moves.{pend, delay, release, end_wait, wake_all
 ghost use Rattle.wind_core.specs.Releases.{release_all};
 
 use crate::kern::Kern;
-use crate::scans::first_waiter;
+use crate::keys::mend;
 use crate::tasks::{answer_wait, begin_delay, begin_wait, end, renew, settle, wake_tick};
 use id_table::{Ident, Place};
 use wind_base::Errno;
@@ -28,6 +28,7 @@ impl Kern {
         let task = self.tasks.object_mut(who);
         begin_wait(task, place, fifo, wake);
         renew(task, &mut self.next_since);
+        mend(&mut self.waits, task);
     }
 
     /// The task sleeps for so many ticks. With 0 it only goes behind its equals.
@@ -41,6 +42,7 @@ impl Kern {
         let task = self.tasks.object_mut(who);
         begin_delay(task, tick, ticks);
         renew(task, &mut self.next_since);
+        mend(&mut self.waits, task);
     }
 
     /// The task's wait or delay ends. Where it is then ready, it stands behind its equals.
@@ -52,6 +54,7 @@ impl Kern {
         let task = self.tasks.object_mut(who);
         end(task);
         settle(task, &mut self.next_since);
+        mend(&mut self.waits, task);
     }
 
     /// The task's wait or delay ends, and its call is answered: by `answer` in r3, and by an error number
@@ -64,13 +67,14 @@ impl Kern {
         let task = self.tasks.object_mut(who);
         answer_wait(task, answer, errno);
         settle(task, &mut self.next_since);
+        mend(&mut self.waits, task);
     }
 
     /// The first of the tasks that wait at a place. None where none waits there.
     pub fn first_waiter(&self, place: Place) -> Option<Ident>
         ensures { result ≡ option_map task_id (first_waiter_lem self.now.tasks place) }
     {
-        first_waiter(&self.tasks, &place).map(|task| task.id)
+        self.waits.first(place)
     }
 
     // The same, with the kept facts.
@@ -78,7 +82,9 @@ impl Kern {
         ensures first { result ≡ option_map task_id (first_waiter_lem self.now.tasks place.now) }
         ensures sound { IsKern self.now }
     {
-        first_waiter(&self.tasks, place).map(|task| task.id)
+        // to read the table is to know the kept facts
+        let _ = &self.tasks;
+        self.waits.first(*place)
     }
 
     /// The waits of all tasks at a place end with the same answer, in the order in which they stand there.

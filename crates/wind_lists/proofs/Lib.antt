@@ -2,3 +2,4 @@ pub mod Sorting
 pub mod Orders
 pub mod Records
 pub mod Passing
+pub mod Places

@@ -1,9 +1,9 @@
 -- Those that pass a test, in order, after one of them has changed so that it passes no more.
-use Rattle.std.proofs.Common.{◌≡◌, ℕ, suc, ◌+◌, ◌<◌, ◌≤◌, Bool, false, cond, not, eqb, List, [], ◌∷◌, length, get_or, refl, sym, ap, ◌∙◌, subst, arith, Option, None, Some, true}
+use Rattle.std.proofs.Common.{◌≡◌, ℕ, suc, ◌+◌, ◌<◌, ◌≤◌, Bool, false, cond, not, eqb, List, [], ◌∷◌, length, get_or, refl, sym, ap, ◌∙◌, subst, arith, None, Some, true}
 use Rattle.std.specs.List.{filter, All, Contains}
 use Rattle.std.specs.Cmp.{IsStrictWeakOrder}
 use Rattle.std.proofs.lemmas.Bool.{eq-eqb}
-use Rattle.std.proofs.lemmas.List.Elements.{All-cons, All-contains, All-contains_itself, All-filter, filter_passes}
+use Rattle.std.proofs.lemmas.List.Elements.{All-cons, All-contains, All-weaker, All-contains_itself, All-filter, filter_passes}
 use Rattle.std.proofs.lemmas.List.{nil_from_length}
 use Rattle.wind_lists.specs.Records.{of_id, change, Rising}
 use Rattle.wind_lists.specs.Sorting.{sorted, first, in_line}
@@ -31,6 +31,18 @@ module _ {X : Type 0} where
         | true ↦ λ b q. absurd (cc)
         | false ↦ λ b q. All-cons (λ y. p y ≡ false) x xs b (none_kept p xs q)
       ] refl e
+
+  -- an element that passes the test is one of those that do
+  pub contains_filter : (p : X → Bool) (xs : List X) → All (λ y. p y ≡ true → Contains (filter p xs) y) xs
+  contains_filter p [] = λ k d h. absurd (omega arith)
+  contains_filter p (x ∷ xs) =
+      All-cons (λ y. p y ≡ true → Contains (filter p (x ∷ xs)) y) x xs
+      (λ px. subst (λ b. Contains (cond b (x ∷ filter p xs) (filter p xs)) x) (sym px) (0, omega arith, refl))
+      (All-weaker (λ y. p y ≡ true → Contains (filter p xs) y) (λ y. p y ≡ true → Contains (filter p (x ∷ xs)) y)
+      (λ y inner py.
+      let at : Contains (filter p xs) y = inner py in
+      elim (p x) as (λ b. Contains (cond b (x ∷ filter p xs) (filter p xs)) y) [ true ↦ (suc at.0, omega (arith, at.1), at.2) | false ↦ at ])
+      xs (contains_filter p xs))
 
 module _ {X : Type 0} (id : X → ℕ) where
   abbrev is_id : ℕ → X → Bool

@@ -1,5 +1,5 @@
 -- Lists in order: what a scan from the front finds, and that leaving out and sorting may change places.
-use Rattle.std.proofs.Common.{◌≡◌, ℕ, suc, ◌+◌, ◌<◌, Bool, true, false, cond, List, [], ◌∷◌, ◌++◌, take, get_or, length, Option, None, Some, refl, sym, ap, ◌∙◌, arith}
+use Rattle.std.proofs.Common.{◌≡◌, ℕ, suc, ◌+◌, ◌<◌, Bool, true, false, cond, List, [], ◌∷◌, ◌++◌, map, take, get_or, length, Option, None, Some, refl, sym, ap, ◌∙◌, arith}
 use Rattle.std.specs.Cmp.{IsStrictWeakOrder}
 use Rattle.std.specs.Bool.{⊤}
 use Rattle.std.specs.List.{filter, AllByRecursion}
@@ -55,7 +55,7 @@ InOrder lt [] = ⊤
 InOrder lt (x ∷ xs) = AllByRecursion (λ z. lt z x ≡ false) xs × InOrder lt xs
 
 module _ {X : Type 0} (lt : X → X → Bool) where
-  all_insert : (P : X → Type 0) (x : X) (ys : List X) → P x → AllByRecursion P ys → AllByRecursion P (insert_sorted lt x ys)
+  pub all_insert : (P : X → Type 0) (x : X) (ys : List X) → P x → AllByRecursion P ys → AllByRecursion P (insert_sorted lt x ys)
   all_insert P x [] p ps = (p, tt)
   all_insert P x (y ∷ ys) p ps = elim (lt y x) as (λ b. AllByRecursion P (cond b (y ∷ insert_sorted lt x ys) (x ∷ y ∷ ys))) [ true ↦ (ps.0, all_insert P x ys p ps.1) | false ↦ (p, ps) ]
 
@@ -109,7 +109,7 @@ module _ {X : Type 0} (lt : X → X → Bool) where
       ∙ ap (λ zs. cond (q x) (insert_sorted lt x zs) zs) (filter-sorted w q xs)
       ∙ elim (q x) as (λ b. cond b (insert_sorted lt x (sorted lt (filter q xs))) (sorted lt (filter q xs)) ≡ sorted lt (cond b (x ∷ filter q xs) (filter q xs))) [ true ↦ refl | false ↦ refl ]
 
-  length-insert_sorted : (x : X) (ys : List X) → length (insert_sorted lt x ys) ≡ suc (length ys)
+  pub length-insert_sorted : (x : X) (ys : List X) → length (insert_sorted lt x ys) ≡ suc (length ys)
   length-insert_sorted x [] = refl
   length-insert_sorted x (y ∷ ys) = elim (lt y x) as (λ b. length (cond b (y ∷ insert_sorted lt x ys) (x ∷ y ∷ ys)) ≡ suc (suc (length ys))) [ true ↦ ap suc (length-insert_sorted x ys) | false ↦ refl ]
 
@@ -124,3 +124,21 @@ module _ {X : Type 0} (lt : X → X → Bool) where
   pub no_first : (xs : List X) → first xs ≡ None → xs ≡ []
   no_first [] e = refl
   no_first (y ∷ ys) e = absurd (cc)
+
+-- ---- elements that are seen by a function
+module _ {X Y : Type 0} (f : X → Y) (lt : Y → Y → Bool) where
+  abbrev pub seen_by : X → X → Bool
+  seen_by a b = lt (f a) (f b)
+
+  seen_insert : (x : X) (ys : List X) → map f (insert_sorted seen_by x ys) ≡ insert_sorted lt (f x) (map f ys)
+  seen_insert x [] = refl
+  seen_insert x (y ∷ ys) =
+      elim (lt (f y) (f x)) as (λ b. map f (cond b (y ∷ insert_sorted seen_by x ys) (x ∷ y ∷ ys)) ≡ cond b (f y ∷ insert_sorted lt (f x) (map f ys)) (f x ∷ f y ∷ map f ys)) [
+        | true ↦ ap (λ vs. f y ∷ vs) (seen_insert x ys)
+        | false ↦ refl
+      ]
+
+  -- to sort elements is to sort what is seen of them
+  pub seen_sorted : (xs : List X) → map f (sorted seen_by xs) ≡ sorted lt (map f xs)
+  seen_sorted [] = refl
+  seen_sorted (x ∷ xs) = seen_insert x (sorted seen_by xs) ∙ ap (insert_sorted lt (f x)) (seen_sorted xs)

@@ -1,6 +1,7 @@
 -- Records in a list, by the id that each has.
-use Rattle.std.specs.Prelude.{ℕ, ◌<◌, not, ◌==◌, if◌then◌else◌, List, map, Option}
+use Rattle.std.specs.Prelude.{◌≡◌, ℕ, ◌<◌, nat_lt, not, ◌==◌, if◌then◌else◌, List, map, length, slice_index_or, Option}
 use Rattle.std.specs.List.{AllPairs, filter, find}
+use Rattle.wind_lists.specs.Sorting.{insert_sorted}
 
 module _ {X : Type 0} (id : X → ℕ) where
   -- the first record of this id
@@ -18,6 +19,15 @@ module _ {X : Type 0} (id : X → ℕ) where
   -- the list without the record of this id
   abbrev pub without : List X → ℕ → List X
   without xs n = filter (λ x. not (id x == n)) xs
+
+  -- the list with one record more, in its place where the ids rise
+  abbrev pub with_record : List X → X → List X
+  with_record xs x = insert_sorted (λ y z. nat_lt (id y) (id z)) x xs
+
+  -- the record of an id stands at this place
+  pub record StandsAt (xs : List X) (n place : ℕ) : Type 0 where
+    pub within : place < length xs
+    pub same : (d : X) → id (slice_index_or xs place d) ≡ n
 
   -- the ids rise along the list
   abbrev pub Rising : List X → Type 0

@@ -29,5 +29,6 @@ begins console schedule slots = record {
   ticks = omega arith;
   within = (All-cons (HasCounts 0) first_task [] (omega arith, omega arith) (All-nil (HasCounts 0)), All-nil (λ r. r.1.depth ≤ 0));
   names = omega arith;
+  starts = omega arith;
   time = omega arith;
 }

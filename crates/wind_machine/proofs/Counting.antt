@@ -7,7 +7,7 @@ use Rattle.tick_file.specs.declared.event.Event.TheVariants.{Tick, Rx}
 use Rattle.wind_core.specs.Orders.{running}
 use Rattle.kernel_calls.specs.Actors.{shell_id}
 use Rattle.wind_machine.specs.State.{State}
-use Rattle.wind_machine.specs.Machine.{event_comes, unreserved_world, without_next, arrival, shell_step, task_step, step_of, next_event, jump_to, console_is_due, run_step, quiet_step, step_by, due_event, machine_step}
+use Rattle.wind_machine.specs.Machine.{event_comes, unreserved_world, without_next, arrival, shell_step, task_step, step_of, next_event, jump_to, console_is_due, is_active, routine_step, run_step, actor_step, quiet_step, step_by, due_event, machine_step}
 use Rattle.wind_machine.specs.declared.phase.Phase.{Phase}
 use Rattle.wind_machine.specs.declared.phase.Phase.TheVariants as phases
 
@@ -36,8 +36,11 @@ run_counted : (s : State) (o : Option Task) → IfSome (run_step s o) (IsCounted
 run_counted s None = jump_counted s (next_event s)
 run_counted s (Some t) = task_counted s t.id
 
+actor_counted : (s : State) → IfSome (actor_step s) (IsCounted s)
+actor_counted s = elim (is_active s.world) as (λ b. IfSome (cond b (Some (routine_step s)) (run_step s (running s.world.kern))) (IsCounted s)) [ true ↦ refl | false ↦ run_counted s (running s.world.kern) ]
+
 quiet_counted : (s : State) → IfSome (quiet_step s) (IsCounted s)
-quiet_counted s = elim (console_is_due s) as (λ b. IfSome (cond b (Some (arrival s)) (run_step s (running s.world.kern))) (IsCounted s)) [ true ↦ refl | false ↦ run_counted s (running s.world.kern) ]
+quiet_counted s = elim (console_is_due s) as (λ b. IfSome (cond b (Some (arrival s)) (actor_step s)) (IsCounted s)) [ true ↦ refl | false ↦ actor_counted s ]
 
 by_counted : (s : State) (o : Option Timed) → IfSome (step_by s o) (IsCounted s)
 by_counted s None = quiet_counted s

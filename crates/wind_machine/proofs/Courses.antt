@@ -16,7 +16,7 @@ use Rattle.wind_machine.specs.Good.{Good}
 use Rattle.tick_file.specs.Laws.{IsEarly, EarlyLaw}
 use Rattle.wind_machine.specs.Laws.{StartLaw, StepLaw, InstantLaw, SafetyLaw, OnlyUnsafeGo, RunLaw}
 use Rattle.wind_machine.specs.Run.{after}
-use Rattle.wind_machine.specs.Machine.{opening, shell_step, task_step, step_of, event_comes, unreserved_world, without_next, next_event, jump_to, arrival, console_is_due, run_step, quiet_step, step_by, due_event, machine_step}
+use Rattle.wind_machine.specs.Machine.{opening, shell_step, task_step, step_of, event_comes, unreserved_world, without_next, next_event, jump_to, arrival, console_is_due, is_active, routine_step, run_step, actor_step, quiet_step, step_by, due_event, machine_step}
 use Rattle.wind_machine.specs.declared.phase.Phase.{Phase}
 use Rattle.wind_machine.specs.declared.phase.Phase.TheVariants as phases
 
@@ -49,8 +49,11 @@ run_early : (s : State) (o : Option Task) → IsOnTime s → IfSome (run_step s 
 run_early s None h = jump_early s (next_event s) h
 run_early s (Some t) h = whoever_early s t.id h
 
+actor_early : (s : State) → IsOnTime s → IfSome (actor_step s) IsOnTime
+actor_early s h = elim (is_active s.world) as (λ b. IfSome (cond b (Some (routine_step s)) (run_step s (running s.world.kern))) IsOnTime) [ true ↦ h | false ↦ run_early s (running s.world.kern) h ]
+
 quiet_early : (s : State) → IsOnTime s → IfSome (quiet_step s) IsOnTime
-quiet_early s h = elim (console_is_due s) as (λ b. IfSome (cond b (Some (arrival s)) (run_step s (running s.world.kern))) IsOnTime) [ true ↦ h | false ↦ run_early s (running s.world.kern) h ]
+quiet_early s h = elim (console_is_due s) as (λ b. IfSome (cond b (Some (arrival s)) (actor_step s)) IsOnTime) [ true ↦ h | false ↦ actor_early s h ]
 
 by_early : (s : State) (o : Option Timed) → IsOnTime s → IfSome (step_by s o) IsOnTime
 by_early s None h = quiet_early s h

@@ -4,6 +4,7 @@ use Rattle.std.specs.List.{All, AllPairs}
 use Rattle.std.proofs.lemmas.Bool.{eqb-true}
 use Rattle.std.proofs.lemmas.List.{length-map, get_or-map}
 use Rattle.std.proofs.lemmas.List.Elements.{All-map, All-weaker}
+use Rattle.id_table.specs.declared.ident.Place.{Place}
 use Rattle.task_block.specs.declared.task.Task.{Task}
 use Rattle.wind_core.specs.State.{KernState, IsKern, WakesAhead, task_id}
 use Rattle.wind_core.specs.Moves.{unreserved, unreserve}
@@ -13,6 +14,8 @@ use Rattle.kernel_calls.specs.Opening.{interrupt_stack}
 use Rattle.kernel_calls.specs.Kept.{AreStacks, IsWorld, HasCounts, Within, ReservedBy}
 use Rattle.kernel_calls.specs.Objects.{KeepsObjects}
 use Rattle.kernel_calls.proofs.ObjectMoves.{objects-unreserve, objects-drop}
+use Rattle.kernel_calls.proofs.Holding.{loaded_on}
+use Rattle.kernel_calls.proofs.Calming.{Spares, kern-map}
 use Rattle.kernel_calls.proofs.Advancing.{Advances}
 use Rattle.wind_machine.specs.Part.{with_kern}
 use Rattle.wind_machine.specs.Reserving.{unless_own, drop_others, drop_all}
@@ -22,6 +25,7 @@ pub record Drops (f : Task → Task) : Type 0 where
   pub id : (t : Task) → (f t).id ≡ t.id
   pub since : (t : Task) → (f t).since ≡ t.since
   pub wake : (t : Task) → (f t).wake ≡ t.wake
+  pub wait : (t : Task) → (f t).wait ≡ t.wait
   pub stack : (t : Task) → (f t).stack ≡ t.stack
   pub locks : (t : Task) → (f t).locks ≡ t.locks
   pub safe : (t : Task) → (f t).safe ≡ t.safe
@@ -29,14 +33,6 @@ pub record Drops (f : Task → Task) : Type 0 where
 
 abbrev pub mapped : (Task → Task) → KernState → KernState
 mapped f k = record k { tasks = map f k.tasks }
-
-pairs_map : (R : Task → Task → Type 0) (f : Task → Task) (ts : List Task) → ((t u : Task) → R t u → R (f t) (f u)) → AllPairs R ts → AllPairs R (map f ts)
-pairs_map R f ts keeps all i j d below within =
-    let size : length (map f ts) ≡ length ts = length-map ts f in
-    let last : j < length ts = omega (arith, within, size) in
-    let first : i < length ts = omega (arith, last, below) in
-    subst (λ t. R t (get_or (map f ts) j d)) (sym (get_or-map f ts i d d first))
-    (subst (λ u. R (f (get_or ts i d)) u) (sym (get_or-map f ts j d d last)) (keeps (get_or ts i d) (get_or ts j d) (all i j d below last)))
 
 all_map : (P : Task → Type 0) (f : Task → Task) (ts : List Task) → ((t : Task) → P t → P (f t)) → All P ts → All P (map f ts)
 all_map P f ts keeps all = All-map P f ts (All-weaker P (λ t. P (f t)) keeps ts all)
@@ -46,17 +42,8 @@ same_field field f [] same = refl
 same_field field f (t ∷ ts) same = ap (λ n. n ∷ map field (map f ts)) (same t) ∙ ap (λ ns. field t ∷ ns) (same_field field f ts same)
 
 module _ (f : Task → Task) (drops : Drops f) where
-  mapped_is : (k : KernState) → IsKern k → IsKern (mapped f k)
-  mapped_is k is = record {
-    few = omega (arith, is.few, length-map k.tasks f);
-    rising = pairs_map (λ t u. task_id t < task_id u) f k.tasks (λ t u h. omega (arith, h, drops.id t, drops.id u)) is.rising;
-    ids = all_map (λ t. t.id < k.next_id) f k.tasks (λ t h. omega (arith, h, drops.id t)) is.ids;
-    first_id = is.first_id;
-    last_id = is.last_id;
-    distinct = pairs_map (λ t u. t.since ≡ u.since → ⊥) f k.tasks (λ t u h e. h (sym (drops.since t) ∙ e ∙ drops.since u)) is.distinct;
-    sinces = all_map (λ t. t.since < k.next_since) f k.tasks (λ t h. omega (arith, h, drops.since t)) is.sinces;
-    ahead = all_map (WakesAhead k.tick) f k.tasks (λ t h. subst (λ w. IfSome w (λ v. k.tick < v)) (sym (drops.wake t)) h) is.ahead;
-  }
+  spares : Spares f
+  spares = record { id = drops.id; since = drops.since; wake = drops.wake; wait = drops.wait }
 
   mapped_reserves : (k : KernState) (who : Option ℕ) → ReservedBy who k → ReservedBy who (mapped f k)
   mapped_reserves k who h = all_map (λ t. IsSome t.regs.reserve → who ≡ Some t.id) f k.tasks (λ t own some. own (drops.reserve t some) ∙ ap Some (sym (drops.id t))) h
@@ -64,13 +51,15 @@ module _ (f : Task → Task) (drops : Drops f) where
   pub drop_advances : (w : WorldState) (n : ℕ) → IsWorld w → Within n w → KeepsObjects (mapped f w.kern) w.objects → Advances w (with_kern w (mapped f w.kern)) n 0 0
   drop_advances w n kept within objects = record {
     kept = record {
-      kern = mapped_is w.kern kept.kern;
+      kern = kern-map f spares w.kern kept.kern;
       home = kept.home;
       objects = objects;
       pool = kept.pool;
       stacks = subst (λ s. AreStacks w.part (interrupt_stack ∷ s)) (sym (same_field (λ t. t.stack) f w.kern.tasks drops.stack)) kept.stacks;
+      modules = loaded_on w.kern w.part w.modules kept.modules (mapped f w.kern) (omega arith) (same_field (λ t. t.stack) f w.kern.tasks drops.stack);
       ram = kept.ram;
       symbols = kept.symbols;
+      watch = kept.watch;
     };
     lives = λ who h. lives_by (map f w.kern.tasks) w.kern.tasks who (same_field task_id f w.kern.tasks drops.id) h;
     within = (all_map (HasCounts n) f w.kern.tasks (λ t h. (omega (arith, h.0, drops.locks t), omega (arith, h.1, drops.safe t))) within.0, within.1);
@@ -79,11 +68,12 @@ module _ (f : Task → Task) (drops : Drops f) where
     sinces = omega arith;
     count = refl;
     names = omega arith;
+    starts = omega arith;
   }
 
 -- ---- that of one task, of all, of all others
 unreserved_drops : Drops unreserved
-unreserved_drops = record { id = λ t. refl; since = λ t. refl; wake = λ t. refl; stack = λ t. refl; locks = λ t. refl; safe = λ t. refl; reserve = λ t some. absurd (cc) }
+unreserved_drops = record { id = λ t. refl; since = λ t. refl; wake = λ t. refl; wait = λ t. refl; stack = λ t. refl; locks = λ t. refl; safe = λ t. refl; reserve = λ t some. absurd (cc) }
 
 -- where a test says whether a task's goes
 by_test : (f : Task → Task) → ((t : Task) → (b : Bool) × (f t ≡ cond b (unreserved t) t)) → Drops f
@@ -91,6 +81,7 @@ by_test f tests = record {
   id = λ t. one ℕ (λ u. u.id) t refl;
   since = λ t. one ℕ (λ u. u.since) t refl;
   wake = λ t. one (Option ℕ) (λ u. u.wake) t refl;
+  wait = λ t. one (Option Place) (λ u. u.wait) t refl;
   stack = λ t. one ℕ (λ u. u.stack) t refl;
   locks = λ t. one ℕ (λ u. u.locks) t refl;
   safe = λ t. one ℕ (λ u. u.safe) t refl;

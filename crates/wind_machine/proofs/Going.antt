@@ -1,5 +1,5 @@
 -- Nobody who is safe from deletion goes in a step, unless it is its own.
-use Rattle.std.proofs.Common.{◌≡◌, ℕ, ◌+◌, true, false, cond, eqb, List, [], ◌∷◌, map, Option, None, Some, IfSome, refl, sym, ap, ◌∙◌, subst, ◌⊎◌, inl, inr}
+use Rattle.std.proofs.Common.{◌≡◌, ℕ, ◌+◌, true, false, cond, eqb, List, [], ◌∷◌, map, Option, None, Some, IfSome, refl, sym, ap, ◌∙◌, subst, ◌⊎◌, ⊎_elim, inl, inr}
 use Rattle.std.specs.Prelude.{take, drop}
 use Rattle.std.specs.Option.{option_map}
 use Rattle.std.proofs.lemmas.Bool.{eqb-true}
@@ -17,22 +17,23 @@ use Rattle.shell_parse.specs.Reading.{read_line}
 use Rattle.con_line.specs.Lines.{has_line, front_line, line_dropped}
 use Rattle.kernel_calls.specs.Actors.{shell_id}
 use Rattle.kernel_calls.specs.Objects.{IsReady}
+use Rattle.kernel_calls.specs.declared.actor.Actor.TheVariants.{Task as by_task, Interrupt}
 use Rattle.wind_machine.specs.State.{State}
 use Rattle.wind_machine.specs.Good.{Good}
 use Rattle.wind_machine.specs.Feed.{chunk, after_chunk, brought}
 use Rattle.wind_machine.specs.Part.{Part}
-use Rattle.wind_machine.specs.Reserving.{unless_own}
+use Rattle.wind_machine.specs.Reserving.{unless_own, drop_all}
 use Rattle.wind_machine.specs.Shell.{prompt_part, read_part, eval_part}
 use Rattle.wind_machine.specs.Processor.{task_part}
 use Rattle.wind_machine.specs.Laws.{OnlyUnsafeGo, SafetyLaw}
-use Rattle.wind_machine.specs.Machine.{Heard, heard_by, arrived, arrival, event_comes, event_step, unreserved_world, without_next, at_turn, shell_world, task_step, shell_step, step_of, due_event, console_is_due, next_event, jump_to, run_step, quiet_step, step_by, machine_step}
+use Rattle.wind_machine.specs.Machine.{Heard, heard_by, arrived, arrival, event_comes, event_step, unreserved_world, without_next, at_turn, shell_world, task_step, shell_step, step_of, actor_of, runner, is_active, routine_step, actor_step, due_event, console_is_due, next_event, jump_to, run_step, quiet_step, step_by, machine_step}
 use Rattle.wind_machine.specs.declared.phase.Phase.{Phase}
 use Rattle.wind_machine.specs.declared.phase.Phase.TheVariants as phases
 use Rattle.wind_machine.proofs.Free.{runner_ready, runner_there}
 use Rattle.wind_machine.proofs.Hearing.{heard_keeps}
 use Rattle.wind_machine.proofs.Dropping.{all_advance}
 use Rattle.wind_machine.proofs.Parts.{PartKeeps}
-use Rattle.wind_machine.proofs.Steps.{at_turn_advances, prompts, reads, evaluates, acts, unreserved_keeps}
+use Rattle.wind_machine.proofs.Steps.{at_turn_advances, routine_turns, prompts, reads, evaluates, acts, unreserved_keeps}
 
 -- a task is as safe at a turn as before it
 same_safe : (ts : List Task) (who id : ℕ) → safe_of (task_of (map (unless_own who) ts) id) ≡ safe_of (task_of ts id)
@@ -42,6 +43,11 @@ same_safe (t ∷ ts) who id =
       | true ↦ elim (eqb t.id id) as (λ c. safe_of (cond c (Some t) (task_of (map (unless_own who) ts) id)) ≡ safe_of (cond c (Some t) (task_of ts id))) [ true ↦ refl | false ↦ same_safe ts who id ]
       | false ↦ elim (eqb t.id id) as (λ c. safe_of (cond c (Some (unreserved t)) (task_of (map (unless_own who) ts) id)) ≡ safe_of (cond c (Some t) (task_of ts id))) [ true ↦ refl | false ↦ same_safe ts who id ]
     ]
+
+all_safe : (ts : List Task) (id : ℕ) → safe_of (task_of (map unreserved ts) id) ≡ safe_of (task_of ts id)
+all_safe [] id = refl
+all_safe (t ∷ ts) id =
+    elim (eqb t.id id) as (λ c. safe_of (cond c (Some (unreserved t)) (task_of (map unreserved ts) id)) ≡ safe_of (cond c (Some t) (task_of ts id))) [ true ↦ refl | false ↦ all_safe ts id ]
 
 -- who goes in a step of a task, by its id
 abbrev pub Goes_by : State → ℕ → State → Type 0
@@ -70,11 +76,11 @@ module _ (s : State) (g : Good s) where
         | false ↦ λ e. task_goes who live ready
       ] refl
 
-  runner_goes : (t : Task) → running s.world.kern ≡ Some t → OnlyUnsafeGo s (step_of s t.id)
-  runner_goes t e id live dead = by_runner (whoever_goes t.id (runner_there s.world.kern g.world.kern t e) (runner_ready s.world.kern g.world.kern t e) id live dead) where
-    by_runner : (safe_of (task_of s.world.kern.tasks id) ≡ 0) ⊎ (t.id ≡ id) → (safe_of (task_of s.world.kern.tasks id) ≡ 0) ⊎ (option_map task_id (running s.world.kern) ≡ Some id)
+  runner_goes : is_active s.world ≡ false → (t : Task) → running s.world.kern ≡ Some t → OnlyUnsafeGo s (step_of s t.id)
+  runner_goes idle t e id live dead = by_runner (whoever_goes t.id (runner_there s.world.kern g.world.kern t e) (runner_ready s.world.kern g.world.kern t e) id live dead) where
+    by_runner : (safe_of (task_of s.world.kern.tasks id) ≡ 0) ⊎ (t.id ≡ id) → (safe_of (task_of s.world.kern.tasks id) ≡ 0) ⊎ (runner s.world ≡ Some (by_task id))
     by_runner (inl safe) = inl safe
-    by_runner (inr same) = inr (ap (option_map task_id) e ∙ ap Some same)
+    by_runner (inr same) = inr (ap (λ b. cond b (Some Interrupt) (option_map actor_of (running s.world.kern))) idle ∙ ap (option_map actor_of) e ∙ ap (λ n. Some (by_task n)) same)
 
   -- ---- whoever lives lives on where bytes arrive
   arrived_stay : (left bytes : List ℕ) (h : Heard) → h ≡ heard_by s bytes → (id : ℕ) → Lives s.world.kern id → Lives (arrived s left h).world.kern id
@@ -92,15 +98,30 @@ module _ (s : State) (g : Good s) where
   jump_goes None = tt
   jump_goes (Some e) = λ id live dead. absurd (dead live)
 
-  run_goes : (o : Option Task) → running s.world.kern ≡ o → IfSome (run_step s o) (OnlyUnsafeGo s)
-  run_goes None e = jump_goes (next_event s)
-  run_goes (Some t) e = runner_goes t e
+  run_goes : is_active s.world ≡ false → (o : Option Task) → running s.world.kern ≡ o → IfSome (run_step s o) (OnlyUnsafeGo s)
+  run_goes idle None e = jump_goes (next_event s)
+  run_goes idle (Some t) e = runner_goes idle t e
+
+  -- nobody safe goes in a step of an interrupt routine
+  routine_goes : is_active s.world ≡ true → OnlyUnsafeGo s (routine_step s)
+  routine_goes active id live dead =
+      ⊎_elim
+      (λ (safe : safe_of (task_of (drop_all s.world.kern).tasks id) ≡ 0). inl (sym (all_safe s.world.kern.tasks id) ∙ safe))
+      (λ (itself : Interrupt ≡ by_task id). absurd (cc))
+      ((routine_turns s g active).gone id ((all_advance s.world s.steps g.world g.within).lives id live) dead)
+
+  actor_goes : IfSome (actor_step s) (OnlyUnsafeGo s)
+  actor_goes =
+      elim (is_active s.world) as (λ b. is_active s.world ≡ b → IfSome (cond b (Some (routine_step s)) (run_step s (running s.world.kern))) (OnlyUnsafeGo s)) [
+        | true ↦ λ e. routine_goes e
+        | false ↦ λ e. run_goes e (running s.world.kern) refl
+      ] refl
 
   quiet_goes : IfSome (quiet_step s) (OnlyUnsafeGo s)
   quiet_goes =
-      elim (console_is_due s) as (λ b. IfSome (cond b (Some (arrival s)) (run_step s (running s.world.kern))) (OnlyUnsafeGo s)) [
+      elim (console_is_due s) as (λ b. IfSome (cond b (Some (arrival s)) (actor_step s)) (OnlyUnsafeGo s)) [
         | true ↦ λ id live dead. absurd (dead (arrived_stay (after_chunk s.left) (chunk s.left) (heard_by s (chunk s.left)) refl id live))
-        | false ↦ run_goes (running s.world.kern) refl
+        | false ↦ actor_goes
       ]
 
 event_goes : (s : State) (e : Timed) → Good s → OnlyUnsafeGo s (event_step s e)

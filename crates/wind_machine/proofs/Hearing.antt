@@ -179,7 +179,7 @@ heard_keeps console shell k echo bytes n lines read is within h e =
     let start : HeardWell k (heard_from console shell k echo) n 0 0 = record { lines = lines; read = read; goes = goes_nowhere k n is within; objects = λ o kept. kept; spends = omega arith } in
     let w : HeardWell k h n (0 + 2 * length bytes) (0 + length bytes) = subst (λ g. HeardWell k g n (0 + 2 * length bytes) (0 + length bytes)) (sym e) (heard_well k (heard_from console shell k echo) bytes n 0 0 start) in
     let one : owed k ≤ 1 = elim (is_held (shell_task k)) as (λ b. cond b 1 0 ≤ 1) [ true ↦ omega arith | false ↦ omega arith ] in
-    (w.lines, w.read, record { kern = w.goes.kern; alone = w.goes.alone; stacks = w.goes.stacks; lent = w.goes.lent; last = w.goes.last; reserves = w.goes.reserves; counts = w.goes.counts; sinces = omega (arith, w.spends, one); count = w.goes.count }, w.objects)
+    (w.lines, w.read, record { kern = w.goes.kern; alone = w.goes.alone; stacks = w.goes.stacks; lent = w.goes.lent; last = w.goes.last; reserves = w.goes.reserves; counts = w.goes.counts; sinces = omega (arith, w.spends, one); next = w.goes.next; count = w.goes.count }, w.objects)
 
 -- ---- a chunk has at most 4,097 bytes
 taken_short : (left : List ℕ) (o : Option ℕ) → first_end left ≡ o → taken_by o ≤ 4096

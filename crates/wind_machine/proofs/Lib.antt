@@ -9,6 +9,7 @@ pub mod Kept
 pub mod Hearing
 pub mod Parts
 pub mod Instants
+pub mod Routines
 pub mod Steps
 pub mod Going
 pub mod Beginning

@@ -29,6 +29,7 @@ goes-listening k n is within =
       counts = renew_task-stable (HasCounts n) (λ since t h. h) k shell_id f (λ t h. h) within;
       sinces = omega arith;
       count = refl;
+      next = omega arith;
     }
 
 pub goes-let_go : (k : KernState) (n : ℕ) → IsKern k → CountsWithin n k → Goes k (let_go k) n 1
@@ -64,6 +65,9 @@ module _ {A : Type 0} (part : KernState → A) (apart : (k : KernState) (ts : Li
 
 pub lent-tick : (k : KernState) → (tick k).lent ≡ k.lent
 lent-tick k = apart-tick (λ j. j.lent) (λ j ts n. refl) k refl
+
+pub next-tick : (k : KernState) → (tick k).next_id ≡ k.next_id
+next-tick k = apart-tick (λ j. j.next_id) (λ j ts n. refl) k refl
 
 pub last-tick : (k : KernState) → (tick k).last ≡ k.last
 last-tick k = apart-tick (λ j. j.last) (λ j ts n. refl) k refl

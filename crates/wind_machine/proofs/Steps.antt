@@ -19,24 +19,30 @@ use Rattle.con_line.specs.Lines.{KeepsLines, has_line, front_line, line_dropped}
 use Rattle.con_line.proofs.Kept.{drop_keeps}
 use Rattle.kernel_calls.specs.Actors.{shell_id}
 use Rattle.kernel_calls.specs.Opening.{interrupt_stack}
-use Rattle.kernel_calls.specs.Kept.{AreStacks, ReservedBy, Within}
+use Rattle.isr_watch.specs.Calls.{due}
+use Rattle.isr_watch.proofs.Ids.{ids_stay}
+use Rattle.isr_watch.proofs.Keeping.{watch_stays}
+use Rattle.kernel_calls.specs.Kept.{AreStacks, KeepsWatch, IsWorld, ReservedBy, Within}
 use Rattle.kernel_calls.specs.Objects.{IsReady}
 use Rattle.kernel_calls.proofs.ObjectMoves.{objects-last, objects-tick}
-use Rattle.kernel_calls.proofs.Advancing.{Advances, by_kern, within_more}
+use Rattle.kernel_calls.proofs.Holding.{loaded_on}
+use Rattle.kernel_calls.proofs.Advancing.{Advances, watch_on, by_kern, within_more}
 use Rattle.wind_machine.specs.State.{State}
 use Rattle.wind_machine.specs.Good.{Good}
 use Rattle.wind_machine.specs.Feed.{chunk, after_chunk, brought}
 use Rattle.wind_machine.specs.Part.{Part}
 use Rattle.wind_machine.specs.Shell.{prompt_part, read_part, shell_read, eval_part}
 use Rattle.wind_machine.specs.Processor.{task_part}
-use Rattle.wind_machine.specs.Machine.{Heard, heard_by, arrived, arrival, ticked, received, event_comes, event_step, unreserved_world, without_next, jump, at_turn, shell_world, stepped, prompt_step, read_step, eval_step, task_step, shell_step, step_of, due_event, console_is_due, next_event, jump_to, run_step, quiet_step, step_by, machine_step}
+use Rattle.wind_machine.specs.Routine.{interrupt_top}
+use Rattle.wind_machine.specs.Machine.{Heard, heard_by, arrived, arrival, ticked, received, event_comes, event_step, unreserved_world, without_next, jump, at_turn, shell_world, cleared, stepped, prompt_step, read_step, eval_step, task_step, shell_step, step_of, is_active, routine_step, actor_step, due_event, console_is_due, next_event, jump_to, run_step, quiet_step, step_by, machine_step}
 use Rattle.wind_machine.specs.declared.phase.Phase.{Phase}
 use Rattle.wind_machine.specs.declared.phase.Phase.TheVariants as phases
 use Rattle.wind_machine.proofs.Kept.{needs_none, prompt_has_line, read_phase}
 use Rattle.wind_machine.proofs.Dropping.{others_advance, all_advance, others_reserved, all_reserved}
-use Rattle.wind_machine.proofs.Moves.{lent-tick, last-tick, stacks-tick, reserved-tick, counts-tick}
+use Rattle.wind_machine.proofs.Moves.{lent-tick, next-tick, last-tick, stacks-tick, reserved-tick, counts-tick}
 use Rattle.wind_machine.proofs.Free.{runner_ready, runner_there, turn_ready}
 use Rattle.wind_machine.proofs.Hearing.{heard_keeps, chunk_short}
+use Rattle.wind_machine.proofs.Routines.{RoutinePasses, routine_passes}
 use Rattle.wind_machine.proofs.Parts.{PartKeeps, prompt_turns, read_turns, eval_keeps, task_keeps}
 
 -- from a good state
@@ -50,7 +56,7 @@ module _ (s : State) (g : Good s) where
   at_turn_advances who =
       let a = others_advance s.world s.steps g.world g.within who in
       record {
-        kept = record { kern = a.kept.kern; home = a.kept.home; objects = a.kept.objects; pool = a.kept.pool; stacks = a.kept.stacks; ram = a.kept.ram; symbols = a.kept.symbols };
+        kept = record { kern = a.kept.kern; home = a.kept.home; objects = a.kept.objects; pool = a.kept.pool; stacks = a.kept.stacks; modules = a.kept.modules; ram = a.kept.ram; symbols = a.kept.symbols; watch = a.kept.watch };
         lives = a.lives;
         within = a.within;
         last = a.last;
@@ -58,6 +64,7 @@ module _ (s : State) (g : Good s) where
         sinces = a.sinces;
         count = a.count;
         names = a.names;
+        starts = a.starts;
       }
 
   stepped_keeps : (console : ConsoleState) (who : ℕ) (p : Part) → KeepsLines console.edited console.finished → PartKeeps (at_turn s.world who) p who (s.steps + 1) console.finished
@@ -68,13 +75,14 @@ module _ (s : State) (g : Good s) where
       record {
         console = lines;
         read = part.read;
-        world = record { kern = (every_call_keeps p.world.kern kept.kern).noting_last (Some who); home = kept.home; objects = objects-last p.world.kern p.world.objects kept.kern kept.objects (Some who); pool = kept.pool; stacks = kept.stacks; ram = kept.ram; symbols = kept.symbols };
+        world = record { kern = (every_call_keeps p.world.kern kept.kern).noting_last (Some who); home = kept.home; objects = objects-last p.world.kern p.world.objects kept.kern kept.objects (Some who); pool = kept.pool; stacks = kept.stacks; modules = kept.modules; ram = kept.ram; symbols = kept.symbols; watch = kept.watch };
         shell = turns.shell ((at_turn_advances who).lives shell_id g.shell);
         reserved = turns.reserves (others_reserved s.world.kern who);
         sinces = omega (arith, turns.sinces, g.sinces);
         ticks = omega (arith, turns.count, g.ticks);
         within = turns.within;
         names = omega (arith, turns.names, g.names);
+        starts = omega (arith, turns.starts, g.starts);
         time = omega (arith, g.time);
       }
 
@@ -125,6 +133,33 @@ module _ (s : State) (g : Good s) where
         | false ↦ λ e. tasks_keep who live ready
       ] refl
 
+  -- ---- an interrupt routine makes a step
+  pub routine_turns : is_active s.world ≡ true → RoutinePasses (cleared (unreserved_world s.world)) (routine_step s).world s.steps
+  routine_turns active =
+      let a = all_advance s.world s.steps g.world g.within in
+      let w = cleared (unreserved_world s.world) in
+      let kept : IsWorld w = record { kern = a.kept.kern; home = a.kept.home; objects = a.kept.objects; pool = a.kept.pool; stacks = a.kept.stacks; modules = a.kept.modules; ram = a.kept.ram; symbols = a.kept.symbols; watch = a.kept.watch } in
+      routine_passes w s.steps kept a.within active
+
+  routine_keeps : is_active s.world ≡ true → Good (routine_step s)
+  routine_keeps active =
+      let a = all_advance s.world s.steps g.world g.within in
+      let goes = routine_turns active in
+      let last = (routine_step s).world.kern.last in
+      record {
+        console = g.console;
+        read = g.read;
+        world = goes.kept;
+        shell = goes.shell (a.lives shell_id g.shell);
+        reserved = goes.reserves last (all_reserved s.world.kern last);
+        sinces = omega (arith, goes.sinces, g.sinces);
+        ticks = omega (arith, goes.count, g.ticks);
+        within = goes.within;
+        names = omega (arith, goes.names, g.names);
+        starts = omega (arith, goes.starts, g.starts);
+        time = omega (arith, g.time);
+      }
+
   -- ---- bytes arrive
   arrived_keeps : (left bytes : List ℕ) (h : Heard) → length bytes ≤ 4097 → h ≡ heard_by s bytes → Good (arrived s left h)
   arrived_keeps left bytes h short e =
@@ -133,13 +168,14 @@ module _ (s : State) (g : Good s) where
       record {
         console = heard.0;
         read = heard.1;
-        world = record { kern = a.kept.kern; home = a.kept.home; objects = a.kept.objects; pool = a.kept.pool; stacks = a.kept.stacks; ram = a.kept.ram; symbols = a.kept.symbols };
+        world = record { kern = a.kept.kern; home = a.kept.home; objects = a.kept.objects; pool = a.kept.pool; stacks = a.kept.stacks; modules = a.kept.modules; ram = a.kept.ram; symbols = a.kept.symbols; watch = a.kept.watch };
         shell = a.lives shell_id g.shell;
         reserved = subst (λ who. ReservedBy who h.kern) (sym a.last) (a.reserves s.world.kern.last g.reserved);
         sinces = omega (arith, a.sinces, g.sinces, short);
         ticks = omega (arith, a.count, g.ticks);
         within = a.within;
         names = omega (arith, g.names);
+        starts = omega (arith, g.starts);
         time = omega (arith, g.time);
       }
 
@@ -152,6 +188,14 @@ module _ (s : State) (g : Good s) where
       arrived_keeps (drop (brought n) s.left) bytes (heard_by s bytes) (omega (arith, length-take (brought n) s.left)) refl
 
   -- ---- a tick comes
+  ticks_watch : (n : ℕ) → KeepsWatch s.world.kern.next_id (due s.world.watch n interrupt_top)
+  ticks_watch n =
+      let w = g.world.watch in
+      record {
+        watch = (watch_stays s.world.kern.next_id s.world.watch w.watch w.ids).ticking n interrupt_top;
+        ids = (ids_stay s.world.kern.next_id s.world.watch w.ids).ticking n interrupt_top;
+      }
+
   ticked_keeps : Good (ticked s)
   ticked_keeps =
       let k = s.world.kern in
@@ -164,8 +208,10 @@ module _ (s : State) (g : Good s) where
           objects = objects-tick k s.world.objects g.world.kern g.world.objects;
           pool = g.world.pool;
           stacks = subst (λ ats. AreStacks s.world.part (interrupt_stack ∷ ats)) (sym (stacks-tick k)) g.world.stacks;
+          modules = loaded_on k s.world.part s.world.modules g.world.modules (tick k) (omega (arith, next-tick k)) (stacks-tick k);
           ram = g.world.ram;
           symbols = g.world.symbols;
+          watch = watch_on k.next_id (tick k).next_id _ (omega (arith, next-tick k)) (ticks_watch (tick k).tick);
         };
         shell = lives_by (tick k).tasks k.tasks shell_id (ids-tick k) g.shell;
         reserved = subst (λ who. ReservedBy who (tick k)) (sym (last-tick k)) (reserved-tick k k.last g.reserved);
@@ -173,6 +219,7 @@ module _ (s : State) (g : Good s) where
         ticks = omega (arith, (tick_ahead k g.world.kern).0, g.ticks);
         within = (counts-tick k (s.steps + 1) more_counts.0, more_counts.1);
         names = omega (arith, g.names);
+        starts = omega (arith, g.starts);
         time = omega (arith, g.time);
       }
 
@@ -194,6 +241,7 @@ module _ (s : State) (g : Good s) where
         ticks = g.ticks;
         within = a.within;
         names = g.names;
+        starts = g.starts;
         time = g.time;
       }
 
@@ -202,13 +250,14 @@ module _ (s : State) (g : Good s) where
   jump_keeps e early = record {
     console = g.console;
     read = g.read;
-    world = record { kern = g.world.kern; home = g.world.home; objects = g.world.objects; pool = g.world.pool; stacks = g.world.stacks; ram = g.world.ram; symbols = g.world.symbols };
+    world = record { kern = g.world.kern; home = g.world.home; objects = g.world.objects; pool = g.world.pool; stacks = g.world.stacks; modules = g.world.modules; ram = g.world.ram; symbols = g.world.symbols; watch = g.world.watch };
     shell = g.shell;
     reserved = g.reserved;
     sinces = omega (arith, g.sinces);
     ticks = omega (arith, g.ticks);
     within = more_counts;
     names = omega (arith, g.names);
+    starts = omega (arith, g.starts);
     time = omega (arith, early);
   }
 
@@ -221,9 +270,15 @@ module _ (s : State) (g : Good s) where
   run_keeps None e early = jumps_keep (next_event s) early
   run_keeps (Some t) e early = whoever_keeps t.id (runner_there s.world.kern g.world.kern t e) (runner_ready s.world.kern g.world.kern t e)
 
+  actor_keeps : IfSome (next_event s) IsEarly → IfSome (actor_step s) Good
+  actor_keeps early =
+      elim (is_active s.world) as (λ b. is_active s.world ≡ b → IfSome (cond b (Some (routine_step s)) (run_step s (running s.world.kern))) Good) [
+        | true ↦ λ e. routine_keeps e
+        | false ↦ λ e. run_keeps (running s.world.kern) refl early
+      ] refl
+
   quiet_keeps : IfSome (next_event s) IsEarly → IfSome (quiet_step s) Good
-  quiet_keeps early =
-      elim (console_is_due s) as (λ b. IfSome (cond b (Some (arrival s)) (run_step s (running s.world.kern))) Good) [ true ↦ arrival_keeps | false ↦ run_keeps (running s.world.kern) refl early ]
+  quiet_keeps early = elim (console_is_due s) as (λ b. IfSome (cond b (Some (arrival s)) (actor_step s)) Good) [ true ↦ arrival_keeps | false ↦ actor_keeps early ]
 
 event_keeps : (s : State) (e : Timed) → Good s → Good (event_step s e)
 event_keeps s e g =

@@ -30,6 +30,7 @@ use Rattle.kernel_calls.specs.Kept.{IsKernels, AreStacks, task_stacks, IsWorld, 
 use Rattle.kernel_calls.specs.Laws.{Passes, call_sinces}
 use Rattle.kernel_calls.specs.Objects.{IsFree}
 use Rattle.kernel_calls.specs.declared.actor.Actor.TheVariants.{Task as by_task}
+use Rattle.kernel_calls.proofs.Holding.{loaded_on, loaded_with}
 use Rattle.kernel_calls.proofs.Advancing.{Advances, within_more}
 use Rattle.kernel_calls.proofs.ObjectMoves.{objects-set_regs}
 use Rattle.kernel_calls.proofs.Departing.{ends}
@@ -38,7 +39,7 @@ use Rattle.shell_eval.specs.Kept.{IsPoolInRam, Keeps}
 use Rattle.wind_machine.specs.Part.{with_kern}
 use Rattle.wind_machine.specs.Shell.{eval_state, with_eval}
 
--- from a world to another within a step of a task: the kept facts hold, the shell's task lives on, nobody safe from deletion goes but the task itself, counts stay within n, nobody else has a reservation that had none, few numbers were given out, and the tick count stood
+-- from a world to another within a step of a task: the kept facts hold, the shell's task lives on, nobody safe from deletion goes but the task itself, counts stay within n, nobody else has a reservation that had none, few numbers were given out, one of a watchdog's start at most, and the tick count stood
 pub record Turns (w v : WorldState) (who n : ℕ) : Type 0 where
   pub kept : IsWorld v
   pub shell : Lives w.kern shell_id → Lives v.kern shell_id
@@ -48,6 +49,7 @@ pub record Turns (w v : WorldState) (who n : ℕ) : Type 0 where
   pub sinces : v.kern.next_since ≤ w.kern.next_since + call_sinces
   pub count : v.kern.tick ≡ w.kern.tick
   pub names : v.names ≤ w.names + 1
+  pub starts : v.watch.next_start ≤ w.watch.next_start + 1
 
 pub turns_by : (w v : WorldState) (who n d m : ℕ) → d ≤ call_sinces → m ≤ 1 → Advances w v n d m → Turns w v who n
 turns_by w v who n d m few one a = record {
@@ -59,6 +61,7 @@ turns_by w v who n d m few one a = record {
   sinces = omega (arith, a.sinces, few);
   count = a.count;
   names = omega (arith, a.names, one);
+  starts = omega (arith, a.starts, one);
 }
 
 -- by a call of a task
@@ -72,6 +75,7 @@ turns_passed w v who n d m few one p = record {
   sinces = omega (arith, p.sinces, few);
   count = p.count;
   names = omega (arith, p.names, one);
+  starts = omega (arith, p.starts, one);
 }
   where
     by_itself : (id : ℕ) → (safe_of (task_of w.kern.tasks id) ≡ 0) ⊎ (by_task who ≡ by_task id) → (safe_of (task_of w.kern.tasks id) ≡ 0) ⊎ (who ≡ id)
@@ -89,10 +93,11 @@ turns_then w v u who n t a = record {
   sinces = omega (arith, a.sinces, t.sinces);
   count = a.count ∙ t.count;
   names = omega (arith, a.names, t.names);
+  starts = omega (arith, a.starts, t.starts);
 }
 
 pub nowhere : (w : WorldState) (who n : ℕ) → IsWorld w → Within n w → Turns w w who n
-nowhere w who n kept within = record { kept = kept; shell = λ h. h; gone = λ id live dead. absurd (dead live); within = within; reserves = λ h. h; sinces = omega arith; count = refl; names = omega arith }
+nowhere w who n kept within = record { kept = kept; shell = λ h. h; gone = λ id live dead. absurd (dead live); within = within; reserves = λ h. h; sinces = omega arith; count = refl; names = omega arith; starts = omega arith }
 
 pub more_counts : (w v : WorldState) (who n : ℕ) → Turns w v who n → Turns w v who (n + 1)
 more_counts w v who n t = record {
@@ -104,13 +109,14 @@ more_counts w v who n t = record {
   sinces = t.sinces;
   count = t.count;
   names = t.names;
+  starts = t.starts;
 }
 
 module _ (w v : WorldState) (who n : ℕ) (t : Turns w v who n) where
   -- RAM, devices and what is written, where RAM is as long as it was
   pub touched : (ram : List ℕ) (slots : List (Option DeviceState)) (output : List ℕ) → length ram ≡ length v.ram → Turns w (record v { ram = ram; slots = slots; output = output }) who n
   touched ram slots output same = record {
-    kept = record { kern = t.kept.kern; home = t.kept.home; objects = t.kept.objects; pool = t.kept.pool; stacks = t.kept.stacks; ram = same ∙ t.kept.ram; symbols = t.kept.symbols };
+    kept = record { kern = t.kept.kern; home = t.kept.home; objects = t.kept.objects; pool = t.kept.pool; stacks = t.kept.stacks; modules = t.kept.modules; ram = same ∙ t.kept.ram; symbols = t.kept.symbols; watch = t.kept.watch };
     shell = t.shell;
     gone = t.gone;
     within = t.within;
@@ -118,6 +124,7 @@ module _ (w v : WorldState) (who n : ℕ) (t : Turns w v who n) where
     sinces = t.sinces;
     count = t.count;
     names = t.names;
+    starts = t.starts;
   }
 
   pub wrote : (output : List ℕ) → Turns w (record v { output = output }) who n
@@ -148,8 +155,10 @@ module _ (w v : WorldState) (who n : ℕ) (t : Turns w v who n) where
           objects = objects-set_regs v.kern v.objects t.kept.kern t.kept.objects who regs free;
           pool = t.kept.pool;
           stacks = subst (λ s. AreStacks v.part (interrupt_stack ∷ s)) (sym (map-change (λ (u : Task). u.stack) v.kern.tasks who f (λ u. refl))) t.kept.stacks;
+          modules = loaded_on v.kern v.part v.modules t.kept.modules (set_regs v.kern who regs) (omega arith) (map-change (λ (u : Task). u.stack) v.kern.tasks who f (λ u. refl));
           ram = t.kept.ram;
           symbols = t.kept.symbols;
+          watch = t.kept.watch;
         };
         shell = λ h. lives_on shell_id (t.shell h);
         gone = λ id live dead. t.gone id live (λ h. dead (lives_on id h));
@@ -158,6 +167,7 @@ module _ (w v : WorldState) (who n : ℕ) (t : Turns w v who n) where
         sinces = t.sinces;
         count = t.count;
         names = t.names;
+        starts = t.starts;
       }
 
 -- ---- another task than the shell's ends
@@ -173,6 +183,7 @@ ended_turns w who n other kept within =
       sinces = omega (arith, e.sinces);
       count = e.count;
       names = omega (arith, e.names);
+      starts = omega (arith, e.starts);
     }
   where
     differ : shell_id ≡ who → ⊥
@@ -235,8 +246,10 @@ evaluated_turns w who n e kept within keeps =
           kernels = All-weaker (IsKernels w.part) (IsKernels e.pool) (kernels_stay w.part e.pool k.stays) (interrupt_stack ∷ task_stacks w.kern) kept.stacks.kernels;
           apart = kept.stacks.apart;
         };
+        modules = loaded_with w.kern w.part w.modules kept.modules e.pool (kernels_stay w.part e.pool k.stays);
         ram = k.ram ∙ kept.ram;
         symbols = k.few kept.symbols;
+        watch = kept.watch;
       };
       shell = λ h. h;
       gone = λ id live dead. absurd (dead live);
@@ -245,4 +258,5 @@ evaluated_turns w who n e kept within keeps =
       sinces = omega arith;
       count = refl;
       names = omega arith;
+      starts = omega arith;
     }

@@ -17,7 +17,7 @@ pub record Keeps (s : State) : Type 0 where
   pub console : KeepsLines s.console.edited s.console.finished
   -- in phase Read a finished line is kept
   pub read : HasItsLine s.shell.phase s.console.finished
-  -- the kernel's tasks and objects, the partition, the stacks, RAM and the symbols are as a world keeps them
+  -- the kernel's tasks and objects, the partition, the stacks, RAM, the symbols and the watchdogs are as a world keeps them
   pub world : IsWorld s.world
   -- the shell's task lives
   pub shell : Lives s.world.kern shell_id
@@ -28,6 +28,7 @@ pub record Keeps (s : State) : Type 0 where
   pub ticks : s.world.kern.tick ≤ s.steps
   pub within : Within s.steps s.world
   pub names : s.world.names ≤ s.steps + 1
+  pub starts : s.world.watch.next_start ≤ s.steps
   -- board time goes beyond the steps made only by the time of an event
   pub time : s.time ≤ 2 ^ 64 + s.steps
 

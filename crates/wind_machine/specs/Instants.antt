@@ -8,7 +8,7 @@ use Rattle.inheritance.specs.Mutexes.{both, held_count}
 use Rattle.inheritance.specs.Reach.{boss, reaches, pri_of, raised}
 use Rattle.kernel_calls.specs.State.{WorldState}
 
--- whoever runs lives and is ready, and no ready task is before it, unless it ran last and holds the lock
+-- whoever runs where no interrupt routine is active lives and is ready, and no ready task is before it, unless it ran last and holds the lock
 abbrev pub MostUrgentRuns : WorldState → Type 0
 MostUrgentRuns w = (x : Task) → running w.kern ≡ Some x → MayRun w.kern x
 

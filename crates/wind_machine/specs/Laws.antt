@@ -1,17 +1,16 @@
 -- What follows of the machine's definitions alone.
 use Rattle.std.specs.Prelude.{◌≡◌, ℕ, ◌+◌, List, Option, Some, IfSome, ◌⊎◌}
-use Rattle.std.specs.Option.{option_map}
 use Rattle.wind_outside.specs.Devices.{DeviceState}
 use Rattle.tick_file.specs.Schedule.{Timetable, timetable_of}
 use Rattle.tick_file.specs.Laws.{IsEarly}
-use Rattle.wind_core.specs.State.{Lives, task_id, task_of}
-use Rattle.wind_core.specs.Orders.{running}
+use Rattle.wind_core.specs.State.{Lives, task_of}
 use Rattle.task_safety.specs.Safety.{safe_of}
+use Rattle.kernel_calls.specs.declared.actor.Actor.TheVariants.{Task as by_task}
 use Rattle.wind_machine.specs.State.{State}
 use Rattle.wind_machine.specs.Good.{Good}
 use Rattle.wind_machine.specs.Instants.{IsInstant}
 use Rattle.wind_machine.specs.Run.{after}
-use Rattle.wind_machine.specs.Machine.{machine_step, next_event, opening}
+use Rattle.wind_machine.specs.Machine.{runner, machine_step, next_event, opening}
 
 -- the opening state has the kept facts
 abbrev pub StartLaw : Type 0
@@ -32,7 +31,7 @@ InstantLaw = (s : State) → Good s → IsInstant s.world
 -- a task that lives before a step and not after it was not safe from deletion, or the step was its own
 abbrev pub OnlyUnsafeGo : State → State → Type 0
 OnlyUnsafeGo s t = (id : ℕ) → Lives s.world.kern id → (Lives t.world.kern id → ⊥)
-    → (safe_of (task_of s.world.kern.tasks id) ≡ 0) ⊎ (option_map task_id (running s.world.kern) ≡ Some id)
+    → (safe_of (task_of s.world.kern.tasks id) ≡ 0) ⊎ (runner s.world ≡ Some (by_task id))
 
 -- so it is of every step from a state with the kept facts
 abbrev pub SafetyLaw : Type 0

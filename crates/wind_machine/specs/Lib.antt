@@ -5,6 +5,7 @@ pub mod Laws
 pub mod Machine
 pub mod Part
 pub mod Processor
+pub mod Routine
 pub mod Reserving
 pub mod Run
 pub mod Shell

@@ -1,5 +1,6 @@
 -- The wind machine: its opening state and its step.
 use Rattle.std.specs.Prelude.{ℕ, ◌+◌, List, [], ◌++◌, Option, Some, None, is_some, Bool, true, false, ◌==◌, ◌&&◌, not, nat_le, if◌then◌else◌, length, fold, take, drop}
+use Rattle.std.specs.Option.{option_map}
 use Rattle.wind_base.specs.declared.gate.Gate.{Gate}
 use Rattle.wind_outside.specs.Devices.{DeviceState}
 use Rattle.task_block.specs.declared.task.Task.{Task}
@@ -11,6 +12,7 @@ use Rattle.wind_core.specs.State.{KernState}
 use Rattle.wind_core.specs.Orders.{running}
 use Rattle.wind_core.specs.Moves.{release}
 use Rattle.wind_core.specs.Tick.{tick}
+use Rattle.isr_watch.specs.Calls.{due}
 use Rattle.shell_parse.specs.Reading.{read_line}
 use Rattle.con_line.specs.State.{ConsoleState, opening_console}
 use Rattle.con_line.specs.Keys.{after_byte, byte_echo, byte_done}
@@ -21,6 +23,8 @@ use Rattle.kernel_calls.specs.State.{WorldState}
 use Rattle.kernel_calls.specs.Actors.{shell_id}
 use Rattle.kernel_calls.specs.Calls.{may_lack_memory as call_may_lack_memory}
 use Rattle.kernel_calls.specs.Opening.{opening_world}
+use Rattle.kernel_calls.specs.declared.actor.Actor.{Actor}
+use Rattle.kernel_calls.specs.declared.actor.Actor.TheVariants.{Task as by_task, Interrupt}
 use Rattle.wind_machine.specs.State.{ShellState, State}
 use Rattle.wind_machine.specs.Feed.{chunk, after_chunk, brought}
 use Rattle.wind_machine.specs.Task.{waits_for_console, aborted}
@@ -28,6 +32,7 @@ use Rattle.wind_machine.specs.Reserving.{drop_others, drop_all}
 use Rattle.wind_machine.specs.Part.{Part, with_kern}
 use Rattle.wind_machine.specs.Shell.{at_prompt, prompt_part, read_part, eval_part}
 use Rattle.wind_machine.specs.Processor.{gate_under, task_part}
+use Rattle.wind_machine.specs.Routine.{interrupt_top, routine_part}
 use Rattle.wind_machine.specs.declared.phase.Phase.{Phase}
 use Rattle.wind_machine.specs.declared.phase.Phase.TheVariants as phases
 
@@ -95,8 +100,12 @@ without_next t = record t { events = drop 1 t.events }
 abbrev pub unreserved_world : WorldState → WorldState
 unreserved_world w = with_kern w (drop_all w.kern)
 
+-- the kernel's tick, and then the watchdogs that are due at it
+abbrev pub tick_world : WorldState → WorldState
+tick_world w = record w { kern = tick w.kern; watch = due w.watch (tick w.kern).tick interrupt_top }
+
 abbrev pub ticked : State → State
-ticked s = record s { world = cleared (with_kern s.world (tick s.world.kern)); steps = s.steps + 1 }
+ticked s = record s { world = cleared (tick_world s.world); steps = s.steps + 1 }
 
 -- so many bytes arrive, as the tick file asks
 abbrev pub received : State → ℕ → State
@@ -155,19 +164,36 @@ shell_step phases.Call s = task_step s shell_id
 abbrev pub step_of : State → ℕ → State
 step_of s who = if who == shell_id then shell_step s.shell.phase s else task_step s who
 
+-- ---- an interrupt routine makes a step
+-- a routine is active
+abbrev pub is_active : WorldState → Bool
+is_active w = is_some w.watch.level
+
+-- the step adds 1 to board time, and no task keeps a reservation
+abbrev pub routine_step : State → State
+routine_step s = record s { world = routine_part (cleared (unreserved_world s.world)); time = s.time + 1; steps = s.steps + 1 }
+
 -- ---- the order of the next step
+-- who makes a step where nothing else is due: the routine that is active, or else a task
+abbrev pub actor_of : Task → Actor
+actor_of t = by_task t.id
+
+abbrev pub runner : WorldState → Option Actor
+runner w = if is_active w then Some Interrupt else option_map actor_of (running w.kern)
+
 -- whoever runs holds interrupts back
 abbrev pub holds_back : Option Task → Bool
 holds_back None = false
 holds_back (Some t) = t.int_locked
 
+-- interrupts may come: no routine is active, and whoever runs does not hold them back
 abbrev pub is_open : State → Bool
-is_open s = not (holds_back (running s.world.kern))
+is_open s = not (is_active s.world) && not (holds_back (running s.world.kern))
 
 abbrev pub event_of : Timed → Event
 event_of e = e.event
 
--- an event is due: its time has come, and no interrupt is held back
+-- an event is due: its time has come, and interrupts may come
 abbrev pub due_at : ℕ → Option Timed → Option Timed
 due_at time None = None
 due_at time (Some e) = if nat_le e.time time then Some e else None
@@ -183,19 +209,23 @@ abbrev pub jump_to : State → Option Timed → Option State
 jump_to s None = None
 jump_to s (Some e) = Some (jump s e)
 
--- whoever runs makes a step; where nobody runs, time goes on to the next event, if there is one
+-- the task that runs makes a step; where none does, time goes on to the next event, if there is one
 abbrev pub run_step : State → Option Task → Option State
 run_step s (Some t) = Some (step_of s t.id)
 run_step s None = jump_to s (next_event s)
 
+-- the routine that is active makes a step, or else a task
+abbrev pub actor_step : State → Option State
+actor_step s = if is_active s.world then Some (routine_step s) else run_step s (running s.world.kern)
+
 abbrev pub quiet_step : State → Option State
-quiet_step s = if console_is_due s then Some (arrival s) else run_step s (running s.world.kern)
+quiet_step s = if console_is_due s then Some (arrival s) else actor_step s
 
 abbrev pub step_by : State → Option Timed → Option State
 step_by s (Some e) = Some (event_step s e)
 step_by s None = quiet_step s
 
--- the next step: an event that is due comes; else a chunk that is due arrives; else whoever runs makes a step; else time jumps
+-- the next step: an event that is due comes; else a chunk that is due arrives; else whoever runs makes a step, a routine before any task; else time jumps
 unfoldable pub machine_step : State → Option State
 machine_step s = step_by s (due_event s)
 
@@ -219,9 +249,9 @@ abbrev pub runner_may : State → Option Task → Bool
 runner_may s None = false
 runner_may s (Some t) = who_may s t.id
 
--- the next step may lack host memory
+-- the next step may lack host memory; no step of an interrupt routine does
 abbrev pub may_lack_memory : State → Bool
-may_lack_memory s = not (is_some (due_event s)) && (not (console_is_due s) && runner_may s (running s.world.kern))
+may_lack_memory s = not (is_active s.world) && (not (is_some (due_event s)) && (not (console_is_due s) && runner_may s (running s.world.kern)))
 
 -- the state in which a board starts, with this console file, these events and these devices
 unfoldable pub opening : List ℕ → Timetable → List (Option DeviceState) → State

@@ -34,7 +34,7 @@ with_bus w b = record w { ram = b.ram; slots = b.slots }
 
 -- the registers of a task; none has a value where no such task lives
 abbrev pub regs_of : WorldState → ℕ → Regs
-regs_of w who = caller_regs w.kern w.level (by_task who)
+regs_of w who = caller_regs w.kern w.watch.level (by_task who)
 
 -- ---- exceptions
 -- what an exception of a task writes

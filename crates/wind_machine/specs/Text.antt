@@ -56,6 +56,14 @@ cause_text trap name = codes "\nexception " ++ kind_text trap ++ codes " in " ++
 unfoldable pub place_text : ℕ → ℕ → List ℕ
 place_text id at = codes " (0x" ++ digits 16 false id ++ codes ") at 0x" ++ eight_digits at ++ codes "\n"
 
+-- where a routine is, to the end of the line
+unfoldable pub level_text : ℕ → List ℕ
+level_text at = codes " at 0x" ++ eight_digits at ++ codes "\n"
+
+-- the line that tells an exception of an interrupt routine
+unfoldable pub routine_text : Trap → ℕ → List ℕ
+routine_text trap at = cause_text trap (codes "interrupt") ++ level_text at
+
 -- the line that tells an exception of the task of this name and id
 unfoldable pub exception_text : Trap → List ℕ → ℕ → ℕ → List ℕ
 exception_text trap name id at = cause_text trap name ++ place_text id at

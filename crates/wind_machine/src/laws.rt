@@ -13,8 +13,8 @@ pub fn step_law()
     ensures count { CountLaw }
 {}
 
-/// The law of each instant: in every state with the kept facts, whoever runs lives and is ready, and no ready task is
-/// before it, unless it ran last and holds the lock; each live owner of an inversion-safe mutex is at least as urgent as
+/// The law of each instant: in every state with the kept facts, the task that runs where no interrupt routine is active
+/// lives and is ready, and no ready task is before it, unless it ran last and holds the lock; each live owner of an inversion-safe mutex is at least as urgent as
 /// whoever waits for it, itself or along further owners; a task that owns none has its normal priority; and raising would
 /// change nothing, so that every step ends as if owners were raised.
 pub fn instant_law()

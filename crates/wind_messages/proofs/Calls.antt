@@ -64,7 +64,7 @@ abbrev stock_of : List (ℕ × QueueState) → ℕ → Stock
 stock_of rs n = record { queues = rs; next_id = n }
 
 -- what leaves the queues and the next id
-same_stock : (w v u : WorldState) (s : Scene) (e : Option Event) → u.objects.queues.queues ≡ v.objects.queues.queues → u.kern.next_id ≡ v.kern.next_id → Balances w v s e → Balances w u s e
+pub same_stock : (w v u : WorldState) (s : Scene) (e : Option Event) → u.objects.queues.queues ≡ v.objects.queues.queues → u.kern.next_id ≡ v.kern.next_id → Balances w v s e → Balances w u s e
 same_stock w v u s e queues ids b =
     let goes : Stock → Type 0 = λ t. IsBalanced (stock_in w) t (accepted_next s e) (taken_next s e) in
     subst (λ n. goes (stock_of u.objects.queues.queues n)) (sym ids) (subst (λ rs. goes (stock_of rs v.kern.next_id)) (sym queues) b)

@@ -2,5 +2,6 @@ pub mod NextIds
 pub mod Rows
 pub mod Calls
 pub mod Parts
+pub mod Routines
 pub mod Steps
 pub mod Conserved

@@ -29,14 +29,16 @@ use Rattle.msg_queue.specs.Kept.{IsKept}
 use Rattle.msg_queue.specs.Machine.{Event, accepted_next, taken_next}
 use Rattle.msg_queue.specs.Laws.{Stock, IsBalanced}
 use Rattle.msg_queue.proofs.Traffic.{stock, balanced_still, balanced_send, balanced_receive, balanced_create, balanced_gone}
+use Rattle.isr_watch.specs.Calls.{create_refusal as watchdog_refusal}
 use Rattle.kernel_calls.specs.State.{WorldState}
 use Rattle.kernel_calls.specs.declared.objects.Objects.{Objects}
 use Rattle.kernel_calls.specs.TaskRows.{done, refused, target, suspend_row, resume_row, verify_row, found_row, name_row}
 use Rattle.kernel_calls.specs.SafetyRows.{deletes, meant, unsafe_unless}
 use Rattle.kernel_calls.specs.SemRows as sem
 use Rattle.kernel_calls.specs.QueueRows as queue
+use Rattle.kernel_calls.specs.WatchRows as watch
 use Rattle.kernel_calls.specs.Spawning.{SpawnState, SpawnRow, spawned_at, spawned_unless, spawned_if, stack_bytes, task_wanted, quick_wanted}
-use Rattle.kernel_calls.specs.Calls.{with_reply, of_objects, of_queues, scene_of, spawn_state, priority_in, task_at, row}
+use Rattle.kernel_calls.specs.Calls.{with_reply, of_objects, of_queues, of_watch, scene_of, spawn_state, priority_in, task_at, row}
 use Rattle.kernel_calls.specs.declared.actor.Actor.TheVariants.{Task as by_task}
 use Rattle.wind_messages.specs.Messages.{call_at}
 use Rattle.wind_messages.proofs.NextIds.{NextSame, next-resume, next-lessen, next-sem_take, next-sem_give, next-sem_flush, next-sem_delete, next-mutex_take, next-mutex_give, next-mutex_delete, next-priority_set}
@@ -54,15 +56,15 @@ pub leaves : (w v : WorldState) (s : Scene) → v.objects.queues.queues ≡ w.ob
 leaves w v s same ids = balanced_still (stock_in w) (stock_in v) (λ q. []) (λ q. []) (λ q. refl) (λ q. refl) same ids
 
 -- ---- rows that touch tasks alone
-suspends : (k : KernState) (o : Option ℕ) → NextSame k (suspend_row k o).kern
+pub suspends : (k : KernState) (o : Option ℕ) → NextSame k (suspend_row k o).kern
 suspends k None = refl
 suspends k (Some id) = refl
 
-resumes : (k : KernState) (o : Option ℕ) → NextSame k (resume_row k o).kern
+pub resumes : (k : KernState) (o : Option ℕ) → NextSame k (resume_row k o).kern
 resumes k None = refl
 resumes k (Some id) = next-resume k id
 
-verifies : (k : KernState) (o : Option ℕ) → NextSame k (verify_row k o).kern
+pub verifies : (k : KernState) (o : Option ℕ) → NextSame k (verify_row k o).kern
 verifies k None = refl
 verifies k (Some id) = refl
 
@@ -106,7 +108,7 @@ pub record LeavesQueues (k : KernState) (o : Objects) (r : sem.ObjectRow) : Type
   pub ids : k.next_id ≤ r.kern.next_id
 
 module _ (k : KernState) (o : Objects) where
-  unchanged : (e : Errno) → LeavesQueues k o (sem.refused k o e)
+  pub unchanged : (e : Errno) → LeavesQueues k o (sem.refused k o e)
   unchanged e = record { queues = refl; ids = omega arith }
 
   making_one : (v : Semaphore) (r : Option Errno) → LeavesQueues k o (sem.made_unless r k o v)
@@ -146,7 +148,7 @@ module _ (k : KernState) (o : Objects) where
         | false ↦ plain_takes who id n (plain.take_refusal (sem.sems k o) id n)
       ]
 
-  plain_gives : (id : ℕ) (r : Option Errno) → LeavesQueues k o (sem.plain_give_unless r k o id)
+  pub plain_gives : (id : ℕ) (r : Option Errno) → LeavesQueues k o (sem.plain_give_unless r k o id)
   plain_gives id None = record { queues = refl; ids = omega (arith, next-sem_give (sem.sems k o) id (object_of o.semaphores id)) }
   plain_gives id (Some e) = unchanged e
 
@@ -165,7 +167,7 @@ module _ (k : KernState) (o : Objects) where
   plain_flushes id None = record { queues = refl; ids = omega (arith, next-sem_flush (sem.sems k o) id) }
   plain_flushes id (Some e) = unchanged e
 
-  flushes : (id : ℕ) → LeavesQueues k o (sem.flush_row k o id)
+  pub flushes : (id : ℕ) → LeavesQueues k o (sem.flush_row k o id)
   flushes id =
       elim (sem.is_mutex o id) as (λ b. LeavesQueues k o (cond b (sem.refused k o errors.InvalidOperation) (sem.flush_unless (plain.flush_refusal (sem.sems k o) id) k o id))) [
         | true ↦ unchanged errors.InvalidOperation
@@ -183,7 +185,7 @@ module _ (k : KernState) (o : Objects) where
         | false ↦ plain_deletes id (plain.delete_refusal (sem.sems k o) id)
       ]
 
-  priorities : (pri : ℕ) (who : Option ℕ) → LeavesQueues k o (sem.priority_row k o pri who)
+  pub priorities : (pri : ℕ) (who : Option ℕ) → LeavesQueues k o (sem.priority_row k o pri who)
   priorities pri None = unchanged errors.ObjIdError
   priorities pri (Some id) =
       elim (leb pri 255) as (λ b. LeavesQueues k o (cond b (sem.by_mutexes o (mutex.priority_set (sem.mutexes k o) id pri) (done k).reply) (sem.refused k o errors.IllegalPriority))) [
@@ -205,7 +207,7 @@ module _ (w : WorldState) (kept : IsKept (scene_of w)) (who : ℕ) (r : List ℕ
   by_objects : (x : sem.ObjectRow) → LeavesQueues w.kern w.objects x → Balances w (of_objects w x).world (scene_of w) None
   by_objects x p = none (of_objects w x).world p.queues p.ids
 
-  tells : (at : ℕ) (o : Option TaskRecord) → Balances w (priority_in w at o).world (scene_of w) None
+  pub tells : (at : ℕ) (o : Option TaskRecord) → Balances w (priority_in w at o).world (scene_of w) None
   tells at None = none w refl (omega arith)
   tells at (Some t) =
       elim (has w.ram at 4) as (λ b. Balances w (cond b (with_reply (record w { ram = with_word w.ram at t.pri }) (done w.kern).reply) (with_reply w (refused w.kern errors.BadAddress).reply)).world (scene_of w) None) [ true ↦ none (record w { ram = with_word w.ram at t.pri }) refl (omega arith) | false ↦ none w refl (omega arith) ]
@@ -215,6 +217,13 @@ module _ (w : WorldState) (kept : IsKept (scene_of w)) (who : ℕ) (r : List ℕ
       let q : QueueState = new_queue max_msgs max_len options in
       elim (create_refusal (length w.objects.queues.queues) w.kern.next_id max_msgs max_len options) as (λ o. Balances w (of_queues w (queue.create_unless o (scene_of w) q)).world (scene_of w) None) [
         | None ↦ balanced_create (scene_of w) q kept refl
+        | Some e ↦ none w refl (omega arith)
+      ]
+
+  watch_creates : Balances w (of_watch w (watch.create_row w.kern w.watch)).world (scene_of w) None
+  watch_creates =
+      elim (watchdog_refusal (length w.watch.watchdogs) w.kern.next_id) as (λ o. Balances w (of_watch w (watch.create_unless o w.kern w.watch)).world (scene_of w) None) [
+        | None ↦ none (of_watch w (watch.create_unless None w.kern w.watch)).world refl (omega arith)
         | Some e ↦ none w refl (omega arith)
       ]
 
@@ -249,4 +258,8 @@ module _ (w : WorldState) (kept : IsKept (scene_of w)) (who : ℕ) (r : List ℕ
   row_balances gates.MsgQReceive =
       balanced_receive (scene_of w) (slice_index r 3) (record { caller = who; buffer = slice_index r 4; room = slice_index r 5; timeout = slice_index r 6 }) kept
   row_balances gates.MsgQDelete = balanced_gone (scene_of w) (slice_index r 3) (queue_of (scene_of w) (slice_index r 3))
+  row_balances gates.WdCreate = watch_creates
+  row_balances gates.WdStart = none (behind gates.WdStart) refl (omega arith)
+  row_balances gates.WdCancel = none (behind gates.WdCancel) refl (omega arith)
+  row_balances gates.WdDelete = none (behind gates.WdDelete) refl (omega arith)
   row_balances g = none w refl (omega arith)

@@ -2,6 +2,7 @@
 use Rattle.std.proofs.Common.{◌≡◌, ℕ, Bool, true, false, cond, eqb, List, [], ◌∷◌, Option, None, Some, is_some, refl, sym, ◌∙◌, subst, arith}
 use Rattle.std.specs.Prelude.{unwrap_or, take, drop}
 use Rattle.std.specs.List.{fold}
+use Rattle.std.specs.Option.{option_map}
 use Rattle.std.proofs.lemmas.Bool.{eqb-true}
 use Rattle.task_block.specs.declared.task.Task.{Task}
 use Rattle.tick_file.specs.Schedule.{Timed}
@@ -21,7 +22,8 @@ use Rattle.msg_queue.proofs.Calm.{next-tick, calms}
 use Rattle.kernel_calls.specs.State.{WorldState}
 use Rattle.kernel_calls.specs.Actors.{shell_id, caller_words}
 use Rattle.kernel_calls.specs.Calls.{scene_of, left_gate}
-use Rattle.kernel_calls.specs.declared.actor.Actor.TheVariants.{Task as by_task}
+use Rattle.kernel_calls.specs.declared.actor.Actor.{Actor}
+use Rattle.kernel_calls.specs.declared.actor.Actor.TheVariants.{Task as by_task, Interrupt}
 use Rattle.kernel_calls.proofs.Calming.{queues-calm}
 use Rattle.wind_machine.specs.State.{State}
 use Rattle.wind_machine.specs.Good.{Good}
@@ -29,14 +31,16 @@ use Rattle.wind_machine.specs.Feed.{chunk, after_chunk, brought}
 use Rattle.wind_machine.specs.Task.{waits_for_console}
 use Rattle.wind_machine.specs.Shell.{read_part}
 use Rattle.wind_machine.specs.Processor.{gate_under}
-use Rattle.wind_machine.specs.Machine.{Heard, hear, heard_all, heard_from, heard_by, kern_after, arrived, arrival, event_comes, event_step, unreserved_world, without_next, next_event, jump_to, shell_world, task_step, shell_step, step_of, due_event, console_is_due, run_step, quiet_step, step_by, machine_step}
+use Rattle.wind_machine.specs.Machine.{Heard, hear, heard_all, heard_from, heard_by, kern_after, arrived, arrival, event_comes, event_step, unreserved_world, without_next, next_event, jump_to, shell_world, task_step, shell_step, step_of, actor_of, runner, is_active, routine_step, due_event, console_is_due, run_step, actor_step, quiet_step, step_by, machine_step}
 use Rattle.wind_machine.specs.declared.phase.Phase.{Phase}
 use Rattle.wind_machine.specs.declared.phase.Phase.TheVariants as phases
+use Rattle.wind_machine.proofs.Dropping.{all_advance}
 use Rattle.wind_machine.proofs.Steps.{at_turn_advances}
-use Rattle.wind_messages.specs.Messages.{is_call, turn_world, task_call, task_scene, call_under, stepping, call_of, scene_by}
+use Rattle.wind_messages.specs.Messages.{is_call, turn_world, task_call, task_scene, call_under, stepping, call_of, scene_by, routine_world, routine_scene}
 use Rattle.wind_messages.proofs.NextIds.{NextSame, next-if, next-release}
 use Rattle.wind_messages.proofs.Rows.{Balances, leaves}
 use Rattle.wind_messages.proofs.Parts.{next-aborted, prompts, evaluates, task_balances}
+use Rattle.wind_messages.proofs.Routines.{routine_balances}
 
 -- ---- bytes arrive
 next-byte : (d : ByteDone) (waits : Bool) (k : KernState) → NextSame k (kern_after d waits k)
@@ -53,7 +57,7 @@ unfolding heard_all
 next-heard s bytes = next-bytes (heard_from s.console s.shell s.world.kern []) bytes
 
 -- from a state to another, where whoever runs makes a step, or nobody does
-abbrev pub Goes : State → State → Option Task → Type 0
+abbrev pub Goes : State → State → Option Actor → Type 0
 Goes s t o = Balances s.world t.world (scene_by s o) (call_of s o)
 
 -- ---- the queues are left alone
@@ -106,16 +110,29 @@ module _ (s : State) (g : Good s) where
       ] refl
 
   -- ---- by the order of the next step
-  runs_go : (o : Option Task) → Goes s (unwrap_or (run_step s o) s) o
+  runs_go : (o : Option Task) → Goes s (unwrap_or (run_step s o) s) (option_map actor_of o)
   runs_go None = jumps s (next_event s)
   runs_go (Some t) = whoever_goes t.id
 
-  quiet_goes : Goes s (unwrap_or (quiet_step s) s) (cond (console_is_due s) None (running s.world.kern))
-  quiet_goes =
-      let o : Option Task = running s.world.kern in
-      elim (console_is_due s) as (λ b. Goes s (unwrap_or (cond b (Some (arrival s)) (run_step s o)) s) (cond b None o)) [ true ↦ arrivals s (after_chunk s.left) (chunk s.left) | false ↦ runs_go o ]
+  -- what a call of an interrupt routine sees is kept
+  routine_kept : IsKept (routine_scene s)
+  routine_kept =
+      let kept = (all_advance s.world s.steps g.world g.within).kept in
+      kept.objects.queues s.world.ram kept.ram
 
-  steps_go : (o : Option Timed) → Goes s (unwrap_or (step_by s o) s) (cond (is_some o) None (cond (console_is_due s) None (running s.world.kern)))
+  routines_go : Goes s (routine_step s) (Some Interrupt)
+  routines_go = routine_balances (routine_world s) routine_kept
+
+  actors_go : Goes s (unwrap_or (actor_step s) s) (runner s.world)
+  actors_go =
+      let o : Option Task = running s.world.kern in
+      elim (is_active s.world) as (λ b. Goes s (unwrap_or (cond b (Some (routine_step s)) (run_step s o)) s) (cond b (Some Interrupt) (option_map actor_of o))) [ true ↦ routines_go | false ↦ runs_go o ]
+
+  quiet_goes : Goes s (unwrap_or (quiet_step s) s) (cond (console_is_due s) None (runner s.world))
+  quiet_goes =
+      elim (console_is_due s) as (λ b. Goes s (unwrap_or (cond b (Some (arrival s)) (actor_step s)) s) (cond b None (runner s.world))) [ true ↦ arrivals s (after_chunk s.left) (chunk s.left) | false ↦ actors_go ]
+
+  steps_go : (o : Option Timed) → Goes s (unwrap_or (step_by s o) s) (cond (is_some o) None (cond (console_is_due s) None (runner s.world)))
   steps_go None = quiet_goes
   steps_go (Some e) = due_events s e
 

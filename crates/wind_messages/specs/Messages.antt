@@ -2,8 +2,6 @@
 use Rattle.std.specs.Prelude.{ℕ, ◌==◌, Bool, true, false, if◌then◌else◌, List, Option, None, Some, is_some, slice_index}
 use Rattle.wind_base.specs.declared.gate.Gate.{Gate}
 use Rattle.wind_base.specs.declared.gate.Gate.TheVariants as gates
-use Rattle.task_block.specs.declared.task.Task.{Task}
-use Rattle.wind_core.specs.Orders.{running}
 use Rattle.msg_queue.specs.State.{Scene}
 use Rattle.msg_queue.specs.Machine.{Event, sends, receives, Parcel, accepted_next, taken_next}
 use Rattle.msg_queue.specs.Laws.{gathered}
@@ -11,11 +9,13 @@ use Rattle.kernel_calls.specs.State.{WorldState}
 use Rattle.kernel_calls.specs.Actors.{shell_id, caller_words}
 use Rattle.kernel_calls.specs.Calls.{left_gate, scene_of}
 use Rattle.kernel_calls.specs.QueueRows.{sending}
-use Rattle.kernel_calls.specs.declared.actor.Actor.TheVariants.{Task as by_task}
+use Rattle.kernel_calls.specs.declared.actor.Actor.{Actor}
+use Rattle.kernel_calls.specs.declared.actor.Actor.TheVariants.{Task as by_task, Interrupt}
 use Rattle.wind_machine.specs.State.{State}
 use Rattle.wind_machine.specs.Run.{after}
-use Rattle.wind_machine.specs.Machine.{due_event, console_is_due, at_turn}
+use Rattle.wind_machine.specs.Machine.{runner, due_event, console_is_due, cleared, unreserved_world, at_turn}
 use Rattle.wind_machine.specs.Processor.{gate_under}
+use Rattle.wind_machine.specs.Routine.{routine_under}
 use Rattle.wind_machine.specs.declared.phase.Phase.{Phase}
 use Rattle.wind_machine.specs.declared.phase.Phase.TheVariants as phases
 
@@ -51,18 +51,40 @@ task_call s who =
 abbrev pub task_scene : State → ℕ → Scene
 task_scene s who = scene_of (left_gate (turn_world s who) (by_task who))
 
+-- ---- an interrupt routine, which may send, and never receives
+abbrev pub sent_at : Gate → List ℕ → Option Event
+sent_at gates.MsgQSend r = Some (sends (slice_index r 3) (sending Interrupt (slice_index r 4) (slice_index r 5) (slice_index r 6) (slice_index r 7)))
+sent_at g r = None
+
+abbrev pub sent_under : Option Gate → List ℕ → Option Event
+sent_under None r = None
+sent_under (Some g) r = sent_at g r
+
+-- the world at its turn
+abbrev pub routine_world : State → WorldState
+routine_world s = cleared (unreserved_world s.world)
+
+-- the send that its step is, if it is one, and what that sees
+abbrev pub routine_send : State → Option Event
+routine_send s = sent_under (routine_under (routine_world s)) (caller_words (routine_world s) Interrupt)
+
+abbrev pub routine_scene : State → Scene
+routine_scene s = scene_of (left_gate (routine_world s) Interrupt)
+
 -- ---- the next step
--- whose step it is, if it is a task's
-abbrev pub stepping : State → Option Task
-stepping s = if is_some (due_event s) then None else (if console_is_due s then None else running s.world.kern)
+-- whose step it is, if it is a task's or a routine's
+abbrev pub stepping : State → Option Actor
+stepping s = if is_some (due_event s) then None else (if console_is_due s then None else runner s.world)
 
-abbrev pub call_of : State → Option Task → Option Event
+abbrev pub call_of : State → Option Actor → Option Event
 call_of s None = None
-call_of s (Some t) = task_call s t.id
+call_of s (Some (by_task who)) = task_call s who
+call_of s (Some Interrupt) = routine_send s
 
-abbrev pub scene_by : State → Option Task → Scene
+abbrev pub scene_by : State → Option Actor → Scene
 scene_by s None = scene_of s.world
-scene_by s (Some t) = task_scene s t.id
+scene_by s (Some (by_task who)) = task_scene s who
+scene_by s (Some Interrupt) = routine_scene s
 
 -- what the next step adds to the queue q or hands to a receiver of it, and what it hands to one or takes from the front
 abbrev pub step_accepts : State → ℕ → List Parcel

@@ -1,4 +1,5 @@
 pub mod CommandLemmas
+pub mod LeftLemmas
 pub mod PlanLemmas
 pub mod RunLemmas
 pub mod ToldLemmas

@@ -1,14 +1,15 @@
 -- What the words and the two files ask for.
-use Rattle.std.proofs.Common.{◌≡◌, ℕ, zero, suc, ◌+◌, ◌<◌, ◌≤◌, List, [], ◌∷◌, Option, Some, None, true, false, cond, refl, sym, ap, ◌∙◌, arith, length}
+use Rattle.std.proofs.Common.{◌≡◌, ℕ, zero, suc, ◌+◌, ◌<◌, ◌≤◌, List, [], ◌∷◌, Option, Some, None, true, false, cond, refl, sym, ap, subst, ◌≢◌, ◌∙◌, arith, length}
 use Rattle.std.specs.Prelude.{IfSome, IsSomeAnd, nat_lt}
 use Rattle.std.proofs.lemmas.Bool.Decides.{nat_tests}
 use Rattle.wind_base.specs.Limits.{longest_text_file}
 use Rattle.wind_outside.specs.Files.{Files, IsFetchOf}
 use Rattle.wind_outside.specs.declared.folder.Fetched.TheVariants as fetched
-use Rattle.tick_file.specs.Schedule.{Timetable}
+use Rattle.tick_file.specs.Schedule.{Timetable, timetable_of}
+use Rattle.generated_session.specs.Session.{generated_console, generated_ticks}
 use Rattle.windplay.specs.Command.{CommandState}
-use Rattle.windplay.specs.Plan.{Plan, Refuse, Start, IsFilePlan, IsPlan, IsEntry, IsHeld, plan_file, plan_ticks, plan_of}
-use Rattle.windplay.specs.Headline.{IsRefusal, IsUnread, Refuses, IsPlayed, IsComplete}
+use Rattle.windplay.specs.Plan.{Plan, Refuse, Start, IsFilePlan, IsPlanOf, IsPlan, IsEntry, IsHeld, plan_file, plan_ticks, plan_of, generated_plan}
+use Rattle.windplay.specs.Headline.{IsRefusal, IsUnread, RefusesFiles, Refuses, fetch_fault, IsThere, IsPlayed, IsComplete}
 use Rattle.windplay.specs.declared.ending.Status.{Status}
 use Rattle.windplay.specs.declared.ending.Status.TheVariants as status
 use Rattle.windplay.specs.declared.ending.Which.{Which}
@@ -79,16 +80,20 @@ module _ (files : Option Files) (name : List ℕ) where
     unread_memory = let some = some_entry files name in record { file = some.0; told = some.1; refused = λ next. tt }
 
 -- words ask for some plan, also where it is not known which
-pub some_plan : (files : Option Files) (command : Option CommandState) → (plan : Plan) × IsPlan files command plan
-some_plan files None = (Refuse status.Usage, refl)
-some_plan files (Some c) =
+some_plan_of : (n : ℕ) (files : Option Files) (c : CommandState) → (plan : Plan) × IsPlanOf n files c plan
+some_plan_of zero files c =
     let console = some_entry files c.console in
     let ticks = some_entry files c.ticks in
     (plan_of console.0 ticks.0, record { console = console.0; ticks = ticks.0; console_told = console.1; ticks_told = ticks.1; plan_is = refl })
+some_plan_of (suc n) files c = (generated_plan (suc n), refl)
+
+pub some_plan : (files : Option Files) (command : Option CommandState) → (plan : Plan) × IsPlan files command plan
+some_plan files None = (Refuse status.Usage, refl)
+some_plan files (Some c) = some_plan_of c.generate files c
 
 module _ (files : Option Files) (command : CommandState) where
   -- the console file is refused
-  pub refuses_console : (s : Status) (rose : Type 0) → IsUnread s which.Console files command.console rose → Refuses s files command rose
+  pub refuses_console : (s : Status) (rose : Type 0) → IsUnread s which.Console files command.console rose → RefusesFiles s files command rose
   refuses_console s rose unread =
       let ticks = some_entry files command.ticks in (
         plan_of unread.file ticks.0,
@@ -98,7 +103,7 @@ module _ (files : Option Files) (command : CommandState) where
 
   module _ (console : List ℕ) (first : IsHeld files command.console console) where
     -- the tick file is refused
-    pub refuses_ticks : (s : Status) (rose later : Type 0) → (rose → later) → IsUnread s which.Ticks files command.ticks rose → Refuses s files command later
+    pub refuses_ticks : (s : Status) (rose later : Type 0) → (rose → later) → IsUnread s which.Ticks files command.ticks rose → RefusesFiles s files command later
     refuses_ticks s rose later up unread = (
       plan_file which.Ticks (plan_ticks console) unread.file,
       record {
@@ -125,7 +130,7 @@ module _ (files : Option Files) (command : CommandState) where
     }
 
     -- and what they ask for is refused
-    pub refuses_both : (s : Status) (ticks : List ℕ) (plan : Plan) (rose : Type 0) → IsHeld files command.ticks ticks → plan ≡ plan_ticks console ticks → IsRefusal s plan ⊥ → Refuses s files command rose
+    pub refuses_both : (s : Status) (ticks : List ℕ) (plan : Plan) (rose : Type 0) → IsHeld files command.ticks ticks → plan ≡ plan_ticks console ticks → IsRefusal s plan ⊥ → RefusesFiles s files command rose
     refuses_both s ticks plan rose second e h = (plan, both_held ticks plan second e, refusal_up s plan ⊥ rose (λ never. absurd never) h)
 
 -- a refusal of a plan to start comes of a fault, or for want of memory
@@ -140,12 +145,36 @@ refusal_played (status.Absent file) plan console schedule rose e fine h = let ba
 refusal_played (status.BadTicks line) plan console schedule rose e fine h = let bad : Refuse (status.BadTicks line) ≡ Start console schedule = sym h ∙ e in cc
 refusal_played (status.TooLong file) plan console schedule rose e fine h = let bad : Refuse (status.TooLong file) ≡ Start console schedule = sym h ∙ e in cc
 
--- so what is refused without a fault had no plan to start
+-- so what is refused without a fault was not there to play
+refused_of : (n : ℕ) (s : Status) (files : Option Files) (command : CommandState) (rose : Type 0) (plan : Plan) → IsPlanOf n files command plan → IsRefusal s plan (fetch_fault n rose)
+    → IsThere n command files → (rose → ⊥) → IsPlayed s
+refused_of zero s None command rose plan planned refused there fine = absurd there
+refused_of zero s (Some held) command rose plan planned refused there fine =
+    refusal_played s plan there.0 there.1 rose
+    (planned.plan_is ∙ ap (λ file. plan_of file planned.ticks) planned.console_told ∙ ap (plan_of (held command.console)) planned.ticks_told ∙ there.2)
+    fine refused
+refused_of (suc n) s files command rose plan planned refused there fine =
+    refusal_played s plan (generated_console (suc n)) (timetable_of (generated_ticks (suc n))) ⊥ planned (λ never. never) refused
+
 pub complete_refused : (s : Status) (files : Option Files) (command : CommandState) (rose out_rose : Type 0) → Refuses s files command rose → IsComplete s (Some command) files rose out_rose
-complete_refused s None command rose out_rose h = tt
-complete_refused s (Some held) command rose out_rose h =
-    λ console schedule e fine out_fine.
-    refusal_played s h.0 console schedule rose
-    (h.1.plan_is ∙ ap (λ file. plan_of file h.1.ticks) h.1.console_told ∙ ap (plan_of (held command.console)) h.1.ticks_told ∙ e)
-    fine
-    h.2
+complete_refused s files command rose out_rose h = λ there fine out_fine. refused_of command.generate s files command rose h.0 h.1 h.2 there fine
+
+-- ---- by the number of rounds
+module _ (files : Option Files) (command : CommandState) where
+  -- with none, the files are played
+  pub by_files : (plan : Plan) → command.generate ≡ 0 → IsFilePlan files command plan → IsPlanOf command.generate files command plan
+  by_files plan none h = subst (λ n. IsPlanOf n files command plan) (sym none) h
+
+  pub refuses_by_files : (s : Status) (rose : Type 0) → command.generate ≡ 0 → RefusesFiles s files command rose → Refuses s files command rose
+  refuses_by_files s rose none h = (h.0, by_files h.0 none h.1, subst (λ n. IsRefusal s h.0 (fetch_fault n rose)) (sym none) h.2)
+
+  generated_of : (n : ℕ) (plan : Plan) → n ≢ 0 → plan ≡ generated_plan n → IsPlanOf n files command plan
+  generated_of zero plan some e = absurd (some refl)
+  generated_of (suc n) plan some e = e
+
+  -- and else a generated session
+  pub by_rounds : (plan : Plan) → command.generate ≢ 0 → plan ≡ generated_plan command.generate → IsPlanOf command.generate files command plan
+  by_rounds plan some e = generated_of command.generate plan some e
+
+  pub refuses_memory : (rose : Type 0) → Refuses status.NoMemory files command rose
+  refuses_memory rose = let some = some_plan_of command.generate files command in (some.0, some.1, tt)

@@ -1,11 +1,11 @@
 -- Laws on the runs of the wind machine.
-use Rattle.std.proofs.Common.{◌≡◌, ◌≢◌, ℕ, suc, ◌+◌, ◌<◌, List, [], ◌++◌, Option, Some, true, refl, sym, ◌∙◌, ap, subst, arith, below_more, add-one}
+use Rattle.std.proofs.Common.{◌≡◌, ◌≢◌, ℕ, suc, ◌+◌, ◌<◌, List, [], ◌++◌, Option, Some, true, refl, sym, ◌∙◌, ap, subst, arith, below_more, add-one, length, length-append}
 use Rattle.std.specs.Prelude.{unwrap_or, IsSome, take}
 use Rattle.wind_outside.specs.Told.{Appended, AppendedFront}
 use Rattle.wind_machine.specs.State.{State}
 use Rattle.wind_machine.specs.Machine.{machine_step, may_lack_memory}
 use Rattle.wind_machine.specs.Run.{after, text, IsPart}
-use Rattle.windplay.specs.Runs.{Ran}
+use Rattle.windplay.specs.Runs.{Made, Ran}
 use Rattle.windplay.proofs.ToldLemmas.{appended_both}
 use Rattle.windplay.specs.declared.run.RunEnd.TheVariants as ends
 
@@ -25,9 +25,7 @@ pub cut_off : (s t : State) (n i : ℕ) (old mid new : Option (List ℕ)) → Is
     → Appended old mid (text s i) → AppendedFront mid new t.world.output → t.world.output ≢ [] → Ran ends.WriteFault s n t old new
 cut_off s t n i old mid new p h e count told part some = record {
   k = suc i;
-  counted = count ∙ add-one i;
-  part = part_more s t n i p h e;
-  state = after_more s t i e;
+  made = record { counted = count ∙ add-one i; part = part_more s t n i p h e; state = after_more s t i e; ended = tt };
   written = record {
     before = i;
     last = refl;
@@ -35,7 +33,6 @@ cut_off s t n i old mid new p h e count told part some = record {
     part = part.0;
     gained = subst (λ (u : State). Appended old new (text s i ++ take part.0 u.world.output)) (after_more s t i e) (appended_both old mid new (text s i) _ told part.1);
   };
-  ended = tt;
 }
 
 -- ---- behind i steps, a further one was made
@@ -54,13 +51,17 @@ module _ (s t u : State) (i : ℕ) (here : u ≡ after s i) where
       subst (λ k. Appended old new (text s k)) (sym (add-one i))
       (subst (λ (v : State). Appended old new (text s i ++ v.world.output)) (after_more s t i (made e)) (appended_both old mid new (text s i) t.world.output told more))
 
+  -- what the steps wrote has so many bytes more
+  pub bytes_on : (bytes : ℕ) → machine_step u ≡ Some t → bytes ≡ length (text s i) → bytes + length t.world.output ≡ length (text s (i + 1))
+  bytes_on bytes e told =
+      ap (λ n. n + length t.world.output) told ∙ ap (λ (v : State). length (text s i) + length v.world.output) (after_more s t i (made e))
+      ∙ sym (length-append (text s i) (after s (suc i)).world.output) ∙ ap (λ k. length (text s k)) (sym (add-one i))
+
   -- memory ran out in it, and nothing changed
-  pub lacked : (n : ℕ) (old new : Option (List ℕ)) → t ≡ u → u.steps ≡ i → IsPart s n i → i < n → may_lack_memory u ≡ true → Appended old new (text s i) → Ran ends.NoMemory s n t old new
-  lacked n old new same count p h may told = record {
-    k = i;
+  pub lacking : (n : ℕ) → t ≡ u → u.steps ≡ i → IsPart s n i → i < n → may_lack_memory u ≡ true → Made ends.NoMemory s n i t
+  lacking n same count p h may = record {
     counted = ap (λ (v : State). v.steps) same ∙ count;
     part = p;
     state = same ∙ here;
-    written = told;
     ended = (h, subst (λ (v : State). may_lack_memory v ≡ true) here may);
   }

@@ -1,10 +1,10 @@
 -- Texts that are put in pieces.
 use Rattle.std.proofs.Common.{ℕ, ◌≤◌, List, [], ◌++◌, Option, Some, None, refl, ap, sym, ◌∙◌, subst, arith, append_assoc, take, drop, ◌^◌, ◌-◌, inl, inr}
-use Rattle.std.specs.Option.{option_map}
 use Rattle.std.proofs.lemmas.Bool.{cases_eq}
 use Rattle.std.proofs.lemmas.List.{append-nil, take-append-drop}
 use Rattle.wind_outside.specs.Counts.{Rose}
 use Rattle.wind_outside.specs.Told.{Appended, AppendedFront}
+pub use Rattle.generated_session.proofs.Told.{appended_both, appended_none}
 use Rattle.windplay.specs.Texts.{IsCutShort, IsText, IsTold, memory_text, status_text}
 use Rattle.windplay.specs.Command.{CommandState}
 use Rattle.windplay.specs.declared.ending.Status.TheVariants as status
@@ -21,16 +21,6 @@ rose_earlier a b c h k (inr most) =
       | inl same ↦ inr same
       | inr below ↦ inl (omega arith)
     ]
-
--- nothing was added
-pub appended_none : (old : Option (List ℕ)) → Appended old old []
-appended_none None = refl
-appended_none (Some x) = ap Some (sym (append-nil x))
-
--- two pieces, one after the other
-pub appended_both : (old mid new : Option (List ℕ)) (a b : List ℕ) → Appended old mid a → Appended mid new b → Appended old new (a ++ b)
-appended_both None mid new a b p q = q ∙ ap (option_map (λ bytes. bytes ++ b)) p
-appended_both (Some x) mid new a b p q = q ∙ ap (option_map (λ bytes. bytes ++ b)) p ∙ ap Some (append_assoc x a b)
 
 -- behind what was put, a put failed inside a piece, before the rest of the text
 pub cut_short : (old mid new : Option (List ℕ)) (before piece behind : List ℕ) (rose : Type 0) → Appended old mid before → AppendedFront mid new piece → rose → IsCutShort old new ((before ++ piece) ++ behind) rose

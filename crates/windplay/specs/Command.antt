@@ -1,16 +1,18 @@
 -- What the words of the command line ask for, by the definition of a simple command of `clap`.
-use Rattle.std.specs.Prelude.{ℕ, List, [], ◌∷◌, Option, Some, None, option_map, unwrap_or, nat_le, if◌then◌else◌, length, codes}
+use Rattle.std.specs.Prelude.{ℕ, List, [], ◌∷◌, Option, Some, None, unwrap_or, nat_le, if◌then◌else◌, length, codes}
 use Rattle.wind_base.specs.Limits.{most_steps}
 use Rattle.wind_base.specs.Decimal.{decimal_value}
+use Rattle.generated_session.specs.Session.{most_rounds}
 use Rattle.clap.specs.Kinds.{Kinds}
 use Rattle.clap.specs.Words.{App, Row, Rule, Text, fault_of, first_of, matches_of, new_app, new_rule, with_rule}
 
--- a command: the names of the console file, of the tick file and of the folder of modules, and how many steps the run makes at most
+-- a command: the names of the console file, of the tick file and of the folder of modules, how many steps the run makes at most, and how many rounds the session is to be generated with, or 0
 pub record CommandState : Type 0 where
   pub console : List ℕ
   pub ticks : List ℕ
   pub modules : List ℕ
   pub limit : ℕ
+  pub generate : ℕ
 
 -- an option with one value: its name and its default
 abbrev pub option_rule : Text → Text → Rule
@@ -22,42 +24,51 @@ with_option name default app = with_rule app (option_rule name default)
 -- the command line, as clap reads it: its options with their defaults
 unfoldable pub app : App
 app =
-    with_option (codes "limit") (codes "1000000")
+    with_option (codes "generate") (codes "0")
+    (with_option (codes "limit") (codes "1000000")
     (with_option (codes "modules") (codes ".")
     (with_option (codes "ticks") (codes "ticks.txt")
     (with_option (codes "console") (codes "console.txt")
-    (new_app (codes "windplay")))))
+    (new_app (codes "windplay"))))))
 
--- the most digits of a limit
-abbrev pub most_limit_digits : ℕ
-most_limit_digits = 13
+-- the most digits of a number
+abbrev pub most_number_digits : ℕ
+most_number_digits = 13
 
--- a limit of steps: 1 to so many decimal digits, and at most the most steps
-abbrev pub limit_value : Text → Option ℕ
-limit_value text = if nat_le (length text) most_limit_digits then decimal_value most_steps text else None
+-- a number: 1 to so many decimal digits, and at most the most
+abbrev pub number_value : ℕ → Text → Option ℕ
+number_value most text = if nat_le (length text) most_number_digits then decimal_value most text else None
 
 -- the value that clap gives for an option; it gives each option one, since each has a default
 abbrev pub value_of : Text → List Row → Text
 value_of name rows = unwrap_or (first_of name rows) []
 
--- the command of clap's matches, with this limit
-abbrev pub with_limit : List Row → ℕ → CommandState
-with_limit rows limit = record {
+-- the command of clap's matches, with these two numbers
+abbrev pub with_numbers : List Row → ℕ → ℕ → CommandState
+with_numbers rows limit generate = record {
   console = value_of (codes "console") rows;
   ticks = value_of (codes "ticks") rows;
   modules = value_of (codes "modules") rows;
   limit = limit;
+  generate = generate;
 }
 
--- the command of clap's matches: none where the limit is out of form
+-- what is made of two numbers, where both are in form
+abbrev pub of_numbers : (ℕ → ℕ → CommandState) → Option ℕ → Option ℕ → Option CommandState
+of_numbers f None generate = None
+of_numbers f (Some limit) None = None
+of_numbers f (Some limit) (Some generate) = Some (f limit generate)
+
+-- the command of clap's matches: none where a number is out of form
 abbrev pub command_of_rows : List Row → Option CommandState
-command_of_rows rows = option_map (with_limit rows) (limit_value (value_of (codes "limit") rows))
+command_of_rows rows =
+    of_numbers (with_numbers rows) (number_value most_steps (value_of (codes "limit") rows)) (number_value most_rounds (value_of (codes "generate") rows))
 
 -- the command of a list of words in which clap finds no fault; a call for help is such a fault
 abbrev pub unless_fault : Kinds → List Row → Option CommandState
 unless_fault [] rows = command_of_rows rows
 unless_fault (kind ∷ kinds) rows = None
 
--- the command of these words, of which the first is the program's name: none where clap finds a fault, and none where the limit is out of form
+-- the command of these words, of which the first is the program's name: none where clap finds a fault, and none where a number is out of form
 unfoldable pub command_of : List Text → Option CommandState
 command_of words = unless_fault (fault_of app words) (matches_of app words)

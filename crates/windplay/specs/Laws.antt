@@ -9,7 +9,7 @@ command_behind words = command_of (codes "windplay" ∷ words)
 
 -- the command where no option is given
 abbrev pub defaults : CommandState
-defaults = record { console = codes "console.txt"; ticks = codes "ticks.txt"; modules = codes "."; limit = 1000000 }
+defaults = record { console = codes "console.txt"; ticks = codes "ticks.txt"; modules = codes "."; limit = 1000000; generate = 0 }
 
 -- words that are a command: options in any order, each at most once, with the value as the next word or behind `=`
 pub record RightWords : Type 0 where
@@ -24,8 +24,10 @@ pub record RightWords : Type 0 where
   pub dash_behind : command_behind (codes "--console=-x" ∷ []) ≡ Some (record defaults { console = codes "-x" })
   pub empty_name : command_behind (codes "--console=" ∷ []) ≡ Some (record defaults { console = [] })
   pub modules : command_behind (codes "--modules" ∷ codes "m" ∷ []) ≡ Some (record defaults { modules = codes "m" })
-  pub all_options : command_behind (codes "--ticks=t" ∷ codes "--limit" ∷ codes "7" ∷ codes "--modules" ∷ codes "m" ∷ codes "--console" ∷ codes "c" ∷ [])
-      ≡ Some (record { console = codes "c"; ticks = codes "t"; modules = codes "m"; limit = 7 })
+  pub greatest_generate : command_behind (codes "--generate" ∷ codes "10000" ∷ []) ≡ Some (record defaults { generate = 10000 })
+  pub no_generate : command_behind (codes "--generate=00" ∷ []) ≡ Some defaults
+  pub all_options : command_behind (codes "--ticks=t" ∷ codes "--limit" ∷ codes "7" ∷ codes "--modules" ∷ codes "m" ∷ codes "--generate=1" ∷ codes "--console" ∷ codes "c" ∷ [])
+      ≡ Some (record { console = codes "c"; ticks = codes "t"; modules = codes "m"; limit = 7; generate = 1 })
 
 -- words that are no command
 pub record WrongWords : Type 0 where
@@ -48,5 +50,7 @@ pub record WrongWords : Type 0 where
   pub hexadecimal_limit : command_behind (codes "--limit" ∷ codes "0x10" ∷ []) ≡ None
   pub limit_of_14_digits : command_behind (codes "--limit" ∷ codes "00000000000005" ∷ []) ≡ None
   pub limit_above_the_most : command_behind (codes "--limit" ∷ codes "1000000000001" ∷ []) ≡ None
+  pub generate_above_the_most : command_behind (codes "--generate" ∷ codes "10001" ∷ []) ≡ None
+  pub signed_generate : command_behind (codes "--generate" ∷ codes "+1" ∷ []) ≡ None
   -- what the program plays where its words are no text
   pub no_text : command_behind (codes "(arguments that are no text)" ∷ []) ≡ None

@@ -1,4 +1,5 @@
 pub mod Command
+pub mod Generated
 pub mod Headline
 pub mod Laws
 pub mod Plan

@@ -1,10 +1,11 @@
 -- What a command and its files ask for.
-use Rattle.std.specs.Prelude.{◌≡◌, ℕ, ◌≤◌, List, Option, Some, None, nat_lt, if◌then◌else◌, length}
+use Rattle.std.specs.Prelude.{◌≡◌, ℕ, zero, suc, ◌≤◌, List, Option, Some, None, nat_lt, if◌then◌else◌, length}
 use Rattle.wind_base.specs.Limits.{longest_text_file}
 use Rattle.wind_outside.specs.Files.{Files}
 use Rattle.tick_file.specs.Lines.{first_bad_line}
 use Rattle.tick_file.specs.Schedule.{Timetable, timetable_of}
 use Rattle.windplay.specs.Command.{CommandState}
+use Rattle.generated_session.specs.Session.{generated_console, generated_ticks}
 use Rattle.windplay.specs.declared.ending.Status.{Status}
 use Rattle.windplay.specs.declared.ending.Status.TheVariants as status
 use Rattle.windplay.specs.declared.ending.Which.{Which}
@@ -51,7 +52,16 @@ pub record IsFilePlan (files : Option Files) (command : CommandState) (plan : Pl
   pub ticks_told : IsEntry files command.ticks ticks
   pub plan_is : plan ≡ plan_of console ticks
 
+-- what a session of so many rounds plays, for which no file is read
+abbrev pub generated_plan : ℕ → Plan
+generated_plan n = Start (generated_console n) (timetable_of (generated_ticks n))
+
+-- with no rounds the two files are played, and else the generated session
+abbrev pub IsPlanOf : ℕ → Option Files → CommandState → Plan → Type 0
+IsPlanOf zero files command plan = IsFilePlan files command plan
+IsPlanOf (suc n) files command plan = plan ≡ generated_plan (suc n)
+
 -- words that are no command are refused before any file
 abbrev pub IsPlan : Option Files → Option CommandState → Plan → Type 0
 IsPlan files None plan = plan ≡ Refuse status.Usage
-IsPlan files (Some command) plan = IsFilePlan files command plan
+IsPlan files (Some command) plan = IsPlanOf command.generate files command plan

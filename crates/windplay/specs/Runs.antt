@@ -1,5 +1,5 @@
 -- What a run of the wind machine leaves.
-use Rattle.std.specs.Prelude.{◌≡◌, ◌≢◌, ℕ, suc, ◌<◌, List, [], ◌++◌, Option, None, true, take}
+use Rattle.std.specs.Prelude.{◌≡◌, ◌≢◌, ℕ, suc, ◌<◌, List, [], ◌++◌, Option, None, Bool, true, false, take, length}
 use Rattle.wind_outside.specs.Told.{Appended}
 use Rattle.wind_machine.specs.State.{State}
 use Rattle.wind_machine.specs.Machine.{machine_step, may_lack_memory}
@@ -29,12 +29,28 @@ IsWritten ends.Quiet s k old new = Appended old new (text s k)
 IsWritten ends.Limit s k old new = Appended old new (text s k)
 IsWritten ends.NoMemory s k old new = Appended old new (text s k)
 
--- a run of at most n steps from s ended so, and left this board and these bytes
-pub record Ran (end : RunEnd) (s : State) (n : ℕ) (board : State) (old new : Option (List ℕ)) : Type 0 where
-  -- how many steps were made
-  pub k : ℕ
+-- memory ended the run
+abbrev pub is_short : RunEnd → Bool
+is_short ends.NoMemory = true
+is_short end = false
+
+-- a run of at most n steps from s ended so behind k steps, and left this board
+pub record Made (end : RunEnd) (s : State) (n k : ℕ) (board : State) : Type 0 where
   pub counted : board.steps ≡ k
   pub part : IsPart s n k
   pub state : board ≡ after s k
-  pub written : IsWritten end s k old new
   pub ended : IsEnd end s n k
+
+-- it left these bytes too
+pub record Ran (end : RunEnd) (s : State) (n : ℕ) (board : State) (old new : Option (List ℕ)) : Type 0 where
+  -- how many steps were made
+  pub k : ℕ
+  pub made : Made end s n k board
+  pub written : IsWritten end s k old new
+
+-- or it was made without a word, and what its steps wrote has so many bytes in all
+pub record Counted (end : RunEnd) (s : State) (n bytes : ℕ) (board : State) : Type 0 where
+  pub k : ℕ
+  pub made : Made end s n k board
+  pub bytes_are : bytes ≡ length (text s k)
+  pub all_put : end ≢ ends.WriteFault

@@ -3,7 +3,8 @@
 ghost use Rattle.std.specs.Prelude.{◌≡◌, ◌≢◌, ◌≤◌, IfOk, IfErr, IfSome, Some, None, false, map};
 ghost use Rattle.clap.specs.Words.{app_of, found_of, rows_of, rule_of};
 ghost use Rattle.wind_base.specs.Limits.{most_steps};
-ghost use Rattle.windplay.specs.Command.{app as app_lem, command_of as command_of_lem, limit_value, option_rule, value_of as value_of_lem};
+ghost use Rattle.generated_session.specs.Session.{most_rounds};
+ghost use Rattle.windplay.specs.Command.{app as app_lem, command_of as command_of_lem, number_value, option_rule, value_of as value_of_lem};
 ghost use Rattle.windplay.specs.Words.{command_state};
 ghost use Rattle.windplay.specs.declared.command.CommandErr.TheVariants as errors;
 
@@ -24,6 +25,8 @@ pub struct Command<'a> {
     pub modules: &'a str,
     /// How many steps the run makes at most.
     pub limit: u64,
+    /// With how many rounds the session is generated, or 0 where its files are read.
+    pub generate: u32,
 }
 
 /// Why there is no command.
@@ -46,21 +49,26 @@ impl From<AllocError> for CommandErr {
     }
 }
 
-// The most digits of a limit.
-const LIMIT_DIGITS: usize = 13;
+// The most digits of a number.
+const NUMBER_DIGITS: usize = 13;
 
-// What is told of a limit out of form.
+// The most rounds that a session is generated with.
+const ROUNDS: u64 = 10_000;
+
+// What is told of a number out of form.
 const BAD_LIMIT: &str = "'--limit <N>' takes 1 to 13 digits, and at most 1000000000000";
 
-// A limit of steps, in decimal digits.
-fn limit(text: &str) -> Option<u64>
-    ensures value { result ≡ limit_value text.now }
-    ensures within { IfSome result (λ n. n ≤ most_steps) }
+const BAD_ROUNDS: &str = "'--generate <N>' takes 1 to 13 digits, and at most 10000";
+
+// A number of at most `most`, in decimal digits.
+fn number(text: &str, most: u64) -> Option<u64>
+    ensures value { result ≡ number_value most text.now }
+    ensures within { IfSome result (λ n. n ≤ most) }
 {
-    if text.len() > LIMIT_DIGITS {
+    if text.len() > NUMBER_DIGITS {
         return None;
     }
-    decimal(text.as_bytes(), STEPS)
+    decimal(text.as_bytes(), most)
 }
 
 // An option with one value.
@@ -97,6 +105,13 @@ fn app<'a>(alloc: Global) -> Result<clap::Command<'a>, AllocError>
             "N",
             "1000000",
             "The most steps to make, up to 1000000000000",
+        ))?
+        .arg(option(
+            alloc,
+            "generate",
+            "N",
+            "0",
+            "Plays a session of N generated rounds, up to 10000, and tells of it in one line",
         ))
 }
 
@@ -115,9 +130,9 @@ fn usage(alloc: Global, error: &Error) -> CommandErr {
     }
 }
 
-// What is told of a limit out of form, as clap tells it.
-fn bad_limit(alloc: Global, app: &mut clap::Command<'_>) -> CommandErr {
-    match app.error(ErrorKind::ValueValidation, BAD_LIMIT) {
+// What is told of a number out of form, as clap tells it.
+fn bad_number(alloc: Global, app: &mut clap::Command<'_>, text: &str) -> CommandErr {
+    match app.error(ErrorKind::ValueValidation, text) {
         Ok(error) => usage(alloc, &error),
         Err(_) => CommandErr::NoMemory,
     }
@@ -127,7 +142,7 @@ fn bad_limit(alloc: Global, app: &mut clap::Command<'_>) -> CommandErr {
 pub fn command_of<'a>(alloc: Global, words: &'a [&'a str]) -> Result<Command<'a>, CommandErr>
     ensures value { IfOk result (λ c. command_of_lem (map (λ w. w.now) words.now) ≡ Some (command_state c)) }
     ensures usage { IfErr result (λ e. e ≢ errors.NoMemory → command_of_lem (map (λ w. w.now) words.now) ≡ None) }
-    ensures within { IfOk result (λ c. c.limit ≤ most_steps) }
+    ensures within { IfOk result (λ c. (c.limit ≤ most_steps) × (c.generate ≤ most_rounds)) }
 {
     let mut app = app(alloc)?;
     let matches = match app.try_get_matches_from_mut(words) {
@@ -135,13 +150,17 @@ pub fn command_of<'a>(alloc: Global, words: &'a [&'a str]) -> Result<Command<'a>
         Err(error) if error.kind() == ErrorKind::OutOfMemory => return Err(CommandErr::NoMemory),
         Err(error) => return Err(usage(alloc, &error)),
     };
-    let Some(limit) = limit(value_of(&matches, "limit")) else {
-        return Err(bad_limit(alloc, &mut app));
+    let Some(limit) = number(value_of(&matches, "limit"), STEPS) else {
+        return Err(bad_number(alloc, &mut app, BAD_LIMIT));
+    };
+    let Some(generate) = number(value_of(&matches, "generate"), ROUNDS) else {
+        return Err(bad_number(alloc, &mut app, BAD_ROUNDS));
     };
     Ok(Command {
         console: value_of(&matches, "console"),
         ticks: value_of(&matches, "ticks"),
         modules: value_of(&matches, "modules"),
         limit,
+        generate: generate as u32,
     })
 }

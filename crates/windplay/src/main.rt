@@ -21,7 +21,7 @@ use std::env;
 use std::io::ErrorKind;
 use std::process::ExitCode;
 use wind_base::NoMemory;
-use wind_outside::{HostFolder, HostSink, Sink};
+use wind_outside::{ByteFifo, EventCounter, HostFolder, HostSink, Latch, Sink, Slots};
 
 // Words that are no command, for arguments that are no text.
 fn no_text(alloc: Global) -> Result<Vec<String>, AllocError> {
@@ -40,8 +40,8 @@ fn words(rt: &HostRuntime) -> Result<Vec<String>, NoMemory> {
     }
 }
 
-// Plays the session in the directory that the program runs in, with the standard streams and no
-// device.
+// Plays the session in the directory that the program runs in, with the standard streams, and with a latch, a queue of
+// bytes and a counter of events in slots 0, 1 and 2.
 fn session<E: Sink>(rt: HostRuntime, err: &mut E) -> Result<Status, NoMemory> {
     let alloc = rt.alloc();
     let args = words(&rt)?;
@@ -52,7 +52,14 @@ fn session<E: Sink>(rt: HostRuntime, err: &mut E) -> Result<Status, NoMemory> {
         .or(Err(NoMemory))?;
     let mut out = HostSink::new(rt.stdout());
     let mut folder = HostFolder::new(rt);
-    let ending = play(alloc, &words, &mut folder, &mut out, err, Vec::new(alloc));
+    let latch = Box::new(alloc, Latch::new()).or(Err(NoMemory))?;
+    let fifo = Box::new(alloc, ByteFifo::new()).or(Err(NoMemory))?;
+    let counter = Box::new(alloc, EventCounter::new()).or(Err(NoMemory))?;
+    let mut devices: Slots = Vec::new(alloc);
+    devices.push(Some(latch)).or(Err(NoMemory))?;
+    devices.push(Some(fifo)).or(Err(NoMemory))?;
+    devices.push(Some(counter)).or(Err(NoMemory))?;
+    let ending = play(alloc, &words, &mut folder, &mut out, err, devices);
     Ok(ending.status)
 }
 

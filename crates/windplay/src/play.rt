@@ -5,10 +5,13 @@ ghost use Rattle.wind_base.specs.Limits.{most_steps};
 ghost use Rattle.wind_outside.specs.Counts.{Rose};
 ghost use Rattle.wind_outside.specs.Devices.{slots_of};
 ghost use Rattle.board_player.specs.Seen.{seen};
+ghost use Rattle.generated_session.specs.Session.{most_rounds};
 ghost use Rattle.windplay.specs.Command.{command_of as command_of_lem};
 ghost use Rattle.windplay.specs.Words.{command_state};
-ghost use Rattle.windplay.specs.Plan.{Start, IsFilePlan, IsHeld, plan_ticks};
-ghost use Rattle.windplay.specs.Headline.{Plays, IsRefusal, IsUnread, Refuses, IsComplete, IsKept, status_of as status_of_lem};
+ghost use Rattle.windplay.specs.Plan.{Start, IsFilePlan, IsPlanOf, IsHeld, plan_ticks, generated_plan};
+ghost use Rattle.windplay.specs.Headline.{Plays, IsRefusal, IsUnread, RefusesFiles, Refuses, IsComplete, IsKept, IsLeft, SumsUp, status_of as status_of_lem};
+ghost use Rattle.windplay.specs.Runs.{is_short as is_short_lem};
+ghost use Rattle.windplay.specs.declared.run.RunEnd.{RunEnd};
 ghost use Rattle.windplay.specs.Texts.{Tells};
 ghost use Rattle.windplay.specs.declared.ending.Status.TheVariants as status;
 ghost use Rattle.windplay.specs.declared.ending.Stand.TheVariants as stands;
@@ -16,13 +19,15 @@ ghost use Rattle.windplay.specs.declared.ending.Stand.TheVariants as stands;
 use crate::command::{Command, CommandErr, command_of};
 use crate::ending::{Ending, Stand, Status, Which};
 use crate::report::{tell, tell_no_memory, tell_usage};
-use crate::run::{RunEnd, run_board};
+use crate::run::{RunEnd, count_board, run_board};
 use board_player::Board;
+use generated_session::Summary;
 use std::alloc::Global;
 use tick_file::{Schedule, TickErr, read_ticks};
+use wind_base::NoMemory;
 use wind_base::limits::TEXT_FILE_BYTES;
 use wind_machine::instant_law;
-use wind_outside::{Device, Fetched, Folder, Sink, Slots};
+use wind_outside::{Device, Fetched, Folder, Put, Sink, Slots};
 
 // A session without a board.
 fn refused(status: Status, devices: Slots) -> Ending
@@ -44,6 +49,13 @@ fn status_of(end: RunEnd) -> Status
         RunEnd::WriteFault => Status::WriteFault,
         RunEnd::NoMemory => Status::NoMemory,
     }
+}
+
+// Whether memory ended a run.
+fn is_short(end: RunEnd) -> bool
+    ensures { result ≡ is_short_lem end }
+{
+    matches!(end, RunEnd::NoMemory)
 }
 
 // The file of this name, or why it is not read.
@@ -89,10 +101,10 @@ struct Inputs {
     schedule: Schedule,
 }
 
-// What to play, or why nothing is played.
-fn inputs_of<F: Folder>(alloc: Global, command: &Command, folder: &mut F) -> Result<Inputs, Status>
+// The two files of a command, or why they are not played.
+fn files_of<F: Folder>(alloc: Global, command: &Command, folder: &mut F) -> Result<Inputs, Status>
     ensures start { IfOk result (λ inputs. IsFilePlan (F.files folder.old) (command_state command.now) (Start inputs.console.items inputs.schedule)) }
-    ensures refused { IfErr result (λ s. Refuses s (F.files folder.old) (command_state command.now) (Rose (F.faults folder.old) (F.faults folder.new))) }
+    ensures refused { IfErr result (λ s. RefusesFiles s (F.files folder.old) (command_state command.now) (Rose (F.faults folder.old) (F.faults folder.new))) }
     ensures known { IfErr result (λ s. s ≢ status.Usage) }
     ensures files { F.files folder.new ≡ F.files folder.old }
     ensures faults { F.faults folder.old ≤ F.faults folder.new }
@@ -101,6 +113,73 @@ fn inputs_of<F: Folder>(alloc: Global, command: &Command, folder: &mut F) -> Res
     let ticks = fetched(alloc, folder, command.ticks, Which::Ticks)?;
     let schedule = schedule_of(alloc, &ticks)?;
     Ok(Inputs { console, schedule })
+}
+
+// The session of so many rounds. Only memory can lack.
+fn generated(alloc: Global, rounds: u32) -> Result<Inputs, NoMemory>
+    requires { rounds ≤ most_rounds }
+    ensures { IfOk result (λ inputs. Start inputs.console.items inputs.schedule ≡ generated_plan rounds) }
+{
+    let console = generated_session::console_of(alloc, rounds)?;
+    let schedule = generated_session::schedule_of(alloc, rounds)?;
+    Ok(Inputs { console, schedule })
+}
+
+// What to play, or why nothing is played.
+fn inputs_of<F: Folder>(alloc: Global, command: &Command, folder: &mut F) -> Result<Inputs, Status>
+    requires { command.now.generate ≤ most_rounds }
+    ensures start { IfOk result (λ inputs. IsPlanOf command.now.generate (F.files folder.old) (command_state command.now) (Start inputs.console.items inputs.schedule)) }
+    ensures refused { IfErr result (λ s. Refuses s (F.files folder.old) (command_state command.now) (Rose (F.faults folder.old) (F.faults folder.new))) }
+    ensures known { IfErr result (λ s. s ≢ status.Usage) }
+    ensures files { F.files folder.new ≡ F.files folder.old }
+{
+    if command.generate == 0 {
+        return files_of(alloc, command, folder);
+    }
+    let Ok(inputs) = generated(alloc, command.generate) else {
+        return Err(Status::NoMemory);
+    };
+    Ok(inputs)
+}
+
+// Plays the board of a generated session, and sums it up. The number of its status stands in the line.
+fn sum_up<O: Sink>(board: &mut Board, out: &mut O, rounds: u32, limit: u64) -> Status
+    requires fresh { (seen ⟦<dyn Device as Device>⟧ board.old).steps ≡ 0 }
+    requires limit { limit ≤ most_steps }
+    requires rounds { rounds ≤ most_rounds }
+    ensures left { (end : RunEnd) × SumsUp rounds result end (seen ⟦<dyn Device as Device>⟧ board.old) limit (seen ⟦<dyn Device as Device>⟧ board.new) (O.bytes out.old) (O.bytes out.new) }
+    ensures fault { result ≡ status.WriteFault → Rose (O.faults out.old) (O.faults out.new) }
+{
+    let tally = count_board(board, limit);
+    if is_short(tally.end) {
+        return Status::NoMemory;
+    }
+    let status = status_of(tally.end);
+    let summary = Summary {
+        rounds,
+        bytes: tally.bytes,
+        steps: board.steps(),
+        ticks: board.ticks(),
+        status: status.number(),
+    };
+    match summary.put(out) {
+        Put::Done => status,
+        Put::Failed => Status::WriteFault,
+    }
+}
+
+// Plays the board of a session: what its steps write is put, or the line that sums a generated one up.
+fn played<O: Sink>(board: &mut Board, out: &mut O, rounds: u32, limit: u64) -> Status
+    requires fresh { (seen ⟦<dyn Device as Device>⟧ board.old).steps ≡ 0 }
+    requires limit { limit ≤ most_steps }
+    requires rounds { rounds ≤ most_rounds }
+    ensures left { (end : RunEnd) × IsLeft rounds result end (seen ⟦<dyn Device as Device>⟧ board.old) limit (seen ⟦<dyn Device as Device>⟧ board.new) (O.bytes out.old) (O.bytes out.new) }
+    ensures fault { result ≡ status.WriteFault → Rose (O.faults out.old) (O.faults out.new) }
+{
+    if rounds == 0 {
+        return status_of(run_board(board, out, limit));
+    }
+    sum_up(board, out, rounds, limit)
 }
 
 // Plays the session of a command.
@@ -113,6 +192,7 @@ fn session<F: Folder, O: Sink>(
 ) -> Ending
     requires devices { length devices.items ≤ 16 }
     requires limit { command.now.limit ≤ most_steps }
+    requires rounds { command.now.generate ≤ most_rounds }
     ensures machine { Plays (seen ⟦<dyn Device as Device>⟧) result (Some (command_state command.now)) (F.files folder.old) (Rose (F.faults folder.old) (F.faults folder.new)) devices (slots_of kind_of words_of devices.items) (O.bytes out.old) (O.bytes out.new) }
     ensures complete { IsComplete result.status (Some (command_state command.now)) (F.files folder.old) (Rose (F.faults folder.old) (F.faults folder.new)) (Rose (O.faults out.old) (O.faults out.new)) }
     ensures known { result.status ≢ status.Usage }
@@ -129,18 +209,18 @@ fn session<F: Folder, O: Sink>(
         Ok(board) => board,
         Err(devices) => return refused(Status::NoMemory, devices),
     };
-    let end = run_board(&mut board, out, command.limit);
+    let status = played(&mut board, out, command.generate, command.limit);
     board.facts();
     instant_law();
     Ending {
-        status: status_of(end),
+        status,
         stand: Stand::Booted(board),
     }
 }
 
 /// Plays the session that the words ask for: fetches the console file and the tick file from the folder,
 /// boots a board with the devices, and runs it until there is no further step, the limit is reached or
-/// a put fails. What the steps write goes to `out`, and a text that tells how the session ended to `err`.
+/// a put fails. What the steps write goes to `out`, or of a generated session one line, and a text that tells how the session ended to `err`.
 pub fn play<'a, F: Folder, O: Sink, E: Sink>(
     alloc: Global,
     words: &'a [&'a str],

@@ -6,7 +6,7 @@ ghost use Rattle.wind_outside.specs.Counts.{Rose};
 ghost use Rattle.wind_outside.specs.Told.{Appended, AppendedFront};
 ghost use Rattle.wind_outside.specs.declared.sink.Put.TheVariants as puts;
 ghost use Rattle.board_player.specs.Seen.{seen};
-ghost use Rattle.windplay.specs.Runs.{Ran};
+ghost use Rattle.windplay.specs.Runs.{Ran, Counted};
 ghost use Rattle.windplay.specs.declared.run.RunEnd.TheVariants as ends;
 
 use board_player::{Board, Step};
@@ -60,4 +60,43 @@ pub fn run_board<O: Sink>(board: &mut Board, out: &mut O, limit: u64) -> RunEnd
         }
     }
     RunEnd::Limit
+}
+
+/// A run that was counted, and not put.
+#[derive(Clone, Copy)]
+pub struct Tally {
+    /// How it ended.
+    pub end: RunEnd,
+    /// How many bytes its steps wrote in all.
+    pub bytes: u128,
+}
+
+/// Makes steps, at most as many as the limit, and counts what each of them writes.
+pub fn count_board(board: &mut Board, limit: u64) -> Tally
+    requires fresh { (seen ⟦<dyn Device as Device>⟧ board.old).steps ≡ 0 }
+    requires bound { limit ≤ most_steps }
+    ensures { Counted result.end (seen ⟦<dyn Device as Device>⟧ board.old) limit result.bytes (seen ⟦<dyn Device as Device>⟧ board.new) }
+{
+    let mut bytes = 0;
+    for _i in 0..limit {
+        match board.step() {
+            Step::Stepped => bytes += board.output().len() as u128,
+            Step::Quiet => {
+                return Tally {
+                    end: RunEnd::Quiet,
+                    bytes,
+                };
+            }
+            Step::NoMemory => {
+                return Tally {
+                    end: RunEnd::NoMemory,
+                    bytes,
+                };
+            }
+        }
+    }
+    Tally {
+        end: RunEnd::Limit,
+        bytes,
+    }
 }

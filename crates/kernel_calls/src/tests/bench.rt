@@ -1,10 +1,12 @@
 //! A world from its start on, in which callers stand at gates and make their calls.
 
-ghost use Rattle.std.specs.Prelude.{◌≡◌, true};
+ghost use Rattle.std.specs.Prelude.{◌≡◌, ◌≤◌, true, [], IfOk};
+ghost use Rattle.isr_watch.specs.State.{IsWatch};
 ghost use Rattle.kernel_calls.specs.Actors.{Acts, MayCall};
 
 use crate::{Actor, Called, World, end_task, is_built, kernel_call, starting_regs};
 use id_table::Ident;
+use isr_watch::{Routine, Watch};
 use std::alloc::Global;
 use std::marker::Model;
 use std::test::Fail;
@@ -46,7 +48,8 @@ impl Model for Bench {
         × Within b.calls (world_with [] b.world)
         × (b.world.kern.next_since ≤ 1 + 1024 * b.calls)
         × (b.world.kern.tick ≡ 0)
-        × (b.world.names ≤ 1 + b.calls) };
+        × (b.world.names ≤ 1 + b.calls)
+        × (b.world.watch.next_start ≤ 1 + b.calls) };
 }
 
 // Whether the caller lives and is ready.
@@ -63,13 +66,50 @@ fn may_call(kern: &Kern, who: &Actor) -> bool
     }
 }
 
+// No watchdog lives, and the routine of one that has run out is active.
+fn with_routine(rt: &HostRuntime) -> Result<Watch, Fail>
+    ensures watch { IfOk result (λ w. IsWatch w) }
+    ensures none { IfOk result (λ w. w.watchdogs ≡ []) }
+    ensures starts { IfOk result (λ w. w.next_start ≤ 1) }
+{
+    let mut kern = Kern::new(rt.alloc()).or(Err("memory"))?;
+    let mut watch = Watch::reserved(rt.alloc()).or(Err("memory"))?;
+    let routine = Routine { entry: 0, param: 0 };
+    let Ok(id) = watch.create(&mut kern) else {
+        return Err("watchdog")?;
+    };
+    let Ok(()) = watch.start(id.get(), 0, 1, routine) else {
+        return Err("start")?;
+    };
+    watch.due(1, FRAME);
+    let Ok(()) = watch.delete(id.get()) else {
+        return Err("end")?;
+    };
+    watch.facts();
+    Ok(watch)
+}
+
+// The active routine has other registers.
+fn set_level(watch: &mut Watch, regs: Regs)
+    ensures watch { IsWatch watch.new }
+    ensures same { watch.new.watchdogs ≡ watch.old.watchdogs }
+    ensures starts { watch.new.next_start ≡ watch.old.next_start }
+{
+    if let Some(level) = watch.regs_mut() {
+        *level = regs;
+    }
+    watch.facts();
+}
+
 impl Bench {
     // The world at the start, without devices.
     pub(super) fn new(rt: &HostRuntime) -> Result<Bench, Fail> {
         let slots: Slots = Vec::new(rt.alloc());
-        let Ok(world) = World::boot(rt.alloc(), slots) else {
+        let watch = with_routine(rt)?;
+        let Ok(mut world) = World::boot(rt.alloc(), slots) else {
             return Err("memory")?;
         };
+        world.watch = watch;
         Ok(Bench { world, calls: 0 })
     }
 
@@ -92,7 +132,7 @@ impl Bench {
 
     // The interrupt routine has.
     fn set_routine(&mut self, regs: Regs) {
-        self.world.level = Some(regs);
+        set_level(&mut self.world.watch, regs);
     }
 
     // Makes the call. None where it can't be made.
@@ -177,7 +217,7 @@ impl Bench {
     // A caller's program counter, r3 and error number.
     pub(super) fn standing(&self, who: u32) -> Option<(u32, u32, u32)> {
         if who == ROUTINE {
-            let regs = self.world.level.as_ref()?;
+            let regs = self.world.watch.regs()?;
             return Some((regs.pc, regs.gpr[3], self.world.int_errno));
         }
         let task = self.task(who)?;

@@ -10,6 +10,8 @@ use wind_base::words::{ERROR, OK};
 
 const BAD_SIZE: u32 = 0x41_0003;
 
+const NO_SUCH_MODULE: u32 = 0x1d_0002;
+
 // The mark of the shell's task, which no call at interrupt level changes.
 const MARKS: [Step; 11] = [
     Step::Call(SHELL, Gate::IntLock, [0; 4], 0, 0),
@@ -109,5 +111,31 @@ const DUMPED: [Step; 10] = [
 #[test]
 fn memory_is_dumped(rt: HostRuntime) -> Result<(), Fail> {
     assert_eq!(rt; first_wrong(&rt, &DUMPED)?, None);
+    Ok(())
+}
+
+// The names of symbols that have a text; there is no module yet.
+const LOOKED_UP: [Step; 8] = [
+    Step::Write(PUMP, b"taskId\0"),
+    Step::Call(SHELL, Gate::Lkup, [PUMP, 0, 0, 0], OK, 0),
+    Step::Call(SHELL, Gate::Lkup, [RAM_END, 0, 0, 0], ERROR, BAD_ADDRESS),
+    Step::Call(
+        ROUTINE,
+        Gate::Lkup,
+        [PUMP, 0, 0, 0],
+        ERROR,
+        NOT_ISR_CALLABLE,
+    ),
+    Step::Call(SHELL, Gate::ModuleShow, [0; 4], OK, BAD_ADDRESS),
+    Step::Call(SHELL, Gate::Unld, [7, 0, 0, 0], ERROR, NO_SUCH_MODULE),
+    Step::Call(SHELL, Gate::Unld, [RAM_END, 0, 0, 0], ERROR, NO_SUCH_MODULE),
+    Step::See(Look::Output(
+        b"taskIdSelf                0x010000f0 text\ntaskIdVerify              0x01000100 text\nMODULE                   ID       TEXT     DATA     BSS     \n",
+    )),
+];
+
+#[test]
+fn symbols_and_modules_are_listed(rt: HostRuntime) -> Result<(), Fail> {
+    assert_eq!(rt; first_wrong(&rt, &LOOKED_UP)?, None);
     Ok(())
 }

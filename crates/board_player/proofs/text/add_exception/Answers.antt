@@ -5,7 +5,7 @@ use Rattle.board_player.proofs.text.add_exception.Goals as goal
 pub returns : goal.returns
 unfolding exception_text
 returns c = record {
-  bytes = rw (c.add_place.ensures.bytes, c.add_cause.ensures.bytes) (simp append_assoc);
+  bytes = rw (c.add_place.ensures.bytes, c.add_cause.ensures.bytes, c.bytes.ensures.value) (simp append_assoc);
   room = omega (arith, c.add_place.ensures.room, c.add_cause.ensures.room);
   space = omega (arith, c.add_place.ensures.space, c.add_cause.ensures.space);
 }

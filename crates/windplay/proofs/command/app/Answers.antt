@@ -13,4 +13,5 @@ returns c =
     let one = c.in_ok-arg.ensures.shape c.option.ensures.local ∙ ap₂ with_rule none c.option.ensures.rule in
     let two = c.in_ok-arg-2.ensures.shape c.option-2.ensures.local ∙ ap₂ with_rule one c.option-2.ensures.rule in
     let three = c.in_ok-arg-3.ensures.shape c.option-3.ensures.local ∙ ap₂ with_rule two c.option-3.ensures.rule in
-    IfOk-weaker c.arg-4.result _ _ (λ m h. h.shape c.option-4.ensures.local ∙ ap₂ with_rule three c.option-4.ensures.rule) c.arg-4.ensures
+    let four = c.in_ok-arg-4.ensures.shape c.option-4.ensures.local ∙ ap₂ with_rule three c.option-4.ensures.rule in
+    IfOk-weaker c.arg-5.result _ _ (λ m h. h.shape c.option-5.ensures.local ∙ ap₂ with_rule four c.option-5.ensures.rule) c.arg-5.ensures

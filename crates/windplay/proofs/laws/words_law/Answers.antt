@@ -18,6 +18,8 @@ returns-clause-right c = record {
   dash_behind = refl;
   empty_name = refl;
   modules = refl;
+  greatest_generate = refl;
+  no_generate = refl;
   all_options = refl;
 }
 
@@ -43,5 +45,7 @@ returns-clause-wrong c = record {
   hexadecimal_limit = refl;
   limit_of_14_digits = refl;
   limit_above_the_most = refl;
+  generate_above_the_most = refl;
+  signed_generate = refl;
   no_text = refl;
 }

@@ -1,5 +1,7 @@
-use Rattle.std.proofs.Common.{Bor, List, map, refl, ℕ}
-use Rattle.windplay.specs.Command.{command_of}
+use Rattle.std.proofs.Common.{Bor, List, Option, map, refl, sym, subst, ℕ}
+use Rattle.wind_outside.specs.Counts.{Rose}
+use Rattle.windplay.specs.Command.{CommandState, command_of}
+use Rattle.windplay.specs.Headline.{IsComplete}
 use Rattle.windplay.specs.Plan.{Refuse}
 use Rattle.windplay.specs.Texts.{memory_text}
 use Rattle.windplay.specs.declared.ending.Status.TheVariants as status
@@ -21,3 +23,11 @@ returns-in-Err-NoMemory-clause-machine g c =
 pub returns-in-Err-NoMemory-clause-err : goal.returns-in-Err-NoMemory-clause-err
 returns-in-Err-NoMemory-clause-err g c =
     rw c.refused-in-Err-NoMemory.ensures (record { text = memory_text; text_is = memory_is_text _; told = c.tell_no_memory.ensures })
+
+-- it is complete as the session of its command is
+pub returns-clause-complete : goal.returns-clause-complete
+returns-clause-complete g c =
+    subst (λ (o : Option CommandState). IsComplete c.session-ending.result.status o (g.F.Folder.files c.args.folder.now)
+    (Rose (g.F.Folder.faults c.args.folder.now) (g.F.Folder.faults c.session-ending.new.folder))
+    (Rose (g.O.Sink.faults c.args.out.now) (g.O.Sink.faults c.session-ending.new.out)))
+    (sym c.in-Ok.ensures.value) c.session-ending.ensures.complete

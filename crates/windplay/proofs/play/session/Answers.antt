@@ -16,9 +16,9 @@ returns-in-Err-clause-complete g c =
     c.in-Err.ensures.refused)
 
 -- a machine that booted has made no step
-pub run_board-end-requires-clause-fresh : goal.run_board-end-requires-clause-fresh
+pub played-status-requires-clause-fresh : goal.played-status-requires-clause-fresh
 unfolding opening
-run_board-end-requires-clause-fresh g c = ap (λ (s : State). s.steps) c.in-Ok-boot.ensures.ok
+played-status-requires-clause-fresh g c = ap (λ (s : State). s.steps) c.in-Ok-boot.ensures.ok
 
 -- the board that is left has the kept facts, and so what is so at each instant
 pub returns-clause-kept : goal.returns-clause-kept

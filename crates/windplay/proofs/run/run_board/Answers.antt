@@ -1,5 +1,5 @@
 use Rattle.std.proofs.Common.{◌≡◌, ◌+◌, ◌∙◌, ap, arith, refl}
-use Rattle.windplay.proofs.RunLemmas.{cut_off, state_on, part_on, text_on, lacked}
+use Rattle.windplay.proofs.RunLemmas.{cut_off, state_on, part_on, text_on, lacking}
 use Rattle.windplay.proofs.run.run_board.Goals as goal
 
 -- a put failed, so the last step wrote something
@@ -14,9 +14,12 @@ returns-in-Failed-clause-ran g c =
 
 -- memory ran out
 pub returns-in-NoMemory-clause-ran : goal.returns-in-NoMemory-clause-ran
-returns-in-NoMemory-clause-ran g c =
-    lacked _ _ _ c.loop-i._i c.loop-i.invariant.state c.args.limit _ _ (c.in-NoMemory.ensures.unchanged (λ e. cc)) c.loop-i.invariant.counted c.loop-i.invariant.part (omega arith)
-    (c.in-NoMemory.ensures.no_memory refl) c.loop-i.invariant.written
+returns-in-NoMemory-clause-ran g c = record {
+  k = c.loop-i._i;
+  made = lacking _ _ _ c.loop-i._i c.loop-i.invariant.state c.args.limit (c.in-NoMemory.ensures.unchanged (λ e. cc)) c.loop-i.invariant.counted c.loop-i.invariant.part (omega arith)
+      (c.in-NoMemory.ensures.no_memory refl);
+  written = c.loop-i.invariant.written;
+}
 
 -- a step was made, and what it wrote was put
 pub loop-i-preserved : goal.loop-i-preserved

@@ -1,19 +1,27 @@
 use Rattle.std.proofs.Common.{ap, ◌∙◌}
 use Rattle.wind_core.specs.Moves.{delayed, renewed, delay}
-use Rattle.wind_core.proofs.Writes.{object_lives, renewed_keeps, renews_to, delayed_id, delayed_ahead}
+use Rattle.wind_core.proofs.Writes.{object_lives, renewed_fits, renewed_keeps, renews_to, delayed_id, delayed_ahead}
 use Rattle.wind_core.proofs.kern.Kern.delay.Goals as goal
 
 pub object_mut-task-requires : goal.object_mut-task-requires
 object_mut-task-requires c = object_lives c.self.inside c.args.self.now c.args.who c.self.invariant c.self.view_is c.requires.live
 
+pub mend-requires : goal.mend-requires
+mend-requires c =
+    let k = c.self.inside in
+    let x = c.object_mut-task.result.now in
+    renewed_fits k c.args.who x (delayed k.tick c.args.ticks x) c.renew.new.task c.self.invariant c.object_mut-task.ensures.value (delayed_id k.tick c.args.ticks x)
+    (c.renew.ensures.task ∙ ap (renewed k.next_since) c.begin_delay.ensures)
+
 pub invariant_of-self : goal.invariant_of-self
 invariant_of-self c =
     let k = c.self.inside in
     let x = c.object_mut-task.result.now in
-    renewed_keeps k c.args.who c.renew.new.next_since x (delayed k.tick c.args.ticks x) c.renew.new.task c.self.invariant c.object_mut-task.ensures.value
+    renewed_keeps k c.args.who c.renew.new.next_since x (delayed k.tick c.args.ticks x) c.renew.new.task c.mend.new.waits c.self.invariant c.object_mut-task.ensures.value
     (delayed_id k.tick c.args.ticks x) (delayed_ahead k.tick c.args.ticks x)
     (c.renew.ensures.task ∙ ap (renewed k.next_since) c.begin_delay.ensures)
     c.renew.ensures.next
+    c.mend.ensures
 
 pub returns : goal.returns
 returns c =

@@ -1,19 +1,27 @@
 use Rattle.std.proofs.Common.{ap, ◌∙◌, ◌+◌, cond, refl}
 use Rattle.task_block.specs.Standing.{is_ready}
 use Rattle.wind_core.specs.Moves.{answered, settled, end_wait}
-use Rattle.wind_core.proofs.Writes.{object_lives, settled_keeps, moves}
+use Rattle.wind_core.proofs.Writes.{object_lives, settled_fits, settled_keeps, moves}
 use Rattle.wind_core.proofs.kern.Kern.end_wait.Goals as goal
 
 pub object_mut-task-requires : goal.object_mut-task-requires
 object_mut-task-requires c = object_lives c.self.inside c.args.self.now c.args.who c.self.invariant c.self.view_is c.requires.live
 
+pub mend-requires : goal.mend-requires
+mend-requires c =
+    let k = c.self.inside in
+    let x = c.object_mut-task.result.now in
+    settled_fits k c.args.who x (answered c.args.answer c.args.errno x) c.settle.new.task c.self.invariant c.object_mut-task.ensures.value refl
+    (c.settle.ensures.task ∙ ap (settled k.next_since) c.answer_wait.ensures)
+
 pub invariant_of-self : goal.invariant_of-self
 invariant_of-self c =
     let k = c.self.inside in
     let x = c.object_mut-task.result.now in
-    settled_keeps k c.args.who c.settle.new.next_since x (answered c.args.answer c.args.errno x) c.settle.new.task c.self.invariant c.object_mut-task.ensures.value refl refl (λ _. tt)
+    settled_keeps k c.args.who c.settle.new.next_since x (answered c.args.answer c.args.errno x) c.settle.new.task c.mend.new.waits c.self.invariant c.object_mut-task.ensures.value refl refl (λ _. tt)
     (c.settle.ensures.task ∙ ap (settled k.next_since) c.answer_wait.ensures)
     (c.settle.ensures.next ∙ ap (λ t. k.next_since + cond (is_ready t) 1 0) c.answer_wait.ensures)
+    c.mend.ensures
 
 pub returns : goal.returns
 returns c =

@@ -1,20 +1,29 @@
 use Rattle.std.proofs.Common.{ap, ◌∙◌, refl}
 use Rattle.wind_core.specs.Moves.{wake_at, pended, renewed, pend}
-use Rattle.wind_core.proofs.Writes.{object_lives, renewed_keeps, renews_to, wake_ahead}
+use Rattle.wind_core.proofs.Writes.{object_lives, renewed_fits, renewed_keeps, renews_to, wake_ahead}
 use Rattle.wind_core.proofs.kern.Kern.pend.Goals as goal
 
 pub object_mut-task-requires : goal.object_mut-task-requires
 object_mut-task-requires c = object_lives c.self.inside c.args.self.now c.args.who c.self.invariant c.self.view_is c.requires.live
+
+pub mend-requires : goal.mend-requires
+mend-requires c =
+    let k = c.self.inside in
+    let x = c.object_mut-task.result.now in
+    let wake = wake_at c.args.place.side k.tick c.args.timeout in
+    renewed_fits k c.args.who x (pended c.args.place c.args.fifo wake x) c.renew.new.task c.self.invariant c.object_mut-task.ensures.value refl
+    (c.renew.ensures.task ∙ ap (renewed k.next_since) (c.begin_wait.ensures ∙ ap (λ w. pended c.args.place c.args.fifo w x) c.wake_tick-wake.ensures))
 
 pub invariant_of-self : goal.invariant_of-self
 invariant_of-self c =
     let k = c.self.inside in
     let x = c.object_mut-task.result.now in
     let wake = wake_at c.args.place.side k.tick c.args.timeout in
-    renewed_keeps k c.args.who c.renew.new.next_since x (pended c.args.place c.args.fifo wake x) c.renew.new.task c.self.invariant c.object_mut-task.ensures.value refl
+    renewed_keeps k c.args.who c.renew.new.next_since x (pended c.args.place c.args.fifo wake x) c.renew.new.task c.mend.new.waits c.self.invariant c.object_mut-task.ensures.value refl
     (λ _. wake_ahead c.args.place.side k.tick c.args.timeout c.requires.timeout)
     (c.renew.ensures.task ∙ ap (renewed k.next_since) (c.begin_wait.ensures ∙ ap (λ w. pended c.args.place c.args.fifo w x) c.wake_tick-wake.ensures))
     c.renew.ensures.next
+    c.mend.ensures
 
 pub returns : goal.returns
 returns c =

@@ -12,7 +12,7 @@ object_mut-requires c = object_lives c.self.inside c.args.self.now c.args.who c.
 pub invariant_of-self-lent : goal.invariant_of-self-lent
 invariant_of-self-lent c = λ w.
     let x : Task = c.object_mut.result.now in
-    same_keeps c.self.inside c.args.who x (record x { regs = w }) c.self.invariant c.object_mut.ensures.value refl refl refl
+    same_keeps c.self.inside c.args.who x (record x { regs = w }) c.self.invariant c.object_mut.ensures.value refl refl refl refl
 
 pub returns : goal.returns
 returns c =

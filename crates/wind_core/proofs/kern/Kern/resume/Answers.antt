@@ -1,7 +1,7 @@
 use Rattle.std.proofs.Common.{ap, ◌∙◌, ◌+◌, cond, refl}
 use Rattle.task_block.specs.Standing.{is_ready}
 use Rattle.wind_core.specs.Moves.{resumed, settled, move_task}
-use Rattle.wind_core.proofs.Writes.{object_lives, settled_keeps, moves}
+use Rattle.wind_core.proofs.Writes.{object_lives, settled_stays, moves}
 use Rattle.wind_core.proofs.kern.Kern.resume.Goals as goal
 
 pub object_mut-task-requires : goal.object_mut-task-requires
@@ -11,7 +11,7 @@ pub invariant_of-self : goal.invariant_of-self
 invariant_of-self c =
     let k = c.self.inside in
     let x = c.object_mut-task.result.now in
-    settled_keeps k c.args.who c.settle.new.next_since x (resumed x) c.settle.new.task c.self.invariant c.object_mut-task.ensures.value refl refl (λ h. h)
+    settled_stays k c.args.who c.settle.new.next_since x (resumed x) c.settle.new.task c.self.invariant c.object_mut-task.ensures.value refl refl refl (λ h. h)
     (c.settle.ensures.task ∙ ap (settled k.next_since) c.take_suspension.ensures)
     (c.settle.ensures.next ∙ ap (λ t. k.next_since + cond (is_ready t) 1 0) c.take_suspension.ensures)
 

@@ -12,5 +12,5 @@ invariant_of-self c =
     let here = c.in-Some.ensures in
     let added = c.in-Ok.ensures in
     spawned_keeps c.self.inside c.made.result c.in-Ok.id c.add.new.ids c.add.new.self c.self.invariant (omega (arith, c.if-len.false, c.len.ensures)) here.0
-    (ap (λ (t : Task). t.id) made ∙ here.1) (ap (λ (t : Task). t.since) made) (ap (λ (t : Task). t.wake) made)
+    (ap (λ (t : Task). t.id) made ∙ here.1) (ap (λ (t : Task). t.since) made) (ap (λ (t : Task). t.wake) made) (ap (λ (t : Task). t.wait) made)
     added.rows added.id.0 added.id.1

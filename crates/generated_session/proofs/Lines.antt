@@ -1,0 +1,88 @@
+-- The tick file of a generated session is one line, of the grammar.
+use Rattle.std.proofs.Common.{◌≡◌, ℕ, ◌+◌, ◌<◌, ◌≤◌, ◌^◌, true, false, Bool, List, [], ◌∷◌, ◌++◌, None, refl, ap, sym, subst, ◌∙◌, arith, length, cond}
+use Rattle.std.specs.Prelude.{◌==◌, ◌&&◌, not, codes}
+use Rattle.std.specs.List.{list_all}
+use Rattle.std.specs.Fmt.{decimal}
+use Rattle.std.specs.Char.{is_ascii_digit}
+use Rattle.std.specs.Str.{all_ascii_digits}
+use Rattle.std.specs.Str.Parse.{digits_value}
+use Rattle.std.proofs.lemmas.Fmt.{digits_decimal, decimal_is_IsNumeral, decimal_nonempty, length-decimal-le}
+use Rattle.std.proofs.lemmas.Str.Parse.{IsNumeralModel, numerals_by_value, tells_all_ascii_digits}
+use Rattle.std.proofs.lemmas.Bool.Decides.{nat_tests}
+use Rattle.tick_file.specs.declared.event.Rule.TheVariants.{Every}
+use Rattle.tick_file.specs.declared.event.Said.{Said}
+use Rattle.tick_file.specs.declared.event.Said.TheVariants.{Says}
+use Rattle.tick_file.specs.Grammar.{said}
+use Rattle.tick_file.specs.Forms.{GrammarLaw, IsLineOf, IsNumber}
+use Rattle.tick_file.specs.Lines.{pieces, onto_first, lines_of, bad_from, bad_or, tick_lines, first_bad_line}
+use Rattle.generated_session.specs.Session.{most_rounds, generated_ticks}
+
+all_digits : (ds : List ℕ) → list_all is_ascii_digit ds ≡ all_ascii_digits ds
+all_digits [] = refl
+all_digits (d ∷ ds) = ap (λ b. is_ascii_digit d && b) (all_digits ds)
+
+own : IsNumeralModel (λ ds. all_ascii_digits ds ≡ true) (digits_value 10)
+own = numerals_by_value _ tells_all_ascii_digits
+
+decimal_digits : (n : ℕ) → n < 2 ^ 64 → list_all is_ascii_digit (decimal n) ≡ true
+decimal_digits n h = all_digits (decimal n) ∙ digits_decimal own n h
+
+-- a number of up to ten digits
+small_number : (n : ℕ) → n < 10 ^ 5 → IsNumber n (decimal n)
+small_number n h = record {
+  some = decimal_nonempty n (omega arith);
+  few = omega (arith, length-decimal-le 5 n (omega arith) h (omega arith));
+  decimal = decimal_digits n (omega arith);
+  value = (decimal_is_IsNumeral n (omega arith)).1;
+  small = omega arith;
+}
+
+-- it is a line of `every`
+every_line : (count : ℕ) → 1 ≤ count → count < 10 ^ 5 → IsLineOf (Every 100 count) (codes "every 100 " ++ decimal count)
+every_line count some h = (
+  record {
+    gap = 32 ∷ [];
+    digits = codes "100";
+    apart = record { some = omega arith; blank = refl };
+    number = record { some = omega arith; few = omega arith; decimal = refl; value = refl; small = omega arith };
+    next_gap = 32 ∷ [];
+    next_digits = decimal count;
+    next_apart = record { some = omega arith; blank = refl };
+    next_number = small_number count h;
+    is = refl;
+  },
+  omega arith,
+  some,
+)
+
+-- a text without an 0x0A is one piece
+both_hold : (a b : Bool) → (a && b) ≡ true → (a ≡ true) × (b ≡ true)
+both_hold true b e = (refl, e)
+both_hold false b e = absurd (cc)
+
+not_end : (b : ℕ) → not (b == 10) ≡ true → (b == 10) ≡ false
+not_end b e = grind (arith, nat_tests)
+
+one_piece : (text : List ℕ) → list_all (λ b. not (b == 10)) text ≡ true → pieces text ≡ text ∷ []
+one_piece [] e = refl
+one_piece (b ∷ bs) e =
+    let k = both_hold (not (b == 10)) (list_all (λ b. not (b == 10)) bs) e in
+    ap (λ t. cond t ([] ∷ pieces bs) (onto_first b (pieces bs))) (not_end b k.0) ∙ ap (onto_first b) (one_piece bs k.1)
+
+digit_no_end : (b : ℕ) → is_ascii_digit b ≡ true → not (b == 10) ≡ true
+digit_no_end b e = grind (arith, nat_tests)
+
+digits_no_end : (ds : List ℕ) → list_all is_ascii_digit ds ≡ true → list_all (λ b. not (b == 10)) ds ≡ true
+digits_no_end [] e = refl
+digits_no_end (d ∷ ds) e =
+    let k = both_hold (is_ascii_digit d) (list_all is_ascii_digit ds) e in
+    ap (λ b. b && list_all (λ b. not (b == 10)) ds) (digit_no_end d k.0) ∙ digits_no_end ds k.1
+
+-- no line of it is outside the grammar
+pub ticks_are_good : (n : ℕ) → n ≤ most_rounds → GrammarLaw → first_bad_line (generated_ticks n) ≡ None
+unfolding first_bad_line tick_lines generated_ticks
+ticks_are_good n h law =
+    let text = codes "every 100 " ++ decimal (n + 8) in
+    let says : said text ≡ Says (Every 100 (n + 8)) = ((law text).0 (Every 100 (n + 8))).1 (every_line (n + 8) (omega arith) (omega arith)) in
+    let alone : pieces text ≡ text ∷ [] = one_piece text (digits_no_end (decimal (n + 8)) (decimal_digits (n + 8) (omega arith))) in
+    ap (λ (ps : List (List ℕ)). bad_from 1 (lines_of ps)) alone ∙ ap (bad_or 1 None) says

@@ -1,0 +1,59 @@
+-- Texts that are put in pieces.
+use Rattle.std.proofs.Common.{◌≡◌, ℕ, ◌+◌, ◌≤◌, ◌<◌, List, [], ◌∷◌, ◌++◌, Option, Some, None, Bor, map, length, take, drop, refl, ap, sym, subst, ◌∙◌, append_assoc, arith}
+use Rattle.std.specs.List.{concat}
+use Rattle.std.specs.Option.{option_map}
+use Rattle.std.proofs.lemmas.List.{append-nil, take-append-drop}
+use Rattle.wind_outside.specs.Told.{Appended, AppendedFront}
+
+-- two pieces, one after the other
+pub appended_both : (old mid new : Option (List ℕ)) (a b : List ℕ) → Appended old mid a → Appended mid new b → Appended old new (a ++ b)
+appended_both None mid new a b p q = q ∙ ap (option_map (λ bytes. bytes ++ b)) p
+appended_both (Some x) mid new a b p q = q ∙ ap (option_map (λ bytes. bytes ++ b)) p ∙ ap Some (append_assoc x a b)
+
+-- nothing was added
+pub appended_none : (old : Option (List ℕ)) → Appended old old []
+appended_none None = refl
+appended_none (Some x) = ap Some (sym (append-nil x))
+
+-- all bytes of some pieces
+abbrev pub bytes_of : List (Bor (List ℕ)) → List ℕ
+bytes_of ps = concat (map {A = Bor (List ℕ)} {B = List ℕ} (λ p. p.now) ps)
+
+bytes_both : (ps qs : List (Bor (List ℕ))) → bytes_of (ps ++ qs) ≡ bytes_of ps ++ bytes_of qs
+bytes_both [] qs = refl
+bytes_both (p ∷ ps) qs = ap (λ bytes. p.now ++ bytes) (bytes_both ps qs) ∙ sym (append_assoc p.now (bytes_of ps) (bytes_of qs))
+
+bytes_more : (ps : List (Bor (List ℕ))) (p : Bor (List ℕ)) → bytes_of (ps ++ p ∷ []) ≡ bytes_of ps ++ p.now
+bytes_more ps p = bytes_both ps (p ∷ []) ∙ ap (λ bytes. bytes_of ps ++ bytes) (append-nil p.now)
+
+-- a front of a text
+take_front : (front rest : List ℕ) → take (length front) (front ++ rest) ≡ front
+take_front [] rest = refl
+take_front (b ∷ bs) rest = ap (λ bytes. b ∷ bytes) (take_front bs rest)
+
+front_of : (old new : Option (List ℕ)) (front rest text : List ℕ) → front ++ rest ≡ text → Appended old new front → AppendedFront old new text
+front_of old new front rest text whole gained =
+    (length front, subst (Appended old new) (sym (take_front front rest) ∙ ap (take (length front)) whole) gained)
+
+module _ (ps : List (Bor (List ℕ))) (i : ℕ) (p : Bor (List ℕ)) (on : take (i + 1) ps ≡ take i ps ++ p ∷ []) (old mid new : Option (List ℕ))
+    (told : Appended old mid (bytes_of (take i ps))) where
+  -- one piece more was put
+  pub piece_put : Appended mid new p.now → Appended old new (bytes_of (take (i + 1) ps))
+  piece_put more =
+      subst (Appended old new) (sym (bytes_more (take i ps) p) ∙ ap bytes_of (sym on)) (appended_both old mid new (bytes_of (take i ps)) p.now told more)
+
+  -- a put failed inside the next piece
+  pub piece_cut : AppendedFront mid new p.now → AppendedFront old new (bytes_of ps)
+  piece_cut cut =
+      let before = bytes_of (take i ps) in
+      let behind = bytes_of (drop (i + 1) ps) in
+      let some = take cut.0 p.now in
+      let other = drop cut.0 p.now in
+      front_of old new (before ++ some) (other ++ behind) (bytes_of ps)
+      (append_assoc before some (other ++ behind)
+      ∙ ap (λ bytes. before ++ bytes) (sym (append_assoc some other behind) ∙ ap (λ bytes. bytes ++ behind) (take-append-drop cut.0 p.now))
+      ∙ sym (append_assoc before p.now behind)
+      ∙ ap (λ bytes. bytes ++ behind) (sym (bytes_more (take i ps) p) ∙ ap bytes_of (sym on))
+      ∙ sym (bytes_both (take (i + 1) ps) (drop (i + 1) ps))
+      ∙ ap bytes_of (take-append-drop (i + 1) ps))
+      (appended_both old mid new before some told cut.1)

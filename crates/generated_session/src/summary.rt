@@ -1,0 +1,76 @@
+//! The line that sums a generated session up.
+
+ghost use Rattle.std.specs.Prelude.{◌≡◌, ◌≤◌, map};
+ghost use Rattle.std.specs.List.{concat};
+ghost use Rattle.wind_outside.specs.Counts.{Rose};
+ghost use Rattle.wind_outside.specs.Told.{Appended, AppendedFront};
+ghost use Rattle.wind_outside.specs.declared.sink.Put.TheVariants as puts;
+ghost use Rattle.generated_session.specs.Session.{most_rounds, summary_line};
+
+use itoa::Buffer;
+use wind_outside::{Put, Sink};
+
+/// What the line tells.
+#[derive(Clone, Copy)]
+pub struct Summary {
+    /// With how many rounds the session was generated.
+    pub rounds: u32,
+    /// How many bytes the run wrote.
+    pub bytes: u128,
+    /// How many steps it made.
+    pub steps: u64,
+    /// How many ticks came.
+    pub ticks: u64,
+    /// The number of its status.
+    pub status: u8,
+}
+
+// Puts pieces, up to the first that fails.
+fn put_all<O: Sink>(out: &mut O, pieces: &[&[u8]]) -> Put
+    ensures done { result ≡ puts.Done → Appended (O.bytes out.old) (O.bytes out.new) (concat (map (λ p. p.now) pieces.now)) }
+    ensures part { result ≡ puts.Failed → AppendedFront (O.bytes out.old) (O.bytes out.new) (concat (map (λ p. p.now) pieces.now)) }
+    ensures failed { result ≡ puts.Failed → Rose (O.faults out.old) (O.faults out.new) }
+    ensures never_falls { O.faults out.old ≤ O.faults out.new }
+{
+    for piece in pieces {
+        match out.put(piece) {
+            Put::Failed => return Put::Failed,
+            Put::Done => {}
+        }
+    }
+    Put::Done
+}
+
+impl Summary {
+    /// Puts the line, up to a piece that fails.
+    pub fn put<O: Sink>(&self, out: &mut O) -> Put
+        requires { self.now.rounds ≤ most_rounds }
+        ensures done { result ≡ puts.Done → Appended (O.bytes out.old) (O.bytes out.new)
+            (summary_line self.now.rounds self.now.bytes self.now.steps self.now.ticks self.now.status) }
+        ensures part { result ≡ puts.Failed → AppendedFront (O.bytes out.old) (O.bytes out.new)
+            (summary_line self.now.rounds self.now.bytes self.now.steps self.now.ticks self.now.status) }
+        ensures failed { result ≡ puts.Failed → Rose (O.faults out.old) (O.faults out.new) }
+        ensures never_falls { O.faults out.old ≤ O.faults out.new }
+    {
+        let (mut rounds, mut lines, mut bytes) = (Buffer::new(), Buffer::new(), Buffer::new());
+        let (mut steps, mut ticks, mut status) = (Buffer::new(), Buffer::new(), Buffer::new());
+        put_all(
+            out,
+            &[
+                b"generated ",
+                rounds.format(self.rounds).as_bytes(),
+                b": ",
+                lines.format(3 * self.rounds + 3).as_bytes(),
+                b" lines, ",
+                bytes.format(self.bytes).as_bytes(),
+                b" console bytes, ",
+                steps.format(self.steps).as_bytes(),
+                b" steps, ",
+                ticks.format(self.ticks).as_bytes(),
+                b" ticks, status ",
+                status.format(self.status).as_bytes(),
+                b"\n",
+            ],
+        )
+    }
+}

@@ -1,0 +1,48 @@
+//! The call that unloads a module.
+
+ghost use Rattle.std.specs.Prelude.{◌≡◌};
+ghost use Rattle.module_loader.specs.Holding.{AreHeld};
+ghost use Rattle.kernel_calls.specs.ModuleRows.{meant_module as meant_module_lem, unload_row};
+
+use crate::reply::{DONE, Reply};
+use board_mem::Ram;
+use mem_partition::Part;
+use module_loader::Modules;
+use symbol_table::Symbols;
+use wind_base::Errno;
+
+// The id of the module that a word means: its id, or the address of its name.
+fn meant_module(mods: &Modules, ram: &Ram, x: u32) -> Option<u32>
+    ensures { result ≡ meant_module_lem mods.now ram.now x }
+{
+    if mods.get(x).is_some() {
+        return Some(x);
+    }
+    let name = ram.string(x)?;
+    let id = mods.newest_named(name)?;
+    Some(id.get())
+}
+
+// unld: the symbols, the record and the blocks of a module go.
+#[tactic(auto, using(crate::proofs::Unloading::meant_lives))]
+pub(crate) fn unload(
+    mods: &mut Modules,
+    part: &mut Part,
+    syms: &mut Symbols,
+    ram: &Ram,
+    x: u32,
+) -> Reply
+    requires { AreHeld mods.old part.old }
+    ensures symbols { syms.new.list ≡ (unload_row syms.old.list mods.old part.old ram.now x).symbols }
+    ensures modules { mods.new ≡ (unload_row syms.old.list mods.old part.old ram.now x).modules }
+    ensures part { part.new ≡ (unload_row syms.old.list mods.old part.old ram.now x).part }
+    ensures reply { result ≡ (unload_row syms.old.list mods.old part.old ram.now x).reply }
+{
+    let Some(id) = meant_module(mods, ram, x) else {
+        return Reply::Refusal(Errno::NoSuchModule);
+    };
+    match mods.unload(part, syms, id) {
+        Ok(()) => DONE,
+        Err(_) => unreachable!(),
+    }
+}

@@ -1,0 +1,39 @@
+//! Calls on watchdogs, of the shell's task and of an interrupt routine.
+
+use super::bench::{ROUTINE, SHELL};
+use super::looks::Look;
+use super::steps::{Step, first_wrong};
+use super::{NOT_ISR_CALLABLE, OBJ_ID_ERROR};
+use std::test::Fail;
+use wind_base::Gate;
+use wind_base::words::{ERROR, OK};
+
+const WATCHDOGS: [Step; 14] = [
+    Step::Call(SHELL, Gate::WdStart, [2, 5, 0x100, 7], ERROR, OBJ_ID_ERROR),
+    Step::Call(SHELL, Gate::WdCreate, [9, 0, 0, 0], 2, OBJ_ID_ERROR),
+    Step::Call(SHELL, Gate::WdCreate, [0; 4], 3, OBJ_ID_ERROR),
+    Step::Call(SHELL, Gate::WdStart, [2, 5, 0x100, 7], OK, OBJ_ID_ERROR),
+    Step::Call(SHELL, Gate::WdCancel, [2, 0, 0, 0], OK, OBJ_ID_ERROR),
+    // a routine starts and cancels, and neither makes nor deletes
+    Step::Call(ROUTINE, Gate::WdStart, [3, 0, 0x100, 7], OK, 0),
+    Step::Call(ROUTINE, Gate::WdCancel, [3, 0, 0, 0], OK, 0),
+    Step::Call(ROUTINE, Gate::WdCancel, [1, 0, 0, 0], ERROR, OBJ_ID_ERROR),
+    Step::Call(ROUTINE, Gate::WdCreate, [0; 4], 0, NOT_ISR_CALLABLE),
+    Step::Call(
+        ROUTINE,
+        Gate::WdDelete,
+        [3, 0, 0, 0],
+        ERROR,
+        NOT_ISR_CALLABLE,
+    ),
+    Step::Call(SHELL, Gate::WdDelete, [3, 0, 0, 0], OK, OBJ_ID_ERROR),
+    Step::Call(SHELL, Gate::WdDelete, [3, 0, 0, 0], ERROR, OBJ_ID_ERROR),
+    Step::Call(SHELL, Gate::WdCreate, [0; 4], 4, OBJ_ID_ERROR),
+    Step::See(Look::Tasks(1)),
+];
+
+#[test]
+fn watchdogs_come_run_and_go(rt: HostRuntime) -> Result<(), Fail> {
+    assert_eq!(rt; first_wrong(&rt, &WATCHDOGS)?, None);
+    Ok(())
+}

@@ -1,0 +1,152 @@
+-- The place of a block in the holes, and a block that is cut out of one.
+use Rattle.std.proofs.Common.{◌≡◌, ℕ, suc, ◌+◌, ◌<◌, ◌≤◌, max, true, false, cond, leb, ltb, not, List, [], ◌∷◌, ◌++◌, length, get_or, Option, Some, None, refl, sym, ap, ◌∙◌, inl, inr, arith}
+use Rattle.std.specs.List.{insert, remove, position, position_or_len}
+use Rattle.std.proofs.lemmas.Bool.{le-leb, lt-leb, lt-ltb, ltb-true, ltb-false, and_parts}
+use Rattle.mem_partition.specs.declared.block.Block.{Block}
+use Rattle.mem_partition.specs.declared.hole.Hole.{Hole}
+use Rattle.mem_partition.specs.Place.{aligned, first_fit, is_apart, meets_none, Lies}
+use Rattle.mem_partition.specs.State.{Laid, with_block}
+use Rattle.mem_partition.specs.Gaps.{gap_from}
+use Rattle.mem_partition.specs.Holes.{gap, holes_of, first_hole, put_gap, cut_out}
+use Rattle.mem_partition.proofs.Places.{aligned_above, aligned_least, aligned_multiple, gap_place}
+use Rattle.mem_partition.proofs.Keeping.{apart_cases}
+
+-- ---- the first hole
+
+-- the answer of a gap from lo to hi, or what is found behind it
+abbrev fit_or : ℕ → ℕ → ℕ → ℕ → Option ℕ → Option ℕ
+fit_or lo hi size align o = cond (leb (aligned lo align + size) hi) (Some (aligned lo align)) o
+
+gap_first : (lo hi size align : ℕ) (hs : List Hole) → 1 ≤ align → 0 < size → first_hole size align (gap lo hi ++ hs) ≡ fit_or lo hi size align (first_hole size align hs)
+gap_first lo hi size align hs h some =
+    let up = aligned_above lo align h in
+    elim (ltb lo hi) as (λ t. ltb lo hi ≡ t → first_hole size align (cond t (record { start = lo; end = hi } ∷ []) [] ++ hs) ≡ fit_or lo hi size align (first_hole size align hs)) [
+      | true ↦ λ e. refl
+      | false ↦ λ e.
+          let more = ltb-false lo hi e in
+          sym (ap (λ t. cond t (Some (aligned lo align)) (first_hole size align hs)) (lt-leb (aligned lo align + size) hi (omega arith)))
+    ] refl
+
+pub nothing_more : (hs : List Hole) → hs ++ [] ≡ hs
+nothing_more [] = refl
+nothing_more (h ∷ hs) = ap (λ x. h ∷ x) (nothing_more hs)
+
+-- the greater of two multiples, where the second bound is above the first
+greater : (lo to align : ℕ) → 1 ≤ align → lo ≤ to → max (aligned lo align) (aligned to align) ≡ aligned to align
+greater lo to align h k =
+    let up = aligned_above to align h in
+    let least = aligned_least lo align (aligned to align) h (omega arith) (aligned_multiple to align h) in
+    omega arith
+
+holes_gaps : (lo hi : ℕ) (bs : List Block) (size align : ℕ) → 1 ≤ align → 0 < size → Laid lo hi bs → first_hole size align (holes_of lo hi bs) ≡ gap_from hi size align (aligned lo align) bs
+holes_gaps lo hi [] size align h some laid = ap (first_hole size align) (sym (nothing_more (gap lo hi))) ∙ gap_first lo hi size align [] h some
+holes_gaps lo hi (b ∷ bs) size align h some (low, b_some, high, laid) =
+    gap_first lo b.addr size align (holes_of (b.addr + b.size) hi bs) h some
+    ∙ ap (λ o. fit_or lo b.addr size align o)
+    (holes_gaps (b.addr + b.size) hi bs size align h some laid
+    ∙ ap (λ n. gap_from hi size align n bs) (sym (greater lo (b.addr + b.size) align h (omega arith))))
+
+pub hole_place : (lo hi : ℕ) (bs : List Block) (size align : ℕ) → 1 ≤ align → 0 < size → Laid lo hi bs → first_hole size align (holes_of lo hi bs) ≡ first_fit lo hi bs size align
+hole_place lo hi bs size align h some laid = holes_gaps lo hi bs size align h some laid ∙ gap_place lo hi bs size align h some laid
+
+-- ---- a block cut out of a gap in which it lies, or of the holes behind it
+
+cut_here : (lo at end hi : ℕ) (hs : List Hole) → lo ≤ at → at < end → end ≤ hi → cut_out at end (gap lo hi ++ hs) ≡ gap lo at ++ (gap end hi ++ hs)
+cut_here lo at end hi hs low some high =
+    ap (λ t. cut_out at end (cond t (record { start = lo; end = hi } ∷ []) [] ++ hs)) (lt-ltb lo hi (omega arith))
+    ∙ ap (λ t. cond t (gap lo at ++ (gap end hi ++ hs)) (record { start = lo; end = hi } ∷ cut_out at end hs)) (le-leb end hi high)
+
+cut_behind : (lo hi at end : ℕ) (hs : List Hole) → hi ≤ at → at < end → cut_out at end (gap lo hi ++ hs) ≡ gap lo hi ++ cut_out at end hs
+cut_behind lo hi at end hs high some =
+    elim (ltb lo hi) as (λ t. cut_out at end (cond t (record { start = lo; end = hi } ∷ []) [] ++ hs) ≡ cond t (record { start = lo; end = hi } ∷ []) [] ++ cut_out at end hs) [
+      | true ↦ ap (λ t. cond t (gap lo at ++ (gap end hi ++ hs)) (record { start = lo; end = hi } ∷ cut_out at end hs)) (lt-leb end hi (omega arith))
+      | false ↦ refl
+    ]
+
+pub split : (lo hi : ℕ) (bs : List Block) (b : Block) → Laid lo hi bs → 0 < b.size → Lies lo hi bs b.size b.addr → cut_out b.addr (b.addr + b.size) (holes_of lo hi bs) ≡ holes_of lo hi (with_block b bs)
+split lo hi [] b laid some lies =
+    ap (cut_out b.addr (b.addr + b.size)) (sym (nothing_more (gap lo hi)))
+    ∙ (cut_here lo b.addr (b.addr + b.size) hi [] lies.low (omega arith) lies.high
+    ∙ ap (λ x. gap lo b.addr ++ x) (nothing_more (gap (b.addr + b.size) hi)))
+split lo hi (c ∷ cs) b (c_low, c_some, c_high, laid) some lies =
+    let parts = and_parts (is_apart b.size b.addr c) (meets_none cs b.size b.addr) lies.apart in
+    let apart = apart_cases b.size b.addr c parts.0 in
+    let low = lies.low in
+    let high = lies.high in
+    elim (ltb b.addr c.addr) as (λ t. ltb b.addr c.addr ≡ t → cut_out b.addr (b.addr + b.size) (gap lo c.addr ++ holes_of (c.addr + c.size) hi cs) ≡ holes_of lo hi (cond t (b ∷ c ∷ cs) (c ∷ with_block b cs))) [
+      | true ↦ λ e.
+          let k = ltb-true b.addr c.addr e in
+          let before : b.addr + b.size ≤ c.addr = elim apart [ inl h ↦ h | inr h ↦ absurd (omega arith) ] in
+          cut_here lo b.addr (b.addr + b.size) c.addr (holes_of (c.addr + c.size) hi cs) low (omega arith) before
+      | false ↦ λ e.
+          let k = ltb-false b.addr c.addr e in
+          let behind : c.addr + c.size ≤ b.addr = elim apart [ inl h ↦ absurd (omega arith) | inr h ↦ h ] in
+          cut_behind lo c.addr b.addr (b.addr + b.size) (holes_of (c.addr + c.size) hi cs) (omega arith) (omega arith)
+          ∙ ap (λ x. gap lo c.addr ++ x) (split (c.addr + c.size) hi cs b laid some (record { low = behind; high = high; apart = parts.1 }))
+    ] refl
+
+-- ---- as the code cuts
+
+pub put_first : (lo hi : ℕ) (hs : List Hole) → put_gap 0 lo hi hs ≡ gap lo hi ++ hs
+put_first lo hi hs = elim (ltb lo hi) as (λ t. cond t (insert hs 0 (record { start = lo; end = hi })) hs ≡ cond t (record { start = lo; end = hi } ∷ []) [] ++ hs) [ true ↦ refl | false ↦ refl ]
+
+pub put_behind : (k lo hi : ℕ) (h : Hole) (hs : List Hole) → put_gap (suc k) lo hi (h ∷ hs) ≡ h ∷ put_gap k lo hi hs
+put_behind k lo hi h hs =
+    elim (ltb lo hi) as (λ t. cond t (insert (h ∷ hs) (suc k) (record { start = lo; end = hi })) (h ∷ hs) ≡ h ∷ cond t (insert hs k (record { start = lo; end = hi })) hs) [ true ↦ refl | false ↦ refl ]
+
+-- the hole at a place left out, and what it has on both sides put in
+abbrev cut_at : ℕ → ℕ → ℕ → Hole → List Hole → List Hole
+cut_at k lo hi h hs = put_gap k h.start lo (put_gap k hi h.end (remove hs k))
+
+-- the place of the first hole that ends at an address or behind it
+abbrev reaching : ℕ → List Hole → ℕ
+reaching hi hs = position_or_len (λ h. leb hi h.end) hs
+
+cut_there : (lo hi : ℕ) (hs : List Hole) (d : Hole) → reaching hi hs < length hs → cut_at (reaching hi hs) lo hi (get_or hs (reaching hi hs) d) hs ≡ cut_out lo hi hs
+cut_there lo hi [] d less = absurd (omega arith)
+cut_there lo hi (h ∷ hs) d less =
+    elim (leb hi h.end) as (λ t. cond (not t) (1 + reaching hi hs) 0 < length (h ∷ hs) → cut_at (cond (not t) (1 + reaching hi hs) 0) lo hi (get_or (h ∷ hs) (cond (not t) (1 + reaching hi hs) 0) d) (h ∷ hs) ≡ cond t (gap h.start lo ++ (gap hi h.end ++ hs)) (h ∷ cut_out lo hi hs)) [
+      | true ↦ λ q.
+          put_first h.start lo (put_gap 0 hi h.end hs)
+          ∙ ap (λ x. gap h.start lo ++ x) (put_first hi h.end hs)
+      | false ↦ λ q.
+          let j = reaching hi hs in
+          let next : 1 + j ≡ suc j = omega arith in
+          let g = get_or hs j d in
+          ap (λ i. cut_at i lo hi (get_or (h ∷ hs) i d) (h ∷ hs)) next
+          ∙ ap (put_gap (suc j) g.start lo) (put_behind j hi g.end h (remove hs j))
+          ∙ put_behind j g.start lo h (put_gap j hi g.end (remove hs j))
+          ∙ ap (λ x. h ∷ x) (cut_there lo hi hs d (omega (arith, q)))
+    ] less
+
+-- a position that is found
+pub record Found (k : ℕ) (hi : ℕ) (hs : List Hole) : Type 0 where
+  pub is : k ≡ reaching hi hs
+  pub within : reaching hi hs < length hs
+
+found_at : (hi k : ℕ) (hs : List Hole) → Some k ≡ position (λ h. leb hi h.end) hs → Found k hi hs
+found_at hi k hs e =
+    elim (ltb (reaching hi hs) (length hs)) as (λ t. ltb (reaching hi hs) (length hs) ≡ t → Some k ≡ cond t (Some (reaching hi hs)) None → Found k hi hs) [
+      | true ↦ λ q w. record { is = cc; within = ltb-true (reaching hi hs) (length hs) q }
+      | false ↦ λ q w. absurd (cc)
+    ] refl e
+
+pub cut_found : (lo hi k : ℕ) (hs : List Hole) (d : Hole) → Some k ≡ position (λ h. leb hi h.end) hs → put_gap k (get_or hs k d).start lo (put_gap k hi (get_or hs k d).end (remove hs k)) ≡ cut_out lo hi hs
+cut_found lo hi k hs d e =
+    let f = found_at hi k hs e in
+    ap (λ j. cut_at j lo hi (get_or hs j d) hs) f.is ∙ cut_there lo hi hs d f.within
+
+none_reach : (lo hi : ℕ) (hs : List Hole) → length hs ≤ reaching hi hs → cut_out lo hi hs ≡ hs
+none_reach lo hi [] h = refl
+none_reach lo hi (h ∷ hs) more =
+    elim (leb hi h.end) as (λ t. length (h ∷ hs) ≤ cond (not t) (1 + reaching hi hs) 0 → cond t (gap h.start lo ++ (gap hi h.end ++ hs)) (h ∷ cut_out lo hi hs) ≡ h ∷ hs) [
+      | true ↦ λ q. absurd (omega (arith, q))
+      | false ↦ λ q. ap (λ x. h ∷ x) (none_reach lo hi hs (omega (arith, q)))
+    ] more
+
+pub cut_missed : (lo hi : ℕ) (hs : List Hole) → None ≡ position (λ h. leb hi h.end) hs → cut_out lo hi hs ≡ hs
+cut_missed lo hi hs e =
+    elim (ltb (reaching hi hs) (length hs)) as (λ t. ltb (reaching hi hs) (length hs) ≡ t → None ≡ cond t (Some (reaching hi hs)) None → cut_out lo hi hs ≡ hs) [
+      | true ↦ λ q w. absurd (cc)
+      | false ↦ λ q w. none_reach lo hi hs (ltb-false (reaching hi hs) (length hs) q)
+    ] refl e

@@ -1,0 +1,135 @@
+//! The holes of a pool, in order of address, as lists.
+
+ghost use Rattle.std.specs.Prelude.{◌≡◌, ◌<◌, ◌≤◌, ◌^◌, ◌+◌, ◌==◌, None, length, option_copied, nat_le, nat_lt, MatchOption, slice_index_or, vec_len, vec_capacity, position};
+ghost use Rattle.std.specs.List.{find};
+ghost use Rattle.mem_partition.specs.Place.{greatest_align};
+ghost use Rattle.mem_partition.specs.Holes.{first_hole, put_gap, cut_out, reach_down, reach_up, apart_from, rank, merged};
+
+use crate::gaps::align_up;
+
+/// A part of the pool that is in no block, from the address `start` to `end`, which is the first behind it.
+#[derive(Clone, Copy, Debug, PartialEq, Eq)]
+pub struct Hole {
+    pub start: u32,
+    pub end: u32,
+}
+
+/// The first multiple of `align` from which a hole has `size` bytes.
+pub(crate) fn first_with_room(list: &[Hole], size: u64, align: u64) -> Option<u64>
+    requires some { 1 ≤ align }
+    requires align { align ≤ greatest_align }
+    requires size { size < 2 ^ 33 }
+    ensures { result ≡ first_hole size align list.now }
+{
+    for hole in list {
+        let at = align_up(u64::from(hole.start), align);
+        if at + size <= u64::from(hole.end) {
+            return Some(at);
+        }
+    }
+    None
+}
+
+/// Puts in at a place what lies from `lo` to `hi`, where there is anything.
+pub(crate) fn put_in(list: &mut Vec<Hole>, place: usize, lo: u32, hi: u32)
+    requires place { place ≤ length list.old.items }
+    requires room { vec_len list.old < vec_capacity list.old }
+    ensures items { list.new.items ≡ put_gap place lo hi list.old.items }
+    ensures capacity { vec_capacity list.new ≡ vec_capacity list.old }
+{
+    if lo < hi {
+        let Ok(()) = list.insert(place, Hole { start: lo, end: hi }) else {
+            unreachable!()
+        };
+    }
+}
+
+/// The first hole that ends at an address, or behind it.
+fn place_reaching(list: &[Hole], hi: u32) -> Option<usize>
+    ensures is { result ≡ position (λ h. nat_le hi h.end) list.now }
+    ensures within { MatchOption result (result ≡ None) (λ k. k < length list.now) }
+{
+    list.iter().position(|hole| hi <= hole.end)
+}
+
+/// Cuts what lies from `lo` to `hi` out of the hole in which it lies.
+pub(crate) fn cut(list: &mut Vec<Hole>, lo: u32, hi: u32)
+    requires room { vec_len list.old < vec_capacity list.old }
+    ensures items { list.new.items ≡ cut_out lo hi list.old.items }
+    ensures capacity { vec_capacity list.new ≡ vec_capacity list.old }
+{
+    let Some(place) = place_reaching(list, hi) else {
+        return;
+    };
+    let hole = list.remove(place);
+    put_in(list, place, hi, hole.end);
+    put_in(list, place, hole.start, lo);
+}
+
+/// The hole that ends at an address.
+fn ending_at(list: &[Hole], lo: u32) -> Option<&Hole>
+    ensures { option_copied result ≡ find (λ h. h.end == lo) list.now }
+{
+    list.iter().find(|hole| hole.end == lo)
+}
+
+/// The hole that begins at an address.
+fn beginning_at(list: &[Hole], hi: u32) -> Option<&Hole>
+    ensures { option_copied result ≡ find (λ h. h.start == hi) list.now }
+{
+    list.iter().find(|hole| hole.start == hi)
+}
+
+/// Where the hole that ends at an address begins; that address, where none does.
+fn start_below(list: &[Hole], lo: u32) -> u32
+    ensures { result ≡ reach_down lo (find (λ h. h.end == lo) list.now) }
+{
+    match ending_at(list, lo) {
+        Some(hole) => hole.start,
+        None => lo,
+    }
+}
+
+/// Where the hole that begins at an address ends; that address, where none does.
+fn end_above(list: &[Hole], hi: u32) -> u32
+    ensures { result ≡ reach_up hi (find (λ h. h.start == hi) list.now) }
+{
+    match beginning_at(list, hi) {
+        Some(hole) => hole.end,
+        None => hi,
+    }
+}
+
+/// Leaves those that neither end at `lo` nor begin at `hi`.
+fn drop_touching(list: &mut Vec<Hole>, lo: u32, hi: u32)
+    ensures items { list.new.items ≡ apart_from lo hi list.old.items }
+    ensures capacity { vec_capacity list.new ≡ vec_capacity list.old }
+{
+    list.retain(|hole| hole.end != lo && hole.start != hi);
+}
+
+/// How many holes begin before an address, or at it.
+fn rank_of(list: &[Hole], at: u32) -> usize
+    ensures value { result ≡ rank at list.now }
+    ensures within { result ≤ length list.now }
+{
+    for (place, hole) in list.iter().enumerate() {
+        if at < hole.start {
+            return place;
+        }
+    }
+    list.len()
+}
+
+/// Puts in what lies from `lo` to `hi`, merged with the holes on both sides.
+pub(crate) fn merge(list: &mut Vec<Hole>, lo: u32, hi: u32)
+    requires room { length (apart_from lo hi list.old.items) < vec_capacity list.old }
+    ensures items { list.new.items ≡ merged lo hi list.old.items }
+    ensures capacity { vec_capacity list.new ≡ vec_capacity list.old }
+{
+    let from = start_below(list, lo);
+    let to = end_above(list, hi);
+    drop_touching(list, lo, hi);
+    let place = rank_of(list, from);
+    put_in(list, place, from, to);
+}

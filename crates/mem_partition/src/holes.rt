@@ -1,0 +1,179 @@
+//! The blocks of a partition beside the holes that they leave.
+
+ghost use Rattle.std.specs.Prelude.{◌≡◌, ◌≤◌, ◌<◌, ◌^◌, [], IfOk, IfSome, length, max};
+ghost use Rattle.std.specs.Option.{option_map};
+ghost use Rattle.wind_base.specs.Limits.{most_blocks};
+ghost use Rattle.mem_partition.specs.Place.{grain, greatest_align, first_fit, Lies};
+ghost use Rattle.mem_partition.specs.State.{IsPart, with_block, alloc_of, after_alloc, free_of, after_free, block_at, free_bytes};
+ghost use Rattle.mem_partition.specs.Holes.{AreHoles, with_holes};
+
+use crate::block::{Block, Class, PartErr};
+use crate::gaps::{GRAIN, is_align, round_up};
+use crate::held::{count_used, find_at, own_place, put_block};
+use crate::hole::{Hole, cut, first_with_room, merge, put_in};
+use std::alloc::Global;
+use std::marker::Model;
+use wind_base::NoMemory;
+use wind_base::limits::BLOCKS;
+
+/// The blocks of a pool and its holes, both in order of address: no hole is empty, no two of them touch, and with
+/// the blocks they make up the pool. Contracts see a partition beside its holes.
+#[derive(Drop)]
+pub struct Holes {
+    start: u32,
+    end: u32,
+    room: u32,
+    blocks: Vec<Block>,
+    list: Vec<Hole>,
+}
+
+impl Model for Holes {
+    ghost use Rattle.std.specs.Prelude.{◌≤◌, ◌<◌, vec_capacity};
+    ghost use Rattle.wind_base.specs.Limits.{most_blocks};
+    ghost use Rattle.mem_partition.specs.Holes.{HolesState, AreHoles};
+
+    ghost Value = { HolesState };
+
+    ghost view = { λ h. record {
+      part = record { start = h.start; end = h.end; room = h.room; blocks = h.blocks.items };
+      holes = h.list.items;
+    } };
+
+    ghost invariant = { λ h. (h.room ≤ vec_capacity h.blocks)
+        × (most_blocks < vec_capacity h.list)
+        × AreHoles (record {
+          part = record { start = h.start; end = h.end; room = h.room; blocks = h.blocks.items };
+          holes = h.list.items;
+        }) };
+}
+
+impl Holes {
+    /// A pool without blocks, with room for 16,384 blocks and 16,385 holes. No other call takes memory.
+    pub(crate) fn new(alloc: Global, start: u32, end: u32) -> Result<Holes, NoMemory>
+        ensures { IfOk result (λ h. h ≡ with_holes (record {
+          start = start;
+          end = end;
+          room = most_blocks;
+          blocks = [];
+        })) }
+    {
+        let Ok(blocks) = Vec::with_capacity(alloc, BLOCKS as usize) else {
+            return Err(NoMemory);
+        };
+        let Ok(mut list) = Vec::with_capacity(alloc, BLOCKS as usize + 1) else {
+            return Err(NoMemory);
+        };
+        put_in(&mut list, 0, start, end);
+        Ok(Holes {
+            start,
+            end,
+            room: BLOCKS,
+            blocks,
+            list,
+        })
+    }
+
+    /// The holes in order of address. It also says what they always are.
+    pub fn list(&self) -> &[Hole]
+        ensures value { result.now ≡ self.now.holes }
+        ensures sound { AreHoles self.now }
+    {
+        &self.list
+    }
+
+    /// The first address behind the pool.
+    pub(crate) fn end(&self) -> u32
+        ensures value { result ≡ self.now.part.end }
+        ensures sound { IsPart self.now.part }
+    {
+        self.end
+    }
+
+    /// The place of a block of `size` bytes in the first hole that has the room, for an alignment as it is asked for.
+    fn first_place(&self, size: u64, align: u32) -> Option<u64>
+        requires some { 1 ≤ align }
+        requires align { align ≤ greatest_align }
+        requires bytes { 0 < size }
+        requires size { size < 2 ^ 33 }
+        ensures value { result ≡ first_fit self.now.part.start self.now.part.end self.now.part.blocks size (max align grain) }
+        ensures lies { IfSome result (λ at. Lies self.now.part.start self.now.part.end self.now.part.blocks size at) }
+    {
+        first_with_room(&self.list, size, u64::from(align.max(GRAIN)))
+    }
+
+    /// Puts in the block, cut out of the hole in which it lies.
+    fn put(&mut self, block: Block)
+        requires some { 0 < block.size }
+        requires lies { Lies self.old.part.start self.old.part.end self.old.part.blocks block.size block.addr }
+        requires room { length self.old.part.blocks < self.old.part.room }
+        ensures { self.new ≡ with_holes (record self.old.part { blocks = with_block block self.old.part.blocks }) }
+    {
+        cut(&mut self.list, block.addr, block.addr + block.size);
+        put_block(&mut self.blocks, block);
+    }
+
+    /// The address at which a block is given, or the first refusal.
+    #[tactic(auto, unfolding(crate::specs::State::alloc_of, crate::specs::Place::place))]
+    fn find_place(&self, n: u32, align: u32) -> Result<u32, PartErr>
+        ensures answer { result ≡ alloc_of self.now.part n align }
+        ensures sound { AreHoles self.now }
+    {
+        let full = self.blocks.len() >= self.room as usize;
+        if !is_align(align) {
+            return Err(PartErr::BadAlign);
+        }
+        if full {
+            return Err(PartErr::BlocksFull);
+        }
+        let Some(at) = self.first_place(round_up(n), align) else {
+            return Err(PartErr::NoRoom);
+        };
+        Ok(at as u32)
+    }
+
+    /// As `Part::alloc`.
+    pub(crate) fn alloc(&mut self, n: u32, align: u32, class: Class) -> Result<u32, PartErr>
+        ensures answer { result ≡ alloc_of self.old.part n align }
+        ensures after { self.new ≡ with_holes (after_alloc self.old.part n align class) }
+    {
+        match self.find_place(n, align) {
+            Err(refusal) => Err(refusal),
+            Ok(addr) => {
+                let size = round_up(n) as u32;
+                self.put(Block { addr, size, class });
+                Ok(addr)
+            }
+        }
+    }
+
+    /// As `Part::free`.
+    pub(crate) fn free(&mut self, addr: u32, class: Class) -> Result<u32, PartErr>
+        ensures answer { result ≡ free_of self.old.part addr class }
+        ensures after { self.new ≡ with_holes (after_free self.old.part addr class) }
+    {
+        let Some(place) = own_place(&self.blocks, addr, class) else {
+            return Err(PartErr::NotABlock);
+        };
+        let block = self.blocks.remove(place);
+        merge(&mut self.list, block.addr, block.addr + block.size);
+        Ok(block.size)
+    }
+
+    /// As `Part::size_of`.
+    pub(crate) fn size_of(&self, addr: u32) -> Option<u32>
+        ensures { result ≡ option_map (λ b. b.size) (block_at self.now.part.blocks addr) }
+    {
+        find_at(&self.blocks, addr).map(|block| block.size)
+    }
+
+    /// As `Part::free_total`.
+    #[tactic(auto, using(crate::proofs::Counting::free_is))]
+    pub(crate) fn free_total(&self) -> u32
+        ensures { result ≡ free_bytes self.now.part }
+    {
+        let _room = self.room;
+        let used = count_used(&self.blocks);
+        let pool = u64::from(self.end.saturating_sub(self.start));
+        pool.saturating_sub(used) as u32
+    }
+}

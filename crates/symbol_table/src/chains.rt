@@ -1,0 +1,152 @@
+//! The symbols in order of adding, with their chains.
+
+ghost use Rattle.std.specs.Prelude.{◌≡◌, ◌<◌, ◌≤◌, ◌-◌, ◌+◌, ◌↔◌, [], length, count_by, ◌==◌, IfOk, OnOk, Err, slice_get, option_copied, vec_capacity};
+ghost use Rattle.wind_base.specs.Limits.{most_symbols};
+ghost use Rattle.symbol_table.specs.Newest.{newest, find_by_value};
+ghost use Rattle.symbol_table.specs.State.{TableState, IsTable, added, without_group, count_of};
+ghost use Rattle.symbol_table.specs.Chains.{AreChains, is_sought, table_of};
+ghost use Rattle.symbol_table.specs.declared.symbol.SymErr.TheVariants as errors;
+
+use crate::links::{Links, hash_name, hash_value};
+use crate::search::{link_by_name, link_by_value, newest_named, newest_valued};
+use crate::symbol::{SymErr, Symbol};
+use std::alloc::Global;
+use std::marker::Model;
+use wind_base::NoMemory;
+use wind_base::limits::SYMBOLS;
+
+/// Symbols in order of adding, with 65,536 chains by name and as many by value: each holds exactly the entries of one
+/// hash, from the newest to the oldest.
+#[derive(Drop)]
+pub struct Chains {
+    list: Vec<Symbol>,
+    spare: u32,
+    names: Links,
+    values: Links,
+}
+
+impl Model for Chains {
+    ghost use Rattle.std.specs.Prelude.{◌≤◌, ◌+◌, length, vec_capacity};
+    ghost use Rattle.symbol_table.specs.Chains.{ChainsState, AreChains, state_of};
+
+    ghost Value = { ChainsState };
+
+    ghost view = { λ t. record {
+      list = t.list.items;
+      spare = t.spare;
+      names = state_of t.names;
+      values = state_of t.values;
+    } };
+
+    ghost invariant = { λ t. (length t.list.items + t.spare ≤ vec_capacity t.list)
+        × (length t.list.items + t.spare ≤ vec_capacity t.names.before)
+        × (length t.list.items + t.spare ≤ vec_capacity t.values.before)
+        × AreChains (record {
+          list = t.list.items;
+          spare = t.spare;
+          names = state_of t.names;
+          values = state_of t.values;
+        }) };
+}
+
+impl Chains {
+    /// No symbols, and no room.
+    pub(crate) fn new(alloc: Global) -> Result<Chains, NoMemory>
+        ensures { IfOk result (λ t. table_of t ≡ record { list = []; spare = 0 }) }
+    {
+        let Ok(names) = Links::new(alloc) else {
+            return Err(NoMemory);
+        };
+        let Ok(values) = Links::new(alloc) else {
+            return Err(NoMemory);
+        };
+        Ok(Chains {
+            list: Vec::new(alloc),
+            spare: 0,
+            names,
+            values,
+        })
+    }
+
+    /// The symbols in order of adding. It also says what the chains always are.
+    pub fn entries(&self) -> &[Symbol]
+        ensures value { result.now ≡ self.now.list }
+        ensures sound { AreChains self.now }
+    {
+        &self.list
+    }
+
+    /// As `Symbols::reserve`.
+    pub(crate) fn reserve(&mut self, n: u32) -> Result<(), SymErr>
+        ensures full { (result ≡ Err errors.TableFull) ↔ (most_symbols < length self.old.list + n) }
+        ensures list { self.new.list ≡ self.old.list }
+        ensures room { OnOk result (n ≤ self.new.spare) }
+        ensures no_less { self.old.spare ≤ self.new.spare }
+    {
+        if self.list.len() as u64 + u64::from(n) > u64::from(SYMBOLS) {
+            return Err(SymErr::TableFull);
+        }
+        if n <= self.spare {
+            return Ok(());
+        }
+        let Ok(()) = self.list.reserve(n as usize) else {
+            return Err(SymErr::NoMemory);
+        };
+        let Ok(()) = self.names.reserve(n) else {
+            return Err(SymErr::NoMemory);
+        };
+        let Ok(()) = self.values.reserve(n) else {
+            return Err(SymErr::NoMemory);
+        };
+        self.spare = n;
+        Ok(())
+    }
+
+    /// As `Symbols::add`.
+    pub(crate) fn add(&mut self, symbol: Symbol)
+        requires { 0 < self.old.spare }
+        ensures { table_of self.new ≡ added (table_of self.old) symbol }
+    {
+        let name = hash_name(symbol.name.bytes());
+        let value = hash_value(symbol.value);
+        self.names.add(name);
+        self.values.add(value);
+        self.list.push_reserved(symbol);
+        self.spare -= 1;
+    }
+
+    /// The newest symbol of the name, or the newest global one.
+    pub(crate) fn find_named(&self, name: &[u8], global_only: bool) -> Option<&Symbol>
+        ensures { option_copied result ≡ newest (is_sought global_only name.now) self.now.list }
+    {
+        newest_named(&self.list, &self.names, name, global_only)
+    }
+
+    /// The newest symbol of the value.
+    pub(crate) fn find_valued(&self, value: u32) -> Option<&Symbol>
+        ensures { option_copied result ≡ find_by_value self.now.list value }
+    {
+        newest_valued(&self.list, &self.values, value)
+    }
+
+    /// As `Symbols::remove_group`.
+    pub(crate) fn remove_group(&mut self, group: u32) -> u32
+        ensures count { result ≡ count_of group self.old.list }
+        ensures list { self.new.list ≡ without_group group self.old.list }
+        ensures spare { self.new.spare ≡ self.old.spare }
+    {
+        let before = self.list.len();
+        drop_group(&mut self.list, group);
+        link_by_name(&self.list, &mut self.names);
+        link_by_value(&self.list, &mut self.values);
+        (before - self.list.len()) as u32
+    }
+}
+
+fn drop_group(list: &mut Vec<Symbol>, group: u32)
+    ensures items { list.new.items ≡ without_group group list.old.items }
+    ensures capacity { vec_capacity list.new ≡ vec_capacity list.old }
+    ensures counted { length list.new.items + count_of group list.old.items ≡ length list.old.items }
+{
+    list.retain(|symbol| symbol.group != group);
+}

@@ -1,0 +1,5 @@
+use Rattle.wait_order.proofs.Turns.{put_in}
+use Rattle.wait_order.proofs.laws.put_law.Goals as goal
+
+pub returns : goal.returns
+returns c = put_in

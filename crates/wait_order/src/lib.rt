@@ -1,0 +1,11 @@
+//! The order of waiters: who waits at which place, and who is first there.
+#![tactic(auto)]
+
+mod laws;
+mod places;
+#[cfg(test)]
+mod tests;
+mod waits;
+
+pub use laws::{first_law, put_law, take_law};
+pub use waits::{Waiter, Waits};

@@ -1,0 +1,6 @@
+use Rattle.std.proofs.Common.{◌∙◌}
+use Rattle.wind_core.proofs.Writes.{first_kept}
+use Rattle.wind_core.proofs.kern.Kern.first_waiter.Goals as goal
+
+pub returns : goal.returns
+returns c = c.first.ensures ∙ first_kept c.self.inside c.args.self.now c.args.place c.self.invariant c.self.view_is

@@ -1,0 +1,152 @@
+-- A step of an interrupt routine goes with what the queues hold.
+use Rattle.std.proofs.Common.{◌≡◌, ℕ, true, false, not, ◌&&◌, cond, eqb, List, Option, None, Some, refl, sym, subst, arith}
+use Rattle.std.specs.Prelude.{slice_index}
+use Rattle.wind_base.specs.declared.errno.Errno.{Errno}
+use Rattle.wind_base.specs.declared.errno.Errno.TheVariants as errors
+use Rattle.wind_base.specs.declared.gate.Gate.{Gate}
+use Rattle.wind_base.specs.declared.gate.Gate.TheVariants as gates
+use Rattle.wind_base.specs.Gates.{gate_number}
+use Rattle.ppc_core.specs.Instructions.{exec_of}
+use Rattle.ppc_core.specs.Outcomes.{Outcome, Done, Trapped}
+use Rattle.ppc_core.specs.declared.trap.Trap.TheVariants as traps
+use Rattle.board_bus.specs.BusState.{BusState}
+use Rattle.board_bus.specs.Access.{board_meaning, fetched}
+use Rattle.sem_plain.specs.Calls as plain
+use Rattle.msg_queue.specs.State.{Scene}
+use Rattle.msg_queue.specs.Kept.{IsKept}
+use Rattle.msg_queue.proofs.Traffic.{balanced_send}
+use Rattle.kernel_calls.specs.State.{WorldState}
+use Rattle.kernel_calls.specs.Actors.{caller_words}
+use Rattle.kernel_calls.specs.TaskRows.{target}
+use Rattle.kernel_calls.specs.SemRows as sem
+use Rattle.kernel_calls.specs.QueueRows.{sending}
+use Rattle.wind_core.specs.Moves.{live_id}
+use Rattle.kernel_calls.specs.Calls.{scene_of, is_built, is_isr_callable, is_shells_own, task_at, left_gate, Row, row, row_unless, allowed_row, made, answered, call}
+use Rattle.kernel_calls.specs.declared.actor.Actor.TheVariants.{Interrupt}
+use Rattle.wind_machine.specs.Processor.{bus_of}
+use Rattle.wind_machine.specs.Routine.{routine_regs, next_routine, given_up, routine_call, routine_gate, routine_executed, routine_word, routine_at, routine_under, routine_part}
+use Rattle.wind_messages.specs.Messages.{sent_at, sent_under}
+use Rattle.wind_messages.proofs.Rows.{Balances, LeavesQueues, leaves, suspends, resumes, verifies, unchanged, plain_gives, flushes, priorities, tells}
+use Rattle.wind_messages.proofs.Calls.{same_stock}
+
+-- ---- which gate is that of a send
+module _ (r : List ℕ) where
+  -- none at which a routine is refused, or that is not built
+  none_refused : (g : Gate) → is_isr_callable g ≡ false → sent_at g r ≡ None
+  none_refused gates.MsgQSend e = absurd (cc)
+  none_refused g e = refl
+
+  none_own : (g : Gate) → is_shells_own g ≡ true → sent_at g r ≡ None
+  none_own gates.MsgQSend e = absurd (cc)
+  none_own g e = refl
+
+  none_missing : (g : Gate) → is_built g ≡ false → sent_at g r ≡ None
+  none_missing gates.MsgQSend e = absurd (cc)
+  none_missing g e = refl
+
+  none_return : (g : Gate) → eqb (gate_number g) (gate_number gates.InterruptReturn) ≡ true → sent_at g r ≡ None
+  none_return gates.MsgQSend e = absurd (cc)
+  none_return g e = refl
+
+-- ---- the row that is made
+module _ (w : WorldState) (kept : IsKept (scene_of w)) (r : List ℕ) where
+  still : Balances w w (scene_of w) None
+  still = leaves w w (scene_of w) refl (omega arith)
+
+  by_objects : (x : sem.ObjectRow) (v : WorldState) → v.objects.queues.queues ≡ x.objects.queues.queues → v.kern.next_id ≡ x.kern.next_id → LeavesQueues w.kern w.objects x → Balances w v (scene_of w) None
+  by_objects x v queues ids p = leaves w v (scene_of w) (subst (λ q. q ≡ w.objects.queues.queues) (sym queues) p.queues) (omega (arith, p.ids, ids))
+
+  gives : (id : ℕ) → LeavesQueues w.kern w.objects (sem.give_row w.kern w.objects Interrupt id)
+  gives id =
+      elim (sem.is_mutex w.objects id) as (λ b. LeavesQueues w.kern w.objects (cond b (sem.refused w.kern w.objects errors.NotIsrCallable) (sem.plain_give w.kern w.objects id))) [
+        | true ↦ unchanged w.kern w.objects errors.NotIsrCallable
+        | false ↦ plain_gives w.kern w.objects id (plain.give_refusal (sem.sems w.kern w.objects) id)
+      ]
+
+  abbrev behind : Gate → WorldState
+  behind g = (row g w Interrupt r).world
+
+  rows_balance : (g : Gate) → is_isr_callable g ≡ true → Balances w (behind g) (scene_of w) (sent_at g r)
+  rows_balance gates.TaskSuspend e = leaves w (behind gates.TaskSuspend) (scene_of w) refl (omega (arith, suspends w.kern (target w.kern Interrupt (slice_index r 3))))
+  rows_balance gates.TaskResume e = leaves w (behind gates.TaskResume) (scene_of w) refl (omega (arith, resumes w.kern (target w.kern Interrupt (slice_index r 3))))
+  rows_balance gates.TaskPrioritySet e = by_objects _ (behind gates.TaskPrioritySet) refl refl (priorities w.kern w.objects (slice_index r 4) (target w.kern Interrupt (slice_index r 3)))
+  rows_balance gates.TaskPriorityGet e = tells w kept 0 r (slice_index r 4) (task_at w.kern (target w.kern Interrupt (slice_index r 3)))
+  rows_balance gates.TaskIdVerify e = leaves w (behind gates.TaskIdVerify) (scene_of w) refl (omega (arith, verifies w.kern (live_id w.kern.tasks (slice_index r 3))))
+  rows_balance gates.TickGet e = still
+  rows_balance gates.SemGive e = by_objects _ (behind gates.SemGive) refl refl (gives (slice_index r 3))
+  rows_balance gates.SemFlush e = by_objects _ (behind gates.SemFlush) refl refl (flushes w.kern w.objects (slice_index r 3))
+  rows_balance gates.MsgQSend e = balanced_send (scene_of w) (slice_index r 3) (sending Interrupt (slice_index r 4) (slice_index r 5) (slice_index r 6) (slice_index r 7)) kept
+  rows_balance gates.MsgQNumMsgs e = still
+  rows_balance gates.WdStart e = leaves w (behind gates.WdStart) (scene_of w) refl (omega arith)
+  rows_balance gates.WdCancel e = leaves w (behind gates.WdCancel) (scene_of w) refl (omega arith)
+  rows_balance gates.IntLock e = still
+  rows_balance gates.IntUnlock e = still
+  rows_balance gates.IntContext e = still
+  rows_balance gates.ErrnoGet e = still
+  rows_balance gates.ErrnoSet e = leaves w (behind gates.ErrnoSet) (scene_of w) refl (omega arith)
+  rows_balance g e = absurd (cc)
+
+  -- one that is refused before changes nothing
+  refused : (g : Gate) (e : Errno) → sent_at g r ≡ None → Balances w (row_unless (Some e) g w Interrupt r).world (scene_of w) (sent_at g r)
+  refused g e none = subst (Balances w w (scene_of w)) (sym none) still
+
+  allowed_balances : (g : Gate) → Balances w (allowed_row g w Interrupt r).world (scene_of w) (sent_at g r)
+  allowed_balances g =
+      elim (is_isr_callable g) as (λ b. is_isr_callable g ≡ b → Balances w (row_unless (cond (true && not b) (Some errors.NotIsrCallable) (cond (is_shells_own g && true) (Some errors.NotShell) None)) g w Interrupt r).world (scene_of w) (sent_at g r)) [
+        | true ↦ λ allowed.
+            elim (is_shells_own g) as (λ b. is_shells_own g ≡ b → Balances w (row_unless (cond (b && true) (Some errors.NotShell) None) g w Interrupt r).world (scene_of w) (sent_at g r)) [
+              | true ↦ λ own. refused g errors.NotShell (none_own r g own)
+              | false ↦ λ other. rows_balance g allowed
+            ] refl
+        | false ↦ λ never. refused g errors.NotIsrCallable (none_refused r g never)
+      ] refl
+
+-- how a routine is answered touches no queue, and no id
+answered_queues : (g : Gate) (r : Row) → (answered g Interrupt r).objects.queues.queues ≡ r.world.objects.queues.queues
+answered_queues g r = grind (arith)
+
+answered_ids : (g : Gate) (r : Row) → (answered g Interrupt r).kern.next_id ≡ r.world.kern.next_id
+answered_ids g r = grind (arith)
+
+-- ---- a step of a routine, with the send that it is, if it is one
+module _ (w : WorldState) (kept : IsKept (scene_of (left_gate w Interrupt))) where
+  abbrev here : Scene
+  here = scene_of (left_gate w Interrupt)
+
+  abbrev words : List ℕ
+  words = caller_words w Interrupt
+
+  calls_balance : (g : Gate) → Balances w (routine_call g w) here (sent_at g words)
+  calls_balance g =
+      let r = made g w Interrupt in
+      same_stock w r.world (routine_call g w) here (sent_at g words) (answered_queues g r) (answered_ids g r) (allowed_balances (left_gate w Interrupt) kept words g)
+
+  left_alone : (v : WorldState) → v.objects.queues.queues ≡ w.objects.queues.queues → v.kern.next_id ≡ w.kern.next_id → Balances w v here None
+  left_alone v same ids = leaves w v here same (omega (arith, ids))
+
+  gates_balance : (g : Gate) → Balances w (routine_gate g w) here (sent_at g words)
+  gates_balance g =
+      elim (eqb (gate_number g) (gate_number gates.InterruptReturn)) as (λ b. eqb (gate_number g) (gate_number gates.InterruptReturn) ≡ b → Balances w (cond b (next_routine w) (cond (is_built g) (routine_call g w) (given_up traps.Access w))) here (sent_at g words)) [
+        | true ↦ λ e. subst (Balances w (next_routine w) here) (sym (none_return words g e)) (left_alone (next_routine w) refl refl)
+        | false ↦ λ e.
+            elim (is_built g) as (λ b. is_built g ≡ b → Balances w (cond b (routine_call g w) (given_up traps.Access w)) here (sent_at g words)) [
+              | true ↦ λ built. calls_balance g
+              | false ↦ λ built. subst (Balances w (given_up traps.Access w) here) (sym (none_missing words g built)) (left_alone (given_up traps.Access w) refl refl)
+            ] refl
+      ] refl
+
+  executes : (o : Outcome BusState) → Balances w (routine_executed o w) here None
+  executes (Done regs bus) = left_alone (routine_executed (Done regs bus) w) refl refl
+  executes (Trapped trap) = left_alone (given_up trap w) refl refl
+
+  words_balance : (o : Option ℕ) → Balances w (routine_word o w) here None
+  words_balance None = left_alone (given_up traps.Access w) refl refl
+  words_balance (Some word) = executes (exec_of board_meaning (routine_regs w) word (bus_of w))
+
+  at_balances : (o : Option Gate) → Balances w (routine_at o w) here (sent_under o words)
+  at_balances None = words_balance (fetched (bus_of w) (routine_regs w).pc)
+  at_balances (Some g) = gates_balance g
+
+  pub routine_balances : Balances w (routine_part w) here (sent_under (routine_under w) words)
+  unfolding routine_part
+  routine_balances = at_balances (routine_under w)
