@@ -1,7 +1,7 @@
 -- The kernel's calls, one row for each gate.
-use Rattle.std.specs.Prelude.{ℕ, List, ◌++◌, slice_index, slice_set, Option, None, Some, Bool, true, false, ◌&&◌, not, if◌then◌else◌}
+use Rattle.std.specs.Prelude.{ℕ, List, ◌++◌, length, slice_index, slice_set, Option, None, Some, Bool, true, false, ◌&&◌, ◌||◌, ◌==◌, not, nat_lt, if◌then◌else◌}
 use Rattle.std.specs.Option.{option_map}
-use Rattle.wind_base.specs.Limits.{error_word, ok_word}
+use Rattle.wind_base.specs.Limits.{error_word, ok_word, longest_name}
 use Rattle.wind_base.specs.Errno.{errno_number}
 use Rattle.wind_base.specs.declared.regs.Regs.{Regs}
 use Rattle.wind_base.specs.declared.gate.Gate.{Gate}
@@ -78,6 +78,7 @@ is_built gates.SymAdd = true
 is_built gates.Printf = true
 is_built gates.ErrnoGet = true
 is_built gates.ErrnoSet = true
+is_built gates.Ld = true
 is_built gates.Unld = true
 is_built gates.I = true
 is_built gates.Lkup = true
@@ -134,6 +135,7 @@ refusal_word g = if makes_object g then ok_word else error_word
 abbrev pub may_lack_memory : Gate → Bool
 may_lack_memory gates.SymAdd = true
 may_lack_memory gates.MsgQCreate = true
+may_lack_memory gates.Ld = true
 may_lack_memory gates.I = true
 may_lack_memory gates.Lkup = true
 may_lack_memory gates.ModuleShow = true
@@ -217,7 +219,7 @@ abbrev pub with_errno : WorldState → Actor → ℕ → WorldState
 with_errno w (Task who) n = record w { kern = set_errno w.kern who n }
 with_errno w Interrupt n = record w { int_errno = n }
 
--- the row of a gate, with the words r in its caller's registers; one that isn't built changes nothing
+-- the row of a gate, with the words r in its caller's registers; that of ld where it asks for no file, as its name can't be read; one that isn't built changes nothing
 abbrev pub row : Gate → WorldState → Actor → List ℕ → Row
 row gates.TaskSpawn w a r = of_spawn w (spawned_if (spawn_state w) (task_wanted w.ram r))
 row gates.Sp w a r = of_quick w (spawned_if (spawn_state w) (quick_wanted w.ram r))
@@ -263,6 +265,7 @@ row gates.Printf w a r = of_text w (show.printf_row w.ram r)
 row gates.ErrnoGet w a r = with_reply w (Answer (errno_of w a))
 row gates.ErrnoSet w a r = with_reply (with_errno w a (slice_index r 3)) (Answer ok_word)
 row gates.I w a r = of_text w (show.tasks_row w.kern)
+row gates.Ld w a r = with_reply w (Refusal errors.BadAddress)
 row gates.Unld w a r = of_modules w (unload_row w.symbols w.modules w.part w.ram (slice_index r 3))
 row gates.Lkup w a r = of_text w (show.lookup_row w.symbols w.ram (slice_index r 3))
 row gates.ModuleShow w a r = of_text w (show.modules_row w.modules)
@@ -334,3 +337,31 @@ told_by Gone = called.Ended
 
 abbrev pub told : Gate → WorldState → Actor → Called
 told g w a = told_by (made g w a).reply
+
+-- ---- the file that a call asks for
+-- a name has from 1 to 255 bytes
+abbrev pub file_name : Option (List ℕ) → Option (List ℕ)
+file_name None = None
+file_name (Some name) = if length name == 0 || nat_lt longest_name (length name) then None else Some name
+
+-- the name at the address in r5, where the shell's task makes the call
+abbrev pub name_wanted : WorldState → Actor → Option (List ℕ)
+name_wanted w a = if is_shell a then file_name (string_at w.ram (slice_index (caller_words w a) 5)) else None
+
+-- ld asks for the file of that name, and no other call asks for any
+abbrev pub file_wanted : Gate → WorldState → Actor → Option (List ℕ)
+file_wanted gates.Ld w a = name_wanted w a
+file_wanted g w a = None
+
+-- the call was made
+abbrev pub is_made : Called → Bool
+is_made called.Done = true
+is_made called.Pended = true
+is_made called.Ended = true
+is_made (called.NeedsFile name) = false
+is_made called.NoMemory = false
+
+-- the file that an answer asks for
+abbrev pub asked_for : Called → Option (List ℕ)
+asked_for (called.NeedsFile name) = Some name
+asked_for c = None

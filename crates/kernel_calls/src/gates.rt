@@ -55,6 +55,7 @@ pub fn is_built(gate: Gate) -> bool
             | Gate::Printf
             | Gate::ErrnoGet
             | Gate::ErrnoSet
+            | Gate::Ld
             | Gate::Unld
             | Gate::I
             | Gate::Lkup
@@ -128,6 +129,12 @@ pub fn may_lack_memory(gate: Gate) -> bool
 {
     matches!(
         gate,
-        Gate::SymAdd | Gate::MsgQCreate | Gate::I | Gate::Lkup | Gate::ModuleShow | Gate::D
+        Gate::SymAdd
+            | Gate::MsgQCreate
+            | Gate::Ld
+            | Gate::I
+            | Gate::Lkup
+            | Gate::ModuleShow
+            | Gate::D
     )
 }

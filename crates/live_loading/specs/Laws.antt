@@ -1,0 +1,38 @@
+-- What follows of the definitions of a load alone.
+use Rattle.std.specs.Prelude.{◌≡◌, ℕ, ◌+◌, ◌<◌, List, slice_index}
+use Rattle.mem_partition.specs.Laws.{IsIn}
+use Rattle.mem_partition.specs.declared.block.Block.{Block}
+use Rattle.std.specs.List.{Contains}
+use Rattle.wind_core.specs.State.{KernState, task_of}
+use Rattle.kernel_calls.specs.State.{WorldState}
+use Rattle.kernel_calls.specs.Actors.{MayCall, shell_id}
+use Rattle.kernel_calls.specs.Kept.{IsWorld, Within}
+use Rattle.kernel_calls.specs.Laws.{Passes, call_sinces}
+use Rattle.live_loading.specs.Said.{FileSaid}
+use Rattle.live_loading.specs.Loading.{shell, load_call}
+
+-- a load keeps the facts of the world, whatever is said of its file
+abbrev pub LoadLaw : Type 0
+LoadLaw = (w : WorldState) (name : List ℕ) (said : FileSaid) (n : ℕ) → IsWorld w → MayCall w.kern shell → Within n w
+    → Passes w (load_call w name said) shell (n + 1) call_sinces 1
+
+-- the address lies in a block that one partition has and the other hasn't
+abbrev pub IsFresh : WorldState → WorldState → ℕ → Type 0
+IsFresh w v a = (b : Block) × Contains v.part.blocks b × (Contains w.part.blocks b → ⊥) × IsIn a b.addr b.size
+
+-- what a load leaves as it was: the objects, the devices, the watchdogs, the other tasks and the counters, and each byte of RAM outside the blocks that it took
+pub record OnlyLoads (w v : WorldState) : Type 0 where
+  pub objects : v.objects ≡ w.objects
+  pub slots : v.slots ≡ w.slots
+  pub names : v.names ≡ w.names
+  pub watch : v.watch ≡ w.watch
+  pub int_errno : v.int_errno ≡ w.int_errno
+  pub others : (id : ℕ) → (id ≡ shell_id → ⊥) → task_of v.kern.tasks id ≡ task_of w.kern.tasks id
+  pub tick : v.kern.tick ≡ w.kern.tick
+  pub slice : v.kern.slice ≡ w.kern.slice
+  pub sinces : v.kern.next_since ≡ w.kern.next_since
+  pub last : v.kern.last ≡ w.kern.last
+  pub ram : (a : ℕ) → (IsFresh w v a → ⊥) → slice_index v.ram a ≡ slice_index w.ram a
+
+abbrev pub AloneLaw : Type 0
+AloneLaw = (w : WorldState) (name : List ℕ) (said : FileSaid) → IsWorld w → MayCall w.kern shell → OnlyLoads w (load_call w name said)

@@ -1,0 +1,56 @@
+-- The call that loads a module, with what is said of its file.
+use Rattle.std.specs.Prelude.{ℕ, List, ◌++◌, slice_index, Result, Ok, Err, codes}
+use Rattle.wind_base.specs.Limits.{ok_word}
+use Rattle.wind_base.specs.Errno.{errno_number}
+use Rattle.wind_base.specs.declared.errno.Errno.TheVariants as errors
+use Rattle.elf_read.specs.declared.module.Module.{Module}
+use Rattle.elf_read.specs.Contents.{module_at}
+use Rattle.module_image.specs.declared.segments.Places.{Places}
+use Rattle.module_loader.specs.declared.module.LoadErr.{LoadErr}
+use Rattle.module_loader.specs.declared.module.Loaded.{Loaded}
+use Rattle.module_loader.specs.Loading.{LoaderState, file_verdict, loaded, told}
+use Rattle.kernel_calls.specs.State.{WorldState}
+use Rattle.kernel_calls.specs.Actors.{shell_id, caller_words}
+use Rattle.kernel_calls.specs.Calls.{left_gate, with_answer, with_errno}
+use Rattle.kernel_calls.specs.declared.actor.Actor.{Actor}
+use Rattle.kernel_calls.specs.declared.actor.Actor.TheVariants.{Task}
+use Rattle.live_loading.specs.Said.{FileSaid, Held, Missing, TooLong}
+use Rattle.live_loading.specs.Texts.{reason, refused_text, undefined_text}
+
+-- the shell's task makes the call
+abbrev pub shell : Actor
+shell = Task shell_id
+
+-- what of the world a load reads and changes, and the world with that
+abbrev pub loader_state : WorldState → LoaderState
+loader_state w = record { kern = w.kern; symbols = w.symbols; modules = w.modules; part = w.part; ram = w.ram }
+
+abbrev pub with_loader : WorldState → LoaderState → WorldState
+with_loader w s = record w { kern = s.kern; symbols = s.symbols; modules = s.modules; part = s.part; ram = s.ram }
+
+-- the world that has written a text besides
+abbrev pub writing : WorldState → List ℕ → WorldState
+writing w text = record w { output = w.output ++ text }
+
+-- the module is loaded at these places: the names that nothing defines are written, and the answer is its id
+abbrev pub accepted : WorldState → List ℕ → ℕ → Module → Places → WorldState
+accepted w name mode m at =
+    with_answer (writing (with_loader w (loaded (loader_state w) name m mode at)) (undefined_text (told (loader_state w) m).undefined)) shell w.kern.next_id
+
+-- nothing is loaded: the reason is written, and the answer is 0
+abbrev pub refused : WorldState → List ℕ → List ℕ → WorldState
+refused w name words = with_answer (with_errno (writing w (refused_text name words)) shell (errno_number errors.LoadFailed)) shell ok_word
+
+abbrev pub by_verdict : WorldState → List ℕ → ℕ → Module → Result Places LoadErr → WorldState
+by_verdict w name mode m (Ok at) = accepted w name mode m at
+by_verdict w name mode m (Err e) = refused w name (reason e)
+
+-- the effect of the call under a name, in a mode
+abbrev pub effect : WorldState → List ℕ → ℕ → FileSaid → WorldState
+effect w name mode (Held file) = by_verdict w name mode (module_at file) (file_verdict (loader_state w) file mode)
+effect w name mode Missing = refused w name (codes "not found")
+effect w name mode TooLong = refused w name (codes "too long")
+
+-- the call: the shell's task goes on behind its gate, and the effect is made, in the mode of r3; r4 is not used
+unfoldable pub load_call : WorldState → List ℕ → FileSaid → WorldState
+load_call w name said = effect (left_gate w shell) name (slice_index (caller_words w shell) 3) said

@@ -1,0 +1,11 @@
+//! Loading a module during a run: the call `ld`, with what is said of its file.
+#![tactic(auto)]
+
+mod answer;
+mod laws;
+mod load;
+mod text;
+
+pub use answer::FileAnswer;
+pub use laws::loading_law;
+pub use load::kernel_load;
