@@ -42,6 +42,7 @@ record Alike (k j : KernState) : Type 0 where
   slice : j.slice ≡ k.slice
   sinces : j.next_since ≡ k.next_since
   last : j.last ≡ k.last
+  ids : k.next_id ≤ j.next_id
 
 alike_on : (k j i : KernState) → Alike k j → Alike j i → Alike k i
 alike_on k j i a b = record {
@@ -50,6 +51,7 @@ alike_on k j i a b = record {
   slice = b.slice ∙ a.slice;
   sinces = b.sinces ∙ a.sinces;
   last = b.last ∙ a.last;
+  ids = omega (arith, a.ids, b.ids);
 }
 
 -- a change of the shell's task changes no other
@@ -66,7 +68,7 @@ others_stay f keeps (t ∷ ts) id other =
     ]
 
 alike_change : (k : KernState) (f : Task → Task) → ((t : Task) → (f t).id ≡ t.id) → Alike k (change_task k shell_id f)
-alike_change k f keeps = record { others = λ id other. others_stay f keeps k.tasks id other; tick = refl; slice = refl; sinces = refl; last = refl }
+alike_change k f keeps = record { others = λ id other. others_stay f keeps k.tasks id other; tick = refl; slice = refl; sinces = refl; last = refl; ids = omega arith }
 
 alike_left : (k : KernState) → Alike k (leave_gate k shell_id)
 alike_left k = alike_change k past_gate (λ t. refl)
@@ -82,7 +84,7 @@ alike_refused k =
     (alike_on j i (answer i shell_id ok_word) (alike_change j (λ t. record t { errno = errno_number errors.LoadFailed }) (λ t. refl)) (alike_answer i ok_word))
 
 alike_drawn : (k : KernState) → Alike k (drawn k)
-alike_drawn k = record { others = λ id other. refl; tick = refl; slice = refl; sinces = refl; last = refl }
+alike_drawn k = record { others = λ id other. refl; tick = refl; slice = refl; sinces = refl; last = refl; ids = omega arith }
 
 alike_accepted : (k : KernState) (value : ℕ) → Alike k (answer (drawn (leave_gate k shell_id)) shell_id value)
 alike_accepted k value =
@@ -93,7 +95,7 @@ alike_accepted k value =
 refused_alone : (w : WorldState) (name words : List ℕ) → OnlyLoads w (refused (left_gate w shell) name words)
 refused_alone w name words =
     let a = alike_refused w.kern in
-    record { objects = refl; slots = refl; names = refl; watch = refl; int_errno = refl; others = a.others; tick = a.tick; slice = a.slice; sinces = a.sinces; last = a.last; ram = λ a out. refl }
+    record { objects = refl; slots = refl; names = refl; watch = refl; int_errno = refl; others = a.others; tick = a.tick; slice = a.slice; sinces = a.sinces; last = a.last; ids = a.ids; ram = λ a out. refl }
 
 -- ---- an accepted load
 module _ (w : WorldState) (kept : IsWorld w) (name : List ℕ) (m : Module) (mode : ℕ) (at : Places) (known : IsModule m) (ok : verdict (loader_state (left_gate w shell)) m mode ≡ Ok at) where
@@ -133,6 +135,7 @@ module _ (w : WorldState) (kept : IsWorld w) (name : List ℕ) (m : Module) (mod
         slice = k.slice;
         sinces = k.sinces;
         last = k.last;
+        ids = k.ids;
         ram = λ a out. write_law.outside (loader_state w) name m mode at a (is_loader w kept) known same_verdict (λ p piece inside. out (fresh_byte v a p refl piece inside));
       }
 

@@ -1,5 +1,5 @@
 -- Numbers: what an accepted load counts, and bounds of the counts of a world.
-use Rattle.std.proofs.Common.{◌≡◌, ℕ, ◌+◌, ◌<◌, ◌≤◌, true, false, cond, leb, ltb, List, [], ◌∷◌, Some, None, arith}
+use Rattle.std.proofs.Common.{◌≡◌, ℕ, ◌+◌, ◌<◌, ◌≤◌, true, false, cond, leb, ltb, List, [], ◌∷◌, Some, None, refl, arith}
 use Rattle.std.specs.List.{All}
 use Rattle.std.proofs.lemmas.Bool.{leb-false, ltb-false}
 use Rattle.std.proofs.lemmas.List.Elements.{All-cons, All-weaker}
@@ -47,6 +47,8 @@ counts_bound w =
     let (n, tasks) = bound (λ t. t.locks + t.safe) w.kern.tasks in
     let (m, depths) = bound (λ r. r.1.depth) w.objects.mutexes in (
       n + m,
-      All-weaker (λ t. t.locks + t.safe ≤ n) (HasCounts (n + m)) (λ t h. (omega (arith, h), omega (arith, h))) w.kern.tasks tasks,
-      All-weaker (λ r. r.1.depth ≤ m) (λ r. r.1.depth ≤ n + m) (λ r h. omega (arith, h)) w.objects.mutexes depths,
+      (
+        All-weaker (λ t. t.locks + t.safe ≤ n) (HasCounts (n + m)) (λ t h. (omega (arith, h), omega (arith, h))) w.kern.tasks tasks,
+        All-weaker (λ r. r.1.depth ≤ m) (λ r. r.1.depth ≤ n + m) (λ r h. omega (arith, h)) w.objects.mutexes depths,
+      ),
     )

@@ -1,13 +1,12 @@
 -- What a load keeps.
-use Rattle.std.proofs.Common.{◌≡◌, ℕ, ◌+◌, ◌<◌, ◌≤◌, min, true, false, cond, eqb, List, [], ◌∷◌, ◌++◌, length, get_or, Result, Ok, Err, refl, ap, ◌∙◌, arith}
-use Rattle.std.specs.Prelude.{slice_index, codes}
+use Rattle.std.proofs.Common.{◌≡◌, ℕ, ◌+◌, ◌<◌, ◌≤◌, min, true, false, cond, eqb, List, [], ◌∷◌, ◌++◌, length, get_or, Result, Ok, Err, refl, sym, ap, ◌∙◌, subst, arith}
+use Rattle.std.specs.Prelude.{slice_index, codes, OnOk, OnErr}
 use Rattle.std.specs.List.{All}
 use Rattle.std.proofs.lemmas.List.{length-append}
 use Rattle.std.proofs.lemmas.List.Quantifiers.{all_pairs_push}
 use Rattle.wind_base.specs.Limits.{greatest_word, most_modules, most_symbols, ok_word}
 use Rattle.wind_base.specs.Errno.{errno_number}
 use Rattle.wind_base.specs.declared.errno.Errno.TheVariants as errors
-use Rattle.wind_base.specs.declared.gate.Gate.TheVariants as gates
 use Rattle.mem_partition.specs.State.{PartState, after_alloc}
 use Rattle.mem_partition.specs.declared.block.Class.TheVariants.{Kernel}
 use Rattle.elf_read.specs.declared.module.Module.{Module}
@@ -22,31 +21,35 @@ use Rattle.module_image.proofs.Counts.{count_law}
 use Rattle.module_loader.specs.declared.module.LoadErr.{LoadErr}
 use Rattle.module_loader.specs.declared.module.LoadedModule.{LoadedModule}
 use Rattle.module_loader.specs.Placing.{with_seg, with_text, with_data, with_needs}
-use Rattle.module_loader.specs.Loading.{LoaderState, count_refusal, verdict, file_verdict, loaded, record_of, told}
+use Rattle.module_loader.specs.Loading.{LoaderState, count_refusal, verdict, file_verdict, loaded, record_of, told, IsLoaded}
 use Rattle.module_loader.specs.Holding.{held_by, occurs}
 use Rattle.module_loader.specs.Live.{IsLoader}
 use Rattle.module_loader.proofs.Files.{is_file}
 use Rattle.module_loader.proofs.Applying.{is_accepted}
 use Rattle.module_loader.proofs.Owning.{write_law}
 use Rattle.module_loader.proofs.Holds.{load_keeps, held_by-loaded, none_before}
+use Rattle.task_block.specs.declared.task.Task.{Task}
+use Rattle.wind_core.specs.State.{KernState, Lives}
+use Rattle.wind_core.specs.Moves.{answer, change_task}
+use Rattle.wind_core.proofs.Ids.{lives_by, ids-change}
 use Rattle.kernel_calls.specs.State.{WorldState}
-use Rattle.kernel_calls.specs.Actors.{MayCall, caller_words}
+use Rattle.kernel_calls.specs.Actors.{MayCall, shell_id, caller_words}
 use Rattle.kernel_calls.specs.Calls.{left_gate, with_answer, with_errno}
 use Rattle.kernel_calls.specs.Kept.{KeepsPool, AreStacks, KeepsLoaded, task_stacks, IsWorld, Within}
 use Rattle.kernel_calls.specs.Laws.{call_sinces}
 use Rattle.kernel_calls.specs.Opening.{interrupt_stack}
-use Rattle.kernel_calls.specs.declared.reply.Reply.TheVariants.{Answer}
 use Rattle.kernel_calls.proofs.Advancing.{Advances, advances_on, advances_more, beside, by_kern, errno_advances}
+use Rattle.kernel_calls.proofs.Goes.{goes-answer}
 use Rattle.kernel_calls.proofs.SemGoes.{drawn, goes-draw}
-use Rattle.kernel_calls.proofs.ObjectMoves.{objects-draw}
+use Rattle.kernel_calls.proofs.ObjectMoves.{objects-draw, objects-answer}
 use Rattle.kernel_calls.proofs.Stacks.{pool-alloc, stacks-alloc}
-use Rattle.kernel_calls.proofs.Passing.{left_advances, replied_advances}
+use Rattle.kernel_calls.proofs.Passing.{left_advances}
 use Rattle.kernel_calls.proofs.Serves.{passes_by}
 use Rattle.live_loading.specs.Said.{FileSaid, Held, Missing, TooLong}
 use Rattle.live_loading.specs.Texts.{reason, refused_text, undefined_text}
 use Rattle.live_loading.specs.Loading.{shell, loader_state, with_loader, writing, accepted, refused, by_verdict, effect, load_call}
 use Rattle.live_loading.specs.Laws.{LoadLaw}
-use Rattle.live_loading.proofs.Counted.{Fits, fits}
+use Rattle.live_loading.proofs.Counted.{Fits, fits, counts_bound}
 
 -- ---- the blocks of a module
 pool_seg : (p : PartState) (n : Need) → KeepsPool p → KeepsPool (with_seg p n)
@@ -136,7 +139,7 @@ writing_advances : (w : WorldState) → IsWorld w → (n : ℕ) → Within n w �
 writing_advances w kept n within text = beside w kept n within w.slots (w.output ++ text) w.int_errno
 
 answer_advances : (w : WorldState) → IsWorld w → (n : ℕ) → Within n w → (value : ℕ) → Advances w (with_answer w shell value) n 0 0
-answer_advances w kept n within value = replied_advances w kept n within gates.Ld shell (Answer value)
+answer_advances w kept n within value = by_kern w kept (answer w.kern shell_id value) n 0 (goes-answer w.kern n kept.kern within.0 shell_id value) (objects-answer w.kern w.objects kept.kern kept.objects shell_id value) within.1
 
 refused_advances : (w : WorldState) → IsWorld w → (n : ℕ) → Within n w → (name words : List ℕ) → Advances w (refused w name words) n 0 0
 refused_advances w kept n within name words =
@@ -179,3 +182,23 @@ pub load_law : LoadLaw
 load_law w name said n kept may within =
     passes_by w (load_call w name said) shell (n + 1) call_sinces 1
     (advances_more w (load_call w name said) n (n + 1) 0 call_sinces 0 1 (omega arith) (omega arith) (omega arith) (load_advances w name said n kept may within))
+
+-- ---- who lives
+-- the shell's task goes on behind its gate, and is answered
+pub lives_changed : (k j : KernState) (who id : ℕ) (f : Task → Task) → ((t : Task) → (f t).id ≡ t.id) → j ≡ change_task k who f → Lives k id → Lives j id
+lives_changed k j who id f keeps is live = subst (λ (i : KernState). Lives i id) (sym is) (lives_by (change_task k who f).tasks k.tasks id (ids-change k.tasks who f keeps) live)
+
+pub lives_loaded : (v : Result Places LoadErr) (s : LoaderState) (name : List ℕ) (m : Module) (mode : ℕ) (t : LoaderState) (id : ℕ) → IsLoaded v s name m mode t → Lives s.kern id → Lives t.kern id
+unfolding loaded
+lives_loaded (Err e) s name m mode t id to live = absurd to
+lives_loaded (Ok at) s name m mode t id to live = subst (λ (u : LoaderState). Lives u.kern id) (sym to) live
+
+-- ---- the kept facts
+pub kept_by : (w x : WorldState) (name : List ℕ) (said : FileSaid) → IsWorld w → MayCall w.kern shell → x ≡ load_call w name said → IsWorld x
+kept_by w x name said kept may is =
+    let (n, within) = counts_bound w in
+    subst IsWorld (sym is) (load_advances w name said n kept may within).kept
+
+pub kept_either : {E : Type 0} (r : Result Unit E) (w x : WorldState) (name : List ℕ) (said : FileSaid) → IsWorld w → MayCall w.kern shell → OnOk r (x ≡ load_call w name said) → OnErr r (x ≡ w) → IsWorld x
+kept_either (Ok u) w x name said kept may ok err = kept_by w x name said kept may ok
+kept_either (Err e) w x name said kept may ok err = subst IsWorld (sym err) kept

@@ -74,12 +74,38 @@ fn load_held(alloc: Global, w: &mut World, name: &Name, file: &[u8]) -> Result<(
     let regs = caller_regs(&w.kern, &w.watch, &Actor::Task(shell_id()));
     match read(alloc, file) {
         Ok(m) => load_read(alloc, w, name, &m, regs.gpr[3]),
-        Err(ElfErr::NoMemory) => Err(NoMemory),
-        Err(e) => {
-            refuse(w, name, Cause::Refused(LoadErr::Elf(e)));
-            Ok(())
-        }
+        Err(e) => match e {
+            ElfErr::NoMemory => Err(NoMemory),
+            _ => {
+                refuse(w, name, Cause::Refused(LoadErr::Elf(e)));
+                Ok(())
+            }
+        },
     }
+}
+
+// Makes the call with what is said of the file. For want of memory nothing changes.
+#[tactic(auto, unfolding(crate::specs::Loading::load_call))]
+fn load_said(
+    alloc: Global,
+    w: &mut World,
+    name: &Name,
+    file: &FileAnswer,
+) -> Result<(), NoMemory>
+    requires live { Acts w.old.kern shell }
+    requires kept { IsWorld (world_with [] w.old) }
+    requires room { 4096 ≤ w.old.out.room }
+    ensures ok { OnOk result (world_seen ⟦<dyn Device as Device>⟧ w.new
+        ≡ load_call (world_seen ⟦<dyn Device as Device>⟧ w.old) name.now (said_of file.now)) }
+    ensures err { OnErr result (world_seen ⟦<dyn Device as Device>⟧ w.new ≡ world_seen ⟦<dyn Device as Device>⟧ w.old) }
+    ensures holds { HoldsSpace w.old.out w.new.out }
+{
+    match file {
+        FileAnswer::File(bytes) => return load_held(alloc, w, name, bytes),
+        FileAnswer::NoFile => refuse(w, name, Cause::NotFound),
+        FileAnswer::LongFile => refuse(w, name, Cause::LongFile),
+    }
+    Ok(())
 }
 
 /// Makes the call of `ld` by the shell's task, which asks for the file of this name, with what is said of that file: the
@@ -102,10 +128,5 @@ pub fn kernel_load(
     ensures kept { IsWorld (world_with [] w.new) }
     ensures holds { HoldsSpace w.old.out w.new.out }
 {
-    match file {
-        FileAnswer::File(bytes) => return load_held(alloc, w, name, bytes),
-        FileAnswer::NoFile => refuse(w, name, Cause::NotFound),
-        FileAnswer::LongFile => refuse(w, name, Cause::LongFile),
-    }
-    Ok(())
+    load_said(alloc, w, name, file)
 }

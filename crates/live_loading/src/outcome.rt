@@ -6,7 +6,7 @@ ghost use Rattle.wind_core.specs.State.{Lives};
 ghost use Rattle.kernel_calls.specs.Actors.{shell_id as shell_id_lem};
 ghost use Rattle.kernel_calls.specs.Calls.{left_gate, with_answer};
 ghost use Rattle.kernel_calls.specs.Seen.{world_seen};
-ghost use Rattle.live_loading.specs.Causes.{words_of};
+ghost use Rattle.live_loading.specs.Causes.{cause_text};
 ghost use Rattle.live_loading.specs.Loading.{shell, writing, refused};
 ghost use Rattle.live_loading.specs.Texts.{undefined_text};
 
@@ -33,13 +33,14 @@ pub(crate) fn refuse(w: &mut World, name: &Name, cause: Cause)
     requires live { Lives w.old.kern shell_id_lem }
     requires room { 4096 ≤ w.old.out.room }
     ensures world { world_seen ⟦<dyn Device as Device>⟧ w.new
-        ≡ refused (left_gate (world_seen ⟦<dyn Device as Device>⟧ w.old) shell) name.now (words_of cause) }
+        ≡ refused (left_gate (world_seen ⟦<dyn Device as Device>⟧ w.old) shell) name.now (cause_text cause) }
     ensures space { KeepsSpace w.old.out w.new.out }
 {
-    w.kern.leave_gate(shell_id());
+    let who = shell_id();
+    w.kern.leave_gate(who);
     add_refusal(&mut w.out, name, cause);
-    w.kern.set_errno(shell_id(), Errno::LoadFailed.number());
-    w.kern.answer(shell_id(), OK);
+    w.kern.set_errno(who, Errno::LoadFailed.number());
+    w.kern.answer(who, OK);
 }
 
 /// A module is loaded: the shell's task goes on behind its gate, the names that nothing defines are written, and the
@@ -52,7 +53,8 @@ pub(crate) fn accept(w: &mut World, loaded: &Loaded)
         (undefined_text loaded.now.undefined)) shell loaded.now.id }
     ensures space { KeepsSpace w.old.out w.new.out }
 {
-    w.kern.leave_gate(shell_id());
+    let who = shell_id();
+    w.kern.leave_gate(who);
     add_undefined(&mut w.out, loaded.undefined.as_slice());
-    w.kern.answer(shell_id(), loaded.id.get());
+    w.kern.answer(who, loaded.id.get());
 }

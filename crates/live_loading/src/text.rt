@@ -7,7 +7,7 @@ ghost use Rattle.symbol_table.specs.declared.symbol.Symbol.{Symbol};
 ghost use Rattle.elf_read.specs.Modules.{IsModule};
 ghost use Rattle.module_image.specs.Binding.{unbound};
 ghost use Rattle.live_loading.specs.Texts.{at_offset, file_reason, numbered, relocation_reason, reason, refused_text, undefined_line, undefined_text};
-ghost use Rattle.live_loading.specs.Causes.{words_of};
+ghost use Rattle.live_loading.specs.Causes.{cause_text};
 
 use elf_read::{ElfErr, Module, Sym, SymPlace};
 use itoa::Buffer;
@@ -103,7 +103,7 @@ fn add_reason(out: &mut OutBuf, e: LoadErr)
 // Adds why nothing is loaded: 40 bytes at most.
 fn add_cause(out: &mut OutBuf, cause: Cause)
     requires { 40 ≤ out.old.room }
-    ensures { Added 40 out.old out.new (words_of cause) }
+    ensures { Added 40 out.old out.new (cause_text cause) }
 {
     match cause {
         Cause::NotFound => add(out, b"not found"),
@@ -116,7 +116,7 @@ fn add_cause(out: &mut OutBuf, cause: Cause)
 #[tactic(auto, unfolding(crate::specs::Texts::refused_text))]
 pub(crate) fn add_refusal(out: &mut OutBuf, name: &Name, cause: Cause)
     requires { 302 ≤ out.old.room }
-    ensures { Added 302 out.old out.new (refused_text name.now (words_of cause)) }
+    ensures { Added 302 out.old out.new (refused_text name.now (cause_text cause)) }
 {
     add(out, b"ld: ");
     add(out, name.bytes());
