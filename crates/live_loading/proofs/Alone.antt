@@ -1,5 +1,5 @@
 -- What a load leaves as it was.
-use Rattle.std.proofs.Common.{◌≡◌, ℕ, ◌+◌, ◌<◌, ◌≤◌, true, false, cond, eqb, List, [], ◌∷◌, length, Option, Some, None, Result, Ok, Err, refl, sym, ap, ◌∙◌, subst, inl, inr, arith}
+use Rattle.std.proofs.Common.{◌≡◌, ℕ, ◌+◌, ◌<◌, ◌≤◌, cond, eqb, List, [], ◌∷◌, length, Some, Result, Ok, Err, refl, sym, ap, ◌∙◌, subst, inl, inr, arith}
 use Rattle.std.specs.Prelude.{slice_index, codes}
 use Rattle.std.specs.List.{Contains}
 use Rattle.std.proofs.lemmas.Bool.{cases_eq, eq-eqb, ne_eqb}
@@ -9,7 +9,6 @@ use Rattle.wind_base.specs.Errno.{errno_number}
 use Rattle.wind_base.specs.declared.errno.Errno.TheVariants as errors
 use Rattle.wind_lists.specs.Records.{change}
 use Rattle.task_block.specs.declared.task.Task.{Task}
-use Rattle.mem_partition.specs.declared.block.Block.{Block}
 use Rattle.mem_partition.specs.Laws.{IsIn, Meets}
 use Rattle.mem_partition.specs.State.{PartState}
 use Rattle.elf_read.specs.declared.module.Module.{Module}
@@ -18,14 +17,14 @@ use Rattle.elf_read.specs.Modules.{IsModule}
 use Rattle.module_image.specs.declared.segments.Places.{Places}
 use Rattle.module_image.specs.Image.{image}
 use Rattle.module_loader.specs.declared.module.LoadErr.{LoadErr}
-use Rattle.module_loader.specs.Loading.{LoaderState, Piece, pieces_of, count_refusal, verdict, file_verdict, loaded}
+use Rattle.module_loader.specs.Loading.{Piece, pieces_of, count_refusal, verdict, file_verdict, loaded}
 use Rattle.module_loader.specs.Live.{IsPiece}
 use Rattle.module_loader.proofs.Files.{is_file}
 use Rattle.module_loader.proofs.Owning.{write_law}
 use Rattle.wind_core.specs.State.{KernState, task_id, task_of}
 use Rattle.wind_core.specs.Moves.{change_task, past_gate, leave_gate, set_errno, answer, with_answer as answered}
 use Rattle.kernel_calls.specs.State.{WorldState}
-use Rattle.kernel_calls.specs.Actors.{MayCall, shell_id, caller_words}
+use Rattle.kernel_calls.specs.Actors.{shell_id, caller_words}
 use Rattle.kernel_calls.specs.Calls.{left_gate}
 use Rattle.kernel_calls.specs.Kept.{IsWorld}
 use Rattle.kernel_calls.proofs.SemGoes.{drawn}

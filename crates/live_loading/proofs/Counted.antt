@@ -26,10 +26,10 @@ fits modules next symbols e =
                 elim (ltb most_symbols symbols) as (λ b. ltb most_symbols symbols ≡ b → cond b (Some refusal.TableFull) None ≡ None → Fits modules next symbols) [
                   | true ↦ λ m t. absurd (cc)
                   | false ↦ λ m t. record {
-                      few = omega (arith, leb-false most_modules modules f);
-                      left = omega (arith, ltb-false greatest_id next l);
-                      room = omega (arith, ltb-false most_symbols symbols m);
-                    }
+                    few = omega (arith, leb-false most_modules modules f);
+                    left = omega (arith, ltb-false greatest_id next l);
+                    room = omega (arith, ltb-false most_symbols symbols m);
+                  }
                 ] refl r
           ] refl q
     ] refl e

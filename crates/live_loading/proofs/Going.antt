@@ -1,10 +1,9 @@
 -- What a load keeps.
-use Rattle.std.proofs.Common.{◌≡◌, ℕ, ◌+◌, ◌<◌, ◌≤◌, min, true, false, cond, eqb, List, [], ◌∷◌, ◌++◌, length, get_or, Result, Ok, Err, refl, sym, ap, ◌∙◌, subst, arith}
+use Rattle.std.proofs.Common.{◌≡◌, ℕ, ◌+◌, ◌<◌, ◌≤◌, min, true, false, cond, eqb, List, [], ◌∷◌, ◌++◌, length, get_or, Result, Ok, Err, refl, sym, ◌∙◌, subst, arith}
 use Rattle.std.specs.Prelude.{slice_index, codes, OnOk, OnErr}
-use Rattle.std.specs.List.{All}
 use Rattle.std.proofs.lemmas.List.{length-append}
 use Rattle.std.proofs.lemmas.List.Quantifiers.{all_pairs_push}
-use Rattle.wind_base.specs.Limits.{greatest_word, most_modules, most_symbols, ok_word}
+use Rattle.wind_base.specs.Limits.{greatest_word, most_symbols, ok_word}
 use Rattle.wind_base.specs.Errno.{errno_number}
 use Rattle.wind_base.specs.declared.errno.Errno.TheVariants as errors
 use Rattle.mem_partition.specs.State.{PartState, after_alloc}
@@ -22,7 +21,6 @@ use Rattle.module_loader.specs.declared.module.LoadErr.{LoadErr}
 use Rattle.module_loader.specs.declared.module.LoadedModule.{LoadedModule}
 use Rattle.module_loader.specs.Placing.{with_seg, with_text, with_data, with_needs}
 use Rattle.module_loader.specs.Loading.{LoaderState, count_refusal, verdict, file_verdict, loaded, record_of, told, IsLoaded}
-use Rattle.module_loader.specs.Holding.{held_by, occurs}
 use Rattle.module_loader.specs.Live.{IsLoader}
 use Rattle.module_loader.proofs.Files.{is_file}
 use Rattle.module_loader.proofs.Applying.{is_accepted}

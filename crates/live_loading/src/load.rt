@@ -86,12 +86,7 @@ fn load_held(alloc: Global, w: &mut World, name: &Name, file: &[u8]) -> Result<(
 
 // Makes the call with what is said of the file. For want of memory nothing changes.
 #[tactic(auto, unfolding(crate::specs::Loading::load_call))]
-fn load_said(
-    alloc: Global,
-    w: &mut World,
-    name: &Name,
-    file: &FileAnswer,
-) -> Result<(), NoMemory>
+fn load_said(alloc: Global, w: &mut World, name: &Name, file: &FileAnswer) -> Result<(), NoMemory>
     requires live { Acts w.old.kern shell }
     requires kept { IsWorld (world_with [] w.old) }
     requires room { 4096 ≤ w.old.out.room }

@@ -1,5 +1,5 @@
 use Rattle.std.proofs.Common.{refl, sym, subst}
-use Rattle.wind_core.specs.State.{KernState, Lives}
+use Rattle.wind_core.specs.State.{Lives}
 use Rattle.wind_core.specs.Moves.{past_gate}
 use Rattle.task_block.specs.declared.task.Task.{Task}
 use Rattle.live_loading.proofs.Going.{lives_changed}

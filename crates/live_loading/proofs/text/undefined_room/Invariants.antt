@@ -1,4 +1,4 @@
-use Rattle.std.proofs.Common.{ℕ, ◌+◌, ◌*◌, ◌≤◌, List, length, drop}
+use Rattle.std.proofs.Common.{◌+◌, ◌*◌, ◌≤◌, List, length, drop}
 use Rattle.symbol_table.specs.declared.symbol.Symbol.{Symbol}
 use Rattle.module_image.specs.Binding.{unbound}
 use Rattle.live_loading.specs.Texts.{undefined_text}
