@@ -6,5 +6,7 @@ pub mod FeedLemmas
 pub mod Keeping
 pub mod Readied
 pub mod Running
+pub mod Asked
+pub mod Answering
 pub mod Stepping
 pub mod Going

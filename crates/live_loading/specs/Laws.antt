@@ -1,5 +1,5 @@
 -- What follows of the definitions of a load alone.
-use Rattle.std.specs.Prelude.{◌≡◌, ℕ, ◌+◌, ◌<◌, List, slice_index}
+use Rattle.std.specs.Prelude.{◌≡◌, ℕ, ◌+◌, ◌≤◌, List, slice_index}
 use Rattle.mem_partition.specs.Laws.{IsIn}
 use Rattle.mem_partition.specs.declared.block.Block.{Block}
 use Rattle.std.specs.List.{Contains}
@@ -32,6 +32,7 @@ pub record OnlyLoads (w v : WorldState) : Type 0 where
   pub slice : v.kern.slice ≡ w.kern.slice
   pub sinces : v.kern.next_since ≡ w.kern.next_since
   pub last : v.kern.last ≡ w.kern.last
+  pub ids : w.kern.next_id ≤ v.kern.next_id
   pub ram : (a : ℕ) → (IsFresh w v a → ⊥) → slice_index v.ram a ≡ slice_index w.ram a
 
 abbrev pub AloneLaw : Type 0

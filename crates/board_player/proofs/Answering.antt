@@ -1,0 +1,27 @@
+-- What a board answers where its next step asks for a file, and where it asks for none.
+use Rattle.std.proofs.Common.{◌≡◌, List, ℕ, Option, None, Some, refl, sym, ap, ◌∙◌}
+use Rattle.live_loading.specs.Said.{FileSaid, Missing}
+use Rattle.wind_machine.specs.State.{State}
+use Rattle.wind_machine.specs.Machine.{file_asked, load_step, step_asking, plain_step, machine_step, Steps, IsOver}
+
+-- where no file is asked for, the step is the plain one, whatever is said
+pub plain : (said : FileSaid) (s : State) → file_asked s ≡ None → machine_step said s ≡ plain_step s
+unfolding machine_step
+plain said s e = ap (step_asking said s) e
+
+pub unasked_steps : (s t : State) → file_asked s ≡ None → plain_step s ≡ Some t → Steps s t
+unasked_steps s t e made said = plain said s e ∙ made
+
+pub unasked_over : (s : State) → file_asked s ≡ None → plain_step s ≡ None → IsOver s
+unasked_over s e over said = plain said s e ∙ over
+
+pub over_plain : (s : State) → file_asked s ≡ None → IsOver s → plain_step s ≡ None
+over_plain s e over = sym (plain Missing s e) ∙ over Missing
+
+-- else it is a load
+pub loads : (said : FileSaid) (s : State) (name : List ℕ) → file_asked s ≡ Some name → machine_step said s ≡ Some (load_step said s name)
+unfolding machine_step
+loads said s name e = ap (step_asking said s) e
+
+pub asking_goes_on : (s : State) (name : List ℕ) → file_asked s ≡ Some name → IsOver s → ⊥
+asking_goes_on s name e over = let both : Some (load_step Missing s name) ≡ None = sym (loads Missing s name e) ∙ over Missing in absurd (cc)
