@@ -17,7 +17,7 @@ use Rattle.wind_machine.specs.Good.{Good}
 use Rattle.tick_file.specs.Laws.{IsEarly, EarlyLaw}
 use Rattle.wind_machine.specs.Laws.{StartLaw, StepLaw, InstantLaw, SafetyLaw, OnlyUnsafeGo, RunLaw}
 use Rattle.wind_machine.specs.Run.{Answers, after}
-use Rattle.wind_machine.specs.Machine.{opening, shell_step, task_step, step_of, event_comes, unreserved_world, without_next, next_event, jump_to, arrival, console_is_due, is_active, routine_step, run_step, actor_step, quiet_step, step_by, due_event, plain_step, file_asked, load_step, step_asking, machine_step}
+use Rattle.wind_machine.specs.Machine.{opening, shell_step, task_step, step_of, event_comes, unreserved_world, without_next, next_event, jump_to, arrival, console_is_due, is_active, routine_step, run_step, actor_step, quiet_step, step_by, due_event, plain_step, file_asked, step_asking, machine_step}
 use Rattle.wind_machine.specs.declared.phase.Phase.{Phase}
 use Rattle.wind_machine.specs.declared.phase.Phase.TheVariants as phases
 

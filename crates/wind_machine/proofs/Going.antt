@@ -7,7 +7,7 @@ use Rattle.task_block.specs.declared.task.Task.{Task}
 use Rattle.tick_file.specs.Schedule.{Timed}
 use Rattle.tick_file.specs.declared.event.Event.{Event}
 use Rattle.tick_file.specs.declared.event.Event.TheVariants.{Tick, Rx}
-use Rattle.wind_core.specs.State.{Lives, task_id, task_of}
+use Rattle.wind_core.specs.State.{Lives, task_of}
 use Rattle.wind_core.specs.Moves.{unreserved}
 use Rattle.wind_core.specs.Orders.{running}
 use Rattle.wind_core.specs.Tick.{tick}
@@ -29,7 +29,7 @@ use Rattle.wind_machine.specs.Reserving.{unless_own, drop_all}
 use Rattle.wind_machine.specs.Shell.{prompt_part, read_part, eval_part}
 use Rattle.wind_machine.specs.Processor.{without_own, task_part}
 use Rattle.wind_machine.specs.Laws.{OnlyUnsafeGo, SafetyLaw}
-use Rattle.wind_machine.specs.Machine.{Heard, heard_by, arrived, arrival, event_comes, event_step, unreserved_world, without_next, at_turn, shell_world, task_step, shell_step, step_of, actor_of, runner, is_active, routine_step, actor_step, due_event, console_is_due, next_event, jump_to, run_step, quiet_step, step_by, plain_step, stepping, file_asked, load_step, step_asking, machine_step}
+use Rattle.wind_machine.specs.Machine.{Heard, heard_by, arrived, arrival, event_comes, event_step, unreserved_world, without_next, at_turn, shell_world, task_step, shell_step, step_of, actor_of, runner, is_active, routine_step, actor_step, due_event, console_is_due, next_event, jump_to, run_step, quiet_step, step_by, plain_step, file_asked, load_step, step_asking, machine_step}
 use Rattle.wind_machine.specs.declared.phase.Phase.{Phase}
 use Rattle.wind_machine.specs.declared.phase.Phase.TheVariants as phases
 use Rattle.wind_machine.proofs.Asking.{shells, steps_as, shell_ready}

@@ -37,7 +37,7 @@ use Rattle.wind_machine.specs.Part.{Part, part_of}
 use Rattle.wind_machine.specs.Shell.{prompt_part, read_part, shell_read, eval_part}
 use Rattle.wind_machine.specs.Processor.{without_own, task_part}
 use Rattle.wind_machine.specs.Routine.{interrupt_top}
-use Rattle.wind_machine.specs.Machine.{Heard, heard_by, arrived, arrival, ticked, received, event_comes, event_step, unreserved_world, without_next, jump, at_turn, shell_world, cleared, stepped, prompt_step, read_step, eval_step, task_step, shell_step, step_of, is_active, routine_step, actor_step, due_event, console_is_due, next_event, jump_to, run_step, quiet_step, step_by, plain_step, file_asked, load_step, step_asking, machine_step}
+use Rattle.wind_machine.specs.Machine.{Heard, heard_by, arrived, arrival, ticked, received, event_comes, event_step, unreserved_world, without_next, jump, at_turn, shell_world, cleared, stepped, prompt_step, read_step, eval_step, task_step, shell_step, step_of, is_active, routine_step, actor_step, due_event, console_is_due, next_event, jump_to, run_step, quiet_step, step_by, plain_step, file_asked, step_asking, machine_step}
 use Rattle.wind_machine.specs.declared.phase.Phase.{Phase}
 use Rattle.wind_machine.specs.declared.phase.Phase.TheVariants as phases
 use Rattle.wind_machine.proofs.Kept.{needs_none, prompt_has_line, read_phase}
