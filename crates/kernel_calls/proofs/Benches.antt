@@ -1,5 +1,5 @@
 -- A world keeps its facts, and its counters stay low, however often it is called.
-use Rattle.std.proofs.Common.{◌≡◌, ◌≢◌, ℕ, ◌+◌, ◌*◌, ◌<◌, ◌≤◌, true, false, cond, List, [], ◌∷◌, Option, length, refl, sym, ap, subst, ◌∙◌, arith}
+use Rattle.std.proofs.Common.{◌≡◌, ℕ, ◌+◌, ◌*◌, ◌<◌, ◌≤◌, true, false, cond, List, [], ◌∷◌, Option, length, refl, sym, ap, subst, ◌∙◌, arith}
 use Rattle.std.specs.List.{All}
 use Rattle.std.proofs.lemmas.List.Elements.{All-cons}
 use Rattle.wind_base.specs.declared.gate.Gate.{Gate}
@@ -20,12 +20,12 @@ use Rattle.kernel_calls.specs.State.{WorldState}
 use Rattle.kernel_calls.specs.Kept.{KeepsWatch, IsWorld, HasCounts, Within, AreStacks, task_stacks}
 use Rattle.kernel_calls.specs.Objects.{IsFree}
 use Rattle.kernel_calls.specs.Actors.{MayCall}
-use Rattle.kernel_calls.specs.Calls.{call}
+use Rattle.kernel_calls.specs.Calls.{call, is_made}
 use Rattle.kernel_calls.specs.Ending.{ended}
 use Rattle.kernel_calls.specs.Opening.{opening_world, interrupt_stack}
 use Rattle.kernel_calls.specs.declared.actor.Actor.{Actor}
 use Rattle.kernel_calls.specs.declared.calls.Called.{Called}
-use Rattle.kernel_calls.specs.declared.calls.Called.TheVariants.{Done, Pended, Ended, NoMemory}
+use Rattle.kernel_calls.specs.declared.calls.Called.TheVariants.{Done, Pended, Ended, NeedsFile, NoMemory}
 use Rattle.kernel_calls.proofs.Holding.{loaded_on}
 use Rattle.kernel_calls.proofs.Advancing.{within_more}
 use Rattle.kernel_calls.proofs.Passing.{call_passes}
@@ -58,10 +58,11 @@ used_more : (w : WorldState) (n : ℕ) → Used w n → Used w (n + 1)
 used_more w n (kept, within, sinces, count, names, starts) = (kept, within_more w n (n + 1) (omega arith) within, omega (arith, sinces), count, omega (arith, names), omega (arith, starts))
 
 -- after a call, which is made or leaves the world
-pub used_called : (r : Called) (g : Gate) (w v : WorldState) (a : Actor) (n : ℕ) → MayCall w.kern a → (r ≢ NoMemory → v ≡ call g w a) → (r ≡ NoMemory → v ≡ w) → Used w n → Used v (n + 1)
-used_called Done g w v a n may made same u = subst (λ x. Used x (n + 1)) (sym (made (λ e. absurd (cc)))) (used_call g w a n may u)
-used_called Pended g w v a n may made same u = subst (λ x. Used x (n + 1)) (sym (made (λ e. absurd (cc)))) (used_call g w a n may u)
-used_called Ended g w v a n may made same u = subst (λ x. Used x (n + 1)) (sym (made (λ e. absurd (cc)))) (used_call g w a n may u)
+pub used_called : (r : Called) (g : Gate) (w v : WorldState) (a : Actor) (n : ℕ) → MayCall w.kern a → (is_made r ≡ true → v ≡ call g w a) → (is_made r ≡ false → v ≡ w) → Used w n → Used v (n + 1)
+used_called Done g w v a n may made same u = subst (λ x. Used x (n + 1)) (sym (made refl)) (used_call g w a n may u)
+used_called Pended g w v a n may made same u = subst (λ x. Used x (n + 1)) (sym (made refl)) (used_call g w a n may u)
+used_called Ended g w v a n may made same u = subst (λ x. Used x (n + 1)) (sym (made refl)) (used_call g w a n may u)
+used_called (NeedsFile name) g w v a n may made same u = subst (λ x. Used x (n + 1)) (sym (same refl)) (used_more w n u)
 used_called NoMemory g w v a n may made same u = subst (λ x. Used x (n + 1)) (sym (same refl)) (used_more w n u)
 
 -- a task has other registers

@@ -139,6 +139,7 @@ module _ (w : WorldState) (kept : IsWorld w) (n : ℕ) (within : Within n w) (a 
   row_serves gates.ErrnoSet r live there may =
       served w a _ (n + 1) (advances_more w _ n (n + 1) 0 call_sinces 0 1 (omega arith) (omega arith) (omega arith) (errno_advances w kept n within a (slice_index r 3)))
   row_serves gates.I r live there may = of_text_row _
+  row_serves gates.Ld r live there may = idle _
   row_serves gates.Unld r live there may = served w a _ (n + 1) (unload_advances w kept n within (slice_index r 3))
   row_serves gates.Lkup r live there may = of_text_row _
   row_serves gates.ModuleShow r live there may = of_text_row _

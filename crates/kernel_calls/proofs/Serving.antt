@@ -34,6 +34,7 @@ left_watch w a kept may early = (left_advances w kept (2 ^ 60) (early_within w e
 none_lacks : (g : Gate) → may_lack_memory g ≡ true → is_isr_callable g ≡ false
 none_lacks gates.SymAdd h = refl
 none_lacks gates.MsgQCreate h = refl
+none_lacks gates.Ld h = refl
 none_lacks gates.I h = refl
 none_lacks gates.Lkup h = refl
 none_lacks gates.ModuleShow h = refl

@@ -1,7 +1,7 @@
 //! Who makes a call of the kernel, and the words that it hands in.
 
 ghost use Rattle.std.specs.Prelude.{◌≡◌, ◌<◌, option_copied};
-ghost use Rattle.kernel_calls.specs.Actors.{regs_of, caller_regs as caller_regs_lem, stack_word as stack_word_lem};
+ghost use Rattle.kernel_calls.specs.Actors.{is_shell as is_shell_lem, regs_of, caller_regs as caller_regs_lem, stack_word as stack_word_lem};
 
 use crate::starting::no_regs;
 use board_mem::Ram;
@@ -17,6 +17,16 @@ pub enum Actor {
     Task(Ident),
     /// The interrupt routine that is active.
     Interrupt,
+}
+
+// Whether it is the shell's task.
+pub(crate) fn is_shell(who: &Actor) -> bool
+    ensures { result ≡ is_shell_lem who.now }
+{
+    match who {
+        Actor::Task(id) => id.get() == 1,
+        Actor::Interrupt => false,
+    }
 }
 
 // Its registers.

@@ -1,17 +1,18 @@
 //! A call of the kernel: its frame, its refusals and its answer.
 
-ghost use Rattle.std.specs.Prelude.{◌≡◌, ◌≢◌, ◌+◌, ◌^◌, ◌<◌, ◌≤◌, [], true, false, IfOk, OnErr};
+ghost use Rattle.std.specs.Prelude.{◌≡◌, ◌≢◌, ◌+◌, ◌^◌, ◌<◌, ◌≤◌, [], true, false, None, Some, IfOk, IfSome, OnErr};
 ghost use Rattle.wind_base.specs.OutBuf.{KeepsSpace};
 ghost use Rattle.wind_base.specs.declared.gate.Gate.TheVariants as gates;
-ghost use Rattle.kernel_calls.specs.Actors.{Acts, MayCall, is_shell as is_shell_lem, is_interrupt as is_interrupt_lem};
+ghost use Rattle.kernel_calls.specs.Actors.{Acts, MayCall, is_interrupt as is_interrupt_lem};
 ghost use Rattle.kernel_calls.specs.Kept.{IsWorld, IsEarly};
-ghost use Rattle.kernel_calls.specs.Calls.{is_built, may_lack_memory as may_lack_memory_lem, refusal_before as refusal_before_lem, in_r3, level_by, with_answer, replied, with_reply, told_by, told as told_lem, made, call};
+ghost use Rattle.kernel_calls.specs.Calls.{is_built, may_lack_memory as may_lack_memory_lem, refusal_before as refusal_before_lem, in_r3, level_by, with_answer, replied, with_reply, told_by, told as told_lem, made, call, file_wanted as file_wanted_lem, is_made, asked_for};
 ghost use Rattle.kernel_calls.specs.declared.calls.Called.TheVariants as called;
 ghost use Rattle.kernel_calls.specs.declared.reply.Reply.TheVariants as replies;
 ghost use Rattle.kernel_calls.specs.Seen.{world_seen, world_with};
 ghost use Rattle.kernel_calls.specs.Space.{makes_room, HoldsSpace};
 
-use crate::actor::{Actor, caller_regs};
+use crate::actor::{Actor, caller_regs, is_shell};
+use crate::files::file_wanted;
 use crate::gates::{is_isr_callable, is_shells_own, may_lack_memory, refusal_word};
 use crate::leaving::leave_gate;
 use crate::reply::Reply;
@@ -19,11 +20,11 @@ use crate::rows::{lacking_row, plain_row, set_errno};
 use crate::world::World;
 use isr_watch::Watch;
 use std::alloc::Global;
-use wind_base::{Errno, Gate, NoMemory};
+use wind_base::{Errno, Gate, Name, NoMemory};
 use wind_outside::Device;
 
 /// What a call of the kernel answers to the board.
-#[derive(Clone, Copy, Debug, PartialEq, Eq)]
+#[derive(Drop)]
 pub enum Called {
     /// The call is done, and its caller is answered.
     Done,
@@ -31,18 +32,10 @@ pub enum Called {
     Pended,
     /// The caller has ended itself.
     Ended,
+    /// The call asks for the file of this name, and is to be made with what is said of it. The world is as it was before.
+    NeedsFile(Name),
     /// Host memory ran out. The world is as it was before.
     NoMemory,
-}
-
-// Whether it is the shell's task.
-fn is_shell(who: &Actor) -> bool
-    ensures { result ≡ is_shell_lem who.now }
-{
-    match who {
-        Actor::Task(id) => id.get() == 1,
-        Actor::Interrupt => false,
-    }
 }
 
 // Whether it is the interrupt level.
@@ -106,7 +99,8 @@ fn reply_to(w: &mut World, gate: Gate, who: &Actor, reply: &Reply)
 
 // What the board is told of a reply.
 fn told(reply: &Reply) -> Called
-    ensures { result ≡ told_by reply.now }
+    ensures answer { result ≡ told_by reply.now }
+    ensures made { is_made result ≡ true }
 {
     match reply {
         Reply::Answer(_) | Reply::Refusal(_) => Called::Done,
@@ -146,8 +140,8 @@ fn make(alloc: Global, w: &mut World, gate: Gate, who: &Actor) -> Result<Reply, 
 
 /// Makes a call of the kernel by its gate: the caller goes on behind its gate, the effect of the gate's row is made,
 /// and the caller is answered in r3, at once or at the end of its wait, unless it has ended itself. A task that calls is
-/// ready. Host memory may run out only at `symAdd`, `msgQCreate`, `i`, `lkup`, `moduleShow` and `d` of a task, and the
-/// world is then as it was.
+/// ready. A call of `ld` that asks for a file is not made, and says for which. Host memory may run out only at `symAdd`,
+/// `msgQCreate`, `ld`, `i`, `lkup`, `moduleShow` and `d` of a task, and the world is then as it was.
 pub fn kernel_call(alloc: Global, w: &mut World, gate: Gate, who: &Actor) -> Called
     requires built { is_built gate ≡ true }
     requires caller { Acts w.old.kern who.now }
@@ -155,18 +149,27 @@ pub fn kernel_call(alloc: Global, w: &mut World, gate: Gate, who: &Actor) -> Cal
     requires kept { IsWorld (world_with [] w.old) }
     requires early { IsEarly (world_with [] w.old) }
     requires room { 4096 ≤ w.old.out.room }
-    ensures made { result ≢ called.NoMemory →
+    ensures made { is_made result ≡ true →
         world_seen ⟦<dyn Device as Device>⟧ w.new ≡ call gate (world_seen ⟦<dyn Device as Device>⟧ w.old) who.now }
-    ensures answer { result ≢ called.NoMemory →
+    ensures answer { is_made result ≡ true →
         result ≡ told_lem gate (world_seen ⟦<dyn Device as Device>⟧ w.old) who.now }
+    ensures ready { is_made result ≡ true →
+        file_wanted_lem gate (world_seen ⟦<dyn Device as Device>⟧ w.old) who.now ≡ None }
+    ensures file { IfSome (asked_for result) (λ name.
+        file_wanted_lem gate (world_seen ⟦<dyn Device as Device>⟧ w.old) who.now ≡ Some name) }
     ensures memory { result ≡ called.NoMemory → may_lack_memory_lem gate ≡ true }
     ensures task { result ≡ called.NoMemory → is_interrupt_lem who.now ≡ false }
-    ensures unchanged { result ≡ called.NoMemory →
+    ensures unchanged { is_made result ≡ false →
         world_seen ⟦<dyn Device as Device>⟧ w.new ≡ world_seen ⟦<dyn Device as Device>⟧ w.old }
     ensures kept { IsWorld (world_with [] w.new) }
     ensures space { makes_room gate ≡ false → KeepsSpace w.old.out w.new.out }
     ensures holds { HoldsSpace w.old.out w.new.out }
 {
+    match file_wanted(alloc, w, gate, who) {
+        Ok(Some(name)) => return Called::NeedsFile(name),
+        Ok(None) => {}
+        Err(NoMemory) => return Called::NoMemory,
+    }
     let Ok(reply) = make(alloc, w, gate, who) else {
         return Called::NoMemory;
     };

@@ -1,6 +1,6 @@
 //! The row of each gate: the effect of its call, and how the caller is answered.
 
-ghost use Rattle.std.specs.Prelude.{◌≡◌, ◌≢◌, ◌+◌, ◌^◌, ◌<◌, ◌≤◌, [], true, false, length, IfOk, OnErr, slice_index};
+ghost use Rattle.std.specs.Prelude.{◌≡◌, ◌≢◌, ◌+◌, ◌^◌, ◌<◌, ◌≤◌, [], ℕ, List, true, false, length, IfOk, OnErr, slice_index};
 ghost use Rattle.std.specs.List.{All};
 ghost use Rattle.wind_base.specs.Limits.{ram_bytes};
 ghost use Rattle.wind_base.specs.OutBuf.{KeepsSpace};
@@ -239,6 +239,17 @@ fn list_symbols(
     Ok(reply)
 }
 
+// ld, where it asks for no file, as its name can't be read. Its caller leaves its gate behind it.
+fn refuse_name(w: &mut World, who: &Actor) -> Reply
+    requires { Acts w.old.kern who.now }
+    ensures row { (r : List ℕ) → with_reply (world_seen ⟦<dyn Device as Device>⟧ w.new) result
+        ≡ row_lem gates.Ld (left_gate (world_seen ⟦<dyn Device as Device>⟧ w.old) who.now) who.now r }
+    ensures out { w.new.out ≡ w.old.out }
+{
+    leave_gate(w, who);
+    Reply::Refusal(Errno::BadAddress)
+}
+
 // moduleShow: the table of the modules. Its caller leaves its gate behind it. For want of memory nothing changes.
 fn list_modules(
     alloc: Global,
@@ -279,6 +290,7 @@ pub(crate) fn lacking_row(
     match gate {
         Gate::SymAdd => add_by(alloc, w, who, gpr),
         Gate::MsgQCreate => create_by(alloc, w, who, gpr),
+        Gate::Ld => Ok(refuse_name(w, who)),
         Gate::I => list_tasks(alloc, w, who, gpr),
         Gate::Lkup => list_symbols(alloc, w, who, gpr),
         Gate::ModuleShow => list_modules(alloc, w, who, gpr),

@@ -2,6 +2,7 @@
 
 mod bench;
 mod blocks;
+mod files;
 mod looks;
 mod opening;
 mod routines;

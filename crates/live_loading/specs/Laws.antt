@@ -3,7 +3,7 @@ use Rattle.std.specs.Prelude.{◌≡◌, ℕ, ◌+◌, ◌≤◌, List, slice_in
 use Rattle.mem_partition.specs.Laws.{IsIn}
 use Rattle.mem_partition.specs.declared.block.Block.{Block}
 use Rattle.std.specs.List.{Contains}
-use Rattle.wind_core.specs.State.{KernState, task_of}
+use Rattle.wind_core.specs.State.{task_of}
 use Rattle.kernel_calls.specs.State.{WorldState}
 use Rattle.kernel_calls.specs.Actors.{MayCall, shell_id}
 use Rattle.kernel_calls.specs.Kept.{IsWorld, Within}

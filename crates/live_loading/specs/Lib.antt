@@ -1,4 +1,5 @@
 pub mod Said
 pub mod Texts
 pub mod Loading
+pub mod Causes
 pub mod Laws

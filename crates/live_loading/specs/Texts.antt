@@ -4,7 +4,6 @@ use Rattle.std.specs.List.{flat_map}
 use Rattle.std.specs.Fmt.{decimal}
 use Rattle.elf_read.specs.declared.error.ElfErr.{ElfErr}
 use Rattle.elf_read.specs.declared.error.ElfErr.TheVariants as elf
-use Rattle.mem_partition.specs.declared.block.PartErr.{PartErr}
 use Rattle.reloc_link.specs.declared.patching.RelocErr.{RelocErr}
 use Rattle.reloc_link.specs.declared.patching.RelocErr.TheVariants as reloc
 use Rattle.module_loader.specs.declared.module.LoadErr.{LoadErr}

@@ -4,6 +4,7 @@
 mod answer;
 mod laws;
 mod load;
+mod outcome;
 mod text;
 
 pub use answer::FileAnswer;

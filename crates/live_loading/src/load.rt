@@ -2,19 +2,106 @@
 
 ghost use Rattle.std.specs.Prelude.{◌≡◌, ◌≤◌, [], Some, OnOk, OnErr};
 ghost use Rattle.wind_base.specs.declared.gate.Gate.TheVariants as gates;
-ghost use Rattle.kernel_calls.specs.Actors.{MayCall};
-ghost use Rattle.kernel_calls.specs.Calls.{file_wanted};
+ghost use Rattle.elf_read.specs.Modules.{IsModule};
+ghost use Rattle.module_loader.specs.Loading.{verdict};
+ghost use Rattle.kernel_calls.specs.Actors.{Acts, MayCall};
+ghost use Rattle.kernel_calls.specs.Calls.{file_wanted, left_gate};
 ghost use Rattle.kernel_calls.specs.Kept.{IsWorld};
 ghost use Rattle.kernel_calls.specs.Seen.{world_seen, world_with};
 ghost use Rattle.kernel_calls.specs.Space.{HoldsSpace};
-ghost use Rattle.live_loading.specs.Said.{said_of};
-ghost use Rattle.live_loading.specs.Loading.{shell, load_call};
+ghost use Rattle.live_loading.specs.Said.{Held, said_of};
+ghost use Rattle.live_loading.specs.Loading.{shell, loader_state, by_verdict, load_call};
 
 use crate::answer::FileAnswer;
-use kernel_calls::World;
+use crate::outcome::{accept, refuse, shell_id};
+use crate::text::{Cause, undefined_room};
+use elf_read::{ElfErr, Module, read};
+use kernel_calls::{Actor, World, caller_regs};
+use module_loader::LoadErr;
 use std::alloc::Global;
 use wind_base::{Name, NoMemory};
 use wind_outside::Device;
+
+// Loads a module that was read from its file, with room for its undefined names made ahead. For want of memory nothing
+// changes.
+fn load_read(
+    alloc: Global,
+    w: &mut World,
+    name: &Name,
+    m: &Module,
+    mode: u32,
+) -> Result<(), NoMemory>
+    requires module { IsModule m.now }
+    requires live { Acts w.old.kern shell }
+    requires kept { IsWorld (world_with [] w.old) }
+    requires room { 4096 ≤ w.old.out.room }
+    ensures ok { OnOk result (world_seen ⟦<dyn Device as Device>⟧ w.new
+        ≡ by_verdict (left_gate (world_seen ⟦<dyn Device as Device>⟧ w.old) shell) name.now mode m.now
+        (verdict (loader_state (world_seen ⟦<dyn Device as Device>⟧ w.old)) m.now mode)) }
+    ensures err { OnErr result (world_seen ⟦<dyn Device as Device>⟧ w.new ≡ world_seen ⟦<dyn Device as Device>⟧ w.old) }
+    ensures holds { HoldsSpace w.old.out w.new.out }
+{
+    let Ok(kept_name) = Name::new(alloc, name.bytes()) else {
+        return Err(NoMemory);
+    };
+    w.out.grow(undefined_room(m))?;
+    match w.mods.load_module(
+        &mut w.kern,
+        &mut w.part,
+        &mut w.syms,
+        &mut w.bus.ram,
+        kept_name,
+        m,
+        mode,
+    ) {
+        Ok(loaded) => accept(w, &loaded),
+        Err(LoadErr::NoMemory) => return Err(NoMemory),
+        Err(e) => refuse(w, name, Cause::Refused(e)),
+    }
+    Ok(())
+}
+
+// Loads the module of a file, in the mode of r3. For want of memory nothing changes.
+fn load_held(alloc: Global, w: &mut World, name: &Name, file: &[u8]) -> Result<(), NoMemory>
+    requires live { Acts w.old.kern shell }
+    requires kept { IsWorld (world_with [] w.old) }
+    requires room { 4096 ≤ w.old.out.room }
+    ensures ok { OnOk result (world_seen ⟦<dyn Device as Device>⟧ w.new
+        ≡ load_call (world_seen ⟦<dyn Device as Device>⟧ w.old) name.now (Held file.now)) }
+    ensures err { OnErr result (world_seen ⟦<dyn Device as Device>⟧ w.new ≡ world_seen ⟦<dyn Device as Device>⟧ w.old) }
+    ensures holds { HoldsSpace w.old.out w.new.out }
+{
+    let regs = caller_regs(&w.kern, &w.watch, &Actor::Task(shell_id()));
+    match read(alloc, file) {
+        Ok(m) => load_read(alloc, w, name, &m, regs.gpr[3]),
+        Err(e) => match e {
+            ElfErr::NoMemory => Err(NoMemory),
+            _ => {
+                refuse(w, name, Cause::Refused(LoadErr::Elf(e)));
+                Ok(())
+            }
+        },
+    }
+}
+
+// Makes the call with what is said of the file. For want of memory nothing changes.
+#[tactic(auto, unfolding(crate::specs::Loading::load_call))]
+fn load_said(alloc: Global, w: &mut World, name: &Name, file: &FileAnswer) -> Result<(), NoMemory>
+    requires live { Acts w.old.kern shell }
+    requires kept { IsWorld (world_with [] w.old) }
+    requires room { 4096 ≤ w.old.out.room }
+    ensures ok { OnOk result (world_seen ⟦<dyn Device as Device>⟧ w.new
+        ≡ load_call (world_seen ⟦<dyn Device as Device>⟧ w.old) name.now (said_of file.now)) }
+    ensures err { OnErr result (world_seen ⟦<dyn Device as Device>⟧ w.new ≡ world_seen ⟦<dyn Device as Device>⟧ w.old) }
+    ensures holds { HoldsSpace w.old.out w.new.out }
+{
+    match file {
+        FileAnswer::File(bytes) => return load_held(alloc, w, name, bytes),
+        FileAnswer::NoFile => refuse(w, name, Cause::NotFound),
+        FileAnswer::LongFile => refuse(w, name, Cause::LongFile),
+    }
+    Ok(())
+}
 
 /// Makes the call of `ld` by the shell's task, which asks for the file of this name, with what is said of that file: the
 /// task goes on behind its gate, the module is loaded whole or not at all, the names that nothing defines or the reason of
@@ -25,6 +112,7 @@ pub fn kernel_load(
     name: &Name,
     file: &FileAnswer,
 ) -> Result<(), NoMemory>
+    requires caller { Acts w.old.kern shell }
     requires ready { MayCall w.old.kern shell }
     requires wanted { file_wanted gates.Ld (world_seen ⟦<dyn Device as Device>⟧ w.old) shell ≡ Some name.now }
     requires kept { IsWorld (world_with [] w.old) }
@@ -35,5 +123,5 @@ pub fn kernel_load(
     ensures kept { IsWorld (world_with [] w.new) }
     ensures holds { HoldsSpace w.old.out w.new.out }
 {
-    unreachable!()
+    load_said(alloc, w, name, file)
 }

@@ -26,9 +26,9 @@ fn boots_with_ample_memory(rt: HostRuntime) -> Result<(), Fail> {
 const STANDING: [Step; 5] = [
     Step::See(Look::Tasks(1)),
     Step::See(Look::Task(SHELL, TaskLook::Made(b"tShell", 0x1_0000, 0, 1))),
-    Step::See(Look::Symbols(48)),
+    Step::See(Look::Symbols(49)),
     Step::See(Look::Symbol(0, b"taskSpawn", 0x0100_0030, SymKind::TextSym)),
-    Step::See(Look::Symbol(47, b"d", 0x0100_0330, SymKind::TextSym)),
+    Step::See(Look::Symbol(48, b"d", 0x0100_0330, SymKind::TextSym)),
 ];
 
 #[test]

@@ -14,6 +14,8 @@ pub(super) enum Step {
     Call(u32, Gate, [u32; 4], u32, u32),
     // the same by one that is answered later
     Wait(u32, Gate, [u32; 4], u32, u32),
+    // the shell's task calls ld with these words, and asks for the file of this name
+    Asks([u32; 4], &'static [u8]),
     // the shell's task, whose r1 this is, asks by taskSpawn for a task of this name, priority and stack, which begins
     // at 0x4000 with the words 1, 2 and 3, and seven above r1; then r3 and its error number
     Spawn(u32, [u32; 3], u32, u32),
@@ -32,18 +34,44 @@ pub(super) enum Step {
     See(Look),
 }
 
+// How a call that was made went on.
+#[derive(Clone, Copy, PartialEq, Eq)]
+enum Made {
+    Done,
+    Pended,
+    Ended,
+}
+
+// None where it wasn't made.
+fn how_made(called: &Called) -> Option<Made> {
+    match called {
+        Called::Done => Some(Made::Done),
+        Called::Pended => Some(Made::Pended),
+        Called::Ended => Some(Made::Ended),
+        Called::NeedsFile(_) | Called::NoMemory => None,
+    }
+}
+
+// A caller comes to a gate with these words and makes its call. None where it isn't made.
+fn call_made(
+    rt: &HostRuntime,
+    bench: &mut Bench,
+    call: (u32, Gate, u32, [u32; 10]),
+) -> Option<Made> {
+    let (who, gate, frame, words) = call;
+    how_made(&bench.call(rt.alloc(), who, gate, frame, &words)?)
+}
+
 // Makes a call of the gate, and says whether it comes to this, and its caller stands behind it with this in r3 and this
 // error number.
 fn comes_to(
     rt: &HostRuntime,
     bench: &mut Bench,
     call: (u32, Gate, u32, [u32; 10]),
-    told: (Called, u32, u32),
+    told: (Made, u32, u32),
 ) -> bool {
-    let (who, gate, frame, words) = call;
-    let (called, r3, errno) = told;
-    bench.call(rt.alloc(), who, gate, frame, &words) == Some(called)
-        && bench.standing(who) == Some((BACK, r3, errno))
+    let (made, r3, errno) = told;
+    call_made(rt, bench, call) == Some(made) && bench.standing(call.0) == Some((BACK, r3, errno))
 }
 
 // The words of a call.
@@ -61,16 +89,27 @@ const QUICK: [u32; 10] = [0x4000, 1, 2, 3, 4, 5, 6, 7, 0, 0];
 
 // Whether a task that deletes itself is told to have ended.
 fn leaves(rt: &HostRuntime, bench: &mut Bench, who: u32) -> bool {
-    let called = bench.call(rt.alloc(), who, Gate::TaskDelete, FRAME, &four([0; 4]));
-    called == Some(Called::Ended) && bench.task(who).is_none()
+    let call = (who, Gate::TaskDelete, FRAME, four([0; 4]));
+    call_made(rt, bench, call) == Some(Made::Ended) && bench.task(who).is_none()
 }
 
 // Whether a task that asks for a deletion pends, and stands at the gate of its call.
 fn awaits(rt: &HostRuntime, bench: &mut Bench, who: u32, target: u32) -> bool {
-    let words = four([target, 0, 0, 0]);
-    let called = bench.call(rt.alloc(), who, Gate::TaskDelete, FRAME, &words);
+    let call = (who, Gate::TaskDelete, FRAME, four([target, 0, 0, 0]));
     let gate = Gate::TaskDelete.address(GATES_START);
-    called == Some(Called::Pended) && bench.standing(who) == Some((gate, target, 0))
+    call_made(rt, bench, call) == Some(Made::Pended)
+        && bench.standing(who) == Some((gate, target, 0))
+}
+
+// Whether the shell's task asks for the file of this name, and stands at the gate of its call.
+fn asks(rt: &HostRuntime, bench: &mut Bench, words: [u32; 4], name: &[u8]) -> bool {
+    let gate = Gate::Ld.address(GATES_START);
+    match bench.call(rt.alloc(), SHELL, Gate::Ld, FRAME, &four(words)) {
+        Some(Called::NeedsFile(wanted)) => {
+            wanted.bytes() == name && bench.standing(SHELL) == Some((gate, words[0], 0))
+        }
+        _ => false,
+    }
 }
 
 // Makes a step, and says whether it is as it says.
@@ -78,19 +117,20 @@ pub(super) fn goes(rt: &HostRuntime, bench: &mut Bench, step: Step) -> bool {
     match step {
         Step::Call(who, gate, words, r3, errno) => {
             let call = (who, gate, FRAME, four(words));
-            comes_to(rt, bench, call, (Called::Done, r3, errno))
+            comes_to(rt, bench, call, (Made::Done, r3, errno))
         }
         Step::Wait(who, gate, words, r3, errno) => {
             let call = (who, gate, FRAME, four(words));
-            comes_to(rt, bench, call, (Called::Pended, r3, errno))
+            comes_to(rt, bench, call, (Made::Pended, r3, errno))
         }
+        Step::Asks(words, name) => asks(rt, bench, words, name),
         Step::Spawn(r1, asked, r3, errno) => {
             let call = (SHELL, Gate::TaskSpawn, r1, spawning(asked));
-            comes_to(rt, bench, call, (Called::Done, r3, errno))
+            comes_to(rt, bench, call, (Made::Done, r3, errno))
         }
         Step::Quick(r1, r3, errno) => {
             let call = (SHELL, Gate::Sp, r1, QUICK);
-            comes_to(rt, bench, call, (Called::Done, r3, errno))
+            comes_to(rt, bench, call, (Made::Done, r3, errno))
         }
         Step::End(who) => bench.end(who),
         Step::Leave(who) => leaves(rt, bench, who),

@@ -1,0 +1,53 @@
+//! The file that a call asks for.
+
+ghost use Rattle.std.specs.Prelude.{◌≡◌, ◌≤◌, IfOk, IfSome, OnErr, IsSome, length};
+ghost use Rattle.wind_base.specs.Limits.{longest_name};
+ghost use Rattle.board_mem.specs.Memory.{string_at};
+ghost use Rattle.kernel_calls.specs.Actors.{is_shell as is_shell_lem};
+ghost use Rattle.kernel_calls.specs.Calls.{file_name as file_name_lem, file_wanted as file_wanted_lem};
+ghost use Rattle.kernel_calls.specs.Seen.{world_seen};
+
+use crate::actor::{Actor, caller_regs, is_shell};
+use crate::world::World;
+use board_mem::Ram;
+use std::alloc::Global;
+use wind_base::limits::NAME_BYTES;
+use wind_base::{Gate, Name, NoMemory};
+use wind_outside::Device;
+
+// The string at an address, where it has from 1 to 255 bytes.
+fn file_name(alloc: Global, ram: &Ram, at: u32) -> Result<Option<Name>, NoMemory>
+    ensures name { IfOk result (λ name. name ≡ file_name_lem (string_at ram.now at)) }
+    ensures memory { OnErr result (IsSome (file_name_lem (string_at ram.now at))) }
+{
+    let Some(bytes) = ram.string(at) else {
+        return Ok(None);
+    };
+    if bytes.is_empty() || bytes.len() > NAME_BYTES {
+        return Ok(None);
+    }
+    match Name::new(alloc, bytes) {
+        Ok(name) => Ok(Some(name)),
+        Err(_) => Err(NoMemory),
+    }
+}
+
+/// The name of the file that a call asks for: that at the address in r5, of 1 to 255 bytes, where the shell's task calls
+/// `ld`. None where it asks for no file. Host memory may run out where it asks for one.
+pub fn file_wanted(
+    alloc: Global,
+    w: &World,
+    gate: Gate,
+    who: &Actor,
+) -> Result<Option<Name>, NoMemory>
+    ensures wanted { IfOk result (λ o. o
+        ≡ file_wanted_lem gate (world_seen ⟦<dyn Device as Device>⟧ w.now) who.now) }
+    ensures memory { OnErr result
+        (IsSome (file_wanted_lem gate (world_seen ⟦<dyn Device as Device>⟧ w.now) who.now)) }
+{
+    if gate != Gate::Ld || !is_shell(who) {
+        return Ok(None);
+    }
+    let regs = caller_regs(&w.kern, &w.watch, who);
+    file_name(alloc, &w.bus.ram, regs.gpr[5])
+}

@@ -1,0 +1,154 @@
+-- What a load leaves as it was.
+use Rattle.std.proofs.Common.{◌≡◌, ℕ, ◌+◌, ◌<◌, ◌≤◌, cond, eqb, List, [], ◌∷◌, length, Some, Result, Ok, Err, refl, sym, ap, ◌∙◌, subst, inl, inr, arith}
+use Rattle.std.specs.Prelude.{slice_index, codes}
+use Rattle.std.specs.List.{Contains}
+use Rattle.std.proofs.lemmas.Bool.{cases_eq, eq-eqb, ne_eqb}
+use Rattle.std.proofs.lemmas.List.Elements.{All-contains}
+use Rattle.wind_base.specs.Limits.{ok_word}
+use Rattle.wind_base.specs.Errno.{errno_number}
+use Rattle.wind_base.specs.declared.errno.Errno.TheVariants as errors
+use Rattle.wind_lists.specs.Records.{change}
+use Rattle.task_block.specs.declared.task.Task.{Task}
+use Rattle.mem_partition.specs.Laws.{IsIn, Meets}
+use Rattle.mem_partition.specs.State.{PartState}
+use Rattle.elf_read.specs.declared.module.Module.{Module}
+use Rattle.elf_read.specs.Contents.{module_at}
+use Rattle.elf_read.specs.Modules.{IsModule}
+use Rattle.module_image.specs.declared.segments.Places.{Places}
+use Rattle.module_image.specs.Image.{image}
+use Rattle.module_loader.specs.declared.module.LoadErr.{LoadErr}
+use Rattle.module_loader.specs.Loading.{Piece, pieces_of, count_refusal, verdict, file_verdict, loaded}
+use Rattle.module_loader.specs.Live.{IsPiece}
+use Rattle.module_loader.proofs.Files.{is_file}
+use Rattle.module_loader.proofs.Owning.{write_law}
+use Rattle.wind_core.specs.State.{KernState, task_id, task_of}
+use Rattle.wind_core.specs.Moves.{change_task, past_gate, leave_gate, set_errno, answer, with_answer as answered}
+use Rattle.kernel_calls.specs.State.{WorldState}
+use Rattle.kernel_calls.specs.Actors.{shell_id, caller_words}
+use Rattle.kernel_calls.specs.Calls.{left_gate}
+use Rattle.kernel_calls.specs.Kept.{IsWorld}
+use Rattle.kernel_calls.proofs.SemGoes.{drawn}
+use Rattle.live_loading.specs.Said.{FileSaid, Held, Missing, TooLong}
+use Rattle.live_loading.specs.Texts.{reason}
+use Rattle.live_loading.specs.Loading.{shell, loader_state, accepted, refused, by_verdict, effect, load_call}
+use Rattle.live_loading.specs.Laws.{IsFresh, OnlyLoads, AloneLaw}
+use Rattle.live_loading.proofs.Going.{is_loader}
+
+-- ---- the tasks and the counters
+record Alike (k j : KernState) : Type 0 where
+  others : (id : ℕ) → (id ≡ shell_id → ⊥) → task_of j.tasks id ≡ task_of k.tasks id
+  tick : j.tick ≡ k.tick
+  slice : j.slice ≡ k.slice
+  sinces : j.next_since ≡ k.next_since
+  last : j.last ≡ k.last
+  ids : k.next_id ≤ j.next_id
+
+alike_on : (k j i : KernState) → Alike k j → Alike j i → Alike k i
+alike_on k j i a b = record {
+  others = λ id other. b.others id other ∙ a.others id other;
+  tick = b.tick ∙ a.tick;
+  slice = b.slice ∙ a.slice;
+  sinces = b.sinces ∙ a.sinces;
+  last = b.last ∙ a.last;
+  ids = omega (arith, a.ids, b.ids);
+}
+
+-- a change of the shell's task changes no other
+others_stay : (f : Task → Task) → ((t : Task) → (f t).id ≡ t.id) → (ts : List Task) (id : ℕ) → (id ≡ shell_id → ⊥) → task_of (change task_id ts shell_id f) id ≡ task_of ts id
+others_stay f keeps [] id other = refl
+others_stay f keeps (t ∷ ts) id other =
+    ap (λ o. cond (eqb (cond (eqb t.id shell_id) (f t) t).id id) (Some (cond (eqb t.id shell_id) (f t) t)) o) (others_stay f keeps ts id other)
+    ∙ elim (cases_eq t.id shell_id) [
+      | inl same ↦
+          ap (λ b. cond (eqb (cond b (f t) t).id id) (Some (cond b (f t) t)) (task_of ts id)) (eq-eqb t.id shell_id same)
+          ∙ ap (λ b. cond b (Some (f t)) (task_of ts id)) (ne_eqb (f t).id id (λ e. other (sym e ∙ (keeps t ∙ same))))
+          ∙ sym (ap (λ b. cond b (Some t) (task_of ts id)) (ne_eqb t.id id (λ e. other (sym e ∙ same))))
+      | inr differs ↦ ap (λ b. cond (eqb (cond b (f t) t).id id) (Some (cond b (f t) t)) (task_of ts id)) (ne_eqb t.id shell_id differs)
+    ]
+
+alike_change : (k : KernState) (f : Task → Task) → ((t : Task) → (f t).id ≡ t.id) → Alike k (change_task k shell_id f)
+alike_change k f keeps = record { others = λ id other. others_stay f keeps k.tasks id other; tick = refl; slice = refl; sinces = refl; last = refl; ids = omega arith }
+
+alike_left : (k : KernState) → Alike k (leave_gate k shell_id)
+alike_left k = alike_change k past_gate (λ t. refl)
+
+alike_answer : (k : KernState) (value : ℕ) → Alike k (answer k shell_id value)
+alike_answer k value = alike_change k (answered value) (λ t. refl)
+
+alike_refused : (k : KernState) → Alike k (answer (set_errno (leave_gate k shell_id) shell_id (errno_number errors.LoadFailed)) shell_id ok_word)
+alike_refused k =
+    let j = leave_gate k shell_id in
+    let i = set_errno j shell_id (errno_number errors.LoadFailed) in
+    alike_on k j (answer i shell_id ok_word) (alike_left k)
+    (alike_on j i (answer i shell_id ok_word) (alike_change j (λ t. record t { errno = errno_number errors.LoadFailed }) (λ t. refl)) (alike_answer i ok_word))
+
+alike_drawn : (k : KernState) → Alike k (drawn k)
+alike_drawn k = record { others = λ id other. refl; tick = refl; slice = refl; sinces = refl; last = refl; ids = omega arith }
+
+alike_accepted : (k : KernState) (value : ℕ) → Alike k (answer (drawn (leave_gate k shell_id)) shell_id value)
+alike_accepted k value =
+    let j = leave_gate k shell_id in
+    alike_on k j (answer (drawn j) shell_id value) (alike_left k) (alike_on j (drawn j) (answer (drawn j) shell_id value) (alike_drawn j) (alike_answer (drawn j) value))
+
+-- ---- a refused load
+refused_alone : (w : WorldState) (name words : List ℕ) → OnlyLoads w (refused (left_gate w shell) name words)
+refused_alone w name words =
+    let a = alike_refused w.kern in
+    record { objects = refl; slots = refl; names = refl; watch = refl; int_errno = refl; others = a.others; tick = a.tick; slice = a.slice; sinces = a.sinces; last = a.last; ids = a.ids; ram = λ a out. refl }
+
+-- ---- an accepted load
+module _ (w : WorldState) (kept : IsWorld w) (name : List ℕ) (m : Module) (mode : ℕ) (at : Places) (known : IsModule m) (ok : verdict (loader_state (left_gate w shell)) m mode ≡ Ok at) where
+  -- the verdict is the same before the shell's task leaves its gate
+  same_verdict : verdict (loader_state w) m mode ≡ Ok at
+  unfolding verdict count_refusal
+  same_verdict = ok
+
+  -- a byte of a segment lies in a block that wasn't there
+  fresh_byte : (v : WorldState) (a : ℕ) (p : Piece) → v.part ≡ (loaded (loader_state w) name m mode at).part → IsPiece p (pieces_of at (image m w.symbols at)) → IsIn a p.0 (length p.1) → IsFresh w v a
+  fresh_byte v a p part piece inside =
+      elim (write_law.own (loader_state w) name m mode at p (is_loader w kept) known same_verdict piece) [
+        | inl empty ↦ absurd (omega (arith, empty, inside.0, inside.1))
+        | inr (b, has, class, addr, size) ↦
+            let low : b.addr ≤ a = omega (arith, addr, inside.0) in
+            let high : a < b.addr + b.size = omega (arith, addr, size, inside.1) in (
+              b,
+              subst (λ (q : PartState). Contains q.blocks b) (sym part) has,
+              λ old. All-contains (λ c. Meets (length p.1) p.0 c → ⊥) w.part.blocks b (write_law.fresh (loader_state w) m mode at p (is_loader w kept) known same_verdict piece) old (a, inside, (low, high)),
+              (low, high),
+            )
+      ]
+
+  accepted_alone : OnlyLoads w (accepted (left_gate w shell) name mode m at)
+  unfolding loaded
+  accepted_alone =
+      let k = alike_accepted w.kern w.kern.next_id in
+      let v = accepted (left_gate w shell) name mode m at in
+      record {
+        objects = refl;
+        slots = refl;
+        names = refl;
+        watch = refl;
+        int_errno = refl;
+        others = k.others;
+        tick = k.tick;
+        slice = k.slice;
+        sinces = k.sinces;
+        last = k.last;
+        ids = k.ids;
+        ram = λ a out. write_law.outside (loader_state w) name m mode at a (is_loader w kept) known same_verdict (λ p piece inside. out (fresh_byte v a p refl piece inside));
+      }
+
+-- ---- the call
+effect_alone : (w : WorldState) (kept : IsWorld w) (name : List ℕ) (mode : ℕ) (said : FileSaid) → OnlyLoads w (effect (left_gate w shell) name mode said)
+effect_alone w kept name mode Missing = refused_alone w name (codes "not found")
+effect_alone w kept name mode TooLong = refused_alone w name (codes "too long")
+effect_alone w kept name mode (Held file) = go (file_verdict (loader_state (left_gate w shell)) file mode) refl where
+  go : (v : Result Places LoadErr) → file_verdict (loader_state (left_gate w shell)) file mode ≡ v → OnlyLoads w (by_verdict (left_gate w shell) name mode (module_at file) v)
+  go (Err e) same = refused_alone w name (reason e)
+  go (Ok at) same =
+      let f = is_file (loader_state (left_gate w shell)) file mode at same in
+      accepted_alone w kept name (module_at file) mode at f.known f.verdict
+
+pub alone_law : AloneLaw
+unfolding load_call
+alone_law w name said kept may = effect_alone w kept name (slice_index (caller_words w shell) 3) said

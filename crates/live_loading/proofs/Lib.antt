@@ -1,0 +1,5 @@
+pub mod Counted
+pub mod Going
+pub mod Alone
+pub mod Lines
+pub mod Whole

@@ -1,0 +1,60 @@
+//! How a load goes on for the shell's task.
+
+ghost use Rattle.std.specs.Prelude.{◌≡◌, ◌≤◌, length};
+ghost use Rattle.wind_base.specs.OutBuf.{KeepsSpace};
+ghost use Rattle.wind_core.specs.State.{Lives};
+ghost use Rattle.kernel_calls.specs.Actors.{shell_id as shell_id_lem};
+ghost use Rattle.kernel_calls.specs.Calls.{left_gate, with_answer};
+ghost use Rattle.kernel_calls.specs.Seen.{world_seen};
+ghost use Rattle.live_loading.specs.Causes.{cause_text};
+ghost use Rattle.live_loading.specs.Loading.{shell, writing, refused};
+ghost use Rattle.live_loading.specs.Texts.{undefined_text};
+
+use crate::text::{Cause, add_refusal, add_undefined};
+use id_table::Ident;
+use kernel_calls::World;
+use module_loader::Loaded;
+use wind_base::words::OK;
+use wind_base::{Errno, Name};
+use wind_outside::Device;
+
+/// The id of the shell's task.
+pub(crate) fn shell_id() -> Ident
+    ensures { result ≡ shell_id_lem }
+{
+    match Ident::new(1) {
+        Some(id) => id,
+        None => unreachable!(),
+    }
+}
+
+/// Nothing is loaded: the shell's task goes on behind its gate, the reason is written, and the answer is 0.
+pub(crate) fn refuse(w: &mut World, name: &Name, cause: Cause)
+    requires live { Lives w.old.kern shell_id_lem }
+    requires room { 4096 ≤ w.old.out.room }
+    ensures world { world_seen ⟦<dyn Device as Device>⟧ w.new
+        ≡ refused (left_gate (world_seen ⟦<dyn Device as Device>⟧ w.old) shell) name.now (cause_text cause) }
+    ensures space { KeepsSpace w.old.out w.new.out }
+{
+    let who = shell_id();
+    w.kern.leave_gate(who);
+    add_refusal(&mut w.out, name, cause);
+    w.kern.set_errno(who, Errno::LoadFailed.number());
+    w.kern.answer(who, OK);
+}
+
+/// A module is loaded: the shell's task goes on behind its gate, the names that nothing defines are written, and the
+/// answer is the module's id.
+pub(crate) fn accept(w: &mut World, loaded: &Loaded)
+    requires live { Lives w.old.kern shell_id_lem }
+    requires room { length (undefined_text loaded.now.undefined) ≤ w.old.out.room }
+    ensures world { world_seen ⟦<dyn Device as Device>⟧ w.new
+        ≡ with_answer (writing (left_gate (world_seen ⟦<dyn Device as Device>⟧ w.old) shell)
+        (undefined_text loaded.now.undefined)) shell loaded.now.id }
+    ensures space { KeepsSpace w.old.out w.new.out }
+{
+    let who = shell_id();
+    w.kern.leave_gate(who);
+    add_undefined(&mut w.out, loaded.undefined.as_slice());
+    w.kern.answer(who, loaded.id.get());
+}
