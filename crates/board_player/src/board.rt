@@ -109,7 +109,7 @@ impl Board {
 
     /// Makes the next step, if there is one and it asks for no file. Host memory may run out only where that is said of
     /// the state. Nothing changes unless the step is made.
-    #[tactic(auto, using(crate::proofs::Answering::unasked_steps, crate::proofs::Answering::unasked_over, crate::proofs::Answering::over_plain, crate::proofs::Answering::asking_goes_on, wind_machine::proofs::Asking::asked_may))]
+    #[tactic(auto, using(crate::proofs::Answering::unasked_steps, crate::proofs::Answering::unasked_over, crate::proofs::Answering::over_plain, crate::proofs::Answering::asking_goes_on, wind_machine::proofs::Asking::asked_lacks))]
     pub fn step(&mut self) -> Step
         requires { (seen ⟦<dyn Device as Device>⟧ self.old).steps < most_steps }
         ensures stepped { result ≡ steps.Stepped → Steps (seen ⟦<dyn Device as Device>⟧ self.old)
@@ -139,7 +139,6 @@ impl Board {
 
     /// Makes the next step, which loads the file of this name, with what is said of that file. It is made, unless host
     /// memory runs out; nothing changes then.
-    #[tactic(auto, using(crate::proofs::Answering::loads, wind_machine::proofs::Asking::asked_may))]
     pub fn step_load(&mut self, name: &Name, file: &FileAnswer) -> Result<(), NoMemory>
         requires few { (seen ⟦<dyn Device as Device>⟧ self.old).steps < most_steps }
         requires asked { file_asked (seen ⟦<dyn Device as Device>⟧ self.old) ≡ Some name.now }

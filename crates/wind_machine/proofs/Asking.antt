@@ -1,5 +1,5 @@
 -- Who makes the step that asks for a file.
-use Rattle.std.proofs.Common.{◌≡◌, ℕ, true, false, not, ◌&&◌, cond, eqb, List, Option, None, Some, is_some, refl, sym, ap, ◌∙◌, subst}
+use Rattle.std.proofs.Common.{◌≡◌, ℕ, true, false, not, ◌&&◌, cond, eqb, List, Option, None, Some, IsSome, is_some, refl, sym, ap, ◌∙◌, subst}
 use Rattle.std.specs.Prelude.{slice_index, unwrap_or}
 use Rattle.std.specs.Option.{option_map}
 use Rattle.std.proofs.lemmas.Bool.{eqb-true}
@@ -133,3 +133,10 @@ asked_may s name e =
         ]
       ]
     ] own.who
+
+pub asked_lacks : (s : State) → IsSome (file_asked s) → may_lack_memory s ≡ true
+asked_lacks s some =
+    elim (file_asked s) as (λ o. file_asked s ≡ o → IsSome o → may_lack_memory s ≡ true) [
+      | None ↦ λ e h. absurd (cc)
+      | Some name ↦ λ e h. asked_may s name e
+    ] refl some
