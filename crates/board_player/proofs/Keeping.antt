@@ -1,5 +1,6 @@
 -- The board keeps the facts.
-use Rattle.std.proofs.Common.{◌≡◌, ◌≢◌, ℕ, ◌<◌, ◌^◌, List, Option, None, Some, IfSome, refl, sym, ap, ◌∙◌, subst}
+use Rattle.std.proofs.Common.{◌≡◌, ◌≢◌, ℕ, ◌<◌, ◌^◌, List, Option, None, Some, IfSome, Result, Ok, Err, refl, sym, ap, ◌∙◌, subst}
+use Rattle.std.specs.Prelude.{OnOk, OnErr}
 use Rattle.std.specs.Option.{option_map}
 use Rattle.wind_outside.specs.Devices.{DeviceState}
 use Rattle.tick_file.specs.Schedule.{Timed, Timetable, at}
@@ -12,9 +13,12 @@ use Rattle.wind_machine.specs.State.{ShellState, State}
 use Rattle.wind_machine.specs.Shell.{at_prompt}
 use Rattle.wind_machine.specs.Good.{Good}
 use Rattle.wind_machine.specs.Laws.{StartLaw, StepLaw}
-use Rattle.wind_machine.specs.Machine.{opening, machine_step, next_event}
-use Rattle.board_player.specs.declared.Step.{Step}
-use Rattle.board_player.specs.declared.Step.TheVariants as steps
+use Rattle.live_loading.specs.Said.{FileSaid, Missing}
+use Rattle.wind_base.specs.declared.NoMemory.{NoMemory}
+use Rattle.wind_machine.specs.Machine.{opening, plain_step, file_asked, load_step, next_event}
+use Rattle.board_player.specs.declared.order.Made.{Made}
+use Rattle.board_player.specs.declared.order.Made.TheVariants as made
+use Rattle.board_player.proofs.Answering.{plain, loads}
 
 -- the board at the start
 pub booted : StartLaw → (console : List ℕ) (slots : List (Option DeviceState)) (left : List ℕ) (screen : ConsoleState) (shell : ShellState) (w : WorldState) (schedule : Timetable) (time made : ℕ)
@@ -30,11 +34,16 @@ booted law console slots left screen shell w schedule time made l s h e t m =
     (subst (λ x. Good (record { left = console; console = opening_console; shell = at_prompt; world = opening_world slots; schedule = schedule; time = 0; steps = x })) (sym m)
     (law console schedule slots))))))
 
--- a step
-pub kept : StepLaw → (r : Step) (s t : State) → IfSome (next_event s) IsEarly → Good s → (r ≡ steps.Stepped → machine_step s ≡ Some t) → (r ≢ steps.Stepped → t ≡ s) → Good t
-kept law steps.Stepped s t early good stepped same = law s t early good (stepped refl)
-kept law steps.Quiet s t early good stepped same = subst Good (sym (same (λ e. cc))) good
-kept law steps.NoMemory s t early good stepped same = subst Good (sym (same (λ e. cc))) good
+-- a step that asks for no file
+pub kept : StepLaw → (r : Made) (s t : State) → IfSome (next_event s) IsEarly → Good s → file_asked s ≡ None → (r ≡ made.Stepped → plain_step s ≡ Some t) → (r ≢ made.Stepped → t ≡ s) → Good t
+kept law made.Stepped s t early good asked stepped same = law Missing s t early good (plain Missing s asked ∙ stepped refl)
+kept law made.Quiet s t early good asked stepped same = subst Good (sym (same (λ e. cc))) good
+kept law made.NoMemory s t early good asked stepped same = subst Good (sym (same (λ e. cc))) good
+
+-- a step that loads a file
+pub kept_loading : StepLaw → (said : FileSaid) (r : Result Unit NoMemory) (s t : State) (name : List ℕ) → IfSome (next_event s) IsEarly → Good s → file_asked s ≡ Some name → OnOk r (t ≡ load_step said s name) → OnErr r (t ≡ s) → Good t
+kept_loading law said (Ok u) s t name early good asked ok err = law said s t early good (loads said s name asked ∙ ap Some (sym ok))
+kept_loading law said (Err e) s t name early good asked ok err = subst Good (sym err) good
 
 -- the next event comes before 2^64
 pub early_some : (o : Option Timed) (time : ℕ) (event : Event) → Some (time, event) ≡ option_map at o → time < 2 ^ 64 → IfSome o IsEarly

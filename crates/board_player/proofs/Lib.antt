@@ -3,8 +3,10 @@ pub mod Bytes
 pub mod Dropped
 pub mod Executed
 pub mod FeedLemmas
-pub mod Keeping
 pub mod Readied
 pub mod Running
+pub mod Asked
+pub mod Answering
+pub mod Keeping
 pub mod Stepping
 pub mod Going

@@ -11,10 +11,10 @@ use Rattle.kernel_calls.specs.Objects.{IsReady}
 use Rattle.con_line.specs.Lines.{has_line}
 use Rattle.wind_machine.specs.State.{State}
 use Rattle.wind_machine.specs.Task.{waits_for_console}
-use Rattle.wind_machine.specs.Machine.{event_of, holds_back, is_open, next_event, due_at, due_event, console_is_due, arrival, is_active, routine_step, jump_to, step_of, run_step, actor_step, quiet_step, step_by, machine_step, who_may, runner_may, may_lack_memory}
+use Rattle.wind_machine.specs.Machine.{event_of, holds_back, is_open, next_event, due_at, due_event, console_is_due, arrival, is_active, routine_step, jump_to, step_of, run_step, actor_step, quiet_step, step_by, plain_step, who_may, runner_may, may_lack_memory}
 use Rattle.wind_machine.proofs.Free.{runner_ready}
-use Rattle.board_player.specs.declared.Step.{Step}
-use Rattle.board_player.specs.declared.Step.TheVariants as steps
+use Rattle.board_player.specs.declared.order.Made.{Made}
+use Rattle.board_player.specs.declared.order.Made.TheVariants as steps
 
 -- whoever runs is ready
 pub runner_is_ready : (k : KernState) → IsKern k → (who : ℕ) → Some who ≡ option_map task_id (running k) → IsReady k who
@@ -36,8 +36,8 @@ nobody s None e = refl
 nobody s (Some t) e = absurd (cc)
 
 -- the step is that of whoever runs
-pub runs : (s : State) (who : ℕ) → is_active s.world ≡ false → None ≡ option_map event_of (due_event s) → false ≡ console_is_due s → Some who ≡ option_map task_id (running s.world.kern) → machine_step s ≡ Some (step_of s who)
-unfolding machine_step
+pub runs : (s : State) (who : ℕ) → is_active s.world ≡ false → None ≡ option_map event_of (due_event s) → false ≡ console_is_due s → Some who ≡ option_map task_id (running s.world.kern) → plain_step s ≡ Some (step_of s who)
+unfolding plain_step
 runs s who idle none silent runner =
     not_due s (due_event s) none
     ∙ ap (λ b. cond b (Some (arrival s)) (actor_step s)) (sym silent)
@@ -45,8 +45,8 @@ runs s who idle none silent runner =
     ∙ somebody s who (running s.world.kern) runner
 
 -- where no routine is active, and nothing else is due, time jumps
-pub jumps : (s : State) → is_active s.world ≡ false → None ≡ option_map event_of (due_event s) → false ≡ console_is_due s → None ≡ option_map task_id (running s.world.kern) → machine_step s ≡ jump_to s (next_event s)
-unfolding machine_step
+pub jumps : (s : State) → is_active s.world ≡ false → None ≡ option_map event_of (due_event s) → false ≡ console_is_due s → None ≡ option_map task_id (running s.world.kern) → plain_step s ≡ jump_to s (next_event s)
+unfolding plain_step
 jumps s idle none silent runner =
     not_due s (due_event s) none
     ∙ ap (λ b. cond b (Some (arrival s)) (actor_step s)) (sym silent)
@@ -54,8 +54,8 @@ jumps s idle none silent runner =
     ∙ nobody s (running s.world.kern) runner
 
 -- where a routine is active, the step is its own
-pub routine_runs : (s : State) → is_active s.world ≡ true → machine_step s ≡ Some (routine_step s)
-unfolding machine_step
+pub routine_runs : (s : State) → is_active s.world ≡ true → plain_step s ≡ Some (routine_step s)
+unfolding plain_step
 routine_runs s active =
     ap (λ b. step_by s (cond (not b && not (holds_back (running s.world.kern))) (due_at s.time (next_event s)) None)) active
     ∙ ap (λ b. cond (not b && not (holds_back (running s.world.kern)) && (s.schedule.on_demand && (not (eqb (length s.left) 0) && (waits_for_console s.world.kern && not (has_line s.console))))) (Some (arrival s)) (actor_step s)) active
@@ -82,14 +82,14 @@ may s who idle none silent runner =
     ∙ whose s who (running s.world.kern) runner
 
 -- ---- the answer
-pub ran : {A : Type 0} (made : Result A NoMemory) (r : Step) (s t : State) (who : ℕ) → machine_step s ≡ Some (step_of s who) → OnOk made (r ≡ steps.Stepped) → OnErr made (r ≡ steps.NoMemory) → OnOk made (t ≡ step_of s who) → r ≡ steps.Stepped → machine_step s ≡ Some t
+pub ran : {A : Type 0} (made : Result A NoMemory) (r : Made) (s t : State) (who : ℕ) → plain_step s ≡ Some (step_of s who) → OnOk made (r ≡ steps.Stepped) → OnErr made (r ≡ steps.NoMemory) → OnOk made (t ≡ step_of s who) → r ≡ steps.Stepped → plain_step s ≡ Some t
 ran (Ok u) r s t who e ok err made q = e ∙ ap Some (sym made)
 ran (Err n) r s t who e ok err made q = absurd (cc)
 
-pub never_quiet : {A : Type 0} (made : Result A NoMemory) (r : Step) (s : State) (who : ℕ) → machine_step s ≡ Some (step_of s who) → OnOk made (r ≡ steps.Stepped) → OnErr made (r ≡ steps.NoMemory) → (r ≡ steps.Quiet) ↔ (machine_step s ≡ None)
+pub never_quiet : {A : Type 0} (made : Result A NoMemory) (r : Made) (s : State) (who : ℕ) → plain_step s ≡ Some (step_of s who) → OnOk made (r ≡ steps.Stepped) → OnErr made (r ≡ steps.NoMemory) → (r ≡ steps.Quiet) ↔ (plain_step s ≡ None)
 never_quiet (Ok u) r s who e ok err = (λ q. absurd (cc), λ none. absurd (cc))
 never_quiet (Err n) r s who e ok err = (λ q. absurd (cc), λ none. absurd (cc))
 
-pub lacks : {A : Type 0} (made : Result A NoMemory) (r : Step) (s : State) (who : ℕ) → may_lack_memory s ≡ who_may s who → OnOk made (r ≡ steps.Stepped) → OnErr made (r ≡ steps.NoMemory) → OnErr made (who_may s who ≡ true) → r ≡ steps.NoMemory → may_lack_memory s ≡ true
+pub lacks : {A : Type 0} (made : Result A NoMemory) (r : Made) (s : State) (who : ℕ) → may_lack_memory s ≡ who_may s who → OnOk made (r ≡ steps.Stepped) → OnErr made (r ≡ steps.NoMemory) → OnErr made (who_may s who ≡ true) → r ≡ steps.NoMemory → may_lack_memory s ≡ true
 lacks (Ok u) r s who e ok err memory q = absurd (cc)
 lacks (Err n) r s who e ok err memory q = e ∙ memory

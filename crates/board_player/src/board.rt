@@ -10,15 +10,17 @@ ghost use Rattle.wind_machine.specs.Good.{Good};
 use crate::Step;
 use crate::clock::Clock;
 use crate::feed::Feed;
-use crate::order::{Running, is_early, make_step};
+use crate::loading::{asked_file, load};
+use crate::order::{Made, Running, is_early, make_step};
 use crate::parts::Parts;
 use crate::shell::Shell;
 use con_line::Console;
 use kernel_calls::World;
+use live_loading::FileAnswer;
 use std::alloc::Global;
 use tick_file::Schedule;
-use wind_base::OutBuf;
 use wind_base::limits::CHUNK_BYTES;
+use wind_base::{Name, NoMemory, OutBuf};
 use wind_machine::step_law;
 use wind_outside::{Device, Slots};
 
@@ -97,28 +99,61 @@ impl Board {
 }
 
 impl Board {
-    ghost use Rattle.std.specs.Prelude.{◌≢◌, ◌↔◌, ◌<◌, Some, None, true};
+    ghost use Rattle.std.specs.Prelude.{◌≢◌, ◌↔◌, ◌<◌, Some, None, IfSome, OnOk, OnErr, true};
     ghost use Rattle.wind_base.specs.Limits.{most_steps};
-    ghost use Rattle.wind_machine.specs.Machine.{machine_step, may_lack_memory};
+    ghost use Rattle.live_loading.specs.Said.{said_of};
+    ghost use Rattle.wind_machine.specs.Machine.{file_asked, machine_step, Steps, IsOver, may_lack_memory};
+    ghost use Rattle.board_player.specs.Asking.{needed};
     ghost use Rattle.board_player.specs.Seen.{seen};
     ghost use Rattle.board_player.specs.declared.Step.TheVariants as steps;
 
-    /// Makes the next step, if there is one. Host memory may run out only where that is said of the state, and nothing
-    /// changes then.
+    /// Makes the next step, if there is one and it asks for no file. Host memory may run out only where that is said of
+    /// the state. Nothing changes unless the step is made.
+    #[tactic(auto, using(crate::proofs::Answering::unasked_steps, crate::proofs::Answering::unasked_over, crate::proofs::Answering::over_plain, crate::proofs::Answering::asking_goes_on, wind_machine::proofs::Asking::asked_lacks))]
     pub fn step(&mut self) -> Step
         requires { (seen ⟦<dyn Device as Device>⟧ self.old).steps < most_steps }
-        ensures stepped { result ≡ steps.Stepped → machine_step (seen ⟦<dyn Device as Device>⟧ self.old)
-            ≡ Some (seen ⟦<dyn Device as Device>⟧ self.new) }
+        ensures stepped { result ≡ steps.Stepped → Steps (seen ⟦<dyn Device as Device>⟧ self.old)
+            (seen ⟦<dyn Device as Device>⟧ self.new) }
         ensures counted { result ≡ steps.Stepped → (seen ⟦<dyn Device as Device>⟧ self.new).steps
             ≡ (seen ⟦<dyn Device as Device>⟧ self.old).steps + 1 }
-        ensures quiet { (result ≡ steps.Quiet) ↔ (machine_step (seen ⟦<dyn Device as Device>⟧ self.old) ≡ None) }
+        ensures quiet { (result ≡ steps.Quiet) ↔ IsOver (seen ⟦<dyn Device as Device>⟧ self.old) }
+        ensures file { IfSome (needed result) (λ name. file_asked (seen ⟦<dyn Device as Device>⟧ self.old) ≡ Some name) }
+        ensures unasked { result ≡ steps.Stepped → file_asked (seen ⟦<dyn Device as Device>⟧ self.old) ≡ None }
         ensures no_memory { result ≡ steps.NoMemory → may_lack_memory (seen ⟦<dyn Device as Device>⟧ self.old) ≡ true }
         ensures unchanged { result ≢ steps.Stepped → seen ⟦<dyn Device as Device>⟧ self.new
             ≡ seen ⟦<dyn Device as Device>⟧ self.old }
     {
         step_law();
         is_early(&self.parts);
-        make_step(&mut self.parts, &mut self.known)
+        match asked_file(&self.parts) {
+            Ok(None) => {}
+            Ok(Some(name)) => return Step::NeedsFile(name),
+            Err(NoMemory) => return Step::NoMemory,
+        }
+        match make_step(&mut self.parts, &mut self.known) {
+            Made::Stepped => Step::Stepped,
+            Made::Quiet => Step::Quiet,
+            Made::NoMemory => Step::NoMemory,
+        }
+    }
+
+    /// Makes the next step, which loads the file of this name, with what is said of that file. It is made, unless host
+    /// memory runs out; nothing changes then.
+    pub fn step_load(&mut self, name: &Name, file: &FileAnswer) -> Result<(), NoMemory>
+        requires few { (seen ⟦<dyn Device as Device>⟧ self.old).steps < most_steps }
+        requires asked { file_asked (seen ⟦<dyn Device as Device>⟧ self.old) ≡ Some name.now }
+        ensures stepped { OnOk result (machine_step (said_of file.now) (seen ⟦<dyn Device as Device>⟧ self.old)
+            ≡ Some (seen ⟦<dyn Device as Device>⟧ self.new)) }
+        ensures counted { OnOk result ((seen ⟦<dyn Device as Device>⟧ self.new).steps
+            ≡ (seen ⟦<dyn Device as Device>⟧ self.old).steps + 1) }
+        ensures no_memory { OnErr result (may_lack_memory (seen ⟦<dyn Device as Device>⟧ self.old) ≡ true) }
+        ensures unchanged { OnErr result (seen ⟦<dyn Device as Device>⟧ self.new
+            ≡ seen ⟦<dyn Device as Device>⟧ self.old) }
+    {
+        step_law();
+        is_early(&self.parts);
+        self.known = None;
+        load(&mut self.parts, name, file)
     }
 
     /// The bytes that the last step wrote.

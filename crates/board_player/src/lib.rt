@@ -5,6 +5,7 @@ mod arrival;
 mod board;
 mod clock;
 mod feed;
+mod loading;
 mod order;
 mod parts;
 mod processor;
@@ -18,13 +19,17 @@ mod turn;
 
 pub use board::Board;
 
+use wind_base::Name;
+
 /// What a call for the next step answers.
-#[derive(Clone, Copy, Debug, PartialEq, Eq)]
+#[derive(Drop)]
 pub enum Step {
     /// The step was made.
     Stepped,
     /// There is no further step.
     Quiet,
+    /// The step loads the file of this name, and is made by `step_load`. Nothing has changed.
+    NeedsFile(Name),
     /// Host memory ran out. The board is as it was before.
     NoMemory,
 }

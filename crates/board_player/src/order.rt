@@ -8,12 +8,11 @@ ghost use Rattle.wind_core.specs.Orders.{running as running_lem};
 ghost use Rattle.kernel_calls.specs.Objects.{IsReady};
 ghost use Rattle.wind_machine.specs.Good.{Good};
 ghost use Rattle.wind_machine.specs.Processor.{gate_under};
-ghost use Rattle.wind_machine.specs.Machine.{due_event as due_event_lem, event_of, console_is_due as console_is_due_lem, is_open as is_open_lem, is_active as is_active_lem, holds_back, next_event, shell_step, step_of, jump_to, machine_step, phase_may, gate_may, who_may, may_lack_memory};
+ghost use Rattle.wind_machine.specs.Machine.{due_event as due_event_lem, event_of, console_is_due as console_is_due_lem, is_open as is_open_lem, is_active as is_active_lem, holds_back, next_event, shell_step, step_of, jump_to, plain_step, phase_may, gate_may, who_may, may_lack_memory};
 ghost use Rattle.board_player.specs.Inside.{inside, parts_seen, IsSpacious};
 ghost use Rattle.board_player.specs.Going.{IsKnown, OnlyStepped};
-ghost use Rattle.board_player.specs.declared.Step.TheVariants as steps;
+ghost use Rattle.board_player.specs.declared.order.Made.TheVariants as steps;
 
-use crate::Step;
 use crate::parts::Parts;
 use crate::routine::step_routine;
 use crate::steps::{arrive, come, evaluate, jump, prompt, read, run};
@@ -35,15 +34,26 @@ fn when_due(next: (u64, Event), time: u128) -> Option<Event>
     }
 }
 
+/// What became of a step that asks for no file.
+#[derive(Clone, Copy, Debug, PartialEq, Eq)]
+pub enum Made {
+    /// It was made.
+    Stepped,
+    /// There is no such step.
+    Quiet,
+    /// Host memory ran out. Nothing has changed.
+    NoMemory,
+}
+
 /// Which task runs, and whether interrupts may come meanwhile.
 #[derive(Clone, Copy, Debug, PartialEq, Eq)]
 pub struct Running {
-    who: Option<Ident>,
-    is_open: bool,
+    pub(crate) who: Option<Ident>,
+    pub(crate) is_open: bool,
 }
 
-// Which task runs, which is asked where it is not known.
-fn asked(parts: &Parts) -> Running
+/// Which task runs, which is asked where it is not known.
+pub(crate) fn asked(parts: &Parts) -> Running
     ensures who { result.who ≡ option_map task_id (running_lem parts.now.world.kern) }
     ensures back { result.is_open ≡ not (holds_back (running_lem parts.now.world.kern)) }
 {
@@ -71,8 +81,8 @@ fn who_runs(parts: &Parts, known: Option<Running>) -> Running
     }
 }
 
-// The event that is due, if one is, where it is known whether interrupts may come.
-fn due_event(parts: &Parts, is_open: bool) -> Option<Event>
+/// The event that is due, if one is, where it is known whether interrupts may come.
+pub(crate) fn due_event(parts: &Parts, is_open: bool) -> Option<Event>
     requires { is_open ≡ is_open_lem (parts_seen ⟦<dyn Device as Device>⟧ parts.now) }
     ensures { result ≡ option_map event_of (due_event_lem (parts_seen ⟦<dyn Device as Device>⟧ parts.now)) }
 {
@@ -85,8 +95,8 @@ fn due_event(parts: &Parts, is_open: bool) -> Option<Event>
     }
 }
 
-// Whether the next chunk of the console is due.
-fn console_is_due(parts: &Parts, is_open: bool) -> bool
+/// Whether the next chunk of the console is due.
+pub(crate) fn console_is_due(parts: &Parts, is_open: bool) -> bool
     requires { is_open ≡ is_open_lem (parts_seen ⟦<dyn Device as Device>⟧ parts.now) }
     ensures { result ≡ console_is_due_lem (parts_seen ⟦<dyn Device as Device>⟧ parts.now) }
 {
@@ -172,13 +182,13 @@ fn jump_on(parts: &mut Parts) -> bool
 }
 
 // The answer of a step that may lack memory.
-fn step_of_result(made: Result<bool, NoMemory>) -> Step
+fn step_of_result(made: Result<bool, NoMemory>) -> Made
     ensures ok { OnOk made (result ≡ steps.Stepped) }
     ensures err { OnErr made (result ≡ steps.NoMemory) }
 {
     match made {
-        Ok(_) => Step::Stepped,
-        Err(NoMemory) => Step::NoMemory,
+        Ok(_) => Made::Stepped,
+        Err(NoMemory) => Made::NoMemory,
     }
 }
 
@@ -193,10 +203,10 @@ fn runs_on(now: Running, made: Result<bool, NoMemory>) -> Option<Running>
 }
 
 // The answer of a step that may be none.
-fn stepped_if(made: bool) -> Step
+fn stepped_if(made: bool) -> Made
     ensures { result ≡ (if made then steps.Stepped else steps.Quiet) }
 {
-    if made { Step::Stepped } else { Step::Quiet }
+    if made { Made::Stepped } else { Made::Quiet }
 }
 
 // A time of 64 bits.
@@ -218,16 +228,16 @@ pub(crate) fn is_early(parts: &Parts)
 
 // Makes the next step, if there is one, where no interrupt routine is active. For want of memory nothing changes. Who
 // runs is kept where it is known.
-#[tactic(auto, unfolding(wind_machine::specs::Machine::machine_step), using(crate::proofs::Running::opens))]
-fn step_tasks(parts: &mut Parts, known: &mut Option<Running>) -> Step
+#[tactic(auto, unfolding(wind_machine::specs::Machine::plain_step), using(crate::proofs::Running::opens))]
+fn step_tasks(parts: &mut Parts, known: &mut Option<Running>) -> Made
     requires idle { is_active_lem (parts_seen ⟦<dyn Device as Device>⟧ parts.old).world ≡ false }
     requires good { Good (inside parts.old) }
     requires few { parts.old.clock.steps < most_steps }
     requires space { IsSpacious parts.old }
     requires known { IsKnown parts.old.world.kern parts.old.world.watch.level known.old }
-    ensures stepped { result ≡ steps.Stepped → machine_step (parts_seen ⟦<dyn Device as Device>⟧ parts.old)
+    ensures stepped { result ≡ steps.Stepped → plain_step (parts_seen ⟦<dyn Device as Device>⟧ parts.old)
         ≡ Some (parts_seen ⟦<dyn Device as Device>⟧ parts.new) }
-    ensures quiet { (result ≡ steps.Quiet) ↔ (machine_step (parts_seen ⟦<dyn Device as Device>⟧ parts.old) ≡ None) }
+    ensures quiet { (result ≡ steps.Quiet) ↔ (plain_step (parts_seen ⟦<dyn Device as Device>⟧ parts.old) ≡ None) }
     ensures no_memory { result ≡ steps.NoMemory → may_lack_memory (parts_seen ⟦<dyn Device as Device>⟧ parts.old)
         ≡ true }
     ensures unchanged { result ≢ steps.Stepped → parts_seen ⟦<dyn Device as Device>⟧ parts.new
@@ -238,11 +248,11 @@ fn step_tasks(parts: &mut Parts, known: &mut Option<Running>) -> Step
     let now = who_runs(parts, known.take());
     if let Some(event) = due_event(parts, now.is_open) {
         come(parts, event);
-        return Step::Stepped;
+        return Made::Stepped;
     }
     if console_is_due(parts, now.is_open) {
         arrive(parts);
-        return Step::Stepped;
+        return Made::Stepped;
     }
     let Some(who) = now.who else {
         return stepped_if(jump_on(parts));
@@ -263,16 +273,17 @@ fn is_active(parts: &Parts, known: &Option<Running>) -> bool
     }
 }
 
-/// Makes the next step, if there is one. For want of memory nothing changes. Which task runs is kept where it is known.
+/// Makes the next step, if there is one, where it asks for no file. For want of memory nothing changes. Which task runs
+/// is kept where it is known.
 #[tactic(auto, using(crate::proofs::Running::routine_runs))]
-pub(crate) fn make_step(parts: &mut Parts, known: &mut Option<Running>) -> Step
+pub(crate) fn make_step(parts: &mut Parts, known: &mut Option<Running>) -> Made
     requires good { Good (inside parts.old) }
     requires few { parts.old.clock.steps < most_steps }
     requires space { IsSpacious parts.old }
     requires known { IsKnown parts.old.world.kern parts.old.world.watch.level known.old }
-    ensures stepped { result ≡ steps.Stepped → machine_step (parts_seen ⟦<dyn Device as Device>⟧ parts.old)
+    ensures stepped { result ≡ steps.Stepped → plain_step (parts_seen ⟦<dyn Device as Device>⟧ parts.old)
         ≡ Some (parts_seen ⟦<dyn Device as Device>⟧ parts.new) }
-    ensures quiet { (result ≡ steps.Quiet) ↔ (machine_step (parts_seen ⟦<dyn Device as Device>⟧ parts.old) ≡ None) }
+    ensures quiet { (result ≡ steps.Quiet) ↔ (plain_step (parts_seen ⟦<dyn Device as Device>⟧ parts.old) ≡ None) }
     ensures no_memory { result ≡ steps.NoMemory → may_lack_memory (parts_seen ⟦<dyn Device as Device>⟧ parts.old)
         ≡ true }
     ensures unchanged { result ≢ steps.Stepped → parts_seen ⟦<dyn Device as Device>⟧ parts.new
@@ -283,7 +294,7 @@ pub(crate) fn make_step(parts: &mut Parts, known: &mut Option<Running>) -> Step
     if is_active(parts, known) {
         step_routine(parts);
         *known = None;
-        return Step::Stepped;
+        return Made::Stepped;
     }
     step_tasks(parts, known)
 }

@@ -105,6 +105,7 @@ fn return_from(shell: &mut Shell, world: &mut World, who: Ident)
 }
 
 // A kernel call. For want of memory nothing changes.
+#[tactic(auto, using(crate::proofs::Asked::wanted_lacks))]
 fn call(alloc: Global, world: &mut World, who: Ident, gate: Gate) -> Result<(), NoMemory>
     requires built { is_built_lem gate ≡ true }
     requires live { Lives world.old.kern who }
@@ -120,7 +121,8 @@ fn call(alloc: Global, world: &mut World, who: Ident, gate: Gate) -> Result<(), 
     ensures space { HoldsSpace world.old.out world.new.out }
 {
     match kernel_call(alloc, world, gate, &Actor::Task(who)) {
-        Called::NoMemory => Err(NoMemory),
+        // the file that a call asks for is asked for before its step, and nothing has changed
+        Called::NeedsFile(_) | Called::NoMemory => Err(NoMemory),
         Called::Done | Called::Pended | Called::Ended => {
             drop_own(&mut world.kern, who);
             Ok(())

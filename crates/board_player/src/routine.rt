@@ -81,7 +81,7 @@ fn call(alloc: Global, world: &mut World, gate: Gate)
     ensures space { HoldsSpace world.old.out world.new.out }
 {
     match kernel_call(alloc, world, gate, &Actor::Interrupt) {
-        Called::NoMemory => unreachable!(),
+        Called::NeedsFile(_) | Called::NoMemory => unreachable!(),
         Called::Done | Called::Pended | Called::Ended => drop_reserve(&mut world.watch),
     }
 }

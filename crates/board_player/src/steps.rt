@@ -31,8 +31,8 @@ use wind_base::text::add;
 use wind_base::{Gate, NoMemory};
 use wind_outside::Device;
 
-// The step of a task is made: it is the one that ran last.
-fn end(parts: &mut Parts, who: Ident)
+/// The step of a task is made: it is the one that ran last.
+pub(crate) fn end(parts: &mut Parts, who: Ident)
     requires time { parts.old.clock.time < 2 ^ 65 }
     requires few { parts.old.clock.steps < most_steps }
     requires space { IsSpacious parts.old }

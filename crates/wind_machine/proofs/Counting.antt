@@ -1,13 +1,14 @@
 -- Every step is counted.
-use Rattle.std.proofs.Common.{◌≡◌, ℕ, ◌+◌, true, false, cond, eqb, Option, None, Some, IfSome, refl, subst}
+use Rattle.std.proofs.Common.{◌≡◌, ℕ, ◌+◌, true, false, cond, eqb, List, Option, None, Some, IfSome, refl, subst}
 use Rattle.task_block.specs.declared.task.Task.{Task}
 use Rattle.tick_file.specs.Schedule.{Timed}
 use Rattle.tick_file.specs.declared.event.Event.{Event}
 use Rattle.tick_file.specs.declared.event.Event.TheVariants.{Tick, Rx}
 use Rattle.wind_core.specs.Orders.{running}
 use Rattle.kernel_calls.specs.Actors.{shell_id}
+use Rattle.live_loading.specs.Said.{FileSaid}
 use Rattle.wind_machine.specs.State.{State}
-use Rattle.wind_machine.specs.Machine.{event_comes, unreserved_world, without_next, arrival, shell_step, task_step, step_of, next_event, jump_to, console_is_due, is_active, routine_step, run_step, actor_step, quiet_step, step_by, due_event, machine_step}
+use Rattle.wind_machine.specs.Machine.{event_comes, unreserved_world, without_next, arrival, shell_step, task_step, step_of, next_event, jump_to, console_is_due, is_active, routine_step, run_step, actor_step, quiet_step, step_by, due_event, plain_step, file_asked, step_asking, machine_step}
 use Rattle.wind_machine.specs.declared.phase.Phase.{Phase}
 use Rattle.wind_machine.specs.declared.phase.Phase.TheVariants as phases
 
@@ -46,6 +47,14 @@ by_counted : (s : State) (o : Option Timed) → IfSome (step_by s o) (IsCounted 
 by_counted s None = quiet_counted s
 by_counted s (Some e) = event_counted (record s { schedule = without_next s.schedule; world = unreserved_world s.world }) e.event
 
-pub counted : (s t : State) → machine_step s ≡ Some t → t.steps ≡ s.steps + 1
+plain_counted : (s : State) → IfSome (plain_step s) (IsCounted s)
+unfolding plain_step
+plain_counted s = by_counted s (due_event s)
+
+asking_counted : (said : FileSaid) (s : State) (o : Option (List ℕ)) → IfSome (step_asking said s o) (IsCounted s)
+asking_counted said s None = plain_counted s
+asking_counted said s (Some name) = refl
+
+pub counted : (said : FileSaid) (s t : State) → machine_step said s ≡ Some t → t.steps ≡ s.steps + 1
 unfolding machine_step
-counted s t e = subst (λ o. IfSome o (IsCounted s)) e (by_counted s (due_event s))
+counted said s t e = subst (λ o. IfSome o (IsCounted s)) e (asking_counted said s (file_asked s))

@@ -11,12 +11,13 @@ use Rattle.tick_file.specs.declared.event.Event.{Event}
 use Rattle.tick_file.specs.declared.event.Event.TheVariants.{Tick, Rx}
 use Rattle.wind_core.specs.Orders.{running}
 use Rattle.kernel_calls.specs.Actors.{shell_id}
+use Rattle.live_loading.specs.Said.{FileSaid}
 use Rattle.wind_machine.specs.State.{State}
 use Rattle.wind_machine.specs.Good.{Good}
 use Rattle.tick_file.specs.Laws.{IsEarly, EarlyLaw}
 use Rattle.wind_machine.specs.Laws.{StartLaw, StepLaw, InstantLaw, SafetyLaw, OnlyUnsafeGo, RunLaw}
-use Rattle.wind_machine.specs.Run.{after}
-use Rattle.wind_machine.specs.Machine.{opening, shell_step, task_step, step_of, event_comes, unreserved_world, without_next, next_event, jump_to, arrival, console_is_due, is_active, routine_step, run_step, actor_step, quiet_step, step_by, due_event, machine_step}
+use Rattle.wind_machine.specs.Run.{Answers, after}
+use Rattle.wind_machine.specs.Machine.{opening, shell_step, task_step, step_of, event_comes, unreserved_world, without_next, next_event, jump_to, arrival, console_is_due, is_active, routine_step, run_step, actor_step, quiet_step, step_by, due_event, plain_step, file_asked, step_asking, machine_step}
 use Rattle.wind_machine.specs.declared.phase.Phase.{Phase}
 use Rattle.wind_machine.specs.declared.phase.Phase.TheVariants as phases
 
@@ -59,39 +60,47 @@ by_early : (s : State) (o : Option Timed) → IsOnTime s → IfSome (step_by s o
 by_early s None h = quiet_early s h
 by_early s (Some e) h = event_early (record s { schedule = without_next s.schedule; world = unreserved_world s.world }) e.event (All-drop IsEarly 1 s.schedule.events h)
 
-step_early : (s t : State) → IsOnTime s → machine_step s ≡ Some t → IsOnTime t
+plain_early : (s : State) → IsOnTime s → IfSome (plain_step s) IsOnTime
+unfolding plain_step
+plain_early s h = by_early s (due_event s) h
+
+asking_early : (said : FileSaid) (s : State) (o : Option (List ℕ)) → IsOnTime s → IfSome (step_asking said s o) IsOnTime
+asking_early said s None h = plain_early s h
+asking_early said s (Some name) h = h
+
+step_early : (said : FileSaid) (s t : State) → IsOnTime s → machine_step said s ≡ Some t → IsOnTime t
 unfolding machine_step
-step_early s t h e = subst (λ o. IfSome o IsOnTime) e (by_early s (due_event s) h)
+step_early said s t h e = subst (λ o. IfSome o IsOnTime) e (asking_early said s (file_asked s) h)
 
 starts_early : (console : List ℕ) (schedule : Timetable) (slots : List (Option DeviceState)) → All IsEarly schedule.events → IsOnTime (opening console schedule slots)
 unfolding opening
 starts_early console schedule slots h = h
 
-onward : StepLaw → (s : State) → Good s × IsOnTime s → Good (unwrap_or (machine_step s) s) × IsOnTime (unwrap_or (machine_step s) s)
-onward step s h =
-    elim (machine_step s) as (λ o. machine_step s ≡ o → Good (unwrap_or o s) × IsOnTime (unwrap_or o s)) [
+onward : StepLaw → (said : FileSaid) (s : State) → Good s × IsOnTime s → Good (unwrap_or (machine_step said s) s) × IsOnTime (unwrap_or (machine_step said s) s)
+onward step said s h =
+    elim (machine_step said s) as (λ o. machine_step said s ≡ o → Good (unwrap_or o s) × IsOnTime (unwrap_or o s)) [
       | None ↦ λ e. h
-      | Some t ↦ λ e. (step s t (next_early s.schedule.events h.1) h.0 e, step_early s t h.1 e)
+      | Some t ↦ λ e. (step said s t (next_early s.schedule.events h.1) h.0 e, step_early said s t h.1 e)
     ] refl
 
-course : StepLaw → (s : State) → Good s × IsOnTime s → (k : ℕ) → Good (after s k) × IsOnTime (after s k)
-course step s h zero = h
-course step s h (suc k) = onward step (after s k) (course step s h k)
+course : StepLaw → (said : Answers) (s : State) → Good s × IsOnTime s → (k : ℕ) → Good (after said s k) × IsOnTime (after said s k)
+course step said s h zero = h
+course step said s h (suc k) = onward step (said k) (after said s k) (course step said s h k)
 
 -- in the step that follows, if there is one
-next_safe : SafetyLaw → (s : State) → Good s → OnlyUnsafeGo s (unwrap_or (machine_step s) s)
-next_safe safety s g =
-    elim (machine_step s) as (λ o. machine_step s ≡ o → OnlyUnsafeGo s (unwrap_or o s)) [
+next_safe : SafetyLaw → (said : FileSaid) (s : State) → Good s → OnlyUnsafeGo s (unwrap_or (machine_step said s) s)
+next_safe safety said s g =
+    elim (machine_step said s) as (λ o. machine_step said s ≡ o → OnlyUnsafeGo s (unwrap_or o s)) [
       | None ↦ λ e id live dead. absurd (dead live)
-      | Some t ↦ λ e. safety s t g e
+      | Some t ↦ λ e. safety said s t g e
     ] refl
 
 pub runs_keep : StartLaw → StepLaw → InstantLaw → SafetyLaw → EarlyLaw → RunLaw
-runs_keep start step instant safety early console ticks slots k =
+runs_keep start step instant safety early said console ticks slots k =
     let begun = opening console (timetable_of ticks) slots in
-    let good = (course step begun (start console (timetable_of ticks) slots, starts_early console (timetable_of ticks) slots (early ticks)) k).0 in
+    let good = (course step said begun (start console (timetable_of ticks) slots, starts_early console (timetable_of ticks) slots (early ticks)) k).0 in
     record {
       kept = good;
-      instant = instant (after begun k) good;
-      safety = subst (λ n. OnlyUnsafeGo (after begun k) (after begun n)) (sym (add-one k)) (next_safe safety (after begun k) good);
+      instant = instant (after said begun k) good;
+      safety = subst (λ n. OnlyUnsafeGo (after said begun k) (after said begun n)) (sym (add-one k)) (next_safe safety (said k) (after said begun k) good);
     }

@@ -1,12 +1,11 @@
 -- What goes on where reservations are dropped.
-use Rattle.std.proofs.Common.{◌≡◌, ℕ, ◌<◌, Bool, true, false, cond, eqb, List, [], ◌∷◌, length, get_or, map, Option, Some, IfSome, IsSome, refl, sym, ap, ◌∙◌, subst, arith}
-use Rattle.std.specs.List.{All, AllPairs}
+use Rattle.std.proofs.Common.{◌≡◌, ℕ, Bool, true, false, cond, eqb, List, [], ◌∷◌, get_or, map, Option, Some, IsSome, refl, sym, ap, ◌∙◌, subst, arith}
+use Rattle.std.specs.List.{All}
 use Rattle.std.proofs.lemmas.Bool.{eqb-true}
-use Rattle.std.proofs.lemmas.List.{length-map, get_or-map}
 use Rattle.std.proofs.lemmas.List.Elements.{All-map, All-weaker}
 use Rattle.id_table.specs.declared.ident.Place.{Place}
 use Rattle.task_block.specs.declared.task.Task.{Task}
-use Rattle.wind_core.specs.State.{KernState, IsKern, WakesAhead, task_id}
+use Rattle.wind_core.specs.State.{KernState, task_id}
 use Rattle.wind_core.specs.Moves.{unreserved, unreserve}
 use Rattle.wind_core.proofs.Ids.{lives_by}
 use Rattle.kernel_calls.specs.State.{WorldState}

@@ -1,5 +1,5 @@
 -- Whoever runs is ready, and so waits for nothing.
-use Rattle.std.proofs.Common.{◌≡◌, ℕ, true, false, ◌&&◌, not, cond, eqb, List, [], ◌∷◌, map, Option, None, Some, IfSome, IsSome, is_none, refl, sym, ap, ◌∙◌, subst}
+use Rattle.std.proofs.Common.{◌≡◌, ℕ, true, false, cond, eqb, List, [], ◌∷◌, map, Option, Some, IfSome, IsSome, refl, sym, ap, ◌∙◌, subst}
 use Rattle.task_block.specs.declared.task.Task.{Task}
 use Rattle.task_block.specs.Standing.{is_ready}
 use Rattle.wind_lists.proofs.Records.{found_in}

@@ -7,7 +7,7 @@ use Rattle.task_block.specs.declared.task.Task.{Task}
 use Rattle.tick_file.specs.Schedule.{Timed}
 use Rattle.tick_file.specs.declared.event.Event.{Event}
 use Rattle.tick_file.specs.declared.event.Event.TheVariants.{Tick, Rx}
-use Rattle.wind_core.specs.State.{Lives, task_id, task_of}
+use Rattle.wind_core.specs.State.{Lives, task_of}
 use Rattle.wind_core.specs.Moves.{unreserved}
 use Rattle.wind_core.specs.Orders.{running}
 use Rattle.wind_core.specs.Tick.{tick}
@@ -18,22 +18,26 @@ use Rattle.con_line.specs.Lines.{has_line, front_line, line_dropped}
 use Rattle.kernel_calls.specs.Actors.{shell_id}
 use Rattle.kernel_calls.specs.Objects.{IsReady}
 use Rattle.kernel_calls.specs.declared.actor.Actor.TheVariants.{Task as by_task, Interrupt}
+use Rattle.live_loading.specs.Said.{FileSaid}
+use Rattle.live_loading.specs.Loading.{shell, load_call}
+use Rattle.live_loading.specs.Laws.{LoadLaw}
 use Rattle.wind_machine.specs.State.{State}
 use Rattle.wind_machine.specs.Good.{Good}
 use Rattle.wind_machine.specs.Feed.{chunk, after_chunk, brought}
-use Rattle.wind_machine.specs.Part.{Part}
+use Rattle.wind_machine.specs.Part.{Part, part_of}
 use Rattle.wind_machine.specs.Reserving.{unless_own, drop_all}
 use Rattle.wind_machine.specs.Shell.{prompt_part, read_part, eval_part}
-use Rattle.wind_machine.specs.Processor.{task_part}
+use Rattle.wind_machine.specs.Processor.{without_own, task_part}
 use Rattle.wind_machine.specs.Laws.{OnlyUnsafeGo, SafetyLaw}
-use Rattle.wind_machine.specs.Machine.{Heard, heard_by, arrived, arrival, event_comes, event_step, unreserved_world, without_next, at_turn, shell_world, task_step, shell_step, step_of, actor_of, runner, is_active, routine_step, actor_step, due_event, console_is_due, next_event, jump_to, run_step, quiet_step, step_by, machine_step}
+use Rattle.wind_machine.specs.Machine.{Heard, heard_by, arrived, arrival, event_comes, event_step, unreserved_world, without_next, at_turn, shell_world, task_step, shell_step, step_of, actor_of, runner, is_active, routine_step, actor_step, due_event, console_is_due, next_event, jump_to, run_step, quiet_step, step_by, plain_step, file_asked, load_step, step_asking, machine_step}
 use Rattle.wind_machine.specs.declared.phase.Phase.{Phase}
 use Rattle.wind_machine.specs.declared.phase.Phase.TheVariants as phases
+use Rattle.wind_machine.proofs.Asking.{shells, steps_as, shell_ready}
 use Rattle.wind_machine.proofs.Free.{runner_ready, runner_there}
 use Rattle.wind_machine.proofs.Hearing.{heard_keeps}
 use Rattle.wind_machine.proofs.Dropping.{all_advance}
 use Rattle.wind_machine.proofs.Parts.{PartKeeps}
-use Rattle.wind_machine.proofs.Steps.{at_turn_advances, routine_turns, prompts, reads, evaluates, acts, unreserved_keeps}
+use Rattle.wind_machine.proofs.Steps.{at_turn_advances, routine_turns, prompts, reads, evaluates, loads, acts, unreserved_keeps}
 
 -- a task is as safe at a turn as before it
 same_safe : (ts : List Task) (who id : ℕ) → safe_of (task_of (map (unless_own who) ts) id) ≡ safe_of (task_of ts id)
@@ -81,6 +85,16 @@ module _ (s : State) (g : Good s) where
     by_runner : (safe_of (task_of s.world.kern.tasks id) ≡ 0) ⊎ (t.id ≡ id) → (safe_of (task_of s.world.kern.tasks id) ≡ 0) ⊎ (runner s.world ≡ Some (by_task id))
     by_runner (inl safe) = inl safe
     by_runner (inr same) = inr (ap (λ b. cond b (Some Interrupt) (option_map actor_of (running s.world.kern))) idle ∙ ap (option_map actor_of) e ∙ ap (λ n. Some (by_task n)) same)
+
+  -- the step of a load is the shell's own
+  load_goes : LoadLaw → (name : List ℕ) (said : FileSaid) → file_asked s ≡ Some name → OnlyUnsafeGo s (load_step said s name)
+  load_goes law name said asked id live dead =
+      let own = (shells s name asked).who in
+      let part = part_of s.shell (without_own (load_call (shell_world s) name said) shell_id) in
+      ⊎_elim
+      (λ (safe : safe_of (task_of s.world.kern.tasks id) ≡ 0). inl safe)
+      (λ (itself : shell_id ≡ id). inr (steps_as s shell own ∙ ap (λ n. Some (by_task n)) itself))
+      (of_part shell_id (s.steps + 1) s.console.finished part (loads s g law (shell_ready s g own) name said) id live dead)
 
   -- ---- whoever lives lives on where bytes arrive
   arrived_stay : (left bytes : List ℕ) (h : Heard) → h ≡ heard_by s bytes → (id : ℕ) → Lives s.world.kern id → Lives (arrived s left h).world.kern id
@@ -134,6 +148,14 @@ steps_go : (s : State) (o : Option Timed) → Good s → IfSome (step_by s o) (O
 steps_go s None g = quiet_goes s g
 steps_go s (Some e) g = event_goes s e g
 
-pub safe_stay : SafetyLaw
+plain_goes : (s : State) → Good s → IfSome (plain_step s) (OnlyUnsafeGo s)
+unfolding plain_step
+plain_goes s g = steps_go s (due_event s) g
+
+asking_goes : LoadLaw → (said : FileSaid) (s : State) (o : Option (List ℕ)) → file_asked s ≡ o → Good s → IfSome (step_asking said s o) (OnlyUnsafeGo s)
+asking_goes law said s None e g = plain_goes s g
+asking_goes law said s (Some name) e g = load_goes s g law name said e
+
+pub safe_stay : LoadLaw → SafetyLaw
 unfolding machine_step
-safe_stay s t g e = subst (λ o. IfSome o (OnlyUnsafeGo s)) e (steps_go s (due_event s) g)
+safe_stay law said s t g e = subst (λ o. IfSome o (OnlyUnsafeGo s)) e (asking_goes law said s (file_asked s) refl g)

@@ -10,6 +10,7 @@ pub mod Hearing
 pub mod Parts
 pub mod Instants
 pub mod Routines
+pub mod Asking
 pub mod Steps
 pub mod Going
 pub mod Beginning

@@ -20,6 +20,9 @@ use Rattle.kernel_calls.proofs.Goes.{goes-suspend}
 use Rattle.kernel_calls.proofs.ObjectMoves.{objects-listen, objects-suspend}
 use Rattle.wind_machine.proofs.Hearing.{objects-aborted}
 use Rattle.kernel_calls.specs.Laws.{call_sinces}
+use Rattle.live_loading.specs.Said.{FileSaid}
+use Rattle.live_loading.specs.Loading.{load_call}
+use Rattle.live_loading.specs.Laws.{LoadLaw}
 use Rattle.kernel_calls.specs.Objects.{IsFree, IsReady}
 use Rattle.kernel_calls.proofs.Living.{ready_free}
 use Rattle.kernel_calls.proofs.Advancing.{by_kern}
@@ -89,6 +92,18 @@ module _ (w : WorldState) (n : ℕ) (kept : IsWorld w) (within : Within n w) whe
         let e = evaluate (eval_state w) p in
         let v = with_eval w e.state in
         comes_to e.ending behind v (ready_free w.kern shell_id ready) (more_counts w v shell_id n (evaluated_turns w shell_id n e.state kept within (keeps (eval_state w) p)))
+
+    -- ---- the load of a file
+    pub load_keeps : LoadLaw → (shell : ShellState) → HasItsLine shell.phase finished → IsReady w.kern shell_id → (name : List ℕ) (said : FileSaid)
+        → PartKeeps w (part_of shell (without_own (load_call w name said) shell_id)) shell_id (n + 1) finished
+    load_keeps law shell read ready name said =
+        let v = load_call w name said in
+        let u = without_own v shell_id in
+        let made = law w name said n kept ready within in
+        record {
+          turns = turns_then w v u shell_id (n + 1) (turns_passed w v shell_id (n + 1) call_sinces 1 (omega arith) (omega arith) made) (unreserve_advances v (n + 1) made.kept made.within shell_id);
+          read = read;
+        }
 
     -- ---- a step of any task
     module _ (shell : ShellState) (read : HasItsLine shell.phase finished) (who : ℕ) (live : Lives w.kern who) (ready : IsReady w.kern who) where

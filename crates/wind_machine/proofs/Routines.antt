@@ -1,8 +1,6 @@
 -- What a step of an interrupt routine keeps.
 use Rattle.std.proofs.Common.{◌≡◌, ℕ, ◌+◌, true, false, cond, eqb, List, ◌++◌, length, Option, None, Some, IsSome, is_some, refl, arith}
-use Rattle.std.specs.Option.{option_map}
 use Rattle.wind_base.specs.Gates.{gate_number}
-use Rattle.wind_base.specs.declared.regs.Regs.{Regs}
 use Rattle.wind_base.specs.declared.gate.Gate.{Gate}
 use Rattle.wind_base.specs.declared.gate.Gate.TheVariants as gates
 use Rattle.wind_outside.specs.Devices.{DeviceState}
@@ -20,7 +18,7 @@ use Rattle.kernel_calls.specs.Laws.{Passes, call_sinces}
 use Rattle.kernel_calls.specs.Calls.{call, is_built}
 use Rattle.kernel_calls.specs.declared.actor.Actor.TheVariants.{Interrupt}
 use Rattle.kernel_calls.proofs.Goes.{goes_nowhere}
-use Rattle.kernel_calls.proofs.Advancing.{Advances, advances_on, advances_more, beside, stays, of_watches, at_routine}
+use Rattle.kernel_calls.proofs.Advancing.{Advances, advances_on, advances_more, beside, of_watches, at_routine}
 use Rattle.kernel_calls.proofs.Passing.{call_passes}
 use Rattle.kernel_calls.proofs.Serves.{passes_by, passes_before}
 use Rattle.wind_machine.specs.Processor.{bus_of, with_bus}

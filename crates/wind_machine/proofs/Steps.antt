@@ -27,14 +27,17 @@ use Rattle.kernel_calls.specs.Objects.{IsReady}
 use Rattle.kernel_calls.proofs.ObjectMoves.{objects-last, objects-tick}
 use Rattle.kernel_calls.proofs.Holding.{loaded_on}
 use Rattle.kernel_calls.proofs.Advancing.{Advances, watch_on, by_kern, within_more}
+use Rattle.live_loading.specs.Said.{FileSaid}
+use Rattle.live_loading.specs.Loading.{load_call}
+use Rattle.live_loading.specs.Laws.{LoadLaw}
 use Rattle.wind_machine.specs.State.{State}
 use Rattle.wind_machine.specs.Good.{Good}
 use Rattle.wind_machine.specs.Feed.{chunk, after_chunk, brought}
-use Rattle.wind_machine.specs.Part.{Part}
+use Rattle.wind_machine.specs.Part.{Part, part_of}
 use Rattle.wind_machine.specs.Shell.{prompt_part, read_part, shell_read, eval_part}
-use Rattle.wind_machine.specs.Processor.{task_part}
+use Rattle.wind_machine.specs.Processor.{without_own, task_part}
 use Rattle.wind_machine.specs.Routine.{interrupt_top}
-use Rattle.wind_machine.specs.Machine.{Heard, heard_by, arrived, arrival, ticked, received, event_comes, event_step, unreserved_world, without_next, jump, at_turn, shell_world, cleared, stepped, prompt_step, read_step, eval_step, task_step, shell_step, step_of, is_active, routine_step, actor_step, due_event, console_is_due, next_event, jump_to, run_step, quiet_step, step_by, machine_step}
+use Rattle.wind_machine.specs.Machine.{Heard, heard_by, arrived, arrival, ticked, received, event_comes, event_step, unreserved_world, without_next, jump, at_turn, shell_world, cleared, stepped, prompt_step, read_step, eval_step, task_step, shell_step, step_of, is_active, routine_step, actor_step, due_event, console_is_due, next_event, jump_to, run_step, quiet_step, step_by, plain_step, file_asked, step_asking, machine_step}
 use Rattle.wind_machine.specs.declared.phase.Phase.{Phase}
 use Rattle.wind_machine.specs.declared.phase.Phase.TheVariants as phases
 use Rattle.wind_machine.proofs.Kept.{needs_none, prompt_has_line, read_phase}
@@ -43,7 +46,8 @@ use Rattle.wind_machine.proofs.Moves.{lent-tick, next-tick, last-tick, stacks-ti
 use Rattle.wind_machine.proofs.Free.{runner_ready, runner_there, turn_ready}
 use Rattle.wind_machine.proofs.Hearing.{heard_keeps, chunk_short}
 use Rattle.wind_machine.proofs.Routines.{RoutinePasses, routine_passes}
-use Rattle.wind_machine.proofs.Parts.{PartKeeps, prompt_turns, read_turns, eval_keeps, task_keeps}
+use Rattle.wind_machine.proofs.Asking.{shells, shell_ready}
+use Rattle.wind_machine.proofs.Parts.{PartKeeps, prompt_turns, read_turns, eval_keeps, load_keeps, task_keeps}
 
 -- from a good state
 module _ (s : State) (g : Good s) where
@@ -107,6 +111,12 @@ module _ (s : State) (g : Good s) where
   acts who live ready =
       let a = at_turn_advances who in
       task_keeps (at_turn s.world who) s.steps a.kept a.within s.console.finished s.shell g.read who (a.lives who live) (turn_ready s.world.kern who ready)
+
+  pub loads : LoadLaw → IsReady s.world.kern shell_id → (name : List ℕ) (said : FileSaid)
+      → PartKeeps (shell_world s) (part_of s.shell (without_own (load_call (shell_world s) name said) shell_id)) shell_id (s.steps + 1) s.console.finished
+  loads law ready name said =
+      let a = at_turn_advances shell_id in
+      load_keeps (shell_world s) s.steps a.kept a.within s.console.finished law s.shell g.read (turn_ready s.world.kern shell_id ready) name said
 
   prompt_keeps : Good (prompt_step s)
   prompt_keeps = stepped_keeps s.console shell_id (prompt_part (has_line s.console) s.shell (shell_world s)) g.console prompts
@@ -289,6 +299,16 @@ steps_keep : (s : State) (o : Option Timed) → IfSome (next_event s) IsEarly �
 steps_keep s None early g = quiet_keeps s g early
 steps_keep s (Some e) early g = event_keeps s e g
 
-pub step_keeps : (s t : State) → IfSome (next_event s) IsEarly → Good s → machine_step s ≡ Some t → Good t
+plain_keeps : (s : State) → IfSome (next_event s) IsEarly → Good s → IfSome (plain_step s) Good
+unfolding plain_step
+plain_keeps s early g = steps_keep s (due_event s) early g
+
+asking_keeps : LoadLaw → (said : FileSaid) (s : State) (o : Option (List ℕ)) → file_asked s ≡ o → IfSome (next_event s) IsEarly → Good s → IfSome (step_asking said s o) Good
+asking_keeps law said s None e early g = plain_keeps s early g
+asking_keeps law said s (Some name) e early g =
+    let part = part_of s.shell (without_own (load_call (shell_world s) name said) shell_id) in
+    stepped_keeps s g s.console shell_id part g.console (loads s g law (shell_ready s g (shells s name e).who) name said)
+
+pub step_keeps : LoadLaw → (said : FileSaid) (s t : State) → IfSome (next_event s) IsEarly → Good s → machine_step said s ≡ Some t → Good t
 unfolding machine_step
-step_keeps s t early g e = subst (λ o. IfSome o Good) e (steps_keep s (due_event s) early g)
+step_keeps law said s t early g e = subst (λ o. IfSome o Good) e (asking_keeps law said s (file_asked s) refl early g)

@@ -1,6 +1,7 @@
 -- What follows of the machine's definitions alone.
 use Rattle.std.specs.Prelude.{◌≡◌, ℕ, ◌+◌, List, Option, Some, IfSome, ◌⊎◌}
 use Rattle.wind_outside.specs.Devices.{DeviceState}
+use Rattle.live_loading.specs.Said.{FileSaid}
 use Rattle.tick_file.specs.Schedule.{Timetable, timetable_of}
 use Rattle.tick_file.specs.Laws.{IsEarly}
 use Rattle.wind_core.specs.State.{Lives, task_of}
@@ -9,20 +10,20 @@ use Rattle.kernel_calls.specs.declared.actor.Actor.TheVariants.{Task as by_task}
 use Rattle.wind_machine.specs.State.{State}
 use Rattle.wind_machine.specs.Good.{Good}
 use Rattle.wind_machine.specs.Instants.{IsInstant}
-use Rattle.wind_machine.specs.Run.{after}
+use Rattle.wind_machine.specs.Run.{Answers, after}
 use Rattle.wind_machine.specs.Machine.{runner, machine_step, next_event, opening}
 
 -- the opening state has the kept facts
 abbrev pub StartLaw : Type 0
 StartLaw = (console : List ℕ) (schedule : Timetable) (slots : List (Option DeviceState)) → Good (opening console schedule slots)
 
--- every step keeps them, where the next event comes before 2^64
+-- every step keeps them, whatever is said of a file, where the next event comes before 2^64
 abbrev pub StepLaw : Type 0
-StepLaw = (s t : State) → IfSome (next_event s) IsEarly → Good s → machine_step s ≡ Some t → Good t
+StepLaw = (said : FileSaid) (s t : State) → IfSome (next_event s) IsEarly → Good s → machine_step said s ≡ Some t → Good t
 
 -- every step is counted
 abbrev pub CountLaw : Type 0
-CountLaw = (s t : State) → machine_step s ≡ Some t → t.steps ≡ s.steps + 1
+CountLaw = (said : FileSaid) (s t : State) → machine_step said s ≡ Some t → t.steps ≡ s.steps + 1
 
 -- with the kept facts, whoever runs may run, owners inherit, and the others have their normal priority
 abbrev pub InstantLaw : Type 0
@@ -35,18 +36,18 @@ OnlyUnsafeGo s t = (id : ℕ) → Lives s.world.kern id → (Lives t.world.kern 
 
 -- so it is of every step from a state with the kept facts
 abbrev pub SafetyLaw : Type 0
-SafetyLaw = (s t : State) → Good s → machine_step s ≡ Some t → OnlyUnsafeGo s t
+SafetyLaw = (said : FileSaid) (s t : State) → Good s → machine_step said s ≡ Some t → OnlyUnsafeGo s t
 
--- the state after k steps with this console file and these events
-abbrev pub at_step : List ℕ → Timetable → List (Option DeviceState) → ℕ → State
-at_step console schedule slots k = after (opening console schedule slots) k
+-- the state after k steps with this console file and these events, and with what is said of the files that are asked for
+abbrev pub at_step : Answers → List ℕ → Timetable → List (Option DeviceState) → ℕ → State
+at_step said console schedule slots k = after said (opening console schedule slots) k
 
 -- what holds there: the kept facts, what is so at each instant, and that nobody safe goes in the step that follows
-pub record HoldsAfter (console : List ℕ) (schedule : Timetable) (slots : List (Option DeviceState)) (k : ℕ) : Type 0 where
-  pub kept : Good (at_step console schedule slots k)
-  pub instant : IsInstant (at_step console schedule slots k).world
-  pub safety : OnlyUnsafeGo (at_step console schedule slots k) (at_step console schedule slots (k + 1))
+pub record HoldsAfter (said : Answers) (console : List ℕ) (schedule : Timetable) (slots : List (Option DeviceState)) (k : ℕ) : Type 0 where
+  pub kept : Good (at_step said console schedule slots k)
+  pub instant : IsInstant (at_step said console schedule slots k).world
+  pub safety : OnlyUnsafeGo (at_step said console schedule slots k) (at_step said console schedule slots (k + 1))
 
--- so it is at every state of every run, whatever the console file, the tick file and the devices are
+-- so it is at every state of every run, whatever the console file, the tick file, the files of modules and the devices are
 abbrev pub RunLaw : Type 0
-RunLaw = (console ticks : List ℕ) (slots : List (Option DeviceState)) (k : ℕ) → HoldsAfter console (timetable_of ticks) slots k
+RunLaw = (said : Answers) (console ticks : List ℕ) (slots : List (Option DeviceState)) (k : ℕ) → HoldsAfter said console (timetable_of ticks) slots k

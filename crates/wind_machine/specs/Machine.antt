@@ -1,5 +1,5 @@
 -- The wind machine: its opening state and its step.
-use Rattle.std.specs.Prelude.{ℕ, ◌+◌, List, [], ◌++◌, Option, Some, None, is_some, Bool, true, false, ◌==◌, ◌&&◌, not, nat_le, if◌then◌else◌, length, fold, take, drop}
+use Rattle.std.specs.Prelude.{◌≡◌, ℕ, ◌+◌, List, [], ◌++◌, Option, Some, None, is_some, Bool, true, false, ◌==◌, ◌&&◌, not, nat_le, if◌then◌else◌, length, fold, take, drop}
 use Rattle.std.specs.Option.{option_map}
 use Rattle.wind_base.specs.declared.gate.Gate.{Gate}
 use Rattle.wind_outside.specs.Devices.{DeviceState}
@@ -21,17 +21,19 @@ use Rattle.con_line.specs.declared.console.ByteDone.{ByteDone}
 use Rattle.con_line.specs.declared.console.ByteDone.TheVariants as done
 use Rattle.kernel_calls.specs.State.{WorldState}
 use Rattle.kernel_calls.specs.Actors.{shell_id}
-use Rattle.kernel_calls.specs.Calls.{may_lack_memory as call_may_lack_memory}
+use Rattle.kernel_calls.specs.Calls.{file_wanted, may_lack_memory as call_may_lack_memory}
 use Rattle.kernel_calls.specs.Opening.{opening_world}
 use Rattle.kernel_calls.specs.declared.actor.Actor.{Actor}
 use Rattle.kernel_calls.specs.declared.actor.Actor.TheVariants.{Task as by_task, Interrupt}
+use Rattle.live_loading.specs.Said.{FileSaid}
+use Rattle.live_loading.specs.Loading.{shell, load_call}
 use Rattle.wind_machine.specs.State.{ShellState, State}
 use Rattle.wind_machine.specs.Feed.{chunk, after_chunk, brought}
 use Rattle.wind_machine.specs.Task.{waits_for_console, aborted}
 use Rattle.wind_machine.specs.Reserving.{drop_others, drop_all}
-use Rattle.wind_machine.specs.Part.{Part, with_kern}
+use Rattle.wind_machine.specs.Part.{Part, part_of, with_kern}
 use Rattle.wind_machine.specs.Shell.{at_prompt, prompt_part, read_part, eval_part}
-use Rattle.wind_machine.specs.Processor.{gate_under, task_part}
+use Rattle.wind_machine.specs.Processor.{gate_under, without_own, task_part}
 use Rattle.wind_machine.specs.Routine.{interrupt_top, routine_part}
 use Rattle.wind_machine.specs.declared.phase.Phase.{Phase}
 use Rattle.wind_machine.specs.declared.phase.Phase.TheVariants as phases
@@ -225,9 +227,53 @@ abbrev pub step_by : State → Option Timed → Option State
 step_by s (Some e) = Some (event_step s e)
 step_by s None = quiet_step s
 
--- the next step: an event that is due comes; else a chunk that is due arrives; else whoever runs makes a step, a routine before any task; else time jumps
-unfoldable pub machine_step : State → Option State
-machine_step s = step_by s (due_event s)
+-- the next step where no file is asked for: an event that is due comes; else a chunk that is due arrives; else whoever runs makes a step, a routine before any task; else time jumps
+unfoldable pub plain_step : State → Option State
+plain_step s = step_by s (due_event s)
+
+-- ---- the step that loads a file
+-- whose step the next one is, if it is a task's or a routine's
+abbrev pub stepping : State → Option Actor
+stepping s = if is_some (due_event s) then None else (if console_is_due s then None else runner s.world)
+
+-- the file that the shell's task asks for where it stands: at the gate of ld, the file of the name that it hands in
+abbrev pub file_at : Option Gate → WorldState → Option (List ℕ)
+file_at None w = None
+file_at (Some g) w = file_wanted g w shell
+
+-- it asks for one in a call alone
+abbrev pub file_in : Phase → WorldState → Option (List ℕ)
+file_in phases.Call w = file_at (gate_under w shell_id) w
+file_in phase w = None
+
+abbrev pub file_of : State → Option Actor → Option (List ℕ)
+file_of s None = None
+file_of s (Some Interrupt) = None
+file_of s (Some (by_task who)) = if who == shell_id then file_in s.shell.phase (shell_world s) else None
+
+-- the file that the next step asks for, if it is such a load
+unfoldable pub file_asked : State → Option (List ℕ)
+file_asked s = file_of s (stepping s)
+
+-- the load, with what is said of its file
+abbrev pub load_step : FileSaid → State → List ℕ → State
+load_step said s name = stepped s shell_id (part_of s.shell (without_own (load_call (shell_world s) name said) shell_id))
+
+-- ---- the next step
+abbrev pub step_asking : FileSaid → State → Option (List ℕ) → Option State
+step_asking said s None = plain_step s
+step_asking said s (Some name) = Some (load_step said s name)
+
+-- the next step, with what is said of the file that it asks for; where it asks for none, that counts for nothing
+unfoldable pub machine_step : FileSaid → State → Option State
+machine_step said s = step_asking said s (file_asked s)
+
+-- from one state to the next, whatever is said of a file; and there is no further step, whatever is said
+abbrev pub Steps : State → State → Type 0
+Steps s t = (said : FileSaid) → machine_step said s ≡ Some t
+
+abbrev pub IsOver : State → Type 0
+IsOver s = (said : FileSaid) → machine_step said s ≡ None
 
 -- ---- where a step may lack host memory
 -- in phases Read and Eval of the shell, and at a gate whose call may

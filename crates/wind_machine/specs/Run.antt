@@ -1,19 +1,24 @@
 -- Runs of the wind machine.
 use Rattle.std.specs.Prelude.{ℕ, zero, suc, List, [], ◌++◌, IsSome, ◌<◌, ◌≤◌, unwrap_or}
+use Rattle.live_loading.specs.Said.{FileSaid}
 use Rattle.wind_machine.specs.State.{State}
 use Rattle.wind_machine.specs.Machine.{machine_step}
 
+-- what is said at each step of the file that it asks for; a step that asks for none does not read it
+abbrev pub Answers : Type 0
+Answers = ℕ → FileSaid
+
 -- the state after k steps, or where there is no further step
-abbrev pub after : State → ℕ → State
-after s zero = s
-after s (suc k) = unwrap_or (machine_step (after s k)) (after s k)
+abbrev pub after : Answers → State → ℕ → State
+after said s zero = s
+after said s (suc k) = unwrap_or (machine_step (said k) (after said s k)) (after said s k)
 
 -- what the first k steps write
-abbrev pub text : State → ℕ → List ℕ
-text s zero = []
-text s (suc k) = text s k ++ (after s (suc k)).world.output
+abbrev pub text : Answers → State → ℕ → List ℕ
+text said s zero = []
+text said s (suc k) = text said s k ++ (after said s (suc k)).world.output
 
 -- a run of at most n steps makes the first k: there is a step at each state before
-pub record IsPart (s : State) (n k : ℕ) : Type 0 where
+pub record IsPart (said : Answers) (s : State) (n k : ℕ) : Type 0 where
   pub within : k ≤ n
-  pub steps : (j : ℕ) → j < k → IsSome (machine_step (after s j))
+  pub steps : (j : ℕ) → j < k → IsSome (machine_step (said j) (after said s j))

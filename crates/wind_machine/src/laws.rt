@@ -2,6 +2,7 @@
 
 ghost use Rattle.wind_machine.specs.Laws.{StartLaw, StepLaw, CountLaw, InstantLaw, SafetyLaw, RunLaw};
 
+use live_loading::loading_law;
 use tick_file::early_law;
 
 /// The law of the kept facts: the opening state has them, and every step of the wind machine keeps them, where the next
@@ -11,7 +12,9 @@ pub fn step_law()
     ensures start { StartLaw }
     ensures step { StepLaw }
     ensures count { CountLaw }
-{}
+{
+    loading_law();
+}
 
 /// The law of each instant: in every state with the kept facts, the task that runs where no interrupt routine is active
 /// lives and is ready, and no ready task is before it, unless it ran last and holds the lock; each live owner of an inversion-safe mutex is at least as urgent as
@@ -25,7 +28,9 @@ pub fn instant_law()
 /// its own.
 pub fn safety_law()
     ensures { SafetyLaw }
-{}
+{
+    loading_law();
+}
 
 /// The law of runs: for every console file, tick file and list of devices, the state after any number of steps has the
 /// kept facts and what is so at each instant, and nobody who is safe goes in the step that follows, unless it is its own.

@@ -9,7 +9,8 @@ use Rattle.kernel_calls.proofs.Apart.{queue_ids}
 use Rattle.wind_machine.specs.State.{State}
 use Rattle.wind_machine.specs.Good.{Good}
 use Rattle.wind_machine.specs.Machine.{opening}
-use Rattle.wind_machine.specs.Run.{after}
+use Rattle.wind_machine.specs.Run.{Answers, after}
+use Rattle.live_loading.specs.Laws.{AloneLaw}
 use Rattle.wind_machine.specs.Laws.{RunLaw}
 use Rattle.wind_messages.specs.Messages.{step_accepts, step_takes}
 use Rattle.wind_messages.specs.Laws.{ConservationLaw}
@@ -22,14 +23,16 @@ unfolding opening opening_world
 none_yet console ticks slots = refl
 
 -- a run from a state without queues on, with the kept facts at each state
-runs : (s : State) → (stock_in s.world).queues ≡ [] → ((k : ℕ) → Good (after s k)) → IsRun (λ k. stock_in (after s k).world) (λ k. step_accepts (after s k)) (λ k. step_takes (after s k))
-runs s none good = record {
+runs : AloneLaw → (said : Answers) (s : State) → (stock_in s.world).queues ≡ [] → ((k : ℕ) → Good (after said s k))
+    → IsRun (λ k. stock_in (after said s k).world) (λ k. step_accepts (after said s k)) (λ k. step_takes (after said s k))
+runs law said s none good = record {
   none = none;
-  below = λ k. queue_ids (after s k).world.kern (after s k).world.objects (good k).world.objects;
-  balanced = λ k. step_goes (after s k) (good k);
+  below = λ k. queue_ids (after said s k).world.kern (after said s k).world.objects (good k).world.objects;
+  balanced = λ k. step_goes (after said s k) (good k) law (said k);
 }
 
-pub conserved : RunLaw → ConservationLaw
-conserved law console ticks slots k q y here =
+pub conserved : AloneLaw → RunLaw → ConservationLaw
+conserved alone law said console ticks slots k q y here =
     let s : State = opening console (timetable_of ticks) slots in
-    run_conserved (λ j. stock_in (after s j).world) (λ j. step_accepts (after s j)) (λ j. step_takes (after s j)) (runs s (none_yet console ticks slots) (λ j. (law console ticks slots j).kept)) k q y here
+    run_conserved (λ j. stock_in (after said s j).world) (λ j. step_accepts (after said s j)) (λ j. step_takes (after said s j))
+    (runs alone said s (none_yet console ticks slots) (λ j. (law said console ticks slots j).kept)) k q y here

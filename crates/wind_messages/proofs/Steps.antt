@@ -1,5 +1,5 @@
 -- Each step of the machine goes with what the queues hold before and after it.
-use Rattle.std.proofs.Common.{◌≡◌, ℕ, Bool, true, false, cond, eqb, List, [], ◌∷◌, Option, None, Some, is_some, refl, sym, ◌∙◌, subst, arith}
+use Rattle.std.proofs.Common.{◌≡◌, ℕ, Bool, true, false, cond, eqb, List, [], ◌∷◌, Option, None, Some, is_some, refl, sym, ap, ◌∙◌, subst, arith}
 use Rattle.std.specs.Prelude.{unwrap_or, take, drop}
 use Rattle.std.specs.List.{fold}
 use Rattle.std.specs.Option.{option_map}
@@ -25,18 +25,23 @@ use Rattle.kernel_calls.specs.Calls.{scene_of, left_gate}
 use Rattle.kernel_calls.specs.declared.actor.Actor.{Actor}
 use Rattle.kernel_calls.specs.declared.actor.Actor.TheVariants.{Task as by_task, Interrupt}
 use Rattle.kernel_calls.proofs.Calming.{queues-calm}
+use Rattle.live_loading.specs.Said.{FileSaid}
+use Rattle.live_loading.specs.Loading.{shell, load_call}
+use Rattle.live_loading.specs.Laws.{AloneLaw}
 use Rattle.wind_machine.specs.State.{State}
 use Rattle.wind_machine.specs.Good.{Good}
 use Rattle.wind_machine.specs.Feed.{chunk, after_chunk, brought}
 use Rattle.wind_machine.specs.Task.{waits_for_console}
 use Rattle.wind_machine.specs.Shell.{read_part}
 use Rattle.wind_machine.specs.Processor.{gate_under}
-use Rattle.wind_machine.specs.Machine.{Heard, hear, heard_all, heard_from, heard_by, kern_after, arrived, arrival, event_comes, event_step, unreserved_world, without_next, next_event, jump_to, shell_world, task_step, shell_step, step_of, actor_of, runner, is_active, routine_step, due_event, console_is_due, run_step, actor_step, quiet_step, step_by, machine_step}
+use Rattle.wind_machine.specs.Machine.{Heard, hear, heard_all, heard_from, heard_by, kern_after, arrived, arrival, event_comes, event_step, unreserved_world, without_next, next_event, jump_to, shell_world, task_step, shell_step, step_of, actor_of, runner, is_active, routine_step, due_event, console_is_due, run_step, actor_step, quiet_step, step_by, plain_step, stepping, file_asked, load_step, step_asking, machine_step}
 use Rattle.wind_machine.specs.declared.phase.Phase.{Phase}
 use Rattle.wind_machine.specs.declared.phase.Phase.TheVariants as phases
 use Rattle.wind_machine.proofs.Dropping.{all_advance}
+use Rattle.wind_machine.proofs.Asking.{shells, at_load, shell_ready}
+use Rattle.wind_machine.proofs.Free.{turn_ready}
 use Rattle.wind_machine.proofs.Steps.{at_turn_advances}
-use Rattle.wind_messages.specs.Messages.{is_call, turn_world, task_call, task_scene, call_under, stepping, call_of, scene_by, routine_world, routine_scene}
+use Rattle.wind_messages.specs.Messages.{is_call, is_at_work, turn_world, task_call, task_scene, call_under, call_of, scene_by, routine_world, routine_scene}
 use Rattle.wind_messages.proofs.NextIds.{NextSame, next-if, next-release}
 use Rattle.wind_messages.proofs.Rows.{Balances, leaves}
 use Rattle.wind_messages.proofs.Parts.{next-aborted, prompts, evaluates, task_balances}
@@ -136,6 +141,30 @@ module _ (s : State) (g : Good s) where
   steps_go None = quiet_goes
   steps_go (Some e) = due_events s e
 
-  pub step_goes : Goes s (unwrap_or (machine_step s) s) (stepping s)
+  plain_goes : Goes s (unwrap_or (plain_step s) s) (stepping s)
+  unfolding plain_step
+  plain_goes = steps_go (due_event s)
+
+  -- ---- the load of a file moves no message
+  no_call : (name : List ℕ) → file_asked s ≡ Some name → task_call s shell_id ≡ None
+  no_call name e =
+      let at = at_load s.shell.phase (shell_world s) name (shells s name e).file in
+      let words : List ℕ = caller_words (shell_world s) shell in
+      elim (is_at_work s shell_id) as (λ b. cond b (call_under (gate_under (shell_world s) shell_id) shell_id words) None ≡ None) [ true ↦ ap (λ o. call_under o shell_id words) at.gate | false ↦ refl ]
+
+  load_goes : AloneLaw → (said : FileSaid) (name : List ℕ) → file_asked s ≡ Some name → Goes s (load_step said s name) (stepping s)
+  load_goes law said name e =
+      let own = (shells s name e).who in
+      let w : WorldState = shell_world s in
+      let alone = law w name said (at_turn_advances s g shell_id).kept (turn_ready s.world.kern shell_id (shell_ready s g own)) in
+      let here : Balances s.world (load_step said s name).world (task_scene s shell_id) None
+          = leaves w (load_step said s name).world (task_scene s shell_id) (ap (λ o. o.queues.queues) alone.objects) alone.ids in
+      subst (Goes s (load_step said s name)) (sym own) (subst (Balances s.world (load_step said s name).world (task_scene s shell_id)) (sym (no_call name e)) here)
+
+  asking_goes : AloneLaw → (said : FileSaid) (o : Option (List ℕ)) → file_asked s ≡ o → Goes s (unwrap_or (step_asking said s o) s) (stepping s)
+  asking_goes law said None e = plain_goes
+  asking_goes law said (Some name) e = load_goes law said name e
+
+  pub step_goes : AloneLaw → (said : FileSaid) → Goes s (unwrap_or (machine_step said s) s) (stepping s)
   unfolding machine_step
-  step_goes = steps_go (due_event s)
+  step_goes law said = asking_goes law said (file_asked s) refl

@@ -6,11 +6,11 @@ use Rattle.wind_outside.specs.Devices.{DeviceState}
 use Rattle.msg_queue.specs.State.{QueueState}
 use Rattle.msg_queue.specs.Laws.{IsConserved}
 use Rattle.wind_machine.specs.Machine.{opening}
-use Rattle.wind_machine.specs.Run.{after}
+use Rattle.wind_machine.specs.Run.{Answers, after}
 use Rattle.wind_messages.specs.Messages.{accepted, taken}
 
--- for every console file, tick file and list of devices, of each queue that is live after k steps: what was accepted is, each as often, what was taken followed by what the queue holds; and where none was urgent the two are equal, order included
+-- for every console file, tick file and list of devices, and whatever is said of the files of modules, of each queue that is live after k steps: what was accepted is, each as often, what was taken followed by what the queue holds; and where none was urgent the two are equal, order included
 abbrev pub ConservationLaw : Type 0
-ConservationLaw = (console ticks : List ℕ) (slots : List (Option DeviceState)) (k q : ℕ) (y : QueueState)
-    → object_of (after (opening console (timetable_of ticks) slots) k).world.objects.queues.queues q ≡ Some y
-    → IsConserved (accepted (opening console (timetable_of ticks) slots) q k) (taken (opening console (timetable_of ticks) slots) q k) y.held
+ConservationLaw = (said : Answers) (console ticks : List ℕ) (slots : List (Option DeviceState)) (k q : ℕ) (y : QueueState)
+    → object_of (after said (opening console (timetable_of ticks) slots) k).world.objects.queues.queues q ≡ Some y
+    → IsConserved (accepted said (opening console (timetable_of ticks) slots) q k) (taken said (opening console (timetable_of ticks) slots) q k) y.held

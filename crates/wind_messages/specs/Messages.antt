@@ -1,5 +1,5 @@
 -- Which messages each step of the wind machine moves into a queue and out of it.
-use Rattle.std.specs.Prelude.{ℕ, ◌==◌, Bool, true, false, if◌then◌else◌, List, Option, None, Some, is_some, slice_index}
+use Rattle.std.specs.Prelude.{ℕ, ◌==◌, Bool, true, false, if◌then◌else◌, List, Option, None, Some, slice_index}
 use Rattle.wind_base.specs.declared.gate.Gate.{Gate}
 use Rattle.wind_base.specs.declared.gate.Gate.TheVariants as gates
 use Rattle.msg_queue.specs.State.{Scene}
@@ -12,8 +12,8 @@ use Rattle.kernel_calls.specs.QueueRows.{sending}
 use Rattle.kernel_calls.specs.declared.actor.Actor.{Actor}
 use Rattle.kernel_calls.specs.declared.actor.Actor.TheVariants.{Task as by_task, Interrupt}
 use Rattle.wind_machine.specs.State.{State}
-use Rattle.wind_machine.specs.Run.{after}
-use Rattle.wind_machine.specs.Machine.{runner, due_event, console_is_due, cleared, unreserved_world, at_turn}
+use Rattle.wind_machine.specs.Run.{Answers, after}
+use Rattle.wind_machine.specs.Machine.{stepping, cleared, unreserved_world, at_turn}
 use Rattle.wind_machine.specs.Processor.{gate_under}
 use Rattle.wind_machine.specs.Routine.{routine_under}
 use Rattle.wind_machine.specs.declared.phase.Phase.{Phase}
@@ -72,10 +72,6 @@ abbrev pub routine_scene : State → Scene
 routine_scene s = scene_of (left_gate (routine_world s) Interrupt)
 
 -- ---- the next step
--- whose step it is, if it is a task's or a routine's
-abbrev pub stepping : State → Option Actor
-stepping s = if is_some (due_event s) then None else (if console_is_due s then None else runner s.world)
-
 abbrev pub call_of : State → Option Actor → Option Event
 call_of s None = None
 call_of s (Some (by_task who)) = task_call s who
@@ -95,9 +91,9 @@ step_takes s q = taken_next (scene_by s (stepping s)) (call_of s (stepping s)) q
 
 -- ---- a run
 -- what the first k steps from a state on added to the queue q or handed to a receiver of it, in order of the steps
-abbrev pub accepted : State → ℕ → ℕ → List Parcel
-accepted s q k = gathered (λ j. step_accepts (after s j)) q k
+abbrev pub accepted : Answers → State → ℕ → ℕ → List Parcel
+accepted said s q k = gathered (λ j. step_accepts (after said s j)) q k
 
 -- what they handed to a receiver of q or took from the front of q, each whole
-abbrev pub taken : State → ℕ → ℕ → List (List ℕ)
-taken s q k = gathered (λ j. step_takes (after s j)) q k
+abbrev pub taken : Answers → State → ℕ → ℕ → List (List ℕ)
+taken said s q k = gathered (λ j. step_takes (after said s j)) q k

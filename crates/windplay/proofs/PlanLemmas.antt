@@ -21,11 +21,11 @@ some_entry None name = (None, tt)
 some_entry (Some held) name = (held name, refl)
 
 -- the file that a fetch found is the folder's, where it tells
-found_entry : (files : Option Files) (name bytes : List ℕ) → IfSome files (λ held. (held name ≡ Some bytes) × (length bytes ≤ longest_text_file)) → IsEntry files name (Some bytes)
-found_entry None name bytes h = tt
-found_entry (Some held) name bytes h = sym h.0
+pub found_entry : (limit : ℕ) (files : Option Files) (name bytes : List ℕ) → IfSome files (λ held. (held name ≡ Some bytes) × (length bytes ≤ limit)) → IsEntry files name (Some bytes)
+found_entry limit None name bytes h = tt
+found_entry limit (Some held) name bytes h = sym h.0
 
-missing_entry : (files : Option Files) (name : List ℕ) → IfSome files (λ held. held name ≡ None) → IsEntry files name None
+pub missing_entry : (files : Option Files) (name : List ℕ) → IfSome files (λ held. held name ≡ None) → IsEntry files name None
 missing_entry None name h = tt
 missing_entry (Some held) name h = sym h
 
@@ -34,10 +34,10 @@ some_list zero = ([], refl)
 some_list (suc n) = let xs = some_list n in (0 ∷ xs.0, ap suc xs.1)
 
 -- there is a file that is too long, for a folder that leaves its files untold
-long_entry : (files : Option Files) (name : List ℕ) → IfSome files (λ held. IsSomeAnd (held name) (λ bytes. longest_text_file < length bytes))
-    → (file : Option (List ℕ)) × IsEntry files name file × IsSomeAnd file (λ bytes. longest_text_file < length bytes)
-long_entry None name h = let xs = some_list (longest_text_file + 1) in (Some xs.0, tt, omega (arith, xs.1))
-long_entry (Some held) name h = (held name, refl, h)
+pub long_entry : (limit : ℕ) (files : Option Files) (name : List ℕ) → IfSome files (λ held. IsSomeAnd (held name) (λ bytes. limit < length bytes))
+    → (file : Option (List ℕ)) × IsEntry files name file × IsSomeAnd file (λ bytes. limit < length bytes)
+long_entry limit None name h = let xs = some_list (limit + 1) in (Some xs.0, tt, omega (arith, xs.1))
+long_entry limit (Some held) name h = (held name, refl, h)
 
 -- a file that is too long, and one that is not
 long_file : (file : Which) (next : List ℕ → Plan) (bytes : Option (List ℕ)) → IsSomeAnd bytes (λ b. longest_text_file < length b) → plan_file file next bytes ≡ Refuse (status.TooLong file)
@@ -62,7 +62,7 @@ refusal_up (status.TooLong file) plan rose later up h = h
 module _ (files : Option Files) (name : List ℕ) where
   -- the file that a fetch found
   pub held_found : (bytes : List ℕ) → length bytes ≤ longest_text_file → IfSome files (λ held. (held name ≡ Some bytes) × (length bytes ≤ longest_text_file)) → IsHeld files name bytes
-  held_found bytes within h = record { told = found_entry files name bytes h; within = within }
+  held_found bytes within h = record { told = found_entry longest_text_file files name bytes h; within = within }
 
   module _ (file : Which) (rose : Type 0) where
     -- no file, and one that is too long
@@ -70,7 +70,7 @@ module _ (files : Option Files) (name : List ℕ) where
     unread_missing h = record { file = None; told = missing_entry files name h; refused = λ next. refl }
 
     pub unread_long : IfSome files (λ held. IsFetchOf (held name) longest_text_file fetched.TooLong) → IsUnread (status.TooLong file) file files name rose
-    unread_long h = let long = long_entry files name h in record { file = long.0; told = long.1; refused = λ next. long_file file next long.0 long.2 }
+    unread_long h = let long = long_entry longest_text_file files name h in record { file = long.0; told = long.1; refused = λ next. long_file file next long.0 long.2 }
 
     -- a fault of reading, and want of memory
     pub unread_fault : rose → IsUnread status.ReadFault file files name rose

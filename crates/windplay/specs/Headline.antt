@@ -1,5 +1,5 @@
 -- What playing a session leaves.
-use Rattle.std.specs.Prelude.{◌≡◌, ◌≢◌, ◌⊎◌, ℕ, zero, suc, List, Option, Vec, Some, None}
+use Rattle.std.specs.Prelude.{◌≡◌, ◌≢◌, ◌⊎◌, ℕ, zero, suc, List, [], Option, Vec, Some, None}
 use Rattle.std.specs.declared.dyn_box.DynBox.{DynBox}
 use Rattle.std.specs.declared.alloc.Global.{Global}
 use Rattle.wind_outside.specs.Devices.{DeviceState}
@@ -10,6 +10,8 @@ use Rattle.wind_machine.specs.Good.{Good}
 use Rattle.wind_machine.specs.Instants.{IsInstant}
 use Rattle.board_player.specs.declared.board.Board.{Board}
 use Rattle.wind_machine.specs.Machine.{opening}
+use Rattle.wind_machine.specs.Run.{Answers}
+use Rattle.windplay.specs.Modules.{Shelf}
 use Rattle.windplay.specs.Runs.{Made, Ran}
 use Rattle.windplay.specs.Generated.{summary}
 use Rattle.windplay.specs.Status.{status_number}
@@ -57,6 +59,7 @@ Refuses s files command rose = (plan : Plan) × IsPlanOf command.generate files 
 abbrev pub status_of : RunEnd → Status
 status_of ends.Quiet = status.Quiet
 status_of ends.Limit = status.Limit
+status_of ends.ReadFault = status.ReadFault
 status_of ends.WriteFault = status.WriteFault
 status_of ends.NoMemory = status.NoMemory
 
@@ -69,41 +72,51 @@ abbrev pub rounds_of : Option CommandState → ℕ
 rounds_of None = 0
 rounds_of (Some command) = command.generate
 
--- the sink gained the line that sums a run up, or a front of it where a put failed; for want of memory in the run it gained nothing
+-- and where its modules are
+abbrev pub modules_of : Option CommandState → List ℕ
+modules_of None = []
+modules_of (Some command) = command.modules
+
+abbrev pub shelf_of : Option Files → Option CommandState → Shelf
+shelf_of files command = record { files = files; name = modules_of command }
+
+-- the sink gained the line that sums a run up, or a front of it where a put failed; of a run that was given up it gained nothing
 abbrev pub IsSummed : RunEnd → Status → List ℕ → Option (List ℕ) → Option (List ℕ) → Type 0
+IsSummed ends.ReadFault s line old new = (s ≡ status.ReadFault) × (new ≡ old)
 IsSummed ends.NoMemory s line old new = (s ≡ status.NoMemory) × (new ≡ old)
 IsSummed end s line old new = ((s ≡ status_of end) × Appended old new line) ⊎ ((s ≡ status.WriteFault) × AppendedFront old new line)
 
 -- a run of a generated session of so many rounds, of which one line is put
-pub record SumsUp (n : ℕ) (s : Status) (end : RunEnd) (start : State) (limit : ℕ) (board : State) (old new : Option (List ℕ)) : Type 0 where
+pub record SumsUp (n : ℕ) (s : Status) (end : RunEnd) (shelf : Shelf) (start : State) (limit : ℕ) (board : State) (old new : Option (List ℕ)) : Type 0 where
+  pub said : Answers
   pub k : ℕ
-  pub made : Made end start limit k board
-  pub summed : IsSummed end s (summary n start k (status_number (status_of end))) old new
+  pub made : Made end shelf said start limit k board
+  pub summed : IsSummed end s (summary n said start k (status_number (status_of end))) old new
   pub all_put : end ≢ ends.WriteFault
 
 -- what a run leaves: what its steps wrote, or the line of a generated session
-abbrev pub IsLeft : ℕ → Status → RunEnd → State → ℕ → State → Option (List ℕ) → Option (List ℕ) → Type 0
-IsLeft zero s end start limit board old new = (s ≡ status_of end) × Ran end start limit board old new
-IsLeft (suc n) s end start limit board old new = SumsUp (suc n) s end start limit board old new
+abbrev pub IsLeft : ℕ → Status → RunEnd → Shelf → State → ℕ → State → Option (List ℕ) → Option (List ℕ) → Type 0
+IsLeft zero s end shelf start limit board old new = (s ≡ status_of end) × Ran end shelf start limit board old new
+IsLeft (suc n) s end shelf start limit board old new = SumsUp (suc n) s end shelf start limit board old new
 
--- a board was played: it is that of the wind machine, started with the console, the events of the tick file and these devices
-pub record Played (s : Status) (plan : Plan) (rounds limit : ℕ) (devices : List (Option DeviceState)) (board : State) (old new : Option (List ℕ)) : Type 0 where
+-- a board was played: it is that of the wind machine, started with the console, the events of the tick file and these devices, and with the files of modules that it asked for
+pub record Played (s : Status) (plan : Plan) (rounds limit : ℕ) (shelf : Shelf) (devices : List (Option DeviceState)) (board : State) (old new : Option (List ℕ)) : Type 0 where
   pub end : RunEnd
   pub console : List ℕ
   pub schedule : Timetable
   pub planned : plan ≡ Start console schedule
-  pub left : IsLeft rounds s end (opening console schedule devices) limit board old new
+  pub left : IsLeft rounds s end shelf (opening console schedule devices) limit board old new
 
 -- what is left: the slots as they were and nothing written, or the board of a run
-abbrev pub Leaves : {I : Type 0} {X : I → Type 0} → (Board I X → State) → Status → Stand I X → Plan → ℕ → ℕ → Type 0 → Vec (Option (DynBox I Global X)) Global → List (Option DeviceState) → Option (List ℕ) → Option (List ℕ) → Type 0
-Leaves state s (stands.NotBooted back) plan rounds limit fault slots devices old new = (back ≡ slots) × (new ≡ old) × IsRefusal s plan fault
-Leaves state s (stands.Booted board) plan rounds limit fault slots devices old new = Played s plan rounds limit devices (state board) old new
+abbrev pub Leaves : {I : Type 0} {X : I → Type 0} → (Board I X → State) → Status → Stand I X → Plan → ℕ → ℕ → Shelf → Type 0 → Vec (Option (DynBox I Global X)) Global → List (Option DeviceState) → Option (List ℕ) → Option (List ℕ) → Type 0
+Leaves state s (stands.NotBooted back) plan rounds limit shelf fault slots devices old new = (back ≡ slots) × (new ≡ old) × IsRefusal s plan fault
+Leaves state s (stands.Booted board) plan rounds limit shelf fault slots devices old new = Played s plan rounds limit shelf devices (state board) old new
 
 -- playing a command leaves what the wind machine leaves; `rose` says that the folder's count of faults rose
 pub record Plays {I : Type 0} {X : I → Type 0} (state : Board I X → State) (ending : Ending I X) (command : Option CommandState) (files : Option Files) (rose : Type 0) (slots : Vec (Option (DynBox I Global X)) Global) (devices : List (Option DeviceState)) (old new : Option (List ℕ)) : Type 0 where
   pub plan : Plan
   pub planned : IsPlan files command plan
-  pub leaves : Leaves state ending.status ending.stand plan (rounds_of command) (limit_of command) (fetch_fault (rounds_of command) rose) slots devices old new
+  pub leaves : Leaves state ending.status ending.stand plan (rounds_of command) (limit_of command) (shelf_of files command) (fetch_fault (rounds_of command) rose) slots devices old new
 
 -- the board that is left has the kept facts, and what is so at each instant
 abbrev pub IsKept : {I : Type 0} {X : I → Type 0} → (Board I X → State) → Stand I X → Type 0

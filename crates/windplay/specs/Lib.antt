@@ -2,6 +2,7 @@ pub mod Command
 pub mod Generated
 pub mod Headline
 pub mod Laws
+pub mod Modules
 pub mod Plan
 pub mod Runs
 pub mod Status

@@ -5,6 +5,7 @@
 mod command;
 mod ending;
 mod laws;
+mod modules;
 mod play;
 mod report;
 mod run;

@@ -10,7 +10,7 @@ ghost use Rattle.windplay.specs.Command.{command_of as command_of_lem};
 ghost use Rattle.windplay.specs.Words.{command_state};
 ghost use Rattle.windplay.specs.Plan.{Start, IsFilePlan, IsPlanOf, IsHeld, plan_ticks, generated_plan};
 ghost use Rattle.windplay.specs.Headline.{Plays, IsRefusal, IsUnread, RefusesFiles, Refuses, IsComplete, IsKept, IsLeft, SumsUp, status_of as status_of_lem};
-ghost use Rattle.windplay.specs.Runs.{is_short as is_short_lem};
+ghost use Rattle.windplay.specs.Runs.{is_given_up as is_given_up_lem};
 ghost use Rattle.windplay.specs.declared.run.RunEnd.{RunEnd};
 ghost use Rattle.windplay.specs.Texts.{Tells};
 ghost use Rattle.windplay.specs.declared.ending.Status.TheVariants as status;
@@ -46,16 +46,17 @@ fn status_of(end: RunEnd) -> Status
     match end {
         RunEnd::Quiet => Status::Quiet,
         RunEnd::Limit => Status::Limit,
+        RunEnd::ReadFault => Status::ReadFault,
         RunEnd::WriteFault => Status::WriteFault,
         RunEnd::NoMemory => Status::NoMemory,
     }
 }
 
-// Whether memory ended a run.
-fn is_short(end: RunEnd) -> bool
-    ensures { result ≡ is_short_lem end }
+// Whether a run was given up.
+fn is_given_up(end: RunEnd) -> bool
+    ensures { result ≡ is_given_up_lem end }
 {
-    matches!(end, RunEnd::NoMemory)
+    matches!(end, RunEnd::ReadFault | RunEnd::NoMemory)
 }
 
 // The file of this name, or why it is not read.
@@ -132,6 +133,7 @@ fn inputs_of<F: Folder>(alloc: Global, command: &Command, folder: &mut F) -> Res
     ensures refused { IfErr result (λ s. Refuses s (F.files folder.old) (command_state command.now) (Rose (F.faults folder.old) (F.faults folder.new))) }
     ensures known { IfErr result (λ s. s ≢ status.Usage) }
     ensures files { F.files folder.new ≡ F.files folder.old }
+    ensures faults { F.faults folder.old ≤ F.faults folder.new }
 {
     if command.generate == 0 {
         return files_of(alloc, command, folder);
@@ -143,20 +145,32 @@ fn inputs_of<F: Folder>(alloc: Global, command: &Command, folder: &mut F) -> Res
 }
 
 // Plays the board of a generated session, and sums it up. The number of its status stands in the line.
-fn sum_up<O: Sink>(board: &mut Board, out: &mut O, rounds: u32, limit: u64) -> Status
+fn sum_up<F: Folder, O: Sink>(
+    alloc: Global,
+    command: &Command,
+    board: &mut Board,
+    folder: &mut F,
+    out: &mut O,
+) -> Status
     requires fresh { (seen ⟦<dyn Device as Device>⟧ board.old).steps ≡ 0 }
-    requires limit { limit ≤ most_steps }
-    requires rounds { rounds ≤ most_rounds }
-    ensures left { (end : RunEnd) × SumsUp rounds result end (seen ⟦<dyn Device as Device>⟧ board.old) limit (seen ⟦<dyn Device as Device>⟧ board.new) (O.bytes out.old) (O.bytes out.new) }
+    requires limit { command.now.limit ≤ most_steps }
+    requires rounds { command.now.generate ≤ most_rounds }
+    ensures left { (end : RunEnd) × SumsUp command.now.generate result end
+        (record { files = F.files folder.old; name = command.now.modules.now })
+        (seen ⟦<dyn Device as Device>⟧ board.old) command.now.limit (seen ⟦<dyn Device as Device>⟧ board.new)
+        (O.bytes out.old) (O.bytes out.new) }
+    ensures read_fault { result ≡ status.ReadFault → Rose (F.faults folder.old) (F.faults folder.new) }
     ensures fault { result ≡ status.WriteFault → Rose (O.faults out.old) (O.faults out.new) }
+    ensures files { F.files folder.new ≡ F.files folder.old }
+    ensures folder_faults { F.faults folder.old ≤ F.faults folder.new }
 {
-    let tally = count_board(board, limit);
-    if is_short(tally.end) {
-        return Status::NoMemory;
-    }
+    let tally = count_board(alloc, board, folder, command.modules, command.limit);
     let status = status_of(tally.end);
+    if is_given_up(tally.end) {
+        return status;
+    }
     let summary = Summary {
-        rounds,
+        rounds: command.generate,
         bytes: tally.bytes,
         steps: board.steps(),
         ticks: board.ticks(),
@@ -169,17 +183,36 @@ fn sum_up<O: Sink>(board: &mut Board, out: &mut O, rounds: u32, limit: u64) -> S
 }
 
 // Plays the board of a session: what its steps write is put, or the line that sums a generated one up.
-fn played<O: Sink>(board: &mut Board, out: &mut O, rounds: u32, limit: u64) -> Status
+fn played<F: Folder, O: Sink>(
+    alloc: Global,
+    command: &Command,
+    board: &mut Board,
+    folder: &mut F,
+    out: &mut O,
+) -> Status
     requires fresh { (seen ⟦<dyn Device as Device>⟧ board.old).steps ≡ 0 }
-    requires limit { limit ≤ most_steps }
-    requires rounds { rounds ≤ most_rounds }
-    ensures left { (end : RunEnd) × IsLeft rounds result end (seen ⟦<dyn Device as Device>⟧ board.old) limit (seen ⟦<dyn Device as Device>⟧ board.new) (O.bytes out.old) (O.bytes out.new) }
+    requires limit { command.now.limit ≤ most_steps }
+    requires rounds { command.now.generate ≤ most_rounds }
+    ensures left { (end : RunEnd) × IsLeft command.now.generate result end
+        (record { files = F.files folder.old; name = command.now.modules.now })
+        (seen ⟦<dyn Device as Device>⟧ board.old) command.now.limit (seen ⟦<dyn Device as Device>⟧ board.new)
+        (O.bytes out.old) (O.bytes out.new) }
+    ensures read_fault { result ≡ status.ReadFault → Rose (F.faults folder.old) (F.faults folder.new) }
     ensures fault { result ≡ status.WriteFault → Rose (O.faults out.old) (O.faults out.new) }
+    ensures files { F.files folder.new ≡ F.files folder.old }
+    ensures folder_faults { F.faults folder.old ≤ F.faults folder.new }
 {
-    if rounds == 0 {
-        return status_of(run_board(board, out, limit));
+    if command.generate == 0 {
+        return status_of(run_board(
+            alloc,
+            board,
+            folder,
+            command.modules,
+            out,
+            command.limit,
+        ));
     }
-    sum_up(board, out, rounds, limit)
+    sum_up(alloc, command, board, folder, out)
 }
 
 // Plays the session of a command.
@@ -197,6 +230,7 @@ fn session<F: Folder, O: Sink>(
     ensures complete { IsComplete result.status (Some (command_state command.now)) (F.files folder.old) (Rose (F.faults folder.old) (F.faults folder.new)) (Rose (O.faults out.old) (O.faults out.new)) }
     ensures known { result.status ≢ status.Usage }
     ensures kept { IsKept (seen ⟦<dyn Device as Device>⟧) result.stand }
+    ensures read_fault { result.status ≡ status.ReadFault → Rose (F.faults folder.old) (F.faults folder.new) }
     ensures write_fault { result.status ≡ status.WriteFault → Rose (O.faults out.old) (O.faults out.new) }
     ensures files { F.files folder.new ≡ F.files folder.old }
 {
@@ -209,7 +243,7 @@ fn session<F: Folder, O: Sink>(
         Ok(board) => board,
         Err(devices) => return refused(Status::NoMemory, devices),
     };
-    let status = played(&mut board, out, command.generate, command.limit);
+    let status = played(alloc, command, &mut board, folder, out);
     board.facts();
     instant_law();
     Ending {
@@ -236,6 +270,7 @@ pub fn play<'a, F: Folder, O: Sink, E: Sink>(
         ≡ None)) }
     ensures complete { IsComplete result.status (command_of_lem (map (λ w. w.now) words.now)) (F.files folder.old) (Rose (F.faults folder.old) (F.faults folder.new)) (Rose (O.faults out.old) (O.faults out.new)) }
     ensures kept { IsKept (seen ⟦<dyn Device as Device>⟧) result.stand }
+    ensures read_fault { result.status ≡ status.ReadFault → Rose (F.faults folder.old) (F.faults folder.new) }
     ensures write_fault { result.status ≡ status.WriteFault → Rose (O.faults out.old) (O.faults out.new) }
     ensures files { F.files folder.new ≡ F.files folder.old }
     ensures err { Tells result.status (command_of_lem (map (λ w. w.now) words.now)) (E.bytes err.old) (E.bytes err.new) (Rose (E.faults err.old) (E.faults err.new)) }

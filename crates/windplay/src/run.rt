@@ -9,8 +9,10 @@ ghost use Rattle.board_player.specs.Seen.{seen};
 ghost use Rattle.windplay.specs.Runs.{Ran, Counted};
 ghost use Rattle.windplay.specs.declared.run.RunEnd.TheVariants as ends;
 
-use board_player::{Board, Step};
-use wind_outside::{Device, Put, Sink};
+use crate::modules::{Move, step};
+use board_player::Board;
+use std::alloc::Global;
+use wind_outside::{Device, Folder, Put, Sink};
 
 /// How a run ends.
 #[derive(Clone, Copy, Debug, PartialEq, Eq)]
@@ -19,6 +21,8 @@ pub enum RunEnd {
     Quiet,
     /// The limit of steps was reached.
     Limit,
+    /// The file of a module could not be read.
+    ReadFault,
     /// What a step wrote could not be put.
     WriteFault,
     /// Host memory ran out.
@@ -39,20 +43,33 @@ fn put_some<O: Sink>(out: &mut O, bytes: &[u8]) -> Put
     out.put(bytes)
 }
 
-/// Makes steps, at most as many as the limit, and puts what each of them writes.
-pub fn run_board<O: Sink>(board: &mut Board, out: &mut O, limit: u64) -> RunEnd
+/// Makes steps, at most as many as the limit, and puts what each of them writes. The modules that they ask for are fetched
+/// from the folder.
+pub fn run_board<F: Folder, O: Sink>(
+    alloc: Global,
+    board: &mut Board,
+    folder: &mut F,
+    modules: &str,
+    out: &mut O,
+    limit: u64,
+) -> RunEnd
     requires fresh { (seen ⟦<dyn Device as Device>⟧ board.old).steps ≡ 0 }
     requires bound { limit ≤ most_steps }
-    ensures ran { Ran result (seen ⟦<dyn Device as Device>⟧ board.old) limit (seen ⟦<dyn Device as Device>⟧ board.new)
+    ensures ran { Ran result (record { files = F.files folder.old; name = modules.now })
+        (seen ⟦<dyn Device as Device>⟧ board.old) limit (seen ⟦<dyn Device as Device>⟧ board.new)
         (O.bytes out.old) (O.bytes out.new) }
+    ensures read_fault { result ≡ ends.ReadFault → Rose (F.faults folder.old) (F.faults folder.new) }
     ensures fault { result ≡ ends.WriteFault → Rose (O.faults out.old) (O.faults out.new) }
+    ensures files { F.files folder.new ≡ F.files folder.old }
+    ensures folder_faults { F.faults folder.old ≤ F.faults folder.new }
     ensures faults { O.faults out.old ≤ O.faults out.new }
 {
     for _i in 0..limit {
-        match board.step() {
-            Step::Stepped => {}
-            Step::Quiet => return RunEnd::Quiet,
-            Step::NoMemory => return RunEnd::NoMemory,
+        match step(alloc, board, folder, modules) {
+            Move::Made => {}
+            Move::Quiet => return RunEnd::Quiet,
+            Move::ReadFault => return RunEnd::ReadFault,
+            Move::NoMemory => return RunEnd::NoMemory,
         }
         match put_some(out, board.output()) {
             Put::Done => {}
@@ -71,29 +88,35 @@ pub struct Tally {
     pub bytes: u128,
 }
 
-/// Makes steps, at most as many as the limit, and counts what each of them writes.
-pub fn count_board(board: &mut Board, limit: u64) -> Tally
+/// Makes steps, at most as many as the limit, and counts what each of them writes. The modules that they ask for are
+/// fetched from the folder.
+pub fn count_board<F: Folder>(
+    alloc: Global,
+    board: &mut Board,
+    folder: &mut F,
+    modules: &str,
+    limit: u64,
+) -> Tally
     requires fresh { (seen ⟦<dyn Device as Device>⟧ board.old).steps ≡ 0 }
     requires bound { limit ≤ most_steps }
-    ensures { Counted result.end (seen ⟦<dyn Device as Device>⟧ board.old) limit result.bytes (seen ⟦<dyn Device as Device>⟧ board.new) }
+    ensures counted { Counted result.end (record { files = F.files folder.old; name = modules.now })
+        (seen ⟦<dyn Device as Device>⟧ board.old) limit result.bytes (seen ⟦<dyn Device as Device>⟧ board.new) }
+    ensures read_fault { result.end ≡ ends.ReadFault → Rose (F.faults folder.old) (F.faults folder.new) }
+    ensures files { F.files folder.new ≡ F.files folder.old }
+    ensures folder_faults { F.faults folder.old ≤ F.faults folder.new }
 {
     let mut bytes = 0;
     for _i in 0..limit {
-        match board.step() {
-            Step::Stepped => bytes += board.output().len() as u128,
-            Step::Quiet => {
-                return Tally {
-                    end: RunEnd::Quiet,
-                    bytes,
-                };
+        let end = match step(alloc, board, folder, modules) {
+            Move::Made => {
+                bytes += board.output().len() as u128;
+                continue;
             }
-            Step::NoMemory => {
-                return Tally {
-                    end: RunEnd::NoMemory,
-                    bytes,
-                };
-            }
-        }
+            Move::Quiet => RunEnd::Quiet,
+            Move::ReadFault => RunEnd::ReadFault,
+            Move::NoMemory => RunEnd::NoMemory,
+        };
+        return Tally { end, bytes };
     }
     Tally {
         end: RunEnd::Limit,

@@ -7,7 +7,7 @@ pub returns-clause-start : goal.returns-clause-start
 returns-clause-start c = begins
 
 pub returns-clause-step : goal.returns-clause-step
-returns-clause-step c = step_keeps
+returns-clause-step c = step_keeps c.loading_law.ensures.kept
 
 pub returns-clause-count : goal.returns-clause-count
 returns-clause-count c = counted

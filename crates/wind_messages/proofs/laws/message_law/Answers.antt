@@ -2,4 +2,4 @@ use Rattle.wind_messages.proofs.Conserved.{conserved}
 use Rattle.wind_messages.proofs.laws.message_law.Goals as goal
 
 pub returns : goal.returns
-returns c = conserved c.run_law.ensures
+returns c = conserved c.loading_law.ensures.alone c.run_law.ensures

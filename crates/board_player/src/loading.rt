@@ -1,0 +1,101 @@
+//! The step that loads a file.
+
+ghost use Rattle.std.specs.Prelude.{◌≡◌, ◌<◌, Some, IfOk, OnOk, OnErr, IsSome};
+ghost use Rattle.wind_base.specs.Limits.{most_steps};
+ghost use Rattle.live_loading.specs.Said.{said_of};
+ghost use Rattle.wind_machine.specs.Good.{Good};
+ghost use Rattle.wind_machine.specs.declared.phase.Phase.TheVariants as phases;
+ghost use Rattle.wind_machine.specs.Machine.{stepping, file_asked, load_step};
+ghost use Rattle.board_player.specs.Asking.{is_shells};
+ghost use Rattle.board_player.specs.Inside.{inside, parts_seen, IsSpacious};
+
+use crate::order::{asked, console_is_due, due_event};
+use crate::parts::Parts;
+use crate::processor::counter;
+use crate::reserving::drop_own;
+use crate::steps::end;
+use crate::task::shell_id;
+use crate::turn::{begin, give_back};
+use kernel_calls::{Actor, file_wanted};
+use live_loading::{FileAnswer, kernel_load};
+use wind_base::limits::GATES_START;
+use wind_base::{Gate, Name, NoMemory};
+use wind_machine::Phase;
+use wind_outside::Device;
+
+// Whether the next step is one of the shell's task.
+#[tactic(auto, using(crate::proofs::Running::opens, crate::proofs::Asked::active_steps, crate::proofs::Asked::due_steps, crate::proofs::Asked::console_steps, crate::proofs::Asked::runner_steps))]
+fn is_shells_step(parts: &Parts) -> bool
+    ensures { result ≡ is_shells (stepping (parts_seen ⟦<dyn Device as Device>⟧ parts.now)) }
+{
+    if parts.world.watch.active() {
+        return false;
+    }
+    let now = asked(parts);
+    if due_event(parts, now.is_open).is_some() {
+        return false;
+    }
+    if console_is_due(parts, now.is_open) {
+        return false;
+    }
+    match now.who {
+        Some(who) => who == shell_id(),
+        None => false,
+    }
+}
+
+// The file that the shell's task asks for where it stands, in a call, if the next step is its own.
+#[tactic(auto, using(crate::proofs::Asked::asked_is))]
+fn asked_in_call(parts: &Parts) -> Result<Option<Name>, NoMemory>
+    requires { parts.now.shell.phase ≡ phases.Call }
+    ensures asked { IfOk result (λ o. o ≡ file_asked (parts_seen ⟦<dyn Device as Device>⟧ parts.now)) }
+    ensures memory { OnErr result (IsSome (file_asked (parts_seen ⟦<dyn Device as Device>⟧ parts.now))) }
+{
+    let Some(gate) = Gate::at(counter(&parts.world, shell_id()), GATES_START) else {
+        return Ok(None);
+    };
+    if !is_shells_step(parts) {
+        return Ok(None);
+    }
+    file_wanted(
+        parts.alloc,
+        &parts.world,
+        gate,
+        &Actor::Task(shell_id()),
+    )
+}
+
+/// The name of the file that the next step asks for, if it does.
+#[tactic(auto, using(crate::proofs::Asked::asked_is))]
+pub(crate) fn asked_file(parts: &Parts) -> Result<Option<Name>, NoMemory>
+    ensures asked { IfOk result (λ o. o ≡ file_asked (parts_seen ⟦<dyn Device as Device>⟧ parts.now)) }
+    ensures memory { OnErr result (IsSome (file_asked (parts_seen ⟦<dyn Device as Device>⟧ parts.now))) }
+{
+    match parts.shell.phase() {
+        Phase::Call => asked_in_call(parts),
+        Phase::Prompt | Phase::Read | Phase::Eval => Ok(None),
+    }
+}
+
+/// The shell's task loads the file of this name, of which this is said. For want of memory nothing changes.
+#[tactic(auto, using(crate::proofs::Readied::good_early, crate::proofs::Asked::wanted, crate::proofs::Asked::asker_ready))]
+pub(crate) fn load(parts: &mut Parts, name: &Name, file: &FileAnswer) -> Result<(), NoMemory>
+    requires good { Good (inside parts.old) }
+    requires few { parts.old.clock.steps < most_steps }
+    requires space { IsSpacious parts.old }
+    requires asked { file_asked (parts_seen ⟦<dyn Device as Device>⟧ parts.old) ≡ Some name.now }
+    ensures ok { OnOk result (parts_seen ⟦<dyn Device as Device>⟧ parts.new
+        ≡ load_step (said_of file.now) (parts_seen ⟦<dyn Device as Device>⟧ parts.old) name.now) }
+    ensures err { OnErr result (parts_seen ⟦<dyn Device as Device>⟧ parts.new
+        ≡ parts_seen ⟦<dyn Device as Device>⟧ parts.old) }
+    ensures space { IsSpacious parts.new }
+{
+    let kept = begin(&mut parts.world, &mut parts.spare, shell_id());
+    if kernel_load(parts.alloc, &mut parts.world, name, file).is_err() {
+        give_back(&mut parts.world, &mut parts.spare, kept);
+        return Err(NoMemory);
+    }
+    drop_own(&mut parts.world.kern, shell_id());
+    end(parts, shell_id());
+    Ok(())
+}

@@ -1,0 +1,118 @@
+# Modules that are loaded and unloaded during a run. The object files are made by the GNU assembler for PowerPC; each holds what is
+# said above it.
+
+# Puts the bytes of words in hexadecimal digits into a file of the case.
+words() {
+    name=$1
+    shift
+    for word in "$@"; do
+        for byte in $(echo "$word" | sed 's/../& /g'); do
+            printf "\\$(printf '%03o' "0x$byte")"
+        done
+    done >"$work/session/$name"
+}
+
+# 16 bytes of code, with the global `f` at their start.
+put_f() {
+    words "$1" \
+    7f454c46 01020100 00000000 00000000 00010014 00000001 00000000 00000000 00000098 00000000 00340000 00000028 00050004 \
+    60000000 60000000 60000000 4e800020 00000000 00000000 00000000 00000000 00000000 00000000 00000000 03000001 00000001 \
+    00000000 00000000 10000001 00660000 2e73796d 74616200 2e737472 74616200 2e736873 74727461 62002e74 65787400 00000000 \
+    00000000 00000000 00000000 00000000 00000000 00000000 00000000 00000000 00000000 0000001b 00000001 00000006 00000000 \
+    00000034 00000010 00000000 00000000 00000001 00000000 00000001 00000002 00000000 00000000 00000044 00000030 00000003 \
+    00000002 00000004 00000010 00000009 00000003 00000000 00000000 00000074 00000003 00000000 00000000 00000001 00000000 \
+    00000011 00000003 00000000 00000000 00000077 00000021 00000000 00000000 00000001 00000000
+}
+
+# 16 bytes of code that begin with a branch to `f`, relocated by R_PPC_REL24.
+put_caller() {
+    words "$1" \
+    7f454c46 01020100 00000000 00000000 00010014 00000001 00000000 00000000 000000ac 00000000 00340000 00000028 00060005 \
+    48000001 60000000 60000000 4e800020 00000000 00000000 00000000 00000000 00000000 00000000 00000000 03000001 00000001 \
+    00000000 00000000 10000000 00660000 00000000 0000020a 00000000 002e7379 6d746162 002e7374 72746162 002e7368 73747274 \
+    6162002e 72656c61 2e746578 74000000 00000000 00000000 00000000 00000000 00000000 00000000 00000000 00000000 00000000 \
+    00000000 00000020 00000001 00000006 00000000 00000034 00000010 00000000 00000000 00000001 00000000 0000001b 00000004 \
+    00000040 00000000 00000078 0000000c 00000003 00000001 00000004 0000000c 00000001 00000002 00000000 00000000 00000044 \
+    00000030 00000004 00000002 00000004 00000010 00000009 00000003 00000000 00000000 00000074 00000003 00000000 00000000 \
+    00000001 00000000 00000011 00000003 00000000 00000000 00000084 00000026 00000000 00000000 00000001 00000000
+}
+
+# A word with the global `g` at it, relocated by R_PPC_ADDR32 with the symbol `nosuch` and the addend 7.
+put_g() {
+    words "$1" \
+    7f454c46 01020100 00000000 00000000 00010014 00000001 00000000 00000000 000000b8 00000000 00340000 00000028 00060005 \
+    00000000 00000000 00000000 00000000 00000000 00000000 00000000 00000000 03000001 00000001 00000000 00000000 10000001 \
+    00000003 00000000 00000000 10000000 0067006e 6f737563 68000000 00000000 00000301 00000007 002e7379 6d746162 002e7374 \
+    72746162 002e7368 73747274 6162002e 72656c61 2e646174 61000000 00000000 00000000 00000000 00000000 00000000 00000000 \
+    00000000 00000000 00000000 00000000 00000020 00000001 00000003 00000000 00000034 00000004 00000000 00000000 00000001 \
+    00000000 0000001b 00000004 00000040 00000000 00000084 0000000c 00000003 00000001 00000004 0000000c 00000001 00000002 \
+    00000000 00000000 00000038 00000040 00000004 00000002 00000004 00000010 00000009 00000003 00000000 00000000 00000078 \
+    0000000a 00000000 00000000 00000001 00000000 00000011 00000003 00000000 00000000 00000090 00000026 00000000 00000000 \
+    00000001 00000000
+}
+
+shows 'a reference is bound to the newest global of its name, and stays so when that is unloaded'
+put_f a.o
+put_f b.o
+put_caller c.o
+console 'ld < a.o\nld < b.o\nld < c.o\nunld 3\n&f\n*0x15e70\n'
+plays
+ends 0 '-> ld < a.o\nvalue = 2 = 0x2\n-> ld < b.o\nvalue = 3 = 0x3\n-> ld < c.o\nvalue = 4 = 0x4\n-> unld 3\nvalue = 0 = 0x0\n-> &f\nvalue = 89648 = 0x15e30\n-> *0x15e70\nvalue = 1275068385 = 0x4bffffe1\n-> ' ''
+
+shows 'an undefined symbol is told, and counts as 0'
+put_g g.o
+console 'ld < g.o\ng\nunld "g.o"\ng\n'
+plays
+ends 0 '-> ld < g.o\nundefined symbol: nosuch\nvalue = 2 = 0x2\n-> g\nvalue = 7 = 0x7\n-> unld "g.o"\nvalue = 0 = 0x0\n-> g\nundefined symbol: g\n-> ' ''
+
+shows 'modules are read from the folder that the words give'
+mkdir "$work/session/m"
+put_f m/a.o
+console 'ld < a.o\nld < b.o\n'
+plays --modules m
+ends 0 '-> ld < a.o\nvalue = 2 = 0x2\n-> ld < b.o\nld: b.o: not found\nvalue = 0 = 0x0\n-> ' ''
+
+shows 'a module that is not there goes on, and is told by its error number'
+console 'ld < a.o\nerrnoGet\n'
+plays
+ends 0 '-> ld < a.o\nld: a.o: not found\nvalue = 0 = 0x0\n-> errnoGet\nvalue = 1900545 = 0x1d0001\n-> ' ''
+
+shows 'a name that is no text in UTF-8 is that of no file'
+console 'ld < \0377\n'
+plays
+ends 0 '-> ld < \0377\nld: \0377: not found\nvalue = 0 = 0x0\n-> ' ''
+
+shows 'a module of 4 MiB is read, and one of a byte more is too long'
+blanks most 4194304
+blanks more 4194305
+console 'ld < most\nld < more\n'
+plays
+ends 0 '-> ld < most\nld: most: not ELF at 0\nvalue = 0 = 0x0\n-> ld < more\nld: more: too long\nvalue = 0 = 0x0\n-> ' ''
+
+# Up to the length of the header the file ends where it is cut; from there on what is missing is told at the field of the
+# section headers' place.
+for cut in 0 1 51 52 100 411; do
+    shows "a module that is cut behind $cut bytes changes nothing"
+    put_caller c.o
+    head -c "$cut" "$work/session/c.o" >"$work/session/cut"
+    [ "$cut" -lt 52 ] && at=$cut || at=32
+    console 'ld < cut\nmalloc 1\n'
+    plays
+    ends 0 "-> ld < cut\\nld: cut: short file at $at\\nvalue = 0 = 0x0\\n-> malloc 1\\nvalue = 89648 = 0x15e30\\n-> " ''
+done
+
+shows 'a module that cannot be read ends the run, behind the steps that were made'
+console '1+2\nld < .\n3\n'
+plays
+ends 4 '-> 1+2\nvalue = 3 = 0x3\n-> ld < .\n' 'windplay: reading failed\n'
+
+shows 'a name that can be read is asked for before its step: the run ends with the limit before that'
+console '1+2\nld < .\n'
+plays --limit 8
+ends 3 '-> 1+2\nvalue = 3 = 0x3\n-> ld < .\n' 'windplay: limit of 8 steps reached\n'
+
+shows 'the mode says which symbols are added; a name that cannot be read is refused'
+put_f a.o
+console 'ld 0xffffffff, 0, "a.o"\nf\nld 1, 0, "a.o"; &f\nld 0, 0, 0\nerrnoGet\nld 0, 0, ""\n'
+plays
+ends 0 '-> ld 0xffffffff, 0, "a.o"\nvalue = 2 = 0x2\n-> f\nundefined symbol: f\n-> ld 1, 0, "a.o"; &f\nvalue = 3 = 0x3\nvalue = 89680 = 0x15e50\n-> ld 0, 0, 0\nvalue = -1 = 0xffffffff\n-> errnoGet\nvalue = 1114116 = 0x110004\n-> ld 0, 0, ""\nvalue = -1 = 0xffffffff\n-> ' ''
