@@ -1,67 +1,67 @@
 //! RAM.
 
-ghost use Rattle.std.specs.Prelude.{◌≡◌, ◌<◌, ◌≤◌, ◌+◌, ◌^◌, ◌==◌, ◌↔◌, IsTrue, IsOk, IfOk, IfSome, Some, None, if◌then◌else◌, length, take, drop, position, replicate, option_copied};
+ghost use Rattle.std.specs.Prelude.{◌≡◌, ◌<◌, ◌≤◌, ◌+◌, ◌^◌, ◌==◌, ◌↔◌, IsTrue, IsOk, IfOk, IfSome, if◌then◌else◌, length, take, position, replicate};
+ghost use Rattle.wind_base.specs.Limits.{longest_string};
 ghost use Rattle.board_mem.specs.Memory.{has, read, written, bytes_at, with_bytes, string_length, string_at, string_over};
 
+use crate::outside::Outside;
+use crate::pages::{Pages, left_in_page};
+use crate::ram_string::{RamString, STRING_ROOM};
 use byteorder::{BigEndian, ByteOrder};
 use std::alloc::Global;
 use std::marker::Model;
-use thiserror::Error;
 use wind_base::NoMemory;
-use wind_base::limits::STRING_BYTES;
-
-// How many bytes the longest string has, with its zero.
-const STRING_ROOM: usize = STRING_BYTES as usize + 1;
-
-/// A byte of the range is outside RAM. What the call was made on is as it was before.
-#[derive(Clone, Copy, Debug, PartialEq, Eq, Error)]
-#[error("outside RAM")]
-pub struct Outside;
 
 /// RAM, from address 0 on. Numbers of several bytes have their most significant byte first. Contracts see it as the
-/// list of its bytes.
+/// list of its bytes, whichever of its pages were made.
 #[derive(Drop)]
 pub struct Ram {
-    bytes: Vec<u8>,
+    pages: Pages,
 }
 
 impl Model for Ram {
-    ghost use Rattle.std.specs.Prelude.{List, ℕ, length, ◌<◌, ◌^◌};
+    ghost use Rattle.std.specs.Prelude.{List, ℕ};
 
     ghost Value = { List ℕ };
 
-    ghost view = { λ r. r.bytes.items };
-
-    ghost invariant = { λ r. length r.bytes.items < 2 ^ 32 };
+    ghost view = { λ r. r.pages.bytes };
 }
 
 impl Ram {
-    /// This many zeros.
+    /// This many zeros. No page is made.
     pub fn new(alloc: Global, size: u32) -> Result<Ram, NoMemory>
         ensures { IfOk result (λ ram. ram ≡ replicate size 0) }
     {
-        let Ok(bytes) = vec![in alloc; 0; size as usize] else {
-            return Err(NoMemory);
-        };
-        Ok(Ram { bytes })
+        Ok(Ram {
+            pages: Pages::new(alloc, size)?,
+        })
+    }
+
+    /// The pages, which stand for exactly the bytes.
+    pub fn pages(&self) -> &Pages
+        ensures { result.now.bytes ≡ self.now }
+    {
+        &self.pages
     }
 
     /// How many bytes there are.
     pub fn size(&self) -> u32
         ensures { result ≡ length self.now }
     {
-        self.bytes.len() as u32
+        self.pages.size()
     }
 
     /// Whether each of the `n` bytes from an address on is in RAM.
+    #[inline]
     pub fn has(&self, addr: u32, n: u32) -> bool
         ensures is { result ≡ has self.now addr n }
         ensures end { IsTrue result → 0 < n → addr + n < 2 ^ 32 }
     {
-        n == 0 || addr as usize + n as usize <= self.bytes.len()
+        n == 0 || addr as usize + n as usize <= self.pages.size() as usize
     }
 
     /// The byte at an address. None where it is outside.
+    #[inline]
     pub fn read8(&self, addr: u32) -> Option<u32>
         ensures is { result ≡ read 1 self.now addr }
         ensures below { IfSome result (λ v. v < 2 ^ 8) }
@@ -69,10 +69,11 @@ impl Ram {
         if !self.has(addr, 1) {
             return None;
         }
-        Some(self.bytes[addr as usize] as u32)
+        Some(self.pages.piece(addr, 1)[0] as u32)
     }
 
     /// The half word at an address. None where a byte of it is outside.
+    #[inline]
     pub fn read16(&self, addr: u32) -> Option<u32>
         ensures is { result ≡ read 2 self.now addr }
         ensures below { IfSome result (λ v. v < 2 ^ 16) }
@@ -80,32 +81,41 @@ impl Ram {
         if !self.has(addr, 2) {
             return None;
         }
-        Some(BigEndian::read_u16(&self.bytes[addr as usize..]) as u32)
+        if left_in_page(addr) >= 2 {
+            return Some(BigEndian::read_u16(self.pages.piece(addr, 2)) as u32);
+        }
+        let mut bytes = [0; 2];
+        self.pages.get_across(addr, &mut bytes);
+        Some(BigEndian::read_u16(&bytes) as u32)
     }
 
     /// The word at an address. None where a byte of it is outside.
+    #[inline]
     pub fn read32(&self, addr: u32) -> Option<u32>
         ensures { result ≡ read 4 self.now addr }
     {
         if !self.has(addr, 4) {
             return None;
         }
-        Some(BigEndian::read_u32(&self.bytes[addr as usize..]))
+        if left_in_page(addr) >= 4 {
+            return Some(BigEndian::read_u32(self.pages.piece(addr, 4)));
+        }
+        let mut bytes = [0; 4];
+        self.pages.get_across(addr, &mut bytes);
+        Some(BigEndian::read_u32(&bytes))
     }
 
     /// Writes the low byte of `v` to an address.
+    #[inline]
     pub fn write8(&mut self, addr: u32, v: u32) -> Result<(), Outside>
         ensures ok { IsOk result ↔ IsTrue (has self.old addr 1) }
         ensures bytes { self.new ≡ written 1 self.old addr v }
     {
-        if !self.has(addr, 1) {
-            return Err(Outside);
-        }
-        self.bytes[addr as usize] = (v % 0x100) as u8;
-        Ok(())
+        self.copy_in(addr, &[(v % 0x100) as u8])
     }
 
     /// Writes the low half word of `v` to an address.
+    #[inline]
     pub fn write16(&mut self, addr: u32, v: u32) -> Result<(), Outside>
         ensures ok { IsOk result ↔ IsTrue (has self.old addr 2) }
         ensures bytes { self.new ≡ written 2 self.old addr v }
@@ -116,6 +126,7 @@ impl Ram {
     }
 
     /// Writes a word to an address.
+    #[inline]
     pub fn write32(&mut self, addr: u32, v: u32) -> Result<(), Outside>
         ensures ok { IsOk result ↔ IsTrue (has self.old addr 4) }
         ensures bytes { self.new ≡ written 4 self.old addr v }
@@ -125,55 +136,23 @@ impl Ram {
         self.copy_in(addr, &bytes)
     }
 
-    /// The `n` bytes from an address on. None where one of them is outside.
-    pub fn bytes(&self, addr: u32, n: u32) -> Option<&[u8]>
-        ensures { option_copied result ≡ (if has self.now addr n then Some (bytes_at self.now addr n) else None) }
-    {
-        if n == 0 {
-            return Some(&[]);
-        }
-        let at = addr as usize;
-        let len = n as usize;
-        if len > self.bytes.len() || at > self.bytes.len() - len {
-            return None;
-        }
-        Some(&self.bytes[at..at + len])
-    }
-
     /// Fills `dst` with the bytes from an address on.
     pub fn copy_out(&self, addr: u32, dst: &mut [u8]) -> Result<(), Outside>
         ensures ok { IsOk result ↔ IsTrue (has self.now addr (length dst.old)) }
         ensures bytes { dst.new ≡ (if has self.now addr (length dst.old)
             then bytes_at self.now addr (length dst.old) else dst.old) }
     {
-        let at = addr as usize;
-        let n = dst.len();
-        if n == 0 {
-            return Ok(());
-        }
-        if n > self.bytes.len() || at > self.bytes.len() - n {
-            return Err(Outside);
-        }
-        dst.copy_from_slice(&self.bytes[at..at + n]);
-        Ok(())
+        self.pages.read(addr, dst)
     }
 
     /// Writes the bytes of `src` from an address on.
+    #[inline]
     pub fn copy_in(&mut self, addr: u32, src: &[u8]) -> Result<(), Outside>
         ensures ok { IsOk result ↔ IsTrue (has self.old addr (length src.now)) }
         ensures bytes { self.new ≡ (if has self.old addr (length src.now)
             then with_bytes self.old addr src.now else self.old) }
     {
-        let at = addr as usize;
-        let n = src.len();
-        if n == 0 {
-            return Ok(());
-        }
-        if n > self.bytes.len() || at > self.bytes.len() - n {
-            return Err(Outside);
-        }
-        self.bytes[at..at + n].copy_from_slice(src);
-        Ok(())
+        self.pages.write(addr, src)
     }
 
     /// Writes `n` times this byte from an address on.
@@ -182,15 +161,7 @@ impl Ram {
         ensures bytes { self.new ≡ (if has self.old addr n
             then with_bytes self.old addr (replicate n byte) else self.old) }
     {
-        if n == 0 {
-            return Ok(());
-        }
-        if !self.has(addr, n) {
-            return Err(Outside);
-        }
-        let at = addr as usize;
-        self.bytes[at..at + n as usize].fill(byte);
-        Ok(())
+        self.pages.fill(addr, n, byte)
     }
 
     /// Copies the `n` bytes from one address on to another. The ranges may overlap: the bytes are those from before.
@@ -199,21 +170,33 @@ impl Ram {
         requires place { IsTrue (has self.old to n) }
         ensures { self.new ≡ with_bytes self.old to (bytes_at self.old from n) }
     {
-        if n == 0 {
-            return;
-        }
-        let at = from as usize;
-        self.bytes.copy_within(at..at + n as usize, to as usize);
+        self.pages.move_bytes(from, to, n);
     }
 
-    /// The string at an address, which a zero ends, without its zero. None where no zero stands among the first 1,024
-    /// bytes, or a byte before it is outside.
-    pub fn string(&self, addr: u32) -> Option<&[u8]>
-        ensures { option_copied result ≡ string_at self.now addr }
+    // Fills the front of `bytes` with those from an address on, as many as the longest string has with its zero, or
+    // all that there are. Their count.
+    fn front(&self, addr: u32, bytes: &mut [u8; STRING_ROOM]) -> usize
+        ensures front { take result bytes.new ≡ bytes_at self.now addr (longest_string + 1) }
+        ensures within { result ≤ longest_string + 1 }
     {
-        let window = front(self.bytes_from(addr), STRING_ROOM);
-        let n = place_of_zero(window)?;
-        Some(&window[..n])
+        let size = self.pages.size();
+        if addr >= size {
+            return 0;
+        }
+        let count = ((size - addr) as usize).min(STRING_ROOM);
+        self.pages.get_across(addr, &mut bytes[..count]);
+        count
+    }
+
+    /// A copy of the string at an address, which a zero ends, without its zero. None where no zero stands among the
+    /// first 1,024 bytes, or a byte before it is outside.
+    pub fn string(&self, addr: u32) -> Option<RamString>
+        ensures { result ≡ string_at self.now addr }
+    {
+        let mut bytes = [0; STRING_ROOM];
+        let count = self.front(addr, &mut bytes);
+        let length = place_of_zero(&bytes[..count])?;
+        Some(RamString::of_front(bytes, length))
     }
 
     /// Copies the string at an address, which a zero ends, to the front of `dst`, without its zero, and answers its
@@ -223,33 +206,12 @@ impl Ram {
         ensures count { result ≡ string_length self.now addr }
         ensures bytes { dst.new ≡ string_over self.now addr result dst.old }
     {
-        let window = front(self.bytes_from(addr), STRING_ROOM);
-        let n = place_of_zero(window)?;
-        dst[..n].copy_from_slice(&window[..n]);
+        let mut bytes = [0; STRING_ROOM];
+        let count = self.front(addr, &mut bytes);
+        let n = place_of_zero(&bytes[..count])?;
+        dst[..n].copy_from_slice(&bytes[..n]);
         Some(n as u32)
     }
-
-    // The bytes from an address on; none, where it is behind the last.
-    fn bytes_from(&self, addr: u32) -> &[u8]
-        ensures { result.now ≡ drop addr self.now }
-    {
-        let at = addr as usize;
-        if at >= self.bytes.len() {
-            return &[];
-        }
-        &self.bytes[at..]
-    }
-}
-
-// The first `n` bytes, or all of them where there are fewer.
-fn front(bytes: &[u8], n: usize) -> &[u8]
-    ensures is { result.now ≡ take n bytes.now }
-    ensures short { length result.now ≤ n }
-{
-    if bytes.len() > n {
-        return &bytes[..n];
-    }
-    bytes
 }
 
 // Where the first zero stands.

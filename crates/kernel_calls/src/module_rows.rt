@@ -19,7 +19,7 @@ fn meant_module(mods: &Modules, ram: &Ram, x: u32) -> Option<u32>
         return Some(x);
     }
     let name = ram.string(x)?;
-    let id = mods.newest_named(name)?;
+    let id = mods.newest_named(name.bytes())?;
     Some(id.get())
 }
 

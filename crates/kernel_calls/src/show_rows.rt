@@ -1,12 +1,12 @@
 //! The calls that write texts.
 
-ghost use Rattle.std.specs.Prelude.{◌≡◌, ◌++◌, ◌≤◌, IfOk, OnErr, OnOk, option_copied};
+ghost use Rattle.std.specs.Prelude.{◌≡◌, ◌++◌, ◌≤◌, IfOk, OnErr, OnOk};
 ghost use Rattle.wind_base.specs.OutBuf.{KeepsSpace};
 ghost use Rattle.wind_core.specs.State.{Lives};
 ghost use Rattle.wind_core.specs.Moves.{leave_gate};
 ghost use Rattle.text_show.specs.Columns.{with_text};
 ghost use Rattle.text_show.specs.Tasks.{task_table_of};
-ghost use Rattle.kernel_calls.specs.ShowRows.{printf_row, width_of as width_of_lem, units_of as units_of_lem, dump_in as dump_in_lem, dump_row, text_wanted as text_wanted_lem, lookup_row, modules_row};
+ghost use Rattle.kernel_calls.specs.ShowRows.{printf_row, width_of as width_of_lem, units_of as units_of_lem, dump_in as dump_in_lem, dump_row, lookup_row, modules_row};
 
 use crate::reply::{DONE, Reply};
 use board_mem::Ram;
@@ -62,14 +62,8 @@ pub(crate) fn show_tasks(
     Ok(())
 }
 
-// The text that the names of symbols are to have: the empty one, which each has, where the address is 0.
-fn text_wanted(ram: &Ram, at: u32) -> Option<&[u8]>
-    ensures { option_copied result ≡ text_wanted_lem ram.now at }
-{
-    if at == 0 { Some(&[]) } else { ram.string(at) }
-}
-
-// lkup: the symbols whose names have the text at an address. For want of memory nothing is written.
+// lkup: the symbols whose names have the text at an address, and all where the address is 0. For want of memory nothing
+// is written.
 pub(crate) fn show_symbols(
     alloc: Global,
     syms: &Symbols,
@@ -81,10 +75,14 @@ pub(crate) fn show_symbols(
         × (out.new ≡ with_text out.old (lookup_row syms.now.list ram.now at).text)) }
     ensures err { OnErr result (out.new ≡ out.old) }
 {
-    let Some(text) = text_wanted(ram, at) else {
+    if at == 0 {
+        symbol_rows(alloc, syms, b"", out)?;
+        return Ok(DONE);
+    }
+    let Some(text) = ram.string(at) else {
         return Ok(Reply::Refusal(Errno::BadAddress));
     };
-    symbol_rows(alloc, syms, text, out)?;
+    symbol_rows(alloc, syms, text.bytes(), out)?;
     Ok(DONE)
 }
 

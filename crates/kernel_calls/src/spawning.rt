@@ -49,7 +49,7 @@ fn name_at(ram: &Ram, address: u32) -> Option<Option<ShortName>>
         return Some(None);
     }
     match ram.string(address) {
-        Some(name) => Some(Some(ShortName::cut(name))),
+        Some(name) => Some(Some(ShortName::cut(name.bytes()))),
         None => None,
     }
 }

@@ -83,9 +83,10 @@ pub(crate) fn add_symbol(
     if table != 0 {
         return Ok(Reply::Refusal(Errno::ObjIdError));
     }
-    let Some(name) = ram.string(symbol.name) else {
+    let Some(string) = ram.string(symbol.name) else {
         return Ok(Reply::Refusal(Errno::BadAddress));
     };
+    let name = string.bytes();
     if name.is_empty() || name.len() > NAME_BYTES {
         return Ok(Reply::Refusal(Errno::BadAddress));
     }

@@ -143,7 +143,7 @@ pub(crate) fn task_of_name(kern: &Kern, ram: &Ram, address: u32) -> Reply
     let Some(name) = ram.string(address) else {
         return Reply::Refusal(Errno::BadAddress);
     };
-    match kern.named(name) {
+    match kern.named(name.bytes()) {
         Some(id) => Reply::Answer(id.get()),
         None => Reply::Refusal(Errno::TaskNotFound),
     }

@@ -2,6 +2,7 @@
 
 use crate::board::Board;
 use crate::opening::BLOCK;
+use board_mem::Ram;
 use mem_partition::Part;
 use module_loader::{LoadedModule, Modules, Segment};
 use std::alloc::{AllocError, Global};
@@ -15,11 +16,17 @@ pub fn picture(alloc: Global, board: &mut Board) -> Result<Vec<u64>, AllocError>
     put_symbols(&mut list, board.symbols())?;
     put_modules(&mut list, board.modules())?;
     put_blocks(&mut list, board.part())?;
-    let ram = board.ram();
-    if let Some(bytes) = ram.bytes(0, ram.size()) {
-        put_bytes(&mut list, bytes)?;
-    }
+    put_ram(&mut list, board.ram())?;
     Ok(list)
+}
+
+// How many bytes there are, and these.
+fn put_ram(list: &mut Vec<u64>, ram: &Ram) -> Result<(), AllocError> {
+    list.push(u64::from(ram.size()))?;
+    for at in 0..ram.size() {
+        list.push(ram.read8(at).map_or(0, u64::from))?;
+    }
+    Ok(())
 }
 
 // How many bytes there are, and these.

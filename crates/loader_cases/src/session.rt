@@ -218,12 +218,22 @@ impl Session {
                 showing::id(self.alloc, self.board.modules().next_after(number(id)?))
             }
             ("table", [line]) => self.table_line(number(line)?),
-            ("ram", [at, count]) => showing::bytes(
-                self.alloc,
-                self.board.ram().bytes(number(at)?, number(count)?),
-            ),
+            ("ram", [at, count]) => {
+                showing::bytes(self.alloc, self.bytes_at(number(at)?, number(count)?)?)
+            }
             _ => Err(Trouble::Unreadable),
         }
+    }
+
+    // The bytes of RAM from an address on; none where one is outside.
+    fn bytes_at(&self, at: u32, count: u32) -> Result<Option<Vec<u8>>, Trouble> {
+        let ram = self.board.ram();
+        if !ram.has(at, count) {
+            return Ok(None);
+        }
+        let mut bytes = vec![in self.alloc; 0; count as usize]?;
+        let _ = ram.copy_out(at, &mut bytes);
+        Ok(Some(bytes))
     }
 
     // A line of the table of the modules.

@@ -69,7 +69,7 @@ pub fn hexadecimal(alloc: Global, n: u32) -> Result<String, Trouble> {
 }
 
 /// Two digits for each byte, in words of four bytes.
-pub fn bytes(alloc: Global, found: Option<&[u8]>) -> Result<String, Trouble> {
+pub fn bytes(alloc: Global, found: Option<Vec<u8>>) -> Result<String, Trouble> {
     let Some(bytes) = found else {
         return none(alloc);
     };

@@ -31,17 +31,6 @@ pub(crate) fn hand_over(kern: &mut Kern, ram: &mut Ram, buffer: u32, count: u32,
     kern.end_wait(ask.who, n, None);
 }
 
-// The bytes from an address on, which are in RAM.
-fn bytes_in(ram: &Ram, addr: u32, n: u32) -> &[u8]
-    requires { IsTrue (has ram.now addr n) }
-    ensures { result.now ≡ bytes_at ram.now addr n }
-{
-    match ram.bytes(addr, n) {
-        Some(bytes) => bytes,
-        None => unreachable!(),
-    }
-}
-
 impl Queues {
     // The bytes from an address on are added to a queue.
     pub(crate) fn put_message(
@@ -60,8 +49,7 @@ impl Queues {
           queues = with_object self.old.queues id (added urgent (bytes_at ram.now buffer count) q);
         } }
     {
-        let bytes = bytes_in(ram, buffer, count);
-        self.queues.object_mut(id).push(bytes, urgent);
+        self.queues.object_mut(id).push(ram, buffer, count, urgent);
     }
 
     // The front message of a queue is gone.

@@ -1,12 +1,14 @@
 //! One message queue.
 
-ghost use Rattle.std.specs.Prelude.{◌≡◌, ◌<◌, ◌≤◌, ◌^◌, [], length, drop, IfOk, vec_capacity, option_copied, ◌==◌, false, Some, None, if◌then◌else◌, ◌∷◌, ◌++◌};
+ghost use Rattle.std.specs.Prelude.{◌≡◌, ◌<◌, ◌≤◌, ◌^◌, [], length, drop, IfOk, IsTrue, vec_capacity, option_copied, ◌==◌, false, Some, None, if◌then◌else◌, ◌∷◌, ◌++◌};
 ghost use Rattle.std.specs.List.{All};
 ghost use Rattle.std.specs.VecDeque.{deque_len, deque_capacity};
+ghost use Rattle.board_mem.specs.Memory.{has, bytes_at};
 ghost use Rattle.wind_lists.specs.Sorting.{first};
 ghost use Rattle.msg_queue.specs.State.{is_full as is_full_lem, added};
 
 use crate::message::Message;
+use board_mem::Ram;
 use std::alloc::Global;
 use std::collections::VecDeque;
 use std::marker::Model;
@@ -136,16 +138,17 @@ impl Queue {
         }
     }
 
-    // A message is added, where there is room.
-    pub(crate) fn push(&mut self, bytes: &[u8], urgent: bool)
+    // A message is added, where there is room: the bytes from an address of RAM on.
+    pub(crate) fn push(&mut self, ram: &Ram, addr: u32, n: u32, urgent: bool)
         requires room { is_full_lem self.old ≡ false }
-        requires short { length bytes.now ≤ self.old.max_len }
-        ensures { self.new ≡ added urgent bytes.now self.old }
+        requires there { IsTrue (has ram.now addr n) }
+        requires short { n ≤ self.old.max_len }
+        ensures { self.new ≡ added urgent (bytes_at ram.now addr n) self.old }
     {
         let Some(mut message) = self.spare.pop() else {
             unreachable!()
         };
-        message.fill(bytes);
+        message.fill(ram, addr, n);
         put_in(&mut self.held, message, urgent);
     }
 

@@ -522,10 +522,11 @@ fn task_is(yard: &Yard, who: u32) -> Option<(bool, u32, u32)> {
 // The first address at which other bytes stand; None where there is none.
 fn first_other(ram: &Ram, wanted: &[(u32, &'static [u8])]) -> Option<u32> {
     for (addr, bytes) in wanted {
-        let Ok(n) = u32::try_from(bytes.len()) else {
+        let mut buffer = [0; 64];
+        let Some(found) = buffer.get_mut(..bytes.len()) else {
             return Some(*addr);
         };
-        if ram.bytes(*addr, n) != Some(*bytes) {
+        if ram.copy_out(*addr, found).is_err() || &*found != *bytes {
             return Some(*addr);
         }
     }

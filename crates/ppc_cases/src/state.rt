@@ -93,9 +93,14 @@ impl State {
             && self.regs.lr == other.regs.lr
             && self.regs.ctr == other.regs.ctr
             && self.regs.pc == other.regs.pc
-            && self.bus.ram.bytes(0, SIZE) == other.bus.ram.bytes(0, SIZE)
+            && same_bytes(&self.bus.ram, &other.bus.ram)
             && self.trap == other.trap
     }
+}
+
+// Whether two RAMs hold the same bytes.
+fn same_bytes(ram: &Ram, other: &Ram) -> bool {
+    (0..SIZE).all(|at| ram.read8(at) == other.read8(at))
 }
 
 /// A number in hexadecimal digits.

@@ -5,7 +5,6 @@ mod Lines
 mod Sorted
 mod Cut
 mod Pieces
-mod Strings
 mod Stable
 mod Shown
 mod Above

@@ -1,15 +1,15 @@
 //! The dump of memory.
 
-ghost use Rattle.std.specs.Prelude.{◌≡◌, ◌+◌, ◌*◌, ◌++◌, ◌<◌, ◌≤◌, ◌^◌, take, drop, map, length, IsTrue, IfOk, OnOk, OnErr};
+ghost use Rattle.std.specs.Prelude.{◌≡◌, ◌+◌, ◌*◌, ◌++◌, ◌<◌, ◌≤◌, map, length, IsTrue, IfOk, OnOk, OnErr};
 ghost use Rattle.board_mem.specs.Memory.{has, bytes_at};
 ghost use Rattle.text_show.specs.Columns.{with_text};
 ghost use Rattle.text_show.specs.Dump.{unit_byte, units_text, shown_byte as shown_byte_lem, dump_line, dump_lines, lines_of as lines_of_lem, dump_of};
 
 use crate::numeral::hex_digits;
-use crate::page::{add, front, write};
+use crate::page::{add, write};
 use board_mem::Ram;
 use std::alloc::Global;
-use wind_base::{NoMemory, OutBuf, behind};
+use wind_base::{NoMemory, OutBuf};
 
 // Adds a byte of a line at its place there.
 fn add_byte(page: &mut Vec<u8>, width: u32, place: u32, byte: u8) -> Result<(), NoMemory>
@@ -72,39 +72,40 @@ fn add_line(page: &mut Vec<u8>, width: u32, at: u32, bytes: &[u8]) -> Result<(),
     Ok(())
 }
 
-// The bytes of a line by its number.
-fn line(bytes: &[u8], number: usize) -> &[u8]
-    requires { number * 16 < length bytes.now }
-    ensures value { result.now ≡ take 16 (drop (number * 16) bytes.now) }
-    ensures short { length result.now ≤ 16 }
-{
-    front(behind(bytes, number * 16), 16)
-}
-
-// Adds all lines.
-fn add_lines(page: &mut Vec<u8>, width: u32, at: u32, bytes: &[u8]) -> Result<(), NoMemory>
+// Adds the line of the `count` bytes from an address on.
+fn add_line_at(
+    page: &mut Vec<u8>,
+    width: u32,
+    ram: &Ram,
+    at: u32,
+    count: usize,
+) -> Result<(), NoMemory>
     requires some { 0 < width }
-    requires ends { at + length bytes.now ≤ 2 ^ 32 }
-    ensures { OnOk result (page.new.items
-        ≡ page.old.items ++ dump_lines width (lines_of_lem bytes.now) at bytes.now) }
+    requires short { count ≤ 16 }
+    requires ram { IsTrue (has ram.now at count) }
+    ensures { OnOk result (page.new.items ≡ page.old.items ++ dump_line width at (bytes_at ram.now at count)) }
 {
-    for number in 0..bytes.len().div_ceil(16) {
-        add_line(page, width, at + (number * 16) as u32, line(bytes, number))?;
-    }
-    Ok(())
+    let mut line = [0; 16];
+    let line = &mut line[..count];
+    let Ok(()) = ram.copy_out(at, line) else {
+        unreachable!()
+    };
+    add_line(page, width, at, line)
 }
 
-// The bytes of a range that is there.
-fn bytes_of(ram: &Ram, addr: u32, n: u32) -> &[u8]
-    requires { IsTrue (has ram.now addr n) }
-    ensures value { result.now ≡ bytes_at ram.now addr n }
-    ensures ends { addr + length result.now ≤ 2 ^ 32 }
+// Adds all lines of the `n` bytes from an address on.
+fn add_lines(page: &mut Vec<u8>, width: u32, ram: &Ram, at: u32, n: u32) -> Result<(), NoMemory>
+    requires some { 0 < width }
+    requires ram { IsTrue (has ram.now at n) }
+    ensures { OnOk result (page.new.items
+        ≡ page.old.items ++ dump_lines width (lines_of_lem (bytes_at ram.now at n)) at (bytes_at ram.now at n)) }
 {
     let _size = ram.size();
-    match ram.bytes(addr, n) {
-        Some(bytes) => bytes,
-        None => &[],
+    for number in 0..n.div_ceil(16) {
+        let place = number * 16;
+        add_line_at(page, width, ram, at + place, (n - place).min(16) as usize)?;
     }
+    Ok(())
 }
 
 // The dump, made aside.
@@ -117,7 +118,7 @@ fn dump_page(alloc: Global, ram: &Ram, addr: u32, n: u32, width: u32) -> Result<
 {
     let _size = ram.size();
     let mut page = Vec::new(alloc);
-    add_lines(&mut page, width, addr, bytes_of(ram, addr, n * width))?;
+    add_lines(&mut page, width, ram, addr, n * width)?;
     Ok(page)
 }
 

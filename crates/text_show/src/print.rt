@@ -1,6 +1,6 @@
 //! `printf`.
 
-ghost use Rattle.std.specs.Prelude.{◌≡◌, ◌+◌, ◌<◌, ◌≤◌, ◌^◌, ◌++◌, take, IfSome, length, option_map, option_copied};
+ghost use Rattle.std.specs.Prelude.{◌≡◌, ◌+◌, ◌<◌, ◌≤◌, ◌^◌, ◌++◌, take, IfSome, length, option_map};
 ghost use Rattle.wind_base.specs.Limits.{longest_print};
 ghost use Rattle.text_show.specs.Format.{pieces, conversion_of as conversion_of_lem};
 ghost use Rattle.text_show.specs.Printf.{Prints, source_of, conversion_text, values_of as values_of_lem, value_at, is_minus_word as is_minus_word_lem, magnitude as magnitude_lem, sign_of as sign_of_lem, digits_of as digits_of_lem, number_text, plain_text, string_of as string_of_lem, text_of, printf_of, written, format_text};
@@ -10,7 +10,7 @@ use crate::numeral::{Digits, numeral};
 use crate::text::{self, Text};
 use crate::values::Values;
 use arrayvec::ArrayVec;
-use board_mem::Ram;
+use board_mem::{Ram, RamString};
 use wind_base::{OutBuf, behind};
 
 // Whether a word is negative as a signed number.
@@ -73,8 +73,8 @@ fn add_plain(text: &mut Text, style: Style, body: &[u8])
 
 impl Values<'_> {
     // The string at the address that a value is.
-    fn string(&self, n: u32) -> Option<&[u8]>
-        ensures { option_copied result ≡ string_of_lem self.now.ram.now (value_at (source_of self.now) n) }
+    fn string(&self, n: u32) -> Option<RamString>
+        ensures { result ≡ string_of_lem self.now.ram.now (value_at (source_of self.now) n) }
     {
         let ram = self.ram;
         match self.get(n) {
@@ -91,7 +91,7 @@ fn add_conversion(text: &mut Text, values: &Values, n: u32, style: Style, letter
     match letter {
         Letter::Percent => add_plain(text, style, b"%"),
         Letter::Text => match values.string(n) {
-            Some(string) => add_plain(text, style, string),
+            Some(string) => add_plain(text, style, string.bytes()),
             None => return false,
         },
         Letter::Character => match values.get(n) {
@@ -162,9 +162,8 @@ fn text_at(values: &Values, format: u32) -> Option<Text>
     ensures { option_map (λ t. t.items) result ≡ printf_of (source_of values.now) format }
 {
     let ram = values.ram;
-    let _size = ram.size();
     match ram.string(format) {
-        Some(format) => format_text(values, format),
+        Some(format) => format_text(values, format.bytes()),
         None => None,
     }
 }

@@ -19,4 +19,4 @@ returns c =
     (λ (s : QueuesState). (q : QueueState) → object_of s.queues c.args.id ≡ Some q → queues_in (with_object k.queues.rows c.args.id c.push.new.self) k.asks.items ≡ record s { queues = with_object s.queues c.args.id (f q) })
     c.self.view_is
     (λ q here. put_is f k.queues.rows k.asks.items c.args.id c.object_mut.result.now c.push.new.self q c.object_mut.ensures.value
-    (c.push.ensures ∙ ap (λ b. added c.args.urgent b c.object_mut.result.now) c.bytes_in-bytes.ensures) here)
+    c.push.ensures here)

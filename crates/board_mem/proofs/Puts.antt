@@ -1,0 +1,43 @@
+-- What is put into one page: the store and the pages after it.
+use Rattle.std.proofs.Common.{◌≡◌, ℕ, List, length, refl, sym, ap, ap₂, ◌∙◌, arith}
+use Rattle.board_mem.specs.Memory.{with_bytes}
+use Rattle.board_mem.specs.Pages.{PagesState, made_with, written_at}
+use Rattle.board_mem.specs.Store.{place_of, bytes_of, made_of, IsMade, IsStore}
+use Rattle.board_mem.proofs.Stores.{length-made_of}
+use Rattle.board_mem.proofs.Windows.{IsWindow, window_page, bytes_of-put, IsStore-put}
+use Rattle.board_mem.proofs.Writings.{made_with-page}
+
+-- bytes are put at an address, in a page that was made for it: from index and store over index₁ and store₁ to index₂ and store₂
+pub record IsPut (size : ℕ) (index store index₁ store₁ index₂ store₂ : List ℕ) (capacity capacity₁ at : ℕ) (src : List ℕ) : Type 0 where
+  pub window : IsWindow size index store capacity at (length src)
+  pub page : IsMade index store index₁ store₁ capacity₁ at
+  pub size_same : length index₁ ≡ length index
+  pub index_same : index₂ ≡ index₁
+  pub put : store₂ ≡ with_bytes store₁ (place_of index₁ at) src
+
+-- the range is a window still
+window_after : {size : ℕ} {index store index₁ store₁ index₂ store₂ : List ℕ} {capacity capacity₁ at : ℕ} {src : List ℕ} → IsPut size index store index₁ store₁ index₂ store₂ capacity capacity₁ at src → IsWindow size index₁ store₁ capacity₁ at (length src)
+window_after p = record {
+  kept = record { stored = p.page.stored; cover = p.size_same ∙ p.window.kept.cover; addressed = p.window.kept.addressed };
+  some = p.window.some;
+  page = p.window.page;
+  there = p.window.there;
+}
+
+-- what holds of the store holds after it
+pub IsStore-after : {size : ℕ} {index store index₁ store₁ index₂ store₂ : List ℕ} {capacity capacity₁ at : ℕ} {src : List ℕ} → IsPut size index store index₁ store₁ index₂ store₂ capacity capacity₁ at src → (capacity₂ : ℕ) → capacity₂ ≡ capacity₁ → IsStore size index₂ store₂ capacity₂
+IsStore-after {src = src} p capacity₂ e =
+    rw (p.index_same, p.put, e) (IsStore-put (window_after p) p.page.numbered src refl)
+
+-- and the pages are those with the bytes written
+pub pages_after : {size : ℕ} {index store index₁ store₁ index₂ store₂ : List ℕ} {capacity capacity₁ at : ℕ} {src : List ℕ} → IsPut size index store index₁ store₁ index₂ store₂ capacity capacity₁ at src → (s : PagesState) → s.bytes ≡ bytes_of size index store → s.made ≡ made_of index → bytes_of size index₂ store₂ ≡ (written_at s at src).bytes
+pages_after {size} {index} {store} {index₁} {store₁} {index₂} {store₂} {at = at} {src = src} p s b m =
+    let w = window_after p in
+    ap₂ (bytes_of size) p.index_same p.put ∙ bytes_of-put w p.page.numbered src refl
+    ∙ ap (λ bytes. with_bytes bytes at src) (p.page.bytes size (omega (arith, p.window.kept.cover)) ∙ sym b)
+
+pub made_after : {size : ℕ} {index store index₁ store₁ index₂ store₂ : List ℕ} {capacity capacity₁ at : ℕ} {src : List ℕ} → IsPut size index store index₁ store₁ index₂ store₂ capacity capacity₁ at src → (s : PagesState) → s.bytes ≡ bytes_of size index store → s.made ≡ made_of index → made_of index₂ ≡ (written_at s at src).made
+made_after {index = index} {at = at} {src = src} p s b m =
+    let here = window_page p.window in
+    ap made_of p.index_same ∙ p.page.made
+    ∙ sym (ap (λ made. made_with made at (length src)) m ∙ made_with-page (made_of index) at (length src) p.window.some p.window.page (omega (arith, here, length-made_of index)))

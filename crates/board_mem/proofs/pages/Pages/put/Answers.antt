@@ -1,0 +1,48 @@
+use Rattle.std.proofs.Common.{ℕ, List, Bool, length, refl, sym, ap, ap₂, ◌∙◌, arith}
+use Rattle.std.specs.Prelude.{vec_capacity}
+use Rattle.std.specs.Vec.{with_items}
+use Rattle.std.proofs.lemmas.List.{with_items_is}
+use Rattle.board_mem.specs.Memory.{with_bytes}
+use Rattle.board_mem.specs.Pages.{PagesState}
+use Rattle.board_mem.proofs.Puts.{IsPut, IsStore-after, pages_after, made_after}
+use Rattle.board_mem.proofs.Stores.{length-bytes_of}
+use Rattle.board_mem.proofs.Windows.{IsWindow}
+use Rattle.board_mem.proofs.pages.Pages.put.Goals as goal
+
+pub place_made-start-requires-clause-there : goal.place_made-start-requires-clause-there
+place_made-start-requires-clause-there c =
+    let size = ap (λ (s : PagesState). length s.bytes) c.self.view_is in
+    omega (arith, c.self.invariant.cover, size, length-bytes_of c.self.inside.size c.self.inside.index.items c.self.inside.store.items)
+
+-- the range in the store
+window : (c : goal.After-self-2-1) → IsWindow c.self.inside.size c.self.inside.index.items c.self.inside.store.items (vec_capacity c.self.inside.store) c.args.at (length c.args.src.now)
+window c =
+    let size = ap (λ (s : PagesState). length s.bytes) c.self.view_is in
+    record {
+      kept = c.self.invariant;
+      some = c.requires.some;
+      page = c.requires.page;
+      there = omega (arith, size, length-bytes_of c.self.inside.size c.self.inside.index.items c.self.inside.store.items);
+    }
+
+-- what is put, and where
+put_is : (c : goal.After-self-2-1) → IsPut c.self.inside.size c.self.inside.index.items c.self.inside.store.items c.place_made-start.new.index c.place_made-start.new.store.items (with_items c.self.inside.index c.place_made-start.new.index).items (with_items c.place_made-start.new.store c.put_in.new.store).items (vec_capacity c.self.inside.store) (vec_capacity c.place_made-start.new.store) c.args.at c.args.src.now
+put_is c = record {
+  window = window c;
+  page = rw c.deref_mut.ensures.value at c.place_made-start.ensures.made;
+  size_same = omega arith;
+  index_same = with_items_is c.self.inside.index c.place_made-start.new.index (omega arith);
+  put = with_items_is c.place_made-start.new.store c.put_in.new.store (omega arith) ∙ c.put_in.ensures
+      ∙ ap₂ (λ (store : List ℕ) (start : ℕ). with_bytes store start c.args.src.now) c.deref_mut-2.ensures.value c.place_made-start.ensures.place;
+}
+
+pub invariant_of-self : goal.invariant_of-self
+invariant_of-self c = IsStore-after (put_is c) _ refl
+
+pub returns : goal.returns
+returns c =
+    let old = c.self.view_is in
+    let s = c.args.self.now in
+    let b = pages_after (put_is c) s (ap (λ (p : PagesState). p.bytes) (sym old)) (ap (λ (p : PagesState). p.made) (sym old)) in
+    let m = made_after (put_is c) s (ap (λ (p : PagesState). p.bytes) (sym old)) (ap (λ (p : PagesState). p.made) (sym old)) in
+    ap₂ (λ (bytes : List ℕ) (made : List Bool). let r : PagesState = record { bytes = bytes; made = made } in r) b m

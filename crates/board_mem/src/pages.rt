@@ -1,0 +1,293 @@
+//! Pages of memory, each made when it is first written.
+
+ghost use Rattle.std.specs.Prelude.{◌≡◌, ◌+◌, ◌-◌, ◌*◌, ◌%◌, ◌<◌, ◌≤◌, ◌^◌, ◌↔◌, IsTrue, IsOk, IfOk, if◌then◌else◌, length, replicate};
+ghost use Rattle.board_mem.specs.Memory.{has as has_lem, bytes_at};
+ghost use Rattle.board_mem.specs.Pages.{page_bytes, unmade, written_at, made_count, ArePages};
+
+use crate::outside::Outside;
+use crate::store::{PAGE, fill_in, place, place_made, put_in};
+use std::alloc::Global;
+use std::marker::Model;
+use wind_base::NoMemory;
+
+/// Memory in pages of 4,096 bytes. A page is made when it is first written; until then it reads as zeros, and no memory
+/// is touched for it. The room for all pages is taken at the start. Contracts see the bytes, and of each page whether
+/// it was made.
+#[derive(Drop)]
+pub struct Pages {
+    size: u32,
+    // for each page of addresses the number of its page in the store: 0, the page of zeros, until it is made
+    index: Vec<u32>,
+    // a page of zeros, which is never written, and the pages that were made
+    store: Vec<u8>,
+}
+
+impl Model for Pages {
+    ghost use Rattle.std.specs.Prelude.{vec_capacity};
+    ghost use Rattle.board_mem.specs.Pages.{PagesState};
+    ghost use Rattle.board_mem.specs.Store.{bytes_of, made_of, IsStore};
+
+    ghost Value = { PagesState };
+
+    ghost view = { λ p. record {
+      bytes = bytes_of p.size p.index.items p.store.items;
+      made = made_of p.index.items;
+    } };
+
+    ghost invariant = { λ p. IsStore p.size p.index.items p.store.items (vec_capacity p.store) };
+}
+
+// How many bytes are moved at once.
+const BLOCK: u32 = 256;
+
+// How many bytes there are from an address on to the end of its page.
+#[inline]
+pub(crate) fn left_in_page(at: u32) -> usize
+    ensures value { result ≡ page_bytes - at % page_bytes }
+    ensures some { 0 < result }
+    ensures within { at % page_bytes + result ≤ page_bytes }
+{
+    PAGE - at as usize % PAGE
+}
+
+impl Pages {
+    /// This many zeros, of which no page is made. No other call takes memory.
+    pub fn new(alloc: Global, size: u32) -> Result<Pages, NoMemory>
+        ensures { IfOk result (λ p. p ≡ unmade size) }
+    {
+        let count = (size as usize + (PAGE - 1)) / PAGE;
+        let Ok(index) = vec![in alloc; 0; count] else {
+            return Err(NoMemory);
+        };
+        let Ok(mut store) = Vec::with_capacity(alloc, count * PAGE + PAGE) else {
+            return Err(NoMemory);
+        };
+        let Ok(()) = store.resize(PAGE, 0) else {
+            return Err(NoMemory);
+        };
+        Ok(Pages { size, index, store })
+    }
+
+    /// How many bytes there are.
+    #[inline]
+    pub fn size(&self) -> u32
+        ensures { result ≡ length self.now.bytes }
+    {
+        self.size
+    }
+
+    /// How many pages were made. It also says what the pages always are.
+    pub fn made(&self) -> u32
+        ensures count { result ≡ made_count self.now.made }
+        ensures sound { ArePages self.now }
+    {
+        (self.store.len() / PAGE - 1) as u32
+    }
+
+    // The `n` bytes from an address on, which are in one page.
+    #[inline]
+    pub(crate) fn piece(&self, at: u32, n: usize) -> &[u8]
+        requires some { 0 < n }
+        requires page { at % page_bytes + n ≤ page_bytes }
+        requires there { at + n ≤ length self.now.bytes }
+        ensures { result.now ≡ bytes_at self.now.bytes at n }
+    {
+        let start = place(&self.index, at as usize);
+        &self.store[start..start + n]
+    }
+
+    // Writes bytes from an address on, which are all in its page.
+    #[inline]
+    fn put(&mut self, at: u32, src: &[u8])
+        requires some { 0 < length src.now }
+        requires page { at % page_bytes + length src.now ≤ page_bytes }
+        requires there { at + length src.now ≤ length self.old.bytes }
+        ensures { self.new ≡ written_at self.old at src.now }
+    {
+        let start = place_made(&mut self.index, &mut self.store, at as usize);
+        put_in(&mut self.store, start, src);
+    }
+
+    // Writes `n` times this byte from an address on, all in its page.
+    fn put_same(&mut self, at: u32, n: usize, byte: u8)
+        requires some { 0 < n }
+        requires page { at % page_bytes + n ≤ page_bytes }
+        requires there { at + n ≤ length self.old.bytes }
+        ensures { self.new ≡ written_at self.old at (replicate n byte) }
+    {
+        let start = place_made(&mut self.index, &mut self.store, at as usize);
+        fill_in(&mut self.store, start, n, byte);
+    }
+    // Writes bytes from an address on, page by page.
+    fn put_across(&mut self, at: u32, src: &[u8])
+        requires { at + length src.now ≤ length self.old.bytes }
+        ensures { self.new ≡ written_at self.old at src.now }
+    {
+        let _size = self.size();
+        let mut at = at;
+        let mut rest = src;
+        while !rest.is_empty() {
+            let (piece, behind) = rest.split_at(left_in_page(at).min(rest.len()));
+            self.put(at, piece);
+            at += piece.len() as u32;
+            rest = behind;
+        }
+    }
+
+    // Writes `n` times this byte from an address on, page by page.
+    fn put_same_across(&mut self, at: u32, n: u32, byte: u8)
+        requires { at + n ≤ length self.old.bytes }
+        ensures { self.new ≡ written_at self.old at (replicate n byte) }
+    {
+        let _size = self.size();
+        let mut at = at;
+        let mut left = n;
+        while left > 0 {
+            let count = (left_in_page(at) as u32).min(left);
+            self.put_same(at, count as usize, byte);
+            at += count;
+            left -= count;
+        }
+    }
+
+    // Fills `dst` with the bytes from an address on, page by page.
+    pub(crate) fn get_across(&self, at: u32, dst: &mut [u8])
+        requires { at + length dst.old ≤ length self.now.bytes }
+        ensures { dst.new ≡ bytes_at self.now.bytes at (length dst.old) }
+    {
+        let _size = self.size();
+        let mut done = 0;
+        while done < dst.len() {
+            let from = at + done as u32;
+            let count = left_in_page(from).min(dst.len() - done);
+            dst[done..done + count].copy_from_slice(self.piece(from, count));
+            done += count;
+        }
+    }
+
+    /// Whether each of the `n` bytes from an address on is there.
+    #[inline]
+    pub fn has(&self, at: u32, n: usize) -> bool
+        ensures { result ≡ has_lem self.now.bytes at n }
+    {
+        let size = self.size() as usize;
+        if n > size {
+            return n == 0;
+        }
+        n == 0 || at as usize + n <= size
+    }
+
+    /// Fills `dst` with the bytes from an address on.
+    #[inline]
+    pub fn read(&self, at: u32, dst: &mut [u8]) -> Result<(), Outside>
+        ensures ok { IsOk result ↔ IsTrue (has_lem self.now.bytes at (length dst.old)) }
+        ensures bytes { dst.new ≡ (if has_lem self.now.bytes at (length dst.old)
+            then bytes_at self.now.bytes at (length dst.old) else dst.old) }
+    {
+        if !self.has(at, dst.len()) {
+            return Err(Outside);
+        }
+        if dst.is_empty() {
+            return Ok(());
+        }
+        self.get_across(at, dst);
+        Ok(())
+    }
+
+    /// Writes the bytes of `src` from an address on. It makes the pages that they meet, and none where it refuses.
+    #[inline]
+    pub fn write(&mut self, at: u32, src: &[u8]) -> Result<(), Outside>
+        ensures ok { IsOk result ↔ IsTrue (has_lem self.old.bytes at (length src.now)) }
+        ensures pages { self.new ≡ (if has_lem self.old.bytes at (length src.now)
+            then written_at self.old at src.now else self.old) }
+    {
+        if !self.has(at, src.len()) {
+            return Err(Outside);
+        }
+        if src.is_empty() {
+            return Ok(());
+        }
+        if src.len() <= left_in_page(at) {
+            self.put(at, src);
+            return Ok(());
+        }
+        self.put_across(at, src);
+        Ok(())
+    }
+
+    /// Writes `n` times this byte from an address on. It makes the pages that they meet, and none where it refuses.
+    pub fn fill(&mut self, at: u32, n: u32, byte: u8) -> Result<(), Outside>
+        ensures ok { IsOk result ↔ IsTrue (has_lem self.old.bytes at n) }
+        ensures pages { self.new ≡ (if has_lem self.old.bytes at n
+            then written_at self.old at (replicate n byte) else self.old) }
+    {
+        if !self.has(at, n as usize) {
+            return Err(Outside);
+        }
+        if n == 0 {
+            return Ok(());
+        }
+        self.put_same_across(at, n, byte);
+        Ok(())
+    }
+    // Copies at most `BLOCK` bytes from one address on to another. The ranges may overlap.
+    fn move_block(&mut self, from: u32, to: u32, n: u32)
+        requires block { n ≤ BLOCK }
+        requires source { from + n ≤ length self.old.bytes }
+        requires place { to + n ≤ length self.old.bytes }
+        ensures { self.new ≡ written_at self.old to (bytes_at self.old.bytes from n) }
+    {
+        let mut block = [0; BLOCK as usize];
+        let block = &mut block[..n as usize];
+        self.get_across(from, block);
+        self.put_across(to, block);
+    }
+
+    // Copies bytes to lower addresses, the lowest first.
+    fn move_down(&mut self, from: u32, to: u32, n: u32)
+        requires down { to ≤ from }
+        requires there { from + n ≤ length self.old.bytes }
+        ensures { self.new ≡ written_at self.old to (bytes_at self.old.bytes from n) }
+    {
+        let _size = self.size();
+        let (mut from, mut to, mut left) = (from, to, n);
+        while left > 0 {
+            let count = left.min(BLOCK);
+            self.move_block(from, to, count);
+            from += count;
+            to += count;
+            left -= count;
+        }
+    }
+
+    // Copies bytes to higher addresses, the highest first.
+    fn move_up(&mut self, from: u32, to: u32, n: u32)
+        requires up { from ≤ to }
+        requires there { to + n ≤ length self.old.bytes }
+        ensures { self.new ≡ written_at self.old to (bytes_at self.old.bytes from n) }
+    {
+        let _size = self.size();
+        let mut left = n;
+        while left > 0 {
+            let count = left.min(BLOCK);
+            left -= count;
+            self.move_block(from + left, to + left, count);
+        }
+    }
+
+    /// Copies the `n` bytes from one address on to another. The ranges may overlap: the bytes are those from before.
+    pub fn move_bytes(&mut self, from: u32, to: u32, n: u32)
+        requires source { IsTrue (has_lem self.old.bytes from n) }
+        requires place { IsTrue (has_lem self.old.bytes to n) }
+        ensures { self.new ≡ written_at self.old to (bytes_at self.old.bytes from n) }
+    {
+        if n == 0 {
+            return;
+        }
+        if to <= from {
+            self.move_down(from, to, n);
+        } else {
+            self.move_up(from, to, n);
+        }
+    }
+}

@@ -1,0 +1,87 @@
+//! The store of the pages, and the numbers that the pages of addresses have there.
+
+ghost use Rattle.std.specs.Prelude.{◌≡◌, ◌+◌, ◌*◌, ◌%◌, ◌<◌, ◌≤◌, ℕ, true, length, replicate, slice_index, slice_set, vec_capacity};
+ghost use Rattle.board_mem.specs.Memory.{with_bytes};
+ghost use Rattle.board_mem.specs.Pages.{page_bytes, page_of};
+ghost use Rattle.board_mem.specs.Store.{AreStored, IsMade, bytes_of, made_of, place_of};
+
+/// How many bytes a page has.
+pub(crate) const PAGE: usize = 4_096;
+
+// The number that a page which was not made gets, with a page of zeros at the end of the store.
+#[cold]
+fn make(index: &mut [u32], store: &mut Vec<u8>, page: usize) -> usize
+    requires stored { AreStored index.old store.old.items (vec_capacity store.old) }
+    requires there { page < length index.old }
+    requires unmade { slice_index index.old page ≡ 0 }
+    ensures stored { AreStored index.new store.new.items (vec_capacity store.new) }
+    ensures some { 0 < result }
+    ensures number { slice_index index.new page ≡ result }
+    ensures made { made_of index.new ≡ slice_set (made_of index.old) page true }
+    ensures bytes { (size : ℕ) → size ≤ page_bytes * length index.old
+        → bytes_of size index.new store.new.items ≡ bytes_of size index.old store.old.items }
+{
+    let len = store.len();
+    let Ok(()) = store.resize(len + PAGE, 0) else {
+        unreachable!()
+    };
+    let number = len / PAGE;
+    index[page] = number as u32;
+    number
+}
+
+// The number of a page in the store. The page is made if it was not.
+#[inline]
+fn number_made(index: &mut [u32], store: &mut Vec<u8>, page: usize) -> usize
+    requires stored { AreStored index.old store.old.items (vec_capacity store.old) }
+    requires there { page < length index.old }
+    ensures stored { AreStored index.new store.new.items (vec_capacity store.new) }
+    ensures some { 0 < result }
+    ensures number { slice_index index.new page ≡ result }
+    ensures made { made_of index.new ≡ slice_set (made_of index.old) page true }
+    ensures bytes { (size : ℕ) → size ≤ page_bytes * length index.old
+        → bytes_of size index.new store.new.items ≡ bytes_of size index.old store.old.items }
+{
+    let number = index[page] as usize;
+    if number != 0 {
+        return number;
+    }
+    make(index, store, page)
+}
+
+/// Where the byte at an address stands in the store, in a page that is made if it was not.
+#[inline]
+pub(crate) fn place_made(index: &mut [u32], store: &mut Vec<u8>, at: usize) -> usize
+    requires stored { AreStored index.old store.old.items (vec_capacity store.old) }
+    requires there { page_of at < length index.old }
+    ensures made { IsMade index.old store.old.items index.new store.new.items (vec_capacity store.new) at }
+    ensures place { result ≡ place_of index.new at }
+{
+    number_made(index, store, at / PAGE) * PAGE + at % PAGE
+}
+
+/// Where the byte at an address stands in the store.
+#[inline]
+pub(crate) fn place(index: &[u32], at: usize) -> usize
+    requires there { page_of at < length index.now }
+    ensures { result ≡ place_of index.now at }
+{
+    index[at / PAGE] as usize * PAGE + at % PAGE
+}
+
+/// Writes bytes from a place on.
+#[inline]
+pub(crate) fn put_in(store: &mut [u8], start: usize, src: &[u8])
+    requires { start + length src.now ≤ length store.old }
+    ensures { store.new ≡ with_bytes store.old start src.now }
+{
+    store[start..start + src.len()].copy_from_slice(src);
+}
+
+/// Writes `n` times this byte from a place on.
+pub(crate) fn fill_in(store: &mut [u8], start: usize, n: usize, byte: u8)
+    requires { start + n ≤ length store.old }
+    ensures { store.new ≡ with_bytes store.old start (replicate n byte) }
+{
+    store[start..start + n].fill(byte);
+}
