@@ -1,0 +1,20 @@
+use Rattle.std.proofs.Common.{ap, ◌∙◌, sym, subst, Some}
+use Rattle.std.specs.Prelude.{IsSome}
+use Rattle.std.proofs.lemmas.Option.{same_Some}
+use Rattle.slab.specs.Slab as slabs
+use Rattle.linked_lists.specs.Chains.{value_of}
+use Rattle.linked_lists.specs.Inside.{chains_in}
+use Rattle.linked_lists.proofs.Keeping.{found_at, some_is}
+use Rattle.linked_lists.proofs.lists.Lists.value.Goals as goal
+
+pub index-requires : goal.index-requires
+index-requires g c =
+    let k = c.self.inside in
+    let found = found_at k.nodes k.ends.items (chains_in k.nodes k.ends.items) k.room c.args.key c.self.invariant (subst (λ t. IsSome (value_of t.chains c.args.key)) (sym c.self.view_is) c.requires) in
+    some_is (slabs.get k.nodes c.args.key) _ found.3
+
+pub returns : goal.returns
+returns g c =
+    let k = c.self.inside in
+    let found = found_at k.nodes k.ends.items (chains_in k.nodes k.ends.items) k.room c.args.key c.self.invariant (subst (λ t. IsSome (value_of t.chains c.args.key)) (sym c.self.view_is) c.requires) in
+    sym (ap (λ t. value_of t.chains c.args.key) c.self.view_is) ∙ found.1 ∙ ap (λ n. Some n.value) (same_Some _ _ (sym found.3 ∙ c.index.ensures))
