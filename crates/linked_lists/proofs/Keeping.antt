@@ -502,7 +502,7 @@ module _ {T : Type 0} where
       firsts (x ∷ xs) = refl
 
   -- ---- empty lists
-  no_cells : (n : ℕ) → all_cells (replicate {A = List (ℕ × T)} n []) ≡ []
+  pub no_cells : (n : ℕ) → all_cells (replicate {A = List (ℕ × T)} n []) ≡ []
   no_cells zero = refl
   no_cells (suc n) = no_cells n
 
