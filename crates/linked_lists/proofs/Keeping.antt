@@ -13,7 +13,7 @@ use Rattle.wind_lists.specs.Records.{of_id, without}
 use Rattle.wind_lists.proofs.Places.{none_without}
 use Rattle.linked_lists.specs.declared.node.Node.{Node}
 use Rattle.linked_lists.specs.declared.node.Ends.{Ends}
-use Rattle.linked_lists.specs.Chains.{Chains, cell_key, all_cells, chain_at, first_key, is_key, put_before, value_in, value_of}
+use Rattle.linked_lists.specs.Chains.{Chains, cell_key, all_cells, chain_at, first_key, is_key, put_before, value_in, value_of, IsOnlyIn}
 use Rattle.linked_lists.specs.Inside.{IsKept, Linked, Apart, first_or, last_or, ends_of, no_ends, walked, chains_in, goes_on, goes_back, behind, with_node, aimed, aim_first, aim_last}
 use Rattle.linked_lists.proofs.Links.{Absent, changed_at, absent_append, append_absent, absent_cons, apart_middle, apart_insert, apart_remove, without_middle, linked_absent, linked_elsewhere, linked_other, linked_node, linked_front, linked_back, linked_same, same_unnamed, apart_back, node_in, inserted, removed, relinked_other, walked_is}
 
@@ -485,6 +485,24 @@ module _ {T : Type 0} where
       let v = is_some_of (value_of cs key) h in
       let f = found_list cs key v.0 v.1 in
       (v.0, v.1, f, found_node nodes ends cs room f.list key v.0 is f.within f.spot)
+
+  -- the key of a node stands in the node's list, and in no other
+  pub only_in : (nodes : Slab (Node T)) (ends : List Ends) (cs : List (List (ℕ × T))) (room key : ℕ) (node : Node T) → IsKept nodes ends cs room → IsSome (value_of cs key) → get nodes key ≡ Some node
+      → IsOnlyIn cs key node.list
+  only_in nodes ends cs room key node is h at =
+      let found = found_at nodes ends cs room key is h in
+      let spot = found.2.spot in
+      let list : node.list ≡ found.2.list = ap (λ (n : Node T). n.list) (same_Some node (node_in found.2.list (key, found.0) spot.front spot.back) (sym at ∙ found.3)) in
+      record {
+        within = subst (λ l. l < length cs) (sym list) found.2.within;
+        here = subst (λ l. IsSome (value_in (chain_at cs l) key)) (sym list) (subst (λ c. IsSome (value_in c key)) (sym spot.whole) (value_there spot.front key found.0 spot.back));
+        elsewhere = λ other ne.
+            ⊎_elim
+            (λ (hp : other < length cs).
+            ap (option_map (λ (c : ℕ × T). c.1)) (linked_elsewhere (get nodes) other None (chain_at cs other) None key node at (λ e. ne (sym e)) (is.linked other hp)))
+            (λ (past : length cs ≤ other). ap (λ c. value_in c key) (get_or_past cs other [] past))
+            (cases_lt other (length cs));
+      }
 
   pub after_is : (nodes : Slab (Node T)) (ends : List Ends) (cs : List (List (ℕ × T))) (room key : ℕ) (node : Node T) → IsKept nodes ends cs room → get nodes key ≡ Some node
       → (list : ℕ) (front back : List (ℕ × T)) (value : T) → chain_at cs list ≡ front ++ (key, value) ∷ back → node.after ≡ first_key back

@@ -5,7 +5,7 @@ use Rattle.std.specs.Option.{option_map}
 use Rattle.std.specs.List.{All, filter, insert}
 use Rattle.std.specs.List.Sorted.{IsPartitionPoint, IsNonDecreasingBy}
 use Rattle.std.proofs.lemmas.Bool.{cases_eq, cases_lt, eqb-true, eqb-false, eq-eqb, ne_eqb, ltb-true, ltb-false}
-use Rattle.std.proofs.lemmas.List.{get_or-map, get_or_default, map-set, length-map, length-append}
+use Rattle.std.proofs.lemmas.List.{get_or_past, get_or-map, get_or_default, map-set, length-map, length-append}
 use Rattle.std.proofs.lemmas.List.Elements.{All-append, All-cons, All-head, All-tail, All-weaker, All-filter, filter_passes, filter-append}
 use Rattle.std.proofs.lemmas.List.Sums.{position_or_len_is}
 use Rattle.std.proofs.lemmas.Option.{same_Some}
@@ -15,7 +15,7 @@ use Rattle.wind_lists.proofs.Sorting.{length-insert_sorted}
 use Rattle.wind_lists.proofs.Places.{place_of, insert_place, none_without, of_id-without, of_id-with_record, Rising-without, Rising-with_record, remove_place, fewer_without}
 use Rattle.linked_lists.specs.declared.index.Entry.{Entry}
 use Rattle.linked_lists.specs.declared.id_lists.Member.{Member}
-use Rattle.linked_lists.specs.Chains.{Chains, cell_key, all_cells, chain_at, first_key, is_key, put_before, value_in, value_of, with_cell, without_cell}
+use Rattle.linked_lists.specs.Chains.{Chains, cell_key, all_cells, chain_at, first_key, is_key, put_before, value_in, value_of, with_cell, without_cell, IsOnlyIn}
 use Rattle.linked_lists.specs.Named.{entry_id, member_id, named_cell, named_chains, named, entry_of, IsIndexed, key_found}
 use Rattle.linked_lists.proofs.Keeping.{Split, some_is, is_some_of, no_cells}
 
@@ -406,12 +406,25 @@ module _ {T : Type 0} where
         unnot true q = absurd (cc)
         unnot false q = refl
 
-  -- the list that an id is in
-  pub listed_in : (cs : List (List (ℕ × Member T))) (p key who : ℕ) → p < length cs → All (IsAlike key who) (all_cells cs) → IsSome (value_in (chain_at cs p) key) → IsSome (value_in (chain_at (named_chains cs) p) who)
-  listed_in cs p key who hp alike h =
-      let m = is_some_of (value_in (chain_at cs p) key) h in
-      subst (λ c. IsSome (value_in c who)) (sym (named_at cs p hp))
-      (some_is (value_in (map named_cell (chain_at cs p)) who) m.0.value (value_alike key who (chain_at cs p) (all_chain (IsAlike key who) cs p hp alike) ∙ ap (option_map (λ (x : Member T). x.value)) m.1))
+  -- the list that an id is in, and no other
+  pub listed_in : (cs : List (List (ℕ × Member T))) (p key who : ℕ) → All (IsAlike key who) (all_cells cs) → IsOnlyIn cs key p → IsOnlyIn (named_chains cs) who p
+  listed_in cs p key who alike only =
+      let m = is_some_of (value_in (chain_at cs p) key) only.here in
+      record {
+        within = subst (λ n. p < n) (sym (length-map cs (map named_cell))) only.within;
+        here =
+            subst (λ c. IsSome (value_in c who)) (sym (named_at cs p only.within))
+            (some_is (value_in (map named_cell (chain_at cs p)) who) m.0.value
+            (value_alike key who (chain_at cs p) (all_chain (IsAlike key who) cs p only.within alike) ∙ ap (option_map (λ (x : Member T). x.value)) m.1));
+        elsewhere = λ other ne.
+            ⊎_elim
+            (λ (hp : other < length cs).
+            ap (λ c. value_in c who) (named_at cs other hp)
+            ∙ value_alike key who (chain_at cs other) (all_chain (IsAlike key who) cs other hp alike)
+            ∙ ap (option_map (λ (x : Member T). x.value)) (only.elsewhere other ne))
+            (λ (past : length cs ≤ other). ap (λ c. value_in c who) (get_or_past (named_chains cs) other [] (omega (arith, past, length-map cs (map named_cell)))))
+            (cases_lt other (length cs));
+      }
 
   -- the first id of a list is that of its first cell
   pub first_named : (cs : List (List (ℕ × Member T))) (es : List Entry) (p k : ℕ) (m : Member T) → IsIndexed cs es → p < length cs → first_key (chain_at cs p) ≡ Some k → value_of cs k ≡ Some m

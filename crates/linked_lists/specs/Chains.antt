@@ -1,5 +1,5 @@
 -- What a contract sees of linked lists: the cells of each list in order, and for how many there is room.
-use Rattle.std.specs.Prelude.{◌≡◌, ℕ, ◌≤◌, ◌==◌, Bool, false, if◌then◌else◌, List, [], ◌∷◌, ◌++◌, map, length, Option, None, Some, slice_index_or, slice_set, refl}
+use Rattle.std.specs.Prelude.{◌≡◌, ℕ, ◌<◌, ◌≤◌, ◌==◌, Bool, false, if◌then◌else◌, List, [], ◌∷◌, ◌++◌, map, length, Option, None, Some, IsSome, slice_index_or, slice_set, refl}
 use Rattle.std.specs.Option.{option_map}
 use Rattle.std.specs.Coded.{Coded, code_by, coded×, coded_ℕ, coded_list}
 use Rattle.wind_lists.specs.Records as records
@@ -65,6 +65,12 @@ module _ {T : Type 0} where
   -- the lists without the cell of a key
   abbrev pub without_cell : Chains T → ℕ → Chains T
   without_cell t key = record t { chains = map (λ c. records.without cell_key c key) t.chains }
+
+  -- the key stands in this list, and in no other
+  pub record IsOnlyIn (cs : List (List (ℕ × T))) (key list : ℕ) : Type 0 where
+    pub within : list < length cs
+    pub here : IsSome (value_in (chain_at cs list) key)
+    pub elsewhere : (other : ℕ) → (other ≡ list → ⊥) → value_in (chain_at cs other) key ≡ None
 
   -- in whichever list the key stands, this is the key after it
   abbrev pub NextIs : List (List (ℕ × T)) → ℕ → Option ℕ → Type 0

@@ -1,11 +1,11 @@
 -- Lists by id: cells with the id of each in place of its key, and an index of the keys by id.
-use Rattle.std.specs.Prelude.{◌≡◌, ℕ, ◌<◌, ◌≤◌, List, map, length, Option, None, Some, IsSome, MatchOption, option_and_then}
+use Rattle.std.specs.Prelude.{◌≡◌, ℕ, List, map, length, Option, None, Some, MatchOption, option_and_then}
 use Rattle.std.specs.Option.{option_map}
 use Rattle.std.specs.List.{All}
 use Rattle.wind_lists.specs.Records.{of_id, Rising}
 use Rattle.linked_lists.specs.declared.index.Entry.{Entry}
 use Rattle.linked_lists.specs.declared.id_lists.Member.{Member}
-use Rattle.linked_lists.specs.Chains.{Chains, all_cells, chain_at, value_in, value_of}
+use Rattle.linked_lists.specs.Chains.{Chains, all_cells, value_of, IsOnlyIn}
 
 abbrev pub entry_id : Entry → ℕ
 entry_id e = e.id
@@ -38,7 +38,7 @@ module _ {T : Type 0} where
 
   -- the list that an id is in, or none
   abbrev pub list_found : List (List (ℕ × T)) → ℕ → Option ℕ → Type 0
-  list_found cs id found = MatchOption found (value_of cs id ≡ None) (λ list. (list < length cs) × IsSome (value_in (chain_at cs list) id))
+  list_found cs id found = MatchOption found (value_of cs id ≡ None) (IsOnlyIn cs id)
 
 -- the key of the entry of an id, where there is an id and an entry
 abbrev pub key_found : List Entry → Option ℕ → Option ℕ

@@ -2,7 +2,7 @@
 
 ghost use Rattle.std.specs.Option.{ForSome};
 ghost use Rattle.std.specs.Prelude.{◌≡◌, ◌<◌, ◌≤◌, ◌+◌, [], None, Some, length, map, replicate, IfOk, IsSome, slice_set};
-ghost use Rattle.linked_lists.specs.Chains.{Chains, all_cells, chain_at, first_key, value_in, value_of, with_cell, without_cell, AreChains, NextIs};
+ghost use Rattle.linked_lists.specs.Chains.{Chains, all_cells, chain_at, first_key, value_in, value_of, with_cell, without_cell, AreChains, IsOnlyIn, NextIs};
 
 use crate::node::{Ends, Node, link_after, link_before, node_before};
 use slab::Slab;
@@ -86,8 +86,7 @@ impl<T> Lists<T> {
     /// The list that a node is in.
     pub fn list_of(&self, key: usize) -> usize
         requires { IsSome (value_of self.now.chains key) }
-        ensures within { result < length self.now.chains }
-        ensures here { IsSome (value_in (chain_at self.now.chains result) key) }
+        ensures { IsOnlyIn self.now.chains key result }
     {
         self.nodes[key].list
     }

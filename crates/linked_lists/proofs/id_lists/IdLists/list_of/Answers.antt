@@ -1,7 +1,7 @@
 use Rattle.std.proofs.Common.{ap, ◌∙◌, sym, subst, arith, length, ◌<◌, map}
 use Rattle.std.specs.Prelude.{IsSome}
 use Rattle.std.proofs.lemmas.List.{length-map}
-use Rattle.linked_lists.specs.Chains.{value_of, value_in, chain_at}
+use Rattle.linked_lists.specs.Chains.{value_of, IsOnlyIn}
 use Rattle.linked_lists.specs.Named.{named_cell}
 use Rattle.linked_lists.proofs.Keeping.{some_is}
 use Rattle.linked_lists.proofs.Naming.{no_value, entry_found, entry_value, cells_alike, listed_in}
@@ -26,8 +26,6 @@ returns g c =
     let k = c.self.inside in
     let at = rw c.deref.ensures.value at c.in_ok-at.ensures in
     let entry = entry_found k.index.items c.args.who c.in_ok-at.at c.index.result.now at c.self.invariant.1.rising c.index.ensures in
-    let alike = cells_alike k.lists.chains k.index.items c.self.invariant.1 c.args.who c.index.result.now entry in (
-      subst (λ t. c.list_of.result < length t.chains) c.self.view_is (subst (λ n. c.list_of.result < n) (sym (length-map k.lists.chains (map named_cell))) c.list_of.ensures.within),
-      subst (λ t. IsSome (value_in (chain_at t.chains c.list_of.result) c.args.who)) c.self.view_is
-          (listed_in k.lists.chains c.list_of.result c.index.result.now.key c.args.who c.list_of.ensures.within alike c.list_of.ensures.here),
-    )
+    let alike = cells_alike k.lists.chains k.index.items c.self.invariant.1 c.args.who c.index.result.now entry in
+    subst (λ t. IsOnlyIn t.chains c.args.who c.list_of.result) c.self.view_is
+    (listed_in k.lists.chains c.list_of.result c.index.result.now.key c.args.who alike c.list_of.ensures)
