@@ -63,6 +63,20 @@ impl<T> IdLists<T> {
         let _ = &self.index;
     }
 
+    /// How many ids there are in all lists.
+    pub fn len(&self) -> usize
+        ensures { result ≡ length (all_cells self.now.chains) }
+    {
+        self.index.len()
+    }
+
+    /// For how many ids there is room.
+    pub fn room(&self) -> usize
+        ensures { result ≡ self.now.room }
+    {
+        self.lists.room()
+    }
+
     /// The first id of a list. None where the list is empty.
     pub fn first(&self, list: usize) -> Option<Ident>
         requires { list < length self.now.chains }

@@ -59,6 +59,13 @@ impl<T> Lists<T> {
         let _ = &self.nodes;
     }
 
+    /// For how many nodes there is room.
+    pub fn room(&self) -> usize
+        ensures { result ≡ self.now.room }
+    {
+        self.room
+    }
+
     /// The first node of a list. None where the list is empty.
     pub fn first(&self, list: usize) -> Option<usize>
         requires { list < length self.now.chains }
