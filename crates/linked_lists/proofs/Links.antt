@@ -4,10 +4,10 @@ use Rattle.std.specs.Bool.{⊤}
 use Rattle.std.specs.Option.{option_map}
 use Rattle.std.proofs.lemmas.Bool.{eqb-true, eqb-false, eq-eqb, ne_eqb}
 use Rattle.wind_lists.specs.Records.{of_id, without}
-use Rattle.wind_lists.proofs.Places.{none_without}
+use Rattle.wind_lists.proofs.Places.{none_without, not_there}
 use Rattle.linked_lists.specs.declared.node.Node.{Node}
-use Rattle.linked_lists.specs.Chains.{cell_key, is_key}
-use Rattle.linked_lists.specs.Inside.{first_or, last_or, goes_on, goes_back, Linked, Apart, stepped, walked}
+use Rattle.linked_lists.specs.Chains.{cell_key, is_key, hold, Apart}
+use Rattle.linked_lists.specs.Inside.{first_or, last_or, goes_on, goes_back, holds, Linked, stepped, walked}
 
 unequal : (m n : ℕ) → eqb m n ≡ false → eqb n m ≡ false
 unequal m n e = ne_eqb n m (λ q. eqb-false m n e (sym q))
@@ -246,3 +246,56 @@ module _ {T : Type 0} where
   walked_is g p b (c ∷ cs) zero few l = absurd (omega (arith, few))
   walked_is g p b (c ∷ cs) (suc fuel) few l =
       ap (stepped c.0 (walked g fuel)) l.0 ∙ ap (λ zs. (c.0, c.1) ∷ zs) (walked_is g p (Some c.0) cs fuel (omega (arith, few)) l.1)
+
+  -- ---- another value
+  pub hold_none : (key : ℕ) (value : T) (cs : List (ℕ × T)) → Absent key cs → hold key value cs ≡ cs
+  hold_none key value cs none = not_there cell_key cs key (λ x. (x.0, value)) none
+
+  pub first_or-hold : (o : Option ℕ) (key : ℕ) (value : T) (cs : List (ℕ × T)) → first_or o (hold key value cs) ≡ first_or o cs
+  first_or-hold o key value [] = refl
+  first_or-hold o key value (c ∷ cs) = elim (eqb c.0 key) as (λ b. Some (cond b (c.0, value) c).0 ≡ Some c.0) [ true ↦ refl | false ↦ refl ]
+
+  pub last_or-hold : (o : Option ℕ) (key : ℕ) (value : T) (cs : List (ℕ × T)) → last_or o (hold key value cs) ≡ last_or o cs
+  last_or-hold o key value [] = refl
+  last_or-hold o key value (c ∷ cs) =
+      elim (eqb c.0 key) as (λ b. last_or (Some (cond b (c.0, value) c).0) (hold key value cs) ≡ last_or (Some c.0) cs) [
+        | true ↦ last_or-hold (Some c.0) key value cs
+        | false ↦ last_or-hold (Some c.0) key value cs
+      ]
+
+  absent-hold : (k key : ℕ) (value : T) (cs : List (ℕ × T)) → Absent k cs → Absent k (hold key value cs)
+  absent-hold k key value [] none = refl
+  absent-hold k key value (c ∷ cs) none =
+      let here = absent_cons k c cs none in
+      let rest = absent-hold k key value cs here.1 in
+      elim (eqb c.0 key) as (λ b. Absent k (cond b (c.0, value) c ∷ hold key value cs)) [
+        | true ↦ cons_absent k (c.0, value) (hold key value cs) here.0 rest
+        | false ↦ cons_absent k c (hold key value cs) here.0 rest
+      ]
+
+  pub apart-hold : (key : ℕ) (value : T) (cs : List (ℕ × T)) → Apart cs → Apart (hold key value cs)
+  apart-hold key value [] a = tt
+  apart-hold key value (c ∷ cs) a =
+      let none = absent-hold c.0 key value cs a.0 in
+      (elim (eqb c.0 key) as (λ b. Absent (cond b (c.0, value) c).0 (hold key value cs)) [ true ↦ none | false ↦ none ], apart-hold key value cs a.1)
+
+  pub linked-hold : (g h : ℕ → Option (Node T)) (p : ℕ) (b : Option ℕ) (cs : List (ℕ × T)) (n : Option ℕ) (key : ℕ) (value : T)
+      → ((j : ℕ) → h j ≡ changed_at (Some key) (holds value) g j) → Linked g p b cs n → Linked h p b (hold key value cs) n
+  linked-hold g h p b [] n key value says l = tt
+  linked-hold g h p b (c ∷ cs) n key value says l =
+      let rest = linked-hold g h p (Some c.0) cs n key value says l.1 in
+      let after = first_or-hold n key value cs in
+      elim (eqb c.0 key) as (λ t. eqb c.0 key ≡ t → Linked h p b (cond t (c.0, value) c ∷ hold key value cs) n) [
+        | true ↦ λ e.
+            let same = eqb-true c.0 key e in (
+              ap h same
+              ∙ changed_here g h key (holds value) (record { list = p; before = b; after = first_or n cs; value = c.1 }) says (ap g (sym same) ∙ l.0)
+              ∙ ap (λ a. Some (record { list = p; before = b; after = a; value = value })) (sym after),
+              rest,
+            )
+        | false ↦ λ e.
+            (
+              kept_but g h (Some key) (holds value) says c.0 (unequal c.0 key e) ∙ l.0 ∙ ap (λ a. Some (record { list = p; before = b; after = a; value = c.1 })) (sym after),
+              rest,
+            )
+      ] refl

@@ -2,10 +2,9 @@
 use Rattle.std.specs.Prelude.{◌≡◌, ℕ, zero, suc, ◌<◌, ◌≤◌, ◌==◌, List, [], ◌∷◌, map, length, Option, None, Some, slice_index_or, slice_set, option_and_then}
 use Rattle.std.specs.Bool.{⊤}
 use Rattle.slab.specs.Slab.{Slab, get, slab_len, with_value}
-use Rattle.wind_lists.specs.Records.{of_id}
 use Rattle.linked_lists.specs.declared.node.Node.{Node}
 use Rattle.linked_lists.specs.declared.node.Ends.{Ends}
-use Rattle.linked_lists.specs.Chains.{cell_key, all_cells, chain_at}
+use Rattle.linked_lists.specs.Chains.{all_cells, chain_at, Apart}
 
 -- the ends of an empty list
 abbrev pub no_ends : Ends
@@ -32,11 +31,6 @@ module _ {T : Type 0} where
       (node_at c.0 ≡ Some (record { list = list; before = before; after = first_or after cs; value = c.1 }))
       × Linked node_at list (Some c.0) cs after
 
-  -- no two cells have one key
-  abbrev pub Apart : List (ℕ × T) → Type 0
-  Apart [] = ⊤
-  Apart (c ∷ cs) = (of_id cell_key cs c.0 ≡ None) × Apart cs
-
   -- the cell of this key, and those from the key after it on, where there is such a node
   abbrev pub stepped : ℕ → (Option ℕ → List (ℕ × T)) → Option (Node T) → List (ℕ × T)
   stepped key rest None = []
@@ -58,6 +52,10 @@ module _ {T : Type 0} where
 
   abbrev pub goes_back : Option ℕ → Node T → Node T
   goes_back to node = record node { before = to }
+
+  -- a node that holds another value
+  abbrev pub holds : T → Node T → Node T
+  holds value node = record node { value = value }
 
   -- the nodes with one of them changed, where there is such a node
   abbrev pub with_node : Slab (Node T) → ℕ → (Node T → Node T) → Option (Node T) → Slab (Node T)

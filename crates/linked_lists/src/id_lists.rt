@@ -1,8 +1,8 @@
 //! Lists by id.
 
-ghost use Rattle.std.specs.Prelude.{◌≡◌, ◌<◌, ◌+◌, [], None, length, replicate, IfOk, IsSome, is_some, option_copied};
+ghost use Rattle.std.specs.Prelude.{◌≡◌, ◌<◌, ◌+◌, [], None, length, replicate, IfOk, IsSome, is_some, option_copied, Some};
 ghost use Rattle.std.specs.Option.{ForSome};
-ghost use Rattle.linked_lists.specs.Chains.{Chains, all_cells, chain_at, first_key, value_in, value_of, with_cell, without_cell, AreChains};
+ghost use Rattle.linked_lists.specs.Chains.{Chains, all_cells, chain_at, first_key, value_in, value_of, first_value as first_value_lem, with_cell, without_cell, with_value, AreChains, NextIs};
 ghost use Rattle.linked_lists.specs.Named.{list_found};
 
 use crate::index::{Entry, key_of, place_of, rank_of};
@@ -120,5 +120,47 @@ impl<T> IdLists<T> {
     {
         let at = place_of(&self.index, who)?;
         Some(self.lists.list_of(self.index[at].key))
+    }
+
+    /// The value of an id.
+    pub fn value(&self, who: Ident) -> &T
+        requires { IsSome (value_of self.now.chains who) }
+        ensures { value_of self.now.chains who ≡ Some result.now }
+    {
+        match place_of(&self.index, who) {
+            Some(at) => &self.lists.value(self.index[at].key).value,
+            None => unreachable!(),
+        }
+    }
+
+    /// The value of the first id of a list. None where the list is empty.
+    pub fn first_value(&self, list: usize) -> Option<&T>
+        requires { list < length self.now.chains }
+        ensures { option_copied result ≡ first_value_lem (chain_at self.now.chains list) }
+    {
+        let key = self.lists.first(list)?;
+        Some(&self.lists.value(key).value)
+    }
+
+    /// The id after an id in its list. None at the list's end, and where the id is in no list.
+    pub fn next(&self, who: Ident) -> Option<Ident>
+        ensures { NextIs self.now.chains who result }
+    {
+        let at = place_of(&self.index, who)?;
+        let next = self.lists.next(self.index[at].key)?;
+        Some(self.lists.value(next).who)
+    }
+
+    /// Gives an id another value.
+    pub fn set(&mut self, who: Ident, value: T)
+    where
+        T: Drop,
+        requires { IsSome (value_of self.old.chains who) }
+        ensures { self.new ≡ with_value self.old who value }
+    {
+        match place_of(&self.index, who) {
+            Some(at) => self.lists.set(self.index[at].key, Member { who, value }),
+            None => unreachable!(),
+        }
     }
 }

@@ -2,7 +2,7 @@
 
 ghost use Rattle.std.specs.Option.{ForSome};
 ghost use Rattle.std.specs.Prelude.{◌≡◌, ◌<◌, ◌≤◌, ◌+◌, [], None, Some, length, map, replicate, IfOk, IsSome, slice_set};
-ghost use Rattle.linked_lists.specs.Chains.{Chains, all_cells, chain_at, first_key, value_in, value_of, with_cell, without_cell, AreChains, IsOnlyIn, NextIs};
+ghost use Rattle.linked_lists.specs.Chains.{Chains, all_cells, chain_at, first_key, value_in, value_of, with_cell, without_cell, with_value, AreChains, IsOnlyIn, ValueIs, NextIs};
 
 use crate::node::{Ends, Node, link_after, link_before, node_before};
 use slab::Slab;
@@ -77,7 +77,8 @@ impl<T> Lists<T> {
     /// What a node holds.
     pub fn value(&self, key: usize) -> &T
         requires { IsSome (value_of self.now.chains key) }
-        ensures { value_of self.now.chains key ≡ Some result.now }
+        ensures value { value_of self.now.chains key ≡ Some result.now }
+        ensures same { ValueIs self.now.chains key result.now }
     {
         &self.nodes[key].value
     }
@@ -117,6 +118,16 @@ impl<T> Lists<T> {
         link_after(&mut self.nodes, &mut self.ends, list, before, Some(key));
         link_before(&mut self.nodes, &mut self.ends, list, next, Some(key));
         key
+    }
+
+    /// Lets a node hold another value.
+    pub fn set(&mut self, key: usize, value: T)
+    where
+        T: Drop,
+        requires { IsSome (value_of self.old.chains key) }
+        ensures { self.new ≡ with_value self.old key value }
+    {
+        self.nodes[key].value = value;
     }
 
     /// Takes a node out of its list, and gives what it held.

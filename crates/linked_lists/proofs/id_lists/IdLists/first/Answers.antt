@@ -15,5 +15,5 @@ pub returns : goal.returns
 returns g c =
     let cs = c.self.inside.lists.chains in
     let within = subst (λ n. c.args.list < n) (length-map cs _) (subst (λ t. c.args.list < length t.chains) (sym c.self.view_is) c.requires) in
-    first_named cs c.self.inside.index.items c.args.list c.in_ok-key.key c.value.result.now c.self.invariant.1 within (sym c.in_ok-key.ensures) c.value.ensures
+    first_named cs c.self.inside.index.items c.args.list c.in_ok-key.key c.value.result.now c.self.invariant.1 within (sym c.in_ok-key.ensures) c.value.ensures.value
     ∙ ap (λ t. first_key (chain_at t.chains c.args.list)) c.self.view_is
