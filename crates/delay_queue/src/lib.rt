@@ -4,5 +4,7 @@
 mod delays;
 mod gaps;
 mod laws;
+#[cfg(test)]
+mod tests;
 
 pub use delays::Delays;

@@ -12,7 +12,7 @@ use Rattle.linked_lists.specs.Chains.{cell_key, all_cells, chain_at, first_key, 
 use Rattle.linked_lists.proofs.Naming.{cells_without}
 use Rattle.ready_queue.proofs.Bits.{word_empty}
 use Rattle.ready_queue.specs.Map.{priorities, marked, IsMarked}
-use Rattle.ready_queue.specs.Order.{Order, task_id, task_pri, pri_of, put_in, taken_out, stays_ahead, first_id}
+use Rattle.ready_queue.specs.Order.{Order, task_id, task_pri, pri_of, put_in, taken_out, first_id}
 use Rattle.ready_queue.specs.Inside.{task_in, tasks_from, filled, IsMapped}
 
 abbrev Cell : Type 0

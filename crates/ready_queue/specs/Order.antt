@@ -1,8 +1,9 @@
 -- What a contract sees of ready tasks: their priorities and ids in order of urgency, and for how many there is room.
-use Rattle.std.specs.Prelude.{ℕ, ◌≤◌, nat_le, Bool, List, length, Option, None, Some}
+use Rattle.std.specs.Prelude.{ℕ, List, Option, None, Some}
 use Rattle.std.specs.Option.{option_map}
 use Rattle.wind_lists.specs.Records as records
-use Rattle.wind_lists.specs.Sorting as sorting
+use Rattle.wind_lists.specs.Sorting.{first}
+use Rattle.wind_lists.specs.Arrivals.{put_behind}
 
 -- the tasks, each as its priority and its id, and the room
 pub record Order : Type 0 where
@@ -19,13 +20,9 @@ task_id t = t.1
 abbrev pub pri_of : List (ℕ × ℕ) → ℕ → Option ℕ
 pri_of ts id = option_map task_pri (records.of_id task_id ts id)
 
--- a task stays ahead of one that comes later, unless it is less urgent
-abbrev pub stays_ahead : ℕ × ℕ → ℕ × ℕ → Bool
-stays_ahead t later = nat_le t.0 later.0
-
 -- the tasks with one more, behind all of its priority
 abbrev pub put_in : List (ℕ × ℕ) → ℕ × ℕ → List (ℕ × ℕ)
-put_in ts t = sorting.insert_sorted stays_ahead t ts
+put_in ts t = put_behind task_id task_pri ts t
 
 abbrev pub with_task : Order → ℕ × ℕ → Order
 with_task o t = record o { tasks = put_in o.tasks t }
@@ -47,4 +44,4 @@ rotated o id = moved_back o id (pri_of o.tasks id)
 
 -- the id of the first task
 abbrev pub first_id : List (ℕ × ℕ) → Option ℕ
-first_id ts = option_map task_id (sorting.first ts)
+first_id ts = option_map task_id (first ts)
