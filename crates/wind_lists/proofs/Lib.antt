@@ -3,3 +3,4 @@ pub mod Orders
 pub mod Records
 pub mod Passing
 pub mod Places
+pub mod Arrivals

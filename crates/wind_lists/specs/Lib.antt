@@ -1,3 +1,4 @@
 pub mod Sorting
 pub mod Records
 pub mod Laws
+pub mod Arrivals

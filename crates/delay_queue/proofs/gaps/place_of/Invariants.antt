@@ -1,0 +1,8 @@
+use Rattle.std.proofs.Common.{◌≡◌, length}
+use Rattle.linked_lists.specs.Chains.{chain_at}
+use Rattle.delay_queue.proofs.Waiting.{Passed}
+use Rattle.delay_queue.proofs.gaps.place_of.Given as goal
+
+-- so many were passed, and all of them are due at the wake or before
+abbrev pub invariant-loop-passed : goal.invariant-loop-passed
+invariant-loop-passed l = Passed (chain_at l.tasks.chains 0) l.wake l.next l.left l._passed

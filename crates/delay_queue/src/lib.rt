@@ -1,0 +1,10 @@
+//! Tasks that wait for a tick, in the order in which they are due.
+#![tactic(auto)]
+
+mod delays;
+mod gaps;
+mod laws;
+#[cfg(test)]
+mod tests;
+
+pub use delays::Delays;

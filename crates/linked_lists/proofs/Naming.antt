@@ -1,0 +1,649 @@
+-- Lists by id, over lists by key and an index.
+use Rattle.std.proofs.Common.{◌≡◌, ℕ, zero, suc, ◌+◌, ◌<◌, ◌≤◌, Bool, true, false, cond, not, eqb, ltb, List, [], ◌∷◌, ◌++◌, map, set, length, get_or, replicate, Option, None, Some, refl, sym, ap, ◌∙◌, subst, arith, ⊎_elim, append_assoc}
+use Rattle.std.specs.Prelude.{IsSome, nat_lt}
+use Rattle.std.specs.Option.{option_map}
+use Rattle.std.specs.List.{All, filter, insert}
+use Rattle.std.specs.List.Sorted.{IsPartitionPoint, IsNonDecreasingBy}
+use Rattle.std.proofs.lemmas.Bool.{cases_eq, cases_lt, eqb-true, eqb-false, eq-eqb, ne_eqb, ltb-true, ltb-false}
+use Rattle.std.proofs.lemmas.List.{get_or_past, get_or-map, get_or_default, map-set, length-map, length-append}
+use Rattle.std.proofs.lemmas.List.Elements.{All-append, All-cons, All-head, All-tail, All-weaker, All-filter, filter_passes, filter-append}
+use Rattle.std.proofs.lemmas.List.Sums.{position_or_len_is}
+use Rattle.std.proofs.lemmas.Option.{same_Some}
+use Rattle.wind_lists.specs.Records.{of_id, without, with_record, StandsAt, Rising}
+use Rattle.wind_lists.proofs.Records.{found_id, found_place}
+use Rattle.wind_lists.proofs.Sorting.{length-insert_sorted}
+use Rattle.wind_lists.proofs.Places.{place_of, insert_place, none_without, of_id-without, of_id-with_record, Rising-without, Rising-with_record, remove_place, fewer_without}
+use Rattle.linked_lists.specs.declared.index.Entry.{Entry}
+use Rattle.linked_lists.specs.declared.id_lists.Member.{Member}
+use Rattle.linked_lists.specs.Chains.{Chains, cell_key, all_cells, chain_at, first_key, is_key, put_before, value_in, value_of, with_cell, without_cell, first_value, hold, IsOnlyIn, ValueIs, NextIs, Apart}
+use Rattle.linked_lists.specs.Named.{entry_id, member_id, named_cell, named_chains, named, entry_of, IsIndexed, key_found}
+use Rattle.linked_lists.proofs.Keeping.{Split, some_is, is_some_of, no_cells}
+
+eqb_comm : (m n : ℕ) → eqb m n ≡ eqb n m
+eqb_comm m n = ⊎_elim (λ (e : m ≡ n). eq-eqb m n e ∙ sym (eq-eqb n m (sym e))) (λ (ne : m ≡ n → ⊥). ne_eqb m n ne ∙ sym (ne_eqb n m (λ q. ne (sym q)))) (cases_eq m n)
+
+head_same : {X : Type 0} (x y : X) (xs ys : List X) → x ∷ xs ≡ y ∷ ys → x ≡ y
+head_same x y xs ys e = cc
+
+tail_same : {X : Type 0} (x y : X) (xs ys : List X) → x ∷ xs ≡ y ∷ ys → xs ≡ ys
+tail_same x y xs ys e = cc
+
+-- ---- a search in the index
+pub rising_ids : (es : List Entry) → Rising entry_id es → IsNonDecreasingBy (λ (e : Entry). e.id) es
+rising_ids es up i j d hij hj =
+    ⊎_elim
+    (λ (same : i ≡ j). omega (arith, ap (λ k. (get_or es k d).id) same))
+    (λ (ne : i ≡ j → ⊥). let rise = up i j d (omega (arith, hij, ne)) hj in omega (arith, rise))
+    (cases_eq i j)
+
+abbrev pub IsRank : List Entry → ℕ → ℕ → Type 0
+IsRank es who i = IsPartitionPoint (λ e. nat_lt e.id who ≡ true) (λ e. nat_lt e.id who ≡ false) es i
+
+pub none_of : (es : List Entry) (who : ℕ) → ((k : ℕ) (d : Entry) → k < length es → (get_or es k d).id ≡ who → ⊥) → of_id entry_id es who ≡ None
+none_of [] who none = refl
+none_of (e ∷ es) who none =
+    ap (λ b. cond b (Some e) (of_id entry_id es who)) (ne_eqb e.id who (none 0 e (omega arith))) ∙ none_of es who (λ k d h. none (suc k) d (omega (arith, h)))
+
+-- where the entry at the rank is another, there is none
+pub rank_none : (es : List Entry) (who i : ℕ) → Rising entry_id es → IsRank es who i → ((d : Entry) → i < length es → (get_or es i d).id ≡ who → ⊥) → of_id entry_id es who ≡ None
+rank_none es who i up rank other =
+    none_of es who
+    (λ k d h same.
+    ⊎_elim
+    (λ (below : k < i). let less = ltb-true (get_or es k d).id who (rank.0 k d (omega arith) below) in absurd (omega (arith, less, same)))
+    (λ (above : i ≤ k).
+    ⊎_elim
+    (λ (here : i ≡ k). other d (subst (λ n. n < length es) (sym here) h) (ap (λ n. (get_or es n d).id) here ∙ same))
+    (λ (ne : i ≡ k → ⊥).
+    let before : i < k = omega (arith, above, ne) in
+    let rise = up i k d before h in
+    let least = ltb-false (get_or es i d).id who (rank.1 i d (omega arith) (omega (arith, before, h))) in
+    absurd (omega (arith, rise, least, same)))
+    (cases_eq i k))
+    (cases_lt k i))
+
+pub rank_place : (es : List Entry) (e : Entry) (i : ℕ) → IsRank es e.id i → i ≤ length es → place_of entry_id es e ≡ i
+rank_place es e i rank within =
+    position_or_len_is (λ (y : Entry). not (ltb y.id e.id)) es i e within
+    (λ k h. ap not (rank.0 k e (omega arith) h))
+    (λ h. ap not (rank.1 i e (omega arith) h))
+
+-- what stands at a place is what a look-up finds
+pub entry_at : (es : List Entry) (who at : ℕ) (d : Entry) → StandsAt entry_id es who at → Rising entry_id es → of_id entry_id es who ≡ Some (get_or es at d)
+entry_at es who at d stands up = sym (ap (of_id entry_id es) (stands.same d)) ∙ found_place entry_id es at d up stands.within
+
+pub entry_found : (es : List Entry) (who at : ℕ) (e : Entry) → StandsAt entry_id es who at → Rising entry_id es → e ≡ get_or es at e → of_id entry_id es who ≡ Some e
+entry_found es who at e stands up here = entry_at es who at e stands up ∙ ap (λ (x : Entry). Some x) (sym here)
+
+-- an entry that is put in at its rank
+pub entry_placed : (es after : List Entry) (e : Entry) (rank : ℕ) → IsRank es e.id rank → rank ≤ length es → after ≡ insert es rank e → after ≡ with_record entry_id es e
+entry_placed es after e rank is within put = put ∙ ap (λ k. insert es k e) (sym (rank_place es e rank is within)) ∙ insert_place entry_id e es
+
+module _ {T : Type 0} where
+  -- ---- cells
+  some_back : (xs ys : List (ℕ × T)) (k : ℕ) → IsSome (value_in ys k) → IsSome (value_in (xs ++ ys) k)
+  some_back [] ys k h = h
+  some_back (x ∷ xs) ys k h = elim (eqb x.0 k) as (λ b. IsSome (option_map (λ (c : ℕ × T). c.1) (cond b (Some x) (of_id cell_key (xs ++ ys) k)))) [ true ↦ refl | false ↦ some_back xs ys k h ]
+
+  -- the first cell of a list, where it has a key
+  pub first_cell : (cs : List (ℕ × T)) (k : ℕ) → first_key cs ≡ Some k → (v : T) × (rest : List (ℕ × T)) × (cs ≡ (k, v) ∷ rest)
+  first_cell [] k e = absurd (cc)
+  first_cell (c ∷ cs) k e = (c.1, cs, ap (λ n. (n, c.1) ∷ cs) (same_Some c.0 k e))
+
+  pub first_there : (cs : List (List (ℕ × T))) (p k : ℕ) → p < length cs → first_key (chain_at cs p) ≡ Some k → IsSome (value_of cs k)
+  first_there [] p k hp e = absurd (omega (arith, hp))
+  first_there (c ∷ cs) zero k hp e =
+      let cell = first_cell c k e in
+      subst (λ zs. IsSome (value_in (zs ++ all_cells cs) k)) (sym cell.2) (rw (eq-eqb k k refl) refl)
+  first_there (c ∷ cs) (suc p) k hp e = some_back c (all_cells cs) k (first_there cs p k (omega (arith, hp)) e)
+
+  pub all_front : (P : ℕ × T → Type 0) (xs ys : List (ℕ × T)) → All P (xs ++ ys) → All P xs
+  all_front P [] ys all = λ k d h. absurd (omega (arith, h))
+  all_front P (x ∷ xs) ys all = All-cons P x xs (All-head P x (xs ++ ys) all) (all_front P xs ys (All-tail P x (xs ++ ys) all))
+
+  pub all_back : (P : ℕ × T → Type 0) (xs ys : List (ℕ × T)) → All P (xs ++ ys) → All P ys
+  all_back P [] ys all = all
+  all_back P (x ∷ xs) ys all = all_back P xs ys (All-tail P x (xs ++ ys) all)
+
+  -- what holds of all cells holds of those of each list
+  pub all_chain : (P : ℕ × T → Type 0) (cs : List (List (ℕ × T))) (p : ℕ) → p < length cs → All P (all_cells cs) → All P (chain_at cs p)
+  all_chain P [] p hp all = absurd (omega (arith, hp))
+  all_chain P (c ∷ cs) zero hp all = all_front P c (all_cells cs) all
+  all_chain P (c ∷ cs) (suc p) hp all = all_chain P cs p (omega (arith, hp)) (all_back P c (all_cells cs) all)
+
+  pub cells_without : (cs : List (List (ℕ × T))) (key : ℕ) → all_cells (map (λ c. without cell_key c key) cs) ≡ without cell_key (all_cells cs) key
+  cells_without [] key = refl
+  cells_without (c ∷ cs) key =
+      ap (λ zs. without cell_key c key ++ zs) (cells_without cs key) ∙ sym (filter-append (λ (x : ℕ × T). not (eqb x.0 key)) c (all_cells cs))
+
+  -- all cells, where one comes between two parts of them
+  pub record Parted (cs ds : List (List (ℕ × T))) (cell : ℕ × T) : Type 0 where
+    pub front : List (ℕ × T)
+    pub back : List (ℕ × T)
+    pub before : all_cells cs ≡ front ++ back
+    pub after : all_cells ds ≡ front ++ cell ∷ back
+
+  pub parted : (cs : List (List (ℕ × T))) (p : ℕ) (next : Option ℕ) (cell : ℕ × T) → p < length cs → Split (chain_at cs p) next cell → Parted cs (set cs p (put_before next cell (chain_at cs p))) cell
+  parted [] p next cell hp s = absurd (omega (arith, hp))
+  parted (c ∷ cs) zero next cell hp s =
+      record {
+        front = s.front;
+        back = s.back ++ all_cells cs;
+        before = ap (λ zs. zs ++ all_cells cs) s.whole ∙ append_assoc s.front s.back (all_cells cs);
+        after = ap (λ zs. zs ++ all_cells cs) s.put ∙ append_assoc s.front (cell ∷ s.back) (all_cells cs);
+      }
+  parted (c ∷ cs) (suc p) next cell hp s =
+      let rest = parted cs p next cell (omega (arith, hp)) s in
+      record {
+        front = c ++ rest.front;
+        back = rest.back;
+        before = ap (λ zs. c ++ zs) rest.before ∙ sym (append_assoc c rest.front rest.back);
+        after = ap (λ zs. c ++ zs) rest.after ∙ sym (append_assoc c rest.front (cell ∷ rest.back));
+      }
+
+  -- a look-up where a cell came in between
+  pub value_past : (xs : List (ℕ × T)) (cell : ℕ × T) (ys : List (ℕ × T)) (k : ℕ) → eqb cell.0 k ≡ false → value_in (xs ++ cell ∷ ys) k ≡ value_in (xs ++ ys) k
+  value_past [] cell ys k e = ap (λ b. option_map (λ (c : ℕ × T). c.1) (cond b (Some cell) (of_id cell_key ys k))) e
+  value_past (x ∷ xs) cell ys k e =
+      elim (eqb x.0 k) as (λ b. option_map (λ (c : ℕ × T). c.1) (cond b (Some x) (of_id cell_key (xs ++ cell ∷ ys) k)) ≡ option_map (λ (c : ℕ × T). c.1) (cond b (Some x) (of_id cell_key (xs ++ ys) k))) [
+        | true ↦ refl
+        | false ↦ value_past xs cell ys k e
+      ]
+
+  pub value_new : (xs : List (ℕ × T)) (cell : ℕ × T) (ys : List (ℕ × T)) → value_in (xs ++ ys) cell.0 ≡ None → value_in (xs ++ cell ∷ ys) cell.0 ≡ Some cell.1
+  value_new [] cell ys none = ap (λ b. option_map (λ (c : ℕ × T). c.1) (cond b (Some cell) (of_id cell_key ys cell.0))) (eq-eqb cell.0 cell.0 refl)
+  value_new (x ∷ xs) cell ys none =
+      elim (eqb x.0 cell.0) as (λ b. option_map (λ (c : ℕ × T). c.1) (cond b (Some x) (of_id cell_key (xs ++ ys) cell.0)) ≡ None
+      → option_map (λ (c : ℕ × T). c.1) (cond b (Some x) (of_id cell_key (xs ++ cell ∷ ys) cell.0)) ≡ Some cell.1) [
+        | true ↦ λ q. absurd (cc)
+        | false ↦ λ q. value_new xs cell ys q
+      ] none
+
+-- ---- cells by id
+module _ {T : Type 0} where
+  pub named_cells : (cs : List (List (ℕ × Member T))) → all_cells (named_chains cs) ≡ map named_cell (all_cells cs)
+  named_cells [] = refl
+  named_cells (c ∷ cs) = ap (λ zs. map named_cell c ++ zs) (named_cells cs) ∙ joined c
+    where
+      joined : (xs : List (ℕ × Member T)) → map named_cell xs ++ map named_cell (all_cells cs) ≡ map named_cell (xs ++ all_cells cs)
+      joined [] = refl
+      joined (x ∷ xs) = ap (λ zs. named_cell x ∷ zs) (joined xs)
+
+  -- the cell has the key where it has the id
+  abbrev pub IsAlike : ℕ → ℕ → ℕ × Member T → Type 0
+  IsAlike key who c = eqb c.0 key ≡ eqb c.1.who who
+
+  pub value_alike : (key who : ℕ) (cs : List (ℕ × Member T)) → All (IsAlike key who) cs → value_in (map named_cell cs) who ≡ option_map (λ (m : Member T). m.value) (value_in cs key)
+  value_alike key who [] all = refl
+  value_alike key who (c ∷ cs) all =
+      let here : eqb c.0 key ≡ eqb c.1.who who = All-head (IsAlike key who) c cs all in
+      let rest = value_alike key who cs (All-tail (IsAlike key who) c cs all) in
+      elim (eqb c.1.who who) as (λ b. eqb c.0 key ≡ b
+      → option_map (λ (x : ℕ × T). x.1) (cond b (Some (named_cell c)) (of_id cell_key (map named_cell cs) who))
+      ≡ option_map (λ (m : Member T). m.value) (option_map (λ (x : ℕ × Member T). x.1) (cond (eqb c.0 key) (Some c) (of_id cell_key cs key)))) [
+        | true ↦ λ e. sym (ap (λ b. option_map (λ (m : Member T). m.value) (option_map (λ (x : ℕ × Member T). x.1) (cond b (Some c) (of_id cell_key cs key)))) e)
+        | false ↦ λ e. rest ∙ sym (ap (λ b. option_map (λ (m : Member T). m.value) (option_map (λ (x : ℕ × Member T). x.1) (cond b (Some c) (of_id cell_key cs key)))) e)
+      ] here
+
+  without_alike : (key who : ℕ) (cs : List (ℕ × Member T)) → All (IsAlike key who) cs → map named_cell (without cell_key cs key) ≡ without cell_key (map named_cell cs) who
+  without_alike key who [] all = refl
+  without_alike key who (c ∷ cs) all =
+      let here : eqb c.0 key ≡ eqb c.1.who who = All-head (IsAlike key who) c cs all in
+      let rest = without_alike key who cs (All-tail (IsAlike key who) c cs all) in
+      ap (λ b. map named_cell (cond (not b) (c ∷ without cell_key cs key) (without cell_key cs key))) here
+      ∙ elim (eqb c.1.who who) as (λ b. map named_cell (cond (not b) (c ∷ without cell_key cs key) (without cell_key cs key)) ≡ cond (not b) (named_cell c ∷ without cell_key (map named_cell cs) who) (without cell_key (map named_cell cs) who)) [
+        | true ↦ rest
+        | false ↦ ap (λ zs. named_cell c ∷ zs) rest
+      ]
+
+  pub chains_without : (key who : ℕ) (cs : List (List (ℕ × Member T))) → All (IsAlike key who) (all_cells cs)
+      → named_chains (map (λ c. without cell_key c key) cs) ≡ map (λ c. without cell_key c who) (named_chains cs)
+  chains_without key who [] all = refl
+  chains_without key who (c ∷ cs) all = λ i. without_alike key who c (all_front (IsAlike key who) c (all_cells cs) all) i ∷ chains_without key who cs (all_back (IsAlike key who) c (all_cells cs) all) i
+
+  put_alike : (nk nw : Option ℕ) (cell : ℕ × Member T) (cs : List (ℕ × Member T)) → All (λ c. is_key nk c.0 ≡ is_key nw c.1.who) cs → map named_cell (put_before nk cell cs) ≡ put_before nw (named_cell cell) (map named_cell cs)
+  put_alike nk nw cell [] all = refl
+  put_alike nk nw cell (c ∷ cs) all =
+      let rest = put_alike nk nw cell cs (All-tail (λ c. is_key nk c.0 ≡ is_key nw c.1.who) c cs all) in
+      ap (λ b. map named_cell (cond b (cell ∷ c ∷ cs) (c ∷ put_before nk cell cs))) (All-head (λ c. is_key nk c.0 ≡ is_key nw c.1.who) c cs all)
+      ∙ elim (is_key nw c.1.who) as (λ b. map named_cell (cond b (cell ∷ c ∷ cs) (c ∷ put_before nk cell cs)) ≡ cond b (named_cell cell ∷ named_cell c ∷ map named_cell cs) (named_cell c ∷ put_before nw (named_cell cell) (map named_cell cs))) [
+        | true ↦ refl
+        | false ↦ ap (λ zs. named_cell c ∷ zs) rest
+      ]
+
+  pub named_at : (cs : List (List (ℕ × Member T))) (p : ℕ) → p < length cs → chain_at (named_chains cs) p ≡ map named_cell (chain_at cs p)
+  named_at cs p hp = get_or-map (map named_cell) cs p [] [] hp
+
+  pub chains_put : (nk nw : Option ℕ) (cell : ℕ × Member T) (cs : List (List (ℕ × Member T))) (p : ℕ) → p < length cs → All (λ c. is_key nk c.0 ≡ is_key nw c.1.who) (chain_at cs p)
+      → named_chains (set cs p (put_before nk cell (chain_at cs p))) ≡ set (named_chains cs) p (put_before nw (named_cell cell) (chain_at (named_chains cs) p))
+  chains_put nk nw cell cs p hp all =
+      map-set (map named_cell) cs p (put_before nk cell (chain_at cs p))
+      ∙ ap (set (named_chains cs) p) (put_alike nk nw cell (chain_at cs p) all ∙ ap (put_before nw (named_cell cell)) (sym (named_at cs p hp)))
+
+  -- ---- what the index says
+  module _ (cs : List (List (ℕ × Member T))) (es : List Entry) (is : IsIndexed cs es) where
+    abbrev Listed : ℕ × Member T → Type 0
+    Listed c = of_id entry_id es c.1.who ≡ Some (entry_of c)
+
+    pub one_cell : (who : ℕ) (e : Entry) → of_id entry_id es who ≡ Some e → (c : ℕ × Member T) → Listed c → IsAlike e.key who c
+    one_cell who e at c listed =
+        ⊎_elim
+        (λ (same : c.0 ≡ e.key).
+        let ids : c.1.who ≡ who = same_Some c.1.who who (sym (is.known c.1.who (entry_of c) listed) ∙ ap (λ k. option_map member_id (value_of cs k)) same ∙ is.known who e at) in
+        eq-eqb c.0 e.key same ∙ sym (eq-eqb c.1.who who ids))
+        (λ (other : c.0 ≡ e.key → ⊥).
+        ne_eqb c.0 e.key other
+        ∙ sym (ne_eqb c.1.who who (λ q. other (ap (λ (x : Entry). x.key) (same_Some (entry_of c) e (sym listed ∙ ap (of_id entry_id es) q ∙ at))))))
+        (cases_eq c.0 e.key)
+
+    -- the entry of an id tells the cells of that id from the others
+    pub cells_alike : (who : ℕ) (e : Entry) → of_id entry_id es who ≡ Some e → All (IsAlike e.key who) (all_cells cs)
+    cells_alike who e at = All-weaker Listed (IsAlike e.key who) (one_cell who e at) (all_cells cs) is.listed
+
+    -- what an entry's cell has
+    pub entry_value : (who : ℕ) (e : Entry) → of_id entry_id es who ≡ Some e → (m : Member T) × (value_of cs e.key ≡ Some m) × (value_of (named_chains cs) who ≡ Some m.value)
+    entry_value who e at =
+        let m = named_is (value_of cs e.key) who (is.known who e at) in
+        (m.0, m.1, ap (λ zs. value_in zs who) (named_cells cs) ∙ value_alike e.key who (all_cells cs) (cells_alike who e at) ∙ ap (option_map (λ (x : Member T). x.value)) m.1)
+      where
+        named_is : (o : Option (Member T)) (n : ℕ) → option_map member_id o ≡ Some n → (m : Member T) × (o ≡ Some m)
+        named_is None n q = absurd (cc)
+        named_is (Some m) n q = (m, refl)
+
+    -- without an entry of an id there is no cell of it
+    pub no_cell : (who : ℕ) → of_id entry_id es who ≡ None → All (λ c. eqb c.1.who who ≡ false) (all_cells cs)
+    no_cell who none =
+        All-weaker Listed (λ c. eqb c.1.who who ≡ false)
+        (λ c listed. ne_eqb c.1.who who (λ q. let there : ◌≡◌ {A = Option Entry} None (Some (entry_of c)) = sym none ∙ ap (of_id entry_id es) (sym q) ∙ listed in absurd (cc)))
+        (all_cells cs) is.listed
+
+    pub no_value : (who : ℕ) → of_id entry_id es who ≡ None → value_of (named_chains cs) who ≡ None
+    no_value who none = ap (λ zs. value_in zs who) (named_cells cs) ∙ missing (all_cells cs) (no_cell who none)
+      where
+        missing : (xs : List (ℕ × Member T)) → All (λ c. eqb c.1.who who ≡ false) xs → value_in (map named_cell xs) who ≡ None
+        missing [] all = refl
+        missing (x ∷ xs) all =
+            ap (λ b. option_map (λ (c : ℕ × T). c.1) (cond b (Some (named_cell x)) (of_id cell_key (map named_cell xs) who))) (All-head (λ c. eqb c.1.who who ≡ false) x xs all)
+            ∙ missing xs (All-tail (λ c. eqb c.1.who who ≡ false) x xs all)
+
+    -- where an id is in no list, it has no entry
+    pub no_entry : (who : ℕ) → value_of (named_chains cs) who ≡ None → of_id entry_id es who ≡ None
+    no_entry who none =
+        elim (of_id entry_id es who) as (λ o. of_id entry_id es who ≡ o → o ≡ None) [
+          | None ↦ λ e. refl
+          | Some x ↦ λ e. let v = entry_value who x e in let there : ◌≡◌ {A = Option T} None (Some v.0.value) = sym none ∙ v.2 in absurd (cc)
+        ] refl
+
+    -- the lists without an id that is in none are as they were
+    pub chains_same : (who : ℕ) → of_id entry_id es who ≡ None → map (λ c. without cell_key c who) (named_chains cs) ≡ named_chains cs
+    chains_same who none = all_same cs (no_cell who none)
+      where
+        one_same : (xs : List (ℕ × Member T)) → All (λ c. eqb c.1.who who ≡ false) xs → without cell_key (map named_cell xs) who ≡ map named_cell xs
+        one_same [] all = refl
+        one_same (x ∷ xs) all =
+            ap (λ b. cond (not b) (named_cell x ∷ without cell_key (map named_cell xs) who) (without cell_key (map named_cell xs) who)) (All-head (λ c. eqb c.1.who who ≡ false) x xs all)
+            ∙ ap (λ zs. named_cell x ∷ zs) (one_same xs (All-tail (λ c. eqb c.1.who who ≡ false) x xs all))
+
+        all_same : (ds : List (List (ℕ × Member T))) → All (λ c. eqb c.1.who who ≡ false) (all_cells ds) → map (λ c. without cell_key c who) (named_chains ds) ≡ named_chains ds
+        all_same [] all = refl
+        all_same (d ∷ ds) all = λ i. one_same d (all_front (λ c. eqb c.1.who who ≡ false) d (all_cells ds) all) i ∷ all_same ds (all_back (λ c. eqb c.1.who who ≡ false) d (all_cells ds) all) i
+
+    -- ---- an id comes
+    pub same_next : (next : Option ℕ) (p : ℕ) → p < length cs → ((id : ℕ) → next ≡ Some id → IsSome (value_in (chain_at (named_chains cs) p) id))
+        → All (λ c. is_key (key_found es next) c.0 ≡ is_key next c.1.who) (chain_at cs p)
+    same_next None p hp h = λ k d q. refl
+    same_next (Some id) p hp h =
+        elim (of_id entry_id es id) as (λ o. of_id entry_id es id ≡ o → All (λ c. is_key (option_map (λ (e : Entry). e.key) o) c.0 ≡ eqb id c.1.who) (chain_at cs p)) [
+          | None ↦ λ q.
+              let all = all_chain (λ c. eqb c.1.who id ≡ false) cs p hp (no_cell id q) in
+              λ k d within. sym (ne_eqb id (get_or (chain_at cs p) k d).1.who (λ e. eqb-false (get_or (chain_at cs p) k d).1.who id (all k d within) (sym e)))
+          | Some e ↦ λ q.
+              let all = all_chain (IsAlike e.key id) cs p hp (cells_alike id e q) in
+              λ k d within. turned e.key (get_or (chain_at cs p) k d).0 id (get_or (chain_at cs p) k d).1.who (all k d within)
+        ] refl
+      where
+        turned : (a b m n : ℕ) → eqb b a ≡ eqb n m → eqb a b ≡ eqb m n
+        turned a b m n e = eqb_comm a b ∙ e ∙ eqb_comm n m
+
+    -- the node of an id that stands in a list
+    pub node_of_next : (next : Option ℕ) (p : ℕ) → p < length cs → ((id : ℕ) → next ≡ Some id → IsSome (value_in (chain_at (named_chains cs) p) id))
+        → (key : ℕ) → key_found es next ≡ Some key → IsSome (value_in (chain_at cs p) key)
+    node_of_next None p hp h key q = absurd (cc)
+    node_of_next (Some id) p hp h key q =
+        elim (of_id entry_id es id) as (λ o. of_id entry_id es id ≡ o → option_map (λ (e : Entry). e.key) o ≡ Some key → IsSome (value_in (chain_at cs p) key)) [
+          | None ↦ λ e r. absurd (cc)
+          | Some e ↦ λ at r.
+              let alike = all_chain (IsAlike e.key id) cs p hp (cells_alike id e at) in
+              let named_value = subst (λ c. IsSome (value_in c id)) (named_at cs p hp) (h id refl) in
+              subst (λ k. IsSome (value_in (chain_at cs p) k)) (same_Some e.key key r)
+              (unmapped (value_in (chain_at cs p) e.key) (subst IsSome (value_alike e.key id (chain_at cs p) alike) named_value))
+        ] refl q
+      where
+        unmapped : (o : Option (Member T)) → IsSome (option_map (λ (m : Member T). m.value) o) → IsSome o
+        unmapped None s = absurd (cc)
+        unmapped (Some m) s = refl
+
+    pub indexed_inserted : (ds : List (List (ℕ × Member T))) (key who : ℕ) (value : T) → Parted cs ds (key, record { who = who; value = value }) → value_of cs key ≡ None
+        → of_id entry_id es who ≡ None → IsIndexed ds (with_record entry_id es (record { id = who; key = key }))
+    indexed_inserted ds key who value parts fresh none =
+        let e : Entry = record { id = who; key = key } in
+        let m : Member T = record { who = who; value = value } in
+        let old : value_in (parts.front ++ parts.back) key ≡ None = ap (λ zs. value_in zs key) (sym parts.before) ∙ fresh in
+        record {
+          rising = Rising-with_record entry_id es e is.rising none;
+          known = λ id x at.
+              elim (eqb who id) as (λ b. eqb who id ≡ b → cond b (Some e) (of_id entry_id es id) ≡ Some x → option_map member_id (value_of ds x.key) ≡ Some id) [
+                | true ↦ λ b q.
+                    let key_is : key ≡ x.key = ap (λ (y : Entry). y.key) (same_Some e x q) in
+                    ap (λ k. option_map member_id (value_of ds k)) (sym key_is)
+                    ∙ ap (λ zs. option_map member_id (value_in zs key)) parts.after
+                    ∙ ap (option_map member_id) (value_new parts.front (key, m) parts.back old)
+                    ∙ ap (λ n. Some n) (eqb-true who id b)
+                | false ↦ λ b q.
+                    let known = is.known id x q in
+                    let apart : eqb key x.key ≡ false =
+                    ne_eqb key x.key (λ r. let there : ◌≡◌ {A = Option ℕ} None (Some id) = ap (option_map member_id) (sym fresh ∙ ap (value_of cs) r) ∙ known in absurd (cc)) in
+                    ap (λ zs. option_map member_id (value_in zs x.key)) parts.after
+                    ∙ ap (option_map member_id) (value_past parts.front (key, m) parts.back x.key apart)
+                    ∙ ap (λ zs. option_map member_id (value_in zs x.key)) (sym parts.before)
+                    ∙ known
+              ] refl (sym (of_id-with_record entry_id es e id none) ∙ at);
+          listed =
+              let P : ℕ × Member T → Type 0 = λ c. of_id entry_id (with_record entry_id es e) c.1.who ≡ Some (entry_of c) in
+              let keeps : (c : ℕ × Member T) → Listed c → P c =
+              λ c listed.
+                  of_id-with_record entry_id es e c.1.who none
+                  ∙ ap (λ b. cond b (Some e) (of_id entry_id es c.1.who))
+                  (ne_eqb who c.1.who (λ q. let there : ◌≡◌ {A = Option Entry} None (Some (entry_of c)) = sym none ∙ ap (of_id entry_id es) q ∙ listed in absurd (cc)))
+                  ∙ listed in
+              let all = subst (All Listed) parts.before is.listed in
+              subst (All P) (sym parts.after)
+              (All-append P parts.front ((key, m) ∷ parts.back)
+              (All-weaker Listed P keeps parts.front (all_front Listed parts.front parts.back all))
+              (All-cons P (key, m) parts.back
+              (of_id-with_record entry_id es e who none ∙ ap (λ b. cond b (Some e) (of_id entry_id es who)) (eq-eqb who who refl))
+              (All-weaker Listed P keeps parts.back (all_back Listed parts.front parts.back all))));
+          count =
+              omega (
+                arith,
+                length-insert_sorted (λ (x y : Entry). ltb x.id y.id) e es,
+                is.count,
+                ap length parts.before,
+                ap length parts.after,
+                length-append parts.front parts.back,
+                length-append parts.front ((key, m) ∷ parts.back)
+              );
+        }
+
+    -- ---- an id goes
+    pub indexed_removed : (who : ℕ) (e : Entry) → of_id entry_id es who ≡ Some e → (rest : List Entry) → rest ≡ without entry_id es who → length rest + 1 ≡ length es
+        → length (all_cells (map (λ c. without cell_key c e.key) cs)) + 1 ≡ length (all_cells cs) → IsIndexed (map (λ c. without cell_key c e.key) cs) rest
+    indexed_removed who e at rest rest_is fewer count =
+        let ds = map (λ c. without cell_key c e.key) cs in
+        let cells = cells_without cs e.key in
+        record {
+          rising = subst (Rising entry_id) (sym rest_is) (Rising-without entry_id es who is.rising);
+          known = λ id x there.
+              elim (eqb id who) as (λ b. eqb id who ≡ b → cond b None (of_id entry_id es id) ≡ Some x → option_map member_id (value_of ds x.key) ≡ Some id) [
+                | true ↦ λ b q. absurd (cc)
+                | false ↦ λ b q.
+                    let known = is.known id x q in
+                    let apart : eqb x.key e.key ≡ false =
+                    ne_eqb x.key e.key (λ r. eqb-false id who b (same_Some id who (sym known ∙ ap (λ k. option_map member_id (value_of cs k)) r ∙ is.known who e at))) in
+                    ap (λ zs. option_map member_id (value_in zs x.key)) cells
+                    ∙ ap (λ o. option_map member_id (option_map (λ (c : ℕ × Member T). c.1) o)) (of_id-without cell_key (all_cells cs) e.key x.key ∙ ap (λ b. cond b None (of_id cell_key (all_cells cs) x.key)) apart)
+                    ∙ known
+              ] refl (sym (of_id-without entry_id es who id) ∙ ap (λ xs. of_id entry_id xs id) (sym rest_is) ∙ there);
+          listed =
+              let test : ℕ × Member T → Bool = λ c. not (eqb c.0 e.key) in
+              let P : ℕ × Member T → Type 0 = λ c. of_id entry_id rest c.1.who ≡ Some (entry_of c) in
+              let alike = All-filter test (IsAlike e.key who) (all_cells cs) (cells_alike who e at) in
+              let passes = filter_passes test (all_cells cs) in
+              let kept = All-filter test Listed (all_cells cs) is.listed in
+              subst (All P) (sym cells)
+              (λ k d h.
+              let c = get_or (filter test (all_cells cs)) k d in
+              let other : eqb c.1.who who ≡ false = sym (alike k d h) ∙ unnot (eqb c.0 e.key) (passes k d h) in
+              ap (λ xs. of_id entry_id xs c.1.who) rest_is ∙ of_id-without entry_id es who c.1.who ∙ ap (λ b. cond b None (of_id entry_id es c.1.who)) other ∙ kept k d h);
+          count = omega (arith, fewer, count, is.count);
+        }
+      where
+        unnot : (b : Bool) → not b ≡ true → b ≡ false
+        unnot true q = absurd (cc)
+        unnot false q = refl
+
+  -- the list that an id is in, and no other
+  pub listed_in : (cs : List (List (ℕ × Member T))) (p key who : ℕ) → All (IsAlike key who) (all_cells cs) → IsOnlyIn cs key p → IsOnlyIn (named_chains cs) who p
+  listed_in cs p key who alike only =
+      let m = is_some_of (value_in (chain_at cs p) key) only.here in
+      record {
+        within = subst (λ n. p < n) (sym (length-map cs (map named_cell))) only.within;
+        here =
+            subst (λ c. IsSome (value_in c who)) (sym (named_at cs p only.within))
+            (some_is (value_in (map named_cell (chain_at cs p)) who) m.0.value
+            (value_alike key who (chain_at cs p) (all_chain (IsAlike key who) cs p only.within alike) ∙ ap (option_map (λ (x : Member T). x.value)) m.1));
+        elsewhere = λ other ne.
+            ⊎_elim
+            (λ (hp : other < length cs).
+            ap (λ c. value_in c who) (named_at cs other hp)
+            ∙ value_alike key who (chain_at cs other) (all_chain (IsAlike key who) cs other hp alike)
+            ∙ ap (option_map (λ (x : Member T). x.value)) (only.elsewhere other ne))
+            (λ (past : length cs ≤ other). ap (λ c. value_in c who) (get_or_past (named_chains cs) other [] (omega (arith, past, length-map cs (map named_cell)))))
+            (cases_lt other (length cs));
+      }
+
+  -- the first id of a list is that of its first cell
+  pub first_named : (cs : List (List (ℕ × Member T))) (es : List Entry) (p k : ℕ) (m : Member T) → IsIndexed cs es → p < length cs → first_key (chain_at cs p) ≡ Some k → value_of cs k ≡ Some m
+      → Some m.who ≡ first_key (chain_at (named_chains cs) p)
+  first_named cs es p k m is hp first value =
+      let cell = first_cell (chain_at cs p) k first in
+      let listed = subst (All (λ (c : ℕ × Member T). of_id entry_id es c.1.who ≡ Some (entry_of c))) cell.2 (all_chain (λ c. of_id entry_id es c.1.who ≡ Some (entry_of c)) cs p hp is.listed) in
+      let here : of_id entry_id es cell.0.who ≡ Some (entry_of (k, cell.0)) = listed 0 (k, cell.0) (omega arith) in
+      sym (ap (option_map member_id) value)
+      ∙ is.known cell.0.who (entry_of (k, cell.0)) here
+      ∙ sym (ap first_key (named_at cs p hp ∙ ap (map named_cell) cell.2))
+
+  pub first_none : (cs : List (List (ℕ × Member T))) (p : ℕ) → p < length cs → first_key (chain_at cs p) ≡ None → None ≡ first_key (chain_at (named_chains cs) p)
+  first_none cs p hp none = sym (ap first_key (named_at cs p hp) ∙ empty (chain_at cs p) none)
+    where
+      empty : (xs : List (ℕ × Member T)) → first_key xs ≡ None → first_key (map named_cell xs) ≡ None
+      empty [] e = refl
+      empty (x ∷ xs) e = absurd (cc)
+
+  pub named_alike : (cs ds : List (List (ℕ × T))) (room : ℕ) → cs ≡ ds → ◌≡◌ {A = Chains T} (record { chains = cs; room = room }) (record { chains = ds; room = room })
+  named_alike cs ds room e = λ i. record { chains = e i; room = room }
+
+  -- the lists after an id is put in
+  pub inserted_chains : (cs : List (List (ℕ × Member T))) (es : List Entry) (p key who : ℕ) (value : T) (nk next : Option ℕ) → IsIndexed cs es → p < length cs → nk ≡ key_found es next
+      → ((id : ℕ) → next ≡ Some id → IsSome (value_in (chain_at (named_chains cs) p) id))
+      → named_chains (set cs p (put_before nk (key, record { who = who; value = value }) (chain_at cs p))) ≡ set (named_chains cs) p (put_before next (who, value) (chain_at (named_chains cs) p))
+  inserted_chains cs es p key who value nk next is hp nk_is h =
+      chains_put nk next (key, record { who = who; value = value }) cs p hp
+      (subst (λ o. All (λ (c : ℕ × Member T). is_key o c.0 ≡ is_key next c.1.who) (chain_at cs p)) (sym nk_is) (same_next cs es is next p hp h))
+
+  -- empty lists
+  pub indexed_empty : (n : ℕ) → IsIndexed (replicate {A = List (ℕ × Member T)} n []) []
+  indexed_empty n =
+      record {
+        rising = λ i j d hij hj. absurd (omega (arith, hj));
+        known = λ id e at. absurd (cc);
+        listed = λ k d h. absurd (omega (arith, h, ap length (no_cells {T = Member T} n)));
+        count = sym (ap length (no_cells {T = Member T} n));
+      }
+
+  pub named_empty : (n : ℕ) → named_chains (replicate n []) ≡ replicate {A = List (ℕ × T)} n []
+  named_empty zero = refl
+  named_empty (suc n) = ap (λ zs. [] ∷ zs) (named_empty n)
+
+  -- ---- what stands in one list
+  abbrev IsListed : List Entry → ℕ × Member T → Type 0
+  IsListed es c = of_id entry_id es c.1.who ≡ Some (entry_of c)
+
+  unvalued : (o : Option (ℕ × T)) → option_map (λ (c : ℕ × T). c.1) o ≡ None → o ≡ None
+  unvalued None e = refl
+  unvalued (Some c) e = absurd (cc)
+
+  named_apart : (cs : List (List (ℕ × Member T))) (es : List Entry) → IsIndexed cs es → (xs : List (ℕ × Member T)) → All (IsListed es) xs → Apart xs → Apart (map named_cell xs)
+  named_apart cs es is [] all a = tt
+  named_apart cs es is (x ∷ xs) all a =
+      let alike = All-weaker (IsListed es) (IsAlike x.0 x.1.who) (one_cell cs es is x.1.who (entry_of x) (All-head (IsListed es) x xs all)) xs (All-tail (IsListed es) x xs all) in (
+        unvalued (of_id cell_key (map named_cell xs) x.1.who)
+            (value_alike x.0 x.1.who xs alike ∙ ap (λ o. option_map (λ (m : Member T). m.value) (option_map (λ (c : ℕ × Member T). c.1) o)) a.0),
+        named_apart cs es is xs (All-tail (IsListed es) x xs all) a.1,
+      )
+
+  pub apart_at : (cs : List (List (ℕ × Member T))) (es : List Entry) (p : ℕ) → IsIndexed cs es → p < length cs → Apart (chain_at cs p) → Apart (chain_at (named_chains cs) p)
+  apart_at cs es p is hp a = subst Apart (sym (named_at cs p hp)) (named_apart cs es is (chain_at cs p) (all_chain (IsListed es) cs p hp is.listed) a)
+
+  pub first_value_named : (cs : List (List (ℕ × Member T))) (p k : ℕ) (m : Member T) → p < length cs → first_key (chain_at cs p) ≡ Some k → ValueIs cs k m → Some m.value ≡ first_value (chain_at (named_chains cs) p)
+  first_value_named cs p k m hp first same =
+      let cell = first_cell (chain_at cs p) k first in
+      ap (λ (n : Member T). Some n.value) (sym (same p [] cell.1 cell.0 cell.2)) ∙ sym (ap first_value (named_at cs p hp ∙ ap (map named_cell) cell.2))
+
+  pub first_value_none : (cs : List (List (ℕ × Member T))) (p : ℕ) → p < length cs → first_key (chain_at cs p) ≡ None → None ≡ first_value (chain_at (named_chains cs) p)
+  first_value_none cs p hp none = sym (ap first_value (named_at cs p hp) ∙ empty (chain_at cs p) none)
+    where
+      empty : (xs : List (ℕ × Member T)) → first_key xs ≡ None → first_value (map named_cell xs) ≡ None
+      empty [] e = refl
+      empty (x ∷ xs) e = absurd (cc)
+
+  -- ---- the id after an id
+  record Unnamed_at (xs : List (ℕ × Member T)) (who : ℕ) (back : List (ℕ × T)) : Type 0 where
+    front : List (ℕ × Member T)
+    cell : ℕ × Member T
+    rest : List (ℕ × Member T)
+    whole : xs ≡ front ++ cell ∷ rest
+    id_is : cell.1.who ≡ who
+    back_is : map named_cell rest ≡ back
+
+  unnamed_at : (xs : List (ℕ × Member T)) (who : ℕ) (value : T) (front back : List (ℕ × T)) → map named_cell xs ≡ front ++ (who, value) ∷ back → Unnamed_at xs who back
+  unnamed_at [] who value [] back e = absurd (cc)
+  unnamed_at [] who value (f ∷ fs) back e = absurd (cc)
+  unnamed_at (x ∷ xs) who value [] back e =
+      record { front = []; cell = x; rest = xs; whole = refl; id_is = ap (λ c. c.0) (head_same (named_cell x) (who, value) (map named_cell xs) back e); back_is = tail_same (named_cell x) (who, value) (map named_cell xs) back e }
+  unnamed_at (x ∷ xs) who value (f ∷ fs) back e =
+      let found = unnamed_at xs who value fs back (tail_same (named_cell x) f (map named_cell xs) (fs ++ (who, value) ∷ back) e) in
+      record { front = x ∷ found.front; cell = found.cell; rest = found.rest; whole = ap (λ zs. x ∷ zs) found.whole; id_is = found.id_is; back_is = found.back_is }
+
+  -- the key after an entry's key is that of the id after its id
+  pub next_key : (cs : List (List (ℕ × Member T))) (es : List Entry) (who : ℕ) (e : Entry) (next : Option ℕ) → IsIndexed cs es → of_id entry_id es who ≡ Some e → NextIs cs e.key next
+      → (list : ℕ) (front back : List (ℕ × T)) (value : T) → chain_at (named_chains cs) list ≡ front ++ (who, value) ∷ back
+      → (rest : List (ℕ × Member T)) × (next ≡ first_key rest) × (map named_cell rest ≡ back) × All (IsListed es) rest
+  next_key cs es who e next is at after list front back value whole =
+      ⊎_elim
+      (λ (hp : list < length cs).
+      let found = unnamed_at (chain_at cs list) who value front back (sym (named_at cs list hp) ∙ whole) in
+      let listed = subst (All (IsListed es)) found.whole (all_chain (IsListed es) cs list hp is.listed) in
+      let tail = all_back (IsListed es) found.front (found.cell ∷ found.rest) listed in
+      let here : of_id entry_id es found.cell.1.who ≡ Some (entry_of found.cell) = All-head (IsListed es) found.cell found.rest tail in
+      let key : found.cell.0 ≡ e.key = ap (λ (x : Entry). x.key) (same_Some (entry_of found.cell) e (sym here ∙ ap (of_id entry_id es) found.id_is ∙ at)) in
+      (
+        found.rest,
+        after list found.front found.rest found.cell.1 (found.whole ∙ ap (λ k. found.front ++ (k, found.cell.1) ∷ found.rest) key),
+        found.back_is,
+        All-tail (IsListed es) found.cell found.rest tail,
+      ))
+      (λ (past : length cs ≤ list).
+      absurd (omega (arith, ap length (sym (get_or_past (named_chains cs) list [] (omega (arith, past, length-map cs (map named_cell)))) ∙ whole), length-append front ((who, value) ∷ back))))
+      (cases_lt list (length cs))
+
+  -- an id without an entry stands nowhere
+  pub no_stand : (cs : List (List (ℕ × Member T))) (es : List Entry) (who : ℕ) → IsIndexed cs es → of_id entry_id es who ≡ None
+      → (list : ℕ) (front back : List (ℕ × T)) (value : T) → chain_at (named_chains cs) list ≡ front ++ (who, value) ∷ back → ⊥
+  no_stand cs es who is none list front back value whole =
+      ⊎_elim
+      (λ (hp : list < length cs).
+      let found = unnamed_at (chain_at cs list) who value front back (sym (named_at cs list hp) ∙ whole) in
+      let all = subst (All (λ (c : ℕ × Member T). eqb c.1.who who ≡ false)) found.whole (all_chain (λ c. eqb c.1.who who ≡ false) cs list hp (no_cell cs es is who none)) in
+      eqb-false found.cell.1.who who (All-head (λ (c : ℕ × Member T). eqb c.1.who who ≡ false) found.cell found.rest (all_back (λ c. eqb c.1.who who ≡ false) found.front (found.cell ∷ found.rest) all)) found.id_is)
+      (λ (past : length cs ≤ list).
+      absurd (omega (arith, ap length (sym (get_or_past (named_chains cs) list [] (omega (arith, past, length-map cs (map named_cell)))) ∙ whole), length-append front ((who, value) ∷ back))))
+      (cases_lt list (length cs))
+
+  pub next_none : (rest : List (ℕ × Member T)) (back : List (ℕ × T)) → None ≡ first_key rest → map named_cell rest ≡ back → None ≡ first_key back
+  next_none [] back e same = ap first_key same
+  next_none (x ∷ xs) back e same = absurd (cc)
+
+  pub next_named : (cs : List (List (ℕ × Member T))) (es : List Entry) (rest : List (ℕ × Member T)) (back : List (ℕ × T)) (k : ℕ) (m : Member T) → IsIndexed cs es → Some k ≡ first_key rest → map named_cell rest ≡ back
+      → All (IsListed es) rest → value_of cs k ≡ Some m → Some m.who ≡ first_key back
+  next_named cs es [] back k m is e same listed value = absurd (cc)
+  next_named cs es (x ∷ xs) back k m is e same listed value =
+      let here : of_id entry_id es x.1.who ≡ Some (entry_of x) = All-head (IsListed es) x xs listed in
+      sym (ap (option_map member_id) value) ∙ ap (λ n. option_map member_id (value_of cs n)) (same_Some k x.0 e) ∙ is.known x.1.who (entry_of x) here ∙ ap first_key same
+
+  -- ---- another value
+  hold_alike : (key who : ℕ) (value : T) (cs : List (ℕ × Member T)) → All (IsAlike key who) cs → map named_cell (hold key (record { who = who; value = value }) cs) ≡ hold who value (map named_cell cs)
+  hold_alike key who value [] all = refl
+  hold_alike key who value (c ∷ cs) all =
+      let here : eqb c.0 key ≡ eqb c.1.who who = All-head (IsAlike key who) c cs all in
+      let m : Member T = record { who = who; value = value } in
+      let rest = hold_alike key who value cs (All-tail (IsAlike key who) c cs all) in
+      ap (λ b. named_cell (cond b (c.0, m) c) ∷ map named_cell (hold key m cs)) here
+      ∙ elim (eqb c.1.who who) as (λ b. eqb c.1.who who ≡ b → named_cell (cond b (c.0, m) c) ∷ map named_cell (hold key m cs) ≡ cond b (c.1.who, value) (named_cell c) ∷ hold who value (map named_cell cs)) [
+        | true ↦ λ e. ap (λ n. (n, value) ∷ map named_cell (hold key m cs)) (sym (eqb-true c.1.who who e)) ∙ ap (λ zs. (c.1.who, value) ∷ zs) rest
+        | false ↦ λ e. ap (λ zs. named_cell c ∷ zs) rest
+      ] refl
+
+  pub chains_hold : (key who : ℕ) (value : T) (cs : List (List (ℕ × Member T))) → All (IsAlike key who) (all_cells cs)
+      → named_chains (map (hold key (record { who = who; value = value })) cs) ≡ map (hold who value) (named_chains cs)
+  chains_hold key who value [] all = refl
+  chains_hold key who value (c ∷ cs) all =
+      λ i. hold_alike key who value c (all_front (IsAlike key who) c (all_cells cs) all) i ∷ chains_hold key who value cs (all_back (IsAlike key who) c (all_cells cs) all) i
+
+  cells_hold : (key : ℕ) (m : Member T) (cs : List (List (ℕ × Member T))) → all_cells (map (hold key m) cs) ≡ hold key m (all_cells cs)
+  cells_hold key m [] = refl
+  cells_hold key m (c ∷ cs) = ap (λ zs. hold key m c ++ zs) (cells_hold key m cs) ∙ joined c
+    where
+      joined : (xs : List (ℕ × Member T)) → hold key m xs ++ hold key m (all_cells cs) ≡ hold key m (xs ++ all_cells cs)
+      joined [] = refl
+      joined (x ∷ xs) = ap (λ zs. cond (eqb x.0 key) (x.0, m) x ∷ zs) (joined xs)
+
+  ids_hold : (key who : ℕ) (value : T) (cs : List (ℕ × Member T)) (k : ℕ) → All (IsAlike key who) cs
+      → option_map member_id (value_in (hold key (record { who = who; value = value }) cs) k) ≡ option_map member_id (value_in cs k)
+  ids_hold key who value [] k all = refl
+  ids_hold key who value (c ∷ cs) k all =
+      let here : eqb c.0 key ≡ eqb c.1.who who = All-head (IsAlike key who) c cs all in
+      let m : Member T = record { who = who; value = value } in
+      let rest = ids_hold key who value cs k (All-tail (IsAlike key who) c cs all) in
+      elim (eqb c.0 key) as (λ b. eqb c.0 key ≡ b → option_map member_id (option_map (λ (x : ℕ × Member T). x.1) (cond (eqb (cond b (c.0, m) c).0 k) (Some (cond b (c.0, m) c)) (of_id cell_key (hold key m cs) k)))
+      ≡ option_map member_id (option_map (λ (x : ℕ × Member T). x.1) (cond (eqb c.0 k) (Some c) (of_id cell_key cs k)))) [
+        | true ↦ λ e.
+            elim (eqb c.0 k) as (λ t. option_map member_id (option_map (λ (x : ℕ × Member T). x.1) (cond t (Some (c.0, m)) (of_id cell_key (hold key m cs) k)))
+            ≡ option_map member_id (option_map (λ (x : ℕ × Member T). x.1) (cond t (Some c) (of_id cell_key cs k)))) [
+              | true ↦ ap (λ n. Some n) (sym (eqb-true c.1.who who (sym here ∙ e)))
+              | false ↦ rest
+            ]
+        | false ↦ λ e.
+            elim (eqb c.0 k) as (λ t. option_map member_id (option_map (λ (x : ℕ × Member T). x.1) (cond t (Some c) (of_id cell_key (hold key m cs) k)))
+            ≡ option_map member_id (option_map (λ (x : ℕ × Member T). x.1) (cond t (Some c) (of_id cell_key cs k)))) [
+              | true ↦ refl
+              | false ↦ rest
+            ]
+      ] refl
+
+  listed_hold : (es : List Entry) (key who : ℕ) (value : T) (cs : List (ℕ × Member T)) → All (IsAlike key who) cs → All (IsListed es) cs → All (IsListed es) (hold key (record { who = who; value = value }) cs)
+  listed_hold es key who value [] alike all = all
+  listed_hold es key who value (c ∷ cs) alike all =
+      let here : eqb c.0 key ≡ eqb c.1.who who = All-head (IsAlike key who) c cs alike in
+      let m : Member T = record { who = who; value = value } in
+      let rest = listed_hold es key who value cs (All-tail (IsAlike key who) c cs alike) (All-tail (IsListed es) c cs all) in
+      let own : of_id entry_id es c.1.who ≡ Some (entry_of c) = All-head (IsListed es) c cs all in
+      elim (eqb c.0 key) as (λ b. eqb c.0 key ≡ b → All (IsListed es) (cond b (c.0, m) c ∷ hold key m cs)) [
+        | true ↦ λ e.
+            All-cons (IsListed es) (c.0, m) (hold key m cs)
+            (subst (λ n. of_id entry_id es n ≡ Some (record { id = n; key = c.0 })) (eqb-true c.1.who who (sym here ∙ e)) own) rest
+        | false ↦ λ e. All-cons (IsListed es) c (hold key m cs) own rest
+      ] refl
+
+  pub indexed_hold : (cs : List (List (ℕ × Member T))) (es : List Entry) (who : ℕ) (value : T) (e : Entry) → IsIndexed cs es → of_id entry_id es who ≡ Some e
+      → IsIndexed (map (hold e.key (record { who = who; value = value })) cs) es
+  indexed_hold cs es who value e is at =
+      let m : Member T = record { who = who; value = value } in
+      let alike = cells_alike cs es is who e at in
+      let cells = cells_hold e.key m cs in
+      record {
+        rising = is.rising;
+        known = λ id x there. ap (λ zs. option_map member_id (value_in zs x.key)) cells ∙ ids_hold e.key who value (all_cells cs) x.key alike ∙ is.known id x there;
+        listed = subst (All (IsListed es)) (sym cells) (listed_hold es e.key who value (all_cells cs) alike is.listed);
+        count = is.count ∙ sym (ap length cells ∙ length-map (all_cells cs) (λ (c : ℕ × Member T). cond (eqb c.0 e.key) (c.0, m) c));
+      }

@@ -1,0 +1,43 @@
+use Rattle.std.proofs.Common.{ap, ◌∙◌, sym, subst, [], ◌∷◌, ◌++◌, arith, length, None, Some}
+use Rattle.linked_lists.specs.Chains.{value_of, chain_at, first_key, NextIs}
+use Rattle.linked_lists.specs.Named.{named_chains}
+use Rattle.linked_lists.proofs.Keeping.{some_is, next_value}
+use Rattle.linked_lists.proofs.Naming.{entry_found, entry_value, no_stand, next_key, next_none, next_named}
+use Rattle.linked_lists.proofs.id_lists.IdLists.next.Goals as goal
+
+pub returns-in_err-at : goal.returns-in_err-at
+returns-in_err-at g c list front back value whole =
+    let k = c.self.inside in
+    absurd (no_stand k.lists.chains k.index.items c.args.who c.self.invariant.1 (rw c.deref.ensures.value at c.in_err-at.ensures) list front back value (ap (λ t. chain_at t.chains list) c.self.view_is ∙ whole))
+
+pub next-requires : goal.next-requires
+next-requires g c =
+    let k = c.self.inside in
+    let at = rw c.deref.ensures.value at c.in_ok-at.ensures in
+    let entry = entry_found k.index.items c.args.who c.in_ok-at.at c.index.result.now at c.self.invariant.1.rising c.index.ensures in
+    let v = entry_value k.lists.chains k.index.items c.self.invariant.1 c.args.who c.index.result.now entry in
+    some_is (value_of k.lists.chains c.index.result.now.key) v.0 v.1
+
+pub returns-in_err-next : goal.returns-in_err-next
+returns-in_err-next g c list front back value whole =
+    let k = c.self.inside in
+    let at = rw c.deref.ensures.value at c.in_ok-at.ensures in
+    let entry = entry_found k.index.items c.args.who c.in_ok-at.at c.index.result.now at c.self.invariant.1.rising c.index.ensures in
+    let found = next_key k.lists.chains k.index.items c.args.who c.index.result.now c.next.result c.self.invariant.1 entry c.next.ensures list front back value (ap (λ t. chain_at t.chains list) c.self.view_is ∙ whole) in
+    c.from_residual-in_err-next.ensures ∙ next_none found.0 back (sym c.in_err-next.was ∙ found.1) found.2
+
+pub value-requires : goal.value-requires
+value-requires g c =
+    let k = c.self.inside in
+    let at = rw c.deref.ensures.value at c.in_ok-at.ensures in
+    let entry = entry_found k.index.items c.args.who c.in_ok-at.at c.index.result.now at c.self.invariant.1.rising c.index.ensures in
+    let v = entry_value k.lists.chains k.index.items c.self.invariant.1 c.args.who c.index.result.now entry in
+    next_value k.lists.chains c.index.result.now.key c.in_ok-next.next c.next.result (some_is (value_of k.lists.chains c.index.result.now.key) v.0 v.1) c.next.ensures c.in_ok-next.was
+
+pub returns : goal.returns
+returns g c list front back value whole =
+    let k = c.self.inside in
+    let at = rw c.deref.ensures.value at c.in_ok-at.ensures in
+    let entry = entry_found k.index.items c.args.who c.in_ok-at.at c.index.result.now at c.self.invariant.1.rising c.index.ensures in
+    let found = next_key k.lists.chains k.index.items c.args.who c.index.result.now c.next.result c.self.invariant.1 entry c.next.ensures list front back value (ap (λ t. chain_at t.chains list) c.self.view_is ∙ whole) in
+    next_named k.lists.chains k.index.items found.0 back c.in_ok-next.next c.value.result.now c.self.invariant.1 (sym c.in_ok-next.was ∙ found.1) found.2 found.3 c.value.ensures.value

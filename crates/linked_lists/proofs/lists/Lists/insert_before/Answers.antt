@@ -1,0 +1,79 @@
+use Rattle.std.proofs.Common.{ap, ◌∙◌, sym, subst, arith, length, set, Some, ◌<◌, ◌≡◌, ℕ}
+use Rattle.std.specs.Prelude.{IsSome}
+use Rattle.slab.specs.Slab as slabs
+use Rattle.linked_lists.specs.Chains.{value_of, value_in, chain_at, all_cells, put_before, with_cell}
+use Rattle.linked_lists.specs.Inside.{IsKept, chains_in, behind, aimed, goes_on, goes_back, aim_first, aim_last}
+use Rattle.linked_lists.proofs.Keeping.{behind_is, behind_there, value_node, split_next, some_updated, some_aimed, kept_inserted, kept_view, key_is_new, chains_alike, ends_length}
+use Rattle.linked_lists.proofs.lists.Lists.insert_before.Goals as goal
+
+pub node_before-before-requires : goal.node_before-before-requires
+node_before-before-requires g c =
+    let k = c.self.inside in
+    let cs = chains_in k.nodes k.ends.items in
+    let within = subst (λ t. c.args.list < length t.chains) (sym c.self.view_is) c.requires.list in
+    let same = ends_length k.nodes k.ends.items cs k.room c.self.invariant in
+    record {
+      list = subst (λ es. c.args.list < length es) (sym c.deref.ensures.value) (subst (λ n. c.args.list < n) (sym same) within);
+      next = λ x e. value_node k.nodes k.ends.items cs k.room c.args.list x c.self.invariant within (subst (λ t. IsSome (value_in (chain_at t.chains c.args.list) x)) (sym c.self.view_is) (c.requires.next x e));
+    }
+
+pub link_after-requires-clause-before : goal.link_after-requires-clause-before
+link_after-requires-clause-before g c x e =
+    let k = c.self.inside in
+    let cs = chains_in k.nodes k.ends.items in
+    let within = subst (λ t. c.args.list < length t.chains) (sym c.self.view_is) c.requires.list in
+    let split = split_next (chain_at cs c.args.list) c.args.next (c.insert_reserved-key.result, c.args.value) (λ j q. subst (λ t. IsSome (value_in (chain_at t.chains c.args.list) j)) (sym c.self.view_is) (c.requires.next j q)) in
+    let behind_that = sym (ap (λ es. behind k.nodes es c.args.list c.args.next) c.deref.ensures.value) ∙ sym c.node_before-before.ensures ∙ e in
+    some_updated k.nodes c.insert_reserved-key.new.self c.insert_reserved-key.result _ x c.insert_reserved-key.ensures.updates
+    (behind_there k.nodes k.ends.items cs k.room c.args.list c.args.next (c.insert_reserved-key.result, c.args.value) x c.self.invariant within split behind_that)
+
+pub link_before-requires-clause-after : goal.link_before-requires-clause-after
+link_before-requires-clause-after g c x e =
+    let k = c.self.inside in
+    let cs = chains_in k.nodes k.ends.items in
+    let within = subst (λ t. c.args.list < length t.chains) (sym c.self.view_is) c.requires.list in
+    let there = value_node k.nodes k.ends.items cs k.room c.args.list x c.self.invariant within (subst (λ t. IsSome (value_in (chain_at t.chains c.args.list) x)) (sym c.self.view_is) (c.requires.next x e)) in
+    subst (λ n. IsSome (slabs.get n x)) (sym c.link_after.ensures.nodes)
+    (some_aimed c.insert_reserved-key.new.self c.node_before-before.result (goes_on (Some c.insert_reserved-key.result)) x
+    (some_updated k.nodes c.insert_reserved-key.new.self c.insert_reserved-key.result _ x c.insert_reserved-key.ensures.updates there))
+
+pub invariant_of-self : goal.invariant_of-self
+invariant_of-self g c =
+    let k = c.self.inside in
+    let cs = chains_in k.nodes k.ends.items in
+    let within = subst (λ t. c.args.list < length t.chains) (sym c.self.view_is) c.requires.list in
+    let split = split_next (chain_at cs c.args.list) c.args.next (c.insert_reserved-key.result, c.args.value) (λ j q. subst (λ t. IsSome (value_in (chain_at t.chains c.args.list) j)) (sym c.self.view_is) (c.requires.next j q)) in
+    let is = kept_inserted k.nodes c.insert_reserved-key.new.self k.ends.items cs k.room c.args.list c.insert_reserved-key.result c.args.next c.node_before-before.result c.args.value c.self.invariant within split
+    (c.node_before-before.ensures ∙ ap (λ es. behind k.nodes es c.args.list c.args.next) c.deref.ensures.value ∙ behind_is k.nodes k.ends.items cs k.room c.args.list c.args.next (c.insert_reserved-key.result, c.args.value) c.self.invariant within split)
+    c.insert_reserved-key.ensures.was_vacant c.insert_reserved-key.ensures.updates c.insert_reserved-key.ensures.len c.insert_reserved-key.ensures.capacity
+    (omega (arith, c.self.invariant.all, ap (λ t. length (all_cells t.chains)) c.self.view_is, ap (λ t. t.room) c.self.view_is, c.requires.room)) in
+    let nodes = c.link_before.new.nodes in
+    let ends = c.link_before.new.ends.items in
+    let new = set cs c.args.list (put_before c.args.next (c.insert_reserved-key.result, c.args.value) (chain_at cs c.args.list)) in
+    let now : IsKept nodes ends new k.room =
+    rw (c.link_before.ensures.nodes, c.link_before.ensures.ends, c.link_after.ensures.nodes, c.link_after.ensures.ends) is in
+    subst (λ ds. IsKept nodes ends ds k.room) (sym (kept_view nodes ends new k.room now)) now
+
+pub returns-clause-fresh : goal.returns-clause-fresh
+returns-clause-fresh g c =
+    let k = c.self.inside in
+    sym (ap (λ t. value_of t.chains c.insert_reserved-key.result) c.self.view_is)
+    ∙ key_is_new k.nodes k.ends.items (chains_in k.nodes k.ends.items) k.room c.insert_reserved-key.result c.self.invariant c.insert_reserved-key.ensures.was_vacant
+
+pub returns-clause-chains : goal.returns-clause-chains
+returns-clause-chains g c =
+    let k = c.self.inside in
+    let cs = chains_in k.nodes k.ends.items in
+    let within = subst (λ t. c.args.list < length t.chains) (sym c.self.view_is) c.requires.list in
+    let split = split_next (chain_at cs c.args.list) c.args.next (c.insert_reserved-key.result, c.args.value) (λ j q. subst (λ t. IsSome (value_in (chain_at t.chains c.args.list) j)) (sym c.self.view_is) (c.requires.next j q)) in
+    let is = kept_inserted k.nodes c.insert_reserved-key.new.self k.ends.items cs k.room c.args.list c.insert_reserved-key.result c.args.next c.node_before-before.result c.args.value c.self.invariant within split
+    (c.node_before-before.ensures ∙ ap (λ es. behind k.nodes es c.args.list c.args.next) c.deref.ensures.value ∙ behind_is k.nodes k.ends.items cs k.room c.args.list c.args.next (c.insert_reserved-key.result, c.args.value) c.self.invariant within split)
+    c.insert_reserved-key.ensures.was_vacant c.insert_reserved-key.ensures.updates c.insert_reserved-key.ensures.len c.insert_reserved-key.ensures.capacity
+    (omega (arith, c.self.invariant.all, ap (λ t. length (all_cells t.chains)) c.self.view_is, ap (λ t. t.room) c.self.view_is, c.requires.room)) in
+    let nodes = c.link_before.new.nodes in
+    let ends = c.link_before.new.ends.items in
+    let new = set cs c.args.list (put_before c.args.next (c.insert_reserved-key.result, c.args.value) (chain_at cs c.args.list)) in
+    let now : IsKept nodes ends new k.room =
+    rw (c.link_before.ensures.nodes, c.link_before.ensures.ends, c.link_after.ensures.nodes, c.link_after.ensures.ends) is in
+    chains_alike (chains_in nodes ends) new k.room (kept_view nodes ends new k.room now)
+    ∙ ap (λ t. with_cell t c.args.list c.args.next (c.insert_reserved-key.result, c.args.value)) c.self.view_is

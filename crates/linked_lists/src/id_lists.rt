@@ -1,0 +1,166 @@
+//! Lists by id.
+
+ghost use Rattle.std.specs.Prelude.{◌≡◌, ◌<◌, ◌+◌, [], None, length, replicate, IfOk, IsSome, is_some, option_copied, Some};
+ghost use Rattle.std.specs.Option.{ForSome};
+ghost use Rattle.linked_lists.specs.Chains.{Chains, all_cells, chain_at, first_key, value_in, value_of, first_value as first_value_lem, with_cell, without_cell, with_value, AreChains, NextIs};
+ghost use Rattle.linked_lists.specs.Named.{list_found};
+
+use crate::index::{Entry, key_of, place_of, rank_of};
+use crate::lists::Lists;
+use id_table::Ident;
+use std::alloc::Global;
+use std::marker::Model;
+use wind_base::NoMemory;
+
+// What a node holds: whose it is, and a value.
+#[derive(Drop)]
+pub(crate) struct Member<T> {
+    pub(crate) who: Ident,
+    pub(crate) value: T,
+}
+
+/// Some number of linked lists of ids, each with a value. No id is in two of them, or in one of them twice.
+#[derive(Drop)]
+pub struct IdLists<T> {
+    lists: Lists<Member<T>>,
+    // by rising id
+    index: Vec<Entry>,
+}
+
+impl<T> Model for IdLists<T> {
+    ghost use Rattle.linked_lists.specs.Chains.{Chains, chains_code};
+
+    ghost Value = { Chains T };
+
+    ghost coded = { chains_code T.code };
+
+    ghost use Rattle.std.specs.Prelude.{◌≤◌, vec_capacity};
+    ghost use Rattle.linked_lists.specs.Named.{named, IsIndexed};
+
+    ghost view = { λ t. named t.lists };
+
+    ghost invariant = { λ t. (t.lists.room ≤ vec_capacity t.index) × IsIndexed t.lists.chains t.index.items };
+}
+
+impl<T> IdLists<T> {
+    /// So many empty lists, with room for `n` ids together. No other call takes memory.
+    pub fn reserved(alloc: Global, lists: u32, n: u32) -> Result<IdLists<T>, NoMemory>
+        ensures { IfOk result (λ t. t ≡ record { chains = replicate lists []; room = n }) }
+    {
+        let Ok(index) = Vec::with_capacity(alloc, n as usize) else {
+            return Err(NoMemory);
+        };
+        let lists = Lists::reserved(alloc, lists, n)?;
+        Ok(IdLists { lists, index })
+    }
+
+    /// Does nothing. Its contract tells the facts that the lists keep.
+    pub fn facts(&self)
+        ensures { AreChains self.now }
+    {
+        self.lists.facts();
+        // to read the index is to know the rest
+        let _ = &self.index;
+    }
+
+    /// How many ids there are in all lists.
+    pub fn len(&self) -> usize
+        ensures { result ≡ length (all_cells self.now.chains) }
+    {
+        self.index.len()
+    }
+
+    /// For how many ids there is room.
+    pub fn room(&self) -> usize
+        ensures { result ≡ self.now.room }
+    {
+        self.lists.room()
+    }
+
+    /// The first id of a list. None where the list is empty.
+    pub fn first(&self, list: usize) -> Option<Ident>
+        requires { list < length self.now.chains }
+        ensures { result ≡ first_key (chain_at self.now.chains list) }
+    {
+        let key = self.lists.first(list)?;
+        Some(self.lists.value(key).who)
+    }
+
+    /// Puts an id, which is in no list, into one before another of its ids, or at its end. Fewer ids may be in all lists than
+    /// there is room for.
+    pub fn insert_before(&mut self, list: usize, next: Option<Ident>, who: Ident, value: T)
+        requires list { list < length self.old.chains }
+        requires next { ForSome next (λ id. IsSome (value_in (chain_at self.old.chains list) id)) }
+        requires absent { value_of self.old.chains who ≡ None }
+        requires room { length (all_cells self.old.chains) < self.old.room }
+        ensures { self.new ≡ with_cell self.old list next (who, value) }
+    {
+        let next = key_of(&self.index, next);
+        let rank = rank_of(&self.index, who);
+        let key = self.lists.insert_before(list, next, Member { who, value });
+        let Ok(()) = self.index.insert(rank, Entry { id: who, key }) else {
+            unreachable!()
+        };
+    }
+
+    /// Takes an id out, and gives its value. None, and nothing changes, where it is in no list.
+    pub fn remove(&mut self, who: Ident) -> Option<T>
+        ensures value { result ≡ value_of self.old.chains who }
+        ensures chains { self.new ≡ without_cell self.old who }
+    {
+        let at = place_of(&self.index, who)?;
+        let Entry { id: _, key } = self.index.remove(at);
+        let Member { who: _, value } = self.lists.remove(key);
+        Some(value)
+    }
+
+    /// The list that an id is in. None where it is in no list.
+    pub fn list_of(&self, who: Ident) -> Option<usize>
+        ensures { list_found self.now.chains who result }
+    {
+        let at = place_of(&self.index, who)?;
+        Some(self.lists.list_of(self.index[at].key))
+    }
+
+    /// The value of an id.
+    pub fn value(&self, who: Ident) -> &T
+        requires { IsSome (value_of self.now.chains who) }
+        ensures { value_of self.now.chains who ≡ Some result.now }
+    {
+        match place_of(&self.index, who) {
+            Some(at) => &self.lists.value(self.index[at].key).value,
+            None => unreachable!(),
+        }
+    }
+
+    /// The value of the first id of a list. None where the list is empty.
+    pub fn first_value(&self, list: usize) -> Option<&T>
+        requires { list < length self.now.chains }
+        ensures { option_copied result ≡ first_value_lem (chain_at self.now.chains list) }
+    {
+        let key = self.lists.first(list)?;
+        Some(&self.lists.value(key).value)
+    }
+
+    /// The id after an id in its list. None at the list's end, and where the id is in no list.
+    pub fn next(&self, who: Ident) -> Option<Ident>
+        ensures { NextIs self.now.chains who result }
+    {
+        let at = place_of(&self.index, who)?;
+        let next = self.lists.next(self.index[at].key)?;
+        Some(self.lists.value(next).who)
+    }
+
+    /// Gives an id another value.
+    pub fn set(&mut self, who: Ident, value: T)
+    where
+        T: Drop,
+        requires { IsSome (value_of self.old.chains who) }
+        ensures { self.new ≡ with_value self.old who value }
+    {
+        match place_of(&self.index, who) {
+            Some(at) => self.lists.set(self.index[at].key, Member { who, value }),
+            None => unreachable!(),
+        }
+    }
+}

@@ -1,0 +1,10 @@
+//! Linked lists whose nodes lie in one slab, and such lists by id.
+#![tactic(auto)]
+
+mod id_lists;
+mod index;
+mod lists;
+mod node;
+
+pub use id_lists::IdLists;
+pub use lists::Lists;

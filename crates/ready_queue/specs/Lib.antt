@@ -1,0 +1,4 @@
+pub mod Map
+pub mod Order
+pub mod Inside
+pub mod Laws
