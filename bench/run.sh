@@ -57,6 +57,48 @@ console() {
     if [ "$status" -eq 0 ]; then tell "$name" "$count" "$what"; else printf '%-36s ended with status %s\n' "$name" "$status"; fi
 }
 
+# Tells how long one of something takes, in a run that took so many seconds more than another.
+each() {
+    name=$1
+    count=$2
+    less=$3
+    if [ "$status" -eq 0 ]; then
+        awk "BEGIN { t = $seconds - $less; printf \"%-36s %12.4f ms each (%s in %.3f s)\\n\", \"$name\", 1000 * t / $count, \"$count\", t }"
+    else
+        printf '%-36s ended with status %s\n' "$name" "$status"
+    fi
+}
+
+# Makes a module with so many globals, each a word that holds the address of a symbol of the table below.
+module() {
+    awk "BEGIN { print \".data\"; for (i = 1; i <= $2; i++) printf \".globl s%d\\ns%d: .long t%d\\n\", i, i, i }" |
+        powerpc-linux-gnu-as -o "$1" -
+}
+
+# Makes a module with 50,000 globals that are numbers.
+table() {
+    awk 'BEGIN { for (i = 1; i <= 50000; i++) printf ".globl t%d\n.set t%d, %d\n", i, i, i }' | powerpc-linux-gnu-as -o "$1" -
+}
+
+# Loads a module with so many globals so many times, behind the table, and tells how long a load takes.
+loads() {
+    globals=$1
+    times=$2
+    module "$work/loads/m.o" "$globals"
+    awk "BEGIN { print \"ld < t.o\"; for (i = 0; i < $times; i++) print \"ld < m.o\" }" >"$work/loads/console.txt"
+    if (cd "$work/loads" && "$program" 2>/dev/null) | grep -q -e '^ld: ' -e '^undefined symbol'; then
+        printf '%-36s refused\n' "load, symbols: $globals"
+        return
+    fi
+    measure "$work/loads"
+    each "load, symbols: $globals" "$times" "$table_seconds"
+}
+
+# So many lines of 25 allocations each.
+allocations() {
+    awk "BEGIN { for (i = 0; i < $1; i++) { for (k = 1; k < 25; k++) printf \"malloc 1;\"; print \"malloc 1\" } }"
+}
+
 # The loop of `tasks-1` as a program of the stock emulator, 25,000,000 times round: four instructions each.
 stock_program() {
     for word in \
@@ -98,7 +140,7 @@ fi
 steps 'kernel calls of a task' "$here/task-calls" 20000000
 
 # 400 lines of 31 calls each.
-mkdir "$work/calls" "$work/lines" "$work/start"
+mkdir "$work/calls" "$work/lines" "$work/start" "$work/blocks" "$work/loads"
 : >"$work/calls/ticks.txt"
 awk 'BEGIN { for (i = 0; i < 400; i++) { for (k = 0; k < 30; k++) printf "tickGet;"; print "tickGet" } }' >"$work/calls/console.txt"
 console 'kernel calls of the shell' "$work/calls" 12400 calls
@@ -110,6 +152,31 @@ steps 'idle ticks' "$here/idle-ticks" 1000000
 awk 'BEGIN { for (i = 0; i < 20000; i++) print "1+2" }' >"$work/lines/console.txt"
 console 'a long console' "$work/lines" 20000 lines
 lines_peak=$peak
+
+# 10,000 blocks, and 5,000 more behind them.
+: >"$work/blocks/ticks.txt"
+allocations 400 >"$work/blocks/console.txt"
+measure "$work/blocks" --limit 1000000000000
+blocks_seconds=$seconds
+each 'malloc, the first 10,000 blocks' 10000 0
+allocations 600 >"$work/blocks/console.txt"
+measure "$work/blocks" --limit 1000000000000
+each 'malloc, behind 10,000 blocks' 5000 "$blocks_seconds"
+
+# 10,000 symbols by loads of modules of three sizes, behind a table of 50,000.
+if command -v powerpc-linux-gnu-as >/dev/null; then
+    : >"$work/loads/ticks.txt"
+    table "$work/loads/t.o"
+    echo 'ld < t.o' >"$work/loads/console.txt"
+    measure "$work/loads"
+    table_seconds=$seconds
+    each 'load, symbols: 50000' 1 0
+    loads 100 100
+    loads 1000 10
+    loads 10000 1
+else
+    printf '%-36s not installed\n' 'loads (powerpc-linux-gnu-as)'
+fi
 
 : >"$work/start/ticks.txt"
 : >"$work/start/console.txt"

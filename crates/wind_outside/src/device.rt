@@ -4,7 +4,7 @@ ghost use Rattle.std.specs.Prelude.{◌≡◌, ℕ, ◌<◌, ◌%◌, List};
 ghost use Rattle.wind_outside.specs.declared.device.DeviceKind.{DeviceKind};
 ghost use Rattle.wind_outside.specs.Devices.{load_answer, after_load, after_store};
 
-/// The kinds of device. `docs/machine.md` says what a load and a store do to each.
+/// The kinds of device. `docs/devices.md` says what a load and a store do to each.
 #[derive(Clone, Copy, Debug, PartialEq, Eq)]
 pub enum DeviceKind {
     /// Four words that hold what was stored.
