@@ -20,9 +20,10 @@ fn file_name(alloc: Global, ram: &Ram, at: u32) -> Result<Option<Name>, NoMemory
     ensures name { IfOk result (λ name. name ≡ file_name_lem (string_at ram.now at)) }
     ensures memory { OnErr result (IsSome (file_name_lem (string_at ram.now at))) }
 {
-    let Some(bytes) = ram.string(at) else {
+    let Some(string) = ram.string(at) else {
         return Ok(None);
     };
+    let bytes = string.bytes();
     if bytes.is_empty() || bytes.len() > NAME_BYTES {
         return Ok(None);
     }
