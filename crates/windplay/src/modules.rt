@@ -1,6 +1,6 @@
 //! The steps of a run, with the files of modules that they ask for.
 
-ghost use Rattle.std.specs.Prelude.{◌≡◌, ◌≢◌, ◌+◌, ◌<◌, ◌≤◌, true, Err, Some, IfOk, IsSome};
+ghost use Rattle.std.specs.Prelude.{◌≡◌, ◌≢◌, ◌+◌, ◌<◌, ◌≤◌, true, Err, Some, IfOk, IsSome, string_bytes};
 ghost use Rattle.wind_base.specs.Limits.{most_steps};
 ghost use Rattle.wind_outside.specs.Counts.{Rose};
 ghost use Rattle.live_loading.specs.Said.{FileSaid, said_of};
@@ -115,7 +115,6 @@ fn load_step<F: Folder>(
 
 /// Makes the next step, if there is one. The module that it asks for, if it does, is fetched from the folder: the file
 /// at the name of the folder of modules, `/` and its own name.
-#[tactic(auto, using(wind_machine::proofs::Asking::asked_may))]
 pub(crate) fn step<F: Folder>(
     alloc: Global,
     board: &mut Board,

@@ -1,22 +1,35 @@
-use Rattle.std.proofs.Common.{◌≡◌, ◌+◌, ◌∙◌, ap, arith, refl}
-use Rattle.windplay.proofs.RunLemmas.{cut_off, state_on, part_on, text_on, lacking}
+use Rattle.std.proofs.Common.{◌≡◌, ◌+◌, ◌∙◌, sym, ap, arith, refl, subst}
+use Rattle.windplay.specs.Modules.{IsSaid}
+use Rattle.windplay.proofs.RunLemmas.{cut_off, said_on, state_on, part_on, answers_on, text_on, lacking, unread}
 use Rattle.windplay.proofs.run.run_board.Goals as goal
 
 -- a put failed, so the last step wrote something
 pub returns-in-Failed-clause-ran : goal.returns-in-Failed-clause-ran
 returns-in-Failed-clause-ran g c =
-    cut_off _ _ _ _ _ _ _ c.loop-i.invariant.part (omega arith)
-    (rw (← c.loop-i.invariant.state) (c.in-Stepped.ensures.stepped refl))
-    (c.in-Stepped.ensures.counted refl ∙ ap (λ n. n + 1) c.loop-i.invariant.counted)
+    let made = c.in-Made.ensures.made refl in
+    let own = subst (λ files. IsSaid (record { files = files; name = c.args.modules.now }) _ made.0) c.loop-i.invariant.files made.1 in
+    cut_off _ c.loop-i.invariant.said _ _ _ c.loop-i._i c.loop-i.invariant.state made.0 made.2 c.args.limit _ _ _ c.loop-i.invariant.answers own c.loop-i.invariant.part (omega arith)
+    (c.in-Made.ensures.counted refl ∙ ap (λ n. n + 1) c.loop-i.invariant.counted)
     c.loop-i.invariant.written
     (rw c.output.ensures at c.in-Failed.ensures.part refl)
     (λ e. c.in-Failed.ensures.some refl (c.output.ensures ∙ e))
 
+-- a file could not be read
+pub returns-in-ReadFault-clause-ran : goal.returns-in-ReadFault-clause-ran
+returns-in-ReadFault-clause-ran g c = record {
+  said = c.loop-i.invariant.said;
+  k = c.loop-i._i;
+  made = unread _ _ _ _ _ c.loop-i._i c.loop-i.invariant.state c.args.limit (c.in-ReadFault.ensures.unchanged (λ e. cc)) c.loop-i.invariant.counted c.loop-i.invariant.answers c.loop-i.invariant.part (omega arith)
+      (c.in-ReadFault.ensures.asked refl);
+  written = c.loop-i.invariant.written;
+}
+
 -- memory ran out
 pub returns-in-NoMemory-clause-ran : goal.returns-in-NoMemory-clause-ran
 returns-in-NoMemory-clause-ran g c = record {
+  said = c.loop-i.invariant.said;
   k = c.loop-i._i;
-  made = lacking _ _ _ c.loop-i._i c.loop-i.invariant.state c.args.limit (c.in-NoMemory.ensures.unchanged (λ e. cc)) c.loop-i.invariant.counted c.loop-i.invariant.part (omega arith)
+  made = lacking _ _ _ _ _ c.loop-i._i c.loop-i.invariant.state c.args.limit (c.in-NoMemory.ensures.unchanged (λ e. cc)) c.loop-i.invariant.counted c.loop-i.invariant.answers c.loop-i.invariant.part (omega arith)
       (c.in-NoMemory.ensures.no_memory refl);
   written = c.loop-i.invariant.written;
 }
@@ -24,11 +37,16 @@ returns-in-NoMemory-clause-ran g c = record {
 -- a step was made, and what it wrote was put
 pub loop-i-preserved : goal.loop-i-preserved
 loop-i-preserved g c =
-    let step = c.in-Stepped.ensures.stepped refl in
+    let made = c.in-Made.ensures.made refl in
+    let own = subst (λ files. IsSaid (record { files = files; name = c.args.modules.now }) _ made.0) c.loop-i.invariant.files made.1 in
     record {
-      counted = c.in-Stepped.ensures.counted refl ∙ ap (λ n. n + 1) c.loop-i.invariant.counted;
-      part = part_on _ _ _ c.loop-i._i c.loop-i.invariant.state c.args.limit c.loop-i.invariant.part (omega arith) step;
-      state = state_on _ _ _ c.loop-i._i c.loop-i.invariant.state step;
-      written = text_on _ _ _ c.loop-i._i c.loop-i.invariant.state _ _ _ step c.loop-i.invariant.written (rw c.output.ensures at c.in-Done.ensures.done refl);
+      said = said_on _ c.loop-i.invariant.said _ _ _ c.loop-i._i c.loop-i.invariant.state made.0 made.2;
+      counted = c.in-Made.ensures.counted refl ∙ ap (λ n. n + 1) c.loop-i.invariant.counted;
+      answers = answers_on _ c.loop-i.invariant.said _ _ _ c.loop-i._i c.loop-i.invariant.state made.0 made.2 c.loop-i.invariant.answers own;
+      part = part_on _ c.loop-i.invariant.said _ _ _ c.loop-i._i c.loop-i.invariant.state made.0 made.2 c.args.limit c.loop-i.invariant.part (omega arith);
+      state = state_on _ c.loop-i.invariant.said _ _ _ c.loop-i._i c.loop-i.invariant.state made.0 made.2;
+      written = text_on _ c.loop-i.invariant.said _ _ _ c.loop-i._i c.loop-i.invariant.state made.0 made.2 _ _ _ c.loop-i.invariant.written (rw c.output.ensures at c.in-Done.ensures.done refl);
+      files = c.in-Made.ensures.files ∙ c.loop-i.invariant.files;
+      folder_faults = omega (arith, c.in-Made.ensures.faults, c.loop-i.invariant.folder_faults);
       faults = omega (arith, c.put_some.ensures.never_falls, c.loop-i.invariant.faults);
     }
