@@ -158,7 +158,7 @@ module _ (s : State) (g : Good s) where
       let w : WorldState = shell_world s in
       let alone = law w name said (at_turn_advances s g shell_id).kept (turn_ready s.world.kern shell_id (shell_ready s g own)) in
       let here : Balances s.world (load_step said s name).world (task_scene s shell_id) None
-          = leaves w (load_step said s name).world (task_scene s shell_id) (ap (λ o. o.queues.queues) alone.objects) alone.ids in
+      = leaves w (load_step said s name).world (task_scene s shell_id) (ap (λ o. o.queues.queues) alone.objects) alone.ids in
       subst (Goes s (load_step said s name)) (sym own) (subst (Balances s.world (load_step said s name).world (task_scene s shell_id)) (sym (no_call name e)) here)
 
   asking_goes : AloneLaw → (said : FileSaid) (o : Option (List ℕ)) → file_asked s ≡ o → Goes s (unwrap_or (step_asking said s o) s) (stepping s)
