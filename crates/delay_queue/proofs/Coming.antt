@@ -1,14 +1,14 @@
 -- Tasks that wait, as they come and go.
-use Rattle.std.proofs.Common.{◌≡◌, ℕ, ◌<◌, ◌≤◌, true, false, cond, leb, List, [], ◌∷◌, ◌++◌, None, Some, refl, sym, ap, ◌∙◌, subst, arith}
+use Rattle.std.proofs.Common.{◌≡◌, ℕ, ◌<◌, ◌≤◌, true, false, cond, leb, List, [], ◌∷◌, None, Some, refl, sym, ap, subst, arith}
 use Rattle.std.specs.List.{All}
 use Rattle.std.proofs.lemmas.Bool.{leb-true, leb-false}
 use Rattle.std.proofs.lemmas.List.Elements.{All-cons, All-append, All-weaker}
 use Rattle.std.proofs.lemmas.Option.{same_Some}
 use Rattle.wind_lists.specs.Sorting.{first}
-use Rattle.wind_lists.specs.Arrivals.{Change, IsEarliest, after_changes, arrivals}
+use Rattle.wind_lists.specs.Arrivals.{after_changes, arrivals}
 use Rattle.wind_lists.proofs.Arrivals.{first_earliest, none_after}
 use Rattle.delay_queue.specs.Wakes.{task_id, task_wake, due_at}
-use Rattle.delay_queue.specs.Laws.{DueLaw, NobodyLaw, IsDue}
+use Rattle.delay_queue.specs.Laws.{DueLaw, NobodyLaw}
 
 first_due : (ts : List (ℕ × ℕ)) (tick id : ℕ) → due_at ts tick ≡ Some id → (wake : ℕ) × (first ts ≡ Some (id, wake)) × (wake ≤ tick)
 first_due [] tick id e = absurd (cc)

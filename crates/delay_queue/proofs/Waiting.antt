@@ -1,15 +1,15 @@
 -- Ticks between tasks: what is seen of them, as one comes and one goes.
-use Rattle.std.proofs.Common.{◌≡◌, ℕ, zero, suc, ◌+◌, ◌-◌, ◌<◌, ◌≤◌, ◌^◌, true, false, cond, not, eqb, leb, List, [], ◌∷◌, ◌++◌, map, set, length, Option, None, Some, is_some, refl, sym, ap, ◌∙◌, subst, arith, append_assoc}
+use Rattle.std.proofs.Common.{◌≡◌, ℕ, suc, ◌+◌, ◌-◌, ◌<◌, ◌≤◌, ◌^◌, true, false, cond, not, eqb, leb, List, [], ◌∷◌, ◌++◌, length, Option, None, Some, is_some, refl, sym, ap, ◌∙◌, subst, arith, append_assoc}
 use Rattle.std.specs.Prelude.{IsSome, IsSomeAnd}
 use Rattle.std.specs.Option.{option_map}
 use Rattle.std.specs.List.{All}
-use Rattle.std.proofs.lemmas.Bool.{eqb-true, eqb-false, eq-eqb, ne_eqb, le-leb, lt-leb}
+use Rattle.std.proofs.lemmas.Bool.{eq-eqb, le-leb, lt-leb}
 use Rattle.std.proofs.lemmas.List.{append-nil, length-append}
-use Rattle.std.proofs.lemmas.List.Elements.{All-cons, All-head, All-tail, All-filter}
+use Rattle.std.proofs.lemmas.List.Elements.{All-cons, All-head, All-tail}
 use Rattle.std.proofs.lemmas.Option.{same_Some}
 use Rattle.wind_lists.specs.Records.{of_id, without}
 use Rattle.wind_lists.proofs.Places.{none_without, not_there, gone}
-use Rattle.linked_lists.specs.Chains.{Chains, cell_key, all_cells, chain_at, first_key, first_value, is_key, put_before, value_in, value_of, with_cell, without_cell, with_value, hold, NextIs, Apart}
+use Rattle.linked_lists.specs.Chains.{Chains, cell_key, all_cells, chain_at, first_key, first_value, is_key, put_before, value_in, value_of, with_cell, without_cell, hold, NextIs, Apart}
 use Rattle.linked_lists.proofs.Links.{Absent, absent_cons, absent_append, apart_middle, apart_back, apart_insert, apart_remove, without_middle}
 use Rattle.linked_lists.proofs.Keeping.{found_list, value_there}
 use Rattle.delay_queue.specs.Wakes.{Order, task_id, task_wake, wake_of, put_in, taken_out, due_at}

@@ -1,5 +1,5 @@
 -- What a contract sees of tasks that wait for a tick: their ids and wakes in the order in which they are due, and for how many there is room.
-use Rattle.std.specs.Prelude.{ℕ, ◌≤◌, nat_le, if◌then◌else◌, List, [], ◌∷◌, length, Option, None, Some}
+use Rattle.std.specs.Prelude.{ℕ, nat_le, if◌then◌else◌, List, [], ◌∷◌, Option, None, Some}
 use Rattle.std.specs.Option.{option_map}
 use Rattle.wind_lists.specs.Records as records
 use Rattle.wind_lists.specs.Arrivals.{put_behind}

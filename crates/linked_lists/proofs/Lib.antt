@@ -1,3 +1,5 @@
 pub mod Links
 pub mod Keeping
+pub mod Telling
 pub mod Naming
+pub mod Standing

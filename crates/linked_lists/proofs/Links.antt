@@ -1,5 +1,5 @@
 -- Cells that are linked, and what a change of links leaves of them.
-use Rattle.std.proofs.Common.{◌≡◌, ℕ, zero, suc, ◌≤◌, Bool, true, false, cond, eqb, List, [], ◌∷◌, ◌++◌, length, Option, None, Some, refl, sym, ap, ◌∙◌, subst, arith}
+use Rattle.std.proofs.Common.{◌≡◌, ℕ, zero, suc, ◌≤◌, true, false, cond, eqb, List, [], ◌∷◌, ◌++◌, length, Option, None, Some, refl, sym, ap, ◌∙◌, arith}
 use Rattle.std.specs.Bool.{⊤}
 use Rattle.std.specs.Option.{option_map}
 use Rattle.std.proofs.lemmas.Bool.{eqb-true, eqb-false, eq-eqb, ne_eqb}
@@ -172,23 +172,21 @@ module _ {T : Type 0} where
   pub linked_before : (g h : ℕ → Option (Node T)) (p : ℕ) (b to : Option ℕ) (ys : List (ℕ × T)) (n : Option ℕ) → Apart ys
       → ((j : ℕ) → h j ≡ changed_at (first_or None ys) (goes_back to) g j) → Linked g p b ys n → Linked h p to ys n
   linked_before g h p b to [] n a says l = tt
-  linked_before g h p b to (y ∷ ys) n a says l =
-      (
-        changed_here g h y.0 (goes_back to) (record { list = p; before = b; after = first_or n ys; value = y.1 }) says l.0,
-        linked_same g h p (Some y.0) ys n (same_unnamed g h (Some y.0) ys (kept_but g h (Some y.0) (goes_back to) says) a.0) l.1,
-      )
+  linked_before g h p b to (y ∷ ys) n a says l = (
+    changed_here g h y.0 (goes_back to) (record { list = p; before = b; after = first_or n ys; value = y.1 }) says l.0,
+    linked_same g h p (Some y.0) ys n (same_unnamed g h (Some y.0) ys (kept_but g h (Some y.0) (goes_back to) says) a.0) l.1,
+  )
 
   -- two parts of a list are joined anew: the first goes on to a key, and the second goes back to another
   pub relinked : (g h i : ℕ → Option (Node T)) (p : ℕ) (b after before : Option ℕ) (xs ys : List (ℕ × T)) (to back : Option ℕ) → Apart (xs ++ ys)
       → ((j : ℕ) → h j ≡ changed_at (last_or None xs) (goes_on to) g j) → ((j : ℕ) → i j ≡ changed_at (first_or None ys) (goes_back back) h j)
       → Linked g p b xs after → Linked g p before ys None → Linked i p b xs to × Linked i p back ys None
-  relinked g h i p b after before xs ys to back a says1 says2 l1 l2 =
-      (
-        linked_same h i p b xs to (same_unnamed h i (first_or None ys) xs (kept_but h i (first_or None ys) (goes_back back) says2) (apart_first xs ys a))
+  relinked g h i p b after before xs ys to back a says1 says2 l1 l2 = (
+    linked_same h i p b xs to (same_unnamed h i (first_or None ys) xs (kept_but h i (first_or None ys) (goes_back back) says2) (apart_first xs ys a))
         (linked_after g h p b xs after to (apart_front xs ys a) says1 l1),
-        linked_before h i p before back ys None (apart_back xs ys a) says2
+    linked_before h i p before back ys None (apart_back xs ys a) says2
         (linked_same g h p before ys None (same_unnamed g h (last_or None xs) ys (kept_but g h (last_or None xs) (goes_on to) says1) (apart_last xs ys a)) l2),
-      )
+  )
 
   -- a key that no cell of the two parts has
   pub relinked_other : (g h i : ℕ → Option (Node T)) (xs ys : List (ℕ × T)) (to back : Option ℕ) (k : ℕ) → Absent k (xs ++ ys)
@@ -233,11 +231,10 @@ module _ {T : Type 0} where
   pub linked_other : (g h : ℕ → Option (Node T)) (p q : ℕ) (b : Option ℕ) (cs : List (ℕ × T)) (n : Option ℕ) → (q ≡ p → ⊥)
       → ((k : ℕ) (node : Node T) → g k ≡ Some node → (node.list ≡ p → ⊥) → h k ≡ g k) → Linked g q b cs n → Linked h q b cs n
   linked_other g h p q b [] n other says l = tt
-  linked_other g h p q b (c ∷ cs) n other says l =
-      (
-        says c.0 (record { list = q; before = b; after = first_or n cs; value = c.1 }) l.0 other ∙ l.0,
-        linked_other g h p q (Some c.0) cs n other says l.1,
-      )
+  linked_other g h p q b (c ∷ cs) n other says l = (
+    says c.0 (record { list = q; before = b; after = first_or n cs; value = c.1 }) l.0 other ∙ l.0,
+    linked_other g h p q (Some c.0) cs n other says l.1,
+  )
 
   -- to walk from the first cell on is to pass the cells
   pub walked_is : (g : ℕ → Option (Node T)) (p : ℕ) (b : Option ℕ) (cs : List (ℕ × T)) (fuel : ℕ) → length cs ≤ fuel → Linked g p b cs None → walked g fuel (first_or None cs) ≡ cs
@@ -289,13 +286,12 @@ module _ {T : Type 0} where
         | true ↦ λ e.
             let same = eqb-true c.0 key e in (
               ap h same
-              ∙ changed_here g h key (holds value) (record { list = p; before = b; after = first_or n cs; value = c.1 }) says (ap g (sym same) ∙ l.0)
-              ∙ ap (λ a. Some (record { list = p; before = b; after = a; value = value })) (sym after),
+                  ∙ changed_here g h key (holds value) (record { list = p; before = b; after = first_or n cs; value = c.1 }) says (ap g (sym same) ∙ l.0)
+                  ∙ ap (λ a. Some (record { list = p; before = b; after = a; value = value })) (sym after),
               rest,
             )
-        | false ↦ λ e.
-            (
-              kept_but g h (Some key) (holds value) says c.0 (unequal c.0 key e) ∙ l.0 ∙ ap (λ a. Some (record { list = p; before = b; after = a; value = c.1 })) (sym after),
-              rest,
-            )
+        | false ↦ λ e. (
+          kept_but g h (Some key) (holds value) says c.0 (unequal c.0 key e) ∙ l.0 ∙ ap (λ a. Some (record { list = p; before = b; after = a; value = c.1 })) (sym after),
+          rest,
+        )
       ] refl

@@ -1,5 +1,5 @@
 -- How lists are kept: nodes in a slab with the keys of their neighbours, and the two ends of each list.
-use Rattle.std.specs.Prelude.{◌≡◌, ℕ, zero, suc, ◌<◌, ◌≤◌, ◌==◌, List, [], ◌∷◌, map, length, Option, None, Some, slice_index_or, slice_set, option_and_then}
+use Rattle.std.specs.Prelude.{◌≡◌, ℕ, zero, suc, ◌<◌, ◌≤◌, List, [], ◌∷◌, map, length, Option, None, Some, slice_index_or, slice_set, option_and_then}
 use Rattle.std.specs.Bool.{⊤}
 use Rattle.slab.specs.Slab.{Slab, get, slab_len, with_value}
 use Rattle.linked_lists.specs.declared.node.Node.{Node}

@@ -33,7 +33,11 @@ pub(crate) fn place_of(index: &[Entry], who: Ident) -> Option<usize>
     if rank == index.len() {
         return None;
     }
-    if index[rank].id == who { Some(rank) } else { None }
+    if index[rank].id == who {
+        Some(rank)
+    } else {
+        None
+    }
 }
 
 // The key of the node of an id. None where there is no id, or no node of it.

@@ -24,7 +24,12 @@ pub(crate) struct Ends {
 }
 
 // The node before another of its list, or the last of the list.
-pub(crate) fn node_before<T>(nodes: &Slab<Node<T>>, ends: &[Ends], list: usize, next: Option<usize>) -> Option<usize>
+pub(crate) fn node_before<T>(
+    nodes: &Slab<Node<T>>,
+    ends: &[Ends],
+    list: usize,
+    next: Option<usize>,
+) -> Option<usize>
     requires list { list < length ends.now }
     requires next { ForSome next (λ key. ContainsKey nodes.now key) }
     ensures { result ≡ behind nodes.now ends.now list next }
@@ -36,7 +41,13 @@ pub(crate) fn node_before<T>(nodes: &Slab<Node<T>>, ends: &[Ends], list: usize, 
 }
 
 // Lets the list go on from a node to another, or begin there.
-pub(crate) fn link_after<T>(nodes: &mut Slab<Node<T>>, ends: &mut Vec<Ends>, list: usize, before: Option<usize>, to: Option<usize>)
+pub(crate) fn link_after<T>(
+    nodes: &mut Slab<Node<T>>,
+    ends: &mut Vec<Ends>,
+    list: usize,
+    before: Option<usize>,
+    to: Option<usize>,
+)
     requires list { list < length ends.old.items }
     requires before { ForSome before (λ key. ContainsKey nodes.old key) }
     ensures nodes { nodes.new ≡ aimed nodes.old before (goes_on to) }
@@ -49,7 +60,13 @@ pub(crate) fn link_after<T>(nodes: &mut Slab<Node<T>>, ends: &mut Vec<Ends>, lis
 }
 
 // Lets the list go back from a node to another, or end there.
-pub(crate) fn link_before<T>(nodes: &mut Slab<Node<T>>, ends: &mut Vec<Ends>, list: usize, after: Option<usize>, to: Option<usize>)
+pub(crate) fn link_before<T>(
+    nodes: &mut Slab<Node<T>>,
+    ends: &mut Vec<Ends>,
+    list: usize,
+    after: Option<usize>,
+    to: Option<usize>,
+)
     requires list { list < length ends.old.items }
     requires after { ForSome after (λ key. ContainsKey nodes.old key) }
     ensures nodes { nodes.new ≡ aimed nodes.old after (goes_back to) }

@@ -1,13 +1,12 @@
 -- Ready tasks in a list for each priority: what is seen of them, as one comes and one goes.
-use Rattle.std.proofs.Common.{◌≡◌, ℕ, zero, suc, ◌+◌, ◌/◌, ◌<◌, ◌≤◌, true, false, cond, not, eqb, leb, List, [], ◌∷◌, ◌++◌, map, set, length, get_or, replicate, Option, None, Some, is_some, refl, sym, ap, ◌∙◌, subst, arith, ⊎_elim, append_assoc}
+use Rattle.std.proofs.Common.{◌≡◌, ℕ, zero, suc, ◌+◌, ◌/◌, ◌<◌, ◌≤◌, true, false, cond, not, eqb, List, [], ◌∷◌, ◌++◌, map, set, length, replicate, Option, None, Some, is_some, refl, sym, ap, ◌∙◌, subst, arith, ⊎_elim, append_assoc}
 use Rattle.std.specs.Prelude.{IsSome}
 use Rattle.std.specs.Option.{option_map}
-use Rattle.std.proofs.lemmas.Bool.{cases_eq, cases_lt, eqb-true, eqb-false, eq-eqb, ne_eqb, le-leb, lt-leb}
+use Rattle.std.proofs.lemmas.Bool.{cases_eq, le-leb, lt-leb}
 use Rattle.std.proofs.lemmas.List.{get_or-map, get_or-set_same, get_or-set_other, length-map, length-set, length-append, get_or-replicate, length-replicate}
 use Rattle.std.proofs.lemmas.List.Elements.{filter-append}
 use Rattle.wind_lists.specs.Records.{of_id, without}
-use Rattle.wind_lists.specs.Sorting.{insert_sorted, first}
-use Rattle.wind_lists.proofs.Places.{none_without, of_id-without, fewer_without, gone}
+use Rattle.wind_lists.proofs.Places.{none_without, fewer_without, gone}
 use Rattle.linked_lists.specs.Chains.{cell_key, all_cells, chain_at, first_key, put_before, value_in, value_of, IsOnlyIn}
 use Rattle.linked_lists.proofs.Naming.{cells_without}
 use Rattle.ready_queue.proofs.Bits.{word_empty}

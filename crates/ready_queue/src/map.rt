@@ -44,7 +44,11 @@ pub(crate) fn mark(words: &mut [u32; WORDS], priority: u32, on: bool)
 fn lowest(word: u32) -> Option<u32>
     ensures { IsLowest word result }
 {
-    if word == 0 { None } else { Some(word.trailing_zeros()) }
+    if word == 0 {
+        None
+    } else {
+        Some(word.trailing_zeros())
+    }
 }
 
 // The least priority whose bit is set.

@@ -1,4 +1,3 @@
-use Rattle.std.proofs.Common.{◌≡◌, length}
 use Rattle.linked_lists.specs.Chains.{chain_at}
 use Rattle.delay_queue.proofs.Waiting.{Passed}
 use Rattle.delay_queue.proofs.gaps.place_of.Given as goal

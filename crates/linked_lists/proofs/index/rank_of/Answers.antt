@@ -1,4 +1,4 @@
-use Rattle.std.proofs.Common.{arith, rules, ltb}
+use Rattle.std.proofs.Common.{rules, ltb}
 use Rattle.std.proofs.lemmas.List.Sorted.{IsPartitionPoint-from_clause, IsPartitionedBy-ltb}
 use Rattle.linked_lists.proofs.Naming.{rising_ids}
 use Rattle.linked_lists.proofs.index.rank_of.Goals as goal

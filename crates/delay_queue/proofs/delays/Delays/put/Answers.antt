@@ -1,7 +1,7 @@
 use Rattle.std.proofs.Common.{ap, ◌∙◌, sym, subst, arith, length, ◌-◌, ◌<◌, ◌≤◌, ◌^◌}
 use Rattle.std.specs.Prelude.{IsSomeAnd}
 use Rattle.std.specs.List.{All}
-use Rattle.linked_lists.specs.Chains.{chain_at, value_in, value_of, with_cell, NextIs}
+use Rattle.linked_lists.specs.Chains.{chain_at, value_in, value_of, NextIs}
 use Rattle.delay_queue.specs.Wakes.{wake_of, put_in, with_task}
 use Rattle.delay_queue.specs.Inside.{wakes_from, with_gap}
 use Rattle.delay_queue.proofs.Waiting.{no_value, one_cells, coming, next_there, length-wakes, all_put, timed_single, order_alike}

@@ -2,7 +2,7 @@ use Rattle.std.proofs.Common.{ap, ◌∙◌, sym, subst, arith, is_some, not, eq
 use Rattle.std.specs.Prelude.{IsSomeAnd}
 use Rattle.std.specs.List.{All}
 use Rattle.std.proofs.lemmas.List.Elements.{All-filter}
-use Rattle.linked_lists.specs.Chains.{chain_at, value_in, value_of, without_cell}
+use Rattle.linked_lists.specs.Chains.{chain_at, value_in, value_of}
 use Rattle.delay_queue.specs.Wakes.{wake_of, taken_out, without_task}
 use Rattle.delay_queue.specs.Inside.{wakes_from, with_gap, IsTimed}
 use Rattle.delay_queue.proofs.Waiting.{has_wake, no_wake, one_cells, none_goes, none_taken, going, timed_single, order_alike}

@@ -2,7 +2,8 @@ use Rattle.std.proofs.Common.{ap, subst, arith, length, map, ◌<◌}
 use Rattle.std.proofs.lemmas.List.{length-map}
 use Rattle.linked_lists.specs.Chains.{AreChains, all_cells}
 use Rattle.linked_lists.specs.Named.{named_cell}
-use Rattle.linked_lists.proofs.Naming.{named_cells, apart_at}
+use Rattle.linked_lists.proofs.Naming.{named_cells}
+use Rattle.linked_lists.proofs.Standing.{apart_at}
 use Rattle.linked_lists.proofs.id_lists.IdLists.facts.Goals as goal
 
 pub returns : goal.returns

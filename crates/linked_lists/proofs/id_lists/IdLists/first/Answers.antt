@@ -1,7 +1,6 @@
-use Rattle.std.proofs.Common.{ap, ◌∙◌, sym, subst, arith, length, ◌<◌}
+use Rattle.std.proofs.Common.{ap, ◌∙◌, sym, subst, length, ◌<◌}
 use Rattle.std.proofs.lemmas.List.{length-map}
 use Rattle.linked_lists.specs.Chains.{first_key, chain_at}
-use Rattle.linked_lists.specs.Named.{named_chains}
 use Rattle.linked_lists.proofs.Naming.{first_there, first_named}
 use Rattle.linked_lists.proofs.id_lists.IdLists.first.Goals as goal
 

@@ -1,7 +1,8 @@
 use Rattle.std.proofs.Common.{ap, ◌∙◌, sym, subst, length, ◌<◌}
 use Rattle.std.proofs.lemmas.List.{length-map}
 use Rattle.linked_lists.specs.Chains.{first_value, chain_at}
-use Rattle.linked_lists.proofs.Naming.{first_there, first_value_named}
+use Rattle.linked_lists.proofs.Naming.{first_there}
+use Rattle.linked_lists.proofs.Standing.{first_value_named}
 use Rattle.linked_lists.proofs.id_lists.IdLists.first_value.Goals as goal
 
 pub value-requires : goal.value-requires

@@ -1,8 +1,5 @@
-use Rattle.std.proofs.Common.{ap, ◌∙◌, sym, subst, arith, length, ◌<◌, map}
-use Rattle.std.specs.Prelude.{IsSome}
-use Rattle.std.proofs.lemmas.List.{length-map}
+use Rattle.std.proofs.Common.{ap, ◌∙◌, sym, subst}
 use Rattle.linked_lists.specs.Chains.{value_of, IsOnlyIn}
-use Rattle.linked_lists.specs.Named.{named_cell}
 use Rattle.linked_lists.proofs.Keeping.{some_is}
 use Rattle.linked_lists.proofs.Naming.{no_value, entry_found, entry_value, cells_alike, listed_in}
 use Rattle.linked_lists.proofs.id_lists.IdLists.list_of.Goals as goal

@@ -1,8 +1,9 @@
-use Rattle.std.proofs.Common.{ap, ◌∙◌, sym, subst, [], ◌∷◌, ◌++◌, arith, length, None, Some}
-use Rattle.linked_lists.specs.Chains.{value_of, chain_at, first_key, NextIs}
-use Rattle.linked_lists.specs.Named.{named_chains}
-use Rattle.linked_lists.proofs.Keeping.{some_is, next_value}
-use Rattle.linked_lists.proofs.Naming.{entry_found, entry_value, no_stand, next_key, next_none, next_named}
+use Rattle.std.proofs.Common.{ap, ◌∙◌, sym}
+use Rattle.linked_lists.specs.Chains.{value_of, chain_at}
+use Rattle.linked_lists.proofs.Keeping.{some_is}
+use Rattle.linked_lists.proofs.Telling.{next_value}
+use Rattle.linked_lists.proofs.Naming.{entry_found, entry_value}
+use Rattle.linked_lists.proofs.Standing.{no_stand, next_key, next_none, next_named}
 use Rattle.linked_lists.proofs.id_lists.IdLists.next.Goals as goal
 
 pub returns-in_err-at : goal.returns-in_err-at

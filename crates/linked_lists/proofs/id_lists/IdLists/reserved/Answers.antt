@@ -1,5 +1,5 @@
-use Rattle.std.proofs.Common.{ap, ◌∙◌, sym, subst, arith, replicate, []}
-use Rattle.linked_lists.specs.Named.{IsIndexed, named, named_chains}
+use Rattle.std.proofs.Common.{ap, ◌∙◌, arith, replicate, []}
+use Rattle.linked_lists.specs.Named.{named, named_chains}
 use Rattle.linked_lists.proofs.Naming.{indexed_empty, named_empty, named_alike}
 use Rattle.linked_lists.proofs.id_lists.IdLists.reserved.Goals as goal
 

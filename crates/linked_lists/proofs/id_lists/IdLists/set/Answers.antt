@@ -3,7 +3,8 @@ use Rattle.std.specs.Prelude.{IsSome}
 use Rattle.linked_lists.specs.Chains.{value_of, hold, with_value}
 use Rattle.linked_lists.specs.Named.{named, named_chains, IsIndexed}
 use Rattle.linked_lists.proofs.Keeping.{some_is, not_some}
-use Rattle.linked_lists.proofs.Naming.{no_value, entry_found, entry_value, cells_alike, indexed_hold, chains_hold, named_alike}
+use Rattle.linked_lists.proofs.Naming.{no_value, entry_found, entry_value, cells_alike, named_alike}
+use Rattle.linked_lists.proofs.Standing.{indexed_hold, chains_hold}
 use Rattle.linked_lists.proofs.id_lists.IdLists.set.Goals as goal
 
 pub set-requires : goal.set-requires
@@ -25,8 +26,7 @@ pub invariant_of-self : goal.invariant_of-self
 invariant_of-self g c =
     let k = c.self.inside in
     let at = rw c.deref.ensures.value at c.in-Some.ensures in
-    let entry = entry_found k.index.items c.args.who c.in-Some.at c.index.result.now at c.self.invariant.1.rising c.index.ensures in
-    (
+    let entry = entry_found k.index.items c.args.who c.in-Some.at c.index.result.now at c.self.invariant.1.rising c.index.ensures in (
       omega (arith, c.self.invariant.0, ap (λ t. t.room) c.set.ensures),
       subst (λ t. IsIndexed t.chains k.index.items) (sym c.set.ensures) (indexed_hold k.lists.chains k.index.items c.args.who c.args.value c.index.result.now c.self.invariant.1 entry),
     )

@@ -1,8 +1,8 @@
-use Rattle.std.proofs.Common.{ap, ◌∙◌, sym, subst, arith, length, set, Some, ◌<◌, ◌≡◌, ℕ}
+use Rattle.std.proofs.Common.{ap, ◌∙◌, sym, subst, arith, length, set, Some, ◌<◌}
 use Rattle.std.specs.Prelude.{IsSome}
 use Rattle.slab.specs.Slab as slabs
 use Rattle.linked_lists.specs.Chains.{value_of, value_in, chain_at, all_cells, put_before, with_cell}
-use Rattle.linked_lists.specs.Inside.{IsKept, chains_in, behind, aimed, goes_on, goes_back, aim_first, aim_last}
+use Rattle.linked_lists.specs.Inside.{IsKept, chains_in, behind, goes_on}
 use Rattle.linked_lists.proofs.Keeping.{behind_is, behind_there, value_node, split_next, some_updated, some_aimed, kept_inserted, kept_view, key_is_new, chains_alike, ends_length}
 use Rattle.linked_lists.proofs.lists.Lists.insert_before.Goals as goal
 

@@ -3,7 +3,8 @@ use Rattle.std.specs.Prelude.{IsSome}
 use Rattle.slab.specs.Slab as slabs
 use Rattle.linked_lists.specs.Chains.{value_of, IsOnlyIn}
 use Rattle.linked_lists.specs.Inside.{chains_in}
-use Rattle.linked_lists.proofs.Keeping.{found_at, some_is, only_in}
+use Rattle.linked_lists.proofs.Keeping.{some_is}
+use Rattle.linked_lists.proofs.Telling.{found_at, only_in}
 use Rattle.linked_lists.proofs.lists.Lists.list_of.Goals as goal
 
 pub index-requires : goal.index-requires

@@ -1,9 +1,10 @@
-use Rattle.std.proofs.Common.{◌∙◌, sym, subst}
+use Rattle.std.proofs.Common.{sym, subst}
 use Rattle.std.specs.Prelude.{IsSome}
 use Rattle.slab.specs.Slab as slabs
 use Rattle.linked_lists.specs.Chains.{value_of, NextIs}
 use Rattle.linked_lists.specs.Inside.{chains_in}
-use Rattle.linked_lists.proofs.Keeping.{found_at, some_is, after_is}
+use Rattle.linked_lists.proofs.Keeping.{some_is}
+use Rattle.linked_lists.proofs.Telling.{found_at, after_is}
 use Rattle.linked_lists.proofs.lists.Lists.next.Goals as goal
 
 pub index-requires : goal.index-requires

@@ -1,11 +1,12 @@
-use Rattle.std.proofs.Common.{ap, ◌∙◌, sym, subst, arith, length, Some, ◌<◌, ◌+◌, ℕ, ◌≡◌, map}
+use Rattle.std.proofs.Common.{ap, ◌∙◌, sym, subst, arith, length, Some, ◌<◌, ◌+◌, ◌≡◌, map}
 use Rattle.std.specs.Prelude.{IsSome}
 use Rattle.std.proofs.lemmas.Option.{same_Some}
 use Rattle.slab.specs.Slab as slabs
 use Rattle.wind_lists.specs.Records.{without}
-use Rattle.linked_lists.specs.Chains.{cell_key, value_of, chain_at, all_cells, without_cell}
+use Rattle.linked_lists.specs.Chains.{cell_key, value_of, all_cells, without_cell}
 use Rattle.linked_lists.specs.Inside.{IsKept, chains_in, goes_on, goes_back}
-use Rattle.linked_lists.proofs.Keeping.{found_at, some_is, neighbours, some_aimed, kept_removed, kept_view, chains_alike, ends_length, length-aim_first, len_aimed}
+use Rattle.linked_lists.proofs.Keeping.{some_is, neighbours, some_aimed, kept_removed, kept_view, chains_alike, ends_length, length-aim_first, len_aimed}
+use Rattle.linked_lists.proofs.Telling.{found_at}
 use Rattle.linked_lists.proofs.lists.Lists.remove.Goals as goal
 
 pub remove-list-requires : goal.remove-list-requires

@@ -1,6 +1,7 @@
-use Rattle.std.proofs.Common.{ap, ◌∙◌, sym, subst, replicate, [], Some, None}
+use Rattle.std.proofs.Common.{sym, subst, replicate, []}
 use Rattle.linked_lists.specs.Inside.{IsKept, chains_in}
-use Rattle.linked_lists.proofs.Keeping.{kept_empty, kept_view, chains_alike}
+use Rattle.linked_lists.proofs.Keeping.{kept_view, chains_alike}
+use Rattle.linked_lists.proofs.Telling.{kept_empty}
 use Rattle.linked_lists.proofs.lists.Lists.reserved.Goals as goal
 
 pub invariant_of-result : goal.invariant_of-result

@@ -3,7 +3,8 @@ use Rattle.std.specs.Prelude.{IsSome}
 use Rattle.slab.specs.Slab as slabs
 use Rattle.linked_lists.specs.Chains.{value_of, hold, with_value}
 use Rattle.linked_lists.specs.Inside.{IsKept, chains_in, holds, with_node}
-use Rattle.linked_lists.proofs.Keeping.{found_at, some_is, kept_hold, kept_view, chains_alike}
+use Rattle.linked_lists.proofs.Keeping.{some_is, kept_view, chains_alike}
+use Rattle.linked_lists.proofs.Telling.{found_at, kept_hold}
 use Rattle.linked_lists.proofs.lists.Lists.set.Goals as goal
 
 pub index_mut-requires : goal.index_mut-requires

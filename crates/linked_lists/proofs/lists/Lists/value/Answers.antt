@@ -4,7 +4,8 @@ use Rattle.std.proofs.lemmas.Option.{same_Some}
 use Rattle.slab.specs.Slab as slabs
 use Rattle.linked_lists.specs.Chains.{value_of, ValueIs}
 use Rattle.linked_lists.specs.Inside.{chains_in}
-use Rattle.linked_lists.proofs.Keeping.{found_at, some_is, value_is}
+use Rattle.linked_lists.proofs.Keeping.{some_is}
+use Rattle.linked_lists.proofs.Telling.{found_at, value_is}
 use Rattle.linked_lists.proofs.lists.Lists.value.Goals as goal
 
 pub index-requires : goal.index-requires

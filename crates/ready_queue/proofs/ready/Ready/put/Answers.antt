@@ -1,5 +1,5 @@
 use Rattle.std.proofs.Common.{ap, ◌∙◌, sym, subst, length, arith, set, None, ◌<◌}
-use Rattle.linked_lists.specs.Chains.{chain_at, put_before, with_cell}
+use Rattle.linked_lists.specs.Chains.{chain_at, put_before}
 use Rattle.ready_queue.specs.Order.{pri_of, put_in, with_task}
 use Rattle.ready_queue.specs.Map.{IsMarked}
 use Rattle.ready_queue.specs.Inside.{tasks_from, IsMapped}
