@@ -18,7 +18,6 @@ mod text;
 mod turn;
 
 pub use board::Board;
-
 use wind_base::Name;
 
 /// What a call for the next step answers.

@@ -57,12 +57,7 @@ fn asked_in_call(parts: &Parts) -> Result<Option<Name>, NoMemory>
     if !is_shells_step(parts) {
         return Ok(None);
     }
-    file_wanted(
-        parts.alloc,
-        &parts.world,
-        gate,
-        &Actor::Task(shell_id()),
-    )
+    file_wanted(parts.alloc, &parts.world, gate, &Actor::Task(shell_id()))
 }
 
 /// The name of the file that the next step asks for, if it does.

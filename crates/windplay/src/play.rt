@@ -203,14 +203,7 @@ fn played<F: Folder, O: Sink>(
     ensures folder_faults { F.faults folder.old ≤ F.faults folder.new }
 {
     if command.generate == 0 {
-        return status_of(run_board(
-            alloc,
-            board,
-            folder,
-            command.modules,
-            out,
-            command.limit,
-        ));
+        return status_of(run_board(alloc, board, folder, command.modules, out, command.limit));
     }
     sum_up(alloc, command, board, folder, out)
 }
