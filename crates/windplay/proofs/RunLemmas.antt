@@ -1,8 +1,9 @@
 -- Laws on the runs of the wind machine.
 use Rattle.std.proofs.Common.{◌≡◌, ◌≢◌, ℕ, suc, ◌+◌, ◌<◌, List, [], ◌++◌, Option, Some, IsSome, true, refl, sym, ◌∙◌, ap, subst, arith, add-one, length, length-append}
 use Rattle.std.specs.Prelude.{take}
+use Rattle.wind_outside.specs.Files.{Files}
 use Rattle.wind_outside.specs.Told.{Appended, AppendedFront}
-use Rattle.live_loading.specs.Said.{FileSaid}
+use Rattle.live_loading.specs.Said.{FileSaid, Missing}
 use Rattle.wind_machine.specs.State.{State}
 use Rattle.wind_machine.specs.Machine.{file_asked, machine_step, may_lack_memory}
 use Rattle.wind_machine.specs.Run.{Answers, after, text, IsPart}
@@ -11,6 +12,20 @@ use Rattle.windplay.specs.Runs.{Made, Ran}
 use Rattle.windplay.proofs.Saying.{saying, state_now, part_now, answers_now, text_now, same_before}
 use Rattle.windplay.proofs.ToldLemmas.{appended_both}
 use Rattle.windplay.specs.declared.run.RunEnd.TheVariants as ends
+
+-- ---- before the first step nothing is said, made or written
+pub nothing_said : Answers
+nothing_said k = Missing
+
+pub none_asked : (shelf : Shelf) (s : State) → AreSaid shelf nothing_said s 0
+none_asked shelf s j below = absurd (omega (arith, below))
+
+pub none_made : (s : State) (n : ℕ) → IsPart nothing_said s n 0
+none_made s n = record { within = omega arith; steps = λ j below. absurd (omega (arith, below)) }
+
+-- a folder that keeps its files says the same of them
+pub carried : (a b : Option Files) (name : List ℕ) (s : State) (x : FileSaid) → a ≡ b → IsSaid (record { files = a; name = name }) s x → IsSaid (record { files = b; name = name }) s x
+carried a b name s x same h = subst (λ files. IsSaid (record { files = files; name = name }) s x) same h
 
 -- ---- behind i steps, a further one was made
 module _ (shelf : Shelf) (said : Answers) (s u t : State) (i : ℕ) (here : u ≡ after said s i) (x : FileSaid) (step : machine_step x u ≡ Some t) where

@@ -1,5 +1,5 @@
 -- What is said at one step more.
-use Rattle.std.proofs.Common.{◌≡◌, ℕ, zero, suc, ◌+◌, ◌<◌, true, false, cond, eqb, List, ◌++◌, Option, Some, IsSome, refl, sym, ap, ◌∙◌, subst, arith, below_more, inl, inr}
+use Rattle.std.proofs.Common.{◌≡◌, ℕ, zero, suc, ◌+◌, ◌<◌, true, false, cond, eqb, List, ◌++◌, Option, Some, IsSome, refl, sym, ap, ◌∙◌, subst, arith, below_more, add-one}
 use Rattle.std.specs.Prelude.{unwrap_or}
 use Rattle.std.proofs.lemmas.Bool.{eq-eqb, ne_eqb}
 use Rattle.live_loading.specs.Said.{FileSaid}
@@ -57,7 +57,7 @@ module _ (shelf : Shelf) (said : Answers) (s u t : State) (i : ℕ) (x : FileSai
   pub part_now : (n : ℕ) → IsPart said s n i → i < n → IsPart now s n (suc i)
   part_now n p h = record {
     within = omega arith;
-    steps = below_more (λ k. IsSome (machine_step (now k) (after now s k))) i earlier (subst IsSome (sym made) refl);
+    steps = λ j below. below_more (λ k. IsSome (machine_step (now k) (after now s k))) i earlier (subst IsSome (sym made) refl) j (rw add-one below);
   }
     where
       earlier : (j : ℕ) → j < i → IsSome (machine_step (now j) (after now s j))
@@ -66,7 +66,7 @@ module _ (shelf : Shelf) (said : Answers) (s u t : State) (i : ℕ) (x : FileSai
           (subst (λ y. IsSome (machine_step y (after said s j))) (as_before said i x j below) (p.steps j below))
 
   pub answers_now : AreSaid shelf said s i → IsSaid shelf u x → AreSaid shelf now s (suc i)
-  answers_now told own = below_more (λ k. IsSaid shelf (after now s k) (now k)) i earlier (subst (IsSaid shelf (after now s i)) (sym (said_now said i x)) (subst (λ (v : State). IsSaid shelf v x) (here ∙ still) own))
+  answers_now told own = λ j below. below_more (λ k. IsSaid shelf (after now s k) (now k)) i earlier (subst (IsSaid shelf (after now s i)) (sym (said_now said i x)) (subst (λ (v : State). IsSaid shelf v x) (here ∙ still) own)) j (rw add-one below)
     where
       earlier : (j : ℕ) → j < i → IsSaid shelf (after now s j) (now j)
       earlier j below =

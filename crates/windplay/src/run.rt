@@ -107,16 +107,27 @@ pub fn count_board<F: Folder>(
 {
     let mut bytes = 0;
     for _i in 0..limit {
-        let end = match step(alloc, board, folder, modules) {
-            Move::Made => {
-                bytes += board.output().len() as u128;
-                continue;
+        match step(alloc, board, folder, modules) {
+            Move::Made => bytes += board.output().len() as u128,
+            Move::Quiet => {
+                return Tally {
+                    end: RunEnd::Quiet,
+                    bytes,
+                };
             }
-            Move::Quiet => RunEnd::Quiet,
-            Move::ReadFault => RunEnd::ReadFault,
-            Move::NoMemory => RunEnd::NoMemory,
-        };
-        return Tally { end, bytes };
+            Move::ReadFault => {
+                return Tally {
+                    end: RunEnd::ReadFault,
+                    bytes,
+                };
+            }
+            Move::NoMemory => {
+                return Tally {
+                    end: RunEnd::NoMemory,
+                    bytes,
+                };
+            }
+        }
     }
     Tally {
         end: RunEnd::Limit,

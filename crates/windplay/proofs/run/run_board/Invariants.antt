@@ -13,7 +13,7 @@ invariant-loop-i g l =
     record {
       said : Answers;
       counted : (state l.board).steps ≡ l._i;
-      answers : AreSaid (record { files = g.F.Folder.files l.fn.folder; name = l.modules.now }) said start l._i;
+      answers : AreSaid (record { files = g.F.Folder.files l.fn.folder; name = l.modules }) said start l._i;
       part : IsPart said start l.limit l._i;
       state : state l.board ≡ after said start l._i;
       written : Appended (g.O.Sink.bytes l.fn.out) (g.O.Sink.bytes l.out) (text said start l._i);
