@@ -91,15 +91,21 @@ ends 0 '-> ld < most\nld: most: not ELF at 0\nvalue = 0 = 0x0\n-> ld < more\nld:
 
 # Up to the length of the header the file ends where it is cut; from there on what is missing is told at the field of the
 # section headers' place.
-for cut in 0 1 51 52 100 411; do
-    shows "a module that is cut behind $cut bytes changes nothing"
-    put_caller c.o
-    head -c "$cut" "$work/session/c.o" >"$work/session/cut"
+shows 'a module that is cut behind any of its bytes changes nothing'
+put_caller c.o
+cut=0
+lines=
+written=
+while [ "$cut" -lt 412 ]; do
+    head -c "$cut" "$work/session/c.o" >"$work/session/$cut.o"
     [ "$cut" -lt 52 ] && at=$cut || at=32
-    console 'ld < cut\nmalloc 1\n'
-    plays
-    ends 0 "-> ld < cut\\nld: cut: short file at $at\\nvalue = 0 = 0x0\\n-> malloc 1\\nvalue = 89648 = 0x15e30\\n-> " ''
+    lines="${lines}ld < $cut.o\\n"
+    written="${written}-> ld < $cut.o\\nld: $cut.o: short file at $at\\nvalue = 0 = 0x0\\n"
+    cut=$((cut + 1))
 done
+console "${lines}moduleShow\\n&f\\nld < c.o\\n"
+plays
+ends 0 "${written}-> moduleShow\\nMODULE                   ID       TEXT     DATA     BSS     \\nvalue = 0 = 0x0\\n-> &f\\nundefined symbol: f\\n-> ld < c.o\\nundefined symbol: f\\nvalue = 2 = 0x2\\n-> " ''
 
 shows 'a module that cannot be read ends the run, behind the steps that were made'
 console '1+2\nld < .\n3\n'
