@@ -1,5 +1,5 @@
 -- What is said at one step more.
-use Rattle.std.proofs.Common.{◌≡◌, ℕ, zero, suc, ◌+◌, ◌<◌, true, false, cond, eqb, List, ◌++◌, Option, Some, IsSome, refl, sym, ap, ◌∙◌, subst, arith, below_more, add-one}
+use Rattle.std.proofs.Common.{◌≡◌, ℕ, zero, suc, ◌<◌, cond, eqb, ◌++◌, Some, IsSome, refl, sym, ap, ◌∙◌, subst, arith, below_more, add-one}
 use Rattle.std.specs.Prelude.{unwrap_or}
 use Rattle.std.proofs.lemmas.Bool.{eq-eqb, ne_eqb}
 use Rattle.live_loading.specs.Said.{FileSaid}

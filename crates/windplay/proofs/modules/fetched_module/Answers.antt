@@ -1,4 +1,4 @@
-use Rattle.std.proofs.Common.{◌≡◌, ◌∙◌, true, sym, ap, subst}
+use Rattle.std.proofs.Common.{◌∙◌, true, sym, ap, subst}
 use Rattle.std.specs.Str.{IsUtf8}
 use Rattle.live_loading.specs.Said.{Held, TooLong, Missing}
 use Rattle.windplay.specs.Modules.{IsSaidBy, module_path}

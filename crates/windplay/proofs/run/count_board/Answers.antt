@@ -1,4 +1,4 @@
-use Rattle.std.proofs.Common.{◌≡◌, ◌+◌, ◌∙◌, sym, ap, arith, refl, length}
+use Rattle.std.proofs.Common.{◌+◌, ◌∙◌, ap, arith, refl, length}
 use Rattle.windplay.specs.Modules.{Shelf}
 use Rattle.windplay.proofs.RunLemmas.{nothing_said, none_asked, none_made, carried, said_on, state_on, part_on, answers_on, bytes_on, lacking, unread}
 use Rattle.windplay.proofs.run.count_board.Goals as goal

@@ -1,4 +1,4 @@
-use Rattle.std.proofs.Common.{◌≡◌, ◌+◌, ◌∙◌, sym, ap, arith, refl}
+use Rattle.std.proofs.Common.{◌+◌, ◌∙◌, ap, arith, refl}
 use Rattle.windplay.specs.Modules.{Shelf}
 use Rattle.windplay.proofs.RunLemmas.{nothing_said, none_asked, none_made, carried, cut_off, said_on, state_on, part_on, answers_on, text_on, lacking, unread}
 use Rattle.windplay.proofs.ToldLemmas.{appended_none}
