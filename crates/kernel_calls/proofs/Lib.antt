@@ -33,4 +33,3 @@ pub mod Passing
 pub mod Serving
 pub mod Opened
 pub mod Shows
-mod Benches

@@ -22,8 +22,6 @@ mod spawning;
 mod starting;
 mod symbol_rows;
 mod task_rows;
-#[cfg(test)]
-mod tests;
 mod watch_rows;
 mod world;
 
