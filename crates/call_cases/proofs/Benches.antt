@@ -16,22 +16,22 @@ use Rattle.wind_core.proofs.Unwritten.{map-change}
 use Rattle.isr_watch.specs.declared.watchdog.Watchdog.{Watchdog}
 use Rattle.isr_watch.specs.State.{WatchState, IsWatch}
 use Rattle.isr_watch.specs.Laws.{AllBelow}
-use Rattle.kernel_calls.specs.State.{WorldState}
-use Rattle.kernel_calls.specs.Kept.{KeepsWatch, IsWorld, HasCounts, Within, AreStacks, task_stacks}
-use Rattle.kernel_calls.specs.Objects.{IsFree}
-use Rattle.kernel_calls.specs.Actors.{MayCall}
+use Rattle.kernel_world.specs.State.{WorldState}
+use Rattle.kernel_world.specs.Kept.{KeepsWatch, IsWorld, HasCounts, Within, AreStacks, task_stacks}
+use Rattle.kernel_world.specs.Objects.{IsFree}
+use Rattle.kernel_world.specs.Actors.{MayCall}
 use Rattle.kernel_calls.specs.Calls.{call, is_made}
-use Rattle.kernel_calls.specs.Ending.{ended}
-use Rattle.kernel_calls.specs.Opening.{opening_world, interrupt_stack}
-use Rattle.kernel_calls.specs.declared.actor.Actor.{Actor}
+use Rattle.task_calls.specs.Ending.{ended}
+use Rattle.kernel_world.specs.Opening.{opening_world, interrupt_stack}
+use Rattle.kernel_world.specs.declared.actor.Actor.{Actor}
 use Rattle.kernel_calls.specs.declared.calls.Called.{Called}
 use Rattle.kernel_calls.specs.declared.calls.Called.TheVariants.{Done, Pended, Ended, NeedsFile, NoMemory}
-use Rattle.kernel_calls.proofs.Holding.{loaded_on}
-use Rattle.kernel_calls.proofs.Advancing.{within_more}
+use Rattle.kernel_world.proofs.Holding.{loaded_on}
+use Rattle.kernel_world.proofs.Advancing.{within_more}
 use Rattle.kernel_calls.proofs.Passing.{call_passes}
 use Rattle.kernel_calls.proofs.Departing.{ends}
-use Rattle.kernel_calls.proofs.ObjectMoves.{objects-set_regs}
-use Rattle.kernel_calls.proofs.Opened.{opens}
+use Rattle.kernel_world.proofs.ObjectMoves.{objects-set_regs}
+use Rattle.kernel_world.proofs.Opened.{opens}
 
 -- the kept facts hold, and the counters are as low as n calls from the start leave them
 abbrev pub Used : WorldState → ℕ → Type 0

@@ -2,15 +2,17 @@
 
 ghost use Rattle.std.specs.Prelude.{◌≡◌, ◌≤◌, true, [], IfSome};
 ghost use Rattle.isr_watch.specs.State.{IsWatch};
-ghost use Rattle.kernel_calls.specs.Actors.{Acts, MayCall};
+ghost use Rattle.kernel_world.specs.Actors.{Acts, MayCall};
 
 use id_table::Ident;
 use isr_watch::{Routine, Watch};
-use kernel_calls::{Actor, Called, World, end_task, is_built, kernel_call, starting_regs};
+use kernel_calls::{Called, kernel_call};
+use kernel_world::{Actor, World, is_built, starting_regs};
 use std::alloc::Global;
 use std::marker::Model;
 use symbol_table::Symbol;
 use task_block::Task;
+use task_calls::end_task;
 use wind_base::limits::GATES_START;
 use wind_base::{Gate, Regs};
 use wind_core::Kern;
@@ -36,8 +38,8 @@ pub(crate) struct Bench {
 
 impl Model for Bench {
     ghost use Rattle.std.specs.Prelude.{ℕ, ◌≡◌, ◌≤◌, ◌+◌, ◌*◌, []};
-    ghost use Rattle.kernel_calls.specs.Seen.{world_with};
-    ghost use Rattle.kernel_calls.specs.Kept.{IsWorld, Within};
+    ghost use Rattle.kernel_world.specs.Seen.{world_with};
+    ghost use Rattle.kernel_world.specs.Kept.{IsWorld, Within};
 
     ghost Value = { ℕ };
 

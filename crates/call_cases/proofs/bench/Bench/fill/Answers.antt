@@ -1,7 +1,7 @@
 use Rattle.std.proofs.Common.{[]}
 use Rattle.std.specs.Prelude.{replicate}
 use Rattle.std.proofs.lemmas.List.{length-replicate}
-use Rattle.kernel_calls.specs.Seen.{world_with}
+use Rattle.kernel_world.specs.Seen.{world_with}
 use Rattle.call_cases.proofs.Benches.{used_bytes}
 use Rattle.call_cases.proofs.bench.Bench.fill.Goals as goal
 

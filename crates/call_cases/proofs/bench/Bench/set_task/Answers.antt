@@ -1,6 +1,6 @@
 use Rattle.std.proofs.Common.{[]}
-use Rattle.kernel_calls.specs.Seen.{world_with}
-use Rattle.kernel_calls.proofs.Living.{ready_free}
+use Rattle.kernel_world.specs.Seen.{world_with}
+use Rattle.kernel_world.proofs.Living.{ready_free}
 use Rattle.call_cases.proofs.Benches.{used_regs}
 use Rattle.call_cases.proofs.bench.Bench.set_task.Goals as goal
 

@@ -1,5 +1,5 @@
 use Rattle.std.proofs.Common.{[], length, refl}
-use Rattle.kernel_calls.specs.Seen.{world_with}
+use Rattle.kernel_world.specs.Seen.{world_with}
 use Rattle.call_cases.proofs.Benches.{used_bytes}
 use Rattle.call_cases.proofs.bench.Bench.write.Goals as goal
 
