@@ -12,7 +12,7 @@ use Rattle.wind_lists.proofs.Records.{found_id, found_at, found_in}
 use Rattle.wind_lists.proofs.Orders.{first_least}
 use Rattle.wind_lists.proofs.Passing.{contains_filter, front_found, front_passes, none_passes}
 use Rattle.wind_core.specs.State.{KernState, IsKern, task_id, task_of}
-use Rattle.wind_core.specs.Orders.{is_less, urgency, arrival, wait_key, is_before, waiters, keeps_running, keeper, last_task, or_else, most_urgent}
+use Rattle.wind_core.specs.Orders.{urgency, arrival, wait_key, is_before, waiters, keeps_running, keeper, last_task, or_else, most_urgent}
 use Rattle.wind_core.specs.Moves.{end_wait, end_waits}
 use Rattle.wind_core.specs.Laws.{WakeAllLaw, WaitersLaw, MayRun, RunnerLaw, LockLaw, IdleLaw}
 use Rattle.wind_core.proofs.Passes.{neither, is_before-order, waits_before-order, arrives_before-order}

@@ -1,7 +1,6 @@
 -- The queues after one task is written: each tells its tasks again, mended or as it was.
-use Rattle.std.proofs.Common.{◌≡◌, ℕ, ◌+◌, ◌<◌, Bool, true, false, not, cond, leb, List, [], ◌∷◌, length, Option, None, Some, IfSome, is_some, inl, inr, refl, sym, ap, ◌∙◌, subst, arith}
+use Rattle.std.proofs.Common.{◌≡◌, ℕ, ◌+◌, ◌<◌, Bool, true, false, not, cond, leb, [], ◌∷◌, length, Option, None, Some, IfSome, is_some, inl, inr, refl, sym, ap, ◌∙◌, subst, arith}
 use Rattle.std.specs.Prelude.{is_none, ◌&&◌, unwrap_or}
-use Rattle.std.specs.List.{All}
 use Rattle.std.specs.Option.{option_map}
 use Rattle.std.proofs.lemmas.Bool.{and_parts}
 use Rattle.std.proofs.lemmas.List.Elements.{All-weaker}
@@ -18,9 +17,9 @@ use Rattle.wait_order.proofs.Turns.{line_alike}
 use Rattle.ready_queue.specs.Order as urgent
 use Rattle.delay_queue.specs.Wakes as timed
 use Rattle.wind_core.specs.State.{KernState, WakesAhead, task_id}
-use Rattle.wind_core.specs.Orders.{first_waiter, sleeps, waking_tick}
+use Rattle.wind_core.specs.Orders.{first_waiter, sleeps}
 use Rattle.wind_core.specs.Waiting.{waiter_at, as_waiter, waits_of, task_waits, mended}
-use Rattle.wind_core.specs.Queues.{as_ready, ready_of, ready_tasks, delayed_of, delayed_tasks, ready_mended, delays_mended, AreQueued}
+use Rattle.wind_core.specs.Queues.{as_ready, ready_of, ready_tasks, delayed_of, delayed_tasks, ready_mended, delays_mended}
 use Rattle.wind_core.specs.Moves.{renewed, settled, suspended}
 use Rattle.wind_core.specs.Tick.{turn_task}
 use Rattle.wind_core.specs.declared.kern.Kern.TheInside.{Inside}

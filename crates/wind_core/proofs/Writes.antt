@@ -1,5 +1,5 @@
 -- One task is written in the kernel's table: what the state becomes, and that the kept facts hold where the queues are told.
-use Rattle.std.proofs.Common.{◌≡◌, ℕ, ◌+◌, ◌<◌, true, false, ◌||◌, cond, eqb, List, length, Option, None, Some, IsSome, IfSome, refl, sym, ap, ◌∙◌, subst, arith, ◌⊎◌, inl, inr, ⊎_elim}
+use Rattle.std.proofs.Common.{◌≡◌, ℕ, ◌+◌, ◌<◌, true, false, ◌||◌, cond, eqb, List, None, Some, IsSome, IfSome, refl, sym, ap, ◌∙◌, subst, arith, ◌⊎◌, inl, inr, ⊎_elim}
 use Rattle.std.proofs.lemmas.Bool.{eqb-false}
 use Rattle.std.proofs.lemmas.List.{length-map}
 use Rattle.std.proofs.lemmas.List.Elements.{All-contains, All-weaker}
@@ -8,7 +8,7 @@ use Rattle.id_table.specs.Rows.{object_of, objects, rewritten}
 use Rattle.id_table.proofs.Owning.{object-record, objects-replace, OwnIds-write}
 use Rattle.task_block.specs.declared.task.Task.{Task}
 use Rattle.task_block.specs.Standing.{is_ready}
-use Rattle.wind_lists.specs.Records.{replace, change, without}
+use Rattle.wind_lists.specs.Records.{replace, change}
 use Rattle.wait_order.specs.Line.{Line}
 use Rattle.ready_queue.specs.Order as urgent
 use Rattle.delay_queue.specs.Wakes as timed

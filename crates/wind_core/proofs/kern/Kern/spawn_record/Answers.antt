@@ -1,5 +1,4 @@
-use Rattle.std.proofs.Common.{arith, ◌∙◌, ap}
-use Rattle.ready_queue.specs.Order as urgent
+use Rattle.std.proofs.Common.{arith}
 use Rattle.wind_core.proofs.Comings.{ids_below, spawned_keeps, new_ready, ready_room}
 use Rattle.wind_core.proofs.kern.Kern.spawn_record.Goals as goal
 
