@@ -2,7 +2,7 @@ use Rattle.std.proofs.Common.{sym, subst}
 use Rattle.inheritance.specs.Mutexes.{both}
 use Rattle.sem_mutex.specs.Kept.{KeepsMutexes}
 use Rattle.sem_mutex.proofs.Lawful.{beside_law}
-use Rattle.sem_mutex.proofs.tests.spawn.Goals as goal
+use Rattle.mutex_cases.proofs.bench.spawn.Goals as goal
 
 pub returns-in-Ok-clause-kept : goal.returns-in-Ok-clause-kept
 returns-in-Ok-clause-kept c =
