@@ -173,6 +173,54 @@ lasts() {
     tell
 }
 
+# Writes the line of a value.
+value() {
+    printf 'value = %d = 0x%x' "$1" "$(($1 & 0xffffffff))"
+    if [ "$1" -ge 32 ] && [ "$1" -le 126 ]; then
+        printf " = '%b'" "\\0$(printf '%o' "$1")"
+    fi
+    printf '\n'
+}
+
+# Writes what a row says that a line comes to.
+outcome() {
+    left=$1
+    while [ -n "$left" ]; do
+        part=${left%%' | '*}
+        case $left in
+        *' | '*) left=${left#*' | '} ;;
+        *) left= ;;
+        esac
+        case $part in
+        nothing) ;;
+        *[!-0-9]*) printf '%s\n' "$part" ;;
+        *) value "$part" ;;
+        esac
+    done
+}
+
+# Plays a console whose lines are those of a table, without words. The case ends quiet, and each line comes to what its row
+# says.
+rows() {
+    : >"$work/session/console.txt"
+    printf '%s' '-> ' >"$work/expected"
+    while IFS= read -r row; do
+        line=${row%%' => '*}
+        printf '%s\n' "$line" >>"$work/session/console.txt"
+        {
+            printf '%s\n' "$line"
+            outcome "${row#*' => '}"
+            printf '%s' '-> '
+        } >>"$work/expected"
+    done
+    difference=
+    plays
+    [ "$status" = 0 ] || differs "status $status, not 0"
+    place=$(cd "$work" && cmp expected stdout 2>&1) || differs "$place"
+    compare stderr ''
+    tell
+}
+
 # The case is a refusal of its words: this is the first line on standard error, the last one leads to the help.
 refuses() {
     difference=

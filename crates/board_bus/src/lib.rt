@@ -4,7 +4,5 @@
 mod access;
 mod bus;
 mod slots;
-#[cfg(test)]
-mod tests;
 
 pub use bus::BoardBus;

@@ -13,13 +13,14 @@ use Rattle.tick_file.specs.Schedule.{Timed}
 use Rattle.tick_file.specs.declared.event.Event.{Event}
 use Rattle.wind_core.specs.State.{task_id}
 use Rattle.wind_core.specs.Orders.{running}
-use Rattle.kernel_calls.specs.State.{WorldState}
-use Rattle.kernel_calls.specs.Actors.{shell_id, is_shell, regs_of, caller_regs}
-use Rattle.kernel_calls.specs.Calls.{file_name, file_wanted, may_lack_memory as call_may_lack_memory}
-use Rattle.kernel_calls.specs.Objects.{IsReady}
-use Rattle.kernel_calls.specs.Starting.{no_regs}
-use Rattle.kernel_calls.specs.declared.actor.Actor.{Actor}
-use Rattle.kernel_calls.specs.declared.actor.Actor.TheVariants.{Task as by_task, Interrupt}
+use Rattle.kernel_world.specs.State.{WorldState}
+use Rattle.kernel_world.specs.Actors.{shell_id, is_shell, regs_of, caller_regs}
+use Rattle.kernel_calls.specs.Calls.{file_name, file_wanted}
+use Rattle.kernel_world.specs.Allowed.{may_lack_memory as call_may_lack_memory}
+use Rattle.kernel_world.specs.Objects.{IsReady}
+use Rattle.kernel_world.specs.Starting.{no_regs}
+use Rattle.kernel_world.specs.declared.actor.Actor.{Actor}
+use Rattle.kernel_world.specs.declared.actor.Actor.TheVariants.{Task as by_task, Interrupt}
 use Rattle.live_loading.specs.Loading.{shell}
 use Rattle.wind_machine.specs.State.{State}
 use Rattle.wind_machine.specs.Good.{Good}

@@ -12,8 +12,8 @@ use Rattle.ppc_core.specs.declared.trap.Trap.{Trap}
 use Rattle.board_bus.specs.BusState.{BusState}
 use Rattle.board_bus.specs.Access.{board_meaning}
 use Rattle.isr_watch.specs.Calls.{with_level}
-use Rattle.kernel_calls.specs.State.{WorldState}
-use Rattle.kernel_calls.specs.Starting.{no_regs}
+use Rattle.kernel_world.specs.State.{WorldState}
+use Rattle.kernel_world.specs.Starting.{no_regs}
 use Rattle.wind_machine.specs.Part.{with_kern}
 use Rattle.wind_machine.specs.Processor.{bus_of, with_bus, regs_of}
 use Rattle.wind_machine.proofs.Reserving.{own_regs}

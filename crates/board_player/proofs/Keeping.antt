@@ -7,8 +7,8 @@ use Rattle.tick_file.specs.Schedule.{Timed, Timetable, at}
 use Rattle.tick_file.specs.declared.event.Event.{Event}
 use Rattle.tick_file.specs.Laws.{IsEarly}
 use Rattle.con_line.specs.State.{ConsoleState, opening_console}
-use Rattle.kernel_calls.specs.State.{WorldState}
-use Rattle.kernel_calls.specs.Opening.{opening_world}
+use Rattle.kernel_world.specs.State.{WorldState}
+use Rattle.kernel_world.specs.Opening.{opening_world}
 use Rattle.wind_machine.specs.State.{ShellState, State}
 use Rattle.wind_machine.specs.Shell.{at_prompt}
 use Rattle.wind_machine.specs.Good.{Good}

@@ -11,9 +11,9 @@ use Rattle.wind_lists.proofs.Records.{found_id}
 use Rattle.wind_core.specs.State.{KernState, IsKern, Lives, task_id, task_of}
 use Rattle.wind_core.specs.Moves.{unreserved, unreserve, set_regs}
 use Rattle.wind_lists.proofs.Places.{not_there}
-use Rattle.kernel_calls.specs.State.{WorldState}
-use Rattle.kernel_calls.specs.Starting.{no_regs}
-use Rattle.kernel_calls.specs.Kept.{IsWorld, IsEarly, ReservedBy, HasCounts, Within}
+use Rattle.kernel_world.specs.State.{WorldState}
+use Rattle.kernel_world.specs.Starting.{no_regs}
+use Rattle.kernel_world.specs.Kept.{IsWorld, IsEarly, ReservedBy, HasCounts, Within}
 use Rattle.wind_machine.specs.State.{State}
 use Rattle.wind_machine.specs.Good.{Good}
 use Rattle.wind_machine.specs.Machine.{at_turn, cleared, unreserved_world}

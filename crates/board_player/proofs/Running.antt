@@ -7,7 +7,7 @@ use Rattle.tick_file.specs.Schedule.{Timed}
 use Rattle.wind_base.specs.declared.NoMemory.{NoMemory}
 use Rattle.wind_core.specs.State.{KernState, IsKern, task_id}
 use Rattle.wind_core.specs.Orders.{running}
-use Rattle.kernel_calls.specs.Objects.{IsReady}
+use Rattle.kernel_world.specs.Objects.{IsReady}
 use Rattle.con_line.specs.Lines.{has_line}
 use Rattle.wind_machine.specs.State.{State}
 use Rattle.wind_machine.specs.Task.{waits_for_console}

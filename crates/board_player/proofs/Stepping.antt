@@ -4,7 +4,7 @@ use Rattle.wind_base.specs.Limits.{gates_start}
 use Rattle.wind_base.specs.Gates.{gate_at}
 use Rattle.wind_base.specs.declared.gate.Gate.{Gate}
 use Rattle.board_bus.specs.Access.{fetched}
-use Rattle.kernel_calls.specs.State.{WorldState}
+use Rattle.kernel_world.specs.State.{WorldState}
 use Rattle.wind_machine.specs.State.{ShellState, State}
 use Rattle.wind_machine.specs.Part.{part_of}
 use Rattle.wind_machine.specs.Machine.{at_turn, stepped, task_step}

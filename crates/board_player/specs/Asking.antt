@@ -1,7 +1,7 @@
 -- Whether a step asks for a file, and what a board answers then.
 use Rattle.std.specs.Prelude.{ℕ, List, Bool, false, Option, None, Some}
-use Rattle.kernel_calls.specs.Actors.{is_shell}
-use Rattle.kernel_calls.specs.declared.actor.Actor.{Actor}
+use Rattle.kernel_world.specs.Actors.{is_shell}
+use Rattle.kernel_world.specs.declared.actor.Actor.{Actor}
 use Rattle.board_player.specs.declared.Step.{Step}
 use Rattle.board_player.specs.declared.Step.TheVariants as steps
 

@@ -4,7 +4,7 @@ use Rattle.wind_core.specs.Moves.{set_regs}
 use Rattle.ppc_core.specs.Outcomes.{Outcome, Done, Trapped}
 use Rattle.ppc_core.specs.declared.trap.Trap.{Trap}
 use Rattle.board_bus.specs.BusState.{BusState}
-use Rattle.kernel_calls.specs.State.{WorldState}
+use Rattle.kernel_world.specs.State.{WorldState}
 use Rattle.wind_machine.specs.Part.{with_kern}
 use Rattle.isr_watch.specs.Calls.{with_level}
 use Rattle.wind_machine.specs.Processor.{with_bus}

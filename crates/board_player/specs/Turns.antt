@@ -4,9 +4,9 @@ use Rattle.wind_base.specs.declared.regs.Regs.{Regs}
 use Rattle.task_block.specs.declared.task.Task.{Task}
 use Rattle.wind_core.specs.State.{KernState, Lives, task_of}
 use Rattle.wind_core.specs.Moves.{set_regs, unreserve}
-use Rattle.kernel_calls.specs.Objects.{IsReady}
-use Rattle.kernel_calls.specs.State.{WorldState}
-use Rattle.kernel_calls.specs.Kept.{IsWorld, IsEarly}
+use Rattle.kernel_world.specs.Objects.{IsReady}
+use Rattle.kernel_world.specs.State.{WorldState}
+use Rattle.kernel_world.specs.Kept.{IsWorld, IsEarly}
 use Rattle.wind_machine.specs.Processor.{regs_of}
 
 -- the task that ran last, where it still lives

@@ -15,7 +15,7 @@ use crate::order::{Made, Running, is_early, make_step};
 use crate::parts::Parts;
 use crate::shell::Shell;
 use con_line::Console;
-use kernel_calls::World;
+use kernel_world::World;
 use live_loading::FileAnswer;
 use std::alloc::Global;
 use tick_file::Schedule;

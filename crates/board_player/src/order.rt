@@ -5,7 +5,7 @@ ghost use Rattle.wind_base.specs.Limits.{most_steps};
 ghost use Rattle.tick_file.specs.Laws.{IsEarly};
 ghost use Rattle.wind_core.specs.State.{Lives, task_id};
 ghost use Rattle.wind_core.specs.Orders.{running as running_lem};
-ghost use Rattle.kernel_calls.specs.Objects.{IsReady};
+ghost use Rattle.kernel_world.specs.Objects.{IsReady};
 ghost use Rattle.wind_machine.specs.Good.{Good};
 ghost use Rattle.wind_machine.specs.Processor.{gate_under};
 ghost use Rattle.wind_machine.specs.Machine.{due_event as due_event_lem, event_of, console_is_due as console_is_due_lem, is_open as is_open_lem, is_active as is_active_lem, holds_back, next_event, shell_step, step_of, jump_to, plain_step, phase_may, gate_may, who_may, may_lack_memory};

@@ -4,7 +4,7 @@ use crate::clock::Clock;
 use crate::feed::Feed;
 use crate::shell::Shell;
 use con_line::Console;
-use kernel_calls::World;
+use kernel_world::World;
 use std::alloc::Global;
 use tick_file::Schedule;
 use wind_base::OutBuf;

@@ -12,7 +12,7 @@ ghost use Rattle.shell_eval.specs.Seen.{kept_free};
 ghost use Rattle.shell_eval.specs.Moved.{came};
 ghost use Rattle.shell_eval.specs.Ran.{is_call};
 ghost use Rattle.shell_eval.specs.Inside.{room_of};
-ghost use Rattle.kernel_calls.specs.Seen.{world_seen};
+ghost use Rattle.kernel_world.specs.Seen.{world_seen};
 ghost use Rattle.board_player.specs.ShellInside.{trees_of, holes_of, IsBlank};
 ghost use Rattle.kernel_calls.specs.Space.{HoldsSpace};
 ghost use Rattle.wind_machine.specs.Part.{part_of};
@@ -21,7 +21,7 @@ ghost use Rattle.wind_machine.specs.Shell.{at_prompt, prompted, is_nothing as is
 
 use crate::task::begin_call;
 use crate::text::{add_fault, add_syntax, add_value};
-use kernel_calls::World;
+use kernel_world::World;
 use shell_eval::{Env, Eval, Went, evaluation_law};
 use shell_parse::{ParseErr, Stmt, parse};
 use std::alloc::Global;

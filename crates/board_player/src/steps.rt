@@ -4,10 +4,10 @@ ghost use Rattle.std.specs.Prelude.{◌≡◌, ◌+◌, ◌^◌, ◌<◌, ◌≤
 ghost use Rattle.wind_base.specs.Limits.{most_steps, longest_line, longest_chunk, gates_start};
 ghost use Rattle.con_line.specs.Lines.{front_line};
 ghost use Rattle.wind_core.specs.State.{Lives};
-ghost use Rattle.kernel_calls.specs.Objects.{IsReady};
+ghost use Rattle.kernel_world.specs.Objects.{IsReady};
 ghost use Rattle.wind_machine.specs.Good.{Good};
 ghost use Rattle.wind_base.specs.Gates.{gate_at};
-ghost use Rattle.kernel_calls.specs.Calls.{may_lack_memory};
+ghost use Rattle.kernel_world.specs.Allowed.{may_lack_memory};
 ghost use Rattle.wind_machine.specs.Processor.{gate_under, regs_of};
 ghost use Rattle.wind_machine.specs.Machine.{prompt_step, read_step, eval_step, task_step, is_active, arrival, gate_may, ticked, received};
 ghost use Rattle.wind_machine.specs.declared.phase.Phase.TheVariants as phases;

@@ -4,13 +4,13 @@ ghost use Rattle.std.specs.Prelude.{◌≡◌, ◌+◌, ◌^◌, ◌<◌};
 ghost use Rattle.wind_base.specs.Limits.{ram_bytes};
 ghost use Rattle.wind_core.specs.State.{Lives};
 ghost use Rattle.wind_core.specs.Orders.{waits_at};
-ghost use Rattle.kernel_calls.specs.Seen.{world_seen};
+ghost use Rattle.kernel_world.specs.Seen.{world_seen};
 ghost use Rattle.wind_machine.specs.Shell.{calling};
 ghost use Rattle.wind_machine.specs.Task.{console_place, waits_for_console as waits_for_console_lem, is_held as is_held_lem, shell_task, listening, let_go as let_go_lem, aborted, stack_pointer, return_address as return_address_lem};
 
 use id_table::sides::CONSOLE;
 use id_table::{Ident, Place};
-use kernel_calls::{World, put_frame, starting_regs};
+use kernel_world::{World, put_frame, starting_regs};
 use task_block::Task;
 use wind_base::Gate;
 use wind_base::limits::{FRAME_BYTES, GATES_START, POOL_START, SHELL_STACK_BYTES};

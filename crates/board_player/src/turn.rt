@@ -1,14 +1,14 @@
 //! How the step of a task begins, and how it is given back where it lacks memory.
 
 ghost use Rattle.std.specs.Prelude.{◌≡◌, ◌+◌, [], Some, length};
-ghost use Rattle.kernel_calls.specs.Kept.{ReservedBy, IsWorld, IsEarly};
-ghost use Rattle.kernel_calls.specs.Seen.{world_seen, world_with};
+ghost use Rattle.kernel_world.specs.Kept.{ReservedBy, IsWorld, IsEarly};
+ghost use Rattle.kernel_world.specs.Seen.{world_seen, world_with};
 ghost use Rattle.wind_machine.specs.Machine.{at_turn, cleared, unreserved_world};
 ghost use Rattle.board_player.specs.Turns.{kept_of as kept_of_lem, put_back as put_back_lem, restored, Readies, IsReadied};
 
 use crate::reserving::{drop_all, drop_others, other_holder};
 use id_table::Ident;
-use kernel_calls::World;
+use kernel_world::World;
 use std::mem::swap;
 use wind_base::{OutBuf, Regs};
 use wind_core::Kern;

@@ -5,8 +5,6 @@ mod console;
 mod finished;
 mod key;
 mod laws;
-#[cfg(test)]
-mod tests;
 
 pub use console::{ByteDone, Console, LINE_ROOM};
 pub use laws::{kept_law, lines_law};

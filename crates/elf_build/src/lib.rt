@@ -9,8 +9,6 @@ mod laws;
 mod lengths;
 mod put;
 mod tables;
-#[cfg(test)]
-mod tests;
 
 pub use building::build;
 pub use judging::is_buildable;

@@ -9,8 +9,6 @@ mod front_rules;
 mod items;
 mod laws;
 mod module;
-#[cfg(test)]
-mod object;
 mod places;
 mod reading;
 mod relocation_rules;
@@ -18,8 +16,6 @@ mod section_rules;
 pub mod standard;
 mod symbol_rules;
 mod tables;
-#[cfg(test)]
-mod tests;
 
 pub use checking::check;
 pub use entries::{RelaEntry, SectionHeader, SymbolEntry};

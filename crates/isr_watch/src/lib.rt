@@ -3,8 +3,6 @@
 
 mod laws;
 mod listing;
-#[cfg(test)]
-mod tests;
 mod watch;
 mod watchdog;
 

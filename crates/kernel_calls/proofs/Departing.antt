@@ -13,18 +13,18 @@ use Rattle.wind_lists.specs.Records.{without}
 use Rattle.wind_core.specs.State.{KernState, Lives, task_id, task_of}
 use Rattle.wind_core.specs.Moves.{remove}
 use Rattle.wind_core.proofs.Ids.{lives_by}
-use Rattle.kernel_calls.specs.State.{WorldState}
-use Rattle.kernel_calls.specs.Objects.{KeepsObjects, DepthsWithin}
-use Rattle.kernel_calls.specs.Ending.{without_stack, unguarded}
-use Rattle.kernel_calls.specs.Opening.{interrupt_stack}
-use Rattle.kernel_calls.specs.Kept.{KeepsPool, IsKernels, AreStacks, KeepsLoaded, task_stacks, IsWorld, Within, ReservedBy}
+use Rattle.kernel_world.specs.State.{WorldState}
+use Rattle.kernel_world.specs.Objects.{KeepsObjects, DepthsWithin}
+use Rattle.task_calls.specs.Ending.{without_stack, unguarded}
+use Rattle.kernel_world.specs.Opening.{interrupt_stack}
+use Rattle.kernel_world.specs.Kept.{KeepsPool, IsKernels, AreStacks, KeepsLoaded, task_stacks, IsWorld, Within, ReservedBy}
 use Rattle.kernel_calls.specs.Laws.{EndLaw}
-use Rattle.kernel_calls.proofs.Advancing.{watch_on}
-use Rattle.kernel_calls.proofs.SafetyGoes.{Leaves, ended_leaves}
-use Rattle.kernel_calls.proofs.Stacks.{pool-free, kernels-other}
-use Rattle.kernel_calls.proofs.Taking.{stacks}
-use Rattle.kernel_calls.proofs.Deleting.{objects-ended}
-use Rattle.kernel_calls.proofs.Holding.{IsNoModules, loaded_on}
+use Rattle.kernel_world.proofs.Advancing.{watch_on}
+use Rattle.task_calls.proofs.SafetyGoes.{Leaves, ended_leaves}
+use Rattle.kernel_world.proofs.Stacks.{pool-free, kernels-other}
+use Rattle.task_calls.proofs.Taking.{stacks}
+use Rattle.task_calls.proofs.Deleting.{objects-ended}
+use Rattle.kernel_world.proofs.Holding.{IsNoModules, loaded_on}
 
 -- what holds of each stack holds of fewer
 fewer : (P : ℕ → Type 0) (ts : List Task) (who : ℕ) → All P (stacks ts) → All P (stacks (without task_id ts who))

@@ -7,52 +7,68 @@ use Rattle.wind_base.specs.declared.gate.Gate.{Gate}
 use Rattle.wind_base.specs.declared.gate.Gate.TheVariants as gates
 use Rattle.wind_base.specs.declared.errno.Errno.{Errno}
 use Rattle.id_table.specs.Rows.{object_of}
+use Rattle.wind_base.specs.declared.errno.Errno.TheVariants as errors
+use Rattle.task_block.specs.declared.task.Task.{Task as TaskRecord}
+use Rattle.board_mem.specs.Memory.{has, with_word}
+use Rattle.board_mem.proofs.Sizes.{length-with_number}
 use Rattle.task_block.specs.Standing.{is_ready}
 use Rattle.board_mem.specs.Memory.{string_at}
 use Rattle.wind_core.specs.State.{task_of}
 use Rattle.wind_core.specs.Moves.{live_id, past_gate}
 use Rattle.wind_core.proofs.Unwritten.{task_of-change}
 use Rattle.task_safety.specs.Safety.{safe_of}
-use Rattle.kernel_calls.specs.State.{WorldState}
-use Rattle.kernel_calls.specs.Objects.{KeepsObjects, DepthsWithin}
-use Rattle.kernel_calls.specs.Actors.{Acts, MayCall, caller_words}
-use Rattle.kernel_calls.specs.TaskRows.{KernRow, target}
-use Rattle.kernel_calls.specs.SafetyRows.{delete_row}
-use Rattle.kernel_calls.specs.SemRows.{ObjectRow, is_mutex}
-use Rattle.kernel_calls.specs.QueueRows.{QueueRow, sending}
-use Rattle.kernel_calls.specs.WatchRows.{WatchRow, routine_of}
+use Rattle.kernel_world.specs.State.{WorldState}
+use Rattle.kernel_world.specs.Objects.{KeepsObjects, DepthsWithin}
+use Rattle.kernel_world.specs.Actors.{Acts, MayCall, caller_words, target}
+use Rattle.task_calls.specs.TaskRows.{KernRow}
+use Rattle.task_calls.specs.SafetyRows.{delete_row}
+use Rattle.object_calls.specs.SemRows.{ObjectRow, is_mutex}
+use Rattle.object_calls.specs.QueueRows.{QueueRow, sending}
+use Rattle.object_calls.specs.WatchRows.{WatchRow, routine_of}
 use Rattle.kernel_calls.specs.ShowRows.{ShowRow}
-use Rattle.kernel_calls.specs.Spawning.{spawned_if, task_wanted, quick_wanted, quick_text}
-use Rattle.kernel_calls.specs.Calls.{with_reply, of_kern, of_objects, scene_of, of_queues, of_watch, of_text, of_deletion, after_spawn, spawn_state, task_at, with_errno, row, left_gate, with_answer, refusal_word, replied, refusal_before, row_unless, made, call, past_gate as level_past, in_r3}
-use Rattle.kernel_calls.specs.Kept.{IsWorld, Within}
-use Rattle.kernel_calls.specs.Laws.{CallLaw, call_sinces}
-use Rattle.kernel_calls.specs.declared.actor.Actor.{Actor}
-use Rattle.kernel_calls.specs.declared.actor.Actor.TheVariants.{Task, Interrupt}
-use Rattle.kernel_calls.specs.declared.reply.Reply.{Reply}
-use Rattle.kernel_calls.specs.declared.reply.Reply.TheVariants.{Answer, Refusal, Later, Gone}
-use Rattle.kernel_calls.proofs.Goes.{Goes, goes-leave_gate, goes-answer}
-use Rattle.kernel_calls.proofs.TaskMoves.{suspend_goes, resume_goes, delay_goes, lock_goes, unlock_goes, self_goes, verify_goes, name_goes, slice_goes, int_lock_goes, int_unlock_goes, int_context_goes, safe_goes, unsafe_goes}
-use Rattle.kernel_calls.proofs.ObjectMoves.{objects-leave_gate, objects-answer}
-use Rattle.kernel_calls.proofs.KernRows.{objects-suspend_row, objects-resume_row, objects-delay_row, objects-lock_row, objects-unlock_row, objects-self_row, objects-verify_row, objects-name_row, objects-slice_row, objects-int_lock_row, objects-int_unlock_row, objects-int_context_row}
-use Rattle.kernel_calls.proofs.Advancing.{Advances, advances_on, advances_more, beside, at_routine, stays, nowhere, by_kern, of_tasks, of_both, of_scene, of_list, align_advances, free_advances, symbol_few, told_advances, errno_advances, spawn_advances}
-use Rattle.kernel_calls.proofs.QueueKept.{keeps-create_row, keeps-send_row, keeps-receive_row, keeps-delete_row as keeps-queue_delete_row}
-use Rattle.kernel_calls.proofs.QueueCalls.{is_caller}
-use Rattle.kernel_calls.proofs.QueueGoes.{IsNear, near_itself, create_near, send_near, receive_row_near, delete_near}
-use Rattle.kernel_calls.proofs.WatchGoes.{create_advances, start_advances, cancel_advances, delete_advances}
-use Rattle.kernel_calls.proofs.Living.{ready_free}
+use Rattle.task_calls.specs.Spawning.{spawned_if, task_wanted, quick_wanted, quick_text, after_spawn, spawn_state}
+use Rattle.kernel_calls.specs.Calls.{priority_in, with_reply, of_kern, of_objects, scene_of, of_queues, of_watch, of_text, of_deletion, task_at, row, refusal_before, row_unless, made, call}
+use Rattle.kernel_world.specs.Replies.{with_errno, left_gate, with_answer, replied, past_gate as level_past, in_r3}
+use Rattle.kernel_world.specs.Allowed.{refusal_word}
+use Rattle.kernel_world.specs.Kept.{IsWorld, Within, call_sinces}
+use Rattle.kernel_calls.specs.Laws.{CallLaw}
+use Rattle.kernel_world.specs.declared.actor.Actor.{Actor}
+use Rattle.kernel_world.specs.declared.actor.Actor.TheVariants.{Task, Interrupt}
+use Rattle.kernel_world.specs.declared.reply.Reply.{Reply}
+use Rattle.kernel_world.specs.declared.reply.Reply.TheVariants.{Answer, Refusal, Later, Gone}
+use Rattle.kernel_world.proofs.Goes.{Goes}
+use Rattle.task_calls.proofs.TaskMoves.{suspend_goes, resume_goes, delay_goes, lock_goes, unlock_goes, self_goes, verify_goes, name_goes, slice_goes, int_lock_goes, int_unlock_goes, int_context_goes, safe_goes, unsafe_goes}
+use Rattle.kernel_world.proofs.Replying.{safe_left, may_left, left_advances, replied_advances}
+use Rattle.task_calls.proofs.KernRows.{objects-suspend_row, objects-resume_row, objects-delay_row, objects-lock_row, objects-unlock_row, objects-self_row, objects-verify_row, objects-name_row, objects-slice_row, objects-int_lock_row, objects-int_unlock_row, objects-int_context_row}
+use Rattle.kernel_world.proofs.Advancing.{Advances, advances_on, advances_more, beside, at_routine, stays, nowhere, by_kern, of_tasks, of_both, of_scene, of_list, of_memory, errno_advances}
+use Rattle.task_calls.proofs.RowMoves.{align_advances, free_advances, symbol_few, spawn_advances}
+use Rattle.object_calls.proofs.QueueKept.{keeps-create_row, keeps-send_row, keeps-receive_row, keeps-delete_row as keeps-queue_delete_row}
+use Rattle.object_calls.proofs.QueueCalls.{is_caller}
+use Rattle.object_calls.proofs.QueueGoes.{IsNear, near_itself, create_near, send_near, receive_row_near, delete_near}
+use Rattle.object_calls.proofs.WatchGoes.{create_advances, start_advances, cancel_advances, delete_advances}
 use Rattle.kernel_calls.proofs.Unloading.{unload_advances}
 use Rattle.kernel_calls.proofs.Serves.{Serves, served, acts_on, passes_behind, passes_before}
-use Rattle.kernel_calls.proofs.Callers.{mutex_callers, queue_callers}
+use Rattle.object_calls.proofs.Callers.{mutex_callers, queue_callers}
 use Rattle.kernel_calls.proofs.Deletions.{delete_serves}
-use Rattle.kernel_calls.proofs.Deleting.{objects-safe_row, objects-unsafe_row}
-use Rattle.kernel_calls.proofs.ObjectRows.{keeps-binary_row, keeps-counting_row, keeps-mutex_row, keeps-take_row, keeps-give_row, keeps-flush_row, keeps-delete_row, keeps-priority_row}
-use Rattle.kernel_calls.proofs.SemGoes.{binary_goes, counting_goes, mutex_goes, take_goes, give_goes, flush_goes, delete_goes, priority_goes}
-use Rattle.kernel_calls.proofs.Depths.{binary_depths, counting_depths, mutex_depths, take_depths, give_depths, flush_depths, delete_depths, priority_depths}
+use Rattle.task_calls.proofs.Deleting.{objects-safe_row, objects-unsafe_row}
+use Rattle.object_calls.proofs.ObjectRows.{keeps-binary_row, keeps-counting_row, keeps-mutex_row, keeps-take_row, keeps-give_row, keeps-flush_row, keeps-delete_row, keeps-priority_row}
+use Rattle.object_calls.proofs.SemGoes.{binary_goes, counting_goes, mutex_goes, take_goes, give_goes, flush_goes, delete_goes, priority_goes}
+use Rattle.object_calls.proofs.Depths.{binary_depths, counting_depths, mutex_depths, take_depths, give_depths, flush_depths, delete_depths, priority_depths}
 
 -- a deletion by whoever calls
 delete_row_serves : (w : WorldState) (kept : IsWorld w) (n : ℕ) (within : Within n w) (a : Actor) (id : ℕ) → MayCall w.kern a → Serves w a (of_deletion w (delete_row w.kern w.part a id)) (n + 1)
 delete_row_serves w kept n within (Task who) id may = delete_serves w kept n within who id may
 delete_row_serves w kept n within Interrupt id may = served w Interrupt (of_deletion w (delete_row w.kern w.part Interrupt id)) (n + 1) (nowhere w kept n within)
+
+-- a priority that is told
+module _ (w : WorldState) (kept : IsWorld w) (n : ℕ) (within : Within n w) where
+  told_advances : (at : ℕ) (o : Option TaskRecord) → Advances w (priority_in w at o).world (n + 1) call_sinces 1
+  told_advances at None = nowhere w kept n within
+  told_advances at (Some t) = go (has w.ram at 4) refl where
+    go : (b : Bool) → has w.ram at 4 ≡ b
+        → Advances w (cond b (with_reply (record w { ram = with_word w.ram at t.pri }) (Answer 0)) (with_reply w (Refusal errors.BadAddress))).world (n + 1) call_sinces 1
+    go true e = of_memory w kept n within (with_word w.ram at t.pri) (length-with_number 4 w.ram at t.pri e)
+    go false e = nowhere w kept n within
 
 -- ---- the row of each gate
 module _ (w : WorldState) (kept : IsWorld w) (n : ℕ) (within : Within n w) (a : Actor) where
@@ -145,45 +161,6 @@ module _ (w : WorldState) (kept : IsWorld w) (n : ℕ) (within : Within n w) (a 
   row_serves gates.ModuleShow r live there may = of_text_row _
   row_serves gates.D r live there may = of_text_row _
   row_serves g r live there may = idle Later
-
--- ---- the frame of a call
--- who goes on behind its gate is as safe as before
-safe_left : (w : WorldState) (a : Actor) (id : ℕ) → safe_of (task_of (left_gate w a).kern.tasks id) ≡ safe_of (task_of w.kern.tasks id)
-safe_left w (Task who) id =
-    ap safe_of (task_of-change w.kern.tasks who id past_gate (λ t. refl))
-    ∙ elim (task_of w.kern.tasks id) as (λ o. safe_of (option_map (λ t. cond (eqb t.id who) (past_gate t) t) o) ≡ safe_of o) [
-      | None ↦ refl
-      | Some t ↦ elim (eqb t.id who) as (λ b. (cond b (past_gate t) t).safe ≡ t.safe) [ true ↦ refl | false ↦ refl ]
-    ]
-safe_left w Interrupt id = refl
-
--- and is ready then too
-pub may_left : (w : WorldState) (a : Actor) → MayCall w.kern a → MayCall (left_gate w a).kern a
-may_left w (Task who) may =
-    subst (λ o. IfSome o (λ t. is_ready t ≡ true)) (sym (task_of-change w.kern.tasks who who past_gate (λ t. refl)))
-    (elim (task_of w.kern.tasks who) as (λ o. IfSome o (λ t. is_ready t ≡ true) → IfSome (option_map (λ t. cond (eqb t.id who) (past_gate t) t) o) (λ t. is_ready t ≡ true)) [
-      | None ↦ λ h. tt
-      | Some t ↦ λ h. elim (eqb t.id who) as (λ b. is_ready (cond b (past_gate t) t) ≡ true) [ true ↦ h | false ↦ h ]
-    ] may)
-may_left w Interrupt may = may
-
-module _ (w : WorldState) (kept : IsWorld w) (n : ℕ) (within : Within n w) where
-  pub left_advances : (a : Actor) → MayCall w.kern a → Advances w (left_gate w a) n 0 0
-  left_advances (Task who) may = by_kern w kept _ n 0 (goes-leave_gate w.kern n kept.kern within.0 who) (objects-leave_gate w.kern w.objects kept.kern kept.objects who (ready_free w.kern who may)) within.1
-  left_advances Interrupt may = at_routine w kept n within level_past
-
-  answer_advances : (a : Actor) (value : ℕ) → Advances w (with_answer w a value) n 0 0
-  answer_advances (Task who) value = by_kern w kept _ n 0 (goes-answer w.kern n kept.kern within.0 who value) (objects-answer w.kern w.objects kept.kern kept.objects who value) within.1
-  answer_advances Interrupt value = at_routine w kept n within (in_r3 value)
-
-pub replied_advances : (w : WorldState) → IsWorld w → (n : ℕ) → Within n w → (g : Gate) (a : Actor) (r : Reply) → Advances w (replied g w a r) n 0 0
-replied_advances w kept n within g a (Answer value) = answer_advances w kept n within a value
-replied_advances w kept n within g a (Refusal e) =
-    let set = errno_advances w kept n within a (errno_number e) in
-    let v = with_errno w a (errno_number e) in
-    advances_on w v (with_answer v a (refusal_word g)) n n 0 0 0 0 set (answer_advances v set.kept n set.within a (refusal_word g))
-replied_advances w kept n within g a Later = stays w kept n within
-replied_advances w kept n within g a Gone = stays w kept n within
 
 unless_row : (w : WorldState) (kept : IsWorld w) (n : ℕ) (within : Within n w) (o : Option Errno) (g : Gate) (a : Actor) (r : List ℕ) → (is_mutex w.objects (slice_index r 3) ≡ true → Acts w.kern a)
     → (is_some (object_of w.objects.queues.queues (slice_index r 3)) ≡ true → Acts w.kern a) → MayCall w.kern a → Serves w a (row_unless o g w a r) (n + 1)

@@ -5,18 +5,21 @@ use Rattle.wind_base.specs.declared.gate.Gate.{Gate}
 use Rattle.module_loader.specs.Holding.{AreHeld}
 use Rattle.wind_base.specs.declared.gate.Gate.TheVariants as gates
 use Rattle.wind_base.specs.declared.errno.Errno.TheVariants as errors
-use Rattle.kernel_calls.specs.State.{WorldState}
-use Rattle.kernel_calls.specs.Objects.{KeepsObjects}
-use Rattle.kernel_calls.specs.Actors.{is_interrupt, Acts, MayCall}
-use Rattle.kernel_calls.specs.Kept.{KeepsWatch, IsWorld, IsEarly}
-use Rattle.kernel_calls.specs.Calls.{Row, with_reply, left_gate, is_isr_callable, is_shells_own, may_lack_memory, refusal_before, replied, made}
-use Rattle.kernel_calls.specs.declared.actor.Actor.{Actor}
-use Rattle.kernel_calls.specs.declared.actor.Actor.TheVariants.{Task, Interrupt}
-use Rattle.kernel_calls.specs.declared.reply.Reply.{Reply}
-use Rattle.kernel_calls.specs.declared.reply.Reply.TheVariants.{Gone}
+use Rattle.kernel_world.specs.State.{WorldState}
+use Rattle.kernel_world.specs.Objects.{KeepsObjects}
+use Rattle.kernel_world.specs.Actors.{is_interrupt, Acts, MayCall}
+use Rattle.kernel_world.specs.Kept.{KeepsWatch, IsWorld, IsEarly}
+use Rattle.kernel_calls.specs.Calls.{Row, with_reply, refusal_before, made}
+use Rattle.kernel_world.specs.Replies.{left_gate, replied}
+use Rattle.kernel_world.specs.Allowed.{is_isr_callable, is_shells_own, may_lack_memory}
+use Rattle.kernel_world.specs.declared.actor.Actor.{Actor}
+use Rattle.kernel_world.specs.declared.actor.Actor.TheVariants.{Task, Interrupt}
+use Rattle.kernel_world.specs.declared.reply.Reply.{Reply}
+use Rattle.kernel_world.specs.declared.reply.Reply.TheVariants.{Gone}
 use Rattle.kernel_calls.proofs.Serves.{Serves}
-use Rattle.kernel_calls.proofs.Passing.{left_advances, made_serves, replied_advances}
-use Rattle.kernel_calls.proofs.Early.{early_within}
+use Rattle.kernel_calls.proofs.Passing.{made_serves}
+use Rattle.kernel_world.proofs.Replying.{left_advances, replied_advances}
+use Rattle.kernel_world.proofs.Early.{early_within}
 
 -- the objects have their facts behind the gate too
 pub left_objects : (w : WorldState) (a : Actor) → IsWorld w → MayCall w.kern a → IsEarly w → KeepsObjects (left_gate w a).kern (left_gate w a).objects

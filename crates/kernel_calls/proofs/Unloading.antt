@@ -22,15 +22,14 @@ use Rattle.module_loader.specs.Modules.{newest_named, is_named, without_segment,
 use Rattle.module_loader.specs.Holding.{addrs_of, held_by, occurs}
 use Rattle.module_loader.proofs.Holds.{parted, fewer, others_stay, unload_holds}
 use Rattle.wind_core.specs.State.{KernState}
-use Rattle.kernel_calls.specs.State.{WorldState}
+use Rattle.kernel_world.specs.State.{WorldState}
 use Rattle.kernel_calls.specs.ModuleRows.{newest_of, meant_module, unload_meant, unload_row}
 use Rattle.kernel_calls.specs.Calls.{of_modules}
-use Rattle.kernel_calls.specs.Kept.{KeepsPool, IsKernels, AreStacks, KeepsLoaded, task_stacks, IsWorld, Within}
-use Rattle.kernel_calls.specs.Laws.{call_sinces}
-use Rattle.kernel_calls.specs.Opening.{interrupt_stack}
-use Rattle.kernel_calls.proofs.Advancing.{Advances, nowhere, of_unload}
-use Rattle.kernel_calls.proofs.Holding.{IsNoModules}
-use Rattle.kernel_calls.proofs.Stacks.{pool-free}
+use Rattle.kernel_world.specs.Kept.{KeepsPool, IsKernels, AreStacks, KeepsLoaded, task_stacks, IsWorld, Within, call_sinces}
+use Rattle.kernel_world.specs.Opening.{interrupt_stack}
+use Rattle.kernel_world.proofs.Advancing.{Advances, nowhere, of_unload}
+use Rattle.kernel_world.proofs.Holding.{IsNoModules}
+use Rattle.kernel_world.proofs.Stacks.{pool-free}
 
 -- ---- the module that a word means lives
 abbrev LivesIn : List (ℕ × LoadedModule) → ℕ × LoadedModule → Type 0

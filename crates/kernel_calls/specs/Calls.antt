@@ -14,133 +14,24 @@ use Rattle.wind_core.specs.State.{KernState, task_of}
 use Rattle.wind_core.specs.Moves.{live_id, leave_gate, answer, set_errno}
 use Rattle.msg_queue.specs.State.{Scene, scene}
 use Rattle.isr_watch.specs.State.{WatchState}
-use Rattle.kernel_calls.specs.State.{WorldState}
-use Rattle.kernel_calls.specs.Actors.{is_interrupt, is_shell, caller_words}
-use Rattle.kernel_calls.specs.TaskRows.{KernRow, target, suspend_row, resume_row, delay_row, lock_row, unlock_row, self_row, verify_row, name_row, slice_row, tick_row, int_lock_row, int_unlock_row, int_context_row}
-use Rattle.kernel_calls.specs.SafetyRows.{DeleteRow, safe_row, unsafe_row, delete_row}
-use Rattle.kernel_calls.specs.SemRows as sem
-use Rattle.kernel_calls.specs.QueueRows as queue
-use Rattle.kernel_calls.specs.WatchRows as watch
+use Rattle.kernel_world.specs.State.{WorldState}
+use Rattle.kernel_world.specs.Actors.{is_interrupt, is_shell, caller_words, target}
+use Rattle.task_calls.specs.TaskRows.{KernRow, suspend_row, resume_row, delay_row, lock_row, unlock_row, self_row, verify_row, name_row, slice_row, tick_row, int_lock_row, int_unlock_row, int_context_row}
+use Rattle.task_calls.specs.SafetyRows.{DeleteRow, safe_row, unsafe_row, delete_row}
+use Rattle.object_calls.specs.SemRows as sem
+use Rattle.object_calls.specs.QueueRows as queue
+use Rattle.object_calls.specs.WatchRows as watch
 use Rattle.kernel_calls.specs.ShowRows as show
-use Rattle.kernel_calls.specs.MemoryRows.{PartRow, malloc_row, align_row, free_row}
-use Rattle.kernel_calls.specs.SymbolRows.{SymbolRow, symbol_row}
+use Rattle.task_calls.specs.MemoryRows.{PartRow, malloc_row, align_row, free_row}
+use Rattle.task_calls.specs.SymbolRows.{SymbolRow, symbol_row}
 use Rattle.kernel_calls.specs.ModuleRows.{ModuleRow, unload_row}
-use Rattle.kernel_calls.specs.Spawning.{SpawnState, SpawnRow, spawn_parts, spawned_if, task_wanted, quick_wanted, quick_text}
-use Rattle.kernel_calls.specs.declared.actor.Actor.{Actor}
-use Rattle.kernel_calls.specs.declared.actor.Actor.TheVariants.{Task, Interrupt}
-use Rattle.kernel_calls.specs.declared.reply.Reply.{Reply}
-use Rattle.kernel_calls.specs.declared.reply.Reply.TheVariants.{Answer, Refusal, Later, Gone}
+use Rattle.task_calls.specs.Spawning.{SpawnState, SpawnRow, spawn_parts, spawned_if, task_wanted, quick_wanted, quick_text}
+use Rattle.kernel_world.specs.declared.actor.Actor.{Actor}
+use Rattle.kernel_world.specs.declared.actor.Actor.TheVariants.{Task, Interrupt}
+use Rattle.kernel_world.specs.declared.reply.Reply.{Reply}
+use Rattle.kernel_world.specs.declared.reply.Reply.TheVariants.{Answer, Refusal, Later, Gone}
 use Rattle.kernel_calls.specs.declared.calls.Called.{Called}
 use Rattle.kernel_calls.specs.declared.calls.Called.TheVariants as called
-
--- the gates whose calls are built
-abbrev pub is_built : Gate → Bool
-is_built gates.TaskSpawn = true
-is_built gates.Sp = true
-is_built gates.TaskDelete = true
-is_built gates.TaskSuspend = true
-is_built gates.TaskResume = true
-is_built gates.TaskPrioritySet = true
-is_built gates.TaskPriorityGet = true
-is_built gates.TaskDelay = true
-is_built gates.TaskLock = true
-is_built gates.TaskUnlock = true
-is_built gates.TaskSafe = true
-is_built gates.TaskUnsafe = true
-is_built gates.TaskIdSelf = true
-is_built gates.TaskIdVerify = true
-is_built gates.TaskNameToId = true
-is_built gates.KernelTimeSlice = true
-is_built gates.TickGet = true
-is_built gates.SemBCreate = true
-is_built gates.SemCCreate = true
-is_built gates.SemMCreate = true
-is_built gates.SemTake = true
-is_built gates.SemGive = true
-is_built gates.SemFlush = true
-is_built gates.SemDelete = true
-is_built gates.MsgQCreate = true
-is_built gates.MsgQSend = true
-is_built gates.MsgQReceive = true
-is_built gates.MsgQDelete = true
-is_built gates.MsgQNumMsgs = true
-is_built gates.WdCreate = true
-is_built gates.WdStart = true
-is_built gates.WdCancel = true
-is_built gates.WdDelete = true
-is_built gates.IntLock = true
-is_built gates.IntUnlock = true
-is_built gates.IntContext = true
-is_built gates.Malloc = true
-is_built gates.Free = true
-is_built gates.Memalign = true
-is_built gates.SymAdd = true
-is_built gates.Printf = true
-is_built gates.ErrnoGet = true
-is_built gates.ErrnoSet = true
-is_built gates.Ld = true
-is_built gates.Unld = true
-is_built gates.I = true
-is_built gates.Lkup = true
-is_built gates.ModuleShow = true
-is_built gates.D = true
-is_built g = false
-
--- the calls that an interrupt routine may make
-abbrev pub is_isr_callable : Gate → Bool
-is_isr_callable gates.TaskSuspend = true
-is_isr_callable gates.TaskResume = true
-is_isr_callable gates.TaskPrioritySet = true
-is_isr_callable gates.TaskPriorityGet = true
-is_isr_callable gates.TaskIdVerify = true
-is_isr_callable gates.TickGet = true
-is_isr_callable gates.SemGive = true
-is_isr_callable gates.SemFlush = true
-is_isr_callable gates.MsgQSend = true
-is_isr_callable gates.MsgQNumMsgs = true
-is_isr_callable gates.WdStart = true
-is_isr_callable gates.WdCancel = true
-is_isr_callable gates.IntLock = true
-is_isr_callable gates.IntUnlock = true
-is_isr_callable gates.IntContext = true
-is_isr_callable gates.ErrnoGet = true
-is_isr_callable gates.ErrnoSet = true
-is_isr_callable g = false
-
--- the calls that the shell's task alone may make
-abbrev pub is_shells_own : Gate → Bool
-is_shells_own gates.Ld = true
-is_shells_own gates.Unld = true
-is_shells_own gates.I = true
-is_shells_own gates.Lkup = true
-is_shells_own gates.ModuleShow = true
-is_shells_own gates.D = true
-is_shells_own g = false
-
--- the calls that answer 0 where they are refused, as they answer an object or an address; the others answer ERROR
-abbrev pub makes_object : Gate → Bool
-makes_object gates.SemBCreate = true
-makes_object gates.SemCCreate = true
-makes_object gates.SemMCreate = true
-makes_object gates.MsgQCreate = true
-makes_object gates.WdCreate = true
-makes_object gates.Malloc = true
-makes_object gates.Memalign = true
-makes_object g = false
-
-abbrev pub refusal_word : Gate → ℕ
-refusal_word g = if makes_object g then ok_word else error_word
-
--- the calls that may lack host memory
-abbrev pub may_lack_memory : Gate → Bool
-may_lack_memory gates.SymAdd = true
-may_lack_memory gates.MsgQCreate = true
-may_lack_memory gates.Ld = true
-may_lack_memory gates.I = true
-may_lack_memory gates.Lkup = true
-may_lack_memory gates.ModuleShow = true
-may_lack_memory gates.D = true
-may_lack_memory g = false
 
 -- ---- the effect of a call, and how its caller is answered
 pub record Row : Type 0 where
@@ -182,12 +73,6 @@ of_symbols w r = with_reply (record w { symbols = r.symbols }) r.reply
 abbrev pub of_modules : WorldState → ModuleRow → Row
 of_modules w r = with_reply (record w { symbols = r.symbols; modules = r.modules; part = r.part }) r.reply
 
-abbrev pub spawn_state : WorldState → SpawnState
-spawn_state w = spawn_parts w.kern w.part w.ram w.names
-
-abbrev pub after_spawn : WorldState → SpawnState → WorldState
-after_spawn w s = record w { kern = s.kern; part = s.part; ram = s.ram; names = s.names }
-
 abbrev pub of_spawn : WorldState → SpawnRow → Row
 of_spawn w r = with_reply (after_spawn w r.after) r.reply
 
@@ -205,19 +90,6 @@ priority_in w at (Some t) =
 abbrev pub task_at : KernState → Option ℕ → Option TaskRecord
 task_at k None = None
 task_at k (Some id) = task_of k.tasks id
-
--- errnoGet and errnoSet: each task has a number of its last error, and the interrupt level has one
-abbrev pub errno_in : Option TaskRecord → ℕ
-errno_in None = 0
-errno_in (Some t) = t.errno
-
-abbrev pub errno_of : WorldState → Actor → ℕ
-errno_of w (Task who) = errno_in (task_of w.kern.tasks who)
-errno_of w Interrupt = w.int_errno
-
-abbrev pub with_errno : WorldState → Actor → ℕ → WorldState
-with_errno w (Task who) n = record w { kern = set_errno w.kern who n }
-with_errno w Interrupt n = record w { int_errno = n }
 
 -- the row of a gate, with the words r in its caller's registers; that of ld where it asks for no file, as its name can't be read; one that isn't built changes nothing
 abbrev pub row : Gate → WorldState → Actor → List ℕ → Row
@@ -272,37 +144,7 @@ row gates.ModuleShow w a r = of_text w (show.modules_row w.modules)
 row gates.D w a r = of_text w (show.dump_row w.ram (slice_index r 3) (slice_index r 4) (slice_index r 5))
 row g w a r = with_reply w Later
 
--- ---- the frame of a call
--- the caller goes on behind its gate: the program counter becomes the link register
-abbrev pub past_gate : Regs → Regs
-past_gate r = record r { pc = r.lr }
-
--- the world in which f is made of the active routine's registers
-abbrev pub level_by : (Regs → Regs) → WatchState → WatchState
-level_by f s = record s { level = option_map f s.level }
-
-abbrev pub at_level : WorldState → (Regs → Regs) → WorldState
-at_level w f = record w { watch = level_by f w.watch }
-
-abbrev pub left_gate : WorldState → Actor → WorldState
-left_gate w (Task who) = record w { kern = leave_gate w.kern who }
-left_gate w Interrupt = at_level w past_gate
-
--- the answer stands in r3
-abbrev pub in_r3 : ℕ → Regs → Regs
-in_r3 value r = record r { gpr = slice_set r.gpr 3 value }
-
-abbrev pub with_answer : WorldState → Actor → ℕ → WorldState
-with_answer w (Task who) value = record w { kern = answer w.kern who value }
-with_answer w Interrupt value = at_level w (in_r3 value)
-
--- the caller is answered; one that pends is answered later, and one that has ended is not
-abbrev pub replied : Gate → WorldState → Actor → Reply → WorldState
-replied g w a (Answer value) = with_answer w a value
-replied g w a (Refusal e) = with_answer (with_errno w a (errno_number e)) a (refusal_word g)
-replied g w a Later = w
-replied g w a Gone = w
-
+-- ---- a call
 abbrev pub answered : Gate → Actor → Row → WorldState
 answered g a r = replied g r.world a r.reply
 

@@ -4,22 +4,18 @@ use Rattle.wind_base.specs.declared.gate.Gate.{Gate}
 use Rattle.wind_outside.specs.Devices.{DeviceState}
 use Rattle.wind_core.specs.State.{Lives, task_of}
 use Rattle.task_safety.specs.Safety.{safe_of}
-use Rattle.kernel_calls.specs.State.{WorldState}
-use Rattle.kernel_calls.specs.Actors.{MayCall, shell_id}
+use Rattle.kernel_world.specs.State.{WorldState}
+use Rattle.kernel_world.specs.Actors.{MayCall, shell_id}
 use Rattle.kernel_calls.specs.Calls.{call}
-use Rattle.kernel_calls.specs.Ending.{ended}
-use Rattle.kernel_calls.specs.Opening.{opening_world}
-use Rattle.kernel_calls.specs.Kept.{IsWorld, Within, ReservedBy}
-use Rattle.kernel_calls.specs.declared.actor.Actor.{Actor}
-use Rattle.kernel_calls.specs.declared.actor.Actor.TheVariants.{Task}
+use Rattle.task_calls.specs.Ending.{ended}
+use Rattle.kernel_world.specs.Opening.{opening_world}
+use Rattle.kernel_world.specs.Kept.{IsWorld, Within, ReservedBy}
+use Rattle.kernel_world.specs.declared.actor.Actor.{Actor}
+use Rattle.kernel_world.specs.declared.actor.Actor.TheVariants.{Task}
 
 -- a task that lives in one world and not in the next was not safe from deletion, or is the actor itself
 abbrev pub OnlyUnsafeGo : WorldState → Actor → WorldState → Type 0
 OnlyUnsafeGo w a v = (id : ℕ) → Lives w.kern id → (Lives v.kern id → ⊥) → (safe_of (task_of w.kern.tasks id) ≡ 0) ⊎ (a ≡ Task id)
-
--- the most order numbers that one call gives out
-abbrev pub call_sinces : ℕ
-call_sinces = 1024
 
 -- from one world to another within one call: the kept facts hold, nobody safe is gone, the shell's task lives on, counts stay within n, no task has a reservation that had none, at most d order numbers, m name numbers and m numbers of a watchdog's start were given out, and the tick count stood
 pub record Passes (w v : WorldState) (a : Actor) (n d m : ℕ) : Type 0 where

@@ -3,22 +3,22 @@
 ghost use Rattle.std.specs.Prelude.{◌≡◌, ◌≢◌, ◌+◌, ◌^◌, ◌<◌, ◌≤◌, [], true, false, None, Some, IfOk, IfSome, OnErr};
 ghost use Rattle.wind_base.specs.OutBuf.{KeepsSpace};
 ghost use Rattle.wind_base.specs.declared.gate.Gate.TheVariants as gates;
-ghost use Rattle.kernel_calls.specs.Actors.{Acts, MayCall, is_interrupt as is_interrupt_lem};
-ghost use Rattle.kernel_calls.specs.Kept.{IsWorld, IsEarly};
-ghost use Rattle.kernel_calls.specs.Calls.{is_built, may_lack_memory as may_lack_memory_lem, refusal_before as refusal_before_lem, in_r3, level_by, with_answer, replied, with_reply, told_by, told as told_lem, made, call, file_wanted as file_wanted_lem, is_made, asked_for};
+ghost use Rattle.kernel_world.specs.Actors.{Acts, MayCall, is_interrupt as is_interrupt_lem};
+ghost use Rattle.kernel_world.specs.Kept.{IsWorld, IsEarly};
+ghost use Rattle.kernel_world.specs.Allowed.{is_built, may_lack_memory as may_lack_memory_lem};
+ghost use Rattle.kernel_calls.specs.Calls.{refusal_before as refusal_before_lem, with_reply, told_by, told as told_lem, made, call, file_wanted as file_wanted_lem, is_made, asked_for};
+ghost use Rattle.kernel_world.specs.Replies.{in_r3, level_by, with_answer, replied};
 ghost use Rattle.kernel_calls.specs.declared.calls.Called.TheVariants as called;
-ghost use Rattle.kernel_calls.specs.declared.reply.Reply.TheVariants as replies;
-ghost use Rattle.kernel_calls.specs.Seen.{world_seen, world_with};
+ghost use Rattle.kernel_world.specs.declared.reply.Reply.TheVariants as replies;
+ghost use Rattle.kernel_world.specs.Seen.{world_seen, world_with};
 ghost use Rattle.kernel_calls.specs.Space.{makes_room, HoldsSpace};
 
-use crate::actor::{Actor, caller_regs, is_shell};
 use crate::files::file_wanted;
-use crate::gates::{is_isr_callable, is_shells_own, may_lack_memory, refusal_word};
-use crate::leaving::leave_gate;
-use crate::reply::Reply;
-use crate::rows::{lacking_row, plain_row, set_errno};
-use crate::world::World;
-use isr_watch::Watch;
+use crate::rows::{lacking_row, plain_row};
+use kernel_world::{
+    Actor, Reply, World, caller_regs, is_isr_callable, is_shell, is_shells_own, leave_gate,
+    may_lack_memory, reply_to,
+};
 use std::alloc::Global;
 use wind_base::{Errno, Gate, Name, NoMemory};
 use wind_outside::Device;
@@ -56,45 +56,6 @@ fn refusal_before(gate: Gate, who: &Actor) -> Option<Errno>
         return Some(Errno::NotShell);
     }
     None
-}
-
-// The answer stands in r3.
-fn put_in_r3(watch: &mut Watch, value: u32)
-    ensures { watch.new ≡ level_by (in_r3 value) watch.old }
-{
-    if let Some(regs) = watch.regs_mut() {
-        regs.gpr[3] = value;
-    }
-}
-
-// The caller is answered in r3.
-fn give_answer(w: &mut World, who: &Actor, value: u32)
-    requires { Acts w.old.kern who.now }
-    ensures world { world_seen ⟦<dyn Device as Device>⟧ w.new
-        ≡ with_answer (world_seen ⟦<dyn Device as Device>⟧ w.old) who.now value }
-    ensures out { w.new.out ≡ w.old.out }
-{
-    match who {
-        Actor::Task(id) => w.kern.answer(*id, value),
-        Actor::Interrupt => put_in_r3(&mut w.watch, value),
-    }
-}
-
-// The caller is answered; one that pends is answered later, and one that has ended is not.
-fn reply_to(w: &mut World, gate: Gate, who: &Actor, reply: &Reply)
-    requires { reply.now ≢ replies.Gone → Acts w.old.kern who.now }
-    ensures world { world_seen ⟦<dyn Device as Device>⟧ w.new
-        ≡ replied gate (world_seen ⟦<dyn Device as Device>⟧ w.old) who.now reply.now }
-    ensures out { w.new.out ≡ w.old.out }
-{
-    match reply {
-        Reply::Answer(value) => give_answer(w, who, *value),
-        Reply::Refusal(errno) => {
-            set_errno(w, who, errno.number());
-            give_answer(w, who, refusal_word(gate));
-        }
-        Reply::Later | Reply::Gone => {}
-    }
 }
 
 // What the board is told of a reply.

@@ -3,13 +3,12 @@
 ghost use Rattle.std.specs.Prelude.{◌≡◌, ◌≤◌, IfOk, IfSome, OnErr, IsSome, length};
 ghost use Rattle.wind_base.specs.Limits.{longest_name};
 ghost use Rattle.board_mem.specs.Memory.{string_at};
-ghost use Rattle.kernel_calls.specs.Actors.{is_shell as is_shell_lem};
+ghost use Rattle.kernel_world.specs.Actors.{is_shell as is_shell_lem};
 ghost use Rattle.kernel_calls.specs.Calls.{file_name as file_name_lem, file_wanted as file_wanted_lem};
-ghost use Rattle.kernel_calls.specs.Seen.{world_seen};
+ghost use Rattle.kernel_world.specs.Seen.{world_seen};
 
-use crate::actor::{Actor, caller_regs, is_shell};
-use crate::world::World;
 use board_mem::Ram;
+use kernel_world::{Actor, World, caller_regs, is_shell};
 use std::alloc::Global;
 use wind_base::limits::NAME_BYTES;
 use wind_base::{Gate, Name, NoMemory};

@@ -6,36 +6,36 @@ ghost use Rattle.wind_base.specs.Limits.{ram_bytes};
 ghost use Rattle.wind_base.specs.OutBuf.{KeepsSpace};
 ghost use Rattle.board_mem.specs.Memory.{string_at};
 ghost use Rattle.module_loader.specs.Holding.{AreHeld};
-ghost use Rattle.kernel_calls.specs.Actors.{Acts, MayCall};
-ghost use Rattle.kernel_calls.specs.TaskRows.{target as target_lem};
-ghost use Rattle.kernel_calls.specs.Spawning.{spawned_if, task_wanted as task_wanted_lem, quick_wanted as quick_wanted_lem};
-ghost use Rattle.kernel_calls.specs.Calls.{is_built, with_reply, of_spawn, of_quick, spawn_state, priority_in, task_at, errno_of as errno_of_lem, with_errno, of_watch, row as row_lem, left_gate, may_lack_memory};
-ghost use Rattle.kernel_calls.specs.WatchRows.{start_row, routine_of};
+ghost use Rattle.kernel_world.specs.Actors.{Acts, MayCall};
+ghost use Rattle.kernel_world.specs.Actors.{target as target_lem};
+ghost use Rattle.task_calls.specs.Spawning.{spawned_if, task_wanted as task_wanted_lem, quick_wanted as quick_wanted_lem};
+ghost use Rattle.kernel_world.specs.Allowed.{is_built, may_lack_memory};
+ghost use Rattle.kernel_calls.specs.Calls.{with_reply, of_spawn, of_quick, priority_in, task_at, of_watch, row as row_lem};
+ghost use Rattle.task_calls.specs.Spawning.{spawn_state};
+ghost use Rattle.kernel_world.specs.Replies.{errno_of as errno_of_lem, with_errno, left_gate};
+ghost use Rattle.object_calls.specs.WatchRows.{start_row, routine_of};
 ghost use Rattle.wind_base.specs.declared.gate.Gate.TheVariants as gates;
-ghost use Rattle.kernel_calls.specs.declared.actor.Actor.{Actor};
-ghost use Rattle.kernel_calls.specs.Kept.{IsEarly, KeepsWatch};
-ghost use Rattle.kernel_calls.specs.Objects.{KeepsObjects};
-ghost use Rattle.kernel_calls.specs.Seen.{world_seen, world_with};
+ghost use Rattle.kernel_world.specs.declared.actor.Actor.{Actor};
+ghost use Rattle.kernel_world.specs.Kept.{IsEarly, KeepsWatch};
+ghost use Rattle.kernel_world.specs.Objects.{KeepsObjects};
+ghost use Rattle.kernel_world.specs.Seen.{world_seen, world_with};
 ghost use Rattle.kernel_calls.specs.Space.{makes_room, HoldsSpace};
 
-use crate::actor::Actor;
-use crate::leaving::leave_gate;
-use crate::memory_rows::{free, malloc, memalign};
 use crate::module_rows::unload;
-use crate::queue_rows::{self, ReceiveWords, SendWords};
-use crate::reply::{DONE, Reply};
-use crate::safety_rows::{delete, make_safe, make_unsafe};
 use crate::show_rows::{print, show_memory, show_modules, show_symbols, show_tasks};
-use crate::spawning::{quick_wanted, spawn_if, task_wanted, tell_spawn};
-use crate::symbol_rows::{NewSymbol, add_symbol};
-use crate::task_rows::{
-    context, delay, lock, lock_interrupts, own_id, resume, slice, suspend, target, task_of_name,
-    ticks, unlock, unlock_interrupts, verify,
-};
-use crate::world::World;
-use crate::{sem_rows, watch_rows};
 use isr_watch::Routine;
+use kernel_world::{Actor, DONE, Reply, World, errno_of, leave_gate, set_errno, target};
+use object_calls::queue_rows::{self, ReceiveWords, SendWords};
+use object_calls::{sem_rows, watch_rows};
 use std::alloc::Global;
+use task_calls::memory_rows::{free, malloc, memalign};
+use task_calls::safety_rows::{delete, make_safe, make_unsafe};
+use task_calls::spawning::{quick_wanted, spawn_if, task_wanted, tell_spawn};
+use task_calls::symbol_rows::{NewSymbol, add_symbol};
+use task_calls::task_rows::{
+    context, delay, lock, lock_interrupts, own_id, resume, slice, suspend, task_of_name, ticks,
+    unlock, unlock_interrupts, verify,
+};
 use text_show::task_table;
 use wind_base::{Errno, Gate, NoMemory};
 use wind_outside::Device;
@@ -103,32 +103,6 @@ fn get_priority(w: &mut World, who: Actor, id: u32, address: u32) -> Reply
     match w.bus.ram.write32(address, task.pri.get()) {
         Ok(()) => DONE,
         Err(_) => Reply::Refusal(Errno::BadAddress),
-    }
-}
-
-// errnoGet: the number of the caller's last error
-fn errno_of(w: &World, who: Actor) -> u32
-    ensures { result ≡ errno_of_lem (world_seen ⟦<dyn Device as Device>⟧ w.now) who }
-{
-    match who {
-        Actor::Task(id) => match w.kern.task(id) {
-            Some(task) => task.errno,
-            None => 0,
-        },
-        Actor::Interrupt => w.int_errno,
-    }
-}
-
-// errnoSet, and what a refusal sets
-pub(crate) fn set_errno(w: &mut World, who: &Actor, number: u32)
-    requires { Acts w.old.kern who.now }
-    ensures world { world_seen ⟦<dyn Device as Device>⟧ w.new
-        ≡ with_errno (world_seen ⟦<dyn Device as Device>⟧ w.old) who.now number }
-    ensures out { w.new.out ≡ w.old.out }
-{
-    match who {
-        Actor::Task(id) => w.kern.set_errno(*id, number),
-        Actor::Interrupt => w.int_errno = number,
     }
 }
 

@@ -8,9 +8,9 @@ ghost use Rattle.text_show.specs.Columns.{with_text};
 ghost use Rattle.text_show.specs.Tasks.{task_table_of};
 ghost use Rattle.kernel_calls.specs.ShowRows.{printf_row, width_of as width_of_lem, units_of as units_of_lem, dump_in as dump_in_lem, dump_row, lookup_row, modules_row};
 
-use crate::reply::{DONE, Reply};
 use board_mem::Ram;
 use id_table::Ident;
+use kernel_world::{DONE, Reply};
 use module_loader::Modules;
 use std::alloc::Global;
 use symbol_table::Symbols;

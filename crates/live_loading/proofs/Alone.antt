@@ -23,11 +23,11 @@ use Rattle.module_loader.proofs.Files.{is_file}
 use Rattle.module_loader.proofs.Owning.{write_law}
 use Rattle.wind_core.specs.State.{KernState, task_id, task_of}
 use Rattle.wind_core.specs.Moves.{change_task, past_gate, leave_gate, set_errno, answer, with_answer as answered}
-use Rattle.kernel_calls.specs.State.{WorldState}
-use Rattle.kernel_calls.specs.Actors.{shell_id, caller_words}
-use Rattle.kernel_calls.specs.Calls.{left_gate}
-use Rattle.kernel_calls.specs.Kept.{IsWorld}
-use Rattle.kernel_calls.proofs.SemGoes.{drawn}
+use Rattle.kernel_world.specs.State.{WorldState}
+use Rattle.kernel_world.specs.Actors.{shell_id, caller_words}
+use Rattle.kernel_world.specs.Replies.{left_gate}
+use Rattle.kernel_world.specs.Kept.{IsWorld}
+use Rattle.kernel_world.proofs.Goes.{drawn}
 use Rattle.live_loading.specs.Said.{FileSaid, Held, Missing, TooLong}
 use Rattle.live_loading.specs.Texts.{reason}
 use Rattle.live_loading.specs.Loading.{shell, loader_state, accepted, refused, by_verdict, effect, load_call}

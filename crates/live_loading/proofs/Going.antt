@@ -30,18 +30,16 @@ use Rattle.task_block.specs.declared.task.Task.{Task}
 use Rattle.wind_core.specs.State.{KernState, Lives}
 use Rattle.wind_core.specs.Moves.{answer, change_task}
 use Rattle.wind_core.proofs.Ids.{lives_by, ids-change}
-use Rattle.kernel_calls.specs.State.{WorldState}
-use Rattle.kernel_calls.specs.Actors.{MayCall, shell_id, caller_words}
-use Rattle.kernel_calls.specs.Calls.{left_gate, with_answer, with_errno}
-use Rattle.kernel_calls.specs.Kept.{KeepsPool, AreStacks, KeepsLoaded, task_stacks, IsWorld, Within}
-use Rattle.kernel_calls.specs.Laws.{call_sinces}
-use Rattle.kernel_calls.specs.Opening.{interrupt_stack}
-use Rattle.kernel_calls.proofs.Advancing.{Advances, advances_on, advances_more, beside, by_kern, errno_advances}
-use Rattle.kernel_calls.proofs.Goes.{goes-answer}
-use Rattle.kernel_calls.proofs.SemGoes.{drawn, goes-draw}
-use Rattle.kernel_calls.proofs.ObjectMoves.{objects-draw, objects-answer}
-use Rattle.kernel_calls.proofs.Stacks.{pool-alloc, stacks-alloc}
-use Rattle.kernel_calls.proofs.Passing.{left_advances}
+use Rattle.kernel_world.specs.State.{WorldState}
+use Rattle.kernel_world.specs.Actors.{MayCall, shell_id, caller_words}
+use Rattle.kernel_world.specs.Replies.{left_gate, with_answer, with_errno}
+use Rattle.kernel_world.specs.Kept.{KeepsPool, AreStacks, KeepsLoaded, task_stacks, IsWorld, Within, call_sinces}
+use Rattle.kernel_world.specs.Opening.{interrupt_stack}
+use Rattle.kernel_world.proofs.Advancing.{Advances, advances_on, advances_more, beside, by_kern, errno_advances}
+use Rattle.kernel_world.proofs.Goes.{drawn, goes-draw, goes-answer}
+use Rattle.kernel_world.proofs.ObjectMoves.{objects-draw, objects-answer}
+use Rattle.kernel_world.proofs.Stacks.{pool-alloc, stacks-alloc}
+use Rattle.kernel_world.proofs.Replying.{left_advances}
 use Rattle.kernel_calls.proofs.Serves.{passes_by}
 use Rattle.live_loading.specs.Said.{FileSaid, Held, Missing, TooLong}
 use Rattle.live_loading.specs.Texts.{reason, refused_text, undefined_text}

@@ -13,10 +13,10 @@ use Rattle.module_loader.specs.declared.module.LoadErr.TheVariants as refusal
 use Rattle.module_loader.specs.declared.module.Loaded.{Loaded}
 use Rattle.module_loader.specs.Loading.{LoaderState, count_refusal, verdict, file_verdict, loaded, told, IsLoaded, IsVerdict}
 use Rattle.module_loader.proofs.Files.{read_verdict, file_refused}
-use Rattle.kernel_calls.specs.State.{WorldState}
-use Rattle.kernel_calls.specs.Actors.{shell_id, caller_regs, caller_words}
-use Rattle.kernel_calls.specs.Calls.{left_gate, with_answer}
-use Rattle.kernel_calls.specs.declared.actor.Actor.TheVariants.{Task}
+use Rattle.kernel_world.specs.State.{WorldState}
+use Rattle.kernel_world.specs.Actors.{shell_id, caller_regs, caller_words}
+use Rattle.kernel_world.specs.Replies.{left_gate, with_answer}
+use Rattle.kernel_world.specs.declared.actor.Actor.TheVariants.{Task}
 use Rattle.live_loading.specs.declared.text.Cause.TheVariants as causes
 use Rattle.live_loading.specs.Causes.{cause_text}
 use Rattle.live_loading.specs.Said.{Held}

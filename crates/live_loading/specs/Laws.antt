@@ -4,10 +4,10 @@ use Rattle.mem_partition.specs.Laws.{IsIn}
 use Rattle.mem_partition.specs.declared.block.Block.{Block}
 use Rattle.std.specs.List.{Contains}
 use Rattle.wind_core.specs.State.{task_of}
-use Rattle.kernel_calls.specs.State.{WorldState}
-use Rattle.kernel_calls.specs.Actors.{MayCall, shell_id}
-use Rattle.kernel_calls.specs.Kept.{IsWorld, Within}
-use Rattle.kernel_calls.specs.Laws.{Passes, call_sinces}
+use Rattle.kernel_world.specs.State.{WorldState}
+use Rattle.kernel_world.specs.Actors.{MayCall, shell_id}
+use Rattle.kernel_world.specs.Kept.{IsWorld, Within, call_sinces}
+use Rattle.kernel_calls.specs.Laws.{Passes}
 use Rattle.live_loading.specs.Said.{FileSaid}
 use Rattle.live_loading.specs.Loading.{shell, load_call}
 

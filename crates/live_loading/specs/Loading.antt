@@ -8,11 +8,11 @@ use Rattle.elf_read.specs.Contents.{module_at}
 use Rattle.module_image.specs.declared.segments.Places.{Places}
 use Rattle.module_loader.specs.declared.module.LoadErr.{LoadErr}
 use Rattle.module_loader.specs.Loading.{LoaderState, file_verdict, loaded, told}
-use Rattle.kernel_calls.specs.State.{WorldState}
-use Rattle.kernel_calls.specs.Actors.{shell_id, caller_words}
-use Rattle.kernel_calls.specs.Calls.{left_gate, with_answer, with_errno}
-use Rattle.kernel_calls.specs.declared.actor.Actor.{Actor}
-use Rattle.kernel_calls.specs.declared.actor.Actor.TheVariants.{Task}
+use Rattle.kernel_world.specs.State.{WorldState}
+use Rattle.kernel_world.specs.Actors.{shell_id, caller_words}
+use Rattle.kernel_world.specs.Replies.{left_gate, with_answer, with_errno}
+use Rattle.kernel_world.specs.declared.actor.Actor.{Actor}
+use Rattle.kernel_world.specs.declared.actor.Actor.TheVariants.{Task}
 use Rattle.live_loading.specs.Said.{FileSaid, Held, Missing, TooLong}
 use Rattle.live_loading.specs.Texts.{reason, refused_text, undefined_text}
 

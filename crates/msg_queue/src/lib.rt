@@ -12,8 +12,6 @@ mod plans;
 mod queue;
 mod queues;
 mod size;
-#[cfg(test)]
-mod tests;
 mod words;
 
 pub use asks::Ask;

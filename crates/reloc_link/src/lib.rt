@@ -6,8 +6,6 @@ mod fields;
 mod kind;
 mod laws;
 mod patching;
-#[cfg(test)]
-mod tests;
 
 pub use fields::{FieldFault, field, width};
 pub use kind::RelocType;

@@ -4,8 +4,6 @@
 mod laws;
 mod plain;
 mod semaphore;
-#[cfg(test)]
-mod tests;
 
 pub use laws::{calls_law, kernel_law, waiters_law};
 pub use plain::Plain;

@@ -7,16 +7,8 @@ mod frames;
 mod grammar;
 mod lexer;
 mod literal;
-#[cfg(test)]
-mod long_lines;
-#[cfg(test)]
-mod refusals;
-#[cfg(test)]
-mod shown;
 mod sign;
 mod statement;
-#[cfg(test)]
-mod tests;
 mod token;
 mod tree;
 

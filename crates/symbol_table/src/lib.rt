@@ -7,8 +7,6 @@ mod links;
 mod search;
 mod symbol;
 mod table;
-#[cfg(test)]
-mod tests;
 
 pub use chains::Chains;
 pub use laws::{chains_law, newest_law, removal_law};

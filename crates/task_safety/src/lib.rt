@@ -4,8 +4,6 @@
 mod deleting;
 mod laws;
 mod safety;
-#[cfg(test)]
-mod tests;
 
 pub use deleting::{Deed, Deleted, delete};
 pub use laws::{gone_law, kept_law};

@@ -11,8 +11,6 @@ mod lines;
 mod pending;
 mod reading;
 mod schedule;
-#[cfg(test)]
-mod tests;
 
 pub use event::{Event, Rule, Said};
 pub use reading::{TickErr, read_ticks};

@@ -15,8 +15,6 @@ mod out_buf;
 mod priority;
 mod regs;
 mod semaphore;
-#[cfg(test)]
-mod tests;
 pub mod text;
 pub mod words;
 

@@ -92,19 +92,3 @@ impl OutBuf {
         self.room
     }
 }
-
-#[cfg(test)]
-mod tests {
-    use super::*;
-    use std::test::Fail;
-
-    #[test]
-    fn grows_with_ample_memory(rt: HostRuntime) -> Result<(), Fail> {
-        let mut out = OutBuf::reserved(rt.alloc(), 2).or(Err("memory"))?;
-        assert_eq!(rt; out.put(b"123"), Err(Full));
-        out.grow(1).or(Err("memory"))?;
-        assert_eq!(rt; out.put(b"123"), Ok(()));
-        assert_eq!(rt; out.bytes(), b"123".as_slice());
-        Ok(())
-    }
-}

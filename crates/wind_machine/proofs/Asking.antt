@@ -7,16 +7,16 @@ use Rattle.wind_base.specs.declared.gate.Gate.{Gate}
 use Rattle.wind_base.specs.declared.gate.Gate.TheVariants as gates
 use Rattle.task_block.specs.declared.task.Task.{Task}
 use Rattle.wind_core.specs.Orders.{running}
-use Rattle.kernel_calls.specs.State.{WorldState}
+use Rattle.kernel_world.specs.State.{WorldState}
 use Rattle.board_mem.specs.Memory.{string_at}
 use Rattle.wind_base.specs.Limits.{gates_start}
 use Rattle.wind_base.specs.Gates.{gate_at}
-use Rattle.kernel_calls.specs.Starting.{no_regs}
-use Rattle.kernel_calls.specs.Actors.{shell_id, caller_regs}
+use Rattle.kernel_world.specs.Starting.{no_regs}
+use Rattle.kernel_world.specs.Actors.{shell_id, caller_regs}
 use Rattle.kernel_calls.specs.Calls.{file_name, file_wanted}
-use Rattle.kernel_calls.specs.Objects.{IsReady}
-use Rattle.kernel_calls.specs.declared.actor.Actor.{Actor}
-use Rattle.kernel_calls.specs.declared.actor.Actor.TheVariants.{Task as by_task, Interrupt}
+use Rattle.kernel_world.specs.Objects.{IsReady}
+use Rattle.kernel_world.specs.declared.actor.Actor.{Actor}
+use Rattle.kernel_world.specs.declared.actor.Actor.TheVariants.{Task as by_task, Interrupt}
 use Rattle.live_loading.specs.Loading.{shell}
 use Rattle.wind_machine.specs.State.{State}
 use Rattle.wind_machine.specs.Good.{Good}

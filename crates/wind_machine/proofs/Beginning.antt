@@ -4,9 +4,9 @@ use Rattle.std.proofs.lemmas.List.Elements.{All-cons, All-nil}
 use Rattle.task_block.specs.declared.task.Task.{Task}
 use Rattle.wind_core.specs.Moves.{new_task}
 use Rattle.con_line.proofs.Kept.{start_keeps}
-use Rattle.kernel_calls.specs.Opening.{shell_record, opening_kern, opening_world}
-use Rattle.kernel_calls.specs.Kept.{HasCounts}
-use Rattle.kernel_calls.proofs.Opened.{opens}
+use Rattle.kernel_world.specs.Opening.{shell_record, opening_kern, opening_world}
+use Rattle.kernel_world.specs.Kept.{HasCounts}
+use Rattle.kernel_world.proofs.Opened.{opens}
 use Rattle.wind_machine.specs.Laws.{StartLaw}
 use Rattle.wind_machine.specs.Machine.{opening}
 

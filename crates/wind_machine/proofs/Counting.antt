@@ -5,7 +5,7 @@ use Rattle.tick_file.specs.Schedule.{Timed}
 use Rattle.tick_file.specs.declared.event.Event.{Event}
 use Rattle.tick_file.specs.declared.event.Event.TheVariants.{Tick, Rx}
 use Rattle.wind_core.specs.Orders.{running}
-use Rattle.kernel_calls.specs.Actors.{shell_id}
+use Rattle.kernel_world.specs.Actors.{shell_id}
 use Rattle.live_loading.specs.Said.{FileSaid}
 use Rattle.wind_machine.specs.State.{State}
 use Rattle.wind_machine.specs.Machine.{event_comes, unreserved_world, without_next, arrival, shell_step, task_step, step_of, next_event, jump_to, console_is_due, is_active, routine_step, run_step, actor_step, quiet_step, step_by, due_event, plain_step, file_asked, step_asking, machine_step}

@@ -10,7 +10,7 @@ use Rattle.tick_file.specs.Schedule.{Timed, Timetable, timetable_of}
 use Rattle.tick_file.specs.declared.event.Event.{Event}
 use Rattle.tick_file.specs.declared.event.Event.TheVariants.{Tick, Rx}
 use Rattle.wind_core.specs.Orders.{running}
-use Rattle.kernel_calls.specs.Actors.{shell_id}
+use Rattle.kernel_world.specs.Actors.{shell_id}
 use Rattle.live_loading.specs.Said.{FileSaid}
 use Rattle.wind_machine.specs.State.{State}
 use Rattle.wind_machine.specs.Good.{Good}

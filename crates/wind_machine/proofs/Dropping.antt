@@ -8,14 +8,14 @@ use Rattle.task_block.specs.declared.task.Task.{Task}
 use Rattle.wind_core.specs.State.{KernState, task_id}
 use Rattle.wind_core.specs.Moves.{unreserved, unreserve}
 use Rattle.wind_core.proofs.Ids.{lives_by}
-use Rattle.kernel_calls.specs.State.{WorldState}
-use Rattle.kernel_calls.specs.Opening.{interrupt_stack}
-use Rattle.kernel_calls.specs.Kept.{AreStacks, IsWorld, HasCounts, Within, ReservedBy}
-use Rattle.kernel_calls.specs.Objects.{KeepsObjects}
-use Rattle.kernel_calls.proofs.ObjectMoves.{objects-unreserve, objects-drop}
-use Rattle.kernel_calls.proofs.Holding.{loaded_on}
-use Rattle.kernel_calls.proofs.Calming.{Spares, kern-map}
-use Rattle.kernel_calls.proofs.Advancing.{Advances}
+use Rattle.kernel_world.specs.State.{WorldState}
+use Rattle.kernel_world.specs.Opening.{interrupt_stack}
+use Rattle.kernel_world.specs.Kept.{AreStacks, IsWorld, HasCounts, Within, ReservedBy}
+use Rattle.kernel_world.specs.Objects.{KeepsObjects}
+use Rattle.kernel_world.proofs.ObjectMoves.{objects-unreserve, objects-drop}
+use Rattle.kernel_world.proofs.Holding.{loaded_on}
+use Rattle.kernel_world.proofs.Calming.{Spares, kern-map}
+use Rattle.kernel_world.proofs.Advancing.{Advances}
 use Rattle.wind_machine.specs.Part.{with_kern}
 use Rattle.wind_machine.specs.Reserving.{unless_own, drop_others, drop_all}
 

@@ -7,7 +7,7 @@ use Rattle.wind_core.specs.State.{KernState, IsKern, Lives, task_id, task_of}
 use Rattle.wind_core.specs.Orders.{running}
 use Rattle.wind_core.specs.Moves.{unreserved}
 use Rattle.wind_core.proofs.Lawful.{runner_may}
-use Rattle.kernel_calls.specs.Objects.{IsReady}
+use Rattle.kernel_world.specs.Objects.{IsReady}
 use Rattle.wind_machine.specs.Reserving.{unless_own, drop_others}
 
 abbrev ReadyIf : Option Task → Type 0

@@ -15,9 +15,9 @@ use Rattle.wind_core.proofs.Ids.{ids-tick, lives_by}
 use Rattle.task_safety.specs.Safety.{safe_of}
 use Rattle.shell_parse.specs.Reading.{read_line}
 use Rattle.con_line.specs.Lines.{has_line, front_line, line_dropped}
-use Rattle.kernel_calls.specs.Actors.{shell_id}
-use Rattle.kernel_calls.specs.Objects.{IsReady}
-use Rattle.kernel_calls.specs.declared.actor.Actor.TheVariants.{Task as by_task, Interrupt}
+use Rattle.kernel_world.specs.Actors.{shell_id}
+use Rattle.kernel_world.specs.Objects.{IsReady}
+use Rattle.kernel_world.specs.declared.actor.Actor.TheVariants.{Task as by_task, Interrupt}
 use Rattle.live_loading.specs.Said.{FileSaid}
 use Rattle.live_loading.specs.Loading.{shell, load_call}
 use Rattle.live_loading.specs.Laws.{LoadLaw}

@@ -19,15 +19,15 @@ use Rattle.con_line.proofs.Kept.{byte_keeps}
 use Rattle.wind_machine.specs.State.{ShellState}
 use Rattle.wind_machine.specs.Good.{HasItsLine}
 use Rattle.wind_machine.specs.Feed.{is_end, first_end, taken_by, is_unended, supplied, chunk}
-use Rattle.kernel_calls.specs.Actors.{shell_id}
+use Rattle.kernel_world.specs.Actors.{shell_id}
 use Rattle.wind_machine.specs.Task.{shell_task, is_at_console, waits_for_console, is_held, let_go, aborted}
 use Rattle.wind_machine.specs.Machine.{Heard, hear, heard_all, heard_from, kern_after}
 use Rattle.wind_machine.proofs.TaskLemmas.{since-move}
-use Rattle.kernel_calls.specs.Kept.{CountsWithin}
-use Rattle.kernel_calls.specs.Objects.{KeepsObjects}
-use Rattle.kernel_calls.specs.declared.objects.Objects.{Objects}
-use Rattle.kernel_calls.proofs.ObjectMoves.{objects-release, objects-reset}
-use Rattle.kernel_calls.proofs.Goes.{Goes, goes_nowhere, goes_on, goes_further, goes-release}
+use Rattle.kernel_world.specs.Kept.{CountsWithin}
+use Rattle.kernel_world.specs.Objects.{KeepsObjects}
+use Rattle.kernel_world.specs.declared.objects.Objects.{Objects}
+use Rattle.kernel_world.proofs.ObjectMoves.{objects-release, objects-reset}
+use Rattle.kernel_world.proofs.Goes.{Goes, goes_nowhere, goes_on, goes_further, goes-release}
 use Rattle.wind_machine.proofs.Moves.{goes-aborted}
 use Rattle.wind_machine.proofs.Kept.{byte_has_line}
 

@@ -10,22 +10,22 @@ use Rattle.board_bus.specs.BusState.{BusState}
 use Rattle.board_bus.specs.Access.{board_meaning, fetched}
 use Rattle.wind_core.specs.State.{Lives, task_of}
 use Rattle.wind_core.specs.Moves.{suspend}
-use Rattle.kernel_calls.specs.State.{WorldState}
-use Rattle.kernel_calls.specs.Actors.{shell_id}
-use Rattle.kernel_calls.specs.Calls.{call, is_built}
-use Rattle.kernel_calls.specs.Ending.{ended}
-use Rattle.kernel_calls.specs.Kept.{IsWorld, Within}
-use Rattle.kernel_calls.specs.declared.actor.Actor.TheVariants.{Task as by_task}
-use Rattle.kernel_calls.proofs.Goes.{goes-suspend}
-use Rattle.kernel_calls.proofs.ObjectMoves.{objects-listen, objects-suspend}
+use Rattle.kernel_world.specs.State.{WorldState}
+use Rattle.kernel_world.specs.Actors.{shell_id}
+use Rattle.kernel_calls.specs.Calls.{call}
+use Rattle.kernel_world.specs.Allowed.{is_built}
+use Rattle.task_calls.specs.Ending.{ended}
+use Rattle.kernel_world.specs.Kept.{IsWorld, Within, call_sinces}
+use Rattle.kernel_world.specs.declared.actor.Actor.TheVariants.{Task as by_task}
+use Rattle.kernel_world.proofs.Goes.{goes-suspend}
+use Rattle.kernel_world.proofs.ObjectMoves.{objects-listen, objects-suspend}
 use Rattle.wind_machine.proofs.Hearing.{objects-aborted}
-use Rattle.kernel_calls.specs.Laws.{call_sinces}
 use Rattle.live_loading.specs.Said.{FileSaid}
 use Rattle.live_loading.specs.Loading.{load_call}
 use Rattle.live_loading.specs.Laws.{LoadLaw}
-use Rattle.kernel_calls.specs.Objects.{IsFree, IsReady}
-use Rattle.kernel_calls.proofs.Living.{ready_free}
-use Rattle.kernel_calls.proofs.Advancing.{by_kern}
+use Rattle.kernel_world.specs.Objects.{IsFree, IsReady}
+use Rattle.kernel_world.proofs.Living.{ready_free}
+use Rattle.kernel_world.proofs.Advancing.{by_kern}
 use Rattle.kernel_calls.proofs.Passing.{call_passes}
 use Rattle.shell_eval.specs.Pending.{Pending}
 use Rattle.shell_eval.specs.Evaluate.{Ending, Value, Call, Fault, Waiting, evaluate}

@@ -12,13 +12,14 @@ use Rattle.board_bus.specs.BusState.{BusState}
 use Rattle.board_bus.specs.Access.{board_meaning, fetched}
 use Rattle.isr_watch.specs.Calls.{finish, with_level}
 use Rattle.isr_watch.proofs.Keeping.{watch_stays}
-use Rattle.kernel_calls.specs.State.{WorldState}
-use Rattle.kernel_calls.specs.Kept.{IsWorld, Within}
-use Rattle.kernel_calls.specs.Laws.{Passes, call_sinces}
-use Rattle.kernel_calls.specs.Calls.{call, is_built}
-use Rattle.kernel_calls.specs.declared.actor.Actor.TheVariants.{Interrupt}
-use Rattle.kernel_calls.proofs.Goes.{goes_nowhere}
-use Rattle.kernel_calls.proofs.Advancing.{Advances, advances_on, advances_more, beside, of_watches, at_routine}
+use Rattle.kernel_world.specs.State.{WorldState}
+use Rattle.kernel_world.specs.Kept.{IsWorld, Within, call_sinces}
+use Rattle.kernel_calls.specs.Laws.{Passes}
+use Rattle.kernel_calls.specs.Calls.{call}
+use Rattle.kernel_world.specs.Allowed.{is_built}
+use Rattle.kernel_world.specs.declared.actor.Actor.TheVariants.{Interrupt}
+use Rattle.kernel_world.proofs.Goes.{goes_nowhere}
+use Rattle.kernel_world.proofs.Advancing.{Advances, advances_on, advances_more, beside, of_watches, at_routine}
 use Rattle.kernel_calls.proofs.Passing.{call_passes}
 use Rattle.kernel_calls.proofs.Serves.{passes_by, passes_before}
 use Rattle.wind_machine.specs.Processor.{bus_of, with_bus}

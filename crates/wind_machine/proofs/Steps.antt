@@ -17,16 +17,16 @@ use Rattle.shell_parse.specs.Reading.{read_line}
 use Rattle.con_line.specs.State.{ConsoleState}
 use Rattle.con_line.specs.Lines.{KeepsLines, has_line, front_line, line_dropped}
 use Rattle.con_line.proofs.Kept.{drop_keeps}
-use Rattle.kernel_calls.specs.Actors.{shell_id}
-use Rattle.kernel_calls.specs.Opening.{interrupt_stack}
+use Rattle.kernel_world.specs.Actors.{shell_id}
+use Rattle.kernel_world.specs.Opening.{interrupt_stack}
 use Rattle.isr_watch.specs.Calls.{due}
 use Rattle.isr_watch.proofs.Ids.{ids_stay}
 use Rattle.isr_watch.proofs.Keeping.{watch_stays}
-use Rattle.kernel_calls.specs.Kept.{AreStacks, KeepsWatch, IsWorld, ReservedBy, Within}
-use Rattle.kernel_calls.specs.Objects.{IsReady}
-use Rattle.kernel_calls.proofs.ObjectMoves.{objects-last, objects-tick}
-use Rattle.kernel_calls.proofs.Holding.{loaded_on}
-use Rattle.kernel_calls.proofs.Advancing.{Advances, watch_on, by_kern, within_more}
+use Rattle.kernel_world.specs.Kept.{AreStacks, KeepsWatch, IsWorld, ReservedBy, Within}
+use Rattle.kernel_world.specs.Objects.{IsReady}
+use Rattle.kernel_world.proofs.ObjectMoves.{objects-last, objects-tick}
+use Rattle.kernel_world.proofs.Holding.{loaded_on}
+use Rattle.kernel_world.proofs.Advancing.{Advances, watch_on, by_kern, within_more}
 use Rattle.live_loading.specs.Said.{FileSaid}
 use Rattle.live_loading.specs.Loading.{load_call}
 use Rattle.live_loading.specs.Laws.{LoadLaw}

@@ -21,18 +21,18 @@ use Rattle.wind_core.proofs.Ids.{ids-change, lives_by}
 use Rattle.wind_core.proofs.Keeping.{every_call_keeps}
 use Rattle.wind_core.proofs.Stable.{All-change}
 use Rattle.wind_core.proofs.Unwritten.{map-change}
-use Rattle.kernel_calls.specs.State.{WorldState}
-use Rattle.kernel_calls.specs.Actors.{shell_id}
-use Rattle.kernel_calls.specs.Starting.{cleared, framed}
-use Rattle.kernel_calls.specs.Ending.{ended}
-use Rattle.kernel_calls.specs.Opening.{interrupt_stack}
-use Rattle.kernel_calls.specs.Kept.{IsKernels, AreStacks, task_stacks, IsWorld, HasCounts, Within, ReservedBy}
-use Rattle.kernel_calls.specs.Laws.{Passes, call_sinces}
-use Rattle.kernel_calls.specs.Objects.{IsFree}
-use Rattle.kernel_calls.specs.declared.actor.Actor.TheVariants.{Task as by_task}
-use Rattle.kernel_calls.proofs.Holding.{loaded_on, loaded_with}
-use Rattle.kernel_calls.proofs.Advancing.{Advances, within_more}
-use Rattle.kernel_calls.proofs.ObjectMoves.{objects-set_regs}
+use Rattle.kernel_world.specs.State.{WorldState}
+use Rattle.kernel_world.specs.Actors.{shell_id}
+use Rattle.kernel_world.specs.Starting.{cleared, framed}
+use Rattle.task_calls.specs.Ending.{ended}
+use Rattle.kernel_world.specs.Opening.{interrupt_stack}
+use Rattle.kernel_world.specs.Kept.{IsKernels, AreStacks, task_stacks, IsWorld, HasCounts, Within, ReservedBy, call_sinces}
+use Rattle.kernel_calls.specs.Laws.{Passes}
+use Rattle.kernel_world.specs.Objects.{IsFree}
+use Rattle.kernel_world.specs.declared.actor.Actor.TheVariants.{Task as by_task}
+use Rattle.kernel_world.proofs.Holding.{loaded_on, loaded_with}
+use Rattle.kernel_world.proofs.Advancing.{Advances, within_more}
+use Rattle.kernel_world.proofs.ObjectMoves.{objects-set_regs}
 use Rattle.kernel_calls.proofs.Departing.{ends}
 use Rattle.shell_eval.specs.State.{State as EvalState}
 use Rattle.shell_eval.specs.Kept.{IsPoolInRam, Keeps}

@@ -2,8 +2,8 @@
 use Rattle.std.specs.Prelude.{◌≡◌, ◌≢◌, ℕ, ◌+◌, ◌*◌, ◌^◌, ◌≤◌, List, []}
 use Rattle.con_line.specs.Lines.{KeepsLines}
 use Rattle.wind_core.specs.State.{Lives}
-use Rattle.kernel_calls.specs.Actors.{shell_id}
-use Rattle.kernel_calls.specs.Kept.{IsWorld, ReservedBy, Within}
+use Rattle.kernel_world.specs.Actors.{shell_id}
+use Rattle.kernel_world.specs.Kept.{IsWorld, ReservedBy, Within}
 use Rattle.wind_machine.specs.State.{State}
 use Rattle.wind_machine.specs.declared.phase.Phase.{Phase}
 use Rattle.wind_machine.specs.declared.phase.Phase.TheVariants as phases

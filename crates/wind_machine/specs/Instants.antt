@@ -6,7 +6,7 @@ use Rattle.wind_core.specs.Orders.{running}
 use Rattle.wind_core.specs.Laws.{MayRun}
 use Rattle.inheritance.specs.Mutexes.{both, held_count}
 use Rattle.inheritance.specs.Reach.{boss, reaches, pri_of, raised}
-use Rattle.kernel_calls.specs.State.{WorldState}
+use Rattle.kernel_world.specs.State.{WorldState}
 
 -- whoever runs where no interrupt routine is active lives and is ready, and no ready task is before it, unless it ran last and holds the lock
 abbrev pub MostUrgentRuns : WorldState → Type 0

@@ -19,12 +19,13 @@ use Rattle.con_line.specs.Keys.{after_byte, byte_echo, byte_done}
 use Rattle.con_line.specs.Lines.{has_line, front_line, line_dropped}
 use Rattle.con_line.specs.declared.console.ByteDone.{ByteDone}
 use Rattle.con_line.specs.declared.console.ByteDone.TheVariants as done
-use Rattle.kernel_calls.specs.State.{WorldState}
-use Rattle.kernel_calls.specs.Actors.{shell_id}
-use Rattle.kernel_calls.specs.Calls.{file_wanted, may_lack_memory as call_may_lack_memory}
-use Rattle.kernel_calls.specs.Opening.{opening_world}
-use Rattle.kernel_calls.specs.declared.actor.Actor.{Actor}
-use Rattle.kernel_calls.specs.declared.actor.Actor.TheVariants.{Task as by_task, Interrupt}
+use Rattle.kernel_world.specs.State.{WorldState}
+use Rattle.kernel_world.specs.Actors.{shell_id}
+use Rattle.kernel_calls.specs.Calls.{file_wanted}
+use Rattle.kernel_world.specs.Allowed.{may_lack_memory as call_may_lack_memory}
+use Rattle.kernel_world.specs.Opening.{opening_world}
+use Rattle.kernel_world.specs.declared.actor.Actor.{Actor}
+use Rattle.kernel_world.specs.declared.actor.Actor.TheVariants.{Task as by_task, Interrupt}
 use Rattle.live_loading.specs.Said.{FileSaid}
 use Rattle.live_loading.specs.Loading.{shell, load_call}
 use Rattle.wind_machine.specs.State.{ShellState, State}

@@ -14,11 +14,12 @@ use Rattle.ppc_core.specs.declared.trap.Trap.{Trap}
 use Rattle.ppc_core.specs.declared.trap.Trap.TheVariants as traps
 use Rattle.board_bus.specs.BusState.{BusState}
 use Rattle.board_bus.specs.Access.{board_meaning, fetched}
-use Rattle.kernel_calls.specs.State.{WorldState}
-use Rattle.kernel_calls.specs.Actors.{shell_id, caller_regs}
-use Rattle.kernel_calls.specs.Calls.{call, is_built}
-use Rattle.kernel_calls.specs.Ending.{ended}
-use Rattle.kernel_calls.specs.declared.actor.Actor.TheVariants.{Task as by_task}
+use Rattle.kernel_world.specs.State.{WorldState}
+use Rattle.kernel_world.specs.Actors.{shell_id, caller_regs}
+use Rattle.kernel_calls.specs.Calls.{call}
+use Rattle.kernel_world.specs.Allowed.{is_built}
+use Rattle.task_calls.specs.Ending.{ended}
+use Rattle.kernel_world.specs.declared.actor.Actor.TheVariants.{Task as by_task}
 use Rattle.wind_machine.specs.State.{ShellState}
 use Rattle.wind_machine.specs.Part.{Part, part_of, with_kern, writing}
 use Rattle.wind_machine.specs.Task.{aborted}

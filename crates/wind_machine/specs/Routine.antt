@@ -13,11 +13,13 @@ use Rattle.board_bus.specs.BusState.{BusState}
 use Rattle.board_bus.specs.Access.{board_meaning, fetched}
 use Rattle.isr_watch.specs.State.{WatchState}
 use Rattle.isr_watch.specs.Calls.{finish, with_level}
-use Rattle.kernel_calls.specs.State.{WorldState}
-use Rattle.kernel_calls.specs.Actors.{caller_regs}
-use Rattle.kernel_calls.specs.Opening.{interrupt_stack}
-use Rattle.kernel_calls.specs.Calls.{call, is_built, at_level}
-use Rattle.kernel_calls.specs.declared.actor.Actor.TheVariants.{Interrupt}
+use Rattle.kernel_world.specs.State.{WorldState}
+use Rattle.kernel_world.specs.Actors.{caller_regs}
+use Rattle.kernel_world.specs.Opening.{interrupt_stack}
+use Rattle.kernel_calls.specs.Calls.{call}
+use Rattle.kernel_world.specs.Allowed.{is_built}
+use Rattle.kernel_world.specs.Replies.{at_level}
+use Rattle.kernel_world.specs.declared.actor.Actor.TheVariants.{Interrupt}
 use Rattle.wind_machine.specs.Part.{writing}
 use Rattle.wind_machine.specs.Processor.{bus_of, with_bus}
 use Rattle.wind_machine.specs.Text.{routine_text}

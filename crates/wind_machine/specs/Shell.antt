@@ -7,9 +7,9 @@ use Rattle.shell_parse.specs.Reading.{Reading, Statements, Refused}
 use Rattle.shell_eval.specs.State.{State as EvalState}
 use Rattle.shell_eval.specs.Pending.{Pending, begun_stmt, filled}
 use Rattle.shell_eval.specs.Evaluate.{Evaluated, Ending, Value, Call, Fault, Waiting, evaluate}
-use Rattle.kernel_calls.specs.State.{WorldState}
-use Rattle.kernel_calls.specs.Actors.{shell_id}
-use Rattle.kernel_calls.specs.Starting.{framed}
+use Rattle.kernel_world.specs.State.{WorldState}
+use Rattle.kernel_world.specs.Actors.{shell_id}
+use Rattle.kernel_world.specs.Starting.{framed}
 use Rattle.wind_machine.specs.State.{ShellState}
 use Rattle.wind_machine.specs.Part.{Part, part_of, with_kern, writing}
 use Rattle.wind_machine.specs.Task.{listening, stack_pointer, call_regs}

@@ -9,10 +9,12 @@ use Rattle.msg_queue.specs.State.{QueueState, Scene}
 use Rattle.msg_queue.specs.Kept.{IsKept}
 use Rattle.msg_queue.specs.Machine.{Event, accepted_next, taken_next}
 use Rattle.msg_queue.specs.Laws.{Stock, IsBalanced}
-use Rattle.kernel_calls.specs.State.{WorldState}
-use Rattle.kernel_calls.specs.Actors.{shell_id, caller_words}
-use Rattle.kernel_calls.specs.Calls.{Row, scene_of, is_built, is_shells_own, left_gate, row_unless, allowed_row, made, answered, call}
-use Rattle.kernel_calls.specs.declared.actor.Actor.TheVariants.{Task as by_task}
+use Rattle.kernel_world.specs.State.{WorldState}
+use Rattle.kernel_world.specs.Actors.{shell_id, caller_words}
+use Rattle.kernel_calls.specs.Calls.{Row, scene_of, row_unless, allowed_row, made, answered, call}
+use Rattle.kernel_world.specs.Allowed.{is_built, is_shells_own}
+use Rattle.kernel_world.specs.Replies.{left_gate}
+use Rattle.kernel_world.specs.declared.actor.Actor.TheVariants.{Task as by_task}
 use Rattle.wind_machine.specs.Processor.{is_return, called}
 use Rattle.wind_messages.specs.Messages.{call_at}
 use Rattle.wind_messages.proofs.Rows.{stock_in, Balances, leaves, row_balances}

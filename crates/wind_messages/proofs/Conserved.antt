@@ -4,8 +4,8 @@ use Rattle.wind_outside.specs.Devices.{DeviceState}
 use Rattle.tick_file.specs.Schedule.{timetable_of}
 use Rattle.msg_queue.specs.Laws.{IsRun}
 use Rattle.msg_queue.proofs.Running.{run_conserved}
-use Rattle.kernel_calls.specs.Opening.{opening_world}
-use Rattle.kernel_calls.proofs.Apart.{queue_ids}
+use Rattle.kernel_world.specs.Opening.{opening_world}
+use Rattle.kernel_world.proofs.Apart.{queue_ids}
 use Rattle.wind_machine.specs.State.{State}
 use Rattle.wind_machine.specs.Good.{Good}
 use Rattle.wind_machine.specs.Machine.{opening}

@@ -15,11 +15,13 @@ use Rattle.shell_eval.specs.Pending.{Pending}
 use Rattle.shell_eval.specs.Evaluate.{Ending, Value, Call, Fault, Waiting, evaluate}
 use Rattle.msg_queue.specs.State.{Scene}
 use Rattle.msg_queue.specs.Kept.{IsKept}
-use Rattle.kernel_calls.specs.State.{WorldState}
-use Rattle.kernel_calls.specs.Actors.{shell_id, caller_words}
-use Rattle.kernel_calls.specs.Calls.{scene_of, is_built, left_gate}
-use Rattle.kernel_calls.specs.Ending.{ended}
-use Rattle.kernel_calls.specs.declared.actor.Actor.TheVariants.{Task as by_task}
+use Rattle.kernel_world.specs.State.{WorldState}
+use Rattle.kernel_world.specs.Actors.{shell_id, caller_words}
+use Rattle.kernel_calls.specs.Calls.{scene_of}
+use Rattle.kernel_world.specs.Allowed.{is_built}
+use Rattle.kernel_world.specs.Replies.{left_gate}
+use Rattle.task_calls.specs.Ending.{ended}
+use Rattle.kernel_world.specs.declared.actor.Actor.TheVariants.{Task as by_task}
 use Rattle.wind_machine.specs.State.{ShellState}
 use Rattle.wind_machine.specs.Part.{part_of, with_kern, writing}
 use Rattle.wind_machine.specs.Task.{shell_task, is_held, listening, aborted}

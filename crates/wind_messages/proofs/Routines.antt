@@ -15,14 +15,15 @@ use Rattle.sem_plain.specs.Calls as plain
 use Rattle.msg_queue.specs.State.{Scene}
 use Rattle.msg_queue.specs.Kept.{IsKept}
 use Rattle.msg_queue.proofs.Traffic.{balanced_send}
-use Rattle.kernel_calls.specs.State.{WorldState}
-use Rattle.kernel_calls.specs.Actors.{caller_words}
-use Rattle.kernel_calls.specs.TaskRows.{target}
-use Rattle.kernel_calls.specs.SemRows as sem
-use Rattle.kernel_calls.specs.QueueRows.{sending}
+use Rattle.kernel_world.specs.State.{WorldState}
+use Rattle.kernel_world.specs.Actors.{caller_words, target}
+use Rattle.object_calls.specs.SemRows as sem
+use Rattle.object_calls.specs.QueueRows.{sending}
 use Rattle.wind_core.specs.Moves.{live_id}
-use Rattle.kernel_calls.specs.Calls.{scene_of, is_built, is_isr_callable, is_shells_own, task_at, left_gate, Row, row, row_unless, allowed_row, made, answered, call}
-use Rattle.kernel_calls.specs.declared.actor.Actor.TheVariants.{Interrupt}
+use Rattle.kernel_calls.specs.Calls.{scene_of, task_at, Row, row, row_unless, allowed_row, made, answered, call}
+use Rattle.kernel_world.specs.Allowed.{is_built, is_isr_callable, is_shells_own}
+use Rattle.kernel_world.specs.Replies.{left_gate}
+use Rattle.kernel_world.specs.declared.actor.Actor.TheVariants.{Interrupt}
 use Rattle.wind_machine.specs.Processor.{bus_of}
 use Rattle.wind_machine.specs.Routine.{routine_regs, next_routine, given_up, routine_call, routine_gate, routine_executed, routine_word, routine_at, routine_under, routine_part}
 use Rattle.wind_messages.specs.Messages.{sent_at, sent_under}

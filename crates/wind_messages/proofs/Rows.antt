@@ -30,16 +30,17 @@ use Rattle.msg_queue.specs.Machine.{Event, accepted_next, taken_next}
 use Rattle.msg_queue.specs.Laws.{Stock, IsBalanced}
 use Rattle.msg_queue.proofs.Traffic.{stock, balanced_still, balanced_send, balanced_receive, balanced_create, balanced_gone}
 use Rattle.isr_watch.specs.Calls.{create_refusal as watchdog_refusal}
-use Rattle.kernel_calls.specs.State.{WorldState}
-use Rattle.kernel_calls.specs.declared.objects.Objects.{Objects}
-use Rattle.kernel_calls.specs.TaskRows.{done, refused, target, suspend_row, resume_row, verify_row, found_row, name_row}
-use Rattle.kernel_calls.specs.SafetyRows.{deletes, meant, unsafe_unless}
-use Rattle.kernel_calls.specs.SemRows as sem
-use Rattle.kernel_calls.specs.QueueRows as queue
-use Rattle.kernel_calls.specs.WatchRows as watch
-use Rattle.kernel_calls.specs.Spawning.{SpawnState, SpawnRow, spawned_at, spawned_unless, spawned_if, stack_bytes, task_wanted, quick_wanted}
-use Rattle.kernel_calls.specs.Calls.{with_reply, of_objects, of_queues, of_watch, scene_of, spawn_state, priority_in, task_at, row}
-use Rattle.kernel_calls.specs.declared.actor.Actor.TheVariants.{Task as by_task}
+use Rattle.kernel_world.specs.State.{WorldState}
+use Rattle.kernel_world.specs.declared.objects.Objects.{Objects}
+use Rattle.task_calls.specs.TaskRows.{done, refused, suspend_row, resume_row, verify_row, found_row, name_row}
+use Rattle.kernel_world.specs.Actors.{target}
+use Rattle.task_calls.specs.SafetyRows.{deletes, meant, unsafe_unless}
+use Rattle.object_calls.specs.SemRows as sem
+use Rattle.object_calls.specs.QueueRows as queue
+use Rattle.object_calls.specs.WatchRows as watch
+use Rattle.task_calls.specs.Spawning.{SpawnState, SpawnRow, spawned_at, spawned_unless, spawned_if, stack_bytes, task_wanted, quick_wanted, spawn_state}
+use Rattle.kernel_calls.specs.Calls.{with_reply, of_objects, of_queues, of_watch, scene_of, priority_in, task_at, row}
+use Rattle.kernel_world.specs.declared.actor.Actor.TheVariants.{Task as by_task}
 use Rattle.wind_messages.specs.Messages.{call_at}
 use Rattle.wind_messages.proofs.NextIds.{NextSame, next-resume, next-lessen, next-sem_take, next-sem_give, next-sem_flush, next-sem_delete, next-mutex_take, next-mutex_give, next-mutex_delete, next-priority_set}
 

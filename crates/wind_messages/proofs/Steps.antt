@@ -19,12 +19,13 @@ use Rattle.shell_parse.specs.Reading.{read_line}
 use Rattle.msg_queue.specs.Kept.{IsKept}
 use Rattle.msg_queue.specs.Machine.{Event as Call}
 use Rattle.msg_queue.proofs.Calm.{next-tick, calms}
-use Rattle.kernel_calls.specs.State.{WorldState}
-use Rattle.kernel_calls.specs.Actors.{shell_id, caller_words}
-use Rattle.kernel_calls.specs.Calls.{scene_of, left_gate}
-use Rattle.kernel_calls.specs.declared.actor.Actor.{Actor}
-use Rattle.kernel_calls.specs.declared.actor.Actor.TheVariants.{Task as by_task, Interrupt}
-use Rattle.kernel_calls.proofs.Calming.{queues-calm}
+use Rattle.kernel_world.specs.State.{WorldState}
+use Rattle.kernel_world.specs.Actors.{shell_id, caller_words}
+use Rattle.kernel_calls.specs.Calls.{scene_of}
+use Rattle.kernel_world.specs.Replies.{left_gate}
+use Rattle.kernel_world.specs.declared.actor.Actor.{Actor}
+use Rattle.kernel_world.specs.declared.actor.Actor.TheVariants.{Task as by_task, Interrupt}
+use Rattle.kernel_world.proofs.Calming.{queues-calm}
 use Rattle.live_loading.specs.Said.{FileSaid}
 use Rattle.live_loading.specs.Loading.{shell, load_call}
 use Rattle.live_loading.specs.Laws.{AloneLaw}

@@ -5,12 +5,13 @@ use Rattle.wind_base.specs.declared.gate.Gate.TheVariants as gates
 use Rattle.msg_queue.specs.State.{Scene}
 use Rattle.msg_queue.specs.Machine.{Event, sends, receives, Parcel, accepted_next, taken_next}
 use Rattle.msg_queue.specs.Laws.{gathered}
-use Rattle.kernel_calls.specs.State.{WorldState}
-use Rattle.kernel_calls.specs.Actors.{shell_id, caller_words}
-use Rattle.kernel_calls.specs.Calls.{left_gate, scene_of}
-use Rattle.kernel_calls.specs.QueueRows.{sending}
-use Rattle.kernel_calls.specs.declared.actor.Actor.{Actor}
-use Rattle.kernel_calls.specs.declared.actor.Actor.TheVariants.{Task as by_task, Interrupt}
+use Rattle.kernel_world.specs.State.{WorldState}
+use Rattle.kernel_world.specs.Actors.{shell_id, caller_words}
+use Rattle.kernel_world.specs.Replies.{left_gate}
+use Rattle.kernel_calls.specs.Calls.{scene_of}
+use Rattle.object_calls.specs.QueueRows.{sending}
+use Rattle.kernel_world.specs.declared.actor.Actor.{Actor}
+use Rattle.kernel_world.specs.declared.actor.Actor.TheVariants.{Task as by_task, Interrupt}
 use Rattle.wind_machine.specs.State.{State}
 use Rattle.wind_machine.specs.Run.{Answers, after}
 use Rattle.wind_machine.specs.Machine.{stepping, cleared, unreserved_world, at_turn}

@@ -1,14 +1,14 @@
 use Rattle.std.proofs.Common.{sym, subst}
 use Rattle.module_loader.specs.Holding.{AreHeld}
-use Rattle.kernel_calls.specs.State.{WorldState}
-use Rattle.kernel_calls.specs.Actors.{Acts, MayCall}
-use Rattle.kernel_calls.specs.Objects.{KeepsObjects}
-use Rattle.kernel_calls.specs.Kept.{KeepsWatch, IsEarly}
-use Rattle.kernel_calls.proofs.Living.{left_acts}
-use Rattle.kernel_calls.proofs.Early.{left_early}
-use Rattle.kernel_calls.proofs.Passing.{may_left}
+use Rattle.kernel_world.specs.State.{WorldState}
+use Rattle.kernel_world.specs.Actors.{Acts, MayCall}
+use Rattle.kernel_world.specs.Objects.{KeepsObjects}
+use Rattle.kernel_world.specs.Kept.{KeepsWatch, IsEarly}
+use Rattle.kernel_world.proofs.Living.{left_acts}
+use Rattle.kernel_world.proofs.Early.{left_early}
+use Rattle.kernel_world.proofs.Replying.{may_left}
 use Rattle.kernel_calls.proofs.Serving.{left_objects, left_modules, left_watch, of_task}
-use Rattle.kernel_calls.proofs.QueueCalls.{lacking_made}
+use Rattle.kernel_calls.proofs.GateRows.{lacking_made}
 use Rattle.kernel_calls.proofs.calls.make.Goals as goal
 
 pub plain_row-requires-clause-live : goal.plain_row-requires-clause-live

@@ -1,5 +1,5 @@
 use Rattle.std.proofs.Common.{ap, ◌∙◌}
-use Rattle.kernel_calls.specs.State.{WorldState}
+use Rattle.kernel_world.specs.State.{WorldState}
 use Rattle.kernel_calls.specs.Calls.{with_reply}
 use Rattle.kernel_calls.proofs.rows.create_by.Goals as goal
 

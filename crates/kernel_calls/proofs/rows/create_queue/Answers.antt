@@ -1,4 +1,5 @@
-use Rattle.kernel_calls.proofs.QueueCalls.{created_behind, created_acts}
+use Rattle.kernel_calls.proofs.GateRows.{created_behind}
+use Rattle.object_calls.proofs.QueueCalls.{created_acts}
 use Rattle.kernel_calls.proofs.rows.create_queue.Goals as goal
 
 pub returns-clause-ok : goal.returns-clause-ok

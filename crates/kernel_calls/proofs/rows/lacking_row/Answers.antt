@@ -1,5 +1,5 @@
 use Rattle.wind_base.specs.declared.gate.Gate.TheVariants.{SymAdd, MsgQCreate, Ld, I, Lkup, ModuleShow, D}
-use Rattle.kernel_calls.proofs.QueueCalls.{at_gate, plain_at_gate}
+use Rattle.kernel_calls.proofs.GateRows.{at_gate, plain_at_gate}
 use Rattle.kernel_calls.proofs.rows.lacking_row.Goals as goal
 
 pub returns-in-SymAdd-clause-ok : goal.returns-in-SymAdd-clause-ok

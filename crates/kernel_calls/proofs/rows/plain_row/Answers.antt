@@ -1,5 +1,5 @@
 use Rattle.wind_base.specs.declared.gate.Gate.TheVariants.{Unld}
-use Rattle.kernel_calls.proofs.QueueCalls.{plain_at_gate, named_row}
+use Rattle.kernel_calls.proofs.GateRows.{plain_at_gate, named_row}
 use Rattle.kernel_calls.proofs.rows.plain_row.Goals as goal
 
 pub returns-in-TaskNameToId-clause-row : goal.returns-in-TaskNameToId-clause-row

@@ -1,0 +1,201 @@
+//! Steps over a world, in their order.
+
+use crate::bench::{BACK, Bench, FRAME, SHELL};
+use crate::looks::{Look, sees};
+use kernel_calls::Called;
+use std::alloc::Global;
+use wind_base::Gate;
+use wind_base::limits::GATES_START;
+use wind_base::words::OK;
+
+// A step; callers and tasks go by the numbers of their ids, and the interrupt routine by 0.
+#[derive(Clone, Copy)]
+pub(crate) enum Step {
+    // a caller makes the call of a gate with its first four words; then what stands in r3, and its error number
+    Call(u32, Gate, [u32; 4], u32, u32),
+    // the same by one that is answered later
+    Wait(u32, Gate, [u32; 4], u32, u32),
+    // the shell's task calls ld with these words, and asks for the file of this name
+    Asks([u32; 4], &'static [u8]),
+    // the shell's task, whose r1 this is, asks by taskSpawn for a task of this name, priority and stack, which begins
+    // at 0x4000 with the words 1, 2 and 3, and seven above r1; then r3 and its error number
+    Spawn(u32, [u32; 3], u32, u32),
+    // the same by sp, with the words 1 to 7, and two above r1
+    Quick(u32, u32, u32),
+    // the shell's task asks by taskSpawn for so many tasks, whose ids are those from this one on
+    SpawnAll(u32, u32),
+    // the shell's task adds so many symbols of the name at an address
+    AddAll(u32, u32),
+    // a task ends
+    End(u32),
+    // a task ends itself by taskDelete
+    Leave(u32),
+    // the first task begins to wait until the second may be deleted
+    Await(u32, u32),
+    // these bytes stand from an address on
+    Write(u32, &'static [u8]),
+    // so many bytes do
+    Fill(u32, u32, u8),
+    See(Look),
+}
+
+// How a call that was made went on.
+#[derive(Clone, Copy, PartialEq, Eq)]
+enum Made {
+    Done,
+    Pended,
+    Ended,
+}
+
+// None where it wasn't made.
+fn how_made(called: &Called) -> Option<Made> {
+    match called {
+        Called::Done => Some(Made::Done),
+        Called::Pended => Some(Made::Pended),
+        Called::Ended => Some(Made::Ended),
+        Called::NeedsFile(_) | Called::NoMemory => None,
+    }
+}
+
+// A caller comes to a gate with these words and makes its call. None where it isn't made.
+fn call_made(alloc: Global, bench: &mut Bench, call: (u32, Gate, u32, [u32; 10])) -> Option<Made> {
+    let (who, gate, frame, words) = call;
+    how_made(&bench.call(alloc, who, gate, frame, &words)?)
+}
+
+// Makes a call of the gate, and says whether it comes to this, and its caller stands behind it with this in r3 and this
+// error number.
+fn comes_to(
+    alloc: Global,
+    bench: &mut Bench,
+    call: (u32, Gate, u32, [u32; 10]),
+    told: (Made, u32, u32),
+) -> bool {
+    let (made, r3, errno) = told;
+    call_made(alloc, bench, call) == Some(made) && bench.standing(call.0) == Some((BACK, r3, errno))
+}
+
+// The words of a call.
+fn four([a, b, c, d]: [u32; 4]) -> [u32; 10] {
+    [a, b, c, d, 0, 0, 0, 0, 0, 0]
+}
+
+// The words of taskSpawn.
+fn spawning([name, pri, stack]: [u32; 3]) -> [u32; 10] {
+    [name, pri, 0, stack, 0x4000, 1, 2, 3, 0, 0]
+}
+
+// The words of sp.
+const QUICK: [u32; 10] = [0x4000, 1, 2, 3, 4, 5, 6, 7, 0, 0];
+
+// Whether a task that deletes itself is told to have ended.
+fn leaves(alloc: Global, bench: &mut Bench, who: u32) -> bool {
+    let call = (who, Gate::TaskDelete, FRAME, four([0; 4]));
+    call_made(alloc, bench, call) == Some(Made::Ended) && bench.task(who).is_none()
+}
+
+// Whether a task that asks for a deletion pends, and stands at the gate of its call.
+fn awaits(alloc: Global, bench: &mut Bench, who: u32, target: u32) -> bool {
+    let call = (who, Gate::TaskDelete, FRAME, four([target, 0, 0, 0]));
+    let gate = Gate::TaskDelete.address(GATES_START);
+    call_made(alloc, bench, call) == Some(Made::Pended)
+        && bench.standing(who) == Some((gate, target, 0))
+}
+
+// Whether the shell's task asks for the file of this name, and stands at the gate of its call.
+fn asks(alloc: Global, bench: &mut Bench, words: [u32; 4], name: &[u8]) -> bool {
+    let gate = Gate::Ld.address(GATES_START);
+    match bench.call(alloc, SHELL, Gate::Ld, FRAME, &four(words)) {
+        Some(Called::NeedsFile(wanted)) => {
+            wanted.bytes() == name && bench.standing(SHELL) == Some((gate, words[0], 0))
+        }
+        _ => false,
+    }
+}
+
+// Whether taskSpawn by the shell's task, with this r1, answers this, with this error number.
+fn spawns(alloc: Global, bench: &mut Bench, r1: u32, asked: [u32; 3], told: (u32, u32)) -> bool {
+    let call = (SHELL, Gate::TaskSpawn, r1, spawning(asked));
+    comes_to(alloc, bench, call, (Made::Done, told.0, told.1))
+}
+
+// Whether so many tasks are spawned, with ids from this one on.
+fn spawns_all(alloc: Global, bench: &mut Bench, first: u32, count: u32) -> bool {
+    for k in 0..count {
+        let id = first.wrapping_add(k);
+        if !spawns(alloc, bench, FRAME, [0, 100, 0], (id, 0)) {
+            return false;
+        }
+    }
+    true
+}
+
+// Whether so many symbols of the name at an address are added.
+fn adds_all(alloc: Global, bench: &mut Bench, name: u32, count: u32) -> bool {
+    for value in 0..count {
+        let call = (SHELL, Gate::SymAdd, FRAME, four([0, name, value, 2]));
+        if !comes_to(alloc, bench, call, (Made::Done, OK, 0)) {
+            return false;
+        }
+    }
+    true
+}
+
+// Makes a step, and says whether it is as it says.
+fn goes(alloc: Global, bench: &mut Bench, step: Step) -> bool {
+    match step {
+        Step::Call(who, gate, words, r3, errno) => {
+            let call = (who, gate, FRAME, four(words));
+            comes_to(alloc, bench, call, (Made::Done, r3, errno))
+        }
+        Step::Wait(who, gate, words, r3, errno) => {
+            let call = (who, gate, FRAME, four(words));
+            comes_to(alloc, bench, call, (Made::Pended, r3, errno))
+        }
+        Step::Asks(words, name) => asks(alloc, bench, words, name),
+        Step::Spawn(r1, asked, r3, errno) => spawns(alloc, bench, r1, asked, (r3, errno)),
+        Step::SpawnAll(first, count) => spawns_all(alloc, bench, first, count),
+        Step::AddAll(name, count) => adds_all(alloc, bench, name, count),
+        Step::Quick(r1, r3, errno) => {
+            let call = (SHELL, Gate::Sp, r1, QUICK);
+            comes_to(alloc, bench, call, (Made::Done, r3, errno))
+        }
+        Step::End(who) => bench.end(who),
+        Step::Leave(who) => leaves(alloc, bench, who),
+        Step::Await(who, target) => awaits(alloc, bench, who, target),
+        Step::Write(address, bytes) => bench.write(address, bytes),
+        Step::Fill(address, count, byte) => bench.fill(address, count, byte),
+        Step::See(look) => sees(bench, look),
+    }
+}
+
+// Steps over a world from its start on, in their order, with what they show.
+#[derive(Clone, Copy)]
+pub(crate) struct Table {
+    pub(crate) name: &'static str,
+    pub(crate) steps: &'static [Step],
+}
+
+// What came of a table.
+pub(crate) enum Outcome {
+    AsWorkedOut,
+    // the step of this number isn't as it says, the first being number 1
+    Wrong(u64),
+    // no world could be made
+    NoWorld,
+}
+
+// Makes the steps of a table, up to the first that isn't as it says.
+pub(crate) fn play(alloc: Global, table: &Table) -> Outcome {
+    let Some(mut bench) = Bench::new(alloc) else {
+        return Outcome::NoWorld;
+    };
+    let mut number = 0u64;
+    for step in table.steps {
+        number = number.wrapping_add(1);
+        if !goes(alloc, &mut bench, *step) {
+            return Outcome::Wrong(number);
+        }
+    }
+    Outcome::AsWorkedOut
+}

@@ -1,0 +1,79 @@
+//! symAdd, called by the shell's task.
+
+use super::{BAD_ADDRESS, BAD_KIND, OBJ_ID_ERROR, RAM_END, SYMBOLS_FULL};
+use crate::bench::SHELL;
+use crate::looks::Look;
+use crate::steps::{Step, Table};
+use symbol_table::SymKind;
+use wind_base::Gate;
+use wind_base::words::{ERROR, OK};
+
+// Where the names are put: one of four bytes, one of none, one of 256 bytes, and 1,024 bytes without an end.
+const PUMP: u32 = 0x1000;
+
+const NO_NAME: u32 = 0x1020;
+
+const TOO_LONG: u32 = 0x1200;
+
+const ENDLESS: u32 = 0x2000;
+
+// The table, the name, the kind.
+const REFUSED: [Step; 13] = [
+    Step::Write(PUMP, b"pump\0"),
+    Step::Fill(TOO_LONG, 256, b'n'),
+    Step::Fill(ENDLESS, 1024, b'e'),
+    Step::Call(SHELL, Gate::SymAdd, [1, RAM_END, 5, 0], ERROR, OBJ_ID_ERROR),
+    Step::Call(SHELL, Gate::SymAdd, [0, RAM_END, 5, 0], ERROR, BAD_ADDRESS),
+    Step::Call(SHELL, Gate::SymAdd, [0, PUMP, 5, 0], ERROR, BAD_KIND),
+    Step::Call(SHELL, Gate::SymAdd, [0, NO_NAME, 5, 0], ERROR, BAD_ADDRESS),
+    Step::Call(SHELL, Gate::SymAdd, [0, PUMP, 5, 5], ERROR, BAD_KIND),
+    Step::Call(SHELL, Gate::SymAdd, [0, TOO_LONG, 5, 1], ERROR, BAD_ADDRESS),
+    Step::Call(SHELL, Gate::SymAdd, [0, ENDLESS, 5, 0], ERROR, BAD_ADDRESS),
+    Step::See(Look::Symbols(49)),
+    // 255 bytes are a name
+    Step::Call(
+        SHELL,
+        Gate::SymAdd,
+        [0, TOO_LONG + 1, 5, 1],
+        OK,
+        BAD_ADDRESS,
+    ),
+    Step::See(Look::Symbols(50)),
+];
+
+const ADDED: [Step; 9] = [
+    Step::Write(PUMP, b"pump\0"),
+    Step::Call(SHELL, Gate::SymAdd, [0, PUMP, 50, 1], OK, 0),
+    Step::Call(SHELL, Gate::SymAdd, [0, PUMP, 60, 2], OK, 0),
+    Step::Call(SHELL, Gate::SymAdd, [0, PUMP, 70, 3], OK, 0),
+    Step::Call(SHELL, Gate::SymAdd, [0, PUMP, 80, 4], OK, 0),
+    Step::See(Look::Symbol(49, b"pump", 50, SymKind::TextSym)),
+    Step::See(Look::Symbol(50, b"pump", 60, SymKind::DataSym)),
+    Step::See(Look::Symbol(51, b"pump", 70, SymKind::BssSym)),
+    Step::See(Look::Symbol(52, b"pump", 80, SymKind::AbsSym)),
+];
+
+// There are 65,536 symbols at most, 49 calls among them. The kind is looked at before.
+const FULL: [Step; 5] = [
+    Step::Write(PUMP, b"pump\0"),
+    Step::AddAll(PUMP, 65_487),
+    Step::Call(SHELL, Gate::SymAdd, [0, PUMP, 5, 2], ERROR, SYMBOLS_FULL),
+    Step::Call(SHELL, Gate::SymAdd, [0, PUMP, 5, 5], ERROR, BAD_KIND),
+    Step::See(Look::Symbols(65_536)),
+];
+
+// There are 65,536 symbols at most, 49 calls among them.
+pub(super) const TABLES: [Table; 3] = [
+    Table {
+        name: "a symbol is refused in order",
+        steps: &REFUSED,
+    },
+    Table {
+        name: "a symbol has one of four kinds",
+        steps: &ADDED,
+    },
+    Table {
+        name: "the table of symbols is full",
+        steps: &FULL,
+    },
+];

@@ -1,9 +1,0 @@
-use Rattle.std.proofs.Common.{[], length, refl}
-use Rattle.kernel_calls.specs.Seen.{world_with}
-use Rattle.kernel_calls.proofs.Benches.{used_bytes}
-use Rattle.kernel_calls.proofs.tests.bench.Bench.write.Goals as goal
-
-pub invariant_of-self : goal.invariant_of-self
-invariant_of-self g c =
-    let b = c.self.inside in
-    used_bytes (world_with [] b.world) c.copy_in.new.self c.args.address (length c.args.bytes.now) b.calls c.args.bytes.now refl c.copy_in.ensures.bytes c.self.invariant

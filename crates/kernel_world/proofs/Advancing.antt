@@ -1,0 +1,278 @@
+-- What a call keeps while all its tasks live on: the kept facts, and the counters within their bounds.
+use Rattle.std.proofs.Common.{◌≡◌, ℕ, ◌+◌, ◌<◌, ◌≤◌, Bool, true, false, cond, eqb, leb, ltb, List, [], ◌∷◌, ◌++◌, length, replicate, Option, None, Some, IsSome, Result, Ok, Err, refl, sym, ◌∙◌, subst, arith}
+use Rattle.std.specs.Option.{option_or, option_map}
+use Rattle.std.specs.Prelude.{◌||◌, slice_index}
+use Rattle.std.specs.List.{find}
+use Rattle.std.proofs.lemmas.Bool.{leb-false}
+use Rattle.std.proofs.lemmas.List.{map-append, length_push}
+use Rattle.std.proofs.lemmas.List.Folds.{find-append}
+use Rattle.std.proofs.lemmas.List.Elements.{All-weaker, All-push}
+use Rattle.wind_base.specs.Limits.{most_symbols, longest_name, frame_bytes}
+use Rattle.wind_base.specs.declared.regs.Regs.{Regs}
+use Rattle.wind_base.specs.declared.errno.Errno.{Errno}
+use Rattle.wind_base.specs.declared.errno.Errno.TheVariants as errors
+use Rattle.wind_outside.specs.Devices.{DeviceState}
+use Rattle.task_block.specs.declared.task.Task.{Task as TaskRecord}
+use Rattle.symbol_table.specs.declared.symbol.Symbol.{Symbol}
+use Rattle.module_loader.specs.declared.module.LoadedModule.{LoadedModule}
+use Rattle.mem_partition.specs.State.{PartState, alloc_of, after_alloc, free_of, after_free}
+use Rattle.mem_partition.specs.declared.block.Class.TheVariants.{User, Kernel}
+use Rattle.wind_core.specs.State.{KernState, Lives, task_of}
+use Rattle.wind_core.specs.Moves.{new_task, spawn, spawn_refusal}
+use Rattle.wind_core.proofs.Ids.{lives_by}
+use Rattle.wind_core.proofs.Keeping.{every_call_keeps}
+use Rattle.msg_queue.specs.State.{Scene}
+use Rattle.isr_watch.specs.State.{WatchState, IsWatch}
+use Rattle.kernel_world.specs.State.{WorldState}
+use Rattle.kernel_world.specs.Objects.{KeepsObjects, DepthsWithin}
+use Rattle.kernel_world.specs.Replies.{level_by, at_level, with_errno}
+use Rattle.kernel_world.specs.Opening.{interrupt_stack}
+use Rattle.kernel_world.specs.Kept.{KeepsPool, KeepsLoaded, task_stacks, AreStacks, KeepsWatch, IsWorld, ReservedBy, HasCounts, Within, call_sinces}
+use Rattle.kernel_world.specs.declared.objects.Objects.{Objects}
+use Rattle.kernel_world.specs.declared.actor.Actor.{Actor}
+use Rattle.kernel_world.specs.declared.actor.Actor.TheVariants.{Task, Interrupt}
+use Rattle.task_calls.specs.declared.spawning.Wanted.{Wanted}
+use Rattle.kernel_world.proofs.Goes.{Goes, goes_nowhere, more_counts, goes-set_errno, reserved_by}
+use Rattle.kernel_world.proofs.ObjectMoves.{objects-set_errno}
+use Rattle.kernel_world.proofs.Holding.{loaded_on}
+
+-- from one world to another: the kept facts hold, tasks that live live on, counts stay within n, no task has a reservation that had none, at most d order numbers, m name numbers and m numbers of a watchdog's start were given out, and the tick count stood
+pub record Advances (w v : WorldState) (n d m : ℕ) : Type 0 where
+  pub kept : IsWorld v
+  pub lives : (who : ℕ) → Lives w.kern who → Lives v.kern who
+  pub within : Within n v
+  pub last : v.kern.last ≡ w.kern.last
+  pub reserves : (who : Option ℕ) → ReservedBy who w.kern → ReservedBy who v.kern
+  pub sinces : v.kern.next_since ≤ w.kern.next_since + d
+  pub count : v.kern.tick ≡ w.kern.tick
+  pub names : v.names ≤ w.names + m
+  pub starts : v.watch.next_start ≤ w.watch.next_start + m
+
+-- a bound of counts may rise
+pub within_more : (w : WorldState) (l n : ℕ) → l ≤ n → Within l w → Within n w
+within_more w l n more within =
+    (more_counts w.kern l n more within.0, All-weaker (λ r. r.1.depth ≤ l) (λ r. r.1.depth ≤ n) (λ r h. omega (arith, h, more)) w.objects.mutexes within.1)
+
+-- the ids of watchdogs lie below a later id too
+pub watch_on : (m n : ℕ) (s : WatchState) → m ≤ n → KeepsWatch m s → KeepsWatch n s
+watch_on m n s more h = record { watch = h.watch; ids = All-weaker (λ v. v.id < m) (λ v. v.id < n) (λ v below. omega (arith, below, more)) s.watchdogs h.ids }
+
+-- nothing is listed where no routine is active, whatever registers the active one has
+level_is : (f : Regs → Regs) (s : WatchState) → IsWatch s → IsWatch (level_by f s)
+level_is f s is = record {
+  few = is.few;
+  rising = is.rising;
+  idle = λ none. is.idle (elim s.level as (λ o. option_map f o ≡ None → o ≡ None) [ None ↦ λ e. refl | Some r ↦ λ e. absurd (cc) ] none);
+}
+
+-- ---- one after the other
+pub advances_on : (w v u : WorldState) (l n d e m o : ℕ) → Advances w v l d m → Advances v u n e o → Advances w u n (d + e) (m + o)
+advances_on w v u l n d e m o a b = record {
+  kept = b.kept;
+  lives = λ who h. b.lives who (a.lives who h);
+  within = b.within;
+  last = b.last ∙ a.last;
+  reserves = λ who h. b.reserves who (a.reserves who h);
+  sinces = omega (arith, a.sinces, b.sinces);
+  count = b.count ∙ a.count;
+  names = omega (arith, a.names, b.names);
+  starts = omega (arith, a.starts, b.starts);
+}
+
+pub advances_more : (w v : WorldState) (l n d e m o : ℕ) → l ≤ n → d ≤ e → m ≤ o → Advances w v l d m → Advances w v n e o
+advances_more w v l n d e m o more sinces names a = record {
+  kept = a.kept;
+  lives = a.lives;
+  within = within_more v l n more a.within;
+  last = a.last;
+  reserves = a.reserves;
+  sinces = omega (arith, a.sinces, sinces);
+  count = a.count;
+  names = omega (arith, a.names, names);
+  starts = omega (arith, a.starts, names);
+}
+
+module _ (w : WorldState) (kept : IsWorld w) where
+  -- the same world, where what a step writes and the error number of the interrupt level are other
+  pub kept_beside : (slots : List (Option DeviceState)) (output : List ℕ) (errno : ℕ) → IsWorld (record w { slots = slots; output = output; int_errno = errno })
+  kept_beside slots output errno =
+      record { kern = kept.kern; home = kept.home; objects = kept.objects; pool = kept.pool; stacks = kept.stacks; modules = kept.modules; ram = kept.ram; symbols = kept.symbols; watch = kept.watch }
+
+  -- the tasks go, and the objects with them
+  pub by_objects : (j : KernState) (o : Objects) (n d : ℕ) → Goes w.kern j n d → KeepsObjects j o → DepthsWithin n o → Advances w (record w { kern = j; objects = o }) n d 0
+  by_objects j o n d g objects depths = record {
+    kept = record {
+      kern = g.kern;
+      home = g.lent ∙ kept.home;
+      objects = objects;
+      pool = kept.pool;
+      stacks = subst (λ s. AreStacks w.part (interrupt_stack ∷ s)) (sym g.stacks) kept.stacks;
+      modules = loaded_on w.kern w.part w.modules kept.modules j g.next g.stacks;
+      ram = kept.ram;
+      symbols = kept.symbols;
+      watch = watch_on w.kern.next_id j.next_id w.watch g.next kept.watch;
+    };
+    lives = λ who h. lives_by j.tasks w.kern.tasks who g.alone h;
+    within = (g.counts, depths);
+    last = g.last;
+    reserves = λ who h. reserved_by w.kern.tasks j.tasks who g.alone g.reserves h;
+    sinces = g.sinces;
+    count = g.count;
+    names = omega arith;
+    starts = omega arith;
+  }
+
+  pub by_kern : (j : KernState) (n d : ℕ) → Goes w.kern j n d → KeepsObjects j w.objects → DepthsWithin n w.objects → Advances w (record w { kern = j }) n d 0
+  by_kern j n d g objects depths = by_objects j w.objects n d g objects depths
+
+  module _ (n : ℕ) (within : Within n w) where
+    more : Within (n + 1) w
+    more = within_more w n (n + 1) (omega arith) within
+
+    -- nothing is touched but what is no matter of the kept facts
+    pub beside : (slots : List (Option DeviceState)) (output : List ℕ) (errno : ℕ) → Advances w (record w { slots = slots; output = output; int_errno = errno }) n 0 0
+    beside slots output errno = record {
+      kept = kept_beside slots output errno;
+      lives = λ who h. h;
+      within = within;
+      last = refl;
+      reserves = λ who h. h;
+      sinces = omega arith;
+      count = refl;
+      names = omega arith;
+      starts = omega arith;
+    }
+
+    pub stays : Advances w w n 0 0
+    stays = beside w.slots w.output w.int_errno
+
+    -- the watchdogs go, and what has become of the next id with them
+    pub of_watches : (j : KernState) (s : WatchState) (m : ℕ) → Goes w.kern j n 0 → KeepsObjects j w.objects → KeepsWatch j.next_id s → s.next_start ≤ w.watch.next_start + m
+        → Advances w (record w { kern = j; watch = s }) n 0 m
+    of_watches j s m g objects watch starts =
+        let moved = by_kern j n 0 g objects within.1 in
+        record {
+          kept = record {
+            kern = moved.kept.kern;
+            home = moved.kept.home;
+            objects = moved.kept.objects;
+            pool = moved.kept.pool;
+            stacks = moved.kept.stacks;
+            modules = moved.kept.modules;
+            ram = moved.kept.ram;
+            symbols = moved.kept.symbols;
+            watch = watch;
+          };
+          lives = moved.lives;
+          within = moved.within;
+          last = moved.last;
+          reserves = moved.reserves;
+          sinces = moved.sinces;
+          count = moved.count;
+          names = omega arith;
+          starts = starts;
+        }
+
+    -- the active routine's registers are others
+    pub at_routine : (f : Regs → Regs) → Advances w (at_level w f) n 0 0
+    at_routine f =
+        of_watches w.kern (level_by f w.watch) 0 (goes_nowhere w.kern n kept.kern within.0) kept.objects
+        (record { watch = level_is f w.watch kept.watch.watch; ids = kept.watch.ids }) (omega arith)
+
+    pub nowhere : Advances w w (n + 1) call_sinces 1
+    nowhere = advances_more w w n (n + 1) 0 call_sinces 0 1 (omega arith) (omega arith) (omega arith) stays
+
+    pub of_tasks : (j : KernState) → Goes w.kern j (n + 1) call_sinces → KeepsObjects j w.objects → Advances w (record w { kern = j }) (n + 1) call_sinces 1
+    of_tasks j g objects =
+        advances_more w (record w { kern = j }) (n + 1) (n + 1) call_sinces call_sinces 0 1 (omega arith) (omega arith) (omega arith)
+        (by_kern j (n + 1) call_sinces g objects more.1)
+
+    pub of_both : (j : KernState) (o : Objects) → Goes w.kern j (n + 1) call_sinces → KeepsObjects j o → DepthsWithin (n + 1) o → Advances w (record w { kern = j; objects = o }) (n + 1) call_sinces 1
+    of_both j o g objects depths =
+        advances_more w (record w { kern = j; objects = o }) (n + 1) (n + 1) call_sinces call_sinces 0 1 (omega arith) (omega arith) (omega arith)
+        (by_objects j o (n + 1) call_sinces g objects depths)
+
+    -- so do tasks, queues and RAM
+    pub of_scene : (t : Scene) → Goes w.kern t.kern (n + 1) call_sinces → length t.ram ≡ length w.ram → KeepsObjects t.kern (record w.objects { queues = t.queues })
+        → Advances w (record w { kern = t.kern; objects = record w.objects { queues = t.queues }; ram = t.ram }) (n + 1) call_sinces 1
+    of_scene t g size objects =
+        let both = of_both t.kern (record w.objects { queues = t.queues }) g objects more.1 in
+        record {
+          kept = record {
+            kern = both.kept.kern;
+            home = both.kept.home;
+            objects = both.kept.objects;
+            pool = both.kept.pool;
+            stacks = both.kept.stacks;
+            modules = both.kept.modules;
+            ram = size ∙ kept.ram;
+            symbols = kept.symbols;
+            watch = both.kept.watch;
+          };
+          lives = both.lives;
+          within = both.within;
+          last = both.last;
+          reserves = both.reserves;
+          sinces = both.sinces;
+          count = both.count;
+          names = both.names;
+          starts = both.starts;
+        }
+
+    pub of_blocks : (p : PartState) → KeepsPool p → AreStacks p (interrupt_stack ∷ task_stacks w.kern) → KeepsLoaded w.kern p w.modules → Advances w (record w { part = p }) (n + 1) call_sinces 1
+    of_blocks p pool stacks modules = record {
+      kept = record { kern = kept.kern; home = kept.home; objects = kept.objects; pool = pool; stacks = stacks; modules = modules; ram = kept.ram; symbols = kept.symbols; watch = kept.watch };
+      lives = λ who h. h;
+      within = more;
+      last = refl;
+      reserves = λ who h. h;
+      sinces = omega arith;
+      count = refl;
+      names = omega arith;
+      starts = omega arith;
+    }
+
+    pub of_list : (ss : List Symbol) → length ss ≤ most_symbols → Advances w (record w { symbols = ss }) (n + 1) call_sinces 1
+    of_list ss few = record {
+      kept = record { kern = kept.kern; home = kept.home; objects = kept.objects; pool = kept.pool; stacks = kept.stacks; modules = kept.modules; ram = kept.ram; symbols = few; watch = kept.watch };
+      lives = λ who h. h;
+      within = more;
+      last = refl;
+      reserves = λ who h. h;
+      sinces = omega arith;
+      count = refl;
+      names = omega arith;
+      starts = omega arith;
+    }
+
+    -- symbols, modules and blocks
+    pub of_unload : (ss : List Symbol) (ms : List (ℕ × LoadedModule)) (p : PartState) → length ss ≤ most_symbols → KeepsPool p → AreStacks p (interrupt_stack ∷ task_stacks w.kern) → KeepsLoaded w.kern p ms
+        → Advances w (record w { symbols = ss; modules = ms; part = p }) (n + 1) call_sinces 1
+    of_unload ss ms p few pool stacks modules = record {
+      kept = record { kern = kept.kern; home = kept.home; objects = kept.objects; pool = pool; stacks = stacks; modules = modules; ram = kept.ram; symbols = few; watch = kept.watch };
+      lives = λ who h. h;
+      within = more;
+      last = refl;
+      reserves = λ who h. h;
+      sinces = omega arith;
+      count = refl;
+      names = omega arith;
+      starts = omega arith;
+    }
+
+    pub of_memory : (ram : List ℕ) → length ram ≡ length w.ram → Advances w (record w { ram = ram }) (n + 1) call_sinces 1
+    of_memory ram same = record {
+      kept = record { kern = kept.kern; home = kept.home; objects = kept.objects; pool = kept.pool; stacks = kept.stacks; modules = kept.modules; ram = same ∙ kept.ram; symbols = kept.symbols; watch = kept.watch };
+      lives = λ who h. h;
+      within = more;
+      last = refl;
+      reserves = λ who h. h;
+      sinces = omega arith;
+      count = refl;
+      names = omega arith;
+      starts = omega arith;
+    }
+
+    pub errno_advances : (a : Actor) (e : ℕ) → Advances w (with_errno w a e) n 0 0
+    errno_advances (Task who) e = by_kern _ n 0 (goes-set_errno w.kern n kept.kern within.0 who e) (objects-set_errno w.kern w.objects kept.kern kept.objects who e) within.1
+    errno_advances Interrupt e = beside w.slots w.output e

@@ -1,0 +1,13 @@
+pub mod Living
+pub mod Early
+pub mod Stacks
+pub mod Holding
+pub mod Safes
+pub mod Calming
+pub mod Apart
+pub mod Waiting
+pub mod ObjectMoves
+pub mod Goes
+pub mod Advancing
+pub mod Replying
+pub mod Opened

@@ -1,0 +1,168 @@
+-- The world at the start has the kept facts.
+use Rattle.std.proofs.Common.{◌≡◌, ℕ, true, false, not, cond, leb, ◌<◌, ◌≤◌, List, [], ◌∷◌, length, Option, IfSome, Some, None, Ok, Err, refl, sym, ap, ◌∙◌, arith}
+use Rattle.std.specs.Prelude.{replicate}
+use Rattle.std.specs.List.{All}
+use Rattle.task_block.specs.declared.task.Task.{Task}
+use Rattle.std.specs.Int.RustNames.{count_ones}
+use Rattle.std.proofs.lemmas.List.{length-replicate}
+use Rattle.std.proofs.lemmas.List.Elements.{All-cons}
+use Rattle.std.proofs.lemmas.List.Kept.{AllPairs-cons}
+use Rattle.wind_base.specs.Limits.{pool_start, ram_bytes, most_blocks}
+use Rattle.wind_base.specs.Gates.{gates, gate_name, names}
+use Rattle.wind_outside.specs.Devices.{DeviceState}
+use Rattle.mem_partition.specs.Place.{aligned, rounded, place}
+use Rattle.mem_partition.specs.State.{PartState, is_align, found_or, alloc_of, after_alloc}
+use Rattle.mem_partition.specs.declared.block.PartErr.TheVariants as errors
+use Rattle.mem_partition.specs.declared.block.Block.{Block}
+use Rattle.mem_partition.specs.declared.block.Class.TheVariants.{Kernel}
+use Rattle.mem_partition.proofs.Places.{gap_place}
+use Rattle.mem_partition.proofs.Allocs.{after_is}
+use Rattle.wind_core.specs.State.{IsKern}
+use Rattle.wind_core.specs.Moves.{new_task}
+use Rattle.wind_core.proofs.Keeping.{every_call_keeps}
+use Rattle.id_table.specs.Rows.{IsId, object_of}
+use Rattle.sem_plain.specs.Kept.{IsCount, IsForEmpty, IsForMade}
+use Rattle.task_safety.specs.Kept.{Deletes, IsSafe}
+use Rattle.inheritance.specs.Mutexes.{both as with_mutexes}
+use Rattle.sem_mutex.proofs.Opening.{opening_keeps}
+use Rattle.sem_mutex.proofs.Lawful.{beside_law}
+use Rattle.msg_queue.proofs.Events.{starts}
+use Rattle.kernel_world.specs.Objects.{no_objects, is_live, WaitsRight, KeepsObjects}
+use Rattle.kernel_world.specs.Opening.{empty_kern, opening_kern, shell_record, interrupt_stack, opening_part, stack_block, gate_symbols, zeros, opening_world}
+use Rattle.kernel_world.specs.Kept.{IsKernels, AreStacks, IsWorld}
+use Rattle.kernel_world.proofs.Holding.{IsNoModules}
+
+-- the pool with these blocks
+abbrev pub pool : List Block → PartState
+pool bs = record { start = pool_start; end = ram_bytes; room = most_blocks; blocks = bs }
+
+place_first : place 65536 16777216 [] 20000 16 ≡ Some 65536
+unfolding place rounded aligned
+place_first = sym (gap_place 65536 16777216 [] 20000 16 (omega arith) (omega arith) tt)
+
+sixteen : is_align 16 ≡ true
+unfolding count_ones
+sixteen = refl
+
+-- with an alignment of 16 and room for a block, the place is the answer
+given_place : (p : PartState) (n at : ℕ) → leb p.room (length p.blocks) ≡ false → place p.start p.end p.blocks n 16 ≡ Some at → alloc_of p n 16 ≡ Ok at
+unfolding alloc_of
+given_place p n at room e =
+    ap (λ t. cond (not t) (Err errors.BadAlign) (cond (leb p.room (length p.blocks)) (Err errors.BlocksFull) (found_or errors.NoRoom (place p.start p.end p.blocks n 16)))) sixteen
+    ∙ ap (λ t. cond t (Err errors.BlocksFull) (found_or errors.NoRoom (place p.start p.end p.blocks n 16))) room
+    ∙ ap (found_or errors.NoRoom) e
+
+pub first_stack : alloc_of (pool []) 20000 16 ≡ Ok 65536
+first_stack = given_place (pool []) 20000 65536 refl place_first
+
+rounded_first : rounded 20000 ≡ 20000
+unfolding rounded aligned
+rounded_first = refl
+
+pub after_first : after_alloc (pool []) 20000 16 Kernel ≡ pool (stack_block 65536 20000 ∷ [])
+after_first = after_is (pool []) 20000 16 65536 Kernel first_stack ∙ ap (λ n. pool (stack_block 65536 n ∷ [])) rounded_first
+
+place_second : place 65536 16777216 (stack_block 65536 20000 ∷ []) 4096 16 ≡ Some 85536
+unfolding place rounded aligned
+place_second = sym (gap_place 65536 16777216 (stack_block 65536 20000 ∷ []) 4096 16 (omega arith) (omega arith) (omega arith, omega arith, omega arith, tt))
+
+pub second_stack : alloc_of (pool (stack_block 65536 20000 ∷ [])) 4096 16 ≡ Ok 85536
+second_stack = given_place (pool (stack_block 65536 20000 ∷ [])) 4096 85536 refl place_second
+
+rounded_second : rounded 4096 ≡ 4096
+unfolding rounded aligned
+rounded_second = refl
+
+pub after_second : after_alloc (pool (stack_block 65536 20000 ∷ [])) 4096 16 Kernel ≡ opening_part
+after_second =
+    after_is (pool (stack_block 65536 20000 ∷ [])) 4096 16 85536 Kernel second_stack
+    ∙ ap (λ n. pool (stack_block 65536 20000 ∷ stack_block 85536 n ∷ [])) rounded_second
+
+pub count_gates : length gates ≡ 52
+unfolding gates
+count_gates = refl
+
+pub zeros_is : (n : ℕ) → replicate n 0 ≡ zeros n
+unfolding zeros
+zeros_is n = refl
+
+length-zeros : (n : ℕ) → length (zeros n) ≡ n
+unfolding zeros
+length-zeros n = length-replicate n 0
+
+symbols_few : length (gate_symbols gates) ≤ 65536
+unfolding gates gate_name names
+symbols_few = omega arith
+
+empty_keeps : IsKern empty_kern
+empty_keeps = record {
+  few = omega arith;
+  rising = λ i j d lt within. absurd (omega arith);
+  ids = λ i d within. absurd (omega arith);
+  first_id = omega arith;
+  last_id = omega arith;
+  distinct = λ i j d lt within. absurd (omega arith);
+  sinces = λ i d within. absurd (omega arith);
+  ahead = λ i d within. absurd (omega arith);
+}
+
+two_apart : AreStacks opening_part (85536 ∷ 65536 ∷ [])
+two_apart = record {
+  kernels = All-cons (IsKernels opening_part) 85536 (65536 ∷ []) refl (All-cons (IsKernels opening_part) 65536 [] refl (λ i d within. absurd (omega arith)));
+  apart = AllPairs-cons (λ a b. a ≡ b → ⊥) 85536 (65536 ∷ [])
+      (All-cons (λ b. 85536 ≡ b → ⊥) 65536 [] (λ e. omega arith) (λ i d within. absurd (omega arith)))
+      (λ i j d lt within. absurd (omega arith));
+}
+
+none_yet : {A : Type 0} (P : A → Type 0) → All P []
+none_yet P = λ i d within. absurd (omega arith)
+
+of_one : (P : Task → Type 0) → P (new_task 1 0 shell_record) → All P opening_kern.tasks
+of_one P one = All-cons P (new_task 1 0 shell_record) [] one (none_yet P)
+
+-- the shell's task waits for nothing, and there is no object
+opening_objects : KeepsObjects opening_kern no_objects
+opening_objects = record {
+  waits = record {
+    semaphores = record {
+      ids = none_yet (λ r. r.0 < 2);
+      counts = none_yet (λ r. IsCount r.1);
+      empty = of_one (λ t. IsForEmpty [] t.wait) tt;
+      made = of_one (λ t. IsForMade 2 t.wait) tt;
+    };
+    deleters = of_one (Deletes (IsSafe opening_kern)) tt;
+    live = of_one (λ t. IfSome t.wait (λ p. is_live no_objects p ≡ true)) tt;
+    right = of_one WaitsRight (record { console = tt; repeats = tt });
+  };
+  mutexes = (beside_law (with_mutexes empty_kern []) (opening_keeps (with_mutexes empty_kern []) refl refl)).spawning shell_record;
+  table = record { few = omega arith; rising = λ i j d lt within. absurd (omega arith); ranged = none_yet (λ r. IsId r.0) };
+  queues = λ ram size. starts opening_kern ram ((every_call_keeps empty_kern empty_keeps).spawning shell_record refl) (of_one (λ t. t.wait ≡ None) refl);
+  queues_ranged = none_yet (λ r. 0 < r.0);
+  apart = none_yet (λ r. object_of [] r.0 ≡ None);
+  queues_apart = none_yet (λ r. (object_of [] r.0 ≡ None) × (object_of [] r.0 ≡ None));
+}
+
+pub opens : (slots : List (Option DeviceState)) → IsWorld (opening_world slots)
+unfolding opening_world
+opens slots = record {
+  kern = (every_call_keeps empty_kern empty_keeps).spawning shell_record refl;
+  home = refl;
+  objects = opening_objects;
+  pool = record {
+    blocks = record { laid = (omega arith, omega arith, omega arith, (omega arith, omega arith, omega arith, tt)); few = omega arith; bound = omega arith };
+    start = refl;
+    end = refl;
+    room = refl;
+  };
+  stacks = two_apart;
+  modules = record {
+    few = omega arith;
+    rising = λ i j d lt within. absurd (omega arith);
+    below = none_yet (λ r. r.0 < 2);
+    held = record { blocks = λ a some. absurd (omega arith); distinct = λ a. omega arith };
+    apart = All-cons (IsNoModules []) interrupt_stack (pool_start ∷ []) refl (All-cons (IsNoModules []) pool_start [] refl (none_yet (IsNoModules [])));
+  };
+  ram = length-zeros ram_bytes;
+  symbols = symbols_few;
+  watch = record { watch = record { few = omega arith; rising = λ i j d lt within. absurd (omega arith); idle = λ none. refl }; ids = λ i d within. absurd (omega arith) };
+}

@@ -1,0 +1,106 @@
+-- The facts that the world has at the start and every call keeps.
+use Rattle.std.specs.Prelude.{◌≡◌, ℕ, ◌^◌, ◌<◌, ◌≤◌, List, [], ◌∷◌, length, map, false, Option, Some, IsSome}
+use Rattle.std.specs.List.{All, AllPairs}
+use Rattle.wind_base.specs.Limits.{ram_bytes, pool_start, most_blocks, most_modules, most_symbols}
+use Rattle.wind_lists.specs.Records.{Rising}
+use Rattle.id_table.specs.Rows.{IdsBelow, row_id}
+use Rattle.mem_partition.specs.State.{PartState, IsPart, own_block}
+use Rattle.mem_partition.specs.declared.block.Class.TheVariants.{Kernel}
+use Rattle.module_loader.specs.declared.module.LoadedModule.{LoadedModule}
+use Rattle.module_loader.specs.Holding.{AreHeld, held_by, occurs}
+use Rattle.task_block.specs.declared.task.Task.{Task}
+use Rattle.wind_core.specs.State.{KernState, IsKern}
+use Rattle.isr_watch.specs.State.{WatchState, IsWatch}
+use Rattle.isr_watch.specs.Laws.{AllBelow}
+use Rattle.kernel_world.specs.Objects.{KeepsObjects, DepthsWithin}
+use Rattle.kernel_world.specs.State.{WorldState}
+use Rattle.kernel_world.specs.Opening.{interrupt_stack}
+
+-- the pool is that of the board
+pub record KeepsPool (p : PartState) : Type 0 where
+  pub blocks : IsPart p
+  pub start : p.start ≡ pool_start
+  pub end : p.end ≡ ram_bytes
+  pub room : p.room ≡ most_blocks
+
+-- the stacks of the live tasks, by rising id
+abbrev pub task_stacks : KernState → List ℕ
+task_stacks k = map (λ t. t.stack) k.tasks
+
+-- a Kernel block begins at the address
+abbrev pub IsKernels : PartState → ℕ → Type 0
+IsKernels p at = IsSome (own_block p.blocks at Kernel)
+
+-- these are the addresses of Kernel blocks, and no two are one
+pub record AreStacks (p : PartState) (ats : List ℕ) : Type 0 where
+  pub kernels : All (IsKernels p) ats
+  pub apart : AllPairs (λ a b. a ≡ b → ⊥) ats
+
+-- the interrupt stack and those of the live tasks are Kernel blocks, all distinct
+abbrev pub KeepsStacks : KernState → PartState → Type 0
+KeepsStacks k p = AreStacks p (interrupt_stack ∷ task_stacks k)
+
+-- no more modules live than may, their ids rise and are below the next, and their segments, those without a block aside, are distinct Kernel blocks, of which none is one of the stacks
+pub record AreLoaded (next : ℕ) (stacks : List ℕ) (p : PartState) (modules : List (ℕ × LoadedModule)) : Type 0 where
+  pub few : length modules ≤ most_modules
+  pub rising : Rising row_id modules
+  pub below : IdsBelow next modules
+  pub held : AreHeld modules p
+  pub apart : All (λ at. occurs at (held_by modules) ≡ 0) stacks
+
+-- so are the modules, beside the interrupt stack and the stacks of the live tasks
+abbrev pub KeepsLoaded : KernState → PartState → List (ℕ × LoadedModule) → Type 0
+KeepsLoaded k p modules = AreLoaded k.next_id (interrupt_stack ∷ task_stacks k) p modules
+
+-- the watchdogs are as their calls keep them, and each has an id below the next one
+pub record KeepsWatch (next : ℕ) (s : WatchState) : Type 0 where
+  pub watch : IsWatch s
+  pub ids : AllBelow next s
+
+pub record KeepsWorld (w : WorldState) : Type 0 where
+  pub kern : IsKern w.kern
+  -- the kernel has its ids
+  pub home : w.kern.lent ≡ false
+  pub objects : KeepsObjects w.kern w.objects
+  pub pool : KeepsPool w.part
+  pub stacks : KeepsStacks w.kern w.part
+  pub modules : KeepsLoaded w.kern w.part w.modules
+  pub ram : length w.ram ≡ ram_bytes
+  pub symbols : length w.symbols ≤ most_symbols
+  pub watch : KeepsWatch w.kern.next_id w.watch
+
+-- the same, whatever stands in the slots
+abbrev pub IsWorld : WorldState → Type 0
+IsWorld w = KeepsWorld (record w { slots = [] })
+
+-- no task but this one has a reservation (Power ISA, lwarx and stwcx.)
+abbrev pub ReservedBy : Option ℕ → KernState → Type 0
+ReservedBy who k = All (λ t. IsSome t.regs.reserve → who ≡ Some t.id) k.tasks
+
+-- the task has locked the scheduler at most n times, and is safe at most n times
+abbrev pub HasCounts : ℕ → Task → Type 0
+HasCounts n t = (t.locks ≤ n) × (t.safe ≤ n)
+
+abbrev pub CountsWithin : ℕ → KernState → Type 0
+CountsWithin n k = All (HasCounts n) k.tasks
+
+-- no count of a task or of a mutex is above n
+abbrev pub Within : ℕ → WorldState → Type 0
+Within n w = CountsWithin n w.kern × DepthsWithin n w.objects
+
+-- the counters lie far below their ends
+pub record Early (w : WorldState) : Type 0 where
+  pub sinces : w.kern.next_since < 2 ^ 60
+  pub ticks : w.kern.tick < 2 ^ 60
+  pub locks : All (λ t. t.locks < 2 ^ 60) w.kern.tasks
+  pub safes : All (λ t. t.safe < 2 ^ 60) w.kern.tasks
+  pub depths : All (λ r. r.1.depth < 2 ^ 60) w.objects.mutexes
+  pub names : w.names < 2 ^ 60
+  pub starts : w.watch.next_start < 2 ^ 60
+
+abbrev pub IsEarly : WorldState → Type 0
+IsEarly w = Early (record w { slots = [] })
+
+-- the most order numbers that one call gives out
+abbrev pub call_sinces : ℕ
+call_sinces = 1024

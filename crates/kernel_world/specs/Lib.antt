@@ -1,0 +1,9 @@
+pub mod Objects
+pub mod State
+pub mod Starting
+pub mod Actors
+pub mod Allowed
+pub mod Replies
+pub mod Opening
+pub mod Seen
+pub mod Kept

@@ -1,0 +1,33 @@
+-- What a contract sees of the world of the kernel's calls.
+use Rattle.std.specs.Prelude.{ℕ, List, Option}
+use Rattle.wind_outside.specs.Devices.{DeviceState}
+use Rattle.mem_partition.specs.State.{PartState}
+use Rattle.symbol_table.specs.declared.symbol.Symbol.{Symbol}
+use Rattle.module_loader.specs.declared.module.LoadedModule.{LoadedModule}
+use Rattle.wind_core.specs.State.{KernState}
+use Rattle.isr_watch.specs.State.{WatchState}
+use Rattle.kernel_world.specs.declared.objects.Objects.{Objects}
+
+-- all that a call of the kernel may read or change
+pub record WorldState : Type 0 where
+  -- the kernel's tasks and counters
+  pub kern : KernState
+  -- its semaphores, mutexes and message queues
+  pub objects : Objects
+  -- the memory partition
+  pub part : PartState
+  -- the symbols, in order of adding
+  pub symbols : List Symbol
+  -- the live modules, by rising id
+  pub modules : List (ℕ × LoadedModule)
+  -- the bytes of RAM, from address 0 on
+  pub ram : List ℕ
+  pub slots : List (Option DeviceState)
+  -- the bytes that the step has written
+  pub output : List ℕ
+  -- the number of the next task without a name
+  pub names : ℕ
+  -- the watchdogs, and the interrupt routines that are active and listed
+  pub watch : WatchState
+  -- the number of the last error at interrupt level
+  pub int_errno : ℕ

@@ -1,0 +1,80 @@
+//! Who makes a call of the kernel, and the words that it hands in.
+
+ghost use Rattle.std.specs.Prelude.{◌≡◌, ◌<◌, IfSome, option_copied};
+ghost use Rattle.wind_core.specs.State.{Lives};
+ghost use Rattle.kernel_world.specs.Actors.{is_shell as is_shell_lem, regs_of, caller_regs as caller_regs_lem, stack_word as stack_word_lem, Acts, target as target_lem};
+
+use crate::starting::no_regs;
+use board_mem::Ram;
+use id_table::Ident;
+use isr_watch::Watch;
+use wind_base::Regs;
+use wind_core::Kern;
+
+/// Who makes a call of the kernel.
+#[derive(Clone, Copy, Debug, PartialEq, Eq)]
+pub enum Actor {
+    /// The task of this id.
+    Task(Ident),
+    /// The interrupt routine that is active.
+    Interrupt,
+}
+
+/// Whether it is the shell's task.
+pub fn is_shell(who: &Actor) -> bool
+    ensures { result ≡ is_shell_lem who.now }
+{
+    match who {
+        Actor::Task(id) => id.get() == 1,
+        Actor::Interrupt => false,
+    }
+}
+
+// Its registers.
+fn regs<'a>(kern: &'a Kern, watch: &'a Watch, who: &Actor) -> Option<&'a Regs>
+    ensures { option_copied result ≡ regs_of kern.now watch.now.level who.now }
+{
+    match who {
+        Actor::Task(id) => match kern.task(*id) {
+            Some(task) => Some(&task.regs),
+            None => None,
+        },
+        Actor::Interrupt => watch.regs(),
+    }
+}
+
+/// Its registers, where no register has a value if there is no such caller.
+pub fn caller_regs(kern: &Kern, watch: &Watch, who: &Actor) -> Regs
+    ensures { result ≡ caller_regs_lem kern.now watch.now.level who.now }
+{
+    match regs(kern, watch, who) {
+        Some(regs) => *regs,
+        None => no_regs(),
+    }
+}
+
+/// The word of this number, below 8, behind those in registers, where r1 is `pointer`. None where a byte of it is outside
+/// RAM.
+pub fn stack_word(ram: &Ram, pointer: u32, number: u32) -> Option<u32>
+    requires { number < 8 }
+    ensures { result ≡ stack_word_lem ram.now pointer number }
+{
+    let at = u64::from(pointer) + u64::from(8 + 4 * number);
+    if at >= u64::from(ram.size()) {
+        return None;
+    }
+    ram.read32(at as u32)
+}
+
+/// The task that an id of a call means: 0 is the caller, where that is a task. None where no such task lives.
+#[tactic(auto, using(crate::proofs::Living::live_found))]
+pub fn target(kern: &Kern, who: Actor, id: u32) -> Option<Ident>
+    requires { Acts kern.now who }
+    ensures task { result ≡ target_lem kern.now who id }
+    ensures live { IfSome result (λ t. Lives kern.now t) }
+{
+    match who {
+        Actor::Task(caller) if id == 0 => Some(caller),
+        _ => kern.find(id),
+    }
+}

@@ -1,0 +1,176 @@
+//! The world at the start.
+
+ghost use Rattle.std.specs.Prelude.{◌≡◌, ◌+◌, ◌<◌, ◌≤◌, ◌++◌, length, IfOk, IfErr, OnOk};
+ghost use Rattle.wind_base.specs.Limits.{most_slots};
+ghost use Rattle.wind_base.specs.Gates.{gates};
+ghost use Rattle.wind_outside.specs.Devices.{slots_of};
+ghost use Rattle.kernel_world.specs.Opening.{shell_record as shell_record_lem, opening_kern as opening_kern_lem, opening_part as opening_part_lem, symbols_of_gate, gate_symbols as gate_symbols_lem, zeros, opening_world};
+ghost use Rattle.kernel_world.specs.Seen.{world_seen};
+
+use crate::gates::is_built;
+use crate::objects;
+use crate::starting::no_regs;
+use crate::world::World;
+use board_bus::BoardBus;
+use board_mem::Ram;
+use isr_watch::Watch;
+use mem_partition::{Class, GRAIN, Part};
+use module_loader::Modules;
+use std::alloc::Global;
+use symbol_table::{SymKind, Symbol, Symbols};
+use task_block::NewTask;
+use wind_base::limits::{
+    CHUNK_BYTES, GATES_START, INTERRUPT_STACK_BYTES, POOL_START, RAM_BYTES, SHELL_STACK_BYTES,
+};
+use wind_base::{Gate, Name, NoMemory, OutBuf, Pri, ShortName, gate_name};
+use wind_core::Kern;
+use wind_outside::{Device, Slots};
+
+// The room for what one step writes: a byte of the console echoes three bytes at most, and an end may be supplied
+// behind a chunk.
+const OUTPUT_BYTES: u32 = 3 * (CHUNK_BYTES as u32 + 1);
+
+// The priority of the shell's task.
+fn shell_priority() -> Pri
+    ensures { result ≡ 1 }
+{
+    match Pri::new(1) {
+        Some(pri) => pri,
+        None => unreachable!(),
+    }
+}
+
+// What the shell's task begins with.
+fn shell_record() -> NewTask
+    ensures { result ≡ shell_record_lem }
+{
+    NewTask {
+        name: ShortName::cut(b"tShell"),
+        entry: 0,
+        stack: POOL_START,
+        pri: shell_priority(),
+        regs: no_regs(),
+    }
+}
+
+// The kernel, with the shell's task.
+fn opening_kern(alloc: Global) -> Result<Kern, NoMemory>
+    ensures { IfOk result (λ k. k ≡ opening_kern_lem) }
+{
+    let mut kern = Kern::new(alloc)?;
+    let Ok(_) = kern.spawn_record(shell_record()) else {
+        unreachable!()
+    };
+    Ok(kern)
+}
+
+// The partition, with the stack of the shell's task and the interrupt stack.
+fn opening_part(alloc: Global) -> Result<Part, NoMemory>
+    ensures { IfOk result (λ p. p ≡ opening_part_lem) }
+{
+    let mut part = Part::new(alloc, POOL_START, RAM_BYTES)?;
+    let Ok(_) = part.alloc(SHELL_STACK_BYTES, GRAIN, Class::Kernel) else {
+        unreachable!()
+    };
+    let Ok(_) = part.alloc(INTERRUPT_STACK_BYTES, GRAIN, Class::Kernel) else {
+        unreachable!()
+    };
+    Ok(part)
+}
+
+// Adds the symbol of a gate, where its call is built.
+fn add_gate(alloc: Global, syms: &mut Symbols, gate: Gate) -> Result<(), NoMemory>
+    requires { 0 < syms.old.spare }
+    ensures ok { OnOk result (syms.new.list ≡ syms.old.list ++ symbols_of_gate gate) }
+    ensures spare { OnOk result (syms.old.spare ≤ syms.new.spare + 1) }
+{
+    if !is_built(gate) {
+        return Ok(());
+    }
+    let Some(name) = gate_name(gate.number()) else {
+        return Ok(());
+    };
+    let Ok(name) = Name::new(alloc, name.as_bytes()) else {
+        return Err(NoMemory);
+    };
+    syms.add(Symbol {
+        name,
+        value: gate.address(GATES_START),
+        kind: SymKind::TextSym,
+        global: true,
+        group: 0,
+    });
+    Ok(())
+}
+
+// RAM of so many zeros.
+#[tactic(auto, unfolding(crate::specs::Opening::zeros))]
+fn cleared_ram(alloc: Global, bytes: u32) -> Result<Ram, NoMemory>
+    ensures { IfOk result (λ ram. ram ≡ zeros bytes) }
+{
+    Ram::new(alloc, bytes)
+}
+
+// The symbols of the calls that are built.
+fn gate_symbols(alloc: Global) -> Result<Symbols, NoMemory>
+    ensures { IfOk result (λ t. t.list ≡ gate_symbols_lem gates) }
+{
+    let mut syms = Symbols::new(alloc)?;
+    let all = Gate::all();
+    let Ok(()) = syms.reserve(all.len() as u32) else {
+        return Err(NoMemory);
+    };
+    for gate in all {
+        add_gate(alloc, &mut syms, *gate)?;
+    }
+    Ok(syms)
+}
+
+impl World {
+    /// The world at the start, over these devices. For want of memory they come back as they were.
+    #[tactic(auto, unfolding(crate::specs::Opening::opening_world))]
+    pub fn boot(alloc: Global, slots: Slots) -> Result<World, Slots>
+        requires { length slots.items ≤ most_slots }
+        ensures ok { IfOk result (λ w. world_seen ⟦<dyn Device as Device>⟧ w
+            ≡ opening_world (slots_of kind_of words_of slots.items)) }
+        ensures room { IfOk result (λ w. 12291 ≤ w.out.room) }
+        ensures err { IfErr result (λ back. back ≡ slots) }
+    {
+        let Ok(kern) = opening_kern(alloc) else {
+            return Err(slots);
+        };
+        let Ok(objects) = objects::reserved(alloc) else {
+            return Err(slots);
+        };
+        let Ok(part) = opening_part(alloc) else {
+            return Err(slots);
+        };
+        let Ok(syms) = gate_symbols(alloc) else {
+            return Err(slots);
+        };
+        let Ok(mods) = Modules::new(alloc) else {
+            return Err(slots);
+        };
+        let Ok(watch) = Watch::reserved(alloc) else {
+            return Err(slots);
+        };
+        let Ok(ram) = cleared_ram(alloc, RAM_BYTES) else {
+            return Err(slots);
+        };
+        let Ok(out) = OutBuf::reserved(alloc, OUTPUT_BYTES) else {
+            return Err(slots);
+        };
+        Ok(World {
+            kern,
+            objects,
+            part,
+            syms,
+            mods,
+            bus: BoardBus::new(ram, slots),
+            out,
+            names: 1,
+            watch,
+            int_errno: 0,
+        })
+    }
+}

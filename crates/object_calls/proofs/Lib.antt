@@ -1,0 +1,10 @@
+pub mod MutexTables
+pub mod MutexWaits
+pub mod ObjectRows
+pub mod SemGoes
+pub mod Depths
+pub mod QueueGoes
+pub mod QueueCalls
+pub mod QueueKept
+pub mod Callers
+pub mod WatchGoes

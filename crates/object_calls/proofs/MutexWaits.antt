@@ -1,0 +1,191 @@
+-- What the calls on mutexes make of the kernel keeps its facts and those of waits.
+use Rattle.std.proofs.Common.{◌≡◌, ℕ, ◌+◌, ◌-◌, ◌<◌, true, false, cond, not, ◌&&◌, eqb, ltb, List, Option, None, Some, is_some, refl, arith}
+use Rattle.std.proofs.lemmas.Bool.{eqb-false}
+use Rattle.wind_base.specs.declared.errno.Errno.{Errno}
+use Rattle.wind_base.specs.declared.errno.Errno.TheVariants as errors
+use Rattle.id_table.specs.Rows.{object_of, ids}
+use Rattle.id_table.specs.declared.ident.Place.{Place}
+use Rattle.task_block.specs.declared.task.Task.{Task}
+use Rattle.wind_core.specs.State.{KernState, IsKern, task_of}
+use Rattle.wind_core.specs.Orders.{first_waiter}
+use Rattle.wind_core.specs.Moves.{end_wait, wake_all, change_pri, set_held, set_normal}
+use Rattle.sem_plain.specs.State.{both as with_semaphores}
+use Rattle.sem_plain.specs.Laws.{MayBegin}
+use Rattle.task_safety.specs.Safety.{make_safe, lessen}
+use Rattle.inheritance.specs.declared.mutex.Mutex.{Mutex}
+use Rattle.inheritance.specs.Mutexes.{MutexState, mutex_place}
+use Rattle.inheritance.specs.Reach.{raised_kern}
+use Rattle.sem_mutex.specs.Calls.{held_of, holding, guarded, eased, restored, less_held, dropped, letting_go, hand, deepen, await, taken, take_alone, take, is_others, take_refusal, freed, owned, pass_on, give_up, shallow, give_alone, give, ended, owner_ended, delete_alone, delete, pri_after, priority_alone, priority_set}
+use Rattle.msg_queue.specs.Kept.{IsCalm}
+use Rattle.msg_queue.specs.Laws.{IsCalmBy}
+use Rattle.msg_queue.proofs.Calm.{calms}
+use Rattle.kernel_world.specs.Objects.{is_live, KeepsWaits}
+use Rattle.kernel_world.specs.declared.objects.Objects.{Objects}
+use Rattle.kernel_world.proofs.Calming.{KeepsQueues, queues-calm, calm-make_safe, calm-lessen, calm-raised}
+use Rattle.kernel_world.proofs.Waiting.{waits-pend, waits-end_wait, waits-wake_all, waits-change_pri, waits-set_held, waits-set_normal, waits-make_safe, waits-lessen, waits-raised}
+use Rattle.object_calls.proofs.MutexTables.{ids-write}
+
+-- the kernel's facts hold, and those of waits and of queues
+pub record Still (k : KernState) (o : Objects) : Type 0 where
+  pub kern : IsKern k
+  pub waits : KeepsWaits k o
+  pub queues : KeepsQueues k o
+
+-- a mutex that lives may be waited for: it is no semaphore that could be taken, and no queue
+abbrev pub MayAwait : KernState → Objects → ℕ → Type 0
+MayAwait k o id = MayBegin (with_semaphores k o.semaphores) (mutex_place id) × (is_live o (mutex_place id) ≡ true) × (object_of o.queues.queues id ≡ None)
+
+module _ (o : Objects) where
+  -- ---- moves of the kernel
+  module _ (k : KernState) (still : Still k o) where
+    calm : IsCalmBy o.queues.queues k
+    calm = calms o.queues.queues k still.kern
+
+    still_by : (j : KernState) → KeepsWaits j o → IsCalm o.queues.queues k j → Still j o
+    still_by j waits goes = record { kern = goes.kern; waits = waits; queues = queues-calm k j o goes still.queues }
+
+    still-end_wait : (who a : ℕ) (e : Option Errno) → Still (end_wait k who a e) o
+    still-end_wait who a e = still_by (end_wait k who a e) (waits-end_wait k o still.kern still.waits who a e) (calm.ending who a e)
+
+    still-wake_all : (place : Place) (a : ℕ) (e : Option Errno) → Still (wake_all k place a e) o
+    still-wake_all place a e = still_by (wake_all k place a e) (waits-wake_all k o still.kern still.waits place a e) (calm.waking place a e)
+
+    still-change_pri : (who pri : ℕ) → Still (change_pri k who pri) o
+    still-change_pri who pri = still_by (change_pri k who pri) (waits-change_pri k o still.kern still.waits who pri) (calm.changing_pri who pri)
+
+    still-set_normal : (who pri : ℕ) → Still (set_normal k who pri) o
+    still-set_normal who pri = still_by (set_normal k who pri) (waits-set_normal k o still.kern still.waits who pri) (calm.setting_normal who pri)
+
+    still-set_held : (who n : ℕ) → Still (set_held k who n) o
+    still-set_held who n = still_by (set_held k who n) (waits-set_held k o still.kern still.waits who n) (calm.setting_held who n)
+
+    still-make_safe : (who : ℕ) → Still (make_safe k who) o
+    still-make_safe who = still_by (make_safe k who) (waits-make_safe k o still.kern still.waits who) (calm-make_safe o.queues.queues k who still.kern)
+
+    still-lessen : (who n : ℕ) → Still (lessen k who n) o
+    still-lessen who n = still_by (lessen k who n) (waits-lessen k o still.kern still.waits who n) (calm-lessen o.queues.queues k who n still.kern)
+
+    still-raised : (ms : List (ℕ × Mutex)) → Still (raised_kern k ms) o
+    still-raised ms = still_by (raised_kern k ms) (waits-raised k o still.kern still.waits ms) (calm-raised o.queues.queues k ms still.kern)
+
+  -- ---- what a mutex is for its owner
+  still-holding : (k : KernState) (who : ℕ) (m : Mutex) → Still k o → Still (holding k who m) o
+  still-holding k who m still =
+      elim m.inversion_safe as (λ b. Still (cond b (set_held k who (held_of (task_of k.tasks who) + 1)) k) o) [ true ↦ still-set_held k still who (held_of (task_of k.tasks who) + 1) | false ↦ still ]
+
+  still-guarded : (k : KernState) (who : ℕ) (m : Mutex) → Still k o → Still (guarded k who m) o
+  still-guarded k who m still = elim m.delete_safe as (λ b. Still (cond b (make_safe k who) k) o) [ true ↦ still-make_safe k still who | false ↦ still ]
+
+  still-eased : (k : KernState) (who : ℕ) (m : Mutex) (n : ℕ) → Still k o → Still (eased k who m n) o
+  still-eased k who m n still = elim m.delete_safe as (λ b. Still (cond b (lessen k who n) k) o) [ true ↦ still-lessen k still who n | false ↦ still ]
+
+  still-restored : (k : KernState) (who : ℕ) (t : Option Task) → Still k o → Still (restored k who t) o
+  still-restored k who None still = still
+  still-restored k who (Some t) still = elim (eqb t.held 0) as (λ b. Still (cond b (change_pri k who t.normal) k) o) [ true ↦ still-change_pri k still who t.normal | false ↦ still ]
+
+  still-letting_go : (k : KernState) (who : ℕ) (m : Mutex) → Still k o → Still (letting_go k who m) o
+  still-letting_go k who m still =
+      elim m.inversion_safe as (λ b. Still (cond b (dropped k who) k) o) [
+        | true ↦ still-restored (less_held k who) who (task_of (less_held k who).tasks who) (still-set_held k still who (held_of (task_of k.tasks who) - 1))
+        | false ↦ still
+      ]
+
+  still-hand : (s : MutexState) (who id : ℕ) (m : Mutex) → Still s.kern o → Still (hand s who id m).kern o
+  still-hand s who id m still = still-guarded (holding s.kern who m) who m (still-holding s.kern who m still)
+
+  -- ---- take
+  -- a wait for a mutex that lives, and is no semaphore
+  still-await : (s : MutexState) (who id n : ℕ) (m : Mutex) → 0 < n → MayAwait s.kern o id → Still s.kern o → Still (await s who id n m).kern o
+  still-await s who id n m some may still =
+      still_by s.kern still (await s who id n m).kern
+      (waits-pend s.kern o still.kern still.waits who (mutex_place id) (not m.by_priority) n may.0 may.1 (λ q. absurd (omega (arith, q))) (λ q. absurd (omega (arith, q))))
+      ((calms o.queues.queues s.kern still.kern).pending who (mutex_place id) (not m.by_priority) n some (λ side. (refl, may.0.made, may.2)))
+
+  pub still-take : (s : MutexState) (who id n : ℕ) → take_refusal who n (object_of s.mutexes id) ≡ None → (is_some (object_of s.mutexes id) ≡ true → MayAwait s.kern o id)
+      → Still s.kern o → Still (take s who id n).kern o
+  still-take s who id n fine there still =
+      still-raised (take_alone s who id n (object_of s.mutexes id)).kern (row (object_of s.mutexes id) fine there) (take_alone s who id n (object_of s.mutexes id)).mutexes
+    where
+      above : (i : ℕ) → cond (eqb i 0) (Some errors.ObjUnavailable) None ≡ None → 0 < i
+      above i g = elim (eqb i 0) as (λ b. eqb i 0 ≡ b → cond b (Some errors.ObjUnavailable) None ≡ None → 0 < i) [ true ↦ λ b q. absurd (cc) | false ↦ λ b q. let ne = eqb-false i 0 b in omega arith ] refl g
+
+      owner : (m : Mutex) (w : Option ℕ) → cond (is_others who w && eqb n 0) (Some errors.ObjUnavailable) None ≡ None → MayAwait s.kern o id
+          → Still (taken s who id n m w).kern o
+      owner m None g may = still-hand s who id m still
+      owner m (Some x) g may =
+          elim (eqb x who) as (λ b. cond (not b && eqb n 0) (Some errors.ObjUnavailable) None ≡ None → Still (cond b (deepen s who id m) (await s who id n m)).kern o) [
+            | true ↦ λ q. still-guarded s.kern who m still
+            | false ↦ λ q. still-await s who id n m (above n q) may still
+          ] g
+
+      row : (q : Option Mutex) → take_refusal who n q ≡ None → (is_some q ≡ true → MayAwait s.kern o id) → Still (take_alone s who id n q).kern o
+      row None g may = still
+      row (Some m) g may = owner m m.owner g (may refl)
+
+  -- ---- give
+  still-pass_on : (s : MutexState) (id : ℕ) (m : Mutex) (w : Option Task) → Still s.kern o → Still (pass_on s id m w).kern o
+  still-pass_on s id m None still = still
+  still-pass_on s id m (Some w) still = still-end_wait (hand s w.id id m).kern (still-hand s w.id id m still) w.id 0 None
+
+  pub still-give : (s : MutexState) (who id : ℕ) → Still s.kern o → Still (give s who id).kern o
+  still-give s who id still = still-raised (give_alone s who id (object_of s.mutexes id)).kern (row (object_of s.mutexes id)) (give_alone s who id (object_of s.mutexes id)).mutexes
+    where
+      row : (q : Option Mutex) → Still (give_alone s who id q).kern o
+      row None = still
+      row (Some m) =
+          let t : MutexState = pass_on s id m (first_waiter s.kern.tasks (mutex_place id)) in
+          elim (ltb 1 m.depth) as (λ b. Still (cond b (shallow s who id m) (give_up s who id m)).kern o) [
+            | true ↦ still-eased s.kern who m 1 still
+            | false ↦ still-eased (letting_go t.kern who m) who m 1 (still-letting_go t.kern who m (still-pass_on s id m (first_waiter s.kern.tasks (mutex_place id)) still))
+          ]
+
+  -- ---- delete
+  still-owner_ended : (k : KernState) (m : Mutex) (w : Option ℕ) → Still k o → Still (owner_ended k m w) o
+  still-owner_ended k m None still = still
+  still-owner_ended k m (Some x) still = each (task_of k.tasks x)
+    where
+      each : (q : Option Task) → Still (ended k x m q) o
+      each None = still
+      each (Some t) = still-eased (letting_go k x m) x m m.depth (still-letting_go k x m still)
+
+  pub still-delete : (s : MutexState) (id : ℕ) → Still s.kern o → Still (delete s id).kern o
+  still-delete s id still = still-raised (delete_alone s id (object_of s.mutexes id)).kern (row (object_of s.mutexes id)) (delete_alone s id (object_of s.mutexes id)).mutexes
+    where
+      row : (q : Option Mutex) → Still (delete_alone s id q).kern o
+      row None = still
+      row (Some m) =
+          still-owner_ended (wake_all s.kern (mutex_place id) 4294967295 (Some errors.ObjDeleted)) m m.owner (still-wake_all s.kern still (mutex_place id) 4294967295 (Some errors.ObjDeleted))
+
+  -- ---- a normal priority is set
+  pub still-priority_set : (s : MutexState) (who pri : ℕ) → Still s.kern o → Still (priority_set s who pri).kern o
+  still-priority_set s who pri still =
+      still-raised (priority_alone s who pri).kern
+      (still-change_pri (set_normal s.kern who pri) (still-set_normal s.kern still who pri) who (pri_after pri (task_of s.kern.tasks who))) (priority_alone s who pri).mutexes
+
+-- ---- the ids of the mutexes
+pub ids-take : (s : MutexState) (who id n : ℕ) → ids (take s who id n).mutexes ≡ ids s.mutexes
+ids-take s who id n = row (object_of s.mutexes id)
+  where
+    owner : (m : Mutex) (w : Option ℕ) → ids (taken s who id n m w).mutexes ≡ ids s.mutexes
+    owner m None = ids-write s.mutexes id (owned who m)
+    owner m (Some x) =
+        elim (eqb x who) as (λ b. ids (cond b (deepen s who id m) (await s who id n m)).mutexes ≡ ids s.mutexes) [ true ↦ ids-write s.mutexes id (record m { depth = m.depth + 1 }) | false ↦ refl ]
+
+    row : (q : Option Mutex) → ids (take_alone s who id n q).mutexes ≡ ids s.mutexes
+    row None = refl
+    row (Some m) = owner m m.owner
+
+pub ids-give : (s : MutexState) (who id : ℕ) → ids (give s who id).mutexes ≡ ids s.mutexes
+ids-give s who id = row (object_of s.mutexes id)
+  where
+    passed : (m : Mutex) (w : Option Task) → ids (pass_on s id m w).mutexes ≡ ids s.mutexes
+    passed m None = ids-write s.mutexes id (freed m)
+    passed m (Some w) = ids-write s.mutexes id (owned w.id m)
+
+    row : (q : Option Mutex) → ids (give_alone s who id q).mutexes ≡ ids s.mutexes
+    row None = refl
+    row (Some m) =
+        elim (ltb 1 m.depth) as (λ b. ids (cond b (shallow s who id m) (give_up s who id m)).mutexes ≡ ids s.mutexes) [
+          | true ↦ ids-write s.mutexes id (record m { depth = m.depth - 1 })
+          | false ↦ passed m (first_waiter s.kern.tasks (mutex_place id))
+        ]

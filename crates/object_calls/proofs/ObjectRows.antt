@@ -1,0 +1,374 @@
+-- What is kept of the objects is kept by each row of the calls on them.
+use Rattle.std.proofs.Common.{◌≡◌, ℕ, ◌+◌, ◌<◌, ◌≤◌, Bool, true, false, cond, not, ◌&&◌, ◌||◌, eqb, leb, List, [], ◌∷◌, ◌++◌, length, get_or, Option, None, Some, IfSome, is_some, refl, sym, ap, ◌∙◌, subst, arith}
+use Rattle.std.specs.List.{All}
+use Rattle.std.proofs.lemmas.Bool.{eqb-true, eqb-false, leb-false, and_parts, or_left, or_right}
+use Rattle.std.proofs.lemmas.List.Elements.{All-weaker, All-filter, All-push}
+use Rattle.wind_base.specs.SemBits.{has_bits, are_options, is_priority, is_inversion_safe, read_options}
+use Rattle.wind_base.specs.declared.errno.Errno.{Errno}
+use Rattle.wind_base.specs.declared.errno.Errno.TheVariants as errors
+use Rattle.wind_base.specs.declared.semaphore.SemKind.{SemKind}
+use Rattle.wind_base.specs.declared.semaphore.SemKind.TheVariants as kinds
+use Rattle.wind_base.specs.declared.semaphore.SemOptions.{SemOptions}
+use Rattle.id_table.specs.Rows.{IdsBelow, IsId, ids, object_of, with_object, without}
+use Rattle.id_table.proofs.Lookups.{found_below, no_object_of}
+use Rattle.wind_core.specs.State.{KernState, IsKern, Lives}
+use Rattle.wind_core.specs.Orders.{is_place}
+use Rattle.sem_plain.specs.declared.semaphore.Semaphore.{Semaphore}
+use Rattle.sem_plain.specs.State.{SemState, sem_place, may_hold}
+use Rattle.sem_plain.specs.Calls as plain
+use Rattle.sem_plain.specs.Kept.{KeepsSemaphores}
+use Rattle.sem_plain.specs.Laws.{WaitsLiveIn, KeptByCalls, LiveByCalls}
+use Rattle.sem_plain.proofs.Keeping.{may_pend, calls_keep}
+use Rattle.sem_plain.proofs.Living.{calls_live}
+use Rattle.sem_plain.proofs.Moving.{same_itself}
+use Rattle.task_safety.proofs.Waiting.{every_call}
+use Rattle.inheritance.specs.declared.mutex.Mutex.{Mutex}
+use Rattle.inheritance.specs.Mutexes.{MutexState, both, mutex_place}
+use Rattle.inheritance.specs.Reach.{raised}
+use Rattle.sem_mutex.specs.Calls as mutex
+use Rattle.sem_mutex.specs.Making as making
+use Rattle.sem_mutex.specs.Kept.{MutexKept, KeepsMutexes}
+use Rattle.sem_mutex.specs.Laws as laws
+use Rattle.sem_mutex.proofs.Lawful.{beside_law, calls_law, gone_law}
+use Rattle.msg_queue.proofs.Calm.{calms}
+use Rattle.kernel_world.specs.Objects.{is_live_beside, KeepsObjects}
+use Rattle.object_calls.specs.SemRows.{ObjectRow, sems, mutexes, is_mutex, refused, by_semaphores, by_mutexes, made_unless, made, binary_with, binary_row, counting_with, counting_row, mutex_unless, mutex_with, mutex_row, plain_reply, plain_take_unless, plain_take, mutex_take_unless, mutex_take, take_row, plain_give_unless, plain_give, mutex_give_unless, mutex_give, give_row, flush_unless, flush_row, plain_delete_unless, delete_row, priority_row}
+use Rattle.kernel_world.specs.Actors.{Acts}
+use Rattle.kernel_world.specs.declared.objects.Objects.{Objects}
+use Rattle.kernel_world.specs.declared.actor.Actor.{Actor}
+use Rattle.kernel_world.specs.declared.actor.Actor.TheVariants.{Task, Interrupt}
+use Rattle.kernel_world.specs.declared.reply.Reply.TheVariants.{Answer}
+use Rattle.kernel_world.proofs.Calming.{KeepsQueues, queues-calm}
+use Rattle.kernel_world.proofs.Apart.{not_some, by_id, none_from, none_push, none_write, none_without, other_kind, queue_ids}
+use Rattle.kernel_world.proofs.Waiting.{waits-draw}
+use Rattle.kernel_world.proofs.ObjectMoves.{objects-pend, objects-end_wait, objects-wake_all}
+use Rattle.object_calls.proofs.MutexTables.{with_mutexes, all-ids, lives-ids, table-ids, table-without, table-push, waits-ids, waits-push, waits-without}
+use Rattle.object_calls.proofs.MutexWaits.{Still, MayAwait, still-take, still-give, still-delete, still-priority_set, ids-take, ids-give}
+
+-- the objects with other semaphores
+abbrev other_semaphores : Objects → List (ℕ × Semaphore) → Objects
+other_semaphores o ss = record o { semaphores = ss }
+
+-- what is kept holds after the row
+abbrev pub KeepsRow : ObjectRow → Type 0
+KeepsRow r = KeepsObjects r.kern r.objects
+
+-- an object is made only where there is room and an id is left
+room_left : (n id : ℕ) (e f : Errno) → cond (leb 1024 n) (Some e) (cond (leb 1048577 id) (Some f) None) ≡ None → (n < 1024) × (id ≤ 1048576)
+room_left n id e f none =
+    elim (leb 1024 n) as (λ b. leb 1024 n ≡ b → cond b (Some e) (cond (leb 1048577 id) (Some f) None) ≡ None → (n < 1024) × (id ≤ 1048576)) [
+      | true ↦ λ h q. absurd (cc)
+      | false ↦ λ h q.
+          elim (leb 1048577 id) as (λ b. leb 1048577 id ≡ b → cond b (Some f) None ≡ None → (n < 1024) × (id ≤ 1048576)) [
+            | true ↦ λ i r. absurd (cc)
+            | false ↦ λ i r. (omega (arith, leb-false 1024 n h), omega (arith, leb-false 1048577 id i))
+          ] refl q
+    ] refl none
+
+-- inheritance goes with waiters by priority alone
+inherits : (a b c : Bool) → (a && (not b || c)) ≡ true → b ≡ true → c ≡ true
+inherits a true c h e = (and_parts a c h).1
+inherits a false c h e = absurd (cc)
+
+module _ (k : KernState) (o : Objects) (is : IsKern k) (kept : KeepsObjects k o) where
+  abbrev s : SemState
+  s = sems k o
+
+  -- no mutex has number 0
+  pub zero_none : is_mutex o 0 ≡ false
+  zero_none = ap is_some (no_object_of (record { rows = o.mutexes; room = 1024 }) 0 kept.table (λ (i : IsId 0). omega (arith, i.0)))
+
+  -- ---- semaphores
+  keeps : KeptByCalls (sems k o)
+  keeps = calls_keep (sems k o) kept.waits.semaphores
+
+  lives : LiveByCalls (is_live_beside o) (sems k o)
+  lives = calls_live (is_live_beside o) (sems k o) is kept.waits.live
+
+  -- ---- ids of one kind are those of no other
+  queue_below : IdsBelow k.next_id o.queues.queues
+  queue_below = queue_ids k o kept
+
+  semaphore_no_queue : (id : ℕ) → is_some (object_of o.semaphores id) ≡ true → object_of o.queues.queues id ≡ None
+  semaphore_no_queue id there =
+      other_kind o.queues.queues o.semaphores id
+      (All-weaker (λ r. (object_of o.semaphores r.0 ≡ None) × (object_of o.mutexes r.0 ≡ None)) (λ r. object_of o.semaphores r.0 ≡ None) (λ r h. h.0) o.queues.queues kept.queues_apart) there
+
+  mutex_no_queue : (id : ℕ) → is_some (object_of o.mutexes id) ≡ true → object_of o.queues.queues id ≡ None
+  mutex_no_queue id there =
+      other_kind o.queues.queues o.mutexes id
+      (All-weaker (λ r. (object_of o.semaphores r.0 ≡ None) × (object_of o.mutexes r.0 ≡ None)) (λ r. object_of o.mutexes r.0 ≡ None) (λ r h. h.1) o.queues.queues kept.queues_apart) there
+
+  -- no id that was none of a semaphore becomes one of these
+  abbrev StaysNone : List (ℕ × Semaphore) → Type 0
+  StaysNone ss = (n : ℕ) → n < k.next_id → object_of o.semaphores n ≡ None → object_of ss n ≡ None
+
+  apart_by : (ss : List (ℕ × Semaphore)) → StaysNone ss → All (λ r. object_of ss r.0 ≡ None) o.mutexes
+  apart_by ss none i d within = none (get_or o.mutexes i d).0 (kept.mutexes.holds.mutexes i d within).id (kept.apart i d within)
+
+  queues_apart_by : (ss : List (ℕ × Semaphore)) → StaysNone ss → All (λ r. (object_of ss r.0 ≡ None) × (object_of o.mutexes r.0 ≡ None)) o.queues.queues
+  queues_apart_by ss none i d within =
+      let each = kept.queues_apart i d within in
+      (none (get_or o.queues.queues i d).0 (queue_below i d within) each.0, each.1)
+
+  -- other semaphores beside a kernel of which all is kept with these
+  by_others : (j : KernState) (ss : List (ℕ × Semaphore)) → KeepsObjects j o → KeepsSemaphores (sems j (other_semaphores o ss)) → WaitsLiveIn (is_live_beside o) (sems j (other_semaphores o ss))
+      → StaysNone ss → KeepsObjects j (other_semaphores o ss)
+  by_others j ss there semaphores live none = record {
+    waits = record { semaphores = semaphores; deleters = there.waits.deleters; live = live; right = there.waits.right };
+    mutexes = there.mutexes;
+    table = there.table;
+    queues = there.queues;
+    queues_ranged = kept.queues_ranged;
+    apart = apart_by ss none;
+    queues_apart = queues_apart_by ss none;
+  }
+
+  stays_write : (id : ℕ) (v : Semaphore) → StaysNone (with_object o.semaphores id v)
+  stays_write id v n below none = none_write o.semaphores id n v none
+
+  stays_without : (id : ℕ) → StaysNone (without o.semaphores id)
+  stays_without id n below none = none_without o.semaphores id n none
+
+  stays_push : (v : Semaphore) → StaysNone (o.semaphores ++ (k.next_id, v) ∷ [])
+  stays_push v n below none = none_push o.semaphores k.next_id n v below none
+
+  -- an id is drawn
+  queues_draw : k.next_id ≤ 1048576 → KeepsQueues (record k { next_id = k.next_id + 1 }) o
+  queues_draw left = queues-calm k (record k { next_id = k.next_id + 1 }) o ((calms o.queues.queues k is).giving_ids (k.next_id + 1) k.lent (omega arith) (omega (arith, left))) kept.queues
+
+  -- ---- a semaphore is made
+  sem_made : (kind : SemKind) (options : SemOptions) (count : ℕ) → may_hold kind count ≡ true → KeepsRow (made k o (plain.new_semaphore kind options count))
+  sem_made kind options count may =
+      let v : Semaphore = plain.new_semaphore kind options count in
+      let next : ℕ = k.next_id in
+      let j : KernState = record k { next_id = next + 1 } in
+      elim (plain.create_refusal (sems k o)) as (λ r. plain.create_refusal (sems k o) ≡ r → KeepsRow (made_unless r k o v)) [
+        | Some e ↦ λ r. kept
+        | None ↦ λ r.
+            record {
+              waits = record {
+                semaphores = keeps.creating kind options count may;
+                deleters = (every_call k is kept.waits.deleters).drawing (next + 1);
+                live = lives.creating kind options count;
+                right = kept.waits.right;
+              };
+              mutexes = (beside_law (mutexes k o) kept.mutexes).drawing (next + 1) (omega arith);
+              table = kept.table;
+              queues = queues_draw (room_left (length o.semaphores) next errors.TooMany errors.IdsSpent r).1;
+              queues_ranged = kept.queues_ranged;
+              apart = apart_by (o.semaphores ++ (next, v) ∷ []) (stays_push v);
+              queues_apart = queues_apart_by (o.semaphores ++ (next, v) ∷ []) (stays_push v);
+            }
+      ] refl
+
+  -- a binary one, empty or full
+  pub keeps-binary_row : (options state : ℕ) → KeepsRow (binary_row k o options state)
+  keeps-binary_row options state =
+      elim (read_options options kinds.Binary) as (λ q. KeepsRow (binary_with k o state q)) [
+        | None ↦ kept
+        | Some v ↦
+            elim (leb state 1) as (λ b. leb state 1 ≡ b → KeepsRow (cond b (made k o (plain.new_semaphore kinds.Binary v state)) (refused k o errors.InvalidState))) [
+              | true ↦ λ b. sem_made kinds.Binary v state b
+              | false ↦ λ b. kept
+            ] refl
+      ]
+
+  pub keeps-counting_row : (options count : ℕ) → KeepsRow (counting_row k o options count)
+  keeps-counting_row options count =
+      elim (read_options options kinds.Counting) as (λ q. KeepsRow (counting_with k o count q)) [ None ↦ kept | Some v ↦ sem_made kinds.Counting v count refl ]
+
+  -- ---- a semaphore is taken, given, flushed, deleted
+  -- a wait for one takes time
+  takes_time : (v : Semaphore) (n : ℕ) → plain.take_refused n (Some v) ≡ None → eqb v.count 0 ≡ true → 0 < n
+  takes_time v n fine empty =
+      elim (eqb n 0) as (λ b. eqb n 0 ≡ b → cond (eqb v.count 0 && b) (Some errors.ObjUnavailable) None ≡ None → 0 < n) [
+        | true ↦ λ z q. let lost : cond (true && true) (Some errors.ObjUnavailable) None ≡ None = subst (λ c. cond (c && true) (Some errors.ObjUnavailable) None ≡ None) empty q in absurd (cc)
+        | false ↦ λ z q. let ne = eqb-false n 0 z in omega arith
+      ] refl fine
+
+  sem_take : (who id n : ℕ) → object_of o.mutexes id ≡ None → plain.take_refusal s id n ≡ None → KeepsRow (by_semaphores o (plain.take s who id n) (plain_reply (plain.took s id)))
+  sem_take who id n other fine =
+      elim (plain.live s id) as (λ q. plain.live s id ≡ q → KeepsSemaphores (plain.take_found s who id n q) → WaitsLiveIn (is_live_beside o) (plain.take_found s who id n q)
+      → KeepsObjects (plain.take_found s who id n q).kern (other_semaphores o (plain.take_found s who id n q).semaphores)) [
+        | None ↦ λ e semaphores live. kept
+        | Some v ↦ λ e.
+            elim (eqb v.count 0) as (λ b. eqb v.count 0 ≡ b → KeepsSemaphores (cond b (plain.awaited s who id n v) (plain.written s id (plain.emptied v))) → WaitsLiveIn (is_live_beside o) (cond b (plain.awaited s who id n v) (plain.written s id (plain.emptied v)))
+            → KeepsObjects (cond b (plain.awaited s who id n v) (plain.written s id (plain.emptied v))).kern (other_semaphores o (cond b (plain.awaited s who id n v) (plain.written s id (plain.emptied v))).semaphores)) [
+              | true ↦ λ b semaphores live.
+                  objects-pend k o is kept who (sem_place id) (not (is_priority v.options)) n (may_pend s id v (sem_place id) kept.waits.semaphores e (eqb-true v.count 0 b) (same_itself (sem_place id)))
+                  (or_left (is_some (object_of o.semaphores id)) (is_some (object_of o.mutexes id) || (is_some (object_of o.queues.queues id) || false)) (ap is_some e)) (λ q. absurd (omega (arith, q))) (λ q. absurd (omega (arith, q))) other
+                  (takes_time v n (subst (λ q. plain.take_refused n q ≡ None) e fine) b) (λ side. (refl, found_below o.semaphores k.next_id id v kept.waits.semaphores.ids e, semaphore_no_queue id (ap is_some e)))
+              | false ↦ λ b semaphores live. by_others k (with_object o.semaphores id (plain.emptied v)) kept semaphores live (stays_write id (plain.emptied v))
+            ] refl
+      ] refl (keeps.taking who id n) (lives.taking who id n)
+
+  sem_give : (id : ℕ) → KeepsRow (by_semaphores o (plain.give s id) (Answer 0))
+  sem_give id =
+      elim (plain.live s id) as (λ q. KeepsSemaphores (plain.give_found s id q) → WaitsLiveIn (is_live_beside o) (plain.give_found s id q) → KeepsObjects (plain.give_found s id q).kern (other_semaphores o (plain.give_found s id q).semaphores)) [
+        | None ↦ λ semaphores live. kept
+        | Some v ↦
+            elim (plain.next_of s id) as (λ t. KeepsSemaphores (plain.handed s id v t) → WaitsLiveIn (is_live_beside o) (plain.handed s id v t) → KeepsObjects (plain.handed s id v t).kern (other_semaphores o (plain.handed s id v t).semaphores)) [
+              | None ↦ λ semaphores live. by_others k (with_object o.semaphores id (plain.filled v)) kept semaphores live (stays_write id (plain.filled v))
+              | Some t ↦ λ semaphores live. objects-end_wait k o is kept t.id 0 None
+            ]
+      ] (keeps.giving id) (lives.giving id)
+
+  sem_delete : (id : ℕ) → KeepsRow (by_semaphores o (plain.delete s id) (Answer 0))
+  sem_delete id =
+      by_others (plain.delete s id).kern (without o.semaphores id) (objects-wake_all k o is kept (sem_place id) 4294967295 (Some errors.ObjDeleted)) (keeps.deleting id) (lives.deleting id) (stays_without id)
+
+  -- the calls on semaphores
+  plain_take_keeps : (who id n : ℕ) → object_of o.mutexes id ≡ None → KeepsRow (plain_take k o who id n)
+  plain_take_keeps who id n other =
+      elim (plain.take_refusal s id n) as (λ r. plain.take_refusal s id n ≡ r → KeepsRow (plain_take_unless r k o who id n)) [ Some e ↦ λ r. kept | None ↦ λ r. sem_take who id n other r ] refl
+
+  plain_give_keeps : (id : ℕ) → KeepsRow (plain_give k o id)
+  plain_give_keeps id = elim (plain.give_refusal s id) as (λ r. KeepsRow (plain_give_unless r k o id)) [ Some e ↦ kept | None ↦ sem_give id ]
+
+  pub keeps-flush_row : (id : ℕ) → KeepsRow (flush_row k o id)
+  keeps-flush_row id =
+      elim (is_mutex o id) as (λ b. KeepsRow (cond b (refused k o errors.InvalidOperation) (flush_unless (plain.flush_refusal s id) k o id))) [
+        | true ↦ kept
+        | false ↦ elim (plain.flush_refusal s id) as (λ r. KeepsRow (flush_unless r k o id)) [ Some e ↦ kept | None ↦ objects-wake_all k o is kept (sem_place id) 0 None ]
+      ]
+
+  plain_delete_keeps : (id : ℕ) → KeepsRow (plain_delete_unless (plain.delete_refusal s id) k o id)
+  plain_delete_keeps id = elim (plain.delete_refusal s id) as (λ r. KeepsRow (plain_delete_unless r k o id)) [ Some e ↦ kept | None ↦ sem_delete id ]
+
+  -- ---- mutexes
+  abbrev m : MutexState
+  m = mutexes k o
+
+  still : Still k o
+  still = record { kern = is; waits = kept.waits; queues = kept.queues }
+
+  calls : laws.KeptByCalls m
+  calls = calls_law m is kept.table kept.mutexes
+
+  -- other mutexes of the same ids
+  by_same : (j : KernState) (ms : List (ℕ × Mutex)) → Still j o → ids ms ≡ ids o.mutexes → KeepsMutexes (both j ms) → KeepsObjects j (with_mutexes o ms)
+  by_same j ms there same mutexes = record {
+    waits = waits-ids j o ms same there.waits;
+    mutexes = mutexes;
+    table = table-ids o.mutexes ms same kept.table;
+    queues = there.queues;
+    queues_ranged = kept.queues_ranged;
+    apart = all-ids o.mutexes ms same (λ n. object_of o.semaphores n ≡ None) kept.apart;
+    queues_apart =
+        All-weaker (λ r. (object_of o.semaphores r.0 ≡ None) × (object_of o.mutexes r.0 ≡ None)) (λ r. (object_of o.semaphores r.0 ≡ None) × (object_of ms r.0 ≡ None))
+        (λ r h. (h.0, not_some (object_of ms r.0) (lives-ids o.mutexes ms same r.0 ∙ ap is_some h.1))) o.queues.queues kept.queues_apart;
+  }
+
+  below : IdsBelow k.next_id o.mutexes
+  below = All-weaker (MutexKept k.next_id) (λ r. r.0 < k.next_id) (λ r h. h.id) o.mutexes kept.mutexes.holds.mutexes
+
+  -- a mutex is made
+  mutex_made : (options : SemOptions) → (is_inversion_safe options ≡ true → is_priority options ≡ true) → KeepsRow (mutex_with k o (Some options))
+  mutex_made options urgency =
+      let v : Mutex = making.new_mutex options in
+      let next : ℕ = k.next_id in
+      let j : KernState = record k { next_id = next + 1 } in
+      elim (making.create_refusal m) as (λ r. making.create_refusal m ≡ r → KeepsRow (mutex_unless r k o options)) [
+        | Some e ↦ λ r. kept
+        | None ↦ λ r.
+            let left = room_left (length o.mutexes) next errors.TooMany errors.IdsSpent r in
+            record {
+              waits = waits-push j o next v (waits-draw k o is kept.waits (next + 1) (omega arith));
+              mutexes = calls.creating options urgency;
+              table = table-push o.mutexes next v kept.table left.0 is.first_id left.1 below;
+              queues = queues_draw left.1;
+              queues_ranged = kept.queues_ranged;
+              apart = All-push (λ x. object_of o.semaphores x.0 ≡ None) o.mutexes (next, v) kept.apart (none_from o.semaphores next next kept.waits.semaphores.ids (omega arith));
+              queues_apart = λ i d within.
+                  let each = kept.queues_apart i d within in
+                  (each.0, none_push o.mutexes next (get_or o.queues.queues i d).0 v (queue_below i d within) each.1);
+            }
+      ] refl
+
+  pub keeps-mutex_row : (options : ℕ) → KeepsRow (mutex_row k o options)
+  keeps-mutex_row n =
+      elim (are_options kinds.Mutex n) as (λ b. are_options kinds.Mutex n ≡ b → KeepsRow (mutex_with k o (cond b (Some (record { 0 = n })) None))) [
+        | true ↦ λ b. mutex_made (record { 0 = n }) (λ safe. inherits (has_bits 13 n) (has_bits n 8) (has_bits n 1) b safe)
+        | false ↦ λ b. kept
+      ] refl
+
+  -- a mutex that lives may be waited for
+  awaitable : (id : ℕ) → is_mutex o id ≡ true → MayAwait k o id
+  awaitable id e = (
+    record {
+      empty = subst (λ q. IfSome q (λ v. v.count ≡ 0)) (sym (by_id (λ n. object_of o.semaphores n ≡ None) o.mutexes id kept.apart e)) tt;
+      made = by_id (λ n. n < k.next_id) o.mutexes id below e;
+    },
+    or_right (is_some (object_of o.semaphores id)) (is_mutex o id || (is_some (object_of o.queues.queues id) || false)) (or_left (is_mutex o id) (is_some (object_of o.queues.queues id) || false) e),
+    mutex_no_queue id e,
+  )
+
+  mutex_take_keeps : (who id n : ℕ) → Lives k who → KeepsRow (mutex_take k o who id n)
+  mutex_take_keeps who id n acts =
+      elim (mutex.take_refusal who n (object_of o.mutexes id)) as (λ r. mutex.take_refusal who n (object_of o.mutexes id) ≡ r → KeepsRow (mutex_take_unless r k o who id n)) [
+        | Some e ↦ λ r. kept
+        | None ↦ λ r.
+            by_same (mutex.take m who id n).kern (mutex.take m who id n).mutexes (still-take o m who id n r (awaitable id) still) (ids-take m who id n) (calls.taking who id n acts r)
+      ] refl
+
+  mutex_give_keeps : (who id : ℕ) → Lives k who → KeepsRow (mutex_give k o who id)
+  mutex_give_keeps who id acts =
+      elim (mutex.give_refusal who (object_of o.mutexes id)) as (λ r. mutex.give_refusal who (object_of o.mutexes id) ≡ r → KeepsRow (mutex_give_unless r k o who id)) [
+        | Some e ↦ λ r. kept
+        | None ↦ λ r. by_same (mutex.give m who id).kern (mutex.give m who id).mutexes (still-give o m who id still) (ids-give m who id) (calls.giving who id acts r)
+      ] refl
+
+  mutex_delete_keeps : (id : ℕ) → is_mutex o id ≡ true → KeepsRow (by_mutexes o (mutex.delete m id) (Answer 0))
+  mutex_delete_keeps id there =
+      let fine : mutex.delete_refusal (object_of o.mutexes id) ≡ None =
+      elim (object_of o.mutexes id) as (λ q. is_some q ≡ true → mutex.delete_refusal q ≡ None) [ None ↦ λ q. absurd (cc) | Some v ↦ λ q. refl ] there in
+      elim (object_of o.mutexes id) as (λ q. is_some q ≡ true → Still (raised (mutex.delete_alone m id q)).kern o → KeepsMutexes (raised (mutex.delete_alone m id q))
+      → All (λ t. is_place (mutex_place id) t.wait ≡ false) (raised (mutex.delete_alone m id q)).kern.tasks
+      → KeepsObjects (raised (mutex.delete_alone m id q)).kern (with_mutexes o (raised (mutex.delete_alone m id q)).mutexes)) [
+        | None ↦ λ q after mutexes away. absurd (cc)
+        | Some v ↦ λ q after mutexes away. record {
+          waits = waits-without (raised (mutex.delete_alone m id (Some v))).kern o id away after.waits;
+          mutexes = mutexes;
+          table = table-without o.mutexes id kept.table;
+          queues = after.queues;
+          queues_ranged = kept.queues_ranged;
+          apart = All-filter (λ r. not (eqb r.0 id)) (λ r. object_of o.semaphores r.0 ≡ None) o.mutexes kept.apart;
+          queues_apart =
+              All-weaker (λ r. (object_of o.semaphores r.0 ≡ None) × (object_of o.mutexes r.0 ≡ None)) (λ r. (object_of o.semaphores r.0 ≡ None) × (object_of (without o.mutexes id) r.0 ≡ None))
+              (λ r h. (h.0, none_without o.mutexes id r.0 h.1)) o.queues.queues kept.queues_apart;
+        }
+      ] there (still-delete o m id still) (calls.deleting id fine) (gone_law m id is fine)
+
+  -- ---- the rows of both kinds; a task that takes or gives a mutex lives
+  pub keeps-take_row : (a : Actor) (id n : ℕ) → (is_mutex o id ≡ true → Acts k a) → KeepsRow (take_row k o a id n)
+  keeps-take_row (Task who) id n acts =
+      elim (is_mutex o id) as (λ b. is_mutex o id ≡ b → KeepsRow (cond b (mutex_take k o who id n) (plain_take k o who id n))) [
+        | true ↦ λ b. mutex_take_keeps who id n (acts b)
+        | false ↦ λ b. plain_take_keeps who id n (not_some (object_of o.mutexes id) b)
+      ] refl
+  keeps-take_row Interrupt id n acts = kept
+
+  pub keeps-give_row : (a : Actor) (id : ℕ) → (is_mutex o id ≡ true → Acts k a) → KeepsRow (give_row k o a id)
+  keeps-give_row (Task who) id acts =
+      elim (is_mutex o id) as (λ b. is_mutex o id ≡ b → KeepsRow (cond b (mutex_give k o who id) (plain_give k o id))) [
+        | true ↦ λ b. mutex_give_keeps who id (acts b)
+        | false ↦ λ b. plain_give_keeps id
+      ] refl
+  keeps-give_row Interrupt id acts =
+      elim (is_mutex o id) as (λ b. KeepsRow (cond b (refused k o errors.NotIsrCallable) (plain_give k o id))) [ true ↦ kept | false ↦ plain_give_keeps id ]
+
+  pub keeps-delete_row : (id : ℕ) → KeepsRow (delete_row k o id)
+  keeps-delete_row id =
+      elim (is_mutex o id) as (λ b. is_mutex o id ≡ b → KeepsRow (cond b (by_mutexes o (mutex.delete m id) (Answer 0)) (plain_delete_unless (plain.delete_refusal s id) k o id))) [
+        | true ↦ λ b. mutex_delete_keeps id b
+        | false ↦ λ b. plain_delete_keeps id
+      ] refl
+
+  pub keeps-priority_row : (pri : ℕ) (target : Option ℕ) → KeepsRow (priority_row k o pri target)
+  keeps-priority_row pri None = kept
+  keeps-priority_row pri (Some id) =
+      elim (leb pri 255) as (λ b. KeepsRow (cond b (by_mutexes o (mutex.priority_set m id pri) (Answer 0)) (refused k o errors.IllegalPriority))) [
+        | true ↦ by_same (mutex.priority_set m id pri).kern o.mutexes (still-priority_set o m id pri still) refl (calls.setting_priority id pri)
+        | false ↦ kept
+      ]

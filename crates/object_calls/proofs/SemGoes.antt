@@ -1,0 +1,298 @@
+-- How far the rows of semaphores and mutexes take the kernel's counters.
+use Rattle.std.proofs.Common.{◌≡◌, ℕ, ◌+◌, ◌-◌, ◌<◌, ◌≤◌, true, false, not, ◌&&◌, cond, eqb, leb, ltb, List, length, Option, None, Some, is_some, refl, arith}
+use Rattle.std.proofs.lemmas.Bool.{leb-false, eqb-false}
+use Rattle.std.proofs.lemmas.List.Elements.{All-weaker}
+use Rattle.wind_base.specs.SemBits.{is_priority, read_options}
+use Rattle.wind_base.specs.declared.errno.Errno.{Errno}
+use Rattle.wind_base.specs.declared.errno.Errno.TheVariants as errors
+use Rattle.wind_base.specs.declared.semaphore.SemKind.TheVariants as kinds
+use Rattle.wind_base.specs.declared.semaphore.SemOptions.{SemOptions}
+use Rattle.id_table.specs.Rows.{object_of}
+use Rattle.task_block.specs.declared.task.Task.{Task as TaskRecord}
+use Rattle.wind_core.specs.State.{KernState, IsKern, task_of}
+use Rattle.wind_core.specs.Orders.{first_waiter}
+use Rattle.wind_core.specs.Moves.{end_wait, wake_all, change_pri, set_held, set_normal}
+use Rattle.task_safety.specs.Safety.{make_safe, lessen}
+use Rattle.sem_plain.specs.declared.semaphore.Semaphore.{Semaphore}
+use Rattle.sem_plain.specs.State.{sem_place}
+use Rattle.sem_plain.specs.Calls as plain
+use Rattle.inheritance.specs.declared.mutex.Mutex.{Mutex}
+use Rattle.inheritance.specs.Mutexes.{MutexState, mutex_place}
+use Rattle.inheritance.specs.Reach.{raised_kern}
+use Rattle.sem_mutex.specs.Calls as mutex
+use Rattle.sem_mutex.specs.Making as making
+use Rattle.kernel_world.specs.Kept.{CountsWithin, call_sinces}
+use Rattle.object_calls.specs.SemRows.{refused, by_mutexes, sems, mutexes, of_task, made_unless, made, binary_with, binary_row, counting_with, counting_row, mutex_unless, mutex_with, mutex_row, plain_take_unless, plain_take, mutex_take_unless, mutex_take, take_row, plain_give_unless, plain_give, mutex_give_unless, mutex_give, give_row, flush_unless, flush_row, plain_delete_unless, delete_row, priority_row}
+use Rattle.kernel_world.specs.declared.objects.Objects.{Objects}
+use Rattle.kernel_world.specs.declared.actor.Actor.{Actor}
+use Rattle.kernel_world.specs.declared.actor.Actor.TheVariants.{Task, Interrupt}
+use Rattle.kernel_world.specs.declared.reply.Reply.TheVariants.{Answer}
+use Rattle.kernel_world.proofs.Goes.{Goes, id_left, drawn, goes-draw, goes_nowhere, goes_on, goes_further, goes-change_pri, goes-set_normal, goes-set_held, goes-end_wait, goes-pend, goes-wake_all, goes-raised, goes-make_safe, goes-lessen}
+
+-- ---- what a mutex is for its owner
+module _ (k : KernState) (n : ℕ) (is : IsKern k) (within : CountsWithin n k) where
+  goes-holding : (who : ℕ) (m : Mutex) → Goes k (mutex.holding k who m) n 0
+  goes-holding who m =
+      elim m.inversion_safe as (λ b. Goes k (cond b (set_held k who (mutex.held_of (task_of k.tasks who) + 1)) k) n 0) [
+        | true ↦ goes-set_held k n is within who (mutex.held_of (task_of k.tasks who) + 1)
+        | false ↦ goes_nowhere k n is within
+      ]
+
+  goes-guarded : (who : ℕ) (m : Mutex) → Goes k (mutex.guarded k who m) (n + 1) 0
+  goes-guarded who m =
+      elim m.delete_safe as (λ b. Goes k (cond b (make_safe k who) k) (n + 1) 0) [
+        | true ↦ goes-make_safe k n is within who
+        | false ↦ goes_further k k n (n + 1) 0 0 (omega arith) (omega arith) (goes_nowhere k n is within)
+      ]
+
+  goes-eased : (who : ℕ) (m : Mutex) (count : ℕ) → Goes k (mutex.eased k who m count) n 256
+  goes-eased who m count =
+      elim m.delete_safe as (λ b. Goes k (cond b (lessen k who count) k) n 256) [
+        | true ↦ goes-lessen k n is within who count
+        | false ↦ goes_further k k n n 0 256 (omega arith) (omega arith) (goes_nowhere k n is within)
+      ]
+
+  goes-restored : (who : ℕ) (o : Option TaskRecord) → Goes k (mutex.restored k who o) n 1
+  goes-restored who None = goes_further k k n n 0 1 (omega arith) (omega arith) (goes_nowhere k n is within)
+  goes-restored who (Some t) =
+      elim (eqb t.held 0) as (λ b. Goes k (cond b (change_pri k who t.normal) k) n 1) [
+        | true ↦ goes-change_pri k n is within who t.normal
+        | false ↦ goes_further k k n n 0 1 (omega arith) (omega arith) (goes_nowhere k n is within)
+      ]
+
+module _ (k : KernState) (n : ℕ) (is : IsKern k) (within : CountsWithin n k) where
+  goes-letting_go : (who : ℕ) (m : Mutex) → Goes k (mutex.letting_go k who m) n 1
+  goes-letting_go who m =
+      let less : KernState = mutex.less_held k who in
+      let one = goes-set_held k n is within who (mutex.held_of (task_of k.tasks who) - 1) in
+      elim m.inversion_safe as (λ b. Goes k (cond b (mutex.dropped k who) k) n 1) [
+        | true ↦ goes_on k less (mutex.dropped k who) n n 0 1 one (goes-restored less n one.kern one.counts who (task_of less.tasks who))
+        | false ↦ goes_further k k n n 0 1 (omega arith) (omega arith) (goes_nowhere k n is within)
+      ]
+
+  -- the task becomes the owner
+  goes-hand : (who : ℕ) (m : Mutex) → Goes k (mutex.guarded (mutex.holding k who m) who m) (n + 1) 0
+  goes-hand who m =
+      let one = goes-holding k n is within who m in
+      let j : KernState = mutex.holding k who m in
+      goes_on k j (mutex.guarded j who m) n (n + 1) 0 0 one (goes-guarded j n one.kern one.counts who m)
+
+module _ (k : KernState) (n : ℕ) (is : IsKern k) (within : CountsWithin n k) where
+  -- the owner lets it go, with so many safe sections
+  goes-left : (who : ℕ) (m : Mutex) (count : ℕ) → Goes k (mutex.eased (mutex.letting_go k who m) who m count) n 257
+  goes-left who m count =
+      let one = goes-letting_go k n is within who m in
+      let j : KernState = mutex.letting_go k who m in
+      goes_on k j (mutex.eased j who m count) n n 1 256 one (goes-eased j n one.kern one.counts who m count)
+
+-- a call that is not refused waits for some ticks at least
+above : (m : ℕ) (e : Errno) → cond (eqb m 0) (Some e) None ≡ None → 0 < m
+above m e none =
+    elim (eqb m 0) as (λ b. eqb m 0 ≡ b → cond b (Some e) None ≡ None → 0 < m) [
+      | true ↦ λ b q. absurd (cc)
+      | false ↦ λ b q. let some = eqb-false m 0 b in omega arith
+    ] refl none
+
+module _ (k : KernState) (o : Objects) (n : ℕ) (is : IsKern k) (within : CountsWithin n k) where
+  -- from k, as far as one call goes
+  abbrev GoesTo : KernState → Type 0
+  GoesTo j = Goes k j (n + 1) call_sinces
+
+  within_call : (j : KernState) (d : ℕ) → d ≤ 1024 → Goes k j n d → GoesTo j
+  within_call j d few g = goes_further k j n (n + 1) d call_sinces (omega arith) few g
+
+  stays : GoesTo k
+  stays = within_call k 0 (omega arith) (goes_nowhere k n is within)
+
+  -- all are raised then
+  then_raised : (j : KernState) (d : ℕ) → d ≤ 768 → Goes k j (n + 1) d → (ms : List (ℕ × Mutex)) → GoesTo (raised_kern j ms)
+  then_raised j d few g ms =
+      goes_further k (raised_kern j ms) (n + 1) (n + 1) (d + 256) call_sinces (omega arith) (omega (arith, few))
+      (goes_on k j (raised_kern j ms) (n + 1) (n + 1) d 256 g (goes-raised j (n + 1) g.kern g.counts ms))
+
+  -- ---- a semaphore is made
+  made_goes : (v : Semaphore) → GoesTo (made k o v).kern
+  made_goes v = go (plain.create_refusal (sems k o)) refl where
+    go : (r : Option Errno) → plain.create_refusal (sems k o) ≡ r → GoesTo (made_unless r k o v).kern
+    go (Some e) same = stays
+    go None same = within_call (drawn k) 0 (omega arith) (goes-draw k n is within (id_left 1024 (length o.semaphores) k.next_id errors.TooMany errors.IdsSpent same))
+
+  binary_with_goes : (state : ℕ) (options : Option SemOptions) → GoesTo (binary_with k o state options).kern
+  binary_with_goes state None = stays
+  binary_with_goes state (Some options) =
+      elim (leb state 1) as (λ b. GoesTo (cond b (made k o (plain.new_semaphore kinds.Binary options state)) (refused k o errors.InvalidState)).kern) [
+        | true ↦ made_goes (plain.new_semaphore kinds.Binary options state)
+        | false ↦ stays
+      ]
+
+  pub binary_goes : (options state : ℕ) → GoesTo (binary_row k o options state).kern
+  binary_goes options state = binary_with_goes state (read_options options kinds.Binary)
+
+  counting_with_goes : (count : ℕ) (options : Option SemOptions) → GoesTo (counting_with k o count options).kern
+  counting_with_goes count None = stays
+  counting_with_goes count (Some options) = made_goes (plain.new_semaphore kinds.Counting options count)
+
+  pub counting_goes : (options count : ℕ) → GoesTo (counting_row k o options count).kern
+  counting_goes options count = counting_with_goes count (read_options options kinds.Counting)
+
+  mutex_with_goes : (options : Option SemOptions) → GoesTo (mutex_with k o options).kern
+  mutex_with_goes None = stays
+  mutex_with_goes (Some options) = go (making.create_refusal (mutexes k o)) refl where
+    go : (r : Option Errno) → making.create_refusal (mutexes k o) ≡ r → GoesTo (mutex_unless r k o options).kern
+    go (Some e) same = stays
+    go None same = within_call (drawn k) 0 (omega arith) (goes-draw k n is within (id_left 1024 (length o.mutexes) k.next_id errors.TooMany errors.IdsSpent same))
+
+  pub mutex_goes : (options : ℕ) → GoesTo (mutex_row k o options).kern
+  mutex_goes options = mutex_with_goes (read_options options kinds.Mutex)
+
+  -- ---- semTake
+  plain_take_found : (who id m : ℕ) (v : Option Semaphore) → plain.take_refused m v ≡ None → GoesTo (plain.take_found (sems k o) who id m v).kern
+  plain_take_found who id m None fine = stays
+  plain_take_found who id m (Some v) fine =
+      elim (eqb v.count 0) as (λ b. cond (b && eqb m 0) (Some errors.ObjUnavailable) None ≡ None → GoesTo (cond b (plain.awaited (sems k o) who id m v) (plain.written (sems k o) id (plain.emptied v))).kern) [
+        | true ↦ λ q. within_call (plain.awaited (sems k o) who id m v).kern 1 (omega arith) (goes-pend k n is within who (sem_place id) (not (is_priority v.options)) m (above m errors.ObjUnavailable q))
+        | false ↦ λ q. stays
+      ] fine
+
+  plain_take_goes : (who id m : ℕ) → GoesTo (plain_take k o who id m).kern
+  plain_take_goes who id m = go (plain.take_refusal (sems k o) id m) refl where
+    go : (r : Option Errno) → plain.take_refusal (sems k o) id m ≡ r → GoesTo (plain_take_unless r k o who id m).kern
+    go (Some e) same = stays
+    go None same = plain_take_found who id m (object_of o.semaphores id) same
+
+  taken_goes : (who id m : ℕ) (v : Mutex) (owner : Option ℕ) → cond (mutex.is_others who owner && eqb m 0) (Some errors.ObjUnavailable) None ≡ None
+      → Goes k (mutex.taken (mutexes k o) who id m v owner).kern (n + 1) 1
+  taken_goes who id m v None fine = goes_further k (mutex.hand (mutexes k o) who id v).kern (n + 1) (n + 1) 0 1 (omega arith) (omega arith) (goes-hand k n is within who v)
+  taken_goes who id m v (Some x) fine =
+      elim (eqb x who) as (λ b. cond (not b && eqb m 0) (Some errors.ObjUnavailable) None ≡ None → Goes k (cond b (mutex.deepen (mutexes k o) who id v) (mutex.await (mutexes k o) who id m v)).kern (n + 1) 1) [
+        | true ↦ λ q. goes_further k (mutex.deepen (mutexes k o) who id v).kern (n + 1) (n + 1) 0 1 (omega arith) (omega arith) (goes-guarded k n is within who v)
+        | false ↦ λ q.
+            goes_further k (mutex.await (mutexes k o) who id m v).kern n (n + 1) 1 1 (omega arith) (omega arith)
+            (goes-pend k n is within who (mutex_place id) (not v.by_priority) m (above m errors.ObjUnavailable q))
+      ] fine
+
+  mutex_take_alone : (who id m : ℕ) (v : Option Mutex) → mutex.take_refusal who m v ≡ None → Goes k (mutex.take_alone (mutexes k o) who id m v).kern (n + 1) 1
+  mutex_take_alone who id m None fine = goes_further k k n (n + 1) 0 1 (omega arith) (omega arith) (goes_nowhere k n is within)
+  mutex_take_alone who id m (Some v) fine = taken_goes who id m v v.owner fine
+
+  mutex_take_goes : (who id m : ℕ) → GoesTo (mutex_take k o who id m).kern
+  mutex_take_goes who id m = go (mutex.take_refusal who m (object_of o.mutexes id)) refl where
+    go : (r : Option Errno) → mutex.take_refusal who m (object_of o.mutexes id) ≡ r → GoesTo (mutex_take_unless r k o who id m).kern
+    go (Some e) same = stays
+    go None same =
+        let alone : MutexState = mutex.take_alone (mutexes k o) who id m (object_of o.mutexes id) in
+        then_raised alone.kern 1 (omega arith) (mutex_take_alone who id m (object_of o.mutexes id) same) alone.mutexes
+
+  pub take_goes : (a : Actor) (id m : ℕ) → GoesTo (take_row k o a id m).kern
+  take_goes (Task who) id m =
+      elim (is_some (object_of o.mutexes id)) as (λ b. GoesTo (cond b (mutex_take k o who id m) (plain_take k o who id m)).kern) [ true ↦ mutex_take_goes who id m | false ↦ plain_take_goes who id m ]
+  take_goes Interrupt id m = stays
+
+  -- ---- semGive
+  plain_handed : (id : ℕ) (v : Semaphore) (next : Option TaskRecord) → GoesTo (plain.handed (sems k o) id v next).kern
+  plain_handed id v None = stays
+  plain_handed id v (Some t) = within_call (end_wait k t.id 0 None) 1 (omega arith) (goes-end_wait k n is within t.id 0 None)
+
+  plain_give_found : (id : ℕ) (v : Option Semaphore) → GoesTo (plain.give_found (sems k o) id v).kern
+  plain_give_found id None = stays
+  plain_give_found id (Some v) = plain_handed id v (plain.next_of (sems k o) id)
+
+  plain_give_goes : (id : ℕ) (r : Option Errno) → GoesTo (plain_give_unless r k o id).kern
+  plain_give_goes id (Some e) = stays
+  plain_give_goes id None = plain_give_found id (object_of o.semaphores id)
+
+  passed_goes : (id : ℕ) (v : Mutex) (next : Option TaskRecord) → Goes k (mutex.pass_on (mutexes k o) id v next).kern (n + 1) 1
+  passed_goes id v None = goes_further k k n (n + 1) 0 1 (omega arith) (omega arith) (goes_nowhere k n is within)
+  passed_goes id v (Some t) =
+      let j : KernState = (mutex.hand (mutexes k o) t.id id v).kern in
+      let one = goes-hand k n is within t.id v in
+      goes_on k j (end_wait j t.id 0 None) (n + 1) (n + 1) 0 1 one (goes-end_wait j (n + 1) one.kern one.counts t.id 0 None)
+
+  given_up : (who id : ℕ) (v : Mutex) → Goes k (mutex.give_up (mutexes k o) who id v).kern (n + 1) 258
+  given_up who id v =
+      let next = first_waiter k.tasks (mutex_place id) in
+      let j : KernState = (mutex.pass_on (mutexes k o) id v next).kern in
+      let one = passed_goes id v next in
+      goes_on k j (mutex.eased (mutex.letting_go j who v) who v 1) (n + 1) (n + 1) 1 257 one (goes-left j (n + 1) one.kern one.counts who v 1)
+
+  mutex_give_alone : (who id : ℕ) (v : Option Mutex) → Goes k (mutex.give_alone (mutexes k o) who id v).kern (n + 1) 258
+  mutex_give_alone who id None = goes_further k k n (n + 1) 0 258 (omega arith) (omega arith) (goes_nowhere k n is within)
+  mutex_give_alone who id (Some v) =
+      elim (ltb 1 v.depth) as (λ b. Goes k (cond b (mutex.shallow (mutexes k o) who id v) (mutex.give_up (mutexes k o) who id v)).kern (n + 1) 258) [
+        | true ↦ goes_further k (mutex.eased k who v 1) n (n + 1) 256 258 (omega arith) (omega arith) (goes-eased k n is within who v 1)
+        | false ↦ given_up who id v
+      ]
+
+  mutex_give_goes : (who id : ℕ) (r : Option Errno) → GoesTo (mutex_give_unless r k o who id).kern
+  mutex_give_goes who id (Some e) = stays
+  mutex_give_goes who id None =
+      let alone : MutexState = mutex.give_alone (mutexes k o) who id (object_of o.mutexes id) in
+      then_raised alone.kern 258 (omega arith) (mutex_give_alone who id (object_of o.mutexes id)) alone.mutexes
+
+  owner_gives : (id : ℕ) (a : Actor) → GoesTo (of_task k o a (λ who. mutex_give k o who id)).kern
+  owner_gives id (Task who) = mutex_give_goes who id (mutex.give_refusal who (object_of o.mutexes id))
+  owner_gives id Interrupt = stays
+
+  pub give_goes : (a : Actor) (id : ℕ) → GoesTo (give_row k o a id).kern
+  give_goes a id =
+      elim (is_some (object_of o.mutexes id)) as (λ b. GoesTo (cond b (of_task k o a (λ who. mutex_give k o who id)) (plain_give k o id)).kern) [
+        | true ↦ owner_gives id a
+        | false ↦ plain_give_goes id (plain.give_refusal (sems k o) id)
+      ]
+
+  -- ---- semFlush
+  flush_unless_goes : (id : ℕ) (r : Option Errno) → GoesTo (flush_unless r k o id).kern
+  flush_unless_goes id (Some e) = stays
+  flush_unless_goes id None = within_call (wake_all k (sem_place id) 0 None) 256 (omega arith) (goes-wake_all k n is within (sem_place id) 0 None)
+
+  pub flush_goes : (id : ℕ) → GoesTo (flush_row k o id).kern
+  flush_goes id =
+      elim (is_some (object_of o.mutexes id)) as (λ b. GoesTo (cond b (refused k o errors.InvalidOperation) (flush_unless (plain.flush_refusal (sems k o) id) k o id)).kern) [
+        | true ↦ stays
+        | false ↦ flush_unless_goes id (plain.flush_refusal (sems k o) id)
+      ]
+
+  -- ---- semDelete
+  plain_delete_goes : (id : ℕ) (r : Option Errno) → GoesTo (plain_delete_unless r k o id).kern
+  plain_delete_goes id (Some e) = stays
+  plain_delete_goes id None =
+      within_call (wake_all k (sem_place id) 4294967295 (Some errors.ObjDeleted)) 256 (omega arith) (goes-wake_all k n is within (sem_place id) 4294967295 (Some errors.ObjDeleted))
+
+  mutex_delete_alone : (id : ℕ) (v : Option Mutex) → Goes k (mutex.delete_alone (mutexes k o) id v).kern (n + 1) 513
+  mutex_delete_alone id None = goes_further k k n (n + 1) 0 513 (omega arith) (omega arith) (goes_nowhere k n is within)
+  mutex_delete_alone id (Some v) =
+      let j : KernState = wake_all k (mutex_place id) 4294967295 (Some errors.ObjDeleted) in
+      let one = goes-wake_all k n is within (mutex_place id) 4294967295 (Some errors.ObjDeleted) in
+      let still : Goes j j n 257 = goes_further j j n n 0 257 (omega arith) (omega arith) (goes_nowhere j n one.kern one.counts) in
+      let ended : (who : ℕ) (t : Option TaskRecord) → Goes j (mutex.ended j who v t) n 257 =
+      λ who t. elim t as (λ t. Goes j (mutex.ended j who v t) n 257) [ None ↦ still | Some t ↦ goes-left j n one.kern one.counts who v v.depth ] in
+      let by_owner : Goes j (mutex.owner_ended j v v.owner) n 257 = elim v.owner as (λ w. Goes j (mutex.owner_ended j v w) n 257) [ None ↦ still | Some who ↦ ended who (task_of j.tasks who) ] in
+      goes_further k (mutex.owner_ended j v v.owner) n (n + 1) 513 513 (omega arith) (omega arith) (goes_on k j (mutex.owner_ended j v v.owner) n n 256 257 one by_owner)
+
+  mutex_delete_goes : (id : ℕ) → GoesTo (mutex.delete (mutexes k o) id).kern
+  mutex_delete_goes id =
+      let alone : MutexState = mutex.delete_alone (mutexes k o) id (object_of o.mutexes id) in
+      then_raised alone.kern 513 (omega arith) (mutex_delete_alone id (object_of o.mutexes id)) alone.mutexes
+
+  pub delete_goes : (id : ℕ) → GoesTo (delete_row k o id).kern
+  delete_goes id =
+      elim (is_some (object_of o.mutexes id)) as (λ b. GoesTo (cond b (by_mutexes o (mutex.delete (mutexes k o) id) (Answer 0)) (plain_delete_unless (plain.delete_refusal (sems k o) id) k o id)).kern) [
+        | true ↦ mutex_delete_goes id
+        | false ↦ plain_delete_goes id (plain.delete_refusal (sems k o) id)
+      ]
+
+  -- ---- taskPrioritySet
+  priority_alone : (who pri : ℕ) → Goes k (mutex.priority_alone (mutexes k o) who pri).kern (n + 1) 1
+  priority_alone who pri =
+      let j : KernState = set_normal k who pri in
+      let one = goes-set_normal k n is within who pri in
+      let now : ℕ = mutex.pri_after pri (task_of k.tasks who) in
+      goes_further k (change_pri j who now) n (n + 1) 1 1 (omega arith) (omega arith) (goes_on k j (change_pri j who now) n n 0 1 one (goes-change_pri j n one.kern one.counts who now))
+
+  pub priority_goes : (pri : ℕ) (who : Option ℕ) → GoesTo (priority_row k o pri who).kern
+  priority_goes pri None = stays
+  priority_goes pri (Some who) =
+      elim (leb pri 255) as (λ b. GoesTo (cond b (by_mutexes o (mutex.priority_set (mutexes k o) who pri) (Answer 0)) (refused k o errors.IllegalPriority)).kern) [
+        | true ↦ then_raised (mutex.priority_alone (mutexes k o) who pri).kern 1 (omega arith) (priority_alone who pri) o.mutexes
+        | false ↦ stays
+      ]

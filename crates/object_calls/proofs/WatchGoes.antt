@@ -1,0 +1,66 @@
+-- What the calls on watchdogs keep.
+use Rattle.std.proofs.Common.{◌≡◌, ℕ, ◌+◌, ◌<◌, ◌≤◌, length, Option, None, Some, refl, arith}
+use Rattle.wind_base.specs.declared.errno.Errno.{Errno}
+use Rattle.wind_base.specs.declared.errno.Errno.TheVariants as errors
+use Rattle.isr_watch.specs.declared.watchdog.Routine.{Routine}
+use Rattle.isr_watch.specs.State.{WatchState, watchdog_of}
+use Rattle.isr_watch.specs.Calls.{create_refusal, created, start, cancel_found, cancel, deleted, delete}
+use Rattle.isr_watch.specs.Laws.{AllBelow, IdsStay, WatchStays}
+use Rattle.isr_watch.proofs.Ids.{ids_stay}
+use Rattle.isr_watch.proofs.Keeping.{watch_stays}
+use Rattle.std.proofs.lemmas.List.Elements.{All-weaker}
+use Rattle.kernel_world.specs.State.{WorldState}
+use Rattle.kernel_world.specs.Kept.{IsWorld, Within}
+use Rattle.object_calls.specs.WatchRows.{WatchRow, create_row, create_unless, start_row, cancel_row, delete_row}
+use Rattle.kernel_world.proofs.Goes.{drawn, goes-draw, id_left, goes_nowhere}
+use Rattle.kernel_world.proofs.ObjectMoves.{objects-draw}
+use Rattle.kernel_world.proofs.Advancing.{Advances, advances_more, of_watches, stays}
+
+-- no start is counted where a watchdog is stopped or deleted
+same_cancel : (s : WatchState) (id : ℕ) → (cancel s id).next_start ≡ s.next_start
+same_cancel s id = elim (watchdog_of s.watchdogs id) as (λ o. (cancel_found s id o).next_start ≡ s.next_start) [ None ↦ refl | Some v ↦ refl ]
+
+same_delete : (s : WatchState) (id : ℕ) → (delete s id).next_start ≡ s.next_start
+same_delete s id = elim (watchdog_of s.watchdogs id) as (λ o. (deleted s id o).next_start ≡ s.next_start) [ None ↦ refl | Some v ↦ refl ]
+
+-- a world with the tasks and watchdogs of a row
+abbrev watched : WorldState → WatchRow → WorldState
+watched w r = record w { kern = r.kern; watch = r.watch }
+
+module _ (w : WorldState) (kept : IsWorld w) (n : ℕ) (within : Within n w) where
+  ids : IdsStay w.kern.next_id w.watch
+  ids = ids_stay w.kern.next_id w.watch kept.watch.ids
+
+  still : WatchStays w.kern.next_id w.watch
+  still = watch_stays w.kern.next_id w.watch kept.watch.watch kept.watch.ids
+
+  pub create_advances : Advances w (watched w (create_row w.kern w.watch)) n 0 1
+  create_advances = go (create_refusal (length w.watch.watchdogs) w.kern.next_id) refl where
+    next : ℕ
+    next = w.kern.next_id
+
+    more : AllBelow (next + 1) w.watch
+    more = All-weaker (λ v. v.id < next) (λ v. v.id < next + 1) (λ v below. omega (arith, below)) w.watch.watchdogs kept.watch.ids
+
+    go : (r : Option Errno) → create_refusal (length w.watch.watchdogs) next ≡ r → Advances w (watched w (create_unless r w.kern w.watch)) n 0 1
+    go (Some e) same = advances_more w w n n 0 0 0 1 (omega arith) (omega arith) (omega arith) (stays w kept n within)
+    go None same =
+        let left : next ≤ 1048576 = id_left 256 (length w.watch.watchdogs) next errors.TooMany errors.IdsSpent same in
+        of_watches w kept n within (drawn w.kern) (created w.watch next) 1 (goes-draw w.kern n kept.kern within.0 left)
+        (objects-draw w.kern w.objects kept.kern kept.objects (next + 1) (omega arith) (omega (arith, left)))
+        (record { watch = still.creating same; ids = (ids_stay (next + 1) w.watch more).creating next (omega arith) }) (omega arith)
+
+  pub start_advances : (id delay : ℕ) (routine : Routine) → Advances w (watched w (start_row w.kern w.watch id delay routine)) n 0 1
+  start_advances id delay routine =
+      of_watches w kept n within w.kern (start w.watch id w.kern.tick delay routine) 1 (goes_nowhere w.kern n kept.kern within.0) kept.objects
+      (record { watch = still.starting id w.kern.tick delay routine; ids = ids.starting id w.kern.tick delay routine }) (ids.counting id w.kern.tick delay routine)
+
+  pub cancel_advances : (id : ℕ) → Advances w (watched w (cancel_row w.kern w.watch id)) n 0 1
+  cancel_advances id =
+      of_watches w kept n within w.kern (cancel w.watch id) 1 (goes_nowhere w.kern n kept.kern within.0) kept.objects
+      (record { watch = still.cancelling id; ids = ids.cancelling id }) (omega (arith, same_cancel w.watch id))
+
+  pub delete_advances : (id : ℕ) → Advances w (watched w (delete_row w.kern w.watch id)) n 0 1
+  delete_advances id =
+      of_watches w kept n within w.kern (delete w.watch id) 1 (goes_nowhere w.kern n kept.kern within.0) kept.objects
+      (record { watch = still.deleting id; ids = ids.deleting id }) (omega (arith, same_delete w.watch id))

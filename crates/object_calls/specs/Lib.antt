@@ -1,0 +1,3 @@
+pub mod SemRows
+pub mod QueueRows
+pub mod WatchRows

@@ -1,0 +1,207 @@
+//! The calls on semaphores and mutexes, and the priority that a task is given.
+
+ghost use Rattle.std.specs.Prelude.{◌≡◌, ◌<◌, ◌^◌, false, IsSome};
+ghost use Rattle.id_table.specs.Rows.{object_of};
+ghost use Rattle.wind_core.specs.State.{Lives};
+ghost use Rattle.sem_mutex.specs.Kept.{IsEarly};
+ghost use Rattle.kernel_world.specs.Actors.{Acts};
+ghost use Rattle.kernel_world.specs.Objects.{KeepsObjects};
+ghost use Rattle.kernel_world.specs.Actors.{target as target_lem};
+ghost use Rattle.object_calls.specs.SemRows.{row_of, mutexes, is_mutex as is_mutex_lem, made, binary_row, counting_row, mutex_row, plain_take, mutex_take, take_row, plain_give, mutex_give, give_row, flush_row, delete_row, priority_row};
+
+use id_table::Ident;
+use kernel_world::{Actor, DONE, Objects, Reply, target};
+use wind_base::{Errno, Pri, SemKind, SemOptions};
+use wind_core::Kern;
+
+/// semBCreate: a binary semaphore with these options, in state 0 or 1. Refused where an option isn't allowed, the state is
+/// another, as many semaphores live as may, or no id is left.
+pub fn create_binary(kern: &mut Kern, objects: &mut Objects, options: u32, state: u32) -> Reply
+    requires home { kern.old.lent ≡ false }
+    requires kept { KeepsObjects kern.old objects.old }
+    ensures row { row_of kern.new objects.new result ≡ binary_row kern.old objects.old options state }
+{
+    let Some(options) = SemOptions::read(options, SemKind::Binary) else {
+        return Reply::Refusal(Errno::InvalidOption);
+    };
+    if state > 1 {
+        return Reply::Refusal(Errno::InvalidState);
+    }
+    match objects
+        .semaphores
+        .create(kern, SemKind::Binary, options, state)
+    {
+        Ok(id) => Reply::Answer(id.get()),
+        Err(errno) => Reply::Refusal(errno),
+    }
+}
+
+/// semCCreate: a counting semaphore with these options and this count. Refused where an option isn't allowed, as many
+/// semaphores live as may, or no id is left.
+pub fn create_counting(kern: &mut Kern, objects: &mut Objects, options: u32, count: u32) -> Reply
+    requires home { kern.old.lent ≡ false }
+    requires kept { KeepsObjects kern.old objects.old }
+    ensures row { row_of kern.new objects.new result ≡ counting_row kern.old objects.old options count }
+{
+    let Some(options) = SemOptions::read(options, SemKind::Counting) else {
+        return Reply::Refusal(Errno::InvalidOption);
+    };
+    match objects
+        .semaphores
+        .create(kern, SemKind::Counting, options, count)
+    {
+        Ok(id) => Reply::Answer(id.get()),
+        Err(errno) => Reply::Refusal(errno),
+    }
+}
+
+/// semMCreate: a mutex with these options. Refused where an option isn't allowed, as many mutexes live as may, or no id
+/// is left.
+pub fn create_mutex(kern: &mut Kern, objects: &mut Objects, options: u32) -> Reply
+    requires home { kern.old.lent ≡ false }
+    requires kept { KeepsObjects kern.old objects.old }
+    ensures row { row_of kern.new objects.new result ≡ mutex_row kern.old objects.old options }
+{
+    let Some(options) = SemOptions::read(options, SemKind::Mutex) else {
+        return Reply::Refusal(Errno::InvalidOption);
+    };
+    match objects.mutexes.create(kern, options) {
+        Ok(id) => Reply::Answer(id.get()),
+        Err(errno) => Reply::Refusal(errno),
+    }
+}
+
+// semTake of a semaphore
+fn take_plain(kern: &mut Kern, objects: &mut Objects, who: Ident, id: u32, timeout: u32) -> Reply
+    requires live { Lives kern.old who }
+    requires early { IsEarly (mutexes kern.old objects.old) }
+    ensures row { row_of kern.new objects.new result ≡ plain_take kern.old objects.old who id timeout }
+{
+    match objects.semaphores.take(kern, who, id, timeout) {
+        Ok(sem_plain::Took::Taken) => DONE,
+        Ok(sem_plain::Took::Pended) => Reply::Later,
+        Err(errno) => Reply::Refusal(errno),
+    }
+}
+
+// semTake of a mutex
+fn take_mutex(kern: &mut Kern, objects: &mut Objects, who: Ident, id: u32, timeout: u32) -> Reply
+    requires live { Lives kern.old who }
+    requires kept { KeepsObjects kern.old objects.old }
+    requires early { IsEarly (mutexes kern.old objects.old) }
+    ensures row { row_of kern.new objects.new result ≡ mutex_take kern.old objects.old who id timeout }
+{
+    match objects.mutexes.take(kern, who, id, timeout) {
+        Ok(sem_mutex::Took::Taken) => DONE,
+        Ok(sem_mutex::Took::Pended) => Reply::Later,
+        Err(errno) => Reply::Refusal(errno),
+    }
+}
+
+/// semTake, of a task: it takes the semaphore or the mutex of an id, or waits for it, so many ticks or without end. Refused
+/// at interrupt level, where none lives, or where it has to wait and may not.
+pub fn take(kern: &mut Kern, objects: &mut Objects, who: Actor, id: u32, timeout: u32) -> Reply
+    requires live { Acts kern.old who }
+    requires kept { KeepsObjects kern.old objects.old }
+    requires early { IsEarly (mutexes kern.old objects.old) }
+    ensures row { row_of kern.new objects.new result ≡ take_row kern.old objects.old who id timeout }
+{
+    let Actor::Task(who) = who else {
+        return Reply::Refusal(Errno::NotIsrCallable);
+    };
+    if objects.mutexes.is_live(id) {
+        take_mutex(kern, objects, who, id, timeout)
+    } else {
+        take_plain(kern, objects, who, id, timeout)
+    }
+}
+
+// semGive of a semaphore
+fn give_plain(kern: &mut Kern, objects: &mut Objects, id: u32) -> Reply
+    requires early { IsEarly (mutexes kern.old objects.old) }
+    ensures row { row_of kern.new objects.new result ≡ plain_give kern.old objects.old id }
+{
+    match objects.semaphores.give(kern, id) {
+        Ok(()) => DONE,
+        Err(errno) => Reply::Refusal(errno),
+    }
+}
+
+// semGive of a mutex
+fn give_mutex(kern: &mut Kern, objects: &mut Objects, who: Ident, id: u32) -> Reply
+    requires live { Lives kern.old who }
+    requires kept { KeepsObjects kern.old objects.old }
+    requires early { IsEarly (mutexes kern.old objects.old) }
+    ensures row { row_of kern.new objects.new result ≡ mutex_give kern.old objects.old who id }
+{
+    match objects.mutexes.give(kern, who, id) {
+        Ok(()) => DONE,
+        Err(errno) => Reply::Refusal(errno),
+    }
+}
+
+/// semGive: the semaphore or the mutex of an id goes to the first who waits for it, or is free. Refused where none lives,
+/// and of a mutex at interrupt level or to one that doesn't own it.
+pub fn give(kern: &mut Kern, objects: &mut Objects, who: Actor, id: u32) -> Reply
+    requires live { Acts kern.old who }
+    requires kept { KeepsObjects kern.old objects.old }
+    requires early { IsEarly (mutexes kern.old objects.old) }
+    ensures row { row_of kern.new objects.new result ≡ give_row kern.old objects.old who id }
+{
+    if !objects.mutexes.is_live(id) {
+        return give_plain(kern, objects, id);
+    }
+    match who {
+        Actor::Task(who) => give_mutex(kern, objects, who, id),
+        Actor::Interrupt => Reply::Refusal(Errno::NotIsrCallable),
+    }
+}
+
+/// semFlush: all who wait for a semaphore go on. Refused where none lives, and of a mutex.
+pub fn flush(kern: &mut Kern, objects: &mut Objects, id: u32) -> Reply
+    requires early { IsEarly (mutexes kern.old objects.old) }
+    ensures row { row_of kern.new objects.new result ≡ flush_row kern.old objects.old id }
+{
+    if objects.mutexes.is_live(id) {
+        return Reply::Refusal(Errno::InvalidOperation);
+    }
+    match objects.semaphores.flush(kern, id) {
+        Ok(()) => DONE,
+        Err(errno) => Reply::Refusal(errno),
+    }
+}
+
+/// semDelete: all who wait for the semaphore or the mutex of an id go on, and it is gone. Refused where none lives.
+pub fn delete(kern: &mut Kern, objects: &mut Objects, id: u32) -> Reply
+    requires kept { KeepsObjects kern.old objects.old }
+    requires early { IsEarly (mutexes kern.old objects.old) }
+    ensures row { row_of kern.new objects.new result ≡ delete_row kern.old objects.old id }
+{
+    let deleted = if objects.mutexes.is_live(id) {
+        objects.mutexes.delete(kern, id)
+    } else {
+        objects.semaphores.delete(kern, id)
+    };
+    match deleted {
+        Ok(()) => DONE,
+        Err(errno) => Reply::Refusal(errno),
+    }
+}
+
+/// taskPrioritySet: the priority that a task is given, 0 to 255. Refused where no such task lives, then at another priority.
+pub fn set_priority(kern: &mut Kern, objects: &mut Objects, who: Actor, id: u32, pri: u32) -> Reply
+    requires live { Acts kern.old who }
+    requires kept { KeepsObjects kern.old objects.old }
+    requires early { IsEarly (mutexes kern.old objects.old) }
+    ensures row { row_of kern.new objects.new result
+        ≡ priority_row kern.old objects.old pri (target_lem kern.old who id) }
+{
+    let Some(id) = target(kern, who, id) else {
+        return Reply::Refusal(Errno::ObjIdError);
+    };
+    let Some(pri) = Pri::new(pri) else {
+        return Reply::Refusal(Errno::IllegalPriority);
+    };
+    objects.mutexes.priority_set(kern, id, pri);
+    DONE
+}

@@ -1,0 +1,138 @@
+-- What is kept of the objects is kept by safe sections, by the deletion of a task and by its end.
+use Rattle.std.proofs.Common.{◌≡◌, ℕ, Bool, true, false, cond, eqb, None, Some, IfSome, IsSome, refl, subst, arith}
+use Rattle.std.specs.List.{All}
+use Rattle.wind_base.specs.Limits.{wait_forever}
+use Rattle.id_table.specs.Sides.{deletion_side, console_side}
+use Rattle.id_table.specs.declared.ident.Place.{Place}
+use Rattle.mem_partition.specs.State.{PartState}
+use Rattle.task_block.specs.declared.task.Task.{Task as TaskRecord}
+use Rattle.wind_core.specs.State.{KernState, IsKern, task_of}
+use Rattle.wind_core.specs.Orders.{same_place}
+use Rattle.wind_core.specs.Moves.{renewed, wake_at, pended, remove, set_again}
+use Rattle.wind_core.proofs.Keeping.{change_task_keeps, every_call_keeps}
+use Rattle.wind_core.proofs.Stable.{All-change}
+use Rattle.wind_core.proofs.Becoming.{All-change_at}
+use Rattle.sem_plain.specs.State.{both as with_semaphores}
+use Rattle.sem_plain.specs.Kept.{BeginsOnly}
+use Rattle.sem_plain.specs.Laws.{MayBegin}
+use Rattle.sem_plain.proofs.Beginning.{by_change, then}
+use Rattle.sem_plain.proofs.Moving.{begins-pend}
+use Rattle.sem_plain.proofs.Keeping.{place_is}
+use Rattle.task_safety.specs.Safety.{deletion, safe_of, lessen, unsafe_refusal}
+use Rattle.task_safety.specs.Deletion.{deed_of, asked, unguarded, awaiting, after}
+use Rattle.task_safety.specs.Kept.{Deletes, KeepsDeleters}
+use Rattle.task_safety.specs.declared.deleting.Deed.{Deed}
+use Rattle.task_safety.specs.declared.deleting.Deed.TheVariants.{Refuses, EndsItself, Removes, Awaits}
+use Rattle.task_safety.proofs.Targets.{Says, deed_says}
+use Rattle.task_safety.proofs.Waiting.{every_call}
+use Rattle.inheritance.specs.Mutexes.{both as with_mutexes}
+use Rattle.sem_mutex.specs.Kept.{KeepsMutexes}
+use Rattle.sem_mutex.proofs.Following.{alike, follows_keeps}
+use Rattle.sem_mutex.proofs.Following as mutexes
+use Rattle.sem_mutex.proofs.Keeping.{kern_lessen}
+use Rattle.sem_mutex.proofs.Handing.{lives_below}
+use Rattle.sem_mutex.proofs.Lawful.{beside_law}
+use Rattle.msg_queue.specs.Kept.{IsCalm}
+use Rattle.msg_queue.proofs.Calm.{calm_set, calm_then, calms}
+use Rattle.kernel_world.specs.Objects.{is_live, deletion_gate, WaitsRight, KeepsWaits, KeepsObjects, IsFree}
+use Rattle.kernel_world.specs.Actors.{MayCall}
+use Rattle.task_calls.specs.Ending as ending
+use Rattle.task_calls.specs.SafetyRows.{safe_row, unsafe_unless, unsafe_row, at_deletion, back_at_gate, deletes, meant, delete_row}
+use Rattle.kernel_world.specs.declared.objects.Objects.{Objects}
+use Rattle.kernel_world.specs.declared.actor.Actor.{Actor}
+use Rattle.kernel_world.specs.declared.actor.Actor.TheVariants.{Task, Interrupt}
+use Rattle.kernel_world.proofs.Safes.{counted, deleters-map, none_left}
+use Rattle.kernel_world.proofs.Living.{ready_free}
+use Rattle.kernel_world.proofs.Waiting.{waits_keep}
+use Rattle.kernel_world.proofs.ObjectMoves.{by_kern, objects-set_again, objects-make_safe, objects-lessen, objects-removed, objects-remove}
+
+-- ---- a task waits to delete another, and stands at the gate of its call
+-- the caller stands anywhere as yet
+abbrev RightBut : ℕ → TaskRecord → Type 0
+RightBut who t = IfSome t.wait (λ p. p.side ≡ console_side → t.id ≡ 1) × ((t.id ≡ who → ⊥) → WaitsRight t)
+
+at_gate : (t : TaskRecord) → IfSome t.wait (λ p. p.side ≡ console_side → t.id ≡ 1) → WaitsRight (at_deletion t)
+at_gate t console = record {
+  console = console;
+  repeats = elim t.wait as (λ w. IfSome w (λ p. p.side ≡ deletion_side → deletion_gate ≡ deletion_gate)) [ None ↦ tt | Some p ↦ λ q. refl ];
+}
+
+module _ (k : KernState) (o : Objects) (is : IsKern k) (kept : KeepsObjects k o) where
+  -- the caller, marked, waiting, and back at the gate
+  abbrev marked : ℕ → KernState
+  marked who = set_again k who true
+
+  right_back : (who id : ℕ) → All WaitsRight (back_at_gate (awaiting k who id) who).tasks
+  right_back who id =
+      let begin : TaskRecord → TaskRecord = λ t. renewed (marked who).next_since (pended (deletion id) false (wake_at deletion_side (marked who).tick wait_forever) t) in
+      let first : All WaitsRight (marked who).tasks = All-change WaitsRight k.tasks who (λ t. record t { again = true }) (λ t h. record { console = h.console; repeats = h.repeats }) kept.waits.right in
+      let second : All (RightBut who) (awaiting k who id).tasks =
+      All-change_at WaitsRight (RightBut who) (marked who).tasks who begin (λ t at own h. (λ q. absurd (omega (arith, q)), λ other. absurd (other own))) (λ t at other h. (h.console, λ _. h)) first in
+      All-change_at (RightBut who) WaitsRight (awaiting k who id).tasks who at_deletion (λ t at own h. at_gate t h.0) (λ t at other h. h.1 other) second
+
+  waits_back : (who id : ℕ) → IsSome (task_of k.tasks id) → KeepsDeleters (awaiting k who id) → KeepsWaits (back_at_gate (awaiting k who id) who) o
+  waits_back who id lives deleters =
+      let begins : Place → Bool = same_place (deletion id) in
+      let j : KernState = back_at_gate (awaiting k who id) who in
+      let one : BeginsOnly begins k (marked who) = by_change begins k who (λ t. record t { again = true }) (λ t old. old) in
+      let two : BeginsOnly begins (marked who) (awaiting k who id) = begins-pend (marked who) who (deletion id) false wait_forever in
+      let three : BeginsOnly begins (awaiting k who id) j = by_change begins (awaiting k who id) who at_deletion (λ t old. old) in
+      waits_keep k j o begins (then begins k (awaiting k who id) j (then begins k (marked who) (awaiting k who id) one two) three)
+      (λ p here. subst (λ q. MayBegin (with_semaphores k o.semaphores) q × (is_live o q ≡ true)) (place_is (deletion id) p here) (record { empty = tt; made = lives_below k id is lives }, refl))
+      (deleters-map (awaiting k who id) (λ t. cond (eqb t.id who) (at_deletion t) t)
+      (λ t. elim (eqb t.id who) as (λ b. counted (cond b (at_deletion t) t) ≡ counted t) [ true ↦ refl | false ↦ refl ])
+      (λ P t h. elim (eqb t.id who) as (λ b. Deletes P (cond b (at_deletion t) t)) [ true ↦ h | false ↦ h ])
+      deleters)
+      (right_back who id) kept.waits
+
+  mutexes_back : (who id : ℕ) → IsSome (task_of k.tasks id) → KeepsMutexes (with_mutexes (back_at_gate (awaiting k who id) who) o.mutexes)
+  mutexes_back who id lives =
+      let ms = o.mutexes in
+      let one : KeepsMutexes (with_mutexes (marked who) ms) = (beside_law (with_mutexes k ms) kept.mutexes).setting_again who true in
+      let two : KeepsMutexes (with_mutexes (awaiting k who id) ms) = (beside_law (with_mutexes (marked who) ms) one).pending who (deletion id) false wait_forever refl (lives_below k id is lives) in
+      follows_keeps (with_mutexes (awaiting k who id) ms) (back_at_gate (awaiting k who id) who)
+      (mutexes.by_change ms (awaiting k who id) who at_deletion (λ t. alike ms (awaiting k who id) t (at_deletion t) refl refl refl refl refl refl)) two
+
+  -- the caller waits for no queue
+  calm_back : (who id : ℕ) → IsCalm o.queues.queues k (back_at_gate (awaiting k who id) who)
+  calm_back who id =
+      let rs = o.queues.queues in
+      let wait : KernState = awaiting k who id in
+      let one : IsCalm rs k (marked who) = (calms rs k is).setting_again who true in
+      let two : IsCalm rs (marked who) wait = (calms rs (marked who) one.kern).pending who (deletion id) false wait_forever (omega arith) (λ side. absurd (omega (arith, side))) in
+      let three : IsCalm rs wait (back_at_gate wait who) =
+      calm_set rs wait who at_deletion (λ t. refl) (λ t. refl) (change_task_keeps wait who at_deletion two.kern (record { id = λ t. refl; since = λ t. refl; ahead = λ t h. h })) in
+      calm_then rs k wait (back_at_gate wait who) (calm_then rs k (marked who) wait one two) three
+
+  -- ---- the rows
+  deed_kept : (p : PartState) (who n : ℕ) (d : Deed) → IsFree k who → Says k.tasks who n d → KeepsDeleters (after k who d) → KeepsObjects (deletes k p who d).kern o
+  deed_kept p who n (Refuses e) free said deleters = objects-set_again k o is kept who false free
+  deed_kept p who n (EndsItself count) free said deleters =
+      let first : KernState = asked k who in
+      let is1 : IsKern first = (every_call_keeps k is).setting_again who false in
+      let less : KernState = unguarded k who count in
+      objects-removed less o (kern_lessen first who count is1) (objects-lessen first o is1 (objects-set_again k o is kept who false free) who count) who deleters
+  deed_kept p who n (Removes id) free said deleters =
+      objects-removed (asked k who) o ((every_call_keeps k is).setting_again who false) (objects-set_again k o is kept who false free) id deleters
+  deed_kept p who n (Awaits id) free said deleters = by_kern k o is kept (back_at_gate (awaiting k who id) who) (waits_back who id said.1 deleters) (mutexes_back who id said.1) (calm_back who id)
+
+  -- the deletion of a task, by one that waits for nothing
+  pub objects-delete_row : (p : PartState) (a : Actor) (id : ℕ) → MayCall k a → KeepsObjects (delete_row k p a id).kern o
+  objects-delete_row p (Task who) id ready =
+      let free : IsFree k who = ready_free k who ready in
+      deed_kept p who (meant who id) (deed_of k.tasks who (meant who id)) free (deed_says k.tasks who (meant who id)) ((every_call k is kept.waits.deleters).deleting who (meant who id) free)
+  objects-delete_row p Interrupt id free = kept
+
+  pub objects-safe_row : (a : Actor) → KeepsObjects (safe_row k a).kern o
+  objects-safe_row (Task who) = objects-make_safe k o is kept who
+  objects-safe_row Interrupt = kept
+
+  pub objects-unsafe_row : (a : Actor) → KeepsObjects (unsafe_row k a).kern o
+  objects-unsafe_row (Task who) = elim (unsafe_refusal (task_of k.tasks who)) as (λ r. KeepsObjects (unsafe_unless r k who).kern o) [ Some e ↦ kept | None ↦ objects-lessen k o is kept who 1 ]
+  objects-unsafe_row Interrupt = kept
+
+  -- the end of a task
+  pub objects-ended : (who : ℕ) → KeepsObjects (remove (ending.unguarded k who) who) o
+  objects-ended who =
+      let count : ℕ = safe_of (task_of k.tasks who) in
+      objects-remove (lessen k who count) o (kern_lessen k who count is) (objects-lessen k o is kept who count) who (none_left k who)

@@ -1,0 +1,169 @@
+-- taskSpawn and sp.
+use Rattle.std.specs.Prelude.{ℕ, ◌+◌, ◌-◌, max, List, [], ◌∷◌, ◌++◌, Option, None, Some, Result, Ok, Err, false, ◌==◌, nat_le, if◌then◌else◌, take, slice_index, codes}
+use Rattle.std.specs.Option.{option_map}
+use Rattle.std.specs.Fmt.{decimal, digits}
+use Rattle.wind_base.specs.Limits.{least_urgent, longest_short_name, frame_bytes, gates_start}
+use Rattle.wind_base.specs.Gates.{gate_address}
+use Rattle.wind_base.specs.declared.gate.Gate.TheVariants as gates
+use Rattle.wind_base.specs.declared.errno.Errno.{Errno}
+use Rattle.wind_base.specs.declared.errno.Errno.TheVariants as errors
+use Rattle.task_block.specs.declared.task.NewTask.{NewTask}
+use Rattle.mem_partition.specs.State.{PartState, alloc_of, after_alloc}
+use Rattle.mem_partition.specs.Place.{grain, rounded}
+use Rattle.mem_partition.specs.declared.block.Class.TheVariants.{Kernel}
+use Rattle.mem_partition.specs.declared.block.PartErr.{PartErr}
+use Rattle.wind_core.specs.State.{KernState}
+use Rattle.wind_core.specs.Moves.{spawn, spawn_refusal}
+use Rattle.kernel_world.specs.State.{WorldState}
+use Rattle.kernel_world.specs.Actors.{stack_word, all_there}
+use Rattle.kernel_world.specs.Starting.{starting_regs, framed}
+use Rattle.board_mem.specs.Memory.{string_at}
+use Rattle.task_calls.specs.declared.spawning.Wanted.{Wanted}
+use Rattle.kernel_world.specs.declared.reply.Reply.{Reply}
+use Rattle.kernel_world.specs.declared.reply.Reply.TheVariants.{Answer, Refusal}
+
+-- a stack has at least 512 bytes
+abbrev pub least_stack : ℕ
+least_stack = 512
+
+abbrev pub stack_bytes : ℕ → ℕ
+stack_bytes n = max n least_stack
+
+-- r1 at the start of a stack of a block: a frame below the block's end
+abbrev pub first_pointer : ℕ → ℕ → ℕ
+first_pointer at n = at + rounded n - frame_bytes
+
+-- the name of a task: the one that it is given, or a number behind a `t`
+abbrev pub task_name : Option (List ℕ) → ℕ → List ℕ
+task_name None n = codes "t" ++ decimal n
+task_name (Some name) n = name
+
+-- the number of the next task without a name
+abbrev pub names_after : Option (List ℕ) → ℕ → ℕ
+names_after None n = n + 1
+names_after (Some name) n = n
+
+-- where a task returns to from its start
+abbrev pub task_return : ℕ
+task_return = gate_address gates_start gates.TaskReturn
+
+-- the task that is made, with its stack at an address
+abbrev pub started : Wanted → ℕ → ℕ → NewTask
+started s names at = record {
+  name = task_name s.name names;
+  entry = s.start;
+  stack = at;
+  pri = s.pri;
+  regs = starting_regs (first_pointer at (stack_bytes s.stack)) task_return s.start s.words;
+}
+
+-- what a spawn may change
+pub record SpawnState : Type 0 where
+  pub kern : KernState
+  pub part : PartState
+  pub ram : List ℕ
+  pub names : ℕ
+
+abbrev pub spawn_parts : KernState → PartState → List ℕ → ℕ → SpawnState
+spawn_parts kern part ram names = record { kern = kern; part = part; ram = ram; names = names }
+
+-- these of a world, and the world with others in their place
+abbrev pub spawn_state : WorldState → SpawnState
+spawn_state w = spawn_parts w.kern w.part w.ram w.names
+
+abbrev pub after_spawn : WorldState → SpawnState → WorldState
+after_spawn w s = record w { kern = s.kern; part = s.part; ram = s.ram; names = s.names }
+
+-- these after a spawn, and how its caller is answered
+pub record SpawnRow : Type 0 where
+  pub after : SpawnState
+  pub reply : Reply
+
+-- nothing changes where it is refused
+abbrev pub no_spawn : SpawnState → Errno → SpawnRow
+no_spawn w e = record { after = w; reply = Refusal e }
+
+-- the stack is a Kernel block, and the task begins on it
+abbrev pub spawned_on : SpawnState → Wanted → ℕ → SpawnState
+spawned_on w s at = record {
+  kern = spawn w.kern (started s w.names at);
+  part = after_alloc w.part (stack_bytes s.stack) grain Kernel;
+  ram = framed w.ram (first_pointer at (stack_bytes s.stack)) s.words;
+  names = names_after s.name w.names;
+}
+
+abbrev pub spawned_at : SpawnState → Wanted → Result ℕ PartErr → SpawnRow
+spawned_at w s (Err e) = no_spawn w errors.NotEnoughMemory
+spawned_at w s (Ok at) = record { after = spawned_on w s at; reply = Answer w.kern.next_id }
+
+abbrev pub spawned_unless : SpawnState → Wanted → Option Errno → SpawnRow
+spawned_unless w s (Some e) = no_spawn w e
+spawned_unless w s None = spawned_at w s (alloc_of w.part (stack_bytes s.stack) grain)
+
+-- refused where too many tasks live or no id is left; then where the partition has no such block
+abbrev pub spawned : SpawnState → Wanted → SpawnRow
+spawned w s = spawned_unless w s (spawn_refusal w.kern)
+
+-- or where what is asked for is no task
+abbrev pub spawned_if : SpawnState → Result Wanted Errno → SpawnRow
+spawned_if w (Err e) = no_spawn w e
+spawned_if w (Ok s) = spawned w s
+
+-- ---- taskSpawn(name, priority, options, stack size, entry, ten words), with the words r in registers
+-- the name that an address means: none at 0, else the first 31 bytes of the string there
+abbrev pub name_at : List ℕ → ℕ → Option (Option (List ℕ))
+name_at ram at = if at == 0 then Some None else option_map (λ name. Some (take longest_short_name name)) (string_at ram at)
+
+abbrev pub named_wanted : List ℕ → Option (Option (List ℕ)) → Option (List ℕ) → Result Wanted Errno
+named_wanted r None more = Err errors.BadAddress
+named_wanted r (Some name) None = Err errors.BadAddress
+named_wanted r (Some name) (Some more) = Ok (record {
+  name = name;
+  pri = slice_index r 4;
+  stack = slice_index r 6;
+  start = slice_index r 7;
+  words = slice_index r 8 ∷ slice_index r 9 ∷ slice_index r 10 ∷ more;
+})
+
+-- the words behind those in registers
+abbrev pub seven_words : List ℕ → ℕ → Option (List ℕ)
+seven_words ram at =
+    all_there (stack_word ram at 0 ∷ stack_word ram at 1 ∷ stack_word ram at 2 ∷ stack_word ram at 3 ∷ stack_word ram at 4 ∷ stack_word ram at 5 ∷ stack_word ram at 6 ∷ [])
+
+-- the options are read and not used
+abbrev pub task_wanted : List ℕ → List ℕ → Result Wanted Errno
+task_wanted ram r =
+    if nat_le (slice_index r 4) least_urgent then named_wanted r (name_at ram (slice_index r 3)) (seven_words ram (slice_index r 1))
+    else Err errors.IllegalPriority
+
+-- ---- sp(entry, nine words): a task without a name, of priority 100, with a stack of 20,000 bytes
+abbrev pub quick_priority : ℕ
+quick_priority = 100
+
+abbrev pub quick_stack : ℕ
+quick_stack = 20000
+
+abbrev pub nine_wanted : List ℕ → Option (List ℕ) → Result Wanted Errno
+nine_wanted r None = Err errors.BadAddress
+nine_wanted r (Some more) = Ok (record {
+  name = None;
+  pri = quick_priority;
+  stack = quick_stack;
+  start = slice_index r 3;
+  words = slice_index r 4 ∷ slice_index r 5 ∷ slice_index r 6 ∷ slice_index r 7 ∷ slice_index r 8 ∷ slice_index r 9 ∷ slice_index r 10 ∷ (more ++ 0 ∷ []);
+})
+
+abbrev pub two_words : List ℕ → ℕ → Option (List ℕ)
+two_words ram at = all_there (stack_word ram at 0 ∷ stack_word ram at 1 ∷ [])
+
+abbrev pub quick_wanted : List ℕ → List ℕ → Result Wanted Errno
+quick_wanted ram r = nine_wanted r (two_words ram (slice_index r 1))
+
+-- the line that tells a spawn
+unfoldable pub spawn_text : ℕ → List ℕ → List ℕ
+spawn_text id name = codes "task spawned: id = 0x" ++ digits 16 false id ++ codes ", name = " ++ name ++ codes "\n"
+
+-- what sp writes: nothing, where it is refused
+abbrev pub quick_text : ℕ → Reply → List ℕ
+quick_text names (Answer id) = spawn_text id (task_name None names)
+quick_text names r = []

@@ -1,0 +1,106 @@
+//! The calls on safe sections, and the deletion of a task.
+
+ghost use Rattle.std.specs.Prelude.{◌≡◌, ◌<◌, ◌^◌};
+ghost use Rattle.std.specs.List.{All};
+ghost use Rattle.wind_core.specs.State.{Lives};
+ghost use Rattle.kernel_world.specs.Objects.{deletion_gate};
+ghost use Rattle.kernel_world.specs.Actors.{Acts};
+ghost use Rattle.task_calls.specs.SafetyRows.{safe_row, unsafe_row, back_at_gate, meant as meant_lem, deletion, delete_row};
+
+use crate::ending::take_stack;
+use id_table::Ident;
+use kernel_world::{Actor, DONE, Reply};
+use mem_partition::Part;
+use task_safety::{Deleted, delete as delete_task, safe, unsafe_by};
+use wind_base::limits::GATES_START;
+use wind_base::{Errno, Gate, Regs};
+use wind_core::Kern;
+
+/// taskSafe, of a task: it is safe from deletion once more. Refused at interrupt level.
+#[tactic(auto, using(crate::proofs::Counts::safes_below))]
+pub fn make_safe(kern: &mut Kern, who: Actor) -> Reply
+    requires live { Acts kern.old who }
+    requires safes { All (λ t. t.safe < 2 ^ 60) kern.old.tasks }
+    ensures kern { kern.new ≡ (safe_row kern.old who).kern }
+    ensures reply { result ≡ (safe_row kern.old who).reply }
+{
+    let Actor::Task(who) = who else {
+        return Reply::Refusal(Errno::NotIsrCallable);
+    };
+    safe(kern, who);
+    DONE
+}
+
+/// taskUnsafe, of a task: it is safe once less, and at the last time all who wait to delete it go on. Refused at interrupt
+/// level, and where it isn't safe.
+pub fn make_unsafe(kern: &mut Kern, who: Actor) -> Reply
+    requires live { Acts kern.old who }
+    requires since { kern.old.next_since < 2 ^ 63 }
+    ensures kern { kern.new ≡ (unsafe_row kern.old who).kern }
+    ensures reply { result ≡ (unsafe_row kern.old who).reply }
+{
+    let Actor::Task(who) = who else {
+        return Reply::Refusal(Errno::NotIsrCallable);
+    };
+    match unsafe_by(kern, who, 1) {
+        Ok(()) => DONE,
+        Err(errno) => Reply::Refusal(errno),
+    }
+}
+
+// The number of the task that is to be deleted: 0 is the caller.
+fn meant(caller: Ident, id: u32) -> u32
+    ensures { result ≡ meant_lem caller id }
+{
+    if id == 0 { caller.get() } else { id }
+}
+
+// Registers that stand at the gate of a deletion.
+fn at_deletion(regs: &Regs) -> Regs
+    ensures { result ≡ record regs.now { pc = deletion_gate } }
+{
+    Regs {
+        pc: Gate::TaskDelete.address(GATES_START),
+        ..*regs
+    }
+}
+
+// The task stands at the gate of a deletion.
+fn stand_at_gate(kern: &mut Kern, who: Ident)
+    ensures { kern.new ≡ back_at_gate kern.old who }
+{
+    kern.facts();
+    let Some(task) = kern.task(who) else {
+        return;
+    };
+    let regs = at_deletion(&task.regs);
+    kern.set_regs(who, regs);
+}
+
+/// taskDelete, of a task: the task of an id ends, 0 being the caller, or the caller waits at its gate until that is safe
+/// no more. Refused at interrupt level, where no such task lives, and of the shell's task.
+pub fn delete(kern: &mut Kern, part: &mut Part, who: Actor, id: u32) -> Reply
+    requires live { Acts kern.old who }
+    requires since { kern.old.next_since < 2 ^ 63 }
+    requires tick { kern.old.tick < 2 ^ 63 }
+    ensures row { deletion kern.new part.new result ≡ delete_row kern.old part.old who id }
+{
+    let Actor::Task(caller) = who else {
+        return Reply::Refusal(Errno::NotIsrCallable);
+    };
+    match delete_task(kern, caller, meant(caller, id)) {
+        Ok(Deleted::Removed(task)) => {
+            take_stack(part, Some(task));
+            DONE
+        }
+        Ok(Deleted::SelfEnded(task)) => {
+            take_stack(part, Some(task));
+            Reply::Gone
+        }
+        Ok(Deleted::Pended) => {
+            stand_at_gate(kern, caller);
+            Reply::Later
+        }
+        Err(errno) => Reply::Refusal(errno),
+    }
+}

@@ -1,0 +1,273 @@
+//! taskSpawn and sp.
+
+ghost use Rattle.std.specs.Prelude.{◌≡◌, ◌+◌, ◌-◌, ◌^◌, ◌<◌, ◌≤◌, false, option_map, length};
+ghost use Rattle.wind_base.specs.Limits.{ram_bytes, longest_short_name};
+ghost use Rattle.wind_base.specs.OutBuf.{Added};
+ghost use Rattle.mem_partition.specs.Place.{rounded};
+ghost use Rattle.task_calls.specs.Spawning.{spawn_parts, spawned_if as spawned_if_lem, spawned as spawned_lem, started as started_lem, stack_bytes as stack_bytes_lem, first_pointer as first_pointer_lem, task_name as task_name_lem, names_after, name_at as name_at_lem, seven_words as seven_words_lem, two_words as two_words_lem, task_wanted as task_wanted_lem, quick_wanted as quick_wanted_lem, spawn_text, quick_text};
+
+use arrayvec::ArrayVec;
+use board_mem::Ram;
+use itoa::Buffer;
+use kernel_world::{Reply, put_frame, stack_word, starting_regs};
+use mem_partition::{Class, GRAIN, Part, round_up};
+use task_block::NewTask;
+use wind_base::limits::{FRAME_BYTES, GATES_START};
+use wind_base::text::{add, add_hex};
+use wind_base::{Errno, Gate, OutBuf, Pri, ShortName};
+use wind_core::Kern;
+
+// A stack has at least so many bytes.
+const LEAST_STACK: u32 = 512;
+
+// The priority and the stack of a task that `sp` makes.
+const QUICK_PRIORITY: u32 = 100;
+
+const QUICK_STACK: u32 = 20_000;
+
+/// A task that is asked for.
+#[derive(Drop)]
+pub struct Wanted {
+    /// Its name, if it has one.
+    pub name: Option<ShortName>,
+    /// The priority that it is given.
+    pub pri: Pri,
+    /// The bytes of its stack.
+    pub stack: u32,
+    /// The address at which it begins.
+    pub start: u32,
+    /// The words for it.
+    pub words: [u32; 10],
+}
+
+// The name that an address means: none at 0, else the first bytes of the string there. None where it can't be read.
+fn name_at(ram: &Ram, address: u32) -> Option<Option<ShortName>>
+    ensures { result ≡ name_at_lem ram.now address }
+{
+    if address == 0 {
+        return Some(None);
+    }
+    match ram.string(address) {
+        Some(name) => Some(Some(ShortName::cut(name.bytes()))),
+        None => None,
+    }
+}
+
+// The seven words behind those in registers.
+fn seven_words(ram: &Ram, pointer: u32) -> Option<[u32; 7]>
+    ensures { result ≡ seven_words_lem ram.now pointer }
+{
+    let a = stack_word(ram, pointer, 0)?;
+    let b = stack_word(ram, pointer, 1)?;
+    let c = stack_word(ram, pointer, 2)?;
+    let d = stack_word(ram, pointer, 3)?;
+    let e = stack_word(ram, pointer, 4)?;
+    let f = stack_word(ram, pointer, 5)?;
+    let g = stack_word(ram, pointer, 6)?;
+    Some([a, b, c, d, e, f, g])
+}
+
+// The two words behind those in registers.
+fn two_words(ram: &Ram, pointer: u32) -> Option<[u32; 2]>
+    ensures { result ≡ two_words_lem ram.now pointer }
+{
+    let a = stack_word(ram, pointer, 0)?;
+    let b = stack_word(ram, pointer, 1)?;
+    Some([a, b])
+}
+
+/// The task that taskSpawn is asked for. Refused at a priority above 255, then where a name or a word can't be read.
+pub fn task_wanted(ram: &Ram, gpr: &[u32; 32]) -> Result<Wanted, Errno>
+    ensures { result ≡ task_wanted_lem ram.now gpr.now }
+{
+    let Some(pri) = Pri::new(gpr[4]) else {
+        return Err(Errno::IllegalPriority);
+    };
+    let Some(name) = name_at(ram, gpr[3]) else {
+        return Err(Errno::BadAddress);
+    };
+    let Some(more) = seven_words(ram, gpr[1]) else {
+        return Err(Errno::BadAddress);
+    };
+    let [d, e, f, g, h, i, j] = more;
+    Ok(Wanted {
+        name,
+        pri,
+        stack: gpr[6],
+        start: gpr[7],
+        words: [gpr[8], gpr[9], gpr[10], d, e, f, g, h, i, j],
+    })
+}
+
+// The priority of a task that `sp` makes.
+fn quick_priority() -> Pri
+    ensures { result ≡ 100 }
+{
+    match Pri::new(QUICK_PRIORITY) {
+        Some(pri) => pri,
+        None => unreachable!(),
+    }
+}
+
+/// The task that sp is asked for. Refused where a word can't be read.
+pub fn quick_wanted(ram: &Ram, gpr: &[u32; 32]) -> Result<Wanted, Errno>
+    ensures { result ≡ quick_wanted_lem ram.now gpr.now }
+{
+    let Some(more) = two_words(ram, gpr[1]) else {
+        return Err(Errno::BadAddress);
+    };
+    let [h, i] = more;
+    Ok(Wanted {
+        name: None,
+        pri: quick_priority(),
+        stack: QUICK_STACK,
+        start: gpr[3],
+        words: [
+            gpr[4], gpr[5], gpr[6], gpr[7], gpr[8], gpr[9], gpr[10], h, i, 0,
+        ],
+    })
+}
+
+// A number behind a `t`.
+fn numbered(number: u64) -> ShortName
+    ensures { result ≡ task_name_lem None number }
+{
+    let mut digits = Buffer::new();
+    let mut name: ArrayVec<u8, 31> = ArrayVec::new();
+    let _ = name.try_extend_from_slice(b"t");
+    let _ = name.try_extend_from_slice(digits.format(number).as_bytes());
+    ShortName::cut(name.as_slice())
+}
+
+// The name that a task is given, or its number behind a `t`.
+fn take_name(name: Option<ShortName>, names: &mut u64) -> ShortName
+    requires { names.old + 1 < 2 ^ 64 }
+    ensures name { result ≡ task_name_lem name names.old }
+    ensures names { names.new ≡ names_after name names.old }
+{
+    match name {
+        Some(name) => name,
+        None => {
+            let number = *names;
+            *names = number + 1;
+            numbered(number)
+        }
+    }
+}
+
+// The bytes of a stack that is asked for with so many.
+fn stack_bytes(bytes: u32) -> u32
+    ensures { result ≡ stack_bytes_lem bytes }
+{
+    bytes.max(LEAST_STACK)
+}
+
+// r1 at the start of a stack: a frame below the end of its block.
+#[tactic(auto, using(mem_partition::proofs::Allocs::rounded_holds))]
+fn first_pointer(address: u32, bytes: u32) -> u32
+    requires least { 64 ≤ bytes }
+    requires within { address + rounded bytes ≤ ram_bytes }
+    ensures { result ≡ first_pointer_lem address bytes }
+{
+    let end = u64::from(address) + round_up(bytes);
+    (end - u64::from(FRAME_BYTES)) as u32
+}
+
+// The task with its stack at an address.
+fn started(wanted: Wanted, names: &mut u64, address: u32, pointer: u32) -> NewTask
+    requires names { names.old + 1 < 2 ^ 64 }
+    requires pointer { pointer ≡ first_pointer_lem address (stack_bytes_lem wanted.stack) }
+    ensures task { result ≡ started_lem wanted names.old address }
+    ensures names { names.new ≡ names_after wanted.name names.old }
+{
+    let Wanted {
+        name,
+        pri,
+        stack: _,
+        start,
+        words,
+    } = wanted;
+    let link = Gate::TaskReturn.address(GATES_START);
+    NewTask {
+        name: take_name(name, names),
+        entry: start,
+        stack: address,
+        pri,
+        regs: starting_regs(pointer, link, start, &words),
+    }
+}
+
+// Makes the task that is asked for. Where it is refused, nothing changes.
+fn spawn(kern: &mut Kern, part: &mut Part, ram: &mut Ram, names: &mut u64, wanted: Wanted) -> Reply
+    requires home { kern.old.lent ≡ false }
+    requires since { kern.old.next_since + 1 < 2 ^ 64 }
+    requires names { names.old + 1 < 2 ^ 64 }
+    requires end { part.old.end ≡ ram_bytes }
+    ensures kern { kern.new ≡ (spawned_lem (spawn_parts kern.old part.old ram.old names.old) wanted).after.kern }
+    ensures part { part.new ≡ (spawned_lem (spawn_parts kern.old part.old ram.old names.old) wanted).after.part }
+    ensures ram { ram.new ≡ (spawned_lem (spawn_parts kern.old part.old ram.old names.old) wanted).after.ram }
+    ensures names { names.new ≡ (spawned_lem (spawn_parts kern.old part.old ram.old names.old) wanted).after.names }
+    ensures reply { result ≡ (spawned_lem (spawn_parts kern.old part.old ram.old names.old) wanted).reply }
+{
+    if let Some(refusal) = kern.spawn_refusal() {
+        return Reply::Refusal(refusal);
+    }
+    let bytes = stack_bytes(wanted.stack);
+    let Ok(address) = part.alloc(bytes, GRAIN, Class::Kernel) else {
+        return Reply::Refusal(Errno::NotEnoughMemory);
+    };
+    let pointer = first_pointer(address, bytes);
+    put_frame(ram, pointer, &wanted.words);
+    let Ok(id) = kern.spawn_record(started(wanted, names, address, pointer)) else {
+        unreachable!()
+    };
+    Reply::Answer(id.get())
+}
+
+//// Makes the task, where what is asked for is one.
+pub fn spawn_if(
+    kern: &mut Kern,
+    part: &mut Part,
+    ram: &mut Ram,
+    names: &mut u64,
+    wanted: Result<Wanted, Errno>,
+) -> Reply
+    requires home { kern.old.lent ≡ false }
+    requires since { kern.old.next_since + 1 < 2 ^ 64 }
+    requires names { names.old + 1 < 2 ^ 64 }
+    requires end { part.old.end ≡ ram_bytes }
+    ensures kern { kern.new ≡ (spawned_if_lem (spawn_parts kern.old part.old ram.old names.old) wanted).after.kern }
+    ensures part { part.new ≡ (spawned_if_lem (spawn_parts kern.old part.old ram.old names.old) wanted).after.part }
+    ensures ram { ram.new ≡ (spawned_if_lem (spawn_parts kern.old part.old ram.old names.old) wanted).after.ram }
+    ensures names { names.new ≡ (spawned_if_lem (spawn_parts kern.old part.old ram.old names.old) wanted).after.names }
+    ensures reply { result ≡ (spawned_if_lem (spawn_parts kern.old part.old ram.old names.old) wanted).reply }
+{
+    match wanted {
+        Ok(wanted) => spawn(kern, part, ram, names, wanted),
+        Err(errno) => Reply::Refusal(errno),
+    }
+}
+
+// Adds the line that tells a spawn.
+#[tactic(auto, unfolding(crate::specs::Spawning::spawn_text))]
+fn add_spawn(out: &mut OutBuf, id: u32, name: &[u8])
+    requires name { length name.now ≤ longest_short_name }
+    requires room { 128 ≤ out.old.room }
+    ensures { Added 128 out.old out.new (spawn_text id name.now) }
+{
+    add(out, b"task spawned: id = 0x");
+    add_hex(out, id);
+    add(out, b", name = ");
+    add(out, name);
+    add(out, b"\n");
+}
+
+//// Tells a task without a name that was made, with the number that it took; nothing where it was refused.
+pub fn tell_spawn(out: &mut OutBuf, number: u64, reply: Reply)
+    requires { 128 ≤ out.old.room }
+    ensures { Added 128 out.old out.new (quick_text number reply) }
+{
+    if let Reply::Answer(id) = reply {
+        add_spawn(out, id, numbered(number).bytes());
+    }
+}

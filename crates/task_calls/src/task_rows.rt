@@ -1,0 +1,195 @@
+//! The calls that touch the kernel's tasks and counters alone.
+
+ghost use Rattle.std.specs.Prelude.{◌≡◌, ◌+◌, ◌^◌, ◌<◌, IfSome};
+ghost use Rattle.std.specs.List.{All};
+ghost use Rattle.wind_core.specs.State.{Lives, KernState, task_of};
+ghost use Rattle.wind_core.specs.Moves.{live_id};
+ghost use Rattle.kernel_world.specs.Actors.{Acts};
+ghost use Rattle.kernel_world.specs.Actors.{target as target_lem};
+ghost use Rattle.task_calls.specs.TaskRows.{suspend_row, resume_row, delay_row, lock_row, unlock_row, self_row, verify_row, name_row, slice_row, tick_row, locks_of, mark_of, int_lock_row, int_unlock_row, int_context_row};
+ghost use Rattle.board_mem.specs.Memory.{string_at};
+
+use board_mem::Ram;
+use id_table::Ident;
+use kernel_world::{Actor, DONE, Reply, target};
+use wind_base::Errno;
+use wind_core::Kern;
+
+/// taskSuspend: the task of an id is suspended. Refused where none lives.
+pub fn suspend(kern: &mut Kern, who: Actor, id: u32) -> Reply
+    requires { Acts kern.old who }
+    ensures kern { kern.new ≡ (suspend_row kern.old (target_lem kern.old who id)).kern }
+    ensures reply { result ≡ (suspend_row kern.old (target_lem kern.old who id)).reply }
+{
+    let Some(id) = target(kern, who, id) else {
+        return Reply::Refusal(Errno::ObjIdError);
+    };
+    kern.suspend(id);
+    DONE
+}
+
+/// taskResume: the task of an id is suspended no more. Refused where none lives.
+pub fn resume(kern: &mut Kern, who: Actor, id: u32) -> Reply
+    requires live { Acts kern.old who }
+    requires since { kern.old.next_since + 1 < 2 ^ 64 }
+    ensures kern { kern.new ≡ (resume_row kern.old (target_lem kern.old who id)).kern }
+    ensures reply { result ≡ (resume_row kern.old (target_lem kern.old who id)).reply }
+{
+    let Some(id) = target(kern, who, id) else {
+        return Reply::Refusal(Errno::ObjIdError);
+    };
+    kern.resume(id);
+    DONE
+}
+
+/// taskDelay, of a task: it is delayed for so many ticks, and answered at the end of that, or at once at 0. Refused at
+/// interrupt level.
+pub fn delay(kern: &mut Kern, who: Actor, ticks: u32) -> Reply
+    requires live { Acts kern.old who }
+    requires since { kern.old.next_since + 1 < 2 ^ 64 }
+    requires tick { kern.old.tick < 2 ^ 63 }
+    ensures kern { kern.new ≡ (delay_row kern.old who ticks).kern }
+    ensures reply { result ≡ (delay_row kern.old who ticks).reply }
+{
+    let Actor::Task(who) = who else {
+        return Reply::Refusal(Errno::NotIsrCallable);
+    };
+    kern.delay(who, ticks);
+    if ticks == 0 { DONE } else { Reply::Later }
+}
+
+// How often the task has locked the scheduler and not unlocked it.
+fn locks(kern: &Kern, who: Ident) -> u64
+    ensures { result ≡ locks_of kern.now who }
+{
+    match kern.task(who) {
+        Some(task) => task.locks,
+        None => 0,
+    }
+}
+
+/// taskLock, of a task: it has locked the scheduler once more. Refused at interrupt level.
+#[tactic(auto, using(crate::proofs::Counts::locks_below))]
+pub fn lock(kern: &mut Kern, who: Actor) -> Reply
+    requires live { Acts kern.old who }
+    requires locks { All (λ t. t.locks < 2 ^ 60) kern.old.tasks }
+    ensures kern { kern.new ≡ (lock_row kern.old who).kern }
+    ensures reply { result ≡ (lock_row kern.old who).reply }
+{
+    let Actor::Task(who) = who else {
+        return Reply::Refusal(Errno::NotIsrCallable);
+    };
+    let locks = locks(kern, who);
+    kern.set_locks(who, locks + 1);
+    DONE
+}
+
+/// taskUnlock, of a task: it has locked the scheduler once less, if it has. Refused at interrupt level.
+pub fn unlock(kern: &mut Kern, who: Actor) -> Reply
+    requires { Acts kern.old who }
+    ensures kern { kern.new ≡ (unlock_row kern.old who).kern }
+    ensures reply { result ≡ (unlock_row kern.old who).reply }
+{
+    let Actor::Task(who) = who else {
+        return Reply::Refusal(Errno::NotIsrCallable);
+    };
+    let locks = locks(kern, who);
+    kern.set_locks(who, locks.saturating_sub(1));
+    DONE
+}
+
+/// taskIdSelf, of a task: its id. Refused at interrupt level.
+pub fn own_id(who: Actor) -> Reply
+    ensures { (k : KernState) → result ≡ (self_row k who).reply }
+{
+    match who {
+        Actor::Task(id) => Reply::Answer(id.get()),
+        Actor::Interrupt => Reply::Refusal(Errno::NotIsrCallable),
+    }
+}
+
+/// taskIdVerify: a task of the id lives. Refused where none does.
+pub fn verify(kern: &Kern, id: u32) -> Reply
+    ensures { result ≡ (verify_row kern.now (live_id kern.now.tasks id)).reply }
+{
+    match kern.find(id) {
+        Some(_) => DONE,
+        None => Reply::Refusal(Errno::ObjIdError),
+    }
+}
+
+/// kernelTimeSlice: so many ticks are the turn of a task, and 0 is without end.
+pub fn slice(kern: &mut Kern, ticks: u32) -> Reply
+    ensures kern { kern.new ≡ (slice_row kern.old ticks).kern }
+    ensures reply { result ≡ (slice_row kern.old ticks).reply }
+{
+    kern.time_slice(ticks);
+    DONE
+}
+
+/// tickGet: the low word of the count of ticks.
+pub fn ticks(kern: &Kern) -> Reply
+    ensures { result ≡ (tick_row kern.now).reply }
+{
+    Reply::Answer((kern.ticks() % 0x1_0000_0000) as u32)
+}
+
+/// taskNameToId: the least id of a task that has the name at an address. Refused where no string is there, then where no
+/// task has it.
+pub fn task_of_name(kern: &Kern, ram: &Ram, address: u32) -> Reply
+    ensures { result ≡ (name_row kern.now (string_at ram.now address)).reply }
+{
+    let Some(name) = ram.string(address) else {
+        return Reply::Refusal(Errno::BadAddress);
+    };
+    match kern.named(name.bytes()) {
+        Some(id) => Reply::Answer(id.get()),
+        None => Reply::Refusal(Errno::TaskNotFound),
+    }
+}
+
+// Whether the task holds interrupts back.
+fn mark(kern: &Kern, who: Ident) -> bool
+    ensures { result ≡ mark_of (task_of kern.now.tasks who) }
+{
+    match kern.task(who) {
+        Some(task) => task.int_locked,
+        None => false,
+    }
+}
+
+/// intLock: the task holds interrupts back; the answer is 1 where it did before, as a routine always does, else 0.
+pub fn lock_interrupts(kern: &mut Kern, who: Actor) -> Reply
+    requires { Acts kern.old who }
+    ensures kern { kern.new ≡ (int_lock_row kern.old who).kern }
+    ensures reply { result ≡ (int_lock_row kern.old who).reply }
+{
+    let Actor::Task(who) = who else {
+        return Reply::Answer(1);
+    };
+    let mark = mark(kern, who);
+    kern.set_int_locked(who, true);
+    Reply::Answer(if mark { 1 } else { 0 })
+}
+
+/// intUnlock: the task holds interrupts back where the lowest bit of the key is 1.
+pub fn unlock_interrupts(kern: &mut Kern, who: Actor, key: u32) -> Reply
+    requires { Acts kern.old who }
+    ensures kern { kern.new ≡ (int_unlock_row kern.old who key).kern }
+    ensures reply { result ≡ (int_unlock_row kern.old who key).reply }
+{
+    if let Actor::Task(who) = who {
+        kern.set_int_locked(who, key % 2 == 1);
+    }
+    DONE
+}
+
+/// intContext: 1 at interrupt level, else 0.
+pub fn context(who: Actor) -> Reply
+    ensures { (k : KernState) → result ≡ (int_context_row k who).reply }
+{
+    match who {
+        Actor::Task(_) => Reply::Answer(0),
+        Actor::Interrupt => Reply::Answer(1),
+    }
+}
