@@ -4,16 +4,9 @@
 mod session;
 mod table;
 
-use session::Objects;
+use session::{Objects, Session};
 use std::{fs, io};
 use table::{fetches, puts};
-
-// The consoles.
-const SUM: &str = "1+2\n";
-
-const SUM_AND_LOAD: &str = "1+2\nld < a.o\n";
-
-const THREE_MODULES: &str = "ld < a.o\nld < b.o\nld < c.o\nunld 3\n&f\n*0x15e70\n";
 
 /// Plays the tables.
 fn main(rt: HostRuntime) -> io::Result<()> {
@@ -21,8 +14,23 @@ fn main(rt: HostRuntime) -> io::Result<()> {
         f: fs::read(&rt, "f.o")?,
         caller: fs::read(&rt, "caller.o")?,
     };
-    fetches(&rt, &objects, "1+2", SUM)?;
-    fetches(&rt, &objects, "1+2 and a module", SUM_AND_LOAD)?;
-    puts(&rt, &objects, "1+2", SUM, 4)?;
-    puts(&rt, &objects, "three modules", THREE_MODULES, 19)
+    let sum = Session {
+        name: "1+2",
+        console: "1+2\n",
+        objects: &objects,
+    };
+    let sum_and_load = Session {
+        name: "1+2 and a module",
+        console: "1+2\nld < a.o\n",
+        objects: &objects,
+    };
+    let three_loads = Session {
+        name: "three modules",
+        console: "ld < a.o\nld < b.o\nld < c.o\nunld 3\n&f\n*0x15e70\n",
+        objects: &objects,
+    };
+    fetches(&rt, &sum)?;
+    fetches(&rt, &sum_and_load)?;
+    puts(&rt, &sum, 4)?;
+    puts(&rt, &three_loads, 19)
 }

@@ -23,7 +23,7 @@ pub struct Objects {
 /// The call that fails, by its number from 1.
 #[derive(Clone, Copy)]
 pub enum Failing {
-    None,
+    Nothing,
     Fetch(u64),
     Put(u64),
 }
@@ -31,9 +31,9 @@ pub enum Failing {
 impl fmt::Display for Failing {
     fn fmt<W: fmt::Write>(&self, f: &mut fmt::Formatter<W>) -> fmt::Result {
         match self {
-            Failing::None => write!(f, "nothing fails"),
-            Failing::Fetch(call) => write!(f, "fetch {call} fails"),
-            Failing::Put(call) => write!(f, "put {call} fails"),
+            Failing::Nothing => write!(f, "if nothing fails"),
+            Failing::Fetch(call) => write!(f, "if fetch {call} fails"),
+            Failing::Put(call) => write!(f, "if put {call} fails"),
         }
     }
 }
@@ -73,57 +73,52 @@ impl Outcome {
     }
 }
 
-// A folder with a console file, a tick file without a line, and three modules, of which two are one file.
-fn folder_of(
-    alloc: Global,
-    objects: &Objects,
-    console: &str,
-    failing: Failing,
-) -> Result<MemFolder, AllocError> {
-    let mut folder = MemFolder::new(alloc, failing.fetches(alloc)?);
-    let files: [(&str, &[u8]); 5] = [
-        ("console.txt", console.as_bytes()),
-        ("ticks.txt", b""),
-        ("./a.o", &objects.f),
-        ("./b.o", &objects.f),
-        ("./c.o", &objects.caller),
-    ];
-    for (name, bytes) in files {
-        folder
-            .add(name, Vec::from_slice(alloc, bytes)?)
-            .or(Err(AllocError))?;
-    }
-    Ok(folder)
+/// A session.
+pub struct Session<'a> {
+    /// Its name in the tables.
+    pub name: &'a str,
+    /// What its console file holds.
+    pub console: &'a str,
+    /// Of what its modules are made.
+    pub objects: &'a Objects,
 }
 
-/// Plays a console, with so many steps at most, where one call fails.
-pub fn played(
-    alloc: Global,
-    objects: &Objects,
-    console: &str,
-    failing: Failing,
-    limit: u64,
-) -> Result<Outcome, AllocError> {
-    let mut folder = folder_of(alloc, objects, console, failing)?;
-    let mut out = MemSink::reserved(alloc, ROOM, failing.puts(alloc)?).or(Err(AllocError))?;
-    let mut err = MemSink::reserved(alloc, ROOM, Vec::new(alloc)).or(Err(AllocError))?;
-    let limit = limit.to_string(alloc)?;
-    let words = ["windplay", "--limit", limit.as_str()];
-    let ending = play(
-        alloc,
-        &words,
-        &mut folder,
-        &mut out,
-        &mut err,
-        Vec::new(alloc),
-    );
-    let steps = match &ending.stand {
-        Stand::Booted(board) => Some(board.steps()),
-        Stand::NotBooted(_) => None,
-    };
-    Ok(Outcome {
-        status: ending.status,
-        steps,
-        out,
-    })
+impl<'a> Session<'a> {
+    // A folder with the console file, a tick file without a line, and three modules, of which two are one file.
+    fn folder(&self, alloc: Global, failing: Failing) -> Result<MemFolder, AllocError> {
+        let mut folder = MemFolder::new(alloc, failing.fetches(alloc)?);
+        let files: [(&str, &[u8]); 5] = [
+            ("console.txt", self.console.as_bytes()),
+            ("ticks.txt", b""),
+            ("./a.o", &self.objects.f),
+            ("./b.o", &self.objects.f),
+            ("./c.o", &self.objects.caller),
+        ];
+        for (name, bytes) in files {
+            folder
+                .add(name, Vec::from_slice(alloc, bytes)?)
+                .or(Err(AllocError))?;
+        }
+        Ok(folder)
+    }
+
+    /// Plays it, with so many steps at most, where one call fails.
+    pub fn play(&self, alloc: Global, failing: Failing, limit: u64) -> Result<Outcome, AllocError> {
+        let mut folder = self.folder(alloc, failing)?;
+        let mut out = MemSink::reserved(alloc, ROOM, failing.puts(alloc)?).or(Err(AllocError))?;
+        let mut err = MemSink::reserved(alloc, ROOM, Vec::new(alloc)).or(Err(AllocError))?;
+        let limit = limit.to_string(alloc)?;
+        let words = ["windplay", "--limit", limit.as_str()];
+        let devices = Vec::new(alloc);
+        let ending = play(alloc, &words, &mut folder, &mut out, &mut err, devices);
+        let steps = match &ending.stand {
+            Stand::Booted(board) => Some(board.steps()),
+            Stand::NotBooted(_) => None,
+        };
+        Ok(Outcome {
+            status: ending.status,
+            steps,
+            out,
+        })
+    }
 }

@@ -1,12 +1,13 @@
 //! The rows of the tables.
 
-use crate::session::{Failing, Objects, Outcome, STEPS, played};
+use crate::session::{Failing, Outcome, STEPS, Session};
 use std::alloc::{AllocError, Global};
 use std::io;
 
 // How many steps were made.
 fn steps_text(alloc: Global, outcome: &Outcome) -> Result<String, AllocError> {
     match outcome.steps {
+        Some(1) => "1 step".to_string(alloc),
         Some(steps) => format!(in alloc; "{steps} steps"),
         None => "no board".to_string(alloc),
     }
@@ -15,10 +16,11 @@ fn steps_text(alloc: Global, outcome: &Outcome) -> Result<String, AllocError> {
 // Tells how a session ended, with all that it wrote.
 fn tell_whole<R: Print + AllocGlobal>(
     rt: &R,
-    name: &str,
+    session: &Session,
     failing: Failing,
     outcome: &Outcome,
 ) -> io::Result<()> {
+    let name = session.name;
     let steps = steps_text(rt.alloc(), outcome)?;
     let status = outcome.status.number();
     let bytes = outcome.bytes();
@@ -29,20 +31,15 @@ fn tell_whole<R: Print + AllocGlobal>(
 
 /// Plays a session in which nothing fails, and then those in which the first fetch, the second or the third fails. Each
 /// row has all that was written.
-pub fn fetches<R: Print + AllocGlobal>(
-    rt: &R,
-    objects: &Objects,
-    name: &str,
-    console: &str,
-) -> io::Result<()> {
+pub fn fetches<R: Print + AllocGlobal>(rt: &R, session: &Session) -> io::Result<()> {
     for failing in [
-        Failing::None,
+        Failing::Nothing,
         Failing::Fetch(1),
         Failing::Fetch(2),
         Failing::Fetch(3),
     ] {
-        let outcome = played(rt.alloc(), objects, console, failing, STEPS)?;
-        tell_whole(rt, name, failing, &outcome)?;
+        let outcome = session.play(rt.alloc(), failing, STEPS)?;
+        tell_whole(rt, session, failing, &outcome)?;
     }
     Ok(())
 }
@@ -61,16 +58,15 @@ fn standing(outcome: &Outcome, whole: &Outcome, before: &Outcome) -> &'static st
 // Plays a session in which a put fails, and tells how it ended.
 fn put_row<R: Print + AllocGlobal>(
     rt: &R,
-    objects: &Objects,
-    name: &str,
-    console: &str,
+    session: &Session,
     call: u64,
     whole: &Outcome,
 ) -> io::Result<()> {
     let failing = Failing::Put(call);
-    let outcome = played(rt.alloc(), objects, console, failing, STEPS)?;
+    let outcome = session.play(rt.alloc(), failing, STEPS)?;
     let earlier = outcome.steps.unwrap_or(0).saturating_sub(1);
-    let before = played(rt.alloc(), objects, console, Failing::None, earlier)?;
+    let before = session.play(rt.alloc(), Failing::Nothing, earlier)?;
+    let name = session.name;
     let steps = steps_text(rt.alloc(), &outcome)?;
     let status = outcome.status.number();
     let count = outcome.bytes().len();
@@ -80,17 +76,11 @@ fn put_row<R: Print + AllocGlobal>(
 
 /// Plays a session in which nothing fails, and then those in which the first put fails, the second and so on, up to one
 /// put more than the `most` that the session makes.
-pub fn puts<R: Print + AllocGlobal>(
-    rt: &R,
-    objects: &Objects,
-    name: &str,
-    console: &str,
-    most: u64,
-) -> io::Result<()> {
-    let whole = played(rt.alloc(), objects, console, Failing::None, STEPS)?;
-    tell_whole(rt, name, Failing::None, &whole)?;
+pub fn puts<R: Print + AllocGlobal>(rt: &R, session: &Session, most: u64) -> io::Result<()> {
+    let whole = session.play(rt.alloc(), Failing::Nothing, STEPS)?;
+    tell_whole(rt, session, Failing::Nothing, &whole)?;
     for call in 1..=most {
-        put_row(rt, objects, name, console, call, &whole)?;
+        put_row(rt, session, call, &whole)?;
     }
-    put_row(rt, objects, name, console, most.saturating_add(1), &whole)
+    put_row(rt, session, most.saturating_add(1), &whole)
 }
