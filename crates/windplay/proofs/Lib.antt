@@ -1,7 +1,0 @@
-pub mod CommandLemmas
-pub mod LeftLemmas
-pub mod PlanLemmas
-pub mod ModuleLemmas
-pub mod RunLemmas
-pub mod Saying
-pub mod ToldLemmas

@@ -2,27 +2,17 @@
 //! bytes of the console come out.
 #![tactic(auto)]
 
-mod command;
-mod ending;
-mod laws;
-mod modules;
-mod play;
-mod report;
-mod run;
-
 ghost use Rattle.std.specs.Prelude.{◌≡◌};
 ghost use Rattle.std.specs.Process.{exit_status};
-ghost use Rattle.windplay.specs.Status.{status_number};
+ghost use Rattle.wind_session.specs.Status.{status_number};
 
-use ending::Status;
-use play::play;
-use report::tell_no_memory;
 use std::alloc::{AllocError, Global};
 use std::env;
 use std::io::ErrorKind;
 use std::process::ExitCode;
 use wind_base::NoMemory;
 use wind_outside::{ByteFifo, EventCounter, HostFolder, HostSink, Latch, Sink, Slots};
+use wind_session::{Status, play, tell_no_memory};
 
 // Words that are no command, for arguments that are no text.
 fn no_text(alloc: Global) -> Result<Vec<String>, AllocError> {

@@ -1,0 +1,36 @@
+//! Plays sessions in each of which one call of the folder or of the sink fails, and tells how they ended.
+#![tactic(auto)]
+
+mod session;
+mod table;
+
+use session::{Objects, Session};
+use std::{fs, io};
+use table::{fetches, puts};
+
+/// Plays the tables.
+fn main(rt: HostRuntime) -> io::Result<()> {
+    let objects = Objects {
+        f: fs::read(&rt, "f.o")?,
+        caller: fs::read(&rt, "caller.o")?,
+    };
+    let sum = Session {
+        name: "1+2",
+        console: "1+2\n",
+        objects: &objects,
+    };
+    let sum_and_load = Session {
+        name: "1+2 and a module",
+        console: "1+2\nld < a.o\n",
+        objects: &objects,
+    };
+    let three_loads = Session {
+        name: "three modules",
+        console: "ld < a.o\nld < b.o\nld < c.o\nunld 3\n&f\n*0x15e70\n",
+        objects: &objects,
+    };
+    fetches(&rt, &sum)?;
+    fetches(&rt, &sum_and_load)?;
+    puts(&rt, &sum, 4)?;
+    puts(&rt, &three_loads, 19)
+}

@@ -1,0 +1,124 @@
+//! One session, of which one call may fail.
+
+use std::alloc::{AllocError, Global};
+use std::fmt;
+use wind_outside::{MemFolder, MemSink};
+use wind_session::{Stand, Status, play};
+
+/// The most bytes that a session writes.
+const ROOM: u32 = 4096;
+
+/// The most steps of a session, where nothing else is said.
+pub const STEPS: u64 = 1_000_000;
+
+/// Two object files.
+#[derive(Drop)]
+pub struct Objects {
+    /// 16 bytes of code, with the global `f` at their start.
+    pub f: Vec<u8>,
+    /// 16 bytes of code that begin with a branch to `f`.
+    pub caller: Vec<u8>,
+}
+
+/// The call that fails, by its number from 1.
+#[derive(Clone, Copy)]
+pub enum Failing {
+    Nothing,
+    Fetch(u64),
+    Put(u64),
+}
+
+impl fmt::Display for Failing {
+    fn fmt<W: fmt::Write>(&self, f: &mut fmt::Formatter<W>) -> fmt::Result {
+        match self {
+            Failing::Nothing => write!(f, "if nothing fails"),
+            Failing::Fetch(call) => write!(f, "if fetch {call} fails"),
+            Failing::Put(call) => write!(f, "if put {call} fails"),
+        }
+    }
+}
+
+impl Failing {
+    // The numbers of the fetches that fail.
+    fn fetches(self, alloc: Global) -> Result<Vec<u64>, AllocError> {
+        match self {
+            Failing::Fetch(call) => Vec::from_slice(alloc, &[call]),
+            _ => Ok(Vec::new(alloc)),
+        }
+    }
+
+    // The numbers of the puts that fail.
+    fn puts(self, alloc: Global) -> Result<Vec<u64>, AllocError> {
+        match self {
+            Failing::Put(call) => Vec::from_slice(alloc, &[call]),
+            _ => Ok(Vec::new(alloc)),
+        }
+    }
+}
+
+/// How a session ended.
+#[derive(Drop)]
+pub struct Outcome {
+    /// Its status.
+    pub status: Status,
+    /// How many steps the board made; None where none was booted.
+    pub steps: Option<u64>,
+    out: MemSink,
+}
+
+impl Outcome {
+    /// What the session wrote.
+    pub fn bytes(&self) -> &[u8] {
+        self.out.bytes()
+    }
+}
+
+/// A session.
+pub struct Session<'a> {
+    /// Its name in the tables.
+    pub name: &'a str,
+    /// What its console file holds.
+    pub console: &'a str,
+    /// Of what its modules are made.
+    pub objects: &'a Objects,
+}
+
+impl<'a> Session<'a> {
+    // A folder with the console file, a tick file without a line, and three modules, of which two are one file.
+    fn folder(&self, alloc: Global, failing: Failing) -> Result<MemFolder, AllocError> {
+        let mut folder = MemFolder::new(alloc, failing.fetches(alloc)?);
+        let files: [(&str, &[u8]); 5] = [
+            ("console.txt", self.console.as_bytes()),
+            ("ticks.txt", b""),
+            ("./a.o", &self.objects.f),
+            ("./b.o", &self.objects.f),
+            ("./c.o", &self.objects.caller),
+        ];
+        for (name, bytes) in files {
+            folder
+                .add(name, Vec::from_slice(alloc, bytes)?)
+                .or(Err(AllocError))?;
+        }
+        Ok(folder)
+    }
+
+    /// Plays it, with so many steps at most, where one call fails.
+    pub fn play(&self, alloc: Global, failing: Failing, limit: u64) -> Result<Outcome, AllocError> {
+        let mut folder = self.folder(alloc, failing)?;
+        let mut out = MemSink::reserved(alloc, ROOM, failing.puts(alloc)?).or(Err(AllocError))?;
+        let mut err = MemSink::reserved(alloc, ROOM, Vec::new(alloc)).or(Err(AllocError))?;
+        let limit = limit.to_string(alloc)?;
+        let words = ["windplay", "--limit", limit.as_str()];
+        let devices = Vec::new(alloc);
+        let ending = play(alloc, &words, &mut folder, &mut out, &mut err, devices);
+        let steps = match &ending.stand {
+            Stand::Booted(board) => Some(board.steps()),
+            Stand::NotBooted(_) => None,
+        };
+        Ok(Outcome {
+            status: ending.status,
+            steps,
+            out,
+        })
+    }
+}

@@ -1,0 +1,61 @@
+-- What clap says of the words, and the command.
+use Rattle.std.proofs.Common.{◌∙◌, ◌≡◌, ap, subst, sym, refl, ⊎_elim, true, ℕ, List, [], ◌∷◌, Option, Some, None}
+use Rattle.std.specs.Prelude.{◌≢◌, codes}
+use Rattle.clap.specs.Kinds.{Kinds, HasKind}
+use Rattle.clap.specs.Words.{App, HasMatchesOf, Row, Text, fault_of, found_of, is_simple, is_simple_and_free, kind_of, matches_of, rows_of}
+use Rattle.clap.specs.declared.error.Error.{Error}
+use Rattle.clap.specs.declared.error.kind.ErrorKind.TheVariants.{OutOfMemory}
+use Rattle.clap.specs.declared.parser.matches.ArgMatches.{ArgMatches}
+use Rattle.clap.proofs.OnLiterals.{clap_on_literals}
+use Rattle.wind_base.specs.Limits.{most_steps}
+use Rattle.generated_session.specs.Session.{most_rounds}
+use Rattle.wind_session.specs.Command.{CommandState, app, command_of, command_of_rows, number_value, of_numbers, unless_fault, value_of, with_numbers}
+
+-- the command line is one of which clap says each match and each error
+app_is_free : is_simple_and_free app ≡ true
+unfolding app clap_on_literals
+app_is_free = refl
+
+app_is_simple : is_simple app ≡ true
+unfolding app clap_on_literals
+app_is_simple = refl
+
+refused : (kinds : Kinds) (rows : List Row) (e : Error) → HasKind kinds e → kind_of e ≢ OutOfMemory → unless_fault kinds rows ≡ None
+refused [] rows e h n = absurd (⊎_elim n (λ x. x) h)
+refused (k ∷ ks) rows e h n = refl
+
+-- a parse that fails for another cause than memory gives no command
+pub refused_words : (a : App) (words : List Text) (e : Error) → a ≡ app → (is_simple_and_free a ≡ true → HasKind (fault_of a words) e) → kind_of e ≢ OutOfMemory → command_of words ≡ None
+unfolding command_of
+refused_words a words e same fails other =
+    let failed = subst (λ (x : App). HasKind (fault_of x words) e) same (fails (ap is_simple_and_free same ∙ app_is_free)) in
+    refused (fault_of app words) (matches_of app words) e failed other
+
+-- a parse that succeeds gives the command of its rows
+pub taken_words : (a : App) (words : List Text) (m : ArgMatches) → a ≡ app → (is_simple_and_free a ≡ true → fault_of a words ≡ []) → HasMatchesOf a words m → command_of words ≡ command_of_rows (rows_of (found_of m))
+unfolding command_of
+taken_words a words m same passes has =
+    let none = subst (λ (x : App). fault_of x words ≡ []) same (passes (ap is_simple_and_free same ∙ app_is_free)) in
+    let found = subst (λ (x : App). rows_of (found_of m) ≡ matches_of x words) same (has (ap is_simple same ∙ app_is_simple)).0 in
+    ap (λ (k : Kinds). unless_fault k (matches_of app words)) none ∙ ap command_of_rows (sym found)
+
+-- without one of the numbers there is no command
+no_second : (f : ℕ → ℕ → CommandState) (limit : Option ℕ) → of_numbers f limit None ≡ None
+no_second f None = refl
+no_second f (Some n) = refl
+
+module _ (rows : List Row) where
+  pub no_limit : number_value most_steps (value_of (codes "limit") rows) ≡ None → command_of_rows rows ≡ None
+  no_limit none = ap (λ limit. of_numbers (with_numbers rows) limit (number_value most_rounds (value_of (codes "generate") rows))) none
+
+  pub no_rounds : number_value most_rounds (value_of (codes "generate") rows) ≡ None → command_of_rows rows ≡ None
+  no_rounds none =
+      ap (of_numbers (with_numbers rows) (number_value most_steps (value_of (codes "limit") rows))) none
+      ∙ no_second (with_numbers rows) (number_value most_steps (value_of (codes "limit") rows))
+
+  -- and with both there is one
+  pub both_numbers : (limit generate : ℕ) → number_value most_steps (value_of (codes "limit") rows) ≡ Some limit
+      → number_value most_rounds (value_of (codes "generate") rows) ≡ Some generate → command_of_rows rows ≡ Some (with_numbers rows limit generate)
+  both_numbers limit generate one two =
+      ap (λ a. of_numbers (with_numbers rows) a (number_value most_rounds (value_of (codes "generate") rows))) one
+      ∙ ap (of_numbers (with_numbers rows) (Some limit)) two

@@ -1,0 +1,38 @@
+-- What a fetch tells of the file of a module.
+use Rattle.std.proofs.Common.{◌≡◌, ℕ, ◌<◌, ◌≤◌, true, false, cond, List, Option, Some, None, refl, sym, ap, subst, arith, length}
+use Rattle.std.specs.Prelude.{IfSome, IsSomeAnd, nat_lt}
+use Rattle.std.specs.Str.{IsUtf8, is_utf8}
+use Rattle.std.proofs.lemmas.Str.{IsUtf8-from_is_utf8, is_utf8-from_IsUtf8}
+use Rattle.std.proofs.lemmas.Bool.Decides.{nat_tests}
+use Rattle.wind_base.specs.Limits.{longest_module_file}
+use Rattle.wind_outside.specs.Files.{Files}
+use Rattle.live_loading.specs.Said.{FileSaid, Held, Missing, TooLong, said_by}
+use Rattle.wind_session.specs.Modules.{IsSaidBy}
+use Rattle.wind_session.proofs.PlanLemmas.{found_entry, missing_entry, long_entry}
+
+-- a name that is a text, and one that isn't
+pub of_text : (files : Option Files) (name path : List ℕ) (said : FileSaid) → IsUtf8 name → IsSaidBy true files path said → IsSaidBy (is_utf8 name) files path said
+of_text files name path said text h = subst (λ b. IsSaidBy b files path said) (sym (is_utf8-from_IsUtf8 name text)) h
+
+pub of_no_text : (files : Option Files) (name path : List ℕ) → (IsUtf8 name → ⊥) → IsSaidBy (is_utf8 name) files path Missing
+of_no_text files name path none =
+    elim (is_utf8 name) as (λ b. is_utf8 name ≡ b → IsSaidBy b files path Missing) [
+      | true ↦ λ e. absurd (none (IsUtf8-from_is_utf8 name e))
+      | false ↦ λ e. refl
+    ] refl
+
+-- it was found, it isn't there, it is too long
+pub found_said : (files : Option Files) (path bytes : List ℕ) → IfSome files (λ held. (held path ≡ Some bytes) × (length bytes ≤ longest_module_file)) → length bytes ≤ longest_module_file → IsSaidBy true files path (Held bytes)
+found_said files path bytes h within =
+    let short : nat_lt longest_module_file (length bytes) ≡ false = grind (arith, nat_tests, within) in
+    (Some bytes, found_entry longest_module_file files path bytes h, sym (ap (λ b. cond b TooLong (Held bytes)) short))
+
+pub missing_said : (files : Option Files) (path : List ℕ) → IfSome files (λ held. held path ≡ None) → IsSaidBy true files path Missing
+missing_said files path h = (None, missing_entry files path h, refl)
+
+says_long : (file : Option (List ℕ)) → IsSomeAnd file (λ bytes. longest_module_file < length bytes) → TooLong ≡ said_by file
+says_long None h = elim h [ ]
+says_long (Some bytes) h = let long : nat_lt longest_module_file (length bytes) ≡ true = grind (arith, nat_tests, h) in sym (ap (λ b. cond b TooLong (Held bytes)) long)
+
+pub long_said : (files : Option Files) (path : List ℕ) → IfSome files (λ held. IsSomeAnd (held path) (λ bytes. longest_module_file < length bytes)) → IsSaidBy true files path TooLong
+long_said files path h = let long = long_entry longest_module_file files path h in (long.0, long.1, says_long long.0 long.2)

@@ -1,0 +1,33 @@
+use Rattle.std.proofs.Common.{◌∙◌, true, sym, ap, subst}
+use Rattle.std.specs.Str.{IsUtf8}
+use Rattle.live_loading.specs.Said.{Held, TooLong, Missing}
+use Rattle.wind_session.specs.Modules.{IsSaidBy, module_path}
+use Rattle.wind_session.proofs.ModuleLemmas.{of_text, of_no_text, found_said, missing_said, long_said}
+use Rattle.wind_session.proofs.modules.fetched_module.Goals as goal
+
+-- the name is no text
+pub returns-in_default-clause-said : goal.returns-in_default-clause-said
+returns-in_default-clause-said g c =
+    of_no_text (g.F.Folder.files c.args.folder.now) c.args.name.now (module_path c.args.modules.now c.args.name.now) (λ text. c.in_default.ensures.cases.0 (subst IsUtf8 (sym c.bytes.ensures.value) text))
+
+-- what a fetch from its path tells
+pub returns-in-Found-clause-said : goal.returns-in-Found-clause-said
+returns-in-Found-clause-said g c =
+    let files = g.F.Folder.files c.args.folder.now in
+    let at = c.deref.ensures ∙ c.in-Ok-module_path.ensures ∙ ap (module_path c.args.modules.now) (c.in-Ok.ensures.cases.0 ∙ c.bytes.ensures.value) in
+    of_text files c.args.name.now (module_path c.args.modules.now c.args.name.now) (Held c.in-Found.bytes.items) (subst IsUtf8 c.bytes.ensures.value c.in-Ok.ensures.cases.1)
+    (subst (λ path. IsSaidBy true files path (Held c.in-Found.bytes.items)) at (found_said files c.deref.result.now c.in-Found.bytes.items c.in-Found.ensures.told c.in-Found.ensures.within))
+
+pub returns-in-Missing-clause-said : goal.returns-in-Missing-clause-said
+returns-in-Missing-clause-said g c =
+    let files = g.F.Folder.files c.args.folder.now in
+    let at = c.deref.ensures ∙ c.in-Ok-module_path.ensures ∙ ap (module_path c.args.modules.now) (c.in-Ok.ensures.cases.0 ∙ c.bytes.ensures.value) in
+    of_text files c.args.name.now (module_path c.args.modules.now c.args.name.now) Missing (subst IsUtf8 c.bytes.ensures.value c.in-Ok.ensures.cases.1)
+    (subst (λ path. IsSaidBy true files path Missing) at (missing_said files c.deref.result.now c.in-Missing.ensures.told))
+
+pub returns-in-TooLong-clause-said : goal.returns-in-TooLong-clause-said
+returns-in-TooLong-clause-said g c =
+    let files = g.F.Folder.files c.args.folder.now in
+    let at = c.deref.ensures ∙ c.in-Ok-module_path.ensures ∙ ap (module_path c.args.modules.now) (c.in-Ok.ensures.cases.0 ∙ c.bytes.ensures.value) in
+    of_text files c.args.name.now (module_path c.args.modules.now c.args.name.now) TooLong (subst IsUtf8 c.bytes.ensures.value c.in-Ok.ensures.cases.1)
+    (subst (λ path. IsSaidBy true files path TooLong) at (long_said files c.deref.result.now c.in-TooLong.ensures.told))

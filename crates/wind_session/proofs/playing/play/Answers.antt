@@ -1,0 +1,33 @@
+use Rattle.std.proofs.Common.{Bor, List, Option, map, refl, sym, subst, ℕ}
+use Rattle.wind_outside.specs.Counts.{Rose}
+use Rattle.wind_session.specs.Command.{CommandState, command_of}
+use Rattle.wind_session.specs.Headline.{IsComplete}
+use Rattle.wind_session.specs.Plan.{Refuse}
+use Rattle.wind_session.specs.Texts.{memory_text}
+use Rattle.wind_session.specs.declared.ending.Status.TheVariants as status
+use Rattle.wind_session.proofs.PlanLemmas.{some_plan}
+use Rattle.wind_session.proofs.ToldLemmas.{memory_is_text}
+use Rattle.wind_session.proofs.playing.play.Goals as goal
+
+-- words that are no command
+pub returns-in-Err-Usage-clause-machine : goal.returns-in-Err-Usage-clause-machine
+returns-in-Err-Usage-clause-machine g c =
+    rw c.refused.ensures (rw (c.in-Err-Usage.ensures.usage (λ e. cc)) (record { plan = Refuse status.Usage; planned = refl; leaves = (refl, refl, refl) }))
+
+-- want of memory, before it is known what the words are
+pub returns-in-Err-NoMemory-clause-machine : goal.returns-in-Err-NoMemory-clause-machine
+returns-in-Err-NoMemory-clause-machine g c =
+    let some = some_plan (g.F.Folder.files c.args.folder.now) (command_of (map {A = Bor (List ℕ)} {B = List ℕ} (λ w. w.now) c.args.words.now)) in
+    rw c.refused-in-Err-NoMemory.ensures (record { plan = some.0; planned = some.1; leaves = (refl, refl, tt) })
+
+pub returns-in-Err-NoMemory-clause-err : goal.returns-in-Err-NoMemory-clause-err
+returns-in-Err-NoMemory-clause-err g c =
+    rw c.refused-in-Err-NoMemory.ensures (record { text = memory_text; text_is = memory_is_text _; told = c.tell_no_memory.ensures })
+
+-- it is complete as the session of its command is
+pub returns-clause-complete : goal.returns-clause-complete
+returns-clause-complete g c =
+    subst (λ (o : Option CommandState). IsComplete c.session-ending.result.status o (g.F.Folder.files c.args.folder.now)
+    (Rose (g.F.Folder.faults c.args.folder.now) (g.F.Folder.faults c.session-ending.new.folder))
+    (Rose (g.O.Sink.faults c.args.out.now) (g.O.Sink.faults c.session-ending.new.out)))
+    (sym c.in-Ok.ensures.value) c.session-ending.ensures.complete

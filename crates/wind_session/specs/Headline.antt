@@ -1,0 +1,142 @@
+-- What playing a session leaves.
+use Rattle.std.specs.Prelude.{◌≡◌, ◌≢◌, ◌⊎◌, ℕ, zero, suc, List, [], Option, Vec, Some, None}
+use Rattle.std.specs.declared.dyn_box.DynBox.{DynBox}
+use Rattle.std.specs.declared.alloc.Global.{Global}
+use Rattle.wind_outside.specs.Devices.{DeviceState}
+use Rattle.wind_outside.specs.Files.{Files}
+use Rattle.wind_outside.specs.Told.{Appended, AppendedFront}
+use Rattle.wind_machine.specs.State.{State}
+use Rattle.wind_machine.specs.Good.{Good}
+use Rattle.wind_machine.specs.Instants.{IsInstant}
+use Rattle.board_player.specs.declared.board.Board.{Board}
+use Rattle.wind_machine.specs.Machine.{opening}
+use Rattle.wind_machine.specs.Run.{Answers}
+use Rattle.wind_session.specs.Modules.{Shelf}
+use Rattle.wind_session.specs.Runs.{Made, Ran}
+use Rattle.wind_session.specs.Generated.{summary}
+use Rattle.wind_session.specs.Status.{status_number}
+use Rattle.wind_session.specs.Command.{CommandState}
+use Rattle.tick_file.specs.Schedule.{Timetable}
+use Rattle.wind_session.specs.Plan.{Plan, Refuse, Start, IsEntry, IsFilePlan, IsPlanOf, IsPlan, plan_file, plan_of}
+use Rattle.wind_session.specs.declared.run.RunEnd.{RunEnd}
+use Rattle.wind_session.specs.declared.run.RunEnd.TheVariants as ends
+use Rattle.wind_session.specs.declared.ending.Status.{Status}
+use Rattle.wind_session.specs.declared.ending.Status.TheVariants as status
+use Rattle.wind_session.specs.declared.ending.Which.{Which}
+use Rattle.wind_session.specs.declared.ending.Stand.{Stand}
+use Rattle.wind_session.specs.declared.ending.Stand.TheVariants as stands
+use Rattle.wind_session.specs.declared.ending.Ending.{Ending}
+
+-- a status without a board: want of memory is free, a fault of reading needs the folder's count to have risen, and every other is as planned
+abbrev pub IsRefusal : Status → Plan → Type 0 → Type 0
+IsRefusal status.NoMemory plan rose = Unit {0}
+IsRefusal status.ReadFault plan rose = rose
+IsRefusal status.Quiet plan rose = ⊥
+IsRefusal status.Limit plan rose = ⊥
+IsRefusal status.WriteFault plan rose = ⊥
+IsRefusal s plan rose = plan ≡ Refuse s
+
+-- the status refuses a file of that name, whatever would follow it
+pub record IsUnread (s : Status) (which : Which) (files : Option Files) (name : List ℕ) (rose : Type 0) : Type 0 where
+  pub file : Option (List ℕ)
+  pub told : IsEntry files name file
+  pub refused : (next : List ℕ → Plan) → IsRefusal s (plan_file which next file) rose
+
+-- that a fetch failed: the folder's count rose; of a generated session nothing is fetched
+abbrev pub fetch_fault : ℕ → Type 0 → Type 0
+fetch_fault zero rose = rose
+fetch_fault (suc n) rose = ⊥
+
+-- the status refuses what the two files of a command ask for
+abbrev pub RefusesFiles : Status → Option Files → CommandState → Type 0 → Type 0
+RefusesFiles s files command rose = (plan : Plan) × IsFilePlan files command plan × IsRefusal s plan rose
+
+-- the status refuses what a command asks for
+abbrev pub Refuses : Status → Option Files → CommandState → Type 0 → Type 0
+Refuses s files command rose = (plan : Plan) × IsPlanOf command.generate files command plan × IsRefusal s plan (fetch_fault command.generate rose)
+
+-- the status of a run
+abbrev pub status_of : RunEnd → Status
+status_of ends.Quiet = status.Quiet
+status_of ends.Limit = status.Limit
+status_of ends.ReadFault = status.ReadFault
+status_of ends.WriteFault = status.WriteFault
+status_of ends.NoMemory = status.NoMemory
+
+-- how many steps a session makes at most, and with how many rounds it is generated
+abbrev pub limit_of : Option CommandState → ℕ
+limit_of None = 0
+limit_of (Some command) = command.limit
+
+abbrev pub rounds_of : Option CommandState → ℕ
+rounds_of None = 0
+rounds_of (Some command) = command.generate
+
+-- and where its modules are
+abbrev pub modules_of : Option CommandState → List ℕ
+modules_of None = []
+modules_of (Some command) = command.modules
+
+abbrev pub shelf_of : Option Files → Option CommandState → Shelf
+shelf_of files command = record { files = files; name = modules_of command }
+
+-- the sink gained the line that sums a run up, or a front of it where a put failed; of a run that was given up it gained nothing
+abbrev pub IsSummed : RunEnd → Status → List ℕ → Option (List ℕ) → Option (List ℕ) → Type 0
+IsSummed ends.ReadFault s line old new = (s ≡ status.ReadFault) × (new ≡ old)
+IsSummed ends.NoMemory s line old new = (s ≡ status.NoMemory) × (new ≡ old)
+IsSummed end s line old new = ((s ≡ status_of end) × Appended old new line) ⊎ ((s ≡ status.WriteFault) × AppendedFront old new line)
+
+-- a run of a generated session of so many rounds, of which one line is put
+pub record SumsUp (n : ℕ) (s : Status) (end : RunEnd) (shelf : Shelf) (start : State) (limit : ℕ) (board : State) (old new : Option (List ℕ)) : Type 0 where
+  pub said : Answers
+  pub k : ℕ
+  pub made : Made end shelf said start limit k board
+  pub summed : IsSummed end s (summary n said start k (status_number (status_of end))) old new
+  pub all_put : end ≢ ends.WriteFault
+
+-- what a run leaves: what its steps wrote, or the line of a generated session
+abbrev pub IsLeft : ℕ → Status → RunEnd → Shelf → State → ℕ → State → Option (List ℕ) → Option (List ℕ) → Type 0
+IsLeft zero s end shelf start limit board old new = (s ≡ status_of end) × Ran end shelf start limit board old new
+IsLeft (suc n) s end shelf start limit board old new = SumsUp (suc n) s end shelf start limit board old new
+
+-- a board was played: it is that of the wind machine, started with the console, the events of the tick file and these devices, and with the files of modules that it asked for
+pub record Played (s : Status) (plan : Plan) (rounds limit : ℕ) (shelf : Shelf) (devices : List (Option DeviceState)) (board : State) (old new : Option (List ℕ)) : Type 0 where
+  pub end : RunEnd
+  pub console : List ℕ
+  pub schedule : Timetable
+  pub planned : plan ≡ Start console schedule
+  pub left : IsLeft rounds s end shelf (opening console schedule devices) limit board old new
+
+-- what is left: the slots as they were and nothing written, or the board of a run
+abbrev pub Leaves : {I : Type 0} {X : I → Type 0} → (Board I X → State) → Status → Stand I X → Plan → ℕ → ℕ → Shelf → Type 0 → Vec (Option (DynBox I Global X)) Global → List (Option DeviceState) → Option (List ℕ) → Option (List ℕ) → Type 0
+Leaves state s (stands.NotBooted back) plan rounds limit shelf fault slots devices old new = (back ≡ slots) × (new ≡ old) × IsRefusal s plan fault
+Leaves state s (stands.Booted board) plan rounds limit shelf fault slots devices old new = Played s plan rounds limit shelf devices (state board) old new
+
+-- playing a command leaves what the wind machine leaves; `rose` says that the folder's count of faults rose
+pub record Plays {I : Type 0} {X : I → Type 0} (state : Board I X → State) (ending : Ending I X) (command : Option CommandState) (files : Option Files) (rose : Type 0) (slots : Vec (Option (DynBox I Global X)) Global) (devices : List (Option DeviceState)) (old new : Option (List ℕ)) : Type 0 where
+  pub plan : Plan
+  pub planned : IsPlan files command plan
+  pub leaves : Leaves state ending.status ending.stand plan (rounds_of command) (limit_of command) (shelf_of files command) (fetch_fault (rounds_of command) rose) slots devices old new
+
+-- the board that is left has the kept facts, and what is so at each instant
+abbrev pub IsKept : {I : Type 0} {X : I → Type 0} → (Board I X → State) → Stand I X → Type 0
+IsKept state (stands.NotBooted back) = Unit {0}
+IsKept state (stands.Booted board) = Good (state board) × IsInstant (state board).world
+
+-- a status of a session that was played, or for which memory was short
+abbrev pub IsPlayed : Status → Type 0
+IsPlayed status.Quiet = Unit {0}
+IsPlayed status.Limit = Unit {0}
+IsPlayed status.NoMemory = Unit {0}
+IsPlayed s = ⊥
+
+-- a session is there to play: the two files of a told folder, or a generated one
+abbrev pub IsThere : ℕ → CommandState → Option Files → Type 0
+IsThere zero command None = ⊥
+IsThere zero command (Some held) = (console : List ℕ) × (schedule : Timetable) × (plan_of (held command.console) (held command.ticks) ≡ Start console schedule)
+IsThere (suc n) command files = Unit {0}
+
+-- with a command, a session that is there and no fault, it is played
+abbrev pub IsComplete : Status → Option CommandState → Option Files → Type 0 → Type 0 → Type 0
+IsComplete s None files folder_rose out_rose = Unit {0}
+IsComplete s (Some command) files folder_rose out_rose = IsThere command.generate command files → (folder_rose → ⊥) → (out_rose → ⊥) → IsPlayed s

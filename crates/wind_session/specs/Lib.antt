@@ -1,0 +1,10 @@
+pub mod Command
+pub mod Generated
+pub mod Headline
+pub mod Laws
+pub mod Modules
+pub mod Plan
+pub mod Runs
+pub mod Status
+pub mod Texts
+pub mod Words

@@ -1,0 +1,63 @@
+-- What a run of the wind machine leaves.
+use Rattle.std.specs.Prelude.{◌≡◌, ◌≢◌, ℕ, suc, ◌<◌, List, [], ◌++◌, Option, IsSome, Bool, true, false, take, length}
+use Rattle.wind_outside.specs.Told.{Appended}
+use Rattle.wind_machine.specs.State.{State}
+use Rattle.wind_machine.specs.Machine.{file_asked, IsOver, may_lack_memory}
+use Rattle.wind_machine.specs.Run.{Answers, after, text, IsPart}
+use Rattle.wind_session.specs.Modules.{Shelf, AreSaid}
+use Rattle.wind_session.specs.declared.run.RunEnd.{RunEnd}
+use Rattle.wind_session.specs.declared.run.RunEnd.TheVariants as ends
+
+-- how a run of at most n steps from s ends behind k steps: with no further step, with n, where the file that the next step asks for can't be read, or for want of memory where the next step may lack it
+abbrev pub IsEnd : RunEnd → Answers → State → ℕ → ℕ → Type 0
+IsEnd ends.Quiet said s n k = (k < n) × IsOver (after said s k)
+IsEnd ends.Limit said s n k = k ≡ n
+IsEnd ends.ReadFault said s n k = (k < n) × IsSome (file_asked (after said s k))
+IsEnd ends.WriteFault said s n k = Unit {0}
+IsEnd ends.NoMemory said s n k = (k < n) × (may_lack_memory (after said s k) ≡ true)
+
+-- the last of k steps wrote something, of which the sink gained a part, behind all that the steps before wrote
+pub record IsCutOff (said : Answers) (s : State) (k : ℕ) (old new : Option (List ℕ)) : Type 0 where
+  pub before : ℕ
+  pub last : k ≡ suc before
+  pub wrote : (after said s k).world.output ≢ []
+  pub part : ℕ
+  pub gained : Appended old new (text said s before ++ take part (after said s k).world.output)
+
+-- what the sink has gained behind k steps: all that they wrote, unless a put failed
+abbrev pub IsWritten : RunEnd → Answers → State → ℕ → Option (List ℕ) → Option (List ℕ) → Type 0
+IsWritten ends.WriteFault said s k old new = IsCutOff said s k old new
+IsWritten ends.Quiet said s k old new = Appended old new (text said s k)
+IsWritten ends.Limit said s k old new = Appended old new (text said s k)
+IsWritten ends.ReadFault said s k old new = Appended old new (text said s k)
+IsWritten ends.NoMemory said s k old new = Appended old new (text said s k)
+
+-- the run was given up: a file could not be read, or memory ran out
+abbrev pub is_given_up : RunEnd → Bool
+is_given_up ends.ReadFault = true
+is_given_up ends.NoMemory = true
+is_given_up end = false
+
+-- a run of at most n steps from s ended so behind k steps, and left this board; the files that it asked for were as the folder of modules says
+pub record Made (end : RunEnd) (shelf : Shelf) (said : Answers) (s : State) (n k : ℕ) (board : State) : Type 0 where
+  pub counted : board.steps ≡ k
+  pub answers : AreSaid shelf said s k
+  pub part : IsPart said s n k
+  pub state : board ≡ after said s k
+  pub ended : IsEnd end said s n k
+
+-- it left these bytes too
+pub record Ran (end : RunEnd) (shelf : Shelf) (s : State) (n : ℕ) (board : State) (old new : Option (List ℕ)) : Type 0 where
+  -- what was said of the files, and how many steps were made
+  pub said : Answers
+  pub k : ℕ
+  pub made : Made end shelf said s n k board
+  pub written : IsWritten end said s k old new
+
+-- or it was made without a word, and what its steps wrote has so many bytes in all
+pub record Counted (end : RunEnd) (shelf : Shelf) (s : State) (n bytes : ℕ) (board : State) : Type 0 where
+  pub said : Answers
+  pub k : ℕ
+  pub made : Made end shelf said s n k board
+  pub bytes_are : bytes ≡ length (text said s k)
+  pub all_put : end ≢ ends.WriteFault

@@ -1,0 +1,166 @@
+//! The words of the command line.
+
+ghost use Rattle.std.specs.Prelude.{◌≡◌, ◌≢◌, ◌≤◌, IfOk, IfErr, IfSome, Some, None, false, map};
+ghost use Rattle.clap.specs.Words.{app_of, found_of, rows_of, rule_of};
+ghost use Rattle.wind_base.specs.Limits.{most_steps};
+ghost use Rattle.generated_session.specs.Session.{most_rounds};
+ghost use Rattle.wind_session.specs.Command.{app as app_lem, command_of as command_of_lem, number_value, option_rule, value_of as value_of_lem};
+ghost use Rattle.wind_session.specs.Words.{command_state};
+ghost use Rattle.wind_session.specs.declared.command.CommandErr.TheVariants as errors;
+
+use clap::error::ErrorKind;
+use clap::{Arg, ArgMatches, Error};
+use std::alloc::{AllocError, Global};
+use wind_base::decimal;
+use wind_base::limits::STEPS;
+
+/// What the words ask for.
+#[derive(Clone, Copy)]
+pub struct Command<'a> {
+    /// The name of the console file.
+    pub console: &'a str,
+    /// The name of the tick file.
+    pub ticks: &'a str,
+    /// The name of the folder of modules.
+    pub modules: &'a str,
+    /// How many steps the run makes at most.
+    pub limit: u64,
+    /// With how many rounds the session is generated, or 0 where its files are read.
+    pub generate: u32,
+}
+
+/// Why there is no command.
+#[derive(Debug, Drop)]
+pub enum CommandErr {
+    /// The words are not the command's, or ask for help; the text for the user.
+    Usage(String),
+    /// Host memory ran out.
+    NoMemory,
+}
+
+impl From<AllocError> for CommandErr {
+    ghost use Rattle.std.specs.Prelude.{◌≡◌};
+    ghost use Rattle.wind_session.specs.declared.command.CommandErr.TheVariants as errors;
+
+    ghost from_gives = { λ _ e. e ≡ errors.NoMemory };
+
+    fn from(_error: AllocError) -> CommandErr {
+        CommandErr::NoMemory
+    }
+}
+
+// The most digits of a number.
+const NUMBER_DIGITS: usize = 13;
+
+// The most rounds that a session is generated with.
+const ROUNDS: u64 = 10_000;
+
+// What is told of a number out of form.
+const BAD_LIMIT: &str = "'--limit <N>' takes 1 to 13 digits, and at most 1000000000000";
+
+const BAD_ROUNDS: &str = "'--generate <N>' takes 1 to 13 digits, and at most 10000";
+
+// A number of at most `most`, in decimal digits.
+fn number(text: &str, most: u64) -> Option<u64>
+    ensures value { result ≡ number_value most text.now }
+    ensures within { IfSome result (λ n. n ≤ most) }
+{
+    if text.len() > NUMBER_DIGITS {
+        return None;
+    }
+    decimal(text.as_bytes(), most)
+}
+
+// An option with one value.
+fn option<'a>(
+    alloc: Global,
+    name: &'a str,
+    value: &'a str,
+    default: &'a str,
+    help: &'a str,
+) -> Arg<'a>
+    ensures rule { rule_of result ≡ option_rule name.now default.now }
+    ensures local { result.global ≡ false }
+{
+    Arg::new(alloc, name)
+        .long(name)
+        .value_name(value)
+        .default_value(default)
+        .help(help)
+}
+
+// The command line, as clap reads it.
+#[tactic(auto, unfolding(crate::specs::Command::app))]
+fn app<'a>(alloc: Global) -> Result<clap::Command<'a>, AllocError>
+    ensures { IfOk result (λ c. app_of c ≡ app_lem) }
+{
+    clap::Command::new(alloc, "windplay")
+        .about("Plays a session of a wind kernel's shell on a modelled board")
+        .arg(option(alloc, "console", "FILE", "console.txt", "The console file"))?
+        .arg(option(alloc, "ticks", "FILE", "ticks.txt", "The tick file"))?
+        .arg(option(alloc, "modules", "DIR", ".", "The folder of modules"))?
+        .arg(option(
+            alloc,
+            "limit",
+            "N",
+            "1000000",
+            "The most steps to make, up to 1000000000000",
+        ))?
+        .arg(option(
+            alloc,
+            "generate",
+            "N",
+            "0",
+            "Plays a session of N generated rounds, up to 10000, and tells of it in one line",
+        ))
+}
+
+// The value of an option.
+fn value_of<'a>(matches: &ArgMatches<'a>, name: &str) -> &'a str
+    ensures { result.now ≡ value_of_lem name.now (rows_of (found_of matches.now)) }
+{
+    matches.get_str(name).unwrap_or("")
+}
+
+// What clap tells of the words.
+fn usage(alloc: Global, error: &Error) -> CommandErr {
+    match format!(in alloc; "{error}") {
+        Ok(text) => CommandErr::Usage(text),
+        Err(_) => CommandErr::NoMemory,
+    }
+}
+
+// What is told of a number out of form, as clap tells it.
+fn bad_number(alloc: Global, app: &mut clap::Command<'_>, text: &str) -> CommandErr {
+    match app.error(ErrorKind::ValueValidation, text) {
+        Ok(error) => usage(alloc, &error),
+        Err(_) => CommandErr::NoMemory,
+    }
+}
+
+/// The command of these words, of which the first is the program's name.
+pub fn command_of<'a>(alloc: Global, words: &'a [&'a str]) -> Result<Command<'a>, CommandErr>
+    ensures value { IfOk result (λ c. command_of_lem (map (λ w. w.now) words.now) ≡ Some (command_state c)) }
+    ensures usage { IfErr result (λ e. e ≢ errors.NoMemory → command_of_lem (map (λ w. w.now) words.now) ≡ None) }
+    ensures within { IfOk result (λ c. (c.limit ≤ most_steps) × (c.generate ≤ most_rounds)) }
+{
+    let mut app = app(alloc)?;
+    let matches = match app.try_get_matches_from_mut(words) {
+        Ok(matches) => matches,
+        Err(error) if error.kind() == ErrorKind::OutOfMemory => return Err(CommandErr::NoMemory),
+        Err(error) => return Err(usage(alloc, &error)),
+    };
+    let Some(limit) = number(value_of(&matches, "limit"), STEPS) else {
+        return Err(bad_number(alloc, &mut app, BAD_LIMIT));
+    };
+    let Some(generate) = number(value_of(&matches, "generate"), ROUNDS) else {
+        return Err(bad_number(alloc, &mut app, BAD_ROUNDS));
+    };
+    Ok(Command {
+        console: value_of(&matches, "console"),
+        ticks: value_of(&matches, "ticks"),
+        modules: value_of(&matches, "modules"),
+        limit,
+        generate: generate as u32,
+    })
+}

@@ -1,0 +1,75 @@
+//! How a session ends.
+
+ghost use Rattle.std.specs.Prelude.{◌≡◌};
+
+use board_player::Board;
+use wind_outside::Slots;
+
+/// The files that a session names.
+#[derive(Clone, Copy, Debug, PartialEq, Eq)]
+pub enum Which {
+    /// The console file.
+    Console,
+    /// The tick file.
+    Ticks,
+}
+
+/// The status of a session.
+#[derive(Clone, Copy, Debug, PartialEq, Eq)]
+pub enum Status {
+    /// The run ended with no step left.
+    Quiet,
+    /// The words are not the command's.
+    Usage,
+    /// A file is not there.
+    Absent(Which),
+    /// The limit of steps was reached.
+    Limit,
+    /// Reading failed.
+    ReadFault,
+    /// Writing failed.
+    WriteFault,
+    /// Host memory ran out.
+    NoMemory,
+    /// A line of the tick file is outside its grammar; the first one, counted from 1.
+    BadTicks(u64),
+    /// A file is too long.
+    TooLong(Which),
+}
+
+impl Status {
+    ghost use Rattle.wind_session.specs.Status.{status_number};
+
+    /// The number with which the program ends.
+    pub fn number(self) -> u8
+        ensures { result ≡ status_number self }
+    {
+        match self {
+            Status::Quiet => 0,
+            Status::Usage => 1,
+            Status::Absent(_) => 2,
+            Status::Limit => 3,
+            Status::ReadFault => 4,
+            Status::WriteFault => 5,
+            Status::NoMemory => 6,
+            Status::BadTicks(_) => 7,
+            Status::TooLong(_) => 8,
+        }
+    }
+}
+
+/// What is left of the board.
+#[derive(Drop)]
+pub enum Stand {
+    /// No board was booted; the devices as they were.
+    NotBooted(Slots),
+    /// The board, as the run left it.
+    Booted(Board),
+}
+
+/// How a session ended.
+#[derive(Drop)]
+pub struct Ending {
+    pub status: Status,
+    pub stand: Stand,
+}

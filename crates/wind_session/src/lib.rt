@@ -1,0 +1,18 @@
+//! A session of the wind kernel's shell: what the words of a command ask for, the run of a board, and how it
+//! ended.
+#![tactic(auto)]
+
+mod command;
+mod ending;
+mod laws;
+mod modules;
+mod playing;
+mod report;
+mod run;
+
+pub use command::{Command, CommandErr, command_of};
+pub use ending::{Ending, Stand, Status, Which};
+pub use laws::words_law;
+pub use playing::play;
+pub use report::{tell, tell_no_memory, tell_usage};
+pub use run::{RunEnd, Tally, count_board, run_board};

@@ -1,0 +1,285 @@
+//! Plays a session.
+
+ghost use Rattle.std.specs.Prelude.{◌≡◌, ◌≢◌, ℕ, ◌<◌, ◌≤◌, ◌^◌, ◌↔◌, List, Some, None, OnOk, IfOk, IfErr, map, length};
+ghost use Rattle.wind_base.specs.Limits.{most_steps};
+ghost use Rattle.wind_outside.specs.Counts.{Rose};
+ghost use Rattle.wind_outside.specs.Devices.{slots_of};
+ghost use Rattle.board_player.specs.Seen.{seen};
+ghost use Rattle.generated_session.specs.Session.{most_rounds};
+ghost use Rattle.wind_session.specs.Command.{command_of as command_of_lem};
+ghost use Rattle.wind_session.specs.Words.{command_state};
+ghost use Rattle.wind_session.specs.Plan.{Start, IsFilePlan, IsPlanOf, IsHeld, plan_ticks, generated_plan};
+ghost use Rattle.wind_session.specs.Headline.{Plays, IsRefusal, IsUnread, RefusesFiles, Refuses, IsComplete, IsKept, IsLeft, SumsUp, status_of as status_of_lem};
+ghost use Rattle.wind_session.specs.Runs.{is_given_up as is_given_up_lem};
+ghost use Rattle.wind_session.specs.declared.run.RunEnd.{RunEnd};
+ghost use Rattle.wind_session.specs.Texts.{Tells};
+ghost use Rattle.wind_session.specs.declared.ending.Status.TheVariants as status;
+ghost use Rattle.wind_session.specs.declared.ending.Stand.TheVariants as stands;
+
+use crate::command::{Command, CommandErr, command_of};
+use crate::ending::{Ending, Stand, Status, Which};
+use crate::report::{tell, tell_no_memory, tell_usage};
+use crate::run::{RunEnd, count_board, run_board};
+use board_player::Board;
+use generated_session::Summary;
+use std::alloc::Global;
+use tick_file::{Schedule, TickErr, read_ticks};
+use wind_base::NoMemory;
+use wind_base::limits::TEXT_FILE_BYTES;
+use wind_machine::instant_law;
+use wind_outside::{Device, Fetched, Folder, Put, Sink, Slots};
+
+// A session without a board.
+fn refused(status: Status, devices: Slots) -> Ending
+    ensures { result ≡ record { status = status; stand = stands.NotBooted devices } }
+{
+    Ending {
+        status,
+        stand: Stand::NotBooted(devices),
+    }
+}
+
+// The status of a run.
+fn status_of(end: RunEnd) -> Status
+    ensures { result ≡ status_of_lem end }
+{
+    match end {
+        RunEnd::Quiet => Status::Quiet,
+        RunEnd::Limit => Status::Limit,
+        RunEnd::ReadFault => Status::ReadFault,
+        RunEnd::WriteFault => Status::WriteFault,
+        RunEnd::NoMemory => Status::NoMemory,
+    }
+}
+
+// Whether a run was given up.
+fn is_given_up(end: RunEnd) -> bool
+    ensures { result ≡ is_given_up_lem end }
+{
+    matches!(end, RunEnd::ReadFault | RunEnd::NoMemory)
+}
+
+// The file of this name, or why it is not read.
+fn fetched<F: Folder>(
+    alloc: Global,
+    folder: &mut F,
+    name: &str,
+    file: Which,
+) -> Result<Vec<u8>, Status>
+    ensures held { IfOk result (λ bytes. IsHeld (F.files folder.old) name.now bytes.items) }
+    ensures refused { IfErr result (λ s. IsUnread s file (F.files folder.old) name.now (Rose (F.faults folder.old) (F.faults folder.new))) }
+    ensures known { IfErr result (λ s. s ≢ status.Usage) }
+    ensures files { F.files folder.new ≡ F.files folder.old }
+    ensures faults { F.faults folder.old ≤ F.faults folder.new }
+{
+    match folder.fetch(alloc, name, TEXT_FILE_BYTES) {
+        Fetched::Found(bytes) => Ok(bytes),
+        Fetched::Missing => Err(Status::Absent(file)),
+        Fetched::TooLong => Err(Status::TooLong(file)),
+        Fetched::Failed => Err(Status::ReadFault),
+        Fetched::NoMemory => Err(Status::NoMemory),
+    }
+}
+
+// The schedule of a tick file, or why it is not played.
+fn schedule_of(alloc: Global, ticks: &[u8]) -> Result<Schedule, Status>
+    ensures read { IfOk result (λ schedule. (console : List ℕ) → plan_ticks console ticks.now
+        ≡ Start console schedule) }
+    ensures refused { IfErr result (λ s. (console : List ℕ) → IsRefusal s (plan_ticks console ticks.now) ⊥) }
+    ensures known { IfErr result (λ s. s ≢ status.Usage) }
+{
+    match read_ticks(alloc, ticks) {
+        Ok(schedule) => Ok(schedule),
+        Err(TickErr::BadLine(line)) => Err(Status::BadTicks(line)),
+        Err(TickErr::NoMemory) => Err(Status::NoMemory),
+    }
+}
+
+// What a session plays.
+#[derive(Drop)]
+struct Inputs {
+    console: Vec<u8>,
+    schedule: Schedule,
+}
+
+// The two files of a command, or why they are not played.
+fn files_of<F: Folder>(alloc: Global, command: &Command, folder: &mut F) -> Result<Inputs, Status>
+    ensures start { IfOk result (λ inputs. IsFilePlan (F.files folder.old) (command_state command.now) (Start inputs.console.items inputs.schedule)) }
+    ensures refused { IfErr result (λ s. RefusesFiles s (F.files folder.old) (command_state command.now) (Rose (F.faults folder.old) (F.faults folder.new))) }
+    ensures known { IfErr result (λ s. s ≢ status.Usage) }
+    ensures files { F.files folder.new ≡ F.files folder.old }
+    ensures faults { F.faults folder.old ≤ F.faults folder.new }
+{
+    let console = fetched(alloc, folder, command.console, Which::Console)?;
+    let ticks = fetched(alloc, folder, command.ticks, Which::Ticks)?;
+    let schedule = schedule_of(alloc, &ticks)?;
+    Ok(Inputs { console, schedule })
+}
+
+// The session of so many rounds. Only memory can lack.
+fn generated(alloc: Global, rounds: u32) -> Result<Inputs, NoMemory>
+    requires { rounds ≤ most_rounds }
+    ensures { IfOk result (λ inputs. Start inputs.console.items inputs.schedule ≡ generated_plan rounds) }
+{
+    let console = generated_session::console_of(alloc, rounds)?;
+    let schedule = generated_session::schedule_of(alloc, rounds)?;
+    Ok(Inputs { console, schedule })
+}
+
+// What to play, or why nothing is played.
+fn inputs_of<F: Folder>(alloc: Global, command: &Command, folder: &mut F) -> Result<Inputs, Status>
+    requires { command.now.generate ≤ most_rounds }
+    ensures start { IfOk result (λ inputs. IsPlanOf command.now.generate (F.files folder.old) (command_state command.now) (Start inputs.console.items inputs.schedule)) }
+    ensures refused { IfErr result (λ s. Refuses s (F.files folder.old) (command_state command.now) (Rose (F.faults folder.old) (F.faults folder.new))) }
+    ensures known { IfErr result (λ s. s ≢ status.Usage) }
+    ensures files { F.files folder.new ≡ F.files folder.old }
+    ensures faults { F.faults folder.old ≤ F.faults folder.new }
+{
+    if command.generate == 0 {
+        return files_of(alloc, command, folder);
+    }
+    let Ok(inputs) = generated(alloc, command.generate) else {
+        return Err(Status::NoMemory);
+    };
+    Ok(inputs)
+}
+
+// Plays the board of a generated session, and sums it up. The number of its status stands in the line.
+fn sum_up<F: Folder, O: Sink>(
+    alloc: Global,
+    command: &Command,
+    board: &mut Board,
+    folder: &mut F,
+    out: &mut O,
+) -> Status
+    requires fresh { (seen ⟦<dyn Device as Device>⟧ board.old).steps ≡ 0 }
+    requires limit { command.now.limit ≤ most_steps }
+    requires rounds { command.now.generate ≤ most_rounds }
+    ensures left { (end : RunEnd) × SumsUp command.now.generate result end
+        (record { files = F.files folder.old; name = command.now.modules.now })
+        (seen ⟦<dyn Device as Device>⟧ board.old) command.now.limit (seen ⟦<dyn Device as Device>⟧ board.new)
+        (O.bytes out.old) (O.bytes out.new) }
+    ensures read_fault { result ≡ status.ReadFault → Rose (F.faults folder.old) (F.faults folder.new) }
+    ensures fault { result ≡ status.WriteFault → Rose (O.faults out.old) (O.faults out.new) }
+    ensures files { F.files folder.new ≡ F.files folder.old }
+    ensures folder_faults { F.faults folder.old ≤ F.faults folder.new }
+{
+    let tally = count_board(alloc, board, folder, command.modules, command.limit);
+    let status = status_of(tally.end);
+    if is_given_up(tally.end) {
+        return status;
+    }
+    let summary = Summary {
+        rounds: command.generate,
+        bytes: tally.bytes,
+        steps: board.steps(),
+        ticks: board.ticks(),
+        status: status.number(),
+    };
+    match summary.put(out) {
+        Put::Done => status,
+        Put::Failed => Status::WriteFault,
+    }
+}
+
+// Plays the board of a session: what its steps write is put, or the line that sums a generated one up.
+fn played<F: Folder, O: Sink>(
+    alloc: Global,
+    command: &Command,
+    board: &mut Board,
+    folder: &mut F,
+    out: &mut O,
+) -> Status
+    requires fresh { (seen ⟦<dyn Device as Device>⟧ board.old).steps ≡ 0 }
+    requires limit { command.now.limit ≤ most_steps }
+    requires rounds { command.now.generate ≤ most_rounds }
+    ensures left { (end : RunEnd) × IsLeft command.now.generate result end
+        (record { files = F.files folder.old; name = command.now.modules.now })
+        (seen ⟦<dyn Device as Device>⟧ board.old) command.now.limit (seen ⟦<dyn Device as Device>⟧ board.new)
+        (O.bytes out.old) (O.bytes out.new) }
+    ensures read_fault { result ≡ status.ReadFault → Rose (F.faults folder.old) (F.faults folder.new) }
+    ensures fault { result ≡ status.WriteFault → Rose (O.faults out.old) (O.faults out.new) }
+    ensures files { F.files folder.new ≡ F.files folder.old }
+    ensures folder_faults { F.faults folder.old ≤ F.faults folder.new }
+{
+    if command.generate == 0 {
+        return status_of(run_board(alloc, board, folder, command.modules, out, command.limit));
+    }
+    sum_up(alloc, command, board, folder, out)
+}
+
+// Plays the session of a command.
+fn session<F: Folder, O: Sink>(
+    alloc: Global,
+    command: &Command,
+    folder: &mut F,
+    out: &mut O,
+    devices: Slots,
+) -> Ending
+    requires devices { length devices.items ≤ 16 }
+    requires limit { command.now.limit ≤ most_steps }
+    requires rounds { command.now.generate ≤ most_rounds }
+    ensures machine { Plays (seen ⟦<dyn Device as Device>⟧) result (Some (command_state command.now)) (F.files folder.old) (Rose (F.faults folder.old) (F.faults folder.new)) devices (slots_of kind_of words_of devices.items) (O.bytes out.old) (O.bytes out.new) }
+    ensures complete { IsComplete result.status (Some (command_state command.now)) (F.files folder.old) (Rose (F.faults folder.old) (F.faults folder.new)) (Rose (O.faults out.old) (O.faults out.new)) }
+    ensures known { result.status ≢ status.Usage }
+    ensures kept { IsKept (seen ⟦<dyn Device as Device>⟧) result.stand }
+    ensures read_fault { result.status ≡ status.ReadFault → Rose (F.faults folder.old) (F.faults folder.new) }
+    ensures write_fault { result.status ≡ status.WriteFault → Rose (O.faults out.old) (O.faults out.new) }
+    ensures files { F.files folder.new ≡ F.files folder.old }
+{
+    let inputs = match inputs_of(alloc, command, folder) {
+        Ok(inputs) => inputs,
+        Err(status) => return refused(status, devices),
+    };
+    let Inputs { console, schedule } = inputs;
+    let mut board = match Board::boot(alloc, devices, console, schedule) {
+        Ok(board) => board,
+        Err(devices) => return refused(Status::NoMemory, devices),
+    };
+    let status = played(alloc, command, &mut board, folder, out);
+    board.facts();
+    instant_law();
+    Ending {
+        status,
+        stand: Stand::Booted(board),
+    }
+}
+
+/// Plays the session that the words ask for: fetches the console file and the tick file from the folder,
+/// boots a board with the devices, and runs it until there is no further step, the limit is reached or
+/// a put fails. What the steps write goes to `out`, or of a generated session one line, and a text that tells how the session ended to `err`.
+pub fn play<'a, F: Folder, O: Sink, E: Sink>(
+    alloc: Global,
+    words: &'a [&'a str],
+    folder: &mut F,
+    out: &mut O,
+    err: &mut E,
+    devices: Slots,
+) -> Ending
+    requires { length devices.items ≤ 16 }
+    ensures machine { Plays (seen ⟦<dyn Device as Device>⟧) result (command_of_lem (map (λ w. w.now) words.now)) (F.files folder.old) (Rose (F.faults folder.old) (F.faults folder.new)) devices (slots_of kind_of words_of devices.items) (O.bytes out.old) (O.bytes out.new) }
+    ensures usage { result.status ≢ status.NoMemory →
+        ((result.status ≡ status.Usage) ↔ (command_of_lem (map (λ w. w.now) words.now)
+        ≡ None)) }
+    ensures complete { IsComplete result.status (command_of_lem (map (λ w. w.now) words.now)) (F.files folder.old) (Rose (F.faults folder.old) (F.faults folder.new)) (Rose (O.faults out.old) (O.faults out.new)) }
+    ensures kept { IsKept (seen ⟦<dyn Device as Device>⟧) result.stand }
+    ensures read_fault { result.status ≡ status.ReadFault → Rose (F.faults folder.old) (F.faults folder.new) }
+    ensures write_fault { result.status ≡ status.WriteFault → Rose (O.faults out.old) (O.faults out.new) }
+    ensures files { F.files folder.new ≡ F.files folder.old }
+    ensures err { Tells result.status (command_of_lem (map (λ w. w.now) words.now)) (E.bytes err.old) (E.bytes err.new) (Rose (E.faults err.old) (E.faults err.new)) }
+{
+    let command = match command_of(alloc, words) {
+        Ok(command) => command,
+        Err(CommandErr::Usage(text)) => {
+            tell_usage(err, &text);
+            return refused(Status::Usage, devices);
+        }
+        Err(CommandErr::NoMemory) => {
+            tell_no_memory(err);
+            return refused(Status::NoMemory, devices);
+        }
+    };
+    let ending = session(alloc, &command, folder, out, devices);
+    tell(err, &command, ending.status);
+    ending
+}

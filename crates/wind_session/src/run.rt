@@ -1,0 +1,136 @@
+//! The run of a board.
+
+ghost use Rattle.std.specs.Prelude.{◌≡◌, ◌≢◌, ◌^◌, ◌≤◌, []};
+ghost use Rattle.wind_base.specs.Limits.{most_steps};
+ghost use Rattle.wind_outside.specs.Counts.{Rose};
+ghost use Rattle.wind_outside.specs.Told.{Appended, AppendedFront};
+ghost use Rattle.wind_outside.specs.declared.sink.Put.TheVariants as puts;
+ghost use Rattle.board_player.specs.Seen.{seen};
+ghost use Rattle.wind_session.specs.Runs.{Ran, Counted};
+ghost use Rattle.wind_session.specs.declared.run.RunEnd.TheVariants as ends;
+
+use crate::modules::{Move, step};
+use board_player::Board;
+use std::alloc::Global;
+use wind_outside::{Device, Folder, Put, Sink};
+
+/// How a run ends.
+#[derive(Clone, Copy, Debug, PartialEq, Eq)]
+pub enum RunEnd {
+    /// There is no further step.
+    Quiet,
+    /// The limit of steps was reached.
+    Limit,
+    /// The file of a module could not be read.
+    ReadFault,
+    /// What a step wrote could not be put.
+    WriteFault,
+    /// Host memory ran out.
+    NoMemory,
+}
+
+// Puts what a step wrote, where it wrote something.
+fn put_some<O: Sink>(out: &mut O, bytes: &[u8]) -> Put
+    ensures done { result ≡ puts.Done → Appended (O.bytes out.old) (O.bytes out.new) bytes.now }
+    ensures part { result ≡ puts.Failed → AppendedFront (O.bytes out.old) (O.bytes out.new) bytes.now }
+    ensures some { result ≡ puts.Failed → bytes.now ≢ [] }
+    ensures failed { result ≡ puts.Failed → Rose (O.faults out.old) (O.faults out.new) }
+    ensures never_falls { O.faults out.old ≤ O.faults out.new }
+{
+    if bytes.is_empty() {
+        return Put::Done;
+    }
+    out.put(bytes)
+}
+
+/// Makes steps, at most as many as the limit, and puts what each of them writes. The modules that they ask for are fetched
+/// from the folder.
+pub fn run_board<F: Folder, O: Sink>(
+    alloc: Global,
+    board: &mut Board,
+    folder: &mut F,
+    modules: &str,
+    out: &mut O,
+    limit: u64,
+) -> RunEnd
+    requires fresh { (seen ⟦<dyn Device as Device>⟧ board.old).steps ≡ 0 }
+    requires bound { limit ≤ most_steps }
+    ensures ran { Ran result (record { files = F.files folder.old; name = modules.now })
+        (seen ⟦<dyn Device as Device>⟧ board.old) limit (seen ⟦<dyn Device as Device>⟧ board.new)
+        (O.bytes out.old) (O.bytes out.new) }
+    ensures read_fault { result ≡ ends.ReadFault → Rose (F.faults folder.old) (F.faults folder.new) }
+    ensures fault { result ≡ ends.WriteFault → Rose (O.faults out.old) (O.faults out.new) }
+    ensures files { F.files folder.new ≡ F.files folder.old }
+    ensures folder_faults { F.faults folder.old ≤ F.faults folder.new }
+    ensures faults { O.faults out.old ≤ O.faults out.new }
+{
+    for _i in 0..limit {
+        match step(alloc, board, folder, modules) {
+            Move::Made => {}
+            Move::Quiet => return RunEnd::Quiet,
+            Move::ReadFault => return RunEnd::ReadFault,
+            Move::NoMemory => return RunEnd::NoMemory,
+        }
+        match put_some(out, board.output()) {
+            Put::Done => {}
+            Put::Failed => return RunEnd::WriteFault,
+        }
+    }
+    RunEnd::Limit
+}
+
+/// A run that was counted, and not put.
+#[derive(Clone, Copy)]
+pub struct Tally {
+    /// How it ended.
+    pub end: RunEnd,
+    /// How many bytes its steps wrote in all.
+    pub bytes: u128,
+}
+
+/// Makes steps, at most as many as the limit, and counts what each of them writes. The modules that they ask for are
+/// fetched from the folder.
+pub fn count_board<F: Folder>(
+    alloc: Global,
+    board: &mut Board,
+    folder: &mut F,
+    modules: &str,
+    limit: u64,
+) -> Tally
+    requires fresh { (seen ⟦<dyn Device as Device>⟧ board.old).steps ≡ 0 }
+    requires bound { limit ≤ most_steps }
+    ensures counted { Counted result.end (record { files = F.files folder.old; name = modules.now })
+        (seen ⟦<dyn Device as Device>⟧ board.old) limit result.bytes (seen ⟦<dyn Device as Device>⟧ board.new) }
+    ensures read_fault { result.end ≡ ends.ReadFault → Rose (F.faults folder.old) (F.faults folder.new) }
+    ensures files { F.files folder.new ≡ F.files folder.old }
+    ensures folder_faults { F.faults folder.old ≤ F.faults folder.new }
+{
+    let mut bytes = 0;
+    for _i in 0..limit {
+        match step(alloc, board, folder, modules) {
+            Move::Made => bytes += board.output().len() as u128,
+            Move::Quiet => {
+                return Tally {
+                    end: RunEnd::Quiet,
+                    bytes,
+                };
+            }
+            Move::ReadFault => {
+                return Tally {
+                    end: RunEnd::ReadFault,
+                    bytes,
+                };
+            }
+            Move::NoMemory => {
+                return Tally {
+                    end: RunEnd::NoMemory,
+                    bytes,
+                };
+            }
+        }
+    }
+    Tally {
+        end: RunEnd::Limit,
+        bytes,
+    }
+}
