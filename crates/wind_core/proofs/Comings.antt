@@ -58,11 +58,11 @@ removed_keeps k who l r d kept waits ready delays = (
   subst IsKern (sym (removed_is k who l r d kept)) (without_keeps (the_view k) who kept.2),
   subst (AreQueued l r d) (sym (objects-without task_id k.tasks.rows who kept.1))
       (record {
-        waiting = waits
-            ∙ ap (λ m. without_waiter m who) kept.3.waiting
+        waits_held = waits
+            ∙ ap (λ m. without_waiter m who) kept.3.waits_held
             ∙ line_alike (without waiter_id (waits_of (objects k.tasks.rows)) who) (waits_of (without task_id (objects k.tasks.rows) who)) most_tasks (sym (waits_without (objects k.tasks.rows) who));
-        running = ready ∙ ap (λ o. urgent.without_task o who) kept.3.running ∙ ready_without (objects k.tasks.rows) who;
-        sleeping = delays ∙ ap (λ o. timed.without_task o who) kept.3.sleeping ∙ delayed_without (objects k.tasks.rows) who;
+        ready_held = ready ∙ ap (λ o. urgent.without_task o who) kept.3.ready_held ∙ ready_without (objects k.tasks.rows) who;
+        delays_held = delays ∙ ap (λ o. timed.without_task o who) kept.3.delays_held ∙ delayed_without (objects k.tasks.rows) who;
       }),
 )
 
@@ -92,10 +92,10 @@ added_queues : (k : Inside) (t : Task) (r : urgent.Order) → Kept k → t.since
 added_queues k t r kept since awake free ready e =
     let ts = objects k.tasks.rows in
     record {
-      waiting = kept.3.waiting ∙ line_alike (waits_of ts) (waits_of (ts ++ t ∷ [])) most_tasks (sym (waits_push ts t free));
-      running = e ∙ ap (λ o. urgent.with_task o (as_ready t)) kept.3.running
+      waits_held = kept.3.waits_held ∙ line_alike (waits_of ts) (waits_of (ts ++ t ∷ [])) most_tasks (sym (waits_push ts t free));
+      ready_held = e ∙ ap (λ o. urgent.with_task o (as_ready t)) kept.3.ready_held
           ∙ sym (ready_push ts t ready (All-weaker (λ u. u.since < k.next_since) (λ u. u.since < t.since) (λ u h. omega (arith, since, h)) ts kept.2.sinces));
-      sleeping = kept.3.sleeping ∙ sym (delayed_push ts t awake);
+      delays_held = kept.3.delays_held ∙ sym (delayed_push ts t awake);
     }
 
 pub added_keeps : (k : Inside) (t : Task) (r : urgent.Order) → Kept k → length (the_view k).tasks < 256 → k.ids ≤ 1048576 → t.id ≡ k.ids → t.since ≡ k.next_since → t.wake ≡ None → t.wait ≡ None
@@ -129,9 +129,9 @@ below_none (t ∷ ts) n below =
 
 pub new_ready : (k : Inside) (i : ℕ) → Kept k → i ≡ k.ids → urgent.pri_of k.ready.tasks i ≡ None
 new_ready k i kept own =
-    ap (λ o. urgent.pri_of o.tasks i) kept.3.running
+    ap (λ o. urgent.pri_of o.tasks i) kept.3.ready_held
     ∙ ready_absent (objects k.tasks.rows) i (below_none (objects k.tasks.rows) i (subst (λ n. All (λ t. t.id < n) (objects k.tasks.rows)) (sym own) kept.2.ids))
 
 pub ready_room : (k : Inside) → Kept k → length k.tasks.rows < 256 → length k.ready.tasks < k.ready.room
 ready_room k kept few =
-    subst (λ o. length o.tasks < o.room) (sym kept.3.running) (omega (arith, length-ready (objects k.tasks.rows), length-map k.tasks.rows (λ (r : ℕ × Task). r.1), few))
+    subst (λ o. length o.tasks < o.room) (sym kept.3.ready_held) (omega (arith, length-ready (objects k.tasks.rows), length-map k.tasks.rows (λ (r : ℕ × Task). r.1), few))

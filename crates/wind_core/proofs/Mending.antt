@@ -70,21 +70,21 @@ module _ (k : Inside) (who : ℕ) (x y : Task) (kept : Kept k) (value : object_o
   pub waits_stay : as_waiter y ≡ as_waiter x → k.waits ≡ task_waits (tasks_with k who y)
   waits_stay same =
       let ts = objects k.tasks.rows in
-      kept.3.waiting ∙ line_alike (waits_of ts) (waits_of (replace task_id ts who y)) most_tasks (sym (waits_same ts who x y kept.2.rising (found k who x kept value) same))
+      kept.3.waits_held ∙ line_alike (waits_of ts) (waits_of (replace task_id ts who y)) most_tasks (sym (waits_same ts who x y kept.2.rising (found k who x kept value) same))
 
   pub waits_mend : (l : Line) → y.id ≡ x.id → l ≡ mended k.waits y → l ≡ task_waits (tasks_with k who y)
-  waits_mend l id e = e ∙ ap (λ m. mended m y) kept.3.waiting ∙ mended_is (objects k.tasks.rows) who x y kept.2.rising (found k who x kept value) (own id)
+  waits_mend l id e = e ∙ ap (λ m. mended m y) kept.3.waits_held ∙ mended_is (objects k.tasks.rows) who x y kept.2.rising (found k who x kept value) (own id)
 
   -- y stands among the ready tasks as x did
   pub ready_stays : y.id ≡ x.id → y.pri ≡ x.pri → y.since ≡ x.since → is_ready y ≡ is_ready x → k.ready ≡ ready_tasks (tasks_with k who y)
   ready_stays id pri since same =
-      kept.3.running
+      kept.3.ready_held
       ∙ sym (ready_same (objects k.tasks.rows) who x y kept.2.rising (found k who x kept value) (λ i. (same i, (pri i, id i), pri i ∷ since i ∷ id i ∷ [])))
 
   -- y is ready only with the next order number
   pub ready_mends : (r : urgent.Order) → y.id ≡ x.id → (is_ready y ≡ true → y.since ≡ k.next_since) → r ≡ ready_mended k.ready y → r ≡ ready_tasks (tasks_with k who y)
   ready_mends r id fresh e =
-      e ∙ ap (λ o. ready_mended o y) kept.3.running
+      e ∙ ap (λ o. ready_mended o y) kept.3.ready_held
       ∙ ready_mended_is (objects k.tasks.rows) who x y kept.2.rising (found k who x kept value) (own id) (λ b. last_of_all (fresh b))
 
   -- y is not ready
@@ -101,7 +101,7 @@ module _ (k : Inside) (who : ℕ) (x y : Task) (kept : Kept k) (value : object_o
       let there = ready_found (objects k.tasks.rows) who x kept.2.rising (found k who x kept value) before in
       ready_mends r id (λ _. fresh)
       (e
-      ∙ ap (urgent.moved_back k.ready who) (ap (λ o. urgent.pri_of o.tasks who) kept.3.running ∙ there)
+      ∙ ap (urgent.moved_back k.ready who) (ap (λ o. urgent.pri_of o.tasks who) kept.3.ready_held ∙ there)
       ∙ ap (λ n. urgent.with_task (urgent.without_task k.ready n) (x.pri, n)) (sym (own id))
       ∙ ap (λ p. urgent.with_task (urgent.without_task k.ready y.id) (p, y.id)) (sym pri)
       ∙ ap (λ b. cond b (urgent.with_task (urgent.without_task k.ready y.id) (as_ready y)) (urgent.without_task k.ready y.id)) (sym after))
@@ -109,36 +109,36 @@ module _ (k : Inside) (who : ℕ) (x y : Task) (kept : Kept k) (value : object_o
   -- y sleeps as x does
   pub delays_stay : y.id ≡ x.id → y.since ≡ x.since → y.wake ≡ x.wake → k.delays ≡ delayed_tasks (tasks_with k who y)
   delays_stay id since wake =
-      kept.3.sleeping
+      kept.3.delays_held
       ∙ sym (delayed_same (objects k.tasks.rows) who x y kept.2.rising (found k who x kept value) (λ i. (is_some (wake i), (id i, unwrap_or (wake i) 0), unwrap_or (wake i) 0 ∷ since i ∷ id i ∷ [])))
 
   -- neither sleeps
   pub delays_apart : x.wake ≡ None → y.wake ≡ None → k.delays ≡ delayed_tasks (tasks_with k who y)
-  delays_apart before after = kept.3.sleeping ∙ sym (delayed_unmoved (objects k.tasks.rows) who x y kept.2.rising (found k who x kept value) before after)
+  delays_apart before after = kept.3.delays_held ∙ sym (delayed_unmoved (objects k.tasks.rows) who x y kept.2.rising (found k who x kept value) before after)
 
   -- y sleeps only with the next order number
   pub delays_mend : (d : timed.Order) → y.id ≡ x.id → (sleeps y ≡ true → y.since ≡ k.next_since) → d ≡ delays_mended k.delays y → d ≡ delayed_tasks (tasks_with k who y)
   delays_mend d id fresh e =
-      e ∙ ap (λ o. delays_mended o y) kept.3.sleeping
+      e ∙ ap (λ o. delays_mended o y) kept.3.delays_held
       ∙ delays_mended_is (objects k.tasks.rows) who x y kept.2.rising (found k who x kept value) (own id) (λ b. last_of_all (fresh b))
 
   -- ---- there is room to mend each
   pub waits_fit : y.id ≡ x.id → length (without_waiter k.waits y.id).waiters < k.waits.room
   waits_fit id =
       let ts = objects k.tasks.rows in
-      subst (λ l. length (without_waiter l y.id).waiters < l.room) (sym kept.3.waiting)
+      subst (λ l. length (without_waiter l y.id).waiters < l.room) (sym kept.3.waits_held)
       (subst (λ n. length (without waiter_id (waits_of ts) n) < most_tasks) (sym (own id)) (omega (arith, fewer_wait ts who x (found k who x kept value), kept.2.few)))
 
   pub ready_fits : y.id ≡ x.id → length (urgent.taken_out k.ready.tasks y.id) < k.ready.room
   ready_fits id =
       let ts = objects k.tasks.rows in
-      subst (λ o. length (urgent.taken_out o.tasks y.id) < o.room) (sym kept.3.running)
+      subst (λ o. length (urgent.taken_out o.tasks y.id) < o.room) (sym kept.3.ready_held)
       (subst (λ n. length (urgent.taken_out (ready_of ts) n) < most_tasks) (sym (own id)) (omega (arith, fewer_ready ts who x (found k who x kept value), kept.2.few)))
 
   pub delays_fit : y.id ≡ x.id → length (timed.taken_out k.delays.tasks y.id) < k.delays.room
   delays_fit id =
       let ts = objects k.tasks.rows in
-      subst (λ o. length (timed.taken_out o.tasks y.id) < o.room) (sym kept.3.sleeping)
+      subst (λ o. length (timed.taken_out o.tasks y.id) < o.room) (sym kept.3.delays_held)
       (subst (λ n. length (timed.taken_out (delayed_of ts) n) < most_tasks) (sym (own id)) (omega (arith, fewer_asleep ts who x (found k who x kept value), kept.2.few)))
 
 -- ---- a setter
@@ -157,9 +157,9 @@ same_keeps k who x y kept value same =
     let wake : y.wake ≡ x.wake = ap (λ s. s.5) same in
     written_keeps k who k.next_since x y k.waits k.ready k.delays kept value (record { id = id; since = inl (since, refl); ahead = subst (λ w. IfSome w (λ v. k.tick < v)) (sym wake) })
     (record {
-      waiting = waits_stay k who x y kept value (ap waiter_by same);
-      running = ready_stays k who x y kept value id (ap (λ s. s.1) same) since (ap (λ s. is_none s.3 && (is_none s.5 && not s.6)) same);
-      sleeping = delays_stay k who x y kept value id since wake;
+      waits_held = waits_stay k who x y kept value (ap waiter_by same);
+      ready_held = ready_stays k who x y kept value id (ap (λ s. s.1) same) since (ap (λ s. is_none s.3 && (is_none s.5 && not s.6)) same);
+      delays_held = delays_stay k who x y kept value id since wake;
     })
 
 -- what f makes of a task stands as the task did
@@ -179,9 +179,9 @@ suspended_keeps k who x y r kept value e out =
     let wake : y.wake ≡ x.wake = ap (λ (t : Task). t.wake) e in
     written_keeps k who k.next_since x y k.waits r k.delays kept value (record { id = id; since = inl (since, refl); ahead = subst (λ w. IfSome w (λ v. k.tick < v)) (sym wake) })
     (record {
-      waiting = waits_stay k who x y kept value (ap as_waiter e);
-      running = ready_goes k who x y kept value r id (ap is_ready e ∙ never (is_none x.wait) (is_none x.wake)) out;
-      sleeping = delays_stay k who x y kept value id since wake;
+      waits_held = waits_stay k who x y kept value (ap as_waiter e);
+      ready_held = ready_goes k who x y kept value r id (ap is_ready e ∙ never (is_none x.wait) (is_none x.wake)) out;
+      delays_held = delays_stay k who x y kept value id since wake;
     })
   where
     never : (p q : Bool) → (p && (q && false)) ≡ false
@@ -200,9 +200,9 @@ renewed_keeps k who n x u y l r d kept value id ahead e next waits ready delays 
     written_keeps k who n x y l r d kept value
     (subst (λ t. MayFollow (the_view k) x t n) (sym e) (record { id = id; since = inr (refl, next); ahead = ahead }))
     (record {
-      waiting = waits_mend k who x y kept value l own_id waits;
-      running = ready_mends k who x y kept value r own_id (λ _. fresh) ready;
-      sleeping = delays_mend k who x y kept value d own_id (λ _. fresh) delays;
+      waits_held = waits_mend k who x y kept value l own_id waits;
+      ready_held = ready_mends k who x y kept value r own_id (λ _. fresh) ready;
+      delays_held = delays_mend k who x y kept value d own_id (λ _. fresh) delays;
     })
 
 -- y is u, made of x, with a new order number where it is ready
@@ -234,9 +234,9 @@ module _ (k : Inside) (who n : ℕ) (x u y : Task) (kept : Kept k) (value : obje
   ended_keeps l r d awake waits ready delays =
       written_keeps k who n x y l r d kept value settled_may
       (record {
-        waiting = waits_mend k who x y kept value l settled_own waits;
-        running = ready_mends k who x y kept value r settled_own fresh_ready ready;
-        sleeping = delays_mend k who x y kept value d settled_own (λ b. absurd (let no : false ≡ true = sym (ap (λ (t : Task). is_some t.wake) e ∙ ap is_some (settled_wake k.next_since u ∙ awake)) ∙ b in cc)) delays;
+        waits_held = waits_mend k who x y kept value l settled_own waits;
+        ready_held = ready_mends k who x y kept value r settled_own fresh_ready ready;
+        delays_held = delays_mend k who x y kept value d settled_own (λ b. absurd (let no : false ≡ true = sym (ap (λ (t : Task). is_some t.wake) e ∙ ap is_some (settled_wake k.next_since u ∙ awake)) ∙ b in cc)) delays;
       })
 
   -- it waits by another key, and sleeps as before
@@ -244,9 +244,9 @@ module _ (k : Inside) (who n : ℕ) (x u y : Task) (kept : Kept k) (value : obje
   rekeyed_keeps l r wake waits ready =
       written_keeps k who n x y l r k.delays kept value settled_may
       (record {
-        waiting = waits_mend k who x y kept value l settled_own waits;
-        running = ready_mends k who x y kept value r settled_own fresh_ready ready;
-        sleeping = settled_delays wake;
+        waits_held = waits_mend k who x y kept value l settled_own waits;
+        ready_held = ready_mends k who x y kept value r settled_own fresh_ready ready;
+        delays_held = settled_delays wake;
       })
 
   -- it waits and sleeps as before
@@ -254,9 +254,9 @@ module _ (k : Inside) (who n : ℕ) (x u y : Task) (kept : Kept k) (value : obje
   resumed_keeps r key wake ready =
       written_keeps k who n x y k.waits r k.delays kept value settled_may
       (record {
-        waiting = waits_stay k who x y kept value (ap as_waiter e ∙ settled_key k.next_since u ∙ key);
-        running = ready_mends k who x y kept value r settled_own fresh_ready ready;
-        sleeping = settled_delays wake;
+        waits_held = waits_stay k who x y kept value (ap as_waiter e ∙ settled_key k.next_since u ∙ key);
+        ready_held = ready_mends k who x y kept value r settled_own fresh_ready ready;
+        delays_held = settled_delays wake;
       })
 
 -- ---- a turn
@@ -270,9 +270,9 @@ turned_by k who n x y r true kept value ready e next out =
     let free = free_ready x ready in
     written_keeps k who n x y k.waits r k.delays kept value (record { id = id; since = inr (ap (λ (t : Task). t.since) e, next); ahead = subst (λ w. IfSome w (λ v. k.tick < v)) (sym (ap (λ (t : Task). t.wake) e)) })
     (record {
-      waiting = waits_stay k who x y kept value (ap (option_map (waiter_at y)) (ap (λ (t : Task). t.wait) e ∙ free.0) ∙ sym (ap (option_map (waiter_at x)) free.0));
-      running = ready_turns k who x y kept value r id (ap (λ (t : Task). t.pri) e) ready (ap is_ready e ∙ ready) (ap (λ (t : Task). t.since) e) out;
-      sleeping = delays_apart k who x y kept value free.1 (ap (λ (t : Task). t.wake) e ∙ free.1);
+      waits_held = waits_stay k who x y kept value (ap (option_map (waiter_at y)) (ap (λ (t : Task). t.wait) e ∙ free.0) ∙ sym (ap (option_map (waiter_at x)) free.0));
+      ready_held = ready_turns k who x y kept value r id (ap (λ (t : Task). t.pri) e) ready (ap is_ready e ∙ ready) (ap (λ (t : Task). t.since) e) out;
+      delays_held = delays_apart k who x y kept value free.1 (ap (λ (t : Task). t.wake) e ∙ free.1);
     })
 turned_by k who n x y r false kept value ready e next out =
     let id : y.id ≡ x.id = ap task_id e in
@@ -280,9 +280,9 @@ turned_by k who n x y r false kept value ready e next out =
     let wake : y.wake ≡ x.wake = ap (λ (t : Task). t.wake) e in
     written_keeps k who n x y k.waits r k.delays kept value (record { id = id; since = inl (since, omega (arith, next)); ahead = subst (λ w. IfSome w (λ v. k.tick < v)) (sym wake) })
     (record {
-      waiting = waits_stay k who x y kept value (ap as_waiter e);
-      running = out ∙ ready_stays k who x y kept value id (ap (λ (t : Task). t.pri) e) since (ap is_ready e);
-      sleeping = delays_stay k who x y kept value id since wake;
+      waits_held = waits_stay k who x y kept value (ap as_waiter e);
+      ready_held = out ∙ ready_stays k who x y kept value id (ap (λ (t : Task). t.pri) e) since (ap is_ready e);
+      delays_held = delays_stay k who x y kept value id since wake;
     })
 
 -- the turn of a ready task is one tick longer, and where it is over, the task goes behind its equals
@@ -294,4 +294,4 @@ turned_keeps k who n x y r over kept value ready e next is out =
 -- ---- who is first at a place, as the line has it and as the tasks say
 pub first_kept : (k : Inside) (s : KernState) (place : Place) → Kept k → the_view k ≡ s → first_at k.waits.waiters place ≡ option_map task_id (first_waiter s.tasks place)
 first_kept k s place kept is =
-    ap (λ l. first_at l.waiters place) kept.3.waiting ∙ first_waits (objects k.tasks.rows) place ∙ ap (λ r. option_map task_id (first_waiter r.tasks place)) is
+    ap (λ l. first_at l.waiters place) kept.3.waits_held ∙ first_waits (objects k.tasks.rows) place ∙ ap (λ r. option_map task_id (first_waiter r.tasks place)) is

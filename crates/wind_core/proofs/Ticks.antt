@@ -70,7 +70,7 @@ runs s who up e = by_id s.tasks (running s) who (λ x q. running_found s x up q)
 
 -- who is most urgent, as the queue has it, and by its id
 pub urgent_kept : (k : Inside) (s : KernState) → Kept k → the_view k ≡ s → urgent.first_id k.ready.tasks ≡ option_map task_id (most_urgent s.tasks)
-urgent_kept k s kept is = ap (λ o. urgent.first_id o.tasks) kept.3.running ∙ first_ready (objects k.tasks.rows) ∙ ap (λ r. option_map task_id (most_urgent r.tasks)) is
+urgent_kept k s kept is = ap (λ o. urgent.first_id o.tasks) kept.3.ready_held ∙ first_ready (objects k.tasks.rows) ∙ ap (λ r. option_map task_id (most_urgent r.tasks)) is
 
 pub urgent_read : (s : KernState) (who : ℕ) → Rising task_id s.tasks → Some who ≡ option_map task_id (most_urgent s.tasks) → most_urgent s.tasks ≡ task_of s.tasks who
 urgent_read s who up e = by_id s.tasks (most_urgent s.tasks) who (λ y q. front_found task_id is_before is_before-order is_ready s.tasks y up q) e
@@ -253,7 +253,7 @@ late_turn s n late up e =
 pub due_kept : (k : Inside) (s : KernState) (n : ℕ) → Kept k → the_view k ≡ s → n ≡ s.tick + 1 → timed.due_at k.delays.tasks n ≡ option_map task_id (first_due s.tasks n)
 due_kept k s n kept is next =
     let count : n ≡ k.tick + 1 = next ∙ ap (λ r. r.tick + 1) (sym is) in
-    ap (λ o. timed.due_at o.tasks n) kept.3.sleeping
+    ap (λ o. timed.due_at o.tasks n) kept.3.delays_held
     ∙ ap (timed.due_at (delayed_of (objects k.tasks.rows))) count
     ∙ due_first k.tick (objects k.tasks.rows) kept.2.ahead
     ∙ ap (λ m. option_map task_id (first_due (objects k.tasks.rows) m)) (sym count)

@@ -49,6 +49,6 @@ delays_mended o t = with_wake (timed.without_task o t.id) t.id t.wake
 
 -- the queues hold what the tasks say
 pub record AreQueued (waits : Line) (ready : urgent.Order) (delays : timed.Order) (ts : List Task) : Type 0 where
-  pub waiting : waits ≡ task_waits ts
-  pub running : ready ≡ ready_tasks ts
-  pub sleeping : delays ≡ delayed_tasks ts
+  pub waits_held : waits ≡ task_waits ts
+  pub ready_held : ready ≡ ready_tasks ts
+  pub delays_held : delays ≡ delayed_tasks ts
