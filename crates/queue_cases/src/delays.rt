@@ -13,6 +13,7 @@ const ROOM: u32 = 256;
 
 /// How many steps are generated, and for how many tasks.
 const GENERATED: u32 = 300;
+
 const TASKS: u32 = 40;
 
 #[derive(Clone, Copy, Drop)]
@@ -81,15 +82,27 @@ fn edges(steps: &mut Vec<Step>) -> Result<(), NoMemory> {
         Step::Due { tick: 30 },
         Step::Put { who: two, wake: 30 },
         Step::Put { who: one, wake: 30 },
-        Step::Put { who: three, wake: 10 },
+        Step::Put {
+            who: three,
+            wake: 10,
+        },
         Step::Due { tick: 31 },
         Step::Due { tick: 31 },
         Step::Due { tick: 31 },
         Step::Due { tick: 31 },
         Step::Put { who: one, wake: 0 },
-        Step::Put { who: two, wake: u64::MAX },
-        Step::Put { who: three, wake: u64::MAX },
-        Step::Put { who: one, wake: u64::MAX },
+        Step::Put {
+            who: two,
+            wake: u64::MAX,
+        },
+        Step::Put {
+            who: three,
+            wake: u64::MAX,
+        },
+        Step::Put {
+            who: one,
+            wake: u64::MAX,
+        },
         Step::Due { tick: u64::MAX - 1 },
         Step::Take { who: two },
         Step::Take { who: two },
@@ -109,7 +122,9 @@ fn edges(steps: &mut Vec<Step>) -> Result<(), NoMemory> {
 fn one_tick(steps: &mut Vec<Step>) -> Result<(), NoMemory> {
     for number in 1..ROOM + 2 {
         let who = task(number);
-        steps.push(Step::Put { who, wake: 1_000 }).or(Err(NoMemory))?;
+        steps
+            .push(Step::Put { who, wake: 1_000 })
+            .or(Err(NoMemory))?;
     }
     for _ in 0..ROOM + 1 {
         steps.push(Step::Due { tick: 999 }).or(Err(NoMemory))?;
@@ -125,7 +140,10 @@ fn generated(steps: &mut Vec<Step>) -> Result<(), NoMemory> {
         let who = numbers.task(TASKS);
         let step = match numbers.below(5) {
             0 => Step::Take { who },
-            _ => Step::Put { who, wake: tick + numbers.below(60) as u64 },
+            _ => Step::Put {
+                who,
+                wake: tick + numbers.below(60) as u64,
+            },
         };
         steps.push(step).or(Err(NoMemory))?;
         steps.push(Step::Due { tick }).or(Err(NoMemory))?;

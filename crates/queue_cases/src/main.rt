@@ -23,16 +23,20 @@ fn main(rt: HostRuntime) -> io::Result<()> {
 
 // Writes the line of a queue.
 fn tell<R: Print>(rt: &R, queue: &str, played: Result<Tally, NoMemory>) -> io::Result<()> {
-    let Ok(Tally {
-        answers,
-        agreeing,
-        differing,
-    }) = played
+    let Ok(
+        Tally {
+            answers,
+            agreeing,
+            differing,
+        },
+    ) = played
     else {
         return println!(rt; "{queue}: out of memory");
     };
     match differing {
         None => println!(rt; "{queue}: {agreeing} of {answers} answers agree"),
-        Some(step) => println!(rt; "{queue}: {agreeing} of {answers} answers agree; step {step} differs first"),
+        Some(step) => println!(rt;
+            "{queue}: {agreeing} of {answers} answers agree; step {step} differs first"
+        ),
     }
 }

@@ -13,6 +13,7 @@ const ROOM: u32 = 256;
 
 /// How many steps are generated, and for how many tasks.
 const GENERATED: u32 = 300;
+
 const TASKS: u32 = 40;
 
 #[derive(Clone, Copy, Drop)]
@@ -79,24 +80,42 @@ fn edges(steps: &mut Vec<Step>) -> Result<(), NoMemory> {
         Step::First,
         Step::Take { who: one },
         Step::Rotate { who: one },
-        Step::Put { pri: pri(100), who: one },
+        Step::Put {
+            pri: pri(100),
+            who: one,
+        },
         Step::Rotate { who: one },
         Step::First,
-        Step::Put { pri: pri(100), who: two },
+        Step::Put {
+            pri: pri(100),
+            who: two,
+        },
         Step::First,
         Step::Rotate { who: one },
         Step::First,
-        Step::Put { pri: pri(100), who: two },
+        Step::Put {
+            pri: pri(100),
+            who: two,
+        },
         Step::First,
         Step::Take { who: one },
         Step::Take { who: one },
         Step::First,
         Step::Take { who: two },
         Step::First,
-        Step::Put { pri: pri(100), who: three },
+        Step::Put {
+            pri: pri(100),
+            who: three,
+        },
         Step::First,
-        Step::Put { pri: pri(255), who: one },
-        Step::Put { pri: pri(0), who: two },
+        Step::Put {
+            pri: pri(255),
+            who: one,
+        },
+        Step::Put {
+            pri: pri(0),
+            who: two,
+        },
         Step::First,
         Step::Take { who: two },
         Step::First,
@@ -115,11 +134,15 @@ fn edges(steps: &mut Vec<Step>) -> Result<(), NoMemory> {
 fn one_list(steps: &mut Vec<Step>) -> Result<(), NoMemory> {
     for number in 1..ROOM + 2 {
         let who = task(number);
-        steps.push(Step::Put { pri: pri(7), who }).or(Err(NoMemory))?;
+        steps
+            .push(Step::Put { pri: pri(7), who })
+            .or(Err(NoMemory))?;
     }
     for number in 1..ROOM + 2 {
         steps.push(Step::First).or(Err(NoMemory))?;
-        steps.push(Step::Take { who: task(number) }).or(Err(NoMemory))?;
+        steps
+            .push(Step::Take { who: task(number) })
+            .or(Err(NoMemory))?;
     }
     Ok(())
 }
@@ -132,7 +155,10 @@ fn generated(steps: &mut Vec<Step>) -> Result<(), NoMemory> {
             0 => Step::Take { who },
             1 => Step::Rotate { who },
             2 => Step::First,
-            _ => Step::Put { pri: pri(numbers.below(5) * 50), who },
+            _ => Step::Put {
+                pri: pri(numbers.below(5) * 50),
+                who,
+            },
         };
         steps.push(step).or(Err(NoMemory))?;
         steps.push(Step::First).or(Err(NoMemory))?;

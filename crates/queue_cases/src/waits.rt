@@ -16,7 +16,9 @@ const ROOM: u32 = 256;
 
 /// How many steps are generated, for how many tasks, and at how many objects with three sides each.
 const GENERATED: u32 = 400;
+
 const TASKS: u32 = 40;
+
 const OBJECTS: u32 = 4;
 
 #[derive(Clone, Copy, Drop)]
@@ -166,7 +168,9 @@ fn one_place(steps: &mut Vec<Step>) -> Result<(), NoMemory> {
         steps.push(first(0, 7)).or(Err(NoMemory))?;
     }
     for number in 1..ROOM + 2 {
-        steps.push(Step::Take { who: task(number) }).or(Err(NoMemory))?;
+        steps
+            .push(Step::Take { who: task(number) })
+            .or(Err(NoMemory))?;
         steps.push(first(0, 7)).or(Err(NoMemory))?;
     }
     Ok(())
@@ -179,7 +183,12 @@ fn generated(steps: &mut Vec<Step>) -> Result<(), NoMemory> {
         let (side, object) = (numbers.below(3) as u8, numbers.below(OBJECTS) + 1);
         let step = match numbers.below(3) {
             0 => Step::Take { who },
-            _ => waiter(at(side, object), who, numbers.below(4), numbers.below(6) as u64),
+            _ => waiter(
+                at(side, object),
+                who,
+                numbers.below(4),
+                numbers.below(6) as u64,
+            ),
         };
         steps.push(step).or(Err(NoMemory))?;
         steps.push(first(side, object)).or(Err(NoMemory))?;
