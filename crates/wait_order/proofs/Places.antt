@@ -2,7 +2,7 @@
 use Rattle.std.proofs.Common.{◌≡◌, ℕ, zero, suc, ◌<◌, ◌≤◌, Bool, true, false, not, cond, List, [], ◌∷◌, get_or, set, length, None, Some, refl, sym, ap, ◌∙◌, subst, arith}
 use Rattle.std.specs.Option.{option_map}
 use Rattle.std.specs.List.{AllByRecursion, find, insert, remove}
-use Rattle.std.specs.List.Sorted.{IsPartitionedBy, IsPartitionPoint}
+use Rattle.std.specs.List.Sorted.{IsPartitionedBy}
 use Rattle.std.specs.Cmp.{IsStrictWeakOrder}
 use Rattle.std.specs.Cmp.Lexicographic.{nat_list_cmp_total}
 use Rattle.std.proofs.lemmas.Bool.{eqb-true, eq-eqb, true≢false}
@@ -10,7 +10,7 @@ use Rattle.std.proofs.lemmas.List.Elements.{All-from_recursion}
 use Rattle.std.proofs.lemmas.List.MinMax.{ranks_by}
 use Rattle.id_table.specs.declared.ident.Place.{Place}
 use Rattle.wait_order.specs.declared.fronts.Front.{Front}
-use Rattle.wait_order.specs.Fronts.{same_place, place_key, place_before, Rises, first_id, front_of, first_from, StandsHere, GoesHere, IsPut}
+use Rattle.wait_order.specs.Fronts.{same_place, place_key, place_before, Rises, first_id, front_of, first_from, IsRank, StandsHere, GoesHere, IsPut}
 
 pub place_order : IsStrictWeakOrder place_before
 place_order = ranks_by nat_list_cmp_total place_key
@@ -64,12 +64,12 @@ all_remove P (y ∷ ys) (suc k) ps = (ps.0, all_remove P ys k ps.1)
 
 -- ---- where a place stands
 -- so many entries are of places before this one, and the others are not
-abbrev IsRank : List Front → Place → ℕ → Type 0
-IsRank fs p zero = AllByRecursion (λ f. place_before f.place p ≡ false) fs
-IsRank [] p (suc i) = ⊥
-IsRank (f ∷ fs) p (suc i) = (place_before f.place p ≡ true) × IsRank fs p i
+abbrev Ranked : List Front → Place → ℕ → Type 0
+Ranked fs p zero = AllByRecursion (λ f. place_before f.place p ≡ false) fs
+Ranked [] p (suc i) = ⊥
+Ranked (f ∷ fs) p (suc i) = (place_before f.place p ≡ true) × Ranked fs p i
 
-pub ranked : (fs : List Front) (p : Place) (i : ℕ) → i ≤ length fs → IsPartitionPoint (λ f. place_before f.place p ≡ true) (λ f. place_before f.place p ≡ false) fs i → IsRank fs p i
+pub ranked : (fs : List Front) (p : Place) (i : ℕ) → i ≤ length fs → IsRank fs p i → Ranked fs p i
 ranked [] p zero h at = tt
 ranked (f ∷ fs) p zero h at = (at.1 0 f (omega arith) (omega arith), ranked fs p zero (omega arith) (λ k d lo hi. absurd (omega (arith, hi)), λ k d lo hi. at.1 (suc k) d (omega arith) (omega (arith, hi))))
 ranked [] p (suc i) h at = absurd (omega (arith, h))
@@ -86,12 +86,12 @@ parted (f ∷ fs) p up zero (suc j) d hij hj e =
 parted (f ∷ fs) p up (suc i) zero d hij hj e = absurd (omega (arith, hij))
 parted (f ∷ fs) p up (suc i) (suc j) d hij hj e = parted fs p up.1 i j d (omega (arith, hij)) (omega (arith, hj)) e
 
-pub stands_here : (fs : List Front) (p : Place) (i : ℕ) → IsRank fs p i → i < length fs → ((d : Front) → same_place (get_or fs i d).place p ≡ true) → StandsHere fs p i
+pub stands_here : (fs : List Front) (p : Place) (i : ℕ) → Ranked fs p i → i < length fs → ((d : Front) → same_place (get_or fs i d).place p ≡ true) → StandsHere fs p i
 stands_here [] p i at h same = absurd (omega (arith, h))
 stands_here (f ∷ fs) p zero at h same = same f
 stands_here (f ∷ fs) p (suc i) at h same = (at.0, stands_here fs p i at.1 (omega (arith, h)) same)
 
-pub goes_here : (fs : List Front) (p : Place) (i : ℕ) → Rises fs → IsRank fs p i → ((d : Front) → i < length fs → same_place (get_or fs i d).place p ≡ false) → GoesHere fs p i
+pub goes_here : (fs : List Front) (p : Place) (i : ℕ) → Rises fs → Ranked fs p i → ((d : Front) → i < length fs → same_place (get_or fs i d).place p ≡ false) → GoesHere fs p i
 goes_here [] p zero up at other = tt
 goes_here (f ∷ fs) p zero up at other =
     let before = apart_places f.place p (other f (omega arith)) at.0 in
@@ -125,12 +125,12 @@ no_front (f ∷ fs) p zero at = passed f fs p (after_apart p f.place at.0) ∙ n
 no_front [] p (suc i) at = absurd at
 no_front (f ∷ fs) p (suc i) at = passed f fs p (before_apart f.place p at.0) ∙ no_front fs p i at.1
 
-pub from_here : (fs : List Front) (p : Place) (i : ℕ) (d : Front) → IsRank fs p i → i < length fs → first_from fs p ≡ Some (get_or fs i d).first
+pub from_here : (fs : List Front) (p : Place) (i : ℕ) (d : Front) → Ranked fs p i → i < length fs → first_from fs p ≡ Some (get_or fs i d).first
 from_here [] p i d at h = absurd (omega (arith, h))
 from_here (f ∷ fs) p zero d at h = ap (λ b. option_map first_id (cond (not b) (Some f) (find (λ g. not (place_before g.place p)) fs))) at.0
 from_here (f ∷ fs) p (suc i) d at h = ap (λ b. option_map first_id (cond (not b) (Some f) (find (λ g. not (place_before g.place p)) fs))) at.0 ∙ from_here fs p i d at.1 (omega (arith, h))
 
-pub from_end : (fs : List Front) (p : Place) (i : ℕ) → IsRank fs p i → i ≡ length fs → first_from fs p ≡ None
+pub from_end : (fs : List Front) (p : Place) (i : ℕ) → Ranked fs p i → i ≡ length fs → first_from fs p ≡ None
 from_end [] p i at h = refl
 from_end (f ∷ fs) p zero at h = absurd (omega (arith, h))
 from_end (f ∷ fs) p (suc i) at h = ap (λ b. option_map first_id (cond (not b) (Some f) (find (λ g. not (place_before g.place p)) fs))) at.0 ∙ from_end fs p i at.1 (omega (arith, h))

@@ -1,10 +1,11 @@
 -- How the first of each place is kept: an entry for each place where somebody waits, by place.
-use Rattle.std.specs.Prelude.{◌≡◌, ℕ, suc, zero, Bool, true, ◌&&◌, ◌==◌, not, if◌then◌else◌, List, [], ◌∷◌, Option}
+use Rattle.std.specs.Prelude.{◌≡◌, ℕ, suc, zero, Bool, true, false, ◌&&◌, ◌==◌, not, if◌then◌else◌, List, [], ◌∷◌, Option}
 use Rattle.std.specs.Bool.{⊤}
 use Rattle.std.specs.Cmp.Lexicographic.{slice_cmp}
 use Rattle.std.specs.Ordering.{is_lt, nat_cmp}
 use Rattle.std.specs.Option.{option_map}
 use Rattle.std.specs.List.{AllByRecursion, find}
+use Rattle.std.specs.List.Sorted.{IsPartitionPoint}
 use Rattle.id_table.specs.declared.ident.Place.{Place}
 use Rattle.wait_order.specs.declared.fronts.Front.{Front}
 
@@ -34,6 +35,11 @@ front_of fs place = option_map first_id (find (λ f. same_place f.place place) f
 -- who is kept as the first of the first place that is not before this one
 abbrev pub first_from : List Front → Place → Option ℕ
 first_from fs place = option_map first_id (find (λ f. not (place_before f.place place)) fs)
+
+-- so many entries are of places before this one, and the others are not
+abbrev pub IsRank : List Front → Place → ℕ → Type 0
+IsRank fs place rank =
+    IsPartitionPoint (λ f. place_before f.place place ≡ true) (λ f. place_before f.place place ≡ false) fs rank
 
 -- the entry of a place stands so far behind the front
 abbrev pub StandsHere : List Front → Place → ℕ → Type 0

@@ -5,7 +5,7 @@ use Rattle.std.specs.Ordering.{is_lt, nat_cmp}
 use Rattle.std.specs.Option.{option_map}
 use Rattle.std.specs.List.{All, filter}
 use Rattle.id_table.specs.declared.ident.Place.{Place}
-use Rattle.wind_lists.specs.Sorting.{first, sorted}
+use Rattle.wind_lists.specs.Sorting.{first, insert_sorted, sorted}
 use Rattle.linked_lists.specs.Chains.{cell_value, chain_at, Apart}
 use Rattle.wait_order.specs.declared.waits.Waiter.{Waiter}
 use Rattle.wait_order.specs.declared.fronts.Front.{Front}
@@ -15,6 +15,10 @@ use Rattle.wait_order.specs.Fronts.{place_key, Rises, front_of}
 -- a waiter precedes another: by place, and at one place by key
 abbrev pub precedes : Waiter → Waiter → Bool
 precedes v w = is_lt (slice_cmp nat_cmp (place_key v.place ++ key v) (place_key w.place ++ key w))
+
+-- waiters that stand in order with one more, before the first that does not precede it
+abbrev pub put_in : List Waiter → Waiter → List Waiter
+put_in ws w = insert_sorted precedes w ws
 
 -- a waiter in the list, under its id
 abbrev pub cell_of : Waiter → ℕ × Waiter

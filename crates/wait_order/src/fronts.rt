@@ -1,8 +1,7 @@
 //! The first waiter of each place that is in use, by place.
 
-ghost use Rattle.std.specs.Prelude.{◌≡◌, ◌≤◌, ◌<◌, None, Some, true, false, length, MatchResult, vec_capacity};
-ghost use Rattle.std.specs.List.Sorted.{IsPartitionPoint};
-ghost use Rattle.wait_order.specs.Fronts.{Rises, front_of, first_from as first_from_lem, place_before as place_before_lem, StandsHere, GoesHere, IsPut};
+ghost use Rattle.std.specs.Prelude.{◌≡◌, ◌≤◌, ◌<◌, None, Some, length, MatchResult, vec_capacity};
+ghost use Rattle.wait_order.specs.Fronts.{Rises, front_of, first_from as first_from_lem, IsRank, StandsHere, GoesHere, IsPut};
 
 use crate::order::{place_before, same_place};
 use id_table::{Ident, Place};
@@ -18,7 +17,7 @@ pub(crate) struct Front {
 fn rank_of(fronts: &[Front], place: &Place) -> usize
     requires { Rises fronts.now }
     ensures within { result ≤ length fronts.now }
-    ensures split { IsPartitionPoint (λ f. place_before_lem f.place place.now ≡ true) (λ f. place_before_lem f.place place.now ≡ false) fronts.now result }
+    ensures split { IsRank fronts.now place.now result }
 {
     fronts.partition_point(|front| place_before(&front.place, place))
 }

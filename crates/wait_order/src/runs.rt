@@ -2,9 +2,8 @@
 
 ghost use Rattle.std.specs.Option.{ForSome};
 ghost use Rattle.std.specs.Prelude.{◌≡◌, ◌≤◌, ◌<◌, IsSome, length, vec_capacity};
-ghost use Rattle.wind_lists.specs.Sorting.{insert_sorted};
 ghost use Rattle.linked_lists.specs.Chains.{value_of};
-ghost use Rattle.wait_order.specs.Inside.{waiters_in, precedes as precedes_lem, AreFronts, IsOwn, IsKept, IsBehind, IsPlace, IsGone, stays, next_there};
+ghost use Rattle.wait_order.specs.Inside.{waiters_in, put_in, AreFronts, IsOwn, IsKept, IsBehind, IsPlace, IsGone, stays, next_there};
 
 use crate::fronts::{Front, first_at, put, remove};
 use crate::order::{precedes, stands_at};
@@ -55,7 +54,7 @@ fn first_stays(fronts: &[Front], waiters: &IdLists<Waiter>, waiter: &Waiter) -> 
 pub(crate) fn come(fronts: &mut Vec<Front>, waiters: &IdLists<Waiter>, waiter: &Waiter)
     requires kept { IsKept waiters.now.chains fronts.old.items }
     requires room { length fronts.old.items < vec_capacity fronts.old }
-    ensures fronts { AreFronts (insert_sorted precedes_lem waiter.now (waiters_in waiters.now.chains)) fronts.new.items }
+    ensures fronts { AreFronts (put_in (waiters_in waiters.now.chains) waiter.now) fronts.new.items }
     ensures capacity { vec_capacity fronts.old ≤ vec_capacity fronts.new }
 {
     if first_stays(fronts, waiters, waiter) {
