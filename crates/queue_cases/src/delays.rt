@@ -1,5 +1,8 @@
 //! The steps of tasks that wait for a tick, over both queues.
 
+ghost use Rattle.std.specs.Prelude.{◌<◌, ◌≤◌};
+ghost use Rattle.wind_base.specs.Limits.{greatest_id};
+
 use crate::numbers::{Numbers, task};
 use crate::plain_delays::PlainDelays;
 use crate::tally::{Answer, Tally};
@@ -70,44 +73,48 @@ fn plain_answer(delays: &mut PlainDelays, step: Step) -> Result<Answer, NoMemory
     }
 }
 
+fn came(number: u32, wake: u64) -> Step
+    requires least { 0 < number }
+    requires greatest { number ≤ greatest_id }
+{
+    Step::Put {
+        who: task(number),
+        wake,
+    }
+}
+
+fn left(number: u32) -> Step
+    requires least { 0 < number }
+    requires greatest { number ≤ greatest_id }
+{
+    Step::Take { who: task(number) }
+}
+
 // Nobody waits; due a tick before, at the very tick and after it; equals; the least and the greatest tick.
 fn edges(steps: &mut Vec<Step>) -> Result<(), NoMemory> {
-    let (one, two, three) = (task(1), task(2), task(3));
     let rows = [
         Step::Due { tick: u64::MAX },
-        Step::Take { who: one },
-        Step::Put { who: one, wake: 30 },
+        left(1),
+        came(1, 30),
         Step::Due { tick: 29 },
         Step::Due { tick: 30 },
         Step::Due { tick: 30 },
-        Step::Put { who: two, wake: 30 },
-        Step::Put { who: one, wake: 30 },
-        Step::Put {
-            who: three,
-            wake: 10,
-        },
+        came(2, 30),
+        came(1, 30),
+        came(3, 10),
         Step::Due { tick: 31 },
         Step::Due { tick: 31 },
         Step::Due { tick: 31 },
         Step::Due { tick: 31 },
-        Step::Put { who: one, wake: 0 },
-        Step::Put {
-            who: two,
-            wake: u64::MAX,
-        },
-        Step::Put {
-            who: three,
-            wake: u64::MAX,
-        },
-        Step::Put {
-            who: one,
-            wake: u64::MAX,
-        },
+        came(1, 0),
+        came(2, u64::MAX),
+        came(3, u64::MAX),
+        came(1, u64::MAX),
         Step::Due { tick: u64::MAX - 1 },
-        Step::Take { who: two },
-        Step::Take { who: two },
+        left(2),
+        left(2),
         Step::Due { tick: u64::MAX },
-        Step::Put { who: two, wake: 0 },
+        came(2, 0),
         Step::Due { tick: 0 },
         Step::Due { tick: u64::MAX },
         Step::Due { tick: u64::MAX },

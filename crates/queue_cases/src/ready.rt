@@ -1,5 +1,8 @@
 //! The steps of ready tasks, over both queues.
 
+ghost use Rattle.std.specs.Prelude.{◌<◌, ◌≤◌};
+ghost use Rattle.wind_base.specs.Limits.{greatest_id, least_urgent};
+
 use crate::numbers::{Numbers, pri, task};
 use crate::plain_ready::PlainReady;
 use crate::tally::{Answer, Tally};
@@ -73,55 +76,61 @@ fn plain_answer(ready: &mut PlainReady, step: Step) -> Result<Answer, NoMemory> 
     }
 }
 
-// Nobody is ready; one alone, who is rotated; equals; a list that is emptied and used again; the first and the last list.
+fn came(urgency: u32, number: u32) -> Step
+    requires urgency { urgency ≤ least_urgent }
+    requires least { 0 < number }
+    requires greatest { number ≤ greatest_id }
+{
+    Step::Put {
+        pri: pri(urgency),
+        who: task(number),
+    }
+}
+
+fn left(number: u32) -> Step
+    requires least { 0 < number }
+    requires greatest { number ≤ greatest_id }
+{
+    Step::Take { who: task(number) }
+}
+
+fn turned(number: u32) -> Step
+    requires least { 0 < number }
+    requires greatest { number ≤ greatest_id }
+{
+    Step::Rotate { who: task(number) }
+}
+
+// Nobody is ready; one alone, who is rotated; equals; a list that is emptied and used again; the first and the last one.
 fn edges(steps: &mut Vec<Step>) -> Result<(), NoMemory> {
-    let (one, two, three) = (task(1), task(2), task(3));
     let rows = [
         Step::First,
-        Step::Take { who: one },
-        Step::Rotate { who: one },
-        Step::Put {
-            pri: pri(100),
-            who: one,
-        },
-        Step::Rotate { who: one },
+        left(1),
+        turned(1),
+        came(100, 1),
+        turned(1),
         Step::First,
-        Step::Put {
-            pri: pri(100),
-            who: two,
-        },
+        came(100, 2),
         Step::First,
-        Step::Rotate { who: one },
+        turned(1),
         Step::First,
-        Step::Put {
-            pri: pri(100),
-            who: two,
-        },
+        came(100, 2),
         Step::First,
-        Step::Take { who: one },
-        Step::Take { who: one },
+        left(1),
+        left(1),
         Step::First,
-        Step::Take { who: two },
+        left(2),
         Step::First,
-        Step::Put {
-            pri: pri(100),
-            who: three,
-        },
+        came(100, 3),
         Step::First,
-        Step::Put {
-            pri: pri(255),
-            who: one,
-        },
-        Step::Put {
-            pri: pri(0),
-            who: two,
-        },
+        came(255, 1),
+        came(0, 2),
         Step::First,
-        Step::Take { who: two },
+        left(2),
         Step::First,
-        Step::Take { who: three },
+        left(3),
         Step::First,
-        Step::Take { who: one },
+        left(1),
         Step::First,
     ];
     for row in &rows {

@@ -32,6 +32,7 @@ enum Step {
 pub fn play(alloc: Global) -> Result<Tally, NoMemory> {
     let mut steps = Vec::new(alloc);
     edges(&mut steps)?;
+    beside(&mut steps)?;
     one_place(&mut steps)?;
     generated(&mut steps)?;
     let mut waits = Waits::reserved(alloc, ROOM)?;
@@ -112,7 +113,15 @@ fn first(side: u8, object: u32) -> Step
     }
 }
 
-// Nobody waits; a place that is emptied and used again; equal keys; the places beside it, by side and by object.
+// Adds rows to the steps.
+fn add(steps: &mut Vec<Step>, rows: &[Step]) -> Result<(), NoMemory> {
+    for row in rows {
+        steps.push(*row).or(Err(NoMemory))?;
+    }
+    Ok(())
+}
+
+// Nobody waits at a place; equal keys, another order number, another priority; the last goes.
 fn edges(steps: &mut Vec<Step>) -> Result<(), NoMemory> {
     let (one, two, three) = (task(1), task(2), task(3));
     let rows = [
@@ -135,6 +144,14 @@ fn edges(steps: &mut Vec<Step>) -> Result<(), NoMemory> {
         Step::Take { who: two },
         Step::Take { who: two },
         first(1, 8),
+    ];
+    add(steps, &rows)
+}
+
+// The place once more, with one before it by its side and one behind it by its object.
+fn beside(steps: &mut Vec<Step>) -> Result<(), NoMemory> {
+    let (one, two, three) = (task(1), task(2), task(3));
+    let rows = [
         waiter(at(0, 9), one, 200, 1),
         waiter(at(1, 9), two, 0, 2),
         waiter(at(1, 8), three, 50, 3),
@@ -154,10 +171,7 @@ fn edges(steps: &mut Vec<Step>) -> Result<(), NoMemory> {
         Step::Take { who: two },
         first(1, 8),
     ];
-    for row in &rows {
-        steps.push(*row).or(Err(NoMemory))?;
-    }
-    Ok(())
+    add(steps, &rows)
 }
 
 // All that there is room for at one place, the last first, and one more; then each goes as the first.
