@@ -73,18 +73,6 @@ semMCreate 0; semMCreate 1; semMCreate 2; semMCreate 4; semMCreate 8; semMCreate
 semMCreate 0x80000001; errnoGet => 0 | 1441794
 ROWS
 
-# `mtctr r3`, so often a call of wdCreate and one of wdDelete of what it answers, and back to the shell. The shell's task has 1 of
-# 1,048,576 ids.
-shows 'without ids nothing is made'
-rows --limit 4000000 <<'ROWS'
-*0x1000 = 0x7c6903a6; *0x1004 = 0x49000203; *0x1008 = 0x49000233; *0x100c = 0x4200fff8 => 2087256998 | 1224737283 | 1224737331 | 1107361784
-*0x1010 = 0x49000012; (0x1000)(1048574) => 1224736786 | 0
-semBCreate 0, 0 => 1048576
-semBCreate 0, 0; errnoGet; semCCreate 0, 0; semMCreate 0 => 0 | 196612 | 0 | 0
-msgQCreate 1, 1, 0; errnoSet 0; wdCreate; errnoGet => 0 | 0 | 0 | 196612
-sp 0x1000; errnoSet 0; taskSpawn 0, 100, 0, 0, 0x1000; errnoGet => -1 | 0 | -1 | 196612
-ROWS
-
 # At 0x1000 a task that calls taskSafe twice and suspends itself, and calls taskUnsafe and suspends itself as often as it is resumed. At
 # 0x1040 one that deletes the task of the id r3: its answer and error number go where r8 says and 4 bytes behind, and the error number
 # of the same call once more 8 bytes behind.

@@ -32,7 +32,7 @@ ticks "rx 0 $first\\nrx 200 8\\ntick 200\\n"
 plays
 ends 0 "${written}value = 0 = 0x0\\n-> " ''
 
-# Ticks at 0, 2, 3, 4, 6, 6, 8 and 9; a call of tickGet takes three steps of the shell, and the prompt is a step.
+# Ticks at 0, 2, 3, 4, 6, 6, 8 and 9. The fourth step of the shell, at time 3, is the first tickGet.
 shows 'the ticks of several lines come by their times'
 console 'tickGet\ntickGet\n'
 ticks 'every 3 3\n\nrx 0 8\nevery 2 4\r\ntick 0\nrx 500 8\n'
@@ -44,7 +44,7 @@ ticks 'every 1 4294967295'
 plays --limit 1000
 ends 3 "$output" 'windplay: limit of 1000 steps reached\n'
 
-# Each line gives two ticks at most, where 100,000 steps are made, and 25,100 of them a third.
+# Of 37,449 lines each gives a tick at one time, and one more as long behind that.
 shows 'a tick file of 1 MiB'
 console ''
 yes 'every 4294967295 4294967295' | head -n 37449 >"$work/session/ticks.txt"
