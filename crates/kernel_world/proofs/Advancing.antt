@@ -31,7 +31,6 @@ use Rattle.kernel_world.specs.Kept.{KeepsPool, KeepsLoaded, task_stacks, AreStac
 use Rattle.kernel_world.specs.declared.objects.Objects.{Objects}
 use Rattle.kernel_world.specs.declared.actor.Actor.{Actor}
 use Rattle.kernel_world.specs.declared.actor.Actor.TheVariants.{Task, Interrupt}
-use Rattle.task_calls.specs.declared.spawning.Wanted.{Wanted}
 use Rattle.kernel_world.proofs.Goes.{Goes, goes_nowhere, more_counts, goes-set_errno, reserved_by}
 use Rattle.kernel_world.proofs.ObjectMoves.{objects-set_errno}
 use Rattle.kernel_world.proofs.Holding.{loaded_on}
