@@ -148,6 +148,7 @@ fn run_word(parts: &mut Parts, who: Ident, at: u32) -> bool
 
 // What a task does at a gate. For want of memory nothing changes.
 #[tactic(auto, using(crate::proofs::Readied::good_early))]
+#[inline(never)]
 fn run_gate(parts: &mut Parts, who: Ident, at: u32, gate: Gate) -> Result<(), NoMemory>
     requires good { Good (inside parts.old) }
     requires few { parts.old.clock.steps < most_steps }
@@ -208,6 +209,7 @@ pub(crate) fn run(parts: &mut Parts, who: Ident) -> Result<bool, NoMemory>
 }
 
 /// The next chunk of the console arrives.
+#[inline(never)]
 pub(crate) fn arrive(parts: &mut Parts)
     requires good { Good (inside parts.old) }
     requires few { parts.old.clock.steps < most_steps }
@@ -279,6 +281,7 @@ fn receive(parts: &mut Parts, n: u32)
 
 /// The event that is due comes.
 #[tactic(auto, using(crate::proofs::Readied::all_live))]
+#[inline(never)]
 pub(crate) fn come(parts: &mut Parts, event: Event)
     requires idle { is_active (parts_seen ⟦<dyn Device as Device>⟧ parts.old).world ≡ false }
     requires good { Good (inside parts.old) }

@@ -81,6 +81,7 @@ fn fetched_module<F: Folder>(
 }
 
 // Makes the step that loads the module of a name, with what the folder says of its file.
+#[inline(never)]
 fn load_step<F: Folder>(
     alloc: Global,
     board: &mut Board,
