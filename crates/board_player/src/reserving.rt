@@ -40,7 +40,7 @@ pub(crate) fn other_holder(kern: &Kern, who: Ident) -> Option<Ident>
 }
 
 // This task, if one, keeps no reservation.
-#[inline(never)]
+#[inline]
 fn drop_of(kern: &mut Kern, holder: Option<Ident>)
     requires { IfSome holder (λ last. Lives kern.old last) }
     ensures { kern.new ≡ without kern.old holder }

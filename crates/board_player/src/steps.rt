@@ -127,6 +127,7 @@ pub(crate) fn evaluate(parts: &mut Parts) -> Result<(), NoMemory>
 
 // An instruction of a task that stands at no gate. Tells whether it came without an exception.
 #[tactic(auto, using(crate::proofs::Readied::good_early))]
+#[inline]
 fn run_word(parts: &mut Parts, who: Ident, at: u32) -> bool
     requires good { Good (inside parts.old) }
     requires few { parts.old.clock.steps < most_steps }
@@ -181,6 +182,7 @@ fn run_gate(parts: &mut Parts, who: Ident, at: u32, gate: Gate) -> Result<(), No
 
 /// A task is at a gate, or makes an instruction. For want of memory, which comes only at a gate whose call may lack it,
 /// nothing changes. Tells whether it was an instruction that came without an exception.
+#[inline(always)]
 pub(crate) fn run(parts: &mut Parts, who: Ident) -> Result<bool, NoMemory>
     requires good { Good (inside parts.old) }
     requires few { parts.old.clock.steps < most_steps }
