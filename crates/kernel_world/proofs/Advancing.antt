@@ -1,33 +1,22 @@
 -- What a call keeps while all its tasks live on: the kept facts, and the counters within their bounds.
-use Rattle.std.proofs.Common.{◌≡◌, ℕ, ◌+◌, ◌<◌, ◌≤◌, Bool, true, false, cond, eqb, leb, ltb, List, [], ◌∷◌, ◌++◌, length, replicate, Option, None, Some, IsSome, Result, Ok, Err, refl, sym, ◌∙◌, subst, arith}
-use Rattle.std.specs.Option.{option_or, option_map}
-use Rattle.std.specs.Prelude.{◌||◌, slice_index}
-use Rattle.std.specs.List.{find}
-use Rattle.std.proofs.lemmas.Bool.{leb-false}
-use Rattle.std.proofs.lemmas.List.{map-append, length_push}
-use Rattle.std.proofs.lemmas.List.Folds.{find-append}
-use Rattle.std.proofs.lemmas.List.Elements.{All-weaker, All-push}
-use Rattle.wind_base.specs.Limits.{most_symbols, longest_name, frame_bytes}
+use Rattle.std.proofs.Common.{◌≡◌, ℕ, ◌+◌, ◌<◌, ◌≤◌, List, ◌∷◌, length, Option, None, Some, refl, sym, ◌∙◌, subst, arith}
+use Rattle.std.specs.Option.{option_map}
+use Rattle.std.proofs.lemmas.List.Elements.{All-weaker}
+use Rattle.wind_base.specs.Limits.{most_symbols}
 use Rattle.wind_base.specs.declared.regs.Regs.{Regs}
-use Rattle.wind_base.specs.declared.errno.Errno.{Errno}
-use Rattle.wind_base.specs.declared.errno.Errno.TheVariants as errors
 use Rattle.wind_outside.specs.Devices.{DeviceState}
-use Rattle.task_block.specs.declared.task.Task.{Task as TaskRecord}
 use Rattle.symbol_table.specs.declared.symbol.Symbol.{Symbol}
 use Rattle.module_loader.specs.declared.module.LoadedModule.{LoadedModule}
-use Rattle.mem_partition.specs.State.{PartState, alloc_of, after_alloc, free_of, after_free}
-use Rattle.mem_partition.specs.declared.block.Class.TheVariants.{User, Kernel}
-use Rattle.wind_core.specs.State.{KernState, Lives, task_of}
-use Rattle.wind_core.specs.Moves.{new_task, spawn, spawn_refusal}
+use Rattle.mem_partition.specs.State.{PartState}
+use Rattle.wind_core.specs.State.{KernState, Lives}
 use Rattle.wind_core.proofs.Ids.{lives_by}
-use Rattle.wind_core.proofs.Keeping.{every_call_keeps}
 use Rattle.msg_queue.specs.State.{Scene}
 use Rattle.isr_watch.specs.State.{WatchState, IsWatch}
 use Rattle.kernel_world.specs.State.{WorldState}
 use Rattle.kernel_world.specs.Objects.{KeepsObjects, DepthsWithin}
 use Rattle.kernel_world.specs.Replies.{level_by, at_level, with_errno}
 use Rattle.kernel_world.specs.Opening.{interrupt_stack}
-use Rattle.kernel_world.specs.Kept.{KeepsPool, KeepsLoaded, task_stacks, AreStacks, KeepsWatch, IsWorld, ReservedBy, HasCounts, Within, call_sinces}
+use Rattle.kernel_world.specs.Kept.{KeepsPool, KeepsLoaded, task_stacks, AreStacks, KeepsWatch, IsWorld, ReservedBy, Within, call_sinces}
 use Rattle.kernel_world.specs.declared.objects.Objects.{Objects}
 use Rattle.kernel_world.specs.declared.actor.Actor.{Actor}
 use Rattle.kernel_world.specs.declared.actor.Actor.TheVariants.{Task, Interrupt}
