@@ -1,13 +1,13 @@
 -- The rows of a table, from its entries and its slab.
 use Rattle.std.proofs.Common.{◌≡◌, ℕ, zero, suc, ◌+◌, ◌<◌, true, false, cond, not, eqb, List, [], ◌∷◌, ◌++◌, map, length, get_or, take, drop, Option, None, Some, refl, sym, ap, ◌∙◌, subst, arith, ⊎_elim}
 use Rattle.std.specs.Prelude.{nat_lt, if◌then◌else◌}
-use Rattle.std.specs.Option.{MatchOption, IsSome, option_map}
-use Rattle.std.specs.List.{AllPairs, All, find, cons_option, position, remove}
+use Rattle.std.specs.Option.{IsSome, option_map}
+use Rattle.std.specs.List.{AllPairs, All, find, cons_option, remove}
 use Rattle.std.proofs.lemmas.Grind.{common_steps}
-use Rattle.std.proofs.lemmas.Bool.{cases_eq, eqb-true, eq-eqb, ne_eqb}
+use Rattle.std.proofs.lemmas.Bool.{cases_eq, eq-eqb, ne_eqb}
 use Rattle.std.proofs.lemmas.List.{get_or_default, get_or-map, length-map, length_push, length-append, length-take, length-drop, get_or-take, get_or-drop}
 use Rattle.std.proofs.lemmas.List.Elements.{All-cons, All-push, All-append, filter_map-append}
-use Rattle.std.proofs.lemmas.List.Quantifiers.{position-Some, all_pairs_push, all_pairs_remove}
+use Rattle.std.proofs.lemmas.List.Quantifiers.{all_pairs_push, all_pairs_remove}
 use Rattle.std.proofs.lemmas.Option.{same_Some}
 use Rattle.slab.proofs.SlabLemmas.{Updates-with_value}
 use Rattle.slab.specs.Slab.{Slab, get, slab_len, with_value, Updates}
@@ -15,27 +15,6 @@ use Rattle.id_table.specs.declared.entry.Entry.{Entry}
 use Rattle.wind_lists.specs.Records.{of_id, Rising}
 use Rattle.id_table.specs.Rows.{Rows, IsId, IsTable, Rises, row_id, row_object, ids, next_above, objects, object_of, with_object, without, IdsBelow}
 use Rattle.id_table.specs.Inside.{row_at, rows_in, IsKept, EntryAt}
-
--- ---- a search by id
-at_found : (order : List Entry) (id k : ℕ) → position (λ e. eqb e.id id) order ≡ Some k → EntryAt order id k
-at_found [] id k e = grind arith
-at_found (x ∷ xs) id k e = record {
-  within = (position-Some (λ (y : Entry). eqb y.id id) (x ∷ xs) k x e).0;
-  same = λ d. eqb-true _ _ (position-Some (λ (y : Entry). eqb y.id id) (x ∷ xs) k d e).1;
-}
-
-at_none : (order : List Entry) (id : ℕ) → position (λ e. eqb e.id id) order ≡ None → (k : ℕ) (d : Entry) → k < length order → (get_or order k d).id ≡ id → ⊥
-at_none [] id e k d hk = absurd (omega arith)
-at_none (x ∷ xs) id e zero d hk = grind (arith, common_steps)
-at_none (x ∷ xs) id e (suc k) d hk = let rest : position (λ y. eqb y.id id) xs ≡ None = grind (arith, common_steps) in at_none xs id rest k d (omega arith)
-
-pub place_facts : (order : List Entry) (id : ℕ)
-    → MatchOption (position (λ e. eqb e.id id) order) ((k : ℕ) (d : Entry) → k < length order → (get_or order k d).id ≡ id → ⊥) (λ place. EntryAt order id place)
-place_facts order id =
-    elim (position (λ e. eqb e.id id) order) as (λ o. position (λ e. eqb e.id id) order ≡ o → MatchOption o ((k : ℕ) (d : Entry) → k < length order → (get_or order k d).id ≡ id → ⊥) (λ place. EntryAt order id place)) [
-      | None ↦ λ e. at_none order id e
-      | Some k ↦ λ e. at_found order id k e
-    ] refl
 
 -- only the entry of an id has its key
 pub alike_at : (order : List Entry) (id at : ℕ) (d : Entry) → AllPairs (λ c e. c.id < e.id) order → AllPairs (λ c e. c.key ≡ e.key → ⊥) order → EntryAt order id at

@@ -6,6 +6,9 @@ use Rattle.slab.specs.Slab.{Slab, get, slab_len}
 use Rattle.id_table.specs.declared.entry.Entry.{Entry}
 use Rattle.id_table.specs.Rows.{IsId}
 
+abbrev pub entry_id : Entry → ℕ
+entry_id e = e.id
+
 -- the entry of this id stands at this place
 pub record EntryAt (order : List Entry) (id place : ℕ) : Type 0 where
   pub within : place < length order

@@ -1,8 +1,10 @@
 //! Which ids are live, and where their objects lie.
 
-ghost use Rattle.std.specs.Prelude.{◌≡◌, ◌<◌, ℕ, length, nat_lt, MatchOption, option_copied, ◌==◌, slice_index_or};
-ghost use Rattle.std.specs.List.{position, find};
-ghost use Rattle.id_table.specs.Inside.{EntryAt};
+ghost use Rattle.std.specs.Prelude.{◌≡◌, ◌<◌, ◌≤◌, ℕ, length, nat_lt, true, false, MatchOption, option_copied, slice_index_or};
+ghost use Rattle.std.specs.List.{find};
+ghost use Rattle.std.specs.List.Sorted.{IsPartitionPoint};
+ghost use Rattle.wind_lists.specs.Records.{Rising};
+ghost use Rattle.id_table.specs.Inside.{EntryAt, entry_id};
 ghost use Rattle.id_table.specs.declared.entry.Entry.{Entry};
 
 use crate::ident::Ident;
@@ -14,17 +16,30 @@ pub(crate) struct Entry {
     pub(crate) key: usize,
 }
 
-fn position_of(order: &[Entry], id: Ident) -> Option<usize>
-    ensures { result ≡ position (λ e. e.id == id) order.now }
+// How many entries have an id below this one.
+fn rank_of(order: &[Entry], id: Ident) -> usize
+    requires { Rising entry_id order.now }
+    ensures within { result ≤ length order.now }
+    ensures split { IsPartitionPoint (λ e. nat_lt e.id id ≡ true) (λ e. nat_lt e.id id ≡ false) order.now result }
 {
-    order.iter().position(|e| e.id == id)
+    let number = id.get();
+    order.partition_point(|entry| entry.id.get() < number)
 }
 
 // Where the entry of an id stands. None where there is none.
 pub(crate) fn place_of(order: &[Entry], id: Ident) -> Option<usize>
+    requires { Rising entry_id order.now }
     ensures { MatchOption result ((k : ℕ) (d : Entry) → k < length order.now → (slice_index_or order.now k d).id ≡ id → ⊥) (λ place. EntryAt order.now id place) }
 {
-    position_of(order, id)
+    let rank = rank_of(order, id);
+    if rank == order.len() {
+        return None;
+    }
+    if order[rank].id == id {
+        Some(rank)
+    } else {
+        None
+    }
 }
 
 // The first entry whose id is above a number.

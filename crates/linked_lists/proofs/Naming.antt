@@ -11,6 +11,7 @@ use Rattle.std.proofs.lemmas.List.Sums.{position_or_len_is}
 use Rattle.std.proofs.lemmas.Option.{same_Some}
 use Rattle.wind_lists.specs.Records.{of_id, without, with_record, StandsAt, Rising}
 use Rattle.wind_lists.proofs.Records.{found_place}
+use Rattle.wind_lists.proofs.Halving.{IsRank, none_of}
 use Rattle.wind_lists.proofs.Sorting.{length-insert_sorted}
 use Rattle.wind_lists.proofs.Places.{place_of, insert_place, of_id-without, of_id-with_record, Rising-without, Rising-with_record}
 use Rattle.linked_lists.specs.declared.index.Entry.{Entry}
@@ -30,40 +31,7 @@ pub tail_same : {X : Type 0} (x y : X) (xs ys : List X) → x ∷ xs ≡ y ∷ y
 tail_same x y xs ys e = cc
 
 -- ---- a search in the index
-pub rising_ids : (es : List Entry) → Rising entry_id es → IsNonDecreasingBy (λ (e : Entry). e.id) es
-rising_ids es up i j d hij hj =
-    ⊎_elim
-    (λ (same : i ≡ j). omega (arith, ap (λ k. (get_or es k d).id) same))
-    (λ (ne : i ≡ j → ⊥). let rise = up i j d (omega (arith, hij, ne)) hj in omega (arith, rise))
-    (cases_eq i j)
-
-abbrev pub IsRank : List Entry → ℕ → ℕ → Type 0
-IsRank es who i = IsPartitionPoint (λ e. nat_lt e.id who ≡ true) (λ e. nat_lt e.id who ≡ false) es i
-
-pub none_of : (es : List Entry) (who : ℕ) → ((k : ℕ) (d : Entry) → k < length es → (get_or es k d).id ≡ who → ⊥) → of_id entry_id es who ≡ None
-none_of [] who none = refl
-none_of (e ∷ es) who none =
-    ap (λ b. cond b (Some e) (of_id entry_id es who)) (ne_eqb e.id who (none 0 e (omega arith))) ∙ none_of es who (λ k d h. none (suc k) d (omega (arith, h)))
-
--- where the entry at the rank is another, there is none
-pub rank_none : (es : List Entry) (who i : ℕ) → Rising entry_id es → IsRank es who i → ((d : Entry) → i < length es → (get_or es i d).id ≡ who → ⊥) → of_id entry_id es who ≡ None
-rank_none es who i up rank other =
-    none_of es who
-    (λ k d h same.
-    ⊎_elim
-    (λ (below : k < i). let less = ltb-true (get_or es k d).id who (rank.0 k d (omega arith) below) in absurd (omega (arith, less, same)))
-    (λ (above : i ≤ k).
-    ⊎_elim
-    (λ (here : i ≡ k). other d (subst (λ n. n < length es) (sym here) h) (ap (λ n. (get_or es n d).id) here ∙ same))
-    (λ (ne : i ≡ k → ⊥).
-    let before : i < k = omega (arith, above, ne) in
-    let rise = up i k d before h in
-    let least = ltb-false (get_or es i d).id who (rank.1 i d (omega arith) (omega (arith, before, h))) in
-    absurd (omega (arith, rise, least, same)))
-    (cases_eq i k))
-    (cases_lt k i))
-
-pub rank_place : (es : List Entry) (e : Entry) (i : ℕ) → IsRank es e.id i → i ≤ length es → place_of entry_id es e ≡ i
+pub rank_place : (es : List Entry) (e : Entry) (i : ℕ) → IsRank entry_id es e.id i → i ≤ length es → place_of entry_id es e ≡ i
 rank_place es e i rank within =
     position_or_len_is (λ (y : Entry). not (ltb y.id e.id)) es i e within
     (λ k h. ap not (rank.0 k e (omega arith) h))
@@ -77,7 +45,7 @@ pub entry_found : (es : List Entry) (who at : ℕ) (e : Entry) → StandsAt entr
 entry_found es who at e stands up here = entry_at es who at e stands up ∙ ap (λ (x : Entry). Some x) (sym here)
 
 -- an entry that is put in at its rank
-pub entry_placed : (es after : List Entry) (e : Entry) (rank : ℕ) → IsRank es e.id rank → rank ≤ length es → after ≡ insert es rank e → after ≡ with_record entry_id es e
+pub entry_placed : (es after : List Entry) (e : Entry) (rank : ℕ) → IsRank entry_id es e.id rank → rank ≤ length es → after ≡ insert es rank e → after ≡ with_record entry_id es e
 entry_placed es after e rank is within put = put ∙ ap (λ k. insert es k e) (sym (rank_place es e rank is within)) ∙ insert_place entry_id e es
 
 module _ {T : Type 0} where

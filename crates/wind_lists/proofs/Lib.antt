@@ -4,3 +4,4 @@ pub mod Records
 pub mod Passing
 pub mod Places
 pub mod Arrivals
+pub mod Halving
