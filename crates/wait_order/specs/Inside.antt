@@ -76,14 +76,14 @@ abbrev pub stays : List Waiter → Waiter → Bool
 stays ws w = is_behind (first (run ws w.place)) w
 
 -- a waiter has gone that stood before this one; the firsts are as they were
-pub record IsGone (cs : List (List (ℕ × Waiter))) (fronts : List Front) (w : Waiter) (next : Option ℕ) : Type 0 where
+pub record IsGone (cs : List (List (ℕ × Waiter))) (fs : List Front) (w : Waiter) (next : Option ℕ) : Type 0 where
   pub front : List Waiter
   pub back : List Waiter
   pub left : cs ≡ map cell_of (front ++ back) ∷ []
   pub next_is : next ≡ first_who back
   pub order : front ++ w ∷ back ≡ sorted precedes (front ++ w ∷ back)
   pub apart : Apart (map cell_of (front ++ w ∷ back))
-  pub ahead : AreFronts (front ++ w ∷ back) fronts
+  pub ahead : AreFronts (front ++ w ∷ back) fs
 
 -- this waiter, where it waits at a place
 abbrev pub if_there : Place → ℕ → Option Waiter → Option ℕ

@@ -24,8 +24,8 @@ pub struct Waiter {
     pub since: u64,
 }
 
-/// The tasks that wait, each at one place; at most so many. They stand in one linked list, by place and at each place in
-/// order, and the first of each place where somebody waits is kept beside it.
+/// The tasks that wait, each at one place; at most so many. They stand in one linked list, by place and at each
+/// place in order, and the first of each place where somebody waits is kept beside it.
 #[derive(Drop)]
 pub struct Waits {
     waiters: IdLists<Waiter>,
