@@ -1,17 +1,16 @@
 -- Lists by id, over lists by key and an index.
 use Rattle.std.proofs.Common.{◌≡◌, ℕ, zero, suc, ◌+◌, ◌<◌, ◌≤◌, Bool, true, false, cond, not, eqb, ltb, List, [], ◌∷◌, ◌++◌, map, set, length, get_or, replicate, Option, None, Some, refl, sym, ap, ◌∙◌, subst, arith, ⊎_elim, append_assoc}
-use Rattle.std.specs.Prelude.{IsSome, nat_lt}
+use Rattle.std.specs.Prelude.{IsSome}
 use Rattle.std.specs.Option.{option_map}
 use Rattle.std.specs.List.{All, filter, insert}
-use Rattle.std.specs.List.Sorted.{IsPartitionPoint, IsNonDecreasingBy}
-use Rattle.std.proofs.lemmas.Bool.{cases_eq, cases_lt, eqb-true, eqb-false, eq-eqb, ne_eqb, ltb-true, ltb-false}
+use Rattle.std.proofs.lemmas.Bool.{cases_eq, cases_lt, eqb-true, eqb-false, eq-eqb, ne_eqb}
 use Rattle.std.proofs.lemmas.List.{get_or_past, get_or-map, map-set, length-map, length-append}
 use Rattle.std.proofs.lemmas.List.Elements.{All-append, All-cons, All-head, All-tail, All-weaker, All-filter, filter_passes, filter-append}
 use Rattle.std.proofs.lemmas.List.Sums.{position_or_len_is}
 use Rattle.std.proofs.lemmas.Option.{same_Some}
 use Rattle.wind_lists.specs.Records.{of_id, without, with_record, StandsAt, Rising}
 use Rattle.wind_lists.proofs.Records.{found_place}
-use Rattle.wind_lists.proofs.Halving.{IsRank, none_of}
+use Rattle.wind_lists.proofs.Halving.{IsRank}
 use Rattle.wind_lists.proofs.Sorting.{length-insert_sorted}
 use Rattle.wind_lists.proofs.Places.{place_of, insert_place, of_id-without, of_id-with_record, Rising-without, Rising-with_record}
 use Rattle.linked_lists.specs.declared.index.Entry.{Entry}
