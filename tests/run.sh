@@ -60,6 +60,33 @@ blanks() {
     printf "%$2s" '' >"$work/session/$1"
 }
 
+# Writes the bytes of words in hexadecimal digits.
+bytes() {
+    for word in "$@"; do
+        while [ -n "$word" ]; do
+            rest=${word#??}
+            byte=$((0x${word%"$rest"}))
+            printf "\\$((byte / 64))$((byte / 8 % 8))$((byte % 8))"
+            word=$rest
+        done
+    done
+}
+
+# Puts the bytes of words in hexadecimal digits into a file of the case.
+words() {
+    target=$1
+    shift
+    bytes "$@" >"$work/session/$target"
+}
+
+# Puts the bytes of words in hexadecimal digits over those of a file of the case from a place on.
+patch() {
+    target=$1
+    at=$2
+    shift 2
+    bytes "$@" | dd of="$work/session/$target" bs=1 seek="$at" conv=notrunc 2>"$work/log"
+}
+
 without() {
     rm "$work/session/$1"
 }
@@ -193,14 +220,15 @@ outcome() {
         esac
         case $part in
         nothing) ;;
+        '') echo ;;
         *[!-0-9]*) printf '%s\n' "$part" ;;
         *) value "$part" ;;
         esac
     done
 }
 
-# Plays a console whose lines are those of a table, without words. The case ends quiet, and each line comes to what its row
-# says.
+# Plays a console whose lines are those of a table, with these words. The case ends quiet, and each line comes to what its
+# row says.
 rows() {
     : >"$work/session/console.txt"
     printf '%s' '-> ' >"$work/expected"
@@ -214,7 +242,7 @@ rows() {
         } >>"$work/expected"
     done
     difference=
-    plays
+    plays "$@"
     [ "$status" = 0 ] || differs "status $status, not 0"
     place=$(cd "$work" && cmp expected stdout 2>&1) || differs "$place"
     compare stderr ''

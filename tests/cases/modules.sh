@@ -1,17 +1,6 @@
 # Modules that are loaded and unloaded during a run. The object files are made by the GNU assembler for PowerPC; each holds what is
 # said above it.
 
-# Puts the bytes of words in hexadecimal digits into a file of the case.
-words() {
-    name=$1
-    shift
-    for word in "$@"; do
-        for byte in $(echo "$word" | sed 's/../& /g'); do
-            printf "\\$(printf '%03o' "0x$byte")"
-        done
-    done >"$work/session/$name"
-}
-
 # 16 bytes of code, with the global `f` at their start.
 put_f() {
     words "$1" \

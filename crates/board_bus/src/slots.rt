@@ -87,6 +87,7 @@ fn store(slots: &mut Slots, i: usize, off: u32, v: u32) -> bool
 }
 
 /// Loads the word of a device. None where the address reaches none.
+#[inline(never)]
 pub(crate) fn load_word(slots: &mut Slots, addr: u32) -> Option<u32>
     ensures answer { result
         ≡ answer_of (reached (slots_of kind_of words_of slots.old.items) 4 addr) (slot_offset_lem addr) }
@@ -104,6 +105,7 @@ pub(crate) fn load_word(slots: &mut Slots, addr: u32) -> Option<u32>
 }
 
 /// Stores a word to a device. Whether the address reaches one.
+#[inline(never)]
 pub(crate) fn store_word(slots: &mut Slots, addr: u32, v: u32) -> bool
     ensures answer { result ≡ is_some (reached (slots_of kind_of words_of slots.old.items) 4 addr) }
     ensures slots { slots_of kind_of words_of slots.new.items

@@ -85,7 +85,7 @@ impl Pages {
     }
 
     // The `n` bytes from an address on, which are in one page.
-    #[inline]
+    #[inline(always)]
     pub(crate) fn piece(&self, at: u32, n: usize) -> &[u8]
         requires some { 0 < n }
         requires page { at % page_bytes + n ≤ page_bytes }
@@ -97,7 +97,7 @@ impl Pages {
     }
 
     // Writes bytes from an address on, which are all in its page.
-    #[inline]
+    #[inline(always)]
     fn put(&mut self, at: u32, src: &[u8])
         requires some { 0 < length src.now }
         requires page { at % page_bytes + length src.now ≤ page_bytes }
@@ -118,7 +118,9 @@ impl Pages {
         let start = place_made(&mut self.index, &mut self.store, at as usize);
         fill_in(&mut self.store, start, n, byte);
     }
+
     // Writes bytes from an address on, page by page.
+    #[inline(never)]
     fn put_across(&mut self, at: u32, src: &[u8])
         requires { at + length src.now ≤ length self.old.bytes }
         ensures { self.new ≡ written_at self.old at src.now }
@@ -151,6 +153,7 @@ impl Pages {
     }
 
     // Fills `dst` with the bytes from an address on, page by page.
+    #[inline(never)]
     pub(crate) fn get_across(&self, at: u32, dst: &mut [u8])
         requires { at + length dst.old ≤ length self.now.bytes }
         ensures { dst.new ≡ bytes_at self.now.bytes at (length dst.old) }
@@ -195,7 +198,7 @@ impl Pages {
     }
 
     /// Writes the bytes of `src` from an address on. It makes the pages that they meet, and none where it refuses.
-    #[inline]
+    #[inline(always)]
     pub fn write(&mut self, at: u32, src: &[u8]) -> Result<(), Outside>
         ensures ok { IsOk result ↔ IsTrue (has_lem self.old.bytes at (length src.now)) }
         ensures pages { self.new ≡ (if has_lem self.old.bytes at (length src.now)

@@ -2,7 +2,7 @@
 
 ghost use Rattle.std.specs.Prelude.{◌≡◌, ◌<◌, ◌≤◌, ◌+◌, ◌^◌, ◌==◌, ◌↔◌, IsTrue, IsOk, IfOk, IfSome, if◌then◌else◌, length, take, position, replicate};
 ghost use Rattle.wind_base.specs.Limits.{longest_string};
-ghost use Rattle.board_mem.specs.Memory.{has, read, written, bytes_at, with_bytes, string_length, string_at, string_over};
+ghost use Rattle.board_mem.specs.Memory.{has, read, written, number_at, bytes_at, with_bytes, string_length, string_at, string_over};
 
 use crate::outside::Outside;
 use crate::pages::{Pages, left_in_page};
@@ -84,9 +84,20 @@ impl Ram {
         if left_in_page(addr) >= 2 {
             return Some(BigEndian::read_u16(self.pages.piece(addr, 2)) as u32);
         }
+        Some(self.half_word_across(addr))
+    }
+
+    // The half word at an address, one byte in each of two pages.
+    #[cold]
+    #[inline(never)]
+    fn half_word_across(&self, addr: u32) -> u32
+        requires { IsTrue (has self.now addr 2) }
+        ensures is { result ≡ number_at 2 self.now addr }
+        ensures below { result < 2 ^ 16 }
+    {
         let mut bytes = [0; 2];
         self.pages.get_across(addr, &mut bytes);
-        Some(BigEndian::read_u16(&bytes) as u32)
+        BigEndian::read_u16(&bytes) as u32
     }
 
     /// The word at an address. None where a byte of it is outside.
@@ -100,9 +111,19 @@ impl Ram {
         if left_in_page(addr) >= 4 {
             return Some(BigEndian::read_u32(self.pages.piece(addr, 4)));
         }
+        Some(self.word_across(addr))
+    }
+
+    // The word at an address whose bytes are in two pages.
+    #[cold]
+    #[inline(never)]
+    fn word_across(&self, addr: u32) -> u32
+        requires { IsTrue (has self.now addr 4) }
+        ensures { result ≡ number_at 4 self.now addr }
+    {
         let mut bytes = [0; 4];
         self.pages.get_across(addr, &mut bytes);
-        Some(BigEndian::read_u32(&bytes))
+        BigEndian::read_u32(&bytes)
     }
 
     /// Writes the low byte of `v` to an address.
@@ -146,7 +167,7 @@ impl Ram {
     }
 
     /// Writes the bytes of `src` from an address on.
-    #[inline]
+    #[inline(always)]
     pub fn copy_in(&mut self, addr: u32, src: &[u8]) -> Result<(), Outside>
         ensures ok { IsOk result ↔ IsTrue (has self.old addr (length src.now)) }
         ensures bytes { self.new ≡ (if has self.old addr (length src.now)

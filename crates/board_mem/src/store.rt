@@ -10,6 +10,7 @@ pub(crate) const PAGE: usize = 4_096;
 
 // The number that a page which was not made gets, with a page of zeros at the end of the store.
 #[cold]
+#[inline(never)]
 fn make(index: &mut [u32], store: &mut Vec<u8>, page: usize) -> usize
     requires stored { AreStored index.old store.old.items (vec_capacity store.old) }
     requires there { page < length index.old }
@@ -31,7 +32,7 @@ fn make(index: &mut [u32], store: &mut Vec<u8>, page: usize) -> usize
 }
 
 // The number of a page in the store. The page is made if it was not.
-#[inline]
+#[inline(always)]
 fn number_made(index: &mut [u32], store: &mut Vec<u8>, page: usize) -> usize
     requires stored { AreStored index.old store.old.items (vec_capacity store.old) }
     requires there { page < length index.old }
@@ -50,7 +51,7 @@ fn number_made(index: &mut [u32], store: &mut Vec<u8>, page: usize) -> usize
 }
 
 /// Where the byte at an address stands in the store, in a page that is made if it was not.
-#[inline]
+#[inline(always)]
 pub(crate) fn place_made(index: &mut [u32], store: &mut Vec<u8>, at: usize) -> usize
     requires stored { AreStored index.old store.old.items (vec_capacity store.old) }
     requires there { page_of at < length index.old }
@@ -61,7 +62,7 @@ pub(crate) fn place_made(index: &mut [u32], store: &mut Vec<u8>, at: usize) -> u
 }
 
 /// Where the byte at an address stands in the store.
-#[inline]
+#[inline(always)]
 pub(crate) fn place(index: &[u32], at: usize) -> usize
     requires there { page_of at < length index.now }
     ensures { result ≡ place_of index.now at }
@@ -70,7 +71,7 @@ pub(crate) fn place(index: &[u32], at: usize) -> usize
 }
 
 /// Writes bytes from a place on.
-#[inline]
+#[inline(always)]
 pub(crate) fn put_in(store: &mut [u8], start: usize, src: &[u8])
     requires { start + length src.now ≤ length store.old }
     ensures { store.new ≡ with_bytes store.old start src.now }

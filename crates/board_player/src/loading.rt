@@ -47,6 +47,7 @@ fn is_shells_step(parts: &Parts) -> bool
 
 // The file that the shell's task asks for where it stands, in a call, if the next step is its own.
 #[tactic(auto, using(crate::proofs::Asked::asked_is))]
+#[inline(never)]
 fn asked_in_call(parts: &Parts) -> Result<Option<Name>, NoMemory>
     requires { parts.now.shell.phase ≡ phases.Call }
     ensures asked { IfOk result (λ o. o ≡ file_asked (parts_seen ⟦<dyn Device as Device>⟧ parts.now)) }
@@ -63,6 +64,7 @@ fn asked_in_call(parts: &Parts) -> Result<Option<Name>, NoMemory>
 
 /// The name of the file that the next step asks for, if it does.
 #[tactic(auto, using(crate::proofs::Asked::asked_is))]
+#[inline]
 pub(crate) fn asked_file(parts: &Parts) -> Result<Option<Name>, NoMemory>
     ensures asked { IfOk result (λ o. o ≡ file_asked (parts_seen ⟦<dyn Device as Device>⟧ parts.now)) }
     ensures memory { OnErr result (IsSome (file_asked (parts_seen ⟦<dyn Device as Device>⟧ parts.now))) }

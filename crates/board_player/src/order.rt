@@ -53,6 +53,7 @@ pub struct Running {
 }
 
 /// Which task runs, which is asked where it is not known.
+#[inline(never)]
 pub(crate) fn asked(parts: &Parts) -> Running
     ensures who { result.who ≡ option_map task_id (running_lem parts.now.world.kern) }
     ensures back { result.is_open ≡ not (holds_back (running_lem parts.now.world.kern)) }
@@ -82,6 +83,7 @@ fn who_runs(parts: &Parts, known: Option<Running>) -> Running
 }
 
 /// The event that is due, if one is, where it is known whether interrupts may come.
+#[inline]
 pub(crate) fn due_event(parts: &Parts, is_open: bool) -> Option<Event>
     requires { is_open ≡ is_open_lem (parts_seen ⟦<dyn Device as Device>⟧ parts.now) }
     ensures { result ≡ option_map event_of (due_event_lem (parts_seen ⟦<dyn Device as Device>⟧ parts.now)) }
@@ -96,6 +98,7 @@ pub(crate) fn due_event(parts: &Parts, is_open: bool) -> Option<Event>
 }
 
 /// Whether the next chunk of the console is due.
+#[inline]
 pub(crate) fn console_is_due(parts: &Parts, is_open: bool) -> bool
     requires { is_open ≡ is_open_lem (parts_seen ⟦<dyn Device as Device>⟧ parts.now) }
     ensures { result ≡ console_is_due_lem (parts_seen ⟦<dyn Device as Device>⟧ parts.now) }
@@ -108,6 +111,7 @@ pub(crate) fn console_is_due(parts: &Parts, is_open: bool) -> bool
 }
 
 // The shell's step, by its phase. For want of memory nothing changes.
+#[inline(never)]
 fn run_shell(parts: &mut Parts) -> Result<(), NoMemory>
     requires good { Good (inside parts.old) }
     requires few { parts.old.clock.steps < most_steps }
@@ -137,6 +141,7 @@ fn run_shell(parts: &mut Parts) -> Result<(), NoMemory>
 
 // The step of whoever runs. For want of memory nothing changes. Tells whether it was an instruction that came without an
 // exception.
+#[inline]
 fn run_task(parts: &mut Parts, who: Ident) -> Result<bool, NoMemory>
     requires good { Good (inside parts.old) }
     requires few { parts.old.clock.steps < most_steps }
@@ -161,6 +166,7 @@ fn run_task(parts: &mut Parts, who: Ident) -> Result<bool, NoMemory>
 }
 
 // Board time becomes that of the next event. False, and nothing changes, where there is none.
+#[inline(never)]
 fn jump_on(parts: &mut Parts) -> bool
     requires few { parts.old.clock.steps < most_steps }
     requires space { IsSpacious parts.old }
@@ -229,6 +235,7 @@ pub(crate) fn is_early(parts: &Parts)
 // Makes the next step, if there is one, where no interrupt routine is active. For want of memory nothing changes. Who
 // runs is kept where it is known.
 #[tactic(auto, unfolding(wind_machine::specs::Machine::plain_step), using(crate::proofs::Running::opens))]
+#[inline]
 fn step_tasks(parts: &mut Parts, known: &mut Option<Running>) -> Made
     requires idle { is_active_lem (parts_seen ⟦<dyn Device as Device>⟧ parts.old).world ≡ false }
     requires good { Good (inside parts.old) }
@@ -276,6 +283,7 @@ fn is_active(parts: &Parts, known: &Option<Running>) -> bool
 /// Makes the next step, if there is one, where it asks for no file. For want of memory nothing changes. Which task runs
 /// is kept where it is known.
 #[tactic(auto, using(crate::proofs::Running::routine_runs))]
+#[inline]
 pub(crate) fn make_step(parts: &mut Parts, known: &mut Option<Running>) -> Made
     requires good { Good (inside parts.old) }
     requires few { parts.old.clock.steps < most_steps }

@@ -50,6 +50,8 @@ fn tell(world: &mut World, who: Ident, trap: Trap)
 
 /// A task causes an exception: it is suspended, with its registers as they are; in a call of the shell, the shell
 /// aborts.
+#[cold]
+#[inline(never)]
 pub(crate) fn fault(shell: &mut Shell, world: &mut World, who: Ident, trap: Trap)
     requires live { Lives world.old.kern who }
     requires since { world.old.kern.next_since + 2 < 2 ^ 64 }
@@ -181,6 +183,7 @@ fn run_word(world: &mut World, who: Ident, word: u32) -> Result<(), Trap>
 }
 
 /// The program counter of a task.
+#[inline]
 pub(crate) fn counter(world: &World, who: Ident) -> u32
     ensures { result ≡ (regs_of (world_seen ⟦<dyn Device as Device>⟧ world.now) who).pc }
 {
@@ -192,6 +195,7 @@ pub(crate) fn counter(world: &World, who: Ident) -> u32
 
 /// The instruction at this address is executed by a task. Where none can be fetched it is an access to nothing. Tells
 /// whether it came without an exception; only registers of the task and the bus change then.
+#[inline]
 pub(crate) fn execute(shell: &mut Shell, world: &mut World, who: Ident, at: u32) -> bool
     requires live { Lives world.old.kern who }
     requires kern { IsKern world.old.kern }

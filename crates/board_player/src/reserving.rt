@@ -40,6 +40,7 @@ pub(crate) fn other_holder(kern: &Kern, who: Ident) -> Option<Ident>
 }
 
 // This task, if one, keeps no reservation.
+#[inline]
 fn drop_of(kern: &mut Kern, holder: Option<Ident>)
     requires { IfSome holder (λ last. Lives kern.old last) }
     ensures { kern.new ≡ without kern.old holder }
@@ -51,6 +52,7 @@ fn drop_of(kern: &mut Kern, holder: Option<Ident>)
 
 /// No task but this one keeps a reservation.
 #[tactic(auto, using(crate::proofs::Dropped::dropped_others))]
+#[inline]
 pub(crate) fn drop_others(kern: &mut Kern, who: Ident)
     requires { ReservedBy kern.old.last kern.old }
     ensures { kern.new ≡ drop_others_lem kern.old who }

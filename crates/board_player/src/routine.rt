@@ -158,6 +158,7 @@ fn run_routine(alloc: Global, world: &mut World)
 
 /// The interrupt routine that is active makes a step.
 #[tactic(auto, using(crate::proofs::Readied::good_early))]
+#[inline(never)]
 pub(crate) fn step_routine(parts: &mut Parts)
     requires active { is_active (parts_seen ⟦<dyn Device as Device>⟧ parts.old).world ≡ true }
     requires good { Good (inside parts.old) }

@@ -127,6 +127,7 @@ pub(crate) fn evaluate(parts: &mut Parts) -> Result<(), NoMemory>
 
 // An instruction of a task that stands at no gate. Tells whether it came without an exception.
 #[tactic(auto, using(crate::proofs::Readied::good_early))]
+#[inline]
 fn run_word(parts: &mut Parts, who: Ident, at: u32) -> bool
     requires good { Good (inside parts.old) }
     requires few { parts.old.clock.steps < most_steps }
@@ -148,6 +149,7 @@ fn run_word(parts: &mut Parts, who: Ident, at: u32) -> bool
 
 // What a task does at a gate. For want of memory nothing changes.
 #[tactic(auto, using(crate::proofs::Readied::good_early))]
+#[inline(never)]
 fn run_gate(parts: &mut Parts, who: Ident, at: u32, gate: Gate) -> Result<(), NoMemory>
     requires good { Good (inside parts.old) }
     requires few { parts.old.clock.steps < most_steps }
@@ -180,6 +182,7 @@ fn run_gate(parts: &mut Parts, who: Ident, at: u32, gate: Gate) -> Result<(), No
 
 /// A task is at a gate, or makes an instruction. For want of memory, which comes only at a gate whose call may lack it,
 /// nothing changes. Tells whether it was an instruction that came without an exception.
+#[inline(always)]
 pub(crate) fn run(parts: &mut Parts, who: Ident) -> Result<bool, NoMemory>
     requires good { Good (inside parts.old) }
     requires few { parts.old.clock.steps < most_steps }
@@ -208,6 +211,7 @@ pub(crate) fn run(parts: &mut Parts, who: Ident) -> Result<bool, NoMemory>
 }
 
 /// The next chunk of the console arrives.
+#[inline(never)]
 pub(crate) fn arrive(parts: &mut Parts)
     requires good { Good (inside parts.old) }
     requires few { parts.old.clock.steps < most_steps }
@@ -279,6 +283,7 @@ fn receive(parts: &mut Parts, n: u32)
 
 /// The event that is due comes.
 #[tactic(auto, using(crate::proofs::Readied::all_live))]
+#[inline(never)]
 pub(crate) fn come(parts: &mut Parts, event: Event)
     requires idle { is_active (parts_seen ⟦<dyn Device as Device>⟧ parts.old).world ≡ false }
     requires good { Good (inside parts.old) }

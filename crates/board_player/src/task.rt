@@ -52,6 +52,7 @@ fn is_at_console(task: &Task) -> bool
 }
 
 /// Whether it waits for the console.
+#[inline(never)]
 pub(crate) fn waits_for_console(kern: &Kern) -> bool
     ensures { result ≡ waits_for_console_lem kern.now }
 {

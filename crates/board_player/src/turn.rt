@@ -16,6 +16,7 @@ use wind_outside::Device;
 
 /// The turn of a task begins: nothing is written yet, and no other task has a reservation.
 #[tactic(auto, using(crate::proofs::Readied::readies))]
+#[inline]
 pub(crate) fn turn(world: &mut World, who: Ident)
     requires reserved { ReservedBy world.old.kern.last world.old.kern }
     requires kept { IsWorld (world_with [] world.old) }

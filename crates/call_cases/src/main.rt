@@ -1,4 +1,5 @@
-//! Plays tables of calls over a world from its start on, and tells of each whether it goes as it was worked out by hand.
+//! Plays tables of calls over a world from its start on, and tells of each whether it goes as it was worked out by
+//! hand.
 #![tactic(auto)]
 
 mod bench;

@@ -81,17 +81,25 @@ impl Delays {
         true
     }
 
+    /// The first of the tasks, where it is due at a tick: of those of the least wake the one that was put in first. None
+    /// where nobody is due.
+    pub fn first_due(&self, tick: u64) -> Option<Ident>
+        ensures { result ≡ due_at self.now.tasks tick }
+    {
+        let wake = *self.tasks.first_value(LIST)?;
+        if wake > tick {
+            return None;
+        }
+        self.tasks.first(LIST)
+    }
+
     /// Takes the first of the tasks out where it is due at a tick: of those of the least wake the one that was put in
     /// first. None, and nothing changes, where nobody is due.
     pub fn due(&mut self, tick: u64) -> Option<Ident>
         ensures value { result ≡ due_at self.old.tasks tick }
         ensures tasks { self.new ≡ without_due self.old tick }
     {
-        let wake = *self.tasks.first_value(LIST)?;
-        if wake > tick {
-            return None;
-        }
-        let who = self.tasks.first(LIST)?;
+        let who = self.first_due(tick)?;
         self.take(who);
         Some(who)
     }

@@ -1,8 +1,7 @@
 pub mod Walk
 pub mod Long
-pub mod Steps
 pub mod Lookups
 pub mod Raising
-pub mod Best
-pub mod Turn
 pub mod Same
+pub mod Inheriting
+pub mod Path

@@ -1,8 +1,7 @@
 -- What raising leaves: who waits for whom, and each task's priority.
-use Rattle.std.proofs.Common.{◌≡◌, ℕ, zero, suc, ◌<◌, ◌≤◌, Bool, true, false, cond, ◌||◌, eqb, List, [], ◌∷◌, map, length, get_or, Option, None, Some, is_some, refl, sym, ap, ◌∙◌, subst, arith, ⊎_elim}
+use Rattle.std.proofs.Common.{◌≡◌, ℕ, suc, ◌+◌, ◌<◌, ◌≤◌, Bool, true, false, cond, ◌||◌, eqb, List, [], ◌∷◌, length, get_or, Option, None, Some, is_some, refl, sym, ap, ◌∙◌, subst, arith, ⊎_elim}
 use mathlib.Core.Path.{fun_ext}
 use Rattle.std.specs.Option.{option_map}
-use Rattle.std.specs.List.{filter, Contains}
 use Rattle.std.proofs.lemmas.Bool.{cases_eq, ne_eqb, eq-eqb, eqb-true}
 use Rattle.std.proofs.lemmas.Option.{same_Some}
 use Rattle.std.proofs.lemmas.List.{length-map}
@@ -13,21 +12,20 @@ use Rattle.wind_core.specs.State.{KernState, task_id, task_of}
 use Rattle.wind_core.specs.Moves.{change_pri, move_found, has_pri, settled, renewed, with_pri}
 use Rattle.wind_core.proofs.Ids.{ids, ids-change}
 use Rattle.inheritance.specs.declared.mutex.Mutex.{Mutex}
-use Rattle.inheritance.specs.Reach.{boss, live_one, wait_of, owner_at, pri_of, pri_in, is_on, path, reaches, urgency, lifted, repried, raised_kern}
+use Rattle.inheritance.specs.Reach.{boss, live_one, wait_of, owner_at, pri_of, pri_in, is_on, lifted, repried, raised_kern}
 use Rattle.inheritance.specs.Laws.{StaysIn}
-use Rattle.inheritance.proofs.Lookups.{live_is, on_ids, place_on, on_at, each_lives}
-use Rattle.inheritance.proofs.Walk.{path_cases, most_own, most_of}
-use Rattle.inheritance.proofs.Long.{owner_law, most_each}
+use Rattle.inheritance.proofs.Lookups.{live_is, on_ids, place_on, each_lives}
+use Rattle.inheritance.proofs.Long.{owner_law}
 use Rattle.wind_core.proofs.Unwritten.{task_of-change}
 
 -- ---- a change of a priority changes no wait, and that priority alone
-repri-id : (n pri : ℕ) (t : Task) → (settled n (with_pri pri t)).id ≡ t.id
+pub repri-id : (n pri : ℕ) (t : Task) → (settled n (with_pri pri t)).id ≡ t.id
 repri-id n pri t = elim (is_ready (with_pri pri t)) as (λ b. (cond b (renewed n (with_pri pri t)) (with_pri pri t)).id ≡ t.id) [ true ↦ refl | false ↦ refl ]
 
-repri-wait : (n pri : ℕ) (t : Task) → (settled n (with_pri pri t)).wait ≡ t.wait
+pub repri-wait : (n pri : ℕ) (t : Task) → (settled n (with_pri pri t)).wait ≡ t.wait
 repri-wait n pri t = elim (is_ready (with_pri pri t)) as (λ b. (cond b (renewed n (with_pri pri t)) (with_pri pri t)).wait ≡ t.wait) [ true ↦ refl | false ↦ refl ]
 
-repri-pri : (n pri : ℕ) (t : Task) → (settled n (with_pri pri t)).pri ≡ pri
+pub repri-pri : (n pri : ℕ) (t : Task) → (settled n (with_pri pri t)).pri ≡ pri
 repri-pri n pri t = elim (is_ready (with_pri pri t)) as (λ b. (cond b (renewed n (with_pri pri t)) (with_pri pri t)).pri ≡ pri) [ true ↦ refl | false ↦ refl ]
 
 -- the tasks after one change of a priority
@@ -73,6 +71,18 @@ repries r id pri t e =
       | false ↦ λ b. moved_pri r id pri t e
     ] refl)
 
+-- at most one order number is given
+pub since-change_pri : (r : KernState) (who pri : ℕ) → (change_pri r who pri).next_since ≤ r.next_since + 1
+since-change_pri r who pri =
+    elim (has_pri pri (task_of r.tasks who)) as (λ b. (cond b r (move_found r who (with_pri pri) (task_of r.tasks who))).next_since ≤ r.next_since + 1) [
+      | true ↦ omega arith
+      | false ↦
+          elim (task_of r.tasks who) as (λ o. (move_found r who (with_pri pri) o).next_since ≤ r.next_since + 1) [
+            | None ↦ omega arith
+            | Some t ↦ elim (is_ready (with_pri pri t)) as (λ b. r.next_since + cond b 1 0 ≤ r.next_since + 1) [ true ↦ omega arith | false ↦ omega arith ]
+          ]
+    ]
+
 -- ---- all are changed in turn
 pub record RaisedTo (r n : KernState) (goal : ℕ → ℕ) (some : List ℕ) : Type 0 where
   pub alike : ids n.tasks ≡ ids r.tasks
@@ -117,7 +127,7 @@ pub raised_to : (k : KernState) (ms : List (ℕ × Mutex)) → RaisedTo k (raise
 raised_to k ms = raise_all (lifted k ms) k.tasks k (each_lives k.tasks)
 
 -- ---- who waits for whom stays
-boss-alike : (ts us : List Task) (ms : List (ℕ × Mutex)) → ((y : ℕ) → option_map (λ t. t.wait) (task_of us y) ≡ option_map (λ t. t.wait) (task_of ts y)) → (y : ℕ) → boss us ms y ≡ boss ts ms y
+pub boss-alike : (ts us : List Task) (ms : List (ℕ × Mutex)) → ((y : ℕ) → option_map (λ t. t.wait) (task_of us y) ≡ option_map (λ t. t.wait) (task_of ts y)) → (y : ℕ) → boss us ms y ≡ boss ts ms y
 boss-alike ts us ms h y = one_alike (owner_at ms (wait_of (task_of us y))) ∙ ap (λ w. live_one ts (owner_at ms w)) (wait_alike (task_of ts y) (task_of us y) (h y))
   where
     some_alike : (o p : Option Task) → option_map (λ t. t.wait) p ≡ option_map (λ t. t.wait) o → is_some p ≡ is_some o
@@ -168,44 +178,3 @@ boss_urgent k ms few y x e =
     let px : pri_of (raised_kern k ms).tasks x ≡ lifted k ms x = to.pris x ∙ ap (λ b. cond b (lifted k ms x) (pri_of k.tasks x)) (on_ids k.tasks x live.1) in
     let py : pri_of (raised_kern k ms).tasks y ≡ lifted k ms y = to.pris y ∙ ap (λ b. cond b (lifted k ms y) (pri_of k.tasks y)) (on_ids k.tasks y live.0) in
     omega (arith, px, py, law)
-
--- ---- it is of no account whether others have been raised before
-module _ (up : ℕ → Option ℕ) (pri : ℕ → ℕ) (n : ℕ) (all : List ℕ) (within : StaysIn up all) (long : length all ≤ n) where
-  -- who is reached is at least as urgent
-  reach_less : (m y x : ℕ) → Contains all y → is_on (path up m y) x ≡ true → urgency up pri n all x ≤ urgency up pri n all y
-  reach_less zero y x at h = absurd (cc)
-  reach_less (suc m) y x at h =
-      let s = path_cases up m y x h in
-      let step = owner_law up pri n all within long y s.0 s.1 at in
-      ⊎_elim
-      (λ (e : s.0 ≡ x). subst (λ v. urgency up pri n all v ≤ urgency up pri n all y) e step)
-      (λ (r : is_on (path up m s.0) x ≡ true). let ih = reach_less m s.0 x (place_on all s.0 (within y s.0 s.1)) r in omega (arith, ih, step))
-      s.2
-
-  pub urgency_again : (now : ℕ → ℕ) → ((y : ℕ) → is_on all y ≡ true → (urgency up pri n all y ≤ now y) × (now y ≤ pri y)) → (x : ℕ) → is_on all x ≡ true → urgency up now n all x ≡ urgency up pri n all x
-  urgency_again now between x on =
-      let here = between x on in
-      let own = most_own now (now x) (map now (filter (λ y. reaches up n y x) all)) in
-      let low = most_each pri (urgency up now n all x) (pri x) (λ y. reaches up n y x) all (omega (arith, own, here.1)) (λ k v hk e r.
-      let one = most_of now (now x) (λ y. reaches up n y x) all k v hk e r in
-      let there = between v (on_at all k v hk e) in
-      omega (arith, one, there.1)) in
-      let high = most_each now (urgency up pri n all x) (now x) (λ y. reaches up n y x) all here.0 (λ k v hk e r.
-      let less = reach_less n v x (k, hk, e) r in
-      let there = between v (on_at all k v hk e) in
-      omega (arith, less, there.0)) in
-      omega (arith, low, high)
-
-pub lifted_again : (k r : KernState) (ms : List (ℕ × Mutex)) (some : List ℕ) → length k.tasks ≤ 256 → RaisedTo k r (lifted k ms) some → (x : ℕ) → is_some (task_of k.tasks x) ≡ true → lifted r ms x ≡ lifted k ms x
-lifted_again k r ms some few to x live =
-    ap (λ up. urgency up (pri_of r.tasks) 256 (ids r.tasks) x) (bosses k r (lifted k ms) some ms to)
-    ∙ ap (λ all. urgency (boss k.tasks ms) (pri_of r.tasks) 256 all x) to.alike
-    ∙ urgency_again (boss k.tasks ms) (pri_of k.tasks) 256 (ids k.tasks) (stays k.tasks ms) (omega (arith, length-map k.tasks task_id)) (pri_of r.tasks)
-    (λ y on.
-    let less = most_own (pri_of k.tasks) (pri_of k.tasks y) (map (pri_of k.tasks) (filter (λ z. reaches (boss k.tasks ms) 256 z y) (ids k.tasks))) in
-    let is = to.pris y in
-    elim (is_on some y) as (λ b. pri_of r.tasks y ≡ cond b (lifted k ms y) (pri_of k.tasks y) → (lifted k ms y ≤ pri_of r.tasks y) × (pri_of r.tasks y ≤ pri_of k.tasks y)) [
-      | true ↦ λ q. (omega (arith, q), omega (arith, q, less))
-      | false ↦ λ q. (omega (arith, q, less), omega (arith, q))
-    ] is)
-    x (on_ids k.tasks x live)

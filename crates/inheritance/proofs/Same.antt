@@ -13,7 +13,7 @@ use Rattle.wind_core.proofs.Ids.{ids}
 use Rattle.inheritance.specs.declared.mutex.Mutex.{Mutex}
 use Rattle.inheritance.specs.Mutexes.{both}
 use Rattle.inheritance.specs.Reach.{boss, live_one, wait_of, owner_at, pri_of, pri_in, is_on, path, reaches, urgency, lifted, repried, raised_kern, raised}
-use Rattle.inheritance.specs.Laws.{OwnersUrgent, RaisedLaw, SameLaw}
+use Rattle.inheritance.specs.Laws.{GoodBut, OwnersUrgent, OwnersUrgentBut, RaisedLaw, SameLaw}
 use Rattle.inheritance.proofs.Lookups.{live_is}
 use Rattle.inheritance.proofs.Walk.{path_cases, most_own, most_least}
 use Rattle.inheritance.proofs.Raising.{boss_urgent, boss_lives}
@@ -42,17 +42,21 @@ pub boss_owner : (ts : List Task) (o : Option ℕ) (x : ℕ) → live_one ts o �
 boss_owner ts None x e = absurd (cc)
 boss_owner ts (Some id) x e = elim (is_some (task_of ts id)) as (λ b. cond b (Some id) None ≡ Some x → Some id ≡ Some x) [ true ↦ λ q. q | false ↦ λ q. absurd (cc) ] e
 
-pub urgent_at : (ts : List Task) (ms : List (ℕ × Mutex)) → OwnersUrgent ms ts → (y x : ℕ) → boss ts ms y ≡ Some x → pri_of ts x ≤ pri_of ts y
-urgent_at ts ms urgent y x e =
+pub urgent_but : (w : ℕ) (ts : List Task) (ms : List (ℕ × Mutex)) → OwnersUrgentBut w ms ts → GoodBut (boss ts ms) (pri_of ts) w
+urgent_but w ts ms urgent y x other e =
     let live = boss_lives ts ms y x e in
     let t = live_is (task_of ts y) live.0 in
     let u = live_is (task_of ts x) live.1 in
+    let own : t.0.id ≡ y = found_id task_id ts y t.0 t.1 in
     let owner : owner_at ms t.0.wait ≡ Some u.0.id =
     sym (ap (λ o. owner_at ms (wait_of o)) t.1) ∙ boss_owner ts (owner_at ms (wait_of (task_of ts y))) x e ∙ ap Some (sym (found_id task_id ts x u.0 u.1)) in
     let pair = All-contains (λ v. owner_at ms t.0.wait ≡ Some v.id → v.pri ≤ t.0.pri) ts u.0
-    (All-contains (λ w. All (λ v. owner_at ms w.wait ≡ Some v.id → v.pri ≤ w.pri) ts) ts t.0 urgent (found_at task_id ts y t.0 t.1))
+    (All-contains (λ v. (v.id ≡ w → ⊥) → All (λ q. owner_at ms v.wait ≡ Some q.id → q.pri ≤ v.pri) ts) ts t.0 urgent (found_at task_id ts y t.0 t.1) (λ q. other (sym own ∙ q)))
     (found_at task_id ts x u.0 u.1) owner in
     omega (arith, pair, ap pri_in t.1, ap pri_in u.1)
+
+pub urgent_at : (ts : List Task) (ms : List (ℕ × Mutex)) → OwnersUrgent ms ts → (y x : ℕ) → boss ts ms y ≡ Some x → pri_of ts x ≤ pri_of ts y
+urgent_at ts ms urgent y x e = urgent_but (suc y) ts ms (λ i d hi other. urgent i d hi) y x (λ q. omega (arith, q)) e
 
 -- ---- raising keeps the kernel's facts
 pub repried_keeps : (goal : ℕ → ℕ) (us : List Task) (r : KernState) → IsKern r → IsKern (repried r goal us)

@@ -98,7 +98,7 @@ module _ (up : ℕ → Option ℕ) (pri : ℕ → ℕ) (w : ℕ) (good : GoodBut
   abbrev pub front : ℕ → ℕ → List ℕ
   front n y = front_while lower (path up n y)
 
-  front_step : (n y z x : ℕ) → up y ≡ Some z → pri w < pri z → is_on (front (suc n) y) x ≡ is_on (z ∷ front n z) x
+  pub front_step : (n y z x : ℕ) → up y ≡ Some z → pri w < pri z → is_on (front (suc n) y) x ≡ is_on (z ∷ front n z) x
   front_step n y z x e h =
       ap (λ o. is_on (front_while lower (elim o [ None ↦ [] | Some v ↦ v ∷ path up n v ])) x) e
       ∙ ap (λ b. is_on (cond b (z ∷ front n z) []) x) (lt-ltb (pri w) (pri z) h)
@@ -124,7 +124,7 @@ module _ (up : ℕ → Option ℕ) (pri : ℕ → ℕ) (w : ℕ) (good : GoodBut
       s.2)
       (cases_lt (pri w) (pri s.0))
 
-  front_cases : (n y x : ℕ) → is_on (front (suc n) y) x ≡ true → (z : ℕ) × (up y ≡ Some z) × (pri w < pri z) × ((z ≡ x) ⊎ (is_on (front n z) x ≡ true))
+  pub front_cases : (n y x : ℕ) → is_on (front (suc n) y) x ≡ true → (z : ℕ) × (up y ≡ Some z) × (pri w < pri z) × ((z ≡ x) ⊎ (is_on (front n z) x ≡ true))
   front_cases n y x =
       elim (up y) as (λ o. up y ≡ o → is_on (front_while lower (elim o [ None ↦ [] | Some z ↦ z ∷ path up n z ])) x ≡ true → (z : ℕ) × (up y ≡ Some z) × (pri w < pri z) × ((z ≡ x) ⊎ (is_on (front n z) x ≡ true))) [
         | None ↦ λ e h. absurd (cc)
@@ -164,7 +164,7 @@ module _ (up : ℕ → Option ℕ) (pri : ℕ → ℕ) (w : ℕ) (good : GoodBut
       (front_or_through n w x h less)
 
   -- and the other way round
-  from_front : (n y x : ℕ) → is_on (front n y) x ≡ true → (is_on (path up n y) x ≡ true) × (pri w < pri x)
+  pub from_front : (n y x : ℕ) → is_on (front n y) x ≡ true → (is_on (path up n y) x ≡ true) × (pri w < pri x)
   from_front zero y x h = absurd (cc)
   from_front (suc n) y x h =
       let s = front_cases n y x h in

@@ -31,6 +31,10 @@ OwnerLaw = (up : ℕ → Option ℕ) (pri : ℕ → ℕ) (n : ℕ) (ids : List �
 abbrev pub OwnersUrgent : List (ℕ × Mutex) → List Task → Type 0
 OwnersUrgent ms ts = All (λ y. All (λ x. owner_at ms y.wait ≡ Some x.id → x.pri ≤ y.pri) ts) ts
 
+-- the same but for the waiter w
+abbrev pub OwnersUrgentBut : ℕ → List (ℕ × Mutex) → List Task → Type 0
+OwnersUrgentBut w ms ts = All (λ y. (y.id ≡ w → ⊥) → All (λ x. owner_at ms y.wait ≡ Some x.id → x.pri ≤ y.pri) ts) ts
+
 -- after raising it is so
 abbrev pub RaisedLaw : Type 0
 RaisedLaw = (s : MutexState) → IsKern s.kern → OwnersUrgent s.mutexes (raised s).kern.tasks

@@ -1,5 +1,5 @@
 -- Who waits for whom, and what priority each task has by those that wait for it.
-use Rattle.std.specs.Prelude.{ℕ, zero, suc, Bool, cond, ◌==◌, if◌then◌else◌, min, List, [], ◌∷◌, map, Option, None, Some, is_some}
+use Rattle.std.specs.Prelude.{ℕ, zero, suc, Bool, cond, ◌==◌, nat_lt, if◌then◌else◌, min, List, [], ◌∷◌, map, Option, None, Some, is_some}
 use Rattle.std.specs.List.{filter, fold, list_any}
 use Rattle.id_table.specs.Rows.{object_of}
 use Rattle.id_table.specs.declared.ident.Place.{Place}
@@ -84,3 +84,13 @@ raised s = record s { kern = raised_kern s.kern s.mutexes }
 abbrev pub front_while : (ℕ → Bool) → List ℕ → List ℕ
 front_while test [] = []
 front_while test (x ∷ xs) = cond (test x) (x ∷ front_while test xs) []
+
+-- ---- who inherits next
+-- the owner, where it is less urgent than p
+abbrev pub heir_of : List Task → ℕ → Option ℕ → Option ℕ
+heir_of ts p None = None
+heir_of ts p (Some x) = if nat_lt p (pri_of ts x) then Some x else None
+
+-- the live owner that y waits for, where it is less urgent than p
+abbrev pub heir : List Task → List (ℕ × Mutex) → ℕ → ℕ → Option ℕ
+heir ts ms p y = heir_of ts p (boss ts ms y)

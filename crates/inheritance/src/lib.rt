@@ -2,11 +2,11 @@
 #![tactic(auto)]
 
 mod chain;
+mod heirs;
 mod laws;
-mod lift;
 mod mutex;
 
-pub use chain::{boss, reaches};
+pub use chain::boss;
+pub use heirs::{inherit, more_urgent};
 pub use laws::{owner_law, raised_law, walk_law};
-pub use lift::{more_urgent, raise};
 pub use mutex::Mutex;

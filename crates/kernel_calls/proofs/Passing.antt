@@ -1,5 +1,5 @@
 -- What every call keeps.
-use Rattle.std.proofs.Common.{◌≡◌, ℕ, ◌+◌, List, ◌++◌, Option, None, Some, IfSome, is_some, true, false, cond, eqb, refl, sym, ap, ◌∙◌, subst, arith}
+use Rattle.std.proofs.Common.{◌≡◌, ℕ, ◌+◌, Bool, List, ◌++◌, Option, None, Some, IfSome, is_some, true, false, cond, eqb, refl, sym, ap, ◌∙◌, subst, arith}
 use Rattle.std.specs.Prelude.{slice_index}
 use Rattle.std.specs.Option.{option_map}
 use Rattle.wind_base.specs.Errno.{errno_number}
@@ -40,7 +40,7 @@ use Rattle.kernel_world.proofs.Goes.{Goes}
 use Rattle.task_calls.proofs.TaskMoves.{suspend_goes, resume_goes, delay_goes, lock_goes, unlock_goes, self_goes, verify_goes, name_goes, slice_goes, int_lock_goes, int_unlock_goes, int_context_goes, safe_goes, unsafe_goes}
 use Rattle.kernel_world.proofs.Replying.{safe_left, may_left, left_advances, replied_advances}
 use Rattle.task_calls.proofs.KernRows.{objects-suspend_row, objects-resume_row, objects-delay_row, objects-lock_row, objects-unlock_row, objects-self_row, objects-verify_row, objects-name_row, objects-slice_row, objects-int_lock_row, objects-int_unlock_row, objects-int_context_row}
-use Rattle.kernel_world.proofs.Advancing.{Advances, advances_on, advances_more, beside, at_routine, stays, nowhere, by_kern, of_tasks, of_both, of_scene, of_list, of_memory, errno_advances}
+use Rattle.kernel_world.proofs.Advancing.{Advances, as_call, advances_on, advances_more, beside, at_routine, stays, nowhere, by_kern, of_tasks, of_both, of_scene, of_list, of_memory, errno_advances}
 use Rattle.task_calls.proofs.RowMoves.{align_advances, free_advances, symbol_few, spawn_advances}
 use Rattle.object_calls.proofs.QueueKept.{keeps-create_row, keeps-send_row, keeps-receive_row, keeps-delete_row as keeps-queue_delete_row}
 use Rattle.object_calls.proofs.QueueCalls.{is_caller}
@@ -153,7 +153,7 @@ module _ (w : WorldState) (kept : IsWorld w) (n : ℕ) (within : Within n w) (a 
   row_serves gates.Printf r live there may = of_text_row _
   row_serves gates.ErrnoGet r live there may = idle _
   row_serves gates.ErrnoSet r live there may =
-      served w a _ (n + 1) (advances_more w _ n (n + 1) 0 call_sinces 0 1 (omega arith) (omega arith) (omega arith) (errno_advances w kept n within a (slice_index r 3)))
+      served w a _ (n + 1) (as_call w kept n within _ (errno_advances w kept n within a (slice_index r 3)))
   row_serves gates.I r live there may = of_text_row _
   row_serves gates.Ld r live there may = idle _
   row_serves gates.Unld r live there may = served w a _ (n + 1) (unload_advances w kept n within (slice_index r 3))

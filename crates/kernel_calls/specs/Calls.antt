@@ -1,9 +1,6 @@
 -- The kernel's calls, one row for each gate.
-use Rattle.std.specs.Prelude.{ℕ, List, ◌++◌, length, slice_index, slice_set, Option, None, Some, Bool, true, false, ◌&&◌, ◌||◌, ◌==◌, not, nat_lt, if◌then◌else◌}
-use Rattle.std.specs.Option.{option_map}
-use Rattle.wind_base.specs.Limits.{error_word, ok_word, longest_name}
-use Rattle.wind_base.specs.Errno.{errno_number}
-use Rattle.wind_base.specs.declared.regs.Regs.{Regs}
+use Rattle.std.specs.Prelude.{ℕ, List, ◌++◌, length, slice_index, Option, None, Some, Bool, true, false, ◌&&◌, ◌||◌, ◌==◌, not, nat_lt, if◌then◌else◌}
+use Rattle.wind_base.specs.Limits.{ok_word, longest_name}
 use Rattle.wind_base.specs.declared.gate.Gate.{Gate}
 use Rattle.wind_base.specs.declared.gate.Gate.TheVariants as gates
 use Rattle.wind_base.specs.declared.errno.Errno.{Errno}
@@ -11,25 +8,25 @@ use Rattle.wind_base.specs.declared.errno.Errno.TheVariants as errors
 use Rattle.task_block.specs.declared.task.Task.{Task as TaskRecord}
 use Rattle.board_mem.specs.Memory.{has, with_word, string_at}
 use Rattle.wind_core.specs.State.{KernState, task_of}
-use Rattle.wind_core.specs.Moves.{live_id, leave_gate, answer, set_errno}
+use Rattle.wind_core.specs.Moves.{live_id}
 use Rattle.msg_queue.specs.State.{Scene, scene}
-use Rattle.isr_watch.specs.State.{WatchState}
 use Rattle.kernel_world.specs.State.{WorldState}
-use Rattle.kernel_world.specs.Actors.{is_interrupt, is_shell, caller_words, target}
-use Rattle.task_calls.specs.TaskRows.{KernRow, suspend_row, resume_row, delay_row, lock_row, unlock_row, self_row, verify_row, name_row, slice_row, tick_row, int_lock_row, int_unlock_row, int_context_row}
-use Rattle.task_calls.specs.SafetyRows.{DeleteRow, safe_row, unsafe_row, delete_row}
+use Rattle.kernel_world.specs.Actors.{is_interrupt, is_shell, target, caller_words}
+use Rattle.kernel_world.specs.Allowed.{is_isr_callable, is_shells_own}
+use Rattle.kernel_world.specs.Replies.{errno_of, with_errno, left_gate, replied}
+use Rattle.kernel_world.specs.declared.actor.Actor.{Actor}
+use Rattle.kernel_world.specs.declared.reply.Reply.{Reply}
+use Rattle.kernel_world.specs.declared.reply.Reply.TheVariants.{Answer, Refusal, Later, Gone}
 use Rattle.object_calls.specs.SemRows as sem
 use Rattle.object_calls.specs.QueueRows as queue
 use Rattle.object_calls.specs.WatchRows as watch
-use Rattle.kernel_calls.specs.ShowRows as show
+use Rattle.task_calls.specs.TaskRows.{KernRow, suspend_row, resume_row, delay_row, lock_row, unlock_row, self_row, verify_row, name_row, slice_row, tick_row, int_lock_row, int_unlock_row, int_context_row}
+use Rattle.task_calls.specs.SafetyRows.{DeleteRow, safe_row, unsafe_row, delete_row}
 use Rattle.task_calls.specs.MemoryRows.{PartRow, malloc_row, align_row, free_row}
 use Rattle.task_calls.specs.SymbolRows.{SymbolRow, symbol_row}
+use Rattle.task_calls.specs.Spawning.{SpawnRow, spawn_state, after_spawn, spawned_if, task_wanted, quick_wanted, quick_text}
+use Rattle.kernel_calls.specs.ShowRows as show
 use Rattle.kernel_calls.specs.ModuleRows.{ModuleRow, unload_row}
-use Rattle.task_calls.specs.Spawning.{SpawnState, SpawnRow, spawn_parts, spawned_if, task_wanted, quick_wanted, quick_text}
-use Rattle.kernel_world.specs.declared.actor.Actor.{Actor}
-use Rattle.kernel_world.specs.declared.actor.Actor.TheVariants.{Task, Interrupt}
-use Rattle.kernel_world.specs.declared.reply.Reply.{Reply}
-use Rattle.kernel_world.specs.declared.reply.Reply.TheVariants.{Answer, Refusal, Later, Gone}
 use Rattle.kernel_calls.specs.declared.calls.Called.{Called}
 use Rattle.kernel_calls.specs.declared.calls.Called.TheVariants as called
 

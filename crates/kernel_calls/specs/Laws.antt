@@ -9,7 +9,7 @@ use Rattle.kernel_world.specs.Actors.{MayCall, shell_id}
 use Rattle.kernel_calls.specs.Calls.{call}
 use Rattle.task_calls.specs.Ending.{ended}
 use Rattle.kernel_world.specs.Opening.{opening_world}
-use Rattle.kernel_world.specs.Kept.{IsWorld, Within, ReservedBy}
+use Rattle.kernel_world.specs.Kept.{IsWorld, Within, ReservedBy, call_sinces}
 use Rattle.kernel_world.specs.declared.actor.Actor.{Actor}
 use Rattle.kernel_world.specs.declared.actor.Actor.TheVariants.{Task}
 

@@ -1,15 +1,12 @@
 //! A call of the kernel: its frame, its refusals and its answer.
 
-ghost use Rattle.std.specs.Prelude.{◌≡◌, ◌≢◌, ◌+◌, ◌^◌, ◌<◌, ◌≤◌, [], true, false, None, Some, IfOk, IfSome, OnErr};
+ghost use Rattle.std.specs.Prelude.{◌≡◌, ◌<◌, ◌≤◌, [], true, false, None, Some, IfOk, IfSome, OnErr};
 ghost use Rattle.wind_base.specs.OutBuf.{KeepsSpace};
-ghost use Rattle.wind_base.specs.declared.gate.Gate.TheVariants as gates;
 ghost use Rattle.kernel_world.specs.Actors.{Acts, MayCall, is_interrupt as is_interrupt_lem};
 ghost use Rattle.kernel_world.specs.Kept.{IsWorld, IsEarly};
 ghost use Rattle.kernel_world.specs.Allowed.{is_built, may_lack_memory as may_lack_memory_lem};
 ghost use Rattle.kernel_calls.specs.Calls.{refusal_before as refusal_before_lem, with_reply, told_by, told as told_lem, made, call, file_wanted as file_wanted_lem, is_made, asked_for};
-ghost use Rattle.kernel_world.specs.Replies.{in_r3, level_by, with_answer, replied};
 ghost use Rattle.kernel_calls.specs.declared.calls.Called.TheVariants as called;
-ghost use Rattle.kernel_world.specs.declared.reply.Reply.TheVariants as replies;
 ghost use Rattle.kernel_world.specs.Seen.{world_seen, world_with};
 ghost use Rattle.kernel_calls.specs.Space.{makes_room, HoldsSpace};
 

@@ -1,9 +1,7 @@
 //! The file that a call asks for.
 
-ghost use Rattle.std.specs.Prelude.{◌≡◌, ◌≤◌, IfOk, IfSome, OnErr, IsSome, length};
-ghost use Rattle.wind_base.specs.Limits.{longest_name};
+ghost use Rattle.std.specs.Prelude.{◌≡◌, IfOk, OnErr, IsSome};
 ghost use Rattle.board_mem.specs.Memory.{string_at};
-ghost use Rattle.kernel_world.specs.Actors.{is_shell as is_shell_lem};
 ghost use Rattle.kernel_calls.specs.Calls.{file_name as file_name_lem, file_wanted as file_wanted_lem};
 ghost use Rattle.kernel_world.specs.Seen.{world_seen};
 

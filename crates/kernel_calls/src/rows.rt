@@ -1,18 +1,14 @@
 //! The row of each gate: the effect of its call, and how the caller is answered.
 
-ghost use Rattle.std.specs.Prelude.{◌≡◌, ◌≢◌, ◌+◌, ◌^◌, ◌<◌, ◌≤◌, [], ℕ, List, true, false, length, IfOk, OnErr, slice_index};
-ghost use Rattle.std.specs.List.{All};
+ghost use Rattle.std.specs.Prelude.{◌≡◌, ◌<◌, ◌≤◌, [], ℕ, List, true, false, length, IfOk, OnErr, slice_index};
 ghost use Rattle.wind_base.specs.Limits.{ram_bytes};
 ghost use Rattle.wind_base.specs.OutBuf.{KeepsSpace};
-ghost use Rattle.board_mem.specs.Memory.{string_at};
 ghost use Rattle.module_loader.specs.Holding.{AreHeld};
-ghost use Rattle.kernel_world.specs.Actors.{Acts, MayCall};
-ghost use Rattle.kernel_world.specs.Actors.{target as target_lem};
-ghost use Rattle.task_calls.specs.Spawning.{spawned_if, task_wanted as task_wanted_lem, quick_wanted as quick_wanted_lem};
+ghost use Rattle.kernel_world.specs.Actors.{Acts, MayCall, target as target_lem};
+ghost use Rattle.task_calls.specs.Spawning.{spawned_if, task_wanted as task_wanted_lem, quick_wanted as quick_wanted_lem, spawn_state};
 ghost use Rattle.kernel_world.specs.Allowed.{is_built, may_lack_memory};
 ghost use Rattle.kernel_calls.specs.Calls.{with_reply, of_spawn, of_quick, priority_in, task_at, of_watch, row as row_lem};
-ghost use Rattle.task_calls.specs.Spawning.{spawn_state};
-ghost use Rattle.kernel_world.specs.Replies.{errno_of as errno_of_lem, with_errno, left_gate};
+ghost use Rattle.kernel_world.specs.Replies.{left_gate};
 ghost use Rattle.object_calls.specs.WatchRows.{start_row, routine_of};
 ghost use Rattle.wind_base.specs.declared.gate.Gate.TheVariants as gates;
 ghost use Rattle.kernel_world.specs.declared.actor.Actor.{Actor};

@@ -1,37 +1,25 @@
 -- What a call keeps while all its tasks live on: the kept facts, and the counters within their bounds.
-use Rattle.std.proofs.Common.{◌≡◌, ℕ, ◌+◌, ◌<◌, ◌≤◌, Bool, true, false, cond, eqb, leb, ltb, List, [], ◌∷◌, ◌++◌, length, replicate, Option, None, Some, IsSome, Result, Ok, Err, refl, sym, ◌∙◌, subst, arith}
-use Rattle.std.specs.Option.{option_or, option_map}
-use Rattle.std.specs.Prelude.{◌||◌, slice_index}
-use Rattle.std.specs.List.{find}
-use Rattle.std.proofs.lemmas.Bool.{leb-false}
-use Rattle.std.proofs.lemmas.List.{map-append, length_push}
-use Rattle.std.proofs.lemmas.List.Folds.{find-append}
-use Rattle.std.proofs.lemmas.List.Elements.{All-weaker, All-push}
-use Rattle.wind_base.specs.Limits.{most_symbols, longest_name, frame_bytes}
+use Rattle.std.proofs.Common.{◌≡◌, ℕ, ◌+◌, ◌<◌, ◌≤◌, List, ◌∷◌, length, Option, None, Some, refl, sym, ◌∙◌, subst, arith}
+use Rattle.std.specs.Option.{option_map}
+use Rattle.std.proofs.lemmas.List.Elements.{All-weaker}
+use Rattle.wind_base.specs.Limits.{most_symbols}
 use Rattle.wind_base.specs.declared.regs.Regs.{Regs}
-use Rattle.wind_base.specs.declared.errno.Errno.{Errno}
-use Rattle.wind_base.specs.declared.errno.Errno.TheVariants as errors
 use Rattle.wind_outside.specs.Devices.{DeviceState}
-use Rattle.task_block.specs.declared.task.Task.{Task as TaskRecord}
 use Rattle.symbol_table.specs.declared.symbol.Symbol.{Symbol}
 use Rattle.module_loader.specs.declared.module.LoadedModule.{LoadedModule}
-use Rattle.mem_partition.specs.State.{PartState, alloc_of, after_alloc, free_of, after_free}
-use Rattle.mem_partition.specs.declared.block.Class.TheVariants.{User, Kernel}
-use Rattle.wind_core.specs.State.{KernState, Lives, task_of}
-use Rattle.wind_core.specs.Moves.{new_task, spawn, spawn_refusal}
+use Rattle.mem_partition.specs.State.{PartState}
+use Rattle.wind_core.specs.State.{KernState, Lives}
 use Rattle.wind_core.proofs.Ids.{lives_by}
-use Rattle.wind_core.proofs.Keeping.{every_call_keeps}
 use Rattle.msg_queue.specs.State.{Scene}
 use Rattle.isr_watch.specs.State.{WatchState, IsWatch}
 use Rattle.kernel_world.specs.State.{WorldState}
 use Rattle.kernel_world.specs.Objects.{KeepsObjects, DepthsWithin}
 use Rattle.kernel_world.specs.Replies.{level_by, at_level, with_errno}
 use Rattle.kernel_world.specs.Opening.{interrupt_stack}
-use Rattle.kernel_world.specs.Kept.{KeepsPool, KeepsLoaded, task_stacks, AreStacks, KeepsWatch, IsWorld, ReservedBy, HasCounts, Within, call_sinces}
+use Rattle.kernel_world.specs.Kept.{KeepsPool, KeepsLoaded, task_stacks, AreStacks, KeepsWatch, IsWorld, ReservedBy, Within, call_sinces}
 use Rattle.kernel_world.specs.declared.objects.Objects.{Objects}
 use Rattle.kernel_world.specs.declared.actor.Actor.{Actor}
 use Rattle.kernel_world.specs.declared.actor.Actor.TheVariants.{Task, Interrupt}
-use Rattle.task_calls.specs.declared.spawning.Wanted.{Wanted}
 use Rattle.kernel_world.proofs.Goes.{Goes, goes_nowhere, more_counts, goes-set_errno, reserved_by}
 use Rattle.kernel_world.proofs.ObjectMoves.{objects-set_errno}
 use Rattle.kernel_world.proofs.Holding.{loaded_on}
@@ -93,11 +81,6 @@ advances_more w v l n d e m o more sinces names a = record {
 }
 
 module _ (w : WorldState) (kept : IsWorld w) where
-  -- the same world, where what a step writes and the error number of the interrupt level are other
-  pub kept_beside : (slots : List (Option DeviceState)) (output : List ℕ) (errno : ℕ) → IsWorld (record w { slots = slots; output = output; int_errno = errno })
-  kept_beside slots output errno =
-      record { kern = kept.kern; home = kept.home; objects = kept.objects; pool = kept.pool; stacks = kept.stacks; modules = kept.modules; ram = kept.ram; symbols = kept.symbols; watch = kept.watch }
-
   -- the tasks go, and the objects with them
   pub by_objects : (j : KernState) (o : Objects) (n d : ℕ) → Goes w.kern j n d → KeepsObjects j o → DepthsWithin n o → Advances w (record w { kern = j; objects = o }) n d 0
   by_objects j o n d g objects depths = record {
@@ -129,10 +112,12 @@ module _ (w : WorldState) (kept : IsWorld w) where
     more : Within (n + 1) w
     more = within_more w n (n + 1) (omega arith) within
 
-    -- nothing is touched but what is no matter of the kept facts
-    pub beside : (slots : List (Option DeviceState)) (output : List ℕ) (errno : ℕ) → Advances w (record w { slots = slots; output = output; int_errno = errno }) n 0 0
-    beside slots output errno = record {
-      kept = kept_beside slots output errno;
+    -- blocks, symbols, modules and RAM go, and what is no matter of the kept facts
+    pub of_parts : (p : PartState) (ss : List Symbol) (ms : List (ℕ × LoadedModule)) (ram : List ℕ) (slots : List (Option DeviceState)) (output : List ℕ) (errno : ℕ)
+        → KeepsPool p → AreStacks p (interrupt_stack ∷ task_stacks w.kern) → KeepsLoaded w.kern p ms → length ss ≤ most_symbols → length ram ≡ length w.ram
+        → Advances w (record w { part = p; symbols = ss; modules = ms; ram = ram; slots = slots; output = output; int_errno = errno }) n 0 0
+    of_parts p ss ms ram slots output errno pool stacks modules few same = record {
+      kept = record { kern = kept.kern; home = kept.home; objects = kept.objects; pool = pool; stacks = stacks; modules = modules; ram = same ∙ kept.ram; symbols = few; watch = kept.watch };
       lives = λ who h. h;
       within = within;
       last = refl;
@@ -142,6 +127,14 @@ module _ (w : WorldState) (kept : IsWorld w) where
       names = omega arith;
       starts = omega arith;
     }
+
+    -- nothing is touched but what is no matter of the kept facts
+    pub beside : (slots : List (Option DeviceState)) (output : List ℕ) (errno : ℕ) → Advances w (record w { slots = slots; output = output; int_errno = errno }) n 0 0
+    beside slots output errno = of_parts w.part w.symbols w.modules w.ram slots output errno kept.pool kept.stacks kept.modules kept.symbols refl
+
+    -- a move that gives out nothing, as a call that gives out numbers
+    pub as_call : (v : WorldState) → Advances w v n 0 0 → Advances w v (n + 1) call_sinces 1
+    as_call v a = advances_more w v n (n + 1) 0 call_sinces 0 1 (omega arith) (omega arith) (omega arith) a
 
     pub stays : Advances w w n 0 0
     stays = beside w.slots w.output w.int_errno
@@ -180,7 +173,7 @@ module _ (w : WorldState) (kept : IsWorld w) where
         (record { watch = level_is f w.watch kept.watch.watch; ids = kept.watch.ids }) (omega arith)
 
     pub nowhere : Advances w w (n + 1) call_sinces 1
-    nowhere = advances_more w w n (n + 1) 0 call_sinces 0 1 (omega arith) (omega arith) (omega arith) stays
+    nowhere = as_call w stays
 
     pub of_tasks : (j : KernState) → Goes w.kern j (n + 1) call_sinces → KeepsObjects j w.objects → Advances w (record w { kern = j }) (n + 1) call_sinces 1
     of_tasks j g objects =
@@ -220,58 +213,18 @@ module _ (w : WorldState) (kept : IsWorld w) where
         }
 
     pub of_blocks : (p : PartState) → KeepsPool p → AreStacks p (interrupt_stack ∷ task_stacks w.kern) → KeepsLoaded w.kern p w.modules → Advances w (record w { part = p }) (n + 1) call_sinces 1
-    of_blocks p pool stacks modules = record {
-      kept = record { kern = kept.kern; home = kept.home; objects = kept.objects; pool = pool; stacks = stacks; modules = modules; ram = kept.ram; symbols = kept.symbols; watch = kept.watch };
-      lives = λ who h. h;
-      within = more;
-      last = refl;
-      reserves = λ who h. h;
-      sinces = omega arith;
-      count = refl;
-      names = omega arith;
-      starts = omega arith;
-    }
+    of_blocks p pool stacks modules = as_call (record w { part = p }) (of_parts p w.symbols w.modules w.ram w.slots w.output w.int_errno pool stacks modules kept.symbols refl)
 
     pub of_list : (ss : List Symbol) → length ss ≤ most_symbols → Advances w (record w { symbols = ss }) (n + 1) call_sinces 1
-    of_list ss few = record {
-      kept = record { kern = kept.kern; home = kept.home; objects = kept.objects; pool = kept.pool; stacks = kept.stacks; modules = kept.modules; ram = kept.ram; symbols = few; watch = kept.watch };
-      lives = λ who h. h;
-      within = more;
-      last = refl;
-      reserves = λ who h. h;
-      sinces = omega arith;
-      count = refl;
-      names = omega arith;
-      starts = omega arith;
-    }
+    of_list ss few = as_call (record w { symbols = ss }) (of_parts w.part ss w.modules w.ram w.slots w.output w.int_errno kept.pool kept.stacks kept.modules few refl)
 
     -- symbols, modules and blocks
     pub of_unload : (ss : List Symbol) (ms : List (ℕ × LoadedModule)) (p : PartState) → length ss ≤ most_symbols → KeepsPool p → AreStacks p (interrupt_stack ∷ task_stacks w.kern) → KeepsLoaded w.kern p ms
         → Advances w (record w { symbols = ss; modules = ms; part = p }) (n + 1) call_sinces 1
-    of_unload ss ms p few pool stacks modules = record {
-      kept = record { kern = kept.kern; home = kept.home; objects = kept.objects; pool = pool; stacks = stacks; modules = modules; ram = kept.ram; symbols = few; watch = kept.watch };
-      lives = λ who h. h;
-      within = more;
-      last = refl;
-      reserves = λ who h. h;
-      sinces = omega arith;
-      count = refl;
-      names = omega arith;
-      starts = omega arith;
-    }
+    of_unload ss ms p few pool stacks modules = as_call (record w { symbols = ss; modules = ms; part = p }) (of_parts p ss ms w.ram w.slots w.output w.int_errno pool stacks modules few refl)
 
     pub of_memory : (ram : List ℕ) → length ram ≡ length w.ram → Advances w (record w { ram = ram }) (n + 1) call_sinces 1
-    of_memory ram same = record {
-      kept = record { kern = kept.kern; home = kept.home; objects = kept.objects; pool = kept.pool; stacks = kept.stacks; modules = kept.modules; ram = same ∙ kept.ram; symbols = kept.symbols; watch = kept.watch };
-      lives = λ who h. h;
-      within = more;
-      last = refl;
-      reserves = λ who h. h;
-      sinces = omega arith;
-      count = refl;
-      names = omega arith;
-      starts = omega arith;
-    }
+    of_memory ram same = as_call (record w { ram = ram }) (of_parts w.part w.symbols w.modules ram w.slots w.output w.int_errno kept.pool kept.stacks kept.modules kept.symbols same)
 
     pub errno_advances : (a : Actor) (e : ℕ) → Advances w (with_errno w a e) n 0 0
     errno_advances (Task who) e = by_kern _ n 0 (goes-set_errno w.kern n kept.kern within.0 who e) (objects-set_errno w.kern w.objects kept.kern kept.objects who e) within.1

@@ -1,14 +1,11 @@
 -- The tasks of a call live on.
-use Rattle.std.proofs.Common.{◌≡◌, ℕ, ◌<◌, ◌^◌, true, false, not, ◌&&◌, cond, eqb, List, None, Some, IsSome, IfSome, is_none, refl, sym, subst, arith}
-use Rattle.std.specs.List.{All}
-use Rattle.std.proofs.lemmas.List.Elements.{All-contains}
+use Rattle.std.proofs.Common.{◌≡◌, ℕ, true, false, not, ◌&&◌, cond, eqb, List, None, Some, IsSome, IfSome, is_none, refl, sym, subst}
 use Rattle.std.specs.Option.{option_map}
 use Rattle.task_block.specs.declared.task.Task.{Task}
 use Rattle.task_block.specs.Standing.{is_ready}
-use Rattle.wind_lists.proofs.Records.{found_id, found_at}
-use Rattle.wind_core.specs.State.{KernState, Lives, task_id, task_of}
+use Rattle.wind_lists.proofs.Records.{found_id}
+use Rattle.wind_core.specs.State.{KernState, task_id, task_of}
 use Rattle.wind_core.specs.Moves.{live_id, past_gate, leave_gate, set_errno}
-use Rattle.task_safety.specs.Safety.{safe_of}
 use Rattle.kernel_world.specs.State.{WorldState}
 use Rattle.kernel_world.specs.Objects.{IsFree, IsReady}
 use Rattle.kernel_world.specs.Actors.{Acts}

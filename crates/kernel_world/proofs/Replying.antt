@@ -1,18 +1,14 @@
 -- What is kept where a caller goes on behind its gate, and is answered.
-use Rattle.std.proofs.Common.{◌≡◌, ℕ, ◌+◌, List, ◌++◌, Option, None, Some, IfSome, is_some, true, false, cond, eqb, refl, sym, ap, ◌∙◌, subst, arith}
-use Rattle.std.specs.Prelude.{slice_index}
+use Rattle.std.proofs.Common.{◌≡◌, ℕ, None, Some, IfSome, true, false, cond, eqb, refl, sym, ap, ◌∙◌, subst}
 use Rattle.std.specs.Option.{option_map}
 use Rattle.wind_base.specs.Errno.{errno_number}
 use Rattle.wind_base.specs.declared.gate.Gate.{Gate}
-use Rattle.wind_base.specs.declared.gate.Gate.TheVariants as gates
-use Rattle.wind_base.specs.declared.errno.Errno.{Errno}
 use Rattle.task_block.specs.Standing.{is_ready}
 use Rattle.wind_core.specs.State.{task_of}
-use Rattle.wind_core.specs.Moves.{live_id, past_gate}
+use Rattle.wind_core.specs.Moves.{past_gate}
 use Rattle.wind_core.proofs.Unwritten.{task_of-change}
 use Rattle.task_safety.specs.Safety.{safe_of}
 use Rattle.kernel_world.specs.State.{WorldState}
-use Rattle.kernel_world.specs.Objects.{KeepsObjects}
 use Rattle.kernel_world.specs.Actors.{MayCall}
 use Rattle.kernel_world.specs.Replies.{with_errno, left_gate, with_answer, replied, past_gate as level_past, in_r3}
 use Rattle.kernel_world.specs.Allowed.{refusal_word}

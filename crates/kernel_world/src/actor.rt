@@ -53,8 +53,8 @@ pub fn caller_regs(kern: &Kern, watch: &Watch, who: &Actor) -> Regs
     }
 }
 
-/// The word of this number, below 8, behind those in registers, where r1 is `pointer`. None where a byte of it is outside
-/// RAM.
+/// The word of this number, below 8, behind those in registers, where r1 is `pointer`. None where a byte of it is
+/// outside RAM.
 pub fn stack_word(ram: &Ram, pointer: u32, number: u32) -> Option<u32>
     requires { number < 8 }
     ensures { result ≡ stack_word_lem ram.now pointer number }

@@ -69,8 +69,8 @@ pub struct SendWords {
     pub priority: u32,
 }
 
-/// msgQSend: a message of RAM goes to who waits for one, or into the queue, or its sender waits for room, so many ticks or
-/// without end.
+/// msgQSend: a message of RAM goes to who waits for one, or into the queue, or its sender waits for room, so many
+/// ticks or without end.
 pub fn send(
     kern: &mut Kern,
     objects: &mut Objects,
@@ -104,8 +104,8 @@ pub fn send(
     }
 }
 
-/// msgQReceive, of a task: the first message is put into RAM, and its count of bytes answered, or the task waits for one.
-/// Refused at interrupt level.
+/// msgQReceive, of a task: the first message is put into RAM, and its count of bytes answered, or the task waits for
+/// one. Refused at interrupt level.
 pub fn receive(
     kern: &mut Kern,
     objects: &mut Objects,

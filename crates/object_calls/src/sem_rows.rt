@@ -1,21 +1,19 @@
 //! The calls on semaphores and mutexes, and the priority that a task is given.
 
-ghost use Rattle.std.specs.Prelude.{◌≡◌, ◌<◌, ◌^◌, false, IsSome};
-ghost use Rattle.id_table.specs.Rows.{object_of};
+ghost use Rattle.std.specs.Prelude.{◌≡◌, false};
 ghost use Rattle.wind_core.specs.State.{Lives};
 ghost use Rattle.sem_mutex.specs.Kept.{IsEarly};
-ghost use Rattle.kernel_world.specs.Actors.{Acts};
+ghost use Rattle.kernel_world.specs.Actors.{Acts, target as target_lem};
 ghost use Rattle.kernel_world.specs.Objects.{KeepsObjects};
-ghost use Rattle.kernel_world.specs.Actors.{target as target_lem};
-ghost use Rattle.object_calls.specs.SemRows.{row_of, mutexes, is_mutex as is_mutex_lem, made, binary_row, counting_row, mutex_row, plain_take, mutex_take, take_row, plain_give, mutex_give, give_row, flush_row, delete_row, priority_row};
+ghost use Rattle.object_calls.specs.SemRows.{row_of, mutexes, binary_row, counting_row, mutex_row, plain_take, mutex_take, take_row, plain_give, mutex_give, give_row, flush_row, delete_row, priority_row};
 
 use id_table::Ident;
 use kernel_world::{Actor, DONE, Objects, Reply, target};
 use wind_base::{Errno, Pri, SemKind, SemOptions};
 use wind_core::Kern;
 
-/// semBCreate: a binary semaphore with these options, in state 0 or 1. Refused where an option isn't allowed, the state is
-/// another, as many semaphores live as may, or no id is left.
+/// semBCreate: a binary semaphore with these options, in state 0 or 1. Refused where an option isn't allowed, the
+/// state is another, as many semaphores live as may, or no id is left.
 pub fn create_binary(kern: &mut Kern, objects: &mut Objects, options: u32, state: u32) -> Reply
     requires home { kern.old.lent ≡ false }
     requires kept { KeepsObjects kern.old objects.old }
@@ -98,8 +96,8 @@ fn take_mutex(kern: &mut Kern, objects: &mut Objects, who: Ident, id: u32, timeo
     }
 }
 
-/// semTake, of a task: it takes the semaphore or the mutex of an id, or waits for it, so many ticks or without end. Refused
-/// at interrupt level, where none lives, or where it has to wait and may not.
+/// semTake, of a task: it takes the semaphore or the mutex of an id, or waits for it, so many ticks or without end.
+/// Refused at interrupt level, where none lives, or where it has to wait and may not.
 pub fn take(kern: &mut Kern, objects: &mut Objects, who: Actor, id: u32, timeout: u32) -> Reply
     requires live { Acts kern.old who }
     requires kept { KeepsObjects kern.old objects.old }
@@ -140,8 +138,8 @@ fn give_mutex(kern: &mut Kern, objects: &mut Objects, who: Ident, id: u32) -> Re
     }
 }
 
-/// semGive: the semaphore or the mutex of an id goes to the first who waits for it, or is free. Refused where none lives,
-/// and of a mutex at interrupt level or to one that doesn't own it.
+/// semGive: the semaphore or the mutex of an id goes to the first who waits for it, or is free. Refused where none
+/// lives, and of a mutex at interrupt level or to one that doesn't own it.
 pub fn give(kern: &mut Kern, objects: &mut Objects, who: Actor, id: u32) -> Reply
     requires live { Acts kern.old who }
     requires kept { KeepsObjects kern.old objects.old }
@@ -188,7 +186,8 @@ pub fn delete(kern: &mut Kern, objects: &mut Objects, id: u32) -> Reply
     }
 }
 
-/// taskPrioritySet: the priority that a task is given, 0 to 255. Refused where no such task lives, then at another priority.
+/// taskPrioritySet: the priority that a task is given, 0 to 255. Refused where no such task lives, then at another
+/// priority.
 pub fn set_priority(kern: &mut Kern, objects: &mut Objects, who: Actor, id: u32, pri: u32) -> Reply
     requires live { Acts kern.old who }
     requires kept { KeepsObjects kern.old objects.old }

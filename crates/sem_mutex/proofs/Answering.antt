@@ -10,7 +10,7 @@ use Rattle.task_block.specs.declared.task.Task.{Task}
 use Rattle.wind_core.specs.State.{KernState, IsKern, Lives, task_id, task_of}
 use Rattle.wind_lists.proofs.Passing.{front_found}
 use Rattle.wind_core.specs.Orders.{first_waiter, waiters, waits_at, waits_before}
-use Rattle.wind_core.specs.Moves.{set_held, change_pri, has_pri, move_task, with_pri, end_wait, end_waits, wake_all}
+use Rattle.wind_core.specs.Moves.{set_held, set_normal, change_pri, has_pri, move_task, with_pri, renewed, pended, wake_at, end_wait, end_waits, wake_all}
 use Rattle.wind_core.proofs.Passes.{waits_before-order}
 use Rattle.wind_core.proofs.Waking.{since-end_wait, length-waiters}
 use Rattle.wind_core.proofs.Ids.{ids, ids-change, ids-move, lives_by}
@@ -22,16 +22,17 @@ use Rattle.sem_mutex.specs.declared.took.Took.{Took}
 use Rattle.sem_mutex.specs.declared.took.Took.TheVariants.{Taken, Pended}
 use Rattle.inheritance.specs.Mutexes.{MutexState, both, is_id, holds, held_count, AreMutexes, mutex_place, owner_in}
 use Rattle.inheritance.specs.Reach.{raised}
-use Rattle.sem_mutex.specs.Calls.{held_of, holding, guarded, eased, restored, less_held, dropped, letting_go, pass_on, passed_on, give_up, shallow, hand, deepen, await, handed, deepened, awaited, taken, take_alone, take, is_others, take_refusal, took, give_alone, give, give_refusal, given_up, given_once, owner_ended, its_owner_ended, delete_refusal, delete, live_mutex}
+use Rattle.sem_mutex.specs.Calls.{held_of, holding, guarded, eased, restored, less_held, dropped, letting_go, pass_on, passed_on, give_up, shallow, hand, deepen, await, handed, deepened, awaited, taken, take_alone, take, is_others, take_refusal, took, give_alone, give, give_refusal, given_up, given_once, owner_ended, its_owner_ended, delete_refusal, delete, live_mutex, pri_after, priority_alone}
+use Rattle.inheritance.specs.Laws.{OwnersUrgentBut}
 use Rattle.sem_mutex.specs.Kept.{TaskKept, KeepsMutexes, IsEarly}
 use Rattle.inheritance.proofs.Lookups.{live_is}
 use Rattle.inheritance.proofs.Same.{same_law}
-use Rattle.sem_mutex.proofs.Handing.{found_row, hand_keeps, deepen_keeps}
+use Rattle.sem_mutex.proofs.Handing.{found_row, hand_keeps, deepen_keeps, await_urgent}
 use Rattle.sem_mutex.proofs.Counting.{object_of-write}
-use Rattle.inheritance.proofs.Turn.{since-change_pri}
+use Rattle.inheritance.proofs.Raising.{since-change_pri}
 use Rattle.sem_mutex.proofs.Giving.{kern_hand, ids_hand, next_owner, passed}
 use Rattle.sem_mutex.proofs.Keeping.{kern_guarded, take_keeps, give_same}
-use Rattle.sem_mutex.proofs.Ending.{delete_same}
+use Rattle.sem_mutex.proofs.Ending.{delete_same, priority_urgent}
 use Rattle.wind_base.specs.Limits.{error_word}
 use Rattle.wind_core.proofs.Becoming.{found_all}
 use Rattle.wind_core.proofs.Unwritten.{task_of-change}
@@ -153,6 +154,39 @@ module _ (s : MutexState) (who id n : ℕ) (is : IsKern s.kern) (are : AreMutexe
       ap (take_refusal who n) m.1
       ∙ ap (λ o. cond (is_others who o && eqb n 0) (Some errors.ObjUnavailable) None) theirs ∙ ap (λ b. cond (not b && eqb n 0) (Some errors.ObjUnavailable) None) (ne_eqb x who other) ∙ ap (λ b. cond b (Some errors.ObjUnavailable) None) (eq-eqb n 0 waits)
 
+-- ---- owners inherit
+-- what the walk from owner to owner asks for
+pub record MayLend (s t : MutexState) (who : ℕ) : Type 0 where
+  pub lives : Lives t.kern who
+  pub urgent : OwnersUrgentBut who t.mutexes t.kern.tasks
+  pub sinces : t.kern.next_since ≤ s.kern.next_since + 1
+
+pub awaits : (s t : MutexState) (who id n : ℕ) → Lives s.kern who → KeepsMutexes s → IsSome (object_of s.mutexes id) → t ≡ awaited s who id n (object_of s.mutexes id) → MayLend s t who
+awaits s t who id n lives kept there state =
+    let m = live_is (object_of s.mutexes id) there in
+    let begins : Task → Task = λ u. renewed s.kern.next_since (pended (mutex_place id) (not m.0.by_priority) (wake_at 0 s.kern.tick n) u) in
+    subst (λ r. MayLend s r who) (sym (state ∙ ap (awaited s who id n) m.1)) (record {
+      lives = lives_by (await s who id n m.0).kern.tasks s.kern.tasks who (ids-change s.kern.tasks who begins (λ u. refl)) lives;
+      urgent = await_urgent s who id n m.0 kept;
+      sinces = omega arith;
+    })
+
+ids-change_pri : (k : KernState) (who p : ℕ) → ids (change_pri k who p).tasks ≡ ids k.tasks
+ids-change_pri k who p = elim (has_pri p (task_of k.tasks who)) as (λ b. ids (cond b k (move_task k who (with_pri p))).tasks ≡ ids k.tasks) [ true ↦ refl | false ↦ ids-move k who (with_pri p) (λ u. refl) ]
+
+pub lives_normal : (k : KernState) (who p : ℕ) → Lives k who → Lives (set_normal k who p) who
+lives_normal k who p lives = lives_by (set_normal k who p).tasks k.tasks who (ids-change k.tasks who (λ (u : Task). record u { normal = p }) (λ u. refl)) lives
+
+pub reprices : (s t : MutexState) (who p : ℕ) → IsKern s.kern → Lives s.kern who → KeepsMutexes s → t ≡ priority_alone s who p → MayLend s t who
+reprices s t who p is lives kept state =
+    let k : KernState = set_normal s.kern who p in
+    let q : ℕ = pri_after p (task_of s.kern.tasks who) in
+    subst (λ r. MayLend s r who) (sym state) (record {
+      lives = lives_by (change_pri k who q).tasks k.tasks who (ids-change_pri k who q) (lives_normal s.kern who p lives);
+      urgent = priority_urgent s who p is kept;
+      sinces = omega (arith, since-change_pri k who q);
+    })
+
 -- ---- the mutex is passed on
 pub record NextIs (k : KernState) (id next : ℕ) (x : Task) : Type 0 where
   pub first : first_waiter k.tasks (mutex_place id) ≡ Some x
@@ -236,7 +270,7 @@ ids_restored k who None = (refl, omega arith)
 ids_restored k who (Some t) =
     elim (eqb t.held 0) as (λ b. (ids (cond b (change_pri k who t.normal) k).tasks ≡ ids k.tasks) × ((cond b (change_pri k who t.normal) k).next_since ≤ k.next_since + 1)) [
       | true ↦ (
-        elim (has_pri t.normal (task_of k.tasks who)) as (λ b. ids (cond b k (move_task k who (with_pri t.normal))).tasks ≡ ids k.tasks) [ true ↦ refl | false ↦ ids-move k who (with_pri t.normal) (λ u. refl) ],
+        ids-change_pri k who t.normal,
         since-change_pri k who t.normal,
       )
       | false ↦ (refl, omega arith)

@@ -1,10 +1,11 @@
 -- A mutex is deleted, and a normal priority is set.
 use Rattle.std.proofs.Common.{◌≡◌, ℕ, ◌+◌, ◌<◌, ◌≤◌, min, true, false, cond, not, ◌&&◌, eqb, List, get_or, Option, None, Some, IsSome, IfSome, refl, sym, ap, ◌∙◌, subst, arith, ◌⊎◌, inl, inr, ⊎_elim}
 use Rattle.std.specs.List.{All, Contains}
-use Rattle.std.proofs.lemmas.Bool.{eq-eqb, ne_eqb}
+use Rattle.std.proofs.lemmas.Bool.{eq-eqb, ne_eqb, eqb-true}
 use Rattle.std.proofs.lemmas.List.Elements.{All-contains, All-weaker, All-filter, Contains-get_or}
 use Rattle.wind_base.specs.declared.errno.Errno.TheVariants as errors
 use Rattle.id_table.specs.Rows.{object_of, without, row_id}
+use Rattle.id_table.specs.declared.ident.Place.{Place}
 use Rattle.task_block.specs.declared.task.Task.{Task}
 use Rattle.wind_lists.proofs.Records.{found_in}
 use Rattle.wind_core.specs.State.{KernState, IsKern, task_id, task_of}
@@ -13,14 +14,14 @@ use Rattle.wind_core.specs.Moves.{set_normal, change_pri, wake_all}
 use Rattle.wind_core.proofs.Keeping.{every_call_keeps}
 use Rattle.inheritance.specs.declared.mutex.Mutex.{Mutex}
 use Rattle.inheritance.specs.Mutexes.{MutexState, both, is_id, holds, held_count, mutex_place}
-use Rattle.inheritance.specs.Reach.{mutex_at, lent_to, raised}
+use Rattle.inheritance.specs.Reach.{mutex_at, owner_at, lent_to, raised}
 use Rattle.sem_mutex.specs.Calls.{letting_go, ended, owner_ended, delete_alone, delete, pri_after, priority_alone, priority_set}
-use Rattle.inheritance.specs.Laws.{OwnersUrgent}
+use Rattle.inheritance.specs.Laws.{OwnersUrgent, OwnersUrgentBut}
 use Rattle.sem_mutex.specs.Kept.{MutexKept, TaskKept, Holds, KeepsMutexes}
 use Rattle.sem_mutex.proofs.Following.{follows_keeps}
 use Rattle.sem_mutex.proofs.Beside.{follows-wake_all}
-use Rattle.sem_mutex.proofs.Counting.{one, mutex_at-without, count_without}
-use Rattle.sem_mutex.proofs.Owning.{From}
+use Rattle.sem_mutex.proofs.Counting.{one, mutex_at-without, count_without, no_lender}
+use Rattle.sem_mutex.proofs.Owning.{From, SlackBut, urgent_slack_but}
 use Rattle.sem_mutex.proofs.Handing.{IsOwned}
 use Rattle.sem_mutex.proofs.Giving.{let_go_keeps}
 use Rattle.sem_mutex.proofs.Keeping.{kern_letting_go, kern_eased}
@@ -131,6 +132,53 @@ after_le : (p : ℕ) (o : Option Task) → pri_after p o ≤ p
 after_le p None = omega arith
 after_le p (Some t) = elim (eqb t.held 0) as (λ b. cond b p (min t.pri p) ≤ p) [ true ↦ omega arith | false ↦ omega arith ]
 
+-- what the call makes of each task, before owners inherit
+repriced : (k : KernState) (who p q : ℕ) → IsKern k → All (From (Repriced who p q) k.tasks) (change_pri (set_normal k who p) who q).tasks
+repriced k who p q is =
+    let k1 : KernState = set_normal k who p in
+    All-change_pri (From (Renormed who p) k.tasks) (From (Repriced who p q) k.tasks) k1 who q ((every_call_keeps k is).setting_normal who p).rising
+    (λ t at same f. (f.0, f.1, record { id = f.2.id; held = f.2.held; wait = f.2.wait; fifo = f.2.fifo; pri = inl (same, f.2.own same, refl) }))
+    (λ t at other f. (f.0, f.1, record { id = f.2.id; held = f.2.held; wait = f.2.wait; fifo = f.2.fifo; pri = inr (other, f.2.other other, f.2.pri) }))
+    (λ since t f. (f.0, f.1, record { id = f.2.id; held = f.2.held; wait = f.2.wait; fifo = f.2.fifo; pri = f.2.pri }))
+    (All-change_at (λ t. t.id ≡ t.id) (From (Renormed who p) k.tasks) k.tasks who (λ t. record t { normal = p })
+    (λ t at same h. (t, at, record { id = refl; pri = refl; held = refl; wait = refl; fifo = refl; own = λ _. refl; other = λ not. absurd (not same) }))
+    (λ t at other h. (t, at, record { id = refl; pri = refl; held = refl; wait = refl; fifo = refl; own = λ same. absurd (other same); other = λ _. refl }))
+    (λ i d hi. refl))
+
+-- a task whose normal priority is set is the only waiter that may be more urgent than its owner then
+pub priority_urgent : (s : MutexState) (who p : ℕ) → IsKern s.kern → KeepsMutexes s → OwnersUrgentBut who s.mutexes (priority_alone s who p).kern.tasks
+priority_urgent s who p is kept =
+    let k = s.kern in
+    let ms = s.mutexes in
+    let q : ℕ = pri_after p (task_of k.tasks who) in
+    urgent_slack_but who ms k.tasks (priority_alone s who p).kern.tasks (All-weaker (From (Repriced who p q) k.tasks) (From (SlackBut who ms) k.tasks) (λ u f.
+    let t = f.0 in
+    let d = f.2 in (
+      t,
+      f.1,
+      record {
+        id = d.id;
+        waiter = λ other. (
+          d.wait,
+          ⊎_elim
+              (λ (x : (u.id ≡ who) × (u.normal ≡ p) × (u.pri ≡ q)). absurd (other x.0))
+              (λ (x : (u.id ≡ who → ⊥) × (u.normal ≡ t.normal) × (u.pri ≡ t.pri)). omega (arith, x.2))
+              d.pri,
+        );
+        owner = ⊎_elim
+            (λ (x : (u.id ≡ who) × (u.normal ≡ p) × (u.pri ≡ q)).
+            let here : task_of k.tasks who ≡ Some t = ap (task_of k.tasks) (sym x.0 ∙ d.id) ∙ found_in task_id k.tasks t is.rising f.1 in
+            let held = (All-contains (TaskKept ms (held_count ms) k.next_id) k.tasks t kept.holds.tasks f.1).held in
+            let now : u.pri ≡ cond (eqb t.held 0) p (min t.pri p) = x.2 ∙ ap (pri_after p) here in
+            elim (eqb t.held 0) as (λ b. eqb t.held 0 ≡ b → u.pri ≡ cond b p (min t.pri p) → (u.pri ≤ t.pri) ⊎ ((w : Option Place) → owner_at ms w ≡ Some t.id → ⊥)) [
+              | true ↦ λ b e. inr (no_lender ms t.id (sym held ∙ eqb-true t.held 0 b))
+              | false ↦ λ b e. inl (omega (arith, e))
+            ] refl now)
+            (λ (x : (u.id ≡ who → ⊥) × (u.normal ≡ t.normal) × (u.pri ≡ t.pri)). inl (omega (arith, x.2)))
+            d.pri;
+      },
+    )) (priority_alone s who p).kern.tasks (repriced k who p q is)) kept.urgent
+
 pub priority_keeps : (s : MutexState) (who p : ℕ) → IsKern s.kern → KeepsMutexes s → KeepsMutexes (priority_set s who p)
 priority_keeps s who p is kept =
     let k = s.kern in
@@ -139,17 +187,6 @@ priority_keeps s who p is kept =
     let q : ℕ = pri_after p (task_of k.tasks who) in
     let k1 : KernState = set_normal k who p in
     let is1 : IsKern k1 = (every_call_keeps k is).setting_normal who p in
-    let step1 : All (From (Renormed who p) k.tasks) k1.tasks =
-    All-change_at (TaskKept ms count k.next_id) (From (Renormed who p) k.tasks) k.tasks who (λ t. record t { normal = p })
-    (λ t at same h. (t, at, record { id = refl; pri = refl; held = refl; wait = refl; fifo = refl; own = λ _. refl; other = λ not. absurd (not same) }))
-    (λ t at other h. (t, at, record { id = refl; pri = refl; held = refl; wait = refl; fifo = refl; own = λ same. absurd (other same); other = λ _. refl }))
-    kept.holds.tasks in
-    let step2 : All (From (Repriced who p q) k.tasks) (change_pri k1 who q).tasks =
-    All-change_pri (From (Renormed who p) k.tasks) (From (Repriced who p q) k.tasks) k1 who q is1.rising
-    (λ t at same f. (f.0, f.1, record { id = f.2.id; held = f.2.held; wait = f.2.wait; fifo = f.2.fifo; pri = inl (same, f.2.own same, refl) }))
-    (λ t at other f. (f.0, f.1, record { id = f.2.id; held = f.2.held; wait = f.2.wait; fifo = f.2.fifo; pri = inr (other, f.2.other other, f.2.pri) }))
-    (λ since t f. (f.0, f.1, record { id = f.2.id; held = f.2.held; wait = f.2.wait; fifo = f.2.fifo; pri = f.2.pri }))
-    step1 in
     let same = next-change_pri k1 who q in
     raised_keeps (priority_alone s who p) ((every_call_keeps k1 is1).changing_pri who q) (record {
       tasks = subst (λ n. All (TaskKept ms count n) (change_pri k1 who q).tasks) (sym same)
@@ -172,6 +209,6 @@ priority_keeps s who p is kept =
                 d.pri;
             made = subst (λ w. IfSome w (λ v. v.id < k.next_id)) (sym d.wait) h.made;
             owned = subst (λ w. IfSome (mutex_at ms w) (IsOwned u.fifo)) (sym d.wait) (subst (λ b. IfSome (mutex_at ms t.wait) (IsOwned b)) (sym d.fifo) h.owned);
-          }) (change_pri k1 who q).tasks step2);
+          }) (change_pri k1 who q).tasks (repriced k who p q is));
       mutexes = subst (λ n. All (MutexKept n) ms) (sym same) kept.holds.mutexes;
     })

@@ -12,19 +12,19 @@ use Rattle.task_block.specs.declared.task.Task.{Task}
 use Rattle.wind_lists.proofs.Records.{found_id}
 use Rattle.wind_core.specs.State.{KernState, IsKern, Lives, task_id, task_of}
 use Rattle.wind_core.specs.Orders.{is_place}
-use Rattle.wind_core.specs.Moves.{pended, wake_at, set_held}
+use Rattle.wind_core.specs.Moves.{renewed, pended, wake_at, set_held}
 use Rattle.wind_core.proofs.Stable.{renew_task-stable}
 use Rattle.task_safety.specs.Safety.{make_safe, safe_of, lessen}
 use Rattle.inheritance.specs.declared.mutex.Mutex.{Mutex}
 use Rattle.inheritance.specs.Mutexes.{MutexState, both, is_id, holds, held_count, mutex_place}
 use Rattle.inheritance.specs.Reach.{mutex_at, lent_to, owner_at}
 use Rattle.sem_mutex.specs.Calls.{held_of, holding, guarded, eased, owned, hand, deepen, await, shallow}
-use Rattle.inheritance.specs.Laws.{OwnersUrgent}
+use Rattle.inheritance.specs.Laws.{OwnersUrgent, OwnersUrgentBut}
 use Rattle.sem_mutex.specs.Kept.{MutexKept, TaskKept, Holds, KeepsMutexes}
 use Rattle.sem_mutex.proofs.Following.{Follows, holds_follows, urgent_follows, none_above, themselves}
 use Rattle.sem_mutex.proofs.Beside.{follows-set_safe, follows-lessen}
 use Rattle.sem_mutex.proofs.Counting.{one, mutex_at-write, mutex_at_place, count_write}
-use Rattle.sem_mutex.proofs.Owning.{From, Slack, urgent_slack, live_task, holds_more}
+use Rattle.sem_mutex.proofs.Owning.{From, Slack, SlackBut, urgent_slack, urgent_slack_but, live_task, holds_more}
 use Rattle.wind_lists.specs.Records.{Rising}
 use Rattle.wind_core.proofs.Becoming.{All-change_at, found_all}
 
@@ -237,3 +237,14 @@ await_holds s who id n m e own kept =
           }) kept.holds.tasks;
       mutexes = kept.holds.mutexes;
     }
+
+-- a task that begins to wait is the only waiter that may be more urgent than its owner then
+pub await_urgent : (s : MutexState) (who id n : ℕ) (m : Mutex) → KeepsMutexes s → OwnersUrgentBut who s.mutexes (await s who id n m).kern.tasks
+await_urgent s who id n m kept =
+    let ms = s.mutexes in
+    let k = s.kern in
+    urgent_slack_but who ms k.tasks (await s who id n m).kern.tasks
+    (All-change_at (λ t. t.id ≡ t.id) (From (SlackBut who ms) k.tasks) k.tasks who (λ t. renewed k.next_since (pended (mutex_place id) (not m.by_priority) (wake_at 0 k.tick n) t))
+    (λ t at same h. (t, at, record { id = refl; waiter = λ other. absurd (other same); owner = inl (omega arith) }))
+    (λ t at other h. (t, at, record { id = refl; waiter = λ _. (refl, omega arith); owner = inl (omega arith) }))
+    (λ i d hi. refl)) kept.urgent

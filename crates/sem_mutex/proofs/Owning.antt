@@ -1,5 +1,5 @@
 -- What the rows of mutexes do to one task, and to the facts that are kept.
-use Rattle.std.proofs.Common.{◌≡◌, ℕ, ◌+◌, ◌-◌, ◌<◌, ◌≤◌, true, false, cond, not, eqb, List, get_or, Option, None, Some, IsSome, IfSome, refl, sym, ap, ◌∙◌, subst, arith, ◌⊎◌, inl, inr, ⊎_elim}
+use Rattle.std.proofs.Common.{◌≡◌, ℕ, suc, ◌+◌, ◌-◌, ◌<◌, ◌≤◌, true, false, cond, not, eqb, List, get_or, Option, None, Some, IsSome, IfSome, refl, sym, ap, ◌∙◌, subst, arith, ◌⊎◌, inl, inr, ⊎_elim}
 use Rattle.std.specs.List.{All, Contains}
 use Rattle.std.proofs.lemmas.Bool.{eqb-true, eqb-false, eq-eqb, ne_eqb, cases_eq}
 use Rattle.std.proofs.lemmas.Option.{same_Some}
@@ -13,7 +13,7 @@ use Rattle.wind_core.proofs.Keeping.{every_call_keeps}
 use Rattle.inheritance.specs.declared.mutex.Mutex.{Mutex}
 use Rattle.inheritance.specs.Reach.{mutex_at, owner_at}
 use Rattle.sem_mutex.specs.Calls.{held_of, restored, less_held, dropped}
-use Rattle.inheritance.specs.Laws.{OwnersUrgent}
+use Rattle.inheritance.specs.Laws.{OwnersUrgent, OwnersUrgentBut}
 use Rattle.sem_mutex.specs.Kept.{MutexKept, TaskKept, Holds}
 use Rattle.sem_mutex.proofs.Counting.{one}
 use Rattle.wind_core.proofs.Becoming.{found_all, All-change_at, All-change_pri}
@@ -202,21 +202,47 @@ module _ (count : ℕ → ℕ) (ms : List (ℕ × Mutex)) (k : KernState) (who :
   }
 
 -- ---- owners stay urgent where priorities only fall that nobody waits by
+-- but for w, u waits as t and is no more urgent; and it is no less urgent where somebody may wait by it
+pub record SlackBut (w : ℕ) (ms : List (ℕ × Mutex)) (t u : Task) : Type 0 where
+  pub id : u.id ≡ t.id
+  pub waiter : (u.id ≡ w → ⊥) → (u.wait ≡ t.wait) × (t.pri ≤ u.pri)
+  pub owner : (u.pri ≤ t.pri) ⊎ ((p : Option Place) → owner_at ms p ≡ Some t.id → ⊥)
+
+pub urgent_slack_but : (w : ℕ) (ms : List (ℕ × Mutex)) (ts us : List Task) → All (From (SlackBut w ms) ts) us → OwnersUrgent ms ts → OwnersUrgentBut w ms us
+urgent_slack_but w ms ts us all urgent =
+    All-weaker (From (SlackBut w ms) ts) (λ y. (y.id ≡ w → ⊥) → All (λ x. owner_at ms y.wait ≡ Some x.id → x.pri ≤ y.pri) us) (λ y fy other.
+    let stays = fy.2.waiter other in
+    All-weaker (From (SlackBut w ms) ts) (λ x. owner_at ms y.wait ≡ Some x.id → x.pri ≤ y.pri) (λ x fx e.
+    let before : owner_at ms fy.0.wait ≡ Some fx.0.id = sym (ap (owner_at ms) stays.0) ∙ e ∙ ap Some fx.2.id in
+    let law = All-contains (λ v. owner_at ms fy.0.wait ≡ Some v.id → v.pri ≤ fy.0.pri) ts fx.0
+    (All-contains (λ u. All (λ v. owner_at ms u.wait ≡ Some v.id → v.pri ≤ u.pri) ts) ts fy.0 urgent fy.1) fx.1 before in
+    let up : fy.0.pri ≤ y.pri = stays.1 in
+    let down : x.pri ≤ fx.0.pri = ⊎_elim (λ (q : x.pri ≤ fx.0.pri). q) (λ (q : (p : Option Place) → owner_at ms p ≡ Some fx.0.id → ⊥). absurd (q fy.0.wait before)) fx.2.owner in
+    omega (arith, law, up, down)) us all) us all
+
 pub record Slack (ms : List (ℕ × Mutex)) (t u : Task) : Type 0 where
   pub id : u.id ≡ t.id
   pub wait : u.wait ≡ t.wait
   pub pri : (u.pri ≡ t.pri) ⊎ ((t.pri ≤ u.pri) × ((w : Option Place) → owner_at ms w ≡ Some t.id → ⊥))
 
+slack_but : (w : ℕ) (ms : List (ℕ × Mutex)) (ts : List Task) (u : Task) → From (Slack ms) ts u → From (SlackBut w ms) ts u
+slack_but w ms ts u f = (
+  f.0,
+  f.1,
+  record {
+    id = f.2.id;
+    waiter = λ other. (
+      f.2.wait,
+      ⊎_elim (λ (q : u.pri ≡ f.0.pri). omega (arith, q)) (λ (q : (f.0.pri ≤ u.pri) × ((p : Option Place) → owner_at ms p ≡ Some f.0.id → ⊥)). q.0) f.2.pri,
+    );
+    owner = ⊎_elim (λ (q : u.pri ≡ f.0.pri). inl (omega (arith, q))) (λ (q : (f.0.pri ≤ u.pri) × ((p : Option Place) → owner_at ms p ≡ Some f.0.id → ⊥)). inr q.1) f.2.pri;
+  },
+)
+
 pub urgent_slack : (ms : List (ℕ × Mutex)) (ts us : List Task) → All (From (Slack ms) ts) us → OwnersUrgent ms ts → OwnersUrgent ms us
-urgent_slack ms ts us all urgent =
-    All-weaker (From (Slack ms) ts) (λ y. All (λ x. owner_at ms y.wait ≡ Some x.id → x.pri ≤ y.pri) us) (λ y fy.
-    All-weaker (From (Slack ms) ts) (λ x. owner_at ms y.wait ≡ Some x.id → x.pri ≤ y.pri) (λ x fx e.
-    let before : owner_at ms fy.0.wait ≡ Some fx.0.id = sym (ap (owner_at ms) fy.2.wait) ∙ e ∙ ap Some fx.2.id in
-    let law = All-contains (λ v. owner_at ms fy.0.wait ≡ Some v.id → v.pri ≤ fy.0.pri) ts fx.0
-    (All-contains (λ u. All (λ v. owner_at ms u.wait ≡ Some v.id → v.pri ≤ u.pri) ts) ts fy.0 urgent fy.1) fx.1 before in
-    let up : fy.0.pri ≤ y.pri = ⊎_elim (λ (q : y.pri ≡ fy.0.pri). omega arith) (λ (q : (fy.0.pri ≤ y.pri) × ((w : Option Place) → owner_at ms w ≡ Some fy.0.id → ⊥)). q.0) fy.2.pri in
-    let same : x.pri ≡ fx.0.pri = ⊎_elim (λ (q : x.pri ≡ fx.0.pri). q) (λ (q : (fx.0.pri ≤ x.pri) × ((w : Option Place) → owner_at ms w ≡ Some fx.0.id → ⊥)). absurd (q.1 fy.0.wait before)) fx.2.pri in
-    omega arith) us all) us all
+urgent_slack ms ts us all urgent = λ i d hi.
+    let no_other : ℕ = suc (get_or us i d).id in
+    urgent_slack_but no_other ms ts us (All-weaker (From (Slack ms) ts) (From (SlackBut no_other ms) ts) (slack_but no_other ms ts) us all) urgent i d hi (λ q. omega (arith, q))
 
 -- a task that drops its last inversion-safe mutex is waited for by nobody that lends
 pub urgent_dropped : (count : ℕ → ℕ) (ms ns : List (ℕ × Mutex)) (k : KernState) (who : ℕ) → IsKern k → Lives k who → Holds count ms k → (less who count who ≡ 0 → (w : Option Place) → owner_at ns w ≡ Some who → ⊥)

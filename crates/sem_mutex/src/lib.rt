@@ -2,13 +2,12 @@
 #![tactic(auto)]
 
 mod deletes;
+mod early;
 mod gives;
 mod laws;
 mod mutexes;
 mod owners;
 mod takes;
-#[cfg(test)]
-mod tests;
 mod took;
 
 pub use laws::kept_law;

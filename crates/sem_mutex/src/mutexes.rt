@@ -11,7 +11,7 @@ ghost use Rattle.sem_mutex.specs.Making.{create, create_refusal, new_mutex};
 
 use crate::owners::pri_after;
 use id_table::{Ident, Table};
-use inheritance::{Mutex, raise};
+use inheritance::{Mutex, inherit};
 use std::alloc::Global;
 use std::marker::Model;
 use wind_base::limits::MUTEXES;
@@ -145,6 +145,6 @@ impl Mutexes {
         let changed = pri_after(k, who, pri);
         k.set_normal(who, pri);
         k.change_pri(who, changed);
-        raise(k, &self.table);
+        inherit(k, &self.table, who);
     }
 }

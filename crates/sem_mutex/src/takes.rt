@@ -13,7 +13,7 @@ use crate::owners::{add_depth, adopt, guard, own};
 use crate::took::Took;
 use id_table::sides::OBJECT;
 use id_table::{Ident, Place};
-use inheritance::raise;
+use inheritance::inherit;
 use wind_base::Errno;
 use wind_base::words::NO_WAIT;
 use wind_core::Kern;
@@ -95,7 +95,7 @@ impl Mutexes {
             return Err(Errno::ObjUnavailable);
         }
         self.await_turn(k, caller, id, timeout);
-        raise(k, &self.table);
+        inherit(k, &self.table, caller);
         Ok(Took::Pended)
     }
 }

@@ -2,7 +2,6 @@
 
 ghost use Rattle.std.specs.Prelude.{◌≡◌, ◌<◌, ◌^◌};
 ghost use Rattle.std.specs.List.{All};
-ghost use Rattle.wind_core.specs.State.{Lives};
 ghost use Rattle.kernel_world.specs.Objects.{deletion_gate};
 ghost use Rattle.kernel_world.specs.Actors.{Acts};
 ghost use Rattle.task_calls.specs.SafetyRows.{safe_row, unsafe_row, back_at_gate, meant as meant_lem, deletion, delete_row};
@@ -31,8 +30,8 @@ pub fn make_safe(kern: &mut Kern, who: Actor) -> Reply
     DONE
 }
 
-/// taskUnsafe, of a task: it is safe once less, and at the last time all who wait to delete it go on. Refused at interrupt
-/// level, and where it isn't safe.
+/// taskUnsafe, of a task: it is safe once less, and at the last time all who wait to delete it go on. Refused at
+/// interrupt level, and where it isn't safe.
 pub fn make_unsafe(kern: &mut Kern, who: Actor) -> Reply
     requires live { Acts kern.old who }
     requires since { kern.old.next_since < 2 ^ 63 }
@@ -77,8 +76,8 @@ fn stand_at_gate(kern: &mut Kern, who: Ident)
     kern.set_regs(who, regs);
 }
 
-/// taskDelete, of a task: the task of an id ends, 0 being the caller, or the caller waits at its gate until that is safe
-/// no more. Refused at interrupt level, where no such task lives, and of the shell's task.
+/// taskDelete, of a task: the task of an id ends, 0 being the caller, or the caller waits at its gate until that is
+/// safe no more. Refused at interrupt level, where no such task lives, and of the shell's task.
 pub fn delete(kern: &mut Kern, part: &mut Part, who: Actor, id: u32) -> Reply
     requires live { Acts kern.old who }
     requires since { kern.old.next_since < 2 ^ 63 }

@@ -1,6 +1,6 @@
 //! taskSpawn and sp.
 
-ghost use Rattle.std.specs.Prelude.{◌≡◌, ◌+◌, ◌-◌, ◌^◌, ◌<◌, ◌≤◌, false, option_map, length};
+ghost use Rattle.std.specs.Prelude.{◌≡◌, ◌+◌, ◌-◌, ◌^◌, ◌<◌, ◌≤◌, false, length};
 ghost use Rattle.wind_base.specs.Limits.{ram_bytes, longest_short_name};
 ghost use Rattle.wind_base.specs.OutBuf.{Added};
 ghost use Rattle.mem_partition.specs.Place.{rounded};

@@ -2,8 +2,7 @@
 
 ghost use Rattle.std.specs.Prelude.{◌≡◌, ◌≤◌, length, IfOk, OnErr};
 ghost use Rattle.wind_base.specs.Limits.{longest_name};
-ghost use Rattle.board_mem.specs.Memory.{string_at};
-ghost use Rattle.task_calls.specs.SymbolRows.{kind_of_number as kind_of_number_lem, with_name as with_name_lem, with_kind as with_kind_lem, symbol_row};
+ghost use Rattle.task_calls.specs.SymbolRows.{kind_of_number as kind_of_number_lem, with_kind as with_kind_lem, symbol_row};
 
 use board_mem::Ram;
 use kernel_world::{DONE, Reply};
@@ -71,8 +70,8 @@ fn add_kind(
     Ok(DONE)
 }
 
-/// symAdd: a global symbol of group 0, with a name of 1 to 255 bytes. Refused at a table other than 0, a name that can't be
-/// read, a kind that there isn't, and as many symbols as there may be. For want of memory the symbols stay.
+/// symAdd: a global symbol of group 0, with a name of 1 to 255 bytes. Refused at a table other than 0, a name that
+/// can't be read, a kind that there isn't, and as many symbols as there may be. For want of memory the symbols stay.
 pub fn add_symbol(
     alloc: Global,
     syms: &mut Symbols,

@@ -1,11 +1,10 @@
 //! The calls that touch the kernel's tasks and counters alone.
 
-ghost use Rattle.std.specs.Prelude.{◌≡◌, ◌+◌, ◌^◌, ◌<◌, IfSome};
+ghost use Rattle.std.specs.Prelude.{◌≡◌, ◌+◌, ◌^◌, ◌<◌};
 ghost use Rattle.std.specs.List.{All};
-ghost use Rattle.wind_core.specs.State.{Lives, KernState, task_of};
+ghost use Rattle.wind_core.specs.State.{KernState, task_of};
 ghost use Rattle.wind_core.specs.Moves.{live_id};
-ghost use Rattle.kernel_world.specs.Actors.{Acts};
-ghost use Rattle.kernel_world.specs.Actors.{target as target_lem};
+ghost use Rattle.kernel_world.specs.Actors.{Acts, target as target_lem};
 ghost use Rattle.task_calls.specs.TaskRows.{suspend_row, resume_row, delay_row, lock_row, unlock_row, self_row, verify_row, name_row, slice_row, tick_row, locks_of, mark_of, int_lock_row, int_unlock_row, int_context_row};
 ghost use Rattle.board_mem.specs.Memory.{string_at};
 
@@ -134,8 +133,8 @@ pub fn ticks(kern: &Kern) -> Reply
     Reply::Answer((kern.ticks() % 0x1_0000_0000) as u32)
 }
 
-/// taskNameToId: the least id of a task that has the name at an address. Refused where no string is there, then where no
-/// task has it.
+/// taskNameToId: the least id of a task that has the name at an address. Refused where no string is there, then where
+/// no task has it.
 pub fn task_of_name(kern: &Kern, ram: &Ram, address: u32) -> Reply
     ensures { result ≡ (name_row kern.now (string_at ram.now address)).reply }
 {

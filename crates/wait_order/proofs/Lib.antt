@@ -1,1 +1,6 @@
 pub mod Turns
+pub mod Places
+pub mod Standing
+pub mod Walking
+pub mod Firsts
+pub mod Changing

@@ -1,2 +1,4 @@
 pub mod Line
 pub mod Laws
+pub mod Fronts
+pub mod Inside

@@ -1,8 +1,10 @@
 //! The order of waiters: who waits at which place, and who is first there.
 #![tactic(auto)]
 
+mod fronts;
 mod laws;
-mod places;
+mod order;
+mod runs;
 #[cfg(test)]
 mod tests;
 mod waits;

@@ -3,8 +3,10 @@
 ghost use Rattle.std.specs.Prelude.{◌≡◌, ◌<◌, [], None, length, IfOk, is_some};
 ghost use Rattle.wait_order.specs.Line.{IsLine, waiter_of, with_waiter, without_waiter, first_at};
 
-use crate::places::{first_waiter, place_of, rank_of};
+use crate::fronts::{Front, first_at as front_at, first_from};
+use crate::runs::{LIST, come, go, place_of};
 use id_table::{Ident, Place};
+use linked_lists::IdLists;
 use std::alloc::Global;
 use std::marker::Model;
 use wind_base::NoMemory;
@@ -22,23 +24,26 @@ pub struct Waiter {
     pub since: u64,
 }
 
-/// The tasks that wait, each at one place; at most so many.
+/// The tasks that wait, each at one place; at most so many. They stand in one linked list, by place and at each place in
+/// order, and the first of each place where somebody waits is kept beside it.
 #[derive(Drop)]
 pub struct Waits {
-    room: usize,
-    // by rising id
-    waiters: Vec<Waiter>,
+    waiters: IdLists<Waiter>,
+    // by place
+    fronts: Vec<Front>,
 }
 
 impl Model for Waits {
     ghost use Rattle.std.specs.Prelude.{◌≤◌, vec_capacity};
-    ghost use Rattle.wait_order.specs.Line.{Line, IsLine};
+    ghost use Rattle.wait_order.specs.Line.{Line};
 
     ghost Value = { Line };
 
-    ghost view = { λ w. record { waiters = w.waiters.items; room = w.room } };
+    ghost use Rattle.wait_order.specs.Inside.{by_id, waiters_in, IsKept};
 
-    ghost invariant = { λ w. (w.room ≤ vec_capacity w.waiters) × IsLine (record { waiters = w.waiters.items; room = w.room }) };
+    ghost view = { λ w. record { waiters = by_id (waiters_in w.waiters.chains); room = w.waiters.room } };
+
+    ghost invariant = { λ w. (w.waiters.room ≤ vec_capacity w.fronts) × IsKept w.waiters.chains w.fronts.items };
 }
 
 impl Waits {
@@ -46,9 +51,9 @@ impl Waits {
     pub fn reserved(alloc: Global, n: u32) -> Result<Waits, NoMemory>
         ensures { IfOk result (λ w. w ≡ record { waiters = []; room = n }) }
     {
-        let room = n as usize;
-        match Vec::with_capacity(alloc, room) {
-            Ok(waiters) => Ok(Waits { room, waiters }),
+        let waiters = IdLists::reserved(alloc, 1, n)?;
+        match Vec::with_capacity(alloc, n as usize) {
+            Ok(fronts) => Ok(Waits { waiters, fronts }),
             Err(_) => Err(NoMemory),
         }
     }
@@ -57,8 +62,9 @@ impl Waits {
     pub fn facts(&self)
         ensures { IsLine self.now }
     {
-        // to read the list is to know them
-        let _ = &self.waiters;
+        self.waiters.facts();
+        // to read the firsts is to know the rest
+        let _ = &self.fronts;
     }
 
     /// How many tasks wait.
@@ -72,7 +78,7 @@ impl Waits {
     pub fn room(&self) -> usize
         ensures { result ≡ self.now.room }
     {
-        self.room
+        self.waiters.room()
     }
 
     /// The task waits at a place from now on, by its priority, or by 0 where it waits in order of arrival,
@@ -82,16 +88,17 @@ impl Waits {
         requires room { length self.old.waiters < self.old.room }
         ensures { self.new ≡ with_waiter self.old (record { place = place; who = who; pri = pri; since = since }) }
     {
-        let rank = rank_of(&self.waiters, who);
+        self.waiters.facts();
         let waiter = Waiter {
             place,
             who,
             pri,
             since,
         };
-        let Ok(()) = self.waiters.insert(rank, waiter) else {
-            unreachable!()
-        };
+        let start = first_from(&self.fronts, &place);
+        let next = place_of(&self.waiters, start, &waiter);
+        come(&mut self.fronts, &self.waiters, &waiter);
+        self.waiters.insert_before(LIST, next, who, waiter);
     }
 
     /// The task waits no longer. False, and nothing changes, where it doesn't wait.
@@ -99,10 +106,12 @@ impl Waits {
         ensures value { result ≡ is_some (waiter_of self.old.waiters who) }
         ensures waiters { self.new ≡ without_waiter self.old who }
     {
-        let Some(at) = place_of(&self.waiters, who) else {
+        self.waiters.facts();
+        let next = self.waiters.next(who);
+        let Some(gone) = self.waiters.remove(who) else {
             return false;
         };
-        self.waiters.remove(at);
+        go(&mut self.fronts, &self.waiters, &gone, next);
         true
     }
 
@@ -111,6 +120,6 @@ impl Waits {
     pub fn first(&self, place: Place) -> Option<Ident>
         ensures { result ≡ first_at self.now.waiters place }
     {
-        first_waiter(&self.waiters, &place).map(|waiter| waiter.who)
+        front_at(&self.fronts, &place)
     }
 }

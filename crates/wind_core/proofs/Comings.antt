@@ -1,22 +1,30 @@
 -- Tasks come and go.
-use Rattle.std.proofs.Common.{◌≡◌, ℕ, ◌+◌, ◌<◌, ◌≤◌, Bool, not, eqb, [], ◌∷◌, ◌++◌, length, None, IfSome, sym, ap, ◌∙◌, subst, arith}
+use Rattle.std.proofs.Common.{◌≡◌, ℕ, ◌+◌, ◌<◌, ◌≤◌, Bool, true, not, cond, eqb, List, [], ◌∷◌, ◌++◌, length, None, Some, IfSome, refl, sym, ap, ◌∙◌, subst, arith}
+use Rattle.std.specs.List.{All}
+use Rattle.std.proofs.lemmas.Bool.{ne_eqb}
 use Rattle.std.proofs.lemmas.List.{length_push, length-map, get_or-map, map-append}
-use Rattle.std.proofs.lemmas.List.Elements.{All-filter, All-push}
+use Rattle.std.proofs.lemmas.List.Elements.{All-filter, All-push, All-head, All-tail, All-weaker}
 use Rattle.std.proofs.lemmas.List.Kept.{AllPairs-filter}
 use Rattle.std.proofs.lemmas.List.Quantifiers.{all_pairs_push}
 use Rattle.id_table.specs.Rows.{objects, added, removed, IdsBelow}
 use Rattle.id_table.specs.Rows as table
 use Rattle.id_table.proofs.Owning.{objects-without}
 use Rattle.task_block.specs.declared.task.Task.{Task}
+use Rattle.task_block.specs.declared.task.NewTask.{NewTask}
+use Rattle.task_block.specs.Standing.{is_ready}
 use Rattle.wind_lists.specs.Records.{without}
 use Rattle.wind_lists.proofs.Passing.{length-filter}
 use Rattle.wait_order.specs.Line.{Line, waiter_id, without_waiter}
 use Rattle.wait_order.proofs.Turns.{line_alike}
+use Rattle.ready_queue.specs.Order as urgent
+use Rattle.delay_queue.specs.Wakes as timed
 use Rattle.wind_base.specs.Limits.{most_tasks}
-use Rattle.wind_core.specs.State.{KernState, IsKern, WakesAhead, task_id}
-use Rattle.wind_core.specs.Moves.{remove}
-use Rattle.wind_core.specs.Waiting.{waits_of, task_waits}
+use Rattle.wind_core.specs.State.{KernState, IsKern, WakesAhead, task_id, task_of}
+use Rattle.wind_core.specs.Moves.{new_task, remove}
+use Rattle.wind_core.specs.Queues.{as_ready, AreQueued}
+use Rattle.wind_core.specs.Waiting.{waits_of}
 use Rattle.wind_core.proofs.Waiting.{waits_without, waits_push}
+use Rattle.wind_core.proofs.Queued.{ready_without, ready_push, ready_absent, length-ready, delayed_without, delayed_push}
 use Rattle.wind_core.specs.declared.kern.Kern.TheInside.{Inside}
 use Rattle.wind_core.specs.contracts.kern.Kern.{the_view}
 use Rattle.wind_core.proofs.Writes.{Kept}
@@ -36,21 +44,26 @@ without_keeps s who is =
       ahead = All-filter stays (WakesAhead s.tick) s.tasks is.ahead;
     }
 
-abbrev taken_out : Inside → ℕ → Line → Inside
-taken_out k who l = record k { tasks = removed k.tasks who; waits = l }
+abbrev pub taken_out : Inside → ℕ → Line → urgent.Order → timed.Order → Inside
+taken_out k who l r d = record k { tasks = removed k.tasks who; waits = l; ready = r; delays = d }
 
-pub removed_is : (k : Inside) (who : ℕ) (l : Line) → Kept k → the_view (taken_out k who l) ≡ remove (the_view k) who
-removed_is k who l kept = ap {B = KernState} (λ ts. record (the_view k) { tasks = ts }) (objects-without task_id k.tasks.rows who kept.1)
+pub removed_is : (k : Inside) (who : ℕ) (l : Line) (r : urgent.Order) (d : timed.Order) → Kept k → the_view (taken_out k who l r d) ≡ remove (the_view k) who
+removed_is k who l r d kept = ap {B = KernState} (λ ts. record (the_view k) { tasks = ts }) (objects-without task_id k.tasks.rows who kept.1)
 
-pub removed_keeps : (k : Inside) (who : ℕ) (l : Line) → Kept k → l ≡ without_waiter k.waits who → Kept (taken_out k who l)
-removed_keeps k who l kept gone = (
+pub removed_keeps : (k : Inside) (who : ℕ) (l : Line) (r : urgent.Order) (d : timed.Order) → Kept k
+    → l ≡ without_waiter k.waits who → r ≡ urgent.without_task k.ready who → d ≡ timed.without_task k.delays who → Kept (taken_out k who l r d)
+removed_keeps k who l r d kept waits ready delays = (
   kept.0,
   All-filter (λ r. not (eqb r.0 who)) (λ (r : ℕ × Task). r.1.id ≡ r.0) k.tasks.rows kept.1,
-  subst IsKern (sym (removed_is k who l kept)) (without_keeps (the_view k) who kept.2),
-  gone
-      ∙ ap (λ m. without_waiter m who) kept.3
-      ∙ line_alike (without waiter_id (waits_of (objects k.tasks.rows)) who) (waits_of (without task_id (objects k.tasks.rows) who)) most_tasks (sym (waits_without (objects k.tasks.rows) who))
-      ∙ ap task_waits (sym (objects-without task_id k.tasks.rows who kept.1)),
+  subst IsKern (sym (removed_is k who l r d kept)) (without_keeps (the_view k) who kept.2),
+  subst (AreQueued l r d) (sym (objects-without task_id k.tasks.rows who kept.1))
+      (record {
+        waits_held = waits
+            ∙ ap (λ m. without_waiter m who) kept.3.waits_held
+            ∙ line_alike (without waiter_id (waits_of (objects k.tasks.rows)) who) (waits_of (without task_id (objects k.tasks.rows) who)) most_tasks (sym (waits_without (objects k.tasks.rows) who));
+        ready_held = ready ∙ ap (λ o. urgent.without_task o who) kept.3.ready_held ∙ ready_without (objects k.tasks.rows) who;
+        delays_held = delays ∙ ap (λ o. timed.without_task o who) kept.3.delays_held ∙ delayed_without (objects k.tasks.rows) who;
+      }),
 )
 
 -- ---- a task comes
@@ -73,21 +86,52 @@ push_keeps s t is few left id since ahead = record {
   ahead = All-push (WakesAhead s.tick) s.tasks t is.ahead ahead;
 }
 
-pub added_keeps : (k : Inside) (t : Task) → Kept k → length (the_view k).tasks < 256 → k.ids ≤ 1048576 → t.id ≡ k.ids → t.since ≡ k.next_since → t.wake ≡ None → t.wait ≡ None
-    → Kept (record k { tasks = added k.tasks k.ids t; ids = k.ids + 1; next_since = k.next_since + 1 })
-added_keeps k t kept few left id since awake free = (
+-- the queues, where the last of all comes and is ready
+added_queues : (k : Inside) (t : Task) (r : urgent.Order) → Kept k → t.since ≡ k.next_since → t.wake ≡ None → t.wait ≡ None → is_ready t ≡ true → r ≡ urgent.with_task k.ready (as_ready t)
+    → AreQueued k.waits r k.delays (objects k.tasks.rows ++ t ∷ [])
+added_queues k t r kept since awake free ready e =
+    let ts = objects k.tasks.rows in
+    record {
+      waits_held = kept.3.waits_held ∙ line_alike (waits_of ts) (waits_of (ts ++ t ∷ [])) most_tasks (sym (waits_push ts t free));
+      ready_held = e ∙ ap (λ o. urgent.with_task o (as_ready t)) kept.3.ready_held
+          ∙ sym (ready_push ts t ready (All-weaker (λ u. u.since < k.next_since) (λ u. u.since < t.since) (λ u h. omega (arith, since, h)) ts kept.2.sinces));
+      delays_held = kept.3.delays_held ∙ sym (delayed_push ts t awake);
+    }
+
+pub added_keeps : (k : Inside) (t : Task) (r : urgent.Order) → Kept k → length (the_view k).tasks < 256 → k.ids ≤ 1048576 → t.id ≡ k.ids → t.since ≡ k.next_since → t.wake ≡ None → t.wait ≡ None
+    → is_ready t ≡ true → r ≡ urgent.with_task k.ready (as_ready t) → Kept (record k { tasks = added k.tasks k.ids t; ids = k.ids + 1; next_since = k.next_since + 1; ready = r })
+added_keeps k t r kept few left id since awake free ready e = (
   kept.0,
   All-push (λ (r : ℕ × Task). r.1.id ≡ r.0) k.tasks.rows (k.ids, t) kept.1 id,
   subst (λ ts. IsKern (record (the_view k) { tasks = ts; next_id = k.ids + 1; next_since = k.next_since + 1 })) (sym (map-append (λ (r : ℕ × Task). r.1) k.tasks.rows ((k.ids, t) ∷ [])))
       (push_keeps (the_view k) t kept.2 few left id since (subst (λ w. IfSome w (λ v. k.tick < v)) (sym awake) tt)),
-  kept.3
-      ∙ line_alike (waits_of (objects k.tasks.rows)) (waits_of (objects k.tasks.rows ++ t ∷ [])) most_tasks (sym (waits_push (objects k.tasks.rows) t free))
-      ∙ ap task_waits (sym (map-append (λ (r : ℕ × Task). r.1) k.tasks.rows ((k.ids, t) ∷ []))),
+  subst (AreQueued k.waits r k.delays) (sym (map-append (λ (r : ℕ × Task). r.1) k.tasks.rows ((k.ids, t) ∷ []))) (added_queues k t r kept since awake free ready e),
 )
 
-pub spawned_keeps : (k : Inside) (t : Task) (i ids' : ℕ) (tasks' : table.Rows Task) → Kept k → length k.tasks.rows < 256 → k.ids ≤ 1048576 → t.id ≡ k.ids → t.since ≡ k.next_since → t.wake ≡ None → t.wait ≡ None
-    → tasks' ≡ added k.tasks i t → i ≡ k.ids → ids' ≡ k.ids + 1 → Kept (record k { tasks = tasks'; ids = ids'; next_since = k.next_since + 1 })
-spawned_keeps k t i ids' tasks' kept few left id since awake free rows own next =
-    subst (λ ts. Kept (record k { tasks = ts; ids = ids'; next_since = k.next_since + 1 })) (sym (rows ∙ ap (λ j. added k.tasks j t) own))
-    (subst (λ j. Kept (record k { tasks = added k.tasks k.ids t; ids = j; next_since = k.next_since + 1 })) (sym next)
-    (added_keeps k t kept (omega (arith, few, length-map k.tasks.rows (λ (r : ℕ × Task). r.1))) left id since awake free))
+-- a new task comes, made of n
+pub spawned_keeps : (k : Inside) (n : NewTask) (t : Task) (i j ids' : ℕ) (tasks' : table.Rows Task) (r : urgent.Order) → Kept k → length k.tasks.rows < 256 → k.ids ≤ 1048576
+    → t ≡ new_task i k.next_since n → i ≡ k.ids → tasks' ≡ added k.tasks j t → j ≡ k.ids → ids' ≡ k.ids + 1 → r ≡ urgent.with_task k.ready (n.pri, j)
+    → Kept (record k { tasks = tasks'; ids = ids'; next_since = k.next_since + 1; ready = r })
+spawned_keeps k n t i j ids' tasks' r kept few left made here rows own next put =
+    let id : t.id ≡ k.ids = ap task_id made ∙ here in
+    subst (λ ts. Kept (record k { tasks = ts; ids = ids'; next_since = k.next_since + 1; ready = r })) (sym (rows ∙ ap (λ j. added k.tasks j t) own))
+    (subst (λ j. Kept (record k { tasks = added k.tasks k.ids t; ids = j; next_since = k.next_since + 1; ready = r })) (sym next)
+    (added_keeps k t r kept (omega (arith, few, length-map k.tasks.rows (λ (r : ℕ × Task). r.1))) left id
+    (ap (λ (t : Task). t.since) made) (ap (λ (t : Task). t.wake) made) (ap (λ (t : Task). t.wait) made) (ap is_ready made)
+    (put ∙ ap (λ n. urgent.with_task k.ready (n, j)) (sym (ap (λ (t : Task). t.pri) made)) ∙ ap (λ m. urgent.with_task k.ready (t.pri, m)) (own ∙ sym id))))
+
+-- its id is new to the queue of ready tasks, where there is room
+below_none : (ts : List Task) (n : ℕ) → All (λ t. t.id < n) ts → task_of ts n ≡ None
+below_none [] n below = refl
+below_none (t ∷ ts) n below =
+    let here : t.id < n = All-head (λ (u : Task). u.id < n) t ts below in
+    ap (λ b. cond b (Some t) (task_of ts n)) (ne_eqb t.id n (λ q. omega arith)) ∙ below_none ts n (All-tail (λ (u : Task). u.id < n) t ts below)
+
+pub new_ready : (k : Inside) (i : ℕ) → Kept k → i ≡ k.ids → urgent.pri_of k.ready.tasks i ≡ None
+new_ready k i kept own =
+    ap (λ o. urgent.pri_of o.tasks i) kept.3.ready_held
+    ∙ ready_absent (objects k.tasks.rows) i (below_none (objects k.tasks.rows) i (subst (λ n. All (λ t. t.id < n) (objects k.tasks.rows)) (sym own) kept.2.ids))
+
+pub ready_room : (k : Inside) → Kept k → length k.tasks.rows < 256 → length k.ready.tasks < k.ready.room
+ready_room k kept few =
+    subst (λ o. length o.tasks < o.room) (sym kept.3.ready_held) (omega (arith, length-ready (objects k.tasks.rows), length-map k.tasks.rows (λ (r : ℕ × Task). r.1), few))

@@ -1,12 +1,8 @@
 -- The laws of who runs, of the orders in which tasks stand, and of waking all.
 use Rattle.std.proofs.Common.{◌≡◌, ℕ, ◌<◌, true, false, cond, ltb, List, [], ◌∷◌, Option, None, Some, refl, sym, ap, ◌∙◌, subst, inl, inr}
-use Rattle.std.specs.Cmp.Lexicographic.{slice_cmp, nat_list_cmp_total}
-use Rattle.std.specs.Ordering.{is_lt, nat_cmp, ordering_reverse}
-use Rattle.std.specs.declared.cmp.Ordering.TheVariants.{Less, Equal, Greater}
 use Rattle.std.specs.List.{Contains, filter}
 use Rattle.std.proofs.lemmas.Bool.{and_parts, and_from, ltb-true, lt-ltb}
 use Rattle.std.proofs.lemmas.List.Elements.{All-contains}
-use Rattle.std.proofs.lemmas.Map.Lookups.{exact_bytes}
 use Rattle.std.proofs.lemmas.Option.{same_Some}
 use Rattle.wind_base.specs.declared.errno.Errno.{Errno}
 use Rattle.id_table.specs.declared.ident.Place.{Place}
@@ -16,10 +12,10 @@ use Rattle.wind_lists.proofs.Records.{found_id, found_at, found_in}
 use Rattle.wind_lists.proofs.Orders.{first_least}
 use Rattle.wind_lists.proofs.Passing.{contains_filter, front_found, front_passes, none_passes}
 use Rattle.wind_core.specs.State.{KernState, IsKern, task_id, task_of}
-use Rattle.wind_core.specs.Orders.{is_less, urgency, arrival, wait_key, is_before, waiters, keeps_running, keeper, last_task, or_else, most_urgent}
+use Rattle.wind_core.specs.Orders.{urgency, arrival, wait_key, is_before, waiters, keeps_running, keeper, last_task, or_else, most_urgent}
 use Rattle.wind_core.specs.Moves.{end_wait, end_waits}
 use Rattle.wind_core.specs.Laws.{WakeAllLaw, WaitersLaw, MayRun, RunnerLaw, LockLaw, IdleLaw}
-use Rattle.wind_core.proofs.Passes.{is_before-order, waits_before-order, arrives_before-order}
+use Rattle.wind_core.proofs.Passes.{neither, is_before-order, waits_before-order, arrives_before-order}
 use Rattle.wind_core.proofs.Waking.{waiters-end_wait}
 use Rattle.wind_core.proofs.Keeping.{end_wait_keeps}
 
@@ -34,15 +30,6 @@ pub none_left : WakeAllLaw
 none_left s is place answer errno = woken_each place answer errno (waiters s.tasks place) s is refl
 
 -- ---- the orders
--- lists of numbers of which neither is before the other are equal
-neither : (a b : List ℕ) → is_less a b ≡ false → is_less b a ≡ false → a ≡ b
-neither a b left right =
-    elim (slice_cmp nat_cmp b a) as (λ r. slice_cmp nat_cmp a b ≡ ordering_reverse r → is_lt r ≡ false → a ≡ b) [
-      | Less ↦ λ e q. absurd (cc)
-      | Equal ↦ λ e q. exact_bytes a b e
-      | Greater ↦ λ e q. let less = sym (ap is_lt e) ∙ left in absurd (cc)
-    ] (nat_list_cmp_total.antisymm a b) right
-
 -- two tasks of one id are one task
 one_task : (s : KernState) → IsKern s → (x y : Task) → Contains s.tasks x → Contains s.tasks y → x.id ≡ y.id → x ≡ y
 one_task s is x y at_x at_y same =

@@ -1,5 +1,9 @@
 pub mod Waiting
+pub mod Lines
+pub mod Queued
 pub mod Writes
+pub mod Mending
+pub mod Due
 pub mod Passes
 pub mod Comings
 pub mod Waking

@@ -1,18 +1,21 @@
 -- A tick: the runner's turn, and the count.
-use Rattle.std.proofs.Common.{◌≡◌, ℕ, ◌+◌, ◌<◌, ◌≤◌, true, false, cond, eqb, leb, List, [], ◌∷◌, length, Option, None, Some, IsSome, IfSome, is_some, inl, inr, refl, sym, ap, ◌∙◌, subst, arith}
+use Rattle.std.proofs.Common.{◌≡◌, ℕ, ◌+◌, ◌<◌, ◌≤◌, true, false, cond, eqb, leb, ltb, List, [], ◌∷◌, length, Option, None, Some, IsSome, IfSome, is_some, inl, inr, refl, sym, ap, ◌∙◌, subst, arith}
 use Rattle.std.specs.List.{fold, All}
 use Rattle.std.specs.Option.{option_map}
-use Rattle.std.proofs.lemmas.Bool.{leb-false}
+use Rattle.std.proofs.lemmas.Bool.{leb-false, and_parts}
 use Rattle.std.proofs.lemmas.Option.{same_Some}
 use Rattle.std.proofs.lemmas.List.Elements.{All-weaker}
-use Rattle.id_table.specs.Rows.{object_of}
+use Rattle.std.specs.Prelude.{IsSomeAnd}
+use Rattle.wind_base.specs.declared.errno.Errno.{Errno}
+use Rattle.id_table.specs.Rows.{object_of, objects}
 use Rattle.task_block.specs.declared.task.Task.{Task}
 use Rattle.task_block.specs.Standing.{is_ready}
 use Rattle.wind_lists.specs.Records.{Rising, change}
 use Rattle.wind_lists.proofs.Records.{found_id}
-use Rattle.wind_lists.proofs.Passing.{front_found, none_passes}
-use Rattle.wait_order.specs.Line.{Line, without_waiter}
-use Rattle.wind_core.specs.Waiting.{mended}
+use Rattle.wind_lists.proofs.Passing.{front_found, front_passes, none_passes}
+use Rattle.ready_queue.specs.Order as urgent
+use Rattle.delay_queue.specs.Wakes as timed
+use Rattle.wind_core.specs.Queues.{delayed_of}
 use Rattle.wind_core.specs.State.{KernState, Lives, WakesAhead, task_id, task_of}
 use Rattle.wind_core.specs.Orders.{keeps_running, keeper, last_task, or_else, most_urgent, is_before, running, has_come, is_due, arrives_before, due, first_due}
 use Rattle.wind_core.specs.Moves.{renewed, move_found, answered, end_wait}
@@ -22,7 +25,9 @@ use Rattle.wind_core.specs.declared.clock.Late.{Late}
 use Rattle.wind_core.specs.contracts.kern.Kern.{the_view}
 use Rattle.wind_core.proofs.Passes.{is_before-order, arrives_before-order}
 use Rattle.wind_core.proofs.Waking.{time_out_turn}
-use Rattle.wind_core.proofs.Writes.{MayFollow, Kept, rekeyed, written, written_is, written_keeps, line_mended, mend_fits, found}
+use Rattle.wind_core.proofs.Writes.{MayFollow, Kept, written, written_is, found}
+use Rattle.wind_core.proofs.Queued.{first_ready}
+use Rattle.wind_core.proofs.Due.{due_first}
 
 -- ---- who runs lives
 kept_by : (o : Option Task) (x : Task) → keeper o ≡ Some x → o ≡ Some x
@@ -49,15 +54,60 @@ named : (o : Option Task) (who : ℕ) → Some who ≡ option_map task_id o → 
 named None who e = absurd (cc)
 named (Some x) who e = (x, refl, cc)
 
-unnamed : (o : Option Task) → None ≡ option_map task_id o → o ≡ None
-unnamed None e = refl
-unnamed (Some x) e = absurd (cc)
+pub none_named : (o : Option Task) → None ≡ option_map task_id o → o ≡ None
+none_named None e = refl
+none_named (Some x) e = absurd (cc)
+
+-- a task that is found by its id
+by_id : (ts : List Task) (o : Option Task) (who : ℕ) → ((x : Task) → o ≡ Some x → task_of ts x.id ≡ Some x) → Some who ≡ option_map task_id o → o ≡ task_of ts who
+by_id ts o who found e =
+    let x = named o who e in
+    x.1 ∙ sym (ap (task_of ts) x.2 ∙ found x.0 x.1)
 
 -- who runs, by its id
 pub runs : (s : KernState) (who : ℕ) → Rising task_id s.tasks → Some who ≡ option_map task_id (running s) → running s ≡ task_of s.tasks who
-runs s who up e =
+runs s who up e = by_id s.tasks (running s) who (λ x q. running_found s x up q) e
+
+-- who is most urgent, as the queue has it, and by its id
+pub urgent_kept : (k : Inside) (s : KernState) → Kept k → the_view k ≡ s → urgent.first_id k.ready.tasks ≡ option_map task_id (most_urgent s.tasks)
+urgent_kept k s kept is = ap (λ o. urgent.first_id o.tasks) kept.3.ready_held ∙ first_ready (objects k.tasks.rows) ∙ ap (λ r. option_map task_id (most_urgent r.tasks)) is
+
+pub urgent_read : (s : KernState) (who : ℕ) → Rising task_id s.tasks → Some who ≡ option_map task_id (most_urgent s.tasks) → most_urgent s.tasks ≡ task_of s.tasks who
+urgent_read s who up e = by_id s.tasks (most_urgent s.tasks) who (λ y q. front_found task_id is_before is_before-order is_ready s.tasks y up q) e
+
+-- whoever runs is ready
+kept_ready : (o : Option Task) (x : Task) → keeper o ≡ Some x → is_ready x ≡ true
+kept_ready None x e = absurd (cc)
+kept_ready (Some t) x e =
+    elim (keeps_running t) as (λ b. keeps_running t ≡ b → cond b (Some t) None ≡ Some x → is_ready x ≡ true) [
+      | true ↦ λ b q. subst (λ u. is_ready u ≡ true) (same_Some t x q) (and_parts (is_ready t) (ltb 0 t.locks) b).0
+      | false ↦ λ b q. absurd (cc)
+    ] refl e
+
+either_ready : (o p : Option Task) (x : Task) → ((y : Task) → o ≡ Some y → is_ready y ≡ true) → ((y : Task) → p ≡ Some y → is_ready y ≡ true) → or_else o p ≡ Some x → is_ready x ≡ true
+either_ready None p x left right e = right x e
+either_ready (Some y) p x left right e = left x e
+
+pub running_ready : (s : KernState) (x : Task) → running s ≡ Some x → is_ready x ≡ true
+running_ready s x e =
+    either_ready (keeper (last_task s.tasks s.last)) (most_urgent s.tasks) x
+    (λ y q. kept_ready (last_task s.tasks s.last) y q)
+    (λ y q. front_passes task_id is_before is_before-order is_ready s.tasks y q)
+    e
+
+-- so whoever is named as the runner lives, and is ready
+pub runner_ready : (s : KernState) (who : ℕ) → Rising task_id s.tasks → Some who ≡ option_map task_id (running s) → IsSomeAnd (task_of s.tasks who) (λ t. is_ready t ≡ true)
+runner_ready s who up e =
     let x = named (running s) who e in
-    x.1 ∙ sym (ap (task_of s.tasks) x.2 ∙ running_found s x.0 up x.1)
+    subst (λ o. IsSomeAnd o (λ t. is_ready t ≡ true)) (sym x.1 ∙ runs s who up e) (running_ready s x.0 x.1)
+
+-- what is said of the object of an id
+pub object_ready : (k : Inside) (s : KernState) (who : ℕ) (x : Task) → Kept k → the_view k ≡ s → IsSomeAnd (task_of s.tasks who) (λ t. is_ready t ≡ true) → object_of k.tasks.rows who ≡ Some x → is_ready x ≡ true
+object_ready k s who x kept is ready value = subst (λ o. IsSomeAnd o (λ t. is_ready t ≡ true)) (ap (λ r. task_of r.tasks who) (sym is) ∙ found k who x kept value) ready
+
+pub ready_lives : (o : Option Task) → IsSomeAnd o (λ t. is_ready t ≡ true) → IsSome o
+ready_lives None ready = absurd (ready)
+ready_lives (Some t) ready = refl
 
 pub runner_lives : (s : KernState) (who : ℕ) → Rising task_id s.tasks → Some who ≡ option_map task_id (running s) → Lives s who
 runner_lives s who up e =
@@ -65,7 +115,7 @@ runner_lives s who up e =
     subst (λ o. IsSome o) (runs s who up e) (subst (λ o. IsSome o) (sym x.1) refl)
 
 pub nobody_runs : (s : KernState) → None ≡ option_map task_id (running s) → turn_of s (running s) ≡ s
-nobody_runs s e = ap (turn_of s) (unnamed (running s) e)
+nobody_runs s e = ap (turn_of s) (none_named (running s) e)
 
 -- ---- a turn
 pub locked_turn : (s : KernState) (o : Option Task) → false ≡ is_free o → s ≡ turn_of s o
@@ -96,16 +146,6 @@ turned_is k s who n x y kept is value free e next =
     ∙ free_turn (the_view k) x (free ∙ ap (λ r. is_free (task_of r.tasks who)) (sym is) ∙ ap is_free here)
     ∙ ap (turn_of (the_view k)) (sym here)
     ∙ ap (λ r. turn_of r (task_of r.tasks who)) is
-
-pub turned_keeps : (k : Inside) (who n : ℕ) (x y : Task) (l : Line) → Kept k → object_of k.tasks.rows who ≡ Some x → y ≡ turn_task k.slice k.next_since x
-    → n ≡ k.next_since + cond (leb k.slice (x.turns + 1)) 1 0 → l ≡ mended k.waits y → Kept (rekeyed k who y n l)
-turned_keeps k who n x y l kept value e next mends =
-    let may = subst (λ t. MayFollow (the_view k) x t n) (sym e)
-    (subst (MayFollow (the_view k) x (turn_task k.slice k.next_since x)) (sym next) (turn_follows (the_view k) k.slice x)) in
-    written_keeps k who n x y l kept value may (line_mended k who x y l kept value may.id mends)
-
-pub turned_fits : (k : Inside) (who : ℕ) (x y : Task) → Kept k → object_of k.tasks.rows who ≡ Some x → y ≡ turn_task k.slice k.next_since x → length (without_waiter k.waits y.id).waiters < k.waits.room
-turned_fits k who x y kept value e = mend_fits k who x y kept value (ap (λ (t : Task). t.id) e ∙ (turn_follows (the_view k) k.slice x).id)
 
 -- at most one order number is given
 pub since-turn_of : (s : KernState) (o : Option Task) → (turn_of s o).next_since ≤ s.next_since + 1
@@ -191,18 +231,37 @@ not_late : (o : Option Task) → None ≡ option_map late_of o → o ≡ None
 not_late None e = refl
 not_late (Some x) e = absurd (cc)
 
+-- the count stands still where a wait ends
+tick-end_wait : (s : KernState) (who answer : ℕ) (errno : Option Errno) → (end_wait s who answer errno).tick ≡ s.tick
+tick-end_wait s who answer errno = elim (task_of s.tasks who) as (λ o. (move_found s who (answered answer errno) o).tick ≡ s.tick) [ None ↦ refl | Some t ↦ refl ]
+
 -- one turn of the loop that wakes what is due
 pub record LateTurn (s : KernState) (n : ℕ) (late : Late) : Type 0 where
   pub lives : Lives s late.who
   pub same : wake_due (end_wait s late.who (late_answer late.waits) (late_errno late.waits)) n ≡ wake_due s n
   pub fewer : length (due (end_wait s late.who (late_answer late.waits) (late_errno late.waits)).tasks n) + 1 ≡ length (due s.tasks n)
   pub sinces : (end_wait s late.who (late_answer late.waits) (late_errno late.waits)).next_since ≤ s.next_since + 1
+  pub tick : (end_wait s late.who (late_answer late.waits) (late_errno late.waits)).tick ≡ s.tick
 
 pub late_turn : (s : KernState) (n : ℕ) (late : Late) → Rising task_id s.tasks → Some late ≡ option_map late_of (first_due s.tasks n) → LateTurn s n late
 late_turn s n late up e =
     let x = late_found (first_due s.tasks n) late e in
     let turn = time_out_turn s n x.0 up x.1 in
-    subst (LateTurn s n) (sym x.2) (record { lives = turn.lives; same = turn.same; fewer = turn.fewer; sinces = turn.sinces })
+    subst (LateTurn s n) (sym x.2) (record { lives = turn.lives; same = turn.same; fewer = turn.fewer; sinces = turn.sinces; tick = tick-end_wait s x.0.id (late_answer (is_some x.0.wait)) (late_errno (is_some x.0.wait)) })
+
+-- the task at the head of the queue is the first that is due
+pub due_kept : (k : Inside) (s : KernState) (n : ℕ) → Kept k → the_view k ≡ s → n ≡ s.tick + 1 → timed.due_at k.delays.tasks n ≡ option_map task_id (first_due s.tasks n)
+due_kept k s n kept is next =
+    let count : n ≡ k.tick + 1 = next ∙ ap (λ r. r.tick + 1) (sym is) in
+    ap (λ o. timed.due_at o.tasks n) kept.3.delays_held
+    ∙ ap (timed.due_at (delayed_of (objects k.tasks.rows))) count
+    ∙ due_first k.tick (objects k.tasks.rows) kept.2.ahead
+    ∙ ap (λ m. option_map task_id (first_due (objects k.tasks.rows) m)) (sym count)
+    ∙ ap (λ r. option_map task_id (first_due r.tasks n)) is
+
+-- it is read from the table by its id
+pub due_read : (s : KernState) (n who : ℕ) → Rising task_id s.tasks → Some who ≡ option_map task_id (first_due s.tasks n) → first_due s.tasks n ≡ task_of s.tasks who
+due_read s n who up e = by_id s.tasks (first_due s.tasks n) who (λ y q. front_found task_id arrives_before arrives_before-order (is_due n) s.tasks y up q) e
 
 pub nobody_due : (s : KernState) (n : ℕ) → None ≡ option_map late_of (first_due s.tasks n) → first_due s.tasks n ≡ None
 nobody_due s n e = not_late (first_due s.tasks n) e

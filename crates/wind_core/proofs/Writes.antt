@@ -1,44 +1,40 @@
--- One task is written in the kernel's table: what the state becomes, and that the kept facts hold.
-use Rattle.std.proofs.Common.{◌≡◌, ℕ, ◌+◌, ◌<◌, true, false, ◌||◌, cond, eqb, length, Option, None, Some, IsSome, IfSome, refl, sym, ap, ◌∙◌, subst, arith, ◌⊎◌, inl, inr, ⊎_elim}
-use Rattle.std.specs.Prelude.{is_none, not, ◌&&◌}
-use Rattle.std.specs.Option.{option_map}
-use Rattle.std.proofs.lemmas.Bool.{and_parts, eqb-false}
+-- One task is written in the kernel's table: what the state becomes, and that the kept facts hold where the queues are told.
+use Rattle.std.proofs.Common.{◌≡◌, ℕ, ◌+◌, ◌<◌, true, false, ◌||◌, cond, eqb, List, None, Some, IsSome, IfSome, refl, sym, ap, ◌∙◌, subst, arith, ◌⊎◌, inl, inr, ⊎_elim}
+use Rattle.std.proofs.lemmas.Bool.{eqb-false}
 use Rattle.std.proofs.lemmas.List.{length-map}
 use Rattle.std.proofs.lemmas.List.Elements.{All-contains, All-weaker}
 use Rattle.wind_base.specs.Limits.{most_tasks, wait_forever}
 use Rattle.id_table.specs.Rows.{object_of, objects, rewritten}
 use Rattle.id_table.proofs.Owning.{object-record, objects-replace, OwnIds-write}
-use Rattle.id_table.specs.declared.ident.Place.{Place}
 use Rattle.task_block.specs.declared.task.Task.{Task}
 use Rattle.task_block.specs.Standing.{is_ready}
-use Rattle.wind_lists.specs.Records.{replace, change, without}
-use Rattle.wait_order.specs.Line.{Line, waiter_id, without_waiter, first_at}
-use Rattle.wait_order.proofs.Turns.{line_alike}
+use Rattle.wind_lists.specs.Records.{replace, change}
+use Rattle.wait_order.specs.Line.{Line}
+use Rattle.ready_queue.specs.Order as urgent
+use Rattle.delay_queue.specs.Wakes as timed
 use Rattle.wind_lists.proofs.Records.{replace-change, All-replace, AllPairs-replace, found_at, found_id}
 use Rattle.wind_core.specs.State.{KernState, IsKern, Lives, WakesAhead, task_id, task_of}
 use Rattle.wind_core.specs.Inside.{SameIds}
-use Rattle.wind_core.specs.Orders.{first_waiter}
-use Rattle.wind_core.specs.Waiting.{waiter_at, as_waiter, waits_of, task_waits, mended}
-use Rattle.wind_core.proofs.Waiting.{waits_same, mended_is, fewer_wait, first_waits}
+use Rattle.wind_core.specs.Queues.{AreQueued}
 use Rattle.wind_core.specs.Moves.{renewed, settled, change_task, renew_task, move_found, move_task, is_endless, wake_at, delayed}
 use Rattle.wind_core.specs.declared.kern.Kern.TheInside.{Inside}
 use Rattle.wind_core.specs.contracts.kern.Kern.{the_view}
 
 -- what a kernel keeps by its type
 abbrev pub Kept : Inside → Type 0
-Kept k = (k.tasks.room ≡ most_tasks) × SameIds k.tasks.rows × IsKern (the_view k) × (k.waits ≡ task_waits (objects k.tasks.rows))
+Kept k = (k.tasks.room ≡ most_tasks) × SameIds k.tasks.rows × IsKern (the_view k) × AreQueued k.waits k.ready k.delays (objects k.tasks.rows)
 
--- the kernel with y as the object of an id, n as the next order number, and l as the line of those that wait
-abbrev pub rekeyed : Inside → ℕ → Task → ℕ → Line → Inside
-rekeyed k who y n l = record k { tasks = rewritten k.tasks who y; next_since = n; waits = l }
+-- the kernel with y as the object of an id, n as the next order number, and these queues
+abbrev pub requeued : Inside → ℕ → Task → ℕ → Line → urgent.Order → timed.Order → Inside
+requeued k who y n l r d = record k { tasks = rewritten k.tasks who y; next_since = n; waits = l; ready = r; delays = d }
 
--- the same with the line as it was
+-- the same with the queues as they were
 abbrev pub written : Inside → ℕ → Task → ℕ → Inside
 written k who y n = record k { tasks = rewritten k.tasks who y; next_since = n }
 
--- the line of those that wait, where y is the object of an id
-abbrev pub line_with : Inside → ℕ → Task → Line
-line_with k who y = task_waits (replace task_id (objects k.tasks.rows) who y)
+-- the tasks, where y is the object of an id
+abbrev pub tasks_with : Inside → ℕ → Task → List Task
+tasks_with k who y = replace task_id (objects k.tasks.rows) who y
 
 -- a task that lives is in the table
 pub object_lives : (k : Inside) (s : KernState) (who : ℕ) → Kept k → the_view k ≡ s → Lives s who → IsSome (object_of k.tasks.rows who)
@@ -101,67 +97,23 @@ IsKern-replace s who n x y is here may =
       ahead = All-replace task_id (WakesAhead s.tick) s.tasks who y is.ahead (may.ahead (All-contains (WakesAhead s.tick) s.tasks x is.ahead there));
     }
 
--- where the task of an id is written and the line tells it, all that the kernel's type keeps holds again
-pub written_keeps : (k : Inside) (who n : ℕ) (x y : Task) (l : Line) → Kept k → object_of k.tasks.rows who ≡ Some x → MayFollow (the_view k) x y n → l ≡ line_with k who y → Kept (rekeyed k who y n l)
-written_keeps k who n x y l kept value may told =
+-- where the task of an id is written and the queues tell it, all that the kernel's type keeps holds again
+pub written_keeps : (k : Inside) (who n : ℕ) (x y : Task) (l : Line) (r : urgent.Order) (d : timed.Order) → Kept k → object_of k.tasks.rows who ≡ Some x → MayFollow (the_view k) x y n
+    → AreQueued l r d (tasks_with k who y) → Kept (requeued k who y n l r d)
+written_keeps k who n x y l r d kept value may told =
     let here = found k who x kept value in (
       kept.0,
       OwnIds-write task_id k.tasks.rows who y kept.1 (may.id ∙ found_id task_id (objects k.tasks.rows) who x here),
       subst (λ ts. IsKern (record (the_view k) { tasks = ts; next_since = n })) (sym (objects-replace task_id k.tasks.rows who y kept.1)) (IsKern-replace (the_view k) who n x y kept.2 here may),
-      told ∙ ap task_waits (sym (objects-replace task_id k.tasks.rows who y kept.1)),
+      subst (AreQueued l r d) (sym (objects-replace task_id k.tasks.rows who y kept.1)) told,
     )
-
--- ---- the line of those that wait
--- y has the key that x had
-pub line_stays : (k : Inside) (who : ℕ) (x y : Task) → Kept k → object_of k.tasks.rows who ≡ Some x → as_waiter y ≡ as_waiter x → k.waits ≡ line_with k who y
-line_stays k who x y kept value same =
-    let ts = objects k.tasks.rows in
-    kept.3 ∙ line_alike (waits_of ts) (waits_of (replace task_id ts who y)) most_tasks (sym (waits_same ts who x y kept.2.rising (found k who x kept value) same))
-
--- the line is mended for y, which has the id of x
-pub line_mended : (k : Inside) (who : ℕ) (x y : Task) (l : Line) → Kept k → object_of k.tasks.rows who ≡ Some x → y.id ≡ x.id → l ≡ mended k.waits y → l ≡ line_with k who y
-line_mended k who x y l kept value id e =
-    let here = found k who x kept value in
-    let ts = objects k.tasks.rows in
-    e ∙ ap (λ m. mended m y) kept.3 ∙ mended_is ts who x y kept.2.rising here (id ∙ found_id task_id ts who x here)
-
--- there is room to mend it
-pub mend_fits : (k : Inside) (who : ℕ) (x y : Task) → Kept k → object_of k.tasks.rows who ≡ Some x → y.id ≡ x.id → length (without_waiter k.waits y.id).waiters < k.waits.room
-mend_fits k who x y kept value id =
-    let here = found k who x kept value in
-    let ts = objects k.tasks.rows in
-    let own : y.id ≡ who = id ∙ found_id task_id ts who x here in
-    subst (λ l. length (without_waiter l y.id).waiters < l.room) (sym kept.3)
-    (subst (λ n. length (without waiter_id (waits_of ts) n) < most_tasks) (sym own) (omega (arith, fewer_wait ts who x here, kept.2.few)))
-
--- the first at a place, as the line has it and as the tasks say
-pub first_kept : (k : Inside) (s : KernState) (place : Place) → Kept k → the_view k ≡ s → first_at k.waits.waiters place ≡ option_map task_id (first_waiter s.tasks place)
-first_kept k s place kept is =
-    ap (λ l. first_at l.waiters place) kept.3 ∙ first_waits (objects k.tasks.rows) place ∙ ap (λ r. option_map task_id (first_waiter r.tasks place)) is
-
--- y has x's id, order number and key, and sleeps no longer
-pub same_keeps : (k : Inside) (who : ℕ) (x y : Task) → Kept k → object_of k.tasks.rows who ≡ Some x → y.id ≡ x.id → y.since ≡ x.since → y.wake ≡ x.wake → as_waiter y ≡ as_waiter x
-    → Kept (written k who y k.next_since)
-same_keeps k who x y kept value id since wake key =
-    written_keeps k who k.next_since x y k.waits kept value (record { id = id; since = inl (since, refl); ahead = subst (λ w. IfSome w (λ v. k.tick < v)) (sym wake) })
-    (line_stays k who x y kept value key)
-
--- ---- a setter
--- what f makes of a task has its id, order number and key, and sleeps as long
-abbrev pub Stays : (Task → Task) → Type 0
-Stays f = (t : Task) → ((f t).id ≡ t.id) × ((f t).since ≡ t.since) × ((f t).wake ≡ t.wake) × (as_waiter (f t) ≡ as_waiter t)
-
--- y is made of x by such an f: the kept facts hold
-pub set_keeps : (k : Inside) (who : ℕ) (x y : Task) (f : Task → Task) → Kept k → object_of k.tasks.rows who ≡ Some x → y ≡ f x → Stays f → Kept (written k who y k.next_since)
-set_keeps k who x y f kept value e stays =
-    let same = stays x in
-    same_keeps k who x y kept value (ap (λ (t : Task). t.id) e ∙ same.0) (ap (λ (t : Task). t.since) e ∙ same.1) (ap (λ (t : Task). t.wake) e ∙ same.2) (ap as_waiter e ∙ same.3)
 
 -- and the state is that in which the task is changed by f
 pub sets : (k : Inside) (s : KernState) (who : ℕ) (x y : Task) (f : Task → Task) → Kept k → the_view k ≡ s → object_of k.tasks.rows who ≡ Some x → y ≡ f x
     → the_view (written k who y k.next_since) ≡ change_task s who f
 sets k s who x y f kept is value e = changed k who x y f kept value e ∙ ap (λ r. change_task r who f) is
 
+-- ---- a task that is settled
 settled_since : (n m : ℕ) (x u : Task) → u.since ≡ x.since → m ≡ n + cond (is_ready u) 1 0
     → (((settled n u).since ≡ x.since) × (m ≡ n)) ⊎ (((settled n u).since ≡ n) × (m ≡ n + 1))
 settled_since n m x u same next =
@@ -170,10 +122,10 @@ settled_since n m x u same next =
       | false ↦ λ q. inl (same, omega (arith, q))
     ] next
 
-settled_id : (n : ℕ) (u : Task) → (settled n u).id ≡ u.id
+pub settled_id : (n : ℕ) (u : Task) → (settled n u).id ≡ u.id
 settled_id n u = elim (is_ready u) as (λ b. (cond b (renewed n u) u).id ≡ u.id) [ true ↦ refl | false ↦ refl ]
 
-settled_wake : (n : ℕ) (u : Task) → (settled n u).wake ≡ u.wake
+pub settled_wake : (n : ℕ) (u : Task) → (settled n u).wake ≡ u.wake
 settled_wake n u = elim (is_ready u) as (λ b. (cond b (renewed n u) u).wake ≡ u.wake) [ true ↦ refl | false ↦ refl ]
 
 -- u, made of x with its id and order number, may follow it with a new order number where it is ready
@@ -184,56 +136,6 @@ settled_follows s x u id since ahead = record {
   since = settled_since s.next_since (s.next_since + cond (is_ready u) 1 0) x u since refl;
   ahead = λ h. subst (λ w. IfSome w (λ v. s.tick < v)) (sym (settled_wake s.next_since u)) (ahead h);
 }
-
--- a task that is settled has the key that it had: it waits for nothing where it gets a new order number
-settled_key : (n : ℕ) (u : Task) → as_waiter (settled n u) ≡ as_waiter u
-settled_key n u =
-    elim (is_ready u) as (λ b. is_ready u ≡ b → as_waiter (cond b (renewed n u) u) ≡ as_waiter u) [
-      | true ↦ λ b.
-          let none : u.wait ≡ None = waitless u.wait (and_parts (is_none u.wait) (is_none u.wake && not u.suspended) b).0 in
-          ap (option_map (waiter_at (renewed n u))) none ∙ sym (ap (option_map (waiter_at u)) none)
-      | false ↦ λ b. refl
-    ] refl
-  where
-    waitless : (p : Option Place) → is_none p ≡ true → p ≡ None
-    waitless None e = refl
-    waitless (Some p) e = absurd (cc)
-
--- y is u, made of x, with a new order number where it is ready
-settled_told : (k : Inside) (who n : ℕ) (x u y : Task) (l : Line) → Kept k → object_of k.tasks.rows who ≡ Some x → u.id ≡ x.id → u.since ≡ x.since
-    → (WakesAhead k.tick x → WakesAhead k.tick u) → y ≡ settled k.next_since u → n ≡ k.next_since + cond (is_ready u) 1 0 → l ≡ line_with k who y → Kept (rekeyed k who y n l)
-settled_told k who n x u y l kept value id since ahead e next told =
-    written_keeps k who n x y l kept value
-    (subst (λ t. MayFollow (the_view k) x t n) (sym e) (subst (MayFollow (the_view k) x (settled k.next_since u)) (sym next) (settled_follows (the_view k) x u id since ahead)))
-    told
-
--- and the line is mended
-pub settled_keeps : (k : Inside) (who n : ℕ) (x u y : Task) (l : Line) → Kept k → object_of k.tasks.rows who ≡ Some x → u.id ≡ x.id → u.since ≡ x.since
-    → (WakesAhead k.tick x → WakesAhead k.tick u) → y ≡ settled k.next_since u → n ≡ k.next_since + cond (is_ready u) 1 0 → l ≡ mended k.waits y → Kept (rekeyed k who y n l)
-settled_keeps k who n x u y l kept value id since ahead e next mends =
-    settled_told k who n x u y l kept value id since ahead e next (line_mended k who x y l kept value (ap task_id e ∙ settled_id k.next_since u ∙ id) mends)
-
--- or u has the key of x, and the line is as it was
-pub settled_stays : (k : Inside) (who n : ℕ) (x u y : Task) → Kept k → object_of k.tasks.rows who ≡ Some x → u.id ≡ x.id → u.since ≡ x.since → as_waiter u ≡ as_waiter x
-    → (WakesAhead k.tick x → WakesAhead k.tick u) → y ≡ settled k.next_since u → n ≡ k.next_since + cond (is_ready u) 1 0 → Kept (written k who y n)
-settled_stays k who n x u y kept value id since key ahead e next =
-    settled_told k who n x u y k.waits kept value id since ahead e next (line_stays k who x y kept value (ap as_waiter e ∙ settled_key k.next_since u ∙ key))
-
-pub settled_fits : (k : Inside) (who : ℕ) (x u y : Task) → Kept k → object_of k.tasks.rows who ≡ Some x → u.id ≡ x.id → y ≡ settled k.next_since u
-    → length (without_waiter k.waits y.id).waiters < k.waits.room
-settled_fits k who x u y kept value id e = mend_fits k who x y kept value (ap task_id e ∙ settled_id k.next_since u ∙ id)
-
--- y is u, made of x, with a new order number, and the line is mended
-pub renewed_keeps : (k : Inside) (who n : ℕ) (x u y : Task) (l : Line) → Kept k → object_of k.tasks.rows who ≡ Some x → u.id ≡ x.id
-    → (WakesAhead k.tick x → WakesAhead k.tick u) → y ≡ renewed k.next_since u → n ≡ k.next_since + 1 → l ≡ mended k.waits y → Kept (rekeyed k who y n l)
-renewed_keeps k who n x u y l kept value id ahead e next mends =
-    written_keeps k who n x y l kept value
-    (subst (λ t. MayFollow (the_view k) x t n) (sym e) (record { id = id; since = inr (refl, next); ahead = ahead }))
-    (line_mended k who x y l kept value (ap task_id e ∙ id) mends)
-
-pub renewed_fits : (k : Inside) (who : ℕ) (x u y : Task) → Kept k → object_of k.tasks.rows who ≡ Some x → u.id ≡ x.id → y ≡ renewed k.next_since u
-    → length (without_waiter k.waits y.id).waiters < k.waits.room
-renewed_fits k who x u y kept value id e = mend_fits k who x y kept value (ap task_id e ∙ id)
 
 -- ---- wakes
 pub wake_ahead : (side tick n : ℕ) → 0 < n → IfSome (wake_at side tick n) (λ wake. tick < wake)

@@ -7,3 +7,4 @@ pub mod Lends
 pub mod Laws
 pub mod Releases
 pub mod Waiting
+pub mod Queues

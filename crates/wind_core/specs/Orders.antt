@@ -1,5 +1,5 @@
 -- The orders in which tasks stand: who runs, who is handed what it waits for, whose time is up.
-use Rattle.std.specs.Prelude.{ℕ, Bool, false, ◌&&◌, ◌==◌, nat_lt, nat_le, if◌then◌else◌, List, [], ◌∷◌, Option, None, Some}
+use Rattle.std.specs.Prelude.{ℕ, Bool, false, ◌&&◌, ◌==◌, nat_lt, nat_le, if◌then◌else◌, List, [], ◌∷◌, Option, None, Some, is_some, unwrap_or}
 use Rattle.std.specs.Cmp.Lexicographic.{slice_cmp}
 use Rattle.std.specs.Ordering.{is_lt, nat_cmp}
 use Rattle.std.specs.Option.{option_map}
@@ -96,3 +96,18 @@ due ts tick = in_line arrives_before (is_due tick) ts
 
 abbrev pub first_due : List Task → ℕ → Option Task
 first_due ts tick = first (due ts tick)
+
+-- the task has a tick at which it wakes
+abbrev pub sleeps : Task → Bool
+sleeps t = is_some t.wake
+
+-- that tick; 0 where there is none
+abbrev pub waking_tick : Task → ℕ
+waking_tick t = unwrap_or t.wake 0
+
+-- by the tick at which a task wakes, then by arrival
+abbrev pub wake_key : Task → List ℕ
+wake_key t = waking_tick t ∷ arrival t
+
+abbrev pub wakes_before : Task → Task → Bool
+wakes_before t u = is_less (wake_key t) (wake_key u)

@@ -1,15 +1,15 @@
 //! Who runs, and what a tick does.
 
-ghost use Rattle.std.specs.Prelude.{◌≡◌, ◌<◌, ◌+◌, ◌^◌, Some, None, option_copied};
+ghost use Rattle.std.specs.Prelude.{◌≡◌, ◌<◌, ◌+◌, ◌^◌, true, Some, None, IsSomeAnd, option_copied};
 ghost use Rattle.std.specs.Option.{option_map};
+ghost use Rattle.task_block.specs.Standing.{is_ready};
 ghost use Rattle.wind_core.specs.State.{Lives, IsKern, task_of};
-ghost use Rattle.wind_core.specs.Orders.{keeper as keeper_lem, last_task, running, runner, first_due as first_due_lem};
+ghost use Rattle.wind_core.specs.Orders.{keeper as keeper_lem, last_task, most_urgent as most_urgent_lem, running, runner, first_due};
 ghost use Rattle.wind_core.specs.Tick.{late_of, late_answer, late_errno, is_free as is_free_lem, turn_of, take_turn, wake_due, tick};
 ghost use Rattle.wind_core.specs.Moves.{end_wait};
 
 use crate::kern::Kern;
-use crate::keys::mend;
-use crate::scans::{first_due, most_urgent};
+use crate::queues::rotate_over;
 use crate::tasks::count_turn;
 use id_table::Ident;
 use task_block::Task;
@@ -37,6 +37,16 @@ impl Kern {
         }
     }
 
+    // The ready task that is before all others.
+    fn most_urgent(&self) -> Option<&Task>
+        ensures { option_copied result ≡ most_urgent_lem self.now.tasks }
+    {
+        match self.ready.first() {
+            Some(who) => self.task(who),
+            None => None,
+        }
+    }
+
     /// The task that runs next, interrupts aside: the one that ran last, where it is ready and holds the
     /// lock; else the ready task before all others. None where no task is ready.
     pub fn running(&self) -> Option<&Task>
@@ -44,7 +54,7 @@ impl Kern {
     {
         match self.keeper() {
             Some(task) => Some(task),
-            None => most_urgent(&self.tasks),
+            None => self.most_urgent(),
         }
     }
 
@@ -79,9 +89,9 @@ impl Kern {
         }
     }
 
-    // One more tick of the turn of this task, where it holds no lock.
+    // One more tick of the turn of this task, which is ready, where it holds no lock.
     fn turn(&mut self, who: Ident)
-        requires live { Lives self.old who }
+        requires ready { IsSomeAnd (task_of self.old.tasks who) (λ t. is_ready t ≡ true) }
         requires since { self.old.next_since + 1 < 2 ^ 64 }
         ensures { self.new ≡ turn_of self.old (task_of self.old.tasks who) }
     {
@@ -90,8 +100,8 @@ impl Kern {
         }
         let slice = self.slice;
         let task = self.tasks.object_mut(who);
-        count_turn(task, &mut self.next_since, slice);
-        mend(&mut self.waits, task);
+        let over = count_turn(task, &mut self.next_since, slice);
+        rotate_over(&mut self.ready, who, over);
     }
 
     // One more tick of the runner's turn, where turns are counted.
@@ -108,15 +118,26 @@ impl Kern {
         self.turn(who);
     }
 
-    // The first to arrive of the tasks whose tick has come.
-    fn front_due(&self, tick: u64) -> Option<Late>
-        ensures first { result ≡ option_map late_of (first_due_lem self.now.tasks tick) }
-        ensures sound { IsKern self.now }
+    // The task of this id, where it lives, as one whose tick has come.
+    fn late(&self, who: Ident) -> Option<Late>
+        ensures { result ≡ option_map late_of (task_of self.now.tasks who) }
     {
-        first_due(&self.tasks, tick).map(|task| Late {
+        self.task(who).map(|task| Late {
             who: task.id,
             waits: task.wait.is_some(),
         })
+    }
+
+    // The first to arrive of the tasks that wake at the next tick.
+    fn front_due(&self, tick: u64) -> Option<Late>
+        requires { tick ≡ self.now.tick + 1 }
+        ensures first { result ≡ option_map late_of (first_due self.now.tasks tick) }
+        ensures sound { IsKern self.now }
+    {
+        match self.delays.first_due(tick) {
+            Some(who) => self.late(who),
+            None => None,
+        }
     }
 
     // The wait or the delay of a task whose tick has come ends.
@@ -132,11 +153,12 @@ impl Kern {
         }
     }
 
-    // The waits and delays of all tasks whose tick has come end, by arrival.
+    // The waits and delays of all tasks that wake at the next tick end, by arrival.
     fn wake_due(&mut self, tick: u64)
-        requires { self.old.next_since + 257 < 2 ^ 64 }
+        requires since { self.old.next_since + 257 < 2 ^ 64 }
+        requires next { tick ≡ self.old.tick + 1 }
         ensures state { self.new ≡ wake_due self.old tick }
-        ensures done { first_due_lem self.new.tasks tick ≡ None }
+        ensures done { first_due self.new.tasks tick ≡ None }
     {
         let _ = &self.tasks;
         while let Some(late) = self.front_due(tick) {

@@ -5,7 +5,7 @@ ghost use Rattle.wind_core.specs.State.{Lives, task_of};
 ghost use Rattle.wind_core.specs.Moves.{suspend, resume, reset, change_pri, set_locks, set_normal, set_safe, set_held, set_errno, set_int_locked, set_again, is_suspended as is_suspended_lem, has_pri as has_pri_lem};
 
 use crate::kern::Kern;
-use crate::keys::mend;
+use crate::queues::{mend, mend_ready, mend_waits};
 use crate::tasks::{renew, set_pri, settle, suspend_task, take_marks, take_suspension};
 use id_table::Ident;
 use wind_base::Pri;
@@ -17,6 +17,7 @@ impl Kern {
         ensures { self.new ≡ suspend self.old who }
     {
         suspend_task(self.tasks.object_mut(who));
+        self.ready.take(who);
     }
 
     // Whether the task of this id is suspended.
@@ -42,6 +43,7 @@ impl Kern {
         let task = self.tasks.object_mut(who);
         take_suspension(task);
         settle(task, &mut self.next_since);
+        mend_ready(&mut self.ready, task);
     }
 
     /// Takes suspension, locks, held-back interrupts and the mark of a repeated call from the task, which
@@ -54,7 +56,7 @@ impl Kern {
         let task = self.tasks.object_mut(who);
         take_marks(task);
         renew(task, &mut self.next_since);
-        mend(&mut self.waits, task);
+        mend(&mut self.waits, &mut self.ready, &mut self.delays, task);
     }
 
     // Whether the task of this id has this priority.
@@ -79,7 +81,8 @@ impl Kern {
         let task = self.tasks.object_mut(who);
         set_pri(task, pri);
         settle(task, &mut self.next_since);
-        mend(&mut self.waits, task);
+        mend_waits(&mut self.waits, task);
+        mend_ready(&mut self.ready, task);
     }
 
     /// Sets how often the task has locked the scheduler and not unlocked it.

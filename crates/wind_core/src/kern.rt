@@ -8,9 +8,12 @@ ghost use Rattle.id_table.specs.Rows.{IdsBelow, added};
 ghost use Rattle.wind_core.specs.State.{Lives, IsKern, task_of, task_above};
 ghost use Rattle.wind_core.specs.Moves.{spawn, spawn_refusal, remove};
 ghost use Rattle.wind_core.specs.Waiting.{task_waits};
+ghost use Rattle.wind_core.specs.Queues.{ready_tasks, delayed_tasks};
 
 use crate::tasks::made;
+use delay_queue::Delays;
 use id_table::{IdSource, Ident, Table};
+use ready_queue::Ready;
 use std::alloc::Global;
 use std::marker::Model;
 use task_block::{NewTask, Task};
@@ -24,6 +27,10 @@ pub struct Kern {
     pub(crate) tasks: Table<Task>,
     // the tasks that wait, each by its key
     pub(crate) waits: Waits,
+    // the tasks that are ready, in the order of urgency
+    pub(crate) ready: Ready,
+    // the tasks that sleep, in the order in which they wake
+    pub(crate) delays: Delays,
     pub(crate) ids: IdSource,
     pub(crate) lent: bool,
     pub(crate) next_since: u64,
@@ -37,14 +44,14 @@ impl Model for Kern {
     ghost use Rattle.wind_base.specs.Limits.{most_tasks};
     ghost use Rattle.wind_core.specs.State.{KernState, IsKern};
     ghost use Rattle.wind_core.specs.Inside.{kern_state, SameIds};
-    ghost use Rattle.wind_core.specs.Waiting.{task_waits};
+    ghost use Rattle.wind_core.specs.Queues.{AreQueued};
     ghost use Rattle.id_table.specs.Rows.{objects};
 
     ghost Value = { KernState };
 
     ghost view = { λ k. kern_state k.tasks.rows k.ids k.lent k.next_since k.tick k.slice k.last };
 
-    ghost invariant = { λ k. (k.tasks.room ≡ most_tasks) × SameIds k.tasks.rows × IsKern (kern_state k.tasks.rows k.ids k.lent k.next_since k.tick k.slice k.last) × (k.waits ≡ task_waits (objects k.tasks.rows)) };
+    ghost invariant = { λ k. (k.tasks.room ≡ most_tasks) × SameIds k.tasks.rows × IsKern (kern_state k.tasks.rows k.ids k.lent k.next_since k.tick k.slice k.last) × AreQueued k.waits k.ready k.delays (objects k.tasks.rows) };
 }
 
 impl Kern {
@@ -57,6 +64,8 @@ impl Kern {
         Ok(Kern {
             tasks: Table::reserved(alloc, TASKS)?,
             waits: Waits::reserved(alloc, TASKS)?,
+            ready: Ready::reserved(alloc, TASKS)?,
+            delays: Delays::reserved(alloc, TASKS)?,
             ids: IdSource::new(),
             lent: false,
             next_since: 0,
@@ -100,6 +109,20 @@ impl Kern {
         ensures { result.now ≡ task_waits self.now.tasks }
     {
         &self.waits
+    }
+
+    /// The tasks that are ready, each with its priority, in the order of urgency.
+    pub fn ready(&self) -> &Ready
+        ensures { result.now ≡ ready_tasks self.now.tasks }
+    {
+        &self.ready
+    }
+
+    /// The tasks that have a tick at which they wake, each with that tick, in the order in which they wake.
+    pub fn delays(&self) -> &Delays
+        ensures { result.now ≡ delayed_tasks self.now.tasks }
+    {
+        &self.delays
     }
 
     /// The least live id above a number. None where there is none.
@@ -162,12 +185,14 @@ impl Kern {
         let Some(id) = self.ids.peek() else {
             return Err(Errno::IdsSpent);
         };
+        let pri = task.pri;
         let Ok(id) = self
             .tasks
             .add(&mut self.ids, made(task, id, self.next_since))
         else {
             unreachable!()
         };
+        self.ready.put(pri, id);
         self.next_since += 1;
         Ok(id)
     }
@@ -178,6 +203,8 @@ impl Kern {
         ensures tasks { self.new ≡ remove self.old who }
     {
         self.waits.take(who);
+        self.ready.take(who);
+        self.delays.take(who);
         self.tasks.remove(who)
     }
 

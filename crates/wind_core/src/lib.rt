@@ -5,10 +5,9 @@ mod calls;
 mod clock;
 mod fields;
 mod kern;
-mod keys;
 mod laws;
 mod queries;
-mod scans;
+mod queues;
 mod tasks;
 #[cfg(test)]
 mod tests;

@@ -159,17 +159,20 @@ pub(crate) fn renew(task: &mut Task, next_since: &mut u64)
     *next_since += 1;
 }
 
-// One more tick of the task's turn. A turn that is over begins anew, behind the task's equals.
-pub(crate) fn count_turn(task: &mut Task, next_since: &mut u64, slice: u32)
+// One more tick of the task's turn. A turn that is over begins anew, behind the task's equals: whether it is.
+pub(crate) fn count_turn(task: &mut Task, next_since: &mut u64, slice: u32) -> bool
     requires { next_since.old + 1 < 2 ^ 64 }
+    ensures over { result ≡ nat_le slice (task.old.turns + 1) }
     ensures task { task.new ≡ turn_task slice next_since.old task.old }
     ensures next { next_since.new ≡ next_since.old + (if nat_le slice (task.old.turns + 1) then 1 else 0) }
 {
     if u64::from(task.turns) + 1 >= u64::from(slice) {
         task.turns = 0;
         renew(task, next_since);
+        true
     } else {
         task.turns += 1;
+        false
     }
 }
 

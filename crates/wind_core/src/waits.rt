@@ -8,7 +8,7 @@ ghost use Rattle.wind_core.specs.Moves.{pend, delay, release, end_wait, wake_all
 ghost use Rattle.wind_core.specs.Releases.{release_all};
 
 use crate::kern::Kern;
-use crate::keys::mend;
+use crate::queues::mend;
 use crate::tasks::{answer_wait, begin_delay, begin_wait, end, renew, settle, wake_tick};
 use id_table::{Ident, Place};
 use wind_base::Errno;
@@ -28,7 +28,7 @@ impl Kern {
         let task = self.tasks.object_mut(who);
         begin_wait(task, place, fifo, wake);
         renew(task, &mut self.next_since);
-        mend(&mut self.waits, task);
+        mend(&mut self.waits, &mut self.ready, &mut self.delays, task);
     }
 
     /// The task sleeps for so many ticks. With 0 it only goes behind its equals.
@@ -42,7 +42,7 @@ impl Kern {
         let task = self.tasks.object_mut(who);
         begin_delay(task, tick, ticks);
         renew(task, &mut self.next_since);
-        mend(&mut self.waits, task);
+        mend(&mut self.waits, &mut self.ready, &mut self.delays, task);
     }
 
     /// The task's wait or delay ends. Where it is then ready, it stands behind its equals.
@@ -54,7 +54,7 @@ impl Kern {
         let task = self.tasks.object_mut(who);
         end(task);
         settle(task, &mut self.next_since);
-        mend(&mut self.waits, task);
+        mend(&mut self.waits, &mut self.ready, &mut self.delays, task);
     }
 
     /// The task's wait or delay ends, and its call is answered: by `answer` in r3, and by an error number
@@ -67,7 +67,7 @@ impl Kern {
         let task = self.tasks.object_mut(who);
         answer_wait(task, answer, errno);
         settle(task, &mut self.next_since);
-        mend(&mut self.waits, task);
+        mend(&mut self.waits, &mut self.ready, &mut self.delays, task);
     }
 
     /// The first of the tasks that wait at a place. None where none waits there.

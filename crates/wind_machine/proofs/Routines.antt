@@ -19,7 +19,7 @@ use Rattle.kernel_calls.specs.Calls.{call}
 use Rattle.kernel_world.specs.Allowed.{is_built}
 use Rattle.kernel_world.specs.declared.actor.Actor.TheVariants.{Interrupt}
 use Rattle.kernel_world.proofs.Goes.{goes_nowhere}
-use Rattle.kernel_world.proofs.Advancing.{Advances, advances_on, advances_more, beside, of_watches, at_routine}
+use Rattle.kernel_world.proofs.Advancing.{Advances, advances_on, of_parts, as_call, beside, of_watches, at_routine}
 use Rattle.kernel_calls.proofs.Passing.{call_passes}
 use Rattle.kernel_calls.proofs.Serves.{passes_by, passes_before}
 use Rattle.wind_machine.specs.Processor.{bus_of, with_bus}
@@ -34,17 +34,7 @@ RoutinePasses w v n = Passes w v Interrupt (n + 1) call_sinces 1
 
 -- RAM is as long as it was
 resized : (w : WorldState) (n : ℕ) → IsWorld w → Within n w → (ram : List ℕ) (slots : List (Option DeviceState)) → length ram ≡ length w.ram → Advances w (record w { ram = ram; slots = slots }) n 0 0
-resized w n kept within ram slots same = record {
-  kept = record { kern = kept.kern; home = kept.home; objects = kept.objects; pool = kept.pool; stacks = kept.stacks; modules = kept.modules; ram = omega (arith, same, kept.ram); symbols = kept.symbols; watch = kept.watch };
-  lives = λ who h. h;
-  within = within;
-  last = refl;
-  reserves = λ who h. h;
-  sinces = omega arith;
-  count = refl;
-  names = omega arith;
-  starts = omega arith;
-}
+resized w n kept within ram slots same = of_parts w kept n within w.part w.symbols w.modules ram slots w.output w.int_errno kept.pool kept.stacks kept.modules kept.symbols same
 
 -- the next routine is active, or none
 done_advances : (w : WorldState) (n : ℕ) → IsWorld w → Within n w → Advances w (next_routine w) n 0 0
@@ -59,7 +49,7 @@ active_some (Some x) e = refl
 module _ (w : WorldState) (n : ℕ) (kept : IsWorld w) (within : Within n w) where
   -- a move that gives out nothing
   by_move : (v : WorldState) → Advances w v n 0 0 → RoutinePasses w v n
-  by_move v a = passes_by w v Interrupt (n + 1) call_sinces 1 (advances_more w v n (n + 1) 0 call_sinces 0 1 (omega arith) (omega arith) (omega arith) a)
+  by_move v a = passes_by w v Interrupt (n + 1) call_sinces 1 (as_call w kept n within v a)
 
   gives_up : (trap : Trap) → RoutinePasses w (given_up trap w) n
   gives_up trap =

@@ -81,6 +81,7 @@ fn fetched_module<F: Folder>(
 }
 
 // Makes the step that loads the module of a name, with what the folder says of its file.
+#[inline(never)]
 fn load_step<F: Folder>(
     alloc: Global,
     board: &mut Board,
@@ -115,6 +116,7 @@ fn load_step<F: Folder>(
 
 /// Makes the next step, if there is one. The module that it asks for, if it does, is fetched from the folder: the file
 /// at the name of the folder of modules, `/` and its own name.
+#[inline]
 pub(crate) fn step<F: Folder>(
     alloc: Global,
     board: &mut Board,

@@ -1,5 +1,5 @@
 use Rattle.std.proofs.Common.{◌∙◌}
-use Rattle.wind_core.proofs.Writes.{first_kept}
+use Rattle.wind_core.proofs.Mending.{first_kept}
 use Rattle.wind_core.proofs.kern.Kern.front_waiter.Goals as goal
 
 pub returns-clause-first : goal.returns-clause-first

@@ -3,7 +3,8 @@ use Rattle.std.specs.Option.{option_map}
 use Rattle.task_block.specs.declared.task.Task.{Task}
 use Rattle.wind_core.specs.State.{task_of}
 use Rattle.wind_core.specs.Moves.{set_regs}
-use Rattle.wind_core.proofs.Writes.{object_lives, found, same_keeps, changed}
+use Rattle.wind_core.proofs.Writes.{object_lives, found, changed}
+use Rattle.wind_core.proofs.Mending.{same_keeps}
 use Rattle.wind_core.proofs.kern.Kern.regs_of.Goals as goal
 
 pub object_mut-requires : goal.object_mut-requires
@@ -12,7 +13,7 @@ object_mut-requires c = object_lives c.self.inside c.args.self.now c.args.who c.
 pub invariant_of-self-lent : goal.invariant_of-self-lent
 invariant_of-self-lent c = λ w.
     let x : Task = c.object_mut.result.now in
-    same_keeps c.self.inside c.args.who x (record x { regs = w }) c.self.invariant c.object_mut.ensures.value refl refl refl refl
+    same_keeps c.self.inside c.args.who x (record x { regs = w }) c.self.invariant c.object_mut.ensures.value refl
 
 pub returns : goal.returns
 returns c =

@@ -4,11 +4,11 @@ use Rattle.wind_lists.specs.Records.{Rising}
 use Rattle.wind_core.specs.State.{task_id}
 use Rattle.wind_core.specs.Orders.{running}
 use Rattle.wind_core.specs.Tick.{turn_of}
-use Rattle.wind_core.proofs.Ticks.{runs, runner_lives}
+use Rattle.wind_core.proofs.Ticks.{runs, runner_ready}
 use Rattle.wind_core.proofs.kern.Kern.take_turn.Goals as goal
 
-pub turn-requires-clause-live : goal.turn-requires-clause-live
-turn-requires-clause-live c = runner_lives c.args.self.now c.in-Some.who (subst (λ s. Rising task_id s.tasks) c.self.view_is c.self.invariant.2.rising) c.in-Some.ensures
+pub turn-requires-clause-ready : goal.turn-requires-clause-ready
+turn-requires-clause-ready c = runner_ready c.args.self.now c.in-Some.who (subst (λ s. Rising task_id s.tasks) c.self.view_is c.self.invariant.2.rising) c.in-Some.ensures
 
 pub returns : goal.returns
 returns c =

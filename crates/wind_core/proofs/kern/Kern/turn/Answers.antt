@@ -1,19 +1,21 @@
 use Rattle.wind_core.proofs.Writes.{object_lives}
-use Rattle.wind_core.proofs.Ticks.{turned_is, turned_fits, turned_keeps}
+use Rattle.wind_core.proofs.Mending.{turned_keeps}
+use Rattle.wind_core.proofs.Ticks.{turned_is, object_ready, ready_lives}
+use Rattle.wind_core.specs.State.{task_of}
 use Rattle.wind_core.proofs.kern.Kern.turn.Goals as goal
 
 pub object_mut-task-requires : goal.object_mut-task-requires
-object_mut-task-requires c = object_lives c.self.inside c.args.self.now c.args.who c.self.invariant c.self.view_is c.requires.live
-
-pub mend-requires : goal.mend-requires
-mend-requires c = turned_fits c.self.inside c.args.who c.object_mut-task.result.now c.count_turn.new.task c.self.invariant c.object_mut-task.ensures.value c.count_turn.ensures.task
+object_mut-task-requires c = object_lives c.self.inside c.args.self.now c.args.who c.self.invariant c.self.view_is (ready_lives (task_of c.args.self.now.tasks c.args.who) c.requires.ready)
 
 pub invariant_of-self : goal.invariant_of-self
 invariant_of-self c =
-    turned_keeps c.self.inside c.args.who c.count_turn.new.next_since c.object_mut-task.result.now c.count_turn.new.task c.mend.new.waits c.self.invariant c.object_mut-task.ensures.value
-    c.count_turn.ensures.task c.count_turn.ensures.next c.mend.ensures
+    let k = c.self.inside in
+    let x = c.object_mut-task.result.now in
+    turned_keeps k c.args.who c.count_turn-over.new.next_since x c.count_turn-over.new.task c.rotate_over.new.ready c.count_turn-over.result c.self.invariant c.object_mut-task.ensures.value
+    (object_ready k c.args.self.now c.args.who x c.self.invariant c.self.view_is c.requires.ready c.object_mut-task.ensures.value)
+    c.count_turn-over.ensures.task c.count_turn-over.ensures.next c.count_turn-over.ensures.over c.rotate_over.ensures
 
 pub returns : goal.returns
 returns c =
-    turned_is c.self.inside c.args.self.now c.args.who c.count_turn.new.next_since c.object_mut-task.result.now c.count_turn.new.task c.self.invariant c.self.view_is c.object_mut-task.ensures.value
-    c.if-not-is_free.ensures c.count_turn.ensures.task c.count_turn.ensures.next
+    turned_is c.self.inside c.args.self.now c.args.who c.count_turn-over.new.next_since c.object_mut-task.result.now c.count_turn-over.new.task c.self.invariant c.self.view_is c.object_mut-task.ensures.value
+    c.if-not-is_free.ensures c.count_turn-over.ensures.task c.count_turn-over.ensures.next

@@ -8,7 +8,7 @@ time_out-requires-clause-live c = (late_turn c.loop-late.self c.args.tick c.in-S
 
 pub time_out-requires-clause-since : goal.time_out-requires-clause-since
 time_out-requires-clause-since c =
-    omega (arith, length-due c.args.self.now.tasks c.args.tick, c.self.invariant.2.few, ap (λ s. length s.tasks) c.self.view_is, c.loop-late.invariant.room, c.requires)
+    omega (arith, length-due c.args.self.now.tasks c.args.tick, c.self.invariant.2.few, ap (λ s. length s.tasks) c.self.view_is, c.loop-late.invariant.room, c.requires.since)
 
 pub loop-late-smaller : goal.loop-late-smaller
 loop-late-smaller c =
@@ -20,5 +20,6 @@ loop-late-preserved c =
     let turn = late_turn c.loop-late.self c.args.tick c.in-Some.late c.in-Some.ensures.sound.rising c.in-Some.ensures.first in
     rw c.time_out.ensures (record {
       same = turn.same ∙ c.loop-late.invariant.same;
+      tick = turn.tick ∙ c.loop-late.invariant.tick;
       room = omega (arith, turn.fewer, turn.sinces, c.loop-late.invariant.room);
     })

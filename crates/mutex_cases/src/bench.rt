@@ -1,0 +1,165 @@
+//! Tasks and mutexes, and the calls on them by the numbers of their ids.
+
+ghost use Rattle.std.specs.Prelude.{◌≡◌, false};
+ghost use Rattle.inheritance.specs.Mutexes.{both};
+ghost use Rattle.sem_mutex.specs.Kept.{KeepsMutexes};
+
+use id_table::Ident;
+use sem_mutex::{Mutexes, Took};
+use task_block::NewTask;
+use wind_base::words::{NO_WAIT, WAIT_FOREVER};
+use wind_base::{Errno, Pri, Regs, SemKind, SemOptions, ShortName};
+use wind_core::Kern;
+
+/// A call; tasks and mutexes go by the numbers of their ids.
+#[derive(Clone, Copy)]
+pub enum Act {
+    /// A task takes a mutex, or waits for it without end.
+    Take(u32, u32),
+    /// A task takes it only where it need not wait.
+    Try(u32, u32),
+    /// A task gives it.
+    Give(u32, u32),
+    /// It is deleted.
+    Delete(u32),
+    /// A task's normal priority is set.
+    Priority(u32, u32),
+}
+
+/// What a call is answered with.
+#[derive(Clone, Copy, PartialEq, Eq)]
+pub enum Told {
+    /// It is done.
+    Done,
+    /// The caller waits.
+    Pended,
+    /// It is refused.
+    Refused(Errno),
+}
+
+/// A new task of this priority. None where it can't be made.
+pub fn spawn(k: &mut Kern, mutexes: &Mutexes, pri: u32) -> Option<()>
+    requires ids { k.old.lent ≡ false }
+    requires kept { KeepsMutexes (both k.old mutexes.now) }
+    ensures ids { k.new.lent ≡ false }
+    ensures kept { KeepsMutexes (both k.new mutexes.now) }
+{
+    let task = NewTask {
+        name: ShortName::cut(b"t"),
+        entry: 0x1000,
+        stack: 0x2000,
+        pri: Pri::new(pri)?,
+        regs: Regs {
+            gpr: [5; 32],
+            cr: 0,
+            xer: 0,
+            lr: 0,
+            ctr: 0,
+            pc: 0x1000,
+            reserve: None,
+        },
+    };
+    if !mutexes.is_early(k) {
+        return None;
+    }
+    match k.spawn_record(task) {
+        Ok(_) => Some(()),
+        Err(_) => None,
+    }
+}
+
+/// A new mutex with waiters by priority, a safe owner and inheritance. None where it can't be made.
+pub fn create(k: &mut Kern, mutexes: &mut Mutexes) -> Option<()>
+    requires ids { k.old.lent ≡ false }
+    requires kept { KeepsMutexes (both k.old mutexes.old) }
+    ensures ids { k.new.lent ≡ false }
+    ensures kept { KeepsMutexes (both k.new mutexes.new) }
+{
+    let options = SemOptions::read(13, SemKind::Mutex)?;
+    if !options.is_priority() {
+        return None;
+    }
+    match mutexes.create(k, options) {
+        Ok(_) => Some(()),
+        Err(_) => None,
+    }
+}
+
+// A task of this number takes a mutex.
+fn take(k: &mut Kern, mutexes: &mut Mutexes, who: u32, id: u32, timeout: u32) -> Option<Told>
+    requires { KeepsMutexes (both k.old mutexes.old) }
+    ensures { KeepsMutexes (both k.new mutexes.new) }
+{
+    let who = Ident::new(who)?;
+    if !mutexes.is_early(k) || k.task(who).is_none() {
+        return None;
+    }
+    match mutexes.take(k, who, id, timeout) {
+        Ok(Took::Taken) => Some(Told::Done),
+        Ok(Took::Pended) => Some(Told::Pended),
+        Err(errno) => Some(Told::Refused(errno)),
+    }
+}
+
+// What a call without a value is answered with.
+fn outcome(done: Result<(), Errno>) -> Told {
+    match done {
+        Ok(()) => Told::Done,
+        Err(errno) => Told::Refused(errno),
+    }
+}
+
+// A task of this number gives a mutex.
+fn give(k: &mut Kern, mutexes: &mut Mutexes, who: u32, id: u32) -> Option<Told>
+    requires { KeepsMutexes (both k.old mutexes.old) }
+    ensures { KeepsMutexes (both k.new mutexes.new) }
+{
+    let who = Ident::new(who)?;
+    if !mutexes.is_early(k) || k.task(who).is_none() {
+        return None;
+    }
+    Some(outcome(mutexes.give(k, who, id)))
+}
+
+// A mutex is deleted.
+fn delete(k: &mut Kern, mutexes: &mut Mutexes, id: u32) -> Option<Told>
+    requires { KeepsMutexes (both k.old mutexes.old) }
+    ensures { KeepsMutexes (both k.new mutexes.new) }
+{
+    if !mutexes.is_early(k) {
+        return None;
+    }
+    Some(outcome(mutexes.delete(k, id)))
+}
+
+// The normal priority of a task of this number is set.
+fn set_priority(k: &mut Kern, mutexes: &mut Mutexes, who: u32, pri: u32) -> Option<Told>
+    requires { KeepsMutexes (both k.old mutexes.old) }
+    ensures { KeepsMutexes (both k.new mutexes.new) }
+{
+    let (who, pri) = (Ident::new(who)?, Pri::new(pri)?);
+    if !mutexes.is_early(k) || k.task(who).is_none() {
+        return None;
+    }
+    mutexes.priority_set(k, who, pri);
+    Some(Told::Done)
+}
+
+/// Makes a call. None where it can't be made.
+pub fn apply(k: &mut Kern, mutexes: &mut Mutexes, act: Act) -> Option<Told>
+    requires { KeepsMutexes (both k.old mutexes.old) }
+    ensures { KeepsMutexes (both k.new mutexes.new) }
+{
+    match act {
+        Act::Take(who, id) => take(k, mutexes, who, id, WAIT_FOREVER),
+        Act::Try(who, id) => take(k, mutexes, who, id, NO_WAIT),
+        Act::Give(who, id) => give(k, mutexes, who, id),
+        Act::Delete(id) => delete(k, mutexes, id),
+        Act::Priority(who, pri) => set_priority(k, mutexes, who, pri),
+    }
+}
+
+/// The priority of the task of this number. None where it does not live.
+pub fn pri(k: &Kern, number: u32) -> Option<u32> {
+    Some(k.task(Ident::new(number)?)?.pri.get())
+}

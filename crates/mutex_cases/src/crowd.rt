@@ -1,0 +1,106 @@
+//! As many owners as there may be, each of which waits for the one before it.
+
+ghost use Rattle.std.specs.Prelude.{◌≡◌, false, []};
+ghost use Rattle.inheritance.specs.Mutexes.{both};
+ghost use Rattle.sem_mutex.specs.Kept.{KeepsMutexes};
+
+use crate::bench::{Act, Told, apply, create, pri, spawn};
+use sem_mutex::Mutexes;
+use wind_core::Kern;
+
+/// How many owners there are; one more task may live.
+pub const OWNERS: u32 = 255;
+
+// Tasks of the priorities 255 down to 1, with the ids 1 to 255, and behind them one of priority 0.
+fn spawn_all(k: &mut Kern, mutexes: &Mutexes) -> Option<()>
+    requires ids { k.old.lent ≡ false }
+    requires kept { KeepsMutexes (both k.old mutexes.now) }
+    ensures ids { k.new.lent ≡ false }
+    ensures kept { KeepsMutexes (both k.new mutexes.now) }
+{
+    for place in 0..OWNERS {
+        spawn(k, mutexes, OWNERS - place)?;
+    }
+    spawn(k, mutexes, 0)
+}
+
+// A mutex for each owner, with the ids behind those of the tasks.
+fn create_all(k: &mut Kern, mutexes: &mut Mutexes) -> Option<()>
+    requires ids { k.old.lent ≡ false }
+    requires kept { KeepsMutexes (both k.old mutexes.old) }
+    ensures kept { KeepsMutexes (both k.new mutexes.new) }
+{
+    for place in 0..OWNERS {
+        create(k, mutexes)?;
+    }
+    Some(())
+}
+
+// The id of the mutex that the task of this id owns.
+fn mutex_of(owner: u32) -> u32 {
+    owner.saturating_add(OWNERS + 1)
+}
+
+// Each owner takes its mutex.
+fn own_all(k: &mut Kern, mutexes: &mut Mutexes) -> Option<()>
+    requires { KeepsMutexes (both k.old mutexes.old) }
+    ensures { KeepsMutexes (both k.new mutexes.new) }
+{
+    for place in 0..OWNERS {
+        let owner = place + 1;
+        if apply(k, mutexes, Act::Take(owner, mutex_of(owner))) != Some(Told::Done) {
+            return None;
+        }
+    }
+    Some(())
+}
+
+// Each but the first waits for the mutex of the one before it.
+fn wait_all(k: &mut Kern, mutexes: &mut Mutexes) -> Option<()>
+    requires { KeepsMutexes (both k.old mutexes.old) }
+    ensures { KeepsMutexes (both k.new mutexes.new) }
+{
+    for before in 1..OWNERS {
+        if apply(k, mutexes, Act::Take(before + 1, mutex_of(before))) != Some(Told::Pended) {
+            return None;
+        }
+    }
+    Some(())
+}
+
+// How many owners have this priority.
+fn count_of(k: &Kern, wanted: u32) -> u32 {
+    let mut count = 0u32;
+    for place in 0..OWNERS {
+        if pri(k, place + 1) == Some(wanted) {
+            count = count.saturating_add(1);
+        }
+    }
+    count
+}
+
+// How many owners have priority 1 once all wait, and how many have 0 once the last task waits too.
+fn counts(k: &mut Kern, mutexes: &mut Mutexes) -> Option<(u32, u32)>
+    requires ids { k.old.lent ≡ false }
+    requires fresh { (k.old.tasks ≡ []) × (mutexes.old ≡ []) }
+{
+    spawn_all(k, mutexes)?;
+    create_all(k, mutexes)?;
+    own_all(k, mutexes)?;
+    wait_all(k, mutexes)?;
+    let before = count_of(k, 1);
+    let last = Act::Take(OWNERS + 1, mutex_of(OWNERS));
+    if apply(k, mutexes, last) != Some(Told::Pended) {
+        return None;
+    }
+    Some((before, count_of(k, 0)))
+}
+
+/// How many owners have priority 1 once all but the first wait for the one before them, the last of them with the
+/// priority 1; and how many have 0 once a task of that priority waits for the last one.
+pub fn play<R: AllocGlobal>(rt: &R) -> Option<(u32, u32)> {
+    let (Ok(mut k), Ok(mut mutexes)) = (Kern::new(rt.alloc()), Mutexes::reserved(rt.alloc())) else {
+        return None;
+    };
+    counts(&mut k, &mut mutexes)
+}

@@ -1,0 +1,155 @@
+//! Four tasks and three mutexes: what each call answers, and the priorities that it leaves.
+
+ghost use Rattle.std.specs.Prelude.{◌≡◌, false, []};
+ghost use Rattle.inheritance.specs.Mutexes.{both};
+ghost use Rattle.sem_mutex.specs.Kept.{KeepsMutexes};
+
+use crate::bench::{Act, Told, apply, create, pri, spawn};
+use sem_mutex::Mutexes;
+use wind_base::Errno;
+use wind_core::Kern;
+
+/// A call, its answer, and the priorities of the four tasks after it.
+pub type Row = (Act, Told, [u32; 4]);
+
+/// How the calls of some rows go.
+#[derive(Clone, Copy, PartialEq, Eq)]
+pub enum Verdict {
+    /// As the rows say.
+    AsWorkedOut,
+    /// The call of this number, counted from 1, has another answer.
+    Answers(usize),
+    /// The call of this number leaves these priorities.
+    Leaves(usize, [u32; 4]),
+    /// There is no room for the tasks and the mutexes.
+    NoRoom,
+}
+
+// The ids of the tasks, and of the mutexes behind them.
+const A: u32 = 1;
+
+const B: u32 = 2;
+
+const C: u32 = 3;
+
+const D: u32 = 4;
+
+const M1: u32 = 5;
+
+const M2: u32 = 6;
+
+const M3: u32 = 7;
+
+/// B waits for A, C for B, and D for C.
+pub const CHAIN: [Row; 6] = [
+    (Act::Take(A, M1), Told::Done, [150, 160, 170, 10]),
+    (Act::Take(B, M2), Told::Done, [150, 160, 170, 10]),
+    (Act::Take(B, M1), Told::Pended, [150, 160, 170, 10]),
+    (Act::Take(C, M3), Told::Done, [150, 160, 170, 10]),
+    (Act::Take(C, M2), Told::Pended, [150, 160, 170, 10]),
+    (Act::Take(D, M3), Told::Pended, [10, 10, 10, 10]),
+];
+
+/// A and B wait for each other. D waits for A, and its urgency goes on to B and ends at A.
+pub const CYCLE: [Row; 5] = [
+    (Act::Take(A, M1), Told::Done, [150, 160, 170, 10]),
+    (Act::Take(B, M2), Told::Done, [150, 160, 170, 10]),
+    (Act::Take(A, M2), Told::Pended, [150, 150, 170, 10]),
+    (Act::Take(B, M1), Told::Pended, [150, 150, 170, 10]),
+    (Act::Take(D, M1), Told::Pended, [10, 10, 170, 10]),
+];
+
+/// A owns two mutexes, D waits for the first and B for the second. A has its normal priority again after the last.
+pub const TWO: [Row; 13] = [
+    (Act::Take(A, M1), Told::Done, [150, 50, 170, 10]),
+    (Act::Take(A, M2), Told::Done, [150, 50, 170, 10]),
+    (Act::Take(A, M2), Told::Done, [150, 50, 170, 10]),
+    (Act::Take(D, M1), Told::Pended, [10, 50, 170, 10]),
+    (Act::Take(B, M2), Told::Pended, [10, 50, 170, 10]),
+    (Act::Priority(A, 200), Told::Done, [10, 50, 170, 10]),
+    (Act::Priority(A, 150), Told::Done, [10, 50, 170, 10]),
+    (Act::Give(A, M1), Told::Done, [10, 50, 170, 10]),
+    (Act::Give(A, M2), Told::Done, [10, 50, 170, 10]),
+    (Act::Give(A, M2), Told::Done, [150, 50, 170, 10]),
+    (
+        Act::Give(A, M2),
+        Told::Refused(Errno::InvalidOperation),
+        [150, 50, 170, 10],
+    ),
+    (
+        Act::Try(A, M1),
+        Told::Refused(Errno::ObjUnavailable),
+        [150, 50, 170, 10],
+    ),
+    (Act::Delete(M1), Told::Done, [150, 50, 170, 10]),
+];
+
+/// C waits for B and B for A; A becomes more urgent and less, then C more urgent: whom it waits for inherits that.
+pub const SET: [Row; 8] = [
+    (Act::Take(A, M1), Told::Done, [150, 160, 170, 10]),
+    (Act::Take(B, M2), Told::Done, [150, 160, 170, 10]),
+    (Act::Take(B, M1), Told::Pended, [150, 160, 170, 10]),
+    (Act::Take(C, M2), Told::Pended, [150, 160, 170, 10]),
+    (Act::Priority(A, 155), Told::Done, [150, 160, 170, 10]),
+    (Act::Priority(C, 180), Told::Done, [150, 160, 180, 10]),
+    (Act::Priority(C, 100), Told::Done, [100, 100, 100, 10]),
+    (Act::Priority(B, 90), Told::Done, [90, 90, 100, 10]),
+];
+
+// Four tasks of these priorities, with the ids 1 to 4, and three mutexes behind them.
+fn begin(k: &mut Kern, mutexes: &mut Mutexes, pris: [u32; 4]) -> Option<()>
+    requires ids { k.old.lent ≡ false }
+    requires fresh { (k.old.tasks ≡ []) × (mutexes.old ≡ []) }
+    ensures kept { KeepsMutexes (both k.new mutexes.new) }
+{
+    spawn(k, mutexes, pris[0])?;
+    spawn(k, mutexes, pris[1])?;
+    spawn(k, mutexes, pris[2])?;
+    spawn(k, mutexes, pris[3])?;
+    create(k, mutexes)?;
+    create(k, mutexes)?;
+    create(k, mutexes)
+}
+
+// Less urgent than any: no priority of a task that lives.
+const GONE: u32 = 256;
+
+// The priorities of the four tasks.
+fn priorities(k: &Kern) -> [u32; 4] {
+    [
+        pri(k, A).unwrap_or(GONE),
+        pri(k, B).unwrap_or(GONE),
+        pri(k, C).unwrap_or(GONE),
+        pri(k, D).unwrap_or(GONE),
+    ]
+}
+
+// Makes the calls of the rows, up to the first that goes otherwise.
+fn compare(k: &mut Kern, mutexes: &mut Mutexes, rows: &[Row]) -> Verdict
+    requires { KeepsMutexes (both k.old mutexes.old) }
+{
+    let mut call = 0;
+    for row in rows {
+        let (act, told, wanted) = *row;
+        call += 1;
+        if apply(k, mutexes, act) != Some(told) {
+            return Verdict::Answers(call);
+        }
+        let left = priorities(k);
+        if left != wanted {
+            return Verdict::Leaves(call, left);
+        }
+    }
+    Verdict::AsWorkedOut
+}
+
+/// Makes the calls of the rows among four tasks of these priorities.
+pub fn play<R: AllocGlobal>(rt: &R, pris: [u32; 4], rows: &[Row]) -> Verdict {
+    let (Ok(mut k), Ok(mut mutexes)) = (Kern::new(rt.alloc()), Mutexes::reserved(rt.alloc())) else {
+        return Verdict::NoRoom;
+    };
+    match begin(&mut k, &mut mutexes, pris) {
+        Some(()) => compare(&mut k, &mut mutexes, rows),
+        None => Verdict::NoRoom,
+    }
+}

@@ -1,0 +1,42 @@
+//! Plays operations on the queues of the kernel, and on plain vectors that are scanned, and compares what both answer.
+#![tactic(auto)]
+
+mod delays;
+mod numbers;
+mod plain_delays;
+mod plain_ready;
+mod plain_waits;
+mod ready;
+mod tally;
+mod waits;
+
+use std::io;
+use tally::Tally;
+use wind_base::NoMemory;
+
+/// Plays the steps of each queue, and tells how many answers agree.
+fn main(rt: HostRuntime) -> io::Result<()> {
+    tell(&rt, "ready tasks", ready::play(rt.alloc()))?;
+    tell(&rt, "tasks that wait for a tick", delays::play(rt.alloc()))?;
+    tell(&rt, "waiters of places", waits::play(rt.alloc()))
+}
+
+// Writes the line of a queue.
+fn tell<R: Print>(rt: &R, queue: &str, played: Result<Tally, NoMemory>) -> io::Result<()> {
+    let Ok(
+        Tally {
+            answers,
+            agreeing,
+            differing,
+        },
+    ) = played
+    else {
+        return println!(rt; "{queue}: out of memory");
+    };
+    match differing {
+        None => println!(rt; "{queue}: {agreeing} of {answers} answers agree"),
+        Some(step) => println!(rt;
+            "{queue}: {agreeing} of {answers} answers agree; step {step} differs first"
+        ),
+    }
+}

@@ -1,6 +1,0 @@
-use Rattle.std.proofs.Common.{◌≡◌, ℕ, ◌<◌, ◌^◌, true, get_or}
-use Rattle.task_block.specs.declared.task.Task.{Task}
-use Rattle.sem_mutex.proofs.tests.are_rarely_safe.Given as goal
-
-abbrev pub invariant-loop-at : goal.invariant-loop-at
-invariant-loop-at l = l.fine ≡ true → (i : ℕ) (d : Task) → i < l.at → (get_or l.k.tasks i d).safe < 2 ^ 61

@@ -1,6 +1,0 @@
-use Rattle.std.proofs.Common.{◌≡◌, ℕ, ◌<◌, ◌^◌, true, get_or}
-use Rattle.inheritance.specs.declared.mutex.Mutex.{Mutex}
-use Rattle.sem_mutex.proofs.tests.are_shallow.Given as goal
-
-abbrev pub invariant-loop-at : goal.invariant-loop-at
-invariant-loop-at l = l.fine ≡ true → (i : ℕ) (d : ℕ × Mutex) → i < l.at → (get_or l.table.rows i d).1.depth < 2 ^ 61

@@ -1,0 +1,7 @@
+use Rattle.std.proofs.Common.{◌≤◌, length}
+use Rattle.wait_order.specs.Inside.{waiters_in, IsBehind}
+use Rattle.wait_order.proofs.runs.place_of.Given as goal
+
+-- all that were passed precede the waiter
+abbrev pub invariant-loop-passed : goal.invariant-loop-passed
+invariant-loop-passed l = (b : IsBehind (waiters_in l.waiters.chains) l.next l.waiter) × (l._passed ≤ length b.front)

@@ -1,0 +1,91 @@
+//! The first waiter of each place that is in use, by place.
+
+ghost use Rattle.std.specs.Prelude.{◌≡◌, ◌≤◌, ◌<◌, None, Some, length, MatchResult, vec_capacity};
+ghost use Rattle.wait_order.specs.Fronts.{Rises, front_of, first_from as first_from_lem, IsRank, StandsHere, GoesHere, IsPut};
+
+use crate::order::{place_before, same_place};
+use id_table::{Ident, Place};
+
+// A place, and the first of those that wait there.
+#[derive(Clone, Copy, Drop)]
+pub(crate) struct Front {
+    pub(crate) place: Place,
+    pub(crate) first: Ident,
+}
+
+// How many of the places in use come before this one.
+fn rank_of(fronts: &[Front], place: &Place) -> usize
+    requires { Rises fronts.now }
+    ensures within { result ≤ length fronts.now }
+    ensures split { IsRank fronts.now place.now result }
+{
+    fronts.partition_point(|front| place_before(&front.place, place))
+}
+
+// Where a place stands among those in use, or where it goes in.
+fn search(fronts: &[Front], place: &Place) -> Result<usize, usize>
+    requires { Rises fronts.now }
+    ensures within { MatchResult result (λ at. at < length fronts.now) (λ at. at ≤ length fronts.now) }
+    ensures found { MatchResult result (StandsHere fronts.now place.now) (GoesHere fronts.now place.now) }
+{
+    let rank = rank_of(fronts, place);
+    if rank == fronts.len() {
+        return Err(rank);
+    }
+    if same_place(&fronts[rank].place, place) {
+        Ok(rank)
+    } else {
+        Err(rank)
+    }
+}
+
+// The first of those that wait at a place. None where nobody waits there.
+pub(crate) fn first_at(fronts: &[Front], place: &Place) -> Option<Ident>
+    requires { Rises fronts.now }
+    ensures { result ≡ front_of fronts.now place.now }
+{
+    match search(fronts, place) {
+        Ok(at) => Some(fronts[at].first),
+        Err(_) => None,
+    }
+}
+
+// The first of the waiters of a place, or of the next place in use. None where there is none.
+pub(crate) fn first_from(fronts: &[Front], place: &Place) -> Option<Ident>
+    requires { Rises fronts.now }
+    ensures { result ≡ first_from_lem fronts.now place.now }
+{
+    let rank = rank_of(fronts, place);
+    if rank == fronts.len() {
+        return None;
+    }
+    Some(fronts[rank].first)
+}
+
+// The place has this first waiter from now on.
+pub(crate) fn put(fronts: &mut Vec<Front>, place: Place, first: Ident)
+    requires rising { Rises fronts.old.items }
+    requires room { front_of fronts.old.items place ≡ None → length fronts.old.items < vec_capacity fronts.old }
+    ensures put { IsPut fronts.old.items place (Some first) fronts.new.items }
+    ensures capacity { vec_capacity fronts.old ≤ vec_capacity fronts.new }
+{
+    match search(fronts, &place) {
+        Ok(at) => fronts[at] = Front { place, first },
+        Err(at) => {
+            let Ok(()) = fronts.insert(at, Front { place, first }) else {
+                unreachable!()
+            };
+        }
+    }
+}
+
+// The place is in use no longer.
+pub(crate) fn remove(fronts: &mut Vec<Front>, place: &Place)
+    requires rising { Rises fronts.old.items }
+    ensures put { IsPut fronts.old.items place.now None fronts.new.items }
+    ensures capacity { vec_capacity fronts.old ≤ vec_capacity fronts.new }
+{
+    if let Ok(at) = search(fronts, place) {
+        fronts.remove(at);
+    }
+}

@@ -1,0 +1,81 @@
+//! The queues of tasks, mended after a task has changed.
+
+ghost use Rattle.std.specs.Prelude.{◌≡◌, ◌<◌, length, if◌then◌else◌};
+ghost use Rattle.wait_order.specs.Line.{without_waiter};
+ghost use Rattle.ready_queue.specs.Order.{taken_out as ready_without, rotated};
+ghost use Rattle.delay_queue.specs.Wakes.{taken_out as delays_without};
+ghost use Rattle.wind_core.specs.Orders.{wait_pri as wait_pri_lem};
+ghost use Rattle.wind_core.specs.Waiting.{mended};
+ghost use Rattle.wind_core.specs.Queues.{ready_mended, delays_mended};
+
+use delay_queue::Delays;
+use id_table::Ident;
+use ready_queue::Ready;
+use task_block::Task;
+use wait_order::Waits;
+
+// The priority by which a task waits: one that waits in order of arrival counts as most urgent.
+fn wait_pri(task: &Task) -> u32
+    ensures { result ≡ wait_pri_lem task.now }
+{
+    if task.fifo { 0 } else { task.pri.get() }
+}
+
+// Puts the task among those that wait as it waits now, or takes it out where it waits no longer.
+#[tactic(auto, using(crate::proofs::Waiting::taken_absent))]
+pub(crate) fn mend_waits(waits: &mut Waits, task: &Task)
+    requires { length (without_waiter waits.old task.now.id).waiters < waits.old.room }
+    ensures { waits.new ≡ mended waits.old task.now }
+{
+    waits.take(task.id);
+    if let Some(place) = task.wait {
+        waits.put(place, task.id, wait_pri(task), task.since);
+    }
+}
+
+// Puts the task behind its equals among those that are ready, or takes it out where it isn't ready.
+#[tactic(auto, using(ready_queue::proofs::Turns::taken_absent))]
+pub(crate) fn mend_ready(ready: &mut Ready, task: &Task)
+    requires { length (ready_without ready.old.tasks task.now.id) < ready.old.room }
+    ensures { ready.new ≡ ready_mended ready.old task.now }
+{
+    ready.take(task.id);
+    if task.ready() {
+        ready.put(task.pri, task.id);
+    }
+}
+
+// Puts the task among those that sleep, behind all that wake when it does, or takes it out where it doesn't sleep.
+#[tactic(auto, using(delay_queue::proofs::Waiting::taken_absent))]
+pub(crate) fn mend_delays(delays: &mut Delays, task: &Task)
+    requires { length (delays_without delays.old.tasks task.now.id) < delays.old.room }
+    ensures { delays.new ≡ delays_mended delays.old task.now }
+{
+    delays.take(task.id);
+    if let Some(wake) = task.wake {
+        delays.put(task.id, wake);
+    }
+}
+
+// Puts the task into each queue as it stands now. Where it is ready or sleeps, it stands behind its equals.
+pub(crate) fn mend(waits: &mut Waits, ready: &mut Ready, delays: &mut Delays, task: &Task)
+    requires waits { length (without_waiter waits.old task.now.id).waiters < waits.old.room }
+    requires ready { length (ready_without ready.old.tasks task.now.id) < ready.old.room }
+    requires delays { length (delays_without delays.old.tasks task.now.id) < delays.old.room }
+    ensures waits { waits.new ≡ mended waits.old task.now }
+    ensures ready { ready.new ≡ ready_mended ready.old task.now }
+    ensures delays { delays.new ≡ delays_mended delays.old task.now }
+{
+    mend_waits(waits, task);
+    mend_ready(ready, task);
+    mend_delays(delays, task);
+}
+
+// The task goes behind its equals, where its turn is over.
+pub(crate) fn rotate_over(ready: &mut Ready, who: Ident, over: bool)
+    ensures { ready.new ≡ (if over then rotated ready.old who else ready.old) }
+{
+    if over {
+        ready.rotate(who);
+    }
+}
