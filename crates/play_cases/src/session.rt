@@ -74,6 +74,7 @@ impl Outcome {
 }
 
 /// A session.
+#[derive(Clone, Copy)]
 pub struct Session<'a> {
     /// Its name in the tables.
     pub name: &'a str,

@@ -5,13 +5,15 @@ ghost use Rattle.wind_base.specs.Limits.{most_steps};
 ghost use Rattle.wind_outside.specs.Counts.{Rose};
 ghost use Rattle.wind_outside.specs.Devices.{slots_of};
 ghost use Rattle.board_player.specs.Seen.{seen};
-ghost use Rattle.generated_session.specs.Session.{most_rounds};
+ghost use Rattle.generated_session.specs.Session.{most_rounds, summary_line};
 ghost use Rattle.wind_session.specs.Command.{command_of as command_of_lem};
 ghost use Rattle.wind_session.specs.Words.{command_state};
 ghost use Rattle.wind_session.specs.Plan.{Start, IsFilePlan, IsPlanOf, IsHeld, plan_ticks, generated_plan};
-ghost use Rattle.wind_session.specs.Headline.{Plays, IsRefusal, IsUnread, RefusesFiles, Refuses, IsComplete, IsKept, IsLeft, SumsUp, status_of as status_of_lem};
+ghost use Rattle.wind_session.specs.Headline.{Plays, IsRefusal, IsUnread, RefusesFiles, Refuses, IsComplete, IsKept, IsLeft, IsSummed, status_of as status_of_lem};
 ghost use Rattle.wind_session.specs.Runs.{is_given_up as is_given_up_lem};
+ghost use Rattle.wind_session.specs.Status.{status_number};
 ghost use Rattle.wind_session.specs.declared.run.RunEnd.{RunEnd};
+ghost use Rattle.wind_session.specs.declared.run.RunEnd.TheVariants as ends;
 ghost use Rattle.wind_session.specs.Texts.{Tells};
 ghost use Rattle.wind_session.specs.declared.ending.Status.TheVariants as status;
 ghost use Rattle.wind_session.specs.declared.ending.Stand.TheVariants as stands;
@@ -19,7 +21,7 @@ ghost use Rattle.wind_session.specs.declared.ending.Stand.TheVariants as stands;
 use crate::command::{Command, CommandErr, command_of};
 use crate::ending::{Ending, Stand, Status, Which};
 use crate::report::{tell, tell_no_memory, tell_usage};
-use crate::run::{RunEnd, count_board, run_board};
+use crate::run::{RunEnd, Tally, count_board, run_board};
 use board_player::Board;
 use generated_session::Summary;
 use std::alloc::Global;
@@ -144,33 +146,23 @@ fn inputs_of<F: Folder>(alloc: Global, command: &Command, folder: &mut F) -> Res
     Ok(inputs)
 }
 
-// Plays the board of a generated session, and sums it up. The number of its status stands in the line.
-fn sum_up<F: Folder, O: Sink>(
-    alloc: Global,
-    command: &Command,
-    board: &mut Board,
-    folder: &mut F,
-    out: &mut O,
-) -> Status
-    requires fresh { (seen ⟦<dyn Device as Device>⟧ board.old).steps ≡ 0 }
-    requires limit { command.now.limit ≤ most_steps }
-    requires rounds { command.now.generate ≤ most_rounds }
-    ensures left { (end : RunEnd) × SumsUp command.now.generate result end
-        (record { files = F.files folder.old; name = command.now.modules.now })
-        (seen ⟦<dyn Device as Device>⟧ board.old) command.now.limit (seen ⟦<dyn Device as Device>⟧ board.new)
-        (O.bytes out.old) (O.bytes out.new) }
-    ensures read_fault { result ≡ status.ReadFault → Rose (F.faults folder.old) (F.faults folder.new) }
+// Puts the line that sums up the run of a generated session; of a run that was given up, nothing. The number of its status
+// stands in the line.
+fn sum_up<O: Sink>(rounds: u32, board: &Board, tally: Tally, out: &mut O) -> Status
+    requires rounds { rounds ≤ most_rounds }
+    requires all_put { tally.end ≢ ends.WriteFault }
+    ensures summed { IsSummed tally.end result (summary_line rounds tally.bytes
+        (seen ⟦<dyn Device as Device>⟧ board.now).steps (seen ⟦<dyn Device as Device>⟧ board.now).world.kern.tick
+        (status_number (status_of_lem tally.end))) (O.bytes out.old) (O.bytes out.new) }
+    ensures read_fault { result ≡ status.ReadFault → tally.end ≡ ends.ReadFault }
     ensures fault { result ≡ status.WriteFault → Rose (O.faults out.old) (O.faults out.new) }
-    ensures files { F.files folder.new ≡ F.files folder.old }
-    ensures folder_faults { F.faults folder.old ≤ F.faults folder.new }
 {
-    let tally = count_board(alloc, board, folder, command.modules, command.limit);
     let status = status_of(tally.end);
     if is_given_up(tally.end) {
         return status;
     }
     let summary = Summary {
-        rounds: command.generate,
+        rounds,
         bytes: tally.bytes,
         steps: board.steps(),
         ticks: board.ticks(),
@@ -205,7 +197,8 @@ fn played<F: Folder, O: Sink>(
     if command.generate == 0 {
         return status_of(run_board(alloc, board, folder, command.modules, out, command.limit));
     }
-    sum_up(alloc, command, board, folder, out)
+    let tally = count_board(alloc, board, folder, command.modules, command.limit);
+    sum_up(command.generate, board, tally, out)
 }
 
 // Plays the session of a command.

@@ -45,6 +45,7 @@ fn put_some<O: Sink>(out: &mut O, bytes: &[u8]) -> Put
 
 /// Makes steps, at most as many as the limit, and puts what each of them writes. The modules that they ask for are fetched
 /// from the folder.
+#[tactic(auto, using(crate::proofs::RunLemmas::quiet, crate::proofs::RunLemmas::at_limit))]
 pub fn run_board<F: Folder, O: Sink>(
     alloc: Global,
     board: &mut Board,
@@ -90,6 +91,7 @@ pub struct Tally {
 
 /// Makes steps, at most as many as the limit, and counts what each of them writes. The modules that they ask for are
 /// fetched from the folder.
+#[tactic(auto, using(crate::proofs::RunLemmas::quiet, crate::proofs::RunLemmas::at_limit))]
 pub fn count_board<F: Folder>(
     alloc: Global,
     board: &mut Board,

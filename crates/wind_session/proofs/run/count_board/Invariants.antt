@@ -1,20 +1,17 @@
 use Rattle.std.proofs.Common.{◌≡◌, ◌≤◌, ◌*◌, ◌^◌, length}
-use Rattle.wind_machine.specs.Run.{Answers, after, text, IsPart}
+use Rattle.wind_machine.specs.Run.{Answers, text}
 use Rattle.board_player.specs.Seen.{board_by}
-use Rattle.wind_session.specs.Modules.{AreSaid}
+use Rattle.wind_session.proofs.RunLemmas.{Behind}
 use Rattle.wind_session.proofs.run.count_board.Given as goal
 
--- after so many steps, the board is the machine's after as many, with what was said of the files that they asked for, and all that they wrote was counted
+-- so many steps were made, and all that they wrote was counted
 abbrev pub invariant-loop-i : goal.invariant-loop-i
 invariant-loop-i g l =
     let state = board_by (λ d. (goal.Device-dyn g (d.vtable, d.value)).kind_of d.value) (λ d. (goal.Device-dyn g (d.vtable, d.value)).words_of d.value) in
     let start = state l.fn.board in
     record {
       said : Answers;
-      counted : (state l.board).steps ≡ l._i;
-      answers : AreSaid (record { files = g.F.Folder.files l.fn.folder; name = l.modules }) said start l._i;
-      part : IsPart said start l.limit l._i;
-      state : state l.board ≡ after said start l._i;
+      run : Behind (record { files = g.F.Folder.files l.fn.folder; name = l.modules }) said start l.limit l._i (state l.board);
       bytes : l.bytes ≡ length (text said start l._i);
       small : l.bytes ≤ l._i * 2 ^ 64;
       files : g.F.Folder.files l.folder ≡ g.F.Folder.files l.fn.folder;
