@@ -1,11 +1,13 @@
 //! The step that loads a file.
 
-ghost use Rattle.std.specs.Prelude.{◌≡◌, ◌<◌, Some, IfOk, OnOk, OnErr, IsSome};
+ghost use Rattle.std.specs.Prelude.{◌≡◌, ◌<◌, ◌↔◌, true, Some, IfOk, OnOk, OnErr, IsSome};
 ghost use Rattle.wind_base.specs.Limits.{most_steps};
+ghost use Rattle.wind_base.specs.declared.gate.Gate.TheVariants as gates;
 ghost use Rattle.live_loading.specs.Said.{said_of};
 ghost use Rattle.wind_machine.specs.Good.{Good};
 ghost use Rattle.wind_machine.specs.declared.phase.Phase.TheVariants as phases;
 ghost use Rattle.wind_machine.specs.Machine.{stepping, file_asked, load_step};
+ghost use Rattle.wind_machine.specs.Processor.{gate_under};
 ghost use Rattle.board_player.specs.Asking.{is_shells};
 ghost use Rattle.board_player.specs.Inside.{inside, parts_seen, IsSpacious};
 
@@ -45,21 +47,34 @@ fn is_shells_step(parts: &Parts) -> bool
     }
 }
 
+// Whether the shell's task stands at the gate of `ld`.
+fn is_at_load(parts: &Parts) -> bool
+    ensures { (result ≡ true)
+        ↔ (gate_under (parts_seen ⟦<dyn Device as Device>⟧ parts.now).world 1 ≡ Some gates.Ld) }
+{
+    match Gate::at(counter(&parts.world, shell_id()), GATES_START) {
+        Some(gate) => gate == Gate::Ld,
+        None => false,
+    }
+}
+
 // The file that the shell's task asks for where it stands, in a call, if the next step is its own.
-#[tactic(auto, using(crate::proofs::Asked::asked_is))]
+#[tactic(auto, using(crate::proofs::Asked::asked_is, crate::proofs::Asked::asked_at_load, crate::proofs::Asked::asked_elsewhere))]
 #[inline(never)]
 fn asked_in_call(parts: &Parts) -> Result<Option<Name>, NoMemory>
     requires { parts.now.shell.phase ≡ phases.Call }
     ensures asked { IfOk result (λ o. o ≡ file_asked (parts_seen ⟦<dyn Device as Device>⟧ parts.now)) }
     ensures memory { OnErr result (IsSome (file_asked (parts_seen ⟦<dyn Device as Device>⟧ parts.now))) }
 {
-    let Some(gate) = Gate::at(counter(&parts.world, shell_id()), GATES_START) else {
-        return Ok(None);
-    };
-    if !is_shells_step(parts) {
+    if !is_at_load(parts) || !is_shells_step(parts) {
         return Ok(None);
     }
-    file_wanted(parts.alloc, &parts.world, gate, &Actor::Task(shell_id()))
+    file_wanted(
+        parts.alloc,
+        &parts.world,
+        Gate::Ld,
+        &Actor::Task(shell_id()),
+    )
 }
 
 /// The name of the file that the next step asks for, if it does.

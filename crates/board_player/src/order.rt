@@ -6,9 +6,10 @@ ghost use Rattle.tick_file.specs.Laws.{IsEarly};
 ghost use Rattle.wind_core.specs.State.{Lives, task_id};
 ghost use Rattle.wind_core.specs.Orders.{running as running_lem};
 ghost use Rattle.kernel_world.specs.Objects.{IsReady};
+ghost use Rattle.kernel_world.specs.declared.actor.Actor.TheVariants as actors;
 ghost use Rattle.wind_machine.specs.Good.{Good};
 ghost use Rattle.wind_machine.specs.Processor.{gate_under};
-ghost use Rattle.wind_machine.specs.Machine.{due_event as due_event_lem, event_of, console_is_due as console_is_due_lem, is_open as is_open_lem, is_active as is_active_lem, holds_back, next_event, shell_step, step_of, jump_to, plain_step, phase_may, gate_may, who_may, may_lack_memory};
+ghost use Rattle.wind_machine.specs.Machine.{due_event as due_event_lem, event_of, console_is_due as console_is_due_lem, is_open as is_open_lem, is_active as is_active_lem, holds_back, next_event, shell_step, step_of, jump_to, file_of, file_asked, plain_step, phase_may, gate_may, who_may, may_lack_memory};
 ghost use Rattle.board_player.specs.Inside.{inside, parts_seen, IsSpacious};
 ghost use Rattle.board_player.specs.Going.{IsKnown, OnlyStepped};
 ghost use Rattle.board_player.specs.declared.order.Made.TheVariants as steps;
@@ -117,6 +118,7 @@ fn run_shell(parts: &mut Parts) -> Result<(), NoMemory>
     requires few { parts.old.clock.steps < most_steps }
     requires space { IsSpacious parts.old }
     requires ready { IsReady parts.old.world.kern 1 }
+    requires asks { file_of (parts_seen ⟦<dyn Device as Device>⟧ parts.old) (Some (actors.Task 1)) ≡ None }
     ensures ok { OnOk result (parts_seen ⟦<dyn Device as Device>⟧ parts.new
         ≡ shell_step parts.old.shell.phase (parts_seen ⟦<dyn Device as Device>⟧ parts.old)) }
     ensures memory { OnErr result (phase_may parts.old.shell.phase
@@ -148,6 +150,7 @@ fn run_task(parts: &mut Parts, who: Ident) -> Result<bool, NoMemory>
     requires space { IsSpacious parts.old }
     requires live { Lives parts.old.world.kern who }
     requires ready { IsReady parts.old.world.kern who }
+    requires asks { file_of (parts_seen ⟦<dyn Device as Device>⟧ parts.old) (Some (actors.Task who)) ≡ None }
     ensures ok { OnOk result (parts_seen ⟦<dyn Device as Device>⟧ parts.new
         ≡ step_of (parts_seen ⟦<dyn Device as Device>⟧ parts.old) who) }
     ensures memory { OnErr result (who_may (parts_seen ⟦<dyn Device as Device>⟧ parts.old) who ≡ true) }
@@ -241,6 +244,7 @@ fn step_tasks(parts: &mut Parts, known: &mut Option<Running>) -> Made
     requires good { Good (inside parts.old) }
     requires few { parts.old.clock.steps < most_steps }
     requires space { IsSpacious parts.old }
+    requires unasked { file_asked (parts_seen ⟦<dyn Device as Device>⟧ parts.old) ≡ None }
     requires known { IsKnown parts.old.world.kern parts.old.world.watch.level known.old }
     ensures stepped { result ≡ steps.Stepped → plain_step (parts_seen ⟦<dyn Device as Device>⟧ parts.old)
         ≡ Some (parts_seen ⟦<dyn Device as Device>⟧ parts.new) }
@@ -288,6 +292,7 @@ pub(crate) fn make_step(parts: &mut Parts, known: &mut Option<Running>) -> Made
     requires good { Good (inside parts.old) }
     requires few { parts.old.clock.steps < most_steps }
     requires space { IsSpacious parts.old }
+    requires unasked { file_asked (parts_seen ⟦<dyn Device as Device>⟧ parts.old) ≡ None }
     requires known { IsKnown parts.old.world.kern parts.old.world.watch.level known.old }
     ensures stepped { result ≡ steps.Stepped → plain_step (parts_seen ⟦<dyn Device as Device>⟧ parts.old)
         ≡ Some (parts_seen ⟦<dyn Device as Device>⟧ parts.new) }

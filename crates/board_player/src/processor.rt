@@ -1,6 +1,6 @@
 //! A step of a task: at a gate, or an instruction.
 
-ghost use Rattle.std.specs.Prelude.{◌≡◌, ◌+◌, ◌^◌, ◌<◌, ◌≤◌, [], true, OnOk, OnErr, slice_index};
+ghost use Rattle.std.specs.Prelude.{◌≡◌, ◌+◌, ◌^◌, ◌<◌, ◌≤◌, [], true, None, OnOk, OnErr, slice_index};
 ghost use Rattle.wind_core.specs.State.{Lives, IsKern, task_of};
 ghost use Rattle.board_bus.specs.Access.{board_meaning, fetched};
 ghost use Rattle.ppc_core.specs.Instructions.{exec_of};
@@ -9,6 +9,8 @@ ghost use Rattle.kernel_world.specs.Kept.{IsWorld, IsEarly};
 ghost use Rattle.kernel_world.specs.Objects.{IsReady};
 ghost use Rattle.kernel_world.specs.Seen.{world_seen, world_with};
 ghost use Rattle.kernel_world.specs.Allowed.{is_built as is_built_lem, may_lack_memory};
+ghost use Rattle.kernel_calls.specs.Calls.{file_wanted};
+ghost use Rattle.kernel_world.specs.declared.actor.Actor.TheVariants as actors;
 ghost use Rattle.kernel_calls.specs.Space.{HoldsSpace};
 ghost use Rattle.wind_base.specs.OutBuf.{KeepsSpace};
 ghost use Rattle.wind_machine.specs.Part.{part_of, writing};
@@ -109,9 +111,9 @@ fn return_from(shell: &mut Shell, world: &mut World, who: Ident)
 }
 
 // A kernel call. For want of memory nothing changes.
-#[tactic(auto, using(crate::proofs::Asked::wanted_lacks))]
 fn call(alloc: Global, world: &mut World, who: Ident, gate: Gate) -> Result<(), NoMemory>
     requires built { is_built_lem gate ≡ true }
+    requires unasked { file_wanted gate (world_seen ⟦<dyn Device as Device>⟧ world.old) (actors.Task who) ≡ None }
     requires live { Lives world.old.kern who }
     requires ready { IsReady world.old.kern who }
     requires kept { IsWorld (world_with [] world.old) }
@@ -125,8 +127,9 @@ fn call(alloc: Global, world: &mut World, who: Ident, gate: Gate) -> Result<(), 
     ensures space { HoldsSpace world.old.out world.new.out }
 {
     match kernel_call(alloc, world, gate, &Actor::Task(who)) {
-        // the file that a call asks for is asked for before its step, and nothing has changed
-        Called::NeedsFile(_) | Called::NoMemory => Err(NoMemory),
+        // the step of a call that asks for a file is another
+        Called::NeedsFile(_) => unreachable!(),
+        Called::NoMemory => Err(NoMemory),
         Called::Done | Called::Pended | Called::Ended => {
             drop_own(&mut world.kern, who);
             Ok(())
@@ -143,6 +146,7 @@ pub(crate) fn at_gate(
     gate: Gate,
 ) -> Result<(), NoMemory>
     requires phase { who ≡ 1 → shell.old.phase ≡ phases.Call }
+    requires unasked { file_wanted gate (world_seen ⟦<dyn Device as Device>⟧ world.old) (actors.Task who) ≡ None }
     requires live { Lives world.old.kern who }
     requires ready { IsReady world.old.kern who }
     requires kept { IsWorld (world_with [] world.old) }

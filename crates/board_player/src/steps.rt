@@ -8,8 +8,9 @@ ghost use Rattle.kernel_world.specs.Objects.{IsReady};
 ghost use Rattle.wind_machine.specs.Good.{Good};
 ghost use Rattle.wind_base.specs.Gates.{gate_at};
 ghost use Rattle.kernel_world.specs.Allowed.{may_lack_memory};
+ghost use Rattle.kernel_world.specs.declared.actor.Actor.TheVariants as actors;
 ghost use Rattle.wind_machine.specs.Processor.{gate_under, regs_of};
-ghost use Rattle.wind_machine.specs.Machine.{prompt_step, read_step, eval_step, task_step, is_active, arrival, gate_may, ticked, received};
+ghost use Rattle.wind_machine.specs.Machine.{prompt_step, read_step, eval_step, task_step, is_active, arrival, file_of, gate_may, ticked, received};
 ghost use Rattle.wind_machine.specs.declared.phase.Phase.TheVariants as phases;
 ghost use Rattle.board_player.specs.Inside.{inside, parts_seen, IsSpacious};
 ghost use Rattle.board_player.specs.Going.{OnlyStepped};
@@ -159,6 +160,7 @@ fn run_gate(parts: &mut Parts, who: Ident, at: u32, gate: Gate) -> Result<(), No
     requires phase { who ≡ 1 → parts.old.shell.phase ≡ phases.Call }
     requires counter { at ≡ (regs_of (parts_seen ⟦<dyn Device as Device>⟧ parts.old).world who).pc }
     requires gate { gate_at gates_start at ≡ Some gate }
+    requires asks { file_of (parts_seen ⟦<dyn Device as Device>⟧ parts.old) (Some (actors.Task who)) ≡ None }
     ensures ok { OnOk result (parts_seen ⟦<dyn Device as Device>⟧ parts.new
         ≡ task_step (parts_seen ⟦<dyn Device as Device>⟧ parts.old) who) }
     ensures memory { OnErr result (may_lack_memory gate ≡ true) }
@@ -190,6 +192,7 @@ pub(crate) fn run(parts: &mut Parts, who: Ident) -> Result<bool, NoMemory>
     requires live { Lives parts.old.world.kern who }
     requires ready { IsReady parts.old.world.kern who }
     requires phase { who ≡ 1 → parts.old.shell.phase ≡ phases.Call }
+    requires asks { file_of (parts_seen ⟦<dyn Device as Device>⟧ parts.old) (Some (actors.Task who)) ≡ None }
     ensures ok { OnOk result (parts_seen ⟦<dyn Device as Device>⟧ parts.new
         ≡ task_step (parts_seen ⟦<dyn Device as Device>⟧ parts.old) who) }
     ensures memory { OnErr result (gate_may (gate_under (parts_seen ⟦<dyn Device as Device>⟧ parts.old).world who)

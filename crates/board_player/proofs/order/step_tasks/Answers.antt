@@ -2,6 +2,7 @@ use Rattle.std.proofs.Common.{sym, ◌∙◌}
 use Rattle.wind_core.proofs.Ticks.{runner_lives}
 use Rattle.board_player.specs.Inside.{parts_by}
 use Rattle.board_player.proofs.Running.{runner_is_ready, runs, may, ran, never_quiet, lacks}
+use Rattle.board_player.proofs.Asked.{unasked_by}
 use Rattle.board_player.proofs.Going.{known_on}
 use Rattle.board_player.proofs.order.step_tasks.Goals as goal
 
@@ -10,6 +11,9 @@ run_task-made-requires-clause-live g c = runner_lives c.args.parts.now.world.ker
 
 pub run_task-made-requires-clause-ready : goal.run_task-made-requires-clause-ready
 run_task-made-requires-clause-ready g c = runner_is_ready c.args.parts.now.world.kern c.requires.good.world.kern c.in-Some-who.who (sym c.in-Some-who.is ∙ c.who_runs-now.ensures.who)
+
+pub run_task-made-requires-clause-asks : goal.run_task-made-requires-clause-asks
+run_task-made-requires-clause-asks g c = unasked_by _ c.in-Some-who.who c.requires.unasked c.requires.idle c.in_default.ensures c.if-console_is_due.ensures (sym c.in-Some-who.is ∙ c.who_runs-now.ensures.who)
 
 pub returns-clause-stepped : goal.returns-clause-stepped
 returns-clause-stepped g c =

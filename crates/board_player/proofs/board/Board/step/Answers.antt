@@ -5,6 +5,9 @@ use Rattle.board_player.proofs.Answering.{unasked_steps}
 use Rattle.board_player.proofs.Keeping.{kept}
 use Rattle.board_player.proofs.board.Board.step.Goals as goal
 
+pub make_step-requires-clause-unasked : goal.make_step-requires-clause-unasked
+make_step-requires-clause-unasked g c = sym c.in-Ok-None.ensures.asked ∙ c.in-Ok-None.field-0-is
+
 pub invariant_of-self-clause-good : goal.invariant_of-self-clause-good
 invariant_of-self-clause-good g c =
     kept c.step_law.ensures.step c.make_step.result _ _ c.is_early.ensures c.args.self.now.good (sym c.in-Ok-None.ensures.asked ∙ c.in-Ok-None.field-0-is) c.make_step.ensures.stepped c.make_step.ensures.unchanged
