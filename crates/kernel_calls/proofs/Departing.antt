@@ -24,7 +24,7 @@ use Rattle.task_calls.proofs.SafetyGoes.{Leaves, ended_leaves}
 use Rattle.kernel_world.proofs.Stacks.{pool-free, kernels-other}
 use Rattle.task_calls.proofs.Taking.{stacks}
 use Rattle.task_calls.proofs.Deleting.{objects-ended}
-use Rattle.kernel_world.proofs.Holding.{IsNoModules, loaded_on}
+use Rattle.kernel_world.proofs.Holding.{IsNoModules}
 
 -- what holds of each stack holds of fewer
 fewer : (P : ℕ → Type 0) (ts : List Task) (who : ℕ) → All P (stacks ts) → All P (stacks (without task_id ts who))

@@ -1,5 +1,5 @@
 -- How a call that is made by its row is the row of its gate.
-use Rattle.std.proofs.Common.{◌≡◌, ℕ, List, length, Option, None, Some, IsSome, IfSome, Result, Ok, Err, IfOk, true, refl, sym, ap, ◌∙◌, subst}
+use Rattle.std.proofs.Common.{◌≡◌, ℕ, List, length, Option, None, Some, Result, Ok, Err, IfOk, refl, sym, ap, ◌∙◌, subst}
 use Rattle.std.specs.Prelude.{slice_index}
 use Rattle.wind_base.specs.declared.regs.Regs.{Regs}
 use Rattle.wind_base.specs.declared.gate.Gate.{Gate}
@@ -19,7 +19,6 @@ use Rattle.kernel_world.specs.declared.objects.Objects.{Objects}
 use Rattle.kernel_world.specs.declared.actor.Actor.{Actor}
 use Rattle.kernel_world.specs.declared.actor.Actor.TheVariants.{Task, Interrupt}
 use Rattle.kernel_world.specs.declared.reply.Reply.{Reply}
-use Rattle.kernel_world.specs.declared.reply.Reply.TheVariants.{Answer}
 
 -- a queue may be made before the caller goes on behind its gate
 left_create : (w : WorldState) (a : Actor) (max_msgs max_len options : ℕ) → with_reply (left_gate (of_queues w (create_row (scene_of w) max_msgs max_len options)).world a) (create_row (scene_of w) max_msgs max_len options).reply

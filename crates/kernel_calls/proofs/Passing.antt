@@ -1,8 +1,6 @@
 -- What every call keeps.
-use Rattle.std.proofs.Common.{◌≡◌, ℕ, ◌+◌, Bool, List, ◌++◌, Option, None, Some, IfSome, is_some, true, false, cond, eqb, refl, sym, ap, ◌∙◌, subst, arith}
+use Rattle.std.proofs.Common.{◌≡◌, ℕ, ◌+◌, Bool, List, ◌++◌, Option, None, Some, is_some, true, false, cond, refl, ◌∙◌, arith}
 use Rattle.std.specs.Prelude.{slice_index}
-use Rattle.std.specs.Option.{option_map}
-use Rattle.wind_base.specs.Errno.{errno_number}
 use Rattle.wind_base.specs.declared.gate.Gate.{Gate}
 use Rattle.wind_base.specs.declared.gate.Gate.TheVariants as gates
 use Rattle.wind_base.specs.declared.errno.Errno.{Errno}
@@ -11,12 +9,8 @@ use Rattle.wind_base.specs.declared.errno.Errno.TheVariants as errors
 use Rattle.task_block.specs.declared.task.Task.{Task as TaskRecord}
 use Rattle.board_mem.specs.Memory.{has, with_word}
 use Rattle.board_mem.proofs.Sizes.{length-with_number}
-use Rattle.task_block.specs.Standing.{is_ready}
 use Rattle.board_mem.specs.Memory.{string_at}
-use Rattle.wind_core.specs.State.{task_of}
-use Rattle.wind_core.specs.Moves.{live_id, past_gate}
-use Rattle.wind_core.proofs.Unwritten.{task_of-change}
-use Rattle.task_safety.specs.Safety.{safe_of}
+use Rattle.wind_core.specs.Moves.{live_id}
 use Rattle.kernel_world.specs.State.{WorldState}
 use Rattle.kernel_world.specs.Objects.{KeepsObjects, DepthsWithin}
 use Rattle.kernel_world.specs.Actors.{Acts, MayCall, caller_words, target}
@@ -28,19 +22,18 @@ use Rattle.object_calls.specs.WatchRows.{WatchRow, routine_of}
 use Rattle.kernel_calls.specs.ShowRows.{ShowRow}
 use Rattle.task_calls.specs.Spawning.{spawned_if, task_wanted, quick_wanted, quick_text, after_spawn, spawn_state}
 use Rattle.kernel_calls.specs.Calls.{priority_in, with_reply, of_kern, of_objects, scene_of, of_queues, of_watch, of_text, of_deletion, task_at, row, refusal_before, row_unless, made, call}
-use Rattle.kernel_world.specs.Replies.{with_errno, left_gate, with_answer, replied, past_gate as level_past, in_r3}
-use Rattle.kernel_world.specs.Allowed.{refusal_word}
+use Rattle.kernel_world.specs.Replies.{left_gate}
 use Rattle.kernel_world.specs.Kept.{IsWorld, Within, call_sinces}
 use Rattle.kernel_calls.specs.Laws.{CallLaw}
 use Rattle.kernel_world.specs.declared.actor.Actor.{Actor}
 use Rattle.kernel_world.specs.declared.actor.Actor.TheVariants.{Task, Interrupt}
 use Rattle.kernel_world.specs.declared.reply.Reply.{Reply}
-use Rattle.kernel_world.specs.declared.reply.Reply.TheVariants.{Answer, Refusal, Later, Gone}
+use Rattle.kernel_world.specs.declared.reply.Reply.TheVariants.{Answer, Refusal, Later}
 use Rattle.kernel_world.proofs.Goes.{Goes}
 use Rattle.task_calls.proofs.TaskMoves.{suspend_goes, resume_goes, delay_goes, lock_goes, unlock_goes, self_goes, verify_goes, name_goes, slice_goes, int_lock_goes, int_unlock_goes, int_context_goes, safe_goes, unsafe_goes}
 use Rattle.kernel_world.proofs.Replying.{safe_left, may_left, left_advances, replied_advances}
 use Rattle.task_calls.proofs.KernRows.{objects-suspend_row, objects-resume_row, objects-delay_row, objects-lock_row, objects-unlock_row, objects-self_row, objects-verify_row, objects-name_row, objects-slice_row, objects-int_lock_row, objects-int_unlock_row, objects-int_context_row}
-use Rattle.kernel_world.proofs.Advancing.{Advances, as_call, advances_on, advances_more, beside, at_routine, stays, nowhere, by_kern, of_tasks, of_both, of_scene, of_list, of_memory, errno_advances}
+use Rattle.kernel_world.proofs.Advancing.{Advances, as_call, advances_on, advances_more, beside, nowhere, of_tasks, of_both, of_scene, of_list, of_memory, errno_advances}
 use Rattle.task_calls.proofs.RowMoves.{align_advances, free_advances, symbol_few, spawn_advances}
 use Rattle.object_calls.proofs.QueueKept.{keeps-create_row, keeps-send_row, keeps-receive_row, keeps-delete_row as keeps-queue_delete_row}
 use Rattle.object_calls.proofs.QueueCalls.{is_caller}

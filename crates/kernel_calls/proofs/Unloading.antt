@@ -1,5 +1,5 @@
 -- What is kept where a module is unloaded.
-use Rattle.std.proofs.Common.{◌≡◌, ℕ, zero, suc, ◌+◌, ◌-◌, ◌<◌, ◌≤◌, Bool, true, false, not, cond, eqb, List, [], ◌∷◌, length, map, get_or, Option, Some, None, IsSome, is_some, refl, sym, ap, ◌∙◌, subst, arith}
+use Rattle.std.proofs.Common.{◌≡◌, ℕ, zero, suc, ◌+◌, ◌-◌, ◌<◌, ◌≤◌, Bool, true, false, not, cond, eqb, List, [], ◌∷◌, length, get_or, Option, Some, None, IsSome, is_some, refl, sym, ◌∙◌, subst, arith}
 use Rattle.std.specs.Prelude.{reverse}
 use Rattle.std.specs.List.{All, find}
 use Rattle.std.specs.Option.{option_map}
@@ -8,9 +8,7 @@ use Rattle.std.proofs.lemmas.List.{length-reverse, get_or-reverse}
 use Rattle.std.proofs.lemmas.List.Elements.{All-weaker, All-filter, All-head, All-tail}
 use Rattle.std.proofs.lemmas.List.Kept.{AllPairs-filter}
 use Rattle.std.proofs.lemmas.Option.{same_Some}
-use Rattle.wind_base.specs.Limits.{most_symbols}
-use Rattle.wind_base.specs.declared.errno.Errno.TheVariants as errors
-use Rattle.id_table.specs.Rows.{row_id, object_of, without}
+use Rattle.id_table.specs.Rows.{object_of, without}
 use Rattle.board_mem.specs.Memory.{string_at}
 use Rattle.mem_partition.specs.State.{PartState, after_free}
 use Rattle.mem_partition.specs.declared.block.Class.TheVariants.{Kernel}
@@ -18,8 +16,7 @@ use Rattle.symbol_table.specs.declared.symbol.Symbol.{Symbol}
 use Rattle.symbol_table.specs.State.{without_group}
 use Rattle.module_loader.specs.declared.module.LoadedModule.{LoadedModule}
 use Rattle.module_loader.specs.declared.module.Segment.{Segment}
-use Rattle.module_loader.specs.Modules.{newest_named, is_named, without_segment, without_all, without_segments}
-use Rattle.module_loader.specs.Holding.{addrs_of, held_by, occurs}
+use Rattle.module_loader.specs.Modules.{is_named, without_segment, without_all, without_segments}
 use Rattle.module_loader.proofs.Holds.{parted, fewer, others_stay, unload_holds}
 use Rattle.wind_core.specs.State.{KernState}
 use Rattle.kernel_world.specs.State.{WorldState}

@@ -1,5 +1,5 @@
 -- What the calls on message queues ask for, and what a new queue leaves.
-use Rattle.std.proofs.Common.{◌≡◌, ℕ, List, length, Option, None, Some, IsSome, IfSome, Result, Ok, Err, IfOk, true, refl, sym, ap, ◌∙◌, subst}
+use Rattle.std.proofs.Common.{◌≡◌, ℕ, List, length, Option, None, Some, IsSome, IfSome, true, refl, sym, ap, ◌∙◌, subst}
 use Rattle.std.specs.Prelude.{slice_index}
 use Rattle.task_block.specs.declared.task.Task.{Task as TaskRecord}
 use Rattle.task_block.specs.Standing.{is_ready}
@@ -9,7 +9,6 @@ use Rattle.msg_queue.specs.Comings.{create_refusal, new_queue, created, IsMade}
 use Rattle.msg_queue.specs.Kept.{IsCaller}
 use Rattle.kernel_world.specs.Actors.{Acts, MayCall}
 use Rattle.object_calls.specs.QueueRows.{QueueRow, row_of, create_unless, create_row, task_in}
-use Rattle.kernel_world.specs.declared.objects.Objects.{Objects}
 use Rattle.kernel_world.specs.declared.actor.Actor.{Actor}
 use Rattle.kernel_world.specs.declared.actor.Actor.TheVariants.{Task, Interrupt}
 use Rattle.kernel_world.specs.declared.reply.Reply.{Reply}

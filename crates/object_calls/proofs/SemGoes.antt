@@ -1,7 +1,6 @@
 -- How far the rows of semaphores and mutexes take the kernel's counters.
 use Rattle.std.proofs.Common.{◌≡◌, ℕ, ◌+◌, ◌-◌, ◌<◌, ◌≤◌, true, false, not, ◌&&◌, cond, eqb, leb, ltb, List, length, Option, None, Some, is_some, refl, arith}
-use Rattle.std.proofs.lemmas.Bool.{leb-false, eqb-false}
-use Rattle.std.proofs.lemmas.List.Elements.{All-weaker}
+use Rattle.std.proofs.lemmas.Bool.{eqb-false}
 use Rattle.wind_base.specs.SemBits.{is_priority, read_options}
 use Rattle.wind_base.specs.declared.errno.Errno.{Errno}
 use Rattle.wind_base.specs.declared.errno.Errno.TheVariants as errors

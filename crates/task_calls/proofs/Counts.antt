@@ -1,16 +1,11 @@
 -- Counts of tasks that lie below a bound.
-use Rattle.std.proofs.Common.{◌≡◌, ℕ, ◌<◌, ◌^◌, true, false, not, ◌&&◌, cond, eqb, List, None, Some, IsSome, IfSome, is_none, refl, sym, subst, arith}
+use Rattle.std.proofs.Common.{◌≡◌, ℕ, ◌<◌, ◌^◌, None, Some, refl, arith}
 use Rattle.std.specs.List.{All}
 use Rattle.std.proofs.lemmas.List.Elements.{All-contains}
-use Rattle.std.specs.Option.{option_map}
-use Rattle.task_block.specs.declared.task.Task.{Task}
-use Rattle.task_block.specs.Standing.{is_ready}
-use Rattle.wind_lists.proofs.Records.{found_id, found_at}
-use Rattle.wind_core.specs.State.{KernState, Lives, task_id, task_of}
-use Rattle.wind_core.specs.Moves.{live_id, set_normal, past_gate, leave_gate, set_errno}
+use Rattle.wind_lists.proofs.Records.{found_at}
+use Rattle.wind_core.specs.State.{KernState, task_id, task_of}
 use Rattle.task_safety.specs.Safety.{safe_of}
 use Rattle.task_calls.specs.TaskRows.{locks_in, locks_of}
-use Rattle.wind_core.proofs.Ids.{ids-change, lives_by}
 
 -- no task's count is above a bound that all are below
 pub locks_below : (k : KernState) (who : ℕ) → All (λ t. t.locks < 2 ^ 60) k.tasks → locks_of k who < 2 ^ 60

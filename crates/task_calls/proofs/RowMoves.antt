@@ -1,51 +1,41 @@
 -- What the rows on blocks and symbols, and spawns, keep of the world.
-use Rattle.std.proofs.Common.{◌≡◌, ℕ, ◌+◌, ◌<◌, ◌≤◌, Bool, true, false, cond, eqb, leb, ltb, List, [], ◌∷◌, ◌++◌, length, replicate, Option, None, Some, IsSome, Result, Ok, Err, refl, sym, ◌∙◌, subst, arith}
-use Rattle.std.specs.Option.{option_or, option_map}
+use Rattle.std.proofs.Common.{◌≡◌, ℕ, ◌+◌, ◌≤◌, Bool, true, false, cond, eqb, leb, ltb, List, [], ◌∷◌, ◌++◌, length, replicate, Option, None, Some, IsSome, Result, Ok, Err, refl, sym, ◌∙◌, subst, arith}
+use Rattle.std.specs.Option.{option_or}
 use Rattle.std.specs.Prelude.{◌||◌, slice_index}
 use Rattle.std.specs.List.{find}
 use Rattle.std.proofs.lemmas.Bool.{leb-false}
 use Rattle.std.proofs.lemmas.List.{map-append, length_push}
 use Rattle.std.proofs.lemmas.List.Folds.{find-append}
-use Rattle.std.proofs.lemmas.List.Elements.{All-weaker, All-push}
+use Rattle.std.proofs.lemmas.List.Elements.{All-push}
 use Rattle.wind_base.specs.Limits.{most_symbols, longest_name, frame_bytes}
-use Rattle.wind_base.specs.declared.regs.Regs.{Regs}
 use Rattle.wind_base.specs.declared.errno.Errno.{Errno}
 use Rattle.wind_base.specs.declared.errno.Errno.TheVariants as errors
-use Rattle.wind_outside.specs.Devices.{DeviceState}
 use Rattle.task_block.specs.declared.task.Task.{Task as TaskRecord}
 use Rattle.task_block.specs.declared.task.NewTask.{NewTask}
-use Rattle.board_mem.specs.Memory.{has, with_word, with_bytes, written, string_at}
-use Rattle.board_mem.proofs.Sizes.{length-with_number, length-written, length-with_range}
+use Rattle.board_mem.specs.Memory.{has, with_bytes, written, string_at}
+use Rattle.board_mem.proofs.Sizes.{length-written, length-with_range}
 use Rattle.symbol_table.specs.declared.symbol.Symbol.{Symbol}
 use Rattle.symbol_table.specs.declared.symbol.SymKind.{SymKind}
-use Rattle.module_loader.specs.declared.module.LoadedModule.{LoadedModule}
 use Rattle.mem_partition.specs.State.{PartState, alloc_of, after_alloc, free_of, after_free}
 use Rattle.mem_partition.specs.declared.block.PartErr.{PartErr}
 use Rattle.mem_partition.specs.declared.block.Class.TheVariants.{User, Kernel}
-use Rattle.wind_core.specs.State.{KernState, Lives, task_of}
+use Rattle.wind_core.specs.State.{Lives, task_of}
 use Rattle.wind_core.specs.Moves.{new_task, spawn, spawn_refusal}
-use Rattle.wind_core.proofs.Ids.{lives_by}
 use Rattle.wind_core.proofs.Keeping.{every_call_keeps}
-use Rattle.msg_queue.specs.State.{Scene}
-use Rattle.isr_watch.specs.State.{WatchState, IsWatch}
 use Rattle.kernel_world.specs.State.{WorldState}
-use Rattle.kernel_world.specs.Objects.{KeepsObjects, DepthsWithin}
 use Rattle.kernel_world.specs.Starting.{cleared, framed}
 use Rattle.task_calls.specs.MemoryRows.{PartRow, align_row, free_row, free_reply}
 use Rattle.task_calls.specs.SymbolRows.{refused_symbol, with_kind, with_name, symbol_row, kind_of_number}
 use Rattle.task_calls.specs.Spawning.{after_spawn, spawn_state, stack_bytes, first_pointer, started, names_after, spawned_on, spawned_at, spawned_unless, spawned_if}
 use Rattle.kernel_world.specs.Opening.{interrupt_stack}
-use Rattle.kernel_world.specs.Kept.{KeepsPool, KeepsLoaded, task_stacks, AreStacks, KeepsWatch, IsWorld, ReservedBy, HasCounts, Within, call_sinces}
-use Rattle.kernel_world.specs.declared.objects.Objects.{Objects}
-use Rattle.kernel_world.specs.declared.actor.Actor.{Actor}
-use Rattle.kernel_world.specs.declared.actor.Actor.TheVariants.{Task, Interrupt}
+use Rattle.kernel_world.specs.Kept.{task_stacks, AreStacks, IsWorld, HasCounts, Within, call_sinces}
 use Rattle.kernel_world.specs.declared.reply.Reply.{Reply}
-use Rattle.kernel_world.specs.declared.reply.Reply.TheVariants.{Answer, Refusal}
+use Rattle.kernel_world.specs.declared.reply.Reply.TheVariants.{Answer}
 use Rattle.task_calls.specs.declared.spawning.Wanted.{Wanted}
 use Rattle.kernel_world.proofs.Advancing.{Advances, within_more, watch_on, nowhere, of_blocks}
 use Rattle.kernel_world.proofs.ObjectMoves.{objects-spawn}
 use Rattle.kernel_world.proofs.Stacks.{pool-alloc, pool-free, kernels-alloc, kernels-free, stacks-alloc, stacks-free, stacks-more}
-use Rattle.kernel_world.proofs.Holding.{loaded_on, loaded_with, loaded_more}
+use Rattle.kernel_world.proofs.Holding.{loaded_with, loaded_more}
 
 abbrev part_row : PartState → Reply → PartRow
 part_row p r = record { part = p; reply = r }

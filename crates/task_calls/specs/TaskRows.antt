@@ -5,7 +5,7 @@ use Rattle.wind_base.specs.declared.errno.Errno.{Errno}
 use Rattle.wind_base.specs.declared.errno.Errno.TheVariants as errors
 use Rattle.task_block.specs.declared.task.Task.{Task as TaskRecord}
 use Rattle.wind_core.specs.State.{KernState, task_of, task_named}
-use Rattle.wind_core.specs.Moves.{live_id, suspend, resume, set_locks, set_int_locked, delay}
+use Rattle.wind_core.specs.Moves.{suspend, resume, set_locks, set_int_locked, delay}
 use Rattle.kernel_world.specs.declared.actor.Actor.{Actor}
 use Rattle.kernel_world.specs.declared.actor.Actor.TheVariants.{Task, Interrupt}
 use Rattle.kernel_world.specs.declared.reply.Reply.{Reply}
