@@ -124,10 +124,40 @@ stock() {
     fi
 }
 
-for tasks in 1 2 16; do
+# A folder with one task that runs the loop of four instructions, and so many more that make this call and go on no more.
+crowd() {
+    mkdir -p "$work/crowd"
+    : >"$work/crowd/ticks.txt"
+    {
+        sed -n 1p "$here/tasks-1/console.txt"
+        echo 's = semBCreate(0, 0)'
+        awk "BEGIN { for (i = 0; i < $1; i++) print \"sp $2\" }"
+        echo 'sp 0x1000, 0x2000'
+    } >"$work/crowd/console.txt"
+}
+
+# The console of a chain of 250 owners: each waits for the mutex of the one before, the first for a semaphore. Then the shell's task takes
+# the last mutex so many times, each time more urgent than before, and waits for a tick.
+chain() {
+    mkdir -p "$work/chain"
+    echo 'every 100 1000' >"$work/chain/ticks.txt"
+    awk "BEGIN {
+        print \"*0x1000 = 0x7c9f2378; *0x1004 = 0x3880ffff; *0x1008 = 0x49000173; *0x100c = 0x7fe3fb78; *0x1010 = 0x3880ffff; *0x1014 = 0x49000173\"
+        print \"semBCreate 0, 0\"
+        for (i = 0; i < 250; i++) printf \"semMCreate 13; sp 0x1000, %d, %d; taskDelay 1\\n\", 2 * i + 3, i == 0 ? 2 : 2 * i + 1
+        for (i = 1; i <= $1; i++) printf \"taskPrioritySet 0, %d; semTake 501, 1\\n\", 100 - i
+    }" >"$work/chain/console.txt"
+}
+
+for tasks in 1 2 16 250; do
     steps "instruction loop, tasks: $tasks" "$here/tasks-$tasks" 20000000
 done
-steps 'instruction loop, tasks: 250' "$here/tasks-250" 2000000
+for tasks in 1 15 249; do
+    crowd "$tasks" 'semTake, s, -1'
+    steps "the same, and tasks that wait: $tasks" "$work/crowd" 20000000
+    crowd "$tasks" 'taskDelay, 1000000000'
+    steps "the same, and delayed tasks: $tasks" "$work/crowd" 20000000
+done
 if command -v qemu-ppc >/dev/null; then
     stock_program >"$work/stock"
     chmod +x "$work/stock"
@@ -146,6 +176,17 @@ awk 'BEGIN { for (i = 0; i < 400; i++) { for (k = 0; k < 30; k++) printf "tickGe
 console 'kernel calls of the shell' "$work/calls" 12400 calls
 
 steps 'idle ticks' "$here/idle-ticks" 1000000
+mkdir "$work/sleepers"
+cp "$here/idle-ticks/ticks.txt" "$work/sleepers/ticks.txt"
+awk 'BEGIN { for (i = 0; i < 250; i++) print "sp taskDelay, 1000000000" }' >"$work/sleepers/console.txt"
+steps 'idle ticks, delayed tasks: 250' "$work/sleepers" 1000000
+
+chain 0
+measure "$work/chain" --limit 1000000000000
+chain_seconds=$seconds
+chain 50
+measure "$work/chain" --limit 1000000000000
+each 'semTake along 250 owners' 50 "$chain_seconds"
 
 # A console of 20,000 lines.
 : >"$work/lines/ticks.txt"

@@ -3,7 +3,7 @@
 use std::alloc::{AllocError, Global};
 use std::fmt;
 use wind_outside::{MemFolder, MemSink};
-use wind_session::{Stand, Status, play};
+use wind_session::{Ending, Stand, Status, play};
 
 /// The most bytes that a session writes.
 const ROOM: u32 = 4096;
@@ -84,6 +84,25 @@ pub struct Session<'a> {
     pub objects: &'a Objects,
 }
 
+// How a session of these words ends, on a board without devices.
+fn ending(
+    alloc: Global,
+    words: &[&str],
+    folder: &mut MemFolder,
+    out: &mut MemSink,
+    err: &mut MemSink,
+) -> Ending {
+    play(alloc, words, folder, out, err, Vec::new(alloc))
+}
+
+// How many steps the board made.
+fn steps(stand: &Stand) -> Option<u64> {
+    match stand {
+        Stand::Booted(board) => Some(board.steps()),
+        Stand::NotBooted(_) => None,
+    }
+}
+
 impl<'a> Session<'a> {
     // A folder with the console file, a tick file without a line, and three modules, of which two are one file.
     fn folder(&self, alloc: Global, failing: Failing) -> Result<MemFolder, AllocError> {
@@ -110,15 +129,10 @@ impl<'a> Session<'a> {
         let mut err = MemSink::reserved(alloc, ROOM, Vec::new(alloc)).or(Err(AllocError))?;
         let limit = limit.to_string(alloc)?;
         let words = ["windplay", "--limit", limit.as_str()];
-        let devices = Vec::new(alloc);
-        let ending = play(alloc, &words, &mut folder, &mut out, &mut err, devices);
-        let steps = match &ending.stand {
-            Stand::Booted(board) => Some(board.steps()),
-            Stand::NotBooted(_) => None,
-        };
+        let ending = ending(alloc, &words, &mut folder, &mut out, &mut err);
         Ok(Outcome {
             status: ending.status,
-            steps,
+            steps: steps(&ending.stand),
             out,
         })
     }
