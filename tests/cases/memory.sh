@@ -16,6 +16,17 @@ memalign 3, 1; errnoGet => 0 | 1114115
 free 0x15e40; malloc 0 - 1; errnoGet; malloc(17) == 0x15e20 + 16 * 16382; malloc 1 => 0 | 0 | 1114113 | 1 | 0
 ROWS
 
+# As many blocks of 16 bytes as there may be, of which each second one is freed, and then the others: one hole is left.
+shows 'as many holes as there may be, which join'
+rows <<ROWS
+$functions
+(0x1000)(16382, 16) == 0x15e20 + 16 * 16381 => 1
+(0x1040)(8191, 0x15e20, 32) => 0
+malloc(17) == 0x15e20 + 16 * 16382; malloc 16; malloc 16; free 0x15e20; free 0x15e40 => 1 | 89632 | 89664 | 0 | 0
+(0x1040)(8191, 0x15e30, 32) => 0
+malloc(16 * 16382) => 89632
+ROWS
+
 # 1,024 blocks of 256 bytes. Where each second one is free there is room for 256 bytes and no more; each further one joins two holes.
 shows 'blocks that are freed join the holes beside them'
 rows <<ROWS
