@@ -107,3 +107,36 @@ sp 0x1000; taskDelay 1 => $(spawned 2 1)
 sp 0x1040, 2, 0, 0, 0, 0, 0x3000; taskDelay 1 => $(spawned 3 2)
 taskIdVerify 2; *0x3000; taskDelay 2; taskIdVerify 2; *0x3000; *0x3004 => 0 | 0 | 0 | -1 | -1 | 3997699
 ROWS
+
+# At 0x1000 so many semaphores, each made and deleted: `mtctr r3`, `li r3, 0`, `li r4, 0`, both calls, `bdnz`, and back to the shell. Each takes an
+# id, the first of them the one behind the shell's task, so the last id is left behind 1,048,574.
+shows 'no semaphore is made where the ids are used up'
+console '*0x1000 = 0x7c6903a6; *0x1004 = 0x38600000; *0x1008 = 0x38800000; *0x100c = 0x49000143
+*0x1010 = 0x490001a3; *0x1014 = 0x4200fff0; *0x1018 = 0x49000012
+(0x1000)(1048574)
+semBCreate 0, 0
+semBCreate 0, 0; errnoGet
+semCCreate 0, 0; semMCreate 13; errnoGet
+'
+plays --limit 10000000
+ends 0 '-> *0x1000 = 0x7c6903a6; *0x1004 = 0x38600000; *0x1008 = 0x38800000; *0x100c = 0x49000143
+value = 2087256998 = 0x7c6903a6
+value = 945815552 = 0x38600000
+value = 947912704 = 0x38800000
+value = 1224737091 = 0x49000143
+-> *0x1010 = 0x490001a3; *0x1014 = 0x4200fff0; *0x1018 = 0x49000012
+value = 1224737187 = 0x490001a3
+value = 1107361776 = 0x4200fff0
+value = 1224736786 = 0x49000012
+-> (0x1000)(1048574)
+value = 0 = 0x0
+-> semBCreate 0, 0
+value = 1048576 = 0x100000
+-> semBCreate 0, 0; errnoGet
+value = 0 = 0x0
+value = 196612 = 0x30004
+-> semCCreate 0, 0; semMCreate 13; errnoGet
+value = 0 = 0x0
+value = 0 = 0x0
+value = 196612 = 0x30004
+-> ' ''
