@@ -27,7 +27,8 @@ fn rank_of(order: &[Entry], id: Ident) -> usize
 }
 
 // Where the entry of an id stands. None where there is none.
-pub(crate) fn place_of(order: &[Entry], id: Ident) -> Option<usize>
+#[inline(never)]
+fn place_of(order: &[Entry], id: Ident) -> Option<usize>
     requires { Rising entry_id order.now }
     ensures { MatchOption result ((k : ℕ) (d : Entry) → k < length order.now → (slice_index_or order.now k d).id ≡ id → ⊥) (λ place. EntryAt order.now id place) }
 {
@@ -40,6 +41,18 @@ pub(crate) fn place_of(order: &[Entry], id: Ident) -> Option<usize>
     } else {
         None
     }
+}
+
+// The same, where one place is looked at first: that of the last entry that was found, as a rule.
+#[inline]
+pub(crate) fn place_near(order: &[Entry], id: Ident, near: usize) -> Option<usize>
+    requires { Rising entry_id order.now }
+    ensures { MatchOption result ((k : ℕ) (d : Entry) → k < length order.now → (slice_index_or order.now k d).id ≡ id → ⊥) (λ place. EntryAt order.now id place) }
+{
+    if near < order.len() && order[near].id == id {
+        return Some(near);
+    }
+    place_of(order, id)
 }
 
 // The first entry whose id is above a number.

@@ -6,7 +6,7 @@ ghost use Rattle.std.specs.Borrow.{sem};
 ghost use Rattle.wind_base.specs.Limits.{greatest_id};
 ghost use Rattle.id_table.specs.Rows.{object_of, objects, added, removed, IdsBelow, IsTable, Rises, next_above};
 
-use crate::entry::{Entry, entry_above, place_of};
+use crate::entry::{Entry, entry_above, place_near};
 use crate::ident::Ident;
 use crate::source::IdSource;
 use slab::Slab;
@@ -18,6 +18,8 @@ use wind_base::NoMemory;
 #[derive(Drop)]
 pub struct Table<T> {
     room: usize,
+    // where the object stood that was lent to be written last: it is looked for there first
+    recent: usize,
     // by rising id
     order: Vec<Entry>,
     slots: Slab<T>,
@@ -52,7 +54,12 @@ impl<T> Table<T> {
         let Ok(slots) = Slab::with_capacity(alloc, room) else {
             return Err(NoMemory)
         };
-        Ok(Table { room, order, slots })
+        Ok(Table {
+            room,
+            recent: 0,
+            order,
+            slots,
+        })
     }
 
     /// Does nothing. Its contract tells the facts that the table keeps.
@@ -83,7 +90,7 @@ impl<T> Table<T> {
     pub fn get(&self, id: Ident) -> Option<&T>
         ensures { option_copied result ≡ object_of self.now.rows id }
     {
-        let at = place_of(&self.order, id)?;
+        let at = place_near(&self.order, id, self.recent)?;
         self.slots.get(self.order[at].key)
     }
 
@@ -111,8 +118,9 @@ impl<T> Table<T> {
         ensures* writes_back { sem 𝓛 (lends_object T.row self.entry id result) }
         ensures value { object_of self.old.rows id ≡ Some result.now }
     {
-        match place_of(&self.order, id) {
+        match place_near(&self.order, id, self.recent) {
             Some(at) => {
+                self.recent = at;
                 let key = self.order[at].key;
                 &mut self.slots[key]
             }
@@ -137,7 +145,7 @@ impl<T> Table<T> {
         ensures value { result ≡ object_of self.old.rows id }
         ensures rows { self.new ≡ removed self.old id }
     {
-        let at = place_of(&self.order, id)?;
+        let at = place_near(&self.order, id, self.recent)?;
         let Entry { id: _, key } = self.order.remove(at);
         Some(self.slots.remove(key))
     }
