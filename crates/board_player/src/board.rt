@@ -110,6 +110,7 @@ impl Board {
     /// Makes the next step, if there is one and it asks for no file. Host memory may run out only where that is said of
     /// the state. Nothing changes unless the step is made.
     #[tactic(auto, using(crate::proofs::Answering::unasked_steps, crate::proofs::Answering::unasked_over, crate::proofs::Answering::over_plain, crate::proofs::Answering::asking_goes_on, wind_machine::proofs::Asking::asked_lacks))]
+    #[inline(always)]
     pub fn step(&mut self) -> Step
         requires { (seen ⟦<dyn Device as Device>⟧ self.old).steps < most_steps }
         ensures stepped { result ≡ steps.Stepped → Steps (seen ⟦<dyn Device as Device>⟧ self.old)

@@ -143,7 +143,7 @@ fn run_shell(parts: &mut Parts) -> Result<(), NoMemory>
 
 // The step of whoever runs. For want of memory nothing changes. Tells whether it was an instruction that came without an
 // exception.
-#[inline]
+#[inline(always)]
 fn run_task(parts: &mut Parts, who: Ident) -> Result<bool, NoMemory>
     requires good { Good (inside parts.old) }
     requires few { parts.old.clock.steps < most_steps }
@@ -238,7 +238,7 @@ pub(crate) fn is_early(parts: &Parts)
 // Makes the next step, if there is one, where no interrupt routine is active. For want of memory nothing changes. Who
 // runs is kept where it is known.
 #[tactic(auto, unfolding(wind_machine::specs::Machine::plain_step), using(crate::proofs::Running::opens))]
-#[inline]
+#[inline(always)]
 fn step_tasks(parts: &mut Parts, known: &mut Option<Running>) -> Made
     requires idle { is_active_lem (parts_seen ⟦<dyn Device as Device>⟧ parts.old).world ≡ false }
     requires good { Good (inside parts.old) }
@@ -287,7 +287,7 @@ fn is_active(parts: &Parts, known: &Option<Running>) -> bool
 /// Makes the next step, if there is one, where it asks for no file. For want of memory nothing changes. Which task runs
 /// is kept where it is known.
 #[tactic(auto, using(crate::proofs::Running::routine_runs))]
-#[inline]
+#[inline(always)]
 pub(crate) fn make_step(parts: &mut Parts, known: &mut Option<Running>) -> Made
     requires good { Good (inside parts.old) }
     requires few { parts.old.clock.steps < most_steps }

@@ -180,10 +180,7 @@ fn run_word(world: &mut World, who: Ident, word: u32) -> Result<(), Trap>
         (world_seen ⟦<dyn Device as Device>⟧ world.old) (world_seen ⟦<dyn Device as Device>⟧ world.new) }
     ensures out { world.new.out ≡ world.old.out }
 {
-    match world.kern.regs_mut(who) {
-        Some(regs) => exec(regs, word, &mut world.bus),
-        None => unreachable!(),
-    }
+    exec(world.kern.regs_of(who), word, &mut world.bus)
 }
 
 /// The program counter of a task.

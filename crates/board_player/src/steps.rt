@@ -128,7 +128,7 @@ pub(crate) fn evaluate(parts: &mut Parts) -> Result<(), NoMemory>
 
 // An instruction of a task that stands at no gate. Tells whether it came without an exception.
 #[tactic(auto, using(crate::proofs::Readied::good_early))]
-#[inline]
+#[inline(always)]
 fn run_word(parts: &mut Parts, who: Ident, at: u32) -> bool
     requires good { Good (inside parts.old) }
     requires few { parts.old.clock.steps < most_steps }

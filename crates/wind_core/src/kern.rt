@@ -147,8 +147,8 @@ impl Kern {
         self.tasks.value_at(place as usize)
     }
 
-    // The registers of a task that lives, to be written.
-    fn regs_of(&mut self, who: Ident) -> &mut Regs
+    /// The registers of a task that lives, to be written.
+    pub fn regs_of(&mut self, who: Ident) -> &mut Regs
         requires { Lives self.old who }
         ensures* writes_back { sem 𝓛 (lends_regs self.entry who result) }
         ensures value { option_map (λ t. t.regs) (task_of self.old.tasks who) ≡ Some result.now }

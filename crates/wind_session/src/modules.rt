@@ -116,7 +116,7 @@ fn load_step<F: Folder>(
 
 /// Makes the next step, if there is one. The module that it asks for, if it does, is fetched from the folder: the file
 /// at the name of the folder of modules, `/` and its own name.
-#[inline]
+#[inline(always)]
 pub(crate) fn step<F: Folder>(
     alloc: Global,
     board: &mut Board,

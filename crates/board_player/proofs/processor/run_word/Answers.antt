@@ -1,7 +1,5 @@
-use Rattle.std.proofs.Common.{sym, ap, ◌∙◌}
-use Rattle.std.specs.Option.{option_copied_mut}
 use Rattle.board_player.proofs.Executed.{ran_by}
 use Rattle.board_player.proofs.processor.run_word.Goals as goal
 
 pub returns-clause-ran : goal.returns-clause-ran
-returns-clause-ran g c = ran_by _ c.args.who c.requires.kern c.args.word c.exec.result _ _ _ (sym c.regs_mut.ensures.value ∙ ap option_copied_mut c.in-Some.is) c.exec.ensures
+returns-clause-ran g c = ran_by _ c.args.who c.requires.kern c.args.word c.exec.result _ _ _ c.regs_of.ensures.value c.exec.ensures
