@@ -1,7 +1,9 @@
 -- Blocks stay in order: one that is put in, and one that is taken out.
 use Rattle.std.proofs.Common.{◌≡◌, ℕ, zero, suc, ◌+◌, ◌<◌, ◌≤◌, true, false, cond, leb, ltb, eqb, not, List, [], ◌∷◌, length, get_or, Option, Some, None, refl, sym, ap, ◌∙◌, subst, inl, inr, ◌⊎◌, arith}
 use Rattle.std.specs.List.{insert, remove, position_or_len}
-use Rattle.std.proofs.lemmas.Bool.{leb-true, ltb-true, ltb-false, eq-eqb, ne_eqb, and_parts, or_cases}
+use Rattle.std.specs.List.Sorted.{IsPartitionPoint, IsNonDecreasingBy}
+use Rattle.std.proofs.lemmas.Bool.{leb-true, leb-false, ltb-true, ltb-false, le-ltb, lt-ltb, eq-eqb, ne_eqb, and_parts, or_cases}
+use Rattle.std.proofs.lemmas.List.Sums.{position_or_len_is}
 use Rattle.mem_partition.specs.declared.block.Block.{Block}
 use Rattle.mem_partition.specs.declared.block.Class.{Class}
 use Rattle.mem_partition.specs.Place.{is_apart, meets_none, Lies}
@@ -22,6 +24,29 @@ inserted b bs k e = subst (λ n. insert bs n b ≡ with_block b bs) (sym e) (at_
       | false ↦ let n : 1 + place_of b cs ≡ suc (place_of b cs) = omega arith in
           ap (λ j. insert (c ∷ cs) j b) n ∙ ap (λ xs. c ∷ xs) (at_place b cs)
     ]
+
+-- the first block that begins above an address stands where so many begin at it or before
+pub first_above : (bs : List Block) (at k : ℕ) → k ≤ length bs → IsPartitionPoint (λ b. leb b.addr at ≡ true) (λ b. leb b.addr at ≡ false) bs k
+    → position_or_len (λ b. ltb at b.addr) bs ≡ k
+first_above [] at zero h split = refl
+first_above [] at (suc k) h split = absurd (omega arith)
+first_above (b ∷ bs) at k h split =
+    position_or_len_is (λ c. ltb at c.addr) (b ∷ bs) k b h
+    (λ j less. le-ltb at (get_or (b ∷ bs) j b).addr (leb-true (get_or (b ∷ bs) j b).addr at (split.0 j b (omega (arith, less, h)) less)))
+    (λ less. lt-ltb at (get_or (b ∷ bs) k b).addr (leb-false (get_or (b ∷ bs) k b).addr at (split.1 k b (omega arith) less)))
+
+-- blocks that stand in order rise in address
+laid_above : (lo hi : ℕ) (bs : List Block) → Laid lo hi bs → (k : ℕ) (d : Block) → k < length bs → lo ≤ (get_or bs k d).addr
+laid_above lo hi [] laid k d h = absurd (omega arith)
+laid_above lo hi (b ∷ bs) (low, some, high, rest) zero d h = low
+laid_above lo hi (b ∷ bs) (low, some, high, rest) (suc k) d h = let more = laid_above (b.addr + b.size) hi bs rest k d (omega arith) in omega (arith, more, low)
+
+pub laid_rises : (lo hi : ℕ) (bs : List Block) → Laid lo hi bs → IsNonDecreasingBy (λ b. b.addr) bs
+laid_rises lo hi [] laid i j d hij h = absurd (omega arith)
+laid_rises lo hi (b ∷ bs) laid zero zero d hij h = omega arith
+laid_rises lo hi (b ∷ bs) (low, some, high, rest) zero (suc j) d hij h = let more = laid_above (b.addr + b.size) hi bs rest j d (omega arith) in omega (arith, more)
+laid_rises lo hi (b ∷ bs) laid (suc i) zero d hij h = absurd (omega (arith, hij))
+laid_rises lo hi (b ∷ bs) (low, some, high, rest) (suc i) (suc j) d hij h = laid_rises (b.addr + b.size) hi bs rest i j d (omega (arith, hij)) (omega arith)
 
 pub weaken : (lo lo' hi : ℕ) (bs : List Block) → lo' ≤ lo → Laid lo hi bs → Laid lo' hi bs
 weaken lo lo' hi [] h laid = tt

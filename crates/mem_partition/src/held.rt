@@ -2,6 +2,7 @@
 
 ghost use Rattle.std.specs.Prelude.{◌≡◌, ◌<◌, ◌≤◌, ◌^◌, None, length, option_copied, MatchOption, vec_len, vec_capacity, nat_lt};
 ghost use Rattle.std.specs.List.{position_or_len};
+ghost use Rattle.std.specs.List.Sorted.{IsNonDecreasingBy};
 ghost use Rattle.mem_partition.specs.State.{with_block, same_class, block_at, own_block, used};
 ghost use Rattle.mem_partition.specs.Gaps.{IsOwn};
 
@@ -9,20 +10,17 @@ use crate::block::{Block, Class};
 
 /// How many blocks begin before an address, or at it.
 fn rank_of(blocks: &[Block], at: u32) -> usize
+    requires { IsNonDecreasingBy (λ b. b.addr) blocks.now }
     ensures value { result ≡ position_or_len (λ b. nat_lt at b.addr) blocks.now }
     ensures within { result ≤ length blocks.now }
 {
-    for (place, block) in blocks.iter().enumerate() {
-        if at < block.addr {
-            return place;
-        }
-    }
-    blocks.len()
+    blocks.partition_point(|block| block.addr <= at)
 }
 
 /// Puts the block in its place.
 pub(crate) fn put_block(blocks: &mut Vec<Block>, block: Block)
-    requires { vec_len blocks.old < vec_capacity blocks.old }
+    requires room { vec_len blocks.old < vec_capacity blocks.old }
+    requires order { IsNonDecreasingBy (λ b. b.addr) blocks.old.items }
     ensures items { blocks.new.items ≡ with_block block blocks.old.items }
     ensures capacity { vec_capacity blocks.new ≡ vec_capacity blocks.old }
 {

@@ -4,6 +4,7 @@ use Rattle.mem_partition.specs.Place.{Lies}
 use Rattle.mem_partition.specs.State.{with_block}
 use Rattle.mem_partition.specs.Holes.{HolesState, with_holes}
 use Rattle.mem_partition.specs.contracts.holes.Holes.{the_view}
+use Rattle.mem_partition.proofs.Keeping.{laid_rises}
 use Rattle.mem_partition.proofs.Steps.{holding, whole_is, holes_few, put_holes}
 use Rattle.mem_partition.proofs.holes.Holes.put.Goals as goal
 
@@ -15,6 +16,11 @@ cut-requires c =
     let most = c.self.invariant.2.room in
     let spare = c.self.invariant.1 in
     record { room = omega arith }
+
+pub put_block-requires-clause-order : goal.put_block-requires-clause-order
+put_block-requires-clause-order c =
+    let s = the_view c.self.inside in
+    laid_rises s.part.start s.part.end s.part.blocks c.self.invariant.2.part.laid
 
 pub invariant_of-self : goal.invariant_of-self
 invariant_of-self c =
