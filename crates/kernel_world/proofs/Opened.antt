@@ -1,5 +1,5 @@
 -- The world at the start has the kept facts.
-use Rattle.std.proofs.Common.{◌≡◌, ℕ, true, false, not, cond, leb, ◌<◌, ◌≤◌, List, [], ◌∷◌, length, Option, IfSome, Some, None, Ok, Err, refl, sym, ap, ◌∙◌, arith}
+use Rattle.std.proofs.Common.{◌≡◌, ℕ, true, false, not, cond, leb, ◌<◌, ◌≤◌, List, [], ◌∷◌, length, Option, IfSome, Some, None, Ok, Err, refl, sym, ap, ◌∙◌, length-append, arith}
 use Rattle.std.specs.Prelude.{replicate}
 use Rattle.std.specs.List.{All}
 use Rattle.task_block.specs.declared.task.Task.{Task}
@@ -8,7 +8,8 @@ use Rattle.std.proofs.lemmas.List.{length-replicate}
 use Rattle.std.proofs.lemmas.List.Elements.{All-cons}
 use Rattle.std.proofs.lemmas.List.Kept.{AllPairs-cons}
 use Rattle.wind_base.specs.Limits.{pool_start, ram_bytes, most_blocks}
-use Rattle.wind_base.specs.Gates.{gates, gate_name, names}
+use Rattle.wind_base.specs.Gates.{gates, gate_name, gate_number}
+use Rattle.wind_base.specs.declared.gate.Gate.{Gate}
 use Rattle.wind_outside.specs.Devices.{DeviceState}
 use Rattle.mem_partition.specs.Place.{aligned, rounded, place}
 use Rattle.mem_partition.specs.State.{PartState, is_align, found_or, alloc_of, after_alloc}
@@ -27,8 +28,9 @@ use Rattle.inheritance.specs.Mutexes.{both as with_mutexes}
 use Rattle.sem_mutex.proofs.Opening.{opening_keeps}
 use Rattle.sem_mutex.proofs.Lawful.{beside_law}
 use Rattle.msg_queue.proofs.Events.{starts}
+use Rattle.kernel_world.specs.Allowed.{is_built}
 use Rattle.kernel_world.specs.Objects.{no_objects, is_live, WaitsRight, KeepsObjects}
-use Rattle.kernel_world.specs.Opening.{empty_kern, opening_kern, shell_record, interrupt_stack, opening_part, stack_block, gate_symbols, zeros, opening_world}
+use Rattle.kernel_world.specs.Opening.{empty_kern, opening_kern, shell_record, interrupt_stack, opening_part, stack_block, symbol_if_named, symbols_of_gate, gate_symbols, zeros, opening_world}
 use Rattle.kernel_world.specs.Kept.{IsKernels, AreStacks, IsWorld}
 use Rattle.kernel_world.proofs.Holding.{IsNoModules}
 
@@ -90,9 +92,20 @@ length-zeros : (n : ℕ) → length (zeros n) ≡ n
 unfolding zeros
 length-zeros n = length-replicate n 0
 
+-- a gate has one symbol at most
+named_few : (g : Gate) (name : Option (List ℕ)) → length (symbol_if_named g name) ≤ 1
+named_few g None = omega arith
+named_few g (Some name) = omega arith
+
+gate_few : (g : Gate) → length (symbols_of_gate g) ≤ 1
+gate_few g = elim (is_built g) as (λ b. length (cond b (symbol_if_named g (gate_name (gate_number g))) []) ≤ 1) [ true ↦ named_few g (gate_name (gate_number g)) | false ↦ omega arith ]
+
+symbols_few-gates : (gs : List Gate) → length (gate_symbols gs) ≤ length gs
+symbols_few-gates [] = omega arith
+symbols_few-gates (g ∷ gs) = omega (arith, length-append (symbols_of_gate g) (gate_symbols gs), gate_few g, symbols_few-gates gs)
+
 symbols_few : length (gate_symbols gates) ≤ 65536
-unfolding gates gate_name names
-symbols_few = omega arith
+symbols_few = omega (arith, symbols_few-gates gates, count_gates)
 
 empty_keeps : IsKern empty_kern
 empty_keeps = record {

@@ -1,14 +1,15 @@
 //! The world at the start.
 
-ghost use Rattle.std.specs.Prelude.{◌≡◌, ◌+◌, ◌<◌, ◌≤◌, ◌++◌, length, IfOk, IfErr, OnOk};
+ghost use Rattle.std.specs.Prelude.{◌≡◌, ◌+◌, ◌<◌, ◌≤◌, ◌++◌, [], length, IfOk, IfErr, OnOk};
 ghost use Rattle.wind_base.specs.Limits.{most_slots};
 ghost use Rattle.wind_base.specs.Gates.{gates};
 ghost use Rattle.wind_outside.specs.Devices.{slots_of};
-ghost use Rattle.kernel_world.specs.Opening.{shell_record as shell_record_lem, opening_kern as opening_kern_lem, opening_part as opening_part_lem, symbols_of_gate, gate_symbols as gate_symbols_lem, zeros, opening_world};
+ghost use Rattle.kernel_world.specs.Objects.{no_objects};
+ghost use Rattle.kernel_world.specs.Opening.{shell_record as shell_record_lem, opening_kern as opening_kern_lem, opening_part as opening_part_lem, no_watch, symbols_of_gate, gate_symbols as gate_symbols_lem, zeros, opening_world};
 ghost use Rattle.kernel_world.specs.Seen.{world_seen};
 
 use crate::gates::is_built;
-use crate::objects;
+use crate::objects::{self, Objects};
 use crate::starting::no_regs;
 use crate::world::World;
 use board_bus::BoardBus;
@@ -126,6 +127,48 @@ fn gate_symbols(alloc: Global) -> Result<Symbols, NoMemory>
     Ok(syms)
 }
 
+// The kernel at the start, with its objects.
+#[derive(Drop)]
+struct Started {
+    watch: Watch,
+    objects: Objects,
+    kern: Kern,
+}
+
+// The kernel, with the shell's task and no object.
+fn start(alloc: Global) -> Result<Started, NoMemory>
+    ensures kern { IfOk result (λ s. s.kern ≡ opening_kern_lem) }
+    ensures objects { IfOk result (λ s. s.objects ≡ no_objects) }
+    ensures watch { IfOk result (λ s. s.watch ≡ no_watch) }
+{
+    Ok(Started {
+        watch: Watch::reserved(alloc)?,
+        objects: objects::reserved(alloc)?,
+        kern: opening_kern(alloc)?,
+    })
+}
+
+// What modules are loaded into at the start.
+#[derive(Drop)]
+struct Loadable {
+    part: Part,
+    syms: Symbols,
+    mods: Modules,
+}
+
+// The partition and the symbols, with no module.
+fn make_loadable(alloc: Global) -> Result<Loadable, NoMemory>
+    ensures part { IfOk result (λ l. l.part ≡ opening_part_lem) }
+    ensures symbols { IfOk result (λ l. l.syms.list ≡ gate_symbols_lem gates) }
+    ensures modules { IfOk result (λ l. l.mods ≡ []) }
+{
+    Ok(Loadable {
+        part: opening_part(alloc)?,
+        syms: gate_symbols(alloc)?,
+        mods: Modules::new(alloc)?,
+    })
+}
+
 impl World {
     /// The world at the start, over these devices. For want of memory they come back as they were.
     #[tactic(auto, unfolding(crate::specs::Opening::opening_world))]
@@ -136,40 +179,29 @@ impl World {
         ensures room { IfOk result (λ w. 12291 ≤ w.out.room) }
         ensures err { IfErr result (λ back. back ≡ slots) }
     {
-        let Ok(kern) = opening_kern(alloc) else {
-            return Err(slots);
-        };
-        let Ok(objects) = objects::reserved(alloc) else {
-            return Err(slots);
-        };
-        let Ok(part) = opening_part(alloc) else {
-            return Err(slots);
-        };
-        let Ok(syms) = gate_symbols(alloc) else {
-            return Err(slots);
-        };
-        let Ok(mods) = Modules::new(alloc) else {
-            return Err(slots);
-        };
-        let Ok(watch) = Watch::reserved(alloc) else {
+        // what is least to let go comes first, as all of it goes where a later part lacks memory
+        let Ok(out) = OutBuf::reserved(alloc, OUTPUT_BYTES) else {
             return Err(slots);
         };
         let Ok(ram) = cleared_ram(alloc, RAM_BYTES) else {
             return Err(slots);
         };
-        let Ok(out) = OutBuf::reserved(alloc, OUTPUT_BYTES) else {
+        let Ok(loadable) = make_loadable(alloc) else {
+            return Err(slots);
+        };
+        let Ok(started) = start(alloc) else {
             return Err(slots);
         };
         Ok(World {
-            kern,
-            objects,
-            part,
-            syms,
-            mods,
+            kern: started.kern,
+            objects: started.objects,
+            part: loadable.part,
+            syms: loadable.syms,
+            mods: loadable.mods,
             bus: BoardBus::new(ram, slots),
             out,
             names: 1,
-            watch,
+            watch: started.watch,
             int_errno: 0,
         })
     }
