@@ -1,6 +1,6 @@
 //! A world from its start on, in which callers stand at gates and make their calls.
 
-ghost use Rattle.std.specs.Prelude.{◌≡◌, ◌≤◌, true, [], IfSome};
+ghost use Rattle.std.specs.Prelude.{◌≡◌, ◌≤◌, true, false, [], None, IfSome};
 ghost use Rattle.isr_watch.specs.State.{IsWatch};
 ghost use Rattle.kernel_world.specs.Actors.{Acts, MayCall};
 
@@ -67,31 +67,48 @@ fn may_call(kern: &Kern, who: &Actor) -> bool
     }
 }
 
+// The routine of a watchdog that has run out becomes active, and the watchdog is deleted. False where that can't be done.
+fn run_out(kern: &mut Kern, watch: &mut Watch) -> bool
+    requires ids { kern.old.lent ≡ false }
+    requires fresh { watch.old ≡ record { watchdogs = []; level = None; listed = []; next_start = 0 } }
+    ensures none { result ≡ true → watch.new.watchdogs ≡ [] }
+    ensures starts { result ≡ true → watch.new.next_start ≤ 1 }
+{
+    let routine = Routine { entry: 0, param: 0 };
+    let Ok(id) = watch.create(kern) else {
+        return false;
+    };
+    let Ok(()) = watch.start(id.get(), 0, 1, routine) else {
+        return false;
+    };
+    watch.due(1, FRAME);
+    watch.delete(id.get()).is_ok()
+}
+
+// The same, with the ids of a kernel of its own.
+fn activate(alloc: Global, watch: &mut Watch) -> bool
+    requires fresh { watch.old ≡ record { watchdogs = []; level = None; listed = []; next_start = 0 } }
+    ensures none { result ≡ true → watch.new.watchdogs ≡ [] }
+    ensures starts { result ≡ true → watch.new.next_start ≤ 1 }
+{
+    match Kern::new(alloc) {
+        Ok(mut kern) => run_out(&mut kern, watch),
+        Err(_) => false,
+    }
+}
+
 // No watchdog lives, and the routine of one that has run out is active.
 fn with_routine(alloc: Global) -> Option<Watch>
     ensures watch { IfSome result (λ w. IsWatch w) }
     ensures none { IfSome result (λ w. w.watchdogs ≡ []) }
     ensures starts { IfSome result (λ w. w.next_start ≤ 1) }
 {
-    let Ok(mut kern) = Kern::new(alloc) else {
-        return None;
-    };
     let Ok(mut watch) = Watch::reserved(alloc) else {
         return None;
     };
-    let routine = Routine { entry: 0, param: 0 };
-    let Ok(id) = watch.create(&mut kern) else {
-        return None;
-    };
-    let Ok(()) = watch.start(id.get(), 0, 1, routine) else {
-        return None;
-    };
-    watch.due(1, FRAME);
-    let Ok(()) = watch.delete(id.get()) else {
-        return None;
-    };
+    let active = activate(alloc, &mut watch);
     watch.facts();
-    Some(watch)
+    if active { Some(watch) } else { None }
 }
 
 // The active routine has other registers.

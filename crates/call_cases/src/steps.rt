@@ -185,17 +185,22 @@ pub(crate) enum Outcome {
     NoWorld,
 }
 
-// Makes the steps of a table, up to the first that isn't as it says.
-pub(crate) fn play(alloc: Global, table: &Table) -> Outcome {
-    let Some(mut bench) = Bench::new(alloc) else {
-        return Outcome::NoWorld;
-    };
+// Makes the steps, up to the first that isn't as it says.
+fn play_steps(alloc: Global, bench: &mut Bench, steps: &[Step]) -> Outcome {
     let mut number = 0u64;
-    for step in table.steps {
+    for step in steps {
         number = number.wrapping_add(1);
-        if !goes(alloc, &mut bench, *step) {
+        if !goes(alloc, bench, *step) {
             return Outcome::Wrong(number);
         }
     }
     Outcome::AsWorkedOut
+}
+
+// Makes the steps of a table over a world of their own.
+pub(crate) fn play(alloc: Global, table: &Table) -> Outcome {
+    match Bench::new(alloc) {
+        Some(mut bench) => play_steps(alloc, &mut bench, table.steps),
+        None => Outcome::NoWorld,
+    }
 }

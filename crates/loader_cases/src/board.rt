@@ -53,14 +53,14 @@ impl Model for Board {
 impl Board {
     /// A board without modules.
     pub fn new(alloc: Global, opening: Opening) -> Result<Board, Trouble> {
-        let kern = kern_after(alloc, opening.ids)?;
-        let part = part_after(alloc, opening.start, opening.end, opening.blocks)?;
-        let syms = symbols_after(alloc, opening.symbols)?;
         let ram = filled(alloc, opening.end)?;
-        let modules = Modules::new(alloc)?;
+        let part = part_after(alloc, opening.start, opening.end, opening.blocks)?;
         if part.end() > ram.size() {
             return Err(Trouble::Unreadable);
         }
+        let syms = symbols_after(alloc, opening.symbols)?;
+        let modules = Modules::new(alloc)?;
+        let kern = kern_after(alloc, opening.ids)?;
         Ok(Board {
             kern,
             part,

@@ -29,10 +29,9 @@ impl Draft {
         let [label, flags, align, rest @ ..] = words else {
             return Err(Trouble::Unreadable);
         };
+        let (flags, align) = (number(flags)?, number(align)?);
         let body = Body::Bytes(Bytes::from_vec(bytes(self.alloc, rest)?));
-        let section = section(self.alloc, label, flags, align, body)?;
-        self.sections.push(section)?;
-        Ok(())
+        self.put(label, flags, align, body)
     }
 
     /// Takes a section without bytes, `NAME FLAGS ALIGN SIZE`.
@@ -40,9 +39,19 @@ impl Draft {
         let [label, flags, align, size] = words else {
             return Err(Trouble::Unreadable);
         };
+        let (flags, align) = (number(flags)?, number(align)?);
         let body = Body::Size(number(size)?);
-        let section = section(self.alloc, label, flags, align, body)?;
-        self.sections.push(section)?;
+        self.put(label, flags, align, body)
+    }
+
+    fn put(&mut self, label: &str, flags: u32, align: u32, body: Body) -> Result<(), Trouble> {
+        let name = name(self.alloc, label)?;
+        self.sections.push(Sect {
+            name,
+            flags,
+            align,
+            body,
+        })?;
         Ok(())
     }
 
@@ -51,15 +60,18 @@ impl Draft {
         let [label, binding, kind, value, size, place] = words else {
             return Err(Trouble::Unreadable);
         };
-        let symbol = Sym {
-            name: name(self.alloc, label)?,
-            binding: byte(binding)?,
-            kind: byte(kind)?,
-            value: number(value)?,
-            size: number(size)?,
-            place: place_of(place)?,
-        };
-        self.symbols.push(symbol)?;
+        let (binding, kind) = (byte(binding)?, byte(kind)?);
+        let (value, size) = (number(value)?, number(size)?);
+        let place = place_of(place)?;
+        let name = name(self.alloc, label)?;
+        self.symbols.push(Sym {
+            name,
+            binding,
+            kind,
+            value,
+            size,
+            place,
+        })?;
         Ok(())
     }
 
@@ -81,37 +93,21 @@ impl Draft {
 
     /// The file of the module; none where it has none.
     pub fn file(self) -> Result<Option<Vec<u8>>, Trouble> {
-        let Draft {
-            alloc,
-            sections,
-            symbols,
-            relocs,
-        } = self;
         let module = Module {
-            sections: SectList::from_vec(sections),
-            symbols: SymList::from_vec(symbols),
-            relocs: RelList::from_vec(relocs),
+            sections: SectList::from_vec(self.sections),
+            symbols: SymList::from_vec(self.symbols),
+            relocs: RelList::from_vec(self.relocs),
         };
-        if !is_buildable(&module) {
-            return Ok(None);
-        }
-        Ok(Some(build(alloc, &module)?))
+        file_of(self.alloc, &module)
     }
 }
 
-fn section(
-    alloc: Global,
-    label: &str,
-    flags: &str,
-    align: &str,
-    body: Body,
-) -> Result<Sect, Trouble> {
-    Ok(Sect {
-        name: name(alloc, label)?,
-        flags: number(flags)?,
-        align: number(align)?,
-        body,
-    })
+fn file_of(alloc: Global, module: &Module) -> Result<Option<Vec<u8>>, Trouble> {
+    if is_buildable(module) {
+        Ok(Some(build(alloc, module)?))
+    } else {
+        Ok(None)
+    }
 }
 
 fn place_of(word: &str) -> Result<SymPlace, Trouble> {

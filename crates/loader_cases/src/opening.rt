@@ -20,14 +20,18 @@ pub const BLOCK: u32 = 16;
 /// The group of symbols that belong to no module.
 const NO_MODULE: u32 = 0;
 
-/// A kernel that has given out so many ids.
+/// A kernel that has given out so many ids, or all.
 pub fn kern_after(alloc: Global, ids: u32) -> Result<Kern, NoMemory>
     ensures { IfOk result (λ kern. kern.lent ≡ false) }
 {
     let mut kern = Kern::new(alloc)?;
-    let mut table = Table::reserved(alloc, 1)?;
-    spend(&mut kern, &mut table, ids);
-    Ok(kern)
+    match Table::reserved(alloc, 1) {
+        Ok(mut table) => {
+            spend(&mut kern, &mut table, ids);
+            Ok(kern)
+        }
+        Err(error) => Err(error),
+    }
 }
 
 // Draws so many ids, or all that are left.

@@ -5,6 +5,7 @@ use crate::draft::Draft;
 use crate::picture::picture;
 use crate::reading::{Trouble, byte, name, number};
 use crate::showing;
+use module_loader::LoadErr;
 use std::alloc::Global;
 use std::mem;
 use text_show::module_rows;
@@ -92,13 +93,15 @@ impl Session {
         let [label] = words else {
             return Err(Trouble::Unreadable);
         };
+        let name = label.to_string(self.alloc)?;
         let draft = mem::replace(&mut self.draft, Draft::new(self.alloc));
-        let Some(bytes) = draft.file()? else {
-            return Ok(format!(in self.alloc; "no file")?);
-        };
-        let name = format!(in self.alloc; "{label}")?;
-        self.files.push(File { name, bytes })?;
-        Ok(String::new(self.alloc))
+        match draft.file()? {
+            Some(bytes) => {
+                self.files.push(File { name, bytes })?;
+                Ok(String::new(self.alloc))
+            }
+            None => Ok("no file".to_string(self.alloc)?),
+        }
     }
 
     // `cut NAME LENGTH`: only so many bytes of a file stay.
@@ -152,7 +155,8 @@ impl Session {
             blocks: number(blocks)?,
             symbols: number(symbols)?,
         };
-        self.board = Board::new(self.alloc, opening)?;
+        let board = Board::new(self.alloc, opening)?;
+        drop(mem::replace(&mut self.board, board));
         Ok(())
     }
 
@@ -162,15 +166,12 @@ impl Session {
             return Err(Trouble::Unreadable);
         };
         let mode = number(mode)?;
+        let file = find(&mut self.files, label)?;
         let before = picture(self.alloc, &mut self.board)?;
         let name = name(self.alloc, label)?;
-        let file = find(&mut self.files, label)?;
         match self.board.load(name, file, mode) {
             Ok(answer) => showing::loaded(self.alloc, &answer),
-            Err(reason) => {
-                let after = picture(self.alloc, &mut self.board)?;
-                showing::refused(self.alloc, reason, after == before)
-            }
+            Err(reason) => refused(self.alloc, reason, &before, &mut self.board),
         }
     }
 
@@ -196,6 +197,17 @@ impl Session {
             Err(reason) => Ok(format!(in self.alloc; "{reason}")?),
         }
     }
+}
+
+// Why a load was refused, and whether the board is as before.
+fn refused(
+    alloc: Global,
+    reason: LoadErr,
+    before: &[u64],
+    board: &mut Board,
+) -> Result<String, Trouble> {
+    let after = picture(alloc, board)?;
+    showing::refused(alloc, reason, after.as_slice() == before)
 }
 
 // Questions.

@@ -37,14 +37,9 @@ pub enum Told {
     Refused(Errno),
 }
 
-/// A new task of this priority. None where it can't be made.
-pub fn spawn(k: &mut Kern, mutexes: &Mutexes, pri: u32) -> Option<()>
-    requires ids { k.old.lent ≡ false }
-    requires kept { KeepsMutexes (both k.old mutexes.now) }
-    ensures ids { k.new.lent ≡ false }
-    ensures kept { KeepsMutexes (both k.new mutexes.now) }
-{
-    let task = NewTask {
+/// What a task of this priority is made of. None where there is no such priority.
+pub fn new_task(pri: u32) -> Option<NewTask> {
+    Some(NewTask {
         name: ShortName::cut(b"t"),
         entry: 0x1000,
         stack: 0x2000,
@@ -58,7 +53,17 @@ pub fn spawn(k: &mut Kern, mutexes: &Mutexes, pri: u32) -> Option<()>
             pc: 0x1000,
             reserve: None,
         },
-    };
+    })
+}
+
+/// A new task of this priority. None where it can't be made.
+pub fn spawn(k: &mut Kern, mutexes: &Mutexes, pri: u32) -> Option<()>
+    requires ids { k.old.lent ≡ false }
+    requires kept { KeepsMutexes (both k.old mutexes.now) }
+    ensures ids { k.new.lent ≡ false }
+    ensures kept { KeepsMutexes (both k.new mutexes.now) }
+{
+    let task = new_task(pri)?;
     if !mutexes.is_early(k) {
         return None;
     }

@@ -5,11 +5,12 @@ ghost use Rattle.inheritance.specs.Mutexes.{both};
 ghost use Rattle.sem_mutex.specs.Kept.{KeepsMutexes};
 
 use crate::bench::{Act, Told, apply, create, pri, spawn};
+use crate::verdict::Verdict;
 use sem_mutex::Mutexes;
 use wind_core::Kern;
 
 /// How many owners there are; one more task may live.
-pub const OWNERS: u32 = 255;
+const OWNERS: u32 = 255;
 
 // Tasks of the priorities 255 down to 1, with the ids 1 to 255, and behind them one of priority 0.
 fn spawn_all(k: &mut Kern, mutexes: &Mutexes) -> Option<()>
@@ -96,11 +97,15 @@ fn counts(k: &mut Kern, mutexes: &mut Mutexes) -> Option<(u32, u32)>
     Some((before, count_of(k, 0)))
 }
 
-/// How many owners have priority 1 once all but the first wait for the one before them, the last of them with the
-/// priority 1; and how many have 0 once a task of that priority waits for the last one.
-pub fn play<R: AllocGlobal>(rt: &R) -> Option<(u32, u32)> {
-    let (Ok(mut k), Ok(mut mutexes)) = (Kern::new(rt.alloc()), Mutexes::reserved(rt.alloc())) else {
-        return None;
-    };
-    counts(&mut k, &mut mutexes)
+/// Whether all owners have priority 1 once all but the first wait for the one before them, the last of them with the
+/// priority 1; and whether all have 0 once a task of that priority waits for the last one.
+pub fn play(k: &mut Kern, mutexes: &mut Mutexes) -> Verdict
+    requires ids { k.old.lent ≡ false }
+    requires fresh { (k.old.tasks ≡ []) × (mutexes.old ≡ []) }
+{
+    match counts(k, mutexes) {
+        Some((OWNERS, OWNERS)) => Verdict::AsWorkedOut,
+        Some((before, after)) => Verdict::Counts(before, after),
+        None => Verdict::Stuck,
+    }
 }

@@ -5,25 +5,13 @@ ghost use Rattle.inheritance.specs.Mutexes.{both};
 ghost use Rattle.sem_mutex.specs.Kept.{KeepsMutexes};
 
 use crate::bench::{Act, Told, apply, create, pri, spawn};
+use crate::verdict::Verdict;
 use sem_mutex::Mutexes;
 use wind_base::Errno;
 use wind_core::Kern;
 
 /// A call, its answer, and the priorities of the four tasks after it.
 pub type Row = (Act, Told, [u32; 4]);
-
-/// How the calls of some rows go.
-#[derive(Clone, Copy, PartialEq, Eq)]
-pub enum Verdict {
-    /// As the rows say.
-    AsWorkedOut,
-    /// The call of this number, counted from 1, has another answer.
-    Answers(usize),
-    /// The call of this number leaves these priorities.
-    Leaves(usize, [u32; 4]),
-    /// There is no room for the tasks and the mutexes.
-    NoRoom,
-}
 
 // The ids of the tasks, and of the mutexes behind them.
 const A: u32 = 1;
@@ -144,12 +132,12 @@ fn compare(k: &mut Kern, mutexes: &mut Mutexes, rows: &[Row]) -> Verdict
 }
 
 /// Makes the calls of the rows among four tasks of these priorities.
-pub fn play<R: AllocGlobal>(rt: &R, pris: [u32; 4], rows: &[Row]) -> Verdict {
-    let (Ok(mut k), Ok(mut mutexes)) = (Kern::new(rt.alloc()), Mutexes::reserved(rt.alloc())) else {
-        return Verdict::NoRoom;
-    };
-    match begin(&mut k, &mut mutexes, pris) {
-        Some(()) => compare(&mut k, &mut mutexes, rows),
+pub fn play(k: &mut Kern, mutexes: &mut Mutexes, pris: [u32; 4], rows: &[Row]) -> Verdict
+    requires ids { k.old.lent ≡ false }
+    requires fresh { (k.old.tasks ≡ []) × (mutexes.old ≡ []) }
+{
+    match begin(k, mutexes, pris) {
+        Some(()) => compare(k, mutexes, rows),
         None => Verdict::NoRoom,
     }
 }

@@ -1,29 +1,91 @@
-//! Plays calls on mutexes, and compares what they answer and the priorities that they leave with what was worked out
-//! by hand.
+//! Plays turns of tasks and calls on mutexes, and compares who runs, what the calls answer and the priorities that they
+//! leave with what was worked out by hand.
 #![tactic(auto)]
 
 mod bench;
 mod crowd;
 mod four;
+mod turns;
+mod verdict;
 
-use four::{CHAIN, CYCLE, SET, TWO, Verdict};
+ghost use Rattle.std.specs.Prelude.{◌≡◌, false, []};
+
+use four::{CHAIN, CYCLE, Row, SET, TWO};
+use sem_mutex::Mutexes;
+use std::alloc::Global;
 use std::io;
+use verdict::Verdict;
+use wind_core::Kern;
+
+// A case.
+#[derive(Clone, Copy)]
+enum Case {
+    Turns,
+    // calls among four tasks of these priorities
+    Four([u32; 4], &'static [Row]),
+    Crowd,
+}
+
+// The cases with their names.
+const CASES: [(&str, Case); 6] = [
+    ("turns of two ticks", Case::Turns),
+    (
+        "a chain of three owners",
+        Case::Four([150, 160, 170, 10], &CHAIN),
+    ),
+    (
+        "a cycle of two owners",
+        Case::Four([150, 160, 170, 10], &CYCLE),
+    ),
+    (
+        "an owner of two mutexes",
+        Case::Four([150, 50, 170, 10], &TWO),
+    ),
+    (
+        "normal priorities that are set",
+        Case::Four([150, 160, 170, 10], &SET),
+    ),
+    ("255 owners", Case::Crowd),
+];
 
 /// Plays each case, and tells how it went.
 fn main(rt: HostRuntime) -> io::Result<()> {
-    let chain = four::play(&rt, [150, 160, 170, 10], &CHAIN);
-    tell(&rt, "a chain of three owners", chain)?;
-    let cycle = four::play(&rt, [150, 160, 170, 10], &CYCLE);
-    tell(&rt, "a cycle of two owners", cycle)?;
-    let two = four::play(&rt, [150, 50, 170, 10], &TWO);
-    tell(&rt, "an owner of two mutexes", two)?;
-    let set = four::play(&rt, [150, 160, 170, 10], &SET);
-    tell(&rt, "normal priorities that are set", set)?;
-    let crowd = crowd::play(&rt);
-    tell_crowd(&rt, crowd)
+    for (name, case) in CASES {
+        tell(&rt, name, play(rt.alloc(), case))?;
+    }
+    Ok(())
 }
 
-// Tells how the calls of some rows went.
+// Plays a case over a kernel of its own.
+fn play(alloc: Global, case: Case) -> Verdict {
+    match Kern::new(alloc) {
+        Ok(mut k) => play_over(alloc, &mut k, case),
+        Err(_) => Verdict::NoRoom,
+    }
+}
+
+fn play_over(alloc: Global, k: &mut Kern, case: Case) -> Verdict
+    requires ids { k.old.lent ≡ false }
+    requires fresh { k.old.tasks ≡ [] }
+{
+    match Mutexes::reserved(alloc) {
+        Ok(mut mutexes) => play_with(alloc, k, &mut mutexes, case),
+        Err(_) => Verdict::NoRoom,
+    }
+}
+
+fn play_with(alloc: Global, k: &mut Kern, mutexes: &mut Mutexes, case: Case) -> Verdict
+    requires ids { k.old.lent ≡ false }
+    requires fresh { (k.old.tasks ≡ []) × (mutexes.old ≡ []) }
+{
+    match case {
+        Case::Turns => turns::play(alloc, k),
+        Case::Four(pris, rows) => four::play(k, mutexes, pris, rows),
+        Case::Crowd => crowd::play(k, mutexes),
+    }
+}
+
+// Tells how a case went.
 fn tell<R: Print>(rt: &R, name: &str, verdict: Verdict) -> io::Result<()> {
     match verdict {
         Verdict::AsWorkedOut => println!(rt; "{name}: as worked out"),
@@ -32,15 +94,10 @@ fn tell<R: Print>(rt: &R, name: &str, verdict: Verdict) -> io::Result<()> {
             let [a, b, c, d] = pris;
             println!(rt; "{name}: call {call} leaves the priorities {a}, {b}, {c} and {d}")
         }
+        Verdict::Counts(before, after) => println!(rt;
+            "{name}: {before} have 1, then {after} have 0"
+        ),
+        Verdict::Stuck => println!(rt; "{name}: a call has another answer"),
         Verdict::NoRoom => println!(rt; "{name}: no room"),
-    }
-}
-
-// Tells how many owners in a row had the priority of the last, and then of the task that waits for it.
-fn tell_crowd<R: Print>(rt: &R, counts: Option<(u32, u32)>) -> io::Result<()> {
-    match counts {
-        Some((crowd::OWNERS, crowd::OWNERS)) => println!(rt; "255 owners: as worked out"),
-        Some((before, after)) => println!(rt; "255 owners: {before} have 1, then {after} have 0"),
-        None => println!(rt; "255 owners: a call has another answer"),
     }
 }

@@ -1,4 +1,5 @@
-//! Plays sessions in each of which one call of the folder or of the sink fails, and tells how they ended.
+//! Plays sessions in each of which one call of the folder or of the sink fails, and tells how they ended; and sessions of
+//! one line, and tells how many pages of RAM they made.
 #![tactic(auto)]
 
 mod session;
@@ -6,7 +7,7 @@ mod table;
 
 use session::{Objects, Session};
 use std::{fs, io};
-use table::{fetches, puts};
+use table::{fetches, pages, puts};
 
 /// Plays the tables.
 fn main(rt: HostRuntime) -> io::Result<()> {
@@ -14,23 +15,29 @@ fn main(rt: HostRuntime) -> io::Result<()> {
         f: fs::read(&rt, "f.o")?,
         caller: fs::read(&rt, "caller.o")?,
     };
+    play(&rt, &objects)
+}
+
+// Plays the tables, with these modules.
+fn play<R: Print + AllocGlobal>(rt: &R, objects: &Objects) -> io::Result<()> {
     let sum = Session {
         name: "1+2",
         console: "1+2\n",
-        objects: &objects,
+        objects,
     };
     let sum_and_load = Session {
         name: "1+2 and a module",
         console: "1+2\nld < a.o\n",
-        objects: &objects,
+        objects,
     };
     let three_loads = Session {
         name: "three modules",
         console: "ld < a.o\nld < b.o\nld < c.o\nunld 3\n&f\n*0x15e70\n",
-        objects: &objects,
+        objects,
     };
-    fetches(&rt, &sum)?;
-    fetches(&rt, &sum_and_load)?;
-    puts(&rt, &sum, 4)?;
-    puts(&rt, &three_loads, 19)
+    fetches(rt, &sum)?;
+    fetches(rt, &sum_and_load)?;
+    puts(rt, &sum, 4)?;
+    puts(rt, &three_loads, 19)?;
+    pages(rt, objects)
 }

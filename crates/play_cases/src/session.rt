@@ -56,13 +56,21 @@ impl Failing {
     }
 }
 
-/// How a session ended.
-#[derive(Drop)]
-pub struct Outcome {
+/// What a session left.
+#[derive(Clone, Copy)]
+pub struct Left {
     /// Its status.
     pub status: Status,
     /// How many steps the board made; None where none was booted.
     pub steps: Option<u64>,
+    /// How many pages of its RAM are made.
+    pub pages: Option<u32>,
+}
+
+/// What a session left, with what it wrote.
+#[derive(Drop)]
+pub struct Outcome {
+    pub left: Left,
     out: MemSink,
 }
 
@@ -84,23 +92,39 @@ pub struct Session<'a> {
     pub objects: &'a Objects,
 }
 
-// How a session of these words ends, on a board without devices.
-fn ending(
+// What is left of a session.
+fn left(ending: &Ending) -> Left {
+    let status = ending.status;
+    match &ending.stand {
+        Stand::Booted(board) => Left {
+            status,
+            steps: Some(board.steps()),
+            pages: Some(board.world().bus.ram.pages().made()),
+        },
+        Stand::NotBooted(_) => Left {
+            status,
+            steps: None,
+            pages: None,
+        },
+    }
+}
+
+// What a session with this limit leaves, on a board without devices.
+fn played(
     alloc: Global,
-    words: &[&str],
+    limit: &str,
     folder: &mut MemFolder,
     out: &mut MemSink,
     err: &mut MemSink,
-) -> Ending {
-    play(alloc, words, folder, out, err, Vec::new(alloc))
+) -> Left {
+    let words = ["windplay", "--limit", limit];
+    let ending = play(alloc, &words, folder, out, err, Vec::new(alloc));
+    left(&ending)
 }
 
-// How many steps the board made.
-fn steps(stand: &Stand) -> Option<u64> {
-    match stand {
-        Stand::Booted(board) => Some(board.steps()),
-        Stand::NotBooted(_) => None,
-    }
+// A sink of which these puts fail.
+fn sink(alloc: Global, failing: Vec<u64>) -> Result<MemSink, AllocError> {
+    MemSink::reserved(alloc, ROOM, failing).or(Err(AllocError))
 }
 
 impl<'a> Session<'a> {
@@ -124,16 +148,11 @@ impl<'a> Session<'a> {
 
     /// Plays it, with so many steps at most, where one call fails.
     pub fn play(&self, alloc: Global, failing: Failing, limit: u64) -> Result<Outcome, AllocError> {
-        let mut folder = self.folder(alloc, failing)?;
-        let mut out = MemSink::reserved(alloc, ROOM, failing.puts(alloc)?).or(Err(AllocError))?;
-        let mut err = MemSink::reserved(alloc, ROOM, Vec::new(alloc)).or(Err(AllocError))?;
         let limit = limit.to_string(alloc)?;
-        let words = ["windplay", "--limit", limit.as_str()];
-        let ending = ending(alloc, &words, &mut folder, &mut out, &mut err);
-        Ok(Outcome {
-            status: ending.status,
-            steps: steps(&ending.stand),
-            out,
-        })
+        let mut out = sink(alloc, failing.puts(alloc)?)?;
+        let mut err = sink(alloc, Vec::new(alloc))?;
+        let mut folder = self.folder(alloc, failing)?;
+        let left = played(alloc, limit.as_str(), &mut folder, &mut out, &mut err);
+        Ok(Outcome { left, out })
     }
 }

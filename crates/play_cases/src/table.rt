@@ -1,12 +1,12 @@
 //! The rows of the tables.
 
-use crate::session::{Failing, Outcome, STEPS, Session};
+use crate::session::{Failing, Left, Objects, Outcome, STEPS, Session};
 use std::alloc::{AllocError, Global};
 use std::io;
 
 // How many steps were made.
-fn steps_text(alloc: Global, outcome: &Outcome) -> Result<String, AllocError> {
-    match outcome.steps {
+fn steps_text(alloc: Global, left: &Left) -> Result<String, AllocError> {
+    match left.steps {
         Some(1) => "1 step".to_string(alloc),
         Some(steps) => format!(in alloc; "{steps} steps"),
         None => "no board".to_string(alloc),
@@ -21,25 +21,30 @@ fn tell_whole<R: Print + AllocGlobal>(
     outcome: &Outcome,
 ) -> io::Result<()> {
     let name = session.name;
-    let steps = steps_text(rt.alloc(), outcome)?;
-    let status = outcome.status.number();
+    let steps = steps_text(rt.alloc(), &outcome.left)?;
+    let status = outcome.left.status.number();
     let bytes = outcome.bytes();
     let count = bytes.len();
     let text = str::from_utf8(bytes).unwrap_or("no text");
     println!(rt; "{name}, {failing}: status {status}, {steps}, {count} bytes: {text:?}")
 }
 
+// Plays a session in which one call fails, and tells how it ended, with all that it wrote.
+fn whole_row<R: Print + AllocGlobal>(
+    rt: &R,
+    session: &Session,
+    failing: Failing,
+) -> io::Result<()> {
+    let outcome = session.play(rt.alloc(), failing, STEPS)?;
+    tell_whole(rt, session, failing, &outcome)
+}
+
 /// Plays a session in which nothing fails, and then those in which the first fetch, the second or the third fails. Each
 /// row has all that was written.
 pub fn fetches<R: Print + AllocGlobal>(rt: &R, session: &Session) -> io::Result<()> {
-    for failing in [
-        Failing::Nothing,
-        Failing::Fetch(1),
-        Failing::Fetch(2),
-        Failing::Fetch(3),
-    ] {
-        let outcome = session.play(rt.alloc(), failing, STEPS)?;
-        tell_whole(rt, session, failing, &outcome)?;
+    whole_row(rt, session, Failing::Nothing)?;
+    for call in 1..=3 {
+        whole_row(rt, session, Failing::Fetch(call))?;
     }
     Ok(())
 }
@@ -55,6 +60,21 @@ fn standing(outcome: &Outcome, whole: &Outcome, before: &Outcome) -> &'static st
     "a front of the whole, with all that the steps before the last wrote"
 }
 
+// Tells how a session ended in which a put fails.
+fn tell_put<R: Print + AllocGlobal>(
+    rt: &R,
+    session: &Session,
+    failing: Failing,
+    outcome: &Outcome,
+    told: &str,
+) -> io::Result<()> {
+    let name = session.name;
+    let steps = steps_text(rt.alloc(), &outcome.left)?;
+    let status = outcome.left.status.number();
+    let count = outcome.bytes().len();
+    println!(rt; "{name}, {failing}: status {status}, {steps}, {count} bytes: {told}")
+}
+
 // Plays a session in which a put fails, and tells how it ended.
 fn put_row<R: Print + AllocGlobal>(
     rt: &R,
@@ -64,23 +84,56 @@ fn put_row<R: Print + AllocGlobal>(
 ) -> io::Result<()> {
     let failing = Failing::Put(call);
     let outcome = session.play(rt.alloc(), failing, STEPS)?;
-    let earlier = outcome.steps.unwrap_or(0).saturating_sub(1);
+    let earlier = outcome.left.steps.unwrap_or(0).saturating_sub(1);
     let before = session.play(rt.alloc(), Failing::Nothing, earlier)?;
-    let name = session.name;
-    let steps = steps_text(rt.alloc(), &outcome)?;
-    let status = outcome.status.number();
-    let count = outcome.bytes().len();
     let told = standing(&outcome, whole, &before);
-    println!(rt; "{name}, {failing}: status {status}, {steps}, {count} bytes: {told}")
+    tell_put(rt, session, failing, &outcome, told)
+}
+
+// Plays those in which the first put fails, the second and so on.
+fn put_rows<R: Print + AllocGlobal>(
+    rt: &R,
+    session: &Session,
+    most: u64,
+    whole: &Outcome,
+) -> io::Result<()> {
+    tell_whole(rt, session, Failing::Nothing, whole)?;
+    for call in 1..=most {
+        put_row(rt, session, call, whole)?;
+    }
+    put_row(rt, session, most.saturating_add(1), whole)
 }
 
 /// Plays a session in which nothing fails, and then those in which the first put fails, the second and so on, up to one
 /// put more than the `most` that the session makes.
 pub fn puts<R: Print + AllocGlobal>(rt: &R, session: &Session, most: u64) -> io::Result<()> {
     let whole = session.play(rt.alloc(), Failing::Nothing, STEPS)?;
-    tell_whole(rt, session, Failing::Nothing, &whole)?;
-    for call in 1..=most {
-        put_row(rt, session, call, &whole)?;
+    put_rows(rt, session, most, &whole)
+}
+
+// Plays a session of a line, and tells how many pages of RAM are made when it ends.
+fn pages_row<R: Print + AllocGlobal>(rt: &R, line: &str, objects: &Objects) -> io::Result<()> {
+    let session = Session {
+        name: line,
+        console: line,
+        objects,
+    };
+    let left = session.play(rt.alloc(), Failing::Nothing, STEPS)?.left;
+    let status = left.status.number();
+    match left.pages {
+        Some(pages) => println!(rt; "{line:?}: status {status}, pages made: {pages}"),
+        None => println!(rt; "{line:?}: status {status}, no board"),
     }
-    put_row(rt, session, most.saturating_add(1), &whole)
+}
+
+/// Lines of a console, with nothing behind them.
+const LINES: [&str; 4] = ["", "1+2", "x = 7; x = 7; &x", "*0x1ffe = 7"];
+
+/// Plays a session of each line, in which nothing fails, and tells how many pages of RAM are made when it ends: a variable
+/// is a block at the foot of the pool, which is in one page, and the last line writes a word of two pages.
+pub fn pages<R: Print + AllocGlobal>(rt: &R, objects: &Objects) -> io::Result<()> {
+    for line in LINES {
+        pages_row(rt, line, objects)?;
+    }
+    Ok(())
 }

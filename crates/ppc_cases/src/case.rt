@@ -30,26 +30,50 @@ pub fn play(alloc: Global, line: &str) -> Result<Verdict, NoMemory> {
     ) else {
         return Ok(Verdict::Unreadable);
     };
-    let (mut made, mut wanted) = (State::opening(alloc)?, State::opening(alloc)?);
-    if made.take(before).is_none() || wanted.take(before).is_none() {
+    let Some(code) = code_of(alloc, words)? else {
         return Ok(Verdict::Unreadable);
-    }
+    };
+    let mut made = State::opening(alloc)?;
+    let mut wanted = State::opening(alloc)?;
+    Ok(compare(&mut made, &mut wanted, &code, before, after))
+}
+
+// Instructions in hexadecimal digits. None where a word is nothing of the kind.
+fn code_of(alloc: Global, words: &str) -> Result<Option<Vec<u32>>, NoMemory> {
     let mut code = Vec::new(alloc);
     for word in words.split_whitespace() {
         let Some(word) = hexadecimal(word) else {
-            return Ok(Verdict::Unreadable);
+            return Ok(None);
         };
         code.push(word).or(Err(NoMemory))?;
+    }
+    Ok(Some(code))
+}
+
+// Makes the instructions of one state, and compares it with the other.
+fn compare(
+    made: &mut State,
+    wanted: &mut State,
+    code: &[u32],
+    before: &str,
+    after: &str,
+) -> Verdict
+    requires { Unit {0} }
+{
+    if made.take(before).is_none() || wanted.take(before).is_none() {
+        return Verdict::Unreadable;
+    }
+    for _ in code {
         wanted.regs.pc = wanted.regs.pc.wrapping_add(4);
     }
-    run(&mut made, &code);
+    run(made, code);
     if wanted.take(after).is_none() {
-        return Ok(Verdict::Unreadable);
+        return Verdict::Unreadable;
     }
-    if made.shows_as(&wanted) {
-        Ok(Verdict::Agrees)
+    if made.shows_as(wanted) {
+        Verdict::Agrees
     } else {
-        Ok(Verdict::Differs)
+        Verdict::Differs
     }
 }
 

@@ -1,10 +1,7 @@
 //! The steps of tasks that wait for a tick, over both queues.
 
-ghost use Rattle.std.specs.Prelude.{◌<◌, ◌≤◌};
-ghost use Rattle.wind_base.specs.Limits.{greatest_id};
-
-use crate::numbers::{Numbers, task};
-use crate::plain_delays::PlainDelays;
+use crate::numbers::Numbers;
+use crate::plain::{Entry, Plain};
 use crate::tally::{Answer, Tally};
 use delay_queue::Delays;
 use id_table::Ident;
@@ -19,35 +16,130 @@ const GENERATED: u32 = 300;
 
 const TASKS: u32 = 40;
 
-#[derive(Clone, Copy, Drop)]
+// A step; tasks go by the numbers of their ids.
+#[derive(Clone, Copy)]
 enum Step {
-    Put { who: Ident, wake: u64 },
-    Take { who: Ident },
+    Put { who: u32, wake: u64 },
+    Take { who: u32 },
     Due { tick: u64 },
+}
+
+// Nobody waits; due a tick before, at the very tick and after it; equals; the least and the greatest tick.
+const EDGES: [Step; 25] = [
+    Step::Due { tick: u64::MAX },
+    Step::Take { who: 1 },
+    Step::Put { who: 1, wake: 30 },
+    Step::Due { tick: 29 },
+    Step::Due { tick: 30 },
+    Step::Due { tick: 30 },
+    Step::Put { who: 2, wake: 30 },
+    Step::Put { who: 1, wake: 30 },
+    Step::Put { who: 3, wake: 10 },
+    Step::Due { tick: 31 },
+    Step::Due { tick: 31 },
+    Step::Due { tick: 31 },
+    Step::Due { tick: 31 },
+    Step::Put { who: 1, wake: 0 },
+    Step::Put {
+        who: 2,
+        wake: u64::MAX,
+    },
+    Step::Put {
+        who: 3,
+        wake: u64::MAX,
+    },
+    Step::Put {
+        who: 1,
+        wake: u64::MAX,
+    },
+    Step::Due { tick: u64::MAX - 1 },
+    Step::Take { who: 2 },
+    Step::Take { who: 2 },
+    Step::Due { tick: u64::MAX },
+    Step::Put { who: 2, wake: 0 },
+    Step::Due { tick: 0 },
+    Step::Due { tick: u64::MAX },
+    Step::Due { tick: u64::MAX },
+];
+
+// Both queues, and how many of their answers agree.
+#[derive(Drop)]
+struct Bench {
+    delays: Delays,
+    plain: Plain<u64>,
+    tally: Tally,
 }
 
 /// Plays all steps over both queues.
 pub fn play(alloc: Global) -> Result<Tally, NoMemory> {
-    let mut steps = Vec::new(alloc);
-    edges(&mut steps)?;
-    one_tick(&mut steps)?;
-    generated(&mut steps)?;
-    let mut delays = Delays::reserved(alloc, ROOM)?;
-    let mut plain = PlainDelays::new(alloc, ROOM);
-    let mut tally = Tally::new();
-    for step in &steps {
-        let answer = answer(&mut delays, *step);
-        tally.compare(answer, plain_answer(&mut plain, *step)?);
-    }
-    Ok(tally)
+    let mut bench = Bench {
+        delays: Delays::reserved(alloc, ROOM)?,
+        plain: Plain::new(alloc, ROOM),
+        tally: Tally::new(),
+    };
+    bench.play()
 }
 
-fn answer(delays: &mut Delays, step: Step) -> Answer {
-    match step {
-        Step::Put { who, wake } => put(delays, who, wake),
-        Step::Take { who } => Answer::Found(delays.take(who)),
-        Step::Due { tick } => Answer::Task(delays.due(tick).map(|who| who.get())),
+impl Bench {
+    fn play(&mut self) -> Result<Tally, NoMemory> {
+        self.all(&EDGES)?;
+        self.one_tick()?;
+        self.generated()?;
+        Ok(self.tally)
     }
+
+    fn step(&mut self, step: Step) -> Result<(), NoMemory> {
+        let answer = answer(&mut self.delays, step);
+        self.tally
+            .compare(answer, plain_answer(&mut self.plain, step)?);
+        Ok(())
+    }
+
+    fn all(&mut self, steps: &[Step]) -> Result<(), NoMemory> {
+        for step in steps {
+            self.step(*step)?;
+        }
+        Ok(())
+    }
+
+    // All that there is room for at one tick, and one more; then each is due.
+    fn one_tick(&mut self) -> Result<(), NoMemory> {
+        for who in 1..ROOM + 2 {
+            self.step(Step::Put { who, wake: 1_000 })?;
+        }
+        for _ in 0..ROOM + 1 {
+            self.step(Step::Due { tick: 999 })?;
+            self.step(Step::Due { tick: 1_000 })?;
+        }
+        Ok(())
+    }
+
+    fn generated(&mut self) -> Result<(), NoMemory> {
+        let mut numbers = Numbers::new();
+        for now in 0..GENERATED {
+            let tick = now as u64;
+            let who = numbers.below(TASKS) + 1;
+            self.step(match numbers.below(5) {
+                0 => Step::Take { who },
+                _ => Step::Put {
+                    who,
+                    wake: tick + numbers.below(60) as u64,
+                },
+            })?;
+            self.step(Step::Due { tick })?;
+        }
+        Ok(())
+    }
+}
+
+// None where there is no such task.
+fn answer(delays: &mut Delays, step: Step) -> Option<Answer> {
+    let answer = match step {
+        Step::Put { who, wake } => put(delays, Ident::new(who)?, wake),
+        Step::Take { who } => Answer::Found(delays.take(Ident::new(who)?)),
+        Step::Due { tick } => Answer::task(delays.due(tick)),
+    };
+    Some(answer)
 }
 
 // Puts a task in, which is taken out before where it is there.
@@ -61,99 +153,35 @@ fn put(delays: &mut Delays, who: Ident, wake: u64) -> Answer {
     Answer::Put { again, room }
 }
 
-fn plain_answer(delays: &mut PlainDelays, step: Step) -> Result<Answer, NoMemory> {
+fn plain_answer(plain: &mut Plain<u64>, step: Step) -> Result<Answer, NoMemory> {
     match step {
-        Step::Put { who, wake } => {
-            let again = delays.take(who);
-            let room = delays.put(who, wake)?;
-            Ok(Answer::Put { again, room })
-        }
-        Step::Take { who } => Ok(Answer::Found(delays.take(who))),
-        Step::Due { tick } => Ok(Answer::Task(delays.due(tick).map(|who| who.get()))),
+        Step::Put { who, wake } => plain.put(who, wake),
+        Step::Take { who } => Ok(Answer::Found(plain.take(who))),
+        Step::Due { tick } => Ok(Answer::Task(due(plain, tick))),
     }
 }
 
-fn came(number: u32, wake: u64) -> Step
-    requires least { 0 < number }
-    requires greatest { number ≤ greatest_id }
-{
-    Step::Put {
-        who: task(number),
-        wake,
-    }
+// Takes the first of the tasks out where it is due at a tick.
+fn due(plain: &mut Plain<u64>, tick: u64) -> Option<u32> {
+    let who = earliest(plain.entries(), tick)?;
+    plain.take(who);
+    Some(who)
 }
 
-fn left(number: u32) -> Step
-    requires least { 0 < number }
-    requires greatest { number ≤ greatest_id }
-{
-    Step::Take { who: task(number) }
+// The earliest of the tasks that are due at a tick, and the first of these.
+fn earliest(entries: &[Entry<u64>], tick: u64) -> Option<u32> {
+    let mut best: Option<Entry<u64>> = None;
+    for entry in entries {
+        best = earlier(best, *entry, tick);
+    }
+    Some(best?.who)
 }
 
-// Nobody waits; due a tick before, at the very tick and after it; equals; the least and the greatest tick.
-fn edges(steps: &mut Vec<Step>) -> Result<(), NoMemory> {
-    let rows = [
-        Step::Due { tick: u64::MAX },
-        left(1),
-        came(1, 30),
-        Step::Due { tick: 29 },
-        Step::Due { tick: 30 },
-        Step::Due { tick: 30 },
-        came(2, 30),
-        came(1, 30),
-        came(3, 10),
-        Step::Due { tick: 31 },
-        Step::Due { tick: 31 },
-        Step::Due { tick: 31 },
-        Step::Due { tick: 31 },
-        came(1, 0),
-        came(2, u64::MAX),
-        came(3, u64::MAX),
-        came(1, u64::MAX),
-        Step::Due { tick: u64::MAX - 1 },
-        left(2),
-        left(2),
-        Step::Due { tick: u64::MAX },
-        came(2, 0),
-        Step::Due { tick: 0 },
-        Step::Due { tick: u64::MAX },
-        Step::Due { tick: u64::MAX },
-    ];
-    for row in &rows {
-        steps.push(*row).or(Err(NoMemory))?;
+// The task, where it is due at the tick and before the best so far, or else that one.
+fn earlier(best: Option<Entry<u64>>, entry: Entry<u64>, tick: u64) -> Option<Entry<u64>> {
+    match best {
+        _ if entry.key > tick => best,
+        Some(first) if entry.key >= first.key => best,
+        _ => Some(entry),
     }
-    Ok(())
-}
-
-// All that there is room for at one tick, and one more; then each is due.
-fn one_tick(steps: &mut Vec<Step>) -> Result<(), NoMemory> {
-    for number in 1..ROOM + 2 {
-        let who = task(number);
-        steps
-            .push(Step::Put { who, wake: 1_000 })
-            .or(Err(NoMemory))?;
-    }
-    for _ in 0..ROOM + 1 {
-        steps.push(Step::Due { tick: 999 }).or(Err(NoMemory))?;
-        steps.push(Step::Due { tick: 1_000 }).or(Err(NoMemory))?;
-    }
-    Ok(())
-}
-
-fn generated(steps: &mut Vec<Step>) -> Result<(), NoMemory> {
-    let mut numbers = Numbers::new();
-    for now in 0..GENERATED {
-        let tick = now as u64;
-        let who = numbers.task(TASKS);
-        let step = match numbers.below(5) {
-            0 => Step::Take { who },
-            _ => Step::Put {
-                who,
-                wake: tick + numbers.below(60) as u64,
-            },
-        };
-        steps.push(step).or(Err(NoMemory))?;
-        steps.push(Step::Due { tick }).or(Err(NoMemory))?;
-    }
-    Ok(())
 }

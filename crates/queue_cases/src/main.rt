@@ -3,9 +3,7 @@
 
 mod delays;
 mod numbers;
-mod plain_delays;
-mod plain_ready;
-mod plain_waits;
+mod plain;
 mod ready;
 mod tally;
 mod waits;

@@ -1,10 +1,6 @@
 //! Numbers for generated steps.
 
-ghost use Rattle.std.specs.Prelude.{◌<◌, ◌≤◌};
-ghost use Rattle.wind_base.specs.Limits.{greatest_id, least_urgent};
-
-use id_table::Ident;
-use wind_base::Pri;
+ghost use Rattle.std.specs.Prelude.{◌<◌};
 
 /// A linear congruence modulo 2^64; the upper half of each number is used.
 #[derive(Drop)]
@@ -29,34 +25,5 @@ impl Numbers {
             .wrapping_add(1_442_695_040_888_963_407);
         let upper = (self.state >> 32) as u32;
         upper % bound
-    }
-
-    /// One of so many tasks.
-    pub fn task(&mut self, bound: u32) -> Ident
-        requires least { 0 < bound }
-        requires greatest { bound ≤ greatest_id }
-    {
-        task(self.below(bound) + 1)
-    }
-}
-
-/// The task of a number.
-pub fn task(number: u32) -> Ident
-    requires least { 0 < number }
-    requires greatest { number ≤ greatest_id }
-{
-    match Ident::new(number) {
-        Some(id) => id,
-        None => unreachable!(),
-    }
-}
-
-/// The priority of a number.
-pub fn pri(number: u32) -> Pri
-    requires { number ≤ least_urgent }
-{
-    match Pri::new(number) {
-        Some(pri) => pri,
-        None => unreachable!(),
     }
 }

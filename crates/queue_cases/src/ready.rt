@@ -1,10 +1,7 @@
 //! The steps of ready tasks, over both queues.
 
-ghost use Rattle.std.specs.Prelude.{◌<◌, ◌≤◌};
-ghost use Rattle.wind_base.specs.Limits.{greatest_id, least_urgent};
-
-use crate::numbers::{Numbers, pri, task};
-use crate::plain_ready::PlainReady;
+use crate::numbers::Numbers;
+use crate::plain::{Entry, Plain};
 use crate::tally::{Answer, Tally};
 use id_table::Ident;
 use ready_queue::Ready;
@@ -19,37 +16,127 @@ const GENERATED: u32 = 300;
 
 const TASKS: u32 = 40;
 
-#[derive(Clone, Copy, Drop)]
+// A step; tasks go by the numbers of their ids.
+#[derive(Clone, Copy)]
 enum Step {
-    Put { pri: Pri, who: Ident },
-    Take { who: Ident },
-    Rotate { who: Ident },
+    Put { pri: u32, who: u32 },
+    Take { who: u32 },
+    Rotate { who: u32 },
     First,
+}
+
+// Nobody is ready; one alone, who is rotated; equals; a list that is emptied and used again; the first and the last one.
+const EDGES: [Step; 28] = [
+    Step::First,
+    Step::Take { who: 1 },
+    Step::Rotate { who: 1 },
+    Step::Put { pri: 100, who: 1 },
+    Step::Rotate { who: 1 },
+    Step::First,
+    Step::Put { pri: 100, who: 2 },
+    Step::First,
+    Step::Rotate { who: 1 },
+    Step::First,
+    Step::Put { pri: 100, who: 2 },
+    Step::First,
+    Step::Take { who: 1 },
+    Step::Take { who: 1 },
+    Step::First,
+    Step::Take { who: 2 },
+    Step::First,
+    Step::Put { pri: 100, who: 3 },
+    Step::First,
+    Step::Put { pri: 255, who: 1 },
+    Step::Put { pri: 0, who: 2 },
+    Step::First,
+    Step::Take { who: 2 },
+    Step::First,
+    Step::Take { who: 3 },
+    Step::First,
+    Step::Take { who: 1 },
+    Step::First,
+];
+
+// Both queues, and how many of their answers agree.
+#[derive(Drop)]
+struct Bench {
+    ready: Ready,
+    plain: Plain<u32>,
+    tally: Tally,
 }
 
 /// Plays all steps over both queues.
 pub fn play(alloc: Global) -> Result<Tally, NoMemory> {
-    let mut steps = Vec::new(alloc);
-    edges(&mut steps)?;
-    one_list(&mut steps)?;
-    generated(&mut steps)?;
-    let mut ready = Ready::reserved(alloc, ROOM)?;
-    let mut plain = PlainReady::new(alloc, ROOM);
-    let mut tally = Tally::new();
-    for step in &steps {
-        let answer = answer(&mut ready, *step);
-        tally.compare(answer, plain_answer(&mut plain, *step)?);
-    }
-    Ok(tally)
+    let mut bench = Bench {
+        ready: Ready::reserved(alloc, ROOM)?,
+        plain: Plain::new(alloc, ROOM),
+        tally: Tally::new(),
+    };
+    bench.play()
 }
 
-fn answer(ready: &mut Ready, step: Step) -> Answer {
-    match step {
-        Step::Put { pri, who } => put(ready, pri, who),
-        Step::Take { who } => Answer::Found(ready.take(who)),
-        Step::Rotate { who } => Answer::Found(ready.rotate(who)),
-        Step::First => Answer::Task(ready.first().map(|who| who.get())),
+impl Bench {
+    fn play(&mut self) -> Result<Tally, NoMemory> {
+        self.all(&EDGES)?;
+        self.one_list()?;
+        self.generated()?;
+        Ok(self.tally)
     }
+
+    fn step(&mut self, step: Step) -> Result<(), NoMemory> {
+        let answer = answer(&mut self.ready, step);
+        self.tally
+            .compare(answer, plain_answer(&mut self.plain, step)?);
+        Ok(())
+    }
+
+    fn all(&mut self, steps: &[Step]) -> Result<(), NoMemory> {
+        for step in steps {
+            self.step(*step)?;
+        }
+        Ok(())
+    }
+
+    // All that there is room for in one list, and one more; then each goes as the first.
+    fn one_list(&mut self) -> Result<(), NoMemory> {
+        for who in 1..ROOM + 2 {
+            self.step(Step::Put { pri: 7, who })?;
+        }
+        for who in 1..ROOM + 2 {
+            self.step(Step::First)?;
+            self.step(Step::Take { who })?;
+        }
+        Ok(())
+    }
+
+    fn generated(&mut self) -> Result<(), NoMemory> {
+        let mut numbers = Numbers::new();
+        for _ in 0..GENERATED {
+            let who = numbers.below(TASKS) + 1;
+            self.step(match numbers.below(6) {
+                0 => Step::Take { who },
+                1 => Step::Rotate { who },
+                2 => Step::First,
+                _ => Step::Put {
+                    pri: numbers.below(5) * 50,
+                    who,
+                },
+            })?;
+            self.step(Step::First)?;
+        }
+        Ok(())
+    }
+}
+
+// None where there is no such task or priority.
+fn answer(ready: &mut Ready, step: Step) -> Option<Answer> {
+    let answer = match step {
+        Step::Put { pri, who } => put(ready, Pri::new(pri)?, Ident::new(who)?),
+        Step::Take { who } => Answer::Found(ready.take(Ident::new(who)?)),
+        Step::Rotate { who } => Answer::Found(ready.rotate(Ident::new(who)?)),
+        Step::First => Answer::task(ready.first()),
+    };
+    Some(answer)
 }
 
 // Puts a task in, which is taken out before where it is there.
@@ -63,114 +150,28 @@ fn put(ready: &mut Ready, pri: Pri, who: Ident) -> Answer {
     Answer::Put { again, room }
 }
 
-fn plain_answer(ready: &mut PlainReady, step: Step) -> Result<Answer, NoMemory> {
+fn plain_answer(plain: &mut Plain<u32>, step: Step) -> Result<Answer, NoMemory> {
     match step {
-        Step::Put { pri, who } => {
-            let again = ready.take(who);
-            let room = ready.put(pri, who)?;
-            Ok(Answer::Put { again, room })
-        }
-        Step::Take { who } => Ok(Answer::Found(ready.take(who))),
-        Step::Rotate { who } => Ok(Answer::Found(ready.rotate(who)?)),
-        Step::First => Ok(Answer::Task(ready.first().map(|who| who.get()))),
+        Step::Put { pri, who } => plain.put(who, pri),
+        Step::Take { who } => Ok(Answer::Found(plain.take(who))),
+        Step::Rotate { who } => Ok(Answer::Found(plain.rotate(who)?)),
+        Step::First => Ok(Answer::Task(first(plain.entries()))),
     }
 }
 
-fn came(urgency: u32, number: u32) -> Step
-    requires urgency { urgency ≤ least_urgent }
-    requires least { 0 < number }
-    requires greatest { number ≤ greatest_id }
-{
-    Step::Put {
-        pri: pri(urgency),
-        who: task(number),
+// The most urgent task, and the first of these.
+fn first(entries: &[Entry<u32>]) -> Option<u32> {
+    let mut best: Option<Entry<u32>> = None;
+    for entry in entries {
+        best = more_urgent(best, *entry);
     }
+    Some(best?.who)
 }
 
-fn left(number: u32) -> Step
-    requires least { 0 < number }
-    requires greatest { number ≤ greatest_id }
-{
-    Step::Take { who: task(number) }
-}
-
-fn turned(number: u32) -> Step
-    requires least { 0 < number }
-    requires greatest { number ≤ greatest_id }
-{
-    Step::Rotate { who: task(number) }
-}
-
-// Nobody is ready; one alone, who is rotated; equals; a list that is emptied and used again; the first and the last one.
-fn edges(steps: &mut Vec<Step>) -> Result<(), NoMemory> {
-    let rows = [
-        Step::First,
-        left(1),
-        turned(1),
-        came(100, 1),
-        turned(1),
-        Step::First,
-        came(100, 2),
-        Step::First,
-        turned(1),
-        Step::First,
-        came(100, 2),
-        Step::First,
-        left(1),
-        left(1),
-        Step::First,
-        left(2),
-        Step::First,
-        came(100, 3),
-        Step::First,
-        came(255, 1),
-        came(0, 2),
-        Step::First,
-        left(2),
-        Step::First,
-        left(3),
-        Step::First,
-        left(1),
-        Step::First,
-    ];
-    for row in &rows {
-        steps.push(*row).or(Err(NoMemory))?;
+// The task, where it is more urgent than the best so far, or else that one.
+fn more_urgent(best: Option<Entry<u32>>, entry: Entry<u32>) -> Option<Entry<u32>> {
+    match best {
+        Some(first) if entry.key >= first.key => best,
+        _ => Some(entry),
     }
-    Ok(())
-}
-
-// All that there is room for in one list, and one more; then each goes as the first.
-fn one_list(steps: &mut Vec<Step>) -> Result<(), NoMemory> {
-    for number in 1..ROOM + 2 {
-        let who = task(number);
-        steps
-            .push(Step::Put { pri: pri(7), who })
-            .or(Err(NoMemory))?;
-    }
-    for number in 1..ROOM + 2 {
-        steps.push(Step::First).or(Err(NoMemory))?;
-        steps
-            .push(Step::Take { who: task(number) })
-            .or(Err(NoMemory))?;
-    }
-    Ok(())
-}
-
-fn generated(steps: &mut Vec<Step>) -> Result<(), NoMemory> {
-    let mut numbers = Numbers::new();
-    for _ in 0..GENERATED {
-        let who = numbers.task(TASKS);
-        let step = match numbers.below(6) {
-            0 => Step::Take { who },
-            1 => Step::Rotate { who },
-            2 => Step::First,
-            _ => Step::Put {
-                pri: pri(numbers.below(5) * 50),
-                who,
-            },
-        };
-        steps.push(step).or(Err(NoMemory))?;
-        steps.push(Step::First).or(Err(NoMemory))?;
-    }
-    Ok(())
 }

@@ -1,7 +1,9 @@
 //! How many answers agree.
 
+use id_table::Ident;
+
 /// The answers so far: how many, how many of them agree, and the number of the first step whose answers don't, from 1.
-#[derive(Clone, Copy, Debug, PartialEq, Eq)]
+#[derive(Clone, Copy)]
 pub struct Tally {
     pub answers: u64,
     pub agreeing: u64,
@@ -9,7 +11,7 @@ pub struct Tally {
 }
 
 /// What a queue answers to a step.
-#[derive(Clone, Copy, Debug, PartialEq, Eq)]
+#[derive(Clone, Copy, PartialEq, Eq)]
 pub enum Answer {
     /// A task was put in: whether it was there before, and whether there was room.
     Put { again: bool, room: bool },
@@ -17,6 +19,16 @@ pub enum Answer {
     Found(bool),
     /// The number of a task, or none.
     Task(Option<u32>),
+}
+
+impl Answer {
+    /// The task that a queue found, or none.
+    pub fn task(found: Option<Ident>) -> Answer {
+        match found {
+            Some(who) => Answer::Task(Some(who.get())),
+            None => Answer::Task(None),
+        }
+    }
 }
 
 impl Tally {
@@ -29,10 +41,10 @@ impl Tally {
         }
     }
 
-    /// Takes one more pair of answers in.
-    pub fn compare(&mut self, answer: Answer, plain: Answer) {
+    /// Takes one more pair of answers in. There is none of the queue where it has no such task.
+    pub fn compare(&mut self, answer: Option<Answer>, plain: Answer) {
         self.answers = self.answers.wrapping_add(1);
-        if answer == plain {
+        if answer == Some(plain) {
             self.agreeing = self.agreeing.wrapping_add(1);
         } else if self.differing.is_none() {
             self.differing = Some(self.answers);

@@ -1,14 +1,11 @@
 //! The steps of the waiters of places, over both queues.
 
-ghost use Rattle.std.specs.Prelude.{◌<◌, ◌≤◌};
-ghost use Rattle.wind_base.specs.Limits.{greatest_id};
-
-use crate::numbers::{Numbers, task};
-use crate::plain_waits::PlainWaits;
+use crate::numbers::Numbers;
+use crate::plain::{Entry, Plain};
 use crate::tally::{Answer, Tally};
 use id_table::{Ident, Place};
 use std::alloc::Global;
-use wait_order::{Waiter, Waits};
+use wait_order::Waits;
 use wind_base::NoMemory;
 
 /// For how many tasks there is room.
@@ -21,47 +18,160 @@ const TASKS: u32 = 40;
 
 const OBJECTS: u32 = 4;
 
-#[derive(Clone, Copy, Drop)]
+// A step; tasks and objects go by the numbers of their ids.
+#[derive(Clone, Copy)]
 enum Step {
-    Put { waiter: Waiter },
-    Take { who: Ident },
-    First { place: Place },
+    // the side and the object where a task waits, the task, its priority and its order number
+    Put(u8, u32, u32, u32, u64),
+    Take { who: u32 },
+    First { side: u8, object: u32 },
+}
+
+// Nobody waits at a place; equal keys, another order number, another priority; the last goes.
+const EDGES: [Step; 19] = [
+    Step::First { side: 1, object: 8 },
+    Step::Take { who: 1 },
+    Step::Put(1, 8, 2, 100, 5),
+    Step::First { side: 1, object: 8 },
+    Step::First { side: 0, object: 9 },
+    Step::First { side: 1, object: 9 },
+    Step::Put(1, 8, 1, 100, 5),
+    Step::First { side: 1, object: 8 },
+    Step::Put(1, 8, 3, 100, 4),
+    Step::First { side: 1, object: 8 },
+    Step::Put(1, 8, 3, 99, 9),
+    Step::First { side: 1, object: 8 },
+    Step::Take { who: 3 },
+    Step::First { side: 1, object: 8 },
+    Step::Take { who: 1 },
+    Step::First { side: 1, object: 8 },
+    Step::Take { who: 2 },
+    Step::Take { who: 2 },
+    Step::First { side: 1, object: 8 },
+];
+
+// The place once more, with one before it by its side and one behind it by its object.
+const BESIDE: [Step; 18] = [
+    Step::Put(0, 9, 1, 200, 1),
+    Step::Put(1, 9, 2, 0, 2),
+    Step::Put(1, 8, 3, 50, 3),
+    Step::First { side: 1, object: 8 },
+    Step::First { side: 0, object: 9 },
+    Step::First { side: 1, object: 9 },
+    Step::Put(1, 8, 1, 50, 2),
+    Step::First { side: 1, object: 8 },
+    Step::First { side: 0, object: 9 },
+    Step::Put(1, 8, 2, u32::MAX, u64::MAX),
+    Step::First { side: 1, object: 8 },
+    Step::First { side: 1, object: 9 },
+    Step::Take { who: 1 },
+    Step::First { side: 1, object: 8 },
+    Step::Take { who: 3 },
+    Step::First { side: 1, object: 8 },
+    Step::Take { who: 2 },
+    Step::First { side: 1, object: 8 },
+];
+
+// What decides when a waiter is the first, and where.
+#[derive(Clone, Copy, Drop)]
+struct Key {
+    side: u8,
+    object: u32,
+    pri: u32,
+    since: u64,
+}
+
+// Both queues, and how many of their answers agree.
+#[derive(Drop)]
+struct Bench {
+    waits: Waits,
+    plain: Plain<Key>,
+    tally: Tally,
 }
 
 /// Plays all steps over both queues.
 pub fn play(alloc: Global) -> Result<Tally, NoMemory> {
-    let mut steps = Vec::new(alloc);
-    edges(&mut steps)?;
-    beside(&mut steps)?;
-    one_place(&mut steps)?;
-    generated(&mut steps)?;
-    let mut waits = Waits::reserved(alloc, ROOM)?;
-    let mut plain = PlainWaits::new(alloc, ROOM);
-    let mut tally = Tally::new();
-    for step in &steps {
-        let answer = answer(&mut waits, *step);
-        tally.compare(answer, plain_answer(&mut plain, *step)?);
-    }
-    Ok(tally)
+    let mut bench = Bench {
+        waits: Waits::reserved(alloc, ROOM)?,
+        plain: Plain::new(alloc, ROOM),
+        tally: Tally::new(),
+    };
+    bench.play()
 }
 
-fn answer(waits: &mut Waits, step: Step) -> Answer {
-    match step {
-        Step::Put { waiter } => put(waits, waiter),
-        Step::Take { who } => Answer::Found(waits.take(who)),
-        Step::First { place } => Answer::Task(waits.first(place).map(|who| who.get())),
+impl Bench {
+    fn play(&mut self) -> Result<Tally, NoMemory> {
+        self.all(&EDGES)?;
+        self.all(&BESIDE)?;
+        self.one_place()?;
+        self.generated()?;
+        Ok(self.tally)
     }
+
+    fn step(&mut self, step: Step) -> Result<(), NoMemory> {
+        let answer = answer(&mut self.waits, step);
+        self.tally
+            .compare(answer, plain_answer(&mut self.plain, step)?);
+        Ok(())
+    }
+
+    fn all(&mut self, steps: &[Step]) -> Result<(), NoMemory> {
+        for step in steps {
+            self.step(*step)?;
+        }
+        Ok(())
+    }
+
+    // All that there is room for at one place, the last first, and one more; then each goes as the first.
+    fn one_place(&mut self) -> Result<(), NoMemory> {
+        let first = Step::First { side: 0, object: 7 };
+        for number in 0..ROOM + 1 {
+            self.step(Step::Put(0, 7, ROOM + 1 - number, 10, 1))?;
+            self.step(first)?;
+        }
+        for who in 1..ROOM + 2 {
+            self.step(Step::Take { who })?;
+            self.step(first)?;
+        }
+        Ok(())
+    }
+
+    fn generated(&mut self) -> Result<(), NoMemory> {
+        let mut numbers = Numbers::new();
+        for _ in 0..GENERATED {
+            let who = numbers.below(TASKS) + 1;
+            let (side, object) = (numbers.below(3) as u8, numbers.below(OBJECTS) + 1);
+            self.step(match numbers.below(3) {
+                0 => Step::Take { who },
+                _ => Step::Put(side, object, who, numbers.below(4), numbers.below(6) as u64),
+            })?;
+            self.step(Step::First { side, object })?;
+        }
+        Ok(())
+    }
+}
+
+// The side of an object. None where there is no such object.
+fn at(side: u8, object: u32) -> Option<Place> {
+    let id = Ident::new(object)?;
+    Some(Place { side, id })
+}
+
+// None where there is no such task or object.
+fn answer(waits: &mut Waits, step: Step) -> Option<Answer> {
+    let answer = match step {
+        Step::Put(side, object, who, pri, since) => {
+            put(waits, at(side, object)?, Ident::new(who)?, pri, since)
+        }
+        Step::Take { who } => Answer::Found(waits.take(Ident::new(who)?)),
+        Step::First { side, object } => Answer::task(waits.first(at(side, object)?)),
+    };
+    Some(answer)
 }
 
 // Puts a task in, which is taken out before where it is there.
 #[tactic(auto, using(wait_order::proofs::Turns::taken_absent))]
-fn put(waits: &mut Waits, waiter: Waiter) -> Answer {
-    let Waiter {
-        place,
-        who,
-        pri,
-        since,
-    } = waiter;
+fn put(waits: &mut Waits, place: Place, who: Ident, pri: u32, since: u64) -> Answer {
     let again = waits.take(who);
     let room = waits.len() < waits.room();
     if room {
@@ -70,142 +180,46 @@ fn put(waits: &mut Waits, waiter: Waiter) -> Answer {
     Answer::Put { again, room }
 }
 
-fn plain_answer(waits: &mut PlainWaits, step: Step) -> Result<Answer, NoMemory> {
+fn plain_answer(plain: &mut Plain<Key>, step: Step) -> Result<Answer, NoMemory> {
     match step {
-        Step::Put { waiter } => {
-            let again = waits.take(waiter.who);
-            let room = waits.put(waiter)?;
-            Ok(Answer::Put { again, room })
+        Step::Put(side, object, who, pri, since) => {
+            let key = Key {
+                side,
+                object,
+                pri,
+                since,
+            };
+            plain.put(who, key)
         }
-        Step::Take { who } => Ok(Answer::Found(waits.take(who))),
-        Step::First { place } => Ok(Answer::Task(waits.first(place).map(|who| who.get()))),
+        Step::Take { who } => Ok(Answer::Found(plain.take(who))),
+        Step::First { side, object } => Ok(Answer::Task(first(plain.entries(), side, object))),
     }
 }
 
-// The side of an object.
-fn at(side: u8, object: u32) -> Place
-    requires least { 0 < object }
-    requires greatest { object ≤ greatest_id }
-{
-    Place {
-        side,
-        id: task(object),
+// The first of those that wait at a side of an object.
+fn first(entries: &[Entry<Key>], side: u8, object: u32) -> Option<u32> {
+    let mut best: Option<Entry<Key>> = None;
+    for entry in entries {
+        if entry.key.side == side && entry.key.object == object {
+            best = better(best, *entry);
+        }
+    }
+    Some(best?.who)
+}
+
+// The waiter, where it stands before the first so far, or else that one.
+fn better(best: Option<Entry<Key>>, entry: Entry<Key>) -> Option<Entry<Key>> {
+    match best {
+        Some(first) if stands_before(first, entry) => best,
+        _ => Some(entry),
     }
 }
 
-fn waiter(place: Place, who: Ident, pri: u32, since: u64) -> Step {
-    Step::Put {
-        waiter: Waiter {
-            place,
-            who,
-            pri,
-            since,
-        },
-    }
-}
-
-fn first(side: u8, object: u32) -> Step
-    requires least { 0 < object }
-    requires greatest { object ≤ greatest_id }
-{
-    Step::First {
-        place: at(side, object),
-    }
-}
-
-// Adds rows to the steps.
-fn add(steps: &mut Vec<Step>, rows: &[Step]) -> Result<(), NoMemory> {
-    for row in rows {
-        steps.push(*row).or(Err(NoMemory))?;
-    }
-    Ok(())
-}
-
-// Nobody waits at a place; equal keys, another order number, another priority; the last goes.
-fn edges(steps: &mut Vec<Step>) -> Result<(), NoMemory> {
-    let (one, two, three) = (task(1), task(2), task(3));
-    let rows = [
-        first(1, 8),
-        Step::Take { who: one },
-        waiter(at(1, 8), two, 100, 5),
-        first(1, 8),
-        first(0, 9),
-        first(1, 9),
-        waiter(at(1, 8), one, 100, 5),
-        first(1, 8),
-        waiter(at(1, 8), three, 100, 4),
-        first(1, 8),
-        waiter(at(1, 8), three, 99, 9),
-        first(1, 8),
-        Step::Take { who: three },
-        first(1, 8),
-        Step::Take { who: one },
-        first(1, 8),
-        Step::Take { who: two },
-        Step::Take { who: two },
-        first(1, 8),
-    ];
-    add(steps, &rows)
-}
-
-// The place once more, with one before it by its side and one behind it by its object.
-fn beside(steps: &mut Vec<Step>) -> Result<(), NoMemory> {
-    let (one, two, three) = (task(1), task(2), task(3));
-    let rows = [
-        waiter(at(0, 9), one, 200, 1),
-        waiter(at(1, 9), two, 0, 2),
-        waiter(at(1, 8), three, 50, 3),
-        first(1, 8),
-        first(0, 9),
-        first(1, 9),
-        waiter(at(1, 8), one, 50, 2),
-        first(1, 8),
-        first(0, 9),
-        waiter(at(1, 8), two, u32::MAX, u64::MAX),
-        first(1, 8),
-        first(1, 9),
-        Step::Take { who: one },
-        first(1, 8),
-        Step::Take { who: three },
-        first(1, 8),
-        Step::Take { who: two },
-        first(1, 8),
-    ];
-    add(steps, &rows)
-}
-
-// All that there is room for at one place, the last first, and one more; then each goes as the first.
-fn one_place(steps: &mut Vec<Step>) -> Result<(), NoMemory> {
-    for number in 0..ROOM + 1 {
-        let step = waiter(at(0, 7), task(ROOM + 1 - number), 10, 1);
-        steps.push(step).or(Err(NoMemory))?;
-        steps.push(first(0, 7)).or(Err(NoMemory))?;
-    }
-    for number in 1..ROOM + 2 {
-        steps
-            .push(Step::Take { who: task(number) })
-            .or(Err(NoMemory))?;
-        steps.push(first(0, 7)).or(Err(NoMemory))?;
-    }
-    Ok(())
-}
-
-fn generated(steps: &mut Vec<Step>) -> Result<(), NoMemory> {
-    let mut numbers = Numbers::new();
-    for _ in 0..GENERATED {
-        let who = numbers.task(TASKS);
-        let (side, object) = (numbers.below(3) as u8, numbers.below(OBJECTS) + 1);
-        let step = match numbers.below(3) {
-            0 => Step::Take { who },
-            _ => waiter(
-                at(side, object),
-                who,
-                numbers.below(4),
-                numbers.below(6) as u64,
-            ),
-        };
-        steps.push(step).or(Err(NoMemory))?;
-        steps.push(first(side, object)).or(Err(NoMemory))?;
-    }
-    Ok(())
+// Whether the waiter `a` stands before the waiter `b`: by priority, order number and id.
+fn stands_before(a: Entry<Key>, b: Entry<Key>) -> bool {
+    let (a, b) = (
+        (a.key.pri, a.key.since, a.who),
+        (b.key.pri, b.key.since, b.who),
+    );
+    a.0 < b.0 || a.0 == b.0 && (a.1 < b.1 || a.1 == b.1 && a.2 < b.2)
 }

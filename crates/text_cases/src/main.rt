@@ -21,13 +21,23 @@ fn main(rt: HostRuntime) -> io::Result<()> {
     Ok(())
 }
 
-// Plays each line of a file that isn't empty and doesn't begin with `#`, and tells those whose answer is another.
+// Plays the session of a file.
 fn play_all<R: Print + AllocGlobal>(rt: &R, file: &str, text: &str) -> io::Result<()> {
+    match Session::new(rt.alloc()) {
+        Ok(mut session) => play_lines(rt, file, text, &mut session),
+        Err(_) => println!(rt; "{file}: out of memory"),
+    }
+}
+
+// Plays each line of a file that isn't empty and doesn't begin with `#`, and tells those whose answer is another.
+fn play_lines<R: Print + AllocGlobal>(
+    rt: &R,
+    file: &str,
+    text: &str,
+    session: &mut Session,
+) -> io::Result<()> {
     let mut lines = 0u64;
     let mut agreeing = 0u64;
-    let Ok(mut session) = Session::new(rt.alloc()) else {
-        return println!(rt; "{file}: out of memory");
-    };
     for line in text.lines() {
         if line.is_empty() || line.starts_with('#') {
             continue;

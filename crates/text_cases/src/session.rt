@@ -99,19 +99,27 @@ impl Session {
     // `printf "FORMAT" VALUE..`: what is written, and how many bytes it is where the answer is another; or `none`.
     fn printf(&self, format: &str, values: &[Word]) -> Result<String, Trouble> {
         let mut memory = Memory::new(self.alloc)?;
-        memory.put(FORMAT, &bytes(self.alloc, format)?);
-        let first = memory.take(self.stack, values)?;
-        let mut out = OutBuf::reserved(self.alloc, PRINTF_BYTES)?;
-        let Some(count) = printf_text(FORMAT, &first, self.stack, &memory.ram, &mut out) else {
-            return Ok(format!(in self.alloc; "none")?);
-        };
-        let text = shown(self.alloc, out.bytes())?;
-        if count as usize == out.bytes().len() {
-            Ok(text)
-        } else {
-            Ok(format!(in self.alloc; "{text} {count}")?)
-        }
+        let first = memory.laid(format, self.stack, values)?;
+        written(self.alloc, &first, self.stack, &memory.ram)
     }
+}
+
+// What `printf` writes with these first seven values.
+fn written(alloc: Global, first: &[u32; 7], stack: u32, ram: &Ram) -> Result<String, Trouble> {
+    let mut out = OutBuf::reserved(alloc, PRINTF_BYTES)?;
+    match printf_text(FORMAT, first, stack, ram, &mut out) {
+        Some(count) => counted(alloc, out.bytes(), count),
+        None => Ok("none".to_string(alloc)?),
+    }
+}
+
+// The bytes that are written, and their count where it is another.
+fn counted(alloc: Global, bytes: &[u8], count: u32) -> Result<String, Trouble> {
+    let mut text = shown(alloc, bytes)?;
+    if count as usize != bytes.len() {
+        write!(text, " {count}").or(Err(Trouble::NoMemory))?;
+    }
+    Ok(text)
 }
 
 // What a symbol stands for.
@@ -160,6 +168,12 @@ impl Memory {
                 Ok(at)
             }
         }
+    }
+
+    // Puts the format and the values, and gives the first seven values.
+    fn laid(&mut self, format: &str, stack: u32, values: &[Word]) -> Result<[u32; 7], Trouble> {
+        self.put(FORMAT, &bytes(self.alloc, format)?);
+        self.take(stack, values)
     }
 
     // The first seven values; the others go to the words from 8 above the stack pointer on.
