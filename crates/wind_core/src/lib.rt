@@ -9,8 +9,6 @@ mod laws;
 mod queries;
 mod queues;
 mod tasks;
-#[cfg(test)]
-mod tests;
 mod waits;
 
 pub use kern::Kern;
