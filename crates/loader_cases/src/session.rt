@@ -68,22 +68,28 @@ impl Session {
         let [command, rest @ ..] = words else {
             return Err(Trouble::Unreadable);
         };
+        let alloc = self.alloc;
         match *command {
-            "section" => self.draft.section(rest)?,
-            "zeros" => self.draft.zeros(rest)?,
-            "symbol" => self.draft.symbol(rest)?,
-            "reloc" => self.draft.reloc(rest)?,
-            "file" => return self.file(rest),
-            "cut" => self.cut(rest)?,
-            "byte" => self.change(rest)?,
-            "board" => self.open(rest)?,
-            "load" => return self.load(rest),
-            "loads" => return self.load_often(rest),
-            "unload" => return self.unload(rest),
-            _ => return self.question(command, rest),
+            "section" => silent(alloc, self.draft.section(rest)),
+            "zeros" => silent(alloc, self.draft.zeros(rest)),
+            "symbol" => silent(alloc, self.draft.symbol(rest)),
+            "reloc" => silent(alloc, self.draft.reloc(rest)),
+            "file" => self.file(rest),
+            "cut" => silent(alloc, self.cut(rest)),
+            "byte" => silent(alloc, self.change(rest)),
+            "board" => silent(alloc, self.open(rest)),
+            "load" => self.load(rest),
+            "loads" => self.load_often(rest),
+            "unload" => self.unload(rest),
+            _ => self.question(command, rest),
         }
-        Ok(String::new(self.alloc))
     }
+}
+
+// The answer of a command that answers nothing.
+fn silent(alloc: Global, done: Result<(), Trouble>) -> Result<String, Trouble> {
+    done?;
+    Ok(String::new(alloc))
 }
 
 // Files.

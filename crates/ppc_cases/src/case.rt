@@ -51,13 +51,7 @@ fn code_of(alloc: Global, words: &str) -> Result<Option<Vec<u32>>, NoMemory> {
 }
 
 // Makes the instructions of one state, and compares it with the other.
-fn compare(
-    made: &mut State,
-    wanted: &mut State,
-    code: &[u32],
-    before: &str,
-    after: &str,
-) -> Verdict
+fn compare(made: &mut State, wanted: &mut State, code: &[u32], before: &str, after: &str) -> Verdict
     requires { Unit {0} }
 {
     if made.take(before).is_none() || wanted.take(before).is_none() {

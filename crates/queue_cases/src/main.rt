@@ -1,4 +1,4 @@
-//! Plays operations on the queues of the kernel, and on plain vectors that are scanned, and compares what both answer.
+//! Plays operations on the queues of the kernel, and on a plain vector that is scanned, and compares what both answer.
 #![tactic(auto)]
 
 mod delays;
