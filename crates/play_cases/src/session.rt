@@ -93,7 +93,7 @@ pub struct Session<'a> {
 }
 
 // What is left of a session.
-fn left(ending: &Ending) -> Left {
+fn left_of(ending: &Ending) -> Left {
     let status = ending.status;
     match &ending.stand {
         Stand::Booted(board) => Left {
@@ -119,7 +119,7 @@ fn played(
 ) -> Left {
     let words = ["windplay", "--limit", limit];
     let ending = play(alloc, &words, folder, out, err, Vec::new(alloc));
-    left(&ending)
+    left_of(&ending)
 }
 
 // A sink of which these puts fail.
