@@ -31,26 +31,25 @@ fn words(rt: &HostRuntime) -> Result<Vec<String>, NoMemory> {
     }
 }
 
-// A latch, a queue of bytes and a counter of events in slots 0, 1 and 2.
-fn devices(alloc: Global) -> Result<Slots, NoMemory> {
-    let mut slots: Slots = Vec::with_capacity(alloc, 3).or(Err(NoMemory))?;
-    slots.push_reserved(Some(Box::new(alloc, Latch::new()).or(Err(NoMemory))?));
-    slots.push_reserved(Some(Box::new(alloc, ByteFifo::new()).or(Err(NoMemory))?));
-    slots.push_reserved(Some(Box::new(alloc, EventCounter::new()).or(Err(NoMemory))?));
-    Ok(slots)
-}
-
-// Plays the session of these words in the directory that the program runs in, with the standard streams.
-fn session<E: Sink>(rt: HostRuntime, words: &[String], err: &mut E) -> Result<Status, NoMemory> {
+// Plays the session in the directory that the program runs in, with the standard streams, and with a latch, a queue of
+// bytes and a counter of events in slots 0, 1 and 2.
+fn session<E: Sink>(rt: HostRuntime, err: &mut E) -> Result<Status, NoMemory> {
     let alloc = rt.alloc();
-    let words = words
+    let args = words(&rt)?;
+    let words = args
         .iter()
         .map(|word| word.as_str())
         .collect::<Vec<&str>>(alloc)
         .or(Err(NoMemory))?;
-    let devices = devices(alloc)?;
     let mut out = HostSink::new(rt.stdout());
     let mut folder = HostFolder::new(rt);
+    let latch = Box::new(alloc, Latch::new()).or(Err(NoMemory))?;
+    let fifo = Box::new(alloc, ByteFifo::new()).or(Err(NoMemory))?;
+    let counter = Box::new(alloc, EventCounter::new()).or(Err(NoMemory))?;
+    let mut devices: Slots = Vec::new(alloc);
+    devices.push(Some(latch)).or(Err(NoMemory))?;
+    devices.push(Some(fifo)).or(Err(NoMemory))?;
+    devices.push(Some(counter)).or(Err(NoMemory))?;
     let ending = play(alloc, &words, &mut folder, &mut out, err, devices);
     Ok(ending.status)
 }
@@ -64,7 +63,7 @@ fn exit_code(status: Status) -> ExitCode
 
 fn main(rt: HostRuntime) -> ExitCode {
     let mut err = HostSink::new(rt.stderr());
-    let status = match words(&rt).and_then(|words| session(rt, &words, &mut err)) {
+    let status = match session(rt, &mut err) {
         Ok(status) => status,
         Err(NoMemory) => {
             tell_no_memory(&mut err);
