@@ -15,15 +15,11 @@ use Rattle.wind_core.specs.Orders.{is_before, most_urgent, keeps_running, keeper
 use Rattle.wind_core.specs.Moves.{set_regs, unreserved}
 use Rattle.wind_core.proofs.Ticks.{running_found}
 use Rattle.wind_core.proofs.Waking.{id_found}
-use Rattle.ppc_core.specs.Outcomes.{Outcome, Done, Trapped}
-use Rattle.ppc_core.specs.declared.trap.Trap.{Trap}
-use Rattle.board_bus.specs.BusState.{BusState}
 use Rattle.isr_watch.specs.State.{WatchState}
-use Rattle.kernel_world.specs.State.{WorldState}
 use Rattle.wind_machine.specs.Reserving.{unless_own, drop_others}
 use Rattle.wind_machine.specs.Machine.{holds_back}
-use Rattle.board_player.specs.Running.{Ran}
-use Rattle.board_player.specs.Going.{IsRunner, IsKnown, OnlyRegs, OnlyStepped}
+use Rattle.board_turns.specs.Running.{OnlyRegs}
+use Rattle.board_player.specs.Going.{IsRunner, IsKnown, OnlyStepped}
 use Rattle.board_player.specs.declared.order.Running.{Running}
 
 -- ---- a list of which each element is changed, where that keeps the order and the test
@@ -160,15 +156,7 @@ goes_on old new level r who up is some stepped =
     subst (λ k. IsRunner k level r) (sym stepped.1)
     (subst (λ n. IsRunner (record (set_regs (drop_others old n) n stepped.0) { last = Some n }) level r) (sym x.2) (runs_on old level r stepped.0 x.0 up x.1 is))
 
--- ---- what an instruction and its step leave of the kernel, and of the watchdogs
-pub only_regs : (o : Outcome BusState) (r : Result (Unit {0}) Trap) (who : ℕ) (old new : WorldState) → Ran o r who old new → r ≡ Ok tt → OnlyRegs old.kern new.kern who
-only_regs (Done regs bus) r who old new ran ok = (regs, ap (λ w. w.kern) ran.1)
-only_regs (Trapped trap) r who old new ran ok = absurd (cc)
-
-pub same_watch : (o : Outcome BusState) (r : Result (Unit {0}) Trap) (who : ℕ) (old new : WorldState) → Ran o r who old new → r ≡ Ok tt → new.watch ≡ old.watch
-same_watch (Done regs bus) r who old new ran ok = ap (λ w. w.watch) ran.1
-same_watch (Trapped trap) r who old new ran ok = absurd (cc)
-
+-- ---- what the step of an instruction leaves of the kernel
 pub only_stepped : (k turned done new : KernState) (who : ℕ) → turned ≡ drop_others k who → OnlyRegs turned done who → new ≡ record done { last = Some who } → OnlyStepped k new who
 only_stepped k turned done new who began others ended =
     (others.0, ended ∙ ap (λ (j : KernState). record j { last = Some who }) others.1 ∙ ap (λ (j : KernState). record (set_regs j who others.0) { last = Some who }) began)

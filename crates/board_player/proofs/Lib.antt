@@ -1,9 +1,4 @@
-pub mod Blanks
-pub mod Bytes
-pub mod Dropped
-pub mod Executed
-pub mod FeedLemmas
-pub mod Readied
+pub mod Beginning
 pub mod Running
 pub mod Asked
 pub mod Answering

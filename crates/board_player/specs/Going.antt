@@ -18,10 +18,6 @@ pub record IsRunner (k : KernState) (level : Option Regs) (r : Running) : Type 0
 abbrev pub IsKnown : KernState → Option Regs → Option Running → Type 0
 IsKnown k level known = IfSome known (IsRunner k level)
 
--- the kernel is as it was, but for the registers of this task
-abbrev pub OnlyRegs : KernState → KernState → ℕ → Type 0
-OnlyRegs old new who = (regs : Regs) × (new ≡ set_regs old who regs)
-
--- so it is behind a whole step of this task, in which no other task keeps a reservation
+-- the kernel is as it was, but for the registers of this task, and that no other task keeps a reservation: so it is behind a step of this task
 abbrev pub OnlyStepped : KernState → KernState → ℕ → Type 0
 OnlyStepped old new who = (regs : Regs) × (new ≡ record (set_regs (drop_others old who) who regs) { last = Some who })

@@ -1,9 +1,6 @@
 pub mod Asking
 pub mod Inside
 pub mod Seen
-pub mod ShellInside
-pub mod Turns
-pub mod Running
 pub mod Moves
 pub mod Facts
 pub mod Going

@@ -9,11 +9,10 @@ ghost use Rattle.wind_machine.specs.Good.{Good};
 
 use crate::Step;
 use crate::clock::Clock;
-use crate::feed::Feed;
 use crate::loading::{asked_file, load};
 use crate::order::{Made, Running, is_early, make_step};
 use crate::parts::Parts;
-use crate::shell::Shell;
+use board_turns::{Feed, Shell};
 use con_line::Console;
 use kernel_world::World;
 use live_loading::FileAnswer;

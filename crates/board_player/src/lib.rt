@@ -1,21 +1,12 @@
 //! The board: the wind machine's state, and one step of it at a time.
 #![tactic(auto)]
 
-mod arrival;
 mod board;
 mod clock;
-mod feed;
 mod loading;
 mod order;
 mod parts;
-mod processor;
-mod reserving;
-mod routine;
-mod shell;
 mod steps;
-mod task;
-mod text;
-mod turn;
 
 pub use board::Board;
 use wind_base::Name;

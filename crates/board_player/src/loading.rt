@@ -13,11 +13,8 @@ ghost use Rattle.board_player.specs.Inside.{inside, parts_seen, IsSpacious};
 
 use crate::order::{asked, console_is_due, due_event};
 use crate::parts::Parts;
-use crate::processor::counter;
-use crate::reserving::drop_own;
 use crate::steps::end;
-use crate::task::shell_id;
-use crate::turn::{begin, give_back};
+use board_turns::{counter, drop_own, give_back, revocable_turn, shell_id};
 use kernel_calls::file_wanted;
 use kernel_world::Actor;
 use live_loading::{FileAnswer, kernel_load};
@@ -91,7 +88,7 @@ pub(crate) fn asked_file(parts: &Parts) -> Result<Option<Name>, NoMemory>
 }
 
 /// The shell's task loads the file of this name, of which this is said. For want of memory nothing changes.
-#[tactic(auto, using(crate::proofs::Readied::good_early, crate::proofs::Asked::wanted, crate::proofs::Asked::asker_ready))]
+#[tactic(auto, using(crate::proofs::Beginning::good_early, crate::proofs::Asked::wanted, crate::proofs::Asked::asker_ready))]
 pub(crate) fn load(parts: &mut Parts, name: &Name, file: &FileAnswer) -> Result<(), NoMemory>
     requires good { Good (inside parts.old) }
     requires few { parts.old.clock.steps < most_steps }
@@ -103,7 +100,7 @@ pub(crate) fn load(parts: &mut Parts, name: &Name, file: &FileAnswer) -> Result<
         ≡ parts_seen ⟦<dyn Device as Device>⟧ parts.old) }
     ensures space { IsSpacious parts.new }
 {
-    let kept = begin(&mut parts.world, &mut parts.spare, shell_id());
+    let kept = revocable_turn(&mut parts.world, &mut parts.spare, shell_id());
     if kernel_load(parts.alloc, &mut parts.world, name, file).is_err() {
         give_back(&mut parts.world, &mut parts.spare, kept);
         return Err(NoMemory);

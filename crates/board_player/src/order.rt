@@ -15,9 +15,8 @@ ghost use Rattle.board_player.specs.Going.{IsKnown, OnlyStepped};
 ghost use Rattle.board_player.specs.declared.order.Made.TheVariants as steps;
 
 use crate::parts::Parts;
-use crate::routine::step_routine;
-use crate::steps::{arrive, come, evaluate, jump, prompt, read, run};
-use crate::task::{shell_id, waits_for_console};
+use crate::steps::{arrive, come, evaluate, jump, prompt, read, run, step_routine};
+use board_turns::{shell_id, waits_for_console};
 use id_table::Ident;
 use tick_file::Event;
 use wind_base::NoMemory;

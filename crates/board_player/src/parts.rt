@@ -1,8 +1,7 @@
 //! All that a board is made of.
 
 use crate::clock::Clock;
-use crate::feed::Feed;
-use crate::shell::Shell;
+use board_turns::{Feed, Shell};
 use con_line::Console;
 use kernel_world::World;
 use std::alloc::Global;

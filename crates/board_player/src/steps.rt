@@ -10,20 +10,17 @@ ghost use Rattle.wind_base.specs.Gates.{gate_at};
 ghost use Rattle.kernel_world.specs.Allowed.{may_lack_memory};
 ghost use Rattle.kernel_world.specs.declared.actor.Actor.TheVariants as actors;
 ghost use Rattle.wind_machine.specs.Processor.{gate_under, regs_of};
-ghost use Rattle.wind_machine.specs.Machine.{prompt_step, read_step, eval_step, task_step, is_active, arrival, file_of, gate_may, ticked, received};
+ghost use Rattle.wind_machine.specs.Machine.{prompt_step, read_step, eval_step, task_step, is_active, arrival, routine_step, file_of, gate_may, ticked, received};
 ghost use Rattle.wind_machine.specs.declared.phase.Phase.TheVariants as phases;
 ghost use Rattle.board_player.specs.Inside.{inside, parts_seen, IsSpacious};
 ghost use Rattle.board_player.specs.Going.{OnlyStepped};
 ghost use Rattle.board_player.specs.Moves.{noted_step, heard_bytes, coming, jumped};
 
-use crate::arrival::hear_chunk;
-use crate::feed::{brought, chunk_len};
 use crate::parts::Parts;
-use crate::processor::{at_gate, counter, execute};
-use crate::reserving::drop_all;
-use crate::routine::INTERRUPT_TOP;
-use crate::task::{listen, shell_id};
-use crate::turn::{begin, give_back, turn};
+use board_turns::{
+    INTERRUPT_TOP, at_gate, brought, chunk_len, counter, drop_all, execute, give_back, hear_chunk,
+    listen, revocable_turn, routine_turn, run_routine, shell_id, turn,
+};
 use con_line::{Console, LINE_ROOM};
 use id_table::Ident;
 use tick_file::Event;
@@ -46,7 +43,7 @@ pub(crate) fn end(parts: &mut Parts, who: Ident)
 }
 
 /// The shell writes its prompt, and waits for the console where no line is kept.
-#[tactic(auto, using(crate::proofs::Readied::good_early))]
+#[tactic(auto, using(crate::proofs::Beginning::good_early))]
 pub(crate) fn prompt(parts: &mut Parts)
     requires good { Good (inside parts.old) }
     requires few { parts.old.clock.steps < most_steps }
@@ -77,7 +74,7 @@ fn copy_line(console: &Console, room: &mut [u8; LINE_ROOM]) -> usize
 }
 
 /// The shell takes a line and reads it. For want of memory nothing changes.
-#[tactic(auto, using(crate::proofs::Readied::good_early))]
+#[tactic(auto, using(crate::proofs::Beginning::good_early))]
 pub(crate) fn read(parts: &mut Parts) -> Result<(), NoMemory>
     requires good { Good (inside parts.old) }
     requires few { parts.old.clock.steps < most_steps }
@@ -90,7 +87,7 @@ pub(crate) fn read(parts: &mut Parts) -> Result<(), NoMemory>
 {
     let mut line = [0; LINE_ROOM];
     let len = copy_line(&parts.console, &mut line);
-    let kept = begin(&mut parts.world, &mut parts.spare, shell_id());
+    let kept = revocable_turn(&mut parts.world, &mut parts.spare, shell_id());
     if parts
         .shell
         .read(parts.alloc, &line[..len], &mut parts.world.out)
@@ -105,7 +102,7 @@ pub(crate) fn read(parts: &mut Parts) -> Result<(), NoMemory>
 }
 
 /// The shell goes on with its first statement. For want of memory nothing changes.
-#[tactic(auto, using(crate::proofs::Readied::good_early))]
+#[tactic(auto, using(crate::proofs::Beginning::good_early))]
 pub(crate) fn evaluate(parts: &mut Parts) -> Result<(), NoMemory>
     requires good { Good (inside parts.old) }
     requires few { parts.old.clock.steps < most_steps }
@@ -117,7 +114,7 @@ pub(crate) fn evaluate(parts: &mut Parts) -> Result<(), NoMemory>
         ≡ parts_seen ⟦<dyn Device as Device>⟧ parts.old) }
     ensures space { IsSpacious parts.new }
 {
-    let kept = begin(&mut parts.world, &mut parts.spare, shell_id());
+    let kept = revocable_turn(&mut parts.world, &mut parts.spare, shell_id());
     if parts.shell.evaluate(parts.alloc, &mut parts.world).is_err() {
         give_back(&mut parts.world, &mut parts.spare, kept);
         return Err(NoMemory);
@@ -127,7 +124,7 @@ pub(crate) fn evaluate(parts: &mut Parts) -> Result<(), NoMemory>
 }
 
 // An instruction of a task that stands at no gate. Tells whether it came without an exception.
-#[tactic(auto, using(crate::proofs::Readied::good_early))]
+#[tactic(auto, using(crate::proofs::Beginning::good_early))]
 #[inline(always)]
 fn run_word(parts: &mut Parts, who: Ident, at: u32) -> bool
     requires good { Good (inside parts.old) }
@@ -149,7 +146,7 @@ fn run_word(parts: &mut Parts, who: Ident, at: u32) -> bool
 }
 
 // What a task does at a gate. For want of memory nothing changes.
-#[tactic(auto, using(crate::proofs::Readied::good_early))]
+#[tactic(auto, using(crate::proofs::Beginning::good_early))]
 #[inline(never)]
 fn run_gate(parts: &mut Parts, who: Ident, at: u32, gate: Gate) -> Result<(), NoMemory>
     requires good { Good (inside parts.old) }
@@ -169,7 +166,7 @@ fn run_gate(parts: &mut Parts, who: Ident, at: u32, gate: Gate) -> Result<(), No
     ensures space { IsSpacious parts.new }
 {
     let _ = at;
-    let kept = begin(&mut parts.world, &mut parts.spare, who);
+    let kept = revocable_turn(&mut parts.world, &mut parts.spare, who);
     match at_gate(parts.alloc, &mut parts.shell, &mut parts.world, who, gate) {
         Ok(()) => {
             end(parts, who);
@@ -211,6 +208,23 @@ pub(crate) fn run(parts: &mut Parts, who: Ident) -> Result<bool, NoMemory>
         }
         None => Ok(run_word(parts, who, at)),
     }
+}
+
+/// The interrupt routine that is active makes a step.
+#[tactic(auto, using(crate::proofs::Beginning::good_early))]
+#[inline(never)]
+pub fn step_routine(parts: &mut Parts)
+    requires active { is_active (parts_seen ⟦<dyn Device as Device>⟧ parts.old).world ≡ true }
+    requires good { Good (inside parts.old) }
+    requires few { parts.old.clock.steps < most_steps }
+    requires space { IsSpacious parts.old }
+    ensures step { parts_seen ⟦<dyn Device as Device>⟧ parts.new
+        ≡ routine_step (parts_seen ⟦<dyn Device as Device>⟧ parts.old) }
+    ensures space { IsSpacious parts.new }
+{
+    routine_turn(&mut parts.world);
+    run_routine(parts.alloc, &mut parts.world);
+    parts.clock.step();
 }
 
 /// The next chunk of the console arrives.
@@ -285,7 +299,7 @@ fn receive(parts: &mut Parts, n: u32)
 }
 
 /// The event that is due comes.
-#[tactic(auto, using(crate::proofs::Readied::all_live))]
+#[tactic(auto, using(crate::proofs::Beginning::all_live))]
 #[inline(never)]
 pub(crate) fn come(parts: &mut Parts, event: Event)
     requires idle { is_active (parts_seen ⟦<dyn Device as Device>⟧ parts.old).world ≡ false }

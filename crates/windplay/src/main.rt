@@ -31,27 +31,56 @@ fn words(rt: &HostRuntime) -> Result<Vec<String>, NoMemory> {
     }
 }
 
-// Plays the session in the directory that the program runs in, with the standard streams, and with a latch, a queue of
-// bytes and a counter of events in slots 0, 1 and 2.
-fn session<E: Sink>(rt: HostRuntime, err: &mut E) -> Result<Status, NoMemory> {
-    let alloc = rt.alloc();
-    let args = words(&rt)?;
-    let words = args
+// The same words, lent.
+fn lent<'a>(alloc: Global, words: &'a [String]) -> Result<Vec<&'a str>, NoMemory> {
+    words
         .iter()
         .map(|word| word.as_str())
         .collect::<Vec<&str>>(alloc)
-        .or(Err(NoMemory))?;
+        .or(Err(NoMemory))
+}
+
+// The devices of the board, each as it begins.
+#[derive(Drop)]
+struct Devices {
+    latch: Box<Latch>,
+    fifo: Box<ByteFifo>,
+    counter: Box<EventCounter>,
+}
+
+impl Devices {
+    fn new(alloc: Global) -> Result<Devices, AllocError> {
+        Ok(Devices {
+            latch: Box::new(alloc, Latch::new())?,
+            fifo: Box::new(alloc, ByteFifo::new())?,
+            counter: Box::new(alloc, EventCounter::new())?,
+        })
+    }
+}
+
+// Plays the session of these words in the directory that the program runs in, with the standard streams, and with a latch,
+// a queue of bytes and a counter of events in slots 0, 1 and 2.
+fn play_here<E: Sink>(
+    rt: HostRuntime,
+    words: &[&str],
+    err: &mut E,
+) -> Result<Status, AllocError> {
+    let alloc = rt.alloc();
+    let devices = Devices::new(alloc)?;
+    let mut slots: Slots = Vec::with_capacity(alloc, 3)?;
+    slots.push(Some(devices.latch)).unwrap();
+    slots.push(Some(devices.fifo)).unwrap();
+    slots.push(Some(devices.counter)).unwrap();
     let mut out = HostSink::new(rt.stdout());
     let mut folder = HostFolder::new(rt);
-    let latch = Box::new(alloc, Latch::new()).or(Err(NoMemory))?;
-    let fifo = Box::new(alloc, ByteFifo::new()).or(Err(NoMemory))?;
-    let counter = Box::new(alloc, EventCounter::new()).or(Err(NoMemory))?;
-    let mut devices: Slots = Vec::new(alloc);
-    devices.push(Some(latch)).or(Err(NoMemory))?;
-    devices.push(Some(fifo)).or(Err(NoMemory))?;
-    devices.push(Some(counter)).or(Err(NoMemory))?;
-    let ending = play(alloc, &words, &mut folder, &mut out, err, devices);
-    Ok(ending.status)
+    Ok(play(alloc, words, &mut folder, &mut out, err, slots).status)
+}
+
+// Plays the session that the words of the command line ask for.
+fn session<E: Sink>(rt: HostRuntime, err: &mut E) -> Result<Status, NoMemory> {
+    let args = words(&rt)?;
+    let words = lent(rt.alloc(), &args)?;
+    play_here(rt, &words, err).or(Err(NoMemory))
 }
 
 // The code with which the program ends.

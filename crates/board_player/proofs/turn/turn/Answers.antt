@@ -1,5 +1,0 @@
-use Rattle.board_player.proofs.Readied.{readies}
-use Rattle.board_player.proofs.turn.turn.Goals as goal
-
-pub returns-clause-ready : goal.returns-clause-ready
-returns-clause-ready g c = rw (c.clear.ensures, c.drop_others.ensures) (readies _ c.args.who c.requires.kept c.requires.early)

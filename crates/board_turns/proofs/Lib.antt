@@ -1,0 +1,6 @@
+pub mod Blanks
+pub mod Bytes
+pub mod Dropped
+pub mod Executed
+pub mod FeedLemmas
+pub mod Readied

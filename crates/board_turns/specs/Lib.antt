@@ -1,0 +1,3 @@
+pub mod ShellInside
+pub mod Turns
+pub mod Running

@@ -1,0 +1,27 @@
+-- What an instruction leaves.
+use Rattle.std.specs.Prelude.{◌≡◌, ℕ, Result, Ok, Err}
+use Rattle.wind_base.specs.declared.regs.Regs.{Regs}
+use Rattle.wind_core.specs.State.{KernState}
+use Rattle.wind_core.specs.Moves.{set_regs}
+use Rattle.ppc_core.specs.Outcomes.{Outcome, Done, Trapped}
+use Rattle.ppc_core.specs.declared.trap.Trap.{Trap}
+use Rattle.board_bus.specs.BusState.{BusState}
+use Rattle.kernel_world.specs.State.{WorldState}
+use Rattle.wind_machine.specs.Part.{with_kern}
+use Rattle.isr_watch.specs.Calls.{with_level}
+use Rattle.wind_machine.specs.Processor.{with_bus}
+use Rattle.wind_machine.specs.Routine.{with_watch}
+
+-- that of a task leaves this outcome: new registers of the task and a new bus; a trap changes nothing
+abbrev pub Ran : Outcome BusState → Result (Unit {0}) Trap → ℕ → WorldState → WorldState → Type 0
+Ran (Done regs bus) result who old new = (result ≡ Ok tt) × (new ≡ with_bus (with_kern old (set_regs old.kern who regs)) bus)
+Ran (Trapped trap) result who old new = (result ≡ Err trap) × (new ≡ old)
+
+-- so does that of the interrupt routine that is active
+abbrev pub RoutineRan : Outcome BusState → Result (Unit {0}) Trap → WorldState → WorldState → Type 0
+RoutineRan (Done regs bus) result old new = (result ≡ Ok tt) × (new ≡ with_bus (with_watch old (with_level old.watch regs)) bus)
+RoutineRan (Trapped trap) result old new = (result ≡ Err trap) × (new ≡ old)
+
+-- the kernel is as it was, but for the registers of this task
+abbrev pub OnlyRegs : KernState → KernState → ℕ → Type 0
+OnlyRegs old new who = (regs : Regs) × (new ≡ set_regs old who regs)

@@ -1,0 +1,22 @@
+//! A turn of those who act on the board: the shell, a task, the interrupt routine that is active; and the bytes of the
+//! console, as they come.
+#![tactic(auto)]
+
+mod arrival;
+mod feed;
+mod processor;
+mod reserving;
+mod routine;
+mod shell;
+mod task;
+mod text;
+mod turn;
+
+pub use arrival::hear_chunk;
+pub use feed::{Feed, brought, chunk_len};
+pub use processor::{at_gate, counter, execute};
+pub use reserving::{drop_all, drop_own};
+pub use routine::{INTERRUPT_TOP, run_routine};
+pub use shell::Shell;
+pub use task::{listen, shell_id, waits_for_console};
+pub use turn::{give_back, revocable_turn, routine_turn, turn};

@@ -1,0 +1,151 @@
+//! A step of the interrupt routine that is active: at a gate, or an instruction.
+
+ghost use Rattle.std.specs.Prelude.{◌≡◌, ◌≤◌, [], true, is_some};
+ghost use Rattle.wind_base.specs.OutBuf.{KeepsSpace};
+ghost use Rattle.board_bus.specs.Access.{board_meaning, fetched};
+ghost use Rattle.ppc_core.specs.Instructions.{exec_of};
+ghost use Rattle.kernel_world.specs.Kept.{IsWorld, IsEarly};
+ghost use Rattle.kernel_world.specs.Seen.{world_seen, world_with};
+ghost use Rattle.kernel_calls.specs.Space.{HoldsSpace};
+ghost use Rattle.kernel_world.specs.Allowed.{is_built as is_built_lem};
+ghost use Rattle.kernel_world.specs.Replies.{level_by};
+ghost use Rattle.wind_machine.specs.Processor.{bus_of};
+ghost use Rattle.wind_machine.specs.Routine.{next_routine as next_routine_lem, given_up, without_reserve, routine_call, routine_gate, routine_word, routine_regs, routine_part};
+ghost use Rattle.board_turns.specs.Running.{RoutineRan};
+
+use crate::text::add_routine_exception;
+use isr_watch::Watch;
+use kernel_calls::{Called, kernel_call};
+use kernel_world::{Actor, World, is_built};
+use ppc_core::{Trap, exec};
+use std::alloc::Global;
+use wind_base::Gate;
+use wind_base::limits::{GATES_START, INTERRUPT_STACK_BYTES, POOL_START, SHELL_STACK_BYTES};
+use wind_outside::Device;
+
+/// Where the interrupt stack ends, which is behind the stack of the shell's task.
+pub const INTERRUPT_TOP: u32 = POOL_START + SHELL_STACK_BYTES + INTERRUPT_STACK_BYTES;
+
+// The routine is done: the next listed one is active, or none.
+fn next_routine(world: &mut World)
+    ensures world { world_seen ⟦<dyn Device as Device>⟧ world.new
+        ≡ next_routine_lem (world_seen ⟦<dyn Device as Device>⟧ world.old) }
+    ensures out { world.new.out ≡ world.old.out }
+{
+    world.watch.finish(INTERRUPT_TOP);
+}
+
+// The routine's program counter.
+fn counter(world: &World) -> u32
+    ensures { result ≡ (routine_regs (world_seen ⟦<dyn Device as Device>⟧ world.now)).pc }
+{
+    match world.watch.regs() {
+        Some(regs) => regs.pc,
+        None => 0,
+    }
+}
+
+// The routine causes an exception: it is told, and given up, and it alone.
+fn give_up(world: &mut World, trap: Trap)
+    requires room { 160 ≤ world.old.out.room }
+    ensures world { world_seen ⟦<dyn Device as Device>⟧ world.new
+        ≡ given_up trap (world_seen ⟦<dyn Device as Device>⟧ world.old) }
+    ensures space { KeepsSpace world.old.out world.new.out }
+{
+    let at = counter(world);
+    add_routine_exception(&mut world.out, trap, at);
+    next_routine(world);
+}
+
+// The routine keeps no reservation.
+fn drop_reserve(watch: &mut Watch)
+    ensures { watch.new ≡ level_by without_reserve watch.old }
+{
+    if let Some(regs) = watch.regs_mut() {
+        regs.reserve = None;
+    }
+}
+
+// A kernel call, which lacks no memory.
+fn call(alloc: Global, world: &mut World, gate: Gate)
+    requires built { is_built_lem gate ≡ true }
+    requires kept { IsWorld (world_with [] world.old) }
+    requires early { IsEarly (world_with [] world.old) }
+    requires room { 4096 ≤ world.old.out.room }
+    ensures world { world_seen ⟦<dyn Device as Device>⟧ world.new
+        ≡ routine_call gate (world_seen ⟦<dyn Device as Device>⟧ world.old) }
+    ensures space { HoldsSpace world.old.out world.new.out }
+{
+    match kernel_call(alloc, world, gate, &Actor::Interrupt) {
+        Called::NeedsFile(_) | Called::NoMemory => unreachable!(),
+        Called::Done | Called::Pended | Called::Ended => drop_reserve(&mut world.watch),
+    }
+}
+
+// What the routine does at a gate.
+fn at_gate(alloc: Global, world: &mut World, gate: Gate)
+    requires kept { IsWorld (world_with [] world.old) }
+    requires early { IsEarly (world_with [] world.old) }
+    requires room { 4096 ≤ world.old.out.room }
+    ensures world { world_seen ⟦<dyn Device as Device>⟧ world.new
+        ≡ routine_gate gate (world_seen ⟦<dyn Device as Device>⟧ world.old) }
+    ensures space { HoldsSpace world.old.out world.new.out }
+{
+    if gate.number() == Gate::InterruptReturn.number() {
+        next_routine(world);
+    } else if is_built(gate) {
+        call(alloc, world, gate);
+    } else {
+        give_up(world, Trap::Access);
+    }
+}
+
+// One instruction of the routine. A trap changes nothing.
+fn run_word(world: &mut World, word: u32) -> Result<(), Trap>
+    requires active { is_some world.old.watch.level ≡ true }
+    ensures ran { RoutineRan (exec_of board_meaning (routine_regs (world_seen ⟦<dyn Device as Device>⟧ world.old)) word
+        (bus_of (world_seen ⟦<dyn Device as Device>⟧ world.old))) result
+        (world_seen ⟦<dyn Device as Device>⟧ world.old) (world_seen ⟦<dyn Device as Device>⟧ world.new) }
+    ensures out { world.new.out ≡ world.old.out }
+{
+    match world.watch.regs_mut() {
+        Some(regs) => exec(regs, word, &mut world.bus),
+        None => unreachable!(),
+    }
+}
+
+// The instruction at this address is executed. Where none can be fetched it is an access to nothing.
+fn execute(world: &mut World, at: u32)
+    requires active { is_some world.old.watch.level ≡ true }
+    requires room { 160 ≤ world.old.out.room }
+    ensures world { world_seen ⟦<dyn Device as Device>⟧ world.new
+        ≡ routine_word (fetched (bus_of (world_seen ⟦<dyn Device as Device>⟧ world.old)) at)
+        (world_seen ⟦<dyn Device as Device>⟧ world.old) }
+    ensures space { KeepsSpace world.old.out world.new.out }
+{
+    let Some(word) = world.bus.fetch(at) else {
+        give_up(world, Trap::Access);
+        return;
+    };
+    if let Err(trap) = run_word(world, word) {
+        give_up(world, trap);
+    }
+}
+
+/// The routine that is active is at a gate, or makes an instruction.
+#[tactic(auto, unfolding(wind_machine::specs::Routine::routine_part))]
+pub fn run_routine(alloc: Global, world: &mut World)
+    requires active { is_some world.old.watch.level ≡ true }
+    requires kept { IsWorld (world_with [] world.old) }
+    requires early { IsEarly (world_with [] world.old) }
+    requires room { 4096 ≤ world.old.out.room }
+    ensures world { world_seen ⟦<dyn Device as Device>⟧ world.new
+        ≡ routine_part (world_seen ⟦<dyn Device as Device>⟧ world.old) }
+    ensures space { HoldsSpace world.old.out world.new.out }
+{
+    let at = counter(world);
+    match Gate::at(at, GATES_START) {
+        Some(gate) => at_gate(alloc, world, gate),
+        None => execute(world, at),
+    }
+}
