@@ -1,5 +1,5 @@
 -- What a board answers where its next step asks for a file, and where it asks for none.
-use Rattle.std.proofs.Common.{◌≡◌, List, ℕ, true, Option, None, Some, Result, Ok, Err, refl, sym, ap, ◌∙◌}
+use Rattle.std.proofs.Common.{◌≡◌, List, ℕ, true, None, Some, Result, Ok, Err, sym, ap, ◌∙◌}
 use Rattle.std.specs.Prelude.{OnOk, OnErr}
 use Rattle.wind_base.specs.declared.NoMemory.{NoMemory}
 use Rattle.live_loading.specs.Said.{FileSaid, Missing}

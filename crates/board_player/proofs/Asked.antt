@@ -1,13 +1,12 @@
 -- What the next step asks for.
-use Rattle.std.proofs.Common.{◌≡◌, ℕ, Bool, true, false, cond, eqb, List, Option, None, Some, is_some, refl, sym, ap, ◌∙◌, subst}
-use Rattle.std.specs.Prelude.{slice_index, unwrap_or, ◌==◌}
+use Rattle.std.proofs.Common.{◌≡◌, ℕ, Bool, true, false, cond, eqb, List, Option, None, Some, is_some, refl, sym, ap, ◌∙◌}
+use Rattle.std.specs.Prelude.{slice_index, ◌==◌}
 use Rattle.std.specs.Option.{option_map}
 use Rattle.std.proofs.lemmas.Bool.{eqb-true}
 use Rattle.wind_base.specs.Limits.{gates_start}
 use Rattle.wind_base.specs.Gates.{gate_at}
 use Rattle.wind_base.specs.declared.gate.Gate.{Gate}
 use Rattle.wind_base.specs.declared.gate.Gate.TheVariants as gates
-use Rattle.wind_base.specs.declared.regs.Regs.{Regs}
 use Rattle.board_mem.specs.Memory.{string_at}
 use Rattle.task_block.specs.declared.task.Task.{Task}
 use Rattle.tick_file.specs.Schedule.{Timed}
@@ -15,10 +14,9 @@ use Rattle.tick_file.specs.declared.event.Event.{Event}
 use Rattle.wind_core.specs.State.{task_id}
 use Rattle.wind_core.specs.Orders.{running}
 use Rattle.kernel_world.specs.State.{WorldState}
-use Rattle.kernel_world.specs.Actors.{shell_id, is_shell, caller_regs, caller_words}
+use Rattle.kernel_world.specs.Actors.{shell_id, caller_words}
 use Rattle.kernel_calls.specs.Calls.{file_name, file_wanted}
 use Rattle.kernel_world.specs.Objects.{IsReady}
-use Rattle.kernel_world.specs.Starting.{no_regs}
 use Rattle.kernel_world.specs.declared.actor.Actor.{Actor}
 use Rattle.kernel_world.specs.declared.actor.Actor.TheVariants.{Task as by_task, Interrupt}
 use Rattle.live_loading.specs.Loading.{shell}

@@ -1,6 +1,5 @@
 -- What is known where a step begins.
-use Rattle.std.proofs.Common.{◌≡◌, ℕ, ◌^◌, ◌≤◌, ◌<◌, Bool, true, false, cond, eqb, List, [], ◌∷◌, map, Some, None, IsSome, refl, arith}
-use Rattle.std.specs.List.{All}
+use Rattle.std.proofs.Common.{ℕ, ◌^◌, ◌≤◌, ◌<◌, true, false, cond, eqb, List, [], ◌∷◌, map, Some, IsSome, refl, arith}
 use Rattle.std.proofs.lemmas.List.Elements.{All-weaker}
 use Rattle.task_block.specs.declared.task.Task.{Task}
 use Rattle.wind_core.specs.State.{KernState, Lives, task_of}

@@ -1,5 +1,5 @@
 -- Pieces of the machine's steps, as the code makes them.
-use Rattle.std.specs.Prelude.{ℕ, ◌+◌, ◌++◌, Bool, Some, take, drop}
+use Rattle.std.specs.Prelude.{ℕ, ◌+◌, ◌++◌, Bool, take, drop}
 use Rattle.tick_file.specs.declared.event.Event.{Event}
 use Rattle.wind_machine.specs.State.{State}
 use Rattle.wind_machine.specs.Feed.{supplied}

@@ -1,12 +1,12 @@
 -- What the code drops is what the machine drops.
-use Rattle.std.proofs.Common.{◌≡◌, ℕ, Bool, true, false, cond, eqb, List, map, Option, None, Some, IsSome, is_some, refl, sym, ap, ◌∙◌, subst, eqb-true}
+use Rattle.std.proofs.Common.{◌≡◌, ℕ, Bool, true, false, cond, eqb, List, Option, None, Some, is_some, refl, sym, ap, ◌∙◌, subst, eqb-true}
 use Rattle.task_block.specs.declared.task.Task.{Task}
 use Rattle.wind_lists.specs.Records.{change}
 use Rattle.wind_core.specs.State.{KernState, task_id, task_of}
 use Rattle.wind_core.specs.Moves.{unreserved, unreserve}
 use Rattle.wind_lists.proofs.Places.{not_there}
 use Rattle.kernel_world.specs.Kept.{ReservedBy}
-use Rattle.wind_machine.specs.Reserving.{unless_own, drop_others, drop_all}
+use Rattle.wind_machine.specs.Reserving.{drop_others, drop_all}
 use Rattle.wind_machine.proofs.Reserving.{last_own, last_other, last_none, all_none, all_last}
 use Rattle.board_turns.specs.Turns.{if_live, last_live, if_other, other_holder, without}
 

@@ -1,26 +1,23 @@
 -- A turn begins, and may be given back.
-use Rattle.std.proofs.Common.{◌≡◌, ℕ, ◌-◌, ◌^◌, ◌≤◌, ◌<◌, Bool, true, false, cond, eqb, List, [], ◌∷◌, map, Option, None, Some, IsSome, IfSome, is_some, refl, sym, ap, ◌∙◌, subst, arith}
+use Rattle.std.proofs.Common.{◌≡◌, ℕ, ◌-◌, ◌^◌, ◌≤◌, ◌<◌, false, Option, None, Some, is_some, refl, sym, ap, ◌∙◌, arith}
 use Rattle.std.specs.Option.{option_map}
 use Rattle.std.specs.Prelude.{unwrap_or}
-use Rattle.std.specs.List.{All}
 use Rattle.std.proofs.lemmas.List.Elements.{All-weaker}
 use Rattle.wind_base.specs.declared.regs.Regs.{Regs}
 use Rattle.task_block.specs.declared.task.Task.{Task}
-use Rattle.wind_lists.specs.Records.{change}
 use Rattle.wind_lists.proofs.Records.{found_id}
-use Rattle.wind_core.specs.State.{KernState, IsKern, Lives, task_id, task_of}
-use Rattle.wind_core.specs.Moves.{unreserved, unreserve, set_regs}
+use Rattle.wind_core.specs.State.{KernState, IsKern, task_id, task_of}
+use Rattle.wind_core.specs.Moves.{unreserve, set_regs}
 use Rattle.wind_lists.proofs.Places.{not_there}
 use Rattle.kernel_world.specs.State.{WorldState}
 use Rattle.kernel_world.specs.Starting.{no_regs}
 use Rattle.kernel_world.specs.Kept.{IsWorld, IsEarly, ReservedBy, HasCounts, Within}
 use Rattle.wind_machine.specs.Machine.{at_turn, cleared, unreserved_world}
-use Rattle.wind_machine.specs.Processor.{regs_of}
-use Rattle.wind_machine.specs.Reserving.{unless_own, drop_others, drop_all}
+use Rattle.wind_machine.specs.Reserving.{drop_others, drop_all}
 use Rattle.wind_machine.proofs.Free.{own_found, turn_ready}
 use Rattle.wind_machine.proofs.Dropping.{others_advance, all_advance}
 use Rattle.wind_machine.proofs.Reserving.{regs_again}
-use Rattle.board_turns.specs.Turns.{if_other, other_holder, with_regs, kept_if, kept_of, put_back, restored, without, Readies, IsReadied}
+use Rattle.board_turns.specs.Turns.{other_holder, with_regs, kept_if, kept_of, put_back, restored, without, Readies, IsReadied}
 use Rattle.board_turns.proofs.Dropped.{dropped_others, not_own}
 
 within : (w : WorldState) → IsEarly w → Within (2 ^ 60 - 1) w

@@ -10,7 +10,7 @@ mod routine;
 mod shell;
 mod task;
 mod text;
-mod turn;
+mod turns;
 
 pub use arrival::hear_chunk;
 pub use feed::{Feed, brought, chunk_len};
@@ -19,4 +19,4 @@ pub use reserving::{drop_all, drop_own};
 pub use routine::{INTERRUPT_TOP, run_routine};
 pub use shell::Shell;
 pub use task::{listen, shell_id, waits_for_console};
-pub use turn::{give_back, revocable_turn, routine_turn, turn};
+pub use turns::{give_back, revocable_turn, routine_turn, turn};

@@ -194,7 +194,7 @@ pub fn counter(world: &World, who: Ident) -> u32
 
 /// The instruction at this address is executed by a task. Where none can be fetched it is an access to nothing. Tells
 /// whether it came without an exception; only registers of the task and the bus change then.
-#[inline]
+#[inline(always)]
 pub fn execute(shell: &mut Shell, world: &mut World, who: Ident, at: u32) -> bool
     requires live { Lives world.old.kern who }
     requires kern { IsKern world.old.kern }

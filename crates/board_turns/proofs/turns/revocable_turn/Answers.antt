@@ -1,5 +1,5 @@
 use Rattle.board_turns.proofs.Readied.{readies, world_back}
-use Rattle.board_turns.proofs.turn.revocable_turn.Goals as goal
+use Rattle.board_turns.proofs.turns.revocable_turn.Goals as goal
 
 pub returns-clause-ready : goal.returns-clause-ready
 returns-clause-ready g c = rw (c.swap.ensures.x_after, c.clear.ensures, c.drop_others.ensures) (readies _ c.args.who c.requires.kept c.requires.early)
