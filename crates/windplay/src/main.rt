@@ -60,11 +60,7 @@ impl Devices {
 
 // Plays the session of these words in the directory that the program runs in, with the standard streams, and with a latch,
 // a queue of bytes and a counter of events in slots 0, 1 and 2.
-fn play_here<E: Sink>(
-    rt: HostRuntime,
-    words: &[&str],
-    err: &mut E,
-) -> Result<Status, AllocError> {
+fn play_here<E: Sink>(rt: HostRuntime, words: &[&str], err: &mut E) -> Result<Status, AllocError> {
     let alloc = rt.alloc();
     let devices = Devices::new(alloc)?;
     let mut slots: Slots = Vec::with_capacity(alloc, 3)?;
