@@ -99,31 +99,6 @@ allocations() {
     awk "BEGIN { for (i = 0; i < $1; i++) { for (k = 1; k < 25; k++) printf \"malloc 1;\"; print \"malloc 1\" } }"
 }
 
-# The loop of `tasks-1` as a program of the stock emulator, 25,000,000 times round: four instructions each.
-stock_program() {
-    for word in \
-        7f454c46 01020100 00000000 00000000 00020014 00000001 10000054 00000034 00000000 00000000 00340020 00010028 00000000 \
-        00000001 00000000 10000000 10000000 00000080 00020000 00000007 00010000 \
-        3c80017d 60847840 7c8903a6 3c601001 80a30000 38a50001 90a30000 4200fff4 38000001 38600000 44000002; do
-        for byte in $(echo "$word" | sed 's/../& /g'); do
-            printf "\\$(printf '%03o' "0x$byte")"
-        done
-    done
-}
-
-# The stock emulator over that loop, with these options.
-stock() {
-    name=$1
-    shift
-    start=$(date +%s%N)
-    if qemu-ppc "$@" "$work/stock" >/dev/null 2>&1; then
-        seconds=$(awk "BEGIN { printf \"%.3f\", ($(date +%s%N) - $start) / 1e9 }")
-        tell "$name" 100000000 instructions
-    else
-        printf '%-36s does not run\n' "$name"
-    fi
-}
-
 # A folder with one task that runs the loop of four instructions, and so many more that make this call and go on no more.
 crowd() {
     mkdir -p "$work/crowd"
@@ -158,15 +133,7 @@ for tasks in 1 15 249; do
     crowd "$tasks" 'taskDelay, 1000000000'
     steps "the same, and delayed tasks: $tasks" "$work/crowd" 20000000
 done
-if command -v qemu-ppc >/dev/null; then
-    stock_program >"$work/stock"
-    chmod +x "$work/stock"
-    stock 'stock emulator, the same loop'
-    # The option has two names, by the emulator's version.
-    stock 'stock emulator, one at a time' "$(qemu-ppc -help | grep -o -m 1 -e '-one-insn-per-tb' -e '-singlestep' | head -n 1)"
-else
-    printf '%-36s not installed\n' 'stock emulator (qemu-ppc)'
-fi
+"$here/loops.sh" "$program"
 steps 'kernel calls of a task' "$here/task-calls" 20000000
 
 # 400 lines of 31 calls each.

@@ -1,6 +1,6 @@
 -- The laws of the board's bus, proved: an access in RAM never faults, and no access changes how much RAM there is.
-use Rattle.std.specs.Prelude.{◌≡◌, ℕ, zero, suc, ◌+◌, ◌<◌, ◌≤◌, ◌^◌, ◌%◌, Bool, true, false, not, ◌&&◌, List, [], ◌++◌, length, take, drop, nat_lt, is_some, if◌then◌else◌}
-use Rattle.std.proofs.Common.{refl, sym, ap, ◌∙◌, arith, length-append, length-drop}
+use Rattle.std.specs.Prelude.{◌≡◌, ℕ, ◌<◌, Bool, true, false, not, ◌&&◌, length, nat_lt, is_some, if◌then◌else◌}
+use Rattle.std.proofs.Common.{refl, sym, ap, ◌∙◌}
 use Rattle.board_mem.specs.Memory.{has, with_number}
 use Rattle.board_mem.proofs.Sizes.{length-with_number}
 use Rattle.ppc_core.specs.Buses.{IsLawful, all_ram}

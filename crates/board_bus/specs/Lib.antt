@@ -3,3 +3,4 @@ pub mod Slots
 pub mod Access
 pub mod Seen
 pub mod Lawful
+pub mod Laws

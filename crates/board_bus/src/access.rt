@@ -11,7 +11,7 @@ use wind_outside::Device;
 
 impl BoardBus {
     /// The word at an address, for an instruction. None where it is outside RAM, or not at a multiple of 4.
-    #[inline]
+    #[inline(always)]
     pub fn fetch(&self, addr: u32) -> Option<u32>
         ensures { result ≡ fetched (bus_seen ⟦<dyn Device as Device>⟧ self.now) addr }
     {
@@ -37,17 +37,17 @@ impl Bus for BoardBus {
 
     ghost lawful = { board_lawful };
 
-    #[inline]
+    #[inline(always)]
     fn load8(&mut self, addr: u32) -> Result<u32, Fault> {
         self.ram.read8(addr).ok_or(Fault)
     }
 
-    #[inline]
+    #[inline(always)]
     fn load16(&mut self, addr: u32) -> Result<u32, Fault> {
         self.ram.read16(addr).ok_or(Fault)
     }
 
-    #[inline]
+    #[inline(always)]
     fn load32(&mut self, addr: u32) -> Result<u32, Fault> {
         match self.ram.read32(addr) {
             Some(word) => Ok(word),
@@ -55,7 +55,7 @@ impl Bus for BoardBus {
         }
     }
 
-    #[inline]
+    #[inline(always)]
     fn store8(&mut self, addr: u32, value: u32) -> Result<(), Fault> {
         match self.ram.write8(addr, value) {
             Ok(()) => Ok(()),
@@ -63,7 +63,7 @@ impl Bus for BoardBus {
         }
     }
 
-    #[inline]
+    #[inline(always)]
     fn store16(&mut self, addr: u32, value: u32) -> Result<(), Fault> {
         match self.ram.write16(addr, value) {
             Ok(()) => Ok(()),
@@ -71,7 +71,7 @@ impl Bus for BoardBus {
         }
     }
 
-    #[inline]
+    #[inline(always)]
     fn store32(&mut self, addr: u32, value: u32) -> Result<(), Fault> {
         if self.ram.write32(addr, value).is_ok() || store_word(&mut self.slots, addr, value) {
             return Ok(());
@@ -79,7 +79,7 @@ impl Bus for BoardBus {
         Err(Fault)
     }
 
-    #[inline]
+    #[inline(always)]
     fn is_ram(&self, addr: u32, n: u32) -> bool {
         self.ram.has(addr, n)
     }

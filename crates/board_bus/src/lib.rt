@@ -3,6 +3,8 @@
 
 mod access;
 mod bus;
+mod laws;
 mod slots;
 
 pub use bus::BoardBus;
+pub use laws::multiple_law;

@@ -41,7 +41,7 @@ impl Model for Pages {
 const BLOCK: u32 = 256;
 
 // How many bytes there are from an address on to the end of its page.
-#[inline]
+#[inline(always)]
 pub(crate) fn left_in_page(at: u32) -> usize
     ensures value { result ≡ page_bytes - at % page_bytes }
     ensures some { 0 < result }
@@ -69,7 +69,7 @@ impl Pages {
     }
 
     /// How many bytes there are.
-    #[inline]
+    #[inline(always)]
     pub fn size(&self) -> u32
         ensures { result ≡ length self.now.bytes }
     {
@@ -98,7 +98,7 @@ impl Pages {
 
     // Writes bytes from an address on, which are all in its page.
     #[inline(always)]
-    fn put(&mut self, at: u32, src: &[u8])
+    pub(crate) fn put(&mut self, at: u32, src: &[u8])
         requires some { 0 < length src.now }
         requires page { at % page_bytes + length src.now ≤ page_bytes }
         requires there { at + length src.now ≤ length self.old.bytes }
@@ -121,7 +121,7 @@ impl Pages {
 
     // Writes bytes from an address on, page by page.
     #[inline(never)]
-    fn put_across(&mut self, at: u32, src: &[u8])
+    pub(crate) fn put_across(&mut self, at: u32, src: &[u8])
         requires { at + length src.now ≤ length self.old.bytes }
         ensures { self.new ≡ written_at self.old at src.now }
     {

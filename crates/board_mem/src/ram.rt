@@ -2,7 +2,7 @@
 
 ghost use Rattle.std.specs.Prelude.{◌≡◌, ◌<◌, ◌≤◌, ◌+◌, ◌^◌, ◌==◌, ◌↔◌, IsTrue, IsOk, IfOk, IfSome, if◌then◌else◌, length, take, position, replicate};
 ghost use Rattle.wind_base.specs.Limits.{longest_string};
-ghost use Rattle.board_mem.specs.Memory.{has, read, written, number_at, bytes_at, with_bytes, string_length, string_at, string_over};
+ghost use Rattle.board_mem.specs.Memory.{has, read, written, number_at, bytes_at, with_bytes, with_number, string_length, string_at, string_over};
 
 use crate::outside::Outside;
 use crate::pages::{Pages, left_in_page};
@@ -52,7 +52,7 @@ impl Ram {
     }
 
     /// Whether each of the `n` bytes from an address on is in RAM.
-    #[inline]
+    #[inline(always)]
     pub fn has(&self, addr: u32, n: u32) -> bool
         ensures is { result ≡ has self.now addr n }
         ensures end { IsTrue result → 0 < n → addr + n < 2 ^ 32 }
@@ -61,7 +61,7 @@ impl Ram {
     }
 
     /// The byte at an address. None where it is outside.
-    #[inline]
+    #[inline(always)]
     pub fn read8(&self, addr: u32) -> Option<u32>
         ensures is { result ≡ read 1 self.now addr }
         ensures below { IfSome result (λ v. v < 2 ^ 8) }
@@ -73,7 +73,7 @@ impl Ram {
     }
 
     /// The half word at an address. None where a byte of it is outside.
-    #[inline]
+    #[inline(always)]
     pub fn read16(&self, addr: u32) -> Option<u32>
         ensures is { result ≡ read 2 self.now addr }
         ensures below { IfSome result (λ v. v < 2 ^ 16) }
@@ -101,7 +101,7 @@ impl Ram {
     }
 
     /// The word at an address. None where a byte of it is outside.
-    #[inline]
+    #[inline(always)]
     pub fn read32(&self, addr: u32) -> Option<u32>
         ensures { result ≡ read 4 self.now addr }
     {
@@ -127,34 +127,78 @@ impl Ram {
     }
 
     /// Writes the low byte of `v` to an address.
-    #[inline]
+    #[inline(always)]
     pub fn write8(&mut self, addr: u32, v: u32) -> Result<(), Outside>
         ensures ok { IsOk result ↔ IsTrue (has self.old addr 1) }
         ensures bytes { self.new ≡ written 1 self.old addr v }
     {
-        self.copy_in(addr, &[(v % 0x100) as u8])
+        if !self.has(addr, 1) {
+            return Err(Outside);
+        }
+        self.pages.put(addr, &[(v % 0x100) as u8]);
+        Ok(())
     }
 
     /// Writes the low half word of `v` to an address.
-    #[inline]
+    #[inline(always)]
     pub fn write16(&mut self, addr: u32, v: u32) -> Result<(), Outside>
         ensures ok { IsOk result ↔ IsTrue (has self.old addr 2) }
         ensures bytes { self.new ≡ written 2 self.old addr v }
     {
+        if !self.has(addr, 2) {
+            return Err(Outside);
+        }
+        if left_in_page(addr) >= 2 {
+            let mut bytes = [0; 2];
+            BigEndian::write_u16(&mut bytes, (v % 0x1_0000) as u16);
+            self.pages.put(addr, &bytes);
+            return Ok(());
+        }
+        self.put_half_word_across(addr, v);
+        Ok(())
+    }
+
+    // Writes a half word, one byte in each of two pages.
+    #[cold]
+    #[inline(never)]
+    fn put_half_word_across(&mut self, addr: u32, v: u32)
+        requires { IsTrue (has self.old addr 2) }
+        ensures { self.new ≡ with_number 2 self.old addr v }
+    {
         let mut bytes = [0; 2];
         BigEndian::write_u16(&mut bytes, (v % 0x1_0000) as u16);
-        self.copy_in(addr, &bytes)
+        self.pages.put_across(addr, &bytes);
     }
 
     /// Writes a word to an address.
-    #[inline]
+    #[inline(always)]
     pub fn write32(&mut self, addr: u32, v: u32) -> Result<(), Outside>
         ensures ok { IsOk result ↔ IsTrue (has self.old addr 4) }
         ensures bytes { self.new ≡ written 4 self.old addr v }
     {
+        if !self.has(addr, 4) {
+            return Err(Outside);
+        }
+        if left_in_page(addr) >= 4 {
+            let mut bytes = [0; 4];
+            BigEndian::write_u32(&mut bytes, v);
+            self.pages.put(addr, &bytes);
+            return Ok(());
+        }
+        self.put_word_across(addr, v);
+        Ok(())
+    }
+
+    // Writes a word whose bytes are in two pages.
+    #[cold]
+    #[inline(never)]
+    fn put_word_across(&mut self, addr: u32, v: u32)
+        requires { IsTrue (has self.old addr 4) }
+        ensures { self.new ≡ with_number 4 self.old addr v }
+    {
         let mut bytes = [0; 4];
         BigEndian::write_u32(&mut bytes, v);
-        self.copy_in(addr, &bytes)
+        self.pages.put_across(addr, &bytes);
     }
 
     /// Fills `dst` with the bytes from an address on.

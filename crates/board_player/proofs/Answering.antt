@@ -1,33 +1,46 @@
--- What a board answers where its next step asks for a file, and where it asks for none.
-use Rattle.std.proofs.Common.{◌≡◌, List, ℕ, true, None, Some, Result, Ok, Err, sym, ap, ◌∙◌}
-use Rattle.std.specs.Prelude.{OnOk, OnErr}
+-- What a board answers for its next step.
+use Rattle.std.proofs.Common.{◌≡◌, ◌≢◌, List, ℕ, true, Option, None, Some, IfSome, Result, Ok, Err, sym, ap, ◌∙◌, refl}
+use Rattle.std.specs.Prelude.{OnOk, OnErr, ◌↔◌}
 use Rattle.wind_base.specs.declared.NoMemory.{NoMemory}
-use Rattle.live_loading.specs.Said.{FileSaid, Missing}
+use Rattle.live_loading.specs.Said.{FileSaid}
 use Rattle.wind_machine.specs.State.{State}
-use Rattle.wind_machine.specs.Machine.{file_asked, load_step, step_asking, plain_step, machine_step, Steps, IsOver, may_lack_memory}
+use Rattle.wind_machine.specs.ActorSteps.{load_step}
+use Rattle.wind_machine.specs.Next.{next}
+use Rattle.wind_machine.specs.Machine.{state_after, file_of, file_asked, machine_step, Steps, IsOver, next_may, may_lack_memory}
+use Rattle.wind_machine.specs.declared.next.Next.{Next}
+use Rattle.wind_machine.specs.declared.next.Next.TheVariants.{Load, Over}
 use Rattle.wind_machine.proofs.Asking.{asked_may}
 
--- where no file is asked for, the step is the plain one, whatever is said
-pub plain : (said : FileSaid) (s : State) → file_asked s ≡ None → machine_step said s ≡ plain_step s
+-- the step that comes next, whatever is said of a file
+pub steps_on : (s t : State) (n : Next) → n ≡ next s → ((said : FileSaid) → state_after said s n ≡ Some t) → Steps s t
 unfolding machine_step
-plain said s e = ap (step_asking said s) e
+steps_on s t n e on said = ap (state_after said s) (sym e) ∙ on said
 
-pub unasked_steps : (s t : State) → file_asked s ≡ None → plain_step s ≡ Some t → Steps s t
-unasked_steps s t e made said = plain said s e ∙ made
+-- the file that it asks for
+pub asked_is : (s : State) (n : Next) (o : Option (List ℕ)) → n ≡ next s → o ≡ file_of n → o ≡ file_asked s
+unfolding file_asked
+asked_is s n o e q = q ∙ ap file_of e
 
-pub unasked_over : (s : State) → file_asked s ≡ None → plain_step s ≡ None → IsOver s
-unasked_over s e over said = plain said s e ∙ over
+pub asked_name : (o p : Option (List ℕ)) → o ≡ p → IfSome o (λ name. p ≡ Some name)
+asked_name None p e = tt
+asked_name (Some name) p e = sym e
 
-pub over_plain : (s : State) → file_asked s ≡ None → IsOver s → plain_step s ≡ None
-over_plain s e over = sym (plain Missing s e) ∙ over Missing
+-- the run is over exactly if that comes next
+pub is_over : {A : Type 0} (s : State) (n : Next) (r quiet : A) → n ≡ next s → (r ≡ quiet) ↔ (n ≡ Over) → (r ≡ quiet) ↔ IsOver s
+is_over s n r quiet e both = (λ q. sym e ∙ both.0 q, λ over. both.1 (e ∙ over))
 
--- else it is a load
+-- a run that lacks memory is not over
+pub lacking_goes_on : (s : State) → may_lack_memory s ≡ true → IsOver s → ⊥
+lacking_goes_on s may over = let bad : next_may s Over ≡ true = sym (ap (next_may s) over) ∙ may in absurd (cc)
+
+-- a load is made with what is said of its file
+by_case : (said : FileSaid) (s : State) (name : List ℕ) (n : Next) → file_of n ≡ Some name → state_after said s n ≡ Some (load_step said s name)
+by_case said s name (Load given) q = let same : given ≡ name = cc in ap (λ x. Some (load_step said s x)) same
+by_case said s name n q = absurd (cc)
+
 pub loads : (said : FileSaid) (s : State) (name : List ℕ) → file_asked s ≡ Some name → machine_step said s ≡ Some (load_step said s name)
-unfolding machine_step
-loads said s name e = ap (step_asking said s) e
-
-pub asking_goes_on : (s : State) (name : List ℕ) → file_asked s ≡ Some name → IsOver s → ⊥
-asking_goes_on s name e over = let both : Some (load_step Missing s name) ≡ None = sym (loads Missing s name e) ∙ over Missing in absurd (cc)
+unfolding machine_step file_asked
+loads said s name e = by_case said s name (next s) e
 
 -- ---- what the call for a load answers
 pub loaded_step : (said : FileSaid) (r : Result Unit NoMemory) (s t : State) (name : List ℕ) → file_asked s ≡ Some name → OnOk r (t ≡ load_step said s name) → OnOk r (machine_step said s ≡ Some t)

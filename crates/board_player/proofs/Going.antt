@@ -1,5 +1,5 @@
 -- Behind an instruction of a task, whoever ran runs on.
-use Rattle.std.proofs.Common.{◌≡◌, ℕ, Bool, true, false, cond, eqb, not, List, [], ◌∷◌, map, Option, None, Some, is_some, IfSome, Result, Ok, refl, sym, ap, ◌∙◌, subst}
+use Rattle.std.proofs.Common.{◌≡◌, ℕ, Bool, true, false, cond, eqb, not, List, [], ◌∷◌, map, Option, None, Some, is_some, Result, Ok, refl, sym, ap, ◌∙◌, subst}
 use Rattle.std.specs.List.{filter, find}
 use Rattle.std.specs.Option.{option_map}
 use Rattle.std.proofs.lemmas.Option.{same_Some}
@@ -17,10 +17,12 @@ use Rattle.wind_core.proofs.Ticks.{running_found}
 use Rattle.wind_core.proofs.Waking.{id_found}
 use Rattle.isr_watch.specs.State.{WatchState}
 use Rattle.wind_machine.specs.Reserving.{unless_own, drop_others}
-use Rattle.wind_machine.specs.Machine.{holds_back}
+use Rattle.wind_machine.specs.Next.{holds_back}
 use Rattle.board_turns.specs.Running.{OnlyRegs}
 use Rattle.board_player.specs.Going.{IsRunner, IsKnown, OnlyStepped}
 use Rattle.board_player.specs.declared.order.Running.{Running}
+use Rattle.board_player.specs.declared.order.Known.{Known}
+use Rattle.board_player.specs.declared.order.Known.TheVariants.{Nothing, Runner, Routine}
 
 -- ---- a list of which each element is changed, where that keeps the order and the test
 module _ {X : Type 0} (f : X → X) where
@@ -50,7 +52,7 @@ module _ {X : Type 0} (f : X → X) where
   first_changed [] = refl
   first_changed (x ∷ xs) = refl
 
-  find_changed : (p : X → Bool) → ((x : X) → p (f x) ≡ p x) → (xs : List X) → find p (map f xs) ≡ option_map f (find p xs)
+  pub find_changed : (p : X → Bool) → ((x : X) → p (f x) ≡ p x) → (xs : List X) → find p (map f xs) ≡ option_map f (find p xs)
   find_changed p same [] = refl
   find_changed p same (x ∷ xs) =
       ap (λ b. cond b (Some (f x)) (find p (map f xs))) (same x)
@@ -161,11 +163,10 @@ pub only_stepped : (k turned done new : KernState) (who : ℕ) → turned ≡ dr
 only_stepped k turned done new who began others ended =
     (others.0, ended ∙ ap (λ (j : KernState). record j { last = Some who }) others.1 ∙ ap (λ (j : KernState). record (set_regs j who others.0) { last = Some who }) began)
 
--- who runs is known behind a step of whoever ran, where that was such an instruction
-pub known_on : (old new : KernState) (watch then : WatchState) (now : Running) (who : ℕ) (known : Option Running) (made : Result Bool NoMemory) → Rising task_id old.tasks → is_some watch.level ≡ false
-    → now.who ≡ option_map task_id (running old) → now.is_open ≡ not (holds_back (running old)) → now.who ≡ Some who
-    → IfSome known (λ r. (r ≡ now) × (made ≡ Ok true)) → (made ≡ Ok true → OnlyStepped old new who) → (made ≡ Ok true → then ≡ watch) → IsKnown new then.level known
-known_on old new watch then now who None made up idle runner back some kept only same = tt
-known_on old new watch then now who (Some r) made up idle runner back some kept only same =
-    subst (IsRunner new then.level) (sym kept.0)
-    (goes_on old new then.level now who up (record { who = runner; back = back; idle = subst (λ (s : WatchState). is_some s.level ≡ false) (sym (same kept.1)) idle }) some (only kept.1))
+-- what is known stays so after such an instruction
+pub stays_known : (old new : KernState) (watch then : WatchState) (who : ℕ) (known : Known) → Rising task_id old.tasks → is_some watch.level ≡ false → Some who ≡ runner old
+    → IsKnown old watch.level known → OnlyStepped old new who → then ≡ watch → IsKnown new then.level known
+stays_known old new watch then who Nothing up idle runs is only same = tt
+stays_known old new watch then who (Runner r) up idle runs is only same =
+    subst (λ (w : WatchState). IsRunner new w.level r) (sym same) (goes_on old new watch.level r who up is (is.who ∙ sym runs) only)
+stays_known old new watch then who Routine up idle runs is only same = let bad : true ≡ false = sym is.active ∙ idle in absurd (cc)

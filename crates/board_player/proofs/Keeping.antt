@@ -15,10 +15,14 @@ use Rattle.wind_machine.specs.Good.{Good}
 use Rattle.wind_machine.specs.Laws.{StartLaw, StepLaw}
 use Rattle.live_loading.specs.Said.{FileSaid, Missing}
 use Rattle.wind_base.specs.declared.NoMemory.{NoMemory}
-use Rattle.wind_machine.specs.Machine.{opening, plain_step, file_asked, load_step, next_event}
-use Rattle.board_player.specs.declared.order.Made.{Made}
-use Rattle.board_player.specs.declared.order.Made.TheVariants as made
-use Rattle.board_player.proofs.Answering.{plain, loads}
+use Rattle.wind_machine.specs.Events.{next_event}
+use Rattle.wind_machine.specs.ActorSteps.{load_step}
+use Rattle.wind_machine.specs.Next.{next}
+use Rattle.wind_machine.specs.Machine.{opening, state_after, file_asked}
+use Rattle.wind_machine.specs.declared.next.Next.{Next}
+use Rattle.board_player.specs.declared.Step.{Step}
+use Rattle.board_player.specs.declared.Step.TheVariants as steps
+use Rattle.board_player.proofs.Answering.{steps_on, loads}
 
 -- the board at the start
 pub booted : StartLaw → (console : List ℕ) (slots : List (Option DeviceState)) (left : List ℕ) (screen : ConsoleState) (shell : ShellState) (w : WorldState) (schedule : Timetable) (time made : ℕ)
@@ -34,11 +38,10 @@ booted law console slots left screen shell w schedule time made l s h e t m =
     (subst (λ x. Good (record { left = console; console = opening_console; shell = at_prompt; world = opening_world slots; schedule = schedule; time = 0; steps = x })) (sym m)
     (law console schedule slots))))))
 
--- a step that asks for no file
-pub kept : StepLaw → (r : Made) (s t : State) → IfSome (next_event s) IsEarly → Good s → file_asked s ≡ None → (r ≡ made.Stepped → plain_step s ≡ Some t) → (r ≢ made.Stepped → t ≡ s) → Good t
-kept law made.Stepped s t early good asked stepped same = law Missing s t early good (plain Missing s asked ∙ stepped refl)
-kept law made.Quiet s t early good asked stepped same = subst Good (sym (same (λ e. cc))) good
-kept law made.NoMemory s t early good asked stepped same = subst Good (sym (same (λ e. cc))) good
+-- the step that comes next
+pub kept : StepLaw → (r : Step) (s t : State) (n : Next) → IfSome (next_event s) IsEarly → Good s → n ≡ next s → (r ≡ steps.Stepped → (said : FileSaid) → state_after said s n ≡ Some t) → (r ≢ steps.Stepped → t ≡ s) → Good t
+kept law steps.Stepped s t n early good e stepped same = law Missing s t early good (steps_on s t n e (stepped refl) Missing)
+kept law r s t n early good e stepped same = subst Good (sym (same (λ q. cc))) good
 
 -- a step that loads a file
 pub kept_loading : StepLaw → (said : FileSaid) (r : Result Unit NoMemory) (s t : State) (name : List ℕ) → IfSome (next_event s) IsEarly → Good s → file_asked s ≡ Some name → OnOk r (t ≡ load_step said s name) → OnErr r (t ≡ s) → Good t

@@ -1,7 +1,11 @@
 pub mod Beginning
 pub mod Running
+pub mod Deciding
+pub mod Idle
 pub mod Asked
 pub mod Answering
 pub mod Keeping
 pub mod Stepping
 pub mod Going
+pub mod TaskBursts
+pub mod RoutineBursts

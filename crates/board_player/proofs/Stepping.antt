@@ -7,7 +7,7 @@ use Rattle.board_bus.specs.Access.{fetched}
 use Rattle.kernel_world.specs.State.{WorldState}
 use Rattle.wind_machine.specs.State.{ShellState, State}
 use Rattle.wind_machine.specs.Part.{part_of}
-use Rattle.wind_machine.specs.Machine.{at_turn, stepped, task_step}
+use Rattle.wind_machine.specs.ActorSteps.{at_turn, stepped, task_step}
 use Rattle.wind_machine.specs.Processor.{bus_of, regs_of, gate_under, gate_part, word_part, part_at, task_part}
 use Rattle.board_player.specs.Moves.{noted_step}
 

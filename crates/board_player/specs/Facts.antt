@@ -14,8 +14,9 @@ use Rattle.wind_core.specs.State.{KernState}
 use Rattle.msg_queue.specs.declared.asks.Ask.{Ask}
 use Rattle.msg_queue.specs.State.{QueueState, ask_of, lies_in}
 use Rattle.msg_queue.specs.Kept.{IsServable}
-use Rattle.board_player.specs.Going.{IsRunner, IsKnown}
-use Rattle.board_player.specs.declared.order.Running.{Running}
+use Rattle.board_player.specs.Going.{IsRunner, IsRoutine, IsKnown}
+use Rattle.board_player.specs.declared.order.Known.{Known}
+use Rattle.board_player.specs.declared.order.Known.TheVariants.{Nothing, Runner, Routine}
 
 -- blocks lie in order in one way
 pub Laid-prop : (lo hi : ℕ) (bs : List Block) → IsProp (Laid lo hi bs)
@@ -47,7 +48,8 @@ IsServable-prop size asks t place q s u =
     (Σ_prop_path {A = Ask} {B = OfAsk size asks t place q} (OfAsk-prop size asks t place q) {u = (s.ask, (s.own, s.there, s.receiver, s.sender))} {v = (u.ask, (u.own, u.there, u.receiver, u.sender))}
     (one_ask (ask_of asks t.id) s.ask u.ask s.own u.own))
 
--- who runs is known in one way
-pub IsKnown-prop : (k : KernState) (level : Option Regs) (known : Option Running) → IsProp (IsKnown k level known)
-IsKnown-prop k level None = Unit-prop
-IsKnown-prop k level (Some r) = let one : IsProp (IsRunner k level r) = hlevel props in one
+-- who makes the next step is known in one way
+pub IsKnown-prop : (k : KernState) (level : Option Regs) (known : Known) → IsProp (IsKnown k level known)
+IsKnown-prop k level Nothing = Unit-prop
+IsKnown-prop k level (Runner r) = let one : IsProp (IsRunner k level r) = hlevel props in one
+IsKnown-prop k level Routine = let one : IsProp (IsRoutine k level) = hlevel props in one

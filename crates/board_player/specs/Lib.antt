@@ -4,3 +4,5 @@ pub mod Seen
 pub mod Moves
 pub mod Facts
 pub mod Going
+pub mod Bursts
+pub mod Knowing

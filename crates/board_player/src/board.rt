@@ -8,9 +8,10 @@ ghost use Rattle.board_player.specs.Facts.{Laid-prop, IsServable-prop, IsKnown-p
 ghost use Rattle.wind_machine.specs.Good.{Good};
 
 use crate::Step;
+use crate::bursts::burst;
 use crate::clock::Clock;
-use crate::loading::{asked_file, load};
-use crate::order::{Made, Running, is_early, make_step};
+use crate::loading::load;
+use crate::order::{Known, is_early, make, next};
 use crate::parts::Parts;
 use board_turns::{Feed, Shell};
 use con_line::Console;
@@ -31,8 +32,8 @@ const OUTPUT_BYTES: u32 = 3 * (CHUNK_BYTES as u32 + 1);
 #[derive(Drop)]
 pub struct Board {
     parts: Parts,
-    // which task runs, where it is known from the step before
-    known: Option<Running>,
+    // who makes the next step, where that is known from the step before
+    known: Known,
     ghost good: { Good (inside parts) } by { Prim.hlevel (props, Laid-prop, IsServable-prop) },
     ghost space: { IsSpacious parts },
     ghost runs: { IsKnown parts.world.kern parts.world.watch.level known } by { IsKnown-prop parts.world.kern parts.world.watch.level known },
@@ -41,6 +42,7 @@ pub struct Board {
 impl Board {
     ghost use Rattle.std.specs.Prelude.{IfOk, IfErr};
     ghost use Rattle.wind_outside.specs.Devices.{slots_of};
+    ghost use Rattle.kernel_world.specs.Seen.{world_seen};
     ghost use Rattle.board_player.specs.Seen.{seen};
     ghost use Rattle.wind_machine.specs.Machine.{opening};
     ghost use Rattle.wind_base.specs.Limits.{most_slots};
@@ -78,13 +80,13 @@ impl Board {
                 clock: Clock::new(),
                 spare,
             },
-            known: None,
+            known: Known::Nothing,
         })
     }
 
     /// The kernel's tasks, the partition, the symbols, RAM and devices.
     pub fn world(&self) -> &World
-        ensures { result.now ≡ self.now.parts.world }
+        ensures { world_seen ⟦<dyn Device as Device>⟧ result.now ≡ (seen ⟦<dyn Device as Device>⟧ self.now).world }
     {
         &self.parts.world
     }
@@ -99,7 +101,9 @@ impl Board {
 
 impl Board {
     ghost use Rattle.std.specs.Prelude.{◌≢◌, ◌↔◌, ◌<◌, Some, None, IfSome, OnOk, OnErr, true};
+    ghost use Rattle.std.specs.Prelude.{◌≤◌};
     ghost use Rattle.wind_base.specs.Limits.{most_steps};
+    ghost use Rattle.wind_machine.specs.Silent.{SilentSteps};
     ghost use Rattle.live_loading.specs.Said.{said_of};
     ghost use Rattle.wind_machine.specs.Machine.{file_asked, machine_step, Steps, IsOver, may_lack_memory};
     ghost use Rattle.board_player.specs.Asking.{needed};
@@ -108,7 +112,7 @@ impl Board {
 
     /// Makes the next step, if there is one and it asks for no file. Host memory may run out only where that is said of
     /// the state. Nothing changes unless the step is made.
-    #[tactic(auto, using(crate::proofs::Answering::unasked_steps, crate::proofs::Answering::unasked_over, crate::proofs::Answering::over_plain, crate::proofs::Answering::asking_goes_on, wind_machine::proofs::Asking::asked_lacks))]
+    #[tactic(auto, using(crate::proofs::Answering::is_over, crate::proofs::Answering::asked_is))]
     #[inline(always)]
     pub fn step(&mut self) -> Step
         requires { (seen ⟦<dyn Device as Device>⟧ self.old).steps < most_steps }
@@ -125,16 +129,28 @@ impl Board {
     {
         step_law();
         is_early(&self.parts);
-        match asked_file(&self.parts) {
-            Ok(None) => {}
-            Ok(Some(name)) => return Step::NeedsFile(name),
-            Err(NoMemory) => return Step::NoMemory,
+        let Ok(next) = next(&self.parts, &mut self.known) else {
+            return Step::NoMemory;
+        };
+        make(&mut self.parts, &mut self.known, next)
+    }
+
+    /// Makes at most `most` steps that ask for no file and write nothing, in one go: instructions of whoever is known to make
+    /// the next steps. Returns how many it made. It may always be 0; what the next step is, `step` alone tells.
+    #[tactic(auto, using(crate::proofs::TaskBursts::holds_on))]
+    #[inline(always)]
+    pub fn burst(&mut self, most: u64) -> u64
+        requires { (seen ⟦<dyn Device as Device>⟧ self.old).steps + most ≤ most_steps }
+        ensures made { SilentSteps result (seen ⟦<dyn Device as Device>⟧ self.old)
+            (seen ⟦<dyn Device as Device>⟧ self.new) }
+        ensures within { result ≤ most }
+    {
+        if matches!(self.known, Known::Nothing) {
+            return 0;
         }
-        match make_step(&mut self.parts, &mut self.known) {
-            Made::Stepped => Step::Stepped,
-            Made::Quiet => Step::Quiet,
-            Made::NoMemory => Step::NoMemory,
-        }
+        step_law();
+        is_early(&self.parts);
+        burst(&mut self.parts, self.known, most)
     }
 
     /// Makes the next step, which loads the file of this name, with what is said of that file. It is made, unless host
@@ -152,7 +168,7 @@ impl Board {
     {
         step_law();
         is_early(&self.parts);
-        self.known = None;
+        self.known = Known::Nothing;
         load(&mut self.parts, name, file)
     }
 

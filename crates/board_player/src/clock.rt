@@ -1,6 +1,6 @@
 //! Board time, and the count of steps.
 
-ghost use Rattle.std.specs.Prelude.{◌≡◌, ◌+◌, ◌<◌, ◌^◌};
+ghost use Rattle.std.specs.Prelude.{◌≡◌, ◌+◌, ◌<◌, ◌≤◌, ◌^◌};
 ghost use Rattle.wind_base.specs.Limits.{most_steps};
 
 /// Board time, and how many steps were made.
@@ -26,6 +26,16 @@ impl Clock {
     {
         self.time += 1;
         self.steps += 1;
+    }
+
+    /// `n` steps that take board time.
+    pub(crate) fn advance(&mut self, n: u64)
+        requires time { self.old.time < 2 ^ 65 }
+        requires steps { self.old.steps + n ≤ most_steps }
+        ensures { self.new ≡ record { time = self.old.time + n; steps = self.old.steps + n } }
+    {
+        self.time += u128::from(n);
+        self.steps += n;
     }
 
     /// An event, which is a step that leaves board time.

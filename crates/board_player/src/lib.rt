@@ -2,6 +2,7 @@
 #![tactic(auto)]
 
 mod board;
+mod bursts;
 mod clock;
 mod loading;
 mod order;

@@ -6,15 +6,15 @@ ghost use Rattle.wind_base.specs.declared.gate.Gate.TheVariants as gates;
 ghost use Rattle.live_loading.specs.Said.{said_of};
 ghost use Rattle.wind_machine.specs.Good.{Good};
 ghost use Rattle.wind_machine.specs.declared.phase.Phase.TheVariants as phases;
-ghost use Rattle.wind_machine.specs.Machine.{stepping, file_asked, load_step};
+ghost use Rattle.wind_machine.specs.ActorSteps.{file_in, file_for as file_for_lem, load_step};
+ghost use Rattle.wind_machine.specs.Machine.{file_asked};
 ghost use Rattle.wind_machine.specs.Processor.{gate_under};
-ghost use Rattle.board_player.specs.Asking.{is_shells};
 ghost use Rattle.board_player.specs.Inside.{inside, parts_seen, IsSpacious};
 
-use crate::order::{asked, console_is_due, due_event};
 use crate::parts::Parts;
 use crate::steps::end;
 use board_turns::{counter, drop_own, give_back, revocable_turn, shell_id};
+use id_table::Ident;
 use kernel_calls::file_wanted;
 use kernel_world::Actor;
 use live_loading::{FileAnswer, kernel_load};
@@ -22,27 +22,6 @@ use wind_base::limits::GATES_START;
 use wind_base::{Gate, Name, NoMemory};
 use wind_machine::Phase;
 use wind_outside::Device;
-
-// Whether the next step is one of the shell's task.
-#[tactic(auto, using(crate::proofs::Running::opens, crate::proofs::Asked::active_steps, crate::proofs::Asked::due_steps, crate::proofs::Asked::console_steps, crate::proofs::Asked::runner_steps))]
-fn is_shells_step(parts: &Parts) -> bool
-    ensures { result ≡ is_shells (stepping (parts_seen ⟦<dyn Device as Device>⟧ parts.now)) }
-{
-    if parts.world.watch.active() {
-        return false;
-    }
-    let now = asked(parts);
-    if due_event(parts, now.is_open).is_some() {
-        return false;
-    }
-    if console_is_due(parts, now.is_open) {
-        return false;
-    }
-    match now.who {
-        Some(who) => who == shell_id(),
-        None => false,
-    }
-}
 
 // Whether the shell's task stands at the gate of `ld`.
 fn is_at_load(parts: &Parts) -> bool
@@ -55,15 +34,14 @@ fn is_at_load(parts: &Parts) -> bool
     }
 }
 
-// The file that the shell's task asks for where it stands, in a call, if the next step is its own.
-#[tactic(auto, using(crate::proofs::Asked::asked_is, crate::proofs::Asked::asked_at_load, crate::proofs::Asked::asked_elsewhere))]
+// The file that the shell's task asks for where it stands in a call.
+#[tactic(auto, using(crate::proofs::Asked::at_load_is, crate::proofs::Asked::elsewhere_at))]
 #[inline(never)]
-fn asked_in_call(parts: &Parts) -> Result<Option<Name>, NoMemory>
-    requires { parts.now.shell.phase ≡ phases.Call }
-    ensures asked { IfOk result (λ o. o ≡ file_asked (parts_seen ⟦<dyn Device as Device>⟧ parts.now)) }
-    ensures memory { OnErr result (IsSome (file_asked (parts_seen ⟦<dyn Device as Device>⟧ parts.now))) }
+fn file_in_call(parts: &Parts) -> Result<Option<Name>, NoMemory>
+    ensures file { IfOk result (λ o. o ≡ file_in phases.Call (parts_seen ⟦<dyn Device as Device>⟧ parts.now).world) }
+    ensures memory { OnErr result (IsSome (file_in phases.Call (parts_seen ⟦<dyn Device as Device>⟧ parts.now).world)) }
 {
-    if !is_at_load(parts) || !is_shells_step(parts) {
+    if !is_at_load(parts) {
         return Ok(None);
     }
     file_wanted(
@@ -74,16 +52,29 @@ fn asked_in_call(parts: &Parts) -> Result<Option<Name>, NoMemory>
     )
 }
 
-/// The name of the file that the next step asks for, if it does.
-#[tactic(auto, using(crate::proofs::Asked::asked_is))]
-#[inline]
-pub(crate) fn asked_file(parts: &Parts) -> Result<Option<Name>, NoMemory>
-    ensures asked { IfOk result (λ o. o ≡ file_asked (parts_seen ⟦<dyn Device as Device>⟧ parts.now)) }
-    ensures memory { OnErr result (IsSome (file_asked (parts_seen ⟦<dyn Device as Device>⟧ parts.now))) }
+// The file that the shell's task asks for, by its phase.
+fn shells_file(parts: &Parts) -> Result<Option<Name>, NoMemory>
+    ensures file { IfOk result (λ o. o ≡ file_in parts.now.shell.phase
+        (parts_seen ⟦<dyn Device as Device>⟧ parts.now).world) }
+    ensures memory { OnErr result (IsSome (file_in parts.now.shell.phase
+        (parts_seen ⟦<dyn Device as Device>⟧ parts.now).world)) }
 {
     match parts.shell.phase() {
-        Phase::Call => asked_in_call(parts),
+        Phase::Call => file_in_call(parts),
         Phase::Prompt | Phase::Read | Phase::Eval => Ok(None),
+    }
+}
+
+/// The name of the file that the step of the task of this id asks for, if it does.
+#[inline(always)]
+pub(crate) fn file_for(parts: &Parts, who: Ident) -> Result<Option<Name>, NoMemory>
+    ensures file { IfOk result (λ o. o ≡ file_for_lem (parts_seen ⟦<dyn Device as Device>⟧ parts.now) who) }
+    ensures memory { OnErr result (IsSome (file_for_lem (parts_seen ⟦<dyn Device as Device>⟧ parts.now) who)) }
+{
+    if who == shell_id() {
+        shells_file(parts)
+    } else {
+        Ok(None)
     }
 }
 

@@ -1,26 +1,34 @@
-//! The order of the next step.
+//! What comes next, and the step that it is.
 
-ghost use Rattle.std.specs.Prelude.{◌≡◌, ◌≢◌, ◌↔◌, ◌^◌, ◌<◌, true, false, Some, None, Ok, IfSome, nat_le, if◌then◌else◌, not, option_map, OnOk, OnErr};
+ghost use Rattle.std.specs.Prelude.{◌≡◌, ◌≢◌, ◌↔◌, ◌^◌, ◌<◌, true, None, Some, Ok, IfOk, IfSome, IsSome, nat_le, if◌then◌else◌, not, option_map, OnOk, OnErr};
 ghost use Rattle.wind_base.specs.Limits.{most_steps};
 ghost use Rattle.tick_file.specs.Laws.{IsEarly};
 ghost use Rattle.wind_core.specs.State.{Lives, task_id};
 ghost use Rattle.wind_core.specs.Orders.{running as running_lem};
 ghost use Rattle.kernel_world.specs.Objects.{IsReady};
-ghost use Rattle.kernel_world.specs.declared.actor.Actor.TheVariants as actors;
+ghost use Rattle.live_loading.specs.Said.{FileSaid};
 ghost use Rattle.wind_machine.specs.Good.{Good};
 ghost use Rattle.wind_machine.specs.Processor.{gate_under};
-ghost use Rattle.wind_machine.specs.Machine.{due_event as due_event_lem, event_of, console_is_due as console_is_due_lem, is_open as is_open_lem, is_active as is_active_lem, holds_back, next_event, shell_step, step_of, jump_to, file_of, file_asked, plain_step, phase_may, gate_may, who_may, may_lack_memory};
+ghost use Rattle.wind_machine.specs.Events.{next_event};
+ghost use Rattle.wind_machine.specs.ActorSteps.{shell_step, step_of, file_for as file_for_lem};
+ghost use Rattle.wind_machine.specs.Next.{due_event as due_event_lem, event_of, console_is_due as console_is_due_lem, is_open as is_open_lem, is_active as is_active_lem, holds_back, task_next as task_next_lem, next as next_lem};
+ghost use Rattle.wind_machine.specs.Machine.{state_after, file_of, phase_may, gate_may, who_may, next_may, may_lack_memory};
+ghost use Rattle.wind_machine.specs.declared.next.Next.TheVariants as nexts;
 ghost use Rattle.board_player.specs.Inside.{inside, parts_seen, IsSpacious};
+ghost use Rattle.board_player.specs.Asking.{needed};
 ghost use Rattle.board_player.specs.Going.{IsKnown, OnlyStepped};
-ghost use Rattle.board_player.specs.declared.order.Made.TheVariants as steps;
+ghost use Rattle.board_player.specs.Knowing.{RoutineKnown, jump_or_over as jump_or_over_lem};
+ghost use Rattle.board_player.specs.declared.Step.TheVariants as steps;
 
+use crate::Step;
+use crate::loading::file_for;
 use crate::parts::Parts;
 use crate::steps::{arrive, come, evaluate, jump, prompt, read, run, step_routine};
 use board_turns::{shell_id, waits_for_console};
 use id_table::Ident;
 use tick_file::Event;
 use wind_base::NoMemory;
-use wind_machine::Phase;
+use wind_machine::{Next, Phase};
 use wind_outside::Device;
 
 // The event, where its time has come.
@@ -34,17 +42,6 @@ fn when_due(next: (u64, Event), time: u128) -> Option<Event>
     }
 }
 
-/// What became of a step that asks for no file.
-#[derive(Clone, Copy, Debug, PartialEq, Eq)]
-pub enum Made {
-    /// It was made.
-    Stepped,
-    /// There is no such step.
-    Quiet,
-    /// Host memory ran out. Nothing has changed.
-    NoMemory,
-}
-
 /// Which task runs, and whether interrupts may come meanwhile.
 #[derive(Clone, Copy, Debug, PartialEq, Eq)]
 pub struct Running {
@@ -52,12 +49,30 @@ pub struct Running {
     pub(crate) is_open: bool,
 }
 
-/// Which task runs, which is asked where it is not known.
+/// What is known of who makes the next step, from the step before.
+#[derive(Clone, Copy, Debug, PartialEq, Eq)]
+pub enum Known {
+    /// Nothing.
+    Nothing,
+    /// No interrupt routine is active, and this is the task that runs.
+    Runner(Running),
+    /// An interrupt routine is active, and no task has a reservation.
+    Routine,
+}
+
+// Which task runs, which is asked if it isn't known. If no task is ready, nobody runs.
+#[tactic(auto, using(crate::proofs::Idle::nobody_runs))]
 #[inline(never)]
-pub(crate) fn asked(parts: &Parts) -> Running
+fn ask(parts: &Parts) -> Running
     ensures who { result.who ≡ option_map task_id (running_lem parts.now.world.kern) }
     ensures back { result.is_open ≡ not (holds_back (running_lem parts.now.world.kern)) }
 {
+    if parts.world.kern.ready().len() == 0 {
+        return Running {
+            who: None,
+            is_open: true,
+        };
+    }
     match parts.world.kern.running() {
         Some(task) => Running {
             who: Some(task.id),
@@ -70,15 +85,15 @@ pub(crate) fn asked(parts: &Parts) -> Running
     }
 }
 
-// Which task runs, as it is known from the step before, or as it is asked.
-fn who_runs(parts: &Parts, known: Option<Running>) -> Running
-    requires { IsKnown parts.now.world.kern parts.now.world.watch.level known }
+// Which task runs, as it is known from the step before, or else asked.
+fn who_runs(parts: &Parts, known: &Known) -> Running
+    requires { IsKnown parts.now.world.kern parts.now.world.watch.level known.now }
     ensures who { result.who ≡ option_map task_id (running_lem parts.now.world.kern) }
     ensures back { result.is_open ≡ not (holds_back (running_lem parts.now.world.kern)) }
 {
     match known {
-        Some(now) => now,
-        None => asked(parts),
+        Known::Runner(now) => *now,
+        Known::Nothing | Known::Routine => ask(parts),
     }
 }
 
@@ -110,37 +125,43 @@ pub(crate) fn console_is_due(parts: &Parts, is_open: bool) -> bool
         && !parts.console.has_line()
 }
 
-// The shell's step, by its phase. For want of memory nothing changes.
+// The shell's step, by its phase. If memory runs out, nothing changes. Returns whether it was an instruction that caused
+// no exception.
 #[inline(never)]
-fn run_shell(parts: &mut Parts) -> Result<(), NoMemory>
+fn run_shell(parts: &mut Parts) -> Result<bool, NoMemory>
     requires good { Good (inside parts.old) }
     requires few { parts.old.clock.steps < most_steps }
     requires space { IsSpacious parts.old }
     requires ready { IsReady parts.old.world.kern 1 }
-    requires asks { file_of (parts_seen ⟦<dyn Device as Device>⟧ parts.old) (Some (actors.Task 1)) ≡ None }
+    requires asks { file_for_lem (parts_seen ⟦<dyn Device as Device>⟧ parts.old) 1 ≡ None }
     ensures ok { OnOk result (parts_seen ⟦<dyn Device as Device>⟧ parts.new
         ≡ shell_step parts.old.shell.phase (parts_seen ⟦<dyn Device as Device>⟧ parts.old)) }
     ensures memory { OnErr result (phase_may parts.old.shell.phase
         (gate_may (gate_under (parts_seen ⟦<dyn Device as Device>⟧ parts.old).world 1)) ≡ true) }
     ensures err { OnErr result (parts_seen ⟦<dyn Device as Device>⟧ parts.new
         ≡ parts_seen ⟦<dyn Device as Device>⟧ parts.old) }
+    ensures only { result ≡ Ok true → OnlyStepped parts.old.world.kern parts.new.world.kern 1 }
+    ensures watch { result ≡ Ok true → parts.new.world.watch ≡ parts.old.world.watch }
     ensures space { IsSpacious parts.new }
 {
     match parts.shell.phase() {
         Phase::Prompt => {
             prompt(parts);
-            Ok(())
+            Ok(false)
         }
-        Phase::Read => read(parts),
-        Phase::Eval => evaluate(parts),
-        Phase::Call => {
-            run(parts, shell_id())?;
-            Ok(())
+        Phase::Read => {
+            read(parts)?;
+            Ok(false)
         }
+        Phase::Eval => {
+            evaluate(parts)?;
+            Ok(false)
+        }
+        Phase::Call => run(parts, shell_id()),
     }
 }
 
-// The step of whoever runs. For want of memory nothing changes. Tells whether it was an instruction that came without an
+// The step of whoever runs. If memory runs out, nothing changes. Returns whether it was an instruction that caused no
 // exception.
 #[inline(always)]
 fn run_task(parts: &mut Parts, who: Ident) -> Result<bool, NoMemory>
@@ -149,7 +170,7 @@ fn run_task(parts: &mut Parts, who: Ident) -> Result<bool, NoMemory>
     requires space { IsSpacious parts.old }
     requires live { Lives parts.old.world.kern who }
     requires ready { IsReady parts.old.world.kern who }
-    requires asks { file_of (parts_seen ⟦<dyn Device as Device>⟧ parts.old) (Some (actors.Task who)) ≡ None }
+    requires asks { file_for_lem (parts_seen ⟦<dyn Device as Device>⟧ parts.old) who ≡ None }
     ensures ok { OnOk result (parts_seen ⟦<dyn Device as Device>⟧ parts.new
         ≡ step_of (parts_seen ⟦<dyn Device as Device>⟧ parts.old) who) }
     ensures memory { OnErr result (who_may (parts_seen ⟦<dyn Device as Device>⟧ parts.old) who ≡ true) }
@@ -160,61 +181,21 @@ fn run_task(parts: &mut Parts, who: Ident) -> Result<bool, NoMemory>
     ensures space { IsSpacious parts.new }
 {
     if who == shell_id() {
-        run_shell(parts)?;
-        Ok(false)
+        run_shell(parts)
     } else {
         run(parts, who)
     }
 }
 
-// Board time becomes that of the next event. False, and nothing changes, where there is none.
-#[inline(never)]
-fn jump_on(parts: &mut Parts) -> bool
-    requires few { parts.old.clock.steps < most_steps }
-    requires space { IsSpacious parts.old }
-    ensures made { result ≡ true →
-        jump_to (parts_seen ⟦<dyn Device as Device>⟧ parts.old) (next_event (parts_seen ⟦<dyn Device as Device>⟧ parts.old))
-        ≡ Some (parts_seen ⟦<dyn Device as Device>⟧ parts.new) }
-    ensures none { result ≡ false →
-        jump_to (parts_seen ⟦<dyn Device as Device>⟧ parts.old) (next_event (parts_seen ⟦<dyn Device as Device>⟧ parts.old))
-        ≡ None }
-    ensures same { result ≡ false → parts_seen ⟦<dyn Device as Device>⟧ parts.new
-        ≡ parts_seen ⟦<dyn Device as Device>⟧ parts.old }
-    ensures space { IsSpacious parts.new }
+// What is known after a step of the interrupt routine: after an instruction that caused no exception, it is active still.
+fn routine_runs_on(is_done: bool) -> Known
+    ensures { RoutineKnown is_done result }
 {
-    let Some(next) = parts.schedule.next() else {
-        return false;
-    };
-    jump(parts, next.0);
-    true
-}
-
-// The answer of a step that may lack memory.
-fn step_of_result(made: Result<bool, NoMemory>) -> Made
-    ensures ok { OnOk made (result ≡ steps.Stepped) }
-    ensures err { OnErr made (result ≡ steps.NoMemory) }
-{
-    match made {
-        Ok(_) => Made::Stepped,
-        Err(NoMemory) => Made::NoMemory,
+    if is_done {
+        Known::Routine
+    } else {
+        Known::Nothing
     }
-}
-
-// Who runs behind a step, where that is known: behind an instruction that came without an exception.
-fn runs_on(now: Running, made: Result<bool, NoMemory>) -> Option<Running>
-    ensures { IfSome result (λ known. (known ≡ now) × (made ≡ Ok true)) }
-{
-    match made {
-        Ok(true) => Some(now),
-        _ => None,
-    }
-}
-
-// The answer of a step that may be none.
-fn stepped_if(made: bool) -> Made
-    ensures { result ≡ (if made then steps.Stepped else steps.Quiet) }
-{
-    if made { Made::Stepped } else { Made::Quiet }
 }
 
 // A time of 64 bits.
@@ -234,79 +215,142 @@ pub(crate) fn is_early(parts: &Parts)
     }
 }
 
-// Makes the next step, if there is one, where no interrupt routine is active. For want of memory nothing changes. Who
-// runs is kept where it is known.
-#[tactic(auto, unfolding(wind_machine::specs::Machine::plain_step), using(crate::proofs::Running::opens))]
-#[inline(always)]
-fn step_tasks(parts: &mut Parts, known: &mut Option<Running>) -> Made
-    requires idle { is_active_lem (parts_seen ⟦<dyn Device as Device>⟧ parts.old).world ≡ false }
-    requires good { Good (inside parts.old) }
-    requires few { parts.old.clock.steps < most_steps }
-    requires space { IsSpacious parts.old }
-    requires unasked { file_asked (parts_seen ⟦<dyn Device as Device>⟧ parts.old) ≡ None }
-    requires known { IsKnown parts.old.world.kern parts.old.world.watch.level known.old }
-    ensures stepped { result ≡ steps.Stepped → plain_step (parts_seen ⟦<dyn Device as Device>⟧ parts.old)
-        ≡ Some (parts_seen ⟦<dyn Device as Device>⟧ parts.new) }
-    ensures quiet { (result ≡ steps.Quiet) ↔ (plain_step (parts_seen ⟦<dyn Device as Device>⟧ parts.old) ≡ None) }
-    ensures no_memory { result ≡ steps.NoMemory → may_lack_memory (parts_seen ⟦<dyn Device as Device>⟧ parts.old)
-        ≡ true }
-    ensures unchanged { result ≢ steps.Stepped → parts_seen ⟦<dyn Device as Device>⟧ parts.new
-        ≡ parts_seen ⟦<dyn Device as Device>⟧ parts.old }
-    ensures space { IsSpacious parts.new }
-    ensures known { IsKnown parts.new.world.kern parts.new.world.watch.level known.new }
-{
-    let now = who_runs(parts, known.take());
-    if let Some(event) = due_event(parts, now.is_open) {
-        come(parts, event);
-        return Made::Stepped;
-    }
-    if console_is_due(parts, now.is_open) {
-        arrive(parts);
-        return Made::Stepped;
-    }
-    let Some(who) = now.who else {
-        return stepped_if(jump_on(parts));
-    };
-    let made = run_task(parts, who);
-    *known = runs_on(now, made);
-    step_of_result(made)
-}
-
-// Whether an interrupt routine is active. Where it is known which task runs, none is.
-fn is_active(parts: &Parts, known: &Option<Running>) -> bool
+// Whether an interrupt routine is active, as it is known from the step before, or as it is asked.
+fn is_active(parts: &Parts, known: &Known) -> bool
     requires { IsKnown parts.now.world.kern parts.now.world.watch.level known.now }
     ensures { result ≡ is_active_lem (parts_seen ⟦<dyn Device as Device>⟧ parts.now).world }
 {
     match known {
-        Some(_) => false,
-        None => parts.world.watch.active(),
+        Known::Nothing => parts.world.watch.active(),
+        Known::Runner(_) => false,
+        Known::Routine => true,
     }
 }
 
-/// Makes the next step, if there is one, where it asks for no file. For want of memory nothing changes. Which task runs
-/// is kept where it is known.
-#[tactic(auto, using(crate::proofs::Running::routine_runs))]
+// The step of the task of this id: a load, if it asks for a file.
+fn task_next(parts: &Parts, who: Ident) -> Result<Next, NoMemory>
+    ensures next { IfOk result (λ n. n ≡ task_next_lem (parts_seen ⟦<dyn Device as Device>⟧ parts.now) who) }
+    ensures memory { OnErr result (IsSome (file_for_lem (parts_seen ⟦<dyn Device as Device>⟧ parts.now) who)) }
+{
+    match file_for(parts, who)? {
+        None => Ok(Next::Act(who)),
+        Some(name) => Ok(Next::Load(name)),
+    }
+}
+
+// Where nobody runs, time jumps to the next event, if there is one.
+#[tactic(auto, using(crate::proofs::Deciding::jump_there, crate::proofs::Deciding::no_jump))]
+fn jump_or_over(parts: &Parts) -> Next
+    ensures { result ≡ jump_or_over_lem (next_event (parts_seen ⟦<dyn Device as Device>⟧ parts.now)) }
+{
+    match parts.schedule.next() {
+        Some(event) => Next::Jump(event.0),
+        None => Next::Over,
+    }
+}
+
+/// What comes next. Who runs is known then, unless an interrupt routine is active.
+#[tactic(auto, using(crate::proofs::Running::opens, crate::proofs::Deciding::routine_next, crate::proofs::Deciding::console_next, crate::proofs::Deciding::runner_next, crate::proofs::Deciding::nobody_next))]
 #[inline(always)]
-pub(crate) fn make_step(parts: &mut Parts, known: &mut Option<Running>) -> Made
+pub(crate) fn next(parts: &Parts, known: &mut Known) -> Result<Next, NoMemory>
+    requires { IsKnown parts.now.world.kern parts.now.world.watch.level known.old }
+    ensures next { IfOk result (λ n. n ≡ next_lem (parts_seen ⟦<dyn Device as Device>⟧ parts.now)) }
+    ensures memory { OnErr result (may_lack_memory (parts_seen ⟦<dyn Device as Device>⟧ parts.now) ≡ true) }
+    ensures known { IsKnown parts.now.world.kern parts.now.world.watch.level known.new }
+{
+    if is_active(parts, known) {
+        return Ok(Next::Routine);
+    }
+    let now = who_runs(parts, known);
+    let is_open = now.is_open;
+    let who = now.who;
+    *known = Known::Runner(now);
+    if let Some(event) = due_event(parts, is_open) {
+        return Ok(Next::Come(event));
+    }
+    if console_is_due(parts, is_open) {
+        return Ok(Next::Arrive);
+    }
+    match who {
+        Some(who) => task_next(parts, who),
+        None => Ok(jump_or_over(parts)),
+    }
+}
+
+// The task that runs makes a step that asks for no file. Who runs stays known after an instruction that caused no exception.
+#[inline(always)]
+fn act(parts: &mut Parts, known: &mut Known, who: Ident) -> Step
     requires good { Good (inside parts.old) }
     requires few { parts.old.clock.steps < most_steps }
     requires space { IsSpacious parts.old }
-    requires unasked { file_asked (parts_seen ⟦<dyn Device as Device>⟧ parts.old) ≡ None }
+    requires next { nexts.Act who ≡ next_lem (parts_seen ⟦<dyn Device as Device>⟧ parts.old) }
     requires known { IsKnown parts.old.world.kern parts.old.world.watch.level known.old }
-    ensures stepped { result ≡ steps.Stepped → plain_step (parts_seen ⟦<dyn Device as Device>⟧ parts.old)
-        ≡ Some (parts_seen ⟦<dyn Device as Device>⟧ parts.new) }
-    ensures quiet { (result ≡ steps.Quiet) ↔ (plain_step (parts_seen ⟦<dyn Device as Device>⟧ parts.old) ≡ None) }
-    ensures no_memory { result ≡ steps.NoMemory → may_lack_memory (parts_seen ⟦<dyn Device as Device>⟧ parts.old)
-        ≡ true }
+    ensures stepped { result ≡ steps.Stepped → parts_seen ⟦<dyn Device as Device>⟧ parts.new
+        ≡ step_of (parts_seen ⟦<dyn Device as Device>⟧ parts.old) who }
+    ensures either { result ≢ steps.Quiet }
+    ensures file { needed result ≡ None }
+    ensures no_memory { result ≡ steps.NoMemory → who_may (parts_seen ⟦<dyn Device as Device>⟧ parts.old) who ≡ true }
     ensures unchanged { result ≢ steps.Stepped → parts_seen ⟦<dyn Device as Device>⟧ parts.new
         ≡ parts_seen ⟦<dyn Device as Device>⟧ parts.old }
     ensures space { IsSpacious parts.new }
     ensures known { IsKnown parts.new.world.kern parts.new.world.watch.level known.new }
 {
-    if is_active(parts, known) {
-        step_routine(parts);
-        *known = None;
-        return Made::Stepped;
+    match run_task(parts, who) {
+        Ok(true) => Step::Stepped,
+        Ok(false) => {
+            *known = Known::Nothing;
+            Step::Stepped
+        }
+        Err(NoMemory) => {
+            *known = Known::Nothing;
+            Step::NoMemory
+        }
     }
-    step_tasks(parts, known)
+}
+
+/// Makes the step that comes next, unless it is a load, or the run is over. Nothing changes unless it is made. Keeps what
+/// is known of who makes the step after it.
+#[inline(always)]
+pub(crate) fn make(parts: &mut Parts, known: &mut Known, next: Next) -> Step
+    requires good { Good (inside parts.old) }
+    requires few { parts.old.clock.steps < most_steps }
+    requires space { IsSpacious parts.old }
+    requires next { next ≡ next_lem (parts_seen ⟦<dyn Device as Device>⟧ parts.old) }
+    requires known { IsKnown parts.old.world.kern parts.old.world.watch.level known.old }
+    ensures stepped { result ≡ steps.Stepped → (said : FileSaid)
+        → state_after said (parts_seen ⟦<dyn Device as Device>⟧ parts.old) next
+        ≡ Some (parts_seen ⟦<dyn Device as Device>⟧ parts.new) }
+    ensures quiet { (result ≡ steps.Quiet) ↔ (next ≡ nexts.Over) }
+    ensures file { needed result ≡ file_of next }
+    ensures no_memory { result ≡ steps.NoMemory
+        → next_may (parts_seen ⟦<dyn Device as Device>⟧ parts.old) next ≡ true }
+    ensures unchanged { result ≢ steps.Stepped → parts_seen ⟦<dyn Device as Device>⟧ parts.new
+        ≡ parts_seen ⟦<dyn Device as Device>⟧ parts.old }
+    ensures space { IsSpacious parts.new }
+    ensures known { IsKnown parts.new.world.kern parts.new.world.watch.level known.new }
+{
+    match next {
+        Next::Come(event) => {
+            *known = Known::Nothing;
+            come(parts, event);
+            Step::Stepped
+        }
+        Next::Arrive => {
+            *known = Known::Nothing;
+            arrive(parts);
+            Step::Stepped
+        }
+        Next::Routine => {
+            let is_done = step_routine(parts);
+            *known = routine_runs_on(is_done);
+            Step::Stepped
+        }
+        Next::Act(who) => act(parts, known, who),
+        Next::Load(name) => Step::NeedsFile(name),
+        Next::Jump(time) => {
+            jump(parts, time);
+            Step::Stepped
+        }
+        Next::Over => Step::Quiet,
+    }
 }

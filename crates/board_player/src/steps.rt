@@ -7,14 +7,16 @@ ghost use Rattle.wind_core.specs.State.{Lives};
 ghost use Rattle.kernel_world.specs.Objects.{IsReady};
 ghost use Rattle.wind_machine.specs.Good.{Good};
 ghost use Rattle.wind_base.specs.Gates.{gate_at};
-ghost use Rattle.kernel_world.specs.Allowed.{may_lack_memory};
-ghost use Rattle.kernel_world.specs.declared.actor.Actor.TheVariants as actors;
+ghost use Rattle.kernel_world.specs.Allowed.{may_lack_memory as may_lack_memory_lem};
 ghost use Rattle.wind_machine.specs.Processor.{gate_under, regs_of};
-ghost use Rattle.wind_machine.specs.Machine.{prompt_step, read_step, eval_step, task_step, is_active, arrival, routine_step, file_of, gate_may, ticked, received};
+ghost use Rattle.wind_machine.specs.Events.{arrival, ticked, received, event_step, jump as jump_lem};
+ghost use Rattle.wind_machine.specs.ActorSteps.{prompt_step, read_step, eval_step, task_step, routine_step, file_for};
+ghost use Rattle.wind_machine.specs.Next.{is_active};
+ghost use Rattle.wind_machine.specs.Machine.{gate_may};
 ghost use Rattle.wind_machine.specs.declared.phase.Phase.TheVariants as phases;
 ghost use Rattle.board_player.specs.Inside.{inside, parts_seen, IsSpacious};
-ghost use Rattle.board_player.specs.Going.{OnlyStepped};
-ghost use Rattle.board_player.specs.Moves.{noted_step, heard_bytes, coming, jumped};
+ghost use Rattle.board_player.specs.Going.{OnlyStepped, IsRoutine};
+ghost use Rattle.board_player.specs.Moves.{noted_step, heard_bytes};
 
 use crate::parts::Parts;
 use board_turns::{
@@ -23,6 +25,7 @@ use board_turns::{
 };
 use con_line::{Console, LINE_ROOM};
 use id_table::Ident;
+use kernel_world::may_lack_memory;
 use tick_file::Event;
 use wind_base::limits::GATES_START;
 use wind_base::text::add;
@@ -145,10 +148,10 @@ fn run_word(parts: &mut Parts, who: Ident, at: u32) -> bool
     is_done
 }
 
-// What a task does at a gate. For want of memory nothing changes.
+// What a task does at a gate whose call can't run out of memory.
 #[tactic(auto, using(crate::proofs::Beginning::good_early))]
 #[inline(never)]
-fn run_gate(parts: &mut Parts, who: Ident, at: u32, gate: Gate) -> Result<(), NoMemory>
+fn run_sure_gate(parts: &mut Parts, who: Ident, at: u32, gate: Gate)
     requires good { Good (inside parts.old) }
     requires few { parts.old.clock.steps < most_steps }
     requires space { IsSpacious parts.old }
@@ -157,10 +160,36 @@ fn run_gate(parts: &mut Parts, who: Ident, at: u32, gate: Gate) -> Result<(), No
     requires phase { who ≡ 1 → parts.old.shell.phase ≡ phases.Call }
     requires counter { at ≡ (regs_of (parts_seen ⟦<dyn Device as Device>⟧ parts.old).world who).pc }
     requires gate { gate_at gates_start at ≡ Some gate }
-    requires asks { file_of (parts_seen ⟦<dyn Device as Device>⟧ parts.old) (Some (actors.Task who)) ≡ None }
+    requires asks { file_for (parts_seen ⟦<dyn Device as Device>⟧ parts.old) who ≡ None }
+    requires sure { may_lack_memory_lem gate ≡ false }
+    ensures step { parts_seen ⟦<dyn Device as Device>⟧ parts.new
+        ≡ task_step (parts_seen ⟦<dyn Device as Device>⟧ parts.old) who }
+    ensures space { IsSpacious parts.new }
+{
+    let _ = at;
+    turn(&mut parts.world, who);
+    match at_gate(parts.alloc, &mut parts.shell, &mut parts.world, who, gate) {
+        Ok(()) => end(parts, who),
+        Err(NoMemory) => unreachable!(),
+    }
+}
+
+// What a task does at a gate whose call may run out of memory. Nothing changes then: what the call would undo is kept.
+#[tactic(auto, using(crate::proofs::Beginning::good_early))]
+#[inline(never)]
+fn run_revocable_gate(parts: &mut Parts, who: Ident, at: u32, gate: Gate) -> Result<(), NoMemory>
+    requires good { Good (inside parts.old) }
+    requires few { parts.old.clock.steps < most_steps }
+    requires space { IsSpacious parts.old }
+    requires live { Lives parts.old.world.kern who }
+    requires ready { IsReady parts.old.world.kern who }
+    requires phase { who ≡ 1 → parts.old.shell.phase ≡ phases.Call }
+    requires counter { at ≡ (regs_of (parts_seen ⟦<dyn Device as Device>⟧ parts.old).world who).pc }
+    requires gate { gate_at gates_start at ≡ Some gate }
+    requires asks { file_for (parts_seen ⟦<dyn Device as Device>⟧ parts.old) who ≡ None }
     ensures ok { OnOk result (parts_seen ⟦<dyn Device as Device>⟧ parts.new
         ≡ task_step (parts_seen ⟦<dyn Device as Device>⟧ parts.old) who) }
-    ensures memory { OnErr result (may_lack_memory gate ≡ true) }
+    ensures memory { OnErr result (may_lack_memory_lem gate ≡ true) }
     ensures err { OnErr result (parts_seen ⟦<dyn Device as Device>⟧ parts.new
         ≡ parts_seen ⟦<dyn Device as Device>⟧ parts.old) }
     ensures space { IsSpacious parts.new }
@@ -179,6 +208,31 @@ fn run_gate(parts: &mut Parts, who: Ident, at: u32, gate: Gate) -> Result<(), No
     }
 }
 
+// What a task does at a gate. If memory runs out, nothing changes.
+fn run_gate(parts: &mut Parts, who: Ident, at: u32, gate: Gate) -> Result<(), NoMemory>
+    requires good { Good (inside parts.old) }
+    requires few { parts.old.clock.steps < most_steps }
+    requires space { IsSpacious parts.old }
+    requires live { Lives parts.old.world.kern who }
+    requires ready { IsReady parts.old.world.kern who }
+    requires phase { who ≡ 1 → parts.old.shell.phase ≡ phases.Call }
+    requires counter { at ≡ (regs_of (parts_seen ⟦<dyn Device as Device>⟧ parts.old).world who).pc }
+    requires gate { gate_at gates_start at ≡ Some gate }
+    requires asks { file_for (parts_seen ⟦<dyn Device as Device>⟧ parts.old) who ≡ None }
+    ensures ok { OnOk result (parts_seen ⟦<dyn Device as Device>⟧ parts.new
+        ≡ task_step (parts_seen ⟦<dyn Device as Device>⟧ parts.old) who) }
+    ensures memory { OnErr result (may_lack_memory_lem gate ≡ true) }
+    ensures err { OnErr result (parts_seen ⟦<dyn Device as Device>⟧ parts.new
+        ≡ parts_seen ⟦<dyn Device as Device>⟧ parts.old) }
+    ensures space { IsSpacious parts.new }
+{
+    if may_lack_memory(gate) {
+        return run_revocable_gate(parts, who, at, gate);
+    }
+    run_sure_gate(parts, who, at, gate);
+    Ok(())
+}
+
 /// A task is at a gate, or makes an instruction. For want of memory, which comes only at a gate whose call may lack it,
 /// nothing changes. Tells whether it was an instruction that came without an exception.
 #[inline(always)]
@@ -189,7 +243,7 @@ pub(crate) fn run(parts: &mut Parts, who: Ident) -> Result<bool, NoMemory>
     requires live { Lives parts.old.world.kern who }
     requires ready { IsReady parts.old.world.kern who }
     requires phase { who ≡ 1 → parts.old.shell.phase ≡ phases.Call }
-    requires asks { file_of (parts_seen ⟦<dyn Device as Device>⟧ parts.old) (Some (actors.Task who)) ≡ None }
+    requires asks { file_for (parts_seen ⟦<dyn Device as Device>⟧ parts.old) who ≡ None }
     ensures ok { OnOk result (parts_seen ⟦<dyn Device as Device>⟧ parts.new
         ≡ task_step (parts_seen ⟦<dyn Device as Device>⟧ parts.old) who) }
     ensures memory { OnErr result (gate_may (gate_under (parts_seen ⟦<dyn Device as Device>⟧ parts.old).world who)
@@ -210,21 +264,24 @@ pub(crate) fn run(parts: &mut Parts, who: Ident) -> Result<bool, NoMemory>
     }
 }
 
-/// The interrupt routine that is active makes a step.
+/// The interrupt routine that is active makes a step. Returns whether it was an instruction that caused no exception; the
+/// routine is active still then, and no task has a reservation.
 #[tactic(auto, using(crate::proofs::Beginning::good_early))]
 #[inline(never)]
-pub fn step_routine(parts: &mut Parts)
+pub(crate) fn step_routine(parts: &mut Parts) -> bool
     requires active { is_active (parts_seen ⟦<dyn Device as Device>⟧ parts.old).world ≡ true }
     requires good { Good (inside parts.old) }
     requires few { parts.old.clock.steps < most_steps }
     requires space { IsSpacious parts.old }
     ensures step { parts_seen ⟦<dyn Device as Device>⟧ parts.new
         ≡ routine_step (parts_seen ⟦<dyn Device as Device>⟧ parts.old) }
+    ensures routine { result ≡ true → IsRoutine parts.new.world.kern parts.new.world.watch.level }
     ensures space { IsSpacious parts.new }
 {
     routine_turn(&mut parts.world);
-    run_routine(parts.alloc, &mut parts.world);
+    let is_done = run_routine(parts.alloc, &mut parts.world);
     parts.clock.step();
+    is_done
 }
 
 /// The next chunk of the console arrives.
@@ -307,7 +364,7 @@ pub(crate) fn come(parts: &mut Parts, event: Event)
     requires few { parts.old.clock.steps < most_steps }
     requires space { IsSpacious parts.old }
     ensures step { parts_seen ⟦<dyn Device as Device>⟧ parts.new
-        ≡ coming (parts_seen ⟦<dyn Device as Device>⟧ parts.old) event }
+        ≡ event_step (parts_seen ⟦<dyn Device as Device>⟧ parts.old) event }
     ensures space { IsSpacious parts.new }
 {
     drop_all(&mut parts.world.kern);
@@ -323,7 +380,9 @@ pub(crate) fn jump(parts: &mut Parts, time: u64)
     requires few { parts.old.clock.steps < most_steps }
     requires space { IsSpacious parts.old }
     ensures step { parts_seen ⟦<dyn Device as Device>⟧ parts.new
-        ≡ jumped (parts_seen ⟦<dyn Device as Device>⟧ parts.old) time }
+        ≡ jump_lem (parts_seen ⟦<dyn Device as Device>⟧ parts.old) time }
+    ensures kern { parts.new.world.kern ≡ parts.old.world.kern }
+    ensures watch { parts.new.world.watch ≡ parts.old.world.watch }
     ensures space { IsSpacious parts.new }
 {
     parts.world.out.clear();

@@ -1,7 +1,7 @@
 -- A loop over the bytes that come.
 use Rattle.std.proofs.Common.{◌≡◌, ℕ, ◌+◌, ◌<◌, List, ◌∷◌, length, drop, get_or, drop-cons, add-one, sym, ap, ◌∙◌}
 use Rattle.std.specs.List.{fold}
-use Rattle.wind_machine.specs.Machine.{Heard, hear, heard_all}
+use Rattle.wind_machine.specs.Events.{Heard, hear, heard_all}
 
 -- one byte further
 pub hear_more : (h new : Heard) (bytes : List ℕ) (i : ℕ) → i < length bytes → new ≡ hear h (get_or bytes i 0) → heard_all new (drop (i + 1) bytes) ≡ heard_all h (drop i bytes)

@@ -1,5 +1,5 @@
 -- What an instruction leaves of the world.
-use Rattle.std.proofs.Common.{◌≡◌, ℕ, Option, None, Some, Result, Ok, refl, sym, ap, ◌∙◌, subst}
+use Rattle.std.proofs.Common.{◌≡◌, ℕ, true, false, Option, None, Some, is_some, Result, Ok, Err, refl, sym, ap, ◌∙◌, subst}
 use Rattle.std.specs.Prelude.{unwrap_or}
 use Rattle.std.specs.Option.{option_map}
 use Rattle.wind_base.specs.declared.regs.Regs.{Regs}
@@ -18,6 +18,7 @@ use Rattle.wind_machine.specs.Part.{with_kern}
 use Rattle.wind_machine.specs.Processor.{bus_of, with_bus, regs_of}
 use Rattle.wind_machine.proofs.Reserving.{own_regs}
 use Rattle.wind_machine.specs.Routine.{with_watch, routine_regs}
+use Rattle.board_turns.specs.Instructions.{is_done}
 use Rattle.board_turns.specs.Running.{Ran, RoutineRan, OnlyRegs}
 
 module _ (w : WorldState) (who : ℕ) (is : IsKern w.kern) where
@@ -71,3 +72,29 @@ only_regs (Trapped trap) r who old new ran ok = absurd (cc)
 pub same_watch : (o : Outcome BusState) (r : Result (Unit {0}) Trap) (who : ℕ) (old new : WorldState) → Ran o r who old new → r ≡ Ok tt → new.watch ≡ old.watch
 same_watch (Done regs bus) r who old new ran ok = ap (λ w. w.watch) ran.1
 same_watch (Trapped trap) r who old new ran ok = absurd (cc)
+
+-- ---- it answers Ok exactly if it completes
+pub done_so : (o : Outcome BusState) (r : Result (Unit {0}) Trap) (who : ℕ) (old new : WorldState) → Ran o r who old new → r ≡ Ok tt → is_done o ≡ true
+done_so (Done regs bus) r who old new ran ok = refl
+done_so (Trapped trap) r who old new ran ok = absurd (cc)
+
+pub not_done_so : (o : Outcome BusState) (r : Result (Unit {0}) Trap) (who : ℕ) (old new : WorldState) (trap : Trap) → Ran o r who old new → r ≡ Err trap → is_done o ≡ false
+not_done_so (Done regs bus) r who old new trap ran bad = absurd (cc)
+not_done_so (Trapped other) r who old new trap ran bad = refl
+
+pub routine_done_so : (o : Outcome BusState) (r : Result (Unit {0}) Trap) (old new : WorldState) → RoutineRan o r old new → r ≡ Ok tt → is_done o ≡ true
+routine_done_so (Done regs bus) r old new ran ok = refl
+routine_done_so (Trapped trap) r old new ran ok = absurd (cc)
+
+pub routine_not_done_so : (o : Outcome BusState) (r : Result (Unit {0}) Trap) (old new : WorldState) (trap : Trap) → RoutineRan o r old new → r ≡ Err trap → is_done o ≡ false
+routine_not_done_so (Done regs bus) r old new trap ran bad = absurd (cc)
+routine_not_done_so (Trapped other) r old new trap ran bad = refl
+
+-- ---- one of a routine without an exception leaves the tasks, and the routine active
+pub routine_goes_on : (o : Outcome BusState) (r : Result (Unit {0}) Trap) (old new : WorldState) → RoutineRan o r old new → r ≡ Ok tt → is_some new.watch.level ≡ true
+routine_goes_on (Done regs bus) r old new ran ok = ap (λ (w : WorldState). is_some w.watch.level) ran.1
+routine_goes_on (Trapped trap) r old new ran ok = absurd (cc)
+
+pub same_tasks : (o : Outcome BusState) (r : Result (Unit {0}) Trap) (old new : WorldState) → RoutineRan o r old new → new.kern ≡ old.kern
+same_tasks (Done regs bus) r old new ran = ap (λ (w : WorldState). w.kern) ran.1
+same_tasks (Trapped trap) r old new ran = ap (λ (w : WorldState). w.kern) ran.1

@@ -1,4 +1,5 @@
 pub mod Blanks
+pub mod Bursting
 pub mod Bytes
 pub mod Dropped
 pub mod Executed

@@ -12,7 +12,8 @@ use Rattle.wind_lists.proofs.Places.{not_there}
 use Rattle.kernel_world.specs.State.{WorldState}
 use Rattle.kernel_world.specs.Starting.{no_regs}
 use Rattle.kernel_world.specs.Kept.{IsWorld, IsEarly, ReservedBy, HasCounts, Within}
-use Rattle.wind_machine.specs.Machine.{at_turn, cleared, unreserved_world}
+use Rattle.wind_machine.specs.Events.{cleared, unreserved_world}
+use Rattle.wind_machine.specs.ActorSteps.{at_turn}
 use Rattle.wind_machine.specs.Reserving.{drop_others, drop_all}
 use Rattle.wind_machine.proofs.Free.{own_found, turn_ready}
 use Rattle.wind_machine.proofs.Dropping.{others_advance, all_advance}

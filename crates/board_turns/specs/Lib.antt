@@ -1,3 +1,4 @@
+pub mod Instructions
 pub mod ShellInside
 pub mod Turns
 pub mod Running

@@ -9,8 +9,9 @@ use Rattle.board_bus.specs.BusState.{BusState}
 use Rattle.kernel_world.specs.State.{WorldState}
 use Rattle.wind_machine.specs.Part.{with_kern}
 use Rattle.isr_watch.specs.Calls.{with_level}
-use Rattle.wind_machine.specs.Processor.{with_bus}
-use Rattle.wind_machine.specs.Routine.{with_watch}
+use Rattle.wind_machine.specs.Processor.{bus_of, with_bus, regs_of}
+use Rattle.board_turns.specs.Instructions.{ExecutesMany, executed_to, routine_executed_to}
+use Rattle.wind_machine.specs.Routine.{with_watch, routine_regs}
 
 -- that of a task leaves this outcome: new registers of the task and a new bus; a trap changes nothing
 abbrev pub Ran : Outcome BusState → Result (Unit {0}) Trap → ℕ → WorldState → WorldState → Type 0
@@ -25,3 +26,17 @@ RoutineRan (Trapped trap) result old new = (result ≡ Err trap) × (new ≡ old
 -- the kernel is as it was, but for the registers of this task
 abbrev pub OnlyRegs : KernState → KernState → ℕ → Type 0
 OnlyRegs old new who = (regs : Regs) × (new ≡ set_regs old who regs)
+
+-- k instructions of the task were executed, one after the other
+pub record RanMany (k who : ℕ) (old new : WorldState) : Type 0 where
+  pub regs : Regs
+  pub bus : BusState
+  pub many : ExecutesMany k (regs_of old who) (bus_of old) regs bus
+  pub world : new ≡ executed_to old who regs bus
+
+-- k instructions of the interrupt routine were
+pub record RoutineRanMany (k : ℕ) (old new : WorldState) : Type 0 where
+  pub regs : Regs
+  pub bus : BusState
+  pub many : ExecutesMany k (routine_regs old) (bus_of old) regs bus
+  pub world : new ≡ routine_executed_to old regs bus

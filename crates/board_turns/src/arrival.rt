@@ -6,7 +6,7 @@ ghost use Rattle.wind_core.specs.State.{Lives};
 ghost use Rattle.wind_machine.specs.Feed.{supplied};
 ghost use Rattle.wind_machine.specs.Task.{waits_for_console as waits_for_console_lem};
 ghost use Rattle.con_line.specs.declared.console.ByteDone.TheVariants as done;
-ghost use Rattle.wind_machine.specs.Machine.{heard_from, hear as hear_lem, heard_all, shell_after, kern_after};
+ghost use Rattle.wind_machine.specs.Events.{heard_from, hear as hear_lem, heard_all, shell_after, kern_after};
 
 use crate::shell::Shell;
 use crate::task::{abort, shell_id, waits_for_console};
@@ -61,7 +61,7 @@ fn hear_one(byte: u8, console: &mut Console, shell: &mut Shell, kern: &mut Kern,
 }
 
 // Bytes come, each in turn, and what they echo is added.
-#[tactic(auto, unfolding(wind_machine::specs::Machine::heard_all))]
+#[tactic(auto, unfolding(wind_machine::specs::Events::heard_all))]
 fn hear(bytes: &[u8], console: &mut Console, shell: &mut Shell, kern: &mut Kern, out: &mut OutBuf)
     requires room { 3 * length bytes.now ≤ out.old.room }
     requires live { Lives kern.old 1 }
@@ -79,7 +79,7 @@ fn hear(bytes: &[u8], console: &mut Console, shell: &mut Shell, kern: &mut Kern,
 }
 
 /// The bytes of a chunk come, with an end behind them where it is supplied.
-#[tactic(auto, unfolding(wind_machine::specs::Machine::heard_all))]
+#[tactic(auto, unfolding(wind_machine::specs::Events::heard_all))]
 pub fn hear_chunk(
     bytes: &[u8],
     is_unended: bool,

@@ -4,6 +4,7 @@
 
 mod arrival;
 mod feed;
+mod instructions;
 mod processor;
 mod reserving;
 mod routine;
@@ -14,6 +15,7 @@ mod turns;
 
 pub use arrival::hear_chunk;
 pub use feed::{Feed, brought, chunk_len};
+pub use instructions::{execute_many, execute_many_of_routine};
 pub use processor::{at_gate, counter, execute};
 pub use reserving::{drop_all, drop_own};
 pub use routine::{INTERRUPT_TOP, run_routine};

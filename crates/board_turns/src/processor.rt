@@ -16,6 +16,7 @@ ghost use Rattle.wind_base.specs.OutBuf.{KeepsSpace};
 ghost use Rattle.wind_machine.specs.Part.{part_of, writing};
 ghost use Rattle.wind_machine.specs.Processor.{trapped, told_of, bus_of, is_return as is_return_lem, return_part, called as called_lem, gate_part, executed, word_part, regs_of};
 ghost use Rattle.wind_machine.specs.declared.phase.Phase.TheVariants as phases;
+ghost use Rattle.board_turns.specs.Instructions.{completes};
 ghost use Rattle.board_turns.specs.Running.{Ran, OnlyRegs};
 
 use crate::reserving::drop_own;
@@ -192,8 +193,9 @@ pub fn counter(world: &World, who: Ident) -> u32
     }
 }
 
-/// The instruction at this address is executed by a task. Where none can be fetched it is an access to nothing. Tells
-/// whether it came without an exception; only registers of the task and the bus change then.
+/// A task executes the instruction at this address. If its word can't be fetched, that is an access to nothing. Returns
+/// true exactly if the instruction causes no exception; only registers of the task and the bus change then.
+#[tactic(auto, using(crate::proofs::Executed::done_so, crate::proofs::Executed::not_done_so))]
 #[inline(always)]
 pub fn execute(shell: &mut Shell, world: &mut World, who: Ident, at: u32) -> bool
     requires live { Lives world.old.kern who }
@@ -203,6 +205,9 @@ pub fn execute(shell: &mut Shell, world: &mut World, who: Ident, at: u32) -> boo
     ensures part { part_of shell.new (world_seen ⟦<dyn Device as Device>⟧ world.new)
         ≡ word_part (fetched (bus_of (world_seen ⟦<dyn Device as Device>⟧ world.old)) at) shell.old
         (world_seen ⟦<dyn Device as Device>⟧ world.old) who }
+    ensures exact { result ≡ completes (fetched (bus_of (world_seen ⟦<dyn Device as Device>⟧ world.old)) at)
+        (regs_of (world_seen ⟦<dyn Device as Device>⟧ world.old) who)
+        (bus_of (world_seen ⟦<dyn Device as Device>⟧ world.old)) }
     ensures registers { result ≡ true → OnlyRegs world.old.kern world.new.kern who }
     ensures watch { result ≡ true → world.new.watch ≡ world.old.watch }
     ensures space { KeepsSpace world.old.out world.new.out }

@@ -11,6 +11,7 @@ ghost use Rattle.kernel_world.specs.Allowed.{is_built as is_built_lem};
 ghost use Rattle.kernel_world.specs.Replies.{level_by};
 ghost use Rattle.wind_machine.specs.Processor.{bus_of};
 ghost use Rattle.wind_machine.specs.Routine.{next_routine as next_routine_lem, given_up, without_reserve, routine_call, routine_gate, routine_word, routine_regs, routine_part};
+ghost use Rattle.board_turns.specs.Instructions.{completes};
 ghost use Rattle.board_turns.specs.Running.{RoutineRan};
 
 use crate::text::add_routine_exception;
@@ -114,38 +115,55 @@ fn run_word(world: &mut World, word: u32) -> Result<(), Trap>
     }
 }
 
-// The instruction at this address is executed. Where none can be fetched it is an access to nothing.
-fn execute(world: &mut World, at: u32)
+// The routine executes the instruction at this address. If its word can't be fetched, that is an access to nothing.
+// Returns true exactly if the instruction causes no exception; only registers of the routine and the bus change then.
+#[tactic(auto, using(crate::proofs::Executed::routine_done_so, crate::proofs::Executed::routine_not_done_so))]
+fn execute(world: &mut World, at: u32) -> bool
     requires active { is_some world.old.watch.level ≡ true }
     requires room { 160 ≤ world.old.out.room }
     ensures world { world_seen ⟦<dyn Device as Device>⟧ world.new
         ≡ routine_word (fetched (bus_of (world_seen ⟦<dyn Device as Device>⟧ world.old)) at)
         (world_seen ⟦<dyn Device as Device>⟧ world.old) }
+    ensures exact { result ≡ completes (fetched (bus_of (world_seen ⟦<dyn Device as Device>⟧ world.old)) at)
+        (routine_regs (world_seen ⟦<dyn Device as Device>⟧ world.old))
+        (bus_of (world_seen ⟦<dyn Device as Device>⟧ world.old)) }
+    ensures active { result ≡ true → is_some world.new.watch.level ≡ true }
+    ensures kern { world.new.kern ≡ world.old.kern }
     ensures space { KeepsSpace world.old.out world.new.out }
 {
     let Some(word) = world.bus.fetch(at) else {
         give_up(world, Trap::Access);
-        return;
+        return false;
     };
-    if let Err(trap) = run_word(world, word) {
-        give_up(world, trap);
+    match run_word(world, word) {
+        Ok(()) => true,
+        Err(trap) => {
+            give_up(world, trap);
+            false
+        }
     }
 }
 
-/// The routine that is active is at a gate, or makes an instruction.
+/// The interrupt routine that is active makes a step: a call, if it is at a gate, or else an instruction. Returns whether
+/// it was an instruction that caused no exception; the routine is active still, and the tasks are as they were.
 #[tactic(auto, unfolding(wind_machine::specs::Routine::routine_part))]
-pub fn run_routine(alloc: Global, world: &mut World)
+pub fn run_routine(alloc: Global, world: &mut World) -> bool
     requires active { is_some world.old.watch.level ≡ true }
     requires kept { IsWorld (world_with [] world.old) }
     requires early { IsEarly (world_with [] world.old) }
     requires room { 4096 ≤ world.old.out.room }
     ensures world { world_seen ⟦<dyn Device as Device>⟧ world.new
         ≡ routine_part (world_seen ⟦<dyn Device as Device>⟧ world.old) }
+    ensures active { result ≡ true → is_some world.new.watch.level ≡ true }
+    ensures kern { result ≡ true → world.new.kern ≡ world.old.kern }
     ensures space { HoldsSpace world.old.out world.new.out }
 {
     let at = counter(world);
     match Gate::at(at, GATES_START) {
-        Some(gate) => at_gate(alloc, world, gate),
+        Some(gate) => {
+            at_gate(alloc, world, gate);
+            false
+        }
         None => execute(world, at),
     }
 }

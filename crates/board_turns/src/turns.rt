@@ -3,7 +3,8 @@
 ghost use Rattle.std.specs.Prelude.{◌≡◌, ◌+◌, [], Some, length};
 ghost use Rattle.kernel_world.specs.Kept.{ReservedBy, IsWorld, IsEarly};
 ghost use Rattle.kernel_world.specs.Seen.{world_seen, world_with};
-ghost use Rattle.wind_machine.specs.Machine.{at_turn, cleared, unreserved_world};
+ghost use Rattle.wind_machine.specs.Events.{cleared, unreserved_world};
+ghost use Rattle.wind_machine.specs.ActorSteps.{at_turn};
 ghost use Rattle.board_turns.specs.Turns.{kept_of as kept_of_lem, put_back as put_back_lem, restored, Readies, IsReadied};
 
 use crate::reserving::{drop_all, drop_others, other_holder};

@@ -1,2 +1,9 @@
 pub mod RamRanges
 pub mod Bounds
+pub mod Bits
+pub mod Named
+pub mod Effects
+pub mod Agreeing
+pub mod SameEffect
+pub mod CrFields
+pub mod ManyWords

@@ -10,3 +10,5 @@ pub mod Branches
 pub mod Storage
 pub mod Multiples
 pub mod Instructions
+pub mod Names
+pub mod Laws

@@ -31,9 +31,10 @@ fn trap_if<B: Bus>(trapped: bool, regs: &mut Regs, bus: &mut B) -> Result<(), Tr
     Ok(())
 }
 
-/// What the row of a word does. One arm a row: with the rest inlined into it, this is a single jump.
+/// What the row of a word does. One arm a row: with the rest inlined into it, this is a single jump. It is too large for the
+/// toolchain to inline.
 #[tactic(auto, using(crate::proofs::Bounds::or_of_bits), unfolding(crate::specs::Instructions::effect_of))]
-#[inline(always)]
+#[inline(never)]
 fn run<B: Bus>(row: Row, regs: &mut Regs, word: u32, bus: &mut B) -> Result<(), Trap>
     ensures { Leaves (effect_of B.meaning row regs.old word (B.held bus.old))
         regs.old (B.held bus.old) regs.new (B.held bus.new) result }
@@ -226,14 +227,123 @@ fn run<B: Bus>(row: Row, regs: &mut Regs, word: u32, bus: &mut B) -> Result<(), 
     Ok(())
 }
 
-/// One instruction: what the row of the word does, or Illegal where it has none. A trap changes nothing.
+/// The same, inlined: the rows that programs use most have arms here, so a loop over instructions makes no call for them.
+#[tactic(auto, using(crate::proofs::Bounds::or_of_bits), unfolding(crate::specs::Instructions::effect_of))]
+#[inline(always)]
+fn run_common<B: Bus>(row: Row, regs: &mut Regs, word: u32, bus: &mut B) -> Result<(), Trap>
+    ensures { Leaves (effect_of B.meaning row regs.old word (B.held bus.old))
+        regs.old (B.held bus.old) regs.new (B.held bus.new) result }
+{
+    match row {
+        Row::B => {
+            branch::go(true, from_here(li(word), regs, word), regs, word);
+            return Ok(());
+        }
+        Row::Bc => {
+            branch::test_and_go(from_here(bd(word), regs, word), regs, word);
+            return Ok(());
+        }
+        Row::Bclr => {
+            branch::test_and_go(regs.lr, regs, word);
+            return Ok(());
+        }
+        Row::Bcctr => {
+            branch::test_and_go(regs.ctr, regs, word);
+            return Ok(());
+        }
+        Row::Lbz => return load_rt(Load::Byte, Address::Offset, regs, word, bus),
+        Row::Lbzx => return load_rt(Load::Byte, Address::Indexed, regs, word, bus),
+        Row::Lhz => return load_rt(Load::Half, Address::Offset, regs, word, bus),
+        Row::Lhzx => return load_rt(Load::Half, Address::Indexed, regs, word, bus),
+        Row::Lha => return load_rt(Load::HalfSigned, Address::Offset, regs, word, bus),
+        Row::Lwz => return load_rt(Load::Word, Address::Offset, regs, word, bus),
+        Row::Lwzx => return load_rt(Load::Word, Address::Indexed, regs, word, bus),
+        Row::Lwzu => return load_rt(Load::Word, Address::OffsetUpdate, regs, word, bus),
+        Row::Lbzu => return load_rt(Load::Byte, Address::OffsetUpdate, regs, word, bus),
+        Row::Stb => return store_rs(Store::Byte, Address::Offset, regs, word, bus),
+        Row::Stbx => return store_rs(Store::Byte, Address::Indexed, regs, word, bus),
+        Row::Stbu => return store_rs(Store::Byte, Address::OffsetUpdate, regs, word, bus),
+        Row::Sth => return store_rs(Store::Half, Address::Offset, regs, word, bus),
+        Row::Sthx => return store_rs(Store::Half, Address::Indexed, regs, word, bus),
+        Row::Stw => return store_rs(Store::Word, Address::Offset, regs, word, bus),
+        Row::Stwx => return store_rs(Store::Word, Address::Indexed, regs, word, bus),
+        Row::Stwu => return store_rs(Store::Word, Address::OffsetUpdate, regs, word, bus),
+        Row::Addi => {
+            let value = arithmetic::sum_of(in_ra_or_0(regs, word), si(word), 0);
+            registers::write(rt(word), value, regs);
+        }
+        Row::Addis => {
+            let value = arithmetic::sum_of(in_ra_or_0(regs, word), high_ui(word), 0);
+            registers::write(rt(word), value, regs);
+        }
+        Row::AddicDot => {
+            let a = in_ra(regs, word);
+            set_carrying(a, si(word), 0, regs, word);
+            registers::set_cr0(arithmetic::sum_of(a, si(word), 0), regs);
+        }
+        Row::Add => set_sum(in_ra(regs, word), in_rb(regs, word), 0, regs, word),
+        Row::Subf => set_sum(!in_ra(regs, word), in_rb(regs, word), 1, regs, word),
+        Row::Neg => set_sum(!in_ra(regs, word), 0, 1, regs, word),
+        Row::Mulli => {
+            let value = arithmetic::low_signed(in_ra(regs, word), si(word));
+            registers::write(rt(word), value, regs);
+        }
+        Row::Mullw => arithmetic::set_product(in_ra(regs, word), in_rb(regs, word), regs, word),
+        Row::Cmpi => condition::compare_signed(in_ra(regs, word), si(word), regs, word),
+        Row::Cmp => condition::compare_signed(in_ra(regs, word), in_rb(regs, word), regs, word),
+        Row::Cmpli => condition::compare(in_ra(regs, word), ui(word), regs, word),
+        Row::Cmpl => condition::compare(in_ra(regs, word), in_rb(regs, word), regs, word),
+        Row::Andi => registers::record(ra(word), in_rs(regs, word) & ui(word), regs),
+        Row::Ori => registers::write(ra(word), in_rs(regs, word) | ui(word), regs),
+        Row::Oris => registers::write(ra(word), in_rs(regs, word) | high_ui(word), regs),
+        Row::Xori => registers::write(ra(word), in_rs(regs, word) ^ ui(word), regs),
+        Row::Xoris => registers::write(ra(word), in_rs(regs, word) ^ high_ui(word), regs),
+        Row::And => set_ra(in_rs(regs, word) & in_rb(regs, word), regs, word),
+        Row::Or => set_ra(in_rs(regs, word) | in_rb(regs, word), regs, word),
+        Row::Xor => set_ra(in_rs(regs, word) ^ in_rb(regs, word), regs, word),
+        Row::Nor => set_ra(!(in_rs(regs, word) | in_rb(regs, word)), regs, word),
+        Row::Rlwinm => {
+            let value = rotate(rb(word), regs, word) & mask_of(word);
+            set_ra(value, regs, word);
+        }
+        Row::Slw => {
+            let value = logic::shift_left(in_rs(regs, word), logic::distance_of(regs, word));
+            set_ra(value, regs, word);
+        }
+        Row::Srw => {
+            let value = logic::shift_right(in_rs(regs, word), logic::distance_of(regs, word));
+            set_ra(value, regs, word);
+        }
+        Row::Srawi => logic::set_signed_shift(rb(word), regs, word),
+        Row::Mtspr => condition::set_special(spr(word), in_rs(regs, word), regs),
+        Row::Mfspr => {
+            let value = condition::special(regs, spr(word));
+            registers::write(rt(word), value, regs);
+        }
+        _ => return run(row, regs, word, bus),
+    }
+    registers::step(regs);
+    Ok(())
+}
+
+/// One instruction, inlined into its caller: use it in a loop over instructions, and `exec` elsewhere. It does what the row of the
+/// word does, or answers Illegal if the word has none. A trap changes nothing.
 #[tactic(auto, unfolding(crate::specs::Instructions::exec_of))]
-pub fn exec<B: Bus>(regs: &mut Regs, word: u32, bus: &mut B) -> Result<(), Trap>
+#[inline(always)]
+pub fn exec_inline<B: Bus>(regs: &mut Regs, word: u32, bus: &mut B) -> Result<(), Trap>
     ensures { Leaves (exec_of B.meaning regs.old word (B.held bus.old))
         regs.old (B.held bus.old) regs.new (B.held bus.new) result }
 {
     let Some(row) = row_for(word) else {
         return Err(Trap::Illegal);
     };
-    run(row, regs, word, bus)
+    run_common(row, regs, word, bus)
+}
+
+/// One instruction: what the row of the word does, or Illegal if the word has none. A trap changes nothing.
+pub fn exec<B: Bus>(regs: &mut Regs, word: u32, bus: &mut B) -> Result<(), Trap>
+    ensures { Leaves (exec_of B.meaning regs.old word (B.held bus.old))
+        regs.old (B.held bus.old) regs.new (B.held bus.new) result }
+{
+    exec_inline(regs, word, bus)
 }

@@ -3,7 +3,7 @@
 ghost use Rattle.std.specs.Prelude.{◌≡◌, ◌<◌, ◌^◌};
 ghost use Rattle.ppc_core.specs.Fields as field;
 
-use crate::words::{bits_of, extend_sign};
+use crate::words::{bits_of, extend_half, extend_sign};
 
 /// RT, a target register. RS, TO and BT have the same place.
 #[tactic(auto, unfolding(crate::specs::Fields::rt))]
@@ -60,7 +60,7 @@ pub fn high_ui(word: u32) -> u32
 pub fn si(word: u32) -> u32
     ensures { result ≡ field.si word }
 {
-    extend_sign(16, bits_of(word, 16, 31))
+    extend_half(bits_of(word, 16, 31))
 }
 
 /// MB, the first bit of a mask.

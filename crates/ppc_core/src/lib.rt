@@ -7,6 +7,7 @@ mod bus;
 mod condition;
 mod execution;
 mod fields;
+mod laws;
 mod logic;
 mod multiple;
 mod registers;
@@ -15,5 +16,6 @@ mod trap;
 mod words;
 
 pub use bus::{Bus, Fault};
-pub use execution::exec;
+pub use execution::{exec, exec_inline};
+pub use laws::{instruction_law, move_to_cr_law};
 pub use trap::Trap;

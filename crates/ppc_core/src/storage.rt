@@ -7,7 +7,7 @@ ghost use Rattle.ppc_core.specs.Storage as storage;
 
 use crate::bus::{Bus, Fault};
 use crate::trap::Trap;
-use crate::words::extend_sign;
+use crate::words::extend_half;
 use crate::{fields, registers};
 use wind_base::Regs;
 
@@ -141,7 +141,7 @@ fn taken_of(load: Load, datum: u32) -> u32
     match load {
         Load::Byte => datum,
         Load::Half => datum,
-        Load::HalfSigned => extend_sign(16, datum),
+        Load::HalfSigned => extend_half(datum),
         Load::HalfReversed => reverse_half(datum),
         Load::Word => datum,
         Load::WordReversed => reverse_word(datum),

@@ -42,6 +42,15 @@ pub fn extend_sign(width: u8, n: u32) -> u32
     }
 }
 
+/// A half word, with its sign carried on to a word. It is `extend_sign` at 16 bits, in one instruction of the host.
+#[inline(always)]
+pub fn extend_half(n: u32) -> u32
+    requires { n < 2 ^ 16 }
+    ensures { result ≡ sign_extended 16 n }
+{
+    i32::from((n as u16).cast_signed()).cast_unsigned()
+}
+
 /// The signed reading of a word.
 #[inline(always)]
 pub fn signed_of(word: u32) -> i64

@@ -7,3 +7,4 @@ pub mod Insn
 pub mod Patterns
 pub mod Places
 pub mod Laws
+pub mod Opcodes

@@ -1,5 +1,5 @@
 -- Words by their pieces: a form is a list of pieces, from the most significant bit, that are fixed or hold a field.
-use Rattle.std.specs.Prelude.{ℕ, ◌+◌, ◌*◌, ◌/◌, ◌%◌, ◌^◌, Bool, true, false, ◌&&◌, nat_eq, nat_lt, nat_le, List, [], ◌∷◌}
+use Rattle.std.specs.Prelude.{ℕ, ◌+◌, ◌-◌, ◌*◌, ◌/◌, ◌%◌, ◌^◌, Bool, true, false, ◌&&◌, nat_eq, nat_lt, nat_le, List, [], ◌∷◌}
 use Rattle.ppc_word.specs.declared.piece.Piece.{Piece}
 use Rattle.ppc_word.specs.declared.piece.Piece.TheVariants.{Fixed, Field}
 
@@ -45,6 +45,12 @@ abbrev pub fields : List Piece → ℕ
 fields [] = 0
 fields (Fixed w v ∷ ps) = fields ps
 fields (Field w ∷ ps) = 1 + fields ps
+
+-- where the fields stand in a word, in their order: each by its first bit, counted from the most significant, and its width
+abbrev pub field_places : List Piece → List (ℕ × ℕ)
+field_places [] = []
+field_places (Fixed w v ∷ ps) = field_places ps
+field_places (Field w ∷ ps) = (32 - (w + bits ps), w) ∷ field_places ps
 
 -- the fixed numbers fit their bits
 abbrev pub sound : List Piece → Bool

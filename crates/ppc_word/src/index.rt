@@ -2,7 +2,7 @@
 //! extended opcode. A place that no form has is 0: whether the word meets the form is seen afterwards. That each
 //! number below is right is proved, so a number that is out of date after a change of the table is refused.
 
-ghost use Rattle.std.specs.Prelude.{◌≡◌, ◌<◌, ℕ, true, get_or};
+ghost use Rattle.std.specs.Prelude.{◌≡◌, ◌≢◌, ◌<◌, ◌/◌, ◌%◌, ◌^◌, ℕ, true, get_or};
 ghost use Rattle.ppc_word.specs.Words.{meets};
 ghost use Rattle.ppc_word.specs.Table.{form_at};
 ghost use Rattle.ppc_word.specs.Places.{by_opcode, by_19, by_31};
@@ -81,6 +81,30 @@ fn place_in_31(number: u32) -> u8
     ensures { result ≡ get_or by_31 number 0 }
 {
     BY_31[number as usize]
+}
+
+/// The only place whose form a word with this primary opcode can meet.
+#[inline(always)]
+pub(crate) fn place_by_opcode(opcode: u32, word: u32) -> usize
+    requires is { opcode ≡ word / 2 ^ 26 % 2 ^ 6 }
+    requires not_19 { opcode ≢ 19 }
+    requires not_31 { opcode ≢ 31 }
+    ensures within { result < ROWS }
+    ensures only { (k : ℕ) → k < ROWS → meets (form_at k).pieces word ≡ true → result ≡ k }
+{
+    let place = opcode_place(opcode);
+    place as usize
+}
+
+/// The only place whose form a word with primary opcode 31 can meet.
+#[inline(always)]
+pub(crate) fn place_for_31(word: u32) -> usize
+    requires { word / 2 ^ 26 % 2 ^ 6 ≡ 31 }
+    ensures within { result < ROWS }
+    ensures only { (k : ℕ) → k < ROWS → meets (form_at k).pieces word ≡ true → result ≡ k }
+{
+    let place = place_in_31(part(word, 1, 10));
+    place as usize
 }
 
 /// The only place whose form a word can meet.

@@ -30,6 +30,7 @@ pub(crate) enum Rule {
 }
 
 /// Whether a word meets a rule.
+#[inline(always)]
 pub(crate) fn is_allowed(rule: Rule, word: u32) -> bool
     ensures { result ≡ allowed rule word }
 {
@@ -47,6 +48,7 @@ pub(crate) fn is_allowed(rule: Rule, word: u32) -> bool
 }
 
 // Bits 6 to 10.
+#[inline(always)]
 fn target(word: u32) -> u32
     ensures { result ≡ rt_of word }
 {
@@ -54,6 +56,7 @@ fn target(word: u32) -> u32
 }
 
 // Bits 11 to 15.
+#[inline(always)]
 fn base(word: u32) -> u32
     ensures { result ≡ ra_of word }
 {
@@ -61,6 +64,7 @@ fn base(word: u32) -> u32
 }
 
 // The number in bits 11 to 20, whose lower half stands first.
+#[inline(always)]
 fn special_register(word: u32) -> u32
     ensures { result ≡ spr_of word }
 {

@@ -8,6 +8,7 @@ use crate::pattern::{PATTERNS, Pattern};
 use crate::row::{ROWS, Row};
 
 /// The pattern at a place of the table.
+#[inline(always)]
 pub(crate) fn pattern(place: usize) -> &'static Pattern
     requires { place < ROWS }
     ensures { result.now ≡ pattern_of (form_at place) }

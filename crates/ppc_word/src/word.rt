@@ -10,6 +10,7 @@ use crate::piece::Piece;
 use crate::rule::is_allowed;
 
 /// The number in the `width` bits of a word that stand above its lowest `at` bits.
+#[inline(always)]
 pub(crate) fn part(word: u32, at: u8, width: u8) -> u32
     requires place { at ≤ 32 }
     requires size { width ≤ 32 }
@@ -19,6 +20,7 @@ pub(crate) fn part(word: u32, at: u8, width: u8) -> u32
 }
 
 /// Whether a word holds the fixed bits of a pattern and meets its rule.
+#[inline(always)]
 pub(crate) fn fits(pattern: &Pattern, word: u32) -> bool
     ensures { result ≡ (nat_eq (bit_and word pattern.now.mask) pattern.now.held && allowed pattern.now.rule word) }
 {

@@ -1,13 +1,14 @@
 -- Look-ups along chains, and chains that get one entry more.
-use Rattle.std.proofs.Common.{◌≡◌, ℕ, zero, suc, ◌+◌, ◌-◌, ◌<◌, ◌≤◌, Bool, true, false, cond, eqb, not, ◌||◌, List, [], ◌∷◌, ◌++◌, length, map, take, get_or, set, Some, None, refl, sym, ap, ap₂, ◌∙◌, subst, inl, inr, arith}
+use Rattle.std.proofs.Common.{◌≡◌, ℕ, zero, suc, ◌+◌, ◌-◌, ◌%◌, ◌<◌, ◌≤◌, Bool, true, false, cond, eqb, not, ◌||◌, List, [], ◌∷◌, ◌++◌, length, map, take, get_or, set, Some, None, refl, sym, ap, ap₂, ◌∙◌, subst, inl, inr, arith}
 use Rattle.std.specs.Prelude.{replicate}
 use Rattle.std.proofs.lemmas.Bool.{eq-eqb, ne_eqb, eqb-true, and_parts, cases_eq}
 use Rattle.std.proofs.lemmas.List.{take_more, take_all, length-append, length-set, length-map, length-take-le, map-append, get_or-map, get_or-set_same, get_or-set_other, get_or_append_left, get_or_push, length-replicate}
 use Rattle.std.proofs.lemmas.Grind.{get_or_default_zero}
+use Rattle.std.proofs.lemmas.Nat.{mod_below}
 use Rattle.std.proofs.lemmas.Slice.Eq.{bytes_eq-Decides}
 use Rattle.symbol_table.specs.declared.symbol.Symbol.{Symbol}
 use Rattle.symbol_table.specs.Newest.{newest, is_named, has_value}
-use Rattle.symbol_table.specs.Chains.{newest_link, LinksState, AreChained, linked, numbers_of, LeadsThrough, is_sought, name_hash, value_hash, hash_by_name, hash_by_value}
+use Rattle.symbol_table.specs.Chains.{newest_link, LinksState, AreChained, linked, numbers_of, LeadsThrough, is_sought, name_hash, value_hash, chain_by_name, chain_by_value}
 use Rattle.symbol_table.proofs.Finding.{newest-added}
 
 -- ---- links
@@ -33,16 +34,17 @@ link_push hs g h =
     ap (λ x. cond (eqb x h) (suc (length hs)) (newest_link (hs ++ g ∷ []) (length hs) h)) (get_or_push hs g 0 (length hs) refl)
     ∙ ap (λ m. cond (eqb g h) (suc (length hs)) m) (link_append hs (g ∷ []) (length hs) h (omega arith))
 
-pub chained_more : (hs : List ℕ) (s : LinksState) (g : ℕ) → AreChained hs s → g < 65536 → AreChained (hs ++ g ∷ []) (linked g s)
+pub chained_more : (hs : List ℕ) (s : LinksState) (g : ℕ) → AreChained hs s → g < length s.heads → AreChained (hs ++ g ∷ []) (linked g s)
 chained_more hs s g k below =
     let one = length-append hs (g ∷ []) in
     let two = length-append s.before (get_or s.heads g 0 ∷ []) in
     let same = k.links in
-    let many = k.heads in
+    let some = k.some in
+    let many = length-set s.heads g (length s.before + 1) in
     let size : length (hs ++ g ∷ []) ≡ suc (length hs) = omega arith in
     record {
       links = omega arith;
-      heads = length-set s.heads g (length s.before + 1) ∙ k.heads;
+      some = omega arith;
       each = λ i p. elim (cases_eq i (length hs)) [
         | inl last ↦
             get_or_push s.before (get_or s.heads g 0) 0 i (omega arith)
@@ -67,13 +69,13 @@ chained_more hs s g k below =
                 ∙ sym (to ∙ ap (λ t. cond t (suc (length hs)) (newest_link hs (length hs) h)) (eq-eqb g h is))
             | inr other ↦
                 get_or-set_other s.heads g h (length s.before + 1) 0 (λ q. other (sym q))
-                ∙ k.first h p
+                ∙ k.first h (omega arith)
                 ∙ sym (to ∙ ap (λ t. cond t (suc (length hs)) (newest_link hs (length hs) h)) (ne_eqb g h other))
           ];
     }
 
 -- an entry that is added to the list is added to its chain
-pub chained_push : (hash : Symbol → ℕ) (list more : List Symbol) (x : Symbol) (s new : LinksState) (g : ℕ) → AreChained (map hash list) s → g ≡ hash x → g < 65536
+pub chained_push : (hash : Symbol → ℕ) (list more : List Symbol) (x : Symbol) (s new : LinksState) (g : ℕ) → AreChained (map hash list) s → g ≡ hash x → g < length s.heads
     → more ≡ list ++ x ∷ [] → new.before ≡ s.before ++ get_or s.heads g 0 ∷ [] → new.heads ≡ set s.heads g (length s.before + 1) → AreChained (map hash more) new
 chained_push hash list more x s new g k is below longer before heads =
     let same : linked g s ≡ new = ap₂ links_with (sym before) (sym heads) in
@@ -83,17 +85,25 @@ chained_push hash list more x s new g k is below longer before heads =
     links_with : List ℕ → List ℕ → LinksState
     links_with b h = record { before = b; heads = h }
 
+-- the same where the chains are by n, which stays
+pub pushed : (of : ℕ → Symbol → ℕ) (list more : List Symbol) (x : Symbol) (s new : LinksState) (g : ℕ) → AreChained (map (of (length s.heads)) list) s → g ≡ of (length s.heads) x
+    → g < length s.heads → more ≡ list ++ x ∷ [] → new.before ≡ s.before ++ get_or s.heads g 0 ∷ [] → new.heads ≡ set s.heads g (length s.before + 1)
+    → AreChained (map (of (length new.heads)) more) new
+pushed of list more x s new g k is below longer before heads =
+    let same : length s.heads ≡ length new.heads = sym (ap (λ (xs : List ℕ). length xs) heads ∙ length-set s.heads g (length s.before + 1)) in
+    subst (λ n. AreChained (map (of n) more) new) same (chained_push (of (length s.heads)) list more x s new g k is below longer before heads)
+
 get_or-same : (n i z : ℕ) → get_or (replicate n z) i z ≡ z
 get_or-same zero i z = refl
 get_or-same (suc n) zero z = refl
 get_or-same (suc n) (suc i) z = get_or-same n i z
 
-pub chained_none : (s : LinksState) → s.before ≡ [] → s.heads ≡ replicate 65536 0 → AreChained [] s
-chained_none s before heads = record {
+pub chained_none : (n : ℕ) (s : LinksState) → 0 < n → s.before ≡ [] → s.heads ≡ replicate n 0 → AreChained [] s
+chained_none n s some before heads = record {
   links = ap (λ (xs : List ℕ). length xs) before;
-  heads = ap (λ (xs : List ℕ). length xs) heads ∙ length-replicate {A = ℕ} 65536 0;
+  some = subst (λ m. 0 < m) (sym (ap (λ (xs : List ℕ). length xs) heads ∙ length-replicate {A = ℕ} n 0)) some;
   each = λ i p. absurd (omega arith);
-  first = λ h p. ap (λ xs. get_or xs h 0) heads ∙ get_or-same 65536 h 0;
+  first = λ h p. ap (λ xs. get_or xs h 0) heads ∙ get_or-same n h 0;
 }
 
 -- as many links as entries
@@ -153,7 +163,7 @@ come_link p hash h list d (suc n) only le rest =
     ]
 
 -- the list has an entry, or nothing is found
-first_link : (p : Symbol → Bool) (hash : Symbol → ℕ) (h : ℕ) (list : List Symbol) (s : LinksState) → Only p hash h → AreChained (map hash list) s → h < 65536
+first_link : (p : Symbol → Bool) (hash : Symbol → ℕ) (h : ℕ) (list : List Symbol) (s : LinksState) → Only p hash h → AreChained (map hash list) s → h < length s.heads
     → HasCome p hash h list (get_or s.heads h 0)
 first_link p hash h [] s only k below = subst (HasCome p hash h []) (sym (k.first h below)) (record { within = omega arith; rest = refl; same = λ d z. absurd (omega arith) })
 first_link p hash h (x ∷ xs) s only k below =
@@ -162,13 +172,12 @@ first_link p hash h (x ∷ xs) s only k below =
     let whole : newest p (take (length (map hash list)) list) ≡ newest p list = ap (newest p) (take_all (length (map hash list)) list (omega arith)) in
     subst (HasCome p hash h list) (sym (k.first h below)) (come_link p hash h list x (length (map hash list)) only (omega arith) whole)
 
--- a look-up begins at the head of the hash
-pub begins : (p : Symbol → Bool) (hash : Symbol → ℕ) (h g at : ℕ) (list : List Symbol) (s : LinksState) → Only p hash h → AreChained (map hash list) s → g ≡ h → g < 65536
-    → at ≡ get_or s.heads g at → HasCome p hash h list at
-begins p hash h g at list s only k is below e =
-    let many = k.heads in
-    let to : at ≡ get_or s.heads h 0 = e ∙ get_or_default_zero s.heads g at (omega arith) ∙ ap (λ n. get_or s.heads n 0) is in
-    subst (HasCome p hash h list) (sym to) (first_link p hash h list s only k (omega arith))
+-- a look-up begins at the head of the chain
+pub begins : (p : Symbol → Bool) (hash : Symbol → ℕ) (x v at : ℕ) (list : List Symbol) (s : LinksState) → Only p hash (v % length s.heads) → AreChained (map hash list) s
+    → x ≡ v → at ≡ get_or s.heads (x % length s.heads) 0 → HasCome p hash (v % length s.heads) list at
+begins p hash x v at list s only k is e =
+    let to : at ≡ get_or s.heads (v % length s.heads) 0 = e ∙ ap (λ y. get_or s.heads (y % length s.heads) 0) is in
+    subst (HasCome p hash (v % length s.heads) list) (sym to) (first_link p hash (v % length s.heads) list s only k (mod_below v (length s.heads) k.some))
 
 -- and goes on along the links
 pub goes_on : (p : Symbol → Bool) (hash : Symbol → ℕ) (h : ℕ) (list : List Symbol) (s : LinksState) (at next : ℕ) (x : Symbol) → Only p hash h → AreChained (map hash list) s
@@ -212,15 +221,15 @@ leads hs s (suc n) h k le =
           (leads hs s n h k (omega arith))
     ]
 
-pub chain_exact : (hs : List ℕ) (s : LinksState) (h : ℕ) → AreChained hs s → h < 65536 → LeadsThrough s.before (get_or s.heads h 0) (numbers_of hs (length hs) h)
+pub chain_exact : (hs : List ℕ) (s : LinksState) (h : ℕ) → AreChained hs s → h < length s.heads → LeadsThrough s.before (get_or s.heads h 0) (numbers_of hs (length hs) h)
 chain_exact hs s h k below = subst (λ m. LeadsThrough s.before m (numbers_of hs (length hs) h)) (sym (k.first h below)) (leads hs s (length hs) h k (omega arith))
 
 -- ---- by name and by value
 
-pub named_only : (global_only : Bool) (name : List ℕ) → Only (is_sought global_only name) hash_by_name (name_hash name)
-named_only global_only name s e =
+pub named_only : (n : ℕ) (global_only : Bool) (name : List ℕ) → Only (is_sought global_only name) (chain_by_name n) (name_hash name % n)
+named_only n global_only name s e =
     let named = (and_parts (not global_only || s.global) (is_named name s) e).1 in
-    ap name_hash ((bytes_eq-Decides s.name name).0 named)
+    ap (λ x. name_hash x % n) ((bytes_eq-Decides s.name name).0 named)
 
-pub valued_only : (value : ℕ) → Only (has_value value) hash_by_value (value_hash value)
-valued_only value s e = ap value_hash (eqb-true s.value value e)
+pub valued_only : (n value : ℕ) → Only (has_value value) (chain_by_value n) (value_hash value % n)
+valued_only n value s e = ap (λ x. value_hash x % n) (eqb-true s.value value e)

@@ -1,4 +1,4 @@
--- Chains of entries by hash, each from the newest entry to the oldest.
+-- Chains of entries by hash, each from the newest entry to the oldest. There are as many as the table has use for.
 use Rattle.std.specs.Prelude.{◌≡◌, ℕ, zero, suc, ◌+◌, ◌-◌, ◌*◌, ◌/◌, ◌%◌, ◌^◌, ◌<◌, ◌≤◌, Bool, not, ◌&&◌, ◌||◌, ◌==◌, if◌then◌else◌, List, [], ◌∷◌, length, map, ◌++◌, slice_index, slice_set}
 use Rattle.wind_base.specs.Limits.{most_symbols}
 use Rattle.symbol_table.specs.declared.symbol.Symbol.{Symbol}
@@ -6,14 +6,18 @@ use Rattle.symbol_table.specs.declared.links.Links.{Links}
 use Rattle.symbol_table.specs.Newest.{is_named}
 use Rattle.symbol_table.specs.State.{TableState}
 
--- how many chains there are by name, and as many by value
-abbrev pub most_heads : ℕ
-most_heads = 65536
+-- how many hashes there are
+abbrev pub most_hashes : ℕ
+most_hashes = 65536
+
+-- how many chains there are at first by name, and as many by value
+abbrev pub fewest_heads : ℕ
+fewest_heads = 64
 
 -- the hash of a name goes on from another: Bernstein's, of 16 bits
 abbrev pub hash_from : ℕ → List ℕ → ℕ
 hash_from h [] = h
-hash_from h (b ∷ bs) = hash_from ((h * 33 + b) % most_heads) bs
+hash_from h (b ∷ bs) = hash_from ((h * 33 + b) % most_hashes) bs
 
 -- the hash of a name, from a fixed seed
 unfoldable pub name_hash : List ℕ → ℕ
@@ -21,25 +25,25 @@ name_hash name = hash_from 5381 name
 
 -- the hash of a value: the upper half of a product with 2^32 over the golden ratio
 unfoldable pub value_hash : ℕ → ℕ
-value_hash value = value * 2654435769 % 2 ^ 32 / most_heads
+value_hash value = value * 2654435769 % 2 ^ 32 / most_hashes
 
--- the hashes of an entry
-abbrev pub hash_by_name : Symbol → ℕ
-hash_by_name s = name_hash s.name
+-- the chain of an entry, of n by name and of n by value: its hash modulo n
+abbrev pub chain_by_name : ℕ → Symbol → ℕ
+chain_by_name n s = name_hash s.name % n
 
-abbrev pub hash_by_value : Symbol → ℕ
-hash_by_value s = value_hash s.value
+abbrev pub chain_by_value : ℕ → Symbol → ℕ
+chain_by_value n s = value_hash s.value % n
 
 -- the entry has this name, and is global where only global ones are sought
 abbrev pub is_sought : Bool → List ℕ → Symbol → Bool
 is_sought global_only name s = (not global_only || s.global) && is_named name s
 
--- the number, counted from 1, of the newest of the first n entries that has the hash h, or 0 where none has
+-- the number, counted from 1, of the newest of the first n entries that is of the chain h, or 0 where none is
 abbrev pub newest_link : List ℕ → ℕ → ℕ → ℕ
-newest_link hashes zero h = 0
-newest_link hashes (suc n) h = if slice_index hashes n == h then suc n else newest_link hashes n h
+newest_link chains zero h = 0
+newest_link chains (suc n) h = if slice_index chains n == h then suc n else newest_link chains n h
 
--- for each entry the newest before it of its own hash, and for each hash the newest of all
+-- for each entry the newest before it in its own chain, and for each chain the newest of all
 pub record LinksState : Type 0 where
   pub before : List ℕ
   pub heads : List ℕ
@@ -48,14 +52,21 @@ pub record LinksState : Type 0 where
 abbrev pub state_of : Links → LinksState
 state_of l = record { before = l.before.items; heads = l.heads.items }
 
--- the entries of these hashes stand in chains
-pub record AreChained (hashes : List ℕ) (s : LinksState) : Type 0 where
-  pub links : length s.before ≡ length hashes
-  pub heads : length s.heads ≡ most_heads
-  pub each : (i : ℕ) → i < length hashes → slice_index s.before i ≡ newest_link hashes i (slice_index hashes i)
-  pub first : (h : ℕ) → h < most_heads → slice_index s.heads h ≡ newest_link hashes (length hashes) h
+-- the entries, which are of these chains, stand in them
+pub record AreChained (chains : List ℕ) (s : LinksState) : Type 0 where
+  pub links : length s.before ≡ length chains
+  pub some : 0 < length s.heads
+  pub each : (i : ℕ) → i < length chains → slice_index s.before i ≡ newest_link chains i (slice_index chains i)
+  pub first : (h : ℕ) → h < length s.heads → slice_index s.heads h ≡ newest_link chains (length chains) h
 
--- with one entry more: before it comes the newest of its hash, which it is now
+-- these entries stand in the chains of their names, and of their values
+abbrev pub AreNamed : List Symbol → LinksState → Type 0
+AreNamed list s = AreChained (map (chain_by_name (length s.heads)) list) s
+
+abbrev pub AreValued : List Symbol → LinksState → Type 0
+AreValued list s = AreChained (map (chain_by_value (length s.heads)) list) s
+
+-- with one entry more: before it comes the newest of its chain, which it is now
 abbrev pub linked : ℕ → LinksState → LinksState
 linked h s = record { before = s.before ++ slice_index s.heads h ∷ []; heads = slice_set s.heads h (length s.before + 1) }
 
@@ -73,13 +84,16 @@ table_of s = record { list = s.list; spare = s.spare }
 -- what chains always are
 pub record AreChains (s : ChainsState) : Type 0 where
   pub few : length s.list + s.spare ≤ most_symbols
-  pub names : AreChained (map hash_by_name s.list) s.names
-  pub values : AreChained (map hash_by_value s.list) s.values
+  pub names : AreNamed s.list s.names
+  pub values : AreValued s.list s.values
+  -- of each kind at least as many as there are entries and room for more
+  pub by_name : length s.list + s.spare ≤ length s.names.heads
+  pub by_value : length s.list + s.spare ≤ length s.values.heads
 
--- the numbers, counted from 1, of those of the first n entries that have the hash h, from the newest to the oldest
+-- the numbers, counted from 1, of those of the first n entries that are of the chain h, from the newest to the oldest
 abbrev pub numbers_of : List ℕ → ℕ → ℕ → List ℕ
-numbers_of hashes zero h = []
-numbers_of hashes (suc n) h = if slice_index hashes n == h then suc n ∷ numbers_of hashes n h else numbers_of hashes n h
+numbers_of chains zero h = []
+numbers_of chains (suc n) h = if slice_index chains n == h then suc n ∷ numbers_of chains n h else numbers_of chains n h
 
 -- from this number on the links lead through exactly these entries
 abbrev pub LeadsThrough : List ℕ → ℕ → List ℕ → Type 0
@@ -88,5 +102,5 @@ LeadsThrough before at (n ∷ ns) = (at ≡ n) × LeadsThrough before (slice_ind
 
 -- each chain holds exactly the entries of its head, from the newest to the oldest
 pub record ChainsLaw : Type 0 where
-  pub exact : (hashes : List ℕ) (s : LinksState) (h : ℕ) → AreChained hashes s → h < most_heads
-      → LeadsThrough s.before (slice_index s.heads h) (numbers_of hashes (length hashes) h)
+  pub exact : (chains : List ℕ) (s : LinksState) (h : ℕ) → AreChained chains s → h < length s.heads
+      → LeadsThrough s.before (slice_index s.heads h) (numbers_of chains (length chains) h)

@@ -8,15 +8,17 @@ ghost use Rattle.symbol_table.specs.Chains.{AreChains, is_sought, table_of};
 ghost use Rattle.symbol_table.specs.declared.symbol.SymErr.TheVariants as errors;
 
 use crate::links::{Links, hash_name, hash_value};
-use crate::search::{link_by_name, link_by_value, newest_named, newest_valued};
+use crate::search::{
+    link_by_name, link_by_value, newest_named, newest_valued, widen_by_name, widen_by_value,
+};
 use crate::symbol::{SymErr, Symbol};
 use std::alloc::Global;
 use std::marker::Model;
 use wind_base::NoMemory;
 use wind_base::limits::SYMBOLS;
 
-/// Symbols in order of adding, with 65,536 chains by name and as many by value: each holds exactly the entries of one
-/// hash, from the newest to the oldest.
+/// Symbols in order of adding, with chains by name and by value, of each kind at least as many as there are symbols and
+/// room for more: each holds exactly the entries of some hashes, from the newest to the oldest.
 #[derive(Drop)]
 pub struct Chains {
     list: Vec<Symbol>,
@@ -96,6 +98,13 @@ impl Chains {
             return Err(SymErr::NoMemory);
         };
         let Ok(()) = self.values.reserve(n) else {
+            return Err(SymErr::NoMemory);
+        };
+        let all = self.list.len() as u32 + n;
+        let Ok(()) = widen_by_name(&self.list, &mut self.names, all) else {
+            return Err(SymErr::NoMemory);
+        };
+        let Ok(()) = widen_by_value(&self.list, &mut self.values, all) else {
             return Err(SymErr::NoMemory);
         };
         self.spare = n;

@@ -15,7 +15,7 @@ pub fn removal_law()
     ensures { RemovalLaw }
 {}
 
-/// From the head of a hash the links lead through exactly its entries, from the newest to the oldest.
+/// From the head of a chain the links lead through exactly its entries, from the newest to the oldest.
 pub fn chains_law()
     ensures { ChainsLaw }
 {}

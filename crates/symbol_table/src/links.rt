@@ -1,20 +1,23 @@
 //! Links between entries of one hash.
 
-ghost use Rattle.std.specs.Prelude.{◌≡◌, ◌<◌, ◌≤◌, ◌+◌, ◌++◌, ◌∷◌, [], length, replicate, IfOk, IsOk, slice_index, slice_set, vec_len, vec_capacity};
+ghost use Rattle.std.specs.Prelude.{◌≡◌, ◌<◌, ◌≤◌, ◌+◌, ◌%◌, ◌++◌, ◌∷◌, [], length, replicate, IfOk, IsOk, OnOk, OnErr, slice_index, slice_set, vec_len, vec_capacity};
 ghost use Rattle.wind_base.specs.Limits.{most_symbols};
-ghost use Rattle.symbol_table.specs.Chains.{most_heads, name_hash, value_hash};
+ghost use Rattle.symbol_table.specs.Chains.{most_hashes, fewest_heads, name_hash, value_hash};
 
 use std::alloc::Global;
 use wind_base::NoMemory;
 
-/// How many chains there are of each kind.
-const HEADS: u32 = 65_536;
+/// How many hashes there are, and chains of each kind at most.
+const HASHES: u32 = 65_536;
+
+/// How many chains there are at first.
+const FEWEST_HEADS: usize = 64;
 
 /// The hash of the empty name.
 const SEED: u32 = 5_381;
 
-/// For each entry the newest before it of its own hash, and for each hash the newest of all: an entry's number
-/// counted from 1, or 0 for none.
+/// For each entry the newest before it in its own chain, and for each chain the newest of all: an entry's number
+/// counted from 1, or 0 for none. An entry's chain is its hash modulo the number of chains.
 #[derive(Drop)]
 pub(crate) struct Links {
     pub(crate) before: Vec<u32>,
@@ -25,11 +28,11 @@ pub(crate) struct Links {
 #[tactic(auto, unfolding(crate::specs::Chains::name_hash))]
 pub(crate) fn hash_name(name: &[u8]) -> u32
     ensures value { result ≡ name_hash name.now }
-    ensures below { result < most_heads }
+    ensures below { result < most_hashes }
 {
     let mut hash = SEED;
     for byte in name {
-        hash = (hash * 33 + u32::from(*byte)) % HEADS;
+        hash = (hash * 33 + u32::from(*byte)) % HASHES;
     }
     hash
 }
@@ -38,19 +41,31 @@ pub(crate) fn hash_name(name: &[u8]) -> u32
 #[tactic(auto, unfolding(crate::specs::Chains::value_hash))]
 pub(crate) fn hash_value(value: u32) -> u32
     ensures value { result ≡ value_hash value }
-    ensures below { result < most_heads }
+    ensures below { result < most_hashes }
 {
     let product = u64::from(value) * 2_654_435_769 % 0x1_0000_0000;
-    (product / u64::from(HEADS)) as u32
+    (product / u64::from(HASHES)) as u32
+}
+
+/// How many chains there are, of at least `n`, where there were so many.
+fn wider(many: usize, n: usize) -> usize
+    requires { n ≤ most_hashes }
+    ensures enough { n ≤ result }
+    ensures no_fewer { many ≤ result }
+{
+    if n <= many {
+        return many;
+    }
+    usize::max(n, usize::min(2 * many, HASHES as usize))
 }
 
 impl Links {
-    /// Chains without entries.
+    /// The fewest chains, without entries.
     pub(crate) fn new(alloc: Global) -> Result<Links, NoMemory>
         ensures before { IfOk result (λ l. l.before.items ≡ []) }
-        ensures heads { IfOk result (λ l. l.heads.items ≡ replicate most_heads 0) }
+        ensures heads { IfOk result (λ l. l.heads.items ≡ replicate fewest_heads 0) }
     {
-        let Ok(heads) = vec![in alloc; 0; HEADS as usize] else {
+        let Ok(heads) = vec![in alloc; 0; FEWEST_HEADS] else {
             return Err(NoMemory);
         };
         Ok(Links {
@@ -72,24 +87,51 @@ impl Links {
         }
     }
 
+    /// Makes at least `n` chains, at least twice as many as there were where these are fewer. Their entries are then
+    /// not where they belong. Where memory lacks, all stays.
+    pub(crate) fn widen(&mut self, n: u32) -> Result<(), NoMemory>
+        requires { n ≤ most_hashes }
+        ensures before { self.new.before.items ≡ self.old.before.items }
+        ensures capacity { vec_capacity self.new.before ≡ vec_capacity self.old.before }
+        ensures enough { OnOk result (n ≤ length self.new.heads.items) }
+        ensures no_fewer { length self.old.heads.items ≤ length self.new.heads.items }
+        ensures stays { OnErr result (self.new.heads.items ≡ self.old.heads.items) }
+    {
+        let many = wider(self.heads.len(), n as usize);
+        match self.heads.resize(many, 0) {
+            Ok(()) => Ok(()),
+            Err(_) => Err(NoMemory),
+        }
+    }
+
+    /// The newest entry of the chain of a hash.
+    pub(crate) fn newest(&self, hash: u32) -> u32
+        requires { 0 < length self.now.heads.items }
+        ensures { result ≡ slice_index self.now.heads.items (hash % length self.now.heads.items) }
+    {
+        self.heads[hash as usize % self.heads.len()]
+    }
+
     /// Puts one entry more in front of the chain of its hash.
     pub(crate) fn add(&mut self, hash: u32)
-        requires hash { hash < length self.old.heads.items }
+        requires some { 0 < length self.old.heads.items }
         requires few { length self.old.before.items < most_symbols }
         requires room { vec_len self.old.before < vec_capacity self.old.before }
-        ensures before { self.new.before.items ≡ self.old.before.items ++ slice_index self.old.heads.items hash ∷ [] }
-        ensures heads { self.new.heads.items ≡ slice_set self.old.heads.items hash (length self.old.before.items + 1) }
+        ensures before { self.new.before.items ≡ self.old.before.items
+            ++ slice_index self.old.heads.items (hash % length self.old.heads.items) ∷ [] }
+        ensures heads { self.new.heads.items ≡ slice_set self.old.heads.items
+            (hash % length self.old.heads.items) (length self.old.before.items + 1) }
         ensures capacity { vec_capacity self.new.before ≡ vec_capacity self.old.before }
     {
-        self.before.push_reserved(self.heads[hash as usize]);
-        self.heads[hash as usize] = self.before.len() as u32;
+        let chain = hash as usize % self.heads.len();
+        self.before.push_reserved(self.heads[chain]);
+        self.heads[chain] = self.before.len() as u32;
     }
 
     /// Takes all entries out.
     pub(crate) fn clear(&mut self)
-        requires { length self.old.heads.items ≡ most_heads }
         ensures before { self.new.before.items ≡ [] }
-        ensures heads { self.new.heads.items ≡ replicate most_heads 0 }
+        ensures heads { self.new.heads.items ≡ replicate (length self.old.heads.items) 0 }
         ensures capacity { vec_capacity self.new.before ≡ vec_capacity self.old.before }
     {
         self.before.clear();

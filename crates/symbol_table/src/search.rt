@@ -1,12 +1,13 @@
 //! Look-ups along the chains of a list of symbols.
 
-ghost use Rattle.std.specs.Prelude.{◌≡◌, ◌≤◌, length, option_copied, map, vec_capacity};
+ghost use Rattle.std.specs.Prelude.{◌≡◌, ◌≤◌, ◌<◌, length, option_copied, vec_capacity, OnOk};
 ghost use Rattle.wind_base.specs.Limits.{most_symbols};
 ghost use Rattle.symbol_table.specs.Newest.{newest, has_value};
-ghost use Rattle.symbol_table.specs.Chains.{most_heads, AreChained, hash_by_name, hash_by_value, is_sought, state_of};
+ghost use Rattle.symbol_table.specs.Chains.{most_hashes, AreNamed, AreValued, is_sought, state_of};
 
 use crate::links::{Links, hash_name, hash_value};
 use crate::symbol::Symbol;
+use wind_base::NoMemory;
 
 fn is_sought_for(symbol: &Symbol, global_only: bool, name: &[u8]) -> bool
     ensures { result ≡ is_sought global_only name.now symbol.now }
@@ -21,10 +22,10 @@ pub(crate) fn newest_named<'a>(
     name: &[u8],
     global_only: bool,
 ) -> Option<&'a Symbol>
-    requires { AreChained (map hash_by_name list.now) (state_of links.now) }
+    requires { AreNamed list.now (state_of links.now) }
     ensures { option_copied result ≡ newest (is_sought global_only name.now) list.now }
 {
-    let mut at = links.heads[hash_name(name) as usize] as usize;
+    let mut at = links.newest(hash_name(name)) as usize;
     while at != 0 {
         let symbol = &list[at - 1];
         if is_sought_for(symbol, global_only, name) {
@@ -37,10 +38,10 @@ pub(crate) fn newest_named<'a>(
 
 /// The newest symbol of a value.
 pub(crate) fn newest_valued<'a>(list: &'a [Symbol], links: &Links, value: u32) -> Option<&'a Symbol>
-    requires { AreChained (map hash_by_value list.now) (state_of links.now) }
+    requires { AreValued list.now (state_of links.now) }
     ensures { option_copied result ≡ newest (has_value value) list.now }
 {
-    let mut at = links.heads[hash_value(value) as usize] as usize;
+    let mut at = links.newest(hash_value(value)) as usize;
     while at != 0 {
         let symbol = &list[at - 1];
         if symbol.value == value {
@@ -53,10 +54,11 @@ pub(crate) fn newest_valued<'a>(list: &'a [Symbol], links: &Links, value: u32) -
 
 /// Puts the symbols into chains by name.
 pub(crate) fn link_by_name(list: &[Symbol], links: &mut Links)
-    requires heads { length links.old.heads.items ≡ most_heads }
+    requires some { 0 < length links.old.heads.items }
     requires few { length list.now ≤ most_symbols }
     requires room { length list.now ≤ vec_capacity links.old.before }
-    ensures chained { AreChained (map hash_by_name list.now) (state_of links.new) }
+    ensures chained { AreNamed list.now (state_of links.new) }
+    ensures heads { length links.new.heads.items ≡ length links.old.heads.items }
     ensures capacity { vec_capacity links.new.before ≡ vec_capacity links.old.before }
 {
     links.clear();
@@ -67,14 +69,55 @@ pub(crate) fn link_by_name(list: &[Symbol], links: &mut Links)
 
 /// Puts the symbols into chains by value.
 pub(crate) fn link_by_value(list: &[Symbol], links: &mut Links)
-    requires heads { length links.old.heads.items ≡ most_heads }
+    requires some { 0 < length links.old.heads.items }
     requires few { length list.now ≤ most_symbols }
     requires room { length list.now ≤ vec_capacity links.old.before }
-    ensures chained { AreChained (map hash_by_value list.now) (state_of links.new) }
+    ensures chained { AreValued list.now (state_of links.new) }
+    ensures heads { length links.new.heads.items ≡ length links.old.heads.items }
     ensures capacity { vec_capacity links.new.before ≡ vec_capacity links.old.before }
 {
     links.clear();
     for symbol in list {
         links.add(hash_value(symbol.value));
     }
+}
+
+/// Makes at least `n` chains by name, with the symbols in them. Where memory lacks, they stay.
+pub(crate) fn widen_by_name(list: &[Symbol], links: &mut Links, n: u32) -> Result<(), NoMemory>
+    requires wide { n ≤ most_hashes }
+    requires some { 0 < length links.old.heads.items }
+    requires few { length list.now ≤ most_symbols }
+    requires room { length list.now ≤ vec_capacity links.old.before }
+    requires chained { AreNamed list.now (state_of links.old) }
+    ensures chained { AreNamed list.now (state_of links.new) }
+    ensures capacity { vec_capacity links.new.before ≡ vec_capacity links.old.before }
+    ensures enough { OnOk result (n ≤ length links.new.heads.items) }
+    ensures no_fewer { length links.old.heads.items ≤ length links.new.heads.items }
+{
+    if n as usize <= links.heads.len() {
+        return Ok(());
+    }
+    links.widen(n)?;
+    link_by_name(list, links);
+    Ok(())
+}
+
+/// Makes at least `n` chains by value, with the symbols in them. Where memory lacks, they stay.
+pub(crate) fn widen_by_value(list: &[Symbol], links: &mut Links, n: u32) -> Result<(), NoMemory>
+    requires wide { n ≤ most_hashes }
+    requires some { 0 < length links.old.heads.items }
+    requires few { length list.now ≤ most_symbols }
+    requires room { length list.now ≤ vec_capacity links.old.before }
+    requires chained { AreValued list.now (state_of links.old) }
+    ensures chained { AreValued list.now (state_of links.new) }
+    ensures capacity { vec_capacity links.new.before ≡ vec_capacity links.old.before }
+    ensures enough { OnOk result (n ≤ length links.new.heads.items) }
+    ensures no_fewer { length links.old.heads.items ≤ length links.new.heads.items }
+{
+    if n as usize <= links.heads.len() {
+        return Ok(());
+    }
+    links.widen(n)?;
+    link_by_value(list, links);
+    Ok(())
 }

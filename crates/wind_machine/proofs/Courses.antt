@@ -3,13 +3,11 @@ use Rattle.std.proofs.Common.{◌≡◌, ℕ, zero, suc, true, false, cond, eqb,
 use Rattle.std.specs.Prelude.{unwrap_or}
 use Rattle.std.specs.List.{All}
 use Rattle.std.proofs.lemmas.List.Elements.{All-head, All-drop}
-use Rattle.task_block.specs.declared.task.Task.{Task}
 use Rattle.wind_outside.specs.Devices.{DeviceState}
 use Rattle.wind_lists.specs.Sorting.{first}
 use Rattle.tick_file.specs.Schedule.{Timed, Timetable, timetable_of}
 use Rattle.tick_file.specs.declared.event.Event.{Event}
 use Rattle.tick_file.specs.declared.event.Event.TheVariants.{Tick, Rx}
-use Rattle.wind_core.specs.Orders.{running}
 use Rattle.kernel_world.specs.Actors.{shell_id}
 use Rattle.live_loading.specs.Said.{FileSaid}
 use Rattle.wind_machine.specs.State.{State}
@@ -17,7 +15,12 @@ use Rattle.wind_machine.specs.Good.{Good}
 use Rattle.tick_file.specs.Laws.{IsEarly, EarlyLaw}
 use Rattle.wind_machine.specs.Laws.{StartLaw, StepLaw, InstantLaw, SafetyLaw, OnlyUnsafeGo, RunLaw}
 use Rattle.wind_machine.specs.Run.{Answers, after}
-use Rattle.wind_machine.specs.Machine.{opening, shell_step, task_step, step_of, event_comes, unreserved_world, without_next, next_event, jump_to, arrival, console_is_due, is_active, routine_step, run_step, actor_step, quiet_step, step_by, due_event, plain_step, file_asked, step_asking, machine_step}
+use Rattle.wind_machine.specs.Events.{event_comes, unreserved_world, without_next}
+use Rattle.wind_machine.specs.ActorSteps.{shell_step, task_step, step_of}
+use Rattle.wind_machine.specs.Next.{next}
+use Rattle.wind_machine.specs.Machine.{opening, machine_step, state_after}
+use Rattle.wind_machine.specs.declared.next.Next.{Next}
+use Rattle.wind_machine.specs.declared.next.Next.TheVariants.{Come, Arrive, Routine, Act, Load, Jump, Over}
 use Rattle.wind_machine.specs.declared.phase.Phase.{Phase}
 use Rattle.wind_machine.specs.declared.phase.Phase.TheVariants as phases
 
@@ -42,35 +45,18 @@ event_early : (s : State) (e : Event) → IsOnTime s → IsOnTime (event_comes s
 event_early s Tick h = h
 event_early s (Rx n) h = h
 
-jump_early : (s : State) (o : Option Timed) → IsOnTime s → IfSome (jump_to s o) IsOnTime
-jump_early s None h = tt
-jump_early s (Some e) h = h
-
-run_early : (s : State) (o : Option Task) → IsOnTime s → IfSome (run_step s o) IsOnTime
-run_early s None h = jump_early s (next_event s) h
-run_early s (Some t) h = whoever_early s t.id h
-
-actor_early : (s : State) → IsOnTime s → IfSome (actor_step s) IsOnTime
-actor_early s h = elim (is_active s.world) as (λ b. IfSome (cond b (Some (routine_step s)) (run_step s (running s.world.kern))) IsOnTime) [ true ↦ h | false ↦ run_early s (running s.world.kern) h ]
-
-quiet_early : (s : State) → IsOnTime s → IfSome (quiet_step s) IsOnTime
-quiet_early s h = elim (console_is_due s) as (λ b. IfSome (cond b (Some (arrival s)) (actor_step s)) IsOnTime) [ true ↦ h | false ↦ actor_early s h ]
-
-by_early : (s : State) (o : Option Timed) → IsOnTime s → IfSome (step_by s o) IsOnTime
-by_early s None h = quiet_early s h
-by_early s (Some e) h = event_early (record s { schedule = without_next s.schedule; world = unreserved_world s.world }) e.event (All-drop IsEarly 1 s.schedule.events h)
-
-plain_early : (s : State) → IsOnTime s → IfSome (plain_step s) IsOnTime
-unfolding plain_step
-plain_early s h = by_early s (due_event s) h
-
-asking_early : (said : FileSaid) (s : State) (o : Option (List ℕ)) → IsOnTime s → IfSome (step_asking said s o) IsOnTime
-asking_early said s None h = plain_early s h
-asking_early said s (Some name) h = h
+after_early : (said : FileSaid) (s : State) (n : Next) → IsOnTime s → IfSome (state_after said s n) IsOnTime
+after_early said s (Come e) h = event_early (record s { schedule = without_next s.schedule; world = unreserved_world s.world }) e (All-drop IsEarly 1 s.schedule.events h)
+after_early said s Arrive h = h
+after_early said s Routine h = h
+after_early said s (Act who) h = whoever_early s who h
+after_early said s (Load name) h = h
+after_early said s (Jump e) h = h
+after_early said s Over h = tt
 
 step_early : (said : FileSaid) (s t : State) → IsOnTime s → machine_step said s ≡ Some t → IsOnTime t
 unfolding machine_step
-step_early said s t h e = subst (λ o. IfSome o IsOnTime) e (asking_early said s (file_asked s) h)
+step_early said s t h e = subst (λ o. IfSome o IsOnTime) e (after_early said s (next s) h)
 
 starts_early : (console : List ℕ) (schedule : Timetable) (slots : List (Option DeviceState)) → All IsEarly schedule.events → IsOnTime (opening console schedule slots)
 unfolding opening

@@ -13,7 +13,7 @@ use Rattle.con_line.proofs.Effects.{byte_leaves}
 use Rattle.wind_machine.specs.State.{ShellState}
 use Rattle.wind_machine.specs.Good.{HasItsLine}
 use Rattle.wind_machine.specs.Shell.{at_prompt, prompted, begun_tree, is_nothing, shell_read}
-use Rattle.wind_machine.specs.Machine.{shell_after}
+use Rattle.wind_machine.specs.Events.{shell_after}
 use Rattle.wind_machine.specs.declared.phase.Phase.{Phase}
 use Rattle.wind_machine.specs.declared.phase.Phase.TheVariants as phases
 

@@ -10,9 +10,11 @@ pub mod Hearing
 pub mod Parts
 pub mod Instants
 pub mod Routines
+pub mod Order
 pub mod Asking
 pub mod Steps
 pub mod Going
 pub mod Beginning
 pub mod Courses
 pub mod Counting
+pub mod Silence

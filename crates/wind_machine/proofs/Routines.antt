@@ -24,7 +24,7 @@ use Rattle.kernel_calls.proofs.Passing.{call_passes}
 use Rattle.kernel_calls.proofs.Serves.{passes_by, passes_before}
 use Rattle.wind_machine.specs.Processor.{bus_of, with_bus}
 use Rattle.wind_machine.specs.Text.{routine_text}
-use Rattle.wind_machine.specs.Machine.{is_active}
+use Rattle.wind_machine.specs.Next.{is_active}
 use Rattle.wind_machine.specs.Routine.{interrupt_top, with_watch, routine_regs, next_routine, given_up, without_reserve, routine_call, routine_gate, routine_executed, routine_word, routine_at, routine_under, routine_part}
 use Rattle.wind_machine.proofs.Executing.{IfDone, executing_lasts, sizes_last}
 

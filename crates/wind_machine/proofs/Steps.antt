@@ -1,14 +1,12 @@
 -- Every step keeps the facts.
-use Rattle.std.proofs.Common.{◌≡◌, ℕ, ◌+◌, ◌≤◌, true, false, cond, eqb, List, [], ◌∷◌, length, take, drop, Option, None, Some, IfSome, refl, sym, ◌∙◌, subst, arith}
+use Rattle.std.proofs.Common.{◌≡◌, ℕ, ◌+◌, ◌≤◌, true, false, cond, eqb, List, [], ◌∷◌, length, take, drop, Some, IfSome, refl, sym, ◌∙◌, subst, arith}
 use Rattle.std.proofs.lemmas.Bool.{eqb-true}
 use Rattle.std.proofs.lemmas.List.{length-take}
-use Rattle.task_block.specs.declared.task.Task.{Task}
 use Rattle.tick_file.specs.Schedule.{Timed, Timetable}
 use Rattle.tick_file.specs.Laws.{IsEarly}
 use Rattle.tick_file.specs.declared.event.Event.{Event}
 use Rattle.tick_file.specs.declared.event.Event.TheVariants.{Tick, Rx}
 use Rattle.wind_core.specs.State.{Lives}
-use Rattle.wind_core.specs.Orders.{running}
 use Rattle.wind_core.specs.Tick.{tick}
 use Rattle.wind_core.proofs.Ids.{ids-tick, since-tick, lives_by}
 use Rattle.wind_core.proofs.Keeping.{every_call_keeps}
@@ -37,7 +35,10 @@ use Rattle.wind_machine.specs.Part.{Part, part_of}
 use Rattle.wind_machine.specs.Shell.{prompt_part, read_part, shell_read, eval_part}
 use Rattle.wind_machine.specs.Processor.{without_own, task_part}
 use Rattle.wind_machine.specs.Routine.{interrupt_top}
-use Rattle.wind_machine.specs.Machine.{Heard, heard_by, arrived, arrival, ticked, received, event_comes, event_step, unreserved_world, without_next, jump, at_turn, shell_world, cleared, stepped, prompt_step, read_step, eval_step, task_step, shell_step, step_of, is_active, routine_step, actor_step, due_event, console_is_due, next_event, jump_to, run_step, quiet_step, step_by, plain_step, file_asked, step_asking, machine_step}
+use Rattle.wind_machine.specs.Events.{Heard, heard_by, arrived, arrival, ticked, received, event_comes, event_step, unreserved_world, without_next, jump, cleared, next_event}
+use Rattle.wind_machine.specs.ActorSteps.{at_turn, shell_world, stepped, prompt_step, read_step, eval_step, task_step, shell_step, step_of, routine_step}
+use Rattle.wind_machine.specs.Next.{is_active, next}
+use Rattle.wind_machine.specs.Machine.{machine_step, state_after}
 use Rattle.wind_machine.specs.declared.phase.Phase.{Phase}
 use Rattle.wind_machine.specs.declared.phase.Phase.TheVariants as phases
 use Rattle.wind_machine.proofs.Kept.{needs_none, prompt_has_line, read_phase}
@@ -46,7 +47,7 @@ use Rattle.wind_machine.proofs.Moves.{lent-tick, next-tick, last-tick, stacks-ti
 use Rattle.wind_machine.proofs.Free.{runner_ready, runner_there, turn_ready}
 use Rattle.wind_machine.proofs.Hearing.{heard_keeps, chunk_short}
 use Rattle.wind_machine.proofs.Routines.{RoutinePasses, routine_passes}
-use Rattle.wind_machine.proofs.Asking.{shells, shell_ready}
+use Rattle.wind_machine.proofs.Order.{by_next}
 use Rattle.wind_machine.proofs.Parts.{PartKeeps, prompt_turns, read_turns, eval_keeps, load_keeps, task_keeps}
 
 -- from a good state
@@ -256,7 +257,7 @@ module _ (s : State) (g : Good s) where
       }
 
   -- ---- time goes on
-  jump_keeps : (e : Timed) → IsEarly e → Good (jump s e)
+  jump_keeps : (e : Timed) → IsEarly e → Good (jump s e.time)
   jump_keeps e early = record {
     console = g.console;
     read = g.read;
@@ -271,44 +272,25 @@ module _ (s : State) (g : Good s) where
     time = omega (arith, early);
   }
 
-  -- ---- a step of the machine
-  jumps_keep : (o : Option Timed) → IfSome o IsEarly → IfSome (jump_to s o) Good
-  jumps_keep None early = tt
-  jumps_keep (Some e) early = jump_keeps e early
-
-  run_keeps : (o : Option Task) → running s.world.kern ≡ o → IfSome (next_event s) IsEarly → IfSome (run_step s o) Good
-  run_keeps None e early = jumps_keep (next_event s) early
-  run_keeps (Some t) e early = whoever_keeps t.id (runner_there s.world.kern g.world.kern t e) (runner_ready s.world.kern g.world.kern t e)
-
-  actor_keeps : IfSome (next_event s) IsEarly → IfSome (actor_step s) Good
-  actor_keeps early =
-      elim (is_active s.world) as (λ b. is_active s.world ≡ b → IfSome (cond b (Some (routine_step s)) (run_step s (running s.world.kern))) Good) [
-        | true ↦ λ e. routine_keeps e
-        | false ↦ λ e. run_keeps (running s.world.kern) refl early
-      ] refl
-
-  quiet_keeps : IfSome (next_event s) IsEarly → IfSome (quiet_step s) Good
-  quiet_keeps early = elim (console_is_due s) as (λ b. IfSome (cond b (Some (arrival s)) (actor_step s)) Good) [ true ↦ arrival_keeps | false ↦ actor_keeps early ]
-
-event_keeps : (s : State) (e : Timed) → Good s → Good (event_step s e)
+event_keeps : (s : State) (e : Event) → Good s → Good (event_step s e)
 event_keeps s e g =
     let t = without_next s.schedule in
-    comes_keeps (record s { schedule = t; world = unreserved_world s.world }) (unreserved_keeps s g t) e.event
+    comes_keeps (record s { schedule = t; world = unreserved_world s.world }) (unreserved_keeps s g t) e
 
-steps_keep : (s : State) (o : Option Timed) → IfSome (next_event s) IsEarly → Good s → IfSome (step_by s o) Good
-steps_keep s None early g = quiet_keeps s g early
-steps_keep s (Some e) early g = event_keeps s e g
-
-plain_keeps : (s : State) → IfSome (next_event s) IsEarly → Good s → IfSome (plain_step s) Good
-unfolding plain_step
-plain_keeps s early g = steps_keep s (due_event s) early g
-
-asking_keeps : LoadLaw → (said : FileSaid) (s : State) (o : Option (List ℕ)) → file_asked s ≡ o → IfSome (next_event s) IsEarly → Good s → IfSome (step_asking said s o) Good
-asking_keeps law said s None e early g = plain_keeps s early g
-asking_keeps law said s (Some name) e early g =
-    let part = part_of s.shell (without_own (load_call (shell_world s) name said) shell_id) in
-    stepped_keeps s g s.console shell_id part g.console (loads s g law (shell_ready s g (shells s name e).who) name said)
+-- ---- a step of the machine
+next_keeps : LoadLaw → (said : FileSaid) (s : State) → IfSome (next_event s) IsEarly → Good s → IfSome (state_after said s (next s)) Good
+next_keeps law said s early g = by_next s (λ n. IfSome (state_after said s n) Good) (record {
+  come = λ e due. event_keeps s e.event g;
+  arrive = λ quiet due. arrival_keeps s g;
+  routine = λ nothing active. routine_keeps s g active;
+  act = λ left t runs none. whoever_keeps s g t.id (runner_there s.world.kern g.world.kern t runs) (runner_ready s.world.kern g.world.kern t runs);
+  load = λ left t runs own name found.
+      let part = part_of s.shell (without_own (load_call (shell_world s) name said) shell_id) in
+      stepped_keeps s g s.console shell_id part g.console (loads s g law (subst (IsReady s.world.kern) own (runner_ready s.world.kern g.world.kern t runs)) name said);
+  jump = λ left nobody e there. jump_keeps s g e (subst (λ o. IfSome o IsEarly) there early);
+  over = λ left nobody none. tt;
+})
 
 pub step_keeps : LoadLaw → (said : FileSaid) (s t : State) → IfSome (next_event s) IsEarly → Good s → machine_step said s ≡ Some t → Good t
 unfolding machine_step
-step_keeps law said s t early g e = subst (λ o. IfSome o Good) e (asking_keeps law said s (file_asked s) refl early g)
+step_keeps law said s t early g e = subst (λ o. IfSome o Good) e (next_keeps law said s early g)

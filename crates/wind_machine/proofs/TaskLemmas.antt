@@ -9,7 +9,7 @@ use Rattle.kernel_world.specs.Actors.{shell_id}
 use Rattle.wind_machine.specs.Task.{shell_task, console_place, is_held, let_go, aborted, listening}
 use Rattle.con_line.specs.declared.console.ByteDone.{ByteDone}
 use Rattle.con_line.specs.declared.console.ByteDone.TheVariants as done
-use Rattle.wind_machine.specs.Machine.{kern_after}
+use Rattle.wind_machine.specs.Events.{kern_after}
 
 -- at most one order number is given out where one task is moved
 pub since-move : (s : KernState) (who : ℕ) (f : Task → Task) → (move_task s who f).next_since ≤ s.next_since + 1

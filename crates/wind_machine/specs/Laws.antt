@@ -1,5 +1,5 @@
 -- What follows of the machine's definitions alone.
-use Rattle.std.specs.Prelude.{◌≡◌, ℕ, ◌+◌, List, Option, Some, IfSome, ◌⊎◌}
+use Rattle.std.specs.Prelude.{◌≡◌, ℕ, ◌+◌, List, Option, Some, None, IfSome, ◌⊎◌, ◌↔◌}
 use Rattle.wind_outside.specs.Devices.{DeviceState}
 use Rattle.live_loading.specs.Said.{FileSaid}
 use Rattle.tick_file.specs.Schedule.{Timetable, timetable_of}
@@ -11,7 +11,18 @@ use Rattle.wind_machine.specs.State.{State}
 use Rattle.wind_machine.specs.Good.{Good}
 use Rattle.wind_machine.specs.Instants.{IsInstant}
 use Rattle.wind_machine.specs.Run.{Answers, after}
-use Rattle.wind_machine.specs.Machine.{runner, machine_step, next_event, opening}
+use Rattle.wind_machine.specs.Events.{next_event}
+use Rattle.wind_machine.specs.Next.{next, ComesNext}
+use Rattle.wind_machine.specs.Machine.{machine_step, IsOver, stepping, opening}
+use Rattle.wind_machine.specs.declared.next.Next.{Next}
+
+-- exactly one value comes next, in every state
+abbrev pub OrderLaw : Type 0
+OrderLaw = (s : State) (n : Next) → ComesNext s n ↔ (n ≡ next s)
+
+-- there is no further step, whatever is said of a file, exactly if the run is over
+abbrev pub OverLaw : Type 0
+OverLaw = (said : FileSaid) (s : State) → (machine_step said s ≡ None) ↔ IsOver s
 
 -- the opening state has the kept facts
 abbrev pub StartLaw : Type 0
@@ -29,10 +40,10 @@ CountLaw = (said : FileSaid) (s t : State) → machine_step said s ≡ Some t �
 abbrev pub InstantLaw : Type 0
 InstantLaw = (s : State) → Good s → IsInstant s.world
 
--- a task that lives before a step and not after it was not safe from deletion, or the step was its own
+-- a task that lives before a step and not after it was not safe from deletion, or it made the step itself
 abbrev pub OnlyUnsafeGo : State → State → Type 0
 OnlyUnsafeGo s t = (id : ℕ) → Lives s.world.kern id → (Lives t.world.kern id → ⊥)
-    → (safe_of (task_of s.world.kern.tasks id) ≡ 0) ⊎ (runner s.world ≡ Some (by_task id))
+    → (safe_of (task_of s.world.kern.tasks id) ≡ 0) ⊎ (stepping s ≡ Some (by_task id))
 
 -- so it is of every step from a state with the kept facts
 abbrev pub SafetyLaw : Type 0

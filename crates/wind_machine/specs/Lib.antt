@@ -1,13 +1,17 @@
+pub mod ActorSteps
+pub mod Events
 pub mod Feed
 pub mod Good
 pub mod Instants
 pub mod Laws
 pub mod Machine
+pub mod Next
 pub mod Part
 pub mod Processor
 pub mod Routine
 pub mod Reserving
 pub mod Run
+pub mod Silent
 pub mod Shell
 pub mod State
 pub mod Task

@@ -1,9 +1,17 @@
 //! What follows of the machine's definitions alone, whatever the code does.
 
-ghost use Rattle.wind_machine.specs.Laws.{StartLaw, StepLaw, CountLaw, InstantLaw, SafetyLaw, RunLaw};
+ghost use Rattle.wind_machine.specs.Laws.{OrderLaw, OverLaw, StartLaw, StepLaw, CountLaw, InstantLaw, SafetyLaw, RunLaw};
+ghost use Rattle.wind_machine.specs.Silent.{SilentLaw};
 
 use live_loading::loading_law;
 use tick_file::early_law;
+
+/// The law of the order: in every state exactly one value comes next. There is no further step, whatever is said of a
+/// file, exactly if that value is `Over`.
+pub fn order_law()
+    ensures one { OrderLaw }
+    ensures over { OverLaw }
+{}
 
 /// The law of the kept facts: the opening state has them, and every step of the wind machine keeps them, where the next
 /// event of the tick file comes before 2^64, as all do that a tick file can ask for. Every step is counted.
@@ -24,8 +32,8 @@ pub fn instant_law()
     ensures { InstantLaw }
 {}
 
-/// The law of safe sections: a task that lives before a step and not after it was not safe from deletion, or the step was
-/// its own.
+/// The law of safe sections: a task that lives before a step and not after it was not safe from deletion, or it made the
+/// step itself.
 pub fn safety_law()
     ensures { SafetyLaw }
 {
@@ -42,3 +50,9 @@ pub fn run_law()
     safety_law();
     early_law();
 }
+
+/// The law of silent steps: steps that ask for no file and write nothing are steps of each run that comes to the state
+/// from which they lead, whatever is said of files.
+pub fn silent_law()
+    ensures { SilentLaw }
+{}

@@ -1,15 +1,11 @@
 -- Each step of the machine goes with what the queues hold before and after it.
-use Rattle.std.proofs.Common.{◌≡◌, ℕ, Bool, true, false, cond, eqb, List, [], ◌∷◌, Option, None, Some, is_some, refl, sym, ap, ◌∙◌, subst, arith}
+use Rattle.std.proofs.Common.{◌≡◌, ℕ, Bool, true, false, cond, eqb, List, [], ◌∷◌, Option, None, Some, refl, sym, ap, ◌∙◌, subst, arith}
 use Rattle.std.specs.Prelude.{unwrap_or, take, drop}
 use Rattle.std.specs.List.{fold}
-use Rattle.std.specs.Option.{option_map}
 use Rattle.std.proofs.lemmas.Bool.{eqb-true}
-use Rattle.task_block.specs.declared.task.Task.{Task}
-use Rattle.tick_file.specs.Schedule.{Timed}
 use Rattle.tick_file.specs.declared.event.Event.{Event}
 use Rattle.tick_file.specs.declared.event.Event.TheVariants.{Tick, Rx}
 use Rattle.wind_core.specs.State.{KernState}
-use Rattle.wind_core.specs.Orders.{running}
 use Rattle.wind_core.specs.Moves.{release}
 use Rattle.con_line.specs.Keys.{byte_done}
 use Rattle.con_line.specs.Lines.{has_line, front_line}
@@ -20,6 +16,7 @@ use Rattle.msg_queue.specs.Kept.{IsKept}
 use Rattle.msg_queue.specs.Machine.{Event as Call}
 use Rattle.msg_queue.proofs.Calm.{next-tick, calms}
 use Rattle.kernel_world.specs.State.{WorldState}
+use Rattle.kernel_world.specs.Objects.{IsReady}
 use Rattle.kernel_world.specs.Actors.{shell_id, caller_words}
 use Rattle.kernel_calls.specs.Calls.{scene_of}
 use Rattle.kernel_world.specs.Replies.{left_gate}
@@ -27,7 +24,7 @@ use Rattle.kernel_world.specs.declared.actor.Actor.{Actor}
 use Rattle.kernel_world.specs.declared.actor.Actor.TheVariants.{Task as by_task, Interrupt}
 use Rattle.kernel_world.proofs.Calming.{queues-calm}
 use Rattle.live_loading.specs.Said.{FileSaid}
-use Rattle.live_loading.specs.Loading.{shell, load_call}
+use Rattle.live_loading.specs.Loading.{shell}
 use Rattle.live_loading.specs.Laws.{AloneLaw}
 use Rattle.wind_machine.specs.State.{State}
 use Rattle.wind_machine.specs.Good.{Good}
@@ -35,12 +32,15 @@ use Rattle.wind_machine.specs.Feed.{chunk, after_chunk, brought}
 use Rattle.wind_machine.specs.Task.{waits_for_console}
 use Rattle.wind_machine.specs.Shell.{read_part}
 use Rattle.wind_machine.specs.Processor.{gate_under}
-use Rattle.wind_machine.specs.Machine.{Heard, hear, heard_all, heard_from, heard_by, kern_after, arrived, arrival, event_comes, event_step, unreserved_world, without_next, next_event, jump_to, shell_world, task_step, shell_step, step_of, actor_of, runner, is_active, routine_step, due_event, console_is_due, run_step, actor_step, quiet_step, step_by, plain_step, stepping, file_asked, load_step, step_asking, machine_step}
+use Rattle.wind_machine.specs.Events.{Heard, hear, heard_all, heard_from, heard_by, kern_after, arrived, event_comes, event_step, unreserved_world, without_next, jump}
+use Rattle.wind_machine.specs.ActorSteps.{shell_world, task_step, shell_step, step_of, routine_step, load_step, file_in}
+use Rattle.wind_machine.specs.Machine.{state_after, machine_step, actor_of, stepping}
 use Rattle.wind_machine.specs.declared.phase.Phase.{Phase}
 use Rattle.wind_machine.specs.declared.phase.Phase.TheVariants as phases
 use Rattle.wind_machine.proofs.Dropping.{all_advance}
-use Rattle.wind_machine.proofs.Asking.{shells, at_load, shell_ready}
-use Rattle.wind_machine.proofs.Free.{turn_ready}
+use Rattle.wind_machine.proofs.Order.{by_next}
+use Rattle.wind_machine.proofs.Asking.{at_load, same_gate}
+use Rattle.wind_machine.proofs.Free.{runner_ready, turn_ready}
 use Rattle.wind_machine.proofs.Steps.{at_turn_advances}
 use Rattle.wind_messages.specs.Messages.{is_call, is_at_work, turn_world, task_call, task_scene, call_under, call_of, scene_by, routine_world, routine_scene}
 use Rattle.wind_messages.proofs.NextIds.{NextSame, next-if, next-release}
@@ -77,12 +77,8 @@ events : (s : State) (e : Event) → Goes s (event_comes s e) None
 events s Tick = left_alone s (event_comes s Tick) refl (next-tick s.world.kern)
 events s (Rx n) = arrivals s (drop (brought n) s.left) (take (brought n) s.left)
 
-due_events : (s : State) (e : Timed) → Goes s (event_step s e) None
-due_events s e = events (record s { schedule = without_next s.schedule; world = unreserved_world s.world }) e.event
-
-jumps : (s : State) (o : Option Timed) → Goes s (unwrap_or (jump_to s o) s) None
-jumps s None = left_alone s s refl refl
-jumps s (Some e) = left_alone s (unwrap_or (jump_to s (Some e)) s) refl refl
+due_events : (s : State) (e : Event) → Goes s (event_step s e) None
+due_events s e = events (record s { schedule = without_next s.schedule; world = unreserved_world s.world }) e
 
 -- ---- a task makes a step
 module _ (s : State) (g : Good s) where
@@ -115,11 +111,6 @@ module _ (s : State) (g : Good s) where
         | false ↦ λ e. tasks_go who
       ] refl
 
-  -- ---- by the order of the next step
-  runs_go : (o : Option Task) → Goes s (unwrap_or (run_step s o) s) (option_map actor_of o)
-  runs_go None = jumps s (next_event s)
-  runs_go (Some t) = whoever_goes t.id
-
   -- what a call of an interrupt routine sees is kept
   routine_kept : IsKept (routine_scene s)
   routine_kept =
@@ -129,43 +120,30 @@ module _ (s : State) (g : Good s) where
   routines_go : Goes s (routine_step s) (Some Interrupt)
   routines_go = routine_balances (routine_world s) routine_kept
 
-  actors_go : Goes s (unwrap_or (actor_step s) s) (runner s.world)
-  actors_go =
-      let o : Option Task = running s.world.kern in
-      elim (is_active s.world) as (λ b. Goes s (unwrap_or (cond b (Some (routine_step s)) (run_step s o)) s) (cond b (Some Interrupt) (option_map actor_of o))) [ true ↦ routines_go | false ↦ runs_go o ]
-
-  quiet_goes : Goes s (unwrap_or (quiet_step s) s) (cond (console_is_due s) None (runner s.world))
-  quiet_goes =
-      elim (console_is_due s) as (λ b. Goes s (unwrap_or (cond b (Some (arrival s)) (actor_step s)) s) (cond b None (runner s.world))) [ true ↦ arrivals s (after_chunk s.left) (chunk s.left) | false ↦ actors_go ]
-
-  steps_go : (o : Option Timed) → Goes s (unwrap_or (step_by s o) s) (cond (is_some o) None (cond (console_is_due s) None (runner s.world)))
-  steps_go None = quiet_goes
-  steps_go (Some e) = due_events s e
-
-  plain_goes : Goes s (unwrap_or (plain_step s) s) (stepping s)
-  unfolding plain_step
-  plain_goes = steps_go (due_event s)
-
   -- ---- the load of a file moves no message
-  no_call : (name : List ℕ) → file_asked s ≡ Some name → task_call s shell_id ≡ None
-  no_call name e =
-      let at = at_load s.shell.phase (shell_world s) name (shells s name e).file in
+  no_call : (name : List ℕ) → file_in s.shell.phase s.world ≡ Some name → task_call s shell_id ≡ None
+  no_call name found =
+      let at = at_load s.shell.phase s.world name found in
       let words : List ℕ = caller_words (shell_world s) shell in
-      elim (is_at_work s shell_id) as (λ b. cond b (call_under (gate_under (shell_world s) shell_id) shell_id words) None ≡ None) [ true ↦ ap (λ o. call_under o shell_id words) at.gate | false ↦ refl ]
+      elim (is_at_work s shell_id) as (λ b. cond b (call_under (gate_under (shell_world s) shell_id) shell_id words) None ≡ None) [ true ↦ ap (λ o. call_under o shell_id words) (same_gate s ∙ at.gate) | false ↦ refl ]
 
-  load_goes : AloneLaw → (said : FileSaid) (name : List ℕ) → file_asked s ≡ Some name → Goes s (load_step said s name) (stepping s)
-  load_goes law said name e =
-      let own = (shells s name e).who in
+  load_goes : AloneLaw → IsReady s.world.kern shell_id → (said : FileSaid) (name : List ℕ) → file_in s.shell.phase s.world ≡ Some name → Goes s (load_step said s name) (Some shell)
+  load_goes law ready said name found =
       let w : WorldState = shell_world s in
-      let alone = law w name said (at_turn_advances s g shell_id).kept (turn_ready s.world.kern shell_id (shell_ready s g own)) in
+      let alone = law w name said (at_turn_advances s g shell_id).kept (turn_ready s.world.kern shell_id ready) in
       let here : Balances s.world (load_step said s name).world (task_scene s shell_id) None
       = leaves w (load_step said s name).world (task_scene s shell_id) (ap (λ o. o.queues.queues) alone.objects) alone.ids in
-      subst (Goes s (load_step said s name)) (sym own) (subst (Balances s.world (load_step said s name).world (task_scene s shell_id)) (sym (no_call name e)) here)
+      subst (Balances s.world (load_step said s name).world (task_scene s shell_id)) (sym (no_call name found)) here
 
-  asking_goes : AloneLaw → (said : FileSaid) (o : Option (List ℕ)) → file_asked s ≡ o → Goes s (unwrap_or (step_asking said s o) s) (stepping s)
-  asking_goes law said None e = plain_goes
-  asking_goes law said (Some name) e = load_goes law said name e
-
+  -- ---- by the order of the next step
   pub step_goes : AloneLaw → (said : FileSaid) → Goes s (unwrap_or (machine_step said s) s) (stepping s)
   unfolding machine_step
-  step_goes law said = asking_goes law said (file_asked s) refl
+  step_goes law said = by_next s (λ n. Goes s (unwrap_or (state_after said s n) s) (actor_of n)) (record {
+    come = λ e due. due_events s e.event;
+    arrive = λ quiet due. arrivals s (after_chunk s.left) (chunk s.left);
+    routine = λ nothing active. routines_go;
+    act = λ left t runs none. whoever_goes t.id;
+    load = λ left t runs own name found. load_goes law (subst (IsReady s.world.kern) own (runner_ready s.world.kern g.world.kern t runs)) said name found;
+    jump = λ left nobody e there. left_alone s (jump s e.time) refl refl;
+    over = λ left nobody none. left_alone s s refl refl;
+  })

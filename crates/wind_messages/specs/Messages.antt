@@ -14,7 +14,9 @@ use Rattle.kernel_world.specs.declared.actor.Actor.{Actor}
 use Rattle.kernel_world.specs.declared.actor.Actor.TheVariants.{Task as by_task, Interrupt}
 use Rattle.wind_machine.specs.State.{State}
 use Rattle.wind_machine.specs.Run.{Answers, after}
-use Rattle.wind_machine.specs.Machine.{stepping, cleared, unreserved_world, at_turn}
+use Rattle.wind_machine.specs.Events.{cleared, unreserved_world}
+use Rattle.wind_machine.specs.ActorSteps.{at_turn}
+use Rattle.wind_machine.specs.Machine.{stepping}
 use Rattle.wind_machine.specs.Processor.{gate_under}
 use Rattle.wind_machine.specs.Routine.{routine_under}
 use Rattle.wind_machine.specs.declared.phase.Phase.{Phase}

@@ -26,14 +26,14 @@ impl<R: Files + Drop> HostFolder<R> {
     }
 }
 
-// The whole of what is left of a file, or None where that is longer than the limit. The room for it is
-// taken at once, and no more than one byte above the limit is read.
+// The whole of what is left of a file, or None where that is longer than the limit. Room is taken as the bytes
+// come, and no more than one byte above the limit is read.
 fn read_within<F: Read + Drop>(alloc: Global, file: F, limit: u32) -> io::Result<Option<Vec<u8>>>
     ensures within { IfOk result (λ found. IfSome found (λ bytes. vec_len bytes ≤ limit)) }
     ensures whole { IfOk result (λ found. IfSome (F.remaining file) (λ left. IsWhole limit left found)) }
 {
     let limit = limit as usize;
-    let mut bytes = Vec::with_capacity(alloc, limit + 1)?;
+    let mut bytes = Vec::new(alloc);
     file.take(limit as u64 + 1).read_to_end(&mut bytes)?;
     if bytes.len() > limit {
         return Ok(None);
@@ -111,7 +111,11 @@ impl<P: Print + Drop> Sink for HostSink<P> {
 #[cfg(test)]
 mod tests {
     use super::*;
+    use std::alloc::Allocator;
     use std::env;
+    use std::fmt::Display;
+    use std::fs::{Metadata, OpenOptions};
+    use std::io::Write;
     use std::test::Fail;
 
     // The answers of a real directory: a file at its limit and above it, none, and a directory.
@@ -131,6 +135,121 @@ mod tests {
         assert!(rt; matches!(folder.fetch(alloc, directory, 5), Fetched::Failed));
         fs::remove_file(&rt, file.as_str())?;
         assert!(rt; matches!(folder.fetch(alloc, &file, 5), Fetched::Missing));
+        Ok(())
+    }
+
+    // Files that are there, and that nobody may read.
+    #[derive(Clone, Copy, Drop)]
+    struct Locked<R: Files + Copy> {
+        rt: R,
+    }
+
+    fn denied<T>() -> io::Result<T> {
+        Err(io::Error::from(ErrorKind::PermissionDenied))
+    }
+
+    impl<R: Files + Copy> Files for Locked<R> {
+        type File = R::File;
+
+        type Dir = R::Dir;
+
+        fn open_file(&self, _how: &OpenOptions, _path: &str) -> io::Result<R::File> {
+            denied()
+        }
+
+        fn open_dir(&self, _path: &str) -> io::Result<R::Dir> {
+            denied()
+        }
+
+        fn metadata(&self, path: &str) -> io::Result<Metadata> {
+            self.rt.metadata(path)
+        }
+
+        fn symlink_metadata(&self, path: &str) -> io::Result<Metadata> {
+            self.rt.symlink_metadata(path)
+        }
+
+        fn copy(&self, _from: &str, _to: &str) -> io::Result<u64> {
+            denied()
+        }
+
+        fn rename(&self, _from: &str, _to: &str) -> io::Result<()> {
+            denied()
+        }
+
+        fn remove_file(&self, _path: &str) -> io::Result<()> {
+            denied()
+        }
+
+        fn create_dir(&self, _path: &str) -> io::Result<()> {
+            denied()
+        }
+
+        fn remove_dir(&self, _path: &str) -> io::Result<()> {
+            denied()
+        }
+
+        fn remove_dir_all<B: Allocator>(&self, _alloc: B, _path: &str) -> io::Result<()> {
+            denied()
+        }
+    }
+
+    // A file that may not be read is a fault, and no file that is not there.
+    #[test]
+    fn fails_at_files_that_may_not_be_read(rt: HostRuntime) -> Result<(), Fail> {
+        let mut folder = HostFolder::new(Locked { rt });
+        assert!(rt; matches!(folder.fetch(rt.alloc(), "console", 5), Fetched::Failed));
+        assert_eq!(rt; folder.faults, 1);
+        Ok(())
+    }
+
+    // A stream that a file keeps.
+    #[derive(Drop)]
+    struct Kept<'a> {
+        rt: HostRuntime,
+        name: &'a str,
+    }
+
+    impl Print for Kept<'_> {
+        fn print<D: Display + Drop>(&self, _value: D) -> io::Result<()> {
+            Ok(())
+        }
+
+        fn println<D: Display + Drop>(&self, _value: D) -> io::Result<()> {
+            Ok(())
+        }
+
+        fn write_all(&self, bytes: &[u8]) -> io::Result<()> {
+            let mut file = OpenOptions::new()
+                .append(true)
+                .create(true)
+                .open(&self.rt, self.name)?;
+            file.write_all(bytes)
+        }
+    }
+
+    // The bytes of a stream: all pieces in order. A stream that can't be written is a fault.
+    #[test]
+    fn puts_pieces_into_a_real_stream(rt: HostRuntime) -> Result<(), Fail> {
+        let alloc = rt.alloc();
+        let directory = env::temp_dir(&rt)?;
+        let directory = directory.as_path().to_str().ok_or("no text")?;
+        let file = format!(in alloc; "{directory}/windplay_puts_pieces")?;
+        fs::write(&rt, file.as_str(), b"".as_slice())?;
+        let mut sink = HostSink::new(Kept { rt, name: &file });
+        assert_eq!(rt; sink.put(b"-> "), Put::Done);
+        assert_eq!(rt; sink.put(b"i\n"), Put::Done);
+        assert_eq!(rt;
+            fs::read(&rt, file.as_str())?.as_slice(),
+            b"-> i\n".as_slice()
+        );
+        fs::remove_file(&rt, file.as_str())?;
+        let mut sink = HostSink::new(Kept {
+            rt,
+            name: directory,
+        });
+        assert_eq!(rt; sink.put(b"-> "), Put::Failed);
+        assert_eq!(rt; sink.faults, 1);
         Ok(())
     }
 }

@@ -5,3 +5,4 @@ pub mod ModuleLemmas
 pub mod RunLemmas
 pub mod Saying
 pub mod ToldLemmas
+pub mod Bursts

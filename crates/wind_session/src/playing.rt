@@ -156,6 +156,7 @@ fn sum_up<O: Sink>(rounds: u32, board: &Board, tally: Tally, out: &mut O) -> Sta
         (status_number (status_of_lem tally.end))) (O.bytes out.old) (O.bytes out.new) }
     ensures read_fault { result ≡ status.ReadFault → tally.end ≡ ends.ReadFault }
     ensures fault { result ≡ status.WriteFault → Rose (O.faults out.old) (O.faults out.new) }
+    ensures faults { O.faults out.old ≤ O.faults out.new }
 {
     let status = status_of(tally.end);
     if is_given_up(tally.end) {
@@ -193,6 +194,7 @@ fn played<F: Folder, O: Sink>(
     ensures fault { result ≡ status.WriteFault → Rose (O.faults out.old) (O.faults out.new) }
     ensures files { F.files folder.new ≡ F.files folder.old }
     ensures folder_faults { F.faults folder.old ≤ F.faults folder.new }
+    ensures faults { O.faults out.old ≤ O.faults out.new }
 {
     if command.generate == 0 {
         return status_of(run_board(alloc, board, folder, command.modules, out, command.limit));
@@ -219,6 +221,8 @@ fn session<F: Folder, O: Sink>(
     ensures read_fault { result.status ≡ status.ReadFault → Rose (F.faults folder.old) (F.faults folder.new) }
     ensures write_fault { result.status ≡ status.WriteFault → Rose (O.faults out.old) (O.faults out.new) }
     ensures files { F.files folder.new ≡ F.files folder.old }
+    ensures folder_faults { F.faults folder.old ≤ F.faults folder.new }
+    ensures out_faults { O.faults out.old ≤ O.faults out.new }
 {
     let inputs = match inputs_of(alloc, command, folder) {
         Ok(inputs) => inputs,
@@ -259,6 +263,9 @@ pub fn play<'a, F: Folder, O: Sink, E: Sink>(
     ensures read_fault { result.status ≡ status.ReadFault → Rose (F.faults folder.old) (F.faults folder.new) }
     ensures write_fault { result.status ≡ status.WriteFault → Rose (O.faults out.old) (O.faults out.new) }
     ensures files { F.files folder.new ≡ F.files folder.old }
+    ensures folder_faults { F.faults folder.old ≤ F.faults folder.new }
+    ensures out_faults { O.faults out.old ≤ O.faults out.new }
+    ensures err_faults { E.faults err.old ≤ E.faults err.new }
     ensures err { Tells result.status (command_of_lem (map (λ w. w.now) words.now)) (E.bytes err.old) (E.bytes err.new) (Rose (E.faults err.old) (E.faults err.new)) }
 {
     let command = match command_of(alloc, words) {

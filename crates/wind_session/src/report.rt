@@ -46,21 +46,24 @@ fn put_pieces<E: Sink>(err: &mut E, first: &[u8], second: &[u8], third: &[u8])
 
 /// Tells why the words are no command.
 pub fn tell_usage<E: Sink>(err: &mut E, text: &str)
-    ensures { IsTold (E.bytes err.old) (E.bytes err.new) text.now (Rose (E.faults err.old) (E.faults err.new)) }
+    ensures told { IsTold (E.bytes err.old) (E.bytes err.new) text.now (Rose (E.faults err.old) (E.faults err.new)) }
+    ensures faults { E.faults err.old ≤ E.faults err.new }
 {
     put_pieces(err, text.as_bytes(), b"", b"");
 }
 
 /// Tells that host memory ran out.
 pub fn tell_no_memory<E: Sink>(err: &mut E)
-    ensures { IsTold (E.bytes err.old) (E.bytes err.new) memory_text (Rose (E.faults err.old) (E.faults err.new)) }
+    ensures told { IsTold (E.bytes err.old) (E.bytes err.new) memory_text (Rose (E.faults err.old) (E.faults err.new)) }
+    ensures faults { E.faults err.old ≤ E.faults err.new }
 {
     put_pieces(err, b"windplay: ", b"out of memory", b"\n");
 }
 
 // Tells that a line of the tick file of this name is outside its grammar.
 fn tell_bad_line<E: Sink>(err: &mut E, name: &[u8], line: u64)
-    ensures { IsTold (E.bytes err.old) (E.bytes err.new) (line_text name.now (codes ": line " ++ decimal line ++ codes " is not understood\n")) (Rose (E.faults err.old) (E.faults err.new)) }
+    ensures told { IsTold (E.bytes err.old) (E.bytes err.new) (line_text name.now (codes ": line " ++ decimal line ++ codes " is not understood\n")) (Rose (E.faults err.old) (E.faults err.new)) }
+    ensures faults { E.faults err.old ≤ E.faults err.new }
 {
     let mut digits = Buffer::new();
     let number = digits.format(line).as_bytes();
@@ -85,7 +88,8 @@ fn name_of<'a>(command: &Command<'a>, file: Which) -> &'a [u8]
 /// end by its usage.
 #[tactic(auto, unfolding(crate::specs::Texts::status_text))]
 pub fn tell<E: Sink>(err: &mut E, command: &Command, status: Status)
-    ensures { IsTold (E.bytes err.old) (E.bytes err.new) (status_text (command_state command.now) status) (Rose (E.faults err.old) (E.faults err.new)) }
+    ensures told { IsTold (E.bytes err.old) (E.bytes err.new) (status_text (command_state command.now) status) (Rose (E.faults err.old) (E.faults err.new)) }
+    ensures faults { E.faults err.old ≤ E.faults err.new }
 {
     match status {
         Status::Quiet | Status::Usage => {}

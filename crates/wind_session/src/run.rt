@@ -12,6 +12,7 @@ ghost use Rattle.wind_session.specs.declared.run.RunEnd.TheVariants as ends;
 use crate::modules::{Move, step};
 use board_player::Board;
 use std::alloc::Global;
+use wind_machine::silent_law;
 use wind_outside::{Device, Folder, Put, Sink};
 
 /// How a run ends.
@@ -65,9 +66,15 @@ pub fn run_board<F: Folder, O: Sink>(
     ensures folder_faults { F.faults folder.old ≤ F.faults folder.new }
     ensures faults { O.faults out.old ≤ O.faults out.new }
 {
-    for _i in 0..limit {
+    silent_law();
+    let mut made = 0;
+    while made < limit {
+        made += board.burst(limit - made);
+        if made == limit {
+            return RunEnd::Limit;
+        }
         match step(alloc, board, folder, modules) {
-            Move::Made => {}
+            Move::Made => made += 1,
             Move::Quiet => return RunEnd::Quiet,
             Move::ReadFault => return RunEnd::ReadFault,
             Move::NoMemory => return RunEnd::NoMemory,
@@ -107,10 +114,22 @@ pub fn count_board<F: Folder>(
     ensures files { F.files folder.new ≡ F.files folder.old }
     ensures folder_faults { F.faults folder.old ≤ F.faults folder.new }
 {
+    silent_law();
     let mut bytes = 0;
-    for _i in 0..limit {
+    let mut made = 0;
+    while made < limit {
+        made += board.burst(limit - made);
+        if made == limit {
+            return Tally {
+                end: RunEnd::Limit,
+                bytes,
+            };
+        }
         match step(alloc, board, folder, modules) {
-            Move::Made => bytes += board.output().len() as u128,
+            Move::Made => {
+                made += 1;
+                bytes += board.output().len() as u128;
+            }
             Move::Quiet => {
                 return Tally {
                     end: RunEnd::Quiet,

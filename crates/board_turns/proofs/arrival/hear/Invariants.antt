@@ -1,7 +1,7 @@
 use Rattle.std.proofs.Common.{◌≡◌, ◌≤◌, ◌+◌, ◌*◌, length, drop}
 use Rattle.wind_base.specs.OutBuf.{KeepsSpace}
 use Rattle.wind_core.specs.State.{Lives}
-use Rattle.wind_machine.specs.Machine.{heard_from, heard_all}
+use Rattle.wind_machine.specs.Events.{heard_from, heard_all}
 use Rattle.board_turns.proofs.arrival.hear.Given as goal
 
 -- the bytes that are left come to what the others changed

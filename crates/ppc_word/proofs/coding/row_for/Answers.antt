@@ -1,27 +1,7 @@
-use Rattle.std.proofs.Common.{◌≡◌, ◌<◌, ◌^◌, ◌&&◌, true, false, Some, sym, ap, ◌∙◌, arith, nat_eq, bit_and}
-use Rattle.ppc_word.specs.Rules.{allowed}
-use Rattle.ppc_word.specs.Table.{form_at}
-use Rattle.ppc_word.specs.Rows.{is_word_of}
-use Rattle.ppc_word.proofs.Found.{row_of-at, row_of-none, fits-word, word-meets}
+use Rattle.std.proofs.Common.{sym, ap, ◌∙◌}
+use Rattle.ppc_word.specs.Opcodes.{is_decided_by}
+use Rattle.ppc_word.proofs.Decided.{decided-row}
 use Rattle.ppc_word.proofs.coding.row_for.Goals as goal
 
-pub returns-then-fits : goal.returns-then-fits
-returns-then-fits c =
-    let k = c.place_for.result in
-    let lt : c.args.word < 2 ^ 32 = omega arith in
-    let t : (nat_eq (bit_and c.args.word c.pattern-pattern.result.now.mask) c.pattern-pattern.result.now.held && allowed c.pattern-pattern.result.now.rule c.args.word) ≡ true = sym c.fits.ensures ∙ c.if-fits.true in
-    let t' = rw c.pattern-pattern.ensures at t in
-    let w : is_word_of (form_at k) c.args.word ≡ true = sym (fits-word k c.args.word c.place_for.ensures.within lt) ∙ t' in
-    ap (λ f. Some f.row) c.pattern-pattern.ensures ∙ sym (row_of-at k c.args.word c.place_for.ensures.within w)
-
-pub returns-else-fits : goal.returns-else-fits
-returns-else-fits c =
-    let k = c.place_for.result in
-    let lt : c.args.word < 2 ^ 32 = omega arith in
-    let t : (nat_eq (bit_and c.args.word c.pattern-pattern.result.now.mask) c.pattern-pattern.result.now.held && allowed c.pattern-pattern.result.now.rule c.args.word) ≡ false = sym c.fits.ensures ∙ c.if-fits.false in
-    let t' = rw c.pattern-pattern.ensures at t in
-    let w : is_word_of (form_at k) c.args.word ≡ false = sym (fits-word k c.args.word c.place_for.ensures.within lt) ∙ t' in
-    sym (row_of-none c.args.word (λ j h q.
-    let same : k ≡ j = c.place_for.ensures.only j h (word-meets (form_at j) c.args.word q).0 in
-    let w' = rw same at w in
-    let u = sym q ∙ w' in cc))
+pub returns-in-Some : goal.returns-in-Some
+returns-in-Some c = sym (decided-row c.in-Some.row c.args.word (ap (is_decided_by c.in-Some.row) (sym c.part-opcode.ensures) ∙ c.in-Some.ensures))

@@ -22,7 +22,7 @@ returns-in-Err-NoMemory-clause-machine g c =
 
 pub returns-in-Err-NoMemory-clause-err : goal.returns-in-Err-NoMemory-clause-err
 returns-in-Err-NoMemory-clause-err g c =
-    rw c.refused-in-Err-NoMemory.ensures (record { text = memory_text; text_is = memory_is_text _; told = c.tell_no_memory.ensures })
+    rw c.refused-in-Err-NoMemory.ensures (record { text = memory_text; text_is = memory_is_text _; told = c.tell_no_memory.ensures.told })
 
 -- it is complete as the session of its command is
 pub returns-clause-complete : goal.returns-clause-complete

@@ -5,8 +5,8 @@ use Rattle.wind_session.specs.Texts.{IsTold}
 use Rattle.wind_session.proofs.ToldLemmas.{rose_earlier, cut_more, told_both}
 use Rattle.wind_session.proofs.report.tell_bad_line.Goals as goal
 
-pub returns-in-Failed : goal.returns-in-Failed
-returns-in-Failed g c =
+pub returns-in-Failed-clause-told : goal.returns-in-Failed-clause-told
+returns-in-Failed-clause-told g c =
     let old = g.E.Sink.bytes c.args.err.now in
     let new = g.E.Sink.bytes c.put_three.new.err in
     let rose = Rose (g.E.Sink.faults c.args.err.now) (g.E.Sink.faults c.put_three.new.err) in
@@ -15,8 +15,8 @@ returns-in-Failed g c =
     subst (λ (text : List ℕ). IsTold old new text rose) (append_assoc front (codes ": line ") more)
     (cut_more old new (front ++ codes ": line ") more rose (c.in-Failed.ensures.failed refl))
 
-pub returns : goal.returns
-returns g c =
+pub returns-clause-told : goal.returns-clause-told
+returns-clause-told g c =
     let old = g.E.Sink.bytes c.args.err.now in
     let mid = g.E.Sink.bytes c.put_three.new.err in
     let new = g.E.Sink.bytes c.put_pieces.new.err in

@@ -1,12 +1,13 @@
-use Rattle.std.proofs.Common.{◌+◌, ◌∙◌, ap, arith, refl, length}
+use Rattle.std.proofs.Common.{◌+◌, ◌∙◌, ap, sym, arith, refl, length}
 use Rattle.wind_session.specs.Modules.{Shelf}
 use Rattle.wind_session.proofs.Saying.{saying}
-use Rattle.wind_session.proofs.RunLemmas.{nothing_said, begun, further, bytes_on, lacking, unread}
+use Rattle.wind_session.proofs.RunLemmas.{nothing_said, begun, further, bytes_on, quiet, lacking, unread, at_limit}
+use Rattle.wind_session.proofs.Bursts.{runs_on, as_written}
 use Rattle.wind_session.proofs.run.count_board.Goals as goal
 
 -- before the first step
-pub loop-i-init : goal.loop-i-init
-loop-i-init g c = record {
+pub loop-made-init : goal.loop-made-init
+loop-made-init g c = record {
   said = nothing_said;
   run = begun _ _ c.args.limit c.requires.fresh;
   bytes = refl;
@@ -15,36 +16,76 @@ loop-i-init g c = record {
   folder_faults = omega arith;
 }
 
--- a step was made, and what it wrote was counted
-pub loop-i-preserved : goal.loop-i-preserved
-loop-i-preserved g c =
+-- a burst and a step were made, and what the step wrote was counted
+pub loop-made-preserved : goal.loop-made-preserved
+loop-made-preserved g c =
     let made = c.in-Made.ensures.made refl in
     let shelf : Shelf = record { files = g.F.Folder.files c.args.folder.now; name = c.args.modules.now } in
+    let run = runs_on c.silent_law.ensures shelf _ _ _ _ _ c.loop-made.invariant.run c.burst-made.result (omega (arith, c.burst-made.ensures.within)) _ c.burst-made.ensures.made in
     record {
-      said = saying c.loop-i.invariant.said c.loop-i._i made.0;
-      run = further shelf _ _ _ _ _ c.loop-i.invariant.run _ c.loop-i.invariant.files _ made (omega arith) (c.in-Made.ensures.counted refl);
-      bytes = ap (λ written. c.loop-i.bytes + length written) c.output.ensures ∙ bytes_on shelf _ _ _ _ _ c.loop-i.invariant.run _ c.loop-i.invariant.files _ made c.loop-i.bytes c.loop-i.invariant.bytes;
-      small = omega (arith, c.loop-i.invariant.small);
-      files = c.in-Made.ensures.files ∙ c.loop-i.invariant.files;
-      folder_faults = omega (arith, c.in-Made.ensures.faults, c.loop-i.invariant.folder_faults);
+      said = saying c.loop-made.invariant.said (c.loop-made.made + c.burst-made.result) made.0;
+      run = further shelf _ _ _ _ _ run _ c.loop-made.invariant.files _ made (omega arith) (c.in-Made.ensures.counted refl);
+      bytes = ap (λ written. c.loop-made.bytes + length written) c.output.ensures ∙ bytes_on shelf _ _ _ _ _ run _ c.loop-made.invariant.files _ made c.loop-made.bytes (c.loop-made.invariant.bytes ∙ ap length (as_written c.silent_law.ensures shelf _ _ _ _ _ c.loop-made.invariant.run _ _ c.burst-made.ensures.made));
+      small = omega (arith, c.loop-made.invariant.small);
+      files = c.in-Made.ensures.files ∙ c.loop-made.invariant.files;
+      folder_faults = omega (arith, c.in-Made.ensures.faults, c.loop-made.invariant.folder_faults);
+    }
+
+-- behind a burst there are fewer
+pub step-requires : goal.step-requires
+step-requires g c =
+    let shelf : Shelf = record { files = g.F.Folder.files c.args.folder.now; name = c.args.modules.now } in
+    let run = runs_on c.silent_law.ensures shelf _ _ _ _ _ c.loop-made.invariant.run c.burst-made.result (omega (arith, c.burst-made.ensures.within)) _ c.burst-made.ensures.made in
+    omega (arith, run.counted, c.requires.bound, c.burst-made.ensures.within, c.if-made-limit.false)
+
+-- as many steps as the limit were made by a burst
+pub returns-then-made-limit-clause-counted : goal.returns-then-made-limit-clause-counted
+returns-then-made-limit-clause-counted g c =
+    let shelf : Shelf = record { files = g.F.Folder.files c.args.folder.now; name = c.args.modules.now } in
+    let run = runs_on c.silent_law.ensures shelf _ _ _ _ _ c.loop-made.invariant.run c.burst-made.result (omega (arith, c.burst-made.ensures.within)) _ c.burst-made.ensures.made in
+    record {
+      said = c.loop-made.invariant.said;
+      k = c.loop-made.made + c.burst-made.result;
+      made = at_limit shelf _ _ _ _ _ run (omega arith);
+      bytes_are = c.loop-made.invariant.bytes ∙ ap length (as_written c.silent_law.ensures shelf _ _ _ _ _ c.loop-made.invariant.run _ _ c.burst-made.ensures.made);
+      all_put = λ e. cc;
+    }
+
+-- there is no further step
+pub returns-in-Quiet-clause-counted : goal.returns-in-Quiet-clause-counted
+returns-in-Quiet-clause-counted g c =
+    let shelf : Shelf = record { files = g.F.Folder.files c.args.folder.now; name = c.args.modules.now } in
+    let run = runs_on c.silent_law.ensures shelf _ _ _ _ _ c.loop-made.invariant.run c.burst-made.result (omega (arith, c.burst-made.ensures.within)) _ c.burst-made.ensures.made in
+    record {
+      said = c.loop-made.invariant.said;
+      k = c.loop-made.made + c.burst-made.result;
+      made = quiet shelf _ _ _ _ _ run _ (c.in-Quiet.ensures.unchanged (λ e. cc)) (omega arith) (c.in-Quiet.ensures.quiet refl);
+      bytes_are = c.loop-made.invariant.bytes ∙ ap length (as_written c.silent_law.ensures shelf _ _ _ _ _ c.loop-made.invariant.run _ _ c.burst-made.ensures.made);
+      all_put = λ e. cc;
     }
 
 -- a file could not be read
 pub returns-in-ReadFault-clause-counted : goal.returns-in-ReadFault-clause-counted
-returns-in-ReadFault-clause-counted g c = record {
-  said = c.loop-i.invariant.said;
-  k = c.loop-i._i;
-  made = unread _ _ _ _ _ _ c.loop-i.invariant.run _ (c.in-ReadFault.ensures.unchanged (λ e. cc)) (omega arith) (c.in-ReadFault.ensures.asked refl);
-  bytes_are = c.loop-i.invariant.bytes;
-  all_put = λ e. cc;
-}
+returns-in-ReadFault-clause-counted g c =
+    let shelf : Shelf = record { files = g.F.Folder.files c.args.folder.now; name = c.args.modules.now } in
+    let run = runs_on c.silent_law.ensures shelf _ _ _ _ _ c.loop-made.invariant.run c.burst-made.result (omega (arith, c.burst-made.ensures.within)) _ c.burst-made.ensures.made in
+    record {
+      said = c.loop-made.invariant.said;
+      k = c.loop-made.made + c.burst-made.result;
+      made = unread shelf _ _ _ _ _ run _ (c.in-ReadFault.ensures.unchanged (λ e. cc)) (omega arith) (c.in-ReadFault.ensures.asked refl);
+      bytes_are = c.loop-made.invariant.bytes ∙ ap length (as_written c.silent_law.ensures shelf _ _ _ _ _ c.loop-made.invariant.run _ _ c.burst-made.ensures.made);
+      all_put = λ e. cc;
+    }
 
 -- memory ran out
 pub returns-in-NoMemory-clause-counted : goal.returns-in-NoMemory-clause-counted
-returns-in-NoMemory-clause-counted g c = record {
-  said = c.loop-i.invariant.said;
-  k = c.loop-i._i;
-  made = lacking _ _ _ _ _ _ c.loop-i.invariant.run _ (c.in-NoMemory.ensures.unchanged (λ e. cc)) (omega arith) (c.in-NoMemory.ensures.no_memory refl);
-  bytes_are = c.loop-i.invariant.bytes;
-  all_put = λ e. cc;
-}
+returns-in-NoMemory-clause-counted g c =
+    let shelf : Shelf = record { files = g.F.Folder.files c.args.folder.now; name = c.args.modules.now } in
+    let run = runs_on c.silent_law.ensures shelf _ _ _ _ _ c.loop-made.invariant.run c.burst-made.result (omega (arith, c.burst-made.ensures.within)) _ c.burst-made.ensures.made in
+    record {
+      said = c.loop-made.invariant.said;
+      k = c.loop-made.made + c.burst-made.result;
+      made = lacking shelf _ _ _ _ _ run _ (c.in-NoMemory.ensures.unchanged (λ e. cc)) (omega arith) (c.in-NoMemory.ensures.no_memory refl);
+      bytes_are = c.loop-made.invariant.bytes ∙ ap length (as_written c.silent_law.ensures shelf _ _ _ _ _ c.loop-made.invariant.run _ _ c.burst-made.ensures.made);
+      all_put = λ e. cc;
+    }

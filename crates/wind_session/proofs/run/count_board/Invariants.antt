@@ -1,19 +1,22 @@
-use Rattle.std.proofs.Common.{◌≡◌, ◌≤◌, ◌*◌, ◌^◌, length}
+use Rattle.std.proofs.Common.{◌≡◌, ◌-◌, ◌≤◌, ◌*◌, ◌^◌, length}
 use Rattle.wind_machine.specs.Run.{Answers, text}
 use Rattle.board_player.specs.Seen.{board_by}
 use Rattle.wind_session.proofs.RunLemmas.{Behind}
 use Rattle.wind_session.proofs.run.count_board.Given as goal
 
 -- so many steps were made, and all that they wrote was counted
-abbrev pub invariant-loop-i : goal.invariant-loop-i
-invariant-loop-i g l =
+abbrev pub invariant-loop-made : goal.invariant-loop-made
+invariant-loop-made g l =
     let state = board_by (λ d. (goal.Device-dyn g (d.vtable, d.value)).kind_of d.value) (λ d. (goal.Device-dyn g (d.vtable, d.value)).words_of d.value) in
     let start = state l.fn.board in
     record {
       said : Answers;
-      run : Behind (record { files = g.F.Folder.files l.fn.folder; name = l.modules }) said start l.limit l._i (state l.board);
-      bytes : l.bytes ≡ length (text said start l._i);
-      small : l.bytes ≤ l._i * 2 ^ 64;
+      run : Behind (record { files = g.F.Folder.files l.fn.folder; name = l.modules }) said start l.limit l.made (state l.board);
+      bytes : l.bytes ≡ length (text said start l.made);
+      small : l.bytes ≤ l.made * 2 ^ 64;
       files : g.F.Folder.files l.folder ≡ g.F.Folder.files l.fn.folder;
       folder_faults : g.F.Folder.faults l.fn.folder ≤ g.F.Folder.faults l.folder;
     }
+
+abbrev pub decreases-loop-made : goal.decreases-loop-made
+decreases-loop-made g l = l.limit - l.made

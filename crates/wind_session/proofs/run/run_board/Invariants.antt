@@ -1,4 +1,4 @@
-use Rattle.std.proofs.Common.{◌≡◌, ◌≤◌}
+use Rattle.std.proofs.Common.{◌≡◌, ◌-◌, ◌≤◌}
 use Rattle.wind_outside.specs.Told.{Appended}
 use Rattle.wind_machine.specs.Run.{Answers, text}
 use Rattle.board_player.specs.Seen.{board_by}
@@ -6,15 +6,18 @@ use Rattle.wind_session.proofs.RunLemmas.{Behind}
 use Rattle.wind_session.proofs.run.run_board.Given as goal
 
 -- so many steps were made, and all that they wrote was put
-abbrev pub invariant-loop-i : goal.invariant-loop-i
-invariant-loop-i g l =
+abbrev pub invariant-loop-made : goal.invariant-loop-made
+invariant-loop-made g l =
     let state = board_by (λ d. (goal.Device-dyn g (d.vtable, d.value)).kind_of d.value) (λ d. (goal.Device-dyn g (d.vtable, d.value)).words_of d.value) in
     let start = state l.fn.board in
     record {
       said : Answers;
-      run : Behind (record { files = g.F.Folder.files l.fn.folder; name = l.modules }) said start l.limit l._i (state l.board);
-      written : Appended (g.O.Sink.bytes l.fn.out) (g.O.Sink.bytes l.out) (text said start l._i);
+      run : Behind (record { files = g.F.Folder.files l.fn.folder; name = l.modules }) said start l.limit l.made (state l.board);
+      written : Appended (g.O.Sink.bytes l.fn.out) (g.O.Sink.bytes l.out) (text said start l.made);
       files : g.F.Folder.files l.folder ≡ g.F.Folder.files l.fn.folder;
       folder_faults : g.F.Folder.faults l.fn.folder ≤ g.F.Folder.faults l.folder;
       faults : g.O.Sink.faults l.fn.out ≤ g.O.Sink.faults l.out;
     }
+
+abbrev pub decreases-loop-made : goal.decreases-loop-made
+decreases-loop-made g l = l.limit - l.made

@@ -1,7 +1,9 @@
-use Rattle.std.proofs.Common.{◌≡◌, ◌+◌, ◌<◌, List, [], ◌∷◌, ◌++◌, length, subst, sym, ap, ◌∙◌, arith, length-append}
+use Rattle.std.proofs.Common.{◌≡◌, ℕ, ◌+◌, ◌%◌, ◌<◌, List, [], ◌∷◌, ◌++◌, length, subst, sym, ap, ◌∙◌, arith, length-append}
 use Rattle.symbol_table.specs.declared.symbol.Symbol.{Symbol}
-use Rattle.symbol_table.specs.Chains.{ChainsState, hash_by_name, hash_by_value, name_hash, state_of}
-use Rattle.symbol_table.proofs.Chaining.{chained_push}
+use Rattle.symbol_table.specs.Chains.{ChainsState, chain_by_name, chain_by_value, name_hash, state_of}
+use Rattle.std.proofs.lemmas.List.{length-set}
+use Rattle.std.proofs.lemmas.Nat.{mod_below}
+use Rattle.symbol_table.proofs.Chaining.{pushed}
 use Rattle.symbol_table.proofs.chains.Chains.add.Goals as goal
 
 pub invariant_of-self : goal.invariant_of-self
@@ -19,15 +21,23 @@ invariant_of-self c =
     let three = inv.2 in
     let a = c.push_reserved.ensures.capacity in
     let b = c.add.ensures.capacity in
-    let d = c.add-2.ensures.capacity in (
+    let d = c.add-2.ensures.capacity in
+    let names = length c.self.inside.names.heads.items in
+    let values = length c.self.inside.values.heads.items in
+    let same_names = ap (λ (xs : List ℕ). length xs) c.add.ensures.heads ∙ length-set c.self.inside.names.heads.items (c.hash_name-name.result % names) _ in
+    let same_values = ap (λ (xs : List ℕ). length xs) c.add-2.ensures.heads ∙ length-set c.self.inside.values.heads.items (c.hash_value-value.result % values) _ in
+    let by_name = inv.3.by_name in
+    let by_value = inv.3.by_value in (
       omega arith,
       omega arith,
       omega arith,
       record {
         few = omega arith;
-        names = chained_push hash_by_name list more x (state_of c.self.inside.names) (state_of c.add.new.self) c.hash_name-name.result inv.3.names
-            (c.hash_name-name.ensures.value ∙ ap name_hash c.bytes.ensures.value) c.hash_name-name.ensures.below longer c.add.ensures.before c.add.ensures.heads;
-        values = chained_push hash_by_value list more x (state_of c.self.inside.values) (state_of c.add-2.new.self) c.hash_value-value.result inv.3.values
-            c.hash_value-value.ensures.value c.hash_value-value.ensures.below longer c.add-2.ensures.before c.add-2.ensures.heads;
+        names = pushed chain_by_name list more x (state_of c.self.inside.names) (state_of c.add.new.self) (c.hash_name-name.result % names) inv.3.names
+            (ap (λ y. y % names) (c.hash_name-name.ensures.value ∙ ap name_hash c.bytes.ensures.value)) (mod_below c.hash_name-name.result names inv.3.names.some) longer c.add.ensures.before c.add.ensures.heads;
+        values = pushed chain_by_value list more x (state_of c.self.inside.values) (state_of c.add-2.new.self) (c.hash_value-value.result % values) inv.3.values
+            (ap (λ y. y % values) c.hash_value-value.ensures.value) (mod_below c.hash_value-value.result values inv.3.values.some) longer c.add-2.ensures.before c.add-2.ensures.heads;
+        by_name = omega arith;
+        by_value = omega arith;
       },
     )

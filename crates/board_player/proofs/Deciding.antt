@@ -1,0 +1,126 @@
+-- What comes next, by what the code knows of the state.
+use Rattle.std.proofs.Common.{◌≡◌, ℕ, Bool, true, false, cond, eqb, not, length, List, Option, None, Some, is_some, IsSome, refl, sym, ap, ◌∙◌, subst}
+use Rattle.std.specs.Prelude.{◌&&◌, Result, Ok, Err, OnErr}
+use Rattle.wind_base.specs.declared.NoMemory.{NoMemory}
+use Rattle.std.specs.Option.{option_map}
+use Rattle.std.proofs.lemmas.Bool.{eqb-true}
+use Rattle.task_block.specs.declared.task.Task.{Task}
+use Rattle.tick_file.specs.Schedule.{Timed, at}
+use Rattle.tick_file.specs.declared.event.Event.{Event}
+use Rattle.con_line.specs.Lines.{has_line}
+use Rattle.wind_lists.specs.Records.{Rising}
+use Rattle.wind_core.specs.State.{Lives, task_id}
+use Rattle.wind_core.specs.Orders.{running, runner}
+use Rattle.wind_core.proofs.Ticks.{runner_lives}
+use Rattle.kernel_world.specs.Actors.{shell_id}
+use Rattle.kernel_world.specs.Objects.{IsReady}
+use Rattle.wind_machine.specs.State.{State}
+use Rattle.wind_machine.specs.Good.{Good}
+use Rattle.wind_machine.specs.Task.{waits_for_console}
+use Rattle.wind_machine.specs.Events.{next_event}
+use Rattle.wind_machine.specs.ActorSteps.{file_in, file_for}
+use Rattle.wind_machine.specs.Next.{is_active, holds_back, event_of, due_at, due_event, console_is_due, act_or_load, task_next, next, NothingIsDue, IsLeftToTasks, ComesNext}
+use Rattle.wind_machine.specs.Machine.{next_may, may_lack_memory}
+use Rattle.wind_machine.specs.declared.next.Next.{Next}
+use Rattle.wind_machine.specs.declared.next.Next.TheVariants.{Come, Arrive, Routine, Act, Load, Jump, Over}
+use Rattle.wind_machine.proofs.Order.{comes_alone, in_order}
+use Rattle.board_player.specs.Knowing.{jump_or_over}
+use Rattle.board_player.proofs.Running.{runner_is_ready}
+
+-- ---- what comes next
+none_due : (o : Option Timed) → None ≡ option_map event_of o → o ≡ None
+none_due None e = refl
+none_due (Some t) e = absurd (cc)
+
+-- an event that is due
+pub event_next : (s : State) (e : Event) → Some e ≡ option_map event_of (due_event s) → Come e ≡ next s
+event_next s e due = comes_alone s (Come e) (sym due)
+
+-- else the console, if it is due
+pub console_next : (s : State) → None ≡ option_map event_of (due_event s) → true ≡ console_is_due s → Arrive ≡ next s
+console_next s none due = comes_alone s Arrive (none_due (due_event s) none, sym due)
+
+-- while a routine is active, nothing is due
+pub nothing_due : (s : State) → is_active s.world ≡ true → NothingIsDue s
+nothing_due s active = record {
+  event = ap (λ b. cond (not b && not (holds_back (running s.world.kern))) (due_at s.time (next_event s)) None) active;
+  console = ap (λ b. not b && not (holds_back (running s.world.kern)) && (s.schedule.on_demand && (not (eqb (length s.left) 0) && (waits_for_console s.world.kern && not (has_line s.console))))) active;
+}
+
+-- and its step comes next
+pub routine_next : (s : State) → is_active s.world ≡ true → Routine ≡ next s
+routine_next s active = comes_alone s Routine (nothing_due s active, active)
+
+-- else it is left to the tasks
+pub left_to_tasks : (s : State) → is_active s.world ≡ false → None ≡ option_map event_of (due_event s) → false ≡ console_is_due s → IsLeftToTasks s
+left_to_tasks s idle none silent = record { nothing_due = record { event = none_due (due_event s) none; console = sym silent }; idle = idle }
+
+module _ (s : State) (who : ℕ) (left : IsLeftToTasks s) (runs : runner s.world.kern ≡ Some who) where
+  by_file : (o : Option (List ℕ)) → file_for s who ≡ o → act_or_load who o ≡ next s
+  by_file None none = comes_alone s (Act who) (left, runs, none)
+  by_file (Some name) some =
+      elim (eqb who shell_id) as (λ b. eqb who shell_id ≡ b → cond b (file_in s.shell.phase s.world) None ≡ Some name → Load name ≡ next s) [
+        | true ↦ λ own found. let one : who ≡ shell_id = eqb-true who shell_id own in comes_alone s (Load name) (left, runs ∙ ap Some one, found)
+        | false ↦ λ own found. absurd (cc)
+      ] refl some
+
+-- to the one that runs
+pub runner_next : (s : State) (n : Next) (who : ℕ) → n ≡ task_next s who → is_active s.world ≡ false → None ≡ option_map event_of (due_event s) → false ≡ console_is_due s → Some who ≡ option_map task_id (running s.world.kern) → n ≡ next s
+runner_next s n who e idle none silent runs = e ∙ by_file s who (left_to_tasks s idle none silent) (sym runs) (file_for s who) refl
+
+load_may : (s : State) (who : ℕ) (o : Option (List ℕ)) → IsSome o → next_may s (act_or_load who o) ≡ true
+load_may s who None some = absurd (cc)
+load_may s who (Some name) some = refl
+
+-- a load may lack memory
+load_lacks : (s : State) (who : ℕ) → is_active s.world ≡ false → None ≡ option_map event_of (due_event s) → false ≡ console_is_due s → Some who ≡ option_map task_id (running s.world.kern) → IsSome (file_for s who) → may_lack_memory s ≡ true
+load_lacks s who idle none silent runs some =
+    ap (next_may s) (sym (by_file s who (left_to_tasks s idle none silent) (sym runs) (file_for s who) refl)) ∙ load_may s who (file_for s who) some
+
+pub lacks_then : {A : Type 0} (r : Result A NoMemory) (s : State) (who : ℕ) → is_active s.world ≡ false → None ≡ option_map event_of (due_event s) → false ≡ console_is_due s → Some who ≡ option_map task_id (running s.world.kern) → OnErr r (IsSome (file_for s who)) → OnErr r (may_lack_memory s ≡ true)
+lacks_then (Ok a) s who idle none silent runs some = tt
+lacks_then (Err e) s who idle none silent runs some = load_lacks s who idle none silent runs some
+
+-- nobody runs: time jumps, or the run is over
+nobody : (s : State) → IsLeftToTasks s → runner s.world.kern ≡ None → (o : Option Timed) → next_event s ≡ o → jump_or_over o ≡ next s
+nobody s left none None e = comes_alone s Over (left, none, e)
+nobody s left none (Some t) e = comes_alone s (Jump t.time) (left, none, ap (option_map (λ t. t.time)) e)
+
+pub nobody_next : (s : State) (n : Next) → n ≡ jump_or_over (next_event s) → is_active s.world ≡ false → None ≡ option_map event_of (due_event s) → false ≡ console_is_due s → None ≡ option_map task_id (running s.world.kern) → n ≡ next s
+nobody_next s n e idle none silent runs = e ∙ nobody s (left_to_tasks s idle none silent) (sym runs) (next_event s) refl
+
+pub jump_there : (o : Option Timed) (event : ℕ × Event) → Some event ≡ option_map at o → Jump event.0 ≡ jump_or_over o
+jump_there None event e = absurd (cc)
+jump_there (Some t) event e = let same : event ≡ (t.time, t.event) = cc in ap (λ (p : ℕ × Event). Jump p.0) same
+
+pub no_jump : (o : Option Timed) → None ≡ option_map at o → Over ≡ jump_or_over o
+no_jump None e = refl
+no_jump (Some t) e = absurd (cc)
+
+-- ---- what is so if it comes
+-- an event comes while no routine is active
+due_idle : (s : State) (e : Event) (b : Bool) → is_active s.world ≡ b → option_map event_of (due_event s) ≡ Some e → b ≡ false
+due_idle s e true active due = let none : due_event s ≡ None = (nothing_due s active).event in let bad : None ≡ Some e = sym (ap (option_map event_of) none) ∙ due in absurd (cc)
+due_idle s e false active due = refl
+
+pub event_idle : (s : State) (e : Event) → Come e ≡ next s → is_active s.world ≡ false
+event_idle s e comes = due_idle s e (is_active s.world) refl ((in_order s (Come e)).1 comes)
+
+pub routine_active : (s : State) → Routine ≡ next s → is_active s.world ≡ true
+routine_active s comes = ((in_order s Routine).1 comes).1
+
+module _ (s : State) (who : ℕ) (comes : Act who ≡ next s) where
+  pub act_idle : is_active s.world ≡ false
+  act_idle = ((in_order s (Act who)).1 comes).0.idle
+
+  pub act_runs : Some who ≡ runner s.world.kern
+  act_runs = sym ((in_order s (Act who)).1 comes).1
+
+  pub act_asks_none : file_for s who ≡ None
+  act_asks_none = ((in_order s (Act who)).1 comes).2
+
+  pub act_lives : Rising task_id s.world.kern.tasks → Lives s.world.kern who
+  act_lives up = runner_lives s.world.kern who up act_runs
+
+  pub act_ready : Good s → IsReady s.world.kern who
+  act_ready good = runner_is_ready s.world.kern good.world.kern who act_runs

@@ -1,0 +1,19 @@
+use Rattle.std.proofs.Common.{◌≡◌, true, Ok}
+use Rattle.board_player.proofs.Deciding.{act_idle, act_runs, act_asks_none, act_lives, act_ready}
+use Rattle.board_player.proofs.Going.{stays_known}
+use Rattle.board_player.proofs.order.act.Goals as goal
+
+pub run_task-requires-clause-live : goal.run_task-requires-clause-live
+run_task-requires-clause-live g c = act_lives _ c.args.who c.requires.next c.requires.good.world.kern.rising
+
+pub run_task-requires-clause-ready : goal.run_task-requires-clause-ready
+run_task-requires-clause-ready g c = act_ready _ c.args.who c.requires.next c.requires.good
+
+pub run_task-requires-clause-asks : goal.run_task-requires-clause-asks
+run_task-requires-clause-asks g c = act_asks_none _ c.args.who c.requires.next
+
+pub returns-in-Ok-true-clause-known : goal.returns-in-Ok-true-clause-known
+returns-in-Ok-true-clause-known g c =
+    let yes : c.run_task.result ≡ Ok true = cc in
+    stays_known _ _ _ _ c.args.who _ c.requires.good.world.kern.rising (act_idle _ c.args.who c.requires.next) (act_runs _ c.args.who c.requires.next) c.requires.known
+    (c.run_task.ensures.only yes) (c.run_task.ensures.watch yes)

@@ -1,0 +1,8 @@
+use Rattle.std.proofs.Common.{ap}
+use Rattle.kernel_world.specs.State.{WorldState}
+use Rattle.board_player.proofs.RoutineBursts.{routine_left}
+use Rattle.board_player.proofs.steps.step_routine.Goals as goal
+
+pub returns-clause-routine : goal.returns-clause-routine
+returns-clause-routine g c =
+    routine_left _ _ _ _ c.run_routine-is_done.result (ap (λ (w : WorldState). w.kern) c.routine_turn.ensures.world) c.run_routine-is_done.ensures.kern c.run_routine-is_done.ensures.active

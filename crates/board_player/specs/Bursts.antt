@@ -1,0 +1,43 @@
+-- Where a task, or an interrupt routine, goes on by instructions.
+use Rattle.std.specs.Prelude.{◌≡◌, ℕ, ◌+◌, ◌<◌, ◌≤◌, List, [], Bool, true, false, Option, None, Some}
+use Rattle.wind_base.specs.declared.regs.Regs.{Regs}
+use Rattle.board_bus.specs.BusState.{BusState}
+use Rattle.tick_file.specs.Schedule.{Timed}
+use Rattle.wind_core.specs.Orders.{runner}
+use Rattle.kernel_world.specs.Actors.{shell_id}
+use Rattle.wind_machine.specs.State.{State}
+use Rattle.wind_machine.specs.Reserving.{drop_others, drop_all}
+use Rattle.wind_machine.specs.Next.{is_active, console_is_due}
+use Rattle.wind_machine.specs.declared.phase.Phase.TheVariants as phases
+use Rattle.board_turns.specs.Instructions.{executed_to, routine_executed_to}
+
+-- this task runs and goes on: it ran last, it wrote nothing, its steps are instructions and calls, and nothing but an event can be due
+pub record RunsOn (s : State) (who : ℕ) : Type 0 where
+  pub idle : is_active s.world ≡ false
+  pub runs : Some who ≡ runner s.world.kern
+  -- the shell's steps are those of its task in a call alone
+  pub calls : who ≡ shell_id → s.shell.phase ≡ phases.Call
+  pub last : s.world.kern.last ≡ Some who
+  pub alone : drop_others s.world.kern who ≡ s.world.kern
+  pub silent : s.world.output ≡ []
+  pub console : false ≡ console_is_due s
+
+-- the interrupt routine that is active goes on: it wrote nothing, and no task has a reservation
+pub record RoutineRunsOn (s : State) : Type 0 where
+  pub active : is_active s.world ≡ true
+  pub alone : drop_all s.world.kern ≡ s.world.kern
+  pub silent : s.world.output ≡ []
+
+-- k steps of a task are made before this event is due, if interrupts may come
+abbrev pub HasRoom : Bool → Option Timed → ℕ → ℕ → Type 0
+HasRoom false next time k = Unit {0}
+HasRoom true None time k = Unit {0}
+HasRoom true (Some e) time k = 0 < k → time + k ≤ e.time
+
+-- the state after k instructions of a task, with these registers and this bus
+abbrev pub moved : State → ℕ → Regs → BusState → ℕ → State
+moved s who regs bus k = record s { world = executed_to s.world who regs bus; time = s.time + k; steps = s.steps + k }
+
+-- and after k instructions of the interrupt routine
+abbrev pub routine_moved : State → Regs → BusState → ℕ → State
+routine_moved s regs bus k = record s { world = routine_executed_to s.world regs bus; time = s.time + k; steps = s.steps + k }

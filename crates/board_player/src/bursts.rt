@@ -1,0 +1,169 @@
+//! Instructions of one task, or of one interrupt routine, made in one go while nothing else can come.
+
+ghost use Rattle.std.specs.Prelude.{◌≡◌, ◌+◌, ◌<◌, ◌≤◌, true, Some, None};
+ghost use Rattle.wind_base.specs.Limits.{most_steps};
+ghost use Rattle.wind_base.specs.declared.regs.Regs.{Regs};
+ghost use Rattle.wind_core.specs.Moves.{set_regs};
+ghost use Rattle.isr_watch.specs.Calls.{with_level};
+ghost use Rattle.kernel_world.specs.Kept.{ReservedBy};
+ghost use Rattle.wind_machine.specs.Good.{Good};
+ghost use Rattle.wind_machine.specs.Silent.{SilentSteps};
+ghost use Rattle.wind_machine.specs.Events.{next_event};
+ghost use Rattle.wind_machine.specs.Next.{is_open as is_open_lem};
+ghost use Rattle.wind_machine.specs.declared.phase.Phase.TheVariants as phases;
+ghost use Rattle.board_player.specs.Inside.{inside, parts_seen, IsSpacious};
+ghost use Rattle.board_player.specs.Bursts.{RunsOn, RoutineRunsOn, HasRoom};
+ghost use Rattle.board_player.specs.Going.{IsRunner, IsRoutine, IsKnown};
+
+use crate::order::{Known, Running, console_is_due};
+use crate::parts::Parts;
+use board_turns::{execute_many, execute_many_of_routine, shell_id};
+use id_table::Ident;
+use tick_file::Event;
+use wind_machine::Phase;
+use wind_outside::Device;
+
+// Whether a task's steps are instructions and calls: those of the shell's task are in a call alone.
+fn makes_instructions(parts: &Parts, who: Ident) -> bool
+    ensures { result ≡ true → who ≡ 1 → parts.now.shell.phase ≡ phases.Call }
+{
+    who != shell_id() || matches!(parts.shell.phase(), Phase::Call)
+}
+
+// Whether the task that runs goes on: it ran last, it wrote nothing, and nothing but an event can be due.
+#[tactic(auto, using(crate::proofs::Running::opens, crate::proofs::TaskBursts::alone_by))]
+fn runs_on(parts: &Parts, now: Running, who: Ident) -> bool
+    requires good { Good (inside parts.now) }
+    requires runner { IsRunner parts.now.world.kern parts.now.world.watch.level now }
+    requires own { now.who ≡ Some who }
+    ensures { result ≡ true → RunsOn (parts_seen ⟦<dyn Device as Device>⟧ parts.now) who }
+{
+    if !makes_instructions(parts, who) || !parts.world.out.bytes().is_empty() {
+        return false;
+    }
+    match parts.world.kern.last() {
+        Some(last) if last == who => !console_is_due(parts, now.is_open),
+        _ => false,
+    }
+}
+
+// How many steps, at most `most`, are made before an event of this time is due.
+fn steps_before(next: (u64, Event), time: u128, most: u64) -> u64
+    ensures room { 0 < result → time + result ≤ next.0 }
+    ensures within { result ≤ most }
+{
+    match u128::from(next.0).checked_sub(time) {
+        Some(left) if left < u128::from(most) => left as u64,
+        Some(_) => most,
+        None => 0,
+    }
+}
+
+// How many steps, at most `most`, are made before the next event is due.
+fn room_before_event(parts: &Parts, is_open: bool, most: u64) -> u64
+    requires { is_open ≡ is_open_lem (parts_seen ⟦<dyn Device as Device>⟧ parts.now) }
+    ensures room { HasRoom is_open (next_event (parts_seen ⟦<dyn Device as Device>⟧ parts.now))
+        parts.now.clock.time result }
+    ensures within { result ≤ most }
+{
+    if !is_open {
+        return most;
+    }
+    match parts.schedule.next() {
+        Some(next) => steps_before(next, parts.clock.time, most),
+        None => most,
+    }
+}
+
+// A task that goes on makes at most `most` instructions. Returns how many it made.
+fn go_on(parts: &mut Parts, who: Ident, most: u64) -> u64
+    requires good { Good (inside parts.old) }
+    requires few { parts.old.clock.steps + most ≤ most_steps }
+    requires space { IsSpacious parts.old }
+    requires on { RunsOn (parts_seen ⟦<dyn Device as Device>⟧ parts.old) who }
+    requires room { HasRoom (is_open_lem (parts_seen ⟦<dyn Device as Device>⟧ parts.old))
+        (next_event (parts_seen ⟦<dyn Device as Device>⟧ parts.old)) parts.old.clock.time most }
+    ensures made { SilentSteps result (parts_seen ⟦<dyn Device as Device>⟧ parts.old)
+        (parts_seen ⟦<dyn Device as Device>⟧ parts.new) }
+    ensures within { result ≤ most }
+    ensures regs { (regs : Regs) × (parts.new.world.kern ≡ set_regs parts.old.world.kern who regs) }
+    ensures watch { parts.new.world.watch ≡ parts.old.world.watch }
+    ensures space { IsSpacious parts.new }
+{
+    let made = execute_many(&mut parts.world, who, most);
+    parts.clock.advance(made);
+    made
+}
+
+// The task that runs makes at most `most` instructions, if it goes on. Returns how many it made.
+fn burst_of_task(parts: &mut Parts, now: Running, most: u64) -> u64
+    requires good { Good (inside parts.old) }
+    requires few { parts.old.clock.steps + most ≤ most_steps }
+    requires space { IsSpacious parts.old }
+    requires runner { IsRunner parts.old.world.kern parts.old.world.watch.level now }
+    ensures made { SilentSteps result (parts_seen ⟦<dyn Device as Device>⟧ parts.old)
+        (parts_seen ⟦<dyn Device as Device>⟧ parts.new) }
+    ensures within { result ≤ most }
+    ensures space { IsSpacious parts.new }
+    ensures runner { IsRunner parts.new.world.kern parts.new.world.watch.level now }
+{
+    let Some(who) = now.who else {
+        return 0;
+    };
+    let is_open = now.is_open;
+    if !runs_on(parts, now, who) {
+        return 0;
+    }
+    let room = room_before_event(parts, is_open, most);
+    go_on(parts, who, room)
+}
+
+// Whether the interrupt routine that is active wrote nothing in the step before.
+fn routine_runs_on(parts: &Parts) -> bool
+    requires { IsRoutine parts.now.world.kern parts.now.world.watch.level }
+    ensures { result ≡ true → RoutineRunsOn (parts_seen ⟦<dyn Device as Device>⟧ parts.now) }
+{
+    parts.world.out.bytes().is_empty()
+}
+
+// The interrupt routine that is active makes at most `most` instructions, if it wrote nothing in the step before. Nothing
+// else can come meanwhile. Returns how many it made.
+fn burst_of_routine(parts: &mut Parts, most: u64) -> u64
+    requires good { Good (inside parts.old) }
+    requires few { parts.old.clock.steps + most ≤ most_steps }
+    requires space { IsSpacious parts.old }
+    requires routine { IsRoutine parts.old.world.kern parts.old.world.watch.level }
+    ensures made { SilentSteps result (parts_seen ⟦<dyn Device as Device>⟧ parts.old)
+        (parts_seen ⟦<dyn Device as Device>⟧ parts.new) }
+    ensures within { result ≤ most }
+    ensures space { IsSpacious parts.new }
+    ensures routine { IsRoutine parts.new.world.kern parts.new.world.watch.level }
+{
+    if !routine_runs_on(parts) {
+        return 0;
+    }
+    let made = execute_many_of_routine(&mut parts.world, most);
+    parts.clock.advance(made);
+    made
+}
+
+/// Whoever is known to make the next steps makes at most `most` instructions, as long as nothing else can come. Returns
+/// how many it made: 0 if nothing is known.
+#[inline(never)]
+pub(crate) fn burst(parts: &mut Parts, known: Known, most: u64) -> u64
+    requires good { Good (inside parts.old) }
+    requires few { parts.old.clock.steps + most ≤ most_steps }
+    requires space { IsSpacious parts.old }
+    requires known { IsKnown parts.old.world.kern parts.old.world.watch.level known }
+    ensures made { SilentSteps result (parts_seen ⟦<dyn Device as Device>⟧ parts.old)
+        (parts_seen ⟦<dyn Device as Device>⟧ parts.new) }
+    ensures within { result ≤ most }
+    ensures space { IsSpacious parts.new }
+    ensures known { IsKnown parts.new.world.kern parts.new.world.watch.level known }
+{
+    match known {
+        Known::Nothing => 0,
+        Known::Runner(now) => burst_of_task(parts, now, most),
+        Known::Routine => burst_of_routine(parts, most),
+    }
+}

@@ -1,0 +1,60 @@
+-- Instructions, one after the other.
+use Rattle.std.proofs.Common.{◌≡◌, ℕ, suc, ◌+◌, ◌-◌, ◌/◌, ◌%◌, ◌<◌, ◌&&◌, Bool, true, false, cond, eqb, Option, None, Some, Result, Ok, Err, refl, sym, ap, ◌∙◌, subst, add-one, arith}
+use Rattle.std.specs.Prelude.{is_err, unwrap_or, nat_le}
+use Rattle.std.specs.Option.{option_map}
+use Rattle.std.proofs.lemmas.Bool.Decides.{nat_tests}
+use Rattle.wind_base.specs.Limits.{gates_start, gate_bytes}
+use Rattle.wind_base.specs.Gates.{gate_at, gate_of}
+use Rattle.wind_base.specs.declared.regs.Regs.{Regs}
+use Rattle.task_block.specs.declared.task.Task.{Task}
+use Rattle.ppc_core.specs.Instructions.{exec_of}
+use Rattle.ppc_core.specs.Outcomes.{Outcome, Done, Trapped, Leaves}
+use Rattle.ppc_core.specs.declared.trap.Trap.{Trap}
+use Rattle.board_bus.specs.BusState.{BusState}
+use Rattle.board_bus.specs.Access.{board_meaning, fetched}
+use Rattle.wind_core.specs.State.{task_of}
+use Rattle.kernel_world.specs.State.{WorldState}
+use Rattle.kernel_world.specs.Starting.{no_regs}
+use Rattle.wind_machine.specs.Processor.{bus_of, regs_of}
+use Rattle.wind_machine.specs.Routine.{routine_regs}
+use Rattle.board_turns.specs.Instructions.{Executes, ExecutesMany, executed_to, routine_executed_to}
+use Rattle.board_turns.specs.Running.{RanMany, RoutineRanMany}
+
+-- no gate stands below the first
+no_gate : (at : ℕ) → at < gates_start → gate_at gates_start at ≡ None
+no_gate at h =
+    let below : nat_le gates_start at ≡ false = grind (arith, nat_tests, h) in
+    ap (λ b. cond (b && eqb ((at - gates_start) % gate_bytes) 0) (gate_of ((at - gates_start) / gate_bytes)) None) below
+
+done_by : (o : Outcome BusState) (m after : Regs) (c bus : BusState) (res : Result (Unit {0}) Trap) (b : Bool) → Leaves o m c after bus res → b ≡ is_err res → b ≡ false → o ≡ Done after bus
+done_by (Done r d) m after c bus res b l e f = ap (λ x. Done x d) (sym l.1) ∙ ap (λ x. Done after x) (sym l.2)
+done_by (Trapped t) m after c bus res b l e f = let bad : b ≡ true = e ∙ ap is_err l.0 in absurd (cc)
+
+-- one more was executed
+pub one_more : (k word : ℕ) (r m after : Regs) (b c bus : BusState) (found : Option ℕ) (res : Result (Unit {0}) Trap) (bad : Bool)
+    → ExecutesMany k r b m c → m.pc < gates_start → found ≡ fetched c m.pc → found ≡ Some word
+    → Leaves (exec_of board_meaning m word c) m c after bus res → bad ≡ is_err res → bad ≡ false → ExecutesMany (k + 1) r b after bus
+one_more k word r m after b c bus found res bad many below fetch there leaves err ok =
+    subst (λ n. ExecutesMany n r b after bus) (sym (add-one k)) (
+      m,
+      c,
+      many,
+      record {
+        no_gate = no_gate m.pc below;
+        word = word;
+        there = sym fetch ∙ there;
+        done = done_by (exec_of board_meaning m word c) m after c bus res bad leaves err ok;
+      },
+    )
+
+-- a task has executed so many
+pub ran_many : (w : WorldState) (who k : ℕ) (old regs : Regs) (bus : BusState) → option_map (λ t. t.regs) (task_of w.kern.tasks who) ≡ Some old → ExecutesMany k old (bus_of w) regs bus → RanMany k who w (executed_to w who regs bus)
+ran_many w who k old regs bus e many =
+    let same : regs_of w who ≡ old = ap (λ o. unwrap_or o no_regs) e in
+    record { regs = regs; bus = bus; many = subst (λ x. ExecutesMany k x (bus_of w) regs bus) (sym same) many; world = refl }
+
+-- the interrupt routine has
+pub routine_ran_many : (w : WorldState) (k : ℕ) (old regs : Regs) (bus : BusState) → w.watch.level ≡ Some old → ExecutesMany k old (bus_of w) regs bus → RoutineRanMany k w (routine_executed_to w regs bus)
+routine_ran_many w k old regs bus e many =
+    let same : routine_regs w ≡ old = ap (λ o. unwrap_or o no_regs) e in
+    record { regs = regs; bus = bus; many = subst (λ x. ExecutesMany k x (bus_of w) regs bus) (sym same) many; world = refl }

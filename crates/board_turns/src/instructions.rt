@@ -1,0 +1,67 @@
+//! Instructions of one context, one after the other, with nothing between.
+
+ghost use Rattle.std.specs.Prelude.{◌≡◌, ◌≤◌, true, is_some};
+ghost use Rattle.wind_core.specs.State.{Lives, IsKern};
+ghost use Rattle.board_bus.specs.Seen.{bus_seen};
+ghost use Rattle.kernel_world.specs.Seen.{world_seen};
+ghost use Rattle.board_turns.specs.Instructions.{ExecutesMany};
+ghost use Rattle.board_turns.specs.Running.{RanMany, RoutineRanMany};
+
+use board_bus::BoardBus;
+use id_table::Ident;
+use kernel_world::World;
+use ppc_core::exec_inline;
+use wind_base::Regs;
+use wind_base::limits::GATES_START;
+use wind_outside::Device;
+
+// Executes at most `most` instructions. Ends before one that is at or above the first gate, can't be fetched, or causes an
+// exception, which changes nothing. Returns how many were executed. The test of the program counter costs the host two
+// instructions; which gate it is, where it is one, would cost thirteen.
+#[inline(never)]
+fn run_words(regs: &mut Regs, bus: &mut BoardBus, most: u64) -> u64
+    requires { Unit {0} }
+    ensures ran { ExecutesMany result regs.old (bus_seen ⟦<dyn Device as Device>⟧ bus.old)
+        regs.new (bus_seen ⟦<dyn Device as Device>⟧ bus.new) }
+    ensures within { result ≤ most }
+{
+    for made in 0..most {
+        if regs.pc >= GATES_START {
+            return made;
+        }
+        let Some(word) = bus.fetch(regs.pc) else {
+            return made;
+        };
+        if exec_inline(regs, word, bus).is_err() {
+            return made;
+        }
+    }
+    most
+}
+
+/// A task executes at most `most` instructions, as long as each is below the gates, can be fetched and causes no exception.
+/// Returns how many it executed.
+pub fn execute_many(world: &mut World, who: Ident, most: u64) -> u64
+    requires live { Lives world.old.kern who }
+    requires kern { IsKern world.old.kern }
+    ensures ran { RanMany result who (world_seen ⟦<dyn Device as Device>⟧ world.old)
+        (world_seen ⟦<dyn Device as Device>⟧ world.new) }
+    ensures within { result ≤ most }
+    ensures out { world.new.out ≡ world.old.out }
+{
+    run_words(world.kern.regs_of(who), &mut world.bus, most)
+}
+
+/// The interrupt routine that is active does so.
+pub fn execute_many_of_routine(world: &mut World, most: u64) -> u64
+    requires active { is_some world.old.watch.level ≡ true }
+    ensures ran { RoutineRanMany result (world_seen ⟦<dyn Device as Device>⟧ world.old)
+        (world_seen ⟦<dyn Device as Device>⟧ world.new) }
+    ensures within { result ≤ most }
+    ensures out { world.new.out ≡ world.old.out }
+{
+    match world.watch.regs_mut() {
+        Some(regs) => run_words(regs, &mut world.bus, most),
+        None => unreachable!(),
+    }
+}

@@ -1,0 +1,111 @@
+-- What comes from outside: bytes of the console and events of the tick file. None of it takes board time; a jump brings board time to the next event.
+use Rattle.std.specs.Prelude.{ℕ, ◌+◌, List, [], ◌++◌, Option, Bool, if◌then◌else◌, fold, take, drop}
+use Rattle.wind_lists.specs.Sorting.{first}
+use Rattle.tick_file.specs.Schedule.{Timed, Timetable}
+use Rattle.tick_file.specs.declared.event.Event.{Event}
+use Rattle.tick_file.specs.declared.event.Event.TheVariants.{Tick, Rx}
+use Rattle.wind_core.specs.State.{KernState}
+use Rattle.wind_core.specs.Moves.{release}
+use Rattle.wind_core.specs.Tick.{tick}
+use Rattle.isr_watch.specs.Calls.{due}
+use Rattle.con_line.specs.State.{ConsoleState}
+use Rattle.con_line.specs.Keys.{after_byte, byte_echo, byte_done}
+use Rattle.con_line.specs.declared.console.ByteDone.{ByteDone}
+use Rattle.con_line.specs.declared.console.ByteDone.TheVariants as done
+use Rattle.kernel_world.specs.State.{WorldState}
+use Rattle.kernel_world.specs.Actors.{shell_id}
+use Rattle.wind_machine.specs.State.{ShellState, State}
+use Rattle.wind_machine.specs.Feed.{chunk, after_chunk, brought}
+use Rattle.wind_machine.specs.Task.{waits_for_console, aborted}
+use Rattle.wind_machine.specs.Reserving.{drop_all}
+use Rattle.wind_machine.specs.Part.{with_kern}
+use Rattle.wind_machine.specs.Shell.{at_prompt}
+use Rattle.wind_machine.specs.Routine.{interrupt_top}
+use Rattle.wind_machine.specs.declared.phase.Phase.TheVariants as phases
+
+-- ---- bytes of the console come
+-- what they change, and what they have written
+pub record Heard : Type 0 where
+  pub console : ConsoleState
+  pub shell : ShellState
+  pub kern : KernState
+  pub echo : List ℕ
+
+-- what a byte did to the shell and its task: an interrupt aborts it; a kept line wakes a shell that waits, which then reads it
+abbrev pub shell_after : ByteDone → Bool → ShellState → ShellState
+shell_after done.Abort waits s = at_prompt
+shell_after done.Line waits s = if waits then record s { phase = phases.Read } else s
+shell_after done.Kept waits s = s
+
+abbrev pub kern_after : ByteDone → Bool → KernState → KernState
+kern_after done.Abort waits k = aborted k
+kern_after done.Line waits k = if waits then release k shell_id else k
+kern_after done.Kept waits k = k
+
+-- one byte comes
+abbrev pub hear : Heard → ℕ → Heard
+hear h b = record {
+  console = after_byte h.console b;
+  shell = shell_after (byte_done h.console b) (waits_for_console h.kern) h.shell;
+  kern = kern_after (byte_done h.console b) (waits_for_console h.kern) h.kern;
+  echo = h.echo ++ byte_echo h.console b;
+}
+
+-- bytes come, each in turn
+unfoldable pub heard_all : Heard → List ℕ → Heard
+heard_all h bytes = fold hear h bytes
+
+abbrev pub heard_from : ConsoleState → ShellState → KernState → List ℕ → Heard
+heard_from console shell kern echo = record { console = console; shell = shell; kern = kern; echo = echo }
+
+-- what a step has to begin with: nothing is written yet
+abbrev pub cleared : WorldState → WorldState
+cleared w = record w { output = [] }
+
+abbrev pub after_hearing : WorldState → Heard → WorldState
+after_hearing w h = record w { kern = h.kern; output = h.echo }
+
+-- bytes arrive, which leaves board time, and others are left
+abbrev pub arrived : State → List ℕ → Heard → State
+arrived s left h = record s { left = left; console = h.console; shell = h.shell; world = after_hearing s.world h; steps = s.steps + 1 }
+
+abbrev pub heard_by : State → List ℕ → Heard
+heard_by s bytes = heard_all (heard_from s.console s.shell s.world.kern []) bytes
+
+-- the next chunk arrives
+abbrev pub arrival : State → State
+arrival s = arrived s (after_chunk s.left) (heard_by s (chunk s.left))
+
+-- ---- events of the tick file
+abbrev pub next_event : State → Option Timed
+next_event s = first s.schedule.events
+
+abbrev pub without_next : Timetable → Timetable
+without_next t = record t { events = drop 1 t.events }
+
+-- an event drops all reservations
+abbrev pub unreserved_world : WorldState → WorldState
+unreserved_world w = with_kern w (drop_all w.kern)
+
+-- the kernel's tick, and then the watchdogs that are due at it
+abbrev pub tick_world : WorldState → WorldState
+tick_world w = record w { kern = tick w.kern; watch = due w.watch (tick w.kern).tick interrupt_top }
+
+abbrev pub ticked : State → State
+ticked s = record s { world = cleared (tick_world s.world); steps = s.steps + 1 }
+
+-- so many bytes arrive, as the tick file asks
+abbrev pub received : State → ℕ → State
+received s n = arrived s (drop (brought n) s.left) (heard_by s (take (brought n) s.left))
+
+abbrev pub event_comes : State → Event → State
+event_comes s Tick = ticked s
+event_comes s (Rx n) = received s n
+
+-- the next event of the tick file comes, which leaves board time
+abbrev pub event_step : State → Event → State
+event_step s e = event_comes (record s { schedule = without_next s.schedule; world = unreserved_world s.world }) e
+
+-- board time becomes this, that of the next event
+abbrev pub jump : State → ℕ → State
+jump s time = record s { world = cleared s.world; time = time; steps = s.steps + 1 }
