@@ -102,6 +102,14 @@ plays() {
     (become "$@") >"$work/stdout" 2>"$work/stderr" || status=$?
 }
 
+# The same, but the first word limits the address space, in KiB.
+plays_within() {
+    most=$1
+    shift
+    status=0
+    (ulimit -v "$most" && become "$@") >"$work/stdout" 2>"$work/stderr" || status=$?
+}
+
 # The same, with standard output going to a file of the host.
 plays_out_to() {
     status=0

@@ -48,6 +48,14 @@ console 'ld < a.o\nld < b.o\nld < c.o\nunld 3\n&f\n*0x15e70\n'
 plays
 ends 0 '-> ld < a.o\nvalue = 2 = 0x2\n-> ld < b.o\nvalue = 3 = 0x3\n-> ld < c.o\nvalue = 4 = 0x4\n-> unld 3\nvalue = 0 = 0x0\n-> &f\nvalue = 89648 = 0x15e30\n-> *0x15e70\nvalue = 1275068385 = 0x4bffffe1\n-> ' ''
 
+shows 'of three modules with one name the newest answers; after it, the oldest'
+put_f a.o
+put_f b.o
+put_f c.o
+console 'ld < a.o\nld < b.o\nld < c.o\n&f\nunld 3\n&f\nunld 4\n&f\n'
+plays
+ends 0 '-> ld < a.o\nvalue = 2 = 0x2\n-> ld < b.o\nvalue = 3 = 0x3\n-> ld < c.o\nvalue = 4 = 0x4\n-> &f\nvalue = 89712 = 0x15e70\n-> unld 3\nvalue = 0 = 0x0\n-> &f\nvalue = 89712 = 0x15e70\n-> unld 4\nvalue = 0 = 0x0\n-> &f\nvalue = 89648 = 0x15e30\n-> ' ''
+
 shows 'an undefined symbol is told, and counts as 0'
 put_g g.o
 console 'ld < g.o\ng\nunld "g.o"\ng\n'
@@ -78,23 +86,36 @@ console 'ld < most\nld < more\n'
 plays
 ends 0 '-> ld < most\nld: most: not ELF at 0\nvalue = 0 = 0x0\n-> ld < more\nld: more: too long\nvalue = 0 = 0x0\n-> ' ''
 
-# Up to the length of the header the file ends where it is cut; from there on what is missing is told at the field of the
-# section headers' place.
-shows 'a module that is cut behind any of its bytes changes nothing'
+# Plays a session that loads the first bytes of a file, for each length below that of the file, then looks for a module and for a
+# symbol, and loads the whole. Up to the length of the header the file ends at the cut; after that, what is missing is told at the
+# header's field for the place of the section headers.
+plays_cuts() {
+    file=$1
+    length=$2
+    symbol=$3
+    undefined=$4
+    cut=0
+    lines=
+    written=
+    while [ "$cut" -lt "$length" ]; do
+        head -c "$cut" "$work/session/$file" >"$work/session/$cut.o"
+        [ "$cut" -lt 52 ] && at=$cut || at=32
+        lines="${lines}ld < $cut.o\\n"
+        written="${written}-> ld < $cut.o\\nld: $cut.o: short file at $at\\nvalue = 0 = 0x0\\n"
+        cut=$((cut + 1))
+    done
+    console "${lines}moduleShow\\n&$symbol\\nld < $file\\n"
+    plays
+    ends 0 "${written}-> moduleShow\\nMODULE                   ID       TEXT     DATA     BSS     \\nvalue = 0 = 0x0\\n-> &$symbol\\nundefined symbol: $symbol\\n-> ld < $file\\nundefined symbol: $undefined\\nvalue = 2 = 0x2\\n-> " ''
+}
+
+shows 'a module that is cut after any of its bytes changes nothing'
 put_caller c.o
-cut=0
-lines=
-written=
-while [ "$cut" -lt 412 ]; do
-    head -c "$cut" "$work/session/c.o" >"$work/session/$cut.o"
-    [ "$cut" -lt 52 ] && at=$cut || at=32
-    lines="${lines}ld < $cut.o\\n"
-    written="${written}-> ld < $cut.o\\nld: $cut.o: short file at $at\\nvalue = 0 = 0x0\\n"
-    cut=$((cut + 1))
-done
-console "${lines}moduleShow\\n&f\\nld < c.o\\n"
-plays
-ends 0 "${written}-> moduleShow\\nMODULE                   ID       TEXT     DATA     BSS     \\nvalue = 0 = 0x0\\n-> &f\\nundefined symbol: f\\n-> ld < c.o\\nundefined symbol: f\\nvalue = 2 = 0x2\\n-> " ''
+plays_cuts c.o 412 f f
+
+shows 'nor does a module with a symbol of its own and an undefined one'
+put_g g.o
+plays_cuts g.o 424 g nosuch
 
 shows 'a module that cannot be read ends the run, behind the steps that were made'
 console '1+2\nld < .\n3\n'
@@ -111,3 +132,23 @@ put_f a.o
 console 'ld 0xffffffff, 0, "a.o"\nf\nld 1, 0, "a.o"; &f\nld 0, 0, 0\nerrnoGet\nld 0, 0, ""\n'
 plays
 ends 0 '-> ld 0xffffffff, 0, "a.o"\nvalue = 2 = 0x2\n-> f\nundefined symbol: f\n-> ld 1, 0, "a.o"; &f\nvalue = 3 = 0x3\nvalue = 89680 = 0x15e50\n-> ld 0, 0, 0\nvalue = -1 = 0xffffffff\n-> errnoGet\nvalue = 1114116 = 0x110004\n-> ld 0, 0, ""\nvalue = -1 = 0xffffffff\n-> ' ''
+
+# The file has 512 KiB. Each of 2,048 section headers says that its section is the whole file, so the text segment needs 1 GiB. RAM
+# has 16 MiB.
+shows 'a module whose sections overlap is refused within 256 MiB of address space'
+{
+    bytes 7f454c46 01020100 00000000 00000000 00010014 00000001 00000000 00000000 00000034 00000000 00340000 00000028 \
+        08020001
+    bytes 00000000 00000000 00000000 00000000 00000000 00000000 00000000 00000000 00000000 00000000
+    bytes 00000000 00000003 00000000 00000000 00000034 00000001 00000000 00000000 00000001 00000000
+} >"$work/session/big"
+bytes 00000000 00000001 00000002 00000000 00000000 00080000 00000000 00000000 00000001 00000000 >"$work/headers"
+for _ in 1 2 3 4 5 6 7 8 9 10 11; do
+    cat "$work/headers" "$work/headers" >"$work/twice"
+    mv "$work/twice" "$work/headers"
+done
+cat "$work/headers" >>"$work/session/big"
+dd if=/dev/zero of="$work/session/big" bs=1 count=1 seek=524287 conv=notrunc 2>"$work/log"
+console 'ld < big\n1+2\n'
+plays_within 262144
+ends 0 '-> ld < big\nld: big: no room\nvalue = 0 = 0x0\n-> 1+2\nvalue = 3 = 0x3\n-> ' ''

@@ -8,7 +8,7 @@ ghost use Rattle.ppc_core.specs.declared.trap.Trap.TheVariants as traps;
 ghost use Rattle.kernel_world.specs.Kept.{IsWorld, IsEarly};
 ghost use Rattle.kernel_world.specs.Objects.{IsReady};
 ghost use Rattle.kernel_world.specs.Seen.{world_seen, world_with};
-ghost use Rattle.kernel_world.specs.Allowed.{is_built as is_built_lem, may_lack_memory};
+ghost use Rattle.kernel_world.specs.Allowed.{is_call as is_call_lem, may_lack_memory};
 ghost use Rattle.kernel_calls.specs.Calls.{file_wanted};
 ghost use Rattle.kernel_world.specs.declared.actor.Actor.TheVariants as actors;
 ghost use Rattle.kernel_calls.specs.Space.{HoldsSpace};
@@ -25,7 +25,7 @@ use crate::task::{abort, shell_id};
 use crate::text::add_exception;
 use id_table::Ident;
 use kernel_calls::{Called, kernel_call};
-use kernel_world::{Actor, World, is_built};
+use kernel_world::{Actor, World, is_call};
 use ppc_core::{Trap, exec};
 use std::alloc::Global;
 use task_calls::end_task;
@@ -111,7 +111,7 @@ fn return_from(shell: &mut Shell, world: &mut World, who: Ident)
 
 // A kernel call. For want of memory nothing changes.
 fn call(alloc: Global, world: &mut World, who: Ident, gate: Gate) -> Result<(), NoMemory>
-    requires built { is_built_lem gate ≡ true }
+    requires call { is_call_lem gate ≡ true }
     requires unasked { file_wanted gate (world_seen ⟦<dyn Device as Device>⟧ world.old) (actors.Task who) ≡ None }
     requires live { Lives world.old.kern who }
     requires ready { IsReady world.old.kern who }
@@ -163,7 +163,7 @@ pub fn at_gate(
         return_from(shell, world, who);
         return Ok(());
     }
-    if is_built(gate) {
+    if is_call(gate) {
         return call(alloc, world, who, gate);
     }
     fault(shell, world, who, Trap::Access);

@@ -7,7 +7,7 @@ ghost use Rattle.ppc_core.specs.Instructions.{exec_of};
 ghost use Rattle.kernel_world.specs.Kept.{IsWorld, IsEarly};
 ghost use Rattle.kernel_world.specs.Seen.{world_seen, world_with};
 ghost use Rattle.kernel_calls.specs.Space.{HoldsSpace};
-ghost use Rattle.kernel_world.specs.Allowed.{is_built as is_built_lem};
+ghost use Rattle.kernel_world.specs.Allowed.{is_call as is_call_lem};
 ghost use Rattle.kernel_world.specs.Replies.{level_by};
 ghost use Rattle.wind_machine.specs.Processor.{bus_of};
 ghost use Rattle.wind_machine.specs.Routine.{next_routine as next_routine_lem, given_up, without_reserve, routine_call, routine_gate, routine_word, routine_regs, routine_part};
@@ -17,7 +17,7 @@ ghost use Rattle.board_turns.specs.Running.{RoutineRan};
 use crate::text::add_routine_exception;
 use isr_watch::Watch;
 use kernel_calls::{Called, kernel_call};
-use kernel_world::{Actor, World, is_built};
+use kernel_world::{Actor, World, is_call};
 use ppc_core::{Trap, exec};
 use std::alloc::Global;
 use wind_base::Gate;
@@ -69,7 +69,7 @@ fn drop_reserve(watch: &mut Watch)
 
 // A kernel call, which lacks no memory.
 fn call(alloc: Global, world: &mut World, gate: Gate)
-    requires built { is_built_lem gate ≡ true }
+    requires call { is_call_lem gate ≡ true }
     requires kept { IsWorld (world_with [] world.old) }
     requires early { IsEarly (world_with [] world.old) }
     requires room { 4096 ≤ world.old.out.room }
@@ -94,7 +94,7 @@ fn at_gate(alloc: Global, world: &mut World, gate: Gate)
 {
     if gate.number() == Gate::InterruptReturn.number() {
         next_routine(world);
-    } else if is_built(gate) {
+    } else if is_call(gate) {
         call(alloc, world, gate);
     } else {
         give_up(world, Trap::Access);

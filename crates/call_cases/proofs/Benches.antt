@@ -10,7 +10,8 @@ use Rattle.board_mem.specs.Memory.{has, with_bytes}
 use Rattle.board_mem.proofs.Sizes.{length-with_range}
 use Rattle.wind_core.specs.State.{KernState}
 use Rattle.wind_core.specs.Moves.{set_regs}
-use Rattle.wind_core.proofs.Keeping.{every_call_keeps}
+use Rattle.wind_core.specs.Move.{SetRegs}
+use Rattle.wind_core.proofs.Moving.{move_keeps}
 use Rattle.wind_core.proofs.Stable.{All-change}
 use Rattle.wind_core.proofs.Unwritten.{map-change}
 use Rattle.isr_watch.specs.declared.watchdog.Watchdog.{Watchdog}
@@ -30,7 +31,7 @@ use Rattle.kernel_world.proofs.Holding.{loaded_on}
 use Rattle.kernel_world.proofs.Advancing.{within_more}
 use Rattle.kernel_calls.proofs.Passing.{call_passes}
 use Rattle.kernel_calls.proofs.Departing.{ends}
-use Rattle.kernel_world.proofs.ObjectMoves.{objects-set_regs}
+use Rattle.kernel_world.proofs.ObjectMoves.{objects-move}
 use Rattle.kernel_world.proofs.Opened.{opens}
 
 -- the kept facts hold, and the counters are as low as n calls from the start leave them
@@ -72,9 +73,9 @@ used_regs w k who n regs free e (kept, within, sinces, count, names, starts) =
     let stacks : task_stacks (set_regs w.kern who regs) ≡ task_stacks w.kern = map-change (λ t. t.stack) w.kern.tasks who f (λ t. refl) in
     subst (λ j. Used (record w { kern = j }) n) (sym e) (
       record {
-        kern = (every_call_keeps w.kern kept.kern).setting_regs who regs;
+        kern = move_keeps w.kern (SetRegs who regs) kept.kern tt;
         home = kept.home;
-        objects = objects-set_regs w.kern w.objects kept.kern kept.objects who regs free;
+        objects = objects-move w.kern w.objects kept.kern kept.objects (SetRegs who regs) (tt, free, tt, tt);
         pool = kept.pool;
         stacks = subst (λ s. AreStacks w.part (interrupt_stack ∷ s)) (sym stacks) kept.stacks;
         modules = loaded_on w.kern w.part w.modules kept.modules (set_regs w.kern who regs) (omega arith) stacks;

@@ -7,7 +7,7 @@ ghost use Rattle.kernel_world.specs.Actors.{Acts, MayCall};
 use id_table::Ident;
 use isr_watch::{Routine, Watch};
 use kernel_calls::{Called, kernel_call};
-use kernel_world::{Actor, World, is_built, starting_regs};
+use kernel_world::{Actor, World, is_call, starting_regs};
 use std::alloc::Global;
 use std::marker::Model;
 use symbol_table::Symbol;
@@ -162,7 +162,7 @@ impl Bench {
         if self.calls >= 1 << 20 || self.world.out.room() < 4096 {
             return None;
         }
-        if !is_built(gate) || !may_call(&self.world.kern, who) {
+        if !is_call(gate) || !may_call(&self.world.kern, who) {
             return None;
         }
         let called = kernel_call(alloc, &mut self.world, gate, who);

@@ -5,4 +5,5 @@ pub mod FirstLaw
 pub mod Gather
 pub mod Holding
 pub mod OneAnswer
+pub mod Shapes
 pub mod Passing

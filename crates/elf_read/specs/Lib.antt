@@ -8,3 +8,4 @@ pub mod Alignments
 pub mod Contents
 pub mod First
 pub mod Modules
+pub mod Outline

@@ -38,7 +38,7 @@ fn copied(alloc: Global, bytes: &[u8]) -> Result<Bytes, AllocError>
 
 // The number of each section among the loaded ones: how many of them stand before it.
 #[tactic(auto, unfolding(crate::specs::Tables::loaded_before), using(crate::proofs::Gather::numbers_more, crate::proofs::Gather::total_more))]
-fn section_numbers(alloc: Global, bytes: &[u8]) -> Result<Vec<u32>, AllocError>
+pub(crate) fn section_numbers(alloc: Global, bytes: &[u8]) -> Result<Vec<u32>, AllocError>
     ensures { IfOk result (λ v. v.items ≡ section_numbers_of bytes.now) }
 {
     let mut list = Vec::new(alloc);
@@ -165,7 +165,7 @@ fn read_sym(
 }
 
 #[tactic(auto, using(crate::proofs::Gather::gathered_step, crate::proofs::Gather::gathered_last))]
-fn read_syms(
+pub(crate) fn read_syms(
     alloc: Global,
     bytes: &[u8],
     numbers: &[u32],
@@ -267,21 +267,35 @@ fn read_rels(alloc: Global, bytes: &[u8], numbers: &[u32]) -> Result<RelList, Al
     Ok(RelList::from_vec(list))
 }
 
+// What the file holds, with these symbols.
+#[tactic(auto, unfolding(crate::specs::Contents::module_at))]
+pub(crate) fn complete(
+    alloc: Global,
+    bytes: &[u8],
+    numbers: &[u32],
+    symbols: SymList,
+) -> Result<Module, AllocError>
+    requires all { numbers.now ≡ section_numbers_of bytes.now }
+    requires symbols { symbols ≡ (module_at bytes.now).symbols }
+    ensures { IfOk result (λ m. m ≡ module_at bytes.now) }
+{
+    let sections = read_sects(alloc, bytes)?;
+    let relocs = read_rels(alloc, bytes, numbers)?;
+    Ok(Module {
+        sections,
+        symbols,
+        relocs,
+    })
+}
+
 // What the file holds.
 #[tactic(auto, unfolding(crate::specs::Contents::module_at))]
 fn read_module(alloc: Global, bytes: &[u8]) -> Result<Module, AllocError>
     ensures { IfOk result (λ m. m ≡ module_at bytes.now) }
 {
     let numbers = section_numbers(alloc, bytes)?;
-    let table = symtab(bytes);
-    let sections = read_sects(alloc, bytes)?;
-    let symbols = read_syms(alloc, bytes, &numbers, table)?;
-    let relocs = read_rels(alloc, bytes, &numbers)?;
-    Ok(Module {
-        sections,
-        symbols,
-        relocs,
-    })
+    let symbols = read_syms(alloc, bytes, &numbers, symtab(bytes))?;
+    complete(alloc, bytes, &numbers, symbols)
 }
 
 /// Reads an object file: the module that it holds, or the refusal of the first rule that fails, or want of

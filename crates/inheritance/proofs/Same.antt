@@ -8,7 +8,8 @@ use Rattle.wind_lists.specs.Records.{Rising}
 use Rattle.wind_lists.proofs.Records.{found_in, found_at, found_id}
 use Rattle.wind_core.specs.State.{KernState, IsKern, task_id, task_of}
 use Rattle.wind_core.specs.Moves.{change_pri, has_pri, move_task, with_pri}
-use Rattle.wind_core.proofs.Keeping.{every_call_keeps}
+use Rattle.wind_core.specs.Move.{ChangePri}
+use Rattle.wind_core.proofs.Moving.{move_keeps}
 use Rattle.wind_core.proofs.Ids.{ids}
 use Rattle.inheritance.specs.declared.mutex.Mutex.{Mutex}
 use Rattle.inheritance.specs.Mutexes.{both}
@@ -61,7 +62,7 @@ urgent_at ts ms urgent y x e = urgent_but (suc y) ts ms (λ i d hi other. urgent
 -- ---- raising keeps the kernel's facts
 pub repried_keeps : (goal : ℕ → ℕ) (us : List Task) (r : KernState) → IsKern r → IsKern (repried r goal us)
 repried_keeps goal [] r is = is
-repried_keeps goal (u ∷ us) r is = repried_keeps goal us (change_pri r u.id (goal u.id)) ((every_call_keeps r is).changing_pri u.id (goal u.id))
+repried_keeps goal (u ∷ us) r is = repried_keeps goal us (change_pri r u.id (goal u.id)) (move_keeps r (ChangePri u.id (goal u.id)) is tt)
 
 pub raised_law : RaisedLaw
 raised_law s is =

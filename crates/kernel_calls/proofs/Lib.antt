@@ -1,6 +1,8 @@
 pub mod Departing
 pub mod Unloading
 pub mod GateRows
+pub mod Reading
+pub mod Standing
 pub mod Serves
 pub mod Deletions
 pub mod Passing

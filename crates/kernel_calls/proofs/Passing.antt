@@ -21,7 +21,8 @@ use Rattle.object_calls.specs.QueueRows.{QueueRow, sending}
 use Rattle.object_calls.specs.WatchRows.{WatchRow, routine_of}
 use Rattle.kernel_calls.specs.ShowRows.{ShowRow}
 use Rattle.task_calls.specs.Spawning.{spawned_if, task_wanted, quick_wanted, quick_text, after_spawn, spawn_state}
-use Rattle.kernel_calls.specs.Calls.{priority_in, with_reply, of_kern, of_objects, scene_of, of_queues, of_watch, of_text, of_deletion, task_at, row, refusal_before, row_unless, made, call}
+use Rattle.kernel_calls.specs.Calls.{priority_in, with_reply, of_kern, of_objects, scene_of, of_queues, of_watch, of_text, of_deletion, task_at, row_of, refusal_before, row_unless, made, call}
+use Rattle.kernel_world.specs.CallWords.{ten_arguments, quick_arguments, call_of}
 use Rattle.kernel_world.specs.Replies.{left_gate}
 use Rattle.kernel_world.specs.Kept.{IsWorld, Within, call_sinces}
 use Rattle.kernel_calls.specs.Laws.{CallLaw}
@@ -63,7 +64,7 @@ module _ (w : WorldState) (kept : IsWorld w) (n : ℕ) (within : Within n w) whe
     go true e = of_memory w kept n within (with_word w.ram at t.pri) (length-with_number 4 w.ram at t.pri e)
     go false e = nowhere w kept n within
 
--- ---- the row of each gate
+-- ---- the row of the call at each gate
 module _ (w : WorldState) (kept : IsWorld w) (n : ℕ) (within : Within n w) (a : Actor) where
   -- nothing is done, whatever is answered
   idle : (reply : Reply) → Serves w a (with_reply w reply) (n + 1)
@@ -92,73 +93,73 @@ module _ (w : WorldState) (kept : IsWorld w) (n : ℕ) (within : Within n w) (a 
   of_text_row r = served w a (of_text w r) (n + 1) (writing w (w.output ++ r.text) (nowhere w kept n within))
 
   -- whoever takes or gives a mutex, or calls on a queue, lives
-  pub row_serves : (g : Gate) (r : List ℕ) → (is_mutex w.objects (slice_index r 3) ≡ true → Acts w.kern a) → (is_some (object_of w.objects.queues.queues (slice_index r 3)) ≡ true → Acts w.kern a) → MayCall w.kern a → Serves w a (row g w a r) (n + 1)
-  row_serves gates.TaskSpawn r live there may = served w a _ (n + 1) (spawn_advances w kept n within (task_wanted w.ram r))
-  row_serves gates.Sp r live there may =
-      let s = spawned_if (spawn_state w) (quick_wanted w.ram r) in
-      served w a _ (n + 1) (writing (after_spawn w s.after) (w.output ++ quick_text w.names s.reply) (spawn_advances w kept n within (quick_wanted w.ram r)))
-  row_serves gates.TaskDelete r live there may = delete_row_serves w kept n within a (slice_index r 3) may
-  row_serves gates.TaskSuspend r live there may = of_kern_row _ (suspend_goes w.kern n kept.kern within.0 (target w.kern a (slice_index r 3))) (objects-suspend_row w.kern w.objects kept.kern kept.objects (target w.kern a (slice_index r 3)))
-  row_serves gates.TaskResume r live there may = of_kern_row _ (resume_goes w.kern n kept.kern within.0 (target w.kern a (slice_index r 3))) (objects-resume_row w.kern w.objects kept.kern kept.objects (target w.kern a (slice_index r 3)))
-  row_serves gates.TaskDelay r live there may = of_kern_row _ (delay_goes w.kern n kept.kern within.0 a (slice_index r 3)) (objects-delay_row w.kern w.objects kept.kern kept.objects a (slice_index r 3))
-  row_serves gates.TaskLock r live there may = of_kern_row _ (lock_goes w.kern n kept.kern within.0 a) (objects-lock_row w.kern w.objects kept.kern kept.objects a)
-  row_serves gates.TaskUnlock r live there may = of_kern_row _ (unlock_goes w.kern n kept.kern within.0 a) (objects-unlock_row w.kern w.objects kept.kern kept.objects a)
-  row_serves gates.TaskSafe r live there may = of_kern_row _ (safe_goes w.kern n kept.kern within.0 a) (objects-safe_row w.kern w.objects kept.kern kept.objects a)
-  row_serves gates.TaskUnsafe r live there may = of_kern_row _ (unsafe_goes w.kern n kept.kern within.0 a) (objects-unsafe_row w.kern w.objects kept.kern kept.objects a)
-  row_serves gates.TaskIdSelf r live there may = of_kern_row _ (self_goes w.kern n kept.kern within.0 a) (objects-self_row w.kern w.objects kept.kern kept.objects a)
-  row_serves gates.TaskIdVerify r live there may = of_kern_row _ (verify_goes w.kern n kept.kern within.0 (live_id w.kern.tasks (slice_index r 3))) (objects-verify_row w.kern w.objects kept.kern kept.objects (live_id w.kern.tasks (slice_index r 3)))
-  row_serves gates.TaskNameToId r live there may = of_kern_row _ (name_goes w.kern n kept.kern within.0 (string_at w.ram (slice_index r 3))) (objects-name_row w.kern w.objects kept.kern kept.objects (string_at w.ram (slice_index r 3)))
-  row_serves gates.KernelTimeSlice r live there may = of_kern_row _ (slice_goes w.kern n kept.kern within.0 (slice_index r 3)) (objects-slice_row w.kern w.objects kept.kern kept.objects (slice_index r 3))
-  row_serves gates.TaskPriorityGet r live there may = served w a _ (n + 1) (told_advances w kept n within (slice_index r 4) (task_at w.kern (target w.kern a (slice_index r 3))))
-  row_serves gates.TickGet r live there may = idle _
-  row_serves gates.TaskPrioritySet r live there may = of_object_row _ (priority_goes w.kern w.objects n kept.kern within.0 (slice_index r 4) (target w.kern a (slice_index r 3))) (keeps-priority_row w.kern w.objects kept.kern kept.objects (slice_index r 4) (target w.kern a (slice_index r 3))) (priority_depths w.kern w.objects n within.1 (slice_index r 4) (target w.kern a (slice_index r 3)))
-  row_serves gates.SemBCreate r live there may = of_object_row _ (binary_goes w.kern w.objects n kept.kern within.0 (slice_index r 3) (slice_index r 4)) (keeps-binary_row w.kern w.objects kept.kern kept.objects (slice_index r 3) (slice_index r 4)) (binary_depths w.kern w.objects n within.1 (slice_index r 3) (slice_index r 4))
-  row_serves gates.SemCCreate r live there may = of_object_row _ (counting_goes w.kern w.objects n kept.kern within.0 (slice_index r 3) (slice_index r 4)) (keeps-counting_row w.kern w.objects kept.kern kept.objects (slice_index r 3) (slice_index r 4)) (counting_depths w.kern w.objects n within.1 (slice_index r 3) (slice_index r 4))
-  row_serves gates.SemMCreate r live there may = of_object_row _ (mutex_goes w.kern w.objects n kept.kern within.0 (slice_index r 3)) (keeps-mutex_row w.kern w.objects kept.kern kept.objects (slice_index r 3)) (mutex_depths w.kern w.objects n within.1 (slice_index r 3))
-  row_serves gates.SemTake r live there may = of_object_row _ (take_goes w.kern w.objects n kept.kern within.0 a (slice_index r 3) (slice_index r 4)) (keeps-take_row w.kern w.objects kept.kern kept.objects a (slice_index r 3) (slice_index r 4) live) (take_depths w.kern w.objects n within.1 a (slice_index r 3) (slice_index r 4))
-  row_serves gates.SemGive r live there may = of_object_row _ (give_goes w.kern w.objects n kept.kern within.0 a (slice_index r 3)) (keeps-give_row w.kern w.objects kept.kern kept.objects a (slice_index r 3) live) (give_depths w.kern w.objects n within.1 a (slice_index r 3))
-  row_serves gates.SemFlush r live there may = of_object_row _ (flush_goes w.kern w.objects n kept.kern within.0 (slice_index r 3)) (keeps-flush_row w.kern w.objects kept.kern kept.objects (slice_index r 3)) (flush_depths w.kern w.objects n within.1 (slice_index r 3))
-  row_serves gates.SemDelete r live there may = of_object_row _ (delete_goes w.kern w.objects n kept.kern within.0 (slice_index r 3)) (keeps-delete_row w.kern w.objects kept.kern kept.objects (slice_index r 3)) (delete_depths w.kern w.objects n within.1 (slice_index r 3))
-  row_serves gates.MsgQCreate r live there may =
+  pub row_serves : (g : Gate) (ram r : List ℕ) → (is_mutex w.objects (slice_index r 3) ≡ true → Acts w.kern a) → (is_some (object_of w.objects.queues.queues (slice_index r 3)) ≡ true → Acts w.kern a) → MayCall w.kern a → Serves w a (row_of (call_of g ram r) w a) (n + 1)
+  row_serves gates.TaskSpawn ram r live there may = served w a _ (n + 1) (spawn_advances w kept n within (task_wanted w.ram (slice_index r 3) (slice_index r 4) (slice_index r 6) (slice_index r 7) (ten_arguments ram r)))
+  row_serves gates.Sp ram r live there may =
+      let s = spawned_if (spawn_state w) (quick_wanted (slice_index r 3) (quick_arguments ram r)) in
+      served w a _ (n + 1) (writing (after_spawn w s.after) (w.output ++ quick_text w.names s.reply) (spawn_advances w kept n within (quick_wanted (slice_index r 3) (quick_arguments ram r))))
+  row_serves gates.TaskDelete ram r live there may = delete_row_serves w kept n within a (slice_index r 3) may
+  row_serves gates.TaskSuspend ram r live there may = of_kern_row _ (suspend_goes w.kern n kept.kern within.0 (target w.kern a (slice_index r 3))) (objects-suspend_row w.kern w.objects kept.kern kept.objects (target w.kern a (slice_index r 3)))
+  row_serves gates.TaskResume ram r live there may = of_kern_row _ (resume_goes w.kern n kept.kern within.0 (target w.kern a (slice_index r 3))) (objects-resume_row w.kern w.objects kept.kern kept.objects (target w.kern a (slice_index r 3)))
+  row_serves gates.TaskDelay ram r live there may = of_kern_row _ (delay_goes w.kern n kept.kern within.0 a (slice_index r 3)) (objects-delay_row w.kern w.objects kept.kern kept.objects a (slice_index r 3))
+  row_serves gates.TaskLock ram r live there may = of_kern_row _ (lock_goes w.kern n kept.kern within.0 a) (objects-lock_row w.kern w.objects kept.kern kept.objects a)
+  row_serves gates.TaskUnlock ram r live there may = of_kern_row _ (unlock_goes w.kern n kept.kern within.0 a) (objects-unlock_row w.kern w.objects kept.kern kept.objects a)
+  row_serves gates.TaskSafe ram r live there may = of_kern_row _ (safe_goes w.kern n kept.kern within.0 a) (objects-safe_row w.kern w.objects kept.kern kept.objects a)
+  row_serves gates.TaskUnsafe ram r live there may = of_kern_row _ (unsafe_goes w.kern n kept.kern within.0 a) (objects-unsafe_row w.kern w.objects kept.kern kept.objects a)
+  row_serves gates.TaskIdSelf ram r live there may = of_kern_row _ (self_goes w.kern n kept.kern within.0 a) (objects-self_row w.kern w.objects kept.kern kept.objects a)
+  row_serves gates.TaskIdVerify ram r live there may = of_kern_row _ (verify_goes w.kern n kept.kern within.0 (live_id w.kern.tasks (slice_index r 3))) (objects-verify_row w.kern w.objects kept.kern kept.objects (live_id w.kern.tasks (slice_index r 3)))
+  row_serves gates.TaskNameToId ram r live there may = of_kern_row _ (name_goes w.kern n kept.kern within.0 (string_at w.ram (slice_index r 3))) (objects-name_row w.kern w.objects kept.kern kept.objects (string_at w.ram (slice_index r 3)))
+  row_serves gates.KernelTimeSlice ram r live there may = of_kern_row _ (slice_goes w.kern n kept.kern within.0 (slice_index r 3)) (objects-slice_row w.kern w.objects kept.kern kept.objects (slice_index r 3))
+  row_serves gates.TaskPriorityGet ram r live there may = served w a _ (n + 1) (told_advances w kept n within (slice_index r 4) (task_at w.kern (target w.kern a (slice_index r 3))))
+  row_serves gates.TickGet ram r live there may = idle _
+  row_serves gates.TaskPrioritySet ram r live there may = of_object_row _ (priority_goes w.kern w.objects n kept.kern within.0 (slice_index r 4) (target w.kern a (slice_index r 3))) (keeps-priority_row w.kern w.objects kept.kern kept.objects (slice_index r 4) (target w.kern a (slice_index r 3))) (priority_depths w.kern w.objects n within.1 (slice_index r 4) (target w.kern a (slice_index r 3)))
+  row_serves gates.SemBCreate ram r live there may = of_object_row _ (binary_goes w.kern w.objects n kept.kern within.0 (slice_index r 3) (slice_index r 4)) (keeps-binary_row w.kern w.objects kept.kern kept.objects (slice_index r 3) (slice_index r 4)) (binary_depths w.kern w.objects n within.1 (slice_index r 3) (slice_index r 4))
+  row_serves gates.SemCCreate ram r live there may = of_object_row _ (counting_goes w.kern w.objects n kept.kern within.0 (slice_index r 3) (slice_index r 4)) (keeps-counting_row w.kern w.objects kept.kern kept.objects (slice_index r 3) (slice_index r 4)) (counting_depths w.kern w.objects n within.1 (slice_index r 3) (slice_index r 4))
+  row_serves gates.SemMCreate ram r live there may = of_object_row _ (mutex_goes w.kern w.objects n kept.kern within.0 (slice_index r 3)) (keeps-mutex_row w.kern w.objects kept.kern kept.objects (slice_index r 3)) (mutex_depths w.kern w.objects n within.1 (slice_index r 3))
+  row_serves gates.SemTake ram r live there may = of_object_row _ (take_goes w.kern w.objects n kept.kern within.0 a (slice_index r 3) (slice_index r 4)) (keeps-take_row w.kern w.objects kept.kern kept.objects a (slice_index r 3) (slice_index r 4) live) (take_depths w.kern w.objects n within.1 a (slice_index r 3) (slice_index r 4))
+  row_serves gates.SemGive ram r live there may = of_object_row _ (give_goes w.kern w.objects n kept.kern within.0 a (slice_index r 3)) (keeps-give_row w.kern w.objects kept.kern kept.objects a (slice_index r 3) live) (give_depths w.kern w.objects n within.1 a (slice_index r 3))
+  row_serves gates.SemFlush ram r live there may = of_object_row _ (flush_goes w.kern w.objects n kept.kern within.0 (slice_index r 3)) (keeps-flush_row w.kern w.objects kept.kern kept.objects (slice_index r 3)) (flush_depths w.kern w.objects n within.1 (slice_index r 3))
+  row_serves gates.SemDelete ram r live there may = of_object_row _ (delete_goes w.kern w.objects n kept.kern within.0 (slice_index r 3)) (keeps-delete_row w.kern w.objects kept.kern kept.objects (slice_index r 3)) (delete_depths w.kern w.objects n within.1 (slice_index r 3))
+  row_serves gates.MsgQCreate ram r live there may =
       of_queue_row _ (create_near (scene_of w) n kept.kern within.0 (slice_index r 3) (slice_index r 4) (slice_index r 5))
       (keeps-create_row w.kern w.objects w.ram kept.kern kept.objects kept.ram (slice_index r 3) (slice_index r 4) (slice_index r 5))
-  row_serves gates.MsgQSend r live there may =
+  row_serves gates.MsgQSend ram r live there may =
       let near = send_near (scene_of w) n kept.kern within.0 (kept.objects.queues w.ram kept.ram) (slice_index r 3) (sending a (slice_index r 4) (slice_index r 5) (slice_index r 6) (slice_index r 7)) in
       of_queue_row _ near
       (keeps-send_row w.kern w.objects w.ram kept.kern kept.objects kept.ram a (slice_index r 3) (slice_index r 4) (slice_index r 5) (slice_index r 6) (slice_index r 7) (λ h. is_caller w.kern a (there h) may) (near.1 ∙ kept.ram))
-  row_serves gates.MsgQReceive r live there may =
+  row_serves gates.MsgQReceive ram r live there may =
       let near = receive_row_near (scene_of w) n kept.kern within.0 (kept.objects.queues w.ram kept.ram) a (slice_index r 3) (slice_index r 4) (slice_index r 5) (slice_index r 6) in
       of_queue_row _ near
       (keeps-receive_row w.kern w.objects w.ram kept.kern kept.objects kept.ram a (slice_index r 3) (slice_index r 4) (slice_index r 5) (slice_index r 6) (λ h. is_caller w.kern a (there h) may) (near.1 ∙ kept.ram))
-  row_serves gates.MsgQDelete r live there may = of_queue_row _ (delete_near (scene_of w) n kept.kern within.0 (slice_index r 3)) (keeps-queue_delete_row w.kern w.objects w.ram kept.kern kept.objects kept.ram (slice_index r 3))
-  row_serves gates.MsgQNumMsgs r live there may = of_queue_row _ (near_itself (scene_of w) n kept.kern within.0) kept.objects
-  row_serves gates.WdCreate r live there may = of_watch_row _ (create_advances w kept n within)
-  row_serves gates.WdStart r live there may = of_watch_row _ (start_advances w kept n within (slice_index r 3) (slice_index r 4) (routine_of (slice_index r 5) (slice_index r 6)))
-  row_serves gates.WdCancel r live there may = of_watch_row _ (cancel_advances w kept n within (slice_index r 3))
-  row_serves gates.WdDelete r live there may = of_watch_row _ (delete_advances w kept n within (slice_index r 3))
-  row_serves gates.IntLock r live there may = of_kern_row _ (int_lock_goes w.kern n kept.kern within.0 a) (objects-int_lock_row w.kern w.objects kept.kern kept.objects a)
-  row_serves gates.IntUnlock r live there may = of_kern_row _ (int_unlock_goes w.kern n kept.kern within.0 a (slice_index r 3)) (objects-int_unlock_row w.kern w.objects kept.kern kept.objects a (slice_index r 3))
-  row_serves gates.IntContext r live there may = of_kern_row _ (int_context_goes w.kern n kept.kern within.0 a) (objects-int_context_row w.kern w.objects kept.kern kept.objects a)
-  row_serves gates.Malloc r live there may = served w a _ (n + 1) (align_advances w kept n within 16 (slice_index r 3))
-  row_serves gates.Free r live there may = served w a _ (n + 1) (free_advances w kept n within (slice_index r 3))
-  row_serves gates.Memalign r live there may = served w a _ (n + 1) (align_advances w kept n within (slice_index r 3) (slice_index r 4))
-  row_serves gates.SymAdd r live there may = served w a _ (n + 1) (of_list w kept n within _ (symbol_few w kept n within (slice_index r 3) (slice_index r 4) (slice_index r 5) (slice_index r 6)))
-  row_serves gates.Printf r live there may = of_text_row _
-  row_serves gates.ErrnoGet r live there may = idle _
-  row_serves gates.ErrnoSet r live there may =
+  row_serves gates.MsgQDelete ram r live there may = of_queue_row _ (delete_near (scene_of w) n kept.kern within.0 (slice_index r 3)) (keeps-queue_delete_row w.kern w.objects w.ram kept.kern kept.objects kept.ram (slice_index r 3))
+  row_serves gates.MsgQNumMsgs ram r live there may = of_queue_row _ (near_itself (scene_of w) n kept.kern within.0) kept.objects
+  row_serves gates.WdCreate ram r live there may = of_watch_row _ (create_advances w kept n within)
+  row_serves gates.WdStart ram r live there may = of_watch_row _ (start_advances w kept n within (slice_index r 3) (slice_index r 4) (routine_of (slice_index r 5) (slice_index r 6)))
+  row_serves gates.WdCancel ram r live there may = of_watch_row _ (cancel_advances w kept n within (slice_index r 3))
+  row_serves gates.WdDelete ram r live there may = of_watch_row _ (delete_advances w kept n within (slice_index r 3))
+  row_serves gates.IntLock ram r live there may = of_kern_row _ (int_lock_goes w.kern n kept.kern within.0 a) (objects-int_lock_row w.kern w.objects kept.kern kept.objects a)
+  row_serves gates.IntUnlock ram r live there may = of_kern_row _ (int_unlock_goes w.kern n kept.kern within.0 a (slice_index r 3)) (objects-int_unlock_row w.kern w.objects kept.kern kept.objects a (slice_index r 3))
+  row_serves gates.IntContext ram r live there may = of_kern_row _ (int_context_goes w.kern n kept.kern within.0 a) (objects-int_context_row w.kern w.objects kept.kern kept.objects a)
+  row_serves gates.Malloc ram r live there may = served w a _ (n + 1) (align_advances w kept n within 16 (slice_index r 3))
+  row_serves gates.Free ram r live there may = served w a _ (n + 1) (free_advances w kept n within (slice_index r 3))
+  row_serves gates.Memalign ram r live there may = served w a _ (n + 1) (align_advances w kept n within (slice_index r 3) (slice_index r 4))
+  row_serves gates.SymAdd ram r live there may = served w a _ (n + 1) (of_list w kept n within _ (symbol_few w kept n within (slice_index r 3) (slice_index r 4) (slice_index r 5) (slice_index r 6)))
+  row_serves gates.Printf ram r live there may = of_text_row _
+  row_serves gates.ErrnoGet ram r live there may = idle _
+  row_serves gates.ErrnoSet ram r live there may =
       served w a _ (n + 1) (as_call w kept n within _ (errno_advances w kept n within a (slice_index r 3)))
-  row_serves gates.I r live there may = of_text_row _
-  row_serves gates.Ld r live there may = idle _
-  row_serves gates.Unld r live there may = served w a _ (n + 1) (unload_advances w kept n within (slice_index r 3))
-  row_serves gates.Lkup r live there may = of_text_row _
-  row_serves gates.ModuleShow r live there may = of_text_row _
-  row_serves gates.D r live there may = of_text_row _
-  row_serves g r live there may = idle Later
+  row_serves gates.I ram r live there may = of_text_row _
+  row_serves gates.Ld ram r live there may = idle _
+  row_serves gates.Unld ram r live there may = served w a _ (n + 1) (unload_advances w kept n within (slice_index r 3))
+  row_serves gates.Lkup ram r live there may = of_text_row _
+  row_serves gates.ModuleShow ram r live there may = of_text_row _
+  row_serves gates.D ram r live there may = of_text_row _
+  row_serves g ram r live there may = idle Later
 
-unless_row : (w : WorldState) (kept : IsWorld w) (n : ℕ) (within : Within n w) (o : Option Errno) (g : Gate) (a : Actor) (r : List ℕ) → (is_mutex w.objects (slice_index r 3) ≡ true → Acts w.kern a)
-    → (is_some (object_of w.objects.queues.queues (slice_index r 3)) ≡ true → Acts w.kern a) → MayCall w.kern a → Serves w a (row_unless o g w a r) (n + 1)
-unless_row w kept n within (Some e) g a r live there may = idle w kept n within a (Refusal e)
-unless_row w kept n within None g a r live there may = row_serves w kept n within a g r live there may
+unless_row : (w : WorldState) (kept : IsWorld w) (n : ℕ) (within : Within n w) (o : Option Errno) (g : Gate) (a : Actor) (ram r : List ℕ) → (is_mutex w.objects (slice_index r 3) ≡ true → Acts w.kern a)
+    → (is_some (object_of w.objects.queues.queues (slice_index r 3)) ≡ true → Acts w.kern a) → MayCall w.kern a → Serves w a (row_unless o (call_of g ram r) w a) (n + 1)
+unless_row w kept n within (Some e) g a ram r live there may = idle w kept n within a (Refusal e)
+unless_row w kept n within None g a ram r live there may = row_serves w kept n within a g ram r live there may
 
 pub made_serves : (g : Gate) (w : WorldState) (a : Actor) (n : ℕ) → IsWorld w → MayCall w.kern a → Within n w → Serves w a (made g w a) (n + 1)
 made_serves g w a n kept may within =
@@ -166,7 +167,7 @@ made_serves g w a n kept may within =
     let v = left_gate w a in
     let live : is_mutex v.objects (slice_index (caller_words w a) 3) ≡ true → Acts v.kern a = λ h. acts_on w v a n 0 0 left (mutex_callers w a kept.kern kept.objects h) in
     let there : is_some (object_of v.objects.queues.queues (slice_index (caller_words w a) 3)) ≡ true → Acts v.kern a = λ h. acts_on w v a n 0 0 left (queue_callers w a kept.objects h) in
-    let rowed = unless_row v left.kept n left.within (refusal_before g a) g a (caller_words w a) live there (may_left w a may) in
+    let rowed = unless_row v left.kept n left.within (refusal_before g a) g a w.ram (caller_words w a) live there (may_left w a may) in
     record {
       passes = passes_behind w v (made g w a).world a n (n + 1) call_sinces 1 left (safe_left w a) rowed.passes;
       acts = λ stays lives. rowed.acts stays (acts_on w v a n 0 0 left lives);

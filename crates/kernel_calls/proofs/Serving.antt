@@ -1,6 +1,5 @@
 -- The caller of a call lives on until it is answered, unless it has ended itself, and the world keeps its facts.
-use Rattle.std.proofs.Common.{◌≡◌, ◌≢◌, ◌+◌, ◌^◌, true, false, not, ◌&&◌, cond, None, Some, Result, Ok, Err, refl, ap, ◌∙◌, sym, subst}
-use Rattle.std.specs.Prelude.{OnErr}
+use Rattle.std.proofs.Common.{◌≡◌, ◌≢◌, ◌+◌, ◌^◌, true, false, not, ◌&&◌, cond, None, Some, refl, ap, ◌∙◌, sym, subst}
 use Rattle.wind_base.specs.declared.gate.Gate.{Gate}
 use Rattle.module_loader.specs.Holding.{AreHeld}
 use Rattle.wind_base.specs.declared.gate.Gate.TheVariants as gates
@@ -21,7 +20,7 @@ use Rattle.kernel_calls.proofs.Passing.{made_serves}
 use Rattle.kernel_world.proofs.Replying.{left_advances, replied_advances}
 use Rattle.kernel_world.proofs.Early.{early_within}
 
--- the objects have their facts behind the gate too
+-- the objects have their facts after the gate too
 pub left_objects : (w : WorldState) (a : Actor) → IsWorld w → MayCall w.kern a → IsEarly w → KeepsObjects (left_gate w a).kern (left_gate w a).objects
 left_objects w a kept may early = (left_advances w kept (2 ^ 60) (early_within w early) a may).kept.objects
 
@@ -44,17 +43,13 @@ none_lacks gates.ModuleShow h = refl
 none_lacks gates.D h = refl
 none_lacks g h = absurd (cc)
 
-by_task : (g : Gate) (a : Actor) → None ≡ refusal_before g a → may_lack_memory g ≡ true → is_interrupt a ≡ false
+pub by_task : (g : Gate) (a : Actor) → None ≡ refusal_before g a → may_lack_memory g ≡ true → is_interrupt a ≡ false
 by_task g (Task who) fine lacks = refl
 by_task g Interrupt fine lacks =
     let refused : refusal_before g Interrupt ≡ Some errors.NotIsrCallable =
     ap (λ b. cond (not b) (Some errors.NotIsrCallable) (cond (is_shells_own g && true) (Some errors.NotShell) None)) (none_lacks g lacks) in
     let clash : None ≡ Some errors.NotIsrCallable = fine ∙ refused in
     absurd (cc)
-
-pub of_task : {A E : Type 0} (g : Gate) (a : Actor) (r : Result A E) → None ≡ refusal_before g a → may_lack_memory g ≡ true → OnErr r (is_interrupt a ≡ false)
-of_task g a (Ok x) fine lacks = tt
-of_task g a (Err e) fine lacks = by_task g a fine lacks
 
 module _ (g : Gate) (w v : WorldState) (a : Actor) (r : Reply) (kept : IsWorld w) (may : MayCall w.kern a) (early : IsEarly w) (done : with_reply v r ≡ made g w a) where
   serves : Serves w a (with_reply v r) (2 ^ 60 + 1)

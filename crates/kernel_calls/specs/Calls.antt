@@ -1,8 +1,7 @@
--- The kernel's calls, one row for each gate.
-use Rattle.std.specs.Prelude.{ℕ, List, ◌++◌, length, slice_index, Option, None, Some, Bool, true, false, ◌&&◌, ◌||◌, ◌==◌, not, nat_lt, if◌then◌else◌}
+-- The kernel's calls, one row for each.
+use Rattle.std.specs.Prelude.{ℕ, List, ◌++◌, length, Option, None, Some, Bool, true, false, ◌&&◌, ◌||◌, ◌==◌, not, nat_lt, if◌then◌else◌}
 use Rattle.wind_base.specs.Limits.{ok_word, longest_name}
 use Rattle.wind_base.specs.declared.gate.Gate.{Gate}
-use Rattle.wind_base.specs.declared.gate.Gate.TheVariants as gates
 use Rattle.wind_base.specs.declared.errno.Errno.{Errno}
 use Rattle.wind_base.specs.declared.errno.Errno.TheVariants as errors
 use Rattle.task_block.specs.declared.task.Task.{Task as TaskRecord}
@@ -11,7 +10,10 @@ use Rattle.wind_core.specs.State.{KernState, task_of}
 use Rattle.wind_core.specs.Moves.{live_id}
 use Rattle.msg_queue.specs.State.{Scene, scene}
 use Rattle.kernel_world.specs.State.{WorldState}
-use Rattle.kernel_world.specs.Actors.{is_interrupt, is_shell, target, caller_words}
+use Rattle.kernel_world.specs.Actors.{is_interrupt, is_shell, target}
+use Rattle.kernel_world.specs.CallWords.{call_by}
+use Rattle.kernel_world.specs.declared.call.Call.{Call}
+use Rattle.kernel_world.specs.declared.call.Call.TheVariants as calls
 use Rattle.kernel_world.specs.Allowed.{is_isr_callable, is_shells_own}
 use Rattle.kernel_world.specs.Replies.{errno_of, with_errno, left_gate, replied}
 use Rattle.kernel_world.specs.declared.actor.Actor.{Actor}
@@ -88,58 +90,62 @@ abbrev pub task_at : KernState → Option ℕ → Option TaskRecord
 task_at k None = None
 task_at k (Some id) = task_of k.tasks id
 
--- the row of a gate, with the words r in its caller's registers; that of ld where it asks for no file, as its name can't be read; one that isn't built changes nothing
-abbrev pub row : Gate → WorldState → Actor → List ℕ → Row
-row gates.TaskSpawn w a r = of_spawn w (spawned_if (spawn_state w) (task_wanted w.ram r))
-row gates.Sp w a r = of_quick w (spawned_if (spawn_state w) (quick_wanted w.ram r))
-row gates.TaskDelete w a r = of_deletion w (delete_row w.kern w.part a (slice_index r 3))
-row gates.TaskSuspend w a r = of_kern w (suspend_row w.kern (target w.kern a (slice_index r 3)))
-row gates.TaskResume w a r = of_kern w (resume_row w.kern (target w.kern a (slice_index r 3)))
-row gates.TaskPrioritySet w a r = of_objects w (sem.priority_row w.kern w.objects (slice_index r 4) (target w.kern a (slice_index r 3)))
-row gates.TaskPriorityGet w a r = priority_in w (slice_index r 4) (task_at w.kern (target w.kern a (slice_index r 3)))
-row gates.TaskDelay w a r = of_kern w (delay_row w.kern a (slice_index r 3))
-row gates.TaskLock w a r = of_kern w (lock_row w.kern a)
-row gates.TaskUnlock w a r = of_kern w (unlock_row w.kern a)
-row gates.TaskSafe w a r = of_kern w (safe_row w.kern a)
-row gates.TaskUnsafe w a r = of_kern w (unsafe_row w.kern a)
-row gates.TaskIdSelf w a r = of_kern w (self_row w.kern a)
-row gates.TaskIdVerify w a r = of_kern w (verify_row w.kern (live_id w.kern.tasks (slice_index r 3)))
-row gates.TaskNameToId w a r = of_kern w (name_row w.kern (string_at w.ram (slice_index r 3)))
-row gates.KernelTimeSlice w a r = of_kern w (slice_row w.kern (slice_index r 3))
-row gates.TickGet w a r = of_kern w (tick_row w.kern)
-row gates.SemBCreate w a r = of_objects w (sem.binary_row w.kern w.objects (slice_index r 3) (slice_index r 4))
-row gates.SemCCreate w a r = of_objects w (sem.counting_row w.kern w.objects (slice_index r 3) (slice_index r 4))
-row gates.SemMCreate w a r = of_objects w (sem.mutex_row w.kern w.objects (slice_index r 3))
-row gates.SemTake w a r = of_objects w (sem.take_row w.kern w.objects a (slice_index r 3) (slice_index r 4))
-row gates.SemGive w a r = of_objects w (sem.give_row w.kern w.objects a (slice_index r 3))
-row gates.SemFlush w a r = of_objects w (sem.flush_row w.kern w.objects (slice_index r 3))
-row gates.SemDelete w a r = of_objects w (sem.delete_row w.kern w.objects (slice_index r 3))
-row gates.MsgQCreate w a r = of_queues w (queue.create_row (scene_of w) (slice_index r 3) (slice_index r 4) (slice_index r 5))
-row gates.MsgQSend w a r = of_queues w (queue.send_row (scene_of w) (slice_index r 3) (queue.sending a (slice_index r 4) (slice_index r 5) (slice_index r 6) (slice_index r 7)))
-row gates.MsgQReceive w a r = of_queues w (queue.receive_row (scene_of w) a (slice_index r 3) (slice_index r 4) (slice_index r 5) (slice_index r 6))
-row gates.MsgQDelete w a r = of_queues w (queue.delete_row (scene_of w) (slice_index r 3))
-row gates.MsgQNumMsgs w a r = of_queues w (queue.count_row (scene_of w) (slice_index r 3))
-row gates.WdCreate w a r = of_watch w (watch.create_row w.kern w.watch)
-row gates.WdStart w a r = of_watch w (watch.start_row w.kern w.watch (slice_index r 3) (slice_index r 4) (watch.routine_of (slice_index r 5) (slice_index r 6)))
-row gates.WdCancel w a r = of_watch w (watch.cancel_row w.kern w.watch (slice_index r 3))
-row gates.WdDelete w a r = of_watch w (watch.delete_row w.kern w.watch (slice_index r 3))
-row gates.IntLock w a r = of_kern w (int_lock_row w.kern a)
-row gates.IntUnlock w a r = of_kern w (int_unlock_row w.kern a (slice_index r 3))
-row gates.IntContext w a r = of_kern w (int_context_row w.kern a)
-row gates.Malloc w a r = of_part w (malloc_row w.part (slice_index r 3))
-row gates.Free w a r = of_part w (free_row w.part (slice_index r 3))
-row gates.Memalign w a r = of_part w (align_row w.part (slice_index r 3) (slice_index r 4))
-row gates.SymAdd w a r = of_symbols w (symbol_row w.symbols w.ram (slice_index r 3) (slice_index r 4) (slice_index r 5) (slice_index r 6))
-row gates.Printf w a r = of_text w (show.printf_row w.ram r)
-row gates.ErrnoGet w a r = with_reply w (Answer (errno_of w a))
-row gates.ErrnoSet w a r = with_reply (with_errno w a (slice_index r 3)) (Answer ok_word)
-row gates.I w a r = of_text w (show.tasks_row w.kern)
-row gates.Ld w a r = with_reply w (Refusal errors.BadAddress)
-row gates.Unld w a r = of_modules w (unload_row w.symbols w.modules w.part w.ram (slice_index r 3))
-row gates.Lkup w a r = of_text w (show.lookup_row w.symbols w.ram (slice_index r 3))
-row gates.ModuleShow w a r = of_text w (show.modules_row w.modules)
-row gates.D w a r = of_text w (show.dump_row w.ram (slice_index r 3) (slice_index r 4) (slice_index r 5))
-row g w a r = with_reply w Later
+-- the row of a call; that of ld is made if it asks for no file, as its name can't be read
+abbrev pub row : Call → WorldState → Actor → Row
+row (calls.TaskSpawn name priority options stack_size entry arguments) w a = of_spawn w (spawned_if (spawn_state w) (task_wanted w.ram name priority stack_size entry arguments))
+row (calls.Sp entry arguments) w a = of_quick w (spawned_if (spawn_state w) (quick_wanted entry arguments))
+row (calls.TaskDelete id) w a = of_deletion w (delete_row w.kern w.part a id)
+row (calls.TaskSuspend id) w a = of_kern w (suspend_row w.kern (target w.kern a id))
+row (calls.TaskResume id) w a = of_kern w (resume_row w.kern (target w.kern a id))
+row (calls.TaskPrioritySet id priority) w a = of_objects w (sem.priority_row w.kern w.objects priority (target w.kern a id))
+row (calls.TaskPriorityGet id address) w a = priority_in w address (task_at w.kern (target w.kern a id))
+row (calls.TaskDelay ticks) w a = of_kern w (delay_row w.kern a ticks)
+row calls.TaskLock w a = of_kern w (lock_row w.kern a)
+row calls.TaskUnlock w a = of_kern w (unlock_row w.kern a)
+row calls.TaskSafe w a = of_kern w (safe_row w.kern a)
+row calls.TaskUnsafe w a = of_kern w (unsafe_row w.kern a)
+row calls.TaskIdSelf w a = of_kern w (self_row w.kern a)
+row (calls.TaskIdVerify id) w a = of_kern w (verify_row w.kern (live_id w.kern.tasks id))
+row (calls.TaskNameToId name) w a = of_kern w (name_row w.kern (string_at w.ram name))
+row (calls.KernelTimeSlice ticks) w a = of_kern w (slice_row w.kern ticks)
+row calls.TickGet w a = of_kern w (tick_row w.kern)
+row (calls.SemBCreate options state) w a = of_objects w (sem.binary_row w.kern w.objects options state)
+row (calls.SemCCreate options count) w a = of_objects w (sem.counting_row w.kern w.objects options count)
+row (calls.SemMCreate options) w a = of_objects w (sem.mutex_row w.kern w.objects options)
+row (calls.SemTake id timeout) w a = of_objects w (sem.take_row w.kern w.objects a id timeout)
+row (calls.SemGive id) w a = of_objects w (sem.give_row w.kern w.objects a id)
+row (calls.SemFlush id) w a = of_objects w (sem.flush_row w.kern w.objects id)
+row (calls.SemDelete id) w a = of_objects w (sem.delete_row w.kern w.objects id)
+row (calls.MsgQCreate max_msgs max_length options) w a = of_queues w (queue.create_row (scene_of w) max_msgs max_length options)
+row (calls.MsgQSend id buffer count timeout priority) w a = of_queues w (queue.send_row (scene_of w) id (queue.sending a buffer count timeout priority))
+row (calls.MsgQReceive id buffer count timeout) w a = of_queues w (queue.receive_row (scene_of w) a id buffer count timeout)
+row (calls.MsgQDelete id) w a = of_queues w (queue.delete_row (scene_of w) id)
+row (calls.MsgQNumMsgs id) w a = of_queues w (queue.count_row (scene_of w) id)
+row calls.WdCreate w a = of_watch w (watch.create_row w.kern w.watch)
+row (calls.WdStart id delay routine parameter) w a = of_watch w (watch.start_row w.kern w.watch id delay (watch.routine_of routine parameter))
+row (calls.WdCancel id) w a = of_watch w (watch.cancel_row w.kern w.watch id)
+row (calls.WdDelete id) w a = of_watch w (watch.delete_row w.kern w.watch id)
+row calls.IntLock w a = of_kern w (int_lock_row w.kern a)
+row (calls.IntUnlock key) w a = of_kern w (int_unlock_row w.kern a key)
+row calls.IntContext w a = of_kern w (int_context_row w.kern a)
+row (calls.Malloc size) w a = of_part w (malloc_row w.part size)
+row (calls.Free address) w a = of_part w (free_row w.part address)
+row (calls.Memalign align size) w a = of_part w (align_row w.part align size)
+row (calls.SymAdd table name value kind group) w a = of_symbols w (symbol_row w.symbols w.ram table name value kind)
+row (calls.Printf format values stack) w a = of_text w (show.printf_row w.ram format values stack)
+row calls.ErrnoGet w a = with_reply w (Answer (errno_of w a))
+row (calls.ErrnoSet number) w a = with_reply (with_errno w a number) (Answer ok_word)
+row calls.I w a = of_text w (show.tasks_row w.kern)
+row (calls.Ld symbols no_abort name) w a = with_reply w (Refusal errors.BadAddress)
+row (calls.Unld which options) w a = of_modules w (unload_row w.symbols w.modules w.part w.ram which)
+row (calls.Lkup text) w a = of_text w (show.lookup_row w.symbols w.ram text)
+row calls.ModuleShow w a = of_text w (show.modules_row w.modules)
+row (calls.D address units width) w a = of_text w (show.dump_row w.ram address units width)
+
+-- the row of the call at a gate; at a gate of no call nothing happens
+abbrev pub row_of : Option Call → WorldState → Actor → Row
+row_of None w a = with_reply w Later
+row_of (Some c) w a = row c w a
 
 -- ---- a call
 abbrev pub answered : Gate → Actor → Row → WorldState
@@ -152,16 +158,16 @@ refusal_before g a =
     else if is_shells_own g && not (is_shell a) then Some errors.NotShell
     else None
 
-abbrev pub row_unless : Option Errno → Gate → WorldState → Actor → List ℕ → Row
-row_unless (Some e) g w a r = with_reply w (Refusal e)
-row_unless None g w a r = row g w a r
+abbrev pub row_unless : Option Errno → Option Call → WorldState → Actor → Row
+row_unless (Some e) c w a = with_reply w (Refusal e)
+row_unless None c w a = row_of c w a
 
-abbrev pub allowed_row : Gate → WorldState → Actor → List ℕ → Row
-allowed_row g w a r = row_unless (refusal_before g a) g w a r
+abbrev pub allowed_row : Gate → Option Call → WorldState → Actor → Row
+allowed_row g c w a = row_unless (refusal_before g a) c w a
 
--- what a call makes: the caller goes on behind its gate, and the effect is made, with the words in its registers
+-- what a call makes: the caller goes on after its gate, and the effect is made
 abbrev pub made : Gate → WorldState → Actor → Row
-made g w a = allowed_row g (left_gate w a) a (caller_words w a)
+made g w a = allowed_row g (call_by g w a) (left_gate w a) a
 
 -- a call: then the caller is answered
 abbrev pub call : Gate → WorldState → Actor → WorldState
@@ -183,14 +189,17 @@ abbrev pub file_name : Option (List ℕ) → Option (List ℕ)
 file_name None = None
 file_name (Some name) = if length name == 0 || nat_lt longest_name (length name) then None else Some name
 
--- the name at the address in r5, where the shell's task makes the call
-abbrev pub name_wanted : WorldState → Actor → Option (List ℕ)
-name_wanted w a = if is_shell a then file_name (string_at w.ram (slice_index (caller_words w a) 5)) else None
+-- ld asks for the file whose name stands at an address, if the shell's task makes the call; no other call asks for any
+abbrev pub file_named : Call → List ℕ → Actor → Option (List ℕ)
+file_named (calls.Ld symbols no_abort name) ram a = if is_shell a then file_name (string_at ram name) else None
+file_named c ram a = None
 
--- ld asks for the file of that name, and no other call asks for any
+abbrev pub file_of : Option Call → List ℕ → Actor → Option (List ℕ)
+file_of None ram a = None
+file_of (Some c) ram a = file_named c ram a
+
 abbrev pub file_wanted : Gate → WorldState → Actor → Option (List ℕ)
-file_wanted gates.Ld w a = name_wanted w a
-file_wanted g w a = None
+file_wanted g w a = file_of (call_by g w a) w.ram a
 
 -- the call was made
 abbrev pub is_made : Called → Bool

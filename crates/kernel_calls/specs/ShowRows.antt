@@ -1,5 +1,5 @@
 -- The rows of the calls that write texts.
-use Rattle.std.specs.Prelude.{ℕ, ◌*◌, ◌/◌, ◌==◌, ◌||◌, Bool, nat_lt, if◌then◌else◌, List, [], ◌∷◌, length, slice_index, Option, None, Some}
+use Rattle.std.specs.Prelude.{ℕ, ◌*◌, ◌/◌, ◌==◌, ◌||◌, Bool, nat_lt, if◌then◌else◌, List, [], length, Option, None, Some}
 use Rattle.wind_base.specs.Limits.{ok_word}
 use Rattle.wind_base.specs.declared.errno.Errno.{Errno}
 use Rattle.wind_base.specs.declared.errno.Errno.TheVariants as errors
@@ -26,21 +26,17 @@ shows text value = record { text = text; reply = Answer value }
 abbrev pub shows_none : Errno → ShowRow
 shows_none e = record { text = []; reply = Refusal e }
 
--- ---- printf: the format in r3, the first values in r4 to r10, the others on the stack at r1
-abbrev pub values : List ℕ → List ℕ → Source
-values ram r = record {
-  first = slice_index r 4 ∷ slice_index r 5 ∷ slice_index r 6 ∷ slice_index r 7 ∷ slice_index r 8 ∷ slice_index r 9 ∷ slice_index r 10 ∷ [];
-  stack = slice_index r 1;
-  ram = ram;
-}
+-- ---- printf: its first seven values, and the others on the stack
+abbrev pub values_of : List ℕ → List ℕ → ℕ → Source
+values_of ram first stack = record { first = first; stack = stack; ram = ram }
 
 -- the answer is the count of bytes written
 abbrev pub printed : Option (List ℕ) → ShowRow
 printed None = shows_none errors.BadAddress
 printed (Some text) = shows text (length text)
 
-abbrev pub printf_row : List ℕ → List ℕ → ShowRow
-printf_row ram r = printed (printf_of (values ram r) (slice_index r 3))
+abbrev pub printf_row : List ℕ → ℕ → List ℕ → ℕ → ShowRow
+printf_row ram format first stack = printed (printf_of (values_of ram first stack) format)
 
 -- ---- i: the table of the tasks
 abbrev pub tasks_row : KernState → ShowRow

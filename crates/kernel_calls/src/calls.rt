@@ -4,17 +4,19 @@ ghost use Rattle.std.specs.Prelude.{◌≡◌, ◌<◌, ◌≤◌, [], true, fal
 ghost use Rattle.wind_base.specs.OutBuf.{KeepsSpace};
 ghost use Rattle.kernel_world.specs.Actors.{Acts, MayCall, is_interrupt as is_interrupt_lem};
 ghost use Rattle.kernel_world.specs.Kept.{IsWorld, IsEarly};
-ghost use Rattle.kernel_world.specs.Allowed.{is_built, may_lack_memory as may_lack_memory_lem};
+ghost use Rattle.kernel_world.specs.Allowed.{is_call, may_lack_memory};
+ghost use Rattle.kernel_world.specs.CallWords.{call_by};
+ghost use Rattle.kernel_calls.specs.Standing.{counter_of, standing_at};
 ghost use Rattle.kernel_calls.specs.Calls.{refusal_before as refusal_before_lem, with_reply, told_by, told as told_lem, made, call, file_wanted as file_wanted_lem, is_made, asked_for};
 ghost use Rattle.kernel_calls.specs.declared.calls.Called.TheVariants as called;
 ghost use Rattle.kernel_world.specs.Seen.{world_seen, world_with};
 ghost use Rattle.kernel_calls.specs.Space.{makes_room, HoldsSpace};
 
-use crate::files::file_wanted;
-use crate::rows::{lacking_row, plain_row};
+use crate::files::file_of;
+use crate::rows::row;
 use kernel_world::{
-    Actor, Reply, World, caller_regs, is_isr_callable, is_shell, is_shells_own, leave_gate,
-    may_lack_memory, reply_to,
+    Actor, Call, Reply, World, is_isr_callable, is_shell, is_shells_own, leave_gate, read_call,
+    reply_to,
 };
 use std::alloc::Global;
 use wind_base::{Errno, Gate, Name, NoMemory};
@@ -67,10 +69,42 @@ fn told(reply: &Reply) -> Called
     }
 }
 
-// What a call makes, before its caller is answered: it goes on behind its gate, and the effect is made. For want of
-// memory nothing changes.
-fn make(alloc: Global, w: &mut World, gate: Gate, who: &Actor) -> Result<Reply, NoMemory>
-    requires built { is_built gate ≡ true }
+// The program counter of a caller that is a task, so that it can stand at its gate again.
+fn counter(w: &World, who: &Actor) -> u32
+    ensures { result ≡ counter_of (world_seen ⟦<dyn Device as Device>⟧ w.now) who.now }
+{
+    match who {
+        Actor::Task(id) => match w.kern.task(*id) {
+            Some(task) => task.regs.pc,
+            None => 0,
+        },
+        Actor::Interrupt => 0,
+    }
+}
+
+// A task that has left its gate stands there again.
+fn stand_again(w: &mut World, who: &Actor, pc: u32)
+    requires { Acts w.old.kern who.now }
+    ensures world { world_seen ⟦<dyn Device as Device>⟧ w.new
+        ≡ standing_at (world_seen ⟦<dyn Device as Device>⟧ w.old) who.now pc }
+    ensures out { w.new.out ≡ w.old.out }
+{
+    w.kern.facts();
+    if let Actor::Task(id) = who {
+        w.kern.regs_of(*id).pc = pc;
+    }
+}
+
+// What a call makes, before its caller is answered: it goes on after its gate, and the effect is made. If memory runs out,
+// nothing changes.
+fn make(
+    alloc: Global,
+    w: &mut World,
+    gate: Gate,
+    call: Call,
+    who: &Actor,
+) -> Result<Reply, NoMemory>
+    requires is { Some call ≡ call_by gate (world_seen ⟦<dyn Device as Device>⟧ w.old) who.now }
     requires caller { Acts w.old.kern who.now }
     requires free { MayCall w.old.kern who.now }
     requires kept { IsWorld (world_with [] w.old) }
@@ -78,7 +112,7 @@ fn make(alloc: Global, w: &mut World, gate: Gate, who: &Actor) -> Result<Reply, 
     requires room { 4096 ≤ w.old.out.room }
     ensures ok { IfOk result (λ r. with_reply (world_seen ⟦<dyn Device as Device>⟧ w.new) r
         ≡ made gate (world_seen ⟦<dyn Device as Device>⟧ w.old) who.now) }
-    ensures memory { OnErr result (may_lack_memory_lem gate ≡ true) }
+    ensures memory { OnErr result (may_lack_memory gate ≡ true) }
     ensures task { OnErr result (is_interrupt_lem who.now ≡ false) }
     ensures err { OnErr result (world_seen ⟦<dyn Device as Device>⟧ w.new ≡ world_seen ⟦<dyn Device as Device>⟧ w.old) }
     ensures space { makes_room gate ≡ false → KeepsSpace w.old.out w.new.out }
@@ -88,20 +122,22 @@ fn make(alloc: Global, w: &mut World, gate: Gate, who: &Actor) -> Result<Reply, 
         leave_gate(w, who);
         return Ok(Reply::Refusal(errno));
     }
-    let regs = caller_regs(&w.kern, &w.watch, who);
-    if may_lack_memory(gate) {
-        return lacking_row(alloc, w, gate, who, &regs.gpr);
-    }
+    w.kern.facts();
+    let pc = counter(w, who);
     leave_gate(w, who);
-    Ok(plain_row(w, gate, *who, &regs.gpr))
+    let Ok(reply) = row(alloc, w, call, *who) else {
+        stand_again(w, who, pc);
+        return Err(NoMemory);
+    };
+    Ok(reply)
 }
 
-/// Makes a call of the kernel by its gate: the caller goes on behind its gate, the effect of the gate's row is made,
-/// and the caller is answered in r3, at once or at the end of its wait, unless it has ended itself. A task that calls is
-/// ready. A call of `ld` that asks for a file is not made, and says for which. Host memory may run out only at `symAdd`,
-/// `msgQCreate`, `ld`, `i`, `lkup`, `moduleShow` and `d` of a task, and the world is then as it was.
+/// Makes the call of a gate: the caller goes on after its gate, the effect of the call's row is made, and the caller is answered
+/// in r3, at once or at the end of its wait, unless it has ended itself. A task that calls is ready. A call of `ld` that asks
+/// for a file is not made, and says for which. Host memory may run out only at `symAdd`, `msgQCreate`, `ld`, `i`, `lkup`,
+/// `moduleShow` and `d` of a task, and the world is then as it was.
 pub fn kernel_call(alloc: Global, w: &mut World, gate: Gate, who: &Actor) -> Called
-    requires built { is_built gate ≡ true }
+    requires call { is_call gate ≡ true }
     requires caller { Acts w.old.kern who.now }
     requires free { MayCall w.old.kern who.now }
     requires kept { IsWorld (world_with [] w.old) }
@@ -115,7 +151,7 @@ pub fn kernel_call(alloc: Global, w: &mut World, gate: Gate, who: &Actor) -> Cal
         file_wanted_lem gate (world_seen ⟦<dyn Device as Device>⟧ w.old) who.now ≡ None }
     ensures file { IfSome (asked_for result) (λ name.
         file_wanted_lem gate (world_seen ⟦<dyn Device as Device>⟧ w.old) who.now ≡ Some name) }
-    ensures memory { result ≡ called.NoMemory → may_lack_memory_lem gate ≡ true }
+    ensures memory { result ≡ called.NoMemory → may_lack_memory gate ≡ true }
     ensures task { result ≡ called.NoMemory → is_interrupt_lem who.now ≡ false }
     ensures unchanged { is_made result ≡ false →
         world_seen ⟦<dyn Device as Device>⟧ w.new ≡ world_seen ⟦<dyn Device as Device>⟧ w.old }
@@ -123,12 +159,15 @@ pub fn kernel_call(alloc: Global, w: &mut World, gate: Gate, who: &Actor) -> Cal
     ensures space { makes_room gate ≡ false → KeepsSpace w.old.out w.new.out }
     ensures holds { HoldsSpace w.old.out w.new.out }
 {
-    match file_wanted(alloc, w, gate, who) {
+    let Some(call) = read_call(w, gate, who) else {
+        unreachable!()
+    };
+    match file_of(alloc, &w.bus.ram, &call, who) {
         Ok(Some(name)) => return Called::NeedsFile(name),
         Ok(None) => {}
         Err(NoMemory) => return Called::NoMemory,
     }
-    let Ok(reply) = make(alloc, w, gate, who) else {
+    let Ok(reply) = make(alloc, w, gate, call, who) else {
         return Called::NoMemory;
     };
     reply_to(w, gate, who, &reply);

@@ -2,11 +2,11 @@
 
 ghost use Rattle.std.specs.Prelude.{◌≡◌, IfOk, OnErr, IsSome};
 ghost use Rattle.board_mem.specs.Memory.{string_at};
-ghost use Rattle.kernel_calls.specs.Calls.{file_name as file_name_lem, file_wanted as file_wanted_lem};
+ghost use Rattle.kernel_calls.specs.Calls.{file_name as file_name_lem, file_named, file_wanted as file_wanted_lem};
 ghost use Rattle.kernel_world.specs.Seen.{world_seen};
 
 use board_mem::Ram;
-use kernel_world::{Actor, World, caller_regs, is_shell};
+use kernel_world::{Actor, Call, World, is_shell, read_call};
 use std::alloc::Global;
 use wind_base::limits::NAME_BYTES;
 use wind_base::{Gate, Name, NoMemory};
@@ -30,8 +30,25 @@ fn file_name(alloc: Global, ram: &Ram, at: u32) -> Result<Option<Name>, NoMemory
     }
 }
 
-/// The name of the file that a call asks for: that at the address in r5, of 1 to 255 bytes, where the shell's task calls
-/// `ld`. None where it asks for no file. Host memory may run out where it asks for one.
+// The name of the file that a call asks for: that at an address, of 1 to 255 bytes, if the shell's task calls `ld`. None if it
+// asks for no file. Host memory may run out only if it asks for one.
+pub(crate) fn file_of(
+    alloc: Global,
+    ram: &Ram,
+    call: &Call,
+    who: &Actor,
+) -> Result<Option<Name>, NoMemory>
+    ensures wanted { IfOk result (λ o. o ≡ file_named call.now ram.now who.now) }
+    ensures memory { OnErr result (IsSome (file_named call.now ram.now who.now)) }
+{
+    match call {
+        Call::Ld { name, .. } if is_shell(who) => file_name(alloc, ram, *name),
+        _ => Ok(None),
+    }
+}
+
+/// The name of the file that the call of a gate asks for: that at the address in r5, of 1 to 255 bytes, if the shell's task calls
+/// `ld`. None if it asks for no file. Host memory may run out only if it asks for one.
 pub fn file_wanted(
     alloc: Global,
     w: &World,
@@ -43,9 +60,8 @@ pub fn file_wanted(
     ensures memory { OnErr result
         (IsSome (file_wanted_lem gate (world_seen ⟦<dyn Device as Device>⟧ w.now) who.now)) }
 {
-    if gate != Gate::Ld || !is_shell(who) {
-        return Ok(None);
+    match read_call(w, gate, who) {
+        Some(call) => file_of(alloc, &w.bus.ram, &call, who),
+        None => Ok(None),
     }
-    let regs = caller_regs(&w.kern, &w.watch, who);
-    file_name(alloc, &w.bus.ram, regs.gpr[5])
 }

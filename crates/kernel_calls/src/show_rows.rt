@@ -1,15 +1,11 @@
 //! The calls that write texts.
 
-ghost use Rattle.std.specs.Prelude.{◌≡◌, ◌++◌, ◌≤◌, IfOk, OnErr, OnOk};
+ghost use Rattle.std.specs.Prelude.{◌≡◌, ◌++◌, ◌≤◌, IfOk, OnErr};
 ghost use Rattle.wind_base.specs.OutBuf.{KeepsSpace};
-ghost use Rattle.wind_core.specs.State.{Lives};
-ghost use Rattle.wind_core.specs.Moves.{leave_gate};
 ghost use Rattle.text_show.specs.Columns.{with_text};
-ghost use Rattle.text_show.specs.Tasks.{task_table_of};
-ghost use Rattle.kernel_calls.specs.ShowRows.{printf_row, width_of as width_of_lem, units_of as units_of_lem, dump_in as dump_in_lem, dump_row, lookup_row, modules_row};
+ghost use Rattle.kernel_calls.specs.ShowRows.{printf_row, tasks_row, width_of as width_of_lem, units_of as units_of_lem, dump_in as dump_in_lem, dump_row, lookup_row, modules_row};
 
 use board_mem::Ram;
-use id_table::Ident;
 use kernel_world::{DONE, Reply};
 use module_loader::Modules;
 use std::alloc::Global;
@@ -21,49 +17,37 @@ use wind_core::Kern;
 // The most bytes of a dump.
 const MOST_DUMPED: u64 = 65_536;
 
-// printf, with the words in its caller's registers.
-pub(crate) fn print(ram: &Ram, gpr: &[u32; 32], out: &mut OutBuf) -> Reply
+// printf, with its first seven values, and the others on the stack.
+pub(crate) fn print(
+    ram: &Ram,
+    format: u32,
+    values: &[u32; 7],
+    stack: u32,
+    out: &mut OutBuf,
+) -> Reply
     requires { 4096 ≤ out.old.room }
-    ensures reply { result ≡ (printf_row ram.now gpr.now).reply }
-    ensures text { out.new.bytes ≡ out.old.bytes ++ (printf_row ram.now gpr.now).text }
+    ensures reply { result ≡ (printf_row ram.now format values.now stack).reply }
+    ensures text { out.new.bytes ≡ out.old.bytes ++ (printf_row ram.now format values.now stack).text }
     ensures space { KeepsSpace out.old out.new }
 {
-    let first = [gpr[4], gpr[5], gpr[6], gpr[7], gpr[8], gpr[9], gpr[10]];
-    match printf_text(gpr[3], &first, gpr[1], ram, out) {
+    match printf_text(format, values, stack, ram, out) {
         Some(count) => Reply::Answer(count),
         None => Reply::Refusal(Errno::BadAddress),
     }
 }
 
-// i, called by a task, which has left its gate where it is shown. For want of memory it stands there again, and nothing
-// is written.
-pub(crate) fn show_tasks(
-    alloc: Global,
-    kern: &mut Kern,
-    who: Ident,
-    out: &mut OutBuf,
-) -> Result<(), NoMemory>
-    requires { Lives kern.old who }
-    ensures ok { OnOk result (kern.new ≡ leave_gate kern.old who) }
-    ensures text { OnOk result (out.new ≡ with_text out.old (task_table_of (leave_gate kern.old who))) }
-    ensures err { OnErr result (kern.new ≡ kern.old) }
-    ensures same { OnErr result (out.new ≡ out.old) }
+// i: the table of the tasks. If memory runs out, nothing is written.
+pub(crate) fn show_tasks(alloc: Global, kern: &Kern, out: &mut OutBuf) -> Result<Reply, NoMemory>
+    ensures ok { IfOk result (λ r. (r ≡ (tasks_row kern.now).reply)
+        × (out.new ≡ with_text out.old (tasks_row kern.now).text)) }
+    ensures err { OnErr result (out.new ≡ out.old) }
 {
-    kern.facts();
-    let Some(task) = kern.task(who) else {
-        unreachable!()
-    };
-    let regs = task.regs;
-    kern.leave_gate(who);
-    if task_table(alloc, kern, out).is_err() {
-        kern.set_regs(who, regs);
-        return Err(NoMemory);
-    }
-    Ok(())
+    task_table(alloc, kern, out)?;
+    Ok(DONE)
 }
 
-// lkup: the symbols whose names have the text at an address, and all where the address is 0. For want of memory nothing
-// is written.
+// lkup: the symbols whose names have the text at an address, and all where the address is 0. If memory runs out, nothing is
+// written.
 pub(crate) fn show_symbols(
     alloc: Global,
     syms: &Symbols,
@@ -86,7 +70,7 @@ pub(crate) fn show_symbols(
     Ok(DONE)
 }
 
-// moduleShow: the table of the modules. For want of memory nothing is written.
+// moduleShow: the table of the modules. If memory runs out, nothing is written.
 pub(crate) fn show_modules(
     alloc: Global,
     mods: &Modules,
@@ -140,7 +124,7 @@ fn dump_in(
     Ok(DONE)
 }
 
-// d: units of so many bytes from an address on. For want of memory nothing is written.
+// d: units of so many bytes from an address on. If memory runs out, nothing is written.
 pub(crate) fn show_memory(
     alloc: Global,
     ram: &Ram,

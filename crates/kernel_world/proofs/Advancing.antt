@@ -9,6 +9,7 @@ use Rattle.symbol_table.specs.declared.symbol.Symbol.{Symbol}
 use Rattle.module_loader.specs.declared.module.LoadedModule.{LoadedModule}
 use Rattle.mem_partition.specs.State.{PartState}
 use Rattle.wind_core.specs.State.{KernState, Lives}
+use Rattle.wind_core.specs.Move.{SetErrno}
 use Rattle.wind_core.proofs.Ids.{lives_by}
 use Rattle.msg_queue.specs.State.{Scene}
 use Rattle.isr_watch.specs.State.{WatchState, IsWatch}
@@ -20,8 +21,8 @@ use Rattle.kernel_world.specs.Kept.{KeepsPool, KeepsLoaded, task_stacks, AreStac
 use Rattle.kernel_world.specs.declared.objects.Objects.{Objects}
 use Rattle.kernel_world.specs.declared.actor.Actor.{Actor}
 use Rattle.kernel_world.specs.declared.actor.Actor.TheVariants.{Task, Interrupt}
-use Rattle.kernel_world.proofs.Goes.{Goes, goes_nowhere, more_counts, goes-set_errno, reserved_by}
-use Rattle.kernel_world.proofs.ObjectMoves.{objects-set_errno}
+use Rattle.kernel_world.proofs.Goes.{Goes, goes_nowhere, more_counts, goes-move, reserved_by}
+use Rattle.kernel_world.proofs.ObjectMoves.{objects-move}
 use Rattle.kernel_world.proofs.Holding.{loaded_on}
 
 -- from one world to another: the kept facts hold, tasks that live live on, counts stay within n, no task has a reservation that had none, at most d order numbers, m name numbers and m numbers of a watchdog's start were given out, and the tick count stood
@@ -227,5 +228,5 @@ module _ (w : WorldState) (kept : IsWorld w) where
     of_memory ram same = as_call (record w { ram = ram }) (of_parts w.part w.symbols w.modules ram w.slots w.output w.int_errno kept.pool kept.stacks kept.modules kept.symbols same)
 
     pub errno_advances : (a : Actor) (e : ℕ) → Advances w (with_errno w a e) n 0 0
-    errno_advances (Task who) e = by_kern _ n 0 (goes-set_errno w.kern n kept.kern within.0 who e) (objects-set_errno w.kern w.objects kept.kern kept.objects who e) within.1
+    errno_advances (Task who) e = by_kern _ n 0 (goes-move w.kern n kept.kern within.0 (SetErrno who e) tt) (objects-move w.kern w.objects kept.kern kept.objects (SetErrno who e) (tt, tt, tt, tt)) within.1
     errno_advances Interrupt e = beside w.slots w.output e

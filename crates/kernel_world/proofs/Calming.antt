@@ -1,21 +1,21 @@
 -- What every move of the kernel keeps of message queues: all, as it begins no wait at one.
-use Rattle.std.proofs.Common.{◌≡◌, ℕ, ◌+◌, ◌-◌, ◌<◌, true, false, cond, ◌&&◌, ltb, leb, List, [], ◌∷◌, length, get_or, map, Some, refl, sym, subst, arith}
+use Rattle.std.proofs.Common.{◌≡◌, ℕ, ◌-◌, ◌<◌, true, false, cond, ◌&&◌, ltb, leb, List, [], ◌∷◌, length, get_or, map, Some, refl, sym, subst, arith}
 use Rattle.std.specs.List.{All, AllPairs}
 use Rattle.std.proofs.lemmas.List.{length-map, get_or-map}
 use Rattle.std.proofs.lemmas.List.Elements.{All-map, All-weaker}
 use Rattle.wind_base.specs.Limits.{ram_bytes}
 use Rattle.task_block.specs.declared.task.Task.{Task}
 use Rattle.wind_core.specs.State.{KernState, IsKern, WakesAhead, task_id, task_of}
-use Rattle.wind_core.specs.Moves.{change_pri, set_safe, unreserved, unreserve}
+use Rattle.wind_core.specs.Moves.{change_pri, set_safe}
 use Rattle.wind_core.specs.Releases.{release_all}
-use Rattle.wind_core.proofs.Keeping.{every_call_keeps}
-use Rattle.task_safety.specs.Safety.{deletion, safe_of, make_safe, lessen}
+use Rattle.wind_core.specs.Move.{ReleaseAll, ChangePri, SetSafe}
+use Rattle.task_safety.specs.Safety.{deletion, safe_of, lessen}
 use Rattle.inheritance.specs.declared.mutex.Mutex.{Mutex}
 use Rattle.inheritance.specs.Reach.{lifted, repried, raised_kern}
 use Rattle.msg_queue.specs.State.{QueueState, scene}
 use Rattle.msg_queue.specs.Kept.{BeginsNone, IsCalm, IsKept}
 use Rattle.msg_queue.specs.Machine.{others}
-use Rattle.msg_queue.proofs.Calm.{at_first, calm_at, calm_set, calm_then, calms}
+use Rattle.msg_queue.proofs.Calm.{at_first, calm_at, calm_then, calm_stays, calms}
 use Rattle.msg_queue.proofs.Events.{keeps}
 use Rattle.kernel_world.specs.declared.objects.Objects.{Objects}
 
@@ -29,33 +29,26 @@ queues-calm k j o calm kept ram long = keeps (scene k o.queues ram) (others j ra
 
 module _ (rs : List (ℕ × QueueState)) where
   -- ---- safe sections
-  pub calm-make_safe : (k : KernState) (who : ℕ) → IsKern k → IsCalm rs k (make_safe k who)
-  calm-make_safe k who is = (calms rs k is).setting_safe who (safe_of (task_of k.tasks who) + 1)
-
   pub calm-lessen : (k : KernState) (who n : ℕ) → IsKern k → IsCalm rs k (lessen k who n)
   calm-lessen k who n is =
       let count : ℕ = safe_of (task_of k.tasks who) in
       let less : KernState = set_safe k who (count - n) in
-      let set : IsCalm rs k less = (calms rs k is).setting_safe who (count - n) in
+      let set : IsCalm rs k less = calms rs k (SetSafe who (count - n)) is tt tt in
       elim (ltb 0 count && leb count n) as (λ b. IsCalm rs k (cond b (release_all less (deletion who)) less)) [
-        | true ↦ calm_then rs k less (release_all less (deletion who)) set ((calms rs less set.kern).releasing_all (deletion who))
+        | true ↦ calm_then rs k less (release_all less (deletion who)) set (calms rs less (ReleaseAll (deletion who)) set.kern tt tt)
         | false ↦ set
       ]
 
   -- ---- several priorities change
   calm-repried : (k : KernState) (goal : ℕ → ℕ) (ts : List Task) → IsKern k → IsCalm rs k (repried k goal ts)
-  calm-repried k goal [] is = (calms rs k is).staying
+  calm-repried k goal [] is = calm_stays rs k is
   calm-repried k goal (t ∷ ts) is =
       let next : KernState = change_pri k t.id (goal t.id) in
-      let once : IsCalm rs k next = (calms rs k is).changing_pri t.id (goal t.id) in
+      let once : IsCalm rs k next = calms rs k (ChangePri t.id (goal t.id)) is tt tt in
       calm_then rs k next (repried next goal ts) once (calm-repried next goal ts once.kern)
 
   pub calm-raised : (k : KernState) (ms : List (ℕ × Mutex)) → IsKern k → IsCalm rs k (raised_kern k ms)
   calm-raised k ms is = calm-repried k (lifted k ms) k.tasks is
-
-  -- ---- reservations go
-  pub calm-unreserve : (k : KernState) (who : ℕ) → IsKern k → IsCalm rs k (unreserve k who)
-  calm-unreserve k who is = calm_set rs k who unreserved (λ t. refl) (λ t. refl) ((every_call_keeps k is).unreserving who)
 
 -- ---- a field of each task that is none of those that the kernel's facts and waits read
 pub record Spares (f : Task → Task) : Type 0 where

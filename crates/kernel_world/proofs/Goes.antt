@@ -1,19 +1,19 @@
 -- What a move of the kernel keeps, and how far it takes the counters.
-use Rattle.std.proofs.Common.{◌≡◌, ℕ, List, length, map, Option, ◌+◌, ◌-◌, ◌<◌, ◌≤◌, Bool, true, false, ◌&&◌, cond, eqb, leb, ltb, [], ◌∷◌, None, Some, IsSome, refl, sym, ap, ◌∙◌, subst, arith}
+use Rattle.std.proofs.Common.{◌≡◌, ℕ, List, length, map, Option, ◌+◌, ◌-◌, ◌<◌, ◌≤◌, true, false, ◌&&◌, cond, eqb, leb, ltb, [], ◌∷◌, None, Some, IsSome, refl, sym, ap, ◌∙◌, subst, arith}
 use Rattle.std.specs.List.{All}
 use Rattle.std.proofs.lemmas.Bool.{leb-false}
 use Rattle.std.proofs.lemmas.List.Elements.{All-weaker, All-head, All-tail, All-cons}
 use Rattle.wind_base.specs.declared.errno.Errno.{Errno}
-use Rattle.id_table.specs.declared.ident.Place.{Place}
 use Rattle.task_block.specs.declared.task.Task.{Task}
 use Rattle.task_block.specs.Standing.{is_ready}
 use Rattle.wind_core.specs.State.{KernState, IsKern, task_of}
 use Rattle.wind_core.specs.Orders.{waiters}
-use Rattle.wind_core.specs.Moves.{renewed, change_task, renew_task, move_found, move_task, pended, pend, wake_at, delayed, delay, released, release, answered, end_wait, end_waits, wake_all, unmarked, reset, suspended, suspend, resumed, resume, is_suspended, with_pri, has_pri, change_pri, set_locks, set_normal, set_safe, set_held, set_errno, set_int_locked, set_again, past_gate, leave_gate, with_answer, answer, with_refusal, refuse}
+use Rattle.wind_core.specs.Moves.{renewed, change_task, renew_task, move_found, move_task, pended, wake_at, delayed, delay, released, release, answered, end_wait, end_waits, wake_all, unmarked, suspended, resumed, resume, is_suspended, with_pri, has_pri, change_pri, set_safe, past_gate, with_answer, with_refusal}
 use Rattle.wind_core.specs.Releases.{releases, release_all}
+use Rattle.wind_core.specs.Move.{Move, Spawn, Remove, Pend, Delay, Release, ReleaseAll, EndWait, WakeAll, Tick, Suspend, Resume, ChangePri, Reset, SetLocks, SetNormal, SetSafe, SetHeld, SetErrno, SetIntLocked, SetAgain, SetRegs, Unreserve, LeaveGate, Answer, Refuse, SetLast, SetSlice, DrawIds, Lend, apply}
 use Rattle.wind_core.proofs.Becoming.{found_all}
 use Rattle.wind_core.proofs.Ids.{ids, ids-change, ids-move}
-use Rattle.wind_core.proofs.Keeping.{every_call_keeps}
+use Rattle.wind_core.proofs.Moving.{move_keeps}
 use Rattle.wind_core.proofs.Stable.{All-change, renew_task-stable, move_task-stable}
 use Rattle.wind_core.proofs.Unwritten.{map-change, map-renew, map-move}
 use Rattle.wind_core.proofs.Waking.{length-waiters}
@@ -138,67 +138,27 @@ by_move k who n f is id stack reserve counts within = record {
   count = count-move k who f;
 }
 
--- ---- the calls of the kernel that are made
+-- ---- one task is moved
 module _ (k : KernState) (n : ℕ) (is : IsKern k) (within : CountsWithin n k) where
-  pub goes-release : (who : ℕ) → Goes k (release k who) n 1
-  goes-release who = by_move k who n released ((every_call_keeps k is).releasing who) (λ t. refl) (λ t. refl) (λ t. refl) (λ t h. h) within
+  goes-release : (who : ℕ) → Goes k (release k who) n 1
+  goes-release who = by_move k who n released (move_keeps k (Release who) is tt) (λ t. refl) (λ t. refl) (λ t. refl) (λ t h. h) within
 
-  pub goes-reset : (who : ℕ) → Goes k (reset k who) n 1
-  goes-reset who = by_renewal k who n unmarked ((every_call_keeps k is).resetting who) (λ t. refl) (λ t. refl) (λ t. refl) (λ t h. (omega arith, h.1)) within
+  goes-end_wait : (who a : ℕ) (e : Option Errno) → Goes k (end_wait k who a e) n 1
+  goes-end_wait who a e = by_move k who n (answered a e) (move_keeps k (EndWait who a e) is tt) (λ t. refl) (λ t. refl) (λ t. refl) (λ t h. h) within
 
-  pub goes-suspend : (who : ℕ) → Goes k (suspend k who) n 0
-  goes-suspend who = by_change k who n suspended ((every_call_keeps k is).suspending who) (λ t. refl) (λ t. refl) (λ t. refl) (λ t h. h) within
-
-  pub goes-resume : (who : ℕ) → Goes k (resume k who) n 1
+  goes-resume : (who : ℕ) → Goes k (resume k who) n 1
   goes-resume who =
       elim (is_suspended (task_of k.tasks who)) as (λ b. IsKern (cond b (move_task k who resumed) k) → Goes k (cond b (move_task k who resumed) k) n 1) [
         | true ↦ λ j. by_move k who n resumed j (λ t. refl) (λ t. refl) (λ t. refl) (λ t h. h) within
         | false ↦ λ j. goes_further k k n n 0 1 (omega arith) (omega arith) (goes_nowhere k n is within)
-      ] ((every_call_keeps k is).resuming who)
+      ] (move_keeps k (Resume who) is tt)
 
-  pub goes-change_pri : (who pri : ℕ) → Goes k (change_pri k who pri) n 1
+  goes-change_pri : (who pri : ℕ) → Goes k (change_pri k who pri) n 1
   goes-change_pri who pri =
       elim (has_pri pri (task_of k.tasks who)) as (λ b. IsKern (cond b k (move_task k who (with_pri pri))) → Goes k (cond b k (move_task k who (with_pri pri))) n 1) [
         | true ↦ λ j. goes_further k k n n 0 1 (omega arith) (omega arith) (goes_nowhere k n is within)
         | false ↦ λ j. by_move k who n (with_pri pri) j (λ t. refl) (λ t. refl) (λ t. refl) (λ t h. h) within
-      ] ((every_call_keeps k is).changing_pri who pri)
-
-  pub goes-set_normal : (who pri : ℕ) → Goes k (set_normal k who pri) n 0
-  goes-set_normal who pri = by_change k who n (λ t. record t { normal = pri }) ((every_call_keeps k is).setting_normal who pri) (λ t. refl) (λ t. refl) (λ t. refl) (λ t h. h) within
-
-  pub goes-set_errno : (who e : ℕ) → Goes k (set_errno k who e) n 0
-  goes-set_errno who e = by_change k who n (λ t. record t { errno = e }) ((every_call_keeps k is).setting_errno who e) (λ t. refl) (λ t. refl) (λ t. refl) (λ t h. h) within
-
-  pub goes-set_locks : (who m : ℕ) → m ≤ n → Goes k (set_locks k who m) n 0
-  goes-set_locks who m few = by_change k who n (λ t. record t { locks = m }) ((every_call_keeps k is).setting_locks who m) (λ t. refl) (λ t. refl) (λ t. refl) (λ t h. (few, h.1)) within
-
-  pub goes-set_safe : (who m : ℕ) → m ≤ n → Goes k (set_safe k who m) n 0
-  goes-set_safe who m few = by_change k who n (λ t. record t { safe = m }) ((every_call_keeps k is).setting_safe who m) (λ t. refl) (λ t. refl) (λ t. refl) (λ t h. (h.0, few)) within
-
-  pub goes-set_held : (who m : ℕ) → Goes k (set_held k who m) n 0
-  goes-set_held who m = by_change k who n (λ t. record t { held = m }) ((every_call_keeps k is).setting_held who m) (λ t. refl) (λ t. refl) (λ t. refl) (λ t h. h) within
-
-  pub goes-set_int_locked : (who : ℕ) (on : Bool) → Goes k (set_int_locked k who on) n 0
-  goes-set_int_locked who on = by_change k who n (λ t. record t { int_locked = on }) ((every_call_keeps k is).setting_int_locked who on) (λ t. refl) (λ t. refl) (λ t. refl) (λ t h. h) within
-
-  pub goes-set_again : (who : ℕ) (on : Bool) → Goes k (set_again k who on) n 0
-  goes-set_again who on = by_change k who n (λ t. record t { again = on }) ((every_call_keeps k is).setting_again who on) (λ t. refl) (λ t. refl) (λ t. refl) (λ t h. h) within
-
-  pub goes-end_wait : (who a : ℕ) (e : Option Errno) → Goes k (end_wait k who a e) n 1
-  goes-end_wait who a e = by_move k who n (answered a e) ((every_call_keeps k is).answering who a e) (λ t. refl) (λ t. refl) (λ t. refl) (λ t h. h) within
-
-  pub goes-pend : (who : ℕ) (place : Place) (fifo : Bool) (m : ℕ) → 0 < m → Goes k (pend k who place fifo m) n 1
-  goes-pend who place fifo m some =
-      by_renewal k who n (pended place fifo (wake_at place.side k.tick m)) ((every_call_keeps k is).pending who place fifo m some) (λ t. refl) (λ t. refl) (λ t. refl) (λ t h. h) within
-
-  pub goes-leave_gate : (who : ℕ) → Goes k (leave_gate k who) n 0
-  goes-leave_gate who = by_change k who n past_gate ((every_call_keeps k is).leaving_gate who) (λ t. refl) (λ t. refl) (λ t. refl) (λ t h. h) within
-
-  pub goes-answer : (who value : ℕ) → Goes k (answer k who value) n 0
-  goes-answer who value = by_change k who n (with_answer value) ((every_call_keeps k is).giving_answer who value) (λ t. refl) (λ t. refl) (λ t. refl) (λ t h. h) within
-
-  pub goes-refuse : (who : ℕ) (e : Errno) → Goes k (refuse k who e) n 0
-  goes-refuse who e = by_change k who n (with_refusal e) ((every_call_keeps k is).refusing who e) (λ t. refl) (λ t. refl) (λ t. refl) (λ t h. h) within
+      ] (move_keeps k (ChangePri who pri) is tt)
 
   delayed_id : (m : ℕ) (t : Task) → (delayed k.tick m t).id ≡ t.id
   delayed_id m t = elim (eqb m 0) as (λ b. (cond b t (record t { wake = Some (k.tick + m); turns = 0 })).id ≡ t.id) [ true ↦ refl | false ↦ refl ]
@@ -212,11 +172,11 @@ module _ (k : KernState) (n : ℕ) (is : IsKern k) (within : CountsWithin n k) w
   delayed_counts : (m : ℕ) (t : Task) → HasCounts n t → HasCounts n (delayed k.tick m t)
   delayed_counts m t h = elim (eqb m 0) as (λ b. HasCounts n (cond b t (record t { wake = Some (k.tick + m); turns = 0 }))) [ true ↦ h | false ↦ h ]
 
-  pub goes-delay : (who m : ℕ) → Goes k (delay k who m) n 1
-  goes-delay who m = by_renewal k who n (delayed k.tick m) ((every_call_keeps k is).delaying who m) (delayed_id m) (delayed_stack m) (delayed_reserve m) (delayed_counts m) within
+  goes-delay : (who m : ℕ) → Goes k (delay k who m) n 1
+  goes-delay who m = by_renewal k who n (delayed k.tick m) (move_keeps k (Delay who m) is tt) (delayed_id m) (delayed_stack m) (delayed_reserve m) (delayed_counts m) within
 
 -- ---- several tasks are moved, one after the other
-pub goes-end_waits : (k : KernState) (n : ℕ) (ts : List Task) (a : ℕ) (e : Option Errno) → IsKern k → CountsWithin n k → Goes k (end_waits k ts a e) n (length ts)
+goes-end_waits : (k : KernState) (n : ℕ) (ts : List Task) (a : ℕ) (e : Option Errno) → IsKern k → CountsWithin n k → Goes k (end_waits k ts a e) n (length ts)
 goes-end_waits k n [] a e is within = goes_nowhere k n is within
 goes-end_waits k n (t ∷ ts) a e is within =
     let one = goes-end_wait k n is within t.id a e in
@@ -224,7 +184,7 @@ goes-end_waits k n (t ∷ ts) a e is within =
     goes_further k (end_waits j ts a e) n n (1 + length ts) (length (t ∷ ts)) (omega arith) (omega arith)
     (goes_on k j (end_waits j ts a e) n n 1 (length ts) one (goes-end_waits j n ts a e one.kern one.counts))
 
-pub goes-releases : (k : KernState) (n : ℕ) (ts : List Task) → IsKern k → CountsWithin n k → Goes k (releases k ts) n (length ts)
+goes-releases : (k : KernState) (n : ℕ) (ts : List Task) → IsKern k → CountsWithin n k → Goes k (releases k ts) n (length ts)
 goes-releases k n [] is within = goes_nowhere k n is within
 goes-releases k n (t ∷ ts) is within =
     let one = goes-release k n is within t.id in
@@ -232,7 +192,7 @@ goes-releases k n (t ∷ ts) is within =
     goes_further k (releases j ts) n n (1 + length ts) (length (t ∷ ts)) (omega arith) (omega arith)
     (goes_on k j (releases j ts) n n 1 (length ts) one (goes-releases j n ts one.kern one.counts))
 
-pub goes-repried : (k : KernState) (n : ℕ) (goal : ℕ → ℕ) (ts : List Task) → IsKern k → CountsWithin n k → Goes k (repried k goal ts) n (length ts)
+goes-repried : (k : KernState) (n : ℕ) (goal : ℕ → ℕ) (ts : List Task) → IsKern k → CountsWithin n k → Goes k (repried k goal ts) n (length ts)
 goes-repried k n goal [] is within = goes_nowhere k n is within
 goes-repried k n goal (t ∷ ts) is within =
     let one = goes-change_pri k n is within t.id (goal t.id) in
@@ -248,33 +208,104 @@ safe_within k who n within =
       | Some t ↦ λ e. (found_all (HasCounts n) k.tasks who t within e).1
     ] refl
 
-module _ (k : KernState) (n : ℕ) (is : IsKern k) (within : CountsWithin n k) where
-  pub goes-wake_all : (place : Place) (a : ℕ) (e : Option Errno) → Goes k (wake_all k place a e) n 256
-  goes-wake_all place a e =
-      let ts : List Task = waiters k.tasks place in
-      goes_further k (wake_all k place a e) n n (length ts) 256 (omega arith) (omega (arith, length-waiters k.tasks place, is.few)) (goes-end_waits k n ts a e is within)
+-- ---- the moves after which the same tasks live, with the same stacks and reservations
+-- such a move, if it keeps the counts of locks and safe sections within n
+abbrev pub KeepsWithin : ℕ → KernState → Move → Type 0
+KeepsWithin n k (Spawn new) = ⊥
+KeepsWithin n k (Remove who) = ⊥
+KeepsWithin n k (Pend who place fifo m) = 0 < m
+KeepsWithin n k Tick = ⊥
+KeepsWithin n k (SetLocks who m) = m ≤ n
+KeepsWithin n k (SetSafe who m) = m ≤ n
+KeepsWithin n k (SetRegs who regs) = ⊥
+KeepsWithin n k (Unreserve who) = ⊥
+KeepsWithin n k (SetLast last) = ⊥
+KeepsWithin n k (DrawIds next) = (k.next_id ≤ next) × (next ≤ 1048577)
+KeepsWithin n k (Lend on) = ⊥
+KeepsWithin n k m = Unit {0}
 
-  pub goes-release_all : (place : Place) → Goes k (release_all k place) n 256
-  goes-release_all place =
+-- the most order numbers that it gives out
+abbrev pub most_sinces : Move → ℕ
+most_sinces (Pend who place fifo m) = 1
+most_sinces (Delay who m) = 1
+most_sinces (Release who) = 1
+most_sinces (ReleaseAll place) = 256
+most_sinces (EndWait who value errno) = 1
+most_sinces (WakeAll place value errno) = 256
+most_sinces (Resume who) = 1
+most_sinces (ChangePri who pri) = 1
+most_sinces (Reset who) = 1
+most_sinces m = 0
+
+module _ (k : KernState) (n : ℕ) (is : IsKern k) (within : CountsWithin n k) where
+  -- what is beside the tasks is written, and ids are drawn
+  beside_tasks : (next slice : ℕ) → IsKern (record k { next_id = next; slice = slice }) → k.next_id ≤ next → Goes k (record k { next_id = next; slice = slice }) n 0
+  beside_tasks next slice is_next more = record {
+    kern = is_next;
+    alone = refl;
+    stacks = refl;
+    lent = refl;
+    last = refl;
+    reserves = refl;
+    counts = within;
+    sinces = omega arith;
+    next = more;
+    count = refl;
+  }
+
+  pub goes-move : (m : Move) → KeepsWithin n k m → Goes k (apply k m) n (most_sinces m)
+  goes-move (Spawn new) may = absurd may
+  goes-move (Remove who) may = absurd may
+  goes-move (Pend who place fifo m) may =
+      by_renewal k who n (pended place fifo (wake_at place.side k.tick m)) (move_keeps k (Pend who place fifo m) is may) (λ t. refl) (λ t. refl) (λ t. refl) (λ t h. h) within
+  goes-move (Delay who m) may = goes-delay k n is within who m
+  goes-move (Release who) may = goes-release k n is within who
+  goes-move (ReleaseAll place) may =
       let ts : List Task = waiters k.tasks place in
       goes_further k (release_all k place) n n (length ts) 256 (omega arith) (omega (arith, length-waiters k.tasks place, is.few)) (goes-releases k n ts is within)
+  goes-move (EndWait who value errno) may = goes-end_wait k n is within who value errno
+  goes-move (WakeAll place value errno) may =
+      let ts : List Task = waiters k.tasks place in
+      goes_further k (wake_all k place value errno) n n (length ts) 256 (omega arith) (omega (arith, length-waiters k.tasks place, is.few)) (goes-end_waits k n ts value errno is within)
+  goes-move Tick may = absurd may
+  goes-move (Suspend who) may = by_change k who n suspended (move_keeps k (Suspend who) is tt) (λ t. refl) (λ t. refl) (λ t. refl) (λ t h. h) within
+  goes-move (Resume who) may = goes-resume k n is within who
+  goes-move (ChangePri who pri) may = goes-change_pri k n is within who pri
+  goes-move (Reset who) may = by_renewal k who n unmarked (move_keeps k (Reset who) is tt) (λ t. refl) (λ t. refl) (λ t. refl) (λ t h. (omega arith, h.1)) within
+  goes-move (SetLocks who m) may = by_change k who n (λ t. record t { locks = m }) (move_keeps k (SetLocks who m) is tt) (λ t. refl) (λ t. refl) (λ t. refl) (λ t h. (may, h.1)) within
+  goes-move (SetNormal who pri) may = by_change k who n (λ t. record t { normal = pri }) (move_keeps k (SetNormal who pri) is tt) (λ t. refl) (λ t. refl) (λ t. refl) (λ t h. h) within
+  goes-move (SetSafe who m) may = by_change k who n (λ t. record t { safe = m }) (move_keeps k (SetSafe who m) is tt) (λ t. refl) (λ t. refl) (λ t. refl) (λ t h. (h.0, may)) within
+  goes-move (SetHeld who m) may = by_change k who n (λ t. record t { held = m }) (move_keeps k (SetHeld who m) is tt) (λ t. refl) (λ t. refl) (λ t. refl) (λ t h. h) within
+  goes-move (SetErrno who e) may = by_change k who n (λ t. record t { errno = e }) (move_keeps k (SetErrno who e) is tt) (λ t. refl) (λ t. refl) (λ t. refl) (λ t h. h) within
+  goes-move (SetIntLocked who on) may = by_change k who n (λ t. record t { int_locked = on }) (move_keeps k (SetIntLocked who on) is tt) (λ t. refl) (λ t. refl) (λ t. refl) (λ t h. h) within
+  goes-move (SetAgain who on) may = by_change k who n (λ t. record t { again = on }) (move_keeps k (SetAgain who on) is tt) (λ t. refl) (λ t. refl) (λ t. refl) (λ t h. h) within
+  goes-move (SetRegs who regs) may = absurd may
+  goes-move (Unreserve who) may = absurd may
+  goes-move (LeaveGate who) may = by_change k who n past_gate (move_keeps k (LeaveGate who) is tt) (λ t. refl) (λ t. refl) (λ t. refl) (λ t h. h) within
+  goes-move (Answer who value) may = by_change k who n (with_answer value) (move_keeps k (Answer who value) is tt) (λ t. refl) (λ t. refl) (λ t. refl) (λ t h. h) within
+  goes-move (Refuse who e) may = by_change k who n (with_refusal e) (move_keeps k (Refuse who e) is tt) (λ t. refl) (λ t. refl) (λ t. refl) (λ t h. h) within
+  goes-move (SetLast last) may = absurd may
+  goes-move (SetSlice m) may = beside_tasks k.next_id m (move_keeps k (SetSlice m) is tt) (omega arith)
+  goes-move (DrawIds next) may = beside_tasks next k.slice (move_keeps k (DrawIds next) is may) may.0
+  goes-move (Lend on) may = absurd may
 
+module _ (k : KernState) (n : ℕ) (is : IsKern k) (within : CountsWithin n k) where
   pub goes-raised : (ms : List (ℕ × Mutex)) → Goes k (raised_kern k ms) n 256
   goes-raised ms = goes_further k (raised_kern k ms) n n (length k.tasks) 256 (omega arith) is.few (goes-repried k n (lifted k ms) k.tasks is within)
 
   -- ---- safe sections
   pub goes-make_safe : (who : ℕ) → Goes k (make_safe k who) (n + 1) 0
   goes-make_safe who =
-      goes-set_safe k (n + 1) is (more_counts k n (n + 1) (omega arith) within) who (safe_of (task_of k.tasks who) + 1) (omega (arith, safe_within k who n within))
+      goes-move k (n + 1) is (more_counts k n (n + 1) (omega arith) within) (SetSafe who (safe_of (task_of k.tasks who) + 1)) (omega (arith, safe_within k who n within))
 
 module _ (k : KernState) (n : ℕ) (is : IsKern k) (within : CountsWithin n k) where
   pub goes-lessen : (who m : ℕ) → Goes k (lessen k who m) n 256
   goes-lessen who m =
       let count : ℕ = safe_of (task_of k.tasks who) in
       let less : KernState = set_safe k who (count - m) in
-      let one = goes-set_safe k n is within who (count - m) (omega (arith, safe_within k who n within)) in
+      let one = goes-move k n is within (SetSafe who (count - m)) (omega (arith, safe_within k who n within)) in
       elim (ltb 0 count && leb count m) as (λ b. Goes k (cond b (release_all less (deletion who)) less) n 256) [
-        | true ↦ goes_on k less (release_all less (deletion who)) n n 0 256 one (goes-release_all less n one.kern one.counts (deletion who))
+        | true ↦ goes_on k less (release_all less (deletion who)) n n 0 256 one (goes-move less n one.kern one.counts (ReleaseAll (deletion who)) tt)
         | false ↦ goes_further k less n n 0 256 (omega arith) (omega arith) one
       ]
 
@@ -314,24 +345,4 @@ abbrev pub drawn : KernState → KernState
 drawn k = record k { next_id = k.next_id + 1 }
 
 pub goes-draw : (k : KernState) (n : ℕ) → IsKern k → CountsWithin n k → k.next_id ≤ 1048576 → Goes k (drawn k) n 0
-goes-draw k n is within left = record {
-  kern = record {
-    few = is.few;
-    rising = is.rising;
-    ids = All-weaker (λ t. t.id < k.next_id) (λ t. t.id < k.next_id + 1) (λ t below. omega (arith, below)) k.tasks is.ids;
-    first_id = omega arith;
-    last_id = omega (arith, left);
-    distinct = is.distinct;
-    sinces = is.sinces;
-    ahead = is.ahead;
-  };
-  alone = refl;
-  stacks = refl;
-  lent = refl;
-  last = refl;
-  reserves = refl;
-  counts = within;
-  sinces = omega arith;
-  next = omega arith;
-  count = refl;
-}
+goes-draw k n is within left = goes-move k n is within (DrawIds (k.next_id + 1)) (omega arith, omega (arith, left))

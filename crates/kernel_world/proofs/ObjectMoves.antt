@@ -1,46 +1,40 @@
 -- What every move of the kernel keeps of the objects beside its tasks, which it doesn't write.
-use Rattle.std.proofs.Common.{◌≡◌, ℕ, ◌<◌, ◌≤◌, Bool, true, false, cond, eqb, map, Option, None, Some, IfSome, refl, sym, ap, ◌∙◌, subst, arith}
+use Rattle.std.proofs.Common.{◌≡◌, ℕ, ◌+◌, ◌<◌, Bool, true, false, cond, eqb, map, Option, None, Some, IfSome, refl, sym, ap, ◌∙◌, subst, arith}
 use Rattle.std.specs.List.{All}
 use Rattle.std.specs.Option.{option_map}
 use Rattle.std.proofs.lemmas.Bool.{eq-eqb}
 use Rattle.std.proofs.lemmas.List.Elements.{All-weaker, All-map}
-use Rattle.wind_base.specs.declared.errno.Errno.{Errno}
-use Rattle.wind_base.specs.declared.regs.Regs.{Regs}
-use Rattle.id_table.specs.Sides.{deletion_side, console_side}
+use Rattle.id_table.specs.Sides.{console_side}
 use Rattle.id_table.specs.declared.ident.Place.{Place}
 use Rattle.task_block.specs.declared.task.Task.{Task}
-use Rattle.task_block.specs.declared.task.NewTask.{NewTask}
 use Rattle.task_block.specs.Standing.{is_ready}
 use Rattle.wind_lists.proofs.Records.{found_id}
 use Rattle.wind_core.specs.State.{KernState, IsKern, Lives, task_id, task_of}
-use Rattle.wind_core.specs.Moves.{renewed, settled, change_task, move_found, spawn, spawn_refusal, remove, pend, delay, released, release, end_wait, wake_all, suspend, resume, reset, set_locks, set_errno, set_int_locked, set_again, set_regs, leave_gate, answer, refuse, unreserved, unreserve}
-use Rattle.wind_core.specs.Releases.{release_all}
-use Rattle.wind_core.specs.Tick.{tick}
-use Rattle.wind_core.proofs.Keeping.{every_call_keeps}
+use Rattle.wind_core.specs.Moves.{renewed, settled, change_task, move_found, pend, released, release, reset, unreserved}
+use Rattle.wind_core.specs.Move.{Move, Pend, Release, Reset, SetSafe, apply, IsAllowed}
+use Rattle.wind_core.proofs.Moving.{move_keeps}
 use Rattle.wind_core.proofs.Unwritten.{task_of-change}
-use Rattle.sem_plain.specs.State.{both as with_semaphores}
 use Rattle.sem_plain.specs.Kept.{BeginsOnly}
-use Rattle.sem_plain.specs.Laws.{nowhere, MayBegin}
+use Rattle.sem_plain.specs.Laws.{nowhere}
 use Rattle.sem_plain.proofs.Beginning.{IsOld, themselves, by_tasks}
 use Rattle.task_safety.specs.Safety.{safe_of, make_safe, lessen}
 use Rattle.task_safety.specs.Kept.{Deletes, KeepsDeleters}
 use Rattle.inheritance.specs.Mutexes.{both as with_mutexes}
-use Rattle.inheritance.specs.Reach.{mutex_at}
 use Rattle.sem_mutex.specs.Kept.{KeepsMutexes}
-use Rattle.sem_mutex.specs.Laws.{KeptBeside}
-use Rattle.sem_mutex.proofs.Lawful.{beside_law}
+use Rattle.sem_mutex.specs.Laws.{SparesMutexes}
+use Rattle.sem_mutex.proofs.Lawful.{beside_law, safety_law}
 use Rattle.sem_mutex.proofs.Following.{Comes, alike, comes_on, follows_keeps}
 use Rattle.sem_mutex.proofs.Following as mutexes
 use Rattle.sem_mutex.proofs.Handing.{lives_below}
-use Rattle.msg_queue.specs.Kept.{IsCalm, IsElsewhere}
-use Rattle.msg_queue.specs.Laws.{IsCalmBy}
+use Rattle.msg_queue.specs.Kept.{IsCalm}
+use Rattle.msg_queue.specs.Laws.{SparesQueues}
 use Rattle.msg_queue.proofs.Calm.{calms}
-use Rattle.kernel_world.specs.Objects.{is_live, WaitsRight, KeepsWaits, KeepsObjects, IsFree}
+use Rattle.kernel_world.specs.Objects.{WaitsRight, KeepsWaits, KeepsObjects, IsFree}
 use Rattle.kernel_world.specs.declared.objects.Objects.{Objects}
 use Rattle.kernel_world.proofs.Safes.{counted, deleters-map}
-use Rattle.kernel_world.proofs.Calming.{Spares, queues-calm, calm-make_safe, calm-lessen, calm-unreserve, calm-map}
+use Rattle.kernel_world.proofs.Calming.{Spares, queues-calm, calm-lessen, calm-map}
 use Rattle.kernel_world.proofs.Apart.{kern_kept}
-use Rattle.kernel_world.proofs.Waiting.{waits_calm, waits-spawn, waits-removed, waits-remove, waits-pend, waits-delay, waits-release, waits-release_all, waits-end_wait, waits-wake_all, waits-tick, waits-suspend, waits-resume, waits-reset, waits-set_locks, waits-set_errno, waits-set_int_locked, waits-set_again, waits-set_regs, waits-leave_gate, waits-answer, waits-refuse, waits-unreserve, waits-last, waits-slice, waits-lent, waits-draw, waits-make_safe, waits-lessen}
+use Rattle.kernel_world.proofs.Waiting.{SparesWaits, waits_calm, waits-move, waits-lessen}
 
 -- ---- a task that waits for nothing
 -- it still does after a change of any task that leaves waits as they are
@@ -70,6 +64,10 @@ free-release k who =
     ] refl
 
 -- ---- every move
+-- a move may be made, and spares waits, mutexes and queues
+abbrev pub SparesObjects : KernState → Objects → Move → Type 0
+SparesObjects k o m = IsAllowed k m × SparesWaits k o m × SparesMutexes (with_mutexes k o.mutexes) m × SparesQueues o.queues.queues k m
+
 module _ (k : KernState) (o : Objects) (is : IsKern k) (kept : KeepsObjects k o) where
   -- from what is kept of waits and of mutexes, where no wait at a queue begins
   pub by_kern : (j : KernState) → KeepsWaits j o → KeepsMutexes (with_mutexes j o.mutexes) → IsCalm o.queues.queues k j → KeepsObjects j o
@@ -83,117 +81,35 @@ module _ (k : KernState) (o : Objects) (is : IsKern k) (kept : KeepsObjects k o)
     queues_apart = kept.queues_apart;
   }
 
-  calm : IsCalmBy o.queues.queues k
-  calm = calms o.queues.queues k is
-
-  beside : KeptBeside (with_mutexes k o.mutexes)
-  beside = beside_law (with_mutexes k o.mutexes) kept.mutexes
-
-  -- ---- tasks come and go
-  pub objects-spawn : (n : NewTask) → spawn_refusal k ≡ None → KeepsObjects (spawn k n) o
-  objects-spawn n none = by_kern (spawn k n) (waits-spawn k o is kept.waits n) (beside.spawning n) (calm.spawning n none)
-
-  -- a task that nobody waits to delete
-  pub objects-removed : (who : ℕ) → KeepsDeleters (remove k who) → KeepsObjects (remove k who) o
-  objects-removed who goes = by_kern (remove k who) (waits-removed k o is kept.waits who goes) (beside.removing who) (calm.removing who)
-
-  pub objects-remove : (who : ℕ) → safe_of (task_of k.tasks who) ≡ 0 → KeepsObjects (remove k who) o
-  objects-remove who none = by_kern (remove k who) (waits-remove k o is kept.waits who none) (beside.removing who) (calm.removing who)
-
-  -- ---- waits
-  pub objects-pend : (who : ℕ) (place : Place) (fifo : Bool) (n : ℕ) → MayBegin (with_semaphores k o.semaphores) place → is_live o place ≡ true → (place.side ≡ deletion_side → ⊥) → (place.side ≡ console_side → who ≡ 1)
-      → mutex_at o.mutexes (Some place) ≡ None → 0 < n → IsElsewhere o.queues.queues k.next_id place → KeepsObjects (pend k who place fifo n) o
-  objects-pend who place fifo n may lives other console none some elsewhere =
-      by_kern (pend k who place fifo n) (waits-pend k o is kept.waits who place fifo n may lives other console) (beside.pending who place fifo n none may.made)
-      (calm.pending who place fifo n some elsewhere)
+  -- every move that spares them all
+  pub objects-move : (m : Move) → SparesObjects k o m → KeepsObjects (apply k m) o
+  objects-move m spares =
+      by_kern (apply k m) (waits-move k o is kept.waits m spares.1) (beside_law (with_mutexes k o.mutexes) m kept.mutexes spares.2) (calms o.queues.queues k m is spares.0 spares.3)
 
   -- the shell's task waits for a line of the console
   pub objects-listen : (fifo : Bool) (n : ℕ) → Lives k 1 → 0 < n → KeepsObjects (pend k 1 (record { side = console_side; id = 1 }) fifo n) o
   objects-listen fifo n lives some =
-      objects-pend 1 (record { side = console_side; id = 1 }) fifo n (record { empty = tt; made = lives_below k 1 is lives }) refl (λ q. absurd (omega (arith, q))) (λ q. refl) refl some
-      (λ side. absurd (omega (arith, side)))
-
-  pub objects-delay : (who n : ℕ) → KeepsObjects (delay k who n) o
-  objects-delay who n = by_kern (delay k who n) (waits-delay k o is kept.waits who n) (beside.delaying who n) (calm.delaying who n)
-
-  pub objects-release : (who : ℕ) → KeepsObjects (release k who) o
-  objects-release who = by_kern (release k who) (waits-release k o is kept.waits who) (beside.releasing who) (calm.releasing who)
-
-  pub objects-release_all : (place : Place) → KeepsObjects (release_all k place) o
-  objects-release_all place = by_kern (release_all k place) (waits-release_all k o is kept.waits place) (beside.releasing_all place) (calm.releasing_all place)
-
-  pub objects-end_wait : (who a : ℕ) (e : Option Errno) → KeepsObjects (end_wait k who a e) o
-  objects-end_wait who a e = by_kern (end_wait k who a e) (waits-end_wait k o is kept.waits who a e) (beside.ending_wait who a e) (calm.ending who a e)
-
-  pub objects-wake_all : (place : Place) (a : ℕ) (e : Option Errno) → KeepsObjects (wake_all k place a e) o
-  objects-wake_all place a e = by_kern (wake_all k place a e) (waits-wake_all k o is kept.waits place a e) (beside.waking place a e) (calm.waking place a e)
-
-  pub objects-tick : KeepsObjects (tick k) o
-  objects-tick = by_kern (tick k) (waits-tick k o is kept.waits) beside.ticking calm.ticking
-
-  -- ---- suspension
-  pub objects-suspend : (who : ℕ) → KeepsObjects (suspend k who) o
-  objects-suspend who = by_kern (suspend k who) (waits-suspend k o is kept.waits who) (beside.suspending who) (calm.suspending who)
-
-  pub objects-resume : (who : ℕ) → KeepsObjects (resume k who) o
-  objects-resume who = by_kern (resume k who) (waits-resume k o is kept.waits who) (beside.resuming who) (calm.resuming who)
-
-  pub objects-reset : (who : ℕ) → IsFree k who → KeepsObjects (reset k who) o
-  objects-reset who free = by_kern (reset k who) (waits-reset k o is kept.waits who free) (beside.resetting who) (calm.resetting who)
-
-  -- ---- one field
-  pub objects-set_locks : (who n : ℕ) → KeepsObjects (set_locks k who n) o
-  objects-set_locks who n = by_kern (set_locks k who n) (waits-set_locks k o is kept.waits who n) (beside.setting_locks who n) (calm.setting_locks who n)
-
-  pub objects-set_errno : (who n : ℕ) → KeepsObjects (set_errno k who n) o
-  objects-set_errno who n = by_kern (set_errno k who n) (waits-set_errno k o is kept.waits who n) (beside.setting_errno who n) (calm.setting_errno who n)
-
-  pub objects-set_int_locked : (who : ℕ) (on : Bool) → KeepsObjects (set_int_locked k who on) o
-  objects-set_int_locked who on = by_kern (set_int_locked k who on) (waits-set_int_locked k o is kept.waits who on) (beside.setting_int_locked who on) (calm.setting_int_locked who on)
-
-  pub objects-set_again : (who : ℕ) (on : Bool) → IsFree k who → KeepsObjects (set_again k who on) o
-  objects-set_again who on free = by_kern (set_again k who on) (waits-set_again k o is kept.waits who on free) (beside.setting_again who on) (calm.setting_again who on)
-
-  pub objects-set_regs : (who : ℕ) (regs : Regs) → IsFree k who → KeepsObjects (set_regs k who regs) o
-  objects-set_regs who regs free = by_kern (set_regs k who regs) (waits-set_regs k o is kept.waits who regs free) (beside.setting_regs who regs) (calm.setting_regs who regs)
-
-  -- ---- a call of the kernel
-  pub objects-leave_gate : (who : ℕ) → IsFree k who → KeepsObjects (leave_gate k who) o
-  objects-leave_gate who free = by_kern (leave_gate k who) (waits-leave_gate k o is kept.waits who free) (beside.leaving_gate who) (calm.leaving_gate who)
-
-  pub objects-answer : (who value : ℕ) → KeepsObjects (answer k who value) o
-  objects-answer who value = by_kern (answer k who value) (waits-answer k o is kept.waits who value) (beside.answering who value) (calm.giving_answer who value)
-
-  pub objects-refuse : (who : ℕ) (e : Errno) → KeepsObjects (refuse k who e) o
-  objects-refuse who e = by_kern (refuse k who e) (waits-refuse k o is kept.waits who e) (beside.refusing who e) (calm.refusing who e)
-
-  pub objects-unreserve : (who : ℕ) → KeepsObjects (unreserve k who) o
-  objects-unreserve who = by_kern (unreserve k who) (waits-unreserve k o is kept.waits who) (beside.unreserving who) (calm-unreserve o.queues.queues k who is)
+      let place : Place = record { side = console_side; id = 1 } in
+      let made : 1 < k.next_id = lives_below k 1 is lives in
+      objects-move (Pend 1 place fifo n) (
+        some,
+        record { may = record { empty = tt; made = made }; lives = refl; other = λ q. absurd (omega (arith, q)); console = λ q. refl },
+        (refl, made),
+        λ side. absurd (omega (arith, side)),
+      )
 
   -- ---- safe sections
   pub objects-make_safe : (who : ℕ) → KeepsObjects (make_safe k who) o
-  objects-make_safe who = by_kern (make_safe k who) (waits-make_safe k o is kept.waits who) (beside.guarding who) (calm-make_safe o.queues.queues k who is)
+  objects-make_safe who = objects-move (SetSafe who (safe_of (task_of k.tasks who) + 1)) (tt, λ some. omega arith, tt, tt)
 
   pub objects-lessen : (who n : ℕ) → KeepsObjects (lessen k who n) o
-  objects-lessen who n = by_kern (lessen k who n) (waits-lessen k o is kept.waits who n) (beside.lessening who n) (calm-lessen o.queues.queues k who n is)
-
-  -- ---- what is beside the tasks
-  pub objects-last : (last : Option ℕ) → KeepsObjects (record k { last = last }) o
-  objects-last last = by_kern (record k { last = last }) (waits-last k o is kept.waits last) (beside.noting_last last) (calm.noting_last last)
-
-  pub objects-slice : (n : ℕ) → KeepsObjects (record k { slice = n }) o
-  objects-slice n = by_kern (record k { slice = n }) (waits-slice k o is kept.waits n) (beside.slicing n) (calm.slicing n)
-
-  pub objects-lent : (on : Bool) → KeepsObjects (record k { lent = on }) o
-  objects-lent on = by_kern (record k { lent = on }) (waits-lent k o is kept.waits on) (beside.lending on) (calm.giving_ids k.next_id on (omega arith) is.last_id)
-
-  pub objects-draw : (n : ℕ) → k.next_id ≤ n → n ≤ 1048577 → KeepsObjects (record k { next_id = n }) o
-  objects-draw n more most = by_kern (record k { next_id = n }) (waits-draw k o is kept.waits n more) (beside.drawing n more) (calm.giving_ids n k.lent more most)
+  objects-lessen who n =
+      by_kern (lessen k who n) (waits-lessen k o is kept.waits who n) ((safety_law (with_mutexes k o.mutexes) kept.mutexes).lessening who n) (calm-lessen o.queues.queues k who n is)
 
 -- the wait of a task ends, and then its marks go
 pub objects-reset_released : (k : KernState) (o : Objects) → IsKern k → KeepsObjects k o → (who : ℕ) → KeepsObjects (reset (release k who) who) o
 objects-reset_released k o is kept who =
-    objects-reset (release k who) o ((every_call_keeps k is).releasing who) (objects-release k o is kept who) who (free-release k who)
+    objects-move (release k who) o (move_keeps k (Release who) is tt) (objects-move k o is kept (Release who) (tt, tt, tt, tt)) (Reset who) (tt, free-release k who, tt, tt)
 
 -- ---- reservations of many tasks go
 -- all but those of some tasks

@@ -20,7 +20,8 @@ use Rattle.mem_partition.proofs.Places.{gap_place}
 use Rattle.mem_partition.proofs.Allocs.{after_is}
 use Rattle.wind_core.specs.State.{IsKern}
 use Rattle.wind_core.specs.Moves.{new_task}
-use Rattle.wind_core.proofs.Keeping.{every_call_keeps}
+use Rattle.wind_core.specs.Move.{Spawn}
+use Rattle.wind_core.proofs.Moving.{move_keeps}
 use Rattle.id_table.specs.Rows.{IsId, object_of}
 use Rattle.sem_plain.specs.Kept.{IsCount, IsForEmpty, IsForMade}
 use Rattle.task_safety.specs.Kept.{Deletes, IsSafe}
@@ -28,7 +29,6 @@ use Rattle.inheritance.specs.Mutexes.{both as with_mutexes}
 use Rattle.sem_mutex.proofs.Opening.{opening_keeps}
 use Rattle.sem_mutex.proofs.Lawful.{beside_law}
 use Rattle.msg_queue.proofs.Events.{starts}
-use Rattle.kernel_world.specs.Allowed.{is_built}
 use Rattle.kernel_world.specs.Objects.{no_objects, is_live, WaitsRight, KeepsObjects}
 use Rattle.kernel_world.specs.Opening.{empty_kern, opening_kern, shell_record, interrupt_stack, opening_part, stack_block, symbol_if_named, symbols_of_gate, gate_symbols, zeros, opening_world}
 use Rattle.kernel_world.specs.Kept.{IsKernels, AreStacks, IsWorld}
@@ -98,7 +98,7 @@ named_few g None = omega arith
 named_few g (Some name) = omega arith
 
 gate_few : (g : Gate) → length (symbols_of_gate g) ≤ 1
-gate_few g = elim (is_built g) as (λ b. length (cond b (symbol_if_named g (gate_name (gate_number g))) []) ≤ 1) [ true ↦ named_few g (gate_name (gate_number g)) | false ↦ omega arith ]
+gate_few g = named_few g (gate_name (gate_number g))
 
 symbols_few-gates : (gs : List Gate) → length (gate_symbols gs) ≤ length gs
 symbols_few-gates [] = omega arith
@@ -147,9 +147,9 @@ opening_objects = record {
     live = of_one (λ t. IfSome t.wait (λ p. is_live no_objects p ≡ true)) tt;
     right = of_one WaitsRight (record { console = tt; repeats = tt });
   };
-  mutexes = (beside_law (with_mutexes empty_kern []) (opening_keeps (with_mutexes empty_kern []) refl refl)).spawning shell_record;
+  mutexes = beside_law (with_mutexes empty_kern []) (Spawn shell_record) (opening_keeps (with_mutexes empty_kern []) refl refl) tt;
   table = record { few = omega arith; rising = λ i j d lt within. absurd (omega arith); ranged = none_yet (λ r. IsId r.0) };
-  queues = λ ram size. starts opening_kern ram ((every_call_keeps empty_kern empty_keeps).spawning shell_record refl) (of_one (λ t. t.wait ≡ None) refl);
+  queues = λ ram size. starts opening_kern ram (move_keeps empty_kern (Spawn shell_record) empty_keeps refl) (of_one (λ t. t.wait ≡ None) refl);
   queues_ranged = none_yet (λ r. 0 < r.0);
   apart = none_yet (λ r. object_of [] r.0 ≡ None);
   queues_apart = none_yet (λ r. (object_of [] r.0 ≡ None) × (object_of [] r.0 ≡ None));
@@ -158,7 +158,7 @@ opening_objects = record {
 pub opens : (slots : List (Option DeviceState)) → IsWorld (opening_world slots)
 unfolding opening_world
 opens slots = record {
-  kern = (every_call_keeps empty_kern empty_keeps).spawning shell_record refl;
+  kern = move_keeps empty_kern (Spawn shell_record) empty_keeps refl;
   home = refl;
   objects = opening_objects;
   pool = record {

@@ -6,6 +6,7 @@ use Rattle.wind_base.specs.declared.gate.Gate.{Gate}
 use Rattle.task_block.specs.Standing.{is_ready}
 use Rattle.wind_core.specs.State.{task_of}
 use Rattle.wind_core.specs.Moves.{past_gate}
+use Rattle.wind_core.specs.Move as moves
 use Rattle.wind_core.proofs.Unwritten.{task_of-change}
 use Rattle.task_safety.specs.Safety.{safe_of}
 use Rattle.kernel_world.specs.State.{WorldState}
@@ -17,8 +18,8 @@ use Rattle.kernel_world.specs.declared.actor.Actor.{Actor}
 use Rattle.kernel_world.specs.declared.actor.Actor.TheVariants.{Task, Interrupt}
 use Rattle.kernel_world.specs.declared.reply.Reply.{Reply}
 use Rattle.kernel_world.specs.declared.reply.Reply.TheVariants.{Answer, Refusal, Later, Gone}
-use Rattle.kernel_world.proofs.Goes.{goes-leave_gate, goes-answer}
-use Rattle.kernel_world.proofs.ObjectMoves.{objects-leave_gate, objects-answer}
+use Rattle.kernel_world.proofs.Goes.{goes-move}
+use Rattle.kernel_world.proofs.ObjectMoves.{objects-move}
 use Rattle.kernel_world.proofs.Advancing.{Advances, advances_on, at_routine, stays, by_kern, errno_advances}
 use Rattle.kernel_world.proofs.Living.{ready_free}
 
@@ -44,11 +45,11 @@ may_left w Interrupt may = may
 
 module _ (w : WorldState) (kept : IsWorld w) (n : ℕ) (within : Within n w) where
   pub left_advances : (a : Actor) → MayCall w.kern a → Advances w (left_gate w a) n 0 0
-  left_advances (Task who) may = by_kern w kept _ n 0 (goes-leave_gate w.kern n kept.kern within.0 who) (objects-leave_gate w.kern w.objects kept.kern kept.objects who (ready_free w.kern who may)) within.1
+  left_advances (Task who) may = by_kern w kept _ n 0 (goes-move w.kern n kept.kern within.0 (moves.LeaveGate who) tt) (objects-move w.kern w.objects kept.kern kept.objects (moves.LeaveGate who) (tt, ready_free w.kern who may, tt, tt)) within.1
   left_advances Interrupt may = at_routine w kept n within level_past
 
   answer_advances : (a : Actor) (value : ℕ) → Advances w (with_answer w a value) n 0 0
-  answer_advances (Task who) value = by_kern w kept _ n 0 (goes-answer w.kern n kept.kern within.0 who value) (objects-answer w.kern w.objects kept.kern kept.objects who value) within.1
+  answer_advances (Task who) value = by_kern w kept _ n 0 (goes-move w.kern n kept.kern within.0 (moves.Answer who value) tt) (objects-move w.kern w.objects kept.kern kept.objects (moves.Answer who value) (tt, tt, tt, tt)) within.1
   answer_advances Interrupt value = at_routine w kept n within (in_r3 value)
 
 pub replied_advances : (w : WorldState) → IsWorld w → (n : ℕ) → Within n w → (g : Gate) (a : Actor) (r : Reply) → Advances w (replied g w a r) n 0 0

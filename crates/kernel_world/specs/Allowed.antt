@@ -1,114 +1,99 @@
 -- What each gate's call allows.
-use Rattle.std.specs.Prelude.{ℕ, Bool, true, false, if◌then◌else◌}
+use Rattle.std.specs.Prelude.{ℕ, Bool, true, false}
 use Rattle.wind_base.specs.Limits.{error_word, ok_word}
 use Rattle.wind_base.specs.declared.gate.Gate.{Gate}
 use Rattle.wind_base.specs.declared.gate.Gate.TheVariants as gates
+use Rattle.kernel_world.specs.declared.gates.Callers.{Callers}
+use Rattle.kernel_world.specs.declared.gates.Callers.TheVariants.{Tasks, All, Shell}
+use Rattle.kernel_world.specs.declared.gates.GateRules.{GateRules}
 
--- the gates whose calls are built
-abbrev pub is_built : Gate → Bool
-is_built gates.TaskSpawn = true
-is_built gates.Sp = true
-is_built gates.TaskDelete = true
-is_built gates.TaskSuspend = true
-is_built gates.TaskResume = true
-is_built gates.TaskPrioritySet = true
-is_built gates.TaskPriorityGet = true
-is_built gates.TaskDelay = true
-is_built gates.TaskLock = true
-is_built gates.TaskUnlock = true
-is_built gates.TaskSafe = true
-is_built gates.TaskUnsafe = true
-is_built gates.TaskIdSelf = true
-is_built gates.TaskIdVerify = true
-is_built gates.TaskNameToId = true
-is_built gates.KernelTimeSlice = true
-is_built gates.TickGet = true
-is_built gates.SemBCreate = true
-is_built gates.SemCCreate = true
-is_built gates.SemMCreate = true
-is_built gates.SemTake = true
-is_built gates.SemGive = true
-is_built gates.SemFlush = true
-is_built gates.SemDelete = true
-is_built gates.MsgQCreate = true
-is_built gates.MsgQSend = true
-is_built gates.MsgQReceive = true
-is_built gates.MsgQDelete = true
-is_built gates.MsgQNumMsgs = true
-is_built gates.WdCreate = true
-is_built gates.WdStart = true
-is_built gates.WdCancel = true
-is_built gates.WdDelete = true
-is_built gates.IntLock = true
-is_built gates.IntUnlock = true
-is_built gates.IntContext = true
-is_built gates.Malloc = true
-is_built gates.Free = true
-is_built gates.Memalign = true
-is_built gates.SymAdd = true
-is_built gates.Printf = true
-is_built gates.ErrnoGet = true
-is_built gates.ErrnoSet = true
-is_built gates.Ld = true
-is_built gates.Unld = true
-is_built gates.I = true
-is_built gates.Lkup = true
-is_built gates.ModuleShow = true
-is_built gates.D = true
-is_built g = false
+-- every gate is that of a call, but for those of the three returns
+abbrev pub is_call : Gate → Bool
+is_call gates.TaskReturn = false
+is_call gates.ShellReturn = false
+is_call gates.InterruptReturn = false
+is_call g = true
 
--- the calls that an interrupt routine may make
+-- who may make the call; what it answers if it is refused, 0 for an object or an address and else ERROR; whether host memory may run out in it
+abbrev rule : Callers → ℕ → Bool → GateRules
+rule callers refusal memory = record { callers = callers; refusal = refusal; memory = memory }
+
+-- the rules of each gate, in the order of their numbers; those of a return have no use
+abbrev pub rules_of : Gate → GateRules
+rules_of gates.TaskReturn = rule Tasks error_word false
+rules_of gates.ShellReturn = rule Tasks error_word false
+rules_of gates.InterruptReturn = rule Tasks error_word false
+rules_of gates.TaskSpawn = rule Tasks error_word false
+rules_of gates.Sp = rule Tasks error_word false
+rules_of gates.TaskDelete = rule Tasks error_word false
+rules_of gates.TaskSuspend = rule All error_word false
+rules_of gates.TaskResume = rule All error_word false
+rules_of gates.TaskPrioritySet = rule All error_word false
+rules_of gates.TaskPriorityGet = rule All error_word false
+rules_of gates.TaskDelay = rule Tasks error_word false
+rules_of gates.TaskLock = rule Tasks error_word false
+rules_of gates.TaskUnlock = rule Tasks error_word false
+rules_of gates.TaskSafe = rule Tasks error_word false
+rules_of gates.TaskUnsafe = rule Tasks error_word false
+rules_of gates.TaskIdSelf = rule Tasks error_word false
+rules_of gates.TaskIdVerify = rule All error_word false
+rules_of gates.TaskNameToId = rule Tasks error_word false
+rules_of gates.KernelTimeSlice = rule Tasks error_word false
+rules_of gates.TickGet = rule All error_word false
+rules_of gates.SemBCreate = rule Tasks ok_word false
+rules_of gates.SemCCreate = rule Tasks ok_word false
+rules_of gates.SemMCreate = rule Tasks ok_word false
+rules_of gates.SemTake = rule Tasks error_word false
+rules_of gates.SemGive = rule All error_word false
+rules_of gates.SemFlush = rule All error_word false
+rules_of gates.SemDelete = rule Tasks error_word false
+rules_of gates.MsgQCreate = rule Tasks ok_word true
+rules_of gates.MsgQSend = rule All error_word false
+rules_of gates.MsgQReceive = rule Tasks error_word false
+rules_of gates.MsgQDelete = rule Tasks error_word false
+rules_of gates.MsgQNumMsgs = rule All error_word false
+rules_of gates.WdCreate = rule Tasks ok_word false
+rules_of gates.WdStart = rule All error_word false
+rules_of gates.WdCancel = rule All error_word false
+rules_of gates.WdDelete = rule Tasks error_word false
+rules_of gates.IntLock = rule All error_word false
+rules_of gates.IntUnlock = rule All error_word false
+rules_of gates.IntContext = rule All error_word false
+rules_of gates.Malloc = rule Tasks ok_word false
+rules_of gates.Free = rule Tasks error_word false
+rules_of gates.Memalign = rule Tasks ok_word false
+rules_of gates.SymAdd = rule Tasks error_word true
+rules_of gates.Printf = rule Tasks error_word false
+rules_of gates.ErrnoGet = rule All error_word false
+rules_of gates.ErrnoSet = rule All error_word false
+rules_of gates.Ld = rule Shell error_word true
+rules_of gates.Unld = rule Shell error_word false
+rules_of gates.I = rule Shell error_word true
+rules_of gates.Lkup = rule Shell error_word true
+rules_of gates.ModuleShow = rule Shell error_word true
+rules_of gates.D = rule Shell error_word true
+
+-- ---- each rule by itself
+abbrev is_all : Callers → Bool
+is_all All = true
+is_all c = false
+
+abbrev is_shell_alone : Callers → Bool
+is_shell_alone Shell = true
+is_shell_alone c = false
+
+-- an interrupt routine may make the call
 abbrev pub is_isr_callable : Gate → Bool
-is_isr_callable gates.TaskSuspend = true
-is_isr_callable gates.TaskResume = true
-is_isr_callable gates.TaskPrioritySet = true
-is_isr_callable gates.TaskPriorityGet = true
-is_isr_callable gates.TaskIdVerify = true
-is_isr_callable gates.TickGet = true
-is_isr_callable gates.SemGive = true
-is_isr_callable gates.SemFlush = true
-is_isr_callable gates.MsgQSend = true
-is_isr_callable gates.MsgQNumMsgs = true
-is_isr_callable gates.WdStart = true
-is_isr_callable gates.WdCancel = true
-is_isr_callable gates.IntLock = true
-is_isr_callable gates.IntUnlock = true
-is_isr_callable gates.IntContext = true
-is_isr_callable gates.ErrnoGet = true
-is_isr_callable gates.ErrnoSet = true
-is_isr_callable g = false
+is_isr_callable g = is_all (rules_of g).callers
 
--- the calls that the shell's task alone may make
+-- the shell's task alone may make it
 abbrev pub is_shells_own : Gate → Bool
-is_shells_own gates.Ld = true
-is_shells_own gates.Unld = true
-is_shells_own gates.I = true
-is_shells_own gates.Lkup = true
-is_shells_own gates.ModuleShow = true
-is_shells_own gates.D = true
-is_shells_own g = false
+is_shells_own g = is_shell_alone (rules_of g).callers
 
--- the calls that answer 0 where they are refused, as they answer an object or an address; the others answer ERROR
-abbrev pub makes_object : Gate → Bool
-makes_object gates.SemBCreate = true
-makes_object gates.SemCCreate = true
-makes_object gates.SemMCreate = true
-makes_object gates.MsgQCreate = true
-makes_object gates.WdCreate = true
-makes_object gates.Malloc = true
-makes_object gates.Memalign = true
-makes_object g = false
-
+-- what it answers if it is refused
 abbrev pub refusal_word : Gate → ℕ
-refusal_word g = if makes_object g then ok_word else error_word
+refusal_word g = (rules_of g).refusal
 
--- the calls that may lack host memory
+-- host memory may run out in it
 abbrev pub may_lack_memory : Gate → Bool
-may_lack_memory gates.SymAdd = true
-may_lack_memory gates.MsgQCreate = true
-may_lack_memory gates.Ld = true
-may_lack_memory gates.I = true
-may_lack_memory gates.Lkup = true
-may_lack_memory gates.ModuleShow = true
-may_lack_memory gates.D = true
-may_lack_memory g = false
+may_lack_memory g = (rules_of g).memory

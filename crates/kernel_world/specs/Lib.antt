@@ -2,6 +2,7 @@ pub mod Objects
 pub mod State
 pub mod Starting
 pub mod Actors
+pub mod CallWords
 pub mod Allowed
 pub mod Replies
 pub mod Opening

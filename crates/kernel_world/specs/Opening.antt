@@ -16,7 +16,6 @@ use Rattle.wind_core.specs.Moves.{spawn}
 use Rattle.kernel_world.specs.Objects.{no_objects}
 use Rattle.kernel_world.specs.State.{WorldState}
 use Rattle.kernel_world.specs.Starting.{no_regs}
-use Rattle.kernel_world.specs.Allowed.{is_built}
 
 -- the shell's task: its stack begins where the pool does
 abbrev pub shell_record : NewTask
@@ -44,7 +43,7 @@ opening_part = record {
   blocks = stack_block pool_start shell_stack_bytes ∷ stack_block interrupt_stack interrupt_stack_bytes ∷ [];
 }
 
--- the symbol of a call that is built: a global one, whose value is its gate's address
+-- the symbol of a call: a global one, whose value is its gate's address
 abbrev pub gate_symbol : Gate → List ℕ → Symbol
 gate_symbol g name = record { name = name; value = gate_address gates_start g; kind = TextSym; global = true; group = 0 }
 
@@ -53,9 +52,9 @@ symbol_if_named g None = []
 symbol_if_named g (Some name) = gate_symbol g name ∷ []
 
 abbrev pub symbols_of_gate : Gate → List Symbol
-symbols_of_gate g = if is_built g then symbol_if_named g (gate_name (gate_number g)) else []
+symbols_of_gate g = symbol_if_named g (gate_name (gate_number g))
 
--- the symbols of the calls that are built, in the order of their gates
+-- the symbols of the calls, in the order of their gates
 abbrev pub gate_symbols : List Gate → List Symbol
 gate_symbols [] = []
 gate_symbols (g ∷ gs) = symbols_of_gate g ++ gate_symbols gs

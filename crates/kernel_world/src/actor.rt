@@ -31,7 +31,7 @@ pub fn is_shell(who: &Actor) -> bool
 }
 
 // Its registers.
-fn regs<'a>(kern: &'a Kern, watch: &'a Watch, who: &Actor) -> Option<&'a Regs>
+pub(crate) fn regs<'a>(kern: &'a Kern, watch: &'a Watch, who: &Actor) -> Option<&'a Regs>
     ensures { option_copied result ≡ regs_of kern.now watch.now.level who.now }
 {
     match who {

@@ -8,7 +8,6 @@ ghost use Rattle.kernel_world.specs.Objects.{no_objects};
 ghost use Rattle.kernel_world.specs.Opening.{shell_record as shell_record_lem, opening_kern as opening_kern_lem, opening_part as opening_part_lem, no_watch, symbols_of_gate, gate_symbols as gate_symbols_lem, zeros, opening_world};
 ghost use Rattle.kernel_world.specs.Seen.{world_seen};
 
-use crate::gates::is_built;
 use crate::objects::{self, Objects};
 use crate::starting::no_regs;
 use crate::world::World;
@@ -79,15 +78,12 @@ fn opening_part(alloc: Global) -> Result<Part, NoMemory>
     Ok(part)
 }
 
-// Adds the symbol of a gate, where its call is built.
+// Adds the symbol of a gate, if it has a name.
 fn add_gate(alloc: Global, syms: &mut Symbols, gate: Gate) -> Result<(), NoMemory>
     requires { 0 < syms.old.spare }
     ensures ok { OnOk result (syms.new.list ≡ syms.old.list ++ symbols_of_gate gate) }
     ensures spare { OnOk result (syms.old.spare ≤ syms.new.spare + 1) }
 {
-    if !is_built(gate) {
-        return Ok(());
-    }
     let Some(name) = gate_name(gate.number()) else {
         return Ok(());
     };
@@ -112,7 +108,7 @@ fn cleared_ram(alloc: Global, bytes: u32) -> Result<Ram, NoMemory>
     Ram::new(alloc, bytes)
 }
 
-// The symbols of the calls that are built.
+// The symbols of the calls.
 fn gate_symbols(alloc: Global) -> Result<Symbols, NoMemory>
     ensures { IfOk result (λ t. t.list ≡ gate_symbols_lem gates) }
 {

@@ -4,6 +4,7 @@
 mod actor;
 mod answering;
 mod boot;
+mod call;
 mod gates;
 mod leaving;
 mod objects;
@@ -13,7 +14,8 @@ mod world;
 
 pub use actor::{Actor, caller_regs, is_shell, stack_word, target};
 pub use answering::{errno_of, reply_to, set_errno};
-pub use gates::{is_built, is_isr_callable, is_shells_own, may_lack_memory};
+pub use call::{Call, read_call};
+pub use gates::{Callers, GateRules, is_call, is_isr_callable, is_shells_own, may_lack_memory};
 pub use leaving::leave_gate;
 pub use objects::Objects;
 pub use reply::{DONE, Reply};

@@ -142,12 +142,13 @@ impl<T> IdLists<T> {
         Some(&self.lists.value(key).value)
     }
 
-    /// The id after an id in its list. None at the list's end, and where the id is in no list.
+    /// The id after an id in its list. None at the list's end, and if the id is in no list.
     pub fn next(&self, who: Ident) -> Option<Ident>
-        ensures { NextIs self.now.chains who result }
+        ensures after { NextIs self.now.chains who result }
+        ensures absent { value_of self.now.chains who ≡ None → result ≡ None }
     {
-        let at = place_of(&self.index, who)?;
-        let next = self.lists.next(self.index[at].key)?;
+        let place = place_of(&self.index, who)?;
+        let next = self.lists.next(self.index[place].key)?;
         Some(self.lists.value(next).who)
     }
 

@@ -29,6 +29,7 @@ use Rattle.module_loader.proofs.Holds.{load_keeps, held_by-loaded, none_before}
 use Rattle.task_block.specs.declared.task.Task.{Task}
 use Rattle.wind_core.specs.State.{KernState, Lives}
 use Rattle.wind_core.specs.Moves.{answer, change_task}
+use Rattle.wind_core.specs.Move.{Answer, DrawIds}
 use Rattle.wind_core.proofs.Ids.{lives_by, ids-change}
 use Rattle.kernel_world.specs.State.{WorldState}
 use Rattle.kernel_world.specs.Actors.{MayCall, shell_id, caller_words}
@@ -36,8 +37,8 @@ use Rattle.kernel_world.specs.Replies.{left_gate, with_answer, with_errno}
 use Rattle.kernel_world.specs.Kept.{KeepsPool, AreStacks, KeepsLoaded, task_stacks, IsWorld, Within, call_sinces}
 use Rattle.kernel_world.specs.Opening.{interrupt_stack}
 use Rattle.kernel_world.proofs.Advancing.{Advances, advances_on, advances_more, beside, by_kern, errno_advances}
-use Rattle.kernel_world.proofs.Goes.{drawn, goes-draw, goes-answer}
-use Rattle.kernel_world.proofs.ObjectMoves.{objects-draw, objects-answer}
+use Rattle.kernel_world.proofs.Goes.{drawn, goes-draw, goes-move}
+use Rattle.kernel_world.proofs.ObjectMoves.{objects-move}
 use Rattle.kernel_world.proofs.Stacks.{pool-alloc, stacks-alloc}
 use Rattle.kernel_world.proofs.Replying.{left_advances}
 use Rattle.kernel_calls.proofs.Serves.{passes_by}
@@ -107,7 +108,7 @@ module _ (w : WorldState) (kept : IsWorld w) (name : List ℕ) (m : Module) (mod
   pub loaded_advances : (n : ℕ) → Within n w → Advances w (with_loader w (loaded (loader_state w) name m mode at)) n 0 0
   unfolding loaded after
   loaded_advances n within =
-      let g = by_kern w kept (drawn w.kern) n 0 (goes-draw w.kern n kept.kern within.0 counts.left) (objects-draw w.kern w.objects kept.kern kept.objects (w.kern.next_id + 1) (omega arith) (omega (arith, counts.left))) within.1 in
+      let g = by_kern w kept (drawn w.kern) n 0 (goes-draw w.kern n kept.kern within.0 counts.left) (objects-move w.kern w.objects kept.kern kept.objects (DrawIds (w.kern.next_id + 1)) ((omega arith, omega (arith, counts.left)), omega arith, omega arith, tt)) within.1 in
       record {
         kept = record {
           kern = g.kept.kern;
@@ -135,7 +136,7 @@ writing_advances : (w : WorldState) → IsWorld w → (n : ℕ) → Within n w �
 writing_advances w kept n within text = beside w kept n within w.slots (w.output ++ text) w.int_errno
 
 answer_advances : (w : WorldState) → IsWorld w → (n : ℕ) → Within n w → (value : ℕ) → Advances w (with_answer w shell value) n 0 0
-answer_advances w kept n within value = by_kern w kept (answer w.kern shell_id value) n 0 (goes-answer w.kern n kept.kern within.0 shell_id value) (objects-answer w.kern w.objects kept.kern kept.objects shell_id value) within.1
+answer_advances w kept n within value = by_kern w kept (answer w.kern shell_id value) n 0 (goes-move w.kern n kept.kern within.0 (Answer shell_id value) tt) (objects-move w.kern w.objects kept.kern kept.objects (Answer shell_id value) (tt, tt, tt, tt)) within.1
 
 refused_advances : (w : WorldState) → IsWorld w → (n : ℕ) → Within n w → (name words : List ℕ) → Advances w (refused w name words) n 0 0
 refused_advances w kept n within name words =

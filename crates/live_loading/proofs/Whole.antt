@@ -1,18 +1,18 @@
 -- The world that a load leaves, by what its steps have answered.
-use Rattle.std.proofs.Common.{◌≡◌, ◌≢◌, ℕ, List, Result, Ok, Err, refl, sym, ap, ◌∙◌, subst, inl, inr}
+use Rattle.std.proofs.Common.{◌≡◌, ◌≢◌, ℕ, List, Result, Ok, Err, refl, sym, ap, ◌∙◌, subst}
 use Rattle.std.specs.Prelude.{slice_index, OnOk}
 use Rattle.wind_base.specs.declared.regs.Regs.{Regs}
+use Rattle.mem_partition.specs.State.{PartState}
+use Rattle.symbol_table.specs.declared.symbol.Symbol.{Symbol}
+use Rattle.wind_core.specs.State.{KernState}
 use Rattle.elf_read.specs.declared.module.Module.{Module}
-use Rattle.elf_read.specs.declared.error.ElfErr.{ElfErr}
-use Rattle.elf_read.specs.declared.error.ElfErr.TheVariants as elf
-use Rattle.elf_read.specs.Contents.{ModuleOf, module_at, FailsRightly}
-use Rattle.elf_read.specs.Rules.{checked}
+use Rattle.elf_read.specs.Contents.{ModuleOf, module_at}
 use Rattle.module_image.specs.declared.segments.Places.{Places}
 use Rattle.module_loader.specs.declared.module.LoadErr.{LoadErr}
 use Rattle.module_loader.specs.declared.module.LoadErr.TheVariants as refusal
 use Rattle.module_loader.specs.declared.module.Loaded.{Loaded}
 use Rattle.module_loader.specs.Loading.{LoaderState, count_refusal, verdict, file_verdict, loaded, told, IsLoaded, IsVerdict}
-use Rattle.module_loader.proofs.Files.{read_verdict, file_refused}
+use Rattle.module_loader.proofs.Files.{read_verdict}
 use Rattle.kernel_world.specs.State.{WorldState}
 use Rattle.kernel_world.specs.Actors.{shell_id, caller_regs, caller_words}
 use Rattle.kernel_world.specs.Replies.{left_gate, with_answer}
@@ -89,15 +89,37 @@ read_world (Ok u) w x name file m regs id at same holds ok =
     ∙ ap (λ (n : Module). by_verdict (left_gate w shell) name mode n (verdict (loader_state w) m mode)) holds.holds
     ∙ ap (by_verdict (left_gate w shell) name mode (module_at file)) (sym (read_verdict (loader_state w) file m mode holds) ∙ left_file w file mode)
 
--- the refusal of a file
-refused_by : (file : List ℕ) (e : ElfErr) → e ≢ elf.NoMemory → FailsRightly file e → checked file ≡ Err e
-refused_by file e some (inl none) = absurd (some none)
-refused_by file e some (inr h) = h
+-- ---- a file whose outline was read
+-- the world with these parts
+abbrev pub with_parts : WorldState → KernState → List Symbol → PartState → WorldState
+with_parts w kern symbols part = record w { kern = kern; symbols = symbols; part = part }
 
-pub unread_world : (w x : WorldState) (name file : List ℕ) (e : ElfErr) → e ≢ elf.NoMemory → FailsRightly file e
-    → x ≡ refused (left_gate w shell) name (cause_text (causes.Refused (refusal.Elf e))) → x ≡ load_call w name (Held file)
+parts_stay : (w : WorldState) (kern : KernState) (symbols : List Symbol) (part : PartState) → kern ≡ w.kern → symbols ≡ w.symbols → part ≡ w.part → with_parts w kern symbols part ≡ w
+parts_stay w kern symbols part a b c =
+    ap (λ (k : KernState). with_parts w k symbols part) a ∙ ap (λ s. with_parts w w.kern s part) b ∙ ap (λ (p : PartState). with_parts w w.kern w.symbols p) c
+
+-- it is loaded
+pub outlined_world : {E : Type 0} (r : Result Unit E) (w x : WorldState) (kern : KernState) (symbols : List Symbol) (part : PartState) (name file : List ℕ) (regs : Regs) (id : ℕ)
+    → regs ≡ caller_regs w.kern w.watch.level (Task id) → id ≡ shell_id → kern ≡ w.kern → symbols ≡ w.symbols → part ≡ w.part → ModuleOf file (module_at file)
+    → OnOk r (x ≡ by_verdict (left_gate (with_parts w kern symbols part) shell) name (slice_index regs.gpr 3) (module_at file)
+    (verdict (loader_state (with_parts w kern symbols part)) (module_at file) (slice_index regs.gpr 3)))
+    → OnOk r (x ≡ load_call w name (Held file))
+outlined_world r w x kern symbols part name file regs id at same a b c holds ok =
+    let mode = slice_index regs.gpr 3 in
+    let m = module_at file in
+    read_world r w x name file m regs id at same holds
+    (subst (λ (v : WorldState). OnOk r (x ≡ by_verdict (left_gate v shell) name mode m (verdict (loader_state v) m mode))) (parts_stay w kern symbols part a b c) ok)
+
+-- or refused
+pub outline_refused : (w x : WorldState) (kern : KernState) (symbols : List Symbol) (part : PartState) (name file : List ℕ) (e : LoadErr) (regs : Regs) (id : ℕ)
+    → regs ≡ caller_regs w.kern w.watch.level (Task id) → id ≡ shell_id → kern ≡ w.kern → symbols ≡ w.symbols → part ≡ w.part
+    → e ≢ refusal.NoMemory → IsVerdict (file_verdict (loader_state w) file (slice_index regs.gpr 3)) e
+    → x ≡ refused (left_gate (with_parts w kern symbols part) shell) name (cause_text (causes.Refused e)) → x ≡ load_call w name (Held file)
 unfolding load_call
-unread_world w x name file e some fails is =
+outline_refused w x kern symbols part name file e regs id at same a b c some h is =
     let mode : ℕ = slice_index (caller_words w shell) 3 in
+    let verdict : file_verdict (loader_state w) file mode ≡ Err e =
+    ap (file_verdict (loader_state w) file) (sym (mode_is w regs id at same)) ∙ verdict_is (file_verdict (loader_state w) file (slice_index regs.gpr 3)) e some h in
     is
-    ∙ ap (by_verdict (left_gate w shell) name mode (module_at file)) (sym (file_refused (loader_state w) file mode (refusal.Elf e) (refused_by file e some fails)) ∙ left_file w file mode)
+    ∙ ap (λ (v : WorldState). refused (left_gate v shell) name (reason e)) (parts_stay w kern symbols part a b c)
+    ∙ ap (by_verdict (left_gate w shell) name mode (module_at file)) (sym verdict ∙ left_file w file mode)

@@ -2,7 +2,9 @@
 
 ghost use Rattle.std.specs.Prelude.{◌≡◌, ◌≤◌, [], Some, OnOk, OnErr};
 ghost use Rattle.wind_base.specs.declared.gate.Gate.TheVariants as gates;
+ghost use Rattle.elf_read.specs.Contents.{ModuleOf, module_at};
 ghost use Rattle.elf_read.specs.Modules.{IsModule};
+ghost use Rattle.elf_read.specs.Outline.{outline_of};
 ghost use Rattle.module_loader.specs.Loading.{verdict};
 ghost use Rattle.kernel_world.specs.Actors.{Acts, MayCall};
 ghost use Rattle.kernel_calls.specs.Calls.{file_wanted};
@@ -16,15 +18,15 @@ ghost use Rattle.live_loading.specs.Loading.{shell, loader_state, by_verdict, lo
 use crate::answer::FileAnswer;
 use crate::outcome::{accept, refuse, shell_id};
 use crate::text::{Cause, undefined_room};
-use elf_read::{ElfErr, Module, read};
+use elf_read::{Module, Outline, fill};
 use kernel_world::{Actor, World, caller_regs};
 use module_loader::LoadErr;
 use std::alloc::Global;
 use wind_base::{Name, NoMemory};
 use wind_outside::Device;
 
-// Loads a module that was read from its file, with room for its undefined names made ahead. For want of memory nothing
-// changes.
+// Loads a module that was read from its file. It first makes room for the lines of the undefined names. If memory runs
+// out, nothing changes.
 fn load_read(
     alloc: Global,
     w: &mut World,
@@ -62,7 +64,34 @@ fn load_read(
     Ok(())
 }
 
-// Loads the module of a file, in the mode of r3. For want of memory nothing changes.
+// Loads the module of a file whose outline was read. If memory runs out, nothing changes.
+fn load_outlined(
+    alloc: Global,
+    w: &mut World,
+    name: &Name,
+    file: &[u8],
+    outline: Outline,
+    mode: u32,
+) -> Result<(), NoMemory>
+    requires outline { outline ≡ outline_of (module_at file.now) }
+    requires module { ModuleOf file.now (module_at file.now) }
+    requires live { Acts w.old.kern shell }
+    requires kept { IsWorld (world_with [] w.old) }
+    requires room { 4096 ≤ w.old.out.room }
+    ensures ok { OnOk result (world_seen ⟦<dyn Device as Device>⟧ w.new
+        ≡ by_verdict (left_gate (world_seen ⟦<dyn Device as Device>⟧ w.old) shell) name.now mode (module_at file.now)
+        (verdict (loader_state (world_seen ⟦<dyn Device as Device>⟧ w.old)) (module_at file.now) mode)) }
+    ensures err { OnErr result (world_seen ⟦<dyn Device as Device>⟧ w.new ≡ world_seen ⟦<dyn Device as Device>⟧ w.old) }
+    ensures holds { HoldsSpace w.old.out w.new.out }
+{
+    let Ok(m) = fill(alloc, file, outline) else {
+        return Err(NoMemory);
+    };
+    load_read(alloc, w, name, &m, mode)
+}
+
+// Loads the module of a file, in the mode of r3. It copies the bytes of sections only after it has found places for the
+// segments. If memory runs out, nothing changes.
 fn load_held(alloc: Global, w: &mut World, name: &Name, file: &[u8]) -> Result<(), NoMemory>
     requires live { Acts w.old.kern shell }
     requires kept { IsWorld (world_with [] w.old) }
@@ -73,19 +102,23 @@ fn load_held(alloc: Global, w: &mut World, name: &Name, file: &[u8]) -> Result<(
     ensures holds { HoldsSpace w.old.out w.new.out }
 {
     let regs = caller_regs(&w.kern, &w.watch, &Actor::Task(shell_id()));
-    match read(alloc, file) {
-        Ok(m) => load_read(alloc, w, name, &m, regs.gpr[3]),
+    let mode = regs.gpr[3];
+    let checked = w
+        .mods
+        .check_file(&mut w.kern, &mut w.part, &mut w.syms, file, mode);
+    match checked {
+        Ok(outline) => load_outlined(alloc, w, name, file, outline, mode),
         Err(e) => match e {
-            ElfErr::NoMemory => Err(NoMemory),
+            LoadErr::NoMemory => Err(NoMemory),
             _ => {
-                refuse(w, name, Cause::Refused(LoadErr::Elf(e)));
+                refuse(w, name, Cause::Refused(e));
                 Ok(())
             }
         },
     }
 }
 
-// Makes the call with what is said of the file. For want of memory nothing changes.
+// Makes the call with the answer about the file. If memory runs out, nothing changes.
 #[tactic(auto, unfolding(crate::specs::Loading::load_call))]
 fn load_said(alloc: Global, w: &mut World, name: &Name, file: &FileAnswer) -> Result<(), NoMemory>
     requires live { Acts w.old.kern shell }

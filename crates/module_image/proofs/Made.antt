@@ -1,5 +1,5 @@
 -- What is made apart from memory is the image.
-use Rattle.std.proofs.Common.{◌≡◌, ℕ, ◌+◌, ◌<◌, ◌^◌, List, [], ◌∷◌, length, take, drop, replicate, Option, refl, sym, ap, ◌∙◌, arith}
+use Rattle.std.proofs.Common.{◌≡◌, ℕ, ◌+◌, ◌<◌, ◌^◌, List, [], ◌∷◌, length, map, take, drop, replicate, Option, refl, sym, ap, ◌∙◌, arith}
 use Rattle.reloc_link.specs.Patched.{Patched}
 use Rattle.symbol_table.specs.declared.symbol.Symbol.{Symbol}
 use Rattle.elf_read.specs.declared.module.Module.{Module}
@@ -8,8 +8,12 @@ use Rattle.elf_read.specs.declared.module.Sect.{Sect}
 use Rattle.module_image.specs.declared.segments.Ends.{Ends}
 use Rattle.module_image.specs.declared.segments.Places.{Places}
 use Rattle.module_image.specs.Binding.{bind}
-use Rattle.module_image.specs.Layout.{addresses, addresses_from, ends_of, ends_from, no_ends, values, values_from, commons_end}
-use Rattle.module_image.specs.Needs.{needs_of}
+use Rattle.elf_read.specs.declared.outlines.Shape.{Shape}
+use Rattle.elf_read.specs.declared.outlines.Outline.{Outline}
+use Rattle.elf_read.specs.Outline.{shape_of, outline_of}
+use Rattle.module_image.specs.Layout.{addresses, addresses_from, ends_of, ends_from, ends_by, no_ends, values, values_from, commons_end}
+use Rattle.module_image.specs.declared.segments.Needs.{Needs}
+use Rattle.module_image.specs.Needs.{needs_by, needs_of}
 use Rattle.module_image.specs.Image.{Images, image, image_by, cut_at, meanings, meanings_from, patched_of}
 use Rattle.module_image.specs.Making.{IsPatched, IsMade}
 
@@ -21,6 +25,17 @@ pub needs_data : (m : Module) → (needs_of m).«data».size ≡ (ends_of m).«d
 unfolding needs_of
 needs_data m = refl
 
+-- what a module needs is what its outline needs
+pub needs_outlined : (m : Module) (o : Outline) → o ≡ outline_of m → needs_by o.shapes o.symbols ≡ needs_of m
+unfolding needs_of
+needs_outlined m o e = ap (λ (x : Outline). needs_by x.shapes x.symbols) e
+
+pub needs_shaped : (m : Module) (ss : List Sect) (ys : List Sym) (shapes : List Shape) (z : Needs) → ss ≡ m.sections → ys ≡ m.symbols → shapes ≡ map shape_of ss
+    → z ≡ needs_by shapes ys → z ≡ needs_of m
+unfolding needs_of
+needs_shaped m ss ys shapes z s y p e =
+    e ∙ (ap (λ (x : List Shape). needs_by x ys) (p ∙ ap (map shape_of) s) ∙ ap (λ (x : List Sym). needs_by (map shape_of m.sections) x) y)
+
 pub image_is : (m : Module) (tab : List Symbol) (at : Places)
     → image m tab at ≡ cut_at (ends_of m).text (replicate (commons_end (ends_of m).bss m.symbols) 0) (patched_of m (addresses m at) (meanings m (bind tab) at))
 unfolding image image_by
@@ -30,10 +45,10 @@ pub bss_is : (m : Module) (tab : List Symbol) (at : Places) → (image m tab at)
 unfolding image image_by needs_of
 bss_is m tab at = refl
 
-pub ends_room : (m : Module) (ss : List Sect) (ends : Ends) → ss ≡ m.sections → ends ≡ ends_from no_ends ss
+pub ends_room : (m : Module) (ss : List Sect) (shapes : List Shape) (ends : Ends) → ss ≡ m.sections → shapes ≡ map shape_of ss → ends ≡ ends_by no_ends shapes
     → (needs_of m).text.size + (needs_of m).«data».size < 2 ^ 32 → ends.text + ends.«data» < 2 ^ 32
-ends_room m ss ends s e h =
-    let same : ends ≡ ends_of m = e ∙ ap (ends_from no_ends) s in
+ends_room m ss shapes ends s p e h =
+    let same : ends ≡ ends_of m = e ∙ ap (ends_by no_ends) (p ∙ ap (map shape_of) s) in
     let t = needs_text m in
     let d = needs_data m in
     let et : ends.text ≡ (ends_of m).text = ap (λ (x : Ends). x.text) same in

@@ -1,16 +1,16 @@
 -- Where the parts of a module lie in its three segments. Sections, and behind them common symbols, are laid one behind
 -- another, each at the next multiple of its alignment.
-use Rattle.std.specs.Prelude.{ℕ, ◌+◌, ◌%◌, ◌^◌, ◌≤◌, ◌==◌, if◌then◌else◌, bit_and, List, [], ◌∷◌, slice_index, Option, Some, None}
+use Rattle.std.specs.Prelude.{ℕ, ◌+◌, ◌%◌, ◌^◌, ◌≤◌, ◌==◌, if◌then◌else◌, bit_and, Bool, true, false, List, [], ◌∷◌, map, slice_index, Option, Some, None}
 use Rattle.wind_base.specs.Limits.{most_section_bytes}
 use Rattle.mem_partition.specs.Place.{aligned, greatest_align}
 use Rattle.elf_read.specs.declared.module.Body.{Body}
-use Rattle.elf_read.specs.declared.module.Body.TheVariants as body
 use Rattle.elf_read.specs.declared.module.Sect.{Sect}
 use Rattle.elf_read.specs.declared.module.Sym.{Sym}
 use Rattle.elf_read.specs.declared.module.SymPlace.{SymPlace}
 use Rattle.elf_read.specs.declared.module.SymPlace.TheVariants.{Undefined, Absolute, Common, Section, Elsewhere}
 use Rattle.elf_read.specs.declared.module.Module.{Module}
-use Rattle.elf_read.specs.Modules.{size_of}
+use Rattle.elf_read.specs.declared.outlines.Shape.{Shape}
+use Rattle.elf_read.specs.Outline.{has_bytes, shape_of}
 use Rattle.module_image.specs.declared.segments.SegmentKind.{SegmentKind}
 use Rattle.module_image.specs.declared.segments.SegmentKind.TheVariants.{Text, Data, Bss}
 use Rattle.module_image.specs.declared.segments.Places.{Places}
@@ -25,12 +25,19 @@ abbrev pub shf_execinstr : ℕ
 shf_execinstr = 4
 
 -- a section with bytes lies in text, or in data where it is writable; one without lies in bss
+abbrev pub segment_where : Bool → ℕ → SegmentKind
+segment_where true flags = if bit_and flags shf_write == shf_write then Data else Text
+segment_where false flags = Bss
+
 abbrev pub segment_by : Body → ℕ → SegmentKind
-segment_by (body.Bytes b) flags = if bit_and flags shf_write == shf_write then Data else Text
-segment_by (body.Size n) flags = Bss
+segment_by b flags = segment_where (has_bytes b) flags
+
+-- the segment of a shape, and of a section
+abbrev pub segment_in : Shape → SegmentKind
+segment_in s = segment_where s.has_bytes s.flags
 
 abbrev pub segment_of : Sect → SegmentKind
-segment_of s = segment_by s.body s.flags
+segment_of s = segment_in (shape_of s)
 
 -- where a segment begins
 abbrev pub place_of : Places → SegmentKind → ℕ
@@ -53,18 +60,27 @@ abbrev pub no_ends : Ends
 no_ends = record { text = 0; «data» = 0; bss = 0 }
 
 -- ---- sections
--- where a section begins in its segment
+-- where a shape begins in its segment, and where a section does
+abbrev pub offset_by : Ends → Shape → ℕ
+offset_by ends s = aligned (end_in ends (segment_in s)) s.align
+
 abbrev pub offset_in : Ends → Sect → ℕ
-offset_in ends s = aligned (end_in ends (segment_of s)) s.align
+offset_in ends s = offset_by ends (shape_of s)
 
--- how far the segments are taken behind a section
+-- how far each segment reaches after a shape, and after a section
+abbrev pub after_shape : Ends → Shape → Ends
+after_shape ends s = with_end ends (segment_in s) (offset_by ends s + s.size)
+
 abbrev pub after_section : Ends → Sect → Ends
-after_section ends s = with_end ends (segment_of s) (offset_in ends s + size_of s.body)
+after_section ends s = after_shape ends (shape_of s)
 
--- and behind all sections
+-- and after all of them
+abbrev pub ends_by : Ends → List Shape → Ends
+ends_by ends [] = ends
+ends_by ends (s ∷ ss) = ends_by (after_shape ends s) ss
+
 abbrev pub ends_from : Ends → List Sect → Ends
-ends_from ends [] = ends
-ends_from ends (s ∷ ss) = ends_from (after_section ends s) ss
+ends_from ends ss = ends_by ends (map shape_of ss)
 
 abbrev pub ends_of : Module → Ends
 ends_of m = ends_from no_ends m.sections
@@ -116,8 +132,11 @@ pub record IsRoom (align size : ℕ) : Type 0 where
   pub greatest : align ≤ greatest_align
   pub short : size ≤ most_section_bytes
 
+abbrev pub IsShapeRoom : Shape → Type 0
+IsShapeRoom s = IsRoom s.align s.size
+
 abbrev pub IsSectRoom : Sect → Type 0
-IsSectRoom s = IsRoom s.align (size_of s.body)
+IsSectRoom s = IsShapeRoom (shape_of s)
 
 abbrev pub IsCommonRoom : SymPlace → Sym → Type 0
 IsCommonRoom Common y = IsRoom y.value y.size

@@ -1,15 +1,16 @@
 -- What a module needs of memory.
-use Rattle.std.specs.Prelude.{ℕ, max, Bool, true, false, if◌then◌else◌, List, [], ◌∷◌}
+use Rattle.std.specs.Prelude.{ℕ, max, Bool, true, false, if◌then◌else◌, List, [], ◌∷◌, map}
 use Rattle.mem_partition.specs.Place.{grain}
 use Rattle.elf_read.specs.declared.module.Module.{Module}
-use Rattle.elf_read.specs.declared.module.Sect.{Sect}
+use Rattle.elf_read.specs.declared.outlines.Shape.{Shape}
+use Rattle.elf_read.specs.Outline.{shape_of}
 use Rattle.elf_read.specs.declared.module.Sym.{Sym}
 use Rattle.elf_read.specs.declared.module.SymPlace.{SymPlace}
 use Rattle.elf_read.specs.declared.module.SymPlace.TheVariants.{Common}
 use Rattle.module_image.specs.declared.segments.SegmentKind.{SegmentKind}
 use Rattle.module_image.specs.declared.segments.SegmentKind.TheVariants.{Text, Data, Bss}
 use Rattle.module_image.specs.declared.segments.Needs.{Needs}
-use Rattle.module_image.specs.Layout.{segment_of, ends_of, commons_end}
+use Rattle.module_image.specs.Layout.{segment_in, ends_by, no_ends, commons_end}
 
 -- the two segments are one
 abbrev pub same_segment : SegmentKind → SegmentKind → Bool
@@ -18,11 +19,11 @@ same_segment Data Data = true
 same_segment Bss Bss = true
 same_segment _ _ = false
 
--- the greatest of an alignment and those of the sections of a segment; sections without bytes count too
-abbrev pub align_in : SegmentKind → ℕ → List Sect → ℕ
-align_in kind align [] = align
-align_in kind align (s ∷ ss) =
-    align_in kind (if same_segment kind (segment_of s) then max align s.align else align) ss
+-- the greatest of this alignment and those of a segment's shapes; shapes without bytes count too
+abbrev pub align_by : SegmentKind → ℕ → List Shape → ℕ
+align_by kind align [] = align
+align_by kind align (s ∷ ss) =
+    align_by kind (if same_segment kind (segment_in s) then max align s.align else align) ss
 
 -- and those of the common symbols
 abbrev pub align_after : ℕ → Sym → SymPlace → ℕ
@@ -33,13 +34,17 @@ abbrev pub common_align : ℕ → List Sym → ℕ
 common_align align [] = align
 common_align align (y ∷ ys) = common_align (align_after align y y.place) ys
 
--- the bytes and the alignment of each segment
-unfoldable pub needs_of : Module → Needs
-needs_of m = record {
-  text = record { size = (ends_of m).text; align = align_in Text grain m.sections };
-  «data» = record { size = (ends_of m).«data»; align = align_in Data grain m.sections };
+-- the bytes and the alignment that each segment needs for sections of these shapes and for these symbols
+abbrev pub needs_by : List Shape → List Sym → Needs
+needs_by shapes symbols = record {
+  text = record { size = (ends_by no_ends shapes).text; align = align_by Text grain shapes };
+  «data» = record { size = (ends_by no_ends shapes).«data»; align = align_by Data grain shapes };
   bss = record {
-    size = commons_end (ends_of m).bss m.symbols;
-    align = common_align (align_in Bss grain m.sections) m.symbols;
+    size = commons_end (ends_by no_ends shapes).bss symbols;
+    align = common_align (align_by Bss grain shapes) symbols;
   };
 }
+
+-- what a module needs
+unfoldable pub needs_of : Module → Needs
+needs_of m = needs_by (map shape_of m.sections) m.symbols

@@ -6,10 +6,10 @@ ghost use Rattle.reloc_link.specs.Patched.{LiesWithin, patched, fault_of};
 ghost use Rattle.module_image.specs.Layout.{IsSectRoom};
 ghost use Rattle.module_image.specs.Image.{padded, laid, binding_of};
 
-use crate::layout::{align_up, segment, size};
+use crate::layout::{align_up, segment};
 use crate::segments::SegmentKind;
 use crate::sizes::is_same;
-use elf_read::{Body, Rel, Sect};
+use elf_read::{Body, Rel, Sect, find_shape};
 use reloc_link::{Binding, RelocErr, patch};
 use std::alloc::{AllocError, Global};
 
@@ -49,9 +49,10 @@ pub(crate) fn lay(out: &mut Vec<u8>, sections: &[Sect], kind: SegmentKind) -> Re
 {
     let mut from = 0;
     for s in sections {
-        if is_same(kind, segment(s)) {
+        let shape = find_shape(s);
+        if is_same(kind, segment(shape)) {
             push_section(out, from, s)?;
-            from = align_up(from, s.align) + size(s);
+            from = align_up(from, shape.align) + shape.size;
         }
     }
     Ok(())

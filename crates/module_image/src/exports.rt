@@ -7,7 +7,7 @@ ghost use Rattle.module_image.specs.Layout.{segment_of};
 
 use crate::layout::segment;
 use crate::segments::SegmentKind;
-use elf_read::{Sect, Sym, SymPlace};
+use elf_read::{Sect, Sym, SymPlace, find_shape};
 use std::alloc::{AllocError, Global};
 use symbol_table::{SymKind, Symbol};
 use wind_base::Name;
@@ -77,7 +77,7 @@ fn section_kind(s: &Sect) -> SymKind
     if s.flags & SHF_EXECINSTR == SHF_EXECINSTR {
         return SymKind::TextSym;
     }
-    match segment(s) {
+    match segment(find_shape(s)) {
         SegmentKind::Bss => SymKind::BssSym,
         SegmentKind::Text | SegmentKind::Data => SymKind::DataSym,
     }

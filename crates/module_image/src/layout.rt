@@ -1,13 +1,13 @@
 //! Where the sections and symbols of a module lie.
 
-ghost use Rattle.std.specs.Prelude.{◌≡◌, ◌+◌, ◌*◌, ◌≤◌, ◌<◌, ◌%◌, ◌^◌, length, All, IfOk};
+ghost use Rattle.std.specs.Prelude.{◌≡◌, ◌+◌, ◌*◌, ◌≤◌, ◌<◌, ◌%◌, ◌^◌, length, map, All, IfOk};
 ghost use Rattle.wind_base.specs.Limits.{most_section_headers, most_symbol_entries};
 ghost use Rattle.mem_partition.specs.Place.{aligned};
-ghost use Rattle.elf_read.specs.Modules.{size_of};
-ghost use Rattle.module_image.specs.Layout.{segment_of, place_of, end_in, with_end, offset_in, after_section, addresses_from, ends_from, no_ends, value_in, after_symbol, commons_end, IsRoom, IsSectRoom, IsSymRoom, longest_step, AreWithin, values_from};
+ghost use Rattle.elf_read.specs.Outline.{shape_of};
+ghost use Rattle.module_image.specs.Layout.{segment_in, place_of, end_in, with_end, offset_by, after_shape, addresses_from, ends_by, no_ends, value_in, after_symbol, commons_end, IsRoom, IsShapeRoom, IsSectRoom, IsSymRoom, longest_step, AreWithin, values_from};
 
 use crate::segments::{Ends, Places, SegmentKind};
-use elf_read::{Body, Sect, Sym, SymPlace};
+use elf_read::{Sect, Shape, Sym, SymPlace, find_shape};
 use std::alloc::{AllocError, Global};
 
 /// The flag of a section that a program writes: `SHF_WRITE`.
@@ -39,29 +39,17 @@ pub(crate) fn align_up(n: u64, align: u32) -> u64
     (n + align - 1) / align * align
 }
 
-/// How many bytes a section has.
-pub(crate) fn size(s: &Sect) -> u64
-    ensures { result ≡ size_of s.now.body }
+/// The segment of a shape.
+pub(crate) fn segment(s: Shape) -> SegmentKind
+    ensures { result ≡ segment_in s }
 {
-    match &s.body {
-        Body::Bytes(bytes) => bytes.as_slice().len() as u64,
-        Body::Size(n) => u64::from(*n),
+    if !s.has_bytes {
+        return SegmentKind::Bss;
     }
-}
-
-/// The segment of a section.
-pub(crate) fn segment(s: &Sect) -> SegmentKind
-    ensures { result ≡ segment_of s.now }
-{
-    match &s.body {
-        Body::Bytes(_) => {
-            if s.flags & SHF_WRITE == SHF_WRITE {
-                SegmentKind::Data
-            } else {
-                SegmentKind::Text
-            }
-        }
-        Body::Size(_) => SegmentKind::Bss,
+    if s.flags & SHF_WRITE == SHF_WRITE {
+        SegmentKind::Data
+    } else {
+        SegmentKind::Text
     }
 }
 
@@ -96,39 +84,49 @@ fn place_at(at: Places, kind: SegmentKind) -> u64
     }
 }
 
-/// Where the section begins in its segment.
-fn offset(ends: Ends, s: &Sect) -> u64
-    requires room { IsSectRoom s.now }
+/// Where the shape begins in its segment.
+fn offset(ends: Ends, s: Shape) -> u64
+    requires room { IsShapeRoom s }
     requires within { AreWithin ends (2 ^ 60) }
-    ensures value { result ≡ offset_in ends s.now }
-    ensures bound { result ≤ end_in ends (segment_of s.now) + 65536 }
+    ensures value { result ≡ offset_by ends s }
+    ensures bound { result ≤ end_in ends (segment_in s) + 65536 }
 {
     align_up(end_at(ends, segment(s)), s.align)
 }
 
-/// How far the segments are taken behind the section.
-pub(crate) fn advance(ends: Ends, s: &Sect, n: u64) -> Ends
-    requires room { IsSectRoom s.now }
+/// How far each segment reaches after the shape.
+pub(crate) fn advance(ends: Ends, s: Shape, n: u64) -> Ends
+    requires room { IsShapeRoom s }
     requires within { AreWithin ends n }
     requires bound { n ≤ 2 ^ 59 }
-    ensures value { result ≡ after_section ends s.now }
+    ensures value { result ≡ after_shape ends s }
     ensures within { AreWithin result (n + longest_step) }
 {
-    put_end(ends, segment(s), offset(ends, s) + size(s))
+    put_end(ends, segment(s), offset(ends, s) + s.size)
 }
 
-/// How far the sections take each segment.
-pub(crate) fn find_ends(sections: &[Sect]) -> Ends
-    requires room { All IsSectRoom sections.now }
-    requires few { length sections.now ≤ most_section_headers }
-    ensures value { result ≡ ends_from no_ends sections.now }
+/// How far each segment reaches after all shapes.
+pub(crate) fn find_ends(shapes: &[Shape]) -> Ends
+    requires room { All IsShapeRoom shapes.now }
+    requires few { length shapes.now ≤ most_section_headers }
+    ensures value { result ≡ ends_by no_ends shapes.now }
     ensures within { AreWithin result (2 ^ 40) }
 {
     let mut ends = NO_ENDS;
-    for (i, s) in sections.iter().enumerate() {
-        ends = advance(ends, s, i as u64 * LONGEST_STEP);
+    for (i, s) in shapes.iter().enumerate() {
+        ends = advance(ends, *s, i as u64 * LONGEST_STEP);
     }
     ends
+}
+
+/// The shapes of the sections.
+pub(crate) fn find_shapes(alloc: Global, sections: &[Sect]) -> Result<Vec<Shape>, AllocError>
+    ensures { IfOk result (λ v. v.items ≡ map shape_of sections.now) }
+{
+    sections
+        .iter()
+        .map(|s| find_shape(s))
+        .collect::<Vec<Shape>>(alloc)
 }
 
 /// The addresses of the sections.
@@ -144,8 +142,9 @@ pub(crate) fn section_addresses(
     let mut list = Vec::new(alloc);
     let mut ends = NO_ENDS;
     for (i, s) in sections.iter().enumerate() {
-        list.push(place_at(at, segment(s)) + offset(ends, s))?;
-        ends = advance(ends, s, i as u64 * LONGEST_STEP);
+        let shape = find_shape(s);
+        list.push(place_at(at, segment(shape)) + offset(ends, shape))?;
+        ends = advance(ends, shape, i as u64 * LONGEST_STEP);
     }
     Ok(list)
 }

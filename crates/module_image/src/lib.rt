@@ -11,6 +11,6 @@ mod segments;
 mod sizes;
 
 pub use laws::{agreement_law, count_law, layout_law, link_law, size_law};
-pub use making::{NameList, PrepareErr, Prepared, prepare, undefined_names};
+pub use making::{NameList, PrepareErr, Prepared, prepare};
 pub use segments::{Ends, Need, Needs, Places, SegmentKind};
-pub use sizes::{count_added, measure};
+pub use sizes::{count_added, measure, measure_module};

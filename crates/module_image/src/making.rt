@@ -11,7 +11,7 @@ ghost use Rattle.module_image.specs.Making.{IsMade, IsPatched, IsRefusal};
 
 use crate::bytes::{lay, relocate};
 use crate::exports::{collect_exports, copied};
-use crate::layout::{find_ends, section_addresses, symbol_values};
+use crate::layout::{find_ends, find_shapes, section_addresses, symbol_values};
 use crate::segments::{Ends, Places, SegmentKind};
 use elf_read::{Items, Module, Sym, SymPlace};
 use reloc_link::RelocErr;
@@ -108,17 +108,6 @@ fn unbound_names(alloc: Global, syms: &Symbols, symbols: &[Sym]) -> Result<NameL
     Ok(Items::from_vec(list))
 }
 
-/// The names of the symbols that a load of the module would leave without a binding, in symbol order: of those of other
-/// modules that are not weak, and of which the table has no global.
-pub fn undefined_names(alloc: Global, syms: &Symbols, m: &Module) -> Result<NameList, NoMemory>
-    ensures { IfOk result (λ v. v ≡ unbound syms.now.list m.now.symbols) }
-{
-    match unbound_names(alloc, syms, m.symbols.as_slice()) {
-        Ok(names) => Ok(names),
-        Err(_) => Err(NoMemory),
-    }
-}
-
 /// Text and data before relocation.
 #[tactic(auto, using(crate::proofs::Known::sects_room))]
 fn lay_both(alloc: Global, m: &Module) -> Result<Vec<u8>, AllocError>
@@ -176,7 +165,7 @@ fn make_bytes(
 
 /// Makes what a load of the module writes and adds, whose segments go to these places and whose id is `id`, or
 /// finds the first relocation that is refused.
-#[tactic(auto, using(crate::proofs::Known::sects_room, crate::proofs::Known::syms_room, crate::proofs::Made::fault_is, crate::proofs::Made::length_means, crate::proofs::Fitting::length_values, crate::proofs::Fitting::length_addresses, crate::proofs::Made::ends_room), unfolding(crate::specs::Exports::exports, crate::specs::Layout::addresses, crate::specs::Layout::values))]
+#[tactic(auto, using(crate::proofs::Known::sects_room, crate::proofs::Known::shapes_room, crate::proofs::Known::few_shapes, crate::proofs::Known::syms_room, crate::proofs::Made::fault_is, crate::proofs::Made::length_means, crate::proofs::Fitting::length_values, crate::proofs::Fitting::length_addresses, crate::proofs::Made::ends_room), unfolding(crate::specs::Exports::exports, crate::specs::Layout::addresses, crate::specs::Layout::values))]
 pub fn prepare(
     alloc: Global,
     m: &Module,
@@ -194,7 +183,10 @@ pub fn prepare(
 {
     let sections = m.sections.as_slice();
     let symbols = m.symbols.as_slice();
-    let ends = find_ends(sections);
+    let Ok(shapes) = find_shapes(alloc, sections) else {
+        return Err(PrepareErr::NoMemory);
+    };
+    let ends = find_ends(&shapes);
     let Ok(own) = section_addresses(alloc, sections, at) else {
         return Err(PrepareErr::NoMemory);
     };

@@ -1,16 +1,19 @@
 //! What a module needs of memory.
 
-ghost use Rattle.std.specs.Prelude.{◌≡◌, max, if◌then◌else◌};
+ghost use Rattle.std.specs.Prelude.{◌≡◌, ◌≤◌, max, if◌then◌else◌, length, All, IfOk};
+ghost use Rattle.wind_base.specs.Limits.{most_section_headers, most_symbol_entries};
 ghost use Rattle.mem_partition.specs.Place.{grain};
 ghost use Rattle.elf_read.specs.Modules.{IsModule};
 ghost use Rattle.module_image.specs.Exports.{export_count};
-ghost use Rattle.module_image.specs.Layout.{segment_of};
-ghost use Rattle.module_image.specs.Needs.{same_segment, align_in, align_after, common_align, needs_of};
+ghost use Rattle.module_image.specs.Layout.{segment_in, IsShapeRoom, IsSymRoom};
+ghost use Rattle.module_image.specs.Needs.{same_segment, align_by, align_after, common_align, needs_by, needs_of};
 
 use crate::exports::count_exports;
-use crate::layout::{find_commons, find_ends, segment};
+use crate::layout::{find_commons, find_ends, find_shapes, segment};
 use crate::segments::{Need, Needs, SegmentKind};
-use elf_read::{Module, Sect, Sym, SymPlace};
+use elf_read::{Module, Shape, Sym, SymPlace};
+use std::alloc::Global;
+use wind_base::NoMemory;
 
 /// The least alignment of a segment.
 const LEAST_ALIGN: u32 = 16;
@@ -26,8 +29,8 @@ pub(crate) fn is_same(a: SegmentKind, b: SegmentKind) -> bool
     }
 }
 
-fn raise(align: u32, kind: SegmentKind, s: &Sect) -> u32
-    ensures { result ≡ (if same_segment kind (segment_of s.now) then max align s.now.align else align) }
+fn raise(align: u32, kind: SegmentKind, s: Shape) -> u32
+    ensures { result ≡ (if same_segment kind (segment_in s) then max align s.align else align) }
 {
     let own = s.align;
     if is_same(kind, segment(s)) {
@@ -37,13 +40,13 @@ fn raise(align: u32, kind: SegmentKind, s: &Sect) -> u32
     }
 }
 
-/// The greatest alignment of the sections of a segment, at least 16.
-fn find_align(kind: SegmentKind, sections: &[Sect]) -> u32
-    ensures { result ≡ align_in kind grain sections.now }
+/// The greatest alignment of the shapes of a segment, at least 16.
+fn find_align(kind: SegmentKind, shapes: &[Shape]) -> u32
+    ensures { result ≡ align_by kind grain shapes.now }
 {
     let mut align = LEAST_ALIGN;
-    for s in sections {
-        align = raise(align, kind, s);
+    for s in shapes {
+        align = raise(align, kind, *s);
     }
     align
 }
@@ -69,35 +72,49 @@ fn find_common_align(start: u32, symbols: &[Sym]) -> u32
     align
 }
 
-/// What the segments of a module need of memory.
-#[tactic(auto, unfolding(crate::specs::Needs::needs_of), using(crate::proofs::Known::sects_room, crate::proofs::Known::syms_room))]
-pub fn measure(m: &Module) -> Needs
-    requires { IsModule m.now }
-    ensures { result ≡ needs_of m.now }
+/// The memory that each segment needs for sections of these shapes and for these symbols.
+pub fn measure(shapes: &[Shape], symbols: &[Sym]) -> Needs
+    requires sections { All IsShapeRoom shapes.now }
+    requires few { length shapes.now ≤ most_section_headers }
+    requires symbols { All IsSymRoom symbols.now }
+    requires few_symbols { length symbols.now ≤ most_symbol_entries }
+    ensures { result ≡ needs_by shapes.now symbols.now }
 {
-    let sections = m.sections.as_slice();
-    let symbols = m.symbols.as_slice();
-    let ends = find_ends(sections);
+    let ends = find_ends(shapes);
     Needs {
         text: Need {
             size: ends.text,
-            align: find_align(SegmentKind::Text, sections),
+            align: find_align(SegmentKind::Text, shapes),
         },
         data: Need {
             size: ends.data,
-            align: find_align(SegmentKind::Data, sections),
+            align: find_align(SegmentKind::Data, shapes),
         },
         bss: Need {
             size: find_commons(ends.bss, symbols),
-            align: find_common_align(find_align(SegmentKind::Bss, sections), symbols),
+            align: find_common_align(find_align(SegmentKind::Bss, shapes), symbols),
         },
     }
 }
 
-/// How many symbols a load of the module with this mode adds.
-pub fn count_added(m: &Module, mode: u32) -> u32
+/// The memory that each segment of a module needs.
+#[tactic(auto, using(crate::proofs::Known::shapes_room, crate::proofs::Known::few_shapes, crate::proofs::Known::syms_room, crate::proofs::Made::needs_shaped))]
+pub fn measure_module(alloc: Global, m: &Module) -> Result<Needs, NoMemory>
     requires { IsModule m.now }
-    ensures { result ≡ export_count mode m.now.symbols }
+    ensures { IfOk result (λ z. z ≡ needs_of m.now) }
 {
-    count_exports(mode, m.symbols.as_slice())
+    let sections = m.sections.as_slice();
+    let symbols = m.symbols.as_slice();
+    let Ok(shapes) = find_shapes(alloc, sections) else {
+        return Err(NoMemory);
+    };
+    Ok(measure(&shapes, symbols))
+}
+
+/// How many of these symbols a load with this mode adds.
+pub fn count_added(symbols: &[Sym], mode: u32) -> u32
+    requires { length symbols.now ≤ most_symbol_entries }
+    ensures { result ≡ export_count mode symbols.now }
+{
+    count_exports(mode, symbols)
 }

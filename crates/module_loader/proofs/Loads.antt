@@ -34,7 +34,7 @@ pub placed_fault : (m : Module) (tab : List Symbol) (r : Result Places PartErr) 
 placed_fault m tab r at e p f = ap (place_verdict m tab) p ∙ ap (reloc_verdict at) f
 
 -- ---- the verdict
-by_counts : (s : LoaderState) (m : Module) (mode : ℕ) (o : Option LoadErr) → count_by (length s.modules) s.kern.next_id (length s.symbols + export_count mode m.symbols) ≡ o
+pub by_counts : (s : LoaderState) (m : Module) (mode : ℕ) (o : Option LoadErr) → count_by (length s.modules) s.kern.next_id (length s.symbols + export_count mode m.symbols) ≡ o
     → verdict s m mode ≡ verdict_by o (place_verdict m s.symbols (places_of s.part (needs_of m)))
 unfolding verdict count_refusal
 by_counts s m mode o h = ap (λ x. verdict_by x (place_verdict m s.symbols (places_of s.part (needs_of m)))) h

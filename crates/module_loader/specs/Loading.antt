@@ -133,6 +133,12 @@ abbrev pub IsLoaded : Result Places LoadErr → LoaderState → List ℕ → Mod
 IsLoaded (Ok at) s name m mode t = t ≡ loaded s name m mode at
 IsLoaded (Err e) s name m mode t = ⊥
 
+-- the load is accepted, or a relocation refuses it
+abbrev pub ReachesRelocations : Result Places LoadErr → Type 0
+ReachesRelocations (Ok at) = Unit {0}
+ReachesRelocations (Err (refusal.Reloc e)) = Unit {0}
+ReachesRelocations (Err e) = ⊥
+
 -- want of memory, or the first refusal
 abbrev pub IsVerdict : Result Places LoadErr → LoadErr → Type 0
 IsVerdict v refusal.NoMemory = Unit {0}

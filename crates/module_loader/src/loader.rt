@@ -1,11 +1,12 @@
 //! Loading a module.
 
-ghost use Rattle.std.specs.Prelude.{◌≡◌, ◌<◌, ◌≤◌, ◌+◌, ◌^◌, Ok, false, IfOk, IfErr, OnOk, OnErr, length, All};
+ghost use Rattle.std.specs.Prelude.{◌≡◌, ◌<◌, ◌≤◌, ◌+◌, ◌^◌, ℕ, List, Ok, Err, false, IfOk, IfErr, IsOk, OnOk, OnErr, length, All};
 ghost use Rattle.wind_base.specs.Limits.{most_modules};
 ghost use Rattle.id_table.specs.Rows.{IdsBelow};
 ghost use Rattle.mem_partition.specs.State.{IsPart};
 ghost use Rattle.elf_read.specs.Contents.{ModuleOf, module_at};
 ghost use Rattle.elf_read.specs.Modules.{IsModule};
+ghost use Rattle.elf_read.specs.Outline.{outline_of};
 ghost use Rattle.elf_read.specs.Rules.{checked};
 ghost use Rattle.module_image.specs.Needs.{needs_of};
 ghost use Rattle.module_image.specs.Exports.{exports as exports_lem};
@@ -13,7 +14,7 @@ ghost use Rattle.module_image.specs.Binding.{unbound};
 ghost use Rattle.module_image.specs.Image.{image};
 ghost use Rattle.module_image.specs.Making.{IsMade};
 ghost use Rattle.module_loader.specs.Placing.{places_of, with_needs};
-ghost use Rattle.module_loader.specs.Loading.{place_verdict, verdict, file_verdict, told, IsLoaded, IsVerdict};
+ghost use Rattle.module_loader.specs.Loading.{place_verdict, verdict, file_verdict, told, IsLoaded, IsVerdict, ReachesRelocations};
 ghost use Rattle.module_loader.specs.Modules.{HasIdent};
 ghost use Rattle.module_loader.specs.Steps.{IsFileRefusal, state_of};
 
@@ -22,10 +23,12 @@ use crate::commit::{commit, make_record};
 use crate::counts::check_counts;
 use crate::module::{LoadErr, Loaded, LoadedModule};
 use board_mem::Ram;
-use elf_read::{ElfErr, Module, read};
+use elf_read::{ElfErr, Module, Outline, fill, read_outline};
 use id_table::Table;
-use mem_partition::Part;
-use module_image::{Needs, Places, PrepareErr, Prepared, count_added, measure, prepare};
+use mem_partition::{Part, PartErr};
+use module_image::{
+    Needs, Places, PrepareErr, Prepared, count_added, measure, measure_module, prepare,
+};
 use std::alloc::Global;
 use symbol_table::Symbols;
 use wind_base::Name;
@@ -103,8 +106,10 @@ pub(crate) fn load_module(
     ensures idents { All HasIdent table.new.rows }
     ensures sound { OnOk result (IsPart part.old) }
 {
-    let needs = measure(m);
-    let added = count_added(m, mode);
+    let Ok(needs) = measure_module(alloc, m) else {
+        return Err(LoadErr::NoMemory);
+    };
+    let added = count_added(m.symbols.as_slice(), mode);
     let id = match check_counts(table, kern, syms, added) {
         Ok(id) => id,
         Err(e) => return Err(e),
@@ -119,21 +124,77 @@ pub(crate) fn load_module(
     Ok(commit(table, kern, syms, ram, row, cut, at, bss, made))
 }
 
-/// What a file holds, or why it is refused.
-fn read_file(alloc: Global, file: &[u8]) -> Result<Module, LoadErr>
-    ensures module { IfOk result (ModuleOf file.now) }
-    ensures known { IfOk result IsModule }
+/// Reads the outline of a file, or finds the rule that refuses the file.
+fn outline_file(alloc: Global, file: &[u8]) -> Result<Outline, LoadErr>
+    ensures outline { IfOk result (λ o. o ≡ outline_of (module_at file.now)) }
+    ensures passes { IfOk result (λ o. checked file.now ≡ Ok tt) }
+    ensures known { IfOk result (λ o. IsModule (module_at file.now)) }
     ensures refused { IfErr result (IsFileRefusal (checked file.now)) }
 {
-    match read(alloc, file) {
-        Ok(m) => Ok(m),
+    match read_outline(alloc, file) {
+        Ok(o) => Ok(o),
         Err(ElfErr::NoMemory) => Err(LoadErr::NoMemory),
         Err(e) => Err(LoadErr::Elf(e)),
     }
 }
 
+/// Whether the three segments have places. The partition stays as it is.
+#[tactic(auto, using(crate::proofs::Taking::needs_back))]
+fn check_blocks(part: &mut Part, needs: Needs) -> Result<(), PartErr>
+    ensures placed { OnOk result (IsOk (places_of part.old needs)) }
+    ensures refused { IfErr result (λ e. places_of part.old needs ≡ Err e) }
+    ensures same { part.new ≡ part.old }
+{
+    let _end = part.end();
+    match take_blocks(part, needs) {
+        Ok(at) => {
+            give_blocks(part, needs, at);
+            Ok(())
+        }
+        Err(e) => Err(e),
+    }
+}
+
+/// Reads the outline of a file, and checks that no rule, no count and no missing place refuses a load of it. Only the room
+/// for symbols may grow.
+#[tactic(auto, using(crate::proofs::Files::file_refused))]
+pub(crate) fn check_file(
+    alloc: Global,
+    table: &Table<LoadedModule>,
+    kern: &mut Kern,
+    part: &mut Part,
+    syms: &mut Symbols,
+    file: &[u8],
+    mode: u32,
+) -> Result<Outline, LoadErr>
+    requires { kern.old.lent ≡ false }
+    ensures outline { IfOk result (λ o. o ≡ outline_of (module_at file.now)) }
+    ensures module { IfOk result (λ o. ModuleOf file.now (module_at file.now)) }
+    ensures passed { OnOk result ((ram : List ℕ) → ReachesRelocations
+        (file_verdict (state_of kern.old syms.old.list table.now.rows part.old ram) file.now mode)) }
+    ensures refused { IfErr result (λ e. (ram : List ℕ) → IsVerdict
+        (file_verdict (state_of kern.old syms.old.list table.now.rows part.old ram) file.now mode) e) }
+    ensures kern { kern.new ≡ kern.old }
+    ensures list { syms.new.list ≡ syms.old.list }
+    ensures part { part.new ≡ part.old }
+{
+    let outline = match outline_file(alloc, file) {
+        Ok(outline) => outline,
+        Err(e) => return Err(e),
+    };
+    let needs = measure(outline.shapes.as_slice(), outline.symbols.as_slice());
+    let added = count_added(outline.symbols.as_slice(), mode);
+    if let Err(e) = check_counts(table, kern, syms, added) {
+        return Err(e);
+    }
+    match check_blocks(part, needs) {
+        Ok(()) => Ok(outline),
+        Err(e) => Err(LoadErr::Part(e)),
+    }
+}
+
 /// Loads the module of a file.
-#[tactic(auto, using(crate::proofs::Files::read_verdict, crate::proofs::Files::file_refused))]
+#[tactic(auto, using(crate::proofs::Files::read_verdict))]
 pub(crate) fn load_file(
     alloc: Global,
     table: &mut Table<LoadedModule>,
@@ -164,9 +225,12 @@ pub(crate) fn load_file(
     ensures idents { All HasIdent table.new.rows }
     ensures sound { OnOk result (IsPart part.old) }
 {
-    let m = match read_file(alloc, file) {
-        Ok(m) => m,
+    let outline = match check_file(alloc, table, kern, part, syms, file, mode) {
+        Ok(outline) => outline,
         Err(e) => return Err(e),
+    };
+    let Ok(m) = fill(alloc, file, outline) else {
+        return Err(LoadErr::NoMemory);
     };
     load_module(alloc, table, kern, part, syms, ram, name, &m, mode)
 }

@@ -1,21 +1,22 @@
 //! The live modules.
 
-ghost use Rattle.std.specs.Prelude.{◌≡◌, ◌↔◌, [], IfOk, IfErr, OnOk, OnErr, IsOk, IsSome, Some, option_copied, All};
+ghost use Rattle.std.specs.Prelude.{◌≡◌, ◌↔◌, ℕ, List, [], false, IfOk, IfErr, OnOk, OnErr, IsOk, IsSome, Some, option_copied, All};
 ghost use Rattle.wind_lists.specs.Records.{Rising};
 ghost use Rattle.id_table.specs.Rows.{object_of, next_above, row_id, without, removed};
 ghost use Rattle.symbol_table.specs.State.{without_group};
-ghost use Rattle.elf_read.specs.Contents.{module_at};
+ghost use Rattle.elf_read.specs.Contents.{ModuleOf, module_at};
+ghost use Rattle.elf_read.specs.Outline.{outline_of};
 ghost use Rattle.elf_read.specs.Modules.{IsModule};
-ghost use Rattle.module_loader.specs.Loading.{file_verdict, verdict, told, IsLoaded, IsVerdict};
+ghost use Rattle.module_loader.specs.Loading.{file_verdict, verdict, told, IsLoaded, IsVerdict, ReachesRelocations};
 ghost use Rattle.module_loader.specs.Steps.{state_of};
 ghost use Rattle.module_loader.specs.Holding.{AreHeld, KeepsModules};
 ghost use Rattle.module_loader.specs.Modules.{HasIdent, newest_named, without_segment, without_segments};
 
-use crate::loader::{load_file, load_module};
+use crate::loader::{check_file, load_file, load_module};
 use crate::module::{LoadErr, Loaded, LoadedModule, NoSuchModule, Segment};
 use crate::names::newest_in;
 use board_mem::Ram;
-use elf_read::Module;
+use elf_read::{Module, Outline};
 use id_table::{Ident, Table};
 use mem_partition::{Class, Part};
 use std::alloc::Global;
@@ -94,6 +95,31 @@ impl Modules {
             file,
             mode,
         )
+    }
+
+    /// Reads the outline of an object file, and checks whether `load` would get as far as the file's relocations: the rules
+    /// of object files, the counts and the partition, in this order, may refuse the file. It copies no byte of a section
+    /// and changes nothing.
+    pub fn check_file(
+        &self,
+        kern: &mut Kern,
+        part: &mut Part,
+        syms: &mut Symbols,
+        file: &[u8],
+        mode: u32,
+    ) -> Result<Outline, LoadErr>
+        requires { kern.old.lent ≡ false }
+        ensures outline { IfOk result (λ o. o ≡ outline_of (module_at file.now)) }
+        ensures module { IfOk result (λ o. ModuleOf file.now (module_at file.now)) }
+        ensures passed { OnOk result ((ram : List ℕ) → ReachesRelocations
+            (file_verdict (state_of kern.old syms.old.list self.now part.old ram) file.now mode)) }
+        ensures refused { IfErr result (λ e. (ram : List ℕ) → IsVerdict
+            (file_verdict (state_of kern.old syms.old.list self.now part.old ram) file.now mode) e) }
+        ensures kern { kern.new ≡ kern.old }
+        ensures list { syms.new.list ≡ syms.old.list }
+        ensures part { part.new ≡ part.old }
+    {
+        check_file(self.alloc, &self.table, kern, part, syms, file, mode)
     }
 
     /// The same of a module that was read from its file.

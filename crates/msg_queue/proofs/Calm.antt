@@ -1,7 +1,7 @@
 -- The kernel's moves begin no wait at a queue.
-use Rattle.std.proofs.Common.{◌≡◌, ℕ, ◌+◌, ◌<◌, ◌≤◌, Bool, true, false, not, cond, eqb, is_some, List, [], ◌∷◌, Option, None, Some, refl, sym, ◌∙◌, subst, arith, ◌⊎◌, inl, inr, ⊎_elim}
+use Rattle.std.proofs.Common.{◌≡◌, ℕ, ◌+◌, ◌≤◌, Bool, true, false, not, cond, eqb, is_some, List, [], ◌∷◌, Option, None, Some, refl, sym, ◌∙◌, subst, arith, ◌⊎◌, inl, inr, ⊎_elim}
 use Rattle.std.specs.List.{All, fold}
-use Rattle.std.proofs.lemmas.List.Elements.{All-contains, All-filter, All-push, All-weaker}
+use Rattle.std.proofs.lemmas.List.Elements.{All-contains, All-filter, All-push}
 use Rattle.std.proofs.lemmas.Option.{same_Some}
 use Rattle.wind_base.specs.declared.errno.Errno.{Errno}
 use Rattle.wind_base.specs.declared.errno.Errno.TheVariants as errors
@@ -9,16 +9,18 @@ use Rattle.id_table.specs.declared.ident.Place.{Place}
 use Rattle.task_block.specs.declared.task.Task.{Task}
 use Rattle.wind_core.specs.State.{KernState, IsKern, task_of}
 use Rattle.wind_core.specs.Orders.{running, due, waiters}
-use Rattle.wind_core.specs.Moves.{renewed, new_task, remove, wake_at, pended, pend, delayed, delay, released, release, answered, end_wait, end_waits, wake_all, suspended, is_suspended, resumed, resume, unmarked, reset, with_pri, has_pri, change_pri, move_found, move_task, change_task, renew_task, past_gate, with_answer, with_refusal}
+use Rattle.wind_core.specs.Moves.{renewed, new_task, remove, wake_at, pended, pend, delayed, delay, released, release, answered, end_wait, end_waits, wake_all, suspended, is_suspended, resumed, resume, unmarked, reset, with_pri, has_pri, change_pri, move_found, move_task, change_task, renew_task, past_gate, with_answer, with_refusal, unreserved}
 use Rattle.wind_core.specs.Releases.{releases}
 use Rattle.wind_core.specs.Tick.{tick, tick_counted, take_turn, turn_of, turn_found, time_out, late_answer, late_errno}
+use Rattle.wind_core.specs.Move.{Spawn, Remove, Pend, Delay, Release, ReleaseAll, EndWait, WakeAll, Tick, Suspend, Resume, ChangePri, Reset, SetLocks, SetNormal, SetSafe, SetHeld, SetErrno, SetIntLocked, SetAgain, SetRegs, Unreserve, LeaveGate, Answer, Refuse, SetLast, SetSlice, DrawIds, Lend, apply}
+use Rattle.wind_core.specs.Move.{after as after_moves}
 use Rattle.wind_core.proofs.Stable as stable
-use Rattle.wind_core.proofs.Keeping.{every_call_keeps}
+use Rattle.wind_core.proofs.Moving.{move_keeps}
 use Rattle.wind_core.proofs.Ticking.{tick_keeps}
 use Rattle.msg_queue.specs.State.{QueueState, receivers, senders}
 use Rattle.msg_queue.specs.Comings.{awakened}
 use Rattle.msg_queue.specs.Kept.{Waited, IsElsewhere, BeginsNone, IsCalm}
-use Rattle.msg_queue.specs.Laws.{CalmLaw, ThenLaw}
+use Rattle.msg_queue.specs.Laws.{CalmLaw, ThenLaw, SeriesLaw}
 use Rattle.msg_queue.proofs.Members.{each}
 
 -- ---- the next id stays
@@ -102,27 +104,13 @@ calm_set rs k who f id wait is =
 
 pub calm_end_wait : (rs : List (ℕ × QueueState)) (k : KernState) (who answer : ℕ) (errno : Option Errno) → IsKern k → IsCalm rs k (end_wait k who answer errno)
 calm_end_wait rs k who answer errno is =
-    calm_at rs k (end_wait k who answer errno) ((every_call_keeps k is).answering who answer errno) (next-move k who (answered answer errno))
+    calm_at rs k (end_wait k who answer errno) (move_keeps k (EndWait who answer errno) is tt) (next-move k who (answered answer errno))
     (still-move rs k k.next_id k who (answered answer errno) (λ t p. idle rs k k.next_id (answered answer errno t) refl) (at_first rs k k.next_id))
 
 calm_release : (rs : List (ℕ × QueueState)) (k : KernState) (who : ℕ) → IsKern k → IsCalm rs k (release k who)
 calm_release rs k who is =
-    calm_at rs k (release k who) ((every_call_keeps k is).releasing who) (next-move k who released)
+    calm_at rs k (release k who) (move_keeps k (Release who) is tt) (next-move k who released)
     (still-move rs k k.next_id k who released (λ t p. idle rs k k.next_id (released t) refl) (at_first rs k k.next_id))
-
--- the kernel's state by fields that tell nothing of its tasks
-pub counters_keep : (k : KernState) (next slice : ℕ) (lent : Bool) (last : Option ℕ) → IsKern k → k.next_id ≤ next → next ≤ 1048577
-    → IsKern (record k { next_id = next; slice = slice; lent = lent; last = last })
-counters_keep k next slice lent last is more most = record {
-  few = is.few;
-  rising = is.rising;
-  ids = All-weaker (λ (t : Task). t.id < k.next_id) (λ (t : Task). t.id < next) (λ t h. omega (arith, h, more)) k.tasks is.ids;
-  first_id = omega (arith, is.first_id, more);
-  last_id = most;
-  distinct = is.distinct;
-  sinces = is.sinces;
-  ahead = is.ahead;
-}
 
 -- of two such moves, one after the other
 elsewhere_later : (rs : List (ℕ × QueueState)) (n m : ℕ) (place : Place) → n ≤ m → IsElsewhere rs n place → IsElsewhere rs m place
@@ -147,60 +135,68 @@ calm-releases rs k [] is = calm_at rs k k is refl (at_first rs k k.next_id)
 calm-releases rs k (t ∷ ts) is = let once = calm_release rs k t.id is in calm_then rs k (release k t.id) (releases k (t ∷ ts)) once (calm-releases rs (release k t.id) ts once.kern)
 
 pub calms : CalmLaw
-calms rs k is =
-    let by = every_call_keeps k is in
+calms rs k (Spawn new) is may spares =
     let n = k.next_id in
-    let first = at_first rs k n in
     record {
-      staying = calm_at rs k k is refl first;
-      ending = λ who answer errno. calm_end_wait rs k who answer errno is;
-      releasing = λ who. calm_release rs k who is;
-      waking = λ place answer errno.
-          calm_at rs k (wake_all k place answer errno) (by.waking place answer errno) (next-end_waits k (waiters k.tasks place) answer errno)
-          (still-end_waits rs k n k (waiters k.tasks place) answer errno first);
-      releasing_all = λ place. calm-releases rs k (waiters k.tasks place) is;
-      ticking = calm_at rs k (tick k) (tick_keeps k is) (next-tick k) (still-tick rs k n k first);
-      pending = λ who place fifo m some other.
-          let f : Task → Task = pended place fifo (wake_at place.side k.tick m) in
-          calm_at rs k (pend k who place fifo m) (by.pending who place fifo m some) refl
-          (still-renew rs k n k who f (λ t p there here. inr (subst (IsElsewhere rs n) (same_Some place there here) other)) first);
-      delaying = λ who m.
-          calm_at rs k (delay k who m) (by.delaying who m) refl
-          (still-renew rs k n k who (delayed k.tick m) (λ t p. elim (eqb m 0) as (λ b. BeginsNone rs k n (cond b t (record t { wake = Some (k.tick + m); turns = 0 }))) [ true ↦ p | false ↦ p ]) first);
-      spawning = λ new none. record {
-        kern = by.spawning new none;
-        ids = omega arith;
-        waits = All-push (BeginsNone rs k (n + 1)) k.tasks (new_task n k.next_since new) (at_first rs k (n + 1)) (idle rs k (n + 1) (new_task n k.next_since new) refl);
-      };
-      removing = λ who. calm_at rs k (remove k who) (by.removing who) refl (All-filter (λ (t : Task). not (eqb t.id who)) (BeginsNone rs k n) k.tasks first);
-      suspending = λ who. calm_set rs k who suspended (λ t. refl) (λ t. refl) (by.suspending who);
-      resuming = λ who.
-          let moved = move_task k who resumed in
-          let b = is_suspended (task_of k.tasks who) in
-          calm_at rs k (resume k who) (by.resuming who) (next-if b k moved k (next-move k who resumed) refl)
-          (still-if rs k n b moved k (still-move rs k n k who resumed (λ t p. p) first) first);
-      resetting = λ who. calm_at rs k (reset k who) (by.resetting who) refl (still-renew rs k n k who unmarked (λ t p. p) first);
-      changing_pri = λ who pri.
-          let moved = move_task k who (with_pri pri) in
-          let b = has_pri pri (task_of k.tasks who) in
-          calm_at rs k (change_pri k who pri) (by.changing_pri who pri) (next-if b k k moved refl (next-move k who (with_pri pri)))
-          (still-if rs k n b k moved first (still-move rs k n k who (with_pri pri) (λ t p. p) first));
-      setting_locks = λ who m. calm_set rs k who (λ t. record t { locks = m }) (λ t. refl) (λ t. refl) (by.setting_locks who m);
-      setting_normal = λ who pri. calm_set rs k who (λ t. record t { normal = pri }) (λ t. refl) (λ t. refl) (by.setting_normal who pri);
-      setting_safe = λ who m. calm_set rs k who (λ t. record t { safe = m }) (λ t. refl) (λ t. refl) (by.setting_safe who m);
-      setting_held = λ who m. calm_set rs k who (λ t. record t { held = m }) (λ t. refl) (λ t. refl) (by.setting_held who m);
-      setting_errno = λ who m. calm_set rs k who (λ t. record t { errno = m }) (λ t. refl) (λ t. refl) (by.setting_errno who m);
-      setting_int_locked = λ who on. calm_set rs k who (λ t. record t { int_locked = on }) (λ t. refl) (λ t. refl) (by.setting_int_locked who on);
-      setting_again = λ who on. calm_set rs k who (λ t. record t { again = on }) (λ t. refl) (λ t. refl) (by.setting_again who on);
-      setting_regs = λ who regs. calm_set rs k who (λ t. record t { regs = regs }) (λ t. refl) (λ t. refl) (by.setting_regs who regs);
-      leaving_gate = λ who. calm_set rs k who past_gate (λ t. refl) (λ t. refl) (by.leaving_gate who);
-      giving_answer = λ who value. calm_set rs k who (with_answer value) (λ t. refl) (λ t. refl) (by.giving_answer who value);
-      refusing = λ who e. calm_set rs k who (with_refusal e) (λ t. refl) (λ t. refl) (by.refusing who e);
-      noting_last = λ last. calm_at rs k (record k { last = last }) (by.noting_last last) refl first;
-      slicing = λ m. calm_at rs k (record k { slice = m }) (by.slicing m) refl first;
-      giving_ids = λ next lent more most. record {
-        kern = counters_keep k next k.slice lent k.last is more most;
-        ids = more;
-        waits = at_first rs k next;
-      };
+      kern = move_keeps k (Spawn new) is may;
+      ids = omega arith;
+      waits = All-push (BeginsNone rs k (n + 1)) k.tasks (new_task n k.next_since new) (at_first rs k (n + 1)) (idle rs k (n + 1) (new_task n k.next_since new) refl);
     }
+calms rs k (Remove who) is may spares =
+    calm_at rs k (remove k who) (move_keeps k (Remove who) is may) refl (All-filter (λ (t : Task). not (eqb t.id who)) (BeginsNone rs k k.next_id) k.tasks (at_first rs k k.next_id))
+calms rs k (Pend who place fifo m) is may spares =
+    let f : Task → Task = pended place fifo (wake_at place.side k.tick m) in
+    calm_at rs k (pend k who place fifo m) (move_keeps k (Pend who place fifo m) is may) refl
+    (still-renew rs k k.next_id k who f (λ t p there here. inr (subst (IsElsewhere rs k.next_id) (same_Some place there here) spares)) (at_first rs k k.next_id))
+calms rs k (Delay who m) is may spares =
+    calm_at rs k (delay k who m) (move_keeps k (Delay who m) is may) refl
+    (still-renew rs k k.next_id k who (delayed k.tick m)
+    (λ t p. elim (eqb m 0) as (λ b. BeginsNone rs k k.next_id (cond b t (record t { wake = Some (k.tick + m); turns = 0 }))) [ true ↦ p | false ↦ p ]) (at_first rs k k.next_id))
+calms rs k (Release who) is may spares = calm_release rs k who is
+calms rs k (ReleaseAll place) is may spares = calm-releases rs k (waiters k.tasks place) is
+calms rs k (EndWait who value errno) is may spares = calm_end_wait rs k who value errno is
+calms rs k (WakeAll place value errno) is may spares =
+    calm_at rs k (wake_all k place value errno) (move_keeps k (WakeAll place value errno) is may) (next-end_waits k (waiters k.tasks place) value errno)
+    (still-end_waits rs k k.next_id k (waiters k.tasks place) value errno (at_first rs k k.next_id))
+calms rs k Tick is may spares = calm_at rs k (tick k) (tick_keeps k is) (next-tick k) (still-tick rs k k.next_id k (at_first rs k k.next_id))
+calms rs k (Resume who) is may spares =
+    let moved = move_task k who resumed in
+    let b = is_suspended (task_of k.tasks who) in
+    let first = at_first rs k k.next_id in
+    calm_at rs k (resume k who) (move_keeps k (Resume who) is may) (next-if b k moved k (next-move k who resumed) refl)
+    (still-if rs k k.next_id b moved k (still-move rs k k.next_id k who resumed (λ t p. p) first) first)
+calms rs k (ChangePri who pri) is may spares =
+    let moved = move_task k who (with_pri pri) in
+    let b = has_pri pri (task_of k.tasks who) in
+    let first = at_first rs k k.next_id in
+    calm_at rs k (change_pri k who pri) (move_keeps k (ChangePri who pri) is may) (next-if b k k moved refl (next-move k who (with_pri pri)))
+    (still-if rs k k.next_id b k moved first (still-move rs k k.next_id k who (with_pri pri) (λ t p. p) first))
+calms rs k (Reset who) is may spares =
+    calm_at rs k (reset k who) (move_keeps k (Reset who) is may) refl (still-renew rs k k.next_id k who unmarked (λ t p. p) (at_first rs k k.next_id))
+calms rs k (Suspend who) is may spares = calm_set rs k who suspended (λ t. refl) (λ t. refl) (move_keeps k (Suspend who) is may)
+calms rs k (SetLocks who n) is may spares = calm_set rs k who (λ t. record t { locks = n }) (λ t. refl) (λ t. refl) (move_keeps k (SetLocks who n) is may)
+calms rs k (SetNormal who pri) is may spares = calm_set rs k who (λ t. record t { normal = pri }) (λ t. refl) (λ t. refl) (move_keeps k (SetNormal who pri) is may)
+calms rs k (SetSafe who n) is may spares = calm_set rs k who (λ t. record t { safe = n }) (λ t. refl) (λ t. refl) (move_keeps k (SetSafe who n) is may)
+calms rs k (SetHeld who n) is may spares = calm_set rs k who (λ t. record t { held = n }) (λ t. refl) (λ t. refl) (move_keeps k (SetHeld who n) is may)
+calms rs k (SetErrno who n) is may spares = calm_set rs k who (λ t. record t { errno = n }) (λ t. refl) (λ t. refl) (move_keeps k (SetErrno who n) is may)
+calms rs k (SetIntLocked who on) is may spares = calm_set rs k who (λ t. record t { int_locked = on }) (λ t. refl) (λ t. refl) (move_keeps k (SetIntLocked who on) is may)
+calms rs k (SetAgain who on) is may spares = calm_set rs k who (λ t. record t { again = on }) (λ t. refl) (λ t. refl) (move_keeps k (SetAgain who on) is may)
+calms rs k (SetRegs who regs) is may spares = calm_set rs k who (λ t. record t { regs = regs }) (λ t. refl) (λ t. refl) (move_keeps k (SetRegs who regs) is may)
+calms rs k (Unreserve who) is may spares = calm_set rs k who unreserved (λ t. refl) (λ t. refl) (move_keeps k (Unreserve who) is may)
+calms rs k (LeaveGate who) is may spares = calm_set rs k who past_gate (λ t. refl) (λ t. refl) (move_keeps k (LeaveGate who) is may)
+calms rs k (Answer who value) is may spares = calm_set rs k who (with_answer value) (λ t. refl) (λ t. refl) (move_keeps k (Answer who value) is may)
+calms rs k (Refuse who e) is may spares = calm_set rs k who (with_refusal e) (λ t. refl) (λ t. refl) (move_keeps k (Refuse who e) is may)
+calms rs k (SetLast last) is may spares = calm_at rs k (record k { last = last }) (move_keeps k (SetLast last) is may) refl (at_first rs k k.next_id)
+calms rs k (SetSlice n) is may spares = calm_at rs k (record k { slice = n }) (move_keeps k (SetSlice n) is may) refl (at_first rs k k.next_id)
+calms rs k (DrawIds next) is may spares = record { kern = move_keeps k (DrawIds next) is may; ids = may.0; waits = at_first rs k next }
+calms rs k (Lend on) is may spares = calm_at rs k (record k { lent = on }) (move_keeps k (Lend on) is may) refl (at_first rs k k.next_id)
+
+-- ---- any number of moves
+pub calm_stays : (rs : List (ℕ × QueueState)) (k : KernState) → IsKern k → IsCalm rs k k
+calm_stays rs k is = calm_at rs k k is refl (at_first rs k k.next_id)
+
+pub calm_series : SeriesLaw
+calm_series rs k [] is each = calm_stays rs k is
+calm_series rs k (m ∷ ms) is each =
+    let once = calms rs k m is each.0.0 each.0.1 in
+    calm_then rs k (apply k m) (after_moves (apply k m) ms) once (calm_series rs (apply k m) ms once.kern each.1)

@@ -16,8 +16,10 @@ use Rattle.wind_core.specs.State.{KernState, IsKern, task_id}
 use Rattle.wind_core.specs.Orders.{waits_before, waits_at, waiters}
 use Rattle.wind_core.specs.Moves.{wake_all}
 use Rattle.wind_core.specs.Tick.{tick}
+use Rattle.wind_core.specs.Move.{Move, WakeAll, Tick, DrawIds}
 use Rattle.wind_core.proofs.Passes.{waits_before-order}
 use Rattle.wind_core.proofs.Keeping.{end_waits_keep}
+use Rattle.wind_core.proofs.Moving.{move_keeps}
 use Rattle.wind_core.proofs.Lawful.{none_left}
 use Rattle.msg_queue.specs.declared.asks.Ask.{Ask}
 use Rattle.msg_queue.specs.declared.words.Receiving.{Receiving}
@@ -31,7 +33,7 @@ use Rattle.msg_queue.specs.Laws.{StartLaw, KeptLaw, CreateLaw}
 use Rattle.msg_queue.proofs.Tables.{taken_same, taken_other, added_other, rises-without, written_twice}
 use Rattle.msg_queue.proofs.Members.{each}
 use Rattle.msg_queue.proofs.Deeds.{passed, not_false, ReceiveIs, receive_is}
-use Rattle.msg_queue.proofs.Calm.{calms, calm_then, counters_keep}
+use Rattle.msg_queue.proofs.Calm.{calms, calm_series}
 use Rattle.msg_queue.proofs.Keeping.{calm_keeps, write_keeps, place_is}
 use Rattle.msg_queue.proofs.Waits.{waits_itself, pend_keeps}
 use Rattle.msg_queue.proofs.Steps.{length-bytes_at, kept_bytes, served_keeps, good_of, well_at, nobody, length-added, added_good, positive, send_keeps}
@@ -101,7 +103,7 @@ created_keeps s y kept good left =
     let rs = s.queues.queues in
     let qs : QueuesState = record s.queues { queues = rs ++ (n, y) ∷ [] } in
     record {
-      kern = counters_keep s.kern (n + 1) s.kern.slice s.kern.lent s.kern.last kept.kern (omega arith) (omega (arith, left));
+      kern = move_keeps s.kern (DrawIds (n + 1)) kept.kern (omega arith, omega (arith, left));
       rising = subst (λ ns. AllPairs (λ i j. i < j) ns) (sym (map-append (λ (r : ℕ × QueueState). r.0) rs ((n, y) ∷ [])))
           (all_pairs_push (λ i j. i < j) (ids rs) n kept.rising (ids_below_at rs n kept.ids));
       ids = All-push (λ (r : ℕ × QueueState). r.0 < n + 1) rs (n, y) (All-weaker (λ (r : ℕ × QueueState). r.0 < n) (λ (r : ℕ × QueueState). r.0 < n + 1) (λ r h. omega (arith, h)) rs kept.ids) (omega arith);
@@ -121,9 +123,8 @@ created_keeps s y kept good left =
 -- all that wait at a queue go on
 awakened_calm : (rs : List (ℕ × QueueState)) (k : KernState) (id : ℕ) → IsKern k → IsCalm rs k (awakened k id)
 awakened_calm rs k id is =
-    let half = wake_all k (receivers id) 4294967295 (Some errors.ObjDeleted) in
-    let first = (calms rs k is).waking (receivers id) 4294967295 (Some errors.ObjDeleted) in
-    calm_then rs k half (awakened k id) first ((calms rs half first.kern).waking (senders id) 4294967295 (Some errors.ObjDeleted))
+    let wakes : Place → Move = λ place. WakeAll place 4294967295 (Some errors.ObjDeleted) in
+    calm_series rs k (wakes (receivers id) ∷ wakes (senders id) ∷ []) is ((tt, tt), ((tt, tt), tt))
 
 -- and no sender waits there any more
 no_sender : (k : KernState) (id : ℕ) → IsKern k → (t : Task) → Contains (awakened k id).tasks t → t.wait ≡ Some (senders id) → ⊥
@@ -169,7 +170,7 @@ keeps s (sends id x) kept may = send_keeps s id x kept may
 keeps s (receives id x) kept may = receive_keeps s id x kept may
 keeps s (creates y) kept may = created_keeps s y kept may.0 may.2
 keeps s (deletes id) kept may = gone_keeps s id (queue_of s id) kept
-keeps s ticks kept may = calm_keeps s (tick s.kern) s.ram kept (calms s.queues.queues s.kern kept.kern).ticking refl
+keeps s ticks kept may = calm_keeps s (tick s.kern) s.ram kept (calms s.queues.queues s.kern Tick kept.kern tt tt) refl
 keeps s (others k ram) kept may = calm_keeps s k ram kept may.0 may.1
 
 -- where there is no queue, and no task waits

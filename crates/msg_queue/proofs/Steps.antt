@@ -20,7 +20,7 @@ use Rattle.msg_queue.specs.Sends.{declined, passed_on, queued, blocked, send_dee
 use Rattle.msg_queue.specs.Kept.{IsQueue, IsServable, AtObject, WaitsWell, IsKept, IsCaller}
 use Rattle.id_table.proofs.Lookups.{found_has}
 use Rattle.msg_queue.proofs.Deeds.{SendIs, send_is}
-use Rattle.msg_queue.proofs.Calm.{calms, calm_end_wait}
+use Rattle.msg_queue.proofs.Calm.{calm_stays, calm_end_wait}
 use Rattle.msg_queue.proofs.Keeping.{calm_keeps, write_keeps}
 use Rattle.msg_queue.proofs.Waits.{waits_itself, pend_keeps}
 use Rattle.msg_queue.proofs.Traffic.{waits_is, is_first, stuck}
@@ -38,7 +38,7 @@ length-bytes_at ram at n = omega (arith, length-take n (drop at ram))
 
 pub kept_bytes : (s : Scene) (at n : ℕ) (bytes : List ℕ) → IsKept s → lies_in (length s.ram) at n ≡ true → length bytes ≤ n → IsKept (stored s at bytes)
 kept_bytes s at n bytes kept there short =
-    calm_keeps s s.kern (with_bytes s.ram at bytes) kept (calms s.queues.queues s.kern kept.kern).staying (length-with_bytes s.ram at n bytes there short)
+    calm_keeps s s.kern (with_bytes s.ram at bytes) kept (calm_stays s.queues.queues s.kern kept.kern) (length-with_bytes s.ram at n bytes there short)
 
 pub served_keeps : (s : Scene) (who answer : ℕ) → IsKept s → IsKept (served s who answer)
 served_keeps s who answer kept = calm_keeps s (end_wait s.kern who answer None) s.ram kept (calm_end_wait s.queues.queues s.kern who answer None kept.kern) refl

@@ -15,7 +15,8 @@ use Rattle.wind_lists.proofs.Records.{found_in}
 use Rattle.wind_core.specs.State.{KernState, IsKern, task_id, task_of}
 use Rattle.wind_core.specs.Orders.{is_place}
 use Rattle.wind_core.specs.Moves.{renewed, wake_at, pended, pend}
-use Rattle.wind_core.proofs.Keeping.{every_call_keeps}
+use Rattle.wind_core.specs.Move.{Pend}
+use Rattle.wind_core.proofs.Moving.{move_keeps}
 use Rattle.msg_queue.specs.declared.asks.Ask.{Ask}
 use Rattle.msg_queue.specs.State.{QueueState, QueuesState, Scene, queue_of, ask_of, lies_in, waits_there, counts, with_new_ask, waiting}
 use Rattle.msg_queue.specs.Kept.{IsServable, AtObject, WaitsWell, SendsToLive, WaitsForOld, IsKept}
@@ -70,7 +71,7 @@ module _ (s : Scene) (a : Ask) (fifo : Bool) (n : ℕ) (q : QueueState) (t : Tas
       let qs : QueuesState = record s.queues { asks = asks } in
       let who_is : (u : Task) → Contains (pend k a.who a.place fifo n).tasks u → (v : Task) × Contains k.tasks v × (u ≡ cond (eqb v.id a.who) (g v) v) = λ u at. contains_map (λ (v : Task). cond (eqb v.id a.who) (g v) v) k.tasks u at in
       record {
-        kern = (every_call_keeps k kept.kern).pending a.who a.place fifo n some;
+        kern = move_keeps k (Pend a.who a.place fifo n) kept.kern some;
         rising = kept.rising;
         ids = kept.ids;
         sound = kept.sound;

@@ -1,17 +1,12 @@
 -- What follows of the definitions of message queues alone.
-use Rattle.std.specs.Prelude.{◌≡◌, ℕ, zero, suc, ◌+◌, ◌<◌, ◌≤◌, Bool, List, [], ◌++◌, length, Option, None, Some}
+use Rattle.std.specs.Prelude.{◌≡◌, ℕ, zero, suc, ◌+◌, ◌≤◌, List, [], ◌++◌, length, Option, None, Some}
 use Rattle.std.specs.List.{All}
 use Rattle.std.specs.List.Sorted.{IsPermutation}
-use Rattle.wind_base.specs.Limits.{most_tasks, greatest_id}
-use Rattle.wind_base.specs.declared.errno.Errno.{Errno}
-use Rattle.wind_base.specs.declared.regs.Regs.{Regs}
+use Rattle.wind_base.specs.Limits.{most_tasks}
 use Rattle.id_table.specs.Rows.{object_of, IdsBelow}
-use Rattle.id_table.specs.declared.ident.Place.{Place}
-use Rattle.task_block.specs.declared.task.NewTask.{NewTask}
 use Rattle.wind_core.specs.State.{KernState, IsKern}
-use Rattle.wind_core.specs.Moves.{spawn, spawn_refusal, remove, pend, delay, release, end_wait, wake_all, suspend, resume, reset, change_pri, set_locks, set_normal, set_safe, set_held, set_errno, set_int_locked, set_again, set_regs, leave_gate, answer, refuse}
-use Rattle.wind_core.specs.Releases.{release_all}
-use Rattle.wind_core.specs.Tick.{tick}
+use Rattle.wind_core.specs.Move.{Move, Pend, apply, EachMove}
+use Rattle.wind_core.specs.Move.{IsAllowed as MayMove, after as after_moves}
 use Rattle.msg_queue.specs.declared.words.Sending.{Sending}
 use Rattle.msg_queue.specs.declared.words.Receiving.{Receiving}
 use Rattle.msg_queue.specs.State.{QueueState, Scene, scene, queue_of}
@@ -37,47 +32,24 @@ CreateLaw = (s : Scene) (max_msgs max_len options : ℕ)
     → create_refusal (length s.queues.queues) s.kern.next_id max_msgs max_len options ≡ None
     → IsKept s → IsKept (created s (new_queue max_msgs max_len options))
 
--- each move of the kernel may come between two calls on queues, since it begins no wait at a queue
-pub record IsCalmBy (rs : List (ℕ × QueueState)) (k : KernState) : Type 0 where
-  pub staying : IsCalm rs k k
-  pub ending : (who answer : ℕ) (errno : Option Errno) → IsCalm rs k (end_wait k who answer errno)
-  pub releasing : (who : ℕ) → IsCalm rs k (release k who)
-  pub waking : (place : Place) (answer : ℕ) (errno : Option Errno) → IsCalm rs k (wake_all k place answer errno)
-  pub releasing_all : (place : Place) → IsCalm rs k (release_all k place)
-  pub ticking : IsCalm rs k (tick k)
-  -- a wait for something else that lives
-  pub pending : (who : ℕ) (place : Place) (fifo : Bool) (n : ℕ) → 0 < n → IsElsewhere rs k.next_id place
-      → IsCalm rs k (pend k who place fifo n)
-  pub delaying : (who n : ℕ) → IsCalm rs k (delay k who n)
-  pub spawning : (n : NewTask) → spawn_refusal k ≡ None → IsCalm rs k (spawn k n)
-  pub removing : (who : ℕ) → IsCalm rs k (remove k who)
-  pub suspending : (who : ℕ) → IsCalm rs k (suspend k who)
-  pub resuming : (who : ℕ) → IsCalm rs k (resume k who)
-  pub resetting : (who : ℕ) → IsCalm rs k (reset k who)
-  pub changing_pri : (who pri : ℕ) → IsCalm rs k (change_pri k who pri)
-  pub setting_locks : (who n : ℕ) → IsCalm rs k (set_locks k who n)
-  pub setting_normal : (who pri : ℕ) → IsCalm rs k (set_normal k who pri)
-  pub setting_safe : (who n : ℕ) → IsCalm rs k (set_safe k who n)
-  pub setting_held : (who n : ℕ) → IsCalm rs k (set_held k who n)
-  pub setting_errno : (who n : ℕ) → IsCalm rs k (set_errno k who n)
-  pub setting_int_locked : (who : ℕ) (on : Bool) → IsCalm rs k (set_int_locked k who on)
-  pub setting_again : (who : ℕ) (on : Bool) → IsCalm rs k (set_again k who on)
-  pub setting_regs : (who : ℕ) (regs : Regs) → IsCalm rs k (set_regs k who regs)
-  pub leaving_gate : (who : ℕ) → IsCalm rs k (leave_gate k who)
-  pub giving_answer : (who value : ℕ) → IsCalm rs k (answer k who value)
-  pub refusing : (who : ℕ) (e : Errno) → IsCalm rs k (refuse k who e)
-  pub noting_last : (last : Option ℕ) → IsCalm rs k (record k { last = last })
-  pub slicing : (n : ℕ) → IsCalm rs k (record k { slice = n })
-  -- an object of another kind is made
-  pub giving_ids : (next : ℕ) (lent : Bool) → k.next_id ≤ next → next ≤ greatest_id + 1
-      → IsCalm rs k (record k { next_id = next; lent = lent })
+-- a move begins no wait at a queue: what a pend names is something else that lives
+abbrev pub SparesQueues : List (ℕ × QueueState) → KernState → Move → Type 0
+SparesQueues rs k (Pend who place fifo n) = IsElsewhere rs k.next_id place
+SparesQueues rs k m = Unit {0}
 
+-- such a move may come between two calls on queues
 abbrev pub CalmLaw : Type 0
-CalmLaw = (rs : List (ℕ × QueueState)) (k : KernState) → IsKern k → IsCalmBy rs k
+CalmLaw = (rs : List (ℕ × QueueState)) (k : KernState) (m : Move) → IsKern k → MayMove k m → SparesQueues rs k m
+    → IsCalm rs k (apply k m)
 
 -- of two such moves, one after the other, also both together
 abbrev pub ThenLaw : Type 0
 ThenLaw = (rs : List (ℕ × QueueState)) (k l m : KernState) → IsCalm rs k l → IsCalm rs l m → IsCalm rs k m
+
+-- so may any number of such moves, none included
+abbrev pub SeriesLaw : Type 0
+SeriesLaw = (rs : List (ℕ × QueueState)) (k : KernState) (ms : List Move) → IsKern k
+    → EachMove (λ j m. MayMove j m × SparesQueues rs j m) k ms → IsCalm rs k (after_moves k ms)
 
 -- ---- the counters
 -- the tick stays, whether ids are lent too, and at most so many order numbers are given

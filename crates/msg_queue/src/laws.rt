@@ -1,6 +1,6 @@
 //! What follows of the definitions alone.
 
-ghost use Rattle.msg_queue.specs.Laws.{ConservationLaw, RunLaw, StartLaw, CountLaw, KeptLaw, CreateLaw, CalmLaw, ThenLaw};
+ghost use Rattle.msg_queue.specs.Laws.{ConservationLaw, RunLaw, StartLaw, CountLaw, KeptLaw, CreateLaw, CalmLaw, ThenLaw, SeriesLaw};
 
 /// For each queue that is live after some steps of the machine of calls, what was accepted was taken or is held, each
 /// byte list as often; where none was urgent, in the same order.
@@ -20,10 +20,11 @@ pub fn kept_law()
     ensures creates { CreateLaw }
 {}
 
-/// No move of the kernel begins a wait at a queue, and so no series of them.
+/// No move of the kernel begins a wait at a queue, unless it is a pend there, and so no number of moves does.
 pub fn calm_law()
     ensures one { CalmLaw }
     ensures both { ThenLaw }
+    ensures series { SeriesLaw }
 {}
 
 /// No call changes the tick, and each gives at most so many order numbers.

@@ -9,20 +9,21 @@ use Rattle.task_block.specs.declared.task.Task.{Task}
 use Rattle.wind_core.specs.State.{KernState, IsKern, task_of}
 use Rattle.wind_core.specs.Orders.{first_waiter}
 use Rattle.wind_core.specs.Moves.{end_wait, wake_all, change_pri, set_held, set_normal}
+use Rattle.wind_core.specs.Move.{Move, Pend, EndWait, WakeAll, ChangePri, SetNormal, SetSafe, SetHeld, apply, IsAllowed}
 use Rattle.sem_plain.specs.State.{both as with_semaphores}
 use Rattle.sem_plain.specs.Laws.{MayBegin}
-use Rattle.task_safety.specs.Safety.{make_safe, lessen}
+use Rattle.task_safety.specs.Safety.{safe_of, make_safe, lessen}
 use Rattle.inheritance.specs.declared.mutex.Mutex.{Mutex}
 use Rattle.inheritance.specs.Mutexes.{MutexState, mutex_place}
 use Rattle.inheritance.specs.Reach.{raised_kern}
 use Rattle.sem_mutex.specs.Calls.{held_of, holding, guarded, eased, restored, less_held, dropped, letting_go, hand, deepen, await, taken, take_alone, take, is_others, take_refusal, freed, owned, pass_on, give_up, shallow, give_alone, give, ended, owner_ended, delete_alone, delete, pri_after, priority_alone, priority_set}
 use Rattle.msg_queue.specs.Kept.{IsCalm}
-use Rattle.msg_queue.specs.Laws.{IsCalmBy}
+use Rattle.msg_queue.specs.Laws.{SparesQueues}
 use Rattle.msg_queue.proofs.Calm.{calms}
 use Rattle.kernel_world.specs.Objects.{is_live, KeepsWaits}
 use Rattle.kernel_world.specs.declared.objects.Objects.{Objects}
-use Rattle.kernel_world.proofs.Calming.{KeepsQueues, queues-calm, calm-make_safe, calm-lessen, calm-raised}
-use Rattle.kernel_world.proofs.Waiting.{waits-pend, waits-end_wait, waits-wake_all, waits-change_pri, waits-set_held, waits-set_normal, waits-make_safe, waits-lessen, waits-raised}
+use Rattle.kernel_world.proofs.Calming.{KeepsQueues, queues-calm, calm-lessen, calm-raised}
+use Rattle.kernel_world.proofs.Waiting.{SparesWaits, waits-move, waits-lessen, waits-raised}
 use Rattle.object_calls.proofs.MutexTables.{ids-write}
 
 -- the kernel's facts hold, and those of waits and of queues
@@ -38,29 +39,29 @@ MayAwait k o id = MayBegin (with_semaphores k o.semaphores) (mutex_place id) × 
 module _ (o : Objects) where
   -- ---- moves of the kernel
   module _ (k : KernState) (still : Still k o) where
-    calm : IsCalmBy o.queues.queues k
-    calm = calms o.queues.queues k still.kern
-
     still_by : (j : KernState) → KeepsWaits j o → IsCalm o.queues.queues k j → Still j o
     still_by j waits goes = record { kern = goes.kern; waits = waits; queues = queues-calm k j o goes still.queues }
 
+    still-move : (m : Move) → IsAllowed k m → SparesWaits k o m → SparesQueues o.queues.queues k m → Still (apply k m) o
+    still-move m may waits queues = still_by (apply k m) (waits-move k o still.kern still.waits m waits) (calms o.queues.queues k m still.kern may queues)
+
     still-end_wait : (who a : ℕ) (e : Option Errno) → Still (end_wait k who a e) o
-    still-end_wait who a e = still_by (end_wait k who a e) (waits-end_wait k o still.kern still.waits who a e) (calm.ending who a e)
+    still-end_wait who a e = still-move (EndWait who a e) tt tt tt
 
     still-wake_all : (place : Place) (a : ℕ) (e : Option Errno) → Still (wake_all k place a e) o
-    still-wake_all place a e = still_by (wake_all k place a e) (waits-wake_all k o still.kern still.waits place a e) (calm.waking place a e)
+    still-wake_all place a e = still-move (WakeAll place a e) tt tt tt
 
     still-change_pri : (who pri : ℕ) → Still (change_pri k who pri) o
-    still-change_pri who pri = still_by (change_pri k who pri) (waits-change_pri k o still.kern still.waits who pri) (calm.changing_pri who pri)
+    still-change_pri who pri = still-move (ChangePri who pri) tt tt tt
 
     still-set_normal : (who pri : ℕ) → Still (set_normal k who pri) o
-    still-set_normal who pri = still_by (set_normal k who pri) (waits-set_normal k o still.kern still.waits who pri) (calm.setting_normal who pri)
+    still-set_normal who pri = still-move (SetNormal who pri) tt tt tt
 
     still-set_held : (who n : ℕ) → Still (set_held k who n) o
-    still-set_held who n = still_by (set_held k who n) (waits-set_held k o still.kern still.waits who n) (calm.setting_held who n)
+    still-set_held who n = still-move (SetHeld who n) tt tt tt
 
     still-make_safe : (who : ℕ) → Still (make_safe k who) o
-    still-make_safe who = still_by (make_safe k who) (waits-make_safe k o still.kern still.waits who) (calm-make_safe o.queues.queues k who still.kern)
+    still-make_safe who = still-move (SetSafe who (safe_of (task_of k.tasks who) + 1)) tt (λ some. omega arith) tt
 
     still-lessen : (who n : ℕ) → Still (lessen k who n) o
     still-lessen who n = still_by (lessen k who n) (waits-lessen k o still.kern still.waits who n) (calm-lessen o.queues.queues k who n still.kern)
@@ -97,9 +98,9 @@ module _ (o : Objects) where
   -- a wait for a mutex that lives, and is no semaphore
   still-await : (s : MutexState) (who id n : ℕ) (m : Mutex) → 0 < n → MayAwait s.kern o id → Still s.kern o → Still (await s who id n m).kern o
   still-await s who id n m some may still =
-      still_by s.kern still (await s who id n m).kern
-      (waits-pend s.kern o still.kern still.waits who (mutex_place id) (not m.by_priority) n may.0 may.1 (λ q. absurd (omega (arith, q))) (λ q. absurd (omega (arith, q))))
-      ((calms o.queues.queues s.kern still.kern).pending who (mutex_place id) (not m.by_priority) n some (λ side. (refl, may.0.made, may.2)))
+      still-move s.kern still (Pend who (mutex_place id) (not m.by_priority) n) some
+      (record { may = may.0; lives = may.1; other = λ q. absurd (omega (arith, q)); console = λ q. absurd (omega (arith, q)) })
+      (λ side. (refl, may.0.made, may.2))
 
   pub still-take : (s : MutexState) (who id n : ℕ) → take_refusal who n (object_of s.mutexes id) ≡ None → (is_some (object_of s.mutexes id) ≡ true → MayAwait s.kern o id)
       → Still s.kern o → Still (take s who id n).kern o

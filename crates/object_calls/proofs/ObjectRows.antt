@@ -13,6 +13,7 @@ use Rattle.id_table.specs.Rows.{IdsBelow, IsId, ids, object_of, with_object, wit
 use Rattle.id_table.proofs.Lookups.{found_below, no_object_of}
 use Rattle.wind_core.specs.State.{KernState, IsKern, Lives}
 use Rattle.wind_core.specs.Orders.{is_place}
+use Rattle.wind_core.specs.Move.{Pend, EndWait, WakeAll, DrawIds}
 use Rattle.sem_plain.specs.declared.semaphore.Semaphore.{Semaphore}
 use Rattle.sem_plain.specs.State.{SemState, sem_place, may_hold}
 use Rattle.sem_plain.specs.Calls as plain
@@ -21,7 +22,7 @@ use Rattle.sem_plain.specs.Laws.{WaitsLiveIn, KeptByCalls, LiveByCalls}
 use Rattle.sem_plain.proofs.Keeping.{may_pend, calls_keep}
 use Rattle.sem_plain.proofs.Living.{calls_live}
 use Rattle.sem_plain.proofs.Moving.{same_itself}
-use Rattle.task_safety.proofs.Waiting.{every_call}
+use Rattle.task_safety.proofs.Waiting.{moves_keep}
 use Rattle.inheritance.specs.declared.mutex.Mutex.{Mutex}
 use Rattle.inheritance.specs.Mutexes.{MutexState, both, mutex_place}
 use Rattle.inheritance.specs.Reach.{raised}
@@ -40,8 +41,8 @@ use Rattle.kernel_world.specs.declared.actor.Actor.TheVariants.{Task, Interrupt}
 use Rattle.kernel_world.specs.declared.reply.Reply.TheVariants.{Answer}
 use Rattle.kernel_world.proofs.Calming.{KeepsQueues, queues-calm}
 use Rattle.kernel_world.proofs.Apart.{not_some, by_id, none_from, none_push, none_write, none_without, other_kind, queue_ids}
-use Rattle.kernel_world.proofs.Waiting.{waits-draw}
-use Rattle.kernel_world.proofs.ObjectMoves.{objects-pend, objects-end_wait, objects-wake_all}
+use Rattle.kernel_world.proofs.Waiting.{waits-move}
+use Rattle.kernel_world.proofs.ObjectMoves.{objects-move}
 use Rattle.object_calls.proofs.MutexTables.{with_mutexes, all-ids, lives-ids, table-ids, table-without, table-push, waits-ids, waits-push, waits-without}
 use Rattle.object_calls.proofs.MutexWaits.{Still, MayAwait, still-take, still-give, still-delete, still-priority_set, ids-take, ids-give}
 
@@ -135,7 +136,7 @@ module _ (k : KernState) (o : Objects) (is : IsKern k) (kept : KeepsObjects k o)
 
   -- an id is drawn
   queues_draw : k.next_id ≤ 1048576 → KeepsQueues (record k { next_id = k.next_id + 1 }) o
-  queues_draw left = queues-calm k (record k { next_id = k.next_id + 1 }) o ((calms o.queues.queues k is).giving_ids (k.next_id + 1) k.lent (omega arith) (omega (arith, left))) kept.queues
+  queues_draw left = queues-calm k (record k { next_id = k.next_id + 1 }) o (calms o.queues.queues k (DrawIds (k.next_id + 1)) is (omega arith, omega (arith, left)) tt) kept.queues
 
   -- ---- a semaphore is made
   sem_made : (kind : SemKind) (options : SemOptions) (count : ℕ) → may_hold kind count ≡ true → KeepsRow (made k o (plain.new_semaphore kind options count))
@@ -149,11 +150,11 @@ module _ (k : KernState) (o : Objects) (is : IsKern k) (kept : KeepsObjects k o)
             record {
               waits = record {
                 semaphores = keeps.creating kind options count may;
-                deleters = (every_call k is kept.waits.deleters).drawing (next + 1);
+                deleters = moves_keep k (DrawIds (next + 1)) is kept.waits.deleters tt;
                 live = lives.creating kind options count;
                 right = kept.waits.right;
               };
-              mutexes = (beside_law (mutexes k o) kept.mutexes).drawing (next + 1) (omega arith);
+              mutexes = beside_law (mutexes k o) (DrawIds (next + 1)) kept.mutexes (omega arith);
               table = kept.table;
               queues = queues_draw (room_left (length o.semaphores) next errors.TooMany errors.IdsSpent r).1;
               queues_ranged = kept.queues_ranged;
@@ -196,9 +197,14 @@ module _ (k : KernState) (o : Objects) (is : IsKern k) (kept : KeepsObjects k o)
             elim (eqb v.count 0) as (λ b. eqb v.count 0 ≡ b → KeepsSemaphores (cond b (plain.awaited s who id n v) (plain.written s id (plain.emptied v))) → WaitsLiveIn (is_live_beside o) (cond b (plain.awaited s who id n v) (plain.written s id (plain.emptied v)))
             → KeepsObjects (cond b (plain.awaited s who id n v) (plain.written s id (plain.emptied v))).kern (other_semaphores o (cond b (plain.awaited s who id n v) (plain.written s id (plain.emptied v))).semaphores)) [
               | true ↦ λ b semaphores live.
-                  objects-pend k o is kept who (sem_place id) (not (is_priority v.options)) n (may_pend s id v (sem_place id) kept.waits.semaphores e (eqb-true v.count 0 b) (same_itself (sem_place id)))
-                  (or_left (is_some (object_of o.semaphores id)) (is_some (object_of o.mutexes id) || (is_some (object_of o.queues.queues id) || false)) (ap is_some e)) (λ q. absurd (omega (arith, q))) (λ q. absurd (omega (arith, q))) other
-                  (takes_time v n (subst (λ q. plain.take_refused n q ≡ None) e fine) b) (λ side. (refl, found_below o.semaphores k.next_id id v kept.waits.semaphores.ids e, semaphore_no_queue id (ap is_some e)))
+                  let may = may_pend s id v (sem_place id) kept.waits.semaphores e (eqb-true v.count 0 b) (same_itself (sem_place id)) in
+                  let there = or_left (is_some (object_of o.semaphores id)) (is_some (object_of o.mutexes id) || (is_some (object_of o.queues.queues id) || false)) (ap is_some e) in
+                  objects-move k o is kept (Pend who (sem_place id) (not (is_priority v.options)) n) (
+                    takes_time v n (subst (λ q. plain.take_refused n q ≡ None) e fine) b,
+                    record { may = may; lives = there; other = λ q. absurd (omega (arith, q)); console = λ q. absurd (omega (arith, q)) },
+                    (other, may.made),
+                    λ side. (refl, found_below o.semaphores k.next_id id v kept.waits.semaphores.ids e, semaphore_no_queue id (ap is_some e)),
+                  )
               | false ↦ λ b semaphores live. by_others k (with_object o.semaphores id (plain.emptied v)) kept semaphores live (stays_write id (plain.emptied v))
             ] refl
       ] refl (keeps.taking who id n) (lives.taking who id n)
@@ -210,13 +216,13 @@ module _ (k : KernState) (o : Objects) (is : IsKern k) (kept : KeepsObjects k o)
         | Some v ↦
             elim (plain.next_of s id) as (λ t. KeepsSemaphores (plain.handed s id v t) → WaitsLiveIn (is_live_beside o) (plain.handed s id v t) → KeepsObjects (plain.handed s id v t).kern (other_semaphores o (plain.handed s id v t).semaphores)) [
               | None ↦ λ semaphores live. by_others k (with_object o.semaphores id (plain.filled v)) kept semaphores live (stays_write id (plain.filled v))
-              | Some t ↦ λ semaphores live. objects-end_wait k o is kept t.id 0 None
+              | Some t ↦ λ semaphores live. objects-move k o is kept (EndWait t.id 0 None) (tt, tt, tt, tt)
             ]
       ] (keeps.giving id) (lives.giving id)
 
   sem_delete : (id : ℕ) → KeepsRow (by_semaphores o (plain.delete s id) (Answer 0))
   sem_delete id =
-      by_others (plain.delete s id).kern (without o.semaphores id) (objects-wake_all k o is kept (sem_place id) 4294967295 (Some errors.ObjDeleted)) (keeps.deleting id) (lives.deleting id) (stays_without id)
+      by_others (plain.delete s id).kern (without o.semaphores id) (objects-move k o is kept (WakeAll (sem_place id) 4294967295 (Some errors.ObjDeleted)) (tt, tt, tt, tt)) (keeps.deleting id) (lives.deleting id) (stays_without id)
 
   -- the calls on semaphores
   plain_take_keeps : (who id n : ℕ) → object_of o.mutexes id ≡ None → KeepsRow (plain_take k o who id n)
@@ -230,7 +236,7 @@ module _ (k : KernState) (o : Objects) (is : IsKern k) (kept : KeepsObjects k o)
   keeps-flush_row id =
       elim (is_mutex o id) as (λ b. KeepsRow (cond b (refused k o errors.InvalidOperation) (flush_unless (plain.flush_refusal s id) k o id))) [
         | true ↦ kept
-        | false ↦ elim (plain.flush_refusal s id) as (λ r. KeepsRow (flush_unless r k o id)) [ Some e ↦ kept | None ↦ objects-wake_all k o is kept (sem_place id) 0 None ]
+        | false ↦ elim (plain.flush_refusal s id) as (λ r. KeepsRow (flush_unless r k o id)) [ Some e ↦ kept | None ↦ objects-move k o is kept (WakeAll (sem_place id) 0 None) (tt, tt, tt, tt) ]
       ]
 
   plain_delete_keeps : (id : ℕ) → KeepsRow (plain_delete_unless (plain.delete_refusal s id) k o id)
@@ -274,7 +280,7 @@ module _ (k : KernState) (o : Objects) (is : IsKern k) (kept : KeepsObjects k o)
         | None ↦ λ r.
             let left = room_left (length o.mutexes) next errors.TooMany errors.IdsSpent r in
             record {
-              waits = waits-push j o next v (waits-draw k o is kept.waits (next + 1) (omega arith));
+              waits = waits-push j o next v (waits-move k o is kept.waits (DrawIds (next + 1)) (omega arith));
               mutexes = calls.creating options urgency;
               table = table-push o.mutexes next v kept.table left.0 is.first_id left.1 below;
               queues = queues_draw left.1;

@@ -10,6 +10,7 @@ use Rattle.id_table.proofs.Lookups.{found_has}
 use Rattle.board_mem.specs.Memory.{with_bytes}
 use Rattle.wind_core.specs.State.{KernState, IsKern}
 use Rattle.wind_core.specs.Moves.{end_wait, pend, wake_all}
+use Rattle.wind_core.specs.Move.{Pend, EndWait, WakeAll}
 use Rattle.msg_queue.specs.declared.asks.Ask.{Ask}
 use Rattle.msg_queue.specs.declared.words.Sending.{Sending}
 use Rattle.msg_queue.specs.declared.words.Receiving.{Receiving}
@@ -23,7 +24,7 @@ use Rattle.kernel_world.specs.Kept.{CountsWithin, call_sinces}
 use Rattle.object_calls.specs.QueueRows.{create_unless, create_row, receive_row}
 use Rattle.kernel_world.specs.declared.actor.Actor.{Actor}
 use Rattle.kernel_world.specs.declared.actor.Actor.TheVariants.{Task, Interrupt}
-use Rattle.kernel_world.proofs.Goes.{drawn, goes-draw, Goes, goes_nowhere, goes_on, goes_further, goes-end_wait, goes-pend, goes-wake_all}
+use Rattle.kernel_world.proofs.Goes.{drawn, goes-draw, Goes, goes_nowhere, goes_on, goes_further, goes-move}
 
 -- ---- chains of refusals
 -- a test of a chain that refuses nothing was not met
@@ -101,7 +102,7 @@ module _ (s : Scene) (n : ℕ) (is : IsKern s.kern) (within : CountsWithin n s.k
   queued_near id x q (Some who) few =
       elim (is_full q) as (λ b. (b && eqb x.timeout 0) ≡ false → IsNear (after_send s id x (cond b (blocked who q) (queued q)))) [
         | true ↦ λ h.
-            (far (pend s.kern who (senders id) (not q.by_priority) x.timeout) 1 (omega arith) (goes-pend s.kern n is within who (senders id) (not q.by_priority) x.timeout (some_ticks x.timeout h)), refl)
+            (far (pend s.kern who (senders id) (not q.by_priority) x.timeout) 1 (omega arith) (goes-move s.kern n is within (Pend who (senders id) (not q.by_priority) x.timeout) (some_ticks x.timeout h)), refl)
         | false ↦ λ h. (itself, refl)
       ] few
 
@@ -110,7 +111,7 @@ module _ (s : Scene) (n : ℕ) (is : IsKern s.kern) (within : CountsWithin n s.k
       let m : List ℕ = sent_bytes s x in
       let there = ((stuck s (receivers id) a q kept (is_first s (receivers id) a kept.kern first) (omega arith) here).receiver refl).1 in
       let count : length m ≤ x.count = omega (arith, length-take x.count (drop x.buffer s.ram)) in (
-        far (end_wait s.kern a.who (min (length m) a.count) None) 1 (omega arith) (goes-end_wait s.kern n is within a.who (min (length m) a.count) None),
+        far (end_wait s.kern a.who (min (length m) a.count) None) 1 (omega arith) (goes-move s.kern n is within (EndWait a.who (min (length m) a.count) None) tt),
         size_put s.ram a.buffer (min a.count q.max_len) (take a.count m) there (omega (arith, length-take a.count m, count, short)),
       )
 
@@ -142,7 +143,7 @@ module _ (s : Scene) (n : ℕ) (is : IsKern s.kern) (within : CountsWithin n s.k
       let size : length (with_bytes s.ram x.buffer (take x.room m)) ≡ length s.ram = size_put s.ram x.buffer (min x.room q.max_len) (take x.room m) there (omega (arith, length-take x.room m, short)) in
       elim (first_asking s (senders id)) as (λ f. IsNear (refilled (taken_out s id x q m rest) id (record q { held = rest }) f)) [
         | None ↦ (itself, size)
-        | Some a ↦ (far (end_wait s.kern a.who 0 None) 1 (omega arith) (goes-end_wait s.kern n is within a.who 0 None), size)
+        | Some a ↦ (far (end_wait s.kern a.who 0 None) 1 (omega arith) (goes-move s.kern n is within (EndWait a.who 0 None) tt), size)
       ]
 
   pub receive_near : IsKept s → (id : ℕ) (x : Receiving) → IsNear (receive s id x)
@@ -155,7 +156,7 @@ module _ (s : Scene) (n : ℕ) (is : IsKern s.kern) (within : CountsWithin n s.k
                   let fits = receive_fits (size_of s) x q none in
                   elim q.held as (λ ms. q.held ≡ ms → (is_empty ms && eqb x.timeout 0) ≡ false → IsNear (after_receive s id x (takes_from q ms))) [
                     | [] ↦ λ held h.
-                        (far (pend s.kern x.caller (receivers id) (not q.by_priority) x.timeout) 1 (omega arith) (goes-pend s.kern n is within x.caller (receivers id) (not q.by_priority) x.timeout (some_ticks x.timeout h)), refl)
+                        (far (pend s.kern x.caller (receivers id) (not q.by_priority) x.timeout) 1 (omega arith) (goes-move s.kern n is within (Pend x.caller (receivers id) (not q.by_priority) x.timeout) (some_ticks x.timeout h)), refl)
                     | m ∷ rest ↦ λ held h. taken_near kept id x q m rest here held fits.0
                   ] refl fits.1
               | Some e ↦ λ none. near_itself
@@ -174,7 +175,7 @@ module _ (s : Scene) (n : ℕ) (is : IsKern s.kern) (within : CountsWithin n s.k
         | Some q ↦
             let deletion : Option Errno = Some errors.ObjDeleted in
             let half : KernState = wake_all s.kern (receivers id) 4294967295 deletion in
-            let one = goes-wake_all s.kern n is within (receivers id) 4294967295 deletion in
-            let two = goes-wake_all half n one.kern one.counts (senders id) 4294967295 deletion in
+            let one = goes-move s.kern n is within (WakeAll (receivers id) 4294967295 deletion) tt in
+            let two = goes-move half n one.kern one.counts (WakeAll (senders id) 4294967295 deletion) tt in
             (far (awakened s.kern id) 512 (omega arith) (goes_on s.kern half (awakened s.kern id) n n 256 256 one two), refl)
       ]

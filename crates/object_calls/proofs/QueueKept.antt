@@ -15,13 +15,14 @@ use Rattle.wind_lists.proofs.Passing.{none_passes}
 use Rattle.wind_core.specs.State.{KernState, IsKern, task_id}
 use Rattle.wind_core.specs.Orders.{is_place, waits_at, waits_before, waiters}
 use Rattle.wind_core.specs.Moves.{answered, end_wait, end_waits, wake_all, pend}
-use Rattle.wind_core.proofs.Keeping.{every_call_keeps}
+use Rattle.wind_core.specs.Move.{Move, Pend, EndWait, WakeAll, DrawIds, apply}
+use Rattle.wind_core.proofs.Moving.{move_keeps}
 use Rattle.wind_core.proofs.Lawful.{none_left}
 use Rattle.wind_core.proofs.Passes.{waits_before-order}
 use Rattle.wind_core.proofs.Stable.{move_task-stable}
 use Rattle.inheritance.specs.Mutexes.{both as with_mutexes}
 use Rattle.sem_mutex.specs.Kept.{MutexKept, KeepsMutexes}
-use Rattle.sem_mutex.specs.Laws.{KeptBeside}
+use Rattle.sem_mutex.specs.Laws.{SparesMutexes}
 use Rattle.sem_mutex.proofs.Lawful.{beside_law}
 use Rattle.msg_queue.specs.declared.words.Sending.{Sending}
 use Rattle.msg_queue.specs.declared.words.Receiving.{Receiving}
@@ -31,7 +32,7 @@ use Rattle.msg_queue.specs.Receives.{ReceiveDeed, denied, taken, starved, receiv
 use Rattle.msg_queue.specs.Comings.{create_refusal, new_queue, awakened, gone, deleted}
 use Rattle.msg_queue.specs.Kept.{IsKept, IsCaller}
 use Rattle.msg_queue.specs.Machine.{sends, receives, deletes, others}
-use Rattle.msg_queue.proofs.Calm.{calms}
+use Rattle.msg_queue.proofs.Calm.{calm_stays}
 use Rattle.msg_queue.proofs.Events.{keeps, creates_keep}
 use Rattle.kernel_world.specs.Objects.{is_queue_side, is_live, KeepsWaits, KeepsObjects}
 use Rattle.object_calls.specs.QueueRows.{create_unless, create_row, task_in, sending, send_row, receive_row, delete_row, count_row}
@@ -39,8 +40,8 @@ use Rattle.kernel_world.specs.declared.objects.Objects.{Objects}
 use Rattle.kernel_world.specs.declared.actor.Actor.{Actor}
 use Rattle.kernel_world.specs.declared.actor.Actor.TheVariants.{Task, Interrupt}
 use Rattle.kernel_world.proofs.Apart.{not_some, by_id, none_from}
-use Rattle.kernel_world.proofs.Waiting.{waits-pend, waits-end_wait, waits-draw}
-use Rattle.kernel_world.proofs.ObjectMoves.{objects-end_wait, objects-wake_all}
+use Rattle.kernel_world.proofs.Waiting.{waits-move}
+use Rattle.kernel_world.proofs.ObjectMoves.{objects-move}
 use Rattle.object_calls.proofs.MutexTables.{all-ids, lives-ids, ids-write}
 
 -- the objects with other queues
@@ -117,7 +118,7 @@ nobody-wake_all place k a e is = none_passes task_id waits_before waits_before-o
 -- ---- the queues
 -- what is kept of them beside one RAM is kept beside any of the board's size
 any_ram : (t : Scene) → length t.ram ≡ ram_bytes → IsKept t → (ram : List ℕ) → length ram ≡ ram_bytes → IsKept (scene t.kern t.queues ram)
-any_ram t size good ram long = keeps t (others t.kern ram) good ((calms t.queues.queues t.kern good.kern).staying, long ∙ sym size)
+any_ram t size good ram long = keeps t (others t.kern ram) good (calm_stays t.queues.queues t.kern good.kern, long ∙ sym size)
 
 module _ (k : KernState) (o : Objects) (ram : List ℕ) (is : IsKern k) (kept : KeepsObjects k o) (size : length ram ≡ ram_bytes) where
   abbrev s : Scene
@@ -126,8 +127,9 @@ module _ (k : KernState) (o : Objects) (ram : List ℕ) (is : IsKern k) (kept : 
   sound : IsKept s
   sound = kept.queues ram size
 
-  beside : KeptBeside (with_mutexes k o.mutexes)
-  beside = beside_law (with_mutexes k o.mutexes) kept.mutexes
+  -- a move that spares mutexes
+  mutexes-move : (m : Move) → SparesMutexes (with_mutexes k o.mutexes) m → KeepsMutexes (with_mutexes (apply k m) o.mutexes)
+  mutexes-move m spares = beside_law (with_mutexes k o.mutexes) m kept.mutexes spares
 
   -- no id of a queue is that of a semaphore or of a mutex
   abbrev IsAlone : ℕ → Type 0
@@ -157,8 +159,8 @@ module _ (k : KernState) (o : Objects) (ram : List ℕ) (is : IsKern k) (kept : 
           waits =
               waits_among (record k { next_id = next + 1 }) o (record o.queues { queues = rs ++ (next, q) ∷ [] })
               (λ n lives. ap is_some (object_of-push rs next n q) ∙ ap (λ c. is_some (cond c (object_of rs n) (cond (eqb next n) (Some q) None))) lives ∙ lives)
-              (waits-draw k o is kept.waits (next + 1) (omega arith));
-          mutexes = beside.drawing (next + 1) (omega arith);
+              (waits-move k o is kept.waits (DrawIds (next + 1)) (omega arith));
+          mutexes = mutexes-move (DrawIds (next + 1)) (omega arith);
           table = kept.table;
           queues = λ other long. creates_keep (scene k o.queues other) max_msgs max_len options r (kept.queues other long);
           queues_ranged = All-push (λ x. 0 < x.0) rs (next, q) kept.queues_ranged is.first_id;
@@ -178,24 +180,32 @@ module _ (k : KernState) (o : Objects) (ram : List ℕ) (is : IsKern k) (kept : 
 
     waits_to_send : (who n : ℕ) (fifo : Bool) → KeepsWaits (pend k who (senders id) fifo n) o
     waits_to_send who n fifo =
-        waits-pend k o is kept.waits who (senders id) fifo n (record { empty = tt; made = below }) (or_left (is_some (object_of o.queues.queues id)) false there) (λ q. absurd (omega (arith, q))) (λ q. absurd (omega (arith, q)))
+        waits-move k o is kept.waits (Pend who (senders id) fifo n) (record {
+          may = record { empty = tt; made = below };
+          lives = or_left (is_some (object_of o.queues.queues id)) false there;
+          other = λ q. absurd (omega (arith, q));
+          console = λ q. absurd (omega (arith, q));
+        })
 
     waits_to_receive : (who n : ℕ) (fifo : Bool) → KeepsWaits (pend k who (receivers id) fifo n) o
     waits_to_receive who n fifo =
         let queue : Bool = is_some (object_of o.queues.queues id) in
-        waits-pend k o is kept.waits who (receivers id) fifo n (record { empty = subst (λ q. IfSome q (λ v. v.count ≡ 0)) (sym alone.0) tt; made = below })
-        (or_right (is_some (object_of o.semaphores id)) (is_some (object_of o.mutexes id) || (queue || false)) (or_right (is_some (object_of o.mutexes id)) (queue || false) (or_left queue false there)))
-        (λ q. absurd (omega (arith, q))) (λ q. absurd (omega (arith, q)))
+        waits-move k o is kept.waits (Pend who (receivers id) fifo n) (record {
+          may = record { empty = subst (λ q. IfSome q (λ v. v.count ≡ 0)) (sym alone.0) tt; made = below };
+          lives = or_right (is_some (object_of o.semaphores id)) (is_some (object_of o.mutexes id) || (queue || false)) (or_right (is_some (object_of o.mutexes id)) (queue || false) (or_left queue false there));
+          other = λ q. absurd (omega (arith, q));
+          console = λ q. absurd (omega (arith, q));
+        })
 
     -- ---- what comes of a send and of a receive
     sent : (x : Sending) (d : SendDeed) → length (after_send s id x d).ram ≡ ram_bytes → IsKept (after_send s id x d) → KeepsScene o (after_send s id x d)
     sent x (declined e) long good = kept
-    sent x (passed_on a) long good = objects-end_wait k o is kept a.who (min (length (sent_bytes s x)) a.count) None
+    sent x (passed_on a) long good = objects-move k o is kept (EndWait a.who (min (length (sent_bytes s x)) a.count) None) (tt, tt, tt, tt)
     sent x (queued q) long good =
         let y : QueueState = added x.urgent (sent_bytes s x) q in
         by_same (with_queue s id y) kept.waits kept.mutexes long good (ids-write o.queues.queues id y)
     sent x (blocked who q) long good =
-        by_same (after_send s id x (blocked who q)) (waits_to_send who x.timeout (not q.by_priority)) (beside.pending who (senders id) (not q.by_priority) x.timeout refl below) long good refl
+        by_same (after_send s id x (blocked who q)) (waits_to_send who x.timeout (not q.by_priority)) (mutexes-move (Pend who (senders id) (not q.by_priority) x.timeout) (refl, below)) long good refl
 
     received : (x : Receiving) (d : ReceiveDeed) → length (after_receive s id x d).ram ≡ ram_bytes → IsKept (after_receive s id x d) → KeepsScene o (after_receive s id x d)
     received x (denied e) long good = kept
@@ -207,11 +217,11 @@ module _ (k : KernState) (o : Objects) (ram : List ℕ) (is : IsKern k) (kept : 
           | None ↦ λ same sure. by_same out kept.waits kept.mutexes same sure (ids-write rs id less)
           | Some a ↦ λ same sure.
               let y : QueueState = added a.urgent (waited_bytes out a) less in
-              by_same (refilled out id less (Some a)) (waits-end_wait k o is kept.waits a.who 0 None) (beside.ending_wait a.who 0 None) same sure
+              by_same (refilled out id less (Some a)) (waits-move k o is kept.waits (EndWait a.who 0 None) tt) (mutexes-move (EndWait a.who 0 None) tt) same sure
               (ids-write (with_object rs id less) id y ∙ ids-write rs id less)
         ] long good
     received x (starved q) long good =
-        by_same (after_receive s id x (starved q)) (waits_to_receive x.caller x.timeout (not q.by_priority)) (beside.pending x.caller (receivers id) (not q.by_priority) x.timeout alone.1 below) long good refl
+        by_same (after_receive s id x (starved q)) (waits_to_receive x.caller x.timeout (not q.by_priority)) (mutexes-move (Pend x.caller (receivers id) (not q.by_priority) x.timeout) (alone.1, below)) long good refl
 
   -- ---- a message is sent, by a caller that is ready where the queue lives
   pub keeps-send : (id : ℕ) (x : Sending) → (is_some (object_of o.queues.queues id) ≡ true → IsCaller k x.caller) → length (send s id x).ram ≡ ram_bytes → KeepsScene o (send s id x)
@@ -243,9 +253,9 @@ module _ (k : KernState) (o : Objects) (ram : List ℕ) (is : IsKern k) (kept : 
   gone_kept : (id : ℕ) → IsKept (gone s id) → KeepsScene o (gone s id)
   gone_kept id good =
       let half : KernState = wake_all k (receivers id) 4294967295 (Some errors.ObjDeleted) in
-      let is1 : IsKern half = (every_call_keeps k is).waking (receivers id) 4294967295 (Some errors.ObjDeleted) in
-      let one : KeepsObjects half o = objects-wake_all k o is kept (receivers id) 4294967295 (Some errors.ObjDeleted) in
-      let two : KeepsObjects (awakened k id) o = objects-wake_all half o is1 one (senders id) 4294967295 (Some errors.ObjDeleted) in
+      let is1 : IsKern half = move_keeps k (WakeAll (receivers id) 4294967295 (Some errors.ObjDeleted)) is tt in
+      let one : KeepsObjects half o = objects-move k o is kept (WakeAll (receivers id) 4294967295 (Some errors.ObjDeleted)) (tt, tt, tt, tt) in
+      let two : KeepsObjects (awakened k id) o = objects-move half o is1 one (WakeAll (senders id) 4294967295 (Some errors.ObjDeleted)) (tt, tt, tt, tt) in
       let none_receives : NobodyAt (receivers id) (awakened k id) =
       nobody-end_waits (receivers id) half (waiters half.tasks (senders id)) 4294967295 (Some errors.ObjDeleted) (nobody-wake_all (receivers id) k 4294967295 (Some errors.ObjDeleted) is) in
       let none_sends : NobodyAt (senders id) (awakened k id) = nobody-wake_all (senders id) half 4294967295 (Some errors.ObjDeleted) is1 in

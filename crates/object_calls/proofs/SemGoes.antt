@@ -11,6 +11,7 @@ use Rattle.task_block.specs.declared.task.Task.{Task as TaskRecord}
 use Rattle.wind_core.specs.State.{KernState, IsKern, task_of}
 use Rattle.wind_core.specs.Orders.{first_waiter}
 use Rattle.wind_core.specs.Moves.{end_wait, wake_all, change_pri, set_held, set_normal}
+use Rattle.wind_core.specs.Move.{Pend, EndWait, WakeAll, ChangePri, SetNormal, SetHeld}
 use Rattle.task_safety.specs.Safety.{make_safe, lessen}
 use Rattle.sem_plain.specs.declared.semaphore.Semaphore.{Semaphore}
 use Rattle.sem_plain.specs.State.{sem_place}
@@ -26,14 +27,14 @@ use Rattle.kernel_world.specs.declared.objects.Objects.{Objects}
 use Rattle.kernel_world.specs.declared.actor.Actor.{Actor}
 use Rattle.kernel_world.specs.declared.actor.Actor.TheVariants.{Task, Interrupt}
 use Rattle.kernel_world.specs.declared.reply.Reply.TheVariants.{Answer}
-use Rattle.kernel_world.proofs.Goes.{Goes, id_left, drawn, goes-draw, goes_nowhere, goes_on, goes_further, goes-change_pri, goes-set_normal, goes-set_held, goes-end_wait, goes-pend, goes-wake_all, goes-raised, goes-make_safe, goes-lessen}
+use Rattle.kernel_world.proofs.Goes.{Goes, id_left, drawn, goes-draw, goes_nowhere, goes_on, goes_further, goes-move, goes-raised, goes-make_safe, goes-lessen}
 
 -- ---- what a mutex is for its owner
 module _ (k : KernState) (n : ℕ) (is : IsKern k) (within : CountsWithin n k) where
   goes-holding : (who : ℕ) (m : Mutex) → Goes k (mutex.holding k who m) n 0
   goes-holding who m =
       elim m.inversion_safe as (λ b. Goes k (cond b (set_held k who (mutex.held_of (task_of k.tasks who) + 1)) k) n 0) [
-        | true ↦ goes-set_held k n is within who (mutex.held_of (task_of k.tasks who) + 1)
+        | true ↦ goes-move k n is within (SetHeld who (mutex.held_of (task_of k.tasks who) + 1)) tt
         | false ↦ goes_nowhere k n is within
       ]
 
@@ -55,7 +56,7 @@ module _ (k : KernState) (n : ℕ) (is : IsKern k) (within : CountsWithin n k) w
   goes-restored who None = goes_further k k n n 0 1 (omega arith) (omega arith) (goes_nowhere k n is within)
   goes-restored who (Some t) =
       elim (eqb t.held 0) as (λ b. Goes k (cond b (change_pri k who t.normal) k) n 1) [
-        | true ↦ goes-change_pri k n is within who t.normal
+        | true ↦ goes-move k n is within (ChangePri who t.normal) tt
         | false ↦ goes_further k k n n 0 1 (omega arith) (omega arith) (goes_nowhere k n is within)
       ]
 
@@ -63,7 +64,7 @@ module _ (k : KernState) (n : ℕ) (is : IsKern k) (within : CountsWithin n k) w
   goes-letting_go : (who : ℕ) (m : Mutex) → Goes k (mutex.letting_go k who m) n 1
   goes-letting_go who m =
       let less : KernState = mutex.less_held k who in
-      let one = goes-set_held k n is within who (mutex.held_of (task_of k.tasks who) - 1) in
+      let one = goes-move k n is within (SetHeld who (mutex.held_of (task_of k.tasks who) - 1)) tt in
       elim m.inversion_safe as (λ b. Goes k (cond b (mutex.dropped k who) k) n 1) [
         | true ↦ goes_on k less (mutex.dropped k who) n n 0 1 one (goes-restored less n one.kern one.counts who (task_of less.tasks who))
         | false ↦ goes_further k k n n 0 1 (omega arith) (omega arith) (goes_nowhere k n is within)
@@ -149,7 +150,7 @@ module _ (k : KernState) (o : Objects) (n : ℕ) (is : IsKern k) (within : Count
   plain_take_found who id m None fine = stays
   plain_take_found who id m (Some v) fine =
       elim (eqb v.count 0) as (λ b. cond (b && eqb m 0) (Some errors.ObjUnavailable) None ≡ None → GoesTo (cond b (plain.awaited (sems k o) who id m v) (plain.written (sems k o) id (plain.emptied v))).kern) [
-        | true ↦ λ q. within_call (plain.awaited (sems k o) who id m v).kern 1 (omega arith) (goes-pend k n is within who (sem_place id) (not (is_priority v.options)) m (above m errors.ObjUnavailable q))
+        | true ↦ λ q. within_call (plain.awaited (sems k o) who id m v).kern 1 (omega arith) (goes-move k n is within (Pend who (sem_place id) (not (is_priority v.options)) m) (above m errors.ObjUnavailable q))
         | false ↦ λ q. stays
       ] fine
 
@@ -167,7 +168,7 @@ module _ (k : KernState) (o : Objects) (n : ℕ) (is : IsKern k) (within : Count
         | true ↦ λ q. goes_further k (mutex.deepen (mutexes k o) who id v).kern (n + 1) (n + 1) 0 1 (omega arith) (omega arith) (goes-guarded k n is within who v)
         | false ↦ λ q.
             goes_further k (mutex.await (mutexes k o) who id m v).kern n (n + 1) 1 1 (omega arith) (omega arith)
-            (goes-pend k n is within who (mutex_place id) (not v.by_priority) m (above m errors.ObjUnavailable q))
+            (goes-move k n is within (Pend who (mutex_place id) (not v.by_priority) m) (above m errors.ObjUnavailable q))
       ] fine
 
   mutex_take_alone : (who id m : ℕ) (v : Option Mutex) → mutex.take_refusal who m v ≡ None → Goes k (mutex.take_alone (mutexes k o) who id m v).kern (n + 1) 1
@@ -190,7 +191,7 @@ module _ (k : KernState) (o : Objects) (n : ℕ) (is : IsKern k) (within : Count
   -- ---- semGive
   plain_handed : (id : ℕ) (v : Semaphore) (next : Option TaskRecord) → GoesTo (plain.handed (sems k o) id v next).kern
   plain_handed id v None = stays
-  plain_handed id v (Some t) = within_call (end_wait k t.id 0 None) 1 (omega arith) (goes-end_wait k n is within t.id 0 None)
+  plain_handed id v (Some t) = within_call (end_wait k t.id 0 None) 1 (omega arith) (goes-move k n is within (EndWait t.id 0 None) tt)
 
   plain_give_found : (id : ℕ) (v : Option Semaphore) → GoesTo (plain.give_found (sems k o) id v).kern
   plain_give_found id None = stays
@@ -205,7 +206,7 @@ module _ (k : KernState) (o : Objects) (n : ℕ) (is : IsKern k) (within : Count
   passed_goes id v (Some t) =
       let j : KernState = (mutex.hand (mutexes k o) t.id id v).kern in
       let one = goes-hand k n is within t.id v in
-      goes_on k j (end_wait j t.id 0 None) (n + 1) (n + 1) 0 1 one (goes-end_wait j (n + 1) one.kern one.counts t.id 0 None)
+      goes_on k j (end_wait j t.id 0 None) (n + 1) (n + 1) 0 1 one (goes-move j (n + 1) one.kern one.counts (EndWait t.id 0 None) tt)
 
   given_up : (who id : ℕ) (v : Mutex) → Goes k (mutex.give_up (mutexes k o) who id v).kern (n + 1) 258
   given_up who id v =
@@ -242,7 +243,7 @@ module _ (k : KernState) (o : Objects) (n : ℕ) (is : IsKern k) (within : Count
   -- ---- semFlush
   flush_unless_goes : (id : ℕ) (r : Option Errno) → GoesTo (flush_unless r k o id).kern
   flush_unless_goes id (Some e) = stays
-  flush_unless_goes id None = within_call (wake_all k (sem_place id) 0 None) 256 (omega arith) (goes-wake_all k n is within (sem_place id) 0 None)
+  flush_unless_goes id None = within_call (wake_all k (sem_place id) 0 None) 256 (omega arith) (goes-move k n is within (WakeAll (sem_place id) 0 None) tt)
 
   pub flush_goes : (id : ℕ) → GoesTo (flush_row k o id).kern
   flush_goes id =
@@ -255,13 +256,13 @@ module _ (k : KernState) (o : Objects) (n : ℕ) (is : IsKern k) (within : Count
   plain_delete_goes : (id : ℕ) (r : Option Errno) → GoesTo (plain_delete_unless r k o id).kern
   plain_delete_goes id (Some e) = stays
   plain_delete_goes id None =
-      within_call (wake_all k (sem_place id) 4294967295 (Some errors.ObjDeleted)) 256 (omega arith) (goes-wake_all k n is within (sem_place id) 4294967295 (Some errors.ObjDeleted))
+      within_call (wake_all k (sem_place id) 4294967295 (Some errors.ObjDeleted)) 256 (omega arith) (goes-move k n is within (WakeAll (sem_place id) 4294967295 (Some errors.ObjDeleted)) tt)
 
   mutex_delete_alone : (id : ℕ) (v : Option Mutex) → Goes k (mutex.delete_alone (mutexes k o) id v).kern (n + 1) 513
   mutex_delete_alone id None = goes_further k k n (n + 1) 0 513 (omega arith) (omega arith) (goes_nowhere k n is within)
   mutex_delete_alone id (Some v) =
       let j : KernState = wake_all k (mutex_place id) 4294967295 (Some errors.ObjDeleted) in
-      let one = goes-wake_all k n is within (mutex_place id) 4294967295 (Some errors.ObjDeleted) in
+      let one = goes-move k n is within (WakeAll (mutex_place id) 4294967295 (Some errors.ObjDeleted)) tt in
       let still : Goes j j n 257 = goes_further j j n n 0 257 (omega arith) (omega arith) (goes_nowhere j n one.kern one.counts) in
       let ended : (who : ℕ) (t : Option TaskRecord) → Goes j (mutex.ended j who v t) n 257 =
       λ who t. elim t as (λ t. Goes j (mutex.ended j who v t) n 257) [ None ↦ still | Some t ↦ goes-left j n one.kern one.counts who v v.depth ] in
@@ -284,9 +285,9 @@ module _ (k : KernState) (o : Objects) (n : ℕ) (is : IsKern k) (within : Count
   priority_alone : (who pri : ℕ) → Goes k (mutex.priority_alone (mutexes k o) who pri).kern (n + 1) 1
   priority_alone who pri =
       let j : KernState = set_normal k who pri in
-      let one = goes-set_normal k n is within who pri in
+      let one = goes-move k n is within (SetNormal who pri) tt in
       let now : ℕ = mutex.pri_after pri (task_of k.tasks who) in
-      goes_further k (change_pri j who now) n (n + 1) 1 1 (omega arith) (omega arith) (goes_on k j (change_pri j who now) n n 0 1 one (goes-change_pri j n one.kern one.counts who now))
+      goes_further k (change_pri j who now) n (n + 1) 1 1 (omega arith) (omega arith) (goes_on k j (change_pri j who now) n n 0 1 one (goes-move j n one.kern one.counts (ChangePri who now) tt))
 
   pub priority_goes : (pri : ℕ) (who : Option ℕ) → GoesTo (priority_row k o pri who).kern
   priority_goes pri None = stays

@@ -9,11 +9,12 @@ use Rattle.isr_watch.specs.Laws.{AllBelow, IdsStay, WatchStays}
 use Rattle.isr_watch.proofs.Ids.{ids_stay}
 use Rattle.isr_watch.proofs.Keeping.{watch_stays}
 use Rattle.std.proofs.lemmas.List.Elements.{All-weaker}
+use Rattle.wind_core.specs.Move.{DrawIds}
 use Rattle.kernel_world.specs.State.{WorldState}
 use Rattle.kernel_world.specs.Kept.{IsWorld, Within}
 use Rattle.object_calls.specs.WatchRows.{WatchRow, create_row, create_unless, start_row, cancel_row, delete_row}
 use Rattle.kernel_world.proofs.Goes.{drawn, goes-draw, id_left, goes_nowhere}
-use Rattle.kernel_world.proofs.ObjectMoves.{objects-draw}
+use Rattle.kernel_world.proofs.ObjectMoves.{objects-move}
 use Rattle.kernel_world.proofs.Advancing.{Advances, advances_more, of_watches, stays}
 
 -- no start is counted where a watchdog is stopped or deleted
@@ -47,7 +48,7 @@ module _ (w : WorldState) (kept : IsWorld w) (n : ℕ) (within : Within n w) whe
     go None same =
         let left : next ≤ 1048576 = id_left 256 (length w.watch.watchdogs) next errors.TooMany errors.IdsSpent same in
         of_watches w kept n within (drawn w.kern) (created w.watch next) 1 (goes-draw w.kern n kept.kern within.0 left)
-        (objects-draw w.kern w.objects kept.kern kept.objects (next + 1) (omega arith) (omega (arith, left)))
+        (objects-move w.kern w.objects kept.kern kept.objects (DrawIds (next + 1)) ((omega arith, omega (arith, left)), omega arith, omega arith, tt))
         (record { watch = still.creating same; ids = (ids_stay (next + 1) w.watch more).creating next (omega arith) }) (omega arith)
 
   pub start_advances : (id delay : ℕ) (routine : Routine) → Advances w (watched w (start_row w.kern w.watch id delay routine)) n 0 1

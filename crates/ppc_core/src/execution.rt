@@ -340,10 +340,15 @@ pub fn exec_inline<B: Bus>(regs: &mut Regs, word: u32, bus: &mut B) -> Result<()
     run_common(row, regs, word, bus)
 }
 
-/// One instruction: what the row of the word does, or Illegal if the word has none. A trap changes nothing.
+/// One instruction: what the row of the word does, or Illegal if the word has none. A trap changes nothing. It calls `run` and not
+/// `run_common`, which the toolchain inlines only into a single caller.
+#[tactic(auto, unfolding(crate::specs::Instructions::exec_of))]
 pub fn exec<B: Bus>(regs: &mut Regs, word: u32, bus: &mut B) -> Result<(), Trap>
     ensures { Leaves (exec_of B.meaning regs.old word (B.held bus.old))
         regs.old (B.held bus.old) regs.new (B.held bus.new) result }
 {
-    exec_inline(regs, word, bus)
+    match row_for(word) {
+        Some(row) => run(row, regs, word, bus),
+        None => Err(Trap::Illegal),
+    }
 }

@@ -11,7 +11,8 @@ use Rattle.wind_lists.proofs.Records.{found_in}
 use Rattle.wind_core.specs.State.{KernState, IsKern, task_id, task_of}
 use Rattle.wind_core.specs.Orders.{is_place}
 use Rattle.wind_core.specs.Moves.{set_normal, change_pri, wake_all}
-use Rattle.wind_core.proofs.Keeping.{every_call_keeps}
+use Rattle.wind_core.specs.Move.{WakeAll, ChangePri, SetNormal}
+use Rattle.wind_core.proofs.Moving.{move_keeps}
 use Rattle.inheritance.specs.declared.mutex.Mutex.{Mutex}
 use Rattle.inheritance.specs.Mutexes.{MutexState, both, is_id, holds, held_count, mutex_place}
 use Rattle.inheritance.specs.Reach.{mutex_at, owner_at, lent_to, raised}
@@ -69,7 +70,7 @@ pub delete_alone_keeps : (s : MutexState) (id : ℕ) (m : Mutex) → IsKern s.ke
 delete_alone_keeps s id m is up e kept =
     let ms = s.mutexes in
     let k1 : KernState = wake_all s.kern (mutex_place id) 4294967295 (Some errors.ObjDeleted) in
-    let is1 : IsKern k1 = (every_call_keeps s.kern is).waking (mutex_place id) 4294967295 (Some errors.ObjDeleted) in
+    let is1 : IsKern k1 = move_keeps s.kern (WakeAll (mutex_place id) 4294967295 (Some errors.ObjDeleted)) is tt in
     let kept1 = follows_keeps s k1 (follows-wake_all ms s.kern (mutex_place id) 4294967295 (Some errors.ObjDeleted)) kept in
     let left : Holds (held_count ms) (without ms id) k1 = gone (held_count ms) ms k1 id kept1.holds in
     let urgent : OwnersUrgent (without ms id) k1.tasks = urgent_gone ms k1 id kept1.urgent in
@@ -136,7 +137,7 @@ after_le p (Some t) = elim (eqb t.held 0) as (λ b. cond b p (min t.pri p) ≤ p
 repriced : (k : KernState) (who p q : ℕ) → IsKern k → All (From (Repriced who p q) k.tasks) (change_pri (set_normal k who p) who q).tasks
 repriced k who p q is =
     let k1 : KernState = set_normal k who p in
-    All-change_pri (From (Renormed who p) k.tasks) (From (Repriced who p q) k.tasks) k1 who q ((every_call_keeps k is).setting_normal who p).rising
+    All-change_pri (From (Renormed who p) k.tasks) (From (Repriced who p q) k.tasks) k1 who q (move_keeps k (SetNormal who p) is tt).rising
     (λ t at same f. (f.0, f.1, record { id = f.2.id; held = f.2.held; wait = f.2.wait; fifo = f.2.fifo; pri = inl (same, f.2.own same, refl) }))
     (λ t at other f. (f.0, f.1, record { id = f.2.id; held = f.2.held; wait = f.2.wait; fifo = f.2.fifo; pri = inr (other, f.2.other other, f.2.pri) }))
     (λ since t f. (f.0, f.1, record { id = f.2.id; held = f.2.held; wait = f.2.wait; fifo = f.2.fifo; pri = f.2.pri }))
@@ -186,9 +187,9 @@ priority_keeps s who p is kept =
     let count = held_count ms in
     let q : ℕ = pri_after p (task_of k.tasks who) in
     let k1 : KernState = set_normal k who p in
-    let is1 : IsKern k1 = (every_call_keeps k is).setting_normal who p in
+    let is1 : IsKern k1 = move_keeps k (SetNormal who p) is tt in
     let same = next-change_pri k1 who q in
-    raised_keeps (priority_alone s who p) ((every_call_keeps k1 is1).changing_pri who q) (record {
+    raised_keeps (priority_alone s who p) (move_keeps k1 (ChangePri who q) is1 tt) (record {
       tasks = subst (λ n. All (TaskKept ms count n) (change_pri k1 who q).tasks) (sym same)
           (All-weaker (From (Repriced who p q) k.tasks) (TaskKept ms count k.next_id) (λ u f.
           let t = f.0 in

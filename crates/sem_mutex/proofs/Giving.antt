@@ -16,8 +16,9 @@ use Rattle.wind_lists.proofs.Orders.{first_least}
 use Rattle.wind_core.specs.State.{KernState, IsKern, Lives, task_id, task_of}
 use Rattle.wind_core.specs.Orders.{is_less, is_place, waits_at, waits_before, wait_pri, first_waiter}
 use Rattle.wind_core.specs.Moves.{answered, end_wait, set_held}
+use Rattle.wind_core.specs.Move.{EndWait, SetSafe, SetHeld}
 use Rattle.wind_core.proofs.Passes.{waits_before-order}
-use Rattle.wind_core.proofs.Keeping.{every_call_keeps}
+use Rattle.wind_core.proofs.Moving.{move_keeps}
 use Rattle.wind_core.proofs.Ids.{ids, ids-change, ids-move, lives_by}
 use Rattle.task_safety.specs.Safety.{make_safe, safe_of}
 use Rattle.inheritance.specs.declared.mutex.Mutex.{Mutex}
@@ -55,10 +56,10 @@ first_urgent k id x y e at waits fx fy =
 
 -- ---- the kernel's facts
 pub kern_hand : (k : KernState) (who : ℕ) (m : Mutex) → IsKern k → IsKern (guarded (holding k who m) who m)
-kern_hand k who m is = guards (holding k who m) (elim m.inversion_safe as (λ b. IsKern (cond b (set_held k who (held_of (task_of k.tasks who) + 1)) k)) [ true ↦ (every_call_keeps k is).setting_held who (held_of (task_of k.tasks who) + 1) | false ↦ is ])
+kern_hand k who m is = guards (holding k who m) (elim m.inversion_safe as (λ b. IsKern (cond b (set_held k who (held_of (task_of k.tasks who) + 1)) k)) [ true ↦ move_keeps k (SetHeld who (held_of (task_of k.tasks who) + 1)) is tt | false ↦ is ])
   where
     guards : (r : KernState) → IsKern r → IsKern (guarded r who m)
-    guards r q = elim m.delete_safe as (λ b. IsKern (cond b (make_safe r who) r)) [ true ↦ (every_call_keeps r q).setting_safe who (safe_of (task_of r.tasks who) + 1) | false ↦ q ]
+    guards r q = elim m.delete_safe as (λ b. IsKern (cond b (make_safe r who) r)) [ true ↦ move_keeps r (SetSafe who (safe_of (task_of r.tasks who) + 1)) q tt | false ↦ q ]
 
 pub ids_hand : (k : KernState) (who : ℕ) (m : Mutex) → ids (guarded (holding k who m) who m).tasks ≡ ids k.tasks
 ids_hand k who m = guards (holding k who m) ∙ elim m.inversion_safe as (λ b. ids (cond b (set_held k who (held_of (task_of k.tasks who) + 1)) k).tasks ≡ ids k.tasks) [ true ↦ ids-change k.tasks who (λ t. record t { held = held_of (task_of k.tasks who) + 1 }) (λ t. refl) | false ↦ refl ]
@@ -131,7 +132,7 @@ passed_to s id m x is e first kept =
     let below = lives_below k x.id is lives in
     record {
       mutexes = refl;
-      kern = (every_call_keeps j (kern_hand k x.id m is)).answering x.id 0 None;
+      kern = move_keeps j (EndWait x.id 0 None) (kern_hand k x.id m is) tt;
       alike = ids-move j x.id (answered 0 None) (λ t. refl) ∙ ids_hand k x.id m;
       next = omega (arith, goes.next, next_hand k x.id m);
       holds = holds_follows ns j (end_wait j x.id 0 None) goes (plus (held_count ms) v) (λ i le. plus_above (held_count ms) x.id v k.next_id refl below none i (omega (arith, next_hand k x.id m))) handed;

@@ -4,10 +4,11 @@ use Rattle.std.proofs.lemmas.Bool.{eqb-true, eqb-false, ltb-true}
 use Rattle.id_table.specs.Rows.{object_of, row_id}
 use Rattle.task_block.specs.declared.task.Task.{Task}
 use Rattle.wind_core.specs.State.{KernState, IsKern, Lives, task_of}
-use Rattle.wind_core.specs.Orders.{waiters, first_waiter}
-use Rattle.wind_core.specs.Moves.{set_safe, change_pri, release}
-use Rattle.wind_core.specs.Releases.{releases, release_all}
-use Rattle.wind_core.proofs.Keeping.{every_call_keeps}
+use Rattle.wind_core.specs.Orders.{first_waiter}
+use Rattle.wind_core.specs.Moves.{set_safe, change_pri}
+use Rattle.wind_core.specs.Releases.{release_all}
+use Rattle.wind_core.specs.Move.{Pend, ReleaseAll, ChangePri, SetSafe, SetHeld}
+use Rattle.wind_core.proofs.Moving.{move_keeps}
 use Rattle.task_safety.specs.Safety.{deletion, safe_of, make_safe, lessen}
 use Rattle.inheritance.specs.declared.mutex.Mutex.{Mutex}
 use Rattle.wind_base.specs.declared.errno.Errno.TheVariants as errors
@@ -21,31 +22,27 @@ use Rattle.sem_mutex.proofs.Giving.{kern_hand, passed, give_up_keeps}
 use Rattle.wind_lists.specs.Records.{Rising}
 
 -- ---- the kernel's facts
-releases_keep : (r : KernState) (ts : List Task) → IsKern r → IsKern (releases r ts)
-releases_keep r [] is = is
-releases_keep r (t ∷ ts) is = releases_keep (release r t.id) ts ((every_call_keeps r is).releasing t.id)
-
 pub kern_lessen : (k : KernState) (who n : ℕ) → IsKern k → IsKern (lessen k who n)
 kern_lessen k who n is =
     let count : ℕ = safe_of (task_of k.tasks who) in
     let less : KernState = set_safe k who (count - n) in
-    let kept = (every_call_keeps k is).setting_safe who (count - n) in
-    elim (ltb 0 count && leb count n) as (λ b. IsKern (cond b (release_all less (deletion who)) less)) [ true ↦ releases_keep less (waiters less.tasks (deletion who)) kept | false ↦ kept ]
+    let kept = move_keeps k (SetSafe who (count - n)) is tt in
+    elim (ltb 0 count && leb count n) as (λ b. IsKern (cond b (release_all less (deletion who)) less)) [ true ↦ move_keeps less (ReleaseAll (deletion who)) kept tt | false ↦ kept ]
 
 pub kern_guarded : (k : KernState) (who : ℕ) (m : Mutex) → IsKern k → IsKern (guarded k who m)
-kern_guarded k who m is = elim m.delete_safe as (λ b. IsKern (cond b (make_safe k who) k)) [ true ↦ (every_call_keeps k is).setting_safe who (safe_of (task_of k.tasks who) + 1) | false ↦ is ]
+kern_guarded k who m is = elim m.delete_safe as (λ b. IsKern (cond b (make_safe k who) k)) [ true ↦ move_keeps k (SetSafe who (safe_of (task_of k.tasks who) + 1)) is tt | false ↦ is ]
 
 pub kern_eased : (k : KernState) (who : ℕ) (m : Mutex) (n : ℕ) → IsKern k → IsKern (eased k who m n)
 kern_eased k who m n is = elim m.delete_safe as (λ b. IsKern (cond b (lessen k who n) k)) [ true ↦ kern_lessen k who n is | false ↦ is ]
 
 kern_restored : (k : KernState) (who : ℕ) (o : Option Task) → IsKern k → IsKern (restored k who o)
 kern_restored k who None is = is
-kern_restored k who (Some t) is = elim (eqb t.held 0) as (λ b. IsKern (cond b (change_pri k who t.normal) k)) [ true ↦ (every_call_keeps k is).changing_pri who t.normal | false ↦ is ]
+kern_restored k who (Some t) is = elim (eqb t.held 0) as (λ b. IsKern (cond b (change_pri k who t.normal) k)) [ true ↦ move_keeps k (ChangePri who t.normal) is tt | false ↦ is ]
 
 pub kern_letting_go : (k : KernState) (who : ℕ) (m : Mutex) → IsKern k → IsKern (letting_go k who m)
 kern_letting_go k who m is =
     elim m.inversion_safe as (λ b. IsKern (cond b (dropped k who) k)) [
-      | true ↦ kern_restored (less_held k who) who (task_of (less_held k who).tasks who) ((every_call_keeps k is).setting_held who (held_of (task_of k.tasks who) - 1))
+      | true ↦ kern_restored (less_held k who) who (task_of (less_held k who).tasks who) (move_keeps k (SetHeld who (held_of (task_of k.tasks who) - 1)) is tt)
       | false ↦ is
     ]
 
@@ -65,7 +62,7 @@ take_alone_keeps s who id n is up lives kept fine =
                 elim (eqb x who) as (λ b. cond (not b && eqb n 0) (Some errors.ObjUnavailable) None ≡ None → IsTaken s (cond b (deepen s who id m) (await s who id n m))) [
                   | true ↦ λ g. record { kern = kern_guarded s.kern who m is; holds = (deepen_keeps s who id m up e kept).holds }
                   | false ↦ λ g. record {
-                    kern = (every_call_keeps s.kern is).pending who (mutex_place id) (not m.by_priority) n (above n g);
+                    kern = move_keeps s.kern (Pend who (mutex_place id) (not m.by_priority) n) is (above n g);
                     holds = await_holds s who id n m e (subst (λ o. IsSome o) (sym w) refl) kept;
                   }
                 ]

@@ -7,7 +7,7 @@ use Rattle.sem_mutex.specs.Kept.{KeepsMutexes}
 use Rattle.sem_mutex.specs.Calls.{delete, delete_refusal}
 use Rattle.sem_mutex.proofs.Ending.{delete_same, priority_keeps}
 use Rattle.sem_mutex.proofs.Making.{create_keeps}
-use Rattle.sem_mutex.specs.Laws.{BesideLaw, IdleLaw, CallsLaw, Keeps, GoneLaw}
+use Rattle.sem_mutex.specs.Laws.{SparesMutexes, BesideLaw, SafetyLaw, IdleLaw, CallsLaw, Keeps, GoneLaw}
 use Rattle.sem_mutex.proofs.Following.{Follows, follows_keeps}
 use Rattle.inheritance.proofs.Same.{same_law}
 use Rattle.sem_mutex.proofs.Keeping.{take_keeps, give_same}
@@ -16,11 +16,12 @@ use Rattle.wind_lists.specs.Records.{Rising}
 use Rattle.task_safety.specs.declared.deleting.Deed.{Deed}
 use Rattle.task_safety.specs.declared.deleting.Deed.TheVariants.{Refuses, EndsItself, Removes, Awaits}
 use Rattle.task_safety.specs.Deletion.{deed_of, asked, unguarded, awaiting, after}
-use Rattle.task_safety.specs.Safety.{deletion, safe_of}
+use Rattle.task_safety.specs.Safety.{deletion, safe_of, lessen}
 use Rattle.task_safety.proofs.Targets.{Says, deed_says}
 use Rattle.wind_base.specs.Limits.{wait_forever}
 use Rattle.wind_core.specs.Orders.{waits_at}
 use Rattle.wind_core.specs.Moves.{remove, set_again}
+use Rattle.wind_core.specs.Move.{Move, Spawn, Remove, Pend, Delay, Release, ReleaseAll, EndWait, WakeAll, Tick, Suspend, Resume, ChangePri, Reset, SetLocks, SetNormal, SetSafe, SetHeld, SetErrno, SetIntLocked, SetAgain, SetRegs, Unreserve, LeaveGate, Answer, Refuse, SetLast, SetSlice, DrawIds, Lend, apply}
 use Rattle.std.specs.List.{All}
 use Rattle.sem_mutex.proofs.Handing.{lives_below}
 use Rattle.sem_mutex.proofs.Steady.{nobody_left}
@@ -44,42 +45,47 @@ task_deleted s caller n (Awaits who) is said kept =
     let one : KeepsMutexes (both k s.mutexes) = follows_keeps s k (follows-set_again s.mutexes s.kern caller true) kept in
     follows_keeps (both k s.mutexes) (awaiting s.kern caller who) (follows-pend s.mutexes k caller (deletion who) false wait_forever refl (lives_below s.kern who is said.1)) one
 
+-- a move that leaves mutexes alone
+follows : (s : MutexState) (m : Move) → SparesMutexes s m → Follows s.mutexes s.kern (apply s.kern m)
+follows s (Spawn n) spares = follows-spawn s.mutexes s.kern n
+follows s (Remove who) spares = follows-remove s.mutexes s.kern who
+follows s (Pend who place fifo n) spares = follows-pend s.mutexes s.kern who place fifo n spares.0 spares.1
+follows s (Delay who n) spares = follows-delay s.mutexes s.kern who n
+follows s (Release who) spares = follows-release s.mutexes s.kern who
+follows s (ReleaseAll place) spares = follows-release_all s.mutexes s.kern place
+follows s (EndWait who value errno) spares = follows-end_wait s.mutexes s.kern who value errno
+follows s (WakeAll place value errno) spares = follows-wake_all s.mutexes s.kern place value errno
+follows s Tick spares = follows-tick s.mutexes s.kern
+follows s (Suspend who) spares = follows-suspend s.mutexes s.kern who
+follows s (Resume who) spares = follows-resume s.mutexes s.kern who
+follows s (ChangePri who pri) spares = absurd spares
+follows s (Reset who) spares = follows-reset s.mutexes s.kern who
+follows s (SetLocks who n) spares = follows-set_locks s.mutexes s.kern who n
+follows s (SetNormal who pri) spares = absurd spares
+follows s (SetSafe who n) spares = follows-set_safe s.mutexes s.kern who n
+follows s (SetHeld who n) spares = absurd spares
+follows s (SetErrno who n) spares = follows-set_errno s.mutexes s.kern who n
+follows s (SetIntLocked who on) spares = follows-set_int_locked s.mutexes s.kern who on
+follows s (SetAgain who on) spares = follows-set_again s.mutexes s.kern who on
+follows s (SetRegs who regs) spares = follows-set_regs s.mutexes s.kern who regs
+follows s (Unreserve who) spares = follows-unreserve s.mutexes s.kern who
+follows s (LeaveGate who) spares = follows-leave_gate s.mutexes s.kern who
+follows s (Answer who value) spares = follows-answer s.mutexes s.kern who value
+follows s (Refuse who e) spares = follows-refuse s.mutexes s.kern who e
+follows s (SetLast last) spares = follows-last s.mutexes s.kern last
+follows s (SetSlice n) spares = follows-slice s.mutexes s.kern n
+follows s (DrawIds next) spares = follows-ids s.mutexes s.kern next spares
+follows s (Lend on) spares = follows-lent s.mutexes s.kern on
+
 pub beside_law : BesideLaw
-beside_law s kept =
-    let ms = s.mutexes in
-    let k = s.kern in
-    let by = λ (n : KernState) (f : Follows ms k n). follows_keeps s n f kept in
-    record {
-      spawning = λ n. by _ (follows-spawn ms k n);
-      removing = λ who. by _ (follows-remove ms k who);
-      pending = λ who place fifo n other made. by _ (follows-pend ms k who place fifo n other made);
-      delaying = λ who n. by _ (follows-delay ms k who n);
-      releasing = λ who. by _ (follows-release ms k who);
-      releasing_all = λ place. by _ (follows-release_all ms k place);
-      ending_wait = λ who a e. by _ (follows-end_wait ms k who a e);
-      waking = λ place a e. by _ (follows-wake_all ms k place a e);
-      suspending = λ who. by _ (follows-suspend ms k who);
-      resuming = λ who. by _ (follows-resume ms k who);
-      resetting = λ who. by _ (follows-reset ms k who);
-      setting_locks = λ who n. by _ (follows-set_locks ms k who n);
-      setting_safe = λ who n. by _ (follows-set_safe ms k who n);
-      setting_errno = λ who n. by _ (follows-set_errno ms k who n);
-      setting_int_locked = λ who on. by _ (follows-set_int_locked ms k who on);
-      setting_again = λ who on. by _ (follows-set_again ms k who on);
-      setting_regs = λ who regs. by _ (follows-set_regs ms k who regs);
-      leaving_gate = λ who. by _ (follows-leave_gate ms k who);
-      answering = λ who value. by _ (follows-answer ms k who value);
-      refusing = λ who e. by _ (follows-refuse ms k who e);
-      unreserving = λ who. by _ (follows-unreserve ms k who);
-      guarding = λ who. by _ (follows-set_safe ms k who (safe_of (task_of k.tasks who) + 1));
-      lessening = λ who n. by _ (follows-lessen ms k who n);
-      deleting = λ caller target is. task_deleted s caller target (deed_of k.tasks caller target) is (deed_says k.tasks caller target) kept;
-      ticking = by _ (follows-tick ms k);
-      noting_last = λ last. by _ (follows-last ms k last);
-      slicing = λ n. by _ (follows-slice ms k n);
-      lending = λ on. by _ (follows-lent ms k on);
-      drawing = λ n more. by _ (follows-ids ms k n more);
-    }
+beside_law s m kept spares = follows_keeps s (apply s.kern m) (follows s m spares) kept
+
+pub safety_law : SafetyLaw
+safety_law s kept = record {
+  guarding = λ who. beside_law s (SetSafe who (safe_of (task_of s.kern.tasks who) + 1)) kept tt;
+  lessening = λ who n. follows_keeps s (lessen s.kern who n) (follows-lessen s.mutexes s.kern who n) kept;
+  deleting = λ caller target is. task_deleted s caller target (deed_of s.kern.tasks caller target) is (deed_says s.kern.tasks caller target) kept;
+}
 
 pub idle_law : IdleLaw
 idle_law s is kept = same_law s is kept.urgent

@@ -6,7 +6,8 @@ use Rattle.id_table.specs.declared.ident.Place.{Place}
 use Rattle.task_block.specs.declared.task.Task.{Task}
 use Rattle.wind_core.specs.State.{KernState, IsKern, task_of}
 use Rattle.wind_core.specs.Moves.{move_found, with_pri, has_pri, change_pri}
-use Rattle.wind_core.proofs.Keeping.{every_call_keeps}
+use Rattle.wind_core.specs.Move.{ChangePri}
+use Rattle.wind_core.proofs.Moving.{move_keeps}
 use Rattle.wind_core.proofs.Ids.{ids}
 use Rattle.inheritance.specs.declared.mutex.Mutex.{Mutex}
 use Rattle.inheritance.specs.Mutexes.{MutexState, held_count}
@@ -41,7 +42,7 @@ next-repried r goal (u ∷ us) = next-repried (change_pri r u.id (goal u.id)) go
 drift_all : (ts : List Task) (goal : ℕ → ℕ) (us : List Task) (r : KernState) → IsKern r → All (From (Drifts goal) ts) r.tasks → All (From (Drifts goal) ts) (repried r goal us).tasks
 drift_all ts goal [] r is all = all
 drift_all ts goal (u ∷ us) r is all =
-    drift_all ts goal us (change_pri r u.id (goal u.id)) ((every_call_keeps r is).changing_pri u.id (goal u.id))
+    drift_all ts goal us (change_pri r u.id (goal u.id)) (move_keeps r (ChangePri u.id (goal u.id)) is tt)
     (All-change_pri (From (Drifts goal) ts) (From (Drifts goal) ts) r u.id (goal u.id) is.rising
     (λ t at same f. (f.0, f.1, record { id = f.2.id; normal = f.2.normal; held = f.2.held; wait = f.2.wait; fifo = f.2.fifo; pri = inr (ap goal (sym same ∙ f.2.id)) }))
     (λ t at other f. f)

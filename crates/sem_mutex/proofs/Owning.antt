@@ -9,7 +9,8 @@ use Rattle.task_block.specs.declared.task.Task.{Task}
 use Rattle.wind_lists.proofs.Records.{found_id, found_in}
 use Rattle.wind_core.specs.State.{KernState, IsKern, Lives, task_id, task_of}
 use Rattle.wind_core.specs.Moves.{move_found, with_pri, has_pri, change_pri, set_held}
-use Rattle.wind_core.proofs.Keeping.{every_call_keeps}
+use Rattle.wind_core.specs.Move.{SetHeld}
+use Rattle.wind_core.proofs.Moving.{move_keeps}
 use Rattle.inheritance.specs.declared.mutex.Mutex.{Mutex}
 use Rattle.inheritance.specs.Reach.{mutex_at, owner_at}
 use Rattle.sem_mutex.specs.Calls.{held_of, restored, less_held, dropped}
@@ -112,7 +113,7 @@ module _ (count : ℕ → ℕ) (ms : List (ℕ × Mutex)) (k : KernState) (who :
       h.tasks
 
   kept1 : IsKern k1
-  kept1 = (every_call_keeps k is).setting_held who (held_of (task_of k.tasks who) - 1)
+  kept1 = move_keeps k (SetHeld who (held_of (task_of k.tasks who) - 1)) is tt
 
   stays : (u : Task) → (u.id ≡ who → less who count who ≡ 0 → ⊥) → From (Lowered (less who count)) k.tasks u → From (Dropped (less who count) who) k.tasks u
   stays u not f = (f.0, f.1, record { id = f.2.id; normal = f.2.normal; wait = f.2.wait; fifo = f.2.fifo; held = f.2.held; pri = inl (f.2.pri, not) })

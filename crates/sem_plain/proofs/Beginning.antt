@@ -53,3 +53,10 @@ module _ (begins : Place → Bool) (k : KernState) where
   -- other tasks alone, and more ids
   pub by_tasks : (n : KernState) → k.next_id ≤ n.next_id → All IsOld n.tasks → BeginsOnly begins k n
   by_tasks n more all = record { next = more; waits = all }
+
+-- the same waits, where more places are named
+pub begins_more : (few many : Place → Bool) (k n : KernState) → ((p : Place) → few p ≡ true → many p ≡ true) → BeginsOnly few k n → BeginsOnly many k n
+begins_more few many k n more old = record {
+  next = old.next;
+  waits = all_old (IsOldOr many k.tasks) few k.tasks n.tasks tt (themselves many k) (λ p begun. inr (more p begun)) old.waits;
+}

@@ -9,13 +9,14 @@ use Rattle.task_block.specs.declared.task.Task.{Task}
 use Rattle.task_block.specs.declared.task.NewTask.{NewTask}
 use Rattle.wind_core.specs.State.{KernState, task_of}
 use Rattle.wind_core.specs.Orders.{same_place, waiters, due, running}
-use Rattle.wind_core.specs.Moves.{change_task, move_task, new_task, spawn, remove, wake_at, pended, pend, delayed, delay, released, release, answered, end_wait, end_waits, wake_all, suspended, resumed, is_suspended, resume, unmarked, with_pri, has_pri, change_pri, past_gate, with_answer, with_refusal}
+use Rattle.wind_core.specs.Moves.{change_task, move_task, new_task, spawn, remove, wake_at, pended, pend, delayed, delay, released, release, answered, end_wait, end_waits, wake_all, suspended, resumed, is_suspended, resume, unmarked, with_pri, has_pri, change_pri, past_gate, with_answer, with_refusal, unreserved}
 use Rattle.wind_core.specs.Releases.{releases}
 use Rattle.wind_core.specs.Tick.{turn_found, turn_of, take_turn, late_answer, late_errno, time_out, tick_counted, tick}
+use Rattle.wind_core.specs.Move.{Move, Spawn, Remove, Pend, Delay, Release, ReleaseAll, EndWait, WakeAll, Tick, Suspend, Resume, ChangePri, Reset, SetLocks, SetNormal, SetSafe, SetHeld, SetErrno, SetIntLocked, SetAgain, SetRegs, Unreserve, LeaveGate, Answer, Refuse, SetLast, SetSlice, DrawIds, Lend, apply, after}
 use Rattle.wind_core.proofs.Stable.{tick-stable}
 use Rattle.sem_plain.specs.Kept.{BeginsOnly}
-use Rattle.sem_plain.specs.Laws.{nowhere, KernelLaw}
-use Rattle.sem_plain.proofs.Beginning.{IsOld, themselves, next-move, by_change, by_renewal, by_move, by_tasks, then}
+use Rattle.sem_plain.specs.Laws.{nowhere, begun_by, KernelLaw, SeriesLaw}
+use Rattle.sem_plain.proofs.Beginning.{IsOld, themselves, next-move, by_change, by_renewal, by_move, by_tasks, begins_more, then}
 
 pub stays : (k : KernState) → BeginsOnly nowhere k k
 stays k = by_tasks nowhere k k (omega arith) (themselves nowhere k)
@@ -98,33 +99,38 @@ begins-change_pri k who pri =
     ]
 
 pub moves : KernelLaw
-moves k = record {
-  staying = stays k;
-  pending = begins-pend k;
-  spawning = begins-spawn k;
-  removing = begins-remove k;
-  delaying = begins-delay k;
-  releasing = begins-release k;
-  releasing_all = λ place. begins-releases k (waiters k.tasks place);
-  ending_wait = begins-end_wait k;
-  waking = begins-wake_all k;
-  ticking = begins-tick k;
-  suspending = λ who. writes k who suspended (λ t old. old);
-  resuming = begins-resume k;
-  resetting = λ who. by_renewal nowhere k who unmarked (λ t old. old);
-  changing_pri = begins-change_pri k;
-  setting_locks = λ who n. writes k who (λ t. record t { locks = n }) (λ t old. old);
-  setting_normal = λ who pri. writes k who (λ t. record t { normal = pri }) (λ t old. old);
-  setting_safe = λ who n. writes k who (λ t. record t { safe = n }) (λ t old. old);
-  setting_held = λ who n. writes k who (λ t. record t { held = n }) (λ t old. old);
-  setting_errno = λ who n. writes k who (λ t. record t { errno = n }) (λ t old. old);
-  setting_int_locked = λ who on. writes k who (λ t. record t { int_locked = on }) (λ t old. old);
-  setting_again = λ who on. writes k who (λ t. record t { again = on }) (λ t old. old);
-  setting_regs = λ who regs. writes k who (λ t. record t { regs = regs }) (λ t old. old);
-  leaving_gate = λ who. writes k who past_gate (λ t old. old);
-  giving_answer = λ who value. writes k who (with_answer value) (λ t old. old);
-  refusing = λ who e. writes k who (with_refusal e) (λ t old. old);
-  noting_last = λ last. by_tasks nowhere k (record k { last = last }) (omega arith) (themselves nowhere k);
-  slicing = λ n. by_tasks nowhere k (record k { slice = n }) (omega arith) (themselves nowhere k);
-  drawing = λ n more. by_tasks nowhere k (record k { next_id = n }) more (themselves nowhere k);
-}
+moves k (Spawn n) more = begins-spawn k n
+moves k (Remove who) more = begins-remove k who
+moves k (Pend who place fifo n) more = begins-pend k who place fifo n
+moves k (Delay who n) more = begins-delay k who n
+moves k (Release who) more = begins-release k who
+moves k (ReleaseAll place) more = begins-releases k (waiters k.tasks place)
+moves k (EndWait who value errno) more = begins-end_wait k who value errno
+moves k (WakeAll place value errno) more = begins-wake_all k place value errno
+moves k Tick more = begins-tick k
+moves k (Resume who) more = begins-resume k who
+moves k (ChangePri who pri) more = begins-change_pri k who pri
+moves k (Reset who) more = by_renewal nowhere k who unmarked (λ t old. old)
+moves k (Suspend who) more = writes k who suspended (λ t old. old)
+moves k (SetLocks who n) more = writes k who (λ t. record t { locks = n }) (λ t old. old)
+moves k (SetNormal who pri) more = writes k who (λ t. record t { normal = pri }) (λ t old. old)
+moves k (SetSafe who n) more = writes k who (λ t. record t { safe = n }) (λ t old. old)
+moves k (SetHeld who n) more = writes k who (λ t. record t { held = n }) (λ t old. old)
+moves k (SetErrno who n) more = writes k who (λ t. record t { errno = n }) (λ t old. old)
+moves k (SetIntLocked who on) more = writes k who (λ t. record t { int_locked = on }) (λ t old. old)
+moves k (SetAgain who on) more = writes k who (λ t. record t { again = on }) (λ t old. old)
+moves k (SetRegs who regs) more = writes k who (λ t. record t { regs = regs }) (λ t old. old)
+moves k (Unreserve who) more = writes k who unreserved (λ t old. old)
+moves k (LeaveGate who) more = writes k who past_gate (λ t old. old)
+moves k (Answer who value) more = writes k who (with_answer value) (λ t old. old)
+moves k (Refuse who e) more = writes k who (with_refusal e) (λ t old. old)
+moves k (SetLast last) more = by_tasks nowhere k (record k { last = last }) (omega arith) (themselves nowhere k)
+moves k (SetSlice n) more = by_tasks nowhere k (record k { slice = n }) (omega arith) (themselves nowhere k)
+moves k (DrawIds next) more = by_tasks nowhere k (record k { next_id = next }) more (themselves nowhere k)
+moves k (Lend on) more = by_tasks nowhere k (record k { lent = on }) (omega arith) (themselves nowhere k)
+
+-- moves one after the other
+pub series : SeriesLaw
+series begins k [] each = by_tasks begins k k (omega arith) (themselves begins k)
+series begins k (m ∷ ms) each =
+    then begins k (apply k m) (after (apply k m) ms) (begins_more (begun_by m) begins k (apply k m) each.0.1 (moves k m each.0.0)) (series begins (apply k m) ms each.1)

@@ -1,18 +1,13 @@
 -- What follows of the definitions of semaphores alone.
-use Rattle.std.specs.Prelude.{◌≡◌, ℕ, ◌≤◌, Bool, true, false, [], Option, Some}
+use Rattle.std.specs.Prelude.{◌≡◌, ℕ, Bool, true, false, List, [], Some}
 use Rattle.std.specs.List.{Contains}
-use Rattle.wind_base.specs.declared.errno.Errno.{Errno}
-use Rattle.wind_base.specs.declared.regs.Regs.{Regs}
 use Rattle.wind_base.specs.declared.semaphore.SemKind.{SemKind}
 use Rattle.wind_base.specs.declared.semaphore.SemOptions.{SemOptions}
 use Rattle.id_table.specs.declared.ident.Place.{Place}
 use Rattle.task_block.specs.declared.task.Task.{Task}
-use Rattle.task_block.specs.declared.task.NewTask.{NewTask}
 use Rattle.wind_core.specs.State.{KernState, IsKern}
 use Rattle.wind_core.specs.Orders.{same_place, waits_at, waits_before, waiters}
-use Rattle.wind_core.specs.Moves.{spawn, remove, pend, delay, release, end_wait, wake_all, suspend, resume, reset, change_pri, set_locks, set_normal, set_safe, set_held, set_errno, set_int_locked, set_again, set_regs, leave_gate, answer, refuse}
-use Rattle.wind_core.specs.Releases.{release_all}
-use Rattle.wind_core.specs.Tick.{tick}
+use Rattle.wind_core.specs.Move.{Move, Pend, apply, IsRising, after, EachMove}
 use Rattle.sem_plain.specs.State.{SemState, both, sem_place, may_hold}
 use Rattle.sem_plain.specs.Calls.{create, new_semaphore, take, give, next_of, flush, delete}
 use Rattle.sem_plain.specs.Kept.{KeepsSemaphores, IsForEmpty, IsForMade, WaitsLive, live_with, BeginsOnly}
@@ -23,43 +18,24 @@ abbrev pub nowhere : Place → Bool
 nowhere p = false
 
 -- no move of the kernel begins a wait, but a pend at its place
-pub record KernelMoves (k : KernState) : Type 0 where
-  pub staying : BeginsOnly nowhere k k
-  pub pending : (who : ℕ) (place : Place) (fifo : Bool) (n : ℕ) → BeginsOnly (same_place place) k (pend k who place fifo n)
-  pub spawning : (n : NewTask) → BeginsOnly nowhere k (spawn k n)
-  pub removing : (who : ℕ) → BeginsOnly nowhere k (remove k who)
-  pub delaying : (who n : ℕ) → BeginsOnly nowhere k (delay k who n)
-  pub releasing : (who : ℕ) → BeginsOnly nowhere k (release k who)
-  pub releasing_all : (place : Place) → BeginsOnly nowhere k (release_all k place)
-  pub ending_wait : (who answer : ℕ) (errno : Option Errno) → BeginsOnly nowhere k (end_wait k who answer errno)
-  pub waking : (place : Place) (answer : ℕ) (errno : Option Errno) → BeginsOnly nowhere k (wake_all k place answer errno)
-  pub ticking : BeginsOnly nowhere k (tick k)
-  pub suspending : (who : ℕ) → BeginsOnly nowhere k (suspend k who)
-  pub resuming : (who : ℕ) → BeginsOnly nowhere k (resume k who)
-  pub resetting : (who : ℕ) → BeginsOnly nowhere k (reset k who)
-  pub changing_pri : (who pri : ℕ) → BeginsOnly nowhere k (change_pri k who pri)
-  pub setting_locks : (who n : ℕ) → BeginsOnly nowhere k (set_locks k who n)
-  pub setting_normal : (who pri : ℕ) → BeginsOnly nowhere k (set_normal k who pri)
-  pub setting_safe : (who n : ℕ) → BeginsOnly nowhere k (set_safe k who n)
-  pub setting_held : (who n : ℕ) → BeginsOnly nowhere k (set_held k who n)
-  pub setting_errno : (who n : ℕ) → BeginsOnly nowhere k (set_errno k who n)
-  pub setting_int_locked : (who : ℕ) (on : Bool) → BeginsOnly nowhere k (set_int_locked k who on)
-  pub setting_again : (who : ℕ) (on : Bool) → BeginsOnly nowhere k (set_again k who on)
-  pub setting_regs : (who : ℕ) (regs : Regs) → BeginsOnly nowhere k (set_regs k who regs)
-  pub leaving_gate : (who : ℕ) → BeginsOnly nowhere k (leave_gate k who)
-  pub giving_answer : (who value : ℕ) → BeginsOnly nowhere k (answer k who value)
-  pub refusing : (who : ℕ) (e : Errno) → BeginsOnly nowhere k (refuse k who e)
-  pub noting_last : (last : Option ℕ) → BeginsOnly nowhere k (record k { last = last })
-  pub slicing : (n : ℕ) → BeginsOnly nowhere k (record k { slice = n })
-  -- another table drew ids
-  pub drawing : (n : ℕ) → k.next_id ≤ n → BeginsOnly nowhere k (record k { next_id = n })
+abbrev pub begun_by : Move → Place → Bool
+begun_by (Pend who place fifo n) = same_place place
+begun_by m = nowhere
 
 abbrev pub KernelLaw : Type 0
-KernelLaw = (k : KernState) → KernelMoves k
+KernelLaw = (k : KernState) (m : Move) → IsRising k m → BeginsOnly (begun_by m) k (apply k m)
 
 -- moves one after the other
 abbrev pub ThenLaw : Type 0
 ThenLaw = (begins : Place → Bool) (k m n : KernState) → BeginsOnly begins k m → BeginsOnly begins m n → BeginsOnly begins k n
+
+-- a move takes no id back, and begins waits at such places alone
+abbrev pub BeginsWithin : (Place → Bool) → KernState → Move → Type 0
+BeginsWithin begins k m = IsRising k m × ((p : Place) → begun_by m p ≡ true → begins p ≡ true)
+
+-- a list of such moves begins waits there alone
+abbrev pub SeriesLaw : Type 0
+SeriesLaw = (begins : Place → Bool) (k : KernState) (ms : List Move) → EachMove (BeginsWithin begins) k ms → BeginsOnly begins k (after k ms)
 
 -- waits may begin there: what is waited for has an id, and is no semaphore that could be taken
 pub record MayBegin (s : SemState) (p : Place) : Type 0 where

@@ -1,12 +1,13 @@
 //! What follows of the definitions of semaphores alone, whatever the code does.
 
-ghost use Rattle.sem_plain.specs.Laws.{KernelLaw, ThenLaw, BesideLaw, LiveBesideLaw, CallsLaw, LiveCallsLaw, HandLaw, WokenLaw};
+ghost use Rattle.sem_plain.specs.Laws.{KernelLaw, ThenLaw, SeriesLaw, BesideLaw, LiveBesideLaw, CallsLaw, LiveCallsLaw, HandLaw, WokenLaw};
 
-/// The law of the kernel's other moves: which waits each begins; where moves follow one another; and what is
+/// The law of the kernel's moves: which waits each begins; which waits several begin, one after the other; and what is
 /// kept of semaphores, and that each wait is for what lives, through any move that begins no other waits.
 pub fn kernel_law()
     ensures moves { KernelLaw }
     ensures compose { ThenLaw }
+    ensures series { SeriesLaw }
     ensures kept { BesideLaw }
     ensures live { LiveBesideLaw }
 {}

@@ -1,5 +1,5 @@
 -- What is kept of the objects is kept by safe sections, by the deletion of a task and by its end.
-use Rattle.std.proofs.Common.{◌≡◌, ℕ, Bool, true, false, cond, eqb, None, Some, IfSome, IsSome, refl, subst, arith}
+use Rattle.std.proofs.Common.{◌≡◌, ℕ, Bool, true, false, cond, eqb, [], ◌∷◌, None, Some, IfSome, IsSome, refl, subst, arith}
 use Rattle.std.specs.List.{All}
 use Rattle.wind_base.specs.Limits.{wait_forever}
 use Rattle.id_table.specs.Sides.{deletion_side, console_side}
@@ -9,7 +9,9 @@ use Rattle.task_block.specs.declared.task.Task.{Task as TaskRecord}
 use Rattle.wind_core.specs.State.{KernState, IsKern, task_of}
 use Rattle.wind_core.specs.Orders.{same_place}
 use Rattle.wind_core.specs.Moves.{renewed, wake_at, pended, remove, set_again}
-use Rattle.wind_core.proofs.Keeping.{change_task_keeps, every_call_keeps}
+use Rattle.wind_core.specs.Move.{Remove, Pend, SetAgain}
+use Rattle.wind_core.proofs.Keeping.{change_task_keeps}
+use Rattle.wind_core.proofs.Moving.{move_keeps}
 use Rattle.wind_core.proofs.Stable.{All-change}
 use Rattle.wind_core.proofs.Becoming.{All-change_at}
 use Rattle.sem_plain.specs.State.{both as with_semaphores}
@@ -24,7 +26,7 @@ use Rattle.task_safety.specs.Kept.{Deletes, KeepsDeleters}
 use Rattle.task_safety.specs.declared.deleting.Deed.{Deed}
 use Rattle.task_safety.specs.declared.deleting.Deed.TheVariants.{Refuses, EndsItself, Removes, Awaits}
 use Rattle.task_safety.proofs.Targets.{Says, deed_says}
-use Rattle.task_safety.proofs.Waiting.{every_call}
+use Rattle.task_safety.proofs.Waiting.{moves_keep, calls_keep}
 use Rattle.inheritance.specs.Mutexes.{both as with_mutexes}
 use Rattle.sem_mutex.specs.Kept.{KeepsMutexes}
 use Rattle.sem_mutex.proofs.Following.{alike, follows_keeps}
@@ -33,7 +35,7 @@ use Rattle.sem_mutex.proofs.Keeping.{kern_lessen}
 use Rattle.sem_mutex.proofs.Handing.{lives_below}
 use Rattle.sem_mutex.proofs.Lawful.{beside_law}
 use Rattle.msg_queue.specs.Kept.{IsCalm}
-use Rattle.msg_queue.proofs.Calm.{calm_set, calm_then, calms}
+use Rattle.msg_queue.proofs.Calm.{calm_set, calm_then, calm_series}
 use Rattle.kernel_world.specs.Objects.{is_live, deletion_gate, WaitsRight, KeepsWaits, KeepsObjects, IsFree}
 use Rattle.kernel_world.specs.Actors.{MayCall}
 use Rattle.task_calls.specs.Ending as ending
@@ -44,7 +46,7 @@ use Rattle.kernel_world.specs.declared.actor.Actor.TheVariants.{Task, Interrupt}
 use Rattle.kernel_world.proofs.Safes.{counted, deleters-map, none_left}
 use Rattle.kernel_world.proofs.Living.{ready_free}
 use Rattle.kernel_world.proofs.Waiting.{waits_keep}
-use Rattle.kernel_world.proofs.ObjectMoves.{by_kern, objects-set_again, objects-make_safe, objects-lessen, objects-removed, objects-remove}
+use Rattle.kernel_world.proofs.ObjectMoves.{by_kern, objects-move, objects-make_safe, objects-lessen}
 
 -- ---- a task waits to delete another, and stands at the gate of its call
 -- the caller stands anywhere as yet
@@ -88,8 +90,8 @@ module _ (k : KernState) (o : Objects) (is : IsKern k) (kept : KeepsObjects k o)
   mutexes_back : (who id : ℕ) → IsSome (task_of k.tasks id) → KeepsMutexes (with_mutexes (back_at_gate (awaiting k who id) who) o.mutexes)
   mutexes_back who id lives =
       let ms = o.mutexes in
-      let one : KeepsMutexes (with_mutexes (marked who) ms) = (beside_law (with_mutexes k ms) kept.mutexes).setting_again who true in
-      let two : KeepsMutexes (with_mutexes (awaiting k who id) ms) = (beside_law (with_mutexes (marked who) ms) one).pending who (deletion id) false wait_forever refl (lives_below k id is lives) in
+      let one : KeepsMutexes (with_mutexes (marked who) ms) = beside_law (with_mutexes k ms) (SetAgain who true) kept.mutexes tt in
+      let two : KeepsMutexes (with_mutexes (awaiting k who id) ms) = beside_law (with_mutexes (marked who) ms) (Pend who (deletion id) false wait_forever) one (refl, lives_below k id is lives) in
       follows_keeps (with_mutexes (awaiting k who id) ms) (back_at_gate (awaiting k who id) who)
       (mutexes.by_change ms (awaiting k who id) who at_deletion (λ t. alike ms (awaiting k who id) t (at_deletion t) refl refl refl refl refl refl)) two
 
@@ -98,29 +100,29 @@ module _ (k : KernState) (o : Objects) (is : IsKern k) (kept : KeepsObjects k o)
   calm_back who id =
       let rs = o.queues.queues in
       let wait : KernState = awaiting k who id in
-      let one : IsCalm rs k (marked who) = (calms rs k is).setting_again who true in
-      let two : IsCalm rs (marked who) wait = (calms rs (marked who) one.kern).pending who (deletion id) false wait_forever (omega arith) (λ side. absurd (omega (arith, side))) in
-      let three : IsCalm rs wait (back_at_gate wait who) =
-      calm_set rs wait who at_deletion (λ t. refl) (λ t. refl) (change_task_keeps wait who at_deletion two.kern (record { id = λ t. refl; since = λ t. refl; ahead = λ t h. h })) in
-      calm_then rs k wait (back_at_gate wait who) (calm_then rs k (marked who) wait one two) three
+      let waits : IsCalm rs k wait =
+      calm_series rs k (SetAgain who true ∷ Pend who (deletion id) false wait_forever ∷ []) is ((tt, tt), ((omega arith, λ side. absurd (omega (arith, side))), tt)) in
+      let stands : IsCalm rs wait (back_at_gate wait who) =
+      calm_set rs wait who at_deletion (λ t. refl) (λ t. refl) (change_task_keeps wait who at_deletion waits.kern (record { id = λ t. refl; since = λ t. refl; ahead = λ t h. h })) in
+      calm_then rs k wait (back_at_gate wait who) waits stands
 
   -- ---- the rows
   deed_kept : (p : PartState) (who n : ℕ) (d : Deed) → IsFree k who → Says k.tasks who n d → KeepsDeleters (after k who d) → KeepsObjects (deletes k p who d).kern o
-  deed_kept p who n (Refuses e) free said deleters = objects-set_again k o is kept who false free
+  deed_kept p who n (Refuses e) free said deleters = objects-move k o is kept (SetAgain who false) (tt, free, tt, tt)
   deed_kept p who n (EndsItself count) free said deleters =
       let first : KernState = asked k who in
-      let is1 : IsKern first = (every_call_keeps k is).setting_again who false in
+      let is1 : IsKern first = move_keeps k (SetAgain who false) is tt in
       let less : KernState = unguarded k who count in
-      objects-removed less o (kern_lessen first who count is1) (objects-lessen first o is1 (objects-set_again k o is kept who false free) who count) who deleters
+      objects-move less o (kern_lessen first who count is1) (objects-lessen first o is1 (objects-move k o is kept (SetAgain who false) (tt, free, tt, tt)) who count) (Remove who) (tt, deleters, tt, tt)
   deed_kept p who n (Removes id) free said deleters =
-      objects-removed (asked k who) o ((every_call_keeps k is).setting_again who false) (objects-set_again k o is kept who false free) id deleters
+      objects-move (asked k who) o (move_keeps k (SetAgain who false) is tt) (objects-move k o is kept (SetAgain who false) (tt, free, tt, tt)) (Remove id) (tt, deleters, tt, tt)
   deed_kept p who n (Awaits id) free said deleters = by_kern k o is kept (back_at_gate (awaiting k who id) who) (waits_back who id said.1 deleters) (mutexes_back who id said.1) (calm_back who id)
 
   -- the deletion of a task, by one that waits for nothing
   pub objects-delete_row : (p : PartState) (a : Actor) (id : ℕ) → MayCall k a → KeepsObjects (delete_row k p a id).kern o
   objects-delete_row p (Task who) id ready =
       let free : IsFree k who = ready_free k who ready in
-      deed_kept p who (meant who id) (deed_of k.tasks who (meant who id)) free (deed_says k.tasks who (meant who id)) ((every_call k is kept.waits.deleters).deleting who (meant who id) free)
+      deed_kept p who (meant who id) (deed_of k.tasks who (meant who id)) free (deed_says k.tasks who (meant who id)) ((calls_keep k is kept.waits.deleters).deleting who (meant who id) free)
   objects-delete_row p Interrupt id free = kept
 
   pub objects-safe_row : (a : Actor) → KeepsObjects (safe_row k a).kern o
@@ -135,4 +137,7 @@ module _ (k : KernState) (o : Objects) (is : IsKern k) (kept : KeepsObjects k o)
   pub objects-ended : (who : ℕ) → KeepsObjects (remove (ending.unguarded k who) who) o
   objects-ended who =
       let count : ℕ = safe_of (task_of k.tasks who) in
-      objects-remove (lessen k who count) o (kern_lessen k who count is) (objects-lessen k o is kept who count) who (none_left k who)
+      let less : KernState = lessen k who count in
+      let is1 : IsKern less = kern_lessen k who count is in
+      let kept1 : KeepsObjects less o = objects-lessen k o is kept who count in
+      objects-move less o is1 kept1 (Remove who) (tt, moves_keep less (Remove who) is1 kept1.waits.deleters (none_left k who), tt, tt)

@@ -1,33 +1,34 @@
 -- What is kept of the objects is kept by each row of the calls that touch the kernel's tasks and counters alone.
 use Rattle.std.proofs.Common.{ℕ, ◌+◌, ◌-◌, true, List, Option, None, Some}
 use Rattle.wind_core.specs.State.{KernState, IsKern, task_named}
+use Rattle.wind_core.specs.Move.{Delay, Suspend, Resume, SetLocks, SetIntLocked, SetSlice}
 use Rattle.task_block.specs.declared.task.Task.{Task as TaskRecord}
 use Rattle.kernel_world.specs.Objects.{KeepsObjects}
 use Rattle.task_calls.specs.TaskRows.{suspend_row, resume_row, delay_row, locks_of, lock_row, unlock_row, self_row, verify_row, found_row, name_row, slice_row, tick_row, int_lock_row, int_unlock_row, int_context_row}
 use Rattle.kernel_world.specs.declared.objects.Objects.{Objects}
 use Rattle.kernel_world.specs.declared.actor.Actor.{Actor}
 use Rattle.kernel_world.specs.declared.actor.Actor.TheVariants.{Task, Interrupt}
-use Rattle.kernel_world.proofs.ObjectMoves.{objects-suspend, objects-resume, objects-delay, objects-set_locks, objects-set_int_locked, objects-slice}
+use Rattle.kernel_world.proofs.ObjectMoves.{objects-move}
 
 module _ (k : KernState) (o : Objects) (is : IsKern k) (kept : KeepsObjects k o) where
   pub objects-suspend_row : (target : Option ℕ) → KeepsObjects (suspend_row k target).kern o
   objects-suspend_row None = kept
-  objects-suspend_row (Some id) = objects-suspend k o is kept id
+  objects-suspend_row (Some id) = objects-move k o is kept (Suspend id) (tt, tt, tt, tt)
 
   pub objects-resume_row : (target : Option ℕ) → KeepsObjects (resume_row k target).kern o
   objects-resume_row None = kept
-  objects-resume_row (Some id) = objects-resume k o is kept id
+  objects-resume_row (Some id) = objects-move k o is kept (Resume id) (tt, tt, tt, tt)
 
   pub objects-delay_row : (a : Actor) (n : ℕ) → KeepsObjects (delay_row k a n).kern o
-  objects-delay_row (Task who) n = objects-delay k o is kept who n
+  objects-delay_row (Task who) n = objects-move k o is kept (Delay who n) (tt, tt, tt, tt)
   objects-delay_row Interrupt n = kept
 
   pub objects-lock_row : (a : Actor) → KeepsObjects (lock_row k a).kern o
-  objects-lock_row (Task who) = objects-set_locks k o is kept who (locks_of k who + 1)
+  objects-lock_row (Task who) = objects-move k o is kept (SetLocks who (locks_of k who + 1)) (tt, tt, tt, tt)
   objects-lock_row Interrupt = kept
 
   pub objects-unlock_row : (a : Actor) → KeepsObjects (unlock_row k a).kern o
-  objects-unlock_row (Task who) = objects-set_locks k o is kept who (locks_of k who - 1)
+  objects-unlock_row (Task who) = objects-move k o is kept (SetLocks who (locks_of k who - 1)) (tt, tt, tt, tt)
   objects-unlock_row Interrupt = kept
 
   pub objects-self_row : (a : Actor) → KeepsObjects (self_row k a).kern o
@@ -47,17 +48,17 @@ module _ (k : KernState) (o : Objects) (is : IsKern k) (kept : KeepsObjects k o)
   objects-name_row (Some name) = found_kept (task_named k.tasks name)
 
   pub objects-slice_row : (n : ℕ) → KeepsObjects (slice_row k n).kern o
-  objects-slice_row n = objects-slice k o is kept n
+  objects-slice_row n = objects-move k o is kept (SetSlice n) (tt, tt, tt, tt)
 
   pub objects-tick_row : KeepsObjects (tick_row k).kern o
   objects-tick_row = kept
 
   pub objects-int_lock_row : (a : Actor) → KeepsObjects (int_lock_row k a).kern o
-  objects-int_lock_row (Task who) = objects-set_int_locked k o is kept who true
+  objects-int_lock_row (Task who) = objects-move k o is kept (SetIntLocked who true) (tt, tt, tt, tt)
   objects-int_lock_row Interrupt = kept
 
   pub objects-int_unlock_row : (a : Actor) (key : ℕ) → KeepsObjects (int_unlock_row k a key).kern o
-  objects-int_unlock_row (Task who) key = objects-set_int_locked k o is kept who _
+  objects-int_unlock_row (Task who) key = objects-move k o is kept (SetIntLocked who _) (tt, tt, tt, tt)
   objects-int_unlock_row Interrupt key = kept
 
   pub objects-int_context_row : (a : Actor) → KeepsObjects (int_context_row k a).kern o

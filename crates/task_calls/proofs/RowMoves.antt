@@ -21,7 +21,8 @@ use Rattle.mem_partition.specs.declared.block.PartErr.{PartErr}
 use Rattle.mem_partition.specs.declared.block.Class.TheVariants.{User, Kernel}
 use Rattle.wind_core.specs.State.{Lives, task_of}
 use Rattle.wind_core.specs.Moves.{new_task, spawn, spawn_refusal}
-use Rattle.wind_core.proofs.Keeping.{every_call_keeps}
+use Rattle.wind_core.specs.Move.{Spawn}
+use Rattle.wind_core.proofs.Moving.{move_keeps}
 use Rattle.kernel_world.specs.State.{WorldState}
 use Rattle.kernel_world.specs.Starting.{cleared, framed}
 use Rattle.task_calls.specs.MemoryRows.{PartRow, align_row, free_row, free_reply}
@@ -33,7 +34,7 @@ use Rattle.kernel_world.specs.declared.reply.Reply.{Reply}
 use Rattle.kernel_world.specs.declared.reply.Reply.TheVariants.{Answer}
 use Rattle.task_calls.specs.declared.spawning.Wanted.{Wanted}
 use Rattle.kernel_world.proofs.Advancing.{Advances, within_more, watch_on, nowhere, of_blocks}
-use Rattle.kernel_world.proofs.ObjectMoves.{objects-spawn}
+use Rattle.kernel_world.proofs.ObjectMoves.{objects-move}
 use Rattle.kernel_world.proofs.Stacks.{pool-alloc, pool-free, kernels-alloc, kernels-free, stacks-alloc, stacks-free, stacks-more}
 use Rattle.kernel_world.proofs.Holding.{loaded_with, loaded_more}
 
@@ -113,9 +114,9 @@ module _ (w : WorldState) (kept : IsWorld w) (n : ℕ) (within : Within n w) whe
       let stacks : task_stacks (spawn w.kern task) ≡ task_stacks w.kern ++ at ∷ [] = map-append (λ (u : TaskRecord). u.stack) w.kern.tasks (t ∷ []) in
       record {
         kept = record {
-          kern = (every_call_keeps w.kern kept.kern).spawning task room;
+          kern = move_keeps w.kern (Spawn task) kept.kern room;
           home = kept.home;
-          objects = objects-spawn w.kern w.objects kept.kern kept.objects task room;
+          objects = objects-move w.kern w.objects kept.kern kept.objects (Spawn task) (room, tt, tt, tt);
           pool = pool-alloc w.part (stack_bytes s.stack) 16 Kernel kept.pool;
           stacks = subst (λ ss. AreStacks (after_alloc w.part (stack_bytes s.stack) 16 Kernel) (interrupt_stack ∷ ss)) (sym stacks)
               (stacks-more w.part (stack_bytes s.stack) 16 at (interrupt_stack ∷ task_stacks w.kern) kept.pool.blocks ok kept.stacks);

@@ -7,8 +7,10 @@ use Rattle.task_block.specs.declared.task.Task.{Task}
 use Rattle.wind_lists.specs.Records.{without}
 use Rattle.wind_core.specs.State.{KernState, IsKern, task_id, task_of}
 use Rattle.wind_core.specs.Moves.{remove, set_again}
+use Rattle.wind_core.specs.Move.{Remove, Pend, SetAgain}
 use Rattle.wind_core.proofs.Ids.{ids}
-use Rattle.wind_core.proofs.Keeping.{every_call_keeps, change_task_keeps}
+use Rattle.wind_core.proofs.Keeping.{change_task_keeps}
+use Rattle.wind_core.proofs.Moving.{move_keeps}
 use Rattle.task_safety.specs.Safety.{deletion, safe_of}
 use Rattle.task_safety.specs.Deletion.{asked, awaiting, after}
 use Rattle.task_safety.specs.Deletion.{unguarded as unguarded_caller}
@@ -16,7 +18,7 @@ use Rattle.task_safety.specs.declared.deleting.Deed.TheVariants.{Refuses, EndsIt
 use Rattle.task_calls.specs.Ending.{unguarded}
 use Rattle.kernel_world.specs.Kept.{HasCounts, CountsWithin, ReservedBy, task_stacks}
 use Rattle.task_calls.specs.SafetyRows.{at_deletion, back_at_gate}
-use Rattle.kernel_world.proofs.Goes.{Goes, goes_on, more_counts, by_change, goes-set_again, goes-pend, goes-lessen, reserved_by}
+use Rattle.kernel_world.proofs.Goes.{Goes, goes_on, more_counts, by_change, goes-move, goes-lessen, reserved_by}
 
 -- ---- a deletion that takes no task out
 module _ (k : KernState) (n : ℕ) (is : IsKern k) (within : CountsWithin n k) where
@@ -25,7 +27,7 @@ module _ (k : KernState) (n : ℕ) (is : IsKern k) (within : CountsWithin n k) w
       by_change k who n at_deletion (change_task_keeps k who at_deletion is (record { id = λ t. refl; since = λ t. refl; ahead = λ t h. h })) (λ t. refl) (λ t. refl) (λ t. refl) (λ t h. h) within
 
   pub refuses_goes : (who : ℕ) (e : Errno) → Goes k (after k who (Refuses e)) n 0
-  refuses_goes who e = goes-set_again k n is within who false
+  refuses_goes who e = goes-move k n is within (SetAgain who false) tt
 
 module _ (k : KernState) (n : ℕ) (is : IsKern k) (within : CountsWithin n k) where
   -- the caller waits, and stands at the gate of its call
@@ -33,8 +35,8 @@ module _ (k : KernState) (n : ℕ) (is : IsKern k) (within : CountsWithin n k) w
   awaits_goes who id =
       let marked : KernState = set_again k who true in
       let waits : KernState = awaiting k who id in
-      let one = goes-set_again k n is within who true in
-      let two = goes-pend marked n one.kern one.counts who (deletion id) false wait_forever (omega arith) in
+      let one = goes-move k n is within (SetAgain who true) tt in
+      let two = goes-move marked n one.kern one.counts (Pend who (deletion id) false wait_forever) (omega arith) in
       goes_on k waits (back_at_gate waits who) n n 1 0 (goes_on k marked waits n n 0 1 one two) (goes-back_at_gate waits n two.kern two.counts who)
 
 -- ---- a task goes
@@ -89,7 +91,7 @@ same_without field (t ∷ ts) (u ∷ us) who i f =
 -- a task goes after a move
 pub goes_leaves : (k j : KernState) (who n d : ℕ) → Goes k j n d → Leaves k (remove j who) who n d
 goes_leaves k j who n d g = record {
-  kern = (every_call_keeps j g.kern).removing who;
+  kern = move_keeps j (Remove who) g.kern tt;
   alone = same_without task_id j.tasks k.tasks who g.alone g.alone;
   stacks = same_without (λ t. t.stack) j.tasks k.tasks who g.alone g.stacks;
   lent = g.lent;
@@ -105,13 +107,13 @@ module _ (k : KernState) (n : ℕ) (is : IsKern k) (within : CountsWithin n k) w
   -- the caller ends itself
   pub itself_leaves : (who count : ℕ) → Leaves k (after k who (EndsItself count)) who n 256
   itself_leaves who count =
-      let one = goes-set_again k n is within who false in
+      let one = goes-move k n is within (SetAgain who false) tt in
       let j : KernState = unguarded_caller k who count in
       goes_leaves k j who n 256 (goes_on k (asked k who) j n n 0 256 one (goes-lessen (asked k who) n one.kern one.counts who count))
 
   -- a task that is not safe is removed
   pub removed_leaves : (who id : ℕ) → Leaves k (after k who (Removes id)) id n 0
-  removed_leaves who id = goes_leaves k (asked k who) id n 0 (goes-set_again k n is within who false)
+  removed_leaves who id = goes_leaves k (asked k who) id n 0 (goes-move k n is within (SetAgain who false) tt)
 
   -- a task ends, whoever ends it
   pub ended_leaves : (who : ℕ) → Leaves k (remove (unguarded k who) who) who n 256

@@ -4,15 +4,16 @@ use Rattle.wind_base.specs.declared.errno.Errno.{Errno}
 use Rattle.task_block.specs.declared.task.Task.{Task as TaskRecord}
 use Rattle.wind_core.specs.State.{KernState, IsKern, task_of, task_named}
 use Rattle.wind_core.specs.Moves.{suspend, resume, set_locks, set_int_locked, delay}
+use Rattle.wind_core.specs.Move.{Delay, Suspend, Resume, SetLocks, SetIntLocked, SetSlice}
 use Rattle.wind_core.proofs.Becoming.{found_all}
-use Rattle.wind_core.proofs.Keeping.{every_call_keeps}
+use Rattle.wind_core.proofs.Moving.{move_keeps}
 use Rattle.task_safety.specs.Safety.{make_safe, lessen, unsafe_refusal}
 use Rattle.kernel_world.specs.Kept.{HasCounts, CountsWithin, call_sinces}
 use Rattle.task_calls.specs.TaskRows.{suspend_row, resume_row, delay_row, lock_row, unlock_row, self_row, verify_row, found_row, name_row, slice_row, locks_in, locks_of, int_lock_row, int_unlock_row, int_context_row}
 use Rattle.task_calls.specs.SafetyRows.{unsafe_unless, safe_row, unsafe_row}
 use Rattle.kernel_world.specs.declared.actor.Actor.{Actor}
 use Rattle.kernel_world.specs.declared.actor.Actor.TheVariants.{Task, Interrupt}
-use Rattle.kernel_world.proofs.Goes.{Goes, goes_nowhere, goes_further, more_counts, goes-suspend, goes-resume, goes-set_locks, goes-set_int_locked, goes-delay, goes-make_safe, goes-lessen}
+use Rattle.kernel_world.proofs.Goes.{Goes, goes_nowhere, goes_further, more_counts, goes-move, goes-make_safe, goes-lessen}
 
 pub locks_within : (k : KernState) (who n : ℕ) → CountsWithin n k → locks_of k who ≤ n
 locks_within k who n within =
@@ -27,23 +28,23 @@ module _ (k : KernState) (n : ℕ) (is : IsKern k) (within : CountsWithin n k) w
 
   pub suspend_goes : (o : Option ℕ) → Goes k (suspend_row k o).kern (n + 1) call_sinces
   suspend_goes None = stays
-  suspend_goes (Some id) = goes_further k (suspend k id) n (n + 1) 0 call_sinces (omega arith) (omega arith) (goes-suspend k n is within id)
+  suspend_goes (Some id) = goes_further k (suspend k id) n (n + 1) 0 call_sinces (omega arith) (omega arith) (goes-move k n is within (Suspend id) tt)
 
   pub resume_goes : (o : Option ℕ) → Goes k (resume_row k o).kern (n + 1) call_sinces
   resume_goes None = stays
-  resume_goes (Some id) = goes_further k (resume k id) n (n + 1) 1 call_sinces (omega arith) (omega arith) (goes-resume k n is within id)
+  resume_goes (Some id) = goes_further k (resume k id) n (n + 1) 1 call_sinces (omega arith) (omega arith) (goes-move k n is within (Resume id) tt)
 
   pub verify_goes : (o : Option ℕ) → Goes k (verify_row k o).kern (n + 1) call_sinces
   verify_goes None = stays
   verify_goes (Some id) = stays
 
   pub delay_goes : (a : Actor) (m : ℕ) → Goes k (delay_row k a m).kern (n + 1) call_sinces
-  delay_goes (Task who) m = goes_further k (delay k who m) n (n + 1) 1 call_sinces (omega arith) (omega arith) (goes-delay k n is within who m)
+  delay_goes (Task who) m = goes_further k (delay k who m) n (n + 1) 1 call_sinces (omega arith) (omega arith) (goes-move k n is within (Delay who m) tt)
   delay_goes Interrupt m = stays
 
   pub locks_goes : (who m : ℕ) → m ≤ n + 1 → Goes k (set_locks k who m) (n + 1) call_sinces
   locks_goes who m few =
-      goes_further k (set_locks k who m) (n + 1) (n + 1) 0 call_sinces (omega arith) (omega arith) (goes-set_locks k (n + 1) is (more_counts k n (n + 1) (omega arith) within) who m few)
+      goes_further k (set_locks k who m) (n + 1) (n + 1) 0 call_sinces (omega arith) (omega arith) (goes-move k (n + 1) is (more_counts k n (n + 1) (omega arith) within) (SetLocks who m) few)
 
   pub lock_goes : (a : Actor) → Goes k (lock_row k a).kern (n + 1) call_sinces
   lock_goes (Task who) = locks_goes who (locks_of k who + 1) (omega (arith, locks_within k who n within))
@@ -66,10 +67,10 @@ module _ (k : KernState) (n : ℕ) (is : IsKern k) (within : CountsWithin n k) w
   name_goes (Some name) = found_goes (task_named k.tasks name)
 
   pub slice_goes : (m : ℕ) → Goes k (slice_row k m).kern (n + 1) call_sinces
-  slice_goes m = record { kern = (every_call_keeps k is).slicing m; alone = refl; stacks = refl; lent = refl; last = refl; reserves = refl; counts = stays.counts; sinces = omega arith; next = omega arith; count = refl }
+  slice_goes m = record { kern = move_keeps k (SetSlice m) is tt; alone = refl; stacks = refl; lent = refl; last = refl; reserves = refl; counts = stays.counts; sinces = omega arith; next = omega arith; count = refl }
 
   mark_goes : (who : ℕ) (on : Bool) → Goes k (set_int_locked k who on) (n + 1) call_sinces
-  mark_goes who on = goes_further k (set_int_locked k who on) n (n + 1) 0 call_sinces (omega arith) (omega arith) (goes-set_int_locked k n is within who on)
+  mark_goes who on = goes_further k (set_int_locked k who on) n (n + 1) 0 call_sinces (omega arith) (omega arith) (goes-move k n is within (SetIntLocked who on) tt)
 
   pub int_lock_goes : (a : Actor) → Goes k (int_lock_row k a).kern (n + 1) call_sinces
   int_lock_goes (Task who) = mark_goes who true

@@ -1,5 +1,5 @@
 -- taskSpawn and sp.
-use Rattle.std.specs.Prelude.{ℕ, ◌+◌, ◌-◌, max, List, [], ◌∷◌, ◌++◌, Option, None, Some, Result, Ok, Err, false, ◌==◌, nat_le, if◌then◌else◌, take, slice_index, codes}
+use Rattle.std.specs.Prelude.{ℕ, ◌+◌, ◌-◌, max, List, [], ◌∷◌, ◌++◌, Option, None, Some, Result, Ok, Err, false, ◌==◌, nat_le, if◌then◌else◌, take, codes}
 use Rattle.std.specs.Option.{option_map}
 use Rattle.std.specs.Fmt.{decimal, digits}
 use Rattle.wind_base.specs.Limits.{least_urgent, longest_short_name, frame_bytes, gates_start}
@@ -15,7 +15,6 @@ use Rattle.mem_partition.specs.declared.block.PartErr.{PartErr}
 use Rattle.wind_core.specs.State.{KernState}
 use Rattle.wind_core.specs.Moves.{spawn, spawn_refusal}
 use Rattle.kernel_world.specs.State.{WorldState}
-use Rattle.kernel_world.specs.Actors.{stack_word, all_there}
 use Rattle.kernel_world.specs.Starting.{starting_regs, framed}
 use Rattle.board_mem.specs.Memory.{string_at}
 use Rattle.task_calls.specs.declared.spawning.Wanted.{Wanted}
@@ -109,55 +108,33 @@ abbrev pub spawned_if : SpawnState → Result Wanted Errno → SpawnRow
 spawned_if w (Err e) = no_spawn w e
 spawned_if w (Ok s) = spawned w s
 
--- ---- taskSpawn(name, priority, options, stack size, entry, ten words), with the words r in registers
+-- ---- taskSpawn: a task with a name at an address, a priority, this many bytes of stack, an entry and ten arguments
 -- the name that an address means: none at 0, else the first 31 bytes of the string there
 abbrev pub name_at : List ℕ → ℕ → Option (Option (List ℕ))
 name_at ram at = if at == 0 then Some None else option_map (λ name. Some (take longest_short_name name)) (string_at ram at)
 
-abbrev pub named_wanted : List ℕ → Option (Option (List ℕ)) → Option (List ℕ) → Result Wanted Errno
-named_wanted r None more = Err errors.BadAddress
-named_wanted r (Some name) None = Err errors.BadAddress
-named_wanted r (Some name) (Some more) = Ok (record {
-  name = name;
-  pri = slice_index r 4;
-  stack = slice_index r 6;
-  start = slice_index r 7;
-  words = slice_index r 8 ∷ slice_index r 9 ∷ slice_index r 10 ∷ more;
-})
+abbrev pub named_wanted : ℕ → ℕ → ℕ → Option (Option (List ℕ)) → Option (List ℕ) → Result Wanted Errno
+named_wanted priority stack start None arguments = Err errors.BadAddress
+named_wanted priority stack start (Some name) None = Err errors.BadAddress
+named_wanted priority stack start (Some name) (Some words) = Ok (record { name = name; pri = priority; stack = stack; start = start; words = words })
 
--- the words behind those in registers
-abbrev pub seven_words : List ℕ → ℕ → Option (List ℕ)
-seven_words ram at =
-    all_there (stack_word ram at 0 ∷ stack_word ram at 1 ∷ stack_word ram at 2 ∷ stack_word ram at 3 ∷ stack_word ram at 4 ∷ stack_word ram at 5 ∷ stack_word ram at 6 ∷ [])
-
--- the options are read and not used
-abbrev pub task_wanted : List ℕ → List ℕ → Result Wanted Errno
-task_wanted ram r =
-    if nat_le (slice_index r 4) least_urgent then named_wanted r (name_at ram (slice_index r 3)) (seven_words ram (slice_index r 1))
+-- refused at a priority above 255; then if the name or an argument can't be read
+abbrev pub task_wanted : List ℕ → ℕ → ℕ → ℕ → ℕ → Option (List ℕ) → Result Wanted Errno
+task_wanted ram name priority stack start arguments =
+    if nat_le priority least_urgent then named_wanted priority stack start (name_at ram name) arguments
     else Err errors.IllegalPriority
 
--- ---- sp(entry, nine words): a task without a name, of priority 100, with a stack of 20,000 bytes
+-- ---- sp: a task without a name, of priority 100, with a stack of 20,000 bytes, an entry and ten arguments
 abbrev pub quick_priority : ℕ
 quick_priority = 100
 
 abbrev pub quick_stack : ℕ
 quick_stack = 20000
 
-abbrev pub nine_wanted : List ℕ → Option (List ℕ) → Result Wanted Errno
-nine_wanted r None = Err errors.BadAddress
-nine_wanted r (Some more) = Ok (record {
-  name = None;
-  pri = quick_priority;
-  stack = quick_stack;
-  start = slice_index r 3;
-  words = slice_index r 4 ∷ slice_index r 5 ∷ slice_index r 6 ∷ slice_index r 7 ∷ slice_index r 8 ∷ slice_index r 9 ∷ slice_index r 10 ∷ (more ++ 0 ∷ []);
-})
-
-abbrev pub two_words : List ℕ → ℕ → Option (List ℕ)
-two_words ram at = all_there (stack_word ram at 0 ∷ stack_word ram at 1 ∷ [])
-
-abbrev pub quick_wanted : List ℕ → List ℕ → Result Wanted Errno
-quick_wanted ram r = nine_wanted r (two_words ram (slice_index r 1))
+-- refused if an argument can't be read
+abbrev pub quick_wanted : ℕ → Option (List ℕ) → Result Wanted Errno
+quick_wanted start None = Err errors.BadAddress
+quick_wanted start (Some words) = Ok (record { name = None; pri = quick_priority; stack = quick_stack; start = start; words = words })
 
 -- the line that tells a spawn
 unfoldable pub spawn_text : ℕ → List ℕ → List ℕ

@@ -4,12 +4,12 @@ ghost use Rattle.std.specs.Prelude.{◌≡◌, ◌+◌, ◌-◌, ◌^◌, ◌<�
 ghost use Rattle.wind_base.specs.Limits.{ram_bytes, longest_short_name};
 ghost use Rattle.wind_base.specs.OutBuf.{Added};
 ghost use Rattle.mem_partition.specs.Place.{rounded};
-ghost use Rattle.task_calls.specs.Spawning.{spawn_parts, spawned_if as spawned_if_lem, spawned as spawned_lem, started as started_lem, stack_bytes as stack_bytes_lem, first_pointer as first_pointer_lem, task_name as task_name_lem, names_after, name_at as name_at_lem, seven_words as seven_words_lem, two_words as two_words_lem, task_wanted as task_wanted_lem, quick_wanted as quick_wanted_lem, spawn_text, quick_text};
+ghost use Rattle.task_calls.specs.Spawning.{spawn_parts, spawned_if as spawned_if_lem, spawned as spawned_lem, started as started_lem, stack_bytes as stack_bytes_lem, first_pointer as first_pointer_lem, task_name as task_name_lem, names_after, name_at as name_at_lem, task_wanted as task_wanted_lem, quick_wanted as quick_wanted_lem, spawn_text, quick_text};
 
 use arrayvec::ArrayVec;
 use board_mem::Ram;
 use itoa::Buffer;
-use kernel_world::{Reply, put_frame, stack_word, starting_regs};
+use kernel_world::{Reply, put_frame, starting_regs};
 use mem_partition::{Class, GRAIN, Part, round_up};
 use task_block::NewTask;
 use wind_base::limits::{FRAME_BYTES, GATES_START};
@@ -53,49 +53,33 @@ fn name_at(ram: &Ram, address: u32) -> Option<Option<ShortName>>
     }
 }
 
-// The seven words behind those in registers.
-fn seven_words(ram: &Ram, pointer: u32) -> Option<[u32; 7]>
-    ensures { result ≡ seven_words_lem ram.now pointer }
+/// The task that taskSpawn is asked for: the name stands at an address. Refused at a priority above 255, and then if the name or
+/// an argument can't be read.
+pub fn task_wanted(
+    ram: &Ram,
+    name: u32,
+    priority: u32,
+    stack: u32,
+    start: u32,
+    arguments: Option<[u32; 10]>,
+) -> Result<Wanted, Errno>
+    ensures { result ≡ task_wanted_lem ram.now name priority stack start arguments }
 {
-    let a = stack_word(ram, pointer, 0)?;
-    let b = stack_word(ram, pointer, 1)?;
-    let c = stack_word(ram, pointer, 2)?;
-    let d = stack_word(ram, pointer, 3)?;
-    let e = stack_word(ram, pointer, 4)?;
-    let f = stack_word(ram, pointer, 5)?;
-    let g = stack_word(ram, pointer, 6)?;
-    Some([a, b, c, d, e, f, g])
-}
-
-// The two words behind those in registers.
-fn two_words(ram: &Ram, pointer: u32) -> Option<[u32; 2]>
-    ensures { result ≡ two_words_lem ram.now pointer }
-{
-    let a = stack_word(ram, pointer, 0)?;
-    let b = stack_word(ram, pointer, 1)?;
-    Some([a, b])
-}
-
-/// The task that taskSpawn is asked for. Refused at a priority above 255, then where a name or a word can't be read.
-pub fn task_wanted(ram: &Ram, gpr: &[u32; 32]) -> Result<Wanted, Errno>
-    ensures { result ≡ task_wanted_lem ram.now gpr.now }
-{
-    let Some(pri) = Pri::new(gpr[4]) else {
+    let Some(pri) = Pri::new(priority) else {
         return Err(Errno::IllegalPriority);
     };
-    let Some(name) = name_at(ram, gpr[3]) else {
+    let Some(name) = name_at(ram, name) else {
         return Err(Errno::BadAddress);
     };
-    let Some(more) = seven_words(ram, gpr[1]) else {
+    let Some(words) = arguments else {
         return Err(Errno::BadAddress);
     };
-    let [d, e, f, g, h, i, j] = more;
     Ok(Wanted {
         name,
         pri,
-        stack: gpr[6],
-        start: gpr[7],
-        words: [gpr[8], gpr[9], gpr[10], d, e, f, g, h, i, j],
+        stack,
+        start,
+        words,
     })
 }
 
@@ -109,22 +93,19 @@ fn quick_priority() -> Pri
     }
 }
 
-/// The task that sp is asked for. Refused where a word can't be read.
-pub fn quick_wanted(ram: &Ram, gpr: &[u32; 32]) -> Result<Wanted, Errno>
-    ensures { result ≡ quick_wanted_lem ram.now gpr.now }
+/// The task that sp is asked for. Refused if an argument can't be read.
+pub fn quick_wanted(start: u32, arguments: Option<[u32; 10]>) -> Result<Wanted, Errno>
+    ensures { result ≡ quick_wanted_lem start arguments }
 {
-    let Some(more) = two_words(ram, gpr[1]) else {
+    let Some(words) = arguments else {
         return Err(Errno::BadAddress);
     };
-    let [h, i] = more;
     Ok(Wanted {
         name: None,
         pri: quick_priority(),
         stack: QUICK_STACK,
-        start: gpr[3],
-        words: [
-            gpr[4], gpr[5], gpr[6], gpr[7], gpr[8], gpr[9], gpr[10], h, i, 0,
-        ],
+        start,
+        words,
     })
 }
 

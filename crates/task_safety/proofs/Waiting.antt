@@ -19,8 +19,9 @@ use Rattle.wind_core.specs.Orders.{waits_before, is_place, waits_at, waiters}
 use Rattle.wind_core.specs.Moves.{renewed, change_task, renew_task, move_task, new_task, spawn, remove, wake_at, pended, delayed, released, release, answered, end_waits, suspended, resumed, is_suspended, resume, unmarked, reset, with_pri, has_pri, change_pri, set_safe, set_again, past_gate, with_answer, with_refusal, unreserved}
 use Rattle.wind_core.specs.Releases.{releases, release_all}
 use Rattle.wind_core.specs.Tick.{tick}
+use Rattle.wind_core.specs.Move.{Move, Spawn, Remove, Pend, Delay, Release, ReleaseAll, EndWait, WakeAll, Tick, Suspend, Resume, ChangePri, Reset, SetLocks, SetNormal, SetSafe, SetHeld, SetErrno, SetIntLocked, SetAgain, SetRegs, Unreserve, LeaveGate, Answer, Refuse, SetLast, SetSlice, DrawIds, Lend}
 use Rattle.wind_core.proofs.Passes.{waits_before-order}
-use Rattle.wind_core.proofs.Keeping.{every_call_keeps}
+use Rattle.wind_core.proofs.Moving.{move_keeps}
 use Rattle.wind_core.proofs.Stable.{All-change, renew_task-stable, move_task-stable, tick-stable}
 use Rattle.wind_core.proofs.Becoming.{All-change_at}
 use Rattle.wind_core.proofs.Unwritten.{with_id, map-change, map-move, map-releases, map-tick, found_by, task_of-change, task_of-without}
@@ -30,7 +31,7 @@ use Rattle.task_safety.specs.declared.deleting.Deed.TheVariants.{Refuses, EndsIt
 use Rattle.task_safety.specs.Safety.{deletion, safe_of, lessen}
 use Rattle.task_safety.specs.Deletion.{deed_of, asked, unguarded, awaiting, after}
 use Rattle.task_safety.specs.Kept.{Deletes, IsSafe, KeepsDeleters, WaitsForNothing}
-use Rattle.task_safety.specs.Laws.{KeptLaw}
+use Rattle.task_safety.specs.Laws.{KeptLaw, CallsLaw}
 use Rattle.task_safety.proofs.Targets.{Says, deed_says}
 
 -- ---- safe counts
@@ -132,7 +133,7 @@ module _ (s : KernState) (kept : KeepsDeleters s) where
       let place : Place = deletion who in
       let after : KernState = release_all less place in
       let fine : All Fine after.tasks = releases-stable Fine (λ since t h. h) (λ t h. tt) less (waiters less.tasks place) (written_fine who m) in
-      let nobody = none_passes task_id waits_before waits_before-order (waits_at place) after.tasks (ap first (releases-clear less place (waiters less.tasks place) ((every_call_keeps s is).setting_safe who m) refl)) in
+      let nobody = none_passes task_id waits_before waits_before-order (waits_at place) after.tasks (ap first (releases-clear less place (waiters less.tasks place) (move_keeps s (SetSafe who m) is tt) refl)) in
       let same : map seen after.tasks ≡ map seen less.tasks = map-releases seen (λ n t. refl) (λ t. refl) less (waiters less.tasks place) in
       λ k d h. freed after (get_or after.tasks k d) (λ id other safe. subst (λ n. 0 < n) (sym (same_safe after.tasks less.tasks id same ∙ safe_other s who m id other)) safe) (nobody k d h) (fine k d h)
     where
@@ -206,6 +207,10 @@ ends : (s : KernState) (ts : List Task) (a : ℕ) (e : Option Errno) → KeepsDe
 ends s [] a e kept = kept
 ends s (t ∷ ts) a e kept = ends (move_task s t.id (answered a e)) ts a e (moves s kept t.id (answered a e) (λ u. refl) (λ u h. tt))
 
+releases_keep : (s : KernState) (ts : List Task) → KeepsDeleters s → KeepsDeleters (releases s ts)
+releases_keep s [] kept = kept
+releases_keep s (t ∷ ts) kept = releases_keep (release s t.id) ts (moves s kept t.id released (λ u. refl) (λ u h. tt))
+
 -- ---- a deletion
 -- after so many fewer safe sections as there are, none is left
 none_left : (s : KernState) (who n : ℕ) → n ≡ safe_of (task_of s.tasks who) → safe_of (task_of (lessen s who n).tasks who) ≡ 0
@@ -224,7 +229,7 @@ deed_keeps s caller n (EndsItself count) is kept idle said =
     let first : KernState = asked s caller in
     let fine = marks s kept is caller idle false in
     let same : count ≡ safe_of (task_of first.tasks caller) = said.1 ∙ sym (same_safe first.tasks s.tasks caller (map-change seen s.tasks caller (λ t. record t { again = false }) (λ t. refl))) in
-    removes (unguarded s caller count) (eases first fine ((every_call_keeps s is).setting_again caller false) caller count) caller (none_left first caller count same)
+    removes (unguarded s caller count) (eases first fine (move_keeps s (SetAgain caller false) is tt) caller count) caller (none_left first caller count same)
 deed_keeps s caller n (Removes who) is kept idle said =
     removes (asked s caller) (marks s kept is caller idle false) who
     (same_safe (asked s caller).tasks s.tasks who (map-change seen s.tasks caller (λ t. record t { again = false }) (λ t. refl)) ∙ said.2)
@@ -250,36 +255,40 @@ spawns s n kept =
     let new : Task = new_task s.next_id s.next_since n in
     recovered s kept (spawn s n) (λ id h. safe_push s.tasks new id h) (All-push (Deletes (IsSafe s)) s.tasks new kept tt)
 
-pub every_call : KeptLaw
-every_call s is kept = record {
+pub moves_keep : KeptLaw
+moves_keep k (Spawn n) is kept spares = spawns k n kept
+moves_keep k (Remove who) is kept spares = removes k kept who spares
+moves_keep k (Pend who place fifo n) is kept spares = renews k kept who (pended place fifo (wake_at place.side k.tick n)) (λ t. refl) (λ t h side. absurd (spares side))
+moves_keep k (Delay who n) is kept spares = renews k kept who (delayed k.tick n) (delayed_seen k.tick n) (delayed_fine (IsSafe k) k.tick n)
+moves_keep k (Release who) is kept spares = moves k kept who released (λ t. refl) (λ t h. tt)
+moves_keep k (ReleaseAll place) is kept spares = releases_keep k (waiters k.tasks place) kept
+moves_keep k (EndWait who value errno) is kept spares = moves k kept who (answered value errno) (λ t. refl) (λ t h. tt)
+moves_keep k (WakeAll place value errno) is kept spares = ends k (waiters k.tasks place) value errno kept
+moves_keep k Tick is kept spares = as_safe k kept (tick k) (map-tick seen (λ n t. refl) (λ a e t. refl) (λ n t. refl) k) (tick-stable (Deletes (IsSafe k)) (λ since t h. h) (λ a e t h. tt) (λ n t h. h) k kept)
+moves_keep k (Resume who) is kept spares = resumes k who kept
+moves_keep k (ChangePri who pri) is kept spares = priorities k who pri kept
+moves_keep k (Reset who) is kept spares = resets k kept is who spares
+moves_keep k (SetSafe who n) is kept spares = writes k kept who n spares
+moves_keep k (SetAgain who on) is kept spares = marks k kept is who spares on
+moves_keep k (Suspend who) is kept spares = changes k kept who suspended (λ t. refl) (λ t h. h)
+moves_keep k (SetLocks who n) is kept spares = changes k kept who (λ t. record t { locks = n }) (λ t. refl) (λ t h. h)
+moves_keep k (SetNormal who pri) is kept spares = changes k kept who (λ t. record t { normal = pri }) (λ t. refl) (λ t h. h)
+moves_keep k (SetHeld who n) is kept spares = changes k kept who (λ t. record t { held = n }) (λ t. refl) (λ t h. h)
+moves_keep k (SetErrno who n) is kept spares = changes k kept who (λ t. record t { errno = n }) (λ t. refl) (λ t h. h)
+moves_keep k (SetIntLocked who on) is kept spares = changes k kept who (λ t. record t { int_locked = on }) (λ t. refl) (λ t h. h)
+moves_keep k (SetRegs who regs) is kept spares = changes k kept who (λ t. record t { regs = regs }) (λ t. refl) (λ t h. h)
+moves_keep k (Unreserve who) is kept spares = changes k kept who unreserved (λ t. refl) (λ t h. h)
+moves_keep k (LeaveGate who) is kept spares = changes k kept who past_gate (λ t. refl) (λ t h. h)
+moves_keep k (Answer who value) is kept spares = changes k kept who (with_answer value) (λ t. refl) (λ t h. h)
+moves_keep k (Refuse who e) is kept spares = changes k kept who (with_refusal e) (λ t. refl) (λ t h. h)
+moves_keep k (SetLast last) is kept spares = kept
+moves_keep k (SetSlice n) is kept spares = kept
+moves_keep k (DrawIds next) is kept spares = kept
+moves_keep k (Lend on) is kept spares = kept
+
+pub calls_keep : CallsLaw
+calls_keep s is kept = record {
   guarding = λ who. writes s kept who (safe_of (task_of s.tasks who) + 1) (λ some. omega arith);
   easing = λ who n. eases s kept is who n;
   deleting = λ caller target idle. deed_keeps s caller target (deed_of s.tasks caller target) is kept idle (deed_says s.tasks caller target);
-  removing = λ who none. removes s kept who none;
-  spawning = λ n. spawns s n kept;
-  drawing = λ n. kept;
-  lending = λ on. kept;
-  pending = λ who place fifo n other. renews s kept who (pended place fifo (wake_at place.side s.tick n)) (λ t. refl) (λ t h side. absurd (other side));
-  delaying = λ who n. renews s kept who (delayed s.tick n) (delayed_seen s.tick n) (delayed_fine (IsSafe s) s.tick n);
-  releasing = λ who. moves s kept who released (λ t. refl) (λ t h. tt);
-  answering = λ who a e. moves s kept who (answered a e) (λ t. refl) (λ t h. tt);
-  waking = λ place a e. ends s (waiters s.tasks place) a e kept;
-  ticking = as_safe s kept (tick s) (map-tick seen (λ n t. refl) (λ a e t. refl) (λ n t. refl) s) (tick-stable (Deletes (IsSafe s)) (λ since t h. h) (λ a e t h. tt) (λ n t h. h) s kept);
-  suspending = λ who. changes s kept who suspended (λ t. refl) (λ t h. h);
-  resuming = λ who. resumes s who kept;
-  resetting = λ who idle. resets s kept is who idle;
-  changing_pri = λ who pri. priorities s who pri kept;
-  setting_locks = λ who n. changes s kept who (λ t. record t { locks = n }) (λ t. refl) (λ t h. h);
-  setting_normal = λ who pri. changes s kept who (λ t. record t { normal = pri }) (λ t. refl) (λ t h. h);
-  setting_held = λ who n. changes s kept who (λ t. record t { held = n }) (λ t. refl) (λ t h. h);
-  setting_errno = λ who n. changes s kept who (λ t. record t { errno = n }) (λ t. refl) (λ t h. h);
-  setting_int_locked = λ who on. changes s kept who (λ t. record t { int_locked = on }) (λ t. refl) (λ t h. h);
-  setting_again = λ who on idle. marks s kept is who idle on;
-  setting_regs = λ who regs. changes s kept who (λ t. record t { regs = regs }) (λ t. refl) (λ t h. h);
-  leaving_gate = λ who. changes s kept who past_gate (λ t. refl) (λ t h. h);
-  giving_answer = λ who value. changes s kept who (with_answer value) (λ t. refl) (λ t h. h);
-  refusing = λ who e. changes s kept who (with_refusal e) (λ t. refl) (λ t h. h);
-  unreserving = λ who. changes s kept who unreserved (λ t. refl) (λ t h. h);
-  noting_last = λ last. kept;
-  slicing = λ n. kept;
 }

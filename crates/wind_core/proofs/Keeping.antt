@@ -1,5 +1,5 @@
--- Every call of the kernel keeps the kept facts, whether the task that it names lives or not.
-use Rattle.std.proofs.Common.{◌≡◌, ℕ, ◌+◌, ◌<◌, ◌≤◌, true, false, cond, leb, List, [], ◌∷◌, length, Option, None, Some, IfSome, refl, sym, ◌∙◌, subst, arith, inl, inr}
+-- Moves of the kernel keep the kept facts, whether the task that they name lives or not.
+use Rattle.std.proofs.Common.{◌≡◌, ℕ, ◌+◌, ◌<◌, ◌≤◌, Bool, true, false, cond, leb, List, [], ◌∷◌, length, Option, None, Some, IfSome, refl, sym, ◌∙◌, subst, arith, inl, inr}
 use Rattle.std.proofs.lemmas.Bool.{leb-false}
 use Rattle.std.proofs.lemmas.List.Elements.{All-weaker}
 use Rattle.std.proofs.lemmas.Option.{same_Some}
@@ -12,11 +12,9 @@ use Rattle.wind_lists.specs.Records.{change}
 use Rattle.wind_lists.proofs.Records.{replace-change}
 use Rattle.wind_lists.proofs.Places.{not_there}
 use Rattle.wind_core.specs.State.{KernState, IsKern, WakesAhead, task_id, task_of}
-use Rattle.wind_core.specs.Moves.{renewed, settled, change_task, renew_task, move_found, move_task, new_task, spawn, spawn_refusal, wake_at, pended, delayed, released, answered, end_wait, end_waits, suspended, resumed, resume, is_suspended, unmarked, with_pri, has_pri, change_pri, past_gate, with_answer, with_refusal, unreserved}
-use Rattle.wind_core.specs.Orders.{waiters}
-use Rattle.wind_core.specs.Laws.{KeptLaw}
-use Rattle.wind_core.proofs.Writes.{MayFollow, IsKern-replace, settled_follows, wake_ahead, delayed_id, delayed_ahead}
-use Rattle.wind_core.proofs.Comings.{without_keeps, push_keeps}
+use Rattle.wind_core.specs.Moves.{renewed, settled, change_task, renew_task, move_found, move_task, new_task, spawn, spawn_refusal, released, release, answered, end_wait, end_waits, resumed, resume, is_suspended, with_pri, has_pri, change_pri}
+use Rattle.wind_core.proofs.Writes.{MayFollow, IsKern-replace, settled_follows}
+use Rattle.wind_core.proofs.Comings.{push_keeps}
 
 -- ---- one task is changed
 -- the next order number may rise
@@ -75,18 +73,21 @@ plain tick f id since wake = record { id = id; since = since; ahead = λ t h. su
 pub end_wait_keeps : (s : KernState) (who answer : ℕ) (errno : Option Errno) → IsKern s → IsKern (end_wait s who answer errno)
 end_wait_keeps s who answer errno is = move_task_keeps s who (answered answer errno) is (record { id = λ t. refl; since = λ t. refl; ahead = λ t h. tt })
 
+pub release_keeps : (s : KernState) (who : ℕ) → IsKern s → IsKern (release s who)
+release_keeps s who is = move_task_keeps s who released is (record { id = λ t. refl; since = λ t. refl; ahead = λ t h. tt })
+
 pub end_waits_keep : (s : KernState) (ts : List Task) (answer : ℕ) (errno : Option Errno) → IsKern s → IsKern (end_waits s ts answer errno)
 end_waits_keep s [] answer errno is = is
 end_waits_keep s (t ∷ ts) answer errno is = end_waits_keep (end_wait s t.id answer errno) ts answer errno (end_wait_keeps s t.id answer errno is)
 
-resume_keeps : (s : KernState) (who : ℕ) → IsKern s → IsKern (resume s who)
+pub resume_keeps : (s : KernState) (who : ℕ) → IsKern s → IsKern (resume s who)
 resume_keeps s who is =
     elim (is_suspended (task_of s.tasks who)) as (λ b. IsKern (cond b (move_task s who resumed) s)) [
       | true ↦ move_task_keeps s who resumed is (plain s.tick resumed (λ t. refl) (λ t. refl) (λ t. refl))
       | false ↦ is
     ]
 
-change_pri_keeps : (s : KernState) (who pri : ℕ) → IsKern s → IsKern (change_pri s who pri)
+pub change_pri_keeps : (s : KernState) (who pri : ℕ) → IsKern s → IsKern (change_pri s who pri)
 change_pri_keeps s who pri is =
     elim (has_pri pri (task_of s.tasks who)) as (λ b. IsKern (cond b s (move_task s who (with_pri pri)))) [
       | true ↦ is
@@ -108,46 +109,25 @@ below_limit n id e f none =
 room : (s : KernState) → spawn_refusal s ≡ None → (length s.tasks < 256) × (s.next_id ≤ 1048576)
 room s none = below_limit (length s.tasks) s.next_id errors.TooMany errors.IdsSpent none
 
-spawn_keeps : (s : KernState) (n : NewTask) → IsKern s → spawn_refusal s ≡ None → IsKern (spawn s n)
+pub spawn_keeps : (s : KernState) (n : NewTask) → IsKern s → spawn_refusal s ≡ None → IsKern (spawn s n)
 spawn_keeps s n is none =
     let left = room s none in
     push_keeps s (new_task s.next_id s.next_since n) is left.0 left.1 refl refl tt
 
-writes : (s : KernState) (who : ℕ) (f : Task → Task) → IsKern s → ((t : Task) → (f t).id ≡ t.id) → ((t : Task) → (f t).since ≡ t.since) → ((t : Task) → (f t).wake ≡ t.wake)
+pub writes : (s : KernState) (who : ℕ) (f : Task → Task) → IsKern s → ((t : Task) → (f t).id ≡ t.id) → ((t : Task) → (f t).since ≡ t.since) → ((t : Task) → (f t).wake ≡ t.wake)
     → IsKern (change_task s who f)
 writes s who f is id since wake = change_task_keeps s who f is (plain s.tick f id since wake)
 
-last_keeps : (s : KernState) (last : Option ℕ) → IsKern s → IsKern (record s { last = last })
-last_keeps s last is = record { few = is.few; rising = is.rising; ids = is.ids; first_id = is.first_id; last_id = is.last_id; distinct = is.distinct; sinces = is.sinces; ahead = is.ahead }
-
-slice_keeps : (s : KernState) (n : ℕ) → IsKern s → IsKern (record s { slice = n })
-slice_keeps s n is = record { few = is.few; rising = is.rising; ids = is.ids; first_id = is.first_id; last_id = is.last_id; distinct = is.distinct; sinces = is.sinces; ahead = is.ahead }
-
-pub every_call_keeps : KeptLaw
-every_call_keeps s is = record {
-  spawning = λ n none. spawn_keeps s n is none;
-  removing = λ who. without_keeps s who is;
-  pending = λ who place fifo n some. renew_task_keeps s who (pended place fifo (wake_at place.side s.tick n)) is (λ t. refl) (λ t h. wake_ahead place.side s.tick n some);
-  delaying = λ who n. renew_task_keeps s who (delayed s.tick n) is (delayed_id s.tick n) (delayed_ahead s.tick n);
-  releasing = λ who. move_task_keeps s who released is (record { id = λ t. refl; since = λ t. refl; ahead = λ t h. tt });
-  answering = λ who answer errno. end_wait_keeps s who answer errno is;
-  waking = λ place answer errno. end_waits_keep s (waiters s.tasks place) answer errno is;
-  suspending = λ who. writes s who suspended is (λ t. refl) (λ t. refl) (λ t. refl);
-  resuming = λ who. resume_keeps s who is;
-  resetting = λ who. renew_task_keeps s who unmarked is (λ t. refl) (λ t h. h);
-  changing_pri = λ who pri. change_pri_keeps s who pri is;
-  setting_locks = λ who n. writes s who (λ t. record t { locks = n }) is (λ t. refl) (λ t. refl) (λ t. refl);
-  setting_normal = λ who pri. writes s who (λ t. record t { normal = pri }) is (λ t. refl) (λ t. refl) (λ t. refl);
-  setting_safe = λ who n. writes s who (λ t. record t { safe = n }) is (λ t. refl) (λ t. refl) (λ t. refl);
-  setting_held = λ who n. writes s who (λ t. record t { held = n }) is (λ t. refl) (λ t. refl) (λ t. refl);
-  setting_errno = λ who n. writes s who (λ t. record t { errno = n }) is (λ t. refl) (λ t. refl) (λ t. refl);
-  setting_int_locked = λ who on. writes s who (λ t. record t { int_locked = on }) is (λ t. refl) (λ t. refl) (λ t. refl);
-  setting_again = λ who on. writes s who (λ t. record t { again = on }) is (λ t. refl) (λ t. refl) (λ t. refl);
-  setting_regs = λ who regs. writes s who (λ t. record t { regs = regs }) is (λ t. refl) (λ t. refl) (λ t. refl);
-  leaving_gate = λ who. writes s who past_gate is (λ t. refl) (λ t. refl) (λ t. refl);
-  giving_answer = λ who value. writes s who (with_answer value) is (λ t. refl) (λ t. refl) (λ t. refl);
-  refusing = λ who e. writes s who (with_refusal e) is (λ t. refl) (λ t. refl) (λ t. refl);
-  unreserving = λ who. writes s who unreserved is (λ t. refl) (λ t. refl) (λ t. refl);
-  noting_last = λ last. last_keeps s last is;
-  slicing = λ n. slice_keeps s n is;
+-- counters and notes that tell nothing of the tasks
+pub counters_keep : (k : KernState) (next slice : ℕ) (lent : Bool) (last : Option ℕ) → IsKern k → k.next_id ≤ next → next ≤ 1048577
+    → IsKern (record k { next_id = next; slice = slice; lent = lent; last = last })
+counters_keep k next slice lent last is more most = record {
+  few = is.few;
+  rising = is.rising;
+  ids = All-weaker (λ (t : Task). t.id < k.next_id) (λ (t : Task). t.id < next) (λ t h. omega (arith, h, more)) k.tasks is.ids;
+  first_id = omega (arith, is.first_id, more);
+  last_id = most;
+  distinct = is.distinct;
+  sinces = is.sinces;
+  ahead = is.ahead;
 }

@@ -17,3 +17,4 @@ pub mod Finding
 pub mod Unwritten
 pub mod Ids
 pub mod Releasing
+pub mod Moving

@@ -11,7 +11,7 @@ use Rattle.wind_core.specs.Orders.{waits_before, waits_at, waiters, first_waiter
 use Rattle.wind_core.specs.Moves.{released, settled, renewed, move_found, release}
 use Rattle.wind_core.specs.Releases.{releases, release_all}
 use Rattle.wind_core.proofs.Passes.{waits_before-order}
-use Rattle.wind_core.proofs.Keeping.{every_call_keeps}
+use Rattle.wind_core.proofs.Keeping.{release_keeps}
 use Rattle.wind_core.proofs.Waking.{in_line-move, id_found, no_id}
 
 settled_waits : (place : Place) (since : ℕ) (t : Task) → waits_at place (settled since (released t)) ≡ false
@@ -55,9 +55,6 @@ pub all_free : (s : KernState) (place : Place) → None ≡ option_map task_id (
 all_free s place e = ap (λ ws. releases s ws) (no_first waits_before (waiters s.tasks place) (no_id (first_waiter s.tasks place) e))
 
 -- the kept facts hold again
-pub release_keeps : (s : KernState) (who : ℕ) → IsKern s → IsKern (release s who)
-release_keeps s who is = (every_call_keeps s is).releasing who
-
 pub releases_keep : (s : KernState) (ts : List Task) → IsKern s → IsKern (releases s ts)
 releases_keep s [] is = is
 releases_keep s (t ∷ ts) is = releases_keep (release s t.id) ts (release_keeps s t.id is)

@@ -6,5 +6,6 @@ pub mod Inside
 pub mod Lends
 pub mod Laws
 pub mod Releases
+pub mod Move
 pub mod Waiting
 pub mod Queues

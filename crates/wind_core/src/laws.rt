@@ -1,6 +1,6 @@
 //! What follows of the kernel's definitions alone, whatever its code does.
 
-ghost use Rattle.wind_core.specs.Laws.{RunnerLaw, LockLaw, IdleLaw, WaitersLaw, WakeAllLaw, TickLaw, AheadLaw, KeptLaw};
+ghost use Rattle.wind_core.specs.Laws.{RunnerLaw, LockLaw, IdleLaw, WaitersLaw, WakeAllLaw, TickLaw, AheadLaw, KeptLaw, SeriesLaw};
 
 /// The law of who runs: it lives and is ready, and no ready task is before it, unless it ran last and
 /// holds the lock. A ready task that ran last and holds the lock goes on. Nobody runs only where no task
@@ -27,7 +27,9 @@ pub fn tick_law()
     ensures ahead { AheadLaw }
 {}
 
-/// The law of the kept facts: every call keeps them, whether the task that it names lives or not.
+/// The law of the kept facts: every move keeps them, whether the task that it names lives or not, and so
+/// do moves one after the other.
 pub fn kept_law()
-    ensures { KeptLaw }
+    ensures one { KeptLaw }
+    ensures series { SeriesLaw }
 {}

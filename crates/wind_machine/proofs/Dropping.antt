@@ -7,12 +7,13 @@ use Rattle.id_table.specs.declared.ident.Place.{Place}
 use Rattle.task_block.specs.declared.task.Task.{Task}
 use Rattle.wind_core.specs.State.{KernState, task_id}
 use Rattle.wind_core.specs.Moves.{unreserved, unreserve}
+use Rattle.wind_core.specs.Move.{Unreserve}
 use Rattle.wind_core.proofs.Ids.{lives_by}
 use Rattle.kernel_world.specs.State.{WorldState}
 use Rattle.kernel_world.specs.Opening.{interrupt_stack}
 use Rattle.kernel_world.specs.Kept.{AreStacks, IsWorld, HasCounts, Within, ReservedBy}
 use Rattle.kernel_world.specs.Objects.{KeepsObjects}
-use Rattle.kernel_world.proofs.ObjectMoves.{objects-unreserve, objects-drop}
+use Rattle.kernel_world.proofs.ObjectMoves.{objects-move, objects-drop}
 use Rattle.kernel_world.proofs.Holding.{loaded_on}
 use Rattle.kernel_world.proofs.Calming.{Spares, kern-map}
 use Rattle.kernel_world.proofs.Advancing.{Advances}
@@ -105,7 +106,7 @@ other_drops who = by_test (unless_own who) (λ t. elim (eqb t.id who) as (λ c. 
 
 module _ (w : WorldState) (n : ℕ) (kept : IsWorld w) (within : Within n w) where
   pub unreserve_advances : (who : ℕ) → Advances w (with_kern w (unreserve w.kern who)) n 0 0
-  unreserve_advances who = drop_advances (of_own who) (own_drops who) w n kept within (objects-unreserve w.kern w.objects kept.kern kept.objects who)
+  unreserve_advances who = drop_advances (of_own who) (own_drops who) w n kept within (objects-move w.kern w.objects kept.kern kept.objects (Unreserve who) (tt, tt, tt, tt))
 
   pub others_advance : (who : ℕ) → Advances w (with_kern w (drop_others w.kern who)) n 0 0
   others_advance who = drop_advances (unless_own who) (other_drops who) w n kept within (objects-drop w.kern w.objects kept.objects (λ t. eqb t.id who))

@@ -9,7 +9,8 @@ use Rattle.task_block.specs.Standing.{is_ready}
 use Rattle.wind_lists.specs.Records.{change}
 use Rattle.wind_core.specs.State.{KernState, IsKern, task_id, task_of}
 use Rattle.wind_core.specs.Moves.{renewed, settled, move_found, released, release, unmarked}
-use Rattle.wind_core.proofs.Keeping.{every_call_keeps}
+use Rattle.wind_core.specs.Move.{Release, Reset}
+use Rattle.wind_core.proofs.Moving.{move_keeps}
 use Rattle.con_line.specs.State.{ConsoleState}
 use Rattle.con_line.specs.Keys.{byte_done}
 use Rattle.con_line.specs.Lines.{KeepsLines}
@@ -26,8 +27,8 @@ use Rattle.wind_machine.proofs.TaskLemmas.{since-move}
 use Rattle.kernel_world.specs.Kept.{CountsWithin}
 use Rattle.kernel_world.specs.Objects.{KeepsObjects}
 use Rattle.kernel_world.specs.declared.objects.Objects.{Objects}
-use Rattle.kernel_world.proofs.ObjectMoves.{objects-release, objects-reset}
-use Rattle.kernel_world.proofs.Goes.{Goes, goes_nowhere, goes_on, goes_further, goes-release}
+use Rattle.kernel_world.proofs.ObjectMoves.{objects-move}
+use Rattle.kernel_world.proofs.Goes.{Goes, goes_nowhere, goes_on, goes_further, goes-move}
 use Rattle.wind_machine.proofs.Moves.{goes-aborted}
 use Rattle.wind_machine.proofs.Kept.{byte_has_line}
 
@@ -124,7 +125,7 @@ after_goes : (d : ByteDone) (waits : Bool) (k : KernState) (n : ℕ) → IsKern 
 after_goes done.Abort waits k n is within = goes-aborted k n is within
 after_goes done.Line waits k n is within =
     elim waits as (λ b. Goes k (cond b (release k shell_id) k) n 2) [
-      | true ↦ goes_further k (release k shell_id) n n 1 2 (omega arith) (omega arith) (goes-release k n is within shell_id)
+      | true ↦ goes_further k (release k shell_id) n n 1 2 (omega arith) (omega arith) (goes-move k n is within (Release shell_id) tt)
       | false ↦ goes_further k k n n 0 2 (omega arith) (omega arith) (goes_nowhere k n is within)
     ]
 after_goes done.Kept waits k n is within = goes_further k k n n 0 2 (omega arith) (omega arith) (goes_nowhere k n is within)
@@ -135,18 +136,18 @@ task_free None e = tt
 task_free (Some t) e = elim t.wait as (λ w. (is_some w || is_some t.wake) ≡ false → w ≡ None) [ None ↦ λ q. refl | Some p ↦ λ q. absurd (cc) ] e
 
 objects-let_go : (k : KernState) (o : Objects) → IsKern k → KeepsObjects k o → KeepsObjects (let_go k) o
-objects-let_go k o is kept = elim (is_held (shell_task k)) as (λ b. KeepsObjects (cond b (release k shell_id) k) o) [ true ↦ objects-release k o is kept shell_id | false ↦ kept ]
+objects-let_go k o is kept = elim (is_held (shell_task k)) as (λ b. KeepsObjects (cond b (release k shell_id) k) o) [ true ↦ objects-move k o is kept (Release shell_id) (tt, tt, tt, tt) | false ↦ kept ]
 
 is-let_go : (k : KernState) → IsKern k → IsKern (let_go k)
-is-let_go k is = elim (is_held (shell_task k)) as (λ b. IsKern (cond b (release k shell_id) k)) [ true ↦ (every_call_keeps k is).releasing shell_id | false ↦ is ]
+is-let_go k is = elim (is_held (shell_task k)) as (λ b. IsKern (cond b (release k shell_id) k)) [ true ↦ move_keeps k (Release shell_id) is tt | false ↦ is ]
 
 pub objects-aborted : (k : KernState) (o : Objects) → IsKern k → KeepsObjects k o → KeepsObjects (aborted k) o
 objects-aborted k o is kept =
-    objects-reset (let_go k) o (is-let_go k is) (objects-let_go k o is kept) shell_id (task_free (shell_task (let_go k)) (free_after_let_go k))
+    objects-move (let_go k) o (is-let_go k is) (objects-let_go k o is kept) (Reset shell_id) (tt, task_free (shell_task (let_go k)) (free_after_let_go k), tt, tt)
 
 after_objects : (d : ByteDone) (waits : Bool) (k : KernState) (o : Objects) → IsKern k → KeepsObjects k o → KeepsObjects (kern_after d waits k) o
 after_objects done.Abort waits k o is kept = objects-aborted k o is kept
-after_objects done.Line waits k o is kept = elim waits as (λ b. KeepsObjects (cond b (release k shell_id) k) o) [ true ↦ objects-release k o is kept shell_id | false ↦ kept ]
+after_objects done.Line waits k o is kept = elim waits as (λ b. KeepsObjects (cond b (release k shell_id) k) o) [ true ↦ objects-move k o is kept (Release shell_id) (tt, tt, tt, tt) | false ↦ kept ]
 after_objects done.Kept waits k o is kept = kept
 
 hear_well : (from : KernState) (h : Heard) (b n d spent : ℕ) → HeardWell from h n d spent → HeardWell from (hear h b) n (d + 2) (spent + 1)

@@ -6,13 +6,14 @@ use Rattle.wind_core.specs.State.{KernState, IsKern, task_of}
 use Rattle.wind_core.specs.Orders.{running, due}
 use Rattle.wind_core.specs.Moves.{renewed, move_found, move_task, wake_at, pended, release, answered}
 use Rattle.wind_core.specs.Tick.{turn_found, turn_of, take_turn, late_answer, late_errno, time_out, tick_counted, tick}
+use Rattle.wind_core.specs.Move.{Pend, Release, Reset}
 use Rattle.wind_core.proofs.Ids.{ids-change, ids-tick}
-use Rattle.wind_core.proofs.Keeping.{every_call_keeps}
+use Rattle.wind_core.proofs.Moving.{move_keeps}
 use Rattle.wind_core.proofs.Stable.{renew_task-stable, tick-stable}
 use Rattle.wind_core.proofs.Unwritten.{map-renew, map-tick}
 use Rattle.kernel_world.specs.Actors.{shell_id}
 use Rattle.kernel_world.specs.Kept.{HasCounts, CountsWithin, ReservedBy, task_stacks}
-use Rattle.kernel_world.proofs.Goes.{Goes, goes_nowhere, goes_on, goes_further, goes-release, goes-reset, reserved_by}
+use Rattle.kernel_world.proofs.Goes.{Goes, goes_nowhere, goes_on, goes_further, goes-move, reserved_by}
 use Rattle.wind_machine.specs.Task.{shell_task, console_place, is_held, listening, let_go, aborted}
 
 -- ---- the shell's task
@@ -20,7 +21,7 @@ pub goes-listening : (k : KernState) (n : ℕ) → IsKern k → CountsWithin n k
 goes-listening k n is within =
     let f : Task → Task = pended console_place false (wake_at 3 k.tick 4294967295) in
     record {
-      kern = (every_call_keeps k is).pending shell_id console_place false 4294967295 (omega arith);
+      kern = move_keeps k (Pend shell_id console_place false 4294967295) is (omega arith);
       alone = ids-change k.tasks shell_id (λ t. renewed k.next_since (f t)) (λ t. refl);
       stacks = map-renew (λ (t : Task). t.stack) (λ since t. refl) k shell_id f (λ t. refl);
       lent = refl;
@@ -35,14 +36,14 @@ goes-listening k n is within =
 pub goes-let_go : (k : KernState) (n : ℕ) → IsKern k → CountsWithin n k → Goes k (let_go k) n 1
 goes-let_go k n is within =
     elim (is_held (shell_task k)) as (λ b. Goes k (cond b (release k shell_id) k) n 1) [
-      | true ↦ goes-release k n is within shell_id
+      | true ↦ goes-move k n is within (Release shell_id) tt
       | false ↦ goes_further k k n n 0 1 (omega arith) (omega arith) (goes_nowhere k n is within)
     ]
 
 pub goes-aborted : (k : KernState) (n : ℕ) → IsKern k → CountsWithin n k → Goes k (aborted k) n 2
 goes-aborted k n is within =
     let a = goes-let_go k n is within in
-    goes_on k (let_go k) (aborted k) n n 1 1 a (goes-reset (let_go k) n a.kern a.counts shell_id)
+    goes_on k (let_go k) (aborted k) n n 1 1 a (goes-move (let_go k) n a.kern a.counts (Reset shell_id) tt)
 
 -- ---- a tick: what it leaves that is no task, order number or count
 module _ {A : Type 0} (part : KernState → A) (apart : (k : KernState) (ts : List Task) (n : ℕ) → part (record k { tasks = ts; next_since = n }) ≡ part k) where

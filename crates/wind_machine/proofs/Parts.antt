@@ -10,15 +10,16 @@ use Rattle.board_bus.specs.BusState.{BusState}
 use Rattle.board_bus.specs.Access.{board_meaning, fetched}
 use Rattle.wind_core.specs.State.{Lives, task_of}
 use Rattle.wind_core.specs.Moves.{suspend}
+use Rattle.wind_core.specs.Move.{Suspend}
 use Rattle.kernel_world.specs.State.{WorldState}
 use Rattle.kernel_world.specs.Actors.{shell_id}
 use Rattle.kernel_calls.specs.Calls.{call}
-use Rattle.kernel_world.specs.Allowed.{is_built}
+use Rattle.kernel_world.specs.Allowed.{is_call}
 use Rattle.task_calls.specs.Ending.{ended}
 use Rattle.kernel_world.specs.Kept.{IsWorld, Within, call_sinces}
 use Rattle.kernel_world.specs.declared.actor.Actor.TheVariants.{Task as by_task}
-use Rattle.kernel_world.proofs.Goes.{goes-suspend}
-use Rattle.kernel_world.proofs.ObjectMoves.{objects-listen, objects-suspend}
+use Rattle.kernel_world.proofs.Goes.{goes-move}
+use Rattle.kernel_world.proofs.ObjectMoves.{objects-listen, objects-move}
 use Rattle.wind_machine.proofs.Hearing.{objects-aborted}
 use Rattle.live_loading.specs.Said.{FileSaid}
 use Rattle.live_loading.specs.Loading.{load_call}
@@ -110,7 +111,7 @@ module _ (w : WorldState) (n : ℕ) (kept : IsWorld w) (within : Within n w) whe
       suspended_keeps : (text : List ℕ) → PartKeeps w (part_of shell (writing (with_kern w (suspend w.kern who)) text)) who (n + 1) finished
       suspended_keeps text =
           let v = with_kern w (suspend w.kern who) in
-          let goes = turns_by w v who n 0 0 (omega arith) (omega arith) (by_kern w kept (suspend w.kern who) n 0 (goes-suspend w.kern n kept.kern within.0 who) (objects-suspend w.kern w.objects kept.kern kept.objects who) within.1) in
+          let goes = turns_by w v who n 0 0 (omega arith) (omega arith) (by_kern w kept (suspend w.kern who) n 0 (goes-move w.kern n kept.kern within.0 (Suspend who) tt) (objects-move w.kern w.objects kept.kern kept.objects (Suspend who) (tt, tt, tt, tt)) within.1) in
           record { turns = wrote w v who (n + 1) (more_counts w v who n goes) (w.output ++ text); read = read }
 
       aborted_keeps : (text : List ℕ) → PartKeeps w (part_of at_prompt (writing (with_kern w (aborted w.kern)) text)) who (n + 1) finished
@@ -151,9 +152,9 @@ module _ (w : WorldState) (n : ℕ) (kept : IsWorld w) (within : Within n w) whe
 
       gate_keeps : (g : Gate) → PartKeeps w (gate_part g shell w who) who (n + 1) finished
       gate_keeps g =
-          elim (is_return g who) as (λ b. PartKeeps w (cond b (return_part shell w who) (cond (is_built g) (call_part g shell w who) (trapped traps.Access shell w who))) who (n + 1) finished) [
+          elim (is_return g who) as (λ b. PartKeeps w (cond b (return_part shell w who) (cond (is_call g) (call_part g shell w who) (trapped traps.Access shell w who))) who (n + 1) finished) [
             | true ↦ return_keeps
-            | false ↦ elim (is_built g) as (λ b. PartKeeps w (cond b (call_part g shell w who) (trapped traps.Access shell w who)) who (n + 1) finished) [ true ↦ call_keeps g | false ↦ trapped_keeps traps.Access ]
+            | false ↦ elim (is_call g) as (λ b. PartKeeps w (cond b (call_part g shell w who) (trapped traps.Access shell w who)) who (n + 1) finished) [ true ↦ call_keeps g | false ↦ trapped_keeps traps.Access ]
           ]
 
       -- ---- an instruction

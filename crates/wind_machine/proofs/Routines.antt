@@ -16,7 +16,7 @@ use Rattle.kernel_world.specs.State.{WorldState}
 use Rattle.kernel_world.specs.Kept.{IsWorld, Within, call_sinces}
 use Rattle.kernel_calls.specs.Laws.{Passes}
 use Rattle.kernel_calls.specs.Calls.{call}
-use Rattle.kernel_world.specs.Allowed.{is_built}
+use Rattle.kernel_world.specs.Allowed.{is_call}
 use Rattle.kernel_world.specs.declared.actor.Actor.TheVariants.{Interrupt}
 use Rattle.kernel_world.proofs.Goes.{goes_nowhere}
 use Rattle.kernel_world.proofs.Advancing.{Advances, advances_on, of_parts, as_call, beside, of_watches, at_routine}
@@ -64,9 +64,9 @@ module _ (w : WorldState) (n : ℕ) (kept : IsWorld w) (within : Within n w) whe
 
   at_gates : (g : Gate) → RoutinePasses w (routine_gate g w) n
   at_gates g =
-      elim (eqb (gate_number g) (gate_number gates.InterruptReturn)) as (λ b. RoutinePasses w (cond b (next_routine w) (cond (is_built g) (routine_call g w) (given_up traps.Access w))) n) [
+      elim (eqb (gate_number g) (gate_number gates.InterruptReturn)) as (λ b. RoutinePasses w (cond b (next_routine w) (cond (is_call g) (routine_call g w) (given_up traps.Access w))) n) [
         | true ↦ by_move (next_routine w) (done_advances w n kept within)
-        | false ↦ elim (is_built g) as (λ b. RoutinePasses w (cond b (routine_call g w) (given_up traps.Access w)) n) [ true ↦ calls g | false ↦ gives_up traps.Access ]
+        | false ↦ elim (is_call g) as (λ b. RoutinePasses w (cond b (routine_call g w) (given_up traps.Access w)) n) [ true ↦ calls g | false ↦ gives_up traps.Access ]
       ]
 
   module _ (active : is_active w ≡ true) where

@@ -8,8 +8,9 @@ use Rattle.tick_file.specs.declared.event.Event.{Event}
 use Rattle.tick_file.specs.declared.event.Event.TheVariants.{Tick, Rx}
 use Rattle.wind_core.specs.State.{Lives}
 use Rattle.wind_core.specs.Tick.{tick}
+use Rattle.wind_core.specs.Move.{Tick, SetLast}
 use Rattle.wind_core.proofs.Ids.{ids-tick, since-tick, lives_by}
-use Rattle.wind_core.proofs.Keeping.{every_call_keeps}
+use Rattle.wind_core.proofs.Moving.{move_keeps}
 use Rattle.wind_core.proofs.Ticking.{tick_keeps, tick_ahead}
 use Rattle.shell_parse.specs.Reading.{read_line}
 use Rattle.con_line.specs.State.{ConsoleState}
@@ -22,7 +23,7 @@ use Rattle.isr_watch.proofs.Ids.{ids_stay}
 use Rattle.isr_watch.proofs.Keeping.{watch_stays}
 use Rattle.kernel_world.specs.Kept.{AreStacks, KeepsWatch, IsWorld, ReservedBy, Within}
 use Rattle.kernel_world.specs.Objects.{IsReady}
-use Rattle.kernel_world.proofs.ObjectMoves.{objects-last, objects-tick}
+use Rattle.kernel_world.proofs.ObjectMoves.{objects-move}
 use Rattle.kernel_world.proofs.Holding.{loaded_on}
 use Rattle.kernel_world.proofs.Advancing.{Advances, watch_on, by_kern, within_more}
 use Rattle.live_loading.specs.Said.{FileSaid}
@@ -80,7 +81,7 @@ module _ (s : State) (g : Good s) where
       record {
         console = lines;
         read = part.read;
-        world = record { kern = (every_call_keeps p.world.kern kept.kern).noting_last (Some who); home = kept.home; objects = objects-last p.world.kern p.world.objects kept.kern kept.objects (Some who); pool = kept.pool; stacks = kept.stacks; modules = kept.modules; ram = kept.ram; symbols = kept.symbols; watch = kept.watch };
+        world = record { kern = move_keeps p.world.kern (SetLast (Some who)) kept.kern tt; home = kept.home; objects = objects-move p.world.kern p.world.objects kept.kern kept.objects (SetLast (Some who)) (tt, tt, tt, tt); pool = kept.pool; stacks = kept.stacks; modules = kept.modules; ram = kept.ram; symbols = kept.symbols; watch = kept.watch };
         shell = turns.shell ((at_turn_advances who).lives shell_id g.shell);
         reserved = turns.reserves (others_reserved s.world.kern who);
         sinces = omega (arith, turns.sinces, g.sinces);
@@ -216,7 +217,7 @@ module _ (s : State) (g : Good s) where
         world = record {
           kern = tick_keeps k g.world.kern;
           home = lent-tick k ∙ g.world.home;
-          objects = objects-tick k s.world.objects g.world.kern g.world.objects;
+          objects = objects-move k s.world.objects g.world.kern g.world.objects Tick (tt, tt, tt, tt);
           pool = g.world.pool;
           stacks = subst (λ ats. AreStacks s.world.part (interrupt_stack ∷ ats)) (sym (stacks-tick k)) g.world.stacks;
           modules = loaded_on k s.world.part s.world.modules g.world.modules (tick k) (omega (arith, next-tick k)) (stacks-tick k);

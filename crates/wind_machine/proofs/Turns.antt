@@ -17,8 +17,9 @@ use Rattle.mem_partition.proofs.Owners.{is_own}
 use Rattle.wind_core.specs.State.{Lives, task_of}
 use Rattle.task_safety.specs.Safety.{safe_of}
 use Rattle.wind_core.specs.Moves.{set_regs}
+use Rattle.wind_core.specs.Move.{SetRegs}
 use Rattle.wind_core.proofs.Ids.{ids-change, lives_by}
-use Rattle.wind_core.proofs.Keeping.{every_call_keeps}
+use Rattle.wind_core.proofs.Moving.{move_keeps}
 use Rattle.wind_core.proofs.Stable.{All-change}
 use Rattle.wind_core.proofs.Unwritten.{map-change}
 use Rattle.kernel_world.specs.State.{WorldState}
@@ -32,7 +33,7 @@ use Rattle.kernel_world.specs.Objects.{IsFree}
 use Rattle.kernel_world.specs.declared.actor.Actor.TheVariants.{Task as by_task}
 use Rattle.kernel_world.proofs.Holding.{loaded_on, loaded_with}
 use Rattle.kernel_world.proofs.Advancing.{Advances, within_more}
-use Rattle.kernel_world.proofs.ObjectMoves.{objects-set_regs}
+use Rattle.kernel_world.proofs.ObjectMoves.{objects-move}
 use Rattle.kernel_calls.proofs.Departing.{ends}
 use Rattle.shell_eval.specs.State.{State as EvalState}
 use Rattle.shell_eval.specs.Kept.{IsPoolInRam, Keeps}
@@ -150,9 +151,9 @@ module _ (w v : WorldState) (who n : ℕ) (t : Turns w v who n) where
       let lives_on : (id : ℕ) → Lives v.kern id → Lives (set_regs v.kern who regs) id = λ id h. lives_by (set_regs v.kern who regs).tasks v.kern.tasks id (ids-change v.kern.tasks who f (λ u. refl)) h in
       record {
         kept = record {
-          kern = (every_call_keeps v.kern t.kept.kern).setting_regs who regs;
+          kern = move_keeps v.kern (SetRegs who regs) t.kept.kern tt;
           home = t.kept.home;
-          objects = objects-set_regs v.kern v.objects t.kept.kern t.kept.objects who regs free;
+          objects = objects-move v.kern v.objects t.kept.kern t.kept.objects (SetRegs who regs) (tt, free, tt, tt);
           pool = t.kept.pool;
           stacks = subst (λ s. AreStacks v.part (interrupt_stack ∷ s)) (sym (map-change (λ (u : Task). u.stack) v.kern.tasks who f (λ u. refl))) t.kept.stacks;
           modules = loaded_on v.kern v.part v.modules t.kept.modules (set_regs v.kern who regs) (omega arith) (map-change (λ (u : Task). u.stack) v.kern.tasks who f (λ u. refl));

@@ -17,7 +17,7 @@ use Rattle.board_bus.specs.Access.{board_meaning, fetched}
 use Rattle.kernel_world.specs.State.{WorldState}
 use Rattle.kernel_world.specs.Actors.{shell_id, caller_regs}
 use Rattle.kernel_calls.specs.Calls.{call}
-use Rattle.kernel_world.specs.Allowed.{is_built}
+use Rattle.kernel_world.specs.Allowed.{is_call}
 use Rattle.task_calls.specs.Ending.{ended}
 use Rattle.kernel_world.specs.declared.actor.Actor.TheVariants.{Task as by_task}
 use Rattle.wind_machine.specs.State.{ShellState}
@@ -74,11 +74,11 @@ called g w who = without_own (call g w (by_task who)) who
 abbrev pub call_part : Gate → ShellState → WorldState → ℕ → Part
 call_part g shell w who = part_of shell (called g w who)
 
--- the gate is the task's return, or a call that is built; any other is an access to nothing
+-- the gate is the task's return, or that of a call; any other is an access to nothing
 abbrev pub gate_part : Gate → ShellState → WorldState → ℕ → Part
 gate_part g shell w who =
     if is_return g who then return_part shell w who
-    else (if is_built g then call_part g shell w who else trapped traps.Access shell w who)
+    else (if is_call g then call_part g shell w who else trapped traps.Access shell w who)
 
 -- ---- an instruction
 abbrev pub executed : Outcome BusState → ShellState → WorldState → ℕ → Part

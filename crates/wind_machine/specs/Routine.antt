@@ -17,7 +17,7 @@ use Rattle.kernel_world.specs.State.{WorldState}
 use Rattle.kernel_world.specs.Actors.{caller_regs}
 use Rattle.kernel_world.specs.Opening.{interrupt_stack}
 use Rattle.kernel_calls.specs.Calls.{call}
-use Rattle.kernel_world.specs.Allowed.{is_built}
+use Rattle.kernel_world.specs.Allowed.{is_call}
 use Rattle.kernel_world.specs.Replies.{at_level}
 use Rattle.kernel_world.specs.declared.actor.Actor.TheVariants.{Interrupt}
 use Rattle.wind_machine.specs.Part.{writing}
@@ -53,11 +53,11 @@ without_reserve r = record r { reserve = None }
 abbrev pub routine_call : Gate → WorldState → WorldState
 routine_call g w = at_level (call g w Interrupt) without_reserve
 
--- the gate is the routine's return, or a call that is built; any other is an access to nothing
+-- the gate is the routine's return, or that of a call; any other is an access to nothing
 abbrev pub routine_gate : Gate → WorldState → WorldState
 routine_gate g w =
     if gate_number g == gate_number gates.InterruptReturn then next_routine w
-    else (if is_built g then routine_call g w else given_up traps.Access w)
+    else (if is_call g then routine_call g w else given_up traps.Access w)
 
 -- ---- an instruction
 abbrev pub routine_executed : Outcome BusState → WorldState → WorldState

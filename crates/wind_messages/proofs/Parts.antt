@@ -18,7 +18,7 @@ use Rattle.msg_queue.specs.Kept.{IsKept}
 use Rattle.kernel_world.specs.State.{WorldState}
 use Rattle.kernel_world.specs.Actors.{shell_id, caller_words}
 use Rattle.kernel_calls.specs.Calls.{scene_of}
-use Rattle.kernel_world.specs.Allowed.{is_built}
+use Rattle.kernel_world.specs.Allowed.{is_call}
 use Rattle.kernel_world.specs.Replies.{left_gate}
 use Rattle.task_calls.specs.Ending.{ended}
 use Rattle.kernel_world.specs.declared.actor.Actor.TheVariants.{Task as by_task}
@@ -94,21 +94,21 @@ module _ (w : WorldState) (shell : ShellState) (who : ℕ) (kept : IsKept (scene
   abbrev words : List ℕ
   words = caller_words w (by_task who)
 
-  gates_balance : (g : Gate) → Balances w (gate_part g shell w who).world here (call_at g who words)
+  gates_balance : (g : Gate) → Balances w (gate_part g shell w who).world here (call_at g w who)
   gates_balance g =
-      elim (is_return g who) as (λ b. is_return g who ≡ b → Balances w (cond b (return_part shell w who) (cond (is_built g) (call_part g shell w who) (trapped traps.Access shell w who))).world here (call_at g who words)) [
-        | true ↦ λ e. subst (Balances w (return_part shell w who).world here) (sym (none_return who words g e)) (returns_balance w here shell who)
+      elim (is_return g who) as (λ b. is_return g who ≡ b → Balances w (cond b (return_part shell w who) (cond (is_call g) (call_part g shell w who) (trapped traps.Access shell w who))).world here (call_at g w who)) [
+        | true ↦ λ e. subst (Balances w (return_part shell w who).world here) (sym (none_return who w.ram words g e)) (returns_balance w here shell who)
         | false ↦ λ e.
-            elim (is_built g) as (λ b. is_built g ≡ b → Balances w (cond b (call_part g shell w who) (trapped traps.Access shell w who)).world here (call_at g who words)) [
+            elim (is_call g) as (λ b. is_call g ≡ b → Balances w (cond b (call_part g shell w who) (trapped traps.Access shell w who)).world here (call_at g w who)) [
               | true ↦ λ built. call_balances w who kept g
-              | false ↦ λ built. subst (Balances w (trapped traps.Access shell w who).world here) (sym (none_missing who words g built)) (traps_balance w here shell who traps.Access)
+              | false ↦ λ built. subst (Balances w (trapped traps.Access shell w who).world here) (sym (none_missing who w.ram words g built)) (traps_balance w here shell who traps.Access)
             ] refl
       ] refl
 
-  at_balances : (o : Option Gate) → Balances w (part_at o shell w who).world here (call_under o who words)
+  at_balances : (o : Option Gate) → Balances w (part_at o shell w who).world here (call_under o w who)
   at_balances None = words_balance w here shell who (fetched (bus_of w) (regs_of w who).pc)
   at_balances (Some g) = gates_balance g
 
-  pub task_balances : Balances w (task_part shell w who).world here (call_under (gate_under w who) who words)
+  pub task_balances : Balances w (task_part shell w who).world here (call_under (gate_under w who) w who)
   unfolding task_part
   task_balances = at_balances (gate_under w who)

@@ -39,9 +39,10 @@ use Rattle.object_calls.specs.SemRows as sem
 use Rattle.object_calls.specs.QueueRows as queue
 use Rattle.object_calls.specs.WatchRows as watch
 use Rattle.task_calls.specs.Spawning.{SpawnState, SpawnRow, spawned_at, spawned_unless, spawned_if, stack_bytes, task_wanted, quick_wanted, spawn_state}
-use Rattle.kernel_calls.specs.Calls.{with_reply, of_objects, of_queues, of_watch, scene_of, priority_in, task_at, row}
+use Rattle.kernel_calls.specs.Calls.{with_reply, of_objects, of_queues, of_watch, scene_of, priority_in, task_at, row_of}
+use Rattle.kernel_world.specs.CallWords.{ten_arguments, quick_arguments, call_of}
 use Rattle.kernel_world.specs.declared.actor.Actor.TheVariants.{Task as by_task}
-use Rattle.wind_messages.specs.Messages.{call_at}
+use Rattle.wind_messages.specs.Messages.{event_in}
 use Rattle.wind_messages.proofs.NextIds.{NextSame, next-resume, next-lessen, next-sem_take, next-sem_give, next-sem_flush, next-sem_delete, next-mutex_take, next-mutex_give, next-mutex_delete, next-priority_set}
 
 -- the queues of a world, and the id that comes next
@@ -195,12 +196,12 @@ module _ (k : KernState) (o : Objects) where
       ]
 
 -- ---- the row of each gate, by a task
-module _ (w : WorldState) (kept : IsKept (scene_of w)) (who : ℕ) (r : List ℕ) where
+module _ (w : WorldState) (kept : IsKept (scene_of w)) (who : ℕ) (ram r : List ℕ) where
   none : (v : WorldState) → v.objects.queues.queues ≡ w.objects.queues.queues → w.kern.next_id ≤ v.kern.next_id → Balances w v (scene_of w) None
   none v same ids = leaves w v (scene_of w) same ids
 
   abbrev behind : Gate → WorldState
-  behind g = (row g w (by_task who) r).world
+  behind g = (row_of (call_of g ram r) w (by_task who)).world
 
   by_tasks : (g : Gate) → (behind g).objects.queues.queues ≡ w.objects.queues.queues → NextSame w.kern (behind g).kern → Balances w (behind g) (scene_of w) None
   by_tasks g queues same = none (behind g) queues (omega (arith, same))
@@ -228,9 +229,9 @@ module _ (w : WorldState) (kept : IsKept (scene_of w)) (who : ℕ) (r : List ℕ
         | Some e ↦ none w refl (omega arith)
       ]
 
-  pub row_balances : (g : Gate) → Balances w (row g w (by_task who) r).world (scene_of w) (call_at g who r)
-  row_balances gates.TaskSpawn = none (behind gates.TaskSpawn) refl (spawns (spawn_state w) (task_wanted w.ram r))
-  row_balances gates.Sp = none (behind gates.Sp) refl (spawns (spawn_state w) (quick_wanted w.ram r))
+  pub row_balances : (g : Gate) → Balances w (row_of (call_of g ram r) w (by_task who)).world (scene_of w) (event_in who (call_of g ram r))
+  row_balances gates.TaskSpawn = none (behind gates.TaskSpawn) refl (spawns (spawn_state w) (task_wanted w.ram (slice_index r 3) (slice_index r 4) (slice_index r 6) (slice_index r 7) (ten_arguments ram r)))
+  row_balances gates.Sp = none (behind gates.Sp) refl (spawns (spawn_state w) (quick_wanted (slice_index r 3) (quick_arguments ram r)))
   row_balances gates.TaskDelete =
       by_tasks gates.TaskDelete refl (deletions w.kern w.part who (deed_of w.kern.tasks who (meant who (slice_index r 3))))
   row_balances gates.TaskSuspend = by_tasks gates.TaskSuspend refl (suspends w.kern (target w.kern (by_task who) (slice_index r 3)))

@@ -7,6 +7,7 @@ use Rattle.tick_file.specs.declared.event.Event.{Event}
 use Rattle.tick_file.specs.declared.event.Event.TheVariants.{Tick, Rx}
 use Rattle.wind_core.specs.State.{KernState}
 use Rattle.wind_core.specs.Moves.{release}
+use Rattle.wind_core.specs.Move.{LeaveGate}
 use Rattle.con_line.specs.Keys.{byte_done}
 use Rattle.con_line.specs.Lines.{has_line, front_line}
 use Rattle.con_line.specs.declared.console.ByteDone.{ByteDone}
@@ -87,12 +88,12 @@ module _ (s : State) (g : Good s) where
   scene_kept who =
       let w : WorldState = turn_world s who in
       let kept = (at_turn_advances s g who).kept in
-      let calm = (calms w.objects.queues.queues w.kern kept.kern).leaving_gate who in
+      let calm = calms w.objects.queues.queues w.kern (LeaveGate who) kept.kern tt tt in
       queues-calm w.kern (left_gate w (by_task who)).kern w.objects calm kept.objects.queues w.ram kept.ram
 
   -- the call at its gate
   abbrev gate_call : ℕ → Option Call
-  gate_call who = call_under (gate_under (turn_world s who) who) who (caller_words (turn_world s who) (by_task who))
+  gate_call who = call_under (gate_under (turn_world s who) who) (turn_world s who) who
 
   tasks_go : (who : ℕ) → Balances s.world (task_step s who).world (task_scene s who) (gate_call who)
   tasks_go who = task_balances (turn_world s who) s.shell who (scene_kept who)
@@ -124,8 +125,7 @@ module _ (s : State) (g : Good s) where
   no_call : (name : List ℕ) → file_in s.shell.phase s.world ≡ Some name → task_call s shell_id ≡ None
   no_call name found =
       let at = at_load s.shell.phase s.world name found in
-      let words : List ℕ = caller_words (shell_world s) shell in
-      elim (is_at_work s shell_id) as (λ b. cond b (call_under (gate_under (shell_world s) shell_id) shell_id words) None ≡ None) [ true ↦ ap (λ o. call_under o shell_id words) (same_gate s ∙ at.gate) | false ↦ refl ]
+      elim (is_at_work s shell_id) as (λ b. cond b (call_under (gate_under (shell_world s) shell_id) (shell_world s) shell_id) None ≡ None) [ true ↦ ap (λ o. call_under o (shell_world s) shell_id) (same_gate s ∙ at.gate) | false ↦ refl ]
 
   load_goes : AloneLaw → IsReady s.world.kern shell_id → (said : FileSaid) (name : List ℕ) → file_in s.shell.phase s.world ≡ Some name → Goes s (load_step said s name) (Some shell)
   load_goes law ready said name found =

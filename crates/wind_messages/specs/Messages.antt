@@ -1,12 +1,14 @@
 -- Which messages each step of the wind machine moves into a queue and out of it.
-use Rattle.std.specs.Prelude.{ℕ, ◌==◌, Bool, true, false, if◌then◌else◌, List, Option, None, Some, slice_index}
+use Rattle.std.specs.Prelude.{ℕ, ◌==◌, Bool, true, false, if◌then◌else◌, List, Option, None, Some}
 use Rattle.wind_base.specs.declared.gate.Gate.{Gate}
-use Rattle.wind_base.specs.declared.gate.Gate.TheVariants as gates
 use Rattle.msg_queue.specs.State.{Scene}
 use Rattle.msg_queue.specs.Machine.{Event, sends, receives, Parcel, accepted_next, taken_next}
 use Rattle.msg_queue.specs.Laws.{gathered}
 use Rattle.kernel_world.specs.State.{WorldState}
-use Rattle.kernel_world.specs.Actors.{shell_id, caller_words}
+use Rattle.kernel_world.specs.Actors.{shell_id}
+use Rattle.kernel_world.specs.CallWords.{call_by}
+use Rattle.kernel_world.specs.declared.call.Call.{Call}
+use Rattle.kernel_world.specs.declared.call.Call.TheVariants as calls
 use Rattle.kernel_world.specs.Replies.{left_gate}
 use Rattle.kernel_calls.specs.Calls.{scene_of}
 use Rattle.object_calls.specs.QueueRows.{sending}
@@ -22,16 +24,23 @@ use Rattle.wind_machine.specs.Routine.{routine_under}
 use Rattle.wind_machine.specs.declared.phase.Phase.{Phase}
 use Rattle.wind_machine.specs.declared.phase.Phase.TheVariants as phases
 
--- the call on a queue that a task makes at a gate, with these words in its registers, if it is a send or a receive
-abbrev pub call_at : Gate → ℕ → List ℕ → Option Event
-call_at gates.MsgQSend who r = Some (sends (slice_index r 3) (sending (by_task who) (slice_index r 4) (slice_index r 5) (slice_index r 6) (slice_index r 7)))
-call_at gates.MsgQReceive who r =
-    Some (receives (slice_index r 3) (record { caller = who; buffer = slice_index r 4; room = slice_index r 5; timeout = slice_index r 6 }))
-call_at g who r = None
+-- what a task's call is to the queues, if it is a send or a receive
+abbrev pub event_of : ℕ → Call → Option Event
+event_of who (calls.MsgQSend id buffer count timeout priority) = Some (sends id (sending (by_task who) buffer count timeout priority))
+event_of who (calls.MsgQReceive id buffer count timeout) = Some (receives id (record { caller = who; buffer = buffer; room = count; timeout = timeout }))
+event_of who c = None
 
-abbrev pub call_under : Option Gate → ℕ → List ℕ → Option Event
-call_under None who r = None
-call_under (Some g) who r = call_at g who r
+abbrev pub event_in : ℕ → Option Call → Option Event
+event_in who None = None
+event_in who (Some c) = event_of who c
+
+-- what the call that a task makes at a gate is to them
+abbrev pub call_at : Gate → WorldState → ℕ → Option Event
+call_at g w who = event_in who (call_by g w (by_task who))
+
+abbrev pub call_under : Option Gate → WorldState → ℕ → Option Event
+call_under None w who = None
+call_under (Some g) w who = call_at g w who
 
 -- the shell's task is at a gate in a call alone; every other task may be at one
 abbrev pub is_call : Phase → Bool
@@ -48,20 +57,27 @@ turn_world s who = at_turn s.world who
 -- the call on a queue that its step is, if it is one
 abbrev pub task_call : State → ℕ → Option Event
 task_call s who =
-    if is_at_work s who then call_under (gate_under (turn_world s who) who) who (caller_words (turn_world s who) (by_task who)) else None
+    if is_at_work s who then call_under (gate_under (turn_world s who) who) (turn_world s who) who else None
 
 -- what such a call sees: the caller has left its gate
 abbrev pub task_scene : State → ℕ → Scene
 task_scene s who = scene_of (left_gate (turn_world s who) (by_task who))
 
 -- ---- an interrupt routine, which may send, and never receives
-abbrev pub sent_at : Gate → List ℕ → Option Event
-sent_at gates.MsgQSend r = Some (sends (slice_index r 3) (sending Interrupt (slice_index r 4) (slice_index r 5) (slice_index r 6) (slice_index r 7)))
-sent_at g r = None
+abbrev pub sent_of : Call → Option Event
+sent_of (calls.MsgQSend id buffer count timeout priority) = Some (sends id (sending Interrupt buffer count timeout priority))
+sent_of c = None
 
-abbrev pub sent_under : Option Gate → List ℕ → Option Event
-sent_under None r = None
-sent_under (Some g) r = sent_at g r
+abbrev pub sent_in : Option Call → Option Event
+sent_in None = None
+sent_in (Some c) = sent_of c
+
+abbrev pub sent_at : Gate → WorldState → Option Event
+sent_at g w = sent_in (call_by g w Interrupt)
+
+abbrev pub sent_under : Option Gate → WorldState → Option Event
+sent_under None w = None
+sent_under (Some g) w = sent_at g w
 
 -- the world at its turn
 abbrev pub routine_world : State → WorldState
@@ -69,7 +85,7 @@ routine_world s = cleared (unreserved_world s.world)
 
 -- the send that its step is, if it is one, and what that sees
 abbrev pub routine_send : State → Option Event
-routine_send s = sent_under (routine_under (routine_world s)) (caller_words (routine_world s) Interrupt)
+routine_send s = sent_under (routine_under (routine_world s)) (routine_world s)
 
 abbrev pub routine_scene : State → Scene
 routine_scene s = scene_of (left_gate (routine_world s) Interrupt)

@@ -5,4 +5,5 @@ pub mod Files
 pub mod Host
 pub mod MemFolder
 pub mod MemSink
+pub mod Requests
 pub mod Told

@@ -1,8 +1,9 @@
 //! Folders of files.
 
-ghost use Rattle.std.specs.Prelude.{◌≡◌, ℕ, ◌≤◌, Option, IfSome};
+ghost use Rattle.std.specs.Prelude.{◌≡◌, ℕ, ◌≤◌, List, Option, IfSome};
 ghost use Rattle.wind_outside.specs.Counts.{Rose};
 ghost use Rattle.wind_outside.specs.Files.{Files, IsFetchOf, IsWithin};
+ghost use Rattle.wind_outside.specs.Requests.{Request, request_of, then};
 ghost use Rattle.wind_outside.specs.declared.folder.Fetched.TheVariants as fetched;
 
 use std::alloc::Global;
@@ -24,18 +25,21 @@ pub enum Fetched {
 
 /// A folder of files.
 ///
-/// A contract sees its files, which it may leave untold, and a count of its faults. The count never
-/// falls, and stands still at 2^64 - 1.
+/// A contract sees its files and the fetches so far, each of which it may leave untold, and a count of its
+/// faults. The count never falls, and stands still at 2^64 - 1.
 pub trait Folder {
     ghost files: { Self → Option Files };
 
+    ghost requests: { Self → Option (List Request) };
+
     ghost faults: { Self → ℕ };
 
-    /// Fetches a whole file of at most `limit` bytes.
+    /// Fetches a whole file of at most `limit` bytes. Every fetch is one more request, however it ends.
     fn fetch(&mut self, alloc: Global, name: &str, limit: u32) -> Fetched
         ensures kept { files self.new ≡ files self.old }
         ensures told { IfSome (files self.old) (λ held. IsFetchOf (held name.now) limit result) }
         ensures within { IsWithin limit result }
+        ensures requested { requests self.new ≡ then (requests self.old) (request_of name.now limit result) }
         ensures failed { result ≡ fetched.Failed → Rose (faults self.old) (faults self.new) }
         ensures never_falls { faults self.old ≤ faults self.new };
 }

@@ -61,6 +61,8 @@ impl<R: Files + Drop> Folder for HostFolder<R> {
 
     ghost files = { λ _. None };
 
+    ghost requests = { λ _. None };
+
     ghost faults = { λ f. f.faults };
 
     fn fetch(&mut self, alloc: Global, name: &str, limit: u32) -> Fetched {
@@ -96,6 +98,8 @@ impl<P: Print + Drop> Sink for HostSink<P> {
     ghost use Rattle.std.specs.Prelude.{None};
 
     ghost bytes = { λ _. None };
+
+    ghost pieces = { λ _. None };
 
     ghost faults = { λ s. s.faults };
 

@@ -4,6 +4,7 @@ ghost use Rattle.std.specs.Prelude.{◌≡◌, ◌≤◌, ◌↔◌, ℕ, List, 
 ghost use Rattle.wind_outside.specs.Calls.{call_counted};
 ghost use Rattle.wind_outside.specs.Counts.{Rose};
 ghost use Rattle.wind_outside.specs.Files.{IsFetchOf, IsWithin, is_failed, with_file};
+ghost use Rattle.wind_outside.specs.Requests.{request_of, then};
 ghost use Rattle.wind_outside.specs.declared.folder.Fetched.TheVariants as fetched;
 
 use crate::calls::Calls;
@@ -53,9 +54,11 @@ impl MemFolder {
 
 impl Folder for MemFolder {
     ghost use Rattle.wind_outside.specs.MemFolder.{files_of, calls_of};
-    ghost use Rattle.std.specs.Prelude.{Some};
+    ghost use Rattle.std.specs.Prelude.{Some, None};
 
     ghost files = { λ f. Some (files_of f) };
+
+    ghost requests = { λ _. None };
 
     ghost faults = { λ f. (calls_of f).faults };
 
@@ -63,6 +66,7 @@ impl Folder for MemFolder {
         ensures kept { Some (files_of self.new) ≡ Some (files_of self.old) }
         ensures told { IfSome (Some (files_of self.old)) (λ held. IsFetchOf (held name.now) limit result) }
         ensures within { IsWithin limit result }
+        ensures requested { None ≡ then None (request_of name.now limit result) }
         ensures failed { result ≡ fetched.Failed → Rose (calls_of self.old).faults (calls_of self.new).faults }
         ensures never_falls { (calls_of self.old).faults ≤ (calls_of self.new).faults }
 

@@ -1,8 +1,9 @@
 //! A sink in memory.
 
-ghost use Rattle.std.specs.Prelude.{◌≡◌, ◌<◌, ◌≤◌, ◌⊎◌, ◌↔◌, ℕ, [], Some, IfOk, Contains, length};
+ghost use Rattle.std.specs.Prelude.{◌≡◌, ◌<◌, ◌≤◌, ◌⊎◌, ◌↔◌, ℕ, [], Some, None, IfOk, Contains, length};
 ghost use Rattle.wind_outside.specs.Counts.{Rose};
 ghost use Rattle.wind_outside.specs.Told.{Appended, AppendedFront};
+ghost use Rattle.wind_outside.specs.Requests.{piece_of, then};
 ghost use Rattle.wind_outside.specs.MemSink.{after_put};
 ghost use Rattle.wind_outside.specs.declared.sink.Put.TheVariants as puts;
 
@@ -53,13 +54,18 @@ impl MemSink {
 }
 
 impl Sink for MemSink {
+    ghost use Rattle.std.specs.Prelude.{None};
+
     ghost bytes = { λ s. Some s.out.bytes };
+
+    ghost pieces = { λ _. None };
 
     ghost faults = { λ s. s.calls.faults };
 
     fn put(&mut self, piece: &[u8]) -> Put
         ensures done { result ≡ puts.Done → Appended (Some self.old.out.bytes) (Some self.new.out.bytes) piece.now }
         ensures part { AppendedFront (Some self.old.out.bytes) (Some self.new.out.bytes) piece.now }
+        ensures noted { None ≡ then None (piece_of piece.now result) }
         ensures failed { result ≡ puts.Failed → Rose self.old.calls.faults self.new.calls.faults }
         ensures never_falls { self.old.calls.faults ≤ self.new.calls.faults }
 

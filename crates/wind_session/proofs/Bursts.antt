@@ -1,12 +1,18 @@
 -- Silent steps in the run of a board.
-use Rattle.std.proofs.Common.{◌≡◌, ℕ, ◌+◌, ◌≤◌, ◌<◌, Bool, true, false, ◌⊎◌, inl, inr, None, Some, IsSome, refl, sym, ◌∙◌, arith}
+use Rattle.std.proofs.Common.{◌≡◌, ℕ, zero, suc, ◌+◌, ◌++◌, List, Option, ◌≤◌, ◌<◌, Bool, true, false, ◌⊎◌, inl, inr, None, Some, IsSome, refl, sym, ap, subst, ◌∙◌, arith}
 use Rattle.std.specs.Prelude.{nat_lt}
 use Rattle.std.proofs.lemmas.Bool.Decides.{nat_tests}
+use Rattle.std.proofs.lemmas.List.{append-nil}
+use Rattle.wind_outside.specs.Requests.{Request}
+use Rattle.wind_outside.specs.declared.sink.Put.TheVariants as puts
 use Rattle.wind_machine.specs.State.{State}
 use Rattle.wind_machine.specs.Machine.{file_asked, machine_step}
 use Rattle.wind_machine.specs.Run.{Answers, after, text}
 use Rattle.wind_machine.specs.Silent.{SilentSteps, SilentLaw, GoesOn}
 use Rattle.wind_session.specs.Modules.{Shelf, IsSaid}
+use Rattle.wind_session.specs.Fetches.{GrowsBy}
+use Rattle.wind_session.specs.Pieces.{output_piece, pieces_of}
+use Rattle.wind_session.proofs.FetchLemmas.{unasked_requests}
 use Rattle.wind_session.proofs.RunLemmas.{Behind}
 
 -- a number below i + k is below i, or not
@@ -18,14 +24,15 @@ either_part i j =
     ] refl
 
 -- silent steps go on with a run of at most n steps, whatever was said of files
-pub runs_on : SilentLaw → (shelf : Shelf) (said : Answers) (s : State) (n i : ℕ) (u : State) → Behind shelf said s n i u → (k : ℕ) → i + k ≤ n → (t : State) → SilentSteps k u t → Behind shelf said s n (i + k) t
-runs_on law shelf said s n i u run k h t steps =
+pub runs_on : SilentLaw → (shelf : Shelf) (said : Answers) (s : State) (n i : ℕ) (u : State) (old mid : Option (List Request)) → Behind shelf said s n i u old mid → (k : ℕ) → i + k ≤ n → (t : State) → SilentSteps k u t → Behind shelf said s n (i + k) t old mid
+runs_on law shelf said s n i u old mid run k h t steps =
     let on = law said s u t i k run.state steps in
     record {
       counted = omega (arith, on.counted, run.counted);
       answers = λ j below. answer j below (either_part i j);
       part = record { within = h; steps = λ j below. step j below (either_part i j) };
       state = on.state;
+      requests = subst (GrowsBy old mid) (sym (unasked_requests shelf.name said s i k on.unasked)) run.requests;
     }
   where
     answer : (j : ℕ) → j < i + k → (j < i) ⊎ (i ≤ j) → IsSaid shelf (after said s j) (said j)
@@ -37,5 +44,21 @@ runs_on law shelf said s n i u run k h t steps =
     step j below (inr more) = (law said s u t i k run.state steps).made j more below
 
 -- they write nothing
-pub as_written : SilentLaw → (shelf : Shelf) (said : Answers) (s : State) (n i : ℕ) (u : State) → Behind shelf said s n i u → (k : ℕ) (t : State) → SilentSteps k u t → text said s i ≡ text said s (i + k)
-as_written law shelf said s n i u run k t steps = sym (law said s u t i k run.state steps).text_is
+pub as_written : SilentLaw → (shelf : Shelf) (said : Answers) (s : State) (n i : ℕ) (u : State) (old mid : Option (List Request)) → Behind shelf said s n i u old mid → (k : ℕ) (t : State) → SilentSteps k u t → text said s i ≡ text said s (i + k)
+as_written law shelf said s n i u old mid run k t steps = sym (law said s u t i k run.state steps).text_is
+
+-- so they add no piece
+silent_pieces : SilentLaw → (said : Answers) (s u : State) (i : ℕ) → u ≡ after said s i → (k : ℕ) (t : State) → SilentSteps k u t → pieces_of said s (i + k) ≡ pieces_of said s i
+silent_pieces law said s u i here zero t steps = let end : i + 0 ≡ i = omega arith in ap (pieces_of said s) end
+silent_pieces law said s u i here (suc k) t steps =
+    let n = i + k in
+    let end : i + suc k ≡ suc n = omega arith in
+    let state : t ≡ after said s (suc n) = (law said s u t i (suc k) here steps).state ∙ ap (after said s) end in
+    ap (pieces_of said s) end
+    ∙ ap (λ (v : State). pieces_of said s n ++ output_piece v.world.output puts.Done) (sym state)
+    ∙ ap (λ o. pieces_of said s n ++ output_piece o puts.Done) steps.2.silent
+    ∙ append-nil (pieces_of said s n)
+    ∙ silent_pieces law said s u i here k steps.0 steps.1
+
+pub as_put : SilentLaw → (shelf : Shelf) (said : Answers) (s : State) (n i : ℕ) (u : State) (old mid : Option (List Request)) → Behind shelf said s n i u old mid → (k : ℕ) (t : State) → SilentSteps k u t → pieces_of said s i ≡ pieces_of said s (i + k)
+as_put law shelf said s n i u old mid run k t steps = sym (silent_pieces law said s u i run.state k t steps)

@@ -1,12 +1,14 @@
 -- What a run leaves, and with which status.
 use Rattle.std.proofs.Common.{◌≡◌, ◌≢◌, ℕ, zero, suc, true, false, List, Option, refl, sym, ap, subst, ◌∙◌, inl, inr, length}
 use Rattle.std.specs.Prelude.{◌⊎◌}
+use Rattle.wind_outside.specs.Requests.{Request, Piece}
 use Rattle.wind_outside.specs.Told.{Appended, AppendedFront}
 use Rattle.generated_session.specs.Session.{summary_line}
 use Rattle.wind_machine.specs.State.{State}
 use Rattle.wind_machine.specs.Run.{Answers, after, text}
 use Rattle.wind_session.specs.Modules.{Shelf}
 use Rattle.wind_session.specs.Generated.{summary}
+use Rattle.wind_session.specs.Outside.{outside}
 use Rattle.wind_session.specs.Headline.{IsLeft, IsSummed, SumsUp, status_of}
 use Rattle.wind_session.specs.Runs.{is_given_up, Counted}
 use Rattle.wind_session.specs.Status.{status_number}
@@ -54,9 +56,9 @@ line_of n bytes k x said s board told counted same =
     ∙ ap (λ m. summary_line n (length (text said s k)) m board.world.kern.tick x) counted
     ∙ ap (λ (u : State). summary_line n (length (text said s k)) k u.world.kern.tick x) same
 
-module _ (limit bytes : ℕ) (shelf : Shelf) (s board : State) (end : RunEnd) (counted : Counted end shelf s limit bytes board) (x : Status) (old new : Option (List ℕ)) where
+module _ (limit bytes : ℕ) (shelf : Shelf) (s board : State) (end : RunEnd) (first last : Option (List Request)) (counted : Counted end shelf s limit bytes board first last) (x : Status) (old new : Option (List ℕ)) (old_pieces new_pieces : Option (List Piece)) where
   -- it is summed up by its line
-  sums : (n : ℕ) → IsSummed end x (summary_line n bytes board.steps board.world.kern.tick (status_number (status_of end))) old new → SumsUp n x end shelf s limit board old new
+  sums : (n : ℕ) → IsSummed end x (summary_line n bytes board.steps board.world.kern.tick (status_number (status_of end))) old new → SumsUp n x end shelf s limit board (outside first old old_pieces) (outside last new new_pieces)
   sums n h = record {
     said = counted.said;
     k = counted.k;
@@ -65,6 +67,6 @@ module _ (limit bytes : ℕ) (shelf : Shelf) (s board : State) (end : RunEnd) (c
     all_put = counted.all_put;
   }
 
-  pub left_summed : (n : ℕ) → n ≢ 0 → IsSummed end x (summary_line n bytes board.steps board.world.kern.tick (status_number (status_of end))) old new → IsLeft n x end shelf s limit board old new
+  pub left_summed : (n : ℕ) → n ≢ 0 → IsSummed end x (summary_line n bytes board.steps board.world.kern.tick (status_number (status_of end))) old new → IsLeft n x end shelf s limit board (outside first old old_pieces) (outside last new new_pieces)
   left_summed zero some h = absurd (some refl)
   left_summed (suc n) some h = sums (suc n) h

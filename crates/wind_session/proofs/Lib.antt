@@ -1,4 +1,5 @@
 pub mod CommandLemmas
+pub mod FetchLemmas
 pub mod LeftLemmas
 pub mod PlanLemmas
 pub mod ModuleLemmas

@@ -1,12 +1,15 @@
 -- What is said at one step more.
-use Rattle.std.proofs.Common.{◌≡◌, ℕ, zero, suc, ◌<◌, cond, eqb, ◌++◌, Some, IsSome, refl, sym, ap, ◌∙◌, subst, arith, below_more, add-one}
+use Rattle.std.proofs.Common.{◌≡◌, ℕ, List, zero, suc, ◌<◌, cond, eqb, ◌++◌, Some, IsSome, refl, sym, ap, ◌∙◌, subst, arith, below_more, add-one}
 use Rattle.std.specs.Prelude.{unwrap_or}
 use Rattle.std.proofs.lemmas.Bool.{eq-eqb, ne_eqb}
 use Rattle.live_loading.specs.Said.{FileSaid}
 use Rattle.wind_machine.specs.State.{State}
-use Rattle.wind_machine.specs.Machine.{machine_step}
+use Rattle.wind_machine.specs.Machine.{file_asked, machine_step}
 use Rattle.wind_machine.specs.Run.{Answers, after, text, IsPart}
+use Rattle.wind_outside.specs.declared.sink.Put.TheVariants as puts
 use Rattle.wind_session.specs.Modules.{Shelf, IsSaid, AreSaid}
+use Rattle.wind_session.specs.Fetches.{outcome_said, requests_of, step_request}
+use Rattle.wind_session.specs.Pieces.{output_piece, pieces_of}
 
 -- the same is said at the first steps
 abbrev pub Agree : Answers → Answers → ℕ → Type 0
@@ -27,6 +30,19 @@ same_text a b s zero same = refl
 same_text a b s (suc k) same =
     ap (λ t. t ++ (after a s (suc k)).world.output) (same_text a b s k (fewer a b k same))
     ∙ ap (λ (u : State). text b s k ++ u.world.output) (same_after a b s (suc k) same)
+
+pub same_requests : (folder : List ℕ) (a b : Answers) (s : State) (k : ℕ) → Agree a b k → requests_of folder a s k ≡ requests_of folder b s k
+same_requests folder a b s zero same = refl
+same_requests folder a b s (suc k) same =
+    ap (λ r. r ++ step_request folder (file_asked (after a s k)) (outcome_said (a k))) (same_requests folder a b s k (fewer a b k same))
+    ∙ ap (λ (u : State). requests_of folder b s k ++ step_request folder (file_asked u) (outcome_said (a k))) (same_after a b s k (fewer a b k same))
+    ∙ ap (λ x. requests_of folder b s k ++ step_request folder (file_asked (after b s k)) (outcome_said x)) (same k (omega arith))
+
+pub same_pieces : (a b : Answers) (s : State) (k : ℕ) → Agree a b k → pieces_of a s k ≡ pieces_of b s k
+same_pieces a b s zero same = refl
+same_pieces a b s (suc k) same =
+    ap (λ p. p ++ output_piece (after a s (suc k)).world.output puts.Done) (same_pieces a b s k (fewer a b k same))
+    ∙ ap (λ (u : State). pieces_of b s k ++ output_piece u.world.output puts.Done) (same_after a b s (suc k) same)
 
 -- this is said at step i, and what was said at the others
 abbrev pub saying : Answers → ℕ → FileSaid → Answers
@@ -80,3 +96,17 @@ module _ (shelf : Shelf) (said : Answers) (s u t : State) (i : ℕ) (x : FileSai
 
   pub same_before : text said s i ≡ text now s i
   same_before = same_text said now s i (as_before said i x)
+
+  pub requests_now : requests_of shelf.name now s (suc i) ≡ requests_of shelf.name said s i ++ step_request shelf.name (file_asked u) (outcome_said x)
+  requests_now =
+      ap (λ r. r ++ step_request shelf.name (file_asked (after now s i)) (outcome_said (now i))) (sym (same_requests shelf.name said now s i (as_before said i x)))
+      ∙ ap (λ (v : State). requests_of shelf.name said s i ++ step_request shelf.name (file_asked v) (outcome_said (now i))) (sym (here ∙ still))
+      ∙ ap (λ y. requests_of shelf.name said s i ++ step_request shelf.name (file_asked u) (outcome_said y)) (said_now said i x)
+
+  pub pieces_now : pieces_of now s (suc i) ≡ pieces_of said s i ++ output_piece t.world.output puts.Done
+  pieces_now =
+      ap (λ p. p ++ output_piece (after now s (suc i)).world.output puts.Done) (sym (same_pieces said now s i (as_before said i x)))
+      ∙ ap (λ (v : State). pieces_of said s i ++ output_piece v.world.output puts.Done) (sym state_now)
+
+  pub same_pieces_before : pieces_of said s i ≡ pieces_of now s i
+  same_pieces_before = same_pieces said now s i (as_before said i x)

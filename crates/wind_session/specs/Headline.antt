@@ -12,6 +12,8 @@ use Rattle.board_player.specs.declared.board.Board.{Board}
 use Rattle.wind_machine.specs.Machine.{opening}
 use Rattle.wind_machine.specs.Run.{Answers}
 use Rattle.wind_session.specs.Modules.{Shelf}
+use Rattle.wind_session.specs.Fetches.{EndsWithInputs}
+use Rattle.wind_session.specs.Outside.{Outside, with_inputs}
 use Rattle.wind_session.specs.Runs.{Made, Ran}
 use Rattle.wind_session.specs.Generated.{summary}
 use Rattle.wind_session.specs.Status.{status_number}
@@ -87,36 +89,44 @@ IsSummed ends.NoMemory s line old new = (s ≡ status.NoMemory) × (new ≡ old)
 IsSummed end s line old new = ((s ≡ status_of end) × Appended old new line) ⊎ ((s ≡ status.WriteFault) × AppendedFront old new line)
 
 -- a run of a generated session of so many rounds, of which one line is put
-pub record SumsUp (n : ℕ) (s : Status) (end : RunEnd) (shelf : Shelf) (start : State) (limit : ℕ) (board : State) (old new : Option (List ℕ)) : Type 0 where
+pub record SumsUp (n : ℕ) (s : Status) (end : RunEnd) (shelf : Shelf) (start : State) (limit : ℕ) (board : State) (old new : Outside) : Type 0 where
   pub said : Answers
   pub k : ℕ
-  pub made : Made end shelf said start limit k board
-  pub summed : IsSummed end s (summary n said start k (status_number (status_of end))) old new
+  pub made : Made end shelf said start limit k board old.requests new.requests
+  pub summed : IsSummed end s (summary n said start k (status_number (status_of end))) old.bytes new.bytes
   pub all_put : end ≢ ends.WriteFault
 
 -- what a run leaves: what its steps wrote, or the line of a generated session
-abbrev pub IsLeft : ℕ → Status → RunEnd → Shelf → State → ℕ → State → Option (List ℕ) → Option (List ℕ) → Type 0
+abbrev pub IsLeft : ℕ → Status → RunEnd → Shelf → State → ℕ → State → Outside → Outside → Type 0
 IsLeft zero s end shelf start limit board old new = (s ≡ status_of end) × Ran end shelf start limit board old new
 IsLeft (suc n) s end shelf start limit board old new = SumsUp (suc n) s end shelf start limit board old new
 
 -- a board was played: it is that of the wind machine, started with the console, the events of the tick file and these devices, and with the files of modules that it asked for
-pub record Played (s : Status) (plan : Plan) (rounds limit : ℕ) (shelf : Shelf) (devices : List (Option DeviceState)) (board : State) (old new : Option (List ℕ)) : Type 0 where
+pub record Played (s : Status) (plan : Plan) (rounds limit : ℕ) (shelf : Shelf) (devices : List (Option DeviceState)) (board : State) (old new : Outside) : Type 0 where
   pub end : RunEnd
   pub console : List ℕ
   pub schedule : Timetable
   pub planned : plan ≡ Start console schedule
   pub left : IsLeft rounds s end shelf (opening console schedule devices) limit board old new
 
--- what is left: the slots as they were and nothing written, or the board of a run
-abbrev pub Leaves : {I : Type 0} {X : I → Type 0} → (Board I X → State) → Status → Stand I X → Plan → ℕ → ℕ → Shelf → Type 0 → Vec (Option (DynBox I Global X)) Global → List (Option DeviceState) → Option (List ℕ) → Option (List ℕ) → Type 0
-Leaves state s (stands.NotBooted back) plan rounds limit shelf fault slots devices old new = (back ≡ slots) × (new ≡ old) × IsRefusal s plan fault
-Leaves state s (stands.Booted board) plan rounds limit shelf fault slots devices old new = Played s plan rounds limit shelf devices (state board) old new
+-- a session without a run: nothing was put, and no file was fetched but those of the command
+pub record NotPlayed (s : Status) (plan : Plan) (command : Option CommandState) (fault : Type 0) (old new : Outside) : Type 0 where
+  pub bytes : new.bytes ≡ old.bytes
+  pub pieces : new.pieces ≡ old.pieces
+  pub refusal : IsRefusal s plan fault
+  pub fetches : EndsWithInputs command s old.requests new.requests
+
+-- what is left: the slots as they were, or the board of a run, before which the files of the command were fetched
+abbrev pub Leaves : {I : Type 0} {X : I → Type 0} → (Board I X → State) → Status → Stand I X → Plan → Option CommandState → Shelf → Type 0 → Vec (Option (DynBox I Global X)) Global → List (Option DeviceState) → Outside → Outside → Type 0
+Leaves state s (stands.NotBooted back) plan command shelf fault slots devices old new = (back ≡ slots) × NotPlayed s plan command fault old new
+Leaves state s (stands.Booted board) plan command shelf fault slots devices old new =
+    Played s plan (rounds_of command) (limit_of command) shelf devices (state board) (with_inputs command old) new
 
 -- playing a command leaves what the wind machine leaves; `rose` says that the folder's count of faults rose
-pub record Plays {I : Type 0} {X : I → Type 0} (state : Board I X → State) (ending : Ending I X) (command : Option CommandState) (files : Option Files) (rose : Type 0) (slots : Vec (Option (DynBox I Global X)) Global) (devices : List (Option DeviceState)) (old new : Option (List ℕ)) : Type 0 where
+pub record Plays {I : Type 0} {X : I → Type 0} (state : Board I X → State) (ending : Ending I X) (command : Option CommandState) (files : Option Files) (rose : Type 0) (slots : Vec (Option (DynBox I Global X)) Global) (devices : List (Option DeviceState)) (old new : Outside) : Type 0 where
   pub plan : Plan
   pub planned : IsPlan files command plan
-  pub leaves : Leaves state ending.status ending.stand plan (rounds_of command) (limit_of command) (shelf_of files command) (fetch_fault (rounds_of command) rose) slots devices old new
+  pub leaves : Leaves state ending.status ending.stand plan command (shelf_of files command) (fetch_fault (rounds_of command) rose) slots devices old new
 
 -- the board that is left has the kept facts, and what is so at each instant
 abbrev pub IsKept : {I : Type 0} {X : I → Type 0} → (Board I X → State) → Stand I X → Type 0

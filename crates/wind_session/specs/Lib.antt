@@ -1,8 +1,11 @@
 pub mod Command
+pub mod Fetches
 pub mod Generated
 pub mod Headline
 pub mod Laws
 pub mod Modules
+pub mod Outside
+pub mod Pieces
 pub mod Plan
 pub mod Runs
 pub mod Status

@@ -1,10 +1,15 @@
 -- What a run of the wind machine leaves.
 use Rattle.std.specs.Prelude.{◌≡◌, ◌≢◌, ℕ, suc, ◌<◌, List, [], ◌++◌, Option, IsSome, Bool, true, false, take, length}
 use Rattle.wind_outside.specs.Told.{Appended}
+use Rattle.wind_outside.specs.Requests.{Request}
+use Rattle.wind_outside.specs.declared.sink.Put.TheVariants as puts
 use Rattle.wind_machine.specs.State.{State}
 use Rattle.wind_machine.specs.Machine.{file_asked, IsOver, may_lack_memory}
 use Rattle.wind_machine.specs.Run.{Answers, after, text, IsPart}
 use Rattle.wind_session.specs.Modules.{Shelf, AreSaid}
+use Rattle.wind_session.specs.Fetches.{GrowsBy, Requests}
+use Rattle.wind_session.specs.Outside.{Outside}
+use Rattle.wind_session.specs.Pieces.{output_piece, pieces_of}
 use Rattle.wind_session.specs.declared.run.RunEnd.{RunEnd}
 use Rattle.wind_session.specs.declared.run.RunEnd.TheVariants as ends
 
@@ -16,21 +21,27 @@ IsEnd ends.ReadFault said s n k = (k < n) × IsSome (file_asked (after said s k)
 IsEnd ends.WriteFault said s n k = Unit {0}
 IsEnd ends.NoMemory said s n k = (k < n) × (may_lack_memory (after said s k) ≡ true)
 
--- the last of k steps wrote something, of which the sink gained a part, behind all that the steps before wrote
-pub record IsCutOff (said : Answers) (s : State) (k : ℕ) (old new : Option (List ℕ)) : Type 0 where
+-- the last of k steps wrote something, of which the sink gained a part, behind all that the steps before wrote; its piece is the one that failed
+pub record IsCutOff (said : Answers) (s : State) (k : ℕ) (old new : Outside) : Type 0 where
   pub before : ℕ
   pub last : k ≡ suc before
   pub wrote : (after said s k).world.output ≢ []
   pub part : ℕ
-  pub gained : Appended old new (text said s before ++ take part (after said s k).world.output)
+  pub gained : Appended old.bytes new.bytes (text said s before ++ take part (after said s k).world.output)
+  pub pieces : GrowsBy old.pieces new.pieces (pieces_of said s before ++ output_piece (after said s k).world.output puts.Failed)
+
+-- all that k steps wrote was put, one piece for each step that wrote something
+pub record IsPut (said : Answers) (s : State) (k : ℕ) (old new : Outside) : Type 0 where
+  pub gained : Appended old.bytes new.bytes (text said s k)
+  pub pieces : GrowsBy old.pieces new.pieces (pieces_of said s k)
 
 -- what the sink has gained behind k steps: all that they wrote, unless a put failed
-abbrev pub IsWritten : RunEnd → Answers → State → ℕ → Option (List ℕ) → Option (List ℕ) → Type 0
+abbrev pub IsWritten : RunEnd → Answers → State → ℕ → Outside → Outside → Type 0
 IsWritten ends.WriteFault said s k old new = IsCutOff said s k old new
-IsWritten ends.Quiet said s k old new = Appended old new (text said s k)
-IsWritten ends.Limit said s k old new = Appended old new (text said s k)
-IsWritten ends.ReadFault said s k old new = Appended old new (text said s k)
-IsWritten ends.NoMemory said s k old new = Appended old new (text said s k)
+IsWritten ends.Quiet said s k old new = IsPut said s k old new
+IsWritten ends.Limit said s k old new = IsPut said s k old new
+IsWritten ends.ReadFault said s k old new = IsPut said s k old new
+IsWritten ends.NoMemory said s k old new = IsPut said s k old new
 
 -- the run was given up: a file could not be read, or memory ran out
 abbrev pub is_given_up : RunEnd → Bool
@@ -38,26 +49,27 @@ is_given_up ends.ReadFault = true
 is_given_up ends.NoMemory = true
 is_given_up end = false
 
--- a run of at most n steps from s ended so behind k steps, and left this board; the files that it asked for were as the folder of modules says
-pub record Made (end : RunEnd) (shelf : Shelf) (said : Answers) (s : State) (n k : ℕ) (board : State) : Type 0 where
+-- a run of at most n steps from s ended so behind k steps, and left this board; the files that it asked for were as the folder of modules says, and each was fetched once
+pub record Made (end : RunEnd) (shelf : Shelf) (said : Answers) (s : State) (n k : ℕ) (board : State) (old new : Option (List Request)) : Type 0 where
   pub counted : board.steps ≡ k
   pub answers : AreSaid shelf said s k
   pub part : IsPart said s n k
   pub state : board ≡ after said s k
   pub ended : IsEnd end said s n k
+  pub fetches : Requests end shelf.name said s k old new
 
 -- it left these bytes too
-pub record Ran (end : RunEnd) (shelf : Shelf) (s : State) (n : ℕ) (board : State) (old new : Option (List ℕ)) : Type 0 where
+pub record Ran (end : RunEnd) (shelf : Shelf) (s : State) (n : ℕ) (board : State) (old new : Outside) : Type 0 where
   -- what was said of the files, and how many steps were made
   pub said : Answers
   pub k : ℕ
-  pub made : Made end shelf said s n k board
+  pub made : Made end shelf said s n k board old.requests new.requests
   pub written : IsWritten end said s k old new
 
 -- or it was made without a word, and what its steps wrote has so many bytes in all
-pub record Counted (end : RunEnd) (shelf : Shelf) (s : State) (n bytes : ℕ) (board : State) : Type 0 where
+pub record Counted (end : RunEnd) (shelf : Shelf) (s : State) (n bytes : ℕ) (board : State) (old new : Option (List Request)) : Type 0 where
   pub said : Answers
   pub k : ℕ
-  pub made : Made end shelf said s n k board
+  pub made : Made end shelf said s n k board old new
   pub bytes_are : bytes ≡ length (text said s k)
   pub all_put : end ≢ ends.WriteFault

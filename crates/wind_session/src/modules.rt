@@ -7,6 +7,8 @@ ghost use Rattle.live_loading.specs.Said.{FileSaid, said_of};
 ghost use Rattle.wind_machine.specs.Machine.{file_asked, machine_step, IsOver, may_lack_memory};
 ghost use Rattle.board_player.specs.Seen.{seen};
 ghost use Rattle.wind_session.specs.Modules.{IsSaid, IsSaidOf, module_path as module_path_lem};
+ghost use Rattle.wind_session.specs.Fetches.{GrowsBy, Stops, module_request, outcome_said, step_request};
+ghost use Rattle.wind_session.specs.declared.run.RunEnd.TheVariants as ends;
 ghost use Rattle.wind_session.specs.declared.modules.Unread.TheVariants as unread;
 ghost use Rattle.wind_session.specs.declared.modules.Move.TheVariants as moves;
 
@@ -61,6 +63,12 @@ fn fetched_module<F: Folder>(
 ) -> Result<FileAnswer, Unread>
     ensures said { IfOk result (λ file. IsSaidOf (record { files = F.files folder.old; name = modules.now })
         name.now (said_of file)) }
+    ensures requested { IfOk result (λ file. GrowsBy (F.requests folder.old) (F.requests folder.new)
+        (module_request modules.now name.now (outcome_said (said_of file)))) }
+    ensures stops { result ≡ Err unread.Fault → Stops ends.ReadFault modules.now (Some name.now)
+        (F.requests folder.old) (F.requests folder.new) }
+    ensures gives_up { result ≡ Err unread.NoMemory → Stops ends.NoMemory modules.now (Some name.now)
+        (F.requests folder.old) (F.requests folder.new) }
     ensures fault { result ≡ Err unread.Fault → Rose (F.faults folder.old) (F.faults folder.new) }
     ensures files { F.files folder.new ≡ F.files folder.old }
     ensures faults { F.faults folder.old ≤ F.faults folder.new }
@@ -93,7 +101,13 @@ fn load_step<F: Folder>(
     requires asked { file_asked (seen ⟦<dyn Device as Device>⟧ board.old) ≡ Some name.now }
     ensures made { result ≡ moves.Made → (said : FileSaid)
         × IsSaidOf (record { files = F.files folder.old; name = modules.now }) name.now said
-        × (machine_step said (seen ⟦<dyn Device as Device>⟧ board.old) ≡ Some (seen ⟦<dyn Device as Device>⟧ board.new)) }
+        × (machine_step said (seen ⟦<dyn Device as Device>⟧ board.old) ≡ Some (seen ⟦<dyn Device as Device>⟧ board.new))
+        × GrowsBy (F.requests folder.old) (F.requests folder.new)
+        (module_request modules.now name.now (outcome_said said)) }
+    ensures stops { result ≡ moves.ReadFault → Stops ends.ReadFault modules.now (Some name.now)
+        (F.requests folder.old) (F.requests folder.new) }
+    ensures gives_up { result ≡ moves.NoMemory → Stops ends.NoMemory modules.now (Some name.now)
+        (F.requests folder.old) (F.requests folder.new) }
     ensures counted { result ≡ moves.Made → (seen ⟦<dyn Device as Device>⟧ board.new).steps
         ≡ (seen ⟦<dyn Device as Device>⟧ board.old).steps + 1 }
     ensures some { result ≢ moves.Quiet }
@@ -126,7 +140,14 @@ pub(crate) fn step<F: Folder>(
     requires { (seen ⟦<dyn Device as Device>⟧ board.old).steps < most_steps }
     ensures made { result ≡ moves.Made → (said : FileSaid)
         × IsSaid (record { files = F.files folder.old; name = modules.now }) (seen ⟦<dyn Device as Device>⟧ board.old) said
-        × (machine_step said (seen ⟦<dyn Device as Device>⟧ board.old) ≡ Some (seen ⟦<dyn Device as Device>⟧ board.new)) }
+        × (machine_step said (seen ⟦<dyn Device as Device>⟧ board.old) ≡ Some (seen ⟦<dyn Device as Device>⟧ board.new))
+        × GrowsBy (F.requests folder.old) (F.requests folder.new)
+        (step_request modules.now (file_asked (seen ⟦<dyn Device as Device>⟧ board.old)) (outcome_said said)) }
+    ensures stops { result ≡ moves.ReadFault → Stops ends.ReadFault modules.now
+        (file_asked (seen ⟦<dyn Device as Device>⟧ board.old)) (F.requests folder.old) (F.requests folder.new) }
+    ensures gives_up { result ≡ moves.NoMemory → Stops ends.NoMemory modules.now
+        (file_asked (seen ⟦<dyn Device as Device>⟧ board.old)) (F.requests folder.old) (F.requests folder.new) }
+    ensures no_request { result ≡ moves.Quiet → F.requests folder.new ≡ F.requests folder.old }
     ensures counted { result ≡ moves.Made → (seen ⟦<dyn Device as Device>⟧ board.new).steps
         ≡ (seen ⟦<dyn Device as Device>⟧ board.old).steps + 1 }
     ensures quiet { result ≡ moves.Quiet → IsOver (seen ⟦<dyn Device as Device>⟧ board.old) }

@@ -1,12 +1,16 @@
 //! Plays a session.
 
-ghost use Rattle.std.specs.Prelude.{◌≡◌, ◌≢◌, ℕ, ◌<◌, ◌≤◌, ◌^◌, ◌↔◌, List, Some, None, OnOk, IfOk, IfErr, map, length};
+ghost use Rattle.std.specs.Prelude.{◌≡◌, ◌≢◌, ℕ, ◌<◌, ◌≤◌, ◌^◌, ◌↔◌, List, [], ◌∷◌, Some, None, OnOk, IfOk, IfErr, map, length};
 ghost use Rattle.wind_base.specs.Limits.{most_steps};
 ghost use Rattle.wind_outside.specs.Counts.{Rose};
 ghost use Rattle.wind_outside.specs.Devices.{slots_of};
 ghost use Rattle.board_player.specs.Seen.{seen};
 ghost use Rattle.generated_session.specs.Session.{most_rounds, summary_line};
+ghost use Rattle.wind_outside.specs.Requests.{Outcome};
+ghost use Rattle.wind_outside.specs.Requests as outcomes;
 ghost use Rattle.wind_session.specs.Command.{command_of as command_of_lem};
+ghost use Rattle.wind_session.specs.Fetches.{GrowsBy, LeadsTo, IsAfterFiles, EndsWithFiles, EndsWithRounds, file_requests, rounds_requests, text_request};
+ghost use Rattle.wind_session.specs.Outside.{outside};
 ghost use Rattle.wind_session.specs.Words.{command_state};
 ghost use Rattle.wind_session.specs.Plan.{Start, IsFilePlan, IsPlanOf, IsHeld, plan_ticks, generated_plan};
 ghost use Rattle.wind_session.specs.Headline.{Plays, IsRefusal, IsUnread, RefusesFiles, Refuses, IsComplete, IsKept, IsLeft, IsSummed, status_of as status_of_lem};
@@ -70,6 +74,10 @@ fn fetched<F: Folder>(
 ) -> Result<Vec<u8>, Status>
     ensures held { IfOk result (λ bytes. IsHeld (F.files folder.old) name.now bytes.items) }
     ensures refused { IfErr result (λ s. IsUnread s file (F.files folder.old) name.now (Rose (F.faults folder.old) (F.faults folder.new))) }
+    ensures found { IfOk result (λ bytes. GrowsBy (F.requests folder.old) (F.requests folder.new)
+        (text_request name.now outcomes.Found ∷ [])) }
+    ensures unfound { IfErr result (λ s. (outcome : Outcome) × LeadsTo file outcome s ⊥
+        × GrowsBy (F.requests folder.old) (F.requests folder.new) (text_request name.now outcome ∷ [])) }
     ensures known { IfErr result (λ s. s ≢ status.Usage) }
     ensures files { F.files folder.new ≡ F.files folder.old }
     ensures faults { F.faults folder.old ≤ F.faults folder.new }
@@ -88,6 +96,7 @@ fn schedule_of(alloc: Global, ticks: &[u8]) -> Result<Schedule, Status>
     ensures read { IfOk result (λ schedule. (console : List ℕ) → plan_ticks console ticks.now
         ≡ Start console schedule) }
     ensures refused { IfErr result (λ s. (console : List ℕ) → IsRefusal s (plan_ticks console ticks.now) ⊥) }
+    ensures after_files { IfErr result (λ s. IsAfterFiles s) }
     ensures known { IfErr result (λ s. s ≢ status.Usage) }
 {
     match read_ticks(alloc, ticks) {
@@ -108,6 +117,9 @@ struct Inputs {
 fn files_of<F: Folder>(alloc: Global, command: &Command, folder: &mut F) -> Result<Inputs, Status>
     ensures start { IfOk result (λ inputs. IsFilePlan (F.files folder.old) (command_state command.now) (Start inputs.console.items inputs.schedule)) }
     ensures refused { IfErr result (λ s. RefusesFiles s (F.files folder.old) (command_state command.now) (Rose (F.faults folder.old) (F.faults folder.new))) }
+    ensures found { IfOk result (λ inputs. GrowsBy (F.requests folder.old) (F.requests folder.new)
+        (file_requests (command_state command.now) outcomes.Found outcomes.Found)) }
+    ensures without_run { IfErr result (λ s. EndsWithFiles (command_state command.now) s (F.requests folder.old) (F.requests folder.new)) }
     ensures known { IfErr result (λ s. s ≢ status.Usage) }
     ensures files { F.files folder.new ≡ F.files folder.old }
     ensures faults { F.faults folder.old ≤ F.faults folder.new }
@@ -133,6 +145,10 @@ fn inputs_of<F: Folder>(alloc: Global, command: &Command, folder: &mut F) -> Res
     requires { command.now.generate ≤ most_rounds }
     ensures start { IfOk result (λ inputs. IsPlanOf command.now.generate (F.files folder.old) (command_state command.now) (Start inputs.console.items inputs.schedule)) }
     ensures refused { IfErr result (λ s. Refuses s (F.files folder.old) (command_state command.now) (Rose (F.faults folder.old) (F.faults folder.new))) }
+    ensures found { IfOk result (λ inputs. GrowsBy (F.requests folder.old) (F.requests folder.new)
+        (rounds_requests command.now.generate (command_state command.now))) }
+    ensures without_run { IfErr result (λ s. EndsWithRounds command.now.generate (command_state command.now) s
+        (F.requests folder.old) (F.requests folder.new)) }
     ensures known { IfErr result (λ s. s ≢ status.Usage) }
     ensures files { F.files folder.new ≡ F.files folder.old }
     ensures faults { F.faults folder.old ≤ F.faults folder.new }
@@ -189,7 +205,8 @@ fn played<F: Folder, O: Sink>(
     ensures left { (end : RunEnd) × IsLeft command.now.generate result end
         (record { files = F.files folder.old; name = command.now.modules.now })
         (seen ⟦<dyn Device as Device>⟧ board.old) command.now.limit (seen ⟦<dyn Device as Device>⟧ board.new)
-        (O.bytes out.old) (O.bytes out.new) }
+        (outside (F.requests folder.old) (O.bytes out.old) (O.pieces out.old))
+        (outside (F.requests folder.new) (O.bytes out.new) (O.pieces out.new)) }
     ensures read_fault { result ≡ status.ReadFault → Rose (F.faults folder.old) (F.faults folder.new) }
     ensures fault { result ≡ status.WriteFault → Rose (O.faults out.old) (O.faults out.new) }
     ensures files { F.files folder.new ≡ F.files folder.old }
@@ -214,7 +231,9 @@ fn session<F: Folder, O: Sink>(
     requires devices { length devices.items ≤ 16 }
     requires limit { command.now.limit ≤ most_steps }
     requires rounds { command.now.generate ≤ most_rounds }
-    ensures machine { Plays (seen ⟦<dyn Device as Device>⟧) result (Some (command_state command.now)) (F.files folder.old) (Rose (F.faults folder.old) (F.faults folder.new)) devices (slots_of kind_of words_of devices.items) (O.bytes out.old) (O.bytes out.new) }
+    ensures machine { Plays (seen ⟦<dyn Device as Device>⟧) result (Some (command_state command.now)) (F.files folder.old) (Rose (F.faults folder.old) (F.faults folder.new)) devices (slots_of kind_of words_of devices.items)
+        (outside (F.requests folder.old) (O.bytes out.old) (O.pieces out.old))
+        (outside (F.requests folder.new) (O.bytes out.new) (O.pieces out.new)) }
     ensures complete { IsComplete result.status (Some (command_state command.now)) (F.files folder.old) (Rose (F.faults folder.old) (F.faults folder.new)) (Rose (O.faults out.old) (O.faults out.new)) }
     ensures known { result.status ≢ status.Usage }
     ensures kept { IsKept (seen ⟦<dyn Device as Device>⟧) result.stand }
@@ -254,7 +273,9 @@ pub fn play<'a, F: Folder, O: Sink, E: Sink>(
     devices: Slots,
 ) -> Ending
     requires { length devices.items ≤ 16 }
-    ensures machine { Plays (seen ⟦<dyn Device as Device>⟧) result (command_of_lem (map (λ w. w.now) words.now)) (F.files folder.old) (Rose (F.faults folder.old) (F.faults folder.new)) devices (slots_of kind_of words_of devices.items) (O.bytes out.old) (O.bytes out.new) }
+    ensures machine { Plays (seen ⟦<dyn Device as Device>⟧) result (command_of_lem (map (λ w. w.now) words.now)) (F.files folder.old) (Rose (F.faults folder.old) (F.faults folder.new)) devices (slots_of kind_of words_of devices.items)
+        (outside (F.requests folder.old) (O.bytes out.old) (O.pieces out.old))
+        (outside (F.requests folder.new) (O.bytes out.new) (O.pieces out.new)) }
     ensures usage { result.status ≢ status.NoMemory →
         ((result.status ≡ status.Usage) ↔ (command_of_lem (map (λ w. w.now) words.now)
         ≡ None)) }

@@ -6,6 +6,9 @@ ghost use Rattle.wind_outside.specs.Counts.{Rose};
 ghost use Rattle.wind_outside.specs.Told.{Appended, AppendedFront};
 ghost use Rattle.wind_outside.specs.declared.sink.Put.TheVariants as puts;
 ghost use Rattle.board_player.specs.Seen.{seen};
+ghost use Rattle.wind_session.specs.Fetches.{GrowsBy};
+ghost use Rattle.wind_session.specs.Outside.{outside};
+ghost use Rattle.wind_session.specs.Pieces.{output_piece};
 ghost use Rattle.wind_session.specs.Runs.{Ran, Counted};
 ghost use Rattle.wind_session.specs.declared.run.RunEnd.TheVariants as ends;
 
@@ -34,6 +37,7 @@ pub enum RunEnd {
 fn put_some<O: Sink>(out: &mut O, bytes: &[u8]) -> Put
     ensures done { result ≡ puts.Done → Appended (O.bytes out.old) (O.bytes out.new) bytes.now }
     ensures part { result ≡ puts.Failed → AppendedFront (O.bytes out.old) (O.bytes out.new) bytes.now }
+    ensures pieces { GrowsBy (O.pieces out.old) (O.pieces out.new) (output_piece bytes.now result) }
     ensures some { result ≡ puts.Failed → bytes.now ≢ [] }
     ensures failed { result ≡ puts.Failed → Rose (O.faults out.old) (O.faults out.new) }
     ensures never_falls { O.faults out.old ≤ O.faults out.new }
@@ -59,7 +63,8 @@ pub fn run_board<F: Folder, O: Sink>(
     requires bound { limit ≤ most_steps }
     ensures ran { Ran result (record { files = F.files folder.old; name = modules.now })
         (seen ⟦<dyn Device as Device>⟧ board.old) limit (seen ⟦<dyn Device as Device>⟧ board.new)
-        (O.bytes out.old) (O.bytes out.new) }
+        (outside (F.requests folder.old) (O.bytes out.old) (O.pieces out.old))
+        (outside (F.requests folder.new) (O.bytes out.new) (O.pieces out.new)) }
     ensures read_fault { result ≡ ends.ReadFault → Rose (F.faults folder.old) (F.faults folder.new) }
     ensures fault { result ≡ ends.WriteFault → Rose (O.faults out.old) (O.faults out.new) }
     ensures files { F.files folder.new ≡ F.files folder.old }
@@ -109,7 +114,8 @@ pub fn count_board<F: Folder>(
     requires fresh { (seen ⟦<dyn Device as Device>⟧ board.old).steps ≡ 0 }
     requires bound { limit ≤ most_steps }
     ensures counted { Counted result.end (record { files = F.files folder.old; name = modules.now })
-        (seen ⟦<dyn Device as Device>⟧ board.old) limit result.bytes (seen ⟦<dyn Device as Device>⟧ board.new) }
+        (seen ⟦<dyn Device as Device>⟧ board.old) limit result.bytes (seen ⟦<dyn Device as Device>⟧ board.new)
+        (F.requests folder.old) (F.requests folder.new) }
     ensures read_fault { result.end ≡ ends.ReadFault → Rose (F.faults folder.old) (F.faults folder.new) }
     ensures files { F.files folder.new ≡ F.files folder.old }
     ensures folder_faults { F.faults folder.old ≤ F.faults folder.new }

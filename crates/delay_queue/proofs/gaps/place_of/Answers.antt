@@ -18,4 +18,4 @@ pub loop-passed-preserved : goal.loop-passed-preserved
 loop-passed-preserved c =
     let apart = c.facts.ensures.apart 0 (omega (arith, c.requires)) in
     passed_more c.args.tasks.now.chains c.args.wake c.loop-passed.next c.next-next.result c.loop-passed.left c.loop-passed._passed c.in-Some.id c.value-gap.result.now c.requires apart c.loop-passed.invariant c.in-Some.is
-    c.value-gap.ensures c.if-gap-left.false c.next-next.ensures
+    c.value-gap.ensures c.if-gap-left.false c.next-next.ensures.after

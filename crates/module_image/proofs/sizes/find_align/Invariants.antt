@@ -1,7 +1,7 @@
 use Rattle.std.proofs.Common.{◌≡◌, drop}
 use Rattle.mem_partition.specs.Place.{grain}
-use Rattle.module_image.specs.Needs.{align_in}
+use Rattle.module_image.specs.Needs.{align_by}
 use Rattle.module_image.proofs.sizes.find_align.Given as goal
 
 abbrev pub invariant-loop-s : goal.invariant-loop-s
-invariant-loop-s l = align_in l.kind l.align (drop l.s-index l.sections) ≡ align_in l.kind grain l.sections
+invariant-loop-s l = align_by l.kind l.align (drop l.s-index l.shapes) ≡ align_by l.kind grain l.shapes

@@ -4,7 +4,7 @@ use Rattle.symbol_table.specs.declared.symbol.Symbol.{Symbol}
 use Rattle.id_table.specs.Rows.{Rows}
 use Rattle.module_image.specs.declared.segments.Needs.{Needs}
 use Rattle.module_image.specs.Needs.{needs_of}
-use Rattle.module_image.specs.Exports.{exports}
+use Rattle.module_image.specs.Exports.{export_count, exports}
 use Rattle.module_image.specs.Image.{image}
 use Rattle.module_image.specs.Making.{IsMade}
 use Rattle.module_image.proofs.Counts.{count_law}
@@ -24,19 +24,19 @@ returns-in-Err-clause-refused c =
     let k = (goal.at.returns-in-Err-clause-refused c).After-check_counts in
     counted (start k) c.args.m.now c.args.mode c.in-Err.e
     (subst (λ n. IsRefusedBy (length c.args.table.now.rows) c.args.kern.now.next_id (length c.args.syms.now.list + n) c.in-Err.e)
-    k.count_added-added.ensures c.in-Err.ensures.refused)
+    (k.count_added-added.ensures ∙ ap (export_count c.args.mode) k.as_slice.ensures) c.in-Err.ensures.refused)
 
 pub returns-in-Err-place-clause-refused : goal.returns-in-Err-place-clause-refused
 returns-in-Err-place-clause-refused c =
     let k = (goal.at.returns-in-Err-place-clause-refused c).After-check_counts in
     placed (start k) c.args.m.now c.args.mode c.in-Err-place.e
-    (subst (λ n. count_by (length c.args.table.now.rows) c.args.kern.now.next_id (length c.args.syms.now.list + n) ≡ None) k.count_added-added.ensures c.in-Ok.ensures.none)
+    (subst (λ n. count_by (length c.args.table.now.rows) c.args.kern.now.next_id (length c.args.syms.now.list + n) ≡ None) (k.count_added-added.ensures ∙ ap (export_count c.args.mode) k.as_slice.ensures) c.in-Ok-check_counts.ensures.none)
     (subst (λ (xs : List Symbol). IsVerdict (place_verdict c.args.m.now xs (places_of c.args.part.now (needs_of c.args.m.now))) c.in-Err-place.e) c.check_counts.ensures.list
-    (subst (λ (z : Needs). IsVerdict (place_verdict c.args.m.now c.check_counts.new.syms.list (places_of c.args.part.now z)) c.in-Err-place.e) c.measure-needs.ensures c.in-Err-place.ensures.refused))
+    (subst (λ (z : Needs). IsVerdict (place_verdict c.args.m.now c.check_counts.new.syms.list (places_of c.args.part.now z)) c.in-Err-place.e) c.in-Ok.ensures c.in-Err-place.ensures.refused))
 
-fits : (c : In-Ok-place) → Fitting c.measure-needs.result c.in-Ok-place.r.0 (length c.args.ram.now) (length c.in-Ok-place.r.1.bytes.items)
+fits : (c : In-Ok-place) → Fitting c.in-Ok.needs c.in-Ok-place.r.0 (length c.args.ram.now) (length c.in-Ok-place.r.1.bytes.items)
 fits c =
-    fitting c.args.part.now c.measure-needs.result c.in-Ok-place.r.0 (length c.args.ram.now) (length c.in-Ok-place.r.1.bytes.items)
+    fitting c.args.part.now c.in-Ok.needs c.in-Ok-place.r.0 (length c.args.ram.now) (length c.in-Ok-place.r.1.bytes.items)
     c.place.ensures.sound c.requires.pool c.in-Ok-place.ensures.made.size c.in-Ok-place.ensures.placed
 
 pub make_record-row-requires-clause-text : goal.make_record-row-requires-clause-text
@@ -51,8 +51,8 @@ make_record-row-requires-clause-bss c = (fits (goal.at.make_record-row-requires-
 pub commit-requires-clause-symbols : goal.commit-requires-clause-symbols
 commit-requires-clause-symbols c =
     let many = ap length c.in-Ok-place.ensures.exports ∙ count_law c.args.m.now c.args.mode c.get.result c.in-Ok-place.r.0 in
-    let same = c.count_added-added.ensures in
-    let room = c.in-Ok.ensures.room in
+    let same = c.count_added-added.ensures ∙ ap (export_count c.args.mode) c.as_slice.ensures in
+    let room = c.in-Ok-check_counts.ensures.room in
     omega arith
 
 pub commit-requires-clause-text : goal.commit-requires-clause-text
@@ -73,15 +73,15 @@ returns-clause-accepted c =
     let same : c.check_counts.new.kern ≡ c.args.kern.now = c.check_counts.ensures.same in
     is_loaded (start k) c.args.name c.args.m.now c.args.mode at bytes adds
     c.commit.new.kern c.commit.new.syms.list c.commit.new.table.rows c.place.new.part c.commit.new.ram
-    (subst (λ n. count_by (length c.args.table.now.rows) c.args.kern.now.next_id (length c.args.syms.now.list + n) ≡ None) c.count_added-added.ensures c.in-Ok.ensures.none)
-    (subst (λ (z : Needs). places_of c.args.part.now z ≡ Ok at) c.measure-needs.ensures c.in-Ok-place.ensures.placed)
-    (subst (λ (z : Needs). IsMade (image c.args.m.now c.args.syms.now.list at) z bytes) c.measure-needs.ensures
-    (subst (λ (xs : List Symbol). IsMade (image c.args.m.now xs at) c.measure-needs.result bytes) c.check_counts.ensures.list c.in-Ok-place.ensures.made))
-    (c.in-Ok-place.ensures.exports ∙ ap (exports c.args.m.now c.args.mode at) (c.get.ensures.same ∙ c.in-Ok.ensures.id))
+    (subst (λ n. count_by (length c.args.table.now.rows) c.args.kern.now.next_id (length c.args.syms.now.list + n) ≡ None) (c.count_added-added.ensures ∙ ap (export_count c.args.mode) c.as_slice.ensures) c.in-Ok-check_counts.ensures.none)
+    (subst (λ (z : Needs). places_of c.args.part.now z ≡ Ok at) c.in-Ok.ensures c.in-Ok-place.ensures.placed)
+    (subst (λ (z : Needs). IsMade (image c.args.m.now c.args.syms.now.list at) z bytes) c.in-Ok.ensures
+    (subst (λ (xs : List Symbol). IsMade (image c.args.m.now xs at) c.in-Ok.needs bytes) c.check_counts.ensures.list c.in-Ok-place.ensures.made))
+    (c.in-Ok-place.ensures.exports ∙ ap (exports c.args.m.now c.args.mode at) (c.get.ensures.same ∙ c.in-Ok-check_counts.ensures.id))
     (c.commit.ensures.next ∙ ap (λ (x : KernState). record x { next_id = x.next_id + 1 }) same)
     (c.commit.ensures.symbols ∙ ap (λ (xs : List Symbol). xs ++ adds) c.check_counts.ensures.list)
     (ap (λ (t : Rows LoadedModule). t.rows) c.commit.ensures.rows
     ∙ ap (λ (x : KernState). c.args.table.now.rows ++ (x.next_id, c.make_record-row.result) ∷ []) same
-    ∙ ap (λ (r : LoadedModule). c.args.table.now.rows ++ (c.args.kern.now.next_id, r) ∷ []) (c.make_record-row.ensures ∙ ap (λ (z : Needs). record_of c.args.name z at) c.measure-needs.ensures))
-    (c.in-Ok-place.ensures.after ∙ ap (with_needs c.args.part.now) c.measure-needs.ensures)
-    (c.commit.ensures.ram ∙ ap (λ (z : Needs). stored_all c.args.ram.now (three_pieces at (in_block (take z.text.size bytes)) (in_block (drop z.text.size bytes)) (in_block (replicate z.bss.size 0)))) c.measure-needs.ensures)
+    ∙ ap (λ (r : LoadedModule). c.args.table.now.rows ++ (c.args.kern.now.next_id, r) ∷ []) (c.make_record-row.ensures ∙ ap (λ (z : Needs). record_of c.args.name z at) c.in-Ok.ensures))
+    (c.in-Ok-place.ensures.after ∙ ap (with_needs c.args.part.now) c.in-Ok.ensures)
+    (c.commit.ensures.ram ∙ ap (λ (z : Needs). stored_all c.args.ram.now (three_pieces at (in_block (take z.text.size bytes)) (in_block (drop z.text.size bytes)) (in_block (replicate z.bss.size 0)))) c.in-Ok.ensures)

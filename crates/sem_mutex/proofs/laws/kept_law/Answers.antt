@@ -5,6 +5,9 @@ use Rattle.sem_mutex.proofs.laws.kept_law.Goals as goal
 pub returns-clause-beside : goal.returns-clause-beside
 returns-clause-beside c = laws.beside_law
 
+pub returns-clause-safety : goal.returns-clause-safety
+returns-clause-safety c = laws.safety_law
+
 pub returns-clause-calls : goal.returns-clause-calls
 returns-clause-calls c = laws.calls_law
 

@@ -1,5 +1,5 @@
-use Rattle.task_safety.proofs.Waiting.{every_call}
+use Rattle.task_safety.proofs.Waiting.{moves_keep, calls_keep}
 use Rattle.task_safety.proofs.laws.kept_law.Goals as goal
 
 pub returns : goal.returns
-returns c = every_call
+returns c = record { moves = moves_keep; calls = calls_keep }

@@ -30,7 +30,7 @@ loop-passed-preserved c =
     let cs = c.args.waiters.now.chains in
     let w = c.args.waiter.now in
     let one : 0 < length cs = omega (arith, own_one cs c.requires.own) in
-    let more = further cs w c.value.result.now c.loop-passed.next c.next-next.result c.in-Some.id c.requires.own (c.facts.ensures.apart 0 one) c.loop-passed.invariant.0 c.in-Some.is c.value.ensures (sym c.precedes.ensures ∙ grind (arith, c.if-not-precedes.false)) c.next-next.ensures in
+    let more = further cs w c.value.result.now c.loop-passed.next c.next-next.result c.in-Some.id c.requires.own (c.facts.ensures.apart 0 one) c.loop-passed.invariant.0 c.in-Some.is c.value.ensures (sym c.precedes.ensures ∙ grind (arith, c.if-not-precedes.false)) c.next-next.ensures.after in
     (more.0, omega (arith, more.1, c.loop-passed.invariant.1))
 
 pub returns : goal.returns

@@ -1,7 +1,10 @@
-use Rattle.std.proofs.Common.{◌∙◌, true, sym, ap, subst}
+use Rattle.std.proofs.Common.{◌∙◌, ◌∷◌, [], Some, true, refl, sym, ap, subst}
 use Rattle.std.specs.Str.{IsUtf8}
+use Rattle.wind_outside.specs.Requests as outcomes
 use Rattle.live_loading.specs.Said.{Held, TooLong, Missing}
 use Rattle.wind_session.specs.Modules.{IsSaidBy, module_path}
+use Rattle.wind_session.specs.Fetches.{GrowsBy}
+use Rattle.wind_session.proofs.FetchLemmas.{grows_none, no_text_module, path_request, requested, stops_after, stops_unread}
 use Rattle.wind_session.proofs.ModuleLemmas.{of_text, of_no_text, found_said, missing_said, long_said}
 use Rattle.wind_session.proofs.modules.fetched_module.Goals as goal
 
@@ -31,3 +34,53 @@ returns-in-TooLong-clause-said g c =
     let at = c.deref.ensures ∙ c.in-Ok-module_path.ensures ∙ ap (module_path c.args.modules.now) (c.in-Ok.ensures.cases.0 ∙ c.bytes.ensures.value) in
     of_text files c.args.name.now (module_path c.args.modules.now c.args.name.now) TooLong (subst IsUtf8 c.bytes.ensures.value c.in-Ok.ensures.cases.1)
     (subst (λ path. IsSaidBy true files path TooLong) at (long_said files c.deref.result.now c.in-TooLong.ensures.told))
+
+-- ---- the requests
+-- the name is no text
+pub returns-in_default-clause-requested : goal.returns-in_default-clause-requested
+returns-in_default-clause-requested g c =
+    let before = g.F.Folder.requests c.args.folder.now in
+    subst (GrowsBy before before) (sym (no_text_module c.args.modules.now c.args.name.now outcomes.Missing (λ text. c.in_default.ensures.cases.0 (subst IsUtf8 (sym c.bytes.ensures.value) text)))) (grows_none before)
+
+pub returns-in-Found-clause-requested : goal.returns-in-Found-clause-requested
+returns-in-Found-clause-requested g c =
+    let before = g.F.Folder.requests c.args.folder.now in
+    let behind = g.F.Folder.requests c.fetch.new.self in
+    let at = c.deref.ensures ∙ c.in-Ok-module_path.ensures ∙ ap (module_path c.args.modules.now) (c.in-Ok.ensures.cases.0 ∙ c.bytes.ensures.value) in
+    requested c.args.modules.now c.args.name.now before behind outcomes.Found (subst IsUtf8 c.bytes.ensures.value c.in-Ok.ensures.cases.1)
+    (subst (λ path. GrowsBy before behind (path_request path outcomes.Found ∷ [])) at c.in-Found.ensures.requested)
+
+pub returns-in-Missing-clause-requested : goal.returns-in-Missing-clause-requested
+returns-in-Missing-clause-requested g c =
+    let before = g.F.Folder.requests c.args.folder.now in
+    let behind = g.F.Folder.requests c.fetch.new.self in
+    let at = c.deref.ensures ∙ c.in-Ok-module_path.ensures ∙ ap (module_path c.args.modules.now) (c.in-Ok.ensures.cases.0 ∙ c.bytes.ensures.value) in
+    requested c.args.modules.now c.args.name.now before behind outcomes.Missing (subst IsUtf8 c.bytes.ensures.value c.in-Ok.ensures.cases.1)
+    (subst (λ path. GrowsBy before behind (path_request path outcomes.Missing ∷ [])) at c.in-Missing.ensures.requested)
+
+pub returns-in-TooLong-clause-requested : goal.returns-in-TooLong-clause-requested
+returns-in-TooLong-clause-requested g c =
+    let before = g.F.Folder.requests c.args.folder.now in
+    let behind = g.F.Folder.requests c.fetch.new.self in
+    let at = c.deref.ensures ∙ c.in-Ok-module_path.ensures ∙ ap (module_path c.args.modules.now) (c.in-Ok.ensures.cases.0 ∙ c.bytes.ensures.value) in
+    requested c.args.modules.now c.args.name.now before behind outcomes.TooLong (subst IsUtf8 c.bytes.ensures.value c.in-Ok.ensures.cases.1)
+    (subst (λ path. GrowsBy before behind (path_request path outcomes.TooLong ∷ [])) at c.in-TooLong.ensures.requested)
+
+-- reading failed
+pub returns-in-Failed-clause-stops : goal.returns-in-Failed-clause-stops
+returns-in-Failed-clause-stops g c =
+    let before = g.F.Folder.requests c.args.folder.now in
+    let behind = g.F.Folder.requests c.fetch.new.self in
+    let at = c.deref.ensures ∙ c.in-Ok-module_path.ensures ∙ ap (module_path c.args.modules.now) (c.in-Ok.ensures.cases.0 ∙ c.bytes.ensures.value) in
+    λ e. stops_unread c.args.modules.now c.args.name.now before behind (subst IsUtf8 c.bytes.ensures.value c.in-Ok.ensures.cases.1)
+    (subst (λ path. GrowsBy before behind (path_request path outcomes.Failed ∷ [])) at c.in-Failed.ensures.requested)
+
+-- memory ran out in the fetch
+pub returns-clause-gives_up : goal.returns-clause-gives_up
+returns-clause-gives_up g c =
+    let before = g.F.Folder.requests c.args.folder.now in
+    let behind = g.F.Folder.requests c.fetch.new.self in
+    let at = c.deref.ensures ∙ c.in-Ok-module_path.ensures ∙ ap (module_path c.args.modules.now) (c.in-Ok.ensures.cases.0 ∙ c.bytes.ensures.value) in
+    λ e. stops_after c.args.modules.now (Some c.args.name.now) outcomes.NoMemory before behind (λ e. cc)
+    (requested c.args.modules.now c.args.name.now before behind outcomes.NoMemory (subst IsUtf8 c.bytes.ensures.value c.in-Ok.ensures.cases.1)
+    (subst (λ path. GrowsBy before behind (path_request path outcomes.NoMemory ∷ [])) at c.in-NoMemory.ensures.requested))

@@ -1,5 +1,6 @@
 use Rattle.std.proofs.Common.{refl}
 use Rattle.wind_outside.specs.Counts.{Rose}
+use Rattle.wind_outside.specs.Requests as outcomes
 use Rattle.wind_session.proofs.PlanLemmas.{held_found, unread_missing, unread_long, unread_fault, unread_memory}
 use Rattle.wind_session.proofs.playing.fetched.Goals as goal
 
@@ -21,3 +22,16 @@ returns-in-Failed-clause-refused g c =
 pub returns-in-NoMemory-clause-refused : goal.returns-in-NoMemory-clause-refused
 returns-in-NoMemory-clause-refused g c =
     unread_memory (g.F.Folder.files c.args.folder.now) c.args.name.now c.args.file (Rose (g.F.Folder.faults c.args.folder.now) (g.F.Folder.faults c.fetch.new.self))
+
+-- how the fetch ended
+pub returns-in-Missing-clause-unfound : goal.returns-in-Missing-clause-unfound
+returns-in-Missing-clause-unfound g c = (outcomes.Missing, refl, c.in-Missing.ensures.requested)
+
+pub returns-in-TooLong-clause-unfound : goal.returns-in-TooLong-clause-unfound
+returns-in-TooLong-clause-unfound g c = (outcomes.TooLong, refl, c.in-TooLong.ensures.requested)
+
+pub returns-in-Failed-clause-unfound : goal.returns-in-Failed-clause-unfound
+returns-in-Failed-clause-unfound g c = (outcomes.Failed, refl, c.in-Failed.ensures.requested)
+
+pub returns-in-NoMemory-clause-unfound : goal.returns-in-NoMemory-clause-unfound
+returns-in-NoMemory-clause-unfound g c = (outcomes.NoMemory, refl, c.in-NoMemory.ensures.requested)

@@ -5,6 +5,7 @@ use Rattle.wind_session.specs.Headline.{IsComplete}
 use Rattle.wind_session.specs.Plan.{Refuse}
 use Rattle.wind_session.specs.Texts.{memory_text}
 use Rattle.wind_session.specs.declared.ending.Status.TheVariants as status
+use Rattle.wind_session.proofs.FetchLemmas.{inputs_unread}
 use Rattle.wind_session.proofs.PlanLemmas.{some_plan}
 use Rattle.wind_session.proofs.ToldLemmas.{memory_is_text}
 use Rattle.wind_session.proofs.playing.play.Goals as goal
@@ -12,13 +13,13 @@ use Rattle.wind_session.proofs.playing.play.Goals as goal
 -- words that are no command
 pub returns-in-Err-Usage-clause-machine : goal.returns-in-Err-Usage-clause-machine
 returns-in-Err-Usage-clause-machine g c =
-    rw c.refused.ensures (rw (c.in-Err-Usage.ensures.usage (λ e. cc)) (record { plan = Refuse status.Usage; planned = refl; leaves = (refl, refl, refl) }))
+    rw c.refused.ensures (rw (c.in-Err-Usage.ensures.usage (λ e. cc)) (record { plan = Refuse status.Usage; planned = refl; leaves = (refl, record { bytes = refl; pieces = refl; refusal = refl; fetches = refl }) }))
 
 -- want of memory, before it is known what the words are
 pub returns-in-Err-NoMemory-clause-machine : goal.returns-in-Err-NoMemory-clause-machine
 returns-in-Err-NoMemory-clause-machine g c =
     let some = some_plan (g.F.Folder.files c.args.folder.now) (command_of (map {A = Bor (List ℕ)} {B = List ℕ} (λ w. w.now) c.args.words.now)) in
-    rw c.refused-in-Err-NoMemory.ensures (record { plan = some.0; planned = some.1; leaves = (refl, refl, tt) })
+    rw c.refused-in-Err-NoMemory.ensures (record { plan = some.0; planned = some.1; leaves = (refl, record { bytes = refl; pieces = refl; refusal = tt; fetches = inputs_unread _ _ }) })
 
 pub returns-in-Err-NoMemory-clause-err : goal.returns-in-Err-NoMemory-clause-err
 returns-in-Err-NoMemory-clause-err g c =

@@ -9,7 +9,7 @@ use Rattle.wind_session.proofs.run.count_board.Goals as goal
 pub loop-made-init : goal.loop-made-init
 loop-made-init g c = record {
   said = nothing_said;
-  run = begun _ _ c.args.limit c.requires.fresh;
+  run = begun _ _ c.args.limit _ c.requires.fresh;
   bytes = refl;
   small = omega arith;
   files = refl;
@@ -21,11 +21,11 @@ pub loop-made-preserved : goal.loop-made-preserved
 loop-made-preserved g c =
     let made = c.in-Made.ensures.made refl in
     let shelf : Shelf = record { files = g.F.Folder.files c.args.folder.now; name = c.args.modules.now } in
-    let run = runs_on c.silent_law.ensures shelf _ _ _ _ _ c.loop-made.invariant.run c.burst-made.result (omega (arith, c.burst-made.ensures.within)) _ c.burst-made.ensures.made in
+    let run = runs_on c.silent_law.ensures shelf _ _ _ _ _ _ _ c.loop-made.invariant.run c.burst-made.result (omega (arith, c.burst-made.ensures.within)) _ c.burst-made.ensures.made in
     record {
       said = saying c.loop-made.invariant.said (c.loop-made.made + c.burst-made.result) made.0;
-      run = further shelf _ _ _ _ _ run _ c.loop-made.invariant.files _ made (omega arith) (c.in-Made.ensures.counted refl);
-      bytes = ap (λ written. c.loop-made.bytes + length written) c.output.ensures ∙ bytes_on shelf _ _ _ _ _ run _ c.loop-made.invariant.files _ made c.loop-made.bytes (c.loop-made.invariant.bytes ∙ ap length (as_written c.silent_law.ensures shelf _ _ _ _ _ c.loop-made.invariant.run _ _ c.burst-made.ensures.made));
+      run = further shelf _ _ _ _ _ _ _ run _ c.loop-made.invariant.files _ _ made (omega arith) (c.in-Made.ensures.counted refl);
+      bytes = ap (λ written. c.loop-made.bytes + length written) c.output.ensures ∙ bytes_on shelf _ _ _ _ _ _ _ run _ c.loop-made.invariant.files _ _ made c.loop-made.bytes (c.loop-made.invariant.bytes ∙ ap length (as_written c.silent_law.ensures shelf _ _ _ _ _ _ _ c.loop-made.invariant.run _ _ c.burst-made.ensures.made));
       small = omega (arith, c.loop-made.invariant.small);
       files = c.in-Made.ensures.files ∙ c.loop-made.invariant.files;
       folder_faults = omega (arith, c.in-Made.ensures.faults, c.loop-made.invariant.folder_faults);
@@ -35,19 +35,19 @@ loop-made-preserved g c =
 pub step-requires : goal.step-requires
 step-requires g c =
     let shelf : Shelf = record { files = g.F.Folder.files c.args.folder.now; name = c.args.modules.now } in
-    let run = runs_on c.silent_law.ensures shelf _ _ _ _ _ c.loop-made.invariant.run c.burst-made.result (omega (arith, c.burst-made.ensures.within)) _ c.burst-made.ensures.made in
+    let run = runs_on c.silent_law.ensures shelf _ _ _ _ _ _ _ c.loop-made.invariant.run c.burst-made.result (omega (arith, c.burst-made.ensures.within)) _ c.burst-made.ensures.made in
     omega (arith, run.counted, c.requires.bound, c.burst-made.ensures.within, c.if-made-limit.false)
 
 -- as many steps as the limit were made by a burst
 pub returns-then-made-limit-clause-counted : goal.returns-then-made-limit-clause-counted
 returns-then-made-limit-clause-counted g c =
     let shelf : Shelf = record { files = g.F.Folder.files c.args.folder.now; name = c.args.modules.now } in
-    let run = runs_on c.silent_law.ensures shelf _ _ _ _ _ c.loop-made.invariant.run c.burst-made.result (omega (arith, c.burst-made.ensures.within)) _ c.burst-made.ensures.made in
+    let run = runs_on c.silent_law.ensures shelf _ _ _ _ _ _ _ c.loop-made.invariant.run c.burst-made.result (omega (arith, c.burst-made.ensures.within)) _ c.burst-made.ensures.made in
     record {
       said = c.loop-made.invariant.said;
       k = c.loop-made.made + c.burst-made.result;
-      made = at_limit shelf _ _ _ _ _ run (omega arith);
-      bytes_are = c.loop-made.invariant.bytes ∙ ap length (as_written c.silent_law.ensures shelf _ _ _ _ _ c.loop-made.invariant.run _ _ c.burst-made.ensures.made);
+      made = at_limit shelf _ _ _ _ _ _ _ run (omega arith);
+      bytes_are = c.loop-made.invariant.bytes ∙ ap length (as_written c.silent_law.ensures shelf _ _ _ _ _ _ _ c.loop-made.invariant.run _ _ c.burst-made.ensures.made);
       all_put = λ e. cc;
     }
 
@@ -55,12 +55,12 @@ returns-then-made-limit-clause-counted g c =
 pub returns-in-Quiet-clause-counted : goal.returns-in-Quiet-clause-counted
 returns-in-Quiet-clause-counted g c =
     let shelf : Shelf = record { files = g.F.Folder.files c.args.folder.now; name = c.args.modules.now } in
-    let run = runs_on c.silent_law.ensures shelf _ _ _ _ _ c.loop-made.invariant.run c.burst-made.result (omega (arith, c.burst-made.ensures.within)) _ c.burst-made.ensures.made in
+    let run = runs_on c.silent_law.ensures shelf _ _ _ _ _ _ _ c.loop-made.invariant.run c.burst-made.result (omega (arith, c.burst-made.ensures.within)) _ c.burst-made.ensures.made in
     record {
       said = c.loop-made.invariant.said;
       k = c.loop-made.made + c.burst-made.result;
-      made = quiet shelf _ _ _ _ _ run _ (c.in-Quiet.ensures.unchanged (λ e. cc)) (omega arith) (c.in-Quiet.ensures.quiet refl);
-      bytes_are = c.loop-made.invariant.bytes ∙ ap length (as_written c.silent_law.ensures shelf _ _ _ _ _ c.loop-made.invariant.run _ _ c.burst-made.ensures.made);
+      made = quiet shelf _ _ _ _ _ _ _ run _ _ (c.in-Quiet.ensures.unchanged (λ e. cc)) (omega arith) (c.in-Quiet.ensures.quiet refl) (c.in-Quiet.ensures.no_request refl);
+      bytes_are = c.loop-made.invariant.bytes ∙ ap length (as_written c.silent_law.ensures shelf _ _ _ _ _ _ _ c.loop-made.invariant.run _ _ c.burst-made.ensures.made);
       all_put = λ e. cc;
     }
 
@@ -68,12 +68,12 @@ returns-in-Quiet-clause-counted g c =
 pub returns-in-ReadFault-clause-counted : goal.returns-in-ReadFault-clause-counted
 returns-in-ReadFault-clause-counted g c =
     let shelf : Shelf = record { files = g.F.Folder.files c.args.folder.now; name = c.args.modules.now } in
-    let run = runs_on c.silent_law.ensures shelf _ _ _ _ _ c.loop-made.invariant.run c.burst-made.result (omega (arith, c.burst-made.ensures.within)) _ c.burst-made.ensures.made in
+    let run = runs_on c.silent_law.ensures shelf _ _ _ _ _ _ _ c.loop-made.invariant.run c.burst-made.result (omega (arith, c.burst-made.ensures.within)) _ c.burst-made.ensures.made in
     record {
       said = c.loop-made.invariant.said;
       k = c.loop-made.made + c.burst-made.result;
-      made = unread shelf _ _ _ _ _ run _ (c.in-ReadFault.ensures.unchanged (λ e. cc)) (omega arith) (c.in-ReadFault.ensures.asked refl);
-      bytes_are = c.loop-made.invariant.bytes ∙ ap length (as_written c.silent_law.ensures shelf _ _ _ _ _ c.loop-made.invariant.run _ _ c.burst-made.ensures.made);
+      made = unread shelf _ _ _ _ _ _ _ run _ _ (c.in-ReadFault.ensures.unchanged (λ e. cc)) (omega arith) (c.in-ReadFault.ensures.asked refl) (c.in-ReadFault.ensures.stops refl);
+      bytes_are = c.loop-made.invariant.bytes ∙ ap length (as_written c.silent_law.ensures shelf _ _ _ _ _ _ _ c.loop-made.invariant.run _ _ c.burst-made.ensures.made);
       all_put = λ e. cc;
     }
 
@@ -81,11 +81,11 @@ returns-in-ReadFault-clause-counted g c =
 pub returns-in-NoMemory-clause-counted : goal.returns-in-NoMemory-clause-counted
 returns-in-NoMemory-clause-counted g c =
     let shelf : Shelf = record { files = g.F.Folder.files c.args.folder.now; name = c.args.modules.now } in
-    let run = runs_on c.silent_law.ensures shelf _ _ _ _ _ c.loop-made.invariant.run c.burst-made.result (omega (arith, c.burst-made.ensures.within)) _ c.burst-made.ensures.made in
+    let run = runs_on c.silent_law.ensures shelf _ _ _ _ _ _ _ c.loop-made.invariant.run c.burst-made.result (omega (arith, c.burst-made.ensures.within)) _ c.burst-made.ensures.made in
     record {
       said = c.loop-made.invariant.said;
       k = c.loop-made.made + c.burst-made.result;
-      made = lacking shelf _ _ _ _ _ run _ (c.in-NoMemory.ensures.unchanged (λ e. cc)) (omega arith) (c.in-NoMemory.ensures.no_memory refl);
-      bytes_are = c.loop-made.invariant.bytes ∙ ap length (as_written c.silent_law.ensures shelf _ _ _ _ _ c.loop-made.invariant.run _ _ c.burst-made.ensures.made);
+      made = lacking shelf _ _ _ _ _ _ _ run _ _ (c.in-NoMemory.ensures.unchanged (λ e. cc)) (omega arith) (c.in-NoMemory.ensures.no_memory refl) (c.in-NoMemory.ensures.gives_up refl);
+      bytes_are = c.loop-made.invariant.bytes ∙ ap length (as_written c.silent_law.ensures shelf _ _ _ _ _ _ _ c.loop-made.invariant.run _ _ c.burst-made.ensures.made);
       all_put = λ e. cc;
     }

@@ -11,7 +11,7 @@ invariant-loop-made g l =
     let start = state l.fn.board in
     record {
       said : Answers;
-      run : Behind (record { files = g.F.Folder.files l.fn.folder; name = l.modules }) said start l.limit l.made (state l.board);
+      run : Behind (record { files = g.F.Folder.files l.fn.folder; name = l.modules }) said start l.limit l.made (state l.board) (g.F.Folder.requests l.fn.folder) (g.F.Folder.requests l.folder);
       bytes : l.bytes ≡ length (text said start l.made);
       small : l.bytes ≤ l.made * 2 ^ 64;
       files : g.F.Folder.files l.folder ≡ g.F.Folder.files l.fn.folder;

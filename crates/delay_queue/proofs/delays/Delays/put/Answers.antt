@@ -30,7 +30,7 @@ lessen-requires c x e =
     let next = c.place_of-next.result.next in
     let left = c.place_of-next.result.left in
     let comes = coming t c.args.who c.args.wake next left one apart absent c.place_of-next.ensures in
-    let follows = comes.follows c.next-next.result (subst (λ u. NextIs u.chains c.args.who c.next-next.result) c.insert_before.ensures c.next-next.ensures) in
+    let follows = comes.follows c.next-next.result (subst (λ u. NextIs u.chains c.args.who c.next-next.result) c.insert_before.ensures c.next-next.ensures.after) in
     subst (λ u. IsSomeAnd (value_of u.chains x) (λ gap. left ≤ gap)) (sym c.insert_before.ensures) (comes.fits x (sym follows ∙ e))
 
 pub invariant_of-self : goal.invariant_of-self
@@ -43,7 +43,7 @@ invariant_of-self c =
     let next = c.place_of-next.result.next in
     let left = c.place_of-next.result.left in
     let comes = coming t c.args.who c.args.wake next left one apart absent c.place_of-next.ensures in
-    let follows = comes.follows c.next-next.result (subst (λ u. NextIs u.chains c.args.who c.next-next.result) c.insert_before.ensures c.next-next.ensures) in
+    let follows = comes.follows c.next-next.result (subst (λ u. NextIs u.chains c.args.who c.next-next.result) c.insert_before.ensures c.next-next.ensures.after) in
     let done = c.lessen.ensures ∙ (λ i. with_gap (c.insert_before.ensures i) (follows i) (λ gap. gap - left)) ∙ comes.came.chains in
     timed_single c.lessen.new.tasks comes.came.list t.room done
     (subst (All (λ d. d.1 < 2 ^ 64)) (sym comes.came.wakes) (all_put (λ d. d.1 < 2 ^ 64) (c.args.who, c.args.wake) (wakes_from 0 (chain_at t.chains 0)) c.ranges.wake.fits c.self.invariant.wakes))
@@ -58,7 +58,7 @@ returns c =
     let next = c.place_of-next.result.next in
     let left = c.place_of-next.result.left in
     let comes = coming t c.args.who c.args.wake next left one apart absent c.place_of-next.ensures in
-    let follows = comes.follows c.next-next.result (subst (λ u. NextIs u.chains c.args.who c.next-next.result) c.insert_before.ensures c.next-next.ensures) in
+    let follows = comes.follows c.next-next.result (subst (λ u. NextIs u.chains c.args.who c.next-next.result) c.insert_before.ensures c.next-next.ensures.after) in
     let done = c.lessen.ensures ∙ (λ i. with_gap (c.insert_before.ensures i) (follows i) (λ gap. gap - left)) ∙ comes.came.chains in
     ap (λ u. record { tasks = wakes_from 0 (chain_at u.chains 0); room = u.room }) done
     ∙ order_alike (wakes_from 0 comes.came.list) (put_in (wakes_from 0 (chain_at t.chains 0)) (c.args.who, c.args.wake)) t.room comes.came.wakes

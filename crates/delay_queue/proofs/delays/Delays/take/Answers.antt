@@ -40,7 +40,7 @@ lengthen-requires c x e =
     let t = c.self.inside.tasks in
     let one = c.self.invariant.one in
     let apart = c.facts.ensures.apart 0 (omega (arith, one)) in
-    let goes = going t c.args.who c.in-Some.gap c.next-next.result c.self.invariant apart (sym c.in-Some.ensures.value) c.next-next.ensures in
+    let goes = going t c.args.who c.in-Some.gap c.next-next.result c.self.invariant apart (sym c.in-Some.ensures.value) c.next-next.ensures.after in
     subst (λ u. IsSomeAnd (value_of u.chains x) (λ gap. gap + c.in-Some.gap < 2 ^ 64)) (sym c.in-Some.ensures.chains) (goes.fits x e)
 
 pub invariant_of-self-2 : goal.invariant_of-self-2
@@ -48,7 +48,7 @@ invariant_of-self-2 c =
     let t = c.self.inside.tasks in
     let one = c.self.invariant.one in
     let apart = c.facts.ensures.apart 0 (omega (arith, one)) in
-    let goes = going t c.args.who c.in-Some.gap c.next-next.result c.self.invariant apart (sym c.in-Some.ensures.value) c.next-next.ensures in
+    let goes = going t c.args.who c.in-Some.gap c.next-next.result c.self.invariant apart (sym c.in-Some.ensures.value) c.next-next.ensures.after in
     let done = c.lengthen.ensures ∙ ap (λ u. with_gap u c.next-next.result (λ gap. gap + c.in-Some.gap)) c.in-Some.ensures.chains ∙ goes.went.chains in
     timed_single c.lengthen.new.tasks goes.went.list t.room done
     (subst (All (λ d. d.1 < 2 ^ 64)) (sym goes.went.wakes) (All-filter (λ d. not (eqb d.0 c.args.who)) (λ d. d.1 < 2 ^ 64) (wakes_from 0 (chain_at t.chains 0)) c.self.invariant.wakes))
@@ -66,7 +66,7 @@ returns-clause-tasks c =
     let t = c.self.inside.tasks in
     let one = c.self.invariant.one in
     let apart = c.facts.ensures.apart 0 (omega (arith, one)) in
-    let goes = going t c.args.who c.in-Some.gap c.next-next.result c.self.invariant apart (sym c.in-Some.ensures.value) c.next-next.ensures in
+    let goes = going t c.args.who c.in-Some.gap c.next-next.result c.self.invariant apart (sym c.in-Some.ensures.value) c.next-next.ensures.after in
     let done = c.lengthen.ensures ∙ ap (λ u. with_gap u c.next-next.result (λ gap. gap + c.in-Some.gap)) c.in-Some.ensures.chains ∙ goes.went.chains in
     ap (λ u. record { tasks = wakes_from 0 (chain_at u.chains 0); room = u.room }) done
     ∙ order_alike (wakes_from 0 goes.went.list) (taken_out (wakes_from 0 (chain_at t.chains 0)) c.args.who) t.room goes.went.wakes

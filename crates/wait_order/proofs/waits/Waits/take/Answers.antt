@@ -35,14 +35,14 @@ pub go-requires : goal.go-requires
 go-requires c =
     let k = c.self.inside in
     let one : 0 < length k.waiters.chains = omega (arith, own_one k.waiters.chains c.self.invariant.1.own) in
-    let g = goes k.waiters k.fronts.items c.args.who c.next-next.result c.in-Some.gone c.self.invariant.1 (c.facts.ensures.apart 0 one) (sym c.in-Some.ensures.value) c.next-next.ensures in
+    let g = goes k.waiters k.fronts.items c.args.who c.next-next.result c.in-Some.gone c.self.invariant.1 (c.facts.ensures.apart 0 one) (sym c.in-Some.ensures.value) c.next-next.ensures.after in
     subst (λ u. IsGone u.chains k.fronts.items c.in-Some.gone c.next-next.result) (sym c.in-Some.ensures.chains) g.gone
 
 pub invariant_of-self-2 : goal.invariant_of-self-2
 invariant_of-self-2 c =
     let k = c.self.inside in
     let one : 0 < length k.waiters.chains = omega (arith, own_one k.waiters.chains c.self.invariant.1.own) in
-    let g = goes k.waiters k.fronts.items c.args.who c.next-next.result c.in-Some.gone c.self.invariant.1 (c.facts.ensures.apart 0 one) (sym c.in-Some.ensures.value) c.next-next.ensures in (
+    let g = goes k.waiters k.fronts.items c.args.who c.next-next.result c.in-Some.gone c.self.invariant.1 (c.facts.ensures.apart 0 one) (sym c.in-Some.ensures.value) c.next-next.ensures.after in (
       omega (arith, c.self.invariant.0, c.go.ensures.capacity, ap (λ u. u.room) c.in-Some.ensures.chains),
       record {
         own = subst (λ u. IsOwn u.chains) (sym c.in-Some.ensures.chains) g.own;
@@ -63,7 +63,7 @@ returns-clause-waiters c =
     let k = c.self.inside in
     let ws = waiters_in k.waiters.chains in
     let one : 0 < length k.waiters.chains = omega (arith, own_one k.waiters.chains c.self.invariant.1.own) in
-    let g = goes k.waiters k.fronts.items c.args.who c.next-next.result c.in-Some.gone c.self.invariant.1 (c.facts.ensures.apart 0 one) (sym c.in-Some.ensures.value) c.next-next.ensures in
+    let g = goes k.waiters k.fronts.items c.args.who c.next-next.result c.in-Some.gone c.self.invariant.1 (c.facts.ensures.apart 0 one) (sym c.in-Some.ensures.value) c.next-next.ensures.after in
     ap {B = Line} (λ u. record { waiters = by_id (waiters_in u.chains); room = u.room }) c.in-Some.ensures.chains
     ∙ line_alike _ (without waiter_id (by_id ws) c.args.who) k.waiters.room (ap by_id g.waiters ∙ by_id_fewer ws c.args.who)
     ∙ ap (λ l. without_waiter l c.args.who) c.self.view_is

@@ -1,0 +1,30 @@
+-- A caller stands at its gate again, as before its call.
+use Rattle.std.specs.Prelude.{ℕ, Option, None, Some}
+use Rattle.wind_base.specs.declared.regs.Regs.{Regs}
+use Rattle.task_block.specs.declared.task.Task.{Task as TaskRecord}
+use Rattle.wind_core.specs.State.{task_of}
+use Rattle.wind_core.specs.Moves.{change_task}
+use Rattle.kernel_world.specs.State.{WorldState}
+use Rattle.kernel_world.specs.declared.actor.Actor.{Actor}
+use Rattle.kernel_world.specs.declared.actor.Actor.TheVariants.{Task, Interrupt}
+
+-- the program counter of a caller that is a task
+abbrev pub counter_in : Option TaskRecord → ℕ
+counter_in None = 0
+counter_in (Some t) = t.regs.pc
+
+abbrev pub counter_of : WorldState → Actor → ℕ
+counter_of w (Task who) = counter_in (task_of w.kern.tasks who)
+counter_of w Interrupt = 0
+
+-- the registers, and a task, with this program counter
+abbrev pub with_counter : ℕ → Regs → Regs
+with_counter pc r = record r { pc = pc }
+
+abbrev pub task_at : ℕ → TaskRecord → TaskRecord
+task_at pc t = record t { regs = with_counter pc t.regs }
+
+-- the world in which the caller, if it is a task, has this program counter
+abbrev pub standing_at : WorldState → Actor → ℕ → WorldState
+standing_at w (Task who) pc = record w { kern = change_task w.kern who (task_at pc) }
+standing_at w Interrupt pc = w

@@ -1,0 +1,457 @@
+//! A call of the kernel as a value: what its caller asks for, by name.
+
+ghost use Rattle.std.specs.Prelude.{◌≡◌};
+ghost use Rattle.kernel_world.specs.CallWords.{seven_words as seven_words_lem, two_words as two_words_lem, ten_arguments as ten_arguments_lem, quick_arguments as quick_arguments_lem, seven_values as seven_values_lem, call_of as call_of_lem, gate_of, call_by};
+ghost use Rattle.kernel_world.specs.Seen.{world_seen};
+
+use crate::actor::{Actor, regs, stack_word};
+use crate::world::World;
+use board_mem::Ram;
+use wind_base::Gate;
+use wind_outside::Device;
+
+/// A call of the kernel. Every field is the word that its caller hands in. The last arguments of `taskSpawn` and `sp` are on
+/// the caller's stack, and there are none if a byte of them is outside RAM.
+#[derive(Clone, Copy, Debug, PartialEq, Eq)]
+pub enum Call {
+    /// taskSpawn: a task with this name at an address, this priority, options that are not used, this many bytes of stack, and this entry with ten arguments
+    TaskSpawn {
+        name: u32,
+        priority: u32,
+        options: u32,
+        stack_size: u32,
+        entry: u32,
+        arguments: Option<[u32; 10]>,
+    },
+    /// sp: a task without a name, of this entry, with nine arguments; the tenth is 0
+    Sp {
+        entry: u32,
+        arguments: Option<[u32; 10]>,
+    },
+    /// taskDelete
+    TaskDelete {
+        id: u32,
+    },
+    /// taskSuspend
+    TaskSuspend {
+        id: u32,
+    },
+    /// taskResume
+    TaskResume {
+        id: u32,
+    },
+    /// taskPrioritySet
+    TaskPrioritySet {
+        id: u32,
+        priority: u32,
+    },
+    /// taskPriorityGet: the priority goes to the word at an address
+    TaskPriorityGet {
+        id: u32,
+        address: u32,
+    },
+    /// taskDelay
+    TaskDelay {
+        ticks: u32,
+    },
+    /// taskLock
+    TaskLock,
+    /// taskUnlock
+    TaskUnlock,
+    /// taskSafe
+    TaskSafe,
+    /// taskUnsafe
+    TaskUnsafe,
+    /// taskIdSelf
+    TaskIdSelf,
+    /// taskIdVerify
+    TaskIdVerify {
+        id: u32,
+    },
+    /// taskNameToId: the name stands at an address
+    TaskNameToId {
+        name: u32,
+    },
+    /// kernelTimeSlice
+    KernelTimeSlice {
+        ticks: u32,
+    },
+    /// tickGet
+    TickGet,
+    /// semBCreate
+    SemBCreate {
+        options: u32,
+        state: u32,
+    },
+    /// semCCreate
+    SemCCreate {
+        options: u32,
+        count: u32,
+    },
+    /// semMCreate
+    SemMCreate {
+        options: u32,
+    },
+    /// semTake: the timeout is in ticks
+    SemTake {
+        id: u32,
+        timeout: u32,
+    },
+    /// semGive
+    SemGive {
+        id: u32,
+    },
+    /// semFlush
+    SemFlush {
+        id: u32,
+    },
+    /// semDelete
+    SemDelete {
+        id: u32,
+    },
+    /// msgQCreate
+    MsgQCreate {
+        max_msgs: u32,
+        max_length: u32,
+        options: u32,
+    },
+    /// msgQSend: this many bytes at an address; the timeout is in ticks
+    MsgQSend {
+        id: u32,
+        buffer: u32,
+        count: u32,
+        timeout: u32,
+        priority: u32,
+    },
+    /// msgQReceive: at most this many bytes go to an address; the timeout is in ticks
+    MsgQReceive {
+        id: u32,
+        buffer: u32,
+        count: u32,
+        timeout: u32,
+    },
+    /// msgQDelete
+    MsgQDelete {
+        id: u32,
+    },
+    /// msgQNumMsgs
+    MsgQNumMsgs {
+        id: u32,
+    },
+    /// wdCreate
+    WdCreate,
+    /// wdStart: the delay is in ticks; the routine is called with the parameter
+    WdStart {
+        id: u32,
+        delay: u32,
+        routine: u32,
+        parameter: u32,
+    },
+    /// wdCancel
+    WdCancel {
+        id: u32,
+    },
+    /// wdDelete
+    WdDelete {
+        id: u32,
+    },
+    /// intLock
+    IntLock,
+    /// intUnlock: the key is what intLock answered
+    IntUnlock {
+        key: u32,
+    },
+    /// intContext
+    IntContext,
+    /// malloc: this many bytes
+    Malloc {
+        size: u32,
+    },
+    /// free
+    Free {
+        address: u32,
+    },
+    /// memalign: this many bytes at a multiple of the alignment
+    Memalign {
+        align: u32,
+        size: u32,
+    },
+    /// symAdd: the name stands at an address; the group isn't used
+    SymAdd {
+        table: u32,
+        name: u32,
+        value: u32,
+        kind: u32,
+        group: u32,
+    },
+    /// printf: the format stands at an address; the values are the first seven, and the others stand from 8 bytes above the stack pointer on
+    Printf {
+        format: u32,
+        values: [u32; 7],
+        stack: u32,
+    },
+    /// errnoGet
+    ErrnoGet,
+    /// errnoSet
+    ErrnoSet {
+        number: u32,
+    },
+    /// ld: which symbols are added; whether a failure aborts isn't used; the file's name stands at an address
+    Ld {
+        symbols: u32,
+        no_abort: u32,
+        name: u32,
+    },
+    /// unld: a module by its id, or by the address of its name; the options aren't used
+    Unld {
+        which: u32,
+        options: u32,
+    },
+    /// i
+    I,
+    /// lkup: the text stands at an address; 0 means every name
+    Lkup {
+        text: u32,
+    },
+    /// moduleShow
+    ModuleShow,
+    /// d: this many units of a width in bytes from an address on
+    D {
+        address: u32,
+        units: u32,
+        width: u32,
+    },
+}
+
+// The seven words after those in registers.
+fn seven_words(ram: &Ram, pointer: u32) -> Option<[u32; 7]>
+    ensures { result ≡ seven_words_lem ram.now pointer }
+{
+    let a = stack_word(ram, pointer, 0)?;
+    let b = stack_word(ram, pointer, 1)?;
+    let c = stack_word(ram, pointer, 2)?;
+    let d = stack_word(ram, pointer, 3)?;
+    let e = stack_word(ram, pointer, 4)?;
+    let f = stack_word(ram, pointer, 5)?;
+    let g = stack_word(ram, pointer, 6)?;
+    Some([a, b, c, d, e, f, g])
+}
+
+// The two words after those in registers.
+fn two_words(ram: &Ram, pointer: u32) -> Option<[u32; 2]>
+    ensures { result ≡ two_words_lem ram.now pointer }
+{
+    let a = stack_word(ram, pointer, 0)?;
+    let b = stack_word(ram, pointer, 1)?;
+    Some([a, b])
+}
+
+// The ten arguments of a task that taskSpawn makes: three in registers, and seven on the stack.
+fn ten_arguments(ram: &Ram, gpr: &[u32; 32]) -> Option<[u32; 10]>
+    ensures { result ≡ ten_arguments_lem ram.now gpr.now }
+{
+    let [d, e, f, g, h, i, j] = seven_words(ram, gpr[1])?;
+    Some([gpr[8], gpr[9], gpr[10], d, e, f, g, h, i, j])
+}
+
+// The arguments of a task that sp makes: seven in registers, and two on the stack. The tenth is 0.
+fn quick_arguments(ram: &Ram, gpr: &[u32; 32]) -> Option<[u32; 10]>
+    ensures { result ≡ quick_arguments_lem ram.now gpr.now }
+{
+    let [h, i] = two_words(ram, gpr[1])?;
+    Some([
+        gpr[4], gpr[5], gpr[6], gpr[7], gpr[8], gpr[9], gpr[10], h, i, 0,
+    ])
+}
+
+// The first seven values of printf.
+fn seven_values(gpr: &[u32; 32]) -> [u32; 7]
+    ensures { result ≡ seven_values_lem gpr.now }
+{
+    [gpr[4], gpr[5], gpr[6], gpr[7], gpr[8], gpr[9], gpr[10]]
+}
+
+// The call of a gate, from its caller's registers and stack: one line for each gate. None at the gates of returns.
+fn call_of(gate: Gate, ram: &Ram, gpr: &[u32; 32]) -> Option<Call>
+    ensures { result ≡ call_of_lem gate ram.now gpr.now }
+{
+    let (a, b, c, d, e) = (gpr[3], gpr[4], gpr[5], gpr[6], gpr[7]);
+    Some(match gate {
+        Gate::TaskReturn | Gate::ShellReturn | Gate::InterruptReturn => return None,
+        Gate::TaskSpawn => Call::TaskSpawn {
+            name: a,
+            priority: b,
+            options: c,
+            stack_size: d,
+            entry: e,
+            arguments: ten_arguments(ram, gpr),
+        },
+        Gate::Sp => Call::Sp {
+            entry: a,
+            arguments: quick_arguments(ram, gpr),
+        },
+        Gate::TaskDelete => Call::TaskDelete { id: a },
+        Gate::TaskSuspend => Call::TaskSuspend { id: a },
+        Gate::TaskResume => Call::TaskResume { id: a },
+        Gate::TaskPrioritySet => Call::TaskPrioritySet { id: a, priority: b },
+        Gate::TaskPriorityGet => Call::TaskPriorityGet { id: a, address: b },
+        Gate::TaskDelay => Call::TaskDelay { ticks: a },
+        Gate::TaskLock => Call::TaskLock,
+        Gate::TaskUnlock => Call::TaskUnlock,
+        Gate::TaskSafe => Call::TaskSafe,
+        Gate::TaskUnsafe => Call::TaskUnsafe,
+        Gate::TaskIdSelf => Call::TaskIdSelf,
+        Gate::TaskIdVerify => Call::TaskIdVerify { id: a },
+        Gate::TaskNameToId => Call::TaskNameToId { name: a },
+        Gate::KernelTimeSlice => Call::KernelTimeSlice { ticks: a },
+        Gate::TickGet => Call::TickGet,
+        Gate::SemBCreate => Call::SemBCreate {
+            options: a,
+            state: b,
+        },
+        Gate::SemCCreate => Call::SemCCreate {
+            options: a,
+            count: b,
+        },
+        Gate::SemMCreate => Call::SemMCreate { options: a },
+        Gate::SemTake => Call::SemTake { id: a, timeout: b },
+        Gate::SemGive => Call::SemGive { id: a },
+        Gate::SemFlush => Call::SemFlush { id: a },
+        Gate::SemDelete => Call::SemDelete { id: a },
+        Gate::MsgQCreate => Call::MsgQCreate {
+            max_msgs: a,
+            max_length: b,
+            options: c,
+        },
+        Gate::MsgQSend => Call::MsgQSend {
+            id: a,
+            buffer: b,
+            count: c,
+            timeout: d,
+            priority: e,
+        },
+        Gate::MsgQReceive => Call::MsgQReceive {
+            id: a,
+            buffer: b,
+            count: c,
+            timeout: d,
+        },
+        Gate::MsgQDelete => Call::MsgQDelete { id: a },
+        Gate::MsgQNumMsgs => Call::MsgQNumMsgs { id: a },
+        Gate::WdCreate => Call::WdCreate,
+        Gate::WdStart => Call::WdStart {
+            id: a,
+            delay: b,
+            routine: c,
+            parameter: d,
+        },
+        Gate::WdCancel => Call::WdCancel { id: a },
+        Gate::WdDelete => Call::WdDelete { id: a },
+        Gate::IntLock => Call::IntLock,
+        Gate::IntUnlock => Call::IntUnlock { key: a },
+        Gate::IntContext => Call::IntContext,
+        Gate::Malloc => Call::Malloc { size: a },
+        Gate::Free => Call::Free { address: a },
+        Gate::Memalign => Call::Memalign { align: a, size: b },
+        Gate::SymAdd => Call::SymAdd {
+            table: a,
+            name: b,
+            value: c,
+            kind: d,
+            group: e,
+        },
+        Gate::Printf => Call::Printf {
+            format: a,
+            values: seven_values(gpr),
+            stack: gpr[1],
+        },
+        Gate::ErrnoGet => Call::ErrnoGet,
+        Gate::ErrnoSet => Call::ErrnoSet { number: a },
+        Gate::Ld => Call::Ld {
+            symbols: a,
+            no_abort: b,
+            name: c,
+        },
+        Gate::Unld => Call::Unld {
+            which: a,
+            options: b,
+        },
+        Gate::I => Call::I,
+        Gate::Lkup => Call::Lkup { text: a },
+        Gate::ModuleShow => Call::ModuleShow,
+        Gate::D => Call::D {
+            address: a,
+            units: b,
+            width: c,
+        },
+    })
+}
+
+/// The call that a caller makes at a gate. None at the gates of returns.
+pub fn read_call(w: &World, gate: Gate, who: &Actor) -> Option<Call>
+    ensures { result ≡ call_by gate (world_seen ⟦<dyn Device as Device>⟧ w.now) who.now }
+{
+    match regs(&w.kern, &w.watch, who) {
+        Some(regs) => call_of(gate, &w.bus.ram, &regs.gpr),
+        None => call_of(gate, &w.bus.ram, &[0; 32]),
+    }
+}
+
+impl Call {
+    /// The gate of the call.
+    pub fn gate(&self) -> Gate
+        ensures { result ≡ gate_of self.now }
+    {
+        match self {
+            Call::TaskSpawn { .. } => Gate::TaskSpawn,
+            Call::Sp { .. } => Gate::Sp,
+            Call::TaskDelete { .. } => Gate::TaskDelete,
+            Call::TaskSuspend { .. } => Gate::TaskSuspend,
+            Call::TaskResume { .. } => Gate::TaskResume,
+            Call::TaskPrioritySet { .. } => Gate::TaskPrioritySet,
+            Call::TaskPriorityGet { .. } => Gate::TaskPriorityGet,
+            Call::TaskDelay { .. } => Gate::TaskDelay,
+            Call::TaskLock => Gate::TaskLock,
+            Call::TaskUnlock => Gate::TaskUnlock,
+            Call::TaskSafe => Gate::TaskSafe,
+            Call::TaskUnsafe => Gate::TaskUnsafe,
+            Call::TaskIdSelf => Gate::TaskIdSelf,
+            Call::TaskIdVerify { .. } => Gate::TaskIdVerify,
+            Call::TaskNameToId { .. } => Gate::TaskNameToId,
+            Call::KernelTimeSlice { .. } => Gate::KernelTimeSlice,
+            Call::TickGet => Gate::TickGet,
+            Call::SemBCreate { .. } => Gate::SemBCreate,
+            Call::SemCCreate { .. } => Gate::SemCCreate,
+            Call::SemMCreate { .. } => Gate::SemMCreate,
+            Call::SemTake { .. } => Gate::SemTake,
+            Call::SemGive { .. } => Gate::SemGive,
+            Call::SemFlush { .. } => Gate::SemFlush,
+            Call::SemDelete { .. } => Gate::SemDelete,
+            Call::MsgQCreate { .. } => Gate::MsgQCreate,
+            Call::MsgQSend { .. } => Gate::MsgQSend,
+            Call::MsgQReceive { .. } => Gate::MsgQReceive,
+            Call::MsgQDelete { .. } => Gate::MsgQDelete,
+            Call::MsgQNumMsgs { .. } => Gate::MsgQNumMsgs,
+            Call::WdCreate => Gate::WdCreate,
+            Call::WdStart { .. } => Gate::WdStart,
+            Call::WdCancel { .. } => Gate::WdCancel,
+            Call::WdDelete { .. } => Gate::WdDelete,
+            Call::IntLock => Gate::IntLock,
+            Call::IntUnlock { .. } => Gate::IntUnlock,
+            Call::IntContext => Gate::IntContext,
+            Call::Malloc { .. } => Gate::Malloc,
+            Call::Free { .. } => Gate::Free,
+            Call::Memalign { .. } => Gate::Memalign,
+            Call::SymAdd { .. } => Gate::SymAdd,
+            Call::Printf { .. } => Gate::Printf,
+            Call::ErrnoGet => Gate::ErrnoGet,
+            Call::ErrnoSet { .. } => Gate::ErrnoSet,
+            Call::Ld { .. } => Gate::Ld,
+            Call::Unld { .. } => Gate::Unld,
+            Call::I => Gate::I,
+            Call::Lkup { .. } => Gate::Lkup,
+            Call::ModuleShow => Gate::ModuleShow,
+            Call::D { .. } => Gate::D,
+        }
+    }
+}

@@ -1,0 +1,127 @@
+-- The moves of the kernel as one type, and the state after each.
+use Rattle.std.specs.Prelude.{◌≡◌, ℕ, ◌+◌, ◌<◌, ◌≤◌, Bool, List, [], ◌∷◌, Option, None}
+use Rattle.std.specs.List.{fold}
+use Rattle.wind_base.specs.Limits.{greatest_id}
+use Rattle.wind_base.specs.declared.errno.Errno.{Errno}
+use Rattle.wind_base.specs.declared.regs.Regs.{Regs}
+use Rattle.id_table.specs.declared.ident.Place.{Place}
+use Rattle.task_block.specs.declared.task.NewTask.{NewTask}
+use Rattle.wind_core.specs.State.{KernState}
+use Rattle.wind_core.specs.Moves.{spawn, spawn_refusal, remove, pend, delay, release, end_wait, wake_all, suspend, resume, change_pri, reset, set_locks, set_normal, set_safe, set_held, set_errno, set_int_locked, set_again, set_regs, unreserve, leave_gate, answer, refuse}
+use Rattle.wind_core.specs.Releases.{release_all}
+use Rattle.wind_core.specs.Tick.{tick}
+
+-- a move of the kernel, with what it names
+pub data Move : Type 0 where
+  -- a task is made
+  Spawn : (n : NewTask) → Move
+  -- a task goes
+  Remove : (who : ℕ) → Move
+  -- a task begins to wait at a place, for n ticks
+  Pend : (who : ℕ) → (place : Place) → (fifo : Bool) → (n : ℕ) → Move
+  -- a task sleeps for n ticks
+  Delay : (who : ℕ) → (n : ℕ) → Move
+  -- a task's wait or delay ends without an answer
+  Release : (who : ℕ) → Move
+  -- all waits at a place end without an answer
+  ReleaseAll : (place : Place) → Move
+  -- a task's wait or delay ends with an answer
+  EndWait : (who : ℕ) → (value : ℕ) → (errno : Option Errno) → Move
+  -- all waits at a place end with an answer
+  WakeAll : (place : Place) → (value : ℕ) → (errno : Option Errno) → Move
+  -- a tick of the clock
+  Tick : Move
+  -- a task is suspended
+  Suspend : (who : ℕ) → Move
+  -- a task is resumed
+  Resume : (who : ℕ) → Move
+  -- a task's priority changes
+  ChangePri : (who : ℕ) → (pri : ℕ) → Move
+  -- a task loses its marks: suspension, locks, held-back interrupts, a repeated call
+  Reset : (who : ℕ) → Move
+  -- a task has locked the scheduler n times
+  SetLocks : (who : ℕ) → (n : ℕ) → Move
+  -- a task's normal priority changes
+  SetNormal : (who : ℕ) → (pri : ℕ) → Move
+  -- a task is safe from deletion n times
+  SetSafe : (who : ℕ) → (n : ℕ) → Move
+  -- a task holds n inversion-safe mutexes
+  SetHeld : (who : ℕ) → (n : ℕ) → Move
+  -- a task's error number changes
+  SetErrno : (who : ℕ) → (n : ℕ) → Move
+  -- a task holds back interrupts, or no longer
+  SetIntLocked : (who : ℕ) → (on : Bool) → Move
+  -- a task repeats its call when it goes on, or no longer
+  SetAgain : (who : ℕ) → (on : Bool) → Move
+  -- a task's registers change
+  SetRegs : (who : ℕ) → (regs : Regs) → Move
+  -- a task loses its reservation
+  Unreserve : (who : ℕ) → Move
+  -- a task returns from its call
+  LeaveGate : (who : ℕ) → Move
+  -- a task's call is answered
+  Answer : (who : ℕ) → (value : ℕ) → Move
+  -- a task's call is refused
+  Refuse : (who : ℕ) → (e : Errno) → Move
+  -- the task that ran last is noted
+  SetLast : (last : Option ℕ) → Move
+  -- a time slice lasts n ticks
+  SetSlice : (n : ℕ) → Move
+  -- other objects take ids, and this one comes next
+  DrawIds : (next : ℕ) → Move
+  -- the ids are lent to other objects, or given back
+  Lend : (on : Bool) → Move
+
+-- the state after a move
+abbrev pub apply : KernState → Move → KernState
+apply k (Spawn n) = spawn k n
+apply k (Remove who) = remove k who
+apply k (Pend who place fifo n) = pend k who place fifo n
+apply k (Delay who n) = delay k who n
+apply k (Release who) = release k who
+apply k (ReleaseAll place) = release_all k place
+apply k (EndWait who value errno) = end_wait k who value errno
+apply k (WakeAll place value errno) = wake_all k place value errno
+apply k Tick = tick k
+apply k (Suspend who) = suspend k who
+apply k (Resume who) = resume k who
+apply k (ChangePri who pri) = change_pri k who pri
+apply k (Reset who) = reset k who
+apply k (SetLocks who n) = set_locks k who n
+apply k (SetNormal who pri) = set_normal k who pri
+apply k (SetSafe who n) = set_safe k who n
+apply k (SetHeld who n) = set_held k who n
+apply k (SetErrno who n) = set_errno k who n
+apply k (SetIntLocked who on) = set_int_locked k who on
+apply k (SetAgain who on) = set_again k who on
+apply k (SetRegs who regs) = set_regs k who regs
+apply k (Unreserve who) = unreserve k who
+apply k (LeaveGate who) = leave_gate k who
+apply k (Answer who value) = answer k who value
+apply k (Refuse who e) = refuse k who e
+apply k (SetLast last) = record k { last = last }
+apply k (SetSlice n) = record k { slice = n }
+apply k (DrawIds next) = record k { next_id = next }
+apply k (Lend on) = record k { lent = on }
+
+-- a move requires this: a spawn that isn't refused, a wait that lasts, ids that rise within their range
+abbrev pub IsAllowed : KernState → Move → Type 0
+IsAllowed k (Spawn n) = spawn_refusal k ≡ None
+IsAllowed k (Pend who place fifo n) = 0 < n
+IsAllowed k (DrawIds next) = (k.next_id ≤ next) × (next ≤ greatest_id + 1)
+IsAllowed k m = Unit {0}
+
+-- the next id doesn't fall
+abbrev pub IsRising : KernState → Move → Type 0
+IsRising k (DrawIds next) = k.next_id ≤ next
+IsRising k m = Unit {0}
+
+-- ---- several moves
+-- the state after these moves, one after the other
+abbrev pub after : KernState → List Move → KernState
+after k ms = fold apply k ms
+
+-- each of these moves has a property at the state in which it is made
+abbrev pub EachMove : (KernState → Move → Type 0) → KernState → List Move → Type 0
+EachMove P k [] = Unit {0}
+EachMove P k (m ∷ ms) = P k m × EachMove P (apply k m) ms

@@ -1,0 +1,42 @@
+-- What was asked of a folder and of a sink, in order, where they tell it; what is untold stays untold.
+use Rattle.std.specs.Prelude.{ℕ, List, [], ◌∷◌, ◌++◌, Option}
+use Rattle.std.specs.Option.{option_map}
+use Rattle.wind_outside.specs.declared.folder.Fetched.{Fetched}
+use Rattle.wind_outside.specs.declared.folder.Fetched.TheVariants as fetched
+use Rattle.wind_outside.specs.declared.sink.Put.{Put}
+
+-- how a fetch ended, whatever the file holds
+pub data Outcome : Type 0 where
+  Found : Outcome
+  Missing : Outcome
+  TooLong : Outcome
+  Failed : Outcome
+  NoMemory : Outcome
+
+abbrev pub outcome_of : Fetched → Outcome
+outcome_of (fetched.Found bytes) = Found
+outcome_of fetched.Missing = Missing
+outcome_of fetched.TooLong = TooLong
+outcome_of fetched.Failed = Failed
+outcome_of fetched.NoMemory = NoMemory
+
+-- a fetch: the name of the file, the limit, and how it ended
+pub record Request : Type 0 where
+  pub name : List ℕ
+  pub limit : ℕ
+  pub outcome : Outcome
+
+abbrev pub request_of : List ℕ → ℕ → Fetched → Request
+request_of name limit answer = record { name = name; limit = limit; outcome = outcome_of answer }
+
+-- a put: the bytes, and how it ended
+pub record Piece : Type 0 where
+  pub bytes : List ℕ
+  pub outcome : Put
+
+abbrev pub piece_of : List ℕ → Put → Piece
+piece_of bytes outcome = record { bytes = bytes; outcome = outcome }
+
+-- what is told, with one more at the end
+abbrev pub then : {X : Type 0} → Option (List X) → X → Option (List X)
+then told x = option_map (λ xs. xs ++ x ∷ []) told

@@ -1,0 +1,153 @@
+-- Lists that are told, and the requests of files.
+use Rattle.std.proofs.Common.{◌≡◌, ◌≢◌, ℕ, zero, suc, ◌+◌, ◌<◌, ◌≤◌, List, [], ◌∷◌, ◌++◌, Option, Some, None, true, false, cond, inl, inr, refl, sym, ap, subst, ◌∙◌, arith, append_assoc}
+use Rattle.std.specs.Option.{option_map}
+use Rattle.std.specs.Str.{IsUtf8, is_utf8}
+use Rattle.std.proofs.lemmas.List.{append-nil}
+use Rattle.std.proofs.lemmas.Str.{IsUtf8-from_is_utf8, is_utf8-from_IsUtf8}
+use Rattle.wind_base.specs.Limits.{longest_module_file}
+use Rattle.wind_outside.specs.Requests.{Request, Outcome}
+use Rattle.wind_outside.specs.Requests as outcomes
+use Rattle.live_loading.specs.Said.{FileSaid, Held, Missing, TooLong}
+use Rattle.wind_machine.specs.State.{State}
+use Rattle.wind_machine.specs.Machine.{file_asked}
+use Rattle.wind_machine.specs.Run.{Answers, after}
+use Rattle.wind_session.specs.Command.{CommandState}
+use Rattle.wind_session.specs.Modules.{module_path}
+use Rattle.wind_session.specs.Fetches.{GrowsBy, LeadsTo, IsAfterFiles, EndsWithFiles, EndsWithRounds, EndsWithInputs, Stops, file_requests, module_request, outcome_said, requests_of, rounds_requests, step_request, text_request}
+use Rattle.wind_session.specs.declared.run.RunEnd.TheVariants as ends
+use Rattle.wind_session.specs.declared.ending.Status.{Status}
+use Rattle.wind_session.specs.declared.ending.Status.TheVariants as status
+use Rattle.wind_session.specs.declared.ending.Which.{Which}
+use Rattle.wind_session.specs.declared.ending.Which.TheVariants as which
+
+module _ {X : Type 0} where
+  -- a list grows twice
+  pub grows_both : (old mid new : Option (List X)) (a b : List X) → GrowsBy old mid a → GrowsBy mid new b → GrowsBy old new (a ++ b)
+  grows_both None mid new a b p q = q ∙ ap (option_map (λ xs. xs ++ b)) p
+  grows_both (Some x) mid new a b p q = q ∙ ap (option_map (λ xs. xs ++ b)) p ∙ ap Some (append_assoc x a b)
+
+  -- it grows by nothing if it stays as it is
+  pub grows_none : (old : Option (List X)) → GrowsBy old old []
+  grows_none None = refl
+  grows_none (Some x) = ap Some (sym (append-nil x))
+
+  pub grows_same : (old new : Option (List X)) → new ≡ old → GrowsBy old new []
+  grows_same old new same = same ∙ grows_none old
+
+  pub same_grown : (old new : Option (List X)) → GrowsBy old new [] → new ≡ old
+  same_grown old new grown = grown ∙ sym (grows_none old)
+
+-- ---- the request for a module
+-- the request at the path of a module
+abbrev pub path_request : List ℕ → Outcome → Request
+path_request path o = record { name = path; limit = longest_module_file; outcome = o }
+
+-- its name is a text, and it isn't
+pub text_module : (folder name : List ℕ) (o : Outcome) → IsUtf8 name → module_request folder name o ≡ path_request (module_path folder name) o ∷ []
+text_module folder name o text = ap (λ b. cond b (path_request (module_path folder name) o ∷ []) []) (is_utf8-from_IsUtf8 name text)
+
+pub no_text_module : (folder name : List ℕ) (o : Outcome) → (IsUtf8 name → ⊥) → module_request folder name o ≡ []
+no_text_module folder name o none =
+    elim (is_utf8 name) as (λ b. is_utf8 name ≡ b → cond b (path_request (module_path folder name) o ∷ []) [] ≡ []) [
+      | true ↦ λ e. absurd (none (IsUtf8-from_is_utf8 name e))
+      | false ↦ λ e. refl
+    ] refl
+
+-- a fetch that says something of a file didn't fail
+pub said_fine : (x : FileSaid) → outcome_said x ≢ outcomes.Failed
+said_fine (Held bytes) = λ e. cc
+said_fine Missing = λ e. cc
+said_fine TooLong = λ e. cc
+
+module _ (folder name : List ℕ) (old new : Option (List Request)) where
+  -- the request is that of a name that is a text
+  pub requested : (o : Outcome) → IsUtf8 name → GrowsBy old new (path_request (module_path folder name) o ∷ []) → GrowsBy old new (module_request folder name o)
+  requested o text grown = subst (GrowsBy old new) (sym (text_module folder name o text)) grown
+
+  -- it failed
+  pub stops_unread : IsUtf8 name → GrowsBy old new (path_request (module_path folder name) outcomes.Failed ∷ []) → Stops ends.ReadFault folder (Some name) old new
+  stops_unread text grown = record {
+    last = path_request (module_path folder name) outcomes.Failed ∷ [];
+    last_is = (sym (text_module folder name outcomes.Failed text), λ e. cc);
+    requests = grown;
+  }
+
+-- memory ran out without a request, and after one
+pub stops_before : (folder : List ℕ) (asked : Option (List ℕ)) (old new : Option (List Request)) → new ≡ old → Stops ends.NoMemory folder asked old new
+stops_before folder asked old new same = record { last = []; last_is = (outcomes.NoMemory, λ e. cc, inl refl); requests = grows_same old new same }
+
+pub stops_after : (folder : List ℕ) (asked : Option (List ℕ)) (o : Outcome) (old new : Option (List Request)) → o ≢ outcomes.Failed → GrowsBy old new (step_request folder asked o) → Stops ends.NoMemory folder asked old new
+stops_after folder asked o old new fine grown = record { last = step_request folder asked o; last_is = (o, fine, inr refl); requests = grown }
+
+-- there is no further step
+pub stops_quiet : (folder : List ℕ) (asked : Option (List ℕ)) (old new : Option (List Request)) → new ≡ old → Stops ends.Quiet folder asked old new
+stops_quiet folder asked old new same = record { last = []; last_is = refl; requests = grows_same old new same }
+
+-- steps that ask for no file add no request
+pub unasked_requests : (folder : List ℕ) (said : Answers) (s : State) (i k : ℕ) → ((j : ℕ) → i ≤ j → j < i + k → file_asked (after said s j) ≡ None) → requests_of folder said s (i + k) ≡ requests_of folder said s i
+unasked_requests folder said s i zero unasked = let here : i + 0 ≡ i = omega arith in ap (requests_of folder said s) here
+unasked_requests folder said s i (suc k) unasked =
+    let n = i + k in
+    let end : i + suc k ≡ suc n = omega arith in
+    ap (requests_of folder said s) end
+    ∙ ap (λ o. requests_of folder said s n ++ step_request folder o (outcome_said (said n))) (unasked n (omega arith) (omega arith))
+    ∙ append-nil (requests_of folder said s n)
+    ∙ unasked_requests folder said s i k (λ j least below. unasked j least (omega (arith, below)))
+
+-- ---- a session without a run
+-- memory ran out before the first request
+pub rounds_unread : (n : ℕ) (c : CommandState) (old : Option (List Request)) → EndsWithRounds n c status.NoMemory old old
+rounds_unread zero c old = inr (refl, refl)
+rounds_unread (suc n) c old = refl
+
+pub inputs_unread : (command : Option CommandState) (old : Option (List Request)) → EndsWithInputs command status.NoMemory old old
+inputs_unread None old = refl
+inputs_unread (Some c) old = rounds_unread c.generate c old
+
+-- and after both files were found
+pub rounds_found : (n : ℕ) (c : CommandState) (old new : Option (List Request)) → GrowsBy old new (rounds_requests n c) → EndsWithRounds n c status.NoMemory old new
+rounds_found zero c old new grown = inl (record { console = outcomes.Found; ticks = outcomes.Found; requests = grown; status_is = tt })
+rounds_found (suc n) c old new grown = same_grown old new grown
+
+-- with no rounds, the files of a command were fetched
+pub rounds_files : (n : ℕ) (c : CommandState) (s : Status) (old new : Option (List Request)) → n ≡ 0 → EndsWithFiles c s old new → EndsWithRounds n c s old new
+rounds_files n c s old new none h = subst (λ m. EndsWithRounds m c s old new) (sym none) (inl h)
+
+-- and else none
+pub rounds_none : (n : ℕ) (c : CommandState) (old : Option (List Request)) → n ≢ 0 → GrowsBy old old (rounds_requests n c)
+rounds_none zero c old some = absurd (some refl)
+rounds_none (suc n) c old some = grows_none old
+
+-- ---- the two files of a command
+-- the console file is not found
+pub console_unfound : (c : CommandState) (s : Status) (old new : Option (List Request)) (o : Outcome) → LeadsTo which.Console o s ⊥ → GrowsBy old new (text_request c.console o ∷ []) → EndsWithFiles c s old new
+console_unfound c s old new outcomes.Found leads grown = absurd leads
+console_unfound c s old new outcomes.Missing leads grown = record { console = outcomes.Missing; ticks = outcomes.Missing; requests = grown; status_is = leads }
+console_unfound c s old new outcomes.TooLong leads grown = record { console = outcomes.TooLong; ticks = outcomes.Missing; requests = grown; status_is = leads }
+console_unfound c s old new outcomes.Failed leads grown = record { console = outcomes.Failed; ticks = outcomes.Missing; requests = grown; status_is = leads }
+console_unfound c s old new outcomes.NoMemory leads grown = record { console = outcomes.NoMemory; ticks = outcomes.Missing; requests = grown; status_is = leads }
+
+leads_on : (file : Which) (o : Outcome) (s : Status) (follows : Type 0) → LeadsTo file o s ⊥ → LeadsTo file o s follows
+leads_on file outcomes.Found s follows leads = absurd leads
+leads_on file outcomes.Missing s follows leads = leads
+leads_on file outcomes.TooLong s follows leads = leads
+leads_on file outcomes.Failed s follows leads = leads
+leads_on file outcomes.NoMemory s follows leads = leads
+
+module _ (c : CommandState) (old mid new : Option (List Request)) (first : GrowsBy old mid (text_request c.console outcomes.Found ∷ [])) where
+  -- the tick file is not found
+  pub ticks_unfound : (s : Status) (o : Outcome) → LeadsTo which.Ticks o s ⊥ → GrowsBy mid new (text_request c.ticks o ∷ []) → EndsWithFiles c s old new
+  ticks_unfound s o leads grown = record {
+    console = outcomes.Found;
+    ticks = o;
+    requests = grows_both old mid new (text_request c.console outcomes.Found ∷ []) (text_request c.ticks o ∷ []) first grown;
+    status_is = leads_on which.Ticks o s (IsAfterFiles s) leads;
+  }
+
+  -- both are found
+  pub both_found : GrowsBy mid new (text_request c.ticks outcomes.Found ∷ []) → GrowsBy old new (file_requests c outcomes.Found outcomes.Found)
+  both_found grown = grows_both old mid new (text_request c.console outcomes.Found ∷ []) (text_request c.ticks outcomes.Found ∷ []) first grown
+
+  -- and not played
+  pub both_unplayed : (s : Status) → IsAfterFiles s → GrowsBy mid new (text_request c.ticks outcomes.Found ∷ []) → EndsWithFiles c s old new
+  both_unplayed s unplayed grown = record { console = outcomes.Found; ticks = outcomes.Found; requests = both_found grown; status_is = unplayed }

@@ -1,0 +1,119 @@
+-- Which files a session fetches, in which order, and how each fetch ends. A folder that doesn't tell its requests leaves all of this open.
+use Rattle.std.specs.Prelude.{◌≡◌, ◌≢◌, ◌⊎◌, ℕ, zero, suc, List, [], ◌∷◌, ◌++◌, Option, None, Some, if◌then◌else◌}
+use Rattle.std.specs.Option.{option_map}
+use Rattle.std.specs.Str.{is_utf8}
+use Rattle.wind_base.specs.Limits.{longest_module_file, longest_text_file}
+use Rattle.wind_outside.specs.Requests.{Request, Outcome}
+use Rattle.wind_outside.specs.Requests as outcomes
+use Rattle.live_loading.specs.Said.{FileSaid, Held, Missing, TooLong}
+use Rattle.wind_machine.specs.State.{State}
+use Rattle.wind_machine.specs.Machine.{file_asked}
+use Rattle.wind_machine.specs.Run.{Answers, after}
+use Rattle.wind_session.specs.Command.{CommandState}
+use Rattle.wind_session.specs.Modules.{module_path}
+use Rattle.wind_session.specs.declared.run.RunEnd.{RunEnd}
+use Rattle.wind_session.specs.declared.run.RunEnd.TheVariants as ends
+use Rattle.wind_session.specs.declared.ending.Status.{Status}
+use Rattle.wind_session.specs.declared.ending.Status.TheVariants as status
+use Rattle.wind_session.specs.declared.ending.Which.{Which}
+use Rattle.wind_session.specs.declared.ending.Which.TheVariants as which
+
+-- a list that is told has these more at its end
+abbrev pub GrowsBy : {X : Type 0} → Option (List X) → Option (List X) → List X → Type 0
+GrowsBy old new more = new ≡ option_map (λ xs. xs ++ more) old
+
+-- ---- the two files of a command
+-- the request for a text file
+abbrev pub text_request : List ℕ → Outcome → Request
+text_request name outcome = record { name = name; limit = longest_text_file; outcome = outcome }
+
+-- the request for the console file and, only if that was found, the one for the tick file; the outcomes are those of the two fetches
+abbrev pub file_requests : CommandState → Outcome → Outcome → List Request
+file_requests c outcomes.Found ticks = text_request c.console outcomes.Found ∷ text_request c.ticks ticks ∷ []
+file_requests c outcomes.Missing ticks = text_request c.console outcomes.Missing ∷ []
+file_requests c outcomes.TooLong ticks = text_request c.console outcomes.TooLong ∷ []
+file_requests c outcomes.Failed ticks = text_request c.console outcomes.Failed ∷ []
+file_requests c outcomes.NoMemory ticks = text_request c.console outcomes.NoMemory ∷ []
+
+-- with no rounds the two files are fetched, and both are found; for a generated session no file is fetched
+abbrev pub rounds_requests : ℕ → CommandState → List Request
+rounds_requests zero c = file_requests c outcomes.Found outcomes.Found
+rounds_requests (suc n) c = []
+
+-- the requests before a run
+abbrev pub inputs_requests : Option CommandState → List Request
+inputs_requests None = []
+inputs_requests (Some c) = rounds_requests c.generate c
+
+-- the status to which the fetch of a file leads; if it found the file, what follows decides
+abbrev pub LeadsTo : Which → Outcome → Status → Type 0 → Type 0
+LeadsTo file outcomes.Found s follows = follows
+LeadsTo file outcomes.Missing s follows = s ≡ status.Absent file
+LeadsTo file outcomes.TooLong s follows = s ≡ status.TooLong file
+LeadsTo file outcomes.Failed s follows = s ≡ status.ReadFault
+LeadsTo file outcomes.NoMemory s follows = s ≡ status.NoMemory
+
+-- a status without a run though both files were found: a line of the tick file is outside its grammar, or memory ran out
+abbrev pub IsAfterFiles : Status → Type 0
+IsAfterFiles (status.BadTicks line) = Unit {0}
+IsAfterFiles status.NoMemory = Unit {0}
+IsAfterFiles s = ⊥
+
+-- the two files were fetched, and the session ended with this status without a run
+pub record EndsWithFiles (c : CommandState) (s : Status) (old new : Option (List Request)) : Type 0 where
+  pub console : Outcome
+  pub ticks : Outcome
+  pub requests : GrowsBy old new (file_requests c console ticks)
+  pub status_is : LeadsTo which.Console console s (LeadsTo which.Ticks ticks s (IsAfterFiles s))
+
+-- the requests of a session without a run; if memory runs out before the first, and for a generated session, there is none
+abbrev pub EndsWithRounds : ℕ → CommandState → Status → Option (List Request) → Option (List Request) → Type 0
+EndsWithRounds zero c s old new = EndsWithFiles c s old new ⊎ ((s ≡ status.NoMemory) × (new ≡ old))
+EndsWithRounds (suc n) c s old new = new ≡ old
+
+-- for words that are no command there is none
+abbrev pub EndsWithInputs : Option CommandState → Status → Option (List Request) → Option (List Request) → Type 0
+EndsWithInputs None s old new = new ≡ old
+EndsWithInputs (Some c) s old new = EndsWithRounds c.generate c s old new
+
+-- ---- the modules of a run
+-- how the fetch of a file ended, of which the machine is told this
+abbrev pub outcome_said : FileSaid → Outcome
+outcome_said (Held bytes) = outcomes.Found
+outcome_said Missing = outcomes.Missing
+outcome_said TooLong = outcomes.TooLong
+
+-- the request for a module, at its path in the folder of modules; for a name that is not UTF-8 there is none
+abbrev pub module_request : List ℕ → List ℕ → Outcome → List Request
+module_request folder name outcome =
+    if is_utf8 name then record { name = module_path folder name; limit = longest_module_file; outcome = outcome } ∷ [] else []
+
+-- the request of a step that asks for this file; if it asks for none, there is none
+abbrev pub step_request : List ℕ → Option (List ℕ) → Outcome → List Request
+step_request folder None outcome = []
+step_request folder (Some name) outcome = module_request folder name outcome
+
+-- the requests of the first k steps from s, in the order of the steps
+abbrev pub requests_of : List ℕ → Answers → State → ℕ → List Request
+requests_of folder said s zero = []
+requests_of folder said s (suc k) = requests_of folder said s k ++ step_request folder (file_asked (after said s k)) (outcome_said (said k))
+
+-- the request at which a run ends, if its next step asks for this file: one that failed; or, if memory ran out, none or one that didn't fail; otherwise none
+abbrev pub IsLastRequest : RunEnd → List ℕ → Option (List ℕ) → List Request → Type 0
+IsLastRequest ends.ReadFault folder asked last = (last ≡ step_request folder asked outcomes.Failed) × (last ≢ [])
+IsLastRequest ends.NoMemory folder asked last = (outcome : Outcome) × (outcome ≢ outcomes.Failed) × ((last ≡ []) ⊎ (last ≡ step_request folder asked outcome))
+IsLastRequest ends.Quiet folder asked last = last ≡ []
+IsLastRequest ends.Limit folder asked last = last ≡ []
+IsLastRequest ends.WriteFault folder asked last = last ≡ []
+
+-- what the step at which a run ends adds to the requests
+pub record Stops (end : RunEnd) (folder : List ℕ) (asked : Option (List ℕ)) (old new : Option (List Request)) : Type 0 where
+  pub last : List Request
+  pub last_is : IsLastRequest end folder asked last
+  pub requests : GrowsBy old new last
+
+-- the requests of a run that ended so after k steps: those of its steps, and the one at which it ended
+pub record Requests (end : RunEnd) (folder : List ℕ) (said : Answers) (s : State) (k : ℕ) (old new : Option (List Request)) : Type 0 where
+  pub last : List Request
+  pub last_is : IsLastRequest end folder (file_asked (after said s k)) last
+  pub requests : GrowsBy old new (requests_of folder said s k ++ last)

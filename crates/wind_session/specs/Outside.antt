@@ -1,0 +1,19 @@
+-- What the folder and the sink of a session tell.
+use Rattle.std.specs.Prelude.{ℕ, List, ◌++◌, Option}
+use Rattle.std.specs.Option.{option_map}
+use Rattle.wind_outside.specs.Requests.{Request, Piece}
+use Rattle.wind_session.specs.Command.{CommandState}
+use Rattle.wind_session.specs.Fetches.{inputs_requests}
+
+-- the requests of the folder; the bytes of the sink and the pieces that were put
+pub record Outside : Type 0 where
+  pub requests : Option (List Request)
+  pub bytes : Option (List ℕ)
+  pub pieces : Option (List Piece)
+
+abbrev pub outside : Option (List Request) → Option (List ℕ) → Option (List Piece) → Outside
+outside requests bytes pieces = record { requests = requests; bytes = bytes; pieces = pieces }
+
+-- the same when the files of a command were found
+abbrev pub with_inputs : Option CommandState → Outside → Outside
+with_inputs command told = record told { requests = option_map (λ xs. xs ++ inputs_requests command) told.requests }
