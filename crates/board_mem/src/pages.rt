@@ -59,9 +59,7 @@ impl Pages {
         let Ok(index) = vec![in alloc; 0; count] else {
             return Err(NoMemory);
         };
-        let Ok(mut store) = Vec::with_capacity(alloc, count * PAGE + PAGE) else {
-            return Err(NoMemory);
-        };
+        let mut store = Vec::with_capacity(alloc, count * PAGE + PAGE)?;
         let Ok(()) = store.resize(PAGE, 0) else {
             return Err(NoMemory);
         };

@@ -8,7 +8,7 @@ use Rattle.wind_lists.proofs.Places.{not_there}
 use Rattle.kernel_world.specs.Kept.{ReservedBy}
 use Rattle.wind_machine.specs.Reserving.{drop_others, drop_all}
 use Rattle.wind_machine.proofs.Reserving.{last_own, last_other, last_none, all_none, all_last}
-use Rattle.board_turns.specs.Turns.{if_live, last_live, if_other, other_holder, without}
+use Rattle.board_turns.specs.Turns.{if_live, if_other, other_holder, without}
 
 -- nothing changes for a task that doesn't live
 not_live : (ts : List Task) (who : ℕ) → is_some (task_of ts who) ≡ false → change task_id ts who unreserved ≡ ts
@@ -17,7 +17,7 @@ not_live ts who e = not_there task_id ts who unreserved (elim (task_of ts who) a
 pub not_own : (k : KernState) (who : ℕ) → is_some (task_of k.tasks who) ≡ false → unreserve k who ≡ k
 not_own k who e = ap (λ ts. record k { tasks = ts }) (not_live k.tasks who e)
 
-pub dropped_all : (k : KernState) → ReservedBy k.last k → without k (last_live k) ≡ drop_all k
+pub dropped_all : (k : KernState) → ReservedBy k.last k → without k (if_live k.tasks k.last) ≡ drop_all k
 dropped_all k h = by_last k.last h where
   live : (last : ℕ) → ReservedBy (Some last) k → (b : Bool) → is_some (task_of k.tasks last) ≡ b → without k (cond b (Some last) None) ≡ drop_all k
   live last r true e = sym (ap (λ ts. record k { tasks = ts }) (all_last k.tasks last r))

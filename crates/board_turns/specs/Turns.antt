@@ -9,19 +9,17 @@ use Rattle.kernel_world.specs.State.{WorldState}
 use Rattle.kernel_world.specs.Kept.{IsWorld, IsEarly}
 use Rattle.wind_machine.specs.Processor.{regs_of}
 
--- the task that ran last, where it still lives
+-- a task, if there is one and it lives
 abbrev pub if_live : List Task → Option ℕ → Option ℕ
 if_live ts None = None
 if_live ts (Some last) = if is_some (task_of ts last) then Some last else None
 
-abbrev pub last_live : KernState → Option ℕ
-last_live k = if_live k.tasks k.last
-
--- the same, where that is another one
+-- a task, if it is another than this one
 abbrev pub if_other : ℕ → Option ℕ → Option ℕ
 if_other who None = None
 if_other who (Some last) = if last == who then None else Some last
 
+-- the task that ran last, if it is another than this one and lives
 abbrev pub other_holder : KernState → ℕ → Option ℕ
 other_holder k who = if_live k.tasks (if_other who k.last)
 

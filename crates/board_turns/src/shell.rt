@@ -20,12 +20,13 @@ ghost use Rattle.wind_machine.specs.declared.phase.Phase.TheVariants as phases;
 ghost use Rattle.wind_machine.specs.Shell.{at_prompt, prompted, is_nothing as is_nothing_lem, begun_tree, begun, shell_read, read_text, shell_with, fill_first, returned, eval_state, with_eval, eval_part};
 
 use crate::task::begin_call;
-use crate::text::{add_fault, add_syntax, add_value};
+use crate::text::{add_fault, add_syntax};
 use kernel_world::World;
 use shell_eval::{Env, Eval, Went, evaluation_law};
 use shell_parse::{ParseErr, Stmt, parse};
 use std::alloc::Global;
 use std::marker::Model;
+use text_show::value_line;
 use wind_base::{NoMemory, OutBuf};
 use wind_machine::Phase;
 use wind_outside::Device;
@@ -170,7 +171,7 @@ impl Shell {
         };
         match go(eval, world)? {
             Went::Value(value) => {
-                add_value(&mut world.out, value);
+                value_line(value, &mut world.out);
                 self.current = None;
                 self.phase = phase_of(&self.stmts);
             }

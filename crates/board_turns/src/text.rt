@@ -2,36 +2,13 @@
 
 ghost use Rattle.std.specs.Prelude.{◌≡◌, ◌+◌, ◌*◌, ◌≤◌, length};
 ghost use Rattle.wind_base.specs.OutBuf.{Added};
-ghost use Rattle.wind_machine.specs.Text.{character_text, value_text, syntax_text, last_digits, eight_digits, fault_text, kind_text as kind_text_lem, cause_text, place_text, exception_text, level_text, routine_text};
+ghost use Rattle.wind_machine.specs.Text.{syntax_text, last_digits, eight_digits, fault_text, kind_text as kind_text_lem, cause_text, place_text, exception_text, level_text, routine_text};
 ghost use Rattle.shell_eval.specs.declared.fault.EvalFault.TheVariants as faults;
 
 use ppc_core::Trap;
 use shell_eval::EvalFault;
-use wind_base::text::{add, add_decimal, add_hex, add_signed};
+use wind_base::text::{add, add_decimal, add_hex};
 use wind_base::{Name, OutBuf, ShortName};
-
-// Adds the character of a word that is a printable one of ASCII.
-fn add_character(out: &mut OutBuf, v: u32)
-    requires { 6 ≤ out.old.room }
-    ensures { Added 6 out.old out.new (character_text v) }
-{
-    if 32 <= v && v <= 126 {
-        add(out, &[b' ', b'=', b' ', b'\'', v as u8, b'\'']);
-    }
-}
-
-/// Adds the line that tells a value.
-pub(crate) fn add_value(out: &mut OutBuf, v: u32)
-    requires { 64 ≤ out.old.room }
-    ensures { Added 64 out.old out.new (value_text v) }
-{
-    add(out, b"value = ");
-    add_signed(out, v);
-    add(out, b" = 0x");
-    add_hex(out, v);
-    add_character(out, v);
-    add(out, b"\n");
-}
 
 /// Adds the line that tells the column of a syntax error.
 pub(crate) fn add_syntax(out: &mut OutBuf, column: u32)

@@ -57,9 +57,7 @@ impl Console {
     pub fn new(alloc: Global) -> Result<Console, NoMemory>
         ensures { IfOk result (λ c. c ≡ opening_console) }
     {
-        let Ok(finished) = Finished::new(alloc) else {
-            return Err(NoMemory);
-        };
+        let finished = Finished::new(alloc)?;
         Ok(Console {
             edited: ArrayVec::new(),
             after_return: false,

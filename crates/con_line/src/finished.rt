@@ -32,9 +32,7 @@ impl Finished {
     pub(crate) fn new(alloc: Global) -> Result<Finished, NoMemory>
         ensures { IfOk result (λ f. f ≡ []) }
     {
-        let Ok(ring) = HeapCircularBuffer::with_capacity(alloc, KEPT_BYTES) else {
-            return Err(NoMemory);
-        };
+        let ring = HeapCircularBuffer::with_capacity(alloc, KEPT_BYTES)?;
         Ok(Finished { ring })
     }
 

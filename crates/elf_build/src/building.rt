@@ -112,8 +112,6 @@ pub fn build(alloc: Global, m: &Module) -> Result<Vec<u8>, NoMemory>
     ensures file { IfOk result (λ v. v.items ≡ file_of m.now) }
     ensures read_back { IfOk result (λ v. ModuleOf v.items m.now) }
 {
-    let Ok(file) = put_file(alloc, m) else {
-        return Err(NoMemory);
-    };
+    let file = put_file(alloc, m)?;
     Ok(file)
 }

@@ -4,7 +4,7 @@ use Rattle.std.specs.Prelude.{slice_get}
 use Rattle.elf_read.specs.declared.error.ElfErr.{ElfErr}
 use Rattle.elf_read.specs.Rule.{Rule, ◌and_then◌, each, first_of}
 use Rattle.elf_read.specs.Rules.{rules_of, checked}
-use Rattle.elf_read.specs.First.{IsFirst, FirstFails, EachFails, RefusedFirst}
+use Rattle.elf_read.specs.First.{IsFirst, EachFails, RefusedFirst}
 
 before_more : (rs : List Rule) (n : ℕ) → ((i : ℕ) → i < n → slice_get rs i ≡ Some (Ok tt)) → (i : ℕ) → i < suc n → slice_get (Ok tt ∷ rs) i ≡ Some (Ok tt)
 before_more rs n h zero l = refl
@@ -17,7 +17,7 @@ in_front (Ok tt') rs e more h =
     let m = more h in
     record { number = suc m.number; fails = m.fails; before = before_more rs m.number m.before }
 
-pub first_fails : FirstFails
+first_fails : (rules : List Rule) (e : ElfErr) → first_of rules ≡ Err e → IsFirst rules e
 first_fails [] e h = cc
 first_fails (r ∷ rs) e h = in_front r rs e (first_fails rs e) h
 

@@ -3,7 +3,7 @@ use Rattle.std.specs.Prelude.{◌≡◌, ◌⊎◌, ℕ, ◌<◌, List, Ok, Err,
 use Rattle.elf_read.specs.declared.error.ElfErr.{ElfErr}
 use Rattle.elf_read.specs.declared.error.ElfErr.TheVariants.{NoMemory}
 use Rattle.elf_read.specs.declared.module.Module.{Module}
-use Rattle.elf_read.specs.Rule.{Rule, each, first_of}
+use Rattle.elf_read.specs.Rule.{Rule, each}
 use Rattle.elf_read.specs.Rules.{rules_of, Refused}
 use Rattle.elf_read.specs.Contents.{ModuleOf}
 
@@ -12,9 +12,6 @@ pub record IsFirst (rules : List Rule) (e : ElfErr) : Type 0 where
   pub number : ℕ
   pub fails : slice_get rules number ≡ Some (Err e)
   pub before : (i : ℕ) → i < number → slice_get rules i ≡ Some (Ok tt)
-
-abbrev pub FirstFails : Type 0
-FirstFails = (rules : List Rule) (e : ElfErr) → first_of rules ≡ Err e → IsFirst rules e
 
 -- a file is refused by the first of its rules that fails
 abbrev pub RefusedFirst : Type 0

@@ -137,9 +137,7 @@ pub fn fill(alloc: Global, bytes: &[u8], outline: Outline) -> Result<Module, NoM
     requires { outline ≡ outline_of (module_at bytes.now) }
     ensures { IfOk result (λ m. m ≡ module_at bytes.now) }
 {
-    let Ok(numbers) = section_numbers(alloc, bytes) else {
-        return Err(NoMemory);
-    };
+    let numbers = section_numbers(alloc, bytes)?;
     match complete(alloc, bytes, &numbers, outline.symbols) {
         Ok(m) => Ok(m),
         Err(_) => Err(NoMemory),

@@ -72,9 +72,7 @@ pub fn schedule_of(alloc: Global, rounds: u32) -> Result<Schedule, NoMemory>
     requires { rounds ≤ most_rounds }
     ensures { IfOk result (λ schedule. schedule ≡ timetable_of (generated_ticks rounds)) }
 {
-    let Ok(text) = ticks_of(alloc, rounds) else {
-        return Err(NoMemory);
-    };
+    let text = ticks_of(alloc, rounds)?;
     grammar_law();
     match read_ticks(alloc, text.as_bytes()) {
         Ok(schedule) => Ok(schedule),

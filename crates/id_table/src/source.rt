@@ -1,25 +1,29 @@
 //! Where ids come from.
 
-ghost use Rattle.std.specs.Prelude.{◌≡◌, ◌<◌, ◌≤◌, ◌+◌, ◌-◌, SomeIff, nat_le, if◌then◌else◌};
+ghost use Rattle.std.specs.Prelude.{◌≡◌, ◌<◌, ◌≤◌, ◌+◌, ◌-◌, true, false, SomeIff, nat_le, if◌then◌else◌};
 ghost use Rattle.wind_base.specs.Limits.{greatest_id};
+ghost use Rattle.id_table.specs.Source.{one_given};
 
 use crate::ident::Ident;
 use std::marker::Model;
 use wind_base::limits::IDS;
 
-/// The ids that were not given yet. They are given in order, each once; seen as the next of them.
+/// The ids that were not given yet. They are given in order, each once; seen as the next of them, and whether
+/// they are lent to another source.
 #[derive(Drop)]
 pub struct IdSource {
     next: u32,
+    lent: bool,
 }
 
 impl Model for IdSource {
     ghost use Rattle.std.specs.Prelude.{ℕ, ◌<◌, ◌≤◌, ◌+◌};
     ghost use Rattle.wind_base.specs.Limits.{greatest_id};
+    ghost use Rattle.id_table.specs.Source.{Ids};
 
-    ghost Value = { ℕ };
+    ghost Value = { Ids };
 
-    ghost view = { λ i. i.next };
+    ghost view = { λ i. record { next = i.next; lent = i.lent } };
 
     ghost invariant = { λ i. (0 < i.next) × (i.next ≤ greatest_id + 1) };
 }
@@ -27,39 +31,59 @@ impl Model for IdSource {
 impl IdSource {
     /// All ids from 1 on.
     pub fn new() -> IdSource
-        ensures { result ≡ 1 }
+        ensures { result ≡ record { next = 1; lent = false } }
     {
-        IdSource { next: 1 }
+        IdSource {
+            next: 1,
+            lent: false,
+        }
     }
 
-    /// A source whose next id is the same as here. Whoever lends it gives no id until it is back, so that
-    /// no id is given twice.
-    pub fn lent(&self) -> IdSource
-        ensures { result ≡ self.now }
+    /// Lends the ids to another source. None is given here until they are put back, so no id is given twice.
+    pub fn lend(&mut self) -> IdSource
+        requires { self.old.lent ≡ false }
+        ensures value { result ≡ self.old }
+        ensures mark { self.new ≡ record self.old { lent = true } }
     {
-        IdSource { next: self.next }
+        self.lent = true;
+        IdSource {
+            next: self.next,
+            lent: false,
+        }
+    }
+
+    /// Takes lent ids back. None of them may be one that was given before.
+    pub fn put(&mut self, ids: IdSource)
+        requires lent { self.old.lent ≡ true }
+        requires whole { ids.lent ≡ false }
+        requires ahead { self.old.next ≤ ids.next }
+        ensures { self.new ≡ ids }
+    {
+        self.next = ids.next;
+        self.lent = false;
     }
 
     /// The id that is given next. None where none is left.
     pub fn peek(&self) -> Option<Ident>
-        ensures { SomeIff result (self.now ≤ greatest_id) self.now }
+        ensures { SomeIff result (self.now.next ≤ greatest_id) self.now.next }
     {
         Ident::new(self.next)
     }
 
     /// How many ids are left.
     pub fn left(&self) -> u32
-        ensures value { result ≡ greatest_id + 1 - self.now }
-        ensures sound { (0 < self.now) × (self.now ≤ greatest_id + 1) }
+        ensures value { result ≡ greatest_id + 1 - self.now.next }
+        ensures sound { (0 < self.now.next) × (self.now.next ≤ greatest_id + 1) }
     {
         IDS - (self.next - 1)
     }
 
     /// Gives the next id. None where none is left.
     pub(crate) fn draw(&mut self) -> Option<Ident>
-        ensures id { SomeIff result (self.old ≤ greatest_id) self.old }
-        ensures above { 0 < self.old }
-        ensures next { self.new ≡ (if nat_le self.old greatest_id then self.old + 1 else self.old) }
+        requires { self.old.lent ≡ false }
+        ensures id { SomeIff result (self.old.next ≤ greatest_id) self.old.next }
+        ensures above { 0 < self.old.next }
+        ensures next { self.new ≡ (if nat_le self.old.next greatest_id then one_given self.old else self.old) }
     {
         let id = Ident::new(self.next)?;
         self.next += 1;

@@ -1,10 +1,11 @@
 //! Objects by id.
 
-ghost use Rattle.std.specs.Prelude.{◌≡◌, ◌<◌, ◌≤◌, ◌+◌, [], length, IfOk, IfErr, IsOk, ◌↔◌, Some, IsSome, is_some, option_copied, slice_index_or};
+ghost use Rattle.std.specs.Prelude.{◌≡◌, ◌<◌, ◌≤◌, ◌+◌, [], false, length, IfOk, IfErr, IsOk, ◌↔◌, Some, IsSome, is_some, option_copied, slice_index_or};
 ghost use Rattle.std.specs.Option.{option_copied_mut};
 ghost use Rattle.std.specs.Borrow.{sem};
 ghost use Rattle.wind_base.specs.Limits.{greatest_id};
 ghost use Rattle.id_table.specs.Rows.{object_of, objects, added, removed, IdsBelow, IsTable, Rises, next_above};
+ghost use Rattle.id_table.specs.Source.{one_given};
 
 use crate::entry::{Entry, entry_above, place_near};
 use crate::ident::Ident;
@@ -150,14 +151,15 @@ impl<T> Table<T> {
         Some(self.slots.remove(key))
     }
 
-    /// Adds an object under the next id of the source; each id that is live here is below that. Gives the
-    /// object back, and changes nothing, where the room is full or no id is left.
+    /// Adds an object under the next id of the source, whose ids aren't lent; each id that is live here is
+    /// below that. Gives the object back, and changes nothing, where the room is full or no id is left.
     pub fn add(&mut self, ids: &mut IdSource, value: T) -> Result<Ident, T>
-        requires { IdsBelow ids.old self.old.rows }
-        ensures id { IfOk result (λ id. (id ≡ ids.old) × (ids.new ≡ ids.old + 1)) }
+        requires home { ids.old.lent ≡ false }
+        requires below { IdsBelow ids.old.next self.old.rows }
+        ensures id { IfOk result (λ id. (id ≡ ids.old.next) × (ids.new ≡ one_given ids.old)) }
         ensures rows { IfOk result (λ id. self.new ≡ added self.old id value) }
         ensures err { IfErr result (λ v. (v ≡ value) × (self.new ≡ self.old) × (ids.new ≡ ids.old)) }
-        ensures when { IsOk result ↔ (length self.old.rows < self.old.room) × (ids.old ≤ greatest_id) }
+        ensures when { IsOk result ↔ (length self.old.rows < self.old.room) × (ids.old.next ≤ greatest_id) }
     {
         if self.order.len() >= self.room {
             return Err(value);

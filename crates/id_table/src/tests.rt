@@ -18,3 +18,16 @@ fn takes_its_room(rt: HostRuntime) -> Result<(), Fail> {
     assert_eq!(rt; table.get(third), Some(&'c'));
     Ok(())
 }
+
+#[test]
+fn lends_its_ids(rt: HostRuntime) -> Result<(), Fail> {
+    let mut ids = IdSource::new();
+    let mut letters = Table::reserved(rt.alloc(), 1).or(Err("memory"))?;
+    let mut flags = Table::reserved(rt.alloc(), 1).or(Err("memory"))?;
+    let mut lent = ids.lend();
+    let first = letters.add(&mut lent, 'a').or(Err("room"))?;
+    ids.put(lent);
+    let second = flags.add(&mut ids, true).or(Err("room"))?;
+    assert_eq!(rt; (first.get(), second.get()), (1, 2));
+    Ok(())
+}

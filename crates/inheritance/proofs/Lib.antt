@@ -5,3 +5,4 @@ pub mod Raising
 pub mod Same
 pub mod Inheriting
 pub mod Path
+pub mod Joined

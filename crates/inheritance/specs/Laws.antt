@@ -1,11 +1,11 @@
 -- The walk from owner to owner, and what raising leaves.
-use Rattle.std.specs.Prelude.{◌≡◌, ℕ, ◌≤◌, cond, nat_lt, true, length, List, Option, Some}
+use Rattle.std.specs.Prelude.{◌≡◌, ℕ, ◌≤◌, cond, nat_lt, true, length, map, List, Option, Some}
 use Rattle.std.specs.List.{All, Contains}
 use Rattle.task_block.specs.declared.task.Task.{Task}
-use Rattle.wind_core.specs.State.{IsKern}
+use Rattle.wind_core.specs.State.{IsKern, Lives, task_id}
 use Rattle.inheritance.specs.declared.mutex.Mutex.{Mutex}
 use Rattle.inheritance.specs.Mutexes.{MutexState}
-use Rattle.inheritance.specs.Reach.{owner_at, raised, path, is_on, urgency, front_while}
+use Rattle.inheritance.specs.Reach.{boss, owner_at, pri_of, raised, path, is_on, urgency, front_while}
 
 -- each owner is at least as urgent as its waiters, but for the waiter w
 abbrev pub GoodBut : (ℕ → Option ℕ) → (ℕ → ℕ) → ℕ → Type 0
@@ -42,3 +42,21 @@ RaisedLaw = (s : MutexState) → IsKern s.kern → OwnersUrgent s.mutexes (raise
 -- where it is so, raising changes nothing
 abbrev pub SameLaw : Type 0
 SameLaw = (s : MutexState) → IsKern s.kern → OwnersUrgent s.mutexes s.kern.tasks → raised s ≡ s
+
+-- raising gives each live task the urgency that the walk law speaks of, by the bosses and the priorities before
+abbrev pub UrgencyLaw : Type 0
+UrgencyLaw = (s : MutexState) (x : ℕ) → Lives s.kern x
+    → pri_of (raised s).kern.tasks x
+    ≡ urgency (boss s.kern.tasks s.mutexes) (pri_of s.kern.tasks) 256 (map task_id s.kern.tasks) x
+
+-- if each owner is as urgent as its waiters, but for the waiter w, then the premise of the walk law holds of bosses and priorities
+abbrev pub PremiseLaw : Type 0
+PremiseLaw = (w : ℕ) (ms : List (ℕ × Mutex)) (ts : List Task) → OwnersUrgentBut w ms ts → GoodBut (boss ts ms) (pri_of ts) w
+
+-- so raising gives w's priority to the live owners on its path before the first that is as urgent, and changes no other priority
+abbrev pub HeirsLaw : Type 0
+HeirsLaw = (s : MutexState) (w x : ℕ) → OwnersUrgentBut w s.mutexes s.kern.tasks → Lives s.kern w → Lives s.kern x
+    → pri_of (raised s).kern.tasks x
+    ≡ cond (is_on (front_while (λ z. nat_lt (pri_of s.kern.tasks w) (pri_of s.kern.tasks z))
+    (path (boss s.kern.tasks s.mutexes) 256 w)) x)
+    (pri_of s.kern.tasks w) (pri_of s.kern.tasks x)

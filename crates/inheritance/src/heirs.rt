@@ -44,7 +44,7 @@ fn heir(k: &Kern, mutexes: &Table<Mutex>, who: Ident, pri: Pri) -> Option<Ident>
 }
 
 /// The owner that the task waits for, the one that this owner waits for, and so on, get the priority of the task,
-/// up to the first that is at least as urgent. A ready task whose priority changes stands behind its new equals.
+/// up to the first that is at least as urgent. A ready task whose priority changes stands after its new equals.
 /// Asks that each other waiter has lent its urgency before; then each task has the most urgent priority of itself
 /// and of those that wait for it.
 pub fn inherit(k: &mut Kern, mutexes: &Table<Mutex>, who: Ident)

@@ -8,5 +8,5 @@ mod mutex;
 
 pub use chain::boss;
 pub use heirs::{inherit, more_urgent};
-pub use laws::{owner_law, raised_law, walk_law};
+pub use laws::{owner_law, raised_law, urgency_law, walk_law};
 pub use mutex::Mutex;

@@ -7,6 +7,7 @@ use Rattle.wind_base.specs.declared.errno.Errno.{Errno}
 use Rattle.wind_base.specs.declared.regs.Regs.{Regs}
 use Rattle.id_table.specs.Rows.{Rows, IdsBelow, IsTable, row_id, row_object, object_of, objects, with_object, added}
 use Rattle.id_table.specs.Rows as table
+use Rattle.id_table.specs.Source.{Ids, one_given}
 use Rattle.id_table.proofs.Owning.{object-record, objects-replace, objects-without, OwnIds-write}
 use Rattle.wind_lists.specs.Records.{of_id, change, Rising}
 use Rattle.wind_lists.proofs.Records.{found_id, replace-change}
@@ -54,11 +55,11 @@ lives_in rs n own lives = some_of (object_of rs n) (subst (λ o. IsSome o) (sym 
 
 -- ---- the calls
 -- a watchdog is added, or all stays
-pub made_own : (t u : Rows Watchdog) (i j : ℕ) (r : Result ℕ Errno) → SameIds t.rows
-    → IfOk r (λ id. (create_refusal (length t.rows) i ≡ None) × (id ≡ i) × (j ≡ i + 1) × (u ≡ added t i (new_watchdog i)))
-    → IfErr r (λ e. (create_refusal (length t.rows) i ≡ Some e) × (j ≡ i) × (u ≡ t)) → SameIds u.rows × (u.room ≡ t.room)
+pub made_own : (t u : Rows Watchdog) (i j : Ids) (r : Result ℕ Errno) → SameIds t.rows
+    → IfOk r (λ id. (create_refusal (length t.rows) i.next ≡ None) × (id ≡ i.next) × (j ≡ one_given i) × (u ≡ added t i.next (new_watchdog i.next)))
+    → IfErr r (λ e. (create_refusal (length t.rows) i.next ≡ Some e) × (j ≡ i) × (u ≡ t)) → SameIds u.rows × (u.room ≡ t.room)
 made_own t u i j (Ok id) own ok err =
-    subst (λ (v : Rows Watchdog). SameIds v.rows × (v.room ≡ t.room)) (sym ok.3) (All-push (λ (r : ℕ × Watchdog). r.1.id ≡ r.0) t.rows (i, new_watchdog i) own refl, refl)
+    subst (λ (v : Rows Watchdog). SameIds v.rows × (v.room ≡ t.room)) (sym ok.3) (All-push (λ (r : ℕ × Watchdog). r.1.id ≡ r.0) t.rows (i.next, new_watchdog i.next) own refl, refl)
 made_own t u i j (Err e) own ok err = subst (λ (v : Rows Watchdog). SameIds v.rows × (v.room ≡ t.room)) (sym err.2) (own, refl)
 
 module _ (rs : List (ℕ × Watchdog)) (level : Option Regs) (listed : List Routine) (next n id : ℕ) (v : Watchdog) (own : SameIds rs) (value : object_of rs n ≡ Some v) (same : n ≡ id) where

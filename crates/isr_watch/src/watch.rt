@@ -7,6 +7,7 @@ ghost use Rattle.std.specs.Option.{option_copied_mut};
 ghost use Rattle.wind_base.specs.Limits.{frame_bytes};
 ghost use Rattle.wind_base.specs.declared.errno.Errno.TheVariants.{ObjIdError};
 ghost use Rattle.id_table.specs.Rows.{IdsBelow, added};
+ghost use Rattle.id_table.specs.Source.{one_given};
 ghost use Rattle.isr_watch.specs.State.{IsWatch, watchdog_of};
 ghost use Rattle.isr_watch.specs.Calls.{new_watchdog as new_watchdog_lem, create_refusal, created, delete, start, cancel, due, finish};
 
@@ -45,11 +46,12 @@ impl Model for Watch {
 
 // Adds a watchdog under the next id.
 fn add_watchdog(watchdogs: &mut Table<Watchdog>, ids: &mut IdSource) -> Result<Ident, Errno>
-    requires below { IdsBelow ids.old watchdogs.old.rows }
+    requires home { ids.old.lent ≡ false }
+    requires below { IdsBelow ids.old.next watchdogs.old.rows }
     requires room { watchdogs.old.room ≡ 256 }
-    ensures ok { IfOk result (λ id. (create_refusal (length watchdogs.old.rows) ids.old ≡ None) × (id ≡ ids.old)
-        × (ids.new ≡ ids.old + 1) × (watchdogs.new ≡ added watchdogs.old ids.old (new_watchdog_lem ids.old))) }
-    ensures err { IfErr result (λ e. (create_refusal (length watchdogs.old.rows) ids.old ≡ Some e)
+    ensures ok { IfOk result (λ id. (create_refusal (length watchdogs.old.rows) ids.old.next ≡ None) × (id ≡ ids.old.next)
+        × (ids.new ≡ one_given ids.old) × (watchdogs.new ≡ added watchdogs.old ids.old.next (new_watchdog_lem ids.old.next))) }
+    ensures err { IfErr result (λ e. (create_refusal (length watchdogs.old.rows) ids.old.next ≡ Some e)
         × (ids.new ≡ ids.old) × (watchdogs.new ≡ watchdogs.old)) }
 {
     if watchdogs.len() >= WATCHDOGS as usize {

@@ -4,9 +4,10 @@ use Rattle.wind_base.specs.declared.gate.Gate.{Gate}
 use Rattle.module_loader.specs.Holding.{AreHeld}
 use Rattle.wind_base.specs.declared.gate.Gate.TheVariants as gates
 use Rattle.wind_base.specs.declared.errno.Errno.TheVariants as errors
+use Rattle.wind_core.specs.State.{Lives}
 use Rattle.kernel_world.specs.State.{WorldState}
 use Rattle.kernel_world.specs.Objects.{KeepsObjects}
-use Rattle.kernel_world.specs.Actors.{is_interrupt, Acts, MayCall}
+use Rattle.kernel_world.specs.Actors.{is_interrupt, Acts, MayCall, shell_id}
 use Rattle.kernel_world.specs.Kept.{KeepsWatch, IsWorld, IsEarly}
 use Rattle.kernel_calls.specs.Calls.{Row, with_reply, refusal_before, made}
 use Rattle.kernel_world.specs.Replies.{left_gate, replied}
@@ -60,3 +61,9 @@ module _ (g : Gate) (w v : WorldState) (a : Actor) (r : Reply) (kept : IsWorld w
 
   pub served : (u : WorldState) → u ≡ replied g v a r → IsWorld u
   served u e = subst IsWorld (sym e) (replied_advances v serves.passes.kept (2 ^ 60 + 1) serves.passes.within g a r).kept
+
+  -- the shell's task lives on
+  pub served_shell : (u : WorldState) → u ≡ replied g v a r → Lives w.kern shell_id → Lives u.kern shell_id
+  served_shell u e live =
+      subst (λ (x : WorldState). Lives x.kern shell_id) (sym e)
+      ((replied_advances v serves.passes.kept (2 ^ 60 + 1) serves.passes.within g a r).lives shell_id (serves.passes.shell live))

@@ -2,7 +2,8 @@
 
 ghost use Rattle.std.specs.Prelude.{◌≡◌, ◌<◌, ◌≤◌, [], true, false, None, Some, IfOk, IfSome, OnErr};
 ghost use Rattle.wind_base.specs.OutBuf.{KeepsSpace};
-ghost use Rattle.kernel_world.specs.Actors.{Acts, MayCall, is_interrupt as is_interrupt_lem};
+ghost use Rattle.wind_core.specs.State.{Lives};
+ghost use Rattle.kernel_world.specs.Actors.{Acts, MayCall, is_interrupt as is_interrupt_lem, shell_id as shell_id_lem};
 ghost use Rattle.kernel_world.specs.Kept.{IsWorld, IsEarly};
 ghost use Rattle.kernel_world.specs.Allowed.{is_call, may_lack_memory};
 ghost use Rattle.kernel_world.specs.CallWords.{call_by};
@@ -101,10 +102,10 @@ fn make(
     alloc: Global,
     w: &mut World,
     gate: Gate,
-    call: Call,
+    call: &Call,
     who: &Actor,
 ) -> Result<Reply, NoMemory>
-    requires is { Some call ≡ call_by gate (world_seen ⟦<dyn Device as Device>⟧ w.old) who.now }
+    requires is { Some call.now ≡ call_by gate (world_seen ⟦<dyn Device as Device>⟧ w.old) who.now }
     requires caller { Acts w.old.kern who.now }
     requires free { MayCall w.old.kern who.now }
     requires kept { IsWorld (world_with [] w.old) }
@@ -135,7 +136,7 @@ fn make(
 /// Makes the call of a gate: the caller goes on after its gate, the effect of the call's row is made, and the caller is answered
 /// in r3, at once or at the end of its wait, unless it has ended itself. A task that calls is ready. A call of `ld` that asks
 /// for a file is not made, and says for which. Host memory may run out only at `symAdd`, `msgQCreate`, `ld`, `i`, `lkup`,
-/// `moduleShow` and `d` of a task, and the world is then as it was.
+/// `moduleShow` and `d` of a task, and the world is then as it was. No call deletes the shell's task.
 pub fn kernel_call(alloc: Global, w: &mut World, gate: Gate, who: &Actor) -> Called
     requires call { is_call gate ≡ true }
     requires caller { Acts w.old.kern who.now }
@@ -156,6 +157,7 @@ pub fn kernel_call(alloc: Global, w: &mut World, gate: Gate, who: &Actor) -> Cal
     ensures unchanged { is_made result ≡ false →
         world_seen ⟦<dyn Device as Device>⟧ w.new ≡ world_seen ⟦<dyn Device as Device>⟧ w.old }
     ensures kept { IsWorld (world_with [] w.new) }
+    ensures shell { Lives w.old.kern shell_id_lem → Lives w.new.kern shell_id_lem }
     ensures space { makes_room gate ≡ false → KeepsSpace w.old.out w.new.out }
     ensures holds { HoldsSpace w.old.out w.new.out }
 {
@@ -167,7 +169,7 @@ pub fn kernel_call(alloc: Global, w: &mut World, gate: Gate, who: &Actor) -> Cal
         Ok(None) => {}
         Err(NoMemory) => return Called::NoMemory,
     }
-    let Ok(reply) = make(alloc, w, gate, call, who) else {
+    let Ok(reply) = make(alloc, w, gate, &call, who) else {
         return Called::NoMemory;
     };
     reply_to(w, gate, who, &reply);

@@ -180,7 +180,7 @@ fn unload_module(w: &mut World, which: u32) -> Reply
 }
 
 // The row of a call, on the world that its caller has left. If memory runs out, nothing changes.
-pub(crate) fn row(alloc: Global, w: &mut World, call: Call, who: Actor) -> Result<Reply, NoMemory>
+pub(crate) fn row(alloc: Global, w: &mut World, call: &Call, who: Actor) -> Result<Reply, NoMemory>
     requires live { Acts w.old.kern who }
     requires home { w.old.kern.lent ≡ false }
     requires end { w.old.part.end ≡ ram_bytes }
@@ -192,13 +192,13 @@ pub(crate) fn row(alloc: Global, w: &mut World, call: Call, who: Actor) -> Resul
     requires early { IsEarly (world_with [] w.old) }
     requires room { 4096 ≤ w.old.out.room }
     ensures ok { IfOk result (λ r. with_reply (world_seen ⟦<dyn Device as Device>⟧ w.new) r
-        ≡ row_lem call (world_seen ⟦<dyn Device as Device>⟧ w.old) who) }
+        ≡ row_lem call.now (world_seen ⟦<dyn Device as Device>⟧ w.old) who) }
     ensures err { OnErr result (world_seen ⟦<dyn Device as Device>⟧ w.new ≡ world_seen ⟦<dyn Device as Device>⟧ w.old) }
-    ensures memory { OnErr result (may_lack_memory (gate_of call) ≡ true) }
-    ensures space { makes_room (gate_of call) ≡ false → KeepsSpace w.old.out w.new.out }
+    ensures memory { OnErr result (may_lack_memory (gate_of call.now) ≡ true) }
+    ensures space { makes_room (gate_of call.now) ≡ false → KeepsSpace w.old.out w.new.out }
     ensures holds { HoldsSpace w.old.out w.new.out }
 {
-    match call {
+    match *call {
         Call::TaskSpawn {
             name,
             priority,

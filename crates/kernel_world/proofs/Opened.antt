@@ -1,14 +1,16 @@
 -- The world at the start has the kept facts.
-use Rattle.std.proofs.Common.{◌≡◌, ℕ, true, false, not, cond, leb, ◌<◌, ◌≤◌, List, [], ◌∷◌, length, Option, IfSome, Some, None, Ok, Err, refl, sym, ap, ◌∙◌, length-append, arith}
-use Rattle.std.specs.Prelude.{replicate}
-use Rattle.std.specs.List.{All}
+use Rattle.std.proofs.Common.{◌≡◌, ℕ, zero, suc, Bool, true, false, not, cond, ◌&&◌, leb, subst, ◌<◌, ◌≤◌, List, [], ◌∷◌, length, Option, IfSome, Some, None, Ok, Err, refl, sym, ap, ◌∙◌, length-append, arith}
+use Rattle.std.specs.Prelude.{option_and_then, replicate}
+use Rattle.std.specs.List.{All, slice_get}
+use Rattle.std.proofs.lemmas.Bool.{and_parts, leb-true}
+use Rattle.std.proofs.lemmas.Option.{same_Some}
 use Rattle.task_block.specs.declared.task.Task.{Task}
 use Rattle.std.specs.Int.RustNames.{count_ones}
 use Rattle.std.proofs.lemmas.List.{length-replicate}
 use Rattle.std.proofs.lemmas.List.Elements.{All-cons}
 use Rattle.std.proofs.lemmas.List.Kept.{AllPairs-cons}
 use Rattle.wind_base.specs.Limits.{pool_start, ram_bytes, most_blocks}
-use Rattle.wind_base.specs.Gates.{gates, gate_name, gate_number}
+use Rattle.wind_base.specs.Gates.{gates, gate_of, gate_name, gate_number, rules_of}
 use Rattle.wind_base.specs.declared.gate.Gate.{Gate}
 use Rattle.wind_outside.specs.Devices.{DeviceState}
 use Rattle.mem_partition.specs.Place.{aligned, rounded, place}
@@ -83,6 +85,34 @@ after_second =
 pub count_gates : length gates ≡ 52
 unfolding gates
 count_gates = refl
+
+-- a name, if there is one, has bytes
+abbrev has_bytes : Option (List ℕ) → Bool
+has_bytes None = true
+has_bytes (Some name) = leb 1 (length name)
+
+-- each of these gates has a name with bytes, or none
+abbrev have_bytes : List Gate → Bool
+have_bytes [] = true
+have_bytes (g ∷ gs) = has_bytes (rules_of g).name && have_bytes gs
+
+gates_have_bytes : have_bytes gates ≡ true
+unfolding gates
+gates_have_bytes = refl
+
+bytes_at : (gs : List Gate) (k : ℕ) (g : Gate) → have_bytes gs ≡ true → slice_get gs k ≡ Some g → has_bytes (rules_of g).name ≡ true
+bytes_at [] k g all e = absurd (cc)
+bytes_at (h ∷ gs) zero g all e =
+    subst (λ x. has_bytes (rules_of x).name ≡ true) (same_Some h g e) (and_parts (has_bytes (rules_of h).name) (have_bytes gs) all).0
+bytes_at (h ∷ gs) (suc k) g all e = bytes_at gs k g (and_parts (has_bytes (rules_of h).name) (have_bytes gs) all).1 e
+
+pub gate_named : (n : ℕ) (x : List ℕ) → gate_name n ≡ Some x → 0 < length x
+unfolding gate_name gate_of
+gate_named n x e = go (slice_get gates n) refl e
+  where
+    go : (o : Option Gate) → slice_get gates n ≡ o → option_and_then (λ g. (rules_of g).name) o ≡ Some x → 0 < length x
+    go None at f = absurd (cc)
+    go (Some g) at f = leb-true 1 (length x) (subst (λ name. has_bytes name ≡ true) f (bytes_at gates n g gates_have_bytes at))
 
 pub zeros_is : (n : ℕ) → replicate n 0 ≡ zeros n
 unfolding zeros

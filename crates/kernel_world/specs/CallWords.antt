@@ -1,5 +1,5 @@
 -- A call of the kernel as a value: what its caller asks for, by name. Arguments are words in r3 to r10; those after them stand on the stack, from 8 bytes above r1 on (System V ABI, PowerPC supplement, parameter passing).
-use Rattle.std.specs.Prelude.{ℕ, ◌++◌, Bool, true, false, List, [], ◌∷◌, slice_index, Option, None, Some}
+use Rattle.std.specs.Prelude.{ℕ, ◌++◌, List, [], ◌∷◌, slice_index, Option, None, Some}
 use Rattle.std.specs.Option.{option_map}
 use Rattle.wind_base.specs.declared.gate.Gate.{Gate}
 use Rattle.wind_base.specs.declared.gate.Gate.TheVariants as gates

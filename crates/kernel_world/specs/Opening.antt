@@ -1,5 +1,5 @@
 -- The world at the start.
-use Rattle.std.specs.Prelude.{ℕ, ◌+◌, List, [], ◌∷◌, ◌++◌, Option, None, Some, false, true, if◌then◌else◌, replicate, codes}
+use Rattle.std.specs.Prelude.{ℕ, ◌+◌, List, [], ◌∷◌, ◌++◌, Option, None, Some, false, true, replicate, codes}
 use Rattle.wind_base.specs.Limits.{ram_bytes, pool_start, shell_stack_bytes, interrupt_stack_bytes, most_blocks, gates_start}
 use Rattle.wind_base.specs.Gates.{gates, gate_name, gate_number, gate_address}
 use Rattle.wind_base.specs.declared.gate.Gate.{Gate}

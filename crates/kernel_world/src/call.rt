@@ -272,6 +272,7 @@ fn seven_values(gpr: &[u32; 32]) -> [u32; 7]
 }
 
 // The call of a gate, from its caller's registers and stack: one line for each gate. None at the gates of returns.
+#[inline(always)]
 fn call_of(gate: Gate, ram: &Ram, gpr: &[u32; 32]) -> Option<Call>
     ensures { result ≡ call_of_lem gate ram.now gpr.now }
 {
@@ -388,6 +389,7 @@ fn call_of(gate: Gate, ram: &Ram, gpr: &[u32; 32]) -> Option<Call>
 }
 
 /// The call that a caller makes at a gate. None at the gates of returns.
+#[inline(always)]
 pub fn read_call(w: &World, gate: Gate, who: &Actor) -> Option<Call>
     ensures { result ≡ call_by gate (world_seen ⟦<dyn Device as Device>⟧ w.now) who.now }
 {

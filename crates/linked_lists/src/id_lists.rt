@@ -47,9 +47,7 @@ impl<T> IdLists<T> {
     pub fn reserved(alloc: Global, lists: u32, n: u32) -> Result<IdLists<T>, NoMemory>
         ensures { IfOk result (λ t. t ≡ record { chains = replicate lists []; room = n }) }
     {
-        let Ok(index) = Vec::with_capacity(alloc, n as usize) else {
-            return Err(NoMemory);
-        };
+        let index = Vec::with_capacity(alloc, n as usize)?;
         let lists = Lists::reserved(alloc, lists, n)?;
         Ok(IdLists { lists, index })
     }

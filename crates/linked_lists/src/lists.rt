@@ -45,9 +45,7 @@ impl<T> Lists<T> {
         let Ok(ends) = vec![in alloc; empty; lists as usize] else {
             return Err(NoMemory);
         };
-        let Ok(nodes) = Slab::with_capacity(alloc, room) else {
-            return Err(NoMemory);
-        };
+        let nodes = Slab::with_capacity(alloc, room)?;
         Ok(Lists { room, nodes, ends })
     }
 

@@ -84,9 +84,7 @@ fn load_outlined(
     ensures err { OnErr result (world_seen ⟦<dyn Device as Device>⟧ w.new ≡ world_seen ⟦<dyn Device as Device>⟧ w.old) }
     ensures holds { HoldsSpace w.old.out w.new.out }
 {
-    let Ok(m) = fill(alloc, file, outline) else {
-        return Err(NoMemory);
-    };
+    let m = fill(alloc, file, outline)?;
     load_read(alloc, w, name, &m, mode)
 }
 

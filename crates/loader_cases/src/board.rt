@@ -3,8 +3,8 @@
 ghost use Rattle.std.specs.Prelude.{◌≡◌, false};
 
 use crate::opening::{filled, kern_after, part_after, symbols_after};
-use crate::reading::Trouble;
 use board_mem::Ram;
+use case_files::Trouble;
 use mem_partition::Part;
 use module_loader::{LoadErr, Loaded, Modules, NoSuchModule};
 use std::alloc::Global;

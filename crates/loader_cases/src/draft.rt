@@ -1,6 +1,7 @@
 //! Modules that lines describe, and their files.
 
-use crate::reading::{Trouble, byte, bytes, name, number};
+use crate::reading::{byte, bytes};
+use case_files::{Trouble, name, number};
 use elf_build::{build, is_buildable};
 use elf_read::{Body, Bytes, Module, Rel, RelList, Sect, SectList, Sym, SymList, SymPlace};
 use std::alloc::Global;

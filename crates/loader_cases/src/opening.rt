@@ -2,8 +2,8 @@
 
 ghost use Rattle.std.specs.Prelude.{◌≡◌, false, IfOk};
 
-use crate::reading::Trouble;
 use board_mem::Ram;
+use case_files::Trouble;
 use id_table::Table;
 use mem_partition::{Class, Part};
 use std::alloc::Global;

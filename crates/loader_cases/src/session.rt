@@ -3,8 +3,9 @@
 use crate::board::{Board, Opening};
 use crate::draft::Draft;
 use crate::picture::picture;
-use crate::reading::{Trouble, byte, name, number};
+use crate::reading::byte;
 use crate::showing;
+use case_files::{Player, Trouble, name, number};
 use module_loader::LoadErr;
 use std::alloc::Global;
 use std::mem;
@@ -36,8 +37,8 @@ pub struct Session {
     files: Vec<File>,
 }
 
-impl Session {
-    pub fn new(alloc: Global) -> Result<Session, Trouble> {
+impl Player for Session {
+    fn new(alloc: Global) -> Result<Session, Trouble> {
         Ok(Session {
             alloc,
             board: Board::new(alloc, NOTHING)?,
@@ -47,7 +48,7 @@ impl Session {
     }
 
     /// Plays a line `COMMAND | ANSWER`, or `COMMAND` where nothing is answered. Gives the answer where it is another.
-    pub fn play(&mut self, line: &str) -> Result<Option<String>, Trouble> {
+    fn play(&mut self, line: &str) -> Result<Option<String>, Trouble> {
         let (command, wanted) = match line.split_once('|') {
             Some((command, wanted)) => (command, wanted.trim()),
             None => (line, ""),
@@ -63,7 +64,9 @@ impl Session {
             Ok(Some(answer))
         }
     }
+}
 
+impl Session {
     fn answer(&mut self, words: &[&str]) -> Result<String, Trouble> {
         let [command, rest @ ..] = words else {
             return Err(Trouble::Unreadable);

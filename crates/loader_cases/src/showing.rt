@@ -1,6 +1,6 @@
 //! Answers as text. Numbers are in hexadecimal digits.
 
-use crate::reading::Trouble;
+use case_files::Trouble;
 use id_table::Ident;
 use module_loader::{LoadErr, Loaded, LoadedModule, Segment};
 use std::alloc::{AllocError, Global};

@@ -57,12 +57,8 @@ impl Holes {
           blocks = [];
         })) }
     {
-        let Ok(blocks) = Vec::with_capacity(alloc, BLOCKS as usize) else {
-            return Err(NoMemory);
-        };
-        let Ok(mut list) = Vec::with_capacity(alloc, BLOCKS as usize + 1) else {
-            return Err(NoMemory);
-        };
+        let blocks = Vec::with_capacity(alloc, BLOCKS as usize)?;
+        let mut list = Vec::with_capacity(alloc, BLOCKS as usize + 1)?;
         put_in(&mut list, 0, start, end);
         Ok(Holes {
             start,

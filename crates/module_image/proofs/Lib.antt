@@ -2,6 +2,7 @@ pub mod Known
 pub mod Fitting
 pub mod Made
 pub mod Counts
+pub mod Names
 pub mod Laying
 pub mod Lengths
 pub mod Tables

@@ -105,9 +105,7 @@ pub fn measure_module(alloc: Global, m: &Module) -> Result<Needs, NoMemory>
 {
     let sections = m.sections.as_slice();
     let symbols = m.symbols.as_slice();
-    let Ok(shapes) = find_shapes(alloc, sections) else {
-        return Err(NoMemory);
-    };
+    let shapes = find_shapes(alloc, sections)?;
     Ok(measure(&shapes, symbols))
 }
 

@@ -3,6 +3,7 @@
 ghost use Rattle.std.specs.Prelude.{◌≡◌, ◌<◌, ◌≤◌, ◌+◌, ◌-◌, ◌^◌, ◌++◌, false, length, take, drop, replicate, All};
 ghost use Rattle.wind_base.specs.Limits.{greatest_id};
 ghost use Rattle.id_table.specs.Rows.{IdsBelow, added};
+ghost use Rattle.symbol_table.specs.State.{HasName};
 ghost use Rattle.module_loader.specs.Loading.{block_size as block_size_lem, in_block, stored, stored_all, segment_at, record_of};
 ghost use Rattle.module_loader.specs.Modules.{HasIdent};
 ghost use Rattle.module_loader.specs.Steps.{three_pieces};
@@ -69,9 +70,10 @@ fn store(ram: &mut Ram, bytes: &[u8], cut: usize, at: Places, bss: u32)
     write_zeros(ram, at.bss, bss);
 }
 
-/// Adds the symbols in order, for which there is room.
+/// Adds the symbols in order. There must be room for them, and each must have a name.
 fn add_all(syms: &mut Symbols, list: &mut Vec<Symbol>)
-    requires { length list.old.items ≤ syms.old.spare }
+    requires room { length list.old.items ≤ syms.old.spare }
+    requires named { All HasName list.old.items }
     ensures { syms.new.list ≡ syms.old.list ++ list.old.items }
 {
     list.reverse();
@@ -147,6 +149,7 @@ pub(crate) fn commit(
     requires below { IdsBelow kern.old.next_id table.old.rows }
     requires idents { All HasIdent table.old.rows }
     requires symbols { length made.exports.items ≤ syms.old.spare }
+    requires named { All HasName made.exports.items }
     requires cut { cut ≤ length made.bytes.items }
     requires text { at.text + block_size_lem cut ≤ length ram.old }
     requires data { at.«data» + block_size_lem (length made.bytes.items - cut) ≤ length ram.old }

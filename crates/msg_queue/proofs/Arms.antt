@@ -12,7 +12,7 @@ use Rattle.wind_core.specs.Moves.{pend, end_wait}
 use Rattle.msg_queue.specs.declared.asks.Ask.{Ask}
 use Rattle.msg_queue.specs.declared.plans.SendPlan.TheVariants as plan
 use Rattle.msg_queue.specs.declared.words.Sending.{Sending}
-use Rattle.msg_queue.specs.declared.words.Took.TheVariants as took
+use Rattle.wind_core.specs.declared.took.Took.TheVariants as took
 use Rattle.msg_queue.specs.State.{QueueState, QueuesState, Scene, scene, queue_of, lies_in, size_of, is_full, added, receivers, first_asking, counts, with_new_ask, waiting}
 use Rattle.msg_queue.specs.Sends.{SendDeed, declined, passed_on, queued, blocked, send_deed, send_ask, after_send, send, send_answer}
 use Rattle.msg_queue.specs.Inside.{send_plan}

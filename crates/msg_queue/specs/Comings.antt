@@ -35,7 +35,7 @@ is_size max_msgs max_len =
 abbrev pub ids_refusal : ℕ → Option Errno
 ids_refusal next_id = if nat_lt greatest_id next_id then Some errors.IdsSpent else None
 
--- why no queue is made, where so many live and this id is next
+-- why no queue is made, by the number of live queues, the next id and the arguments
 abbrev pub create_refusal : ℕ → ℕ → ℕ → ℕ → ℕ → Option Errno
 create_refusal live next_id max_msgs max_len options =
     if nat_lt priority_option options then Some errors.InvalidOption
@@ -58,7 +58,7 @@ created s q = record s {
   queues = record s.queues { queues = s.queues.queues ++ (s.kern.next_id, q) ∷ [] };
 }
 
--- a refusal, and not want of memory
+-- a refusal; running out of memory is none
 abbrev pub IfRefused : MakeErr → (Errno → Type 0) → Type 0
 IfRefused (make.Refused e) P = P e
 IfRefused make.NoMemory P = Unit {0}
@@ -69,7 +69,7 @@ IsMade k l qs us max_msgs max_len options id =
     (create_refusal (length qs.queues) k.next_id max_msgs max_len options ≡ None) × (id ≡ k.next_id)
     × ((ram : List ℕ) → scene l us ram ≡ created (scene k qs ram) (new_queue max_msgs max_len options))
 
--- none was made, and all is as it was; want of memory alone has no other cause
+-- none was made, and all is as it was; only running out of memory has no other cause
 abbrev pub IsNotMade : KernState → KernState → QueuesState → QueuesState → ℕ → ℕ → ℕ → MakeErr → Type 0
 IsNotMade k l qs us max_msgs max_len options e =
     (l ≡ k) × (us ≡ qs) × IfRefused e (λ r. create_refusal (length qs.queues) k.next_id max_msgs max_len options ≡ Some r)

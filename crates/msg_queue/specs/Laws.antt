@@ -52,7 +52,7 @@ SeriesLaw = (rs : List (ℕ × QueueState)) (k : KernState) (ms : List Move) →
     → EachMove (λ j m. MayMove j m × SparesQueues rs j m) k ms → IsCalm rs k (after_moves k ms)
 
 -- ---- the counters
--- the tick stays, whether ids are lent too, and at most so many order numbers are given
+-- the tick stays, whether ids are lent too, and at most n order numbers are given
 pub record CountsOn (n : ℕ) (k l : KernState) : Type 0 where
   pub tick : l.tick ≡ k.tick
   pub lent : l.lent ≡ k.lent

@@ -23,7 +23,7 @@ abbrev pub is_empty : List (List ℕ) → Bool
 is_empty [] = true
 is_empty (m ∷ ms) = false
 
--- why a receive is refused, at a live queue of a board with so many bytes of memory
+-- why a receive is refused, at a live queue, by the bytes of RAM of the board
 abbrev pub receive_refusal : ℕ → Receiving → QueueState → Option Errno
 receive_refusal size x q =
     if not (lies_in size x.buffer (min x.room q.max_len)) then Some errors.BadAddress

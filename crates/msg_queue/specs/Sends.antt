@@ -6,8 +6,8 @@ use Rattle.wind_base.specs.declared.errno.Errno.TheVariants as errors
 use Rattle.board_mem.specs.Memory.{bytes_at}
 use Rattle.msg_queue.specs.declared.asks.Ask.{Ask}
 use Rattle.msg_queue.specs.declared.words.Sending.{Sending}
-use Rattle.msg_queue.specs.declared.words.Took.{Took}
-use Rattle.msg_queue.specs.declared.words.Took.TheVariants as took
+use Rattle.wind_core.specs.declared.took.Took.{Took}
+use Rattle.wind_core.specs.declared.took.Took.TheVariants as took
 use Rattle.msg_queue.specs.State.{QueueState, Scene, queue_of, lies_in, size_of, is_full, added, receivers, senders, first_asking, with_queue, stored, served, waiting}
 
 -- what comes of a send
@@ -21,7 +21,7 @@ pub data SendDeed : Type 0 where
   -- the caller waits for room
   blocked : ℕ → QueueState → SendDeed
 
--- why a send is refused, to a live queue of a board with so many bytes of memory; `stuck` where it can't be done at once
+-- why a send is refused, to a live queue, by the bytes of RAM of the board; `stuck` if it can't be done at once
 abbrev pub send_refusal : ℕ → Sending → Bool → QueueState → Option Errno
 send_refusal size x stuck q =
     if nat_lt q.max_len x.count then Some errors.InvalidMsgLength

@@ -51,7 +51,7 @@ size_of s = length s.ram
 abbrev pub is_full : QueueState → Bool
 is_full q = nat_le q.max_msgs (length q.held)
 
--- a message is added: an urgent one in front, else behind the others
+-- a message is added: an urgent one in front, else after the others
 abbrev pub added : Bool → List ℕ → QueueState → QueueState
 added urgent m q = record q { held = if urgent then m ∷ q.held else q.held ++ m ∷ [] }
 

@@ -13,12 +13,12 @@ ghost use Rattle.msg_queue.specs.declared.words.Got.TheVariants.{Count};
 use crate::effects::hand_over;
 use crate::plans::{ReceivePlan, SendPlan, plan_receive, plan_send};
 use crate::queues::Queues;
-use crate::words::{Got, Receiving, Sending, Took};
+use crate::words::{Got, Receiving, Sending};
 use board_mem::Ram;
 use id_table::sides::{OBJECT, SENDERS};
 use id_table::{Ident, Place};
 use wind_base::Errno;
-use wind_core::Kern;
+use wind_core::{Kern, Took};
 
 impl Queues {
     // What comes of a send.

@@ -16,7 +16,7 @@ use wind_base::Errno;
 use wind_base::limits::QUEUES;
 use wind_core::Kern;
 
-// Why no queue is made where so many live, but for want of ids.
+// Why no queue is made when `live` queues live, leaving aside that the ids may be spent.
 fn refusal(live: usize, max_msgs: u32, max_len: u32, options: u32) -> Option<Errno>
     ensures some { (next : ℕ) → IfSome result (λ e. create_refusal live next max_msgs max_len options ≡ Some e) }
     ensures none { (next : ℕ) → IfNone result (create_refusal live next max_msgs max_len options ≡ ids_refusal next) }

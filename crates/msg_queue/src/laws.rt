@@ -27,7 +27,7 @@ pub fn calm_law()
     ensures series { SeriesLaw }
 {}
 
-/// No call changes the tick, and each gives at most so many order numbers.
+/// No call changes the tick, and each gives a bounded number of order numbers.
 pub fn count_law()
     ensures { CountLaw }
 {}

@@ -18,4 +18,5 @@ pub use asks::Ask;
 pub use laws::{calm_law, conservation_law, count_law, kept_law, run_law};
 pub use queues::Queues;
 pub use size::{LONGEST_MESSAGE, MESSAGES, MSG_Q_FIFO, MSG_Q_PRIORITY, QUEUE_BYTES};
-pub use words::{Got, MakeErr, Receiving, Sending, Took};
+pub use wind_core::Took;
+pub use words::{Got, MakeErr, Receiving, Sending};

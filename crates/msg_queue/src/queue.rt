@@ -52,15 +52,13 @@ fn put_in(held: &mut VecDeque<Message>, message: Message, urgent: bool)
     }
 }
 
-// Empty messages, so many and so long.
+// `n` empty messages, each with room for `room` bytes.
 fn empty_messages(alloc: Global, n: u32, room: u32) -> Result<Vec<Message>, NoMemory>
     ensures count { IfOk result (λ v. length v.items ≡ n) }
     ensures capacity { IfOk result (λ v. n ≤ vec_capacity v) }
     ensures room { IfOk result (λ v. All (λ m. room ≤ m.room) v.items) }
 {
-    let Ok(mut messages) = Vec::with_capacity(alloc, n as usize) else {
-        return Err(NoMemory);
-    };
+    let mut messages = Vec::with_capacity(alloc, n as usize)?;
     for _i in 0..n {
         messages.push_reserved(Message::reserved(alloc, room)?);
     }
@@ -79,9 +77,7 @@ impl Queue {
         ensures { IfOk result (λ q. q
             ≡ record { by_priority = by_priority; max_msgs = max_msgs; max_len = max_len; held = [] }) }
     {
-        let Ok(held) = VecDeque::with_capacity(alloc, max_msgs as usize) else {
-            return Err(NoMemory);
-        };
+        let held = VecDeque::with_capacity(alloc, max_msgs as usize)?;
         let spare = empty_messages(alloc, max_msgs, max_len)?;
         Ok(Queue {
             by_priority,

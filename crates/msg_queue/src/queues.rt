@@ -40,9 +40,7 @@ impl Queues {
         ensures { IfOk result (λ q. q ≡ record { queues = []; asks = [] }) }
     {
         let queues = Table::reserved(alloc, QUEUES)?;
-        let Ok(asks) = Vec::with_capacity(alloc, TASKS as usize) else {
-            return Err(NoMemory);
-        };
+        let asks = Vec::with_capacity(alloc, TASKS as usize)?;
         Ok(Queues { queues, asks })
     }
 

@@ -32,15 +32,6 @@ pub struct Receiving {
     pub timeout: u32,
 }
 
-/// How a call ended that was not refused.
-#[derive(Clone, Copy, Debug, PartialEq, Eq)]
-pub enum Took {
-    /// It is done.
-    Taken,
-    /// The caller waits.
-    Pended,
-}
-
 /// How a receive ended that was not refused.
 #[derive(Clone, Copy, Debug, PartialEq, Eq)]
 pub enum Got {

@@ -33,7 +33,7 @@ use Rattle.sem_mutex.specs.Laws as laws
 use Rattle.sem_mutex.proofs.Lawful.{beside_law, calls_law, gone_law}
 use Rattle.msg_queue.proofs.Calm.{calms}
 use Rattle.kernel_world.specs.Objects.{is_live_beside, KeepsObjects}
-use Rattle.object_calls.specs.SemRows.{ObjectRow, sems, mutexes, is_mutex, refused, by_semaphores, by_mutexes, made_unless, made, binary_with, binary_row, counting_with, counting_row, mutex_unless, mutex_with, mutex_row, plain_reply, plain_take_unless, plain_take, mutex_take_unless, mutex_take, take_row, plain_give_unless, plain_give, mutex_give_unless, mutex_give, give_row, flush_unless, flush_row, plain_delete_unless, delete_row, priority_row}
+use Rattle.object_calls.specs.SemRows.{ObjectRow, sems, mutexes, is_mutex, refused, by_semaphores, by_mutexes, made_unless, made, binary_with, binary_row, counting_with, counting_row, mutex_unless, mutex_with, mutex_row, took_reply, plain_take_unless, plain_take, mutex_take_unless, mutex_take, take_row, plain_give_unless, plain_give, mutex_give_unless, mutex_give, give_row, flush_unless, flush_row, plain_delete_unless, delete_row, priority_row}
 use Rattle.kernel_world.specs.Actors.{Acts}
 use Rattle.kernel_world.specs.declared.objects.Objects.{Objects}
 use Rattle.kernel_world.specs.declared.actor.Actor.{Actor}
@@ -188,7 +188,7 @@ module _ (k : KernState) (o : Objects) (is : IsKern k) (kept : KeepsObjects k o)
         | false ↦ λ z q. let ne = eqb-false n 0 z in omega arith
       ] refl fine
 
-  sem_take : (who id n : ℕ) → object_of o.mutexes id ≡ None → plain.take_refusal s id n ≡ None → KeepsRow (by_semaphores o (plain.take s who id n) (plain_reply (plain.took s id)))
+  sem_take : (who id n : ℕ) → object_of o.mutexes id ≡ None → plain.take_refusal s id n ≡ None → KeepsRow (by_semaphores o (plain.take s who id n) (took_reply (plain.took s id)))
   sem_take who id n other fine =
       elim (plain.live s id) as (λ q. plain.live s id ≡ q → KeepsSemaphores (plain.take_found s who id n q) → WaitsLiveIn (is_live_beside o) (plain.take_found s who id n q)
       → KeepsObjects (plain.take_found s who id n q).kern (other_semaphores o (plain.take_found s who id n q).semaphores)) [

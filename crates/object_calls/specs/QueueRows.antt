@@ -5,8 +5,7 @@ use Rattle.wind_base.specs.declared.errno.Errno.{Errno}
 use Rattle.wind_base.specs.declared.errno.Errno.TheVariants as errors
 use Rattle.msg_queue.specs.declared.words.Sending.{Sending}
 use Rattle.msg_queue.specs.declared.words.Receiving.{Receiving}
-use Rattle.msg_queue.specs.declared.words.Took.{Took}
-use Rattle.msg_queue.specs.declared.words.Took.TheVariants as took
+use Rattle.wind_core.specs.declared.took.Took.{Took}
 use Rattle.msg_queue.specs.declared.words.Got.{Got}
 use Rattle.msg_queue.specs.declared.words.Got.TheVariants as got
 use Rattle.msg_queue.specs.State.{QueueState, Scene, queue_of}
@@ -17,6 +16,7 @@ use Rattle.kernel_world.specs.declared.actor.Actor.{Actor}
 use Rattle.kernel_world.specs.declared.actor.Actor.TheVariants.{Task, Interrupt}
 use Rattle.kernel_world.specs.declared.reply.Reply.{Reply}
 use Rattle.kernel_world.specs.declared.reply.Reply.TheVariants.{Answer, Refusal, Later}
+use Rattle.object_calls.specs.SemRows.{took_reply}
 
 -- tasks, queues and RAM after the effect of a call, and how its caller is answered
 pub record QueueRow : Type 0 where
@@ -49,8 +49,7 @@ sending a buffer count timeout pri =
 
 abbrev pub send_reply : Result Took Errno → Reply
 send_reply (Err e) = Refusal e
-send_reply (Ok took.Taken) = Answer ok_word
-send_reply (Ok took.Pended) = Later
+send_reply (Ok took) = took_reply took
 
 abbrev pub send_row : Scene → ℕ → Sending → QueueRow
 send_row s id x = row_of (send s id x) (send_reply (send_answer (send_deed s id x)))

@@ -8,14 +8,12 @@ use Rattle.wind_base.specs.declared.semaphore.SemKind.TheVariants as kinds
 use Rattle.wind_base.specs.declared.semaphore.SemOptions.{SemOptions}
 use Rattle.id_table.specs.Rows.{object_of}
 use Rattle.wind_core.specs.State.{KernState}
+use Rattle.wind_core.specs.declared.took.Took.{Took}
+use Rattle.wind_core.specs.declared.took.Took.TheVariants.{Taken, Pended}
 use Rattle.sem_plain.specs.declared.semaphore.Semaphore.{Semaphore}
-use Rattle.sem_plain.specs.declared.semaphore.Took.{Took as PlainTook}
-use Rattle.sem_plain.specs.declared.semaphore.Took.TheVariants as plain_took
 use Rattle.sem_plain.specs.State.{SemState, both as with_semaphores}
 use Rattle.sem_plain.specs.Calls as plain
 use Rattle.inheritance.specs.Mutexes.{MutexState, both as with_mutexes}
-use Rattle.sem_mutex.specs.declared.took.Took.{Took as MutexTook}
-use Rattle.sem_mutex.specs.declared.took.Took.TheVariants as mutex_took
 use Rattle.sem_mutex.specs.Calls as mutex
 use Rattle.sem_mutex.specs.Making as making
 use Rattle.kernel_world.specs.declared.objects.Objects.{Objects}
@@ -95,25 +93,23 @@ mutex_with k o (Some options) = mutex_unless (making.create_refusal (mutexes k o
 abbrev pub mutex_row : KernState → Objects → ℕ → ObjectRow
 mutex_row k o options = mutex_with k o (read_options options kinds.Mutex)
 
--- ---- semTake: a take that pends is answered at the end of its wait
-abbrev pub plain_reply : PlainTook → Reply
-plain_reply plain_took.Taken = Answer ok_word
-plain_reply plain_took.Pended = Later
+-- a call that is done is answered with OK; one that waits is answered at the end of its wait
+abbrev pub took_reply : Took → Reply
+took_reply Taken = Answer ok_word
+took_reply Pended = Later
 
-abbrev pub mutex_reply : MutexTook → Reply
-mutex_reply mutex_took.Taken = Answer ok_word
-mutex_reply mutex_took.Pended = Later
+-- ---- semTake
 
 abbrev pub plain_take_unless : Option Errno → KernState → Objects → ℕ → ℕ → ℕ → ObjectRow
 plain_take_unless (Some e) k o who id n = refused k o e
-plain_take_unless None k o who id n = by_semaphores o (plain.take (sems k o) who id n) (plain_reply (plain.took (sems k o) id))
+plain_take_unless None k o who id n = by_semaphores o (plain.take (sems k o) who id n) (took_reply (plain.took (sems k o) id))
 
 abbrev pub plain_take : KernState → Objects → ℕ → ℕ → ℕ → ObjectRow
 plain_take k o who id n = plain_take_unless (plain.take_refusal (sems k o) id n) k o who id n
 
 abbrev pub mutex_take_unless : Option Errno → KernState → Objects → ℕ → ℕ → ℕ → ObjectRow
 mutex_take_unless (Some e) k o who id n = refused k o e
-mutex_take_unless None k o who id n = by_mutexes o (mutex.take (mutexes k o) who id n) (mutex_reply (mutex.took who (object_of o.mutexes id)))
+mutex_take_unless None k o who id n = by_mutexes o (mutex.take (mutexes k o) who id n) (took_reply (mutex.took who (object_of o.mutexes id)))
 
 abbrev pub mutex_take : KernState → Objects → ℕ → ℕ → ℕ → ObjectRow
 mutex_take k o who id n = mutex_take_unless (mutex.take_refusal who n (object_of o.mutexes id)) k o who id n

@@ -12,10 +12,10 @@ ghost use Rattle.object_calls.specs.QueueRows.{row_of, task_in as task_in_lem, s
 use board_mem::Ram;
 use id_table::Ident;
 use kernel_world::{Actor, DONE, Objects, Reply};
-use msg_queue::{Got, MakeErr, Receiving, Sending, Took};
+use msg_queue::{Got, MakeErr, Receiving, Sending};
 use std::alloc::Global;
 use wind_base::{Errno, NoMemory};
-use wind_core::Kern;
+use wind_core::{Kern, Took};
 
 // The message priority that goes in front (VxWorks 5.4 Reference Manual, msgQSend: MSG_PRI_URGENT).
 const URGENT: u32 = 1;

@@ -2,7 +2,8 @@
 
 ghost use Rattle.std.specs.Prelude.{◌≡◌, false};
 ghost use Rattle.wind_core.specs.State.{Lives};
-ghost use Rattle.sem_mutex.specs.Kept.{IsEarly};
+ghost use Rattle.sem_plain.specs.State.{IsEarly as PlainEarly};
+ghost use Rattle.sem_mutex.specs.Kept.{FewSafe, FewSinces, IsEarly};
 ghost use Rattle.kernel_world.specs.Actors.{Acts, target as target_lem};
 ghost use Rattle.kernel_world.specs.Objects.{KeepsObjects};
 ghost use Rattle.object_calls.specs.SemRows.{row_of, mutexes, binary_row, counting_row, mutex_row, plain_take, mutex_take, take_row, plain_give, mutex_give, give_row, flush_row, delete_row, priority_row};
@@ -10,7 +11,7 @@ ghost use Rattle.object_calls.specs.SemRows.{row_of, mutexes, binary_row, counti
 use id_table::Ident;
 use kernel_world::{Actor, DONE, Objects, Reply, target};
 use wind_base::{Errno, Pri, SemKind, SemOptions};
-use wind_core::Kern;
+use wind_core::{Kern, Took};
 
 /// semBCreate: a binary semaphore with these options, in state 0 or 1. Refused where an option isn't allowed, the
 /// state is another, as many semaphores live as may, or no id is left.
@@ -72,12 +73,12 @@ pub fn create_mutex(kern: &mut Kern, objects: &mut Objects, options: u32) -> Rep
 // semTake of a semaphore
 fn take_plain(kern: &mut Kern, objects: &mut Objects, who: Ident, id: u32, timeout: u32) -> Reply
     requires live { Lives kern.old who }
-    requires early { IsEarly (mutexes kern.old objects.old) }
+    requires early { PlainEarly kern.old }
     ensures row { row_of kern.new objects.new result ≡ plain_take kern.old objects.old who id timeout }
 {
     match objects.semaphores.take(kern, who, id, timeout) {
-        Ok(sem_plain::Took::Taken) => DONE,
-        Ok(sem_plain::Took::Pended) => Reply::Later,
+        Ok(Took::Taken) => DONE,
+        Ok(Took::Pended) => Reply::Later,
         Err(errno) => Reply::Refusal(errno),
     }
 }
@@ -90,8 +91,8 @@ fn take_mutex(kern: &mut Kern, objects: &mut Objects, who: Ident, id: u32, timeo
     ensures row { row_of kern.new objects.new result ≡ mutex_take kern.old objects.old who id timeout }
 {
     match objects.mutexes.take(kern, who, id, timeout) {
-        Ok(sem_mutex::Took::Taken) => DONE,
-        Ok(sem_mutex::Took::Pended) => Reply::Later,
+        Ok(Took::Taken) => DONE,
+        Ok(Took::Pended) => Reply::Later,
         Err(errno) => Reply::Refusal(errno),
     }
 }
@@ -116,7 +117,7 @@ pub fn take(kern: &mut Kern, objects: &mut Objects, who: Actor, id: u32, timeout
 
 // semGive of a semaphore
 fn give_plain(kern: &mut Kern, objects: &mut Objects, id: u32) -> Reply
-    requires early { IsEarly (mutexes kern.old objects.old) }
+    requires early { PlainEarly kern.old }
     ensures row { row_of kern.new objects.new result ≡ plain_give kern.old objects.old id }
 {
     match objects.semaphores.give(kern, id) {
@@ -129,7 +130,8 @@ fn give_plain(kern: &mut Kern, objects: &mut Objects, id: u32) -> Reply
 fn give_mutex(kern: &mut Kern, objects: &mut Objects, who: Ident, id: u32) -> Reply
     requires live { Lives kern.old who }
     requires kept { KeepsObjects kern.old objects.old }
-    requires early { IsEarly (mutexes kern.old objects.old) }
+    requires since { FewSinces kern.old }
+    requires safe { FewSafe kern.old }
     ensures row { row_of kern.new objects.new result ≡ mutex_give kern.old objects.old who id }
 {
     match objects.mutexes.give(kern, who, id) {
@@ -157,7 +159,7 @@ pub fn give(kern: &mut Kern, objects: &mut Objects, who: Actor, id: u32) -> Repl
 
 /// semFlush: all who wait for a semaphore go on. Refused where none lives, and of a mutex.
 pub fn flush(kern: &mut Kern, objects: &mut Objects, id: u32) -> Reply
-    requires early { IsEarly (mutexes kern.old objects.old) }
+    requires early { PlainEarly kern.old }
     ensures row { row_of kern.new objects.new result ≡ flush_row kern.old objects.old id }
 {
     if objects.mutexes.is_live(id) {
@@ -191,7 +193,7 @@ pub fn delete(kern: &mut Kern, objects: &mut Objects, id: u32) -> Reply
 pub fn set_priority(kern: &mut Kern, objects: &mut Objects, who: Actor, id: u32, pri: u32) -> Reply
     requires live { Acts kern.old who }
     requires kept { KeepsObjects kern.old objects.old }
-    requires early { IsEarly (mutexes kern.old objects.old) }
+    requires since { FewSinces kern.old }
     ensures row { row_of kern.new objects.new result
         ≡ priority_row kern.old objects.old pri (target_lem kern.old who id) }
 {

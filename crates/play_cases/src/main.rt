@@ -1,10 +1,12 @@
-//! Plays sessions in each of which one call of the folder or of the sink fails, and tells how they ended; and sessions of
-//! one line, and tells how many pages of RAM they made.
+//! Plays sessions in each of which one call of the folder or of the sink fails, and tells how they ended, and which calls
+//! they made; and sessions of one line, and tells how many pages of RAM they made.
 #![tactic(auto)]
 
+mod calls;
 mod session;
 mod table;
 
+use calls::calls;
 use session::{Objects, Session};
 use std::{fs, io};
 use table::{fetches, pages, puts};
@@ -39,5 +41,6 @@ fn play<R: Print + AllocGlobal>(rt: &R, objects: &Objects) -> io::Result<()> {
     fetches(rt, &sum_and_load)?;
     puts(rt, &sum, 4)?;
     puts(rt, &three_loads, 19)?;
+    calls(rt, &sum_and_load)?;
     pages(rt, objects)
 }

@@ -1,8 +1,9 @@
 //! One session, of which one call may fail.
 
+use outside_log::{LoggedFolder, LoggedSink};
 use std::alloc::{AllocError, Global};
 use std::fmt;
-use wind_outside::{MemFolder, MemSink};
+use wind_outside::{Folder, MemFolder, MemSink, Sink};
 use wind_session::{Ending, Stand, Status, play};
 
 /// The most bytes that a session writes.
@@ -81,6 +82,13 @@ impl Outcome {
     }
 }
 
+/// What a session left, with its calls of the folder and of the sink.
+#[derive(Drop)]
+pub struct Logged {
+    pub folder: LoggedFolder<MemFolder>,
+    pub out: LoggedSink<MemSink>,
+}
+
 /// A session.
 #[derive(Clone, Copy)]
 pub struct Session<'a> {
@@ -110,11 +118,11 @@ fn left_of(ending: &Ending) -> Left {
 }
 
 // What a session with this limit leaves, on a board without devices.
-fn played(
+fn played<F: Folder, O: Sink>(
     alloc: Global,
     limit: &str,
-    folder: &mut MemFolder,
-    out: &mut MemSink,
+    folder: &mut F,
+    out: &mut O,
     err: &mut MemSink,
 ) -> Left {
     let words = ["windplay", "--limit", limit];
@@ -154,5 +162,17 @@ impl<'a> Session<'a> {
         let mut folder = self.folder(alloc, failing)?;
         let left = played(alloc, limit.as_str(), &mut folder, &mut out, &mut err);
         Ok(Outcome { left, out })
+    }
+
+    /// Plays it where one call fails, with a log of the calls of the folder and of the sink.
+    pub fn play_logged(&self, alloc: Global, failing: Failing) -> Result<Logged, AllocError> {
+        let limit = STEPS.to_string(alloc)?;
+        let out = sink(alloc, failing.puts(alloc)?)?;
+        let mut out = LoggedSink::new(alloc, out);
+        let mut err = sink(alloc, Vec::new(alloc))?;
+        let folder = self.folder(alloc, failing)?;
+        let mut folder = LoggedFolder::new(alloc, folder);
+        played(alloc, limit.as_str(), &mut folder, &mut out, &mut err);
+        Ok(Logged { folder, out })
     }
 }

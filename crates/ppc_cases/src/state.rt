@@ -2,8 +2,10 @@
 
 use board_bus::BoardBus;
 use board_mem::Ram;
+use case_files::{Trouble, number};
 use ppc_core::{Bus, Trap};
 use std::alloc::Global;
+use std::fmt::Write;
 use wind_base::{NoMemory, Regs};
 
 /// Where the instructions of a case stand, if it says nothing else.
@@ -49,40 +51,61 @@ impl State {
     }
 
     /// Takes items as `r3=7fffffff`, `cr=90000000`, `@40=deadbeef` for the word at an address, and
-    /// `trap=align`. None where one is nothing of the kind.
-    pub fn take(&mut self, items: &str) -> Option<()>
+    /// `trap=align`.
+    pub fn take(&mut self, items: &str) -> Result<(), Trouble>
         requires { Unit {0} }
     {
         for item in items.split_whitespace() {
-            let (name, value) = item.split_once('=')?;
+            let Some((name, value)) = item.split_once('=') else {
+                return Err(Trouble::Unreadable);
+            };
             if name == "trap" {
                 self.trap = Some(trap_of(value)?);
             } else {
-                self.take_number(name, hexadecimal(value)?)?;
+                self.take_number(name, number(value)?)?;
             }
         }
-        Some(())
+        Ok(())
     }
 
-    fn take_number(&mut self, name: &str, value: u32) -> Option<()>
+    fn take_number(&mut self, name: &str, value: u32) -> Result<(), Trouble>
         requires { Unit {0} }
     {
         if let Some(n) = name.strip_prefix('r') {
-            let n = n.parse::<usize>().ok()?;
-            *self.regs.gpr.get_mut(n)? = value;
+            *self.general(n)? = value;
         } else if let Some(at) = name.strip_prefix('@') {
-            self.bus.store32(hexadecimal(at)?, value).ok()?;
+            self.bus
+                .store32(number(at)?, value)
+                .or(Err(Trouble::Unreadable))?;
         } else {
-            match name {
-                "cr" => self.regs.cr = value,
-                "xer" => self.regs.xer = value,
-                "lr" => self.regs.lr = value,
-                "ctr" => self.regs.ctr = value,
-                "pc" => self.regs.pc = value,
-                _ => return None,
-            }
+            *self.special(name)? = value;
         }
-        Some(())
+        Ok(())
+    }
+
+    // The general register of a number.
+    fn general(&mut self, number: &str) -> Result<&mut u32, Trouble> {
+        let number = number.parse::<usize>().or(Err(Trouble::Unreadable))?;
+        self.regs.gpr.get_mut(number).ok_or(Trouble::Unreadable)
+    }
+
+    // The register of a name.
+    fn special(&mut self, name: &str) -> Result<&mut u32, Trouble> {
+        match name {
+            "cr" => Ok(&mut self.regs.cr),
+            "xer" => Ok(&mut self.regs.xer),
+            "lr" => Ok(&mut self.regs.lr),
+            "ctr" => Ok(&mut self.regs.ctr),
+            "pc" => Ok(&mut self.regs.pc),
+            _ => Err(Trouble::Unreadable),
+        }
+    }
+
+    /// The registers and the trap.
+    pub fn shown(&self, alloc: Global) -> Result<String, Trouble> {
+        let mut text = String::new(alloc);
+        write!(text, "{:?} {:?}", self.regs, self.trap).or(Err(Trouble::NoMemory))?;
+        Ok(text)
     }
 
     /// Whether all that an outside processor shows is equal: everything but the reservation.
@@ -103,18 +126,13 @@ fn same_bytes(ram: &Ram, other: &Ram) -> bool {
     (0..SIZE).all(|at| ram.read8(at) == other.read8(at))
 }
 
-/// A number in hexadecimal digits.
-pub fn hexadecimal(text: &str) -> Option<u32> {
-    u32::from_str_radix(text, 16).ok()
-}
-
-fn trap_of(name: &str) -> Option<Trap> {
+fn trap_of(name: &str) -> Result<Trap, Trouble> {
     match name {
-        "illegal" => Some(Trap::Illegal),
-        "align" => Some(Trap::Align),
-        "access" => Some(Trap::Access),
-        "trap" => Some(Trap::TrapInsn),
-        "sysc" => Some(Trap::Sysc),
-        _ => None,
+        "illegal" => Ok(Trap::Illegal),
+        "align" => Ok(Trap::Align),
+        "access" => Ok(Trap::Access),
+        "trap" => Ok(Trap::TrapInsn),
+        "sysc" => Ok(Trap::Sysc),
+        _ => Err(Trouble::Unreadable),
     }
 }

@@ -18,13 +18,13 @@ use Rattle.task_safety.specs.Safety.{safe_of, make_safe, lessen}
 use Rattle.wind_base.specs.declared.errno.Errno.{Errno}
 use Rattle.wind_base.specs.declared.errno.Errno.TheVariants as errors
 use Rattle.inheritance.specs.declared.mutex.Mutex.{Mutex}
-use Rattle.sem_mutex.specs.declared.took.Took.{Took}
-use Rattle.sem_mutex.specs.declared.took.Took.TheVariants.{Taken, Pended}
+use Rattle.wind_core.specs.declared.took.Took.{Took}
+use Rattle.wind_core.specs.declared.took.Took.TheVariants.{Taken, Pended}
 use Rattle.inheritance.specs.Mutexes.{MutexState, both, is_id, holds, held_count, AreMutexes, mutex_place, owner_in}
 use Rattle.inheritance.specs.Reach.{raised}
 use Rattle.sem_mutex.specs.Calls.{held_of, holding, guarded, eased, restored, less_held, dropped, letting_go, pass_on, passed_on, give_up, shallow, hand, deepen, await, handed, deepened, awaited, taken, take_alone, take, is_others, take_refusal, took, give_alone, give, give_refusal, given_up, given_once, owner_ended, its_owner_ended, delete_refusal, delete, live_mutex, pri_after, priority_alone}
 use Rattle.inheritance.specs.Laws.{OwnersUrgentBut}
-use Rattle.sem_mutex.specs.Kept.{TaskKept, KeepsMutexes, IsEarly}
+use Rattle.sem_mutex.specs.Kept.{TaskKept, KeepsMutexes, FewSafe, IsEarly}
 use Rattle.inheritance.proofs.Lookups.{live_is}
 use Rattle.inheritance.proofs.Same.{same_law}
 use Rattle.sem_mutex.proofs.Handing.{found_row, hand_keeps, deepen_keeps, await_urgent}
@@ -67,11 +67,11 @@ holding_safe k who m =
     ]
 
 -- ---- counts are far from their ends
-pub few_safe : (s : MutexState) (who : ℕ) → IsEarly s → safe_of (task_of s.kern.tasks who) < 2 ^ 61
-few_safe s who early =
-    elim (task_of s.kern.tasks who) as (λ o. task_of s.kern.tasks who ≡ o → safe_of o < 2 ^ 61) [
+pub few_safe : (k : KernState) (who : ℕ) → FewSafe k → safe_of (task_of k.tasks who) < 2 ^ 61
+few_safe k who few =
+    elim (task_of k.tasks who) as (λ o. task_of k.tasks who ≡ o → safe_of o < 2 ^ 61) [
       | None ↦ λ e. omega arith
-      | Some t ↦ λ e. found_all (λ u. u.safe < 2 ^ 61) s.kern.tasks who t early.safes e
+      | Some t ↦ λ e. found_all (λ u. u.safe < 2 ^ 61) k.tasks who t few e
     ] refl
 
 pub few_held : (s : MutexState) (who : ℕ) → AreMutexes s.mutexes → KeepsMutexes s → held_of (task_of s.kern.tasks who) ≤ 1024

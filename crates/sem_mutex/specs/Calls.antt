@@ -11,8 +11,8 @@ use Rattle.wind_core.specs.Orders.{first_waiter}
 use Rattle.wind_core.specs.Moves.{pend, end_wait, wake_all, change_pri, set_held, set_normal}
 use Rattle.task_safety.specs.Safety.{make_safe, lessen}
 use Rattle.inheritance.specs.declared.mutex.Mutex.{Mutex}
-use Rattle.sem_mutex.specs.declared.took.Took.{Took}
-use Rattle.sem_mutex.specs.declared.took.Took.TheVariants.{Taken, Pended}
+use Rattle.wind_core.specs.declared.took.Took.{Took}
+use Rattle.wind_core.specs.declared.took.Took.TheVariants.{Taken, Pended}
 use Rattle.inheritance.specs.Mutexes.{MutexState, is_id, mutex_place, owner_in}
 use Rattle.inheritance.specs.Reach.{raised}
 

@@ -37,9 +37,17 @@ pub record KeepsMutexes (s : MutexState) : Type 0 where
   -- each live owner is at least as urgent as its waiters
   pub urgent : OwnersUrgent s.mutexes s.kern.tasks
 
--- the counters are far from their ends
+-- the order numbers are far from their end
+abbrev pub FewSinces : KernState → Type 0
+FewSinces k = k.next_since < 2 ^ 61
+
+-- the counts of safe sections are far from their end
+abbrev pub FewSafe : KernState → Type 0
+FewSafe k = All (λ t. t.safe < 2 ^ 61) k.tasks
+
+-- all counters are far from their ends: those of order numbers, ticks, safe sections and takes
 pub record IsEarly (s : MutexState) : Type 0 where
-  pub sinces : s.kern.next_since < 2 ^ 61
+  pub sinces : FewSinces s.kern
   pub ticks : s.kern.tick < 2 ^ 61
-  pub safes : All (λ t. t.safe < 2 ^ 61) s.kern.tasks
+  pub safes : FewSafe s.kern
   pub depths : All (λ r. r.1.depth < 2 ^ 61) s.mutexes

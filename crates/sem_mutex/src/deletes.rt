@@ -3,7 +3,7 @@
 ghost use Rattle.std.specs.Prelude.{◌≡◌, ◌<◌, ◌+◌, ◌^◌, Some, None, IsSome, IfOk, IfErr};
 ghost use Rattle.id_table.specs.Rows.{object_of};
 ghost use Rattle.inheritance.specs.Mutexes.{both};
-ghost use Rattle.sem_mutex.specs.Kept.{KeepsMutexes, IsEarly};
+ghost use Rattle.sem_mutex.specs.Kept.{KeepsMutexes, FewSinces};
 ghost use Rattle.sem_mutex.specs.Calls.{its_owner_ended, delete, delete_refusal};
 
 use crate::mutexes::Mutexes;
@@ -41,7 +41,7 @@ impl Mutexes {
     /// `ObjIdError` where there is no such mutex. Nothing changes then.
     pub fn delete(&mut self, k: &mut Kern, id: u32) -> Result<(), Errno>
         requires kept { KeepsMutexes (both k.old self.old) }
-        requires early { IsEarly (both k.old self.old) }
+        requires since { FewSinces k.old }
         ensures ok { IfOk result (λ _. (delete_refusal (object_of self.old id) ≡ None)
             × (both k.new self.new ≡ delete (both k.old self.old) id)) }
         ensures err { IfErr result (λ e. (delete_refusal (object_of self.old id) ≡ Some e)

@@ -43,7 +43,7 @@ fn are_shallow(table: &Table<Mutex>) -> bool
 
 impl Mutexes {
     /// Whether the order numbers, the ticks, and the counts of safe sections and of takes are far from their
-    /// ends, as the other calls ask for.
+    /// ends, as `take` requires. The other calls require it only of those that they raise.
     pub fn is_early(&self, k: &Kern) -> bool
         ensures yes { result ≡ true → IsEarly (both k.now self.now) }
         ensures no { result ≡ false → IsEarly (both k.now self.now) → ⊥ }

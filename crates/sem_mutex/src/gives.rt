@@ -5,7 +5,7 @@ ghost use Rattle.id_table.specs.Rows.{object_of};
 ghost use Rattle.wind_core.specs.State.{Lives};
 ghost use Rattle.inheritance.specs.declared.mutex.Mutex.{Mutex as Mutex_lem};
 ghost use Rattle.inheritance.specs.Mutexes.{both};
-ghost use Rattle.sem_mutex.specs.Kept.{KeepsMutexes, IsEarly};
+ghost use Rattle.sem_mutex.specs.Kept.{KeepsMutexes, FewSinces, FewSafe};
 ghost use Rattle.sem_mutex.specs.Calls.{passed_on, given_up, given_once, give, give_refusal};
 
 use crate::mutexes::Mutexes;
@@ -29,7 +29,8 @@ impl Mutexes {
     fn pass_on(&mut self, k: &mut Kern, id: Ident)
         requires there { IsSome (object_of self.old id) }
         requires kept { KeepsMutexes (both k.old self.old) }
-        requires early { IsEarly (both k.old self.old) }
+        requires since { FewSinces k.old }
+        requires safe { FewSafe k.old }
         ensures { both k.new self.new ≡ passed_on (both k.old self.old) id (object_of self.old id) }
     {
         k.facts();
@@ -47,7 +48,8 @@ impl Mutexes {
         requires live { Lives k.old who }
         requires there { IsSome (object_of self.old id) }
         requires kept { KeepsMutexes (both k.old self.old) }
-        requires early { IsEarly (both k.old self.old) }
+        requires since { FewSinces k.old }
+        requires safe { FewSafe k.old }
         ensures { both k.new self.new ≡ given_up (both k.old self.old) who id (object_of self.old id) }
     {
         k.facts();
@@ -77,7 +79,8 @@ impl Mutexes {
     pub fn give(&mut self, k: &mut Kern, caller: Ident, id: u32) -> Result<(), Errno>
         requires live { Lives k.old caller }
         requires kept { KeepsMutexes (both k.old self.old) }
-        requires early { IsEarly (both k.old self.old) }
+        requires since { FewSinces k.old }
+        requires safe { FewSafe k.old }
         ensures ok { IfOk result (λ _. (give_refusal caller (object_of self.old id) ≡ None)
             × (both k.new self.new ≡ give (both k.old self.old) caller id)) }
         ensures err { IfErr result (λ e. (give_refusal caller (object_of self.old id) ≡ Some e)

@@ -8,8 +8,7 @@ mod laws;
 mod mutexes;
 mod owners;
 mod takes;
-mod took;
 
 pub use laws::kept_law;
 pub use mutexes::Mutexes;
-pub use took::Took;
+pub use wind_core::Took;

@@ -5,7 +5,7 @@ ghost use Rattle.wind_base.specs.SemBits.{is_priority, is_inversion_safe};
 ghost use Rattle.id_table.specs.Rows.{object_of};
 ghost use Rattle.wind_core.specs.State.{Lives};
 ghost use Rattle.inheritance.specs.Mutexes.{both, owner_in, AreMutexes};
-ghost use Rattle.sem_mutex.specs.Kept.{KeepsMutexes, IsEarly};
+ghost use Rattle.sem_mutex.specs.Kept.{KeepsMutexes, FewSinces};
 ghost use Rattle.sem_mutex.specs.Calls.{live_mutex, priority_set};
 ghost use Rattle.sem_mutex.specs.Making.{create, create_refusal, new_mutex};
 
@@ -137,7 +137,7 @@ impl Mutexes {
     pub fn priority_set(&mut self, k: &mut Kern, who: Ident, pri: Pri)
         requires live { Lives k.old who }
         requires kept { KeepsMutexes (both k.old self.old) }
-        requires early { IsEarly (both k.old self.old) }
+        requires since { FewSinces k.old }
         ensures state { both k.new self.new ≡ priority_set (both k.old self.old) who pri }
         ensures kept { KeepsMutexes (both k.new self.new) }
     {

@@ -10,13 +10,12 @@ ghost use Rattle.sem_mutex.specs.Calls.{held_of, handed, deepened, awaited, take
 
 use crate::mutexes::Mutexes;
 use crate::owners::{add_depth, adopt, guard, own};
-use crate::took::Took;
 use id_table::sides::OBJECT;
 use id_table::{Ident, Place};
 use inheritance::inherit;
 use wind_base::Errno;
 use wind_base::words::NO_WAIT;
-use wind_core::Kern;
+use wind_core::{Kern, Took};
 
 impl Mutexes {
     // The task becomes the owner.
@@ -54,7 +53,7 @@ impl Mutexes {
         k.pend(who, Place { side: OBJECT, id }, fifo, timeout);
     }
 
-    /// The caller takes the mutex, once more where it owns it; or it begins to wait for it, for so many ticks
+    /// The caller takes the mutex, once more where it owns it; or it begins to wait for it, for `timeout` ticks
     /// or without end where the timeout is `WAIT_FOREVER`, and the owner inherits its urgency.
     ///
     /// # Errors

@@ -9,7 +9,7 @@ use Rattle.wind_core.specs.State.{KernState, IsKern, Lives, task_id}
 use Rattle.wind_core.specs.Orders.{first_waiter}
 use Rattle.wind_core.proofs.Waking.{wake_turn}
 use Rattle.sem_plain.specs.declared.semaphore.Semaphore.{Semaphore}
-use Rattle.sem_plain.specs.declared.semaphore.Took.TheVariants.{Taken, Pended}
+use Rattle.wind_core.specs.declared.took.Took.TheVariants.{Taken, Pended}
 use Rattle.sem_plain.specs.State.{SemState, both}
 use Rattle.sem_plain.specs.Calls.{create, live, written, emptied, awaited, take_refused, take_refusal, took_of, took, take_found, take}
 use Rattle.sem_plain.proofs.Keeping.{below_create}

@@ -12,8 +12,8 @@ use Rattle.task_block.specs.declared.task.Task.{Task}
 use Rattle.wind_core.specs.Orders.{first_waiter}
 use Rattle.wind_core.specs.Moves.{pend, end_wait, wake_all}
 use Rattle.sem_plain.specs.declared.semaphore.Semaphore.{Semaphore}
-use Rattle.sem_plain.specs.declared.semaphore.Took.{Took}
-use Rattle.sem_plain.specs.declared.semaphore.Took.TheVariants.{Taken, Pended}
+use Rattle.wind_core.specs.declared.took.Took.{Took}
+use Rattle.wind_core.specs.declared.took.Took.TheVariants.{Taken, Pended}
 use Rattle.sem_plain.specs.State.{SemState, sem_place}
 
 -- the live semaphore of an id

@@ -7,4 +7,5 @@ mod semaphore;
 
 pub use laws::{calls_law, kernel_law, waiters_law};
 pub use plain::Plain;
-pub use semaphore::{Semaphore, Took, may_hold};
+pub use semaphore::{Semaphore, may_hold};
+pub use wind_core::Took;

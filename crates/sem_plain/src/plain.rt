@@ -8,7 +8,7 @@ ghost use Rattle.wind_core.specs.State.{Lives};
 ghost use Rattle.sem_plain.specs.State.{both, may_hold, sem_place, IsEarly};
 ghost use Rattle.sem_plain.specs.Calls.{create, create_refusal, new_semaphore, take, take_refusal, took, awaited, emptied, filled, give, give_refusal, flush, flush_refusal, delete, delete_refusal};
 
-use crate::semaphore::{Semaphore, Took, empty, fill};
+use crate::semaphore::{Semaphore, empty, fill};
 use id_table::sides::OBJECT;
 use id_table::{Ident, Place, Table};
 use std::alloc::Global;
@@ -16,7 +16,7 @@ use std::marker::Model;
 use wind_base::limits::SEMAPHORES;
 use wind_base::words::{ERROR, NO_WAIT, OK};
 use wind_base::{Errno, NoMemory, SemKind, SemOptions};
-use wind_core::Kern;
+use wind_core::{Kern, Took};
 
 /// The binary and counting semaphores.
 #[derive(Drop)]
@@ -93,7 +93,7 @@ impl Plain {
         kern.pend(who, place_of(id), fifo, timeout);
     }
 
-    /// Makes a semaphore that can be taken so many times.
+    /// Makes a semaphore that can be taken `count` times.
     ///
     /// # Errors
     ///
@@ -129,7 +129,7 @@ impl Plain {
         Ok(id)
     }
 
-    /// The caller takes the semaphore, or begins to wait for it for so many ticks, or without end where
+    /// The caller takes the semaphore, or begins to wait for it for `timeout` ticks, or without end if
     /// `timeout` is `WAIT_FOREVER`: by priority, or by arrival, as the semaphore's options say.
     ///
     /// # Errors

@@ -18,15 +18,6 @@ pub struct Semaphore {
     pub count: u32,
 }
 
-/// How a take went on.
-#[derive(Clone, Copy, Debug, PartialEq, Eq)]
-pub enum Took {
-    /// The caller has it.
-    Taken,
-    /// The caller waits for it.
-    Pended,
-}
-
 /// Whether a semaphore of this kind may have this count: a binary one 0 or 1, a counting one any. A mutex
 /// has no count.
 pub fn may_hold(kind: SemKind, count: u32) -> bool

@@ -1,5 +1,5 @@
 -- What evaluation keeps of the state.
-use Rattle.std.proofs.Common.{◌≡◌, ℕ, zero, suc, ◌+◌, ◌<◌, ◌≤◌, Bool, true, false, cond, ltb, leb, if◌then◌else◌, List, [], ◌∷◌, ◌++◌, length, replicate, Option, Some, None, Ok, Err, inl, inr, refl, sym, ap, ◌∙◌, subst, append_assoc, length-append, arith}
+use Rattle.std.proofs.Common.{◌≡◌, ℕ, zero, suc, ◌+◌, ◌<◌, ◌≤◌, Bool, true, false, cond, eqb, ltb, leb, if◌then◌else◌, List, [], ◌∷◌, ◌++◌, length, replicate, Option, Some, None, Ok, Err, inl, inr, refl, sym, ap, ◌∙◌, subst, append_assoc, length-append, arith}
 use Rattle.std.specs.Prelude.{◌⊎◌}
 use Rattle.std.specs.List.{Contains}
 use Rattle.std.proofs.lemmas.Bool.{leb-false}
@@ -20,7 +20,7 @@ use Rattle.mem_partition.proofs.Allocs.{after_is, alloc_kept, given_block}
 use Rattle.symbol_table.specs.Newest.{find}
 use Rattle.symbol_table.specs.declared.symbol.Symbol.{Symbol}
 use Rattle.shell_parse.specs.declared.tree.BinOp.{BinOp}
-use Rattle.shell_eval.specs.declared.fault.EvalFault.TheVariants.{AccessAt, SymbolsFull}
+use Rattle.shell_eval.specs.declared.fault.EvalFault.TheVariants.{Undefined, AccessAt, SymbolsFull}
 use Rattle.shell_eval.specs.Operators.{between_words}
 use Rattle.shell_eval.specs.State.{State}
 use Rattle.shell_eval.specs.Words.{Tried, made, combined, combined_by, word_read, word_stored, is_value, name_by, name_word, address_by, name_value, block_of, with_block_of, with_ram, string_by, string_made, variable_bytes, announcement, variable, with_variable, variable_by, variable_made}
@@ -251,11 +251,16 @@ variable_by_safe s x v inside few (Some at) e =
 
 pub variable_safe : (s : State) (x : List ℕ) (v : ℕ) → IsPoolInRam s → Safe (length (announcement x)) s (variable_made s x v)
 unfolding variable_made
-variable_safe s x v inside = elim (leb most_symbols (length s.symbols)) as (λ t. leb most_symbols (length s.symbols) ≡ t →
-    Safe (length (announcement x)) s (if t then Err SymbolsFull else variable_by s x v (block_of s.pool variable_bytes))) [
-      | true ↦ λ e. tt
-      | false ↦ λ e. variable_by_safe s x v inside (leb-false most_symbols (length s.symbols) e) (block_of s.pool variable_bytes) refl
-    ] refl
+variable_safe s x v inside = elim (eqb (length x) 0) as (λ b. Safe (length (announcement x)) s
+    (if b then Err (Undefined x) else (if leb most_symbols (length s.symbols) then Err SymbolsFull else variable_by s x v (block_of s.pool variable_bytes)))) [
+      | true ↦ tt
+      | false ↦
+          elim (leb most_symbols (length s.symbols)) as (λ t. leb most_symbols (length s.symbols) ≡ t →
+          Safe (length (announcement x)) s (if t then Err SymbolsFull else variable_by s x v (block_of s.pool variable_bytes))) [
+            | true ↦ λ e. tt
+            | false ↦ λ e. variable_by_safe s x v inside (leb-false most_symbols (length s.symbols) e) (block_of s.pool variable_bytes) refl
+          ] refl
+    ]
 
 pub combined_safe : (n : ℕ) (s : State) (op : BinOp) (a b : ℕ) → Safe n s (combined s op a b)
 combined_safe n s op a b = go (between_words op a b) where

@@ -4,7 +4,7 @@ use Rattle.std.specs.Prelude.{codes}
 use Rattle.shell_eval.specs.declared.code.Entry.{Entry}
 use Rattle.shell_eval.specs.declared.code.Entry.TheVariants as entries
 use Rattle.shell_parse.specs.Trees as trees
-use Rattle.shell_parse.specs.Trees.{PlainTree, Arguments, PlainStmt}
+use Rattle.shell_parse.specs.Trees.{PlainTree, PlainStmt}
 use Rattle.shell_eval.specs.Pending.{begun_expr, begun_stmt}
 use Rattle.shell_eval.specs.Code.{compiled_expr, compiled_stmt}
 use Rattle.shell_eval.specs.Frames.{Part, Source, Alone, Value, part_tree, code_at, stack_at, Stands}

@@ -22,7 +22,7 @@ use Rattle.shell_eval.specs.Operators.{before_word}
 use Rattle.shell_eval.specs.State.{State}
 use Rattle.shell_eval.specs.Words.{Tried, combined, word_read, word_stored, is_value, name_word, name_value, string_made, variable_made}
 use Rattle.shell_parse.specs.Trees as trees
-use Rattle.shell_parse.specs.Trees.{PlainTree, Arguments}
+use Rattle.shell_parse.specs.Trees.{PlainTree}
 use Rattle.shell_eval.specs.Pending.{Pending, Number, Str, Name, Lone, Address, Word, Unary, Binary, Choice, SetName, SetWord, New, Call, Hole, Args, End, Then, Logic, All, Any, logic_of, two_sided, begun}
 use Rattle.shell_eval.specs.Reduce.{Is, Steps, Calls, Faults, reduce, reduce_all, within, given, padded, decides, lone_by, kind_or_data, old_read, resolved, left_by}
 use Rattle.shell_eval.specs.Evaluate.{ended, evaluate}

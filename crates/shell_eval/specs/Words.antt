@@ -1,5 +1,5 @@
 -- What names, strings, addresses and new variables give.
-use Rattle.std.specs.Prelude.{ℕ, ◌+◌, Bool, true, false, if◌then◌else◌, List, [], ◌∷◌, ◌++◌, length, replicate, Option, Some, None, Result, Ok, Err, codes, nat_le}
+use Rattle.std.specs.Prelude.{ℕ, ◌+◌, ◌==◌, Bool, true, false, if◌then◌else◌, List, [], ◌∷◌, ◌++◌, length, replicate, Option, Some, None, Result, Ok, Err, codes, nat_le}
 use Rattle.std.specs.Result.{result_ok}
 use Rattle.wind_base.specs.Limits.{most_symbols}
 use Rattle.board_mem.specs.Memory.{with_bytes}
@@ -124,8 +124,9 @@ abbrev pub variable_by : State → List ℕ → ℕ → Option ℕ → Tried
 variable_by s x v None = Err NoRoom
 variable_by s x v (Some at) = word_stored (with_variable s x at) at v
 
--- a new variable takes a symbol and a block
+-- a new variable takes a symbol and a block; one without a name, which no line has, stays undefined
 unfoldable pub variable_made : State → List ℕ → ℕ → Tried
 variable_made s x v =
-    if nat_le most_symbols (length s.symbols) then Err SymbolsFull
+    if length x == 0 then Err (Undefined x)
+    else if nat_le most_symbols (length s.symbols) then Err SymbolsFull
     else variable_by s x v (block_of s.pool variable_bytes)

@@ -85,9 +85,7 @@ impl Text {
     pub fn new(alloc: Global, bytes: &[u8]) -> Result<Text, NoMemory>
         ensures { IfOk result (λ text. text ≡ bytes.now) }
     {
-        let Ok(mut kept) = bytes.to_vec(alloc) else {
-            return Err(NoMemory);
-        };
+        let mut kept = bytes.to_vec(alloc)?;
         if kept.push(0).is_err() {
             return Err(NoMemory);
         }
@@ -190,9 +188,7 @@ impl Stack {
     pub fn with_room(alloc: Global, n: usize) -> Result<Stack, NoMemory>
         ensures { IfOk result (λ s. s ≡ record { list = []; room = n }) }
     {
-        let Ok(entries) = Vec::with_capacity(alloc, n) else {
-            return Err(NoMemory);
-        };
+        let entries = Vec::with_capacity(alloc, n)?;
         Ok(Stack { entries, room: n })
     }
 

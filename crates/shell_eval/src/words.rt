@@ -210,6 +210,9 @@ pub(crate) fn variable_made(env: &mut Env<'_>, name: Name, v: u32) -> Result<u32
     ensures same { SameEnv env.old env.new }
     ensures size { SameSize env.old env.new }
 {
+    if name.bytes().is_empty() {
+        return Err(EvalFault::Undefined(name));
+    }
     if env.syms.len() >= SYMBOLS {
         return Err(EvalFault::SymbolsFull);
     }

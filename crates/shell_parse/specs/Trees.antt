@@ -30,11 +30,6 @@ abbrev pub arguments_of : List PlainTree → Arguments
 arguments_of [] = End
 arguments_of (e ∷ es) = Then e (arguments_of es)
 
--- arguments as a list
-abbrev pub list_of : Arguments → List PlainTree
-list_of End = []
-list_of (Then e es) = e ∷ list_of es
-
 -- one level of a tree, with each part of it already seen so
 abbrev pub plain_level : Tree-F PlainTree → PlainTree
 plain_level (Tree-F.Number n) = Number n

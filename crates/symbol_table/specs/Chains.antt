@@ -1,10 +1,11 @@
 -- Chains of entries by hash, each from the newest entry to the oldest. There are as many as the table has use for.
 use Rattle.std.specs.Prelude.{◌≡◌, ℕ, zero, suc, ◌+◌, ◌-◌, ◌*◌, ◌/◌, ◌%◌, ◌^◌, ◌<◌, ◌≤◌, Bool, not, ◌&&◌, ◌||◌, ◌==◌, if◌then◌else◌, List, [], ◌∷◌, length, map, ◌++◌, slice_index, slice_set}
+use Rattle.std.specs.List.{All}
 use Rattle.wind_base.specs.Limits.{most_symbols}
 use Rattle.symbol_table.specs.declared.symbol.Symbol.{Symbol}
 use Rattle.symbol_table.specs.declared.links.Links.{Links}
 use Rattle.symbol_table.specs.Newest.{is_named}
-use Rattle.symbol_table.specs.State.{TableState}
+use Rattle.symbol_table.specs.State.{TableState, IsNamed}
 
 -- how many hashes there are
 abbrev pub most_hashes : ℕ
@@ -81,9 +82,11 @@ pub record ChainsState : Type 0 where
 abbrev pub table_of : ChainsState → TableState
 table_of s = record { list = s.list; spare = s.spare }
 
--- what chains always are
+-- the invariants of chains
 pub record AreChains (s : ChainsState) : Type 0 where
   pub few : length s.list + s.spare ≤ most_symbols
+  -- every entry has a name of 1 to 255 bytes
+  pub named : All IsNamed s.list
   pub names : AreNamed s.list s.names
   pub values : AreValued s.list s.values
   -- of each kind at least as many as there are entries and room for more

@@ -5,7 +5,7 @@ use Rattle.symbol_table.specs.declared.symbol.Symbol.{Symbol}
 use Rattle.symbol_table.specs.Newest.{newest}
 use Rattle.symbol_table.specs.State.{without_group}
 
--- the entry stands in the table and passes, and none behind it passes
+-- the entry stands in the table and passes, and none after it passes
 pub record IsNewest (p : Symbol → Bool) (tab : List Symbol) (s : Symbol) : Type 0 where
   pub older : List Symbol
   pub newer : List Symbol

@@ -3,7 +3,8 @@
 ghost use Rattle.std.specs.Prelude.{◌≡◌, ◌<◌, ◌≤◌, ◌-◌, ◌+◌, ◌↔◌, [], length, count_by, ◌==◌, IfOk, OnOk, Err, slice_get, option_copied, vec_capacity};
 ghost use Rattle.wind_base.specs.Limits.{most_symbols};
 ghost use Rattle.symbol_table.specs.Newest.{newest, find_by_value};
-ghost use Rattle.symbol_table.specs.State.{TableState, IsTable, added, without_group, count_of};
+ghost use Rattle.std.specs.List.{All};
+ghost use Rattle.symbol_table.specs.State.{TableState, IsTable, IsNamed, added, without_group, count_of};
 ghost use Rattle.symbol_table.specs.Chains.{AreChains, is_sought, table_of};
 ghost use Rattle.symbol_table.specs.declared.symbol.SymErr.TheVariants as errors;
 
@@ -56,12 +57,8 @@ impl Chains {
     pub(crate) fn new(alloc: Global) -> Result<Chains, NoMemory>
         ensures { IfOk result (λ t. table_of t ≡ record { list = []; spare = 0 }) }
     {
-        let Ok(names) = Links::new(alloc) else {
-            return Err(NoMemory);
-        };
-        let Ok(values) = Links::new(alloc) else {
-            return Err(NoMemory);
-        };
+        let names = Links::new(alloc)?;
+        let values = Links::new(alloc)?;
         Ok(Chains {
             list: Vec::new(alloc),
             spare: 0,
@@ -113,7 +110,8 @@ impl Chains {
 
     /// As `Symbols::add`.
     pub(crate) fn add(&mut self, symbol: Symbol)
-        requires { 0 < self.old.spare }
+        requires room { 0 < self.old.spare }
+        requires named { 0 < length symbol.name }
         ensures { table_of self.new ≡ added (table_of self.old) symbol }
     {
         let name = hash_name(symbol.name.bytes());
@@ -156,6 +154,7 @@ fn drop_group(list: &mut Vec<Symbol>, group: u32)
     ensures items { list.new.items ≡ without_group group list.old.items }
     ensures capacity { vec_capacity list.new ≡ vec_capacity list.old }
     ensures counted { length list.new.items + count_of group list.old.items ≡ length list.old.items }
+    ensures named { All IsNamed list.old.items → All IsNamed list.new.items }
 {
     list.retain(|symbol| symbol.group != group);
 }

@@ -3,7 +3,7 @@
 ghost use Rattle.symbol_table.specs.Laws.{NewestLaw, RemovalLaw};
 ghost use Rattle.symbol_table.specs.Chains.{ChainsLaw};
 
-/// A look-up answers an entry that passes, behind which none passes, and none only where none passes. Of a table
+/// A look-up answers an entry that passes and after which none passes, and none only if none passes. Of a table
 /// with one symbol more, it answers that symbol where it passes, and else what it answered before.
 pub fn newest_law()
     ensures { NewestLaw }

@@ -47,7 +47,7 @@ pub(crate) fn hash_value(value: u32) -> u32
     (product / u64::from(HASHES)) as u32
 }
 
-/// How many chains there are, of at least `n`, where there were so many.
+/// The number of chains when there must be at least `n` and there were `many`.
 fn wider(many: usize, n: usize) -> usize
     requires { n ≤ most_hashes }
     ensures enough { n ≤ result }
@@ -88,7 +88,7 @@ impl Links {
     }
 
     /// Makes at least `n` chains, at least twice as many as there were where these are fewer. Their entries are then
-    /// not where they belong. Where memory lacks, all stays.
+    /// not where they belong. If memory runs out, all stays.
     pub(crate) fn widen(&mut self, n: u32) -> Result<(), NoMemory>
         requires { n ≤ most_hashes }
         ensures before { self.new.before.items ≡ self.old.before.items }

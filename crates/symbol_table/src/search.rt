@@ -82,7 +82,7 @@ pub(crate) fn link_by_value(list: &[Symbol], links: &mut Links)
     }
 }
 
-/// Makes at least `n` chains by name, with the symbols in them. Where memory lacks, they stay.
+/// Makes at least `n` chains by name, with the symbols in them. If memory runs out, they stay.
 pub(crate) fn widen_by_name(list: &[Symbol], links: &mut Links, n: u32) -> Result<(), NoMemory>
     requires wide { n ≤ most_hashes }
     requires some { 0 < length links.old.heads.items }
@@ -102,7 +102,7 @@ pub(crate) fn widen_by_name(list: &[Symbol], links: &mut Links, n: u32) -> Resul
     Ok(())
 }
 
-/// Makes at least `n` chains by value, with the symbols in them. Where memory lacks, they stay.
+/// Makes at least `n` chains by value, with the symbols in them. If memory runs out, they stay.
 pub(crate) fn widen_by_value(list: &[Symbol], links: &mut Links, n: u32) -> Result<(), NoMemory>
     requires wide { n ≤ most_hashes }
     requires some { 0 < length links.old.heads.items }

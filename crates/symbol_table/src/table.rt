@@ -51,7 +51,8 @@ impl Symbols {
         self.chains.reserve(n)
     }
 
-    /// How many symbols there are. It also says what every table keeps.
+    /// The number of symbols. It also gives the invariants of the table: there are never more than 65,536 symbols, and
+    /// each has a name of 1 to 255 bytes.
     pub fn len(&self) -> u32
         ensures count { result ≡ length self.now.list }
         ensures sound { IsTable self.now }
@@ -66,9 +67,10 @@ impl Symbols {
         self.chains.entries().get(i as usize)
     }
 
-    /// Adds a symbol behind the others, where there is room for it.
+    /// Adds a symbol after the others. There must be room for it, and its name must not be empty.
     pub fn add(&mut self, symbol: Symbol)
-        requires { 0 < self.old.spare }
+        requires room { 0 < self.old.spare }
+        requires named { 0 < length symbol.name }
         ensures { self.new ≡ added self.old symbol }
     {
         self.chains.add(symbol);

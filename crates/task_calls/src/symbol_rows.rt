@@ -1,6 +1,6 @@
 //! The call that adds a symbol.
 
-ghost use Rattle.std.specs.Prelude.{◌≡◌, ◌≤◌, length, IfOk, OnErr};
+ghost use Rattle.std.specs.Prelude.{◌≡◌, ◌<◌, ◌≤◌, length, IfOk, OnErr};
 ghost use Rattle.wind_base.specs.Limits.{longest_name};
 ghost use Rattle.task_calls.specs.SymbolRows.{kind_of_number as kind_of_number_lem, with_kind as with_kind_lem, symbol_row};
 
@@ -43,7 +43,8 @@ fn add_kind(
     value: u32,
     kind: Option<SymKind>,
 ) -> Result<Reply, NoMemory>
-    requires { length name.now ≤ longest_name }
+    requires short { length name.now ≤ longest_name }
+    requires named { 0 < length name.now }
     ensures ok { IfOk result (λ r. (r ≡ (with_kind_lem syms.old.list name.now value kind).reply)
         × (syms.new.list ≡ (with_kind_lem syms.old.list name.now value kind).symbols)) }
     ensures err { OnErr result (syms.new.list ≡ syms.old.list) }

@@ -1,8 +1,9 @@
 //! The lines of a session.
 
-use crate::reading::{Trouble, bytes, name, number, shown};
+use crate::reading::{bytes, shown};
 use crate::words::{Word, words};
 use board_mem::Ram;
+use case_files::{Player, Trouble, name, number};
 use std::alloc::Global;
 use symbol_table::{SymKind, Symbol, Symbols};
 use text_show::{printf_text, symbol_rows};
@@ -29,8 +30,8 @@ pub struct Session {
     stack: u32,
 }
 
-impl Session {
-    pub fn new(alloc: Global) -> Result<Session, Trouble> {
+impl Player for Session {
+    fn new(alloc: Global) -> Result<Session, Trouble> {
         Ok(Session {
             alloc,
             symbols: Symbols::new(alloc)?,
@@ -39,7 +40,7 @@ impl Session {
     }
 
     /// Plays a line `COMMAND -> ANSWER`, or `COMMAND` where nothing is answered. Gives the answer where it is another.
-    pub fn play(&mut self, line: &str) -> Result<Option<String>, Trouble> {
+    fn play(&mut self, line: &str) -> Result<Option<String>, Trouble> {
         let (command, wanted) = match line.split_once(" -> ") {
             Some((command, wanted)) => (command, wanted),
             None => (line, ""),
@@ -51,7 +52,9 @@ impl Session {
             Ok(Some(answer))
         }
     }
+}
 
+impl Session {
     fn answer(&mut self, words: &[Word]) -> Result<String, Trouble> {
         match words {
             [Word::Plain("printf"), Word::Quoted(format), values @ ..] => {
@@ -81,6 +84,9 @@ impl Session {
             global: true,
             group: 0,
         };
+        if symbol.name.bytes().is_empty() {
+            return Err(Trouble::Unreadable);
+        }
         if self.symbols.reserve(1).is_err() {
             return Err(Trouble::NoMemory);
         }

@@ -1,6 +1,6 @@
 //! The words of a line.
 
-use crate::reading::Trouble;
+use case_files::Trouble;
 use std::alloc::Global;
 
 /// A word of a line.

@@ -87,9 +87,7 @@ fn sort_by_name(symbols: &mut Vec<&Symbol>) -> Result<(), NoMemory>
     ensures { OnOk result (map (λ s. s.now) symbols.new.items
         ≡ sorted name_before (map (λ s. s.now) symbols.old.items)) }
 {
-    let Ok(()) = symbols.sort_by(|s, t| s.name.bytes().cmp(t.name.bytes())) else {
-        return Err(NoMemory);
-    };
+    symbols.sort_by(|s, t| s.name.bytes().cmp(t.name.bytes()))?;
     Ok(())
 }
 

@@ -81,7 +81,7 @@ own_place variants.Lkup = refl
 own_place variants.ModuleShow = refl
 own_place variants.D = refl
 
-only_place : (n : ℕ) (g : Gate) → gate_of n ≡ Some g → gate_number g ≡ n
+pub only_place : (n : ℕ) (g : Gate) → gate_of n ≡ Some g → gate_number g ≡ n
 unfolding gate_of
 only_place n g e = omega (arith, at_place 0 gates n g all_ascend e)
 

@@ -1,84 +1,105 @@
--- The tables of names and of numbers have no entry twice.
-use Rattle.std.proofs.Common.{◌≡◌, ℕ, zero, suc, ◌-◌, ◌≤◌, List, [], ◌∷◌, Option, Some, None, Bool, true, false, ◌&&◌, cond, leb, refl, sym, ap, ◌∙◌, arith}
+-- The tables of gates and of errors have no name and no number twice.
+use Rattle.std.proofs.Common.{◌≡◌, ℕ, zero, suc, ◌-◌, ◌≤◌, List, [], ◌∷◌, Option, Some, None, Bool, true, false, ◌&&◌, cond, leb, refl, sym, ap, ◌∙◌, subst, arith}
 use Rattle.std.proofs.lemmas.Bool.{false≢true}
 use Rattle.std.proofs.lemmas.Bool.Decides.{nat_tests}
 use Rattle.std.specs.Bool.{Decides}
 use Rattle.std.proofs.lemmas.Slice.Eq.{bytes_eq-Decides}
-use Rattle.std.specs.Prelude.{bytes_eq, slice_get, ◌==◌}
+use Rattle.std.specs.Prelude.{bytes_eq, ◌==◌, ⊤, option_and_then}
 use Rattle.std.specs.List.{find}
-use Rattle.wind_base.specs.Gates.{names, gate_name}
+use Rattle.wind_base.specs.Gates.{gates, gate_of, gate_name, gate_number, rules_of}
+use Rattle.wind_base.specs.declared.gate.Gate.{Gate}
+use Rattle.wind_base.specs.declared.gate.Gate.TheVariants as variants
+use Rattle.wind_base.proofs.Gating.{only_place}
 use Rattle.wind_base.specs.Errno.{errno_number}
 use Rattle.wind_base.specs.Laws.{NamesLaw, NumbersLaw}
 use Rattle.wind_base.specs.declared.errno.Errno.{Errno}
 use Rattle.wind_base.specs.declared.errno.Errno.TheVariants as errors
 
--- x is none of these
-is_fresh : List ℕ → List (List ℕ) → Bool
-is_fresh x [] = true
-is_fresh x (y ∷ ys) = cond (bytes_eq x y) false (is_fresh x ys)
+-- a call has a name
+is_named : List ℕ → Option (List ℕ) → Bool
+is_named name None = false
+is_named name (Some own) = bytes_eq name own
 
--- none of these stands twice
-are_distinct : List (List ℕ) → Bool
-are_distinct [] = true
-are_distinct (x ∷ xs) = is_fresh x xs && are_distinct xs
+-- the gate whose call has a name
+gate_named : List ℕ → Option Gate
+gate_named name = find (λ g. is_named name (rules_of g).name) gates
 
-all_names : are_distinct names ≡ true
-unfolding are_distinct is_fresh names
-all_names = refl
+-- a gate is found by its name
+Found : Gate → Option (List ℕ) → Type 0
+Found g None = ⊤
+Found g (Some name) = gate_named name ≡ Some g
 
-both_left : (a b : Bool) → (a && b) ≡ true → a ≡ true
-both_left true b e = refl
-both_left false b e = cc
-
-both_right : (a b : Bool) → (a && b) ≡ true → b ≡ true
-both_right true b e = e
-both_right false b e = cc
+found : (g : Gate) → Found g (rules_of g).name
+unfolding gate_named is_named gates Found
+found variants.TaskReturn = tt
+found variants.ShellReturn = tt
+found variants.InterruptReturn = tt
+found variants.TaskSpawn = refl
+found variants.Sp = refl
+found variants.TaskDelete = refl
+found variants.TaskSuspend = refl
+found variants.TaskResume = refl
+found variants.TaskPrioritySet = refl
+found variants.TaskPriorityGet = refl
+found variants.TaskDelay = refl
+found variants.TaskLock = refl
+found variants.TaskUnlock = refl
+found variants.TaskSafe = refl
+found variants.TaskUnsafe = refl
+found variants.TaskIdSelf = refl
+found variants.TaskIdVerify = refl
+found variants.TaskNameToId = refl
+found variants.KernelTimeSlice = refl
+found variants.TickGet = refl
+found variants.SemBCreate = refl
+found variants.SemCCreate = refl
+found variants.SemMCreate = refl
+found variants.SemTake = refl
+found variants.SemGive = refl
+found variants.SemFlush = refl
+found variants.SemDelete = refl
+found variants.MsgQCreate = refl
+found variants.MsgQSend = refl
+found variants.MsgQReceive = refl
+found variants.MsgQDelete = refl
+found variants.MsgQNumMsgs = refl
+found variants.WdCreate = refl
+found variants.WdStart = refl
+found variants.WdCancel = refl
+found variants.WdDelete = refl
+found variants.IntLock = refl
+found variants.IntUnlock = refl
+found variants.IntContext = refl
+found variants.Malloc = refl
+found variants.Free = refl
+found variants.Memalign = refl
+found variants.SymAdd = refl
+found variants.Printf = refl
+found variants.ErrnoGet = refl
+found variants.ErrnoSet = refl
+found variants.Ld = refl
+found variants.Unld = refl
+found variants.I = refl
+found variants.Lkup = refl
+found variants.ModuleShow = refl
+found variants.D = refl
 
 entry : {A : Type 0} (a b : A) → Some a ≡ Some b → a ≡ b
 entry a b e = cc
 
-absent : (x : List ℕ) (ys : List (List ℕ)) (j : ℕ) → is_fresh x ys ≡ true → slice_get ys j ≡ Some x → ⊥
-unfolding is_fresh
-absent x [] j fresh e = cc
-absent x (y ∷ ys) zero fresh e =
-    elim (bytes_eq x y) as (λ b. Decides b (x ≡ y) → cond b false (is_fresh x ys) ≡ true → ⊥) [
-      | true ↦ λ same t. false≢true t
-      | false ↦ λ differ t. false≢true (differ.1 (sym (entry y x e)))
-    ] (bytes_eq-Decides x y) fresh
-absent x (y ∷ ys) (suc j) fresh e =
-    elim (bytes_eq x y) as (λ b. cond b false (is_fresh x ys) ≡ true → ⊥) [
-      | true ↦ λ t. false≢true t
-      | false ↦ λ t. absent x ys j t e
-    ] fresh
-
--- the same entry stands at one place
-one_place : (xs : List (List ℕ)) (x : List ℕ) (i j : ℕ) → are_distinct xs ≡ true → slice_get xs i ≡ Some x → slice_get xs j ≡ Some x → i ≡ j
-unfolding are_distinct
-one_place [] x i j all e f = cc
-one_place (y ∷ ys) x zero zero all e f = refl
-one_place (y ∷ ys) x zero (suc j) all e f =
-    absurd (absent y ys j (both_left (is_fresh y ys) (are_distinct ys) all) (f ∙ sym e))
-one_place (y ∷ ys) x (suc i) zero all e f =
-    absurd (absent y ys i (both_left (is_fresh y ys) (are_distinct ys) all) (e ∙ sym f))
-one_place (y ∷ ys) x (suc i) (suc j) all e f = ap suc (one_place ys x i j (both_right (is_fresh y ys) (are_distinct ys) all) e f)
-
--- a gate with a name, and where the name stands in the list
-named : (a : ℕ) (name : List ℕ) → gate_name a ≡ Some name → (3 ≤ a) × (slice_get names (a - 3) ≡ Some name)
-unfolding gate_name
-named a name e =
-    elim (leb 3 a) as (λ b. leb 3 a ≡ b → cond b (slice_get names (a - 3)) None ≡ Some name → (3 ≤ a) × (slice_get names (a - 3) ≡ Some name)) [
-      | true ↦ λ t f. (grind (arith, nat_tests), f)
-      | false ↦ λ t f. cc
-    ] refl e
+-- a number with a name is that of the gate that is found by it
+by_name : (n : ℕ) (name : List ℕ) (g : Option Gate) → gate_of n ≡ g → option_and_then (λ x. (rules_of x).name) g ≡ Some name → (x : Gate) × (gate_named name ≡ Some x) × (gate_number x ≡ n)
+unfolding Found
+by_name n name None at e = cc
+by_name n name (Some g) at e = (g, subst (Found g) e (found g), only_place n g at)
 
 pub names_apart : NamesLaw
+unfolding gate_name
 names_apart a b name e f =
-    let x = named a name e in
-    let y = named b name f in
-    let same : a - 3 ≡ b - 3 = one_place names name (a - 3) (b - 3) all_names x.1 y.1 in
-    let low : 3 ≤ a = x.0 in
-    let high : 3 ≤ b = y.0 in
-    omega arith
+    let x = by_name a name (gate_of a) refl e in
+    let y = by_name b name (gate_of b) refl f in
+    let same : x.0 ≡ y.0 = entry x.0 y.0 (sym x.1 ∙ y.1) in
+    sym x.2 ∙ ap gate_number same ∙ y.2
 
 -- all errors
 all_errors : List Errno

@@ -1,7 +1,9 @@
--- The gates of the kernel's calls with their numbers, addresses and names: this project's own table.
-use Rattle.std.specs.Prelude.{ℕ, ◌+◌, ◌-◌, ◌*◌, ◌/◌, ◌%◌, ◌==◌, ◌&&◌, List, [], ◌∷◌, Option, None, nat_le, if◌then◌else◌, codes}
+-- The gates of the kernel's calls, with all that is said of each: this project's own table.
+use Rattle.std.specs.Prelude.{ℕ, ◌+◌, ◌-◌, ◌*◌, ◌/◌, ◌%◌, ◌==◌, ◌&&◌, Bool, true, false, List, [], ◌∷◌, Option, None, Some, nat_le, if◌then◌else◌, codes, option_and_then}
 use Rattle.std.specs.List.{slice_get}
-use Rattle.wind_base.specs.Limits.{gate_bytes}
+use Rattle.wind_base.specs.Limits.{gate_bytes, error_word, ok_word}
+use Rattle.wind_base.specs.declared.gate_rules.Callers.{Callers}
+use Rattle.wind_base.specs.declared.gate_rules.Callers.TheVariants.{Tasks, All, Shell}
 use Rattle.wind_base.specs.declared.gate.Gate.{Gate}
 use Rattle.wind_base.specs.declared.gate.Gate.TheVariants as variants
 
@@ -65,60 +67,80 @@ gates = variants.TaskReturn
 unfoldable pub gate_of : ℕ → Option Gate
 gate_of n = slice_get gates n
 
+-- what is said of a gate: its number; the name of its call, where it is that of a call; who may make the call; what the call answers if it is refused, 0 for an object or an address and else ERROR; whether host memory may run out in it
+pub record Rules : Type 0 where
+  pub number : ℕ
+  pub name : Option (List ℕ)
+  pub callers : Callers
+  pub refusal : ℕ
+  pub memory : Bool
+
+-- the rules of a call's gate
+abbrev call : ℕ → List ℕ → Callers → ℕ → Bool → Rules
+call number name callers refusal memory = record { number = number; name = Some name; callers = callers; refusal = refusal; memory = memory }
+
+-- the rules of a return's gate, of which the number alone has a use
+abbrev back : ℕ → Rules
+back number = record { number = number; name = None; callers = Tasks; refusal = error_word; memory = false }
+
+-- the table: one line for each gate
+abbrev pub rules_of : Gate → Rules
+rules_of variants.TaskReturn = back 0
+rules_of variants.ShellReturn = back 1
+rules_of variants.InterruptReturn = back 2
+rules_of variants.TaskSpawn = call 3 (codes "taskSpawn") Tasks error_word false
+rules_of variants.Sp = call 4 (codes "sp") Tasks error_word false
+rules_of variants.TaskDelete = call 5 (codes "taskDelete") Tasks error_word false
+rules_of variants.TaskSuspend = call 6 (codes "taskSuspend") All error_word false
+rules_of variants.TaskResume = call 7 (codes "taskResume") All error_word false
+rules_of variants.TaskPrioritySet = call 8 (codes "taskPrioritySet") All error_word false
+rules_of variants.TaskPriorityGet = call 9 (codes "taskPriorityGet") All error_word false
+rules_of variants.TaskDelay = call 10 (codes "taskDelay") Tasks error_word false
+rules_of variants.TaskLock = call 11 (codes "taskLock") Tasks error_word false
+rules_of variants.TaskUnlock = call 12 (codes "taskUnlock") Tasks error_word false
+rules_of variants.TaskSafe = call 13 (codes "taskSafe") Tasks error_word false
+rules_of variants.TaskUnsafe = call 14 (codes "taskUnsafe") Tasks error_word false
+rules_of variants.TaskIdSelf = call 15 (codes "taskIdSelf") Tasks error_word false
+rules_of variants.TaskIdVerify = call 16 (codes "taskIdVerify") All error_word false
+rules_of variants.TaskNameToId = call 17 (codes "taskNameToId") Tasks error_word false
+rules_of variants.KernelTimeSlice = call 18 (codes "kernelTimeSlice") Tasks error_word false
+rules_of variants.TickGet = call 19 (codes "tickGet") All error_word false
+rules_of variants.SemBCreate = call 20 (codes "semBCreate") Tasks ok_word false
+rules_of variants.SemCCreate = call 21 (codes "semCCreate") Tasks ok_word false
+rules_of variants.SemMCreate = call 22 (codes "semMCreate") Tasks ok_word false
+rules_of variants.SemTake = call 23 (codes "semTake") Tasks error_word false
+rules_of variants.SemGive = call 24 (codes "semGive") All error_word false
+rules_of variants.SemFlush = call 25 (codes "semFlush") All error_word false
+rules_of variants.SemDelete = call 26 (codes "semDelete") Tasks error_word false
+rules_of variants.MsgQCreate = call 27 (codes "msgQCreate") Tasks ok_word true
+rules_of variants.MsgQSend = call 28 (codes "msgQSend") All error_word false
+rules_of variants.MsgQReceive = call 29 (codes "msgQReceive") Tasks error_word false
+rules_of variants.MsgQDelete = call 30 (codes "msgQDelete") Tasks error_word false
+rules_of variants.MsgQNumMsgs = call 31 (codes "msgQNumMsgs") All error_word false
+rules_of variants.WdCreate = call 32 (codes "wdCreate") Tasks ok_word false
+rules_of variants.WdStart = call 33 (codes "wdStart") All error_word false
+rules_of variants.WdCancel = call 34 (codes "wdCancel") All error_word false
+rules_of variants.WdDelete = call 35 (codes "wdDelete") Tasks error_word false
+rules_of variants.IntLock = call 36 (codes "intLock") All error_word false
+rules_of variants.IntUnlock = call 37 (codes "intUnlock") All error_word false
+rules_of variants.IntContext = call 38 (codes "intContext") All error_word false
+rules_of variants.Malloc = call 39 (codes "malloc") Tasks ok_word false
+rules_of variants.Free = call 40 (codes "free") Tasks error_word false
+rules_of variants.Memalign = call 41 (codes "memalign") Tasks ok_word false
+rules_of variants.SymAdd = call 42 (codes "symAdd") Tasks error_word true
+rules_of variants.Printf = call 43 (codes "printf") Tasks error_word false
+rules_of variants.ErrnoGet = call 44 (codes "errnoGet") All error_word false
+rules_of variants.ErrnoSet = call 45 (codes "errnoSet") All error_word false
+rules_of variants.Ld = call 46 (codes "ld") Shell error_word true
+rules_of variants.Unld = call 47 (codes "unld") Shell error_word false
+rules_of variants.I = call 48 (codes "i") Shell error_word true
+rules_of variants.Lkup = call 49 (codes "lkup") Shell error_word true
+rules_of variants.ModuleShow = call 50 (codes "moduleShow") Shell error_word true
+rules_of variants.D = call 51 (codes "d") Shell error_word true
+
 -- the number of a gate
 abbrev pub gate_number : Gate → ℕ
-gate_number variants.TaskReturn = 0
-gate_number variants.ShellReturn = 1
-gate_number variants.InterruptReturn = 2
-gate_number variants.TaskSpawn = 3
-gate_number variants.Sp = 4
-gate_number variants.TaskDelete = 5
-gate_number variants.TaskSuspend = 6
-gate_number variants.TaskResume = 7
-gate_number variants.TaskPrioritySet = 8
-gate_number variants.TaskPriorityGet = 9
-gate_number variants.TaskDelay = 10
-gate_number variants.TaskLock = 11
-gate_number variants.TaskUnlock = 12
-gate_number variants.TaskSafe = 13
-gate_number variants.TaskUnsafe = 14
-gate_number variants.TaskIdSelf = 15
-gate_number variants.TaskIdVerify = 16
-gate_number variants.TaskNameToId = 17
-gate_number variants.KernelTimeSlice = 18
-gate_number variants.TickGet = 19
-gate_number variants.SemBCreate = 20
-gate_number variants.SemCCreate = 21
-gate_number variants.SemMCreate = 22
-gate_number variants.SemTake = 23
-gate_number variants.SemGive = 24
-gate_number variants.SemFlush = 25
-gate_number variants.SemDelete = 26
-gate_number variants.MsgQCreate = 27
-gate_number variants.MsgQSend = 28
-gate_number variants.MsgQReceive = 29
-gate_number variants.MsgQDelete = 30
-gate_number variants.MsgQNumMsgs = 31
-gate_number variants.WdCreate = 32
-gate_number variants.WdStart = 33
-gate_number variants.WdCancel = 34
-gate_number variants.WdDelete = 35
-gate_number variants.IntLock = 36
-gate_number variants.IntUnlock = 37
-gate_number variants.IntContext = 38
-gate_number variants.Malloc = 39
-gate_number variants.Free = 40
-gate_number variants.Memalign = 41
-gate_number variants.SymAdd = 42
-gate_number variants.Printf = 43
-gate_number variants.ErrnoGet = 44
-gate_number variants.ErrnoSet = 45
-gate_number variants.Ld = 46
-gate_number variants.Unld = 47
-gate_number variants.I = 48
-gate_number variants.Lkup = 49
-gate_number variants.ModuleShow = 50
-gate_number variants.D = 51
+gate_number g = (rules_of g).number
 
 -- the address of a gate, where they stand from a base on
 abbrev pub gate_address : ℕ → Gate → ℕ
@@ -128,59 +150,6 @@ gate_address base g = base + gate_bytes * gate_number g
 abbrev pub gate_at : ℕ → ℕ → Option Gate
 gate_at base at = if nat_le base at && ((at - base) % gate_bytes == 0) then gate_of ((at - base) / gate_bytes) else None
 
--- the names in the order of the gates, from gate 3 on
-unfoldable pub names : List (List ℕ)
-names = codes "taskSpawn"
-    ∷ codes "sp"
-    ∷ codes "taskDelete"
-    ∷ codes "taskSuspend"
-    ∷ codes "taskResume"
-    ∷ codes "taskPrioritySet"
-    ∷ codes "taskPriorityGet"
-    ∷ codes "taskDelay"
-    ∷ codes "taskLock"
-    ∷ codes "taskUnlock"
-    ∷ codes "taskSafe"
-    ∷ codes "taskUnsafe"
-    ∷ codes "taskIdSelf"
-    ∷ codes "taskIdVerify"
-    ∷ codes "taskNameToId"
-    ∷ codes "kernelTimeSlice"
-    ∷ codes "tickGet"
-    ∷ codes "semBCreate"
-    ∷ codes "semCCreate"
-    ∷ codes "semMCreate"
-    ∷ codes "semTake"
-    ∷ codes "semGive"
-    ∷ codes "semFlush"
-    ∷ codes "semDelete"
-    ∷ codes "msgQCreate"
-    ∷ codes "msgQSend"
-    ∷ codes "msgQReceive"
-    ∷ codes "msgQDelete"
-    ∷ codes "msgQNumMsgs"
-    ∷ codes "wdCreate"
-    ∷ codes "wdStart"
-    ∷ codes "wdCancel"
-    ∷ codes "wdDelete"
-    ∷ codes "intLock"
-    ∷ codes "intUnlock"
-    ∷ codes "intContext"
-    ∷ codes "malloc"
-    ∷ codes "free"
-    ∷ codes "memalign"
-    ∷ codes "symAdd"
-    ∷ codes "printf"
-    ∷ codes "errnoGet"
-    ∷ codes "errnoSet"
-    ∷ codes "ld"
-    ∷ codes "unld"
-    ∷ codes "i"
-    ∷ codes "lkup"
-    ∷ codes "moduleShow"
-    ∷ codes "d"
-    ∷ []
-
--- the name of the call of a gate; gates 0 to 2 and those above 51 have none
+-- the name of the call of the gate of a number; gates 0 to 2 and those above 51 have none
 unfoldable pub gate_name : ℕ → Option (List ℕ)
-gate_name gate = if nat_le 3 gate then slice_get names (gate - 3) else None
+gate_name n = option_and_then (λ g. (rules_of g).name) (gate_of n)

@@ -2,6 +2,8 @@
 
 ghost use Rattle.std.specs.Prelude.{◌≡◌};
 
+use std::fmt::{self, Display, Formatter};
+
 /// Why a call of the kernel is refused, or what a wait ended with. The numbers are this project's own
 /// table.
 #[derive(Clone, Copy, Debug, PartialEq, Eq)]
@@ -62,7 +64,7 @@ pub enum Errno {
 }
 
 impl Errno {
-    ghost use Rattle.wind_base.specs.Errno.{errno_number};
+    ghost use Rattle.wind_base.specs.Errno.{errno_name, errno_number};
 
     /// The error number.
     pub fn number(self) -> u32
@@ -96,5 +98,45 @@ impl Errno {
             Errno::LoadFailed => 0x1d_0001,
             Errno::NoSuchModule => 0x1d_0002,
         }
+    }
+
+    /// Its name, by which it is shown.
+    pub fn name(self) -> &'static str
+        ensures { result.now ≡ errno_name self }
+    {
+        match self {
+            Errno::ObjIdError => "OBJ_ID_ERROR",
+            Errno::ObjUnavailable => "OBJ_UNAVAILABLE",
+            Errno::ObjDeleted => "OBJ_DELETED",
+            Errno::ObjTimeout => "OBJ_TIMEOUT",
+            Errno::NotEnoughMemory => "NOT_ENOUGH_MEMORY",
+            Errno::NotABlock => "NOT_A_BLOCK",
+            Errno::BadAlign => "BAD_ALIGN",
+            Errno::BadAddress => "BAD_ADDRESS",
+            Errno::IllegalPriority => "ILLEGAL_PRIORITY",
+            Errno::NotSafe => "NOT_SAFE",
+            Errno::TooMany => "TOO_MANY",
+            Errno::IdsSpent => "IDS_SPENT",
+            Errno::TaskNotFound => "TASK_NOT_FOUND",
+            Errno::InvalidState => "INVALID_STATE",
+            Errno::InvalidOption => "INVALID_OPTION",
+            Errno::InvalidOperation => "INVALID_OPERATION",
+            Errno::CountOver => "COUNT_OVER",
+            Errno::InvalidMsgLength => "INVALID_MSG_LENGTH",
+            Errno::NonZeroTimeout => "NON_ZERO_TIMEOUT",
+            Errno::BadSize => "BAD_SIZE",
+            Errno::NotIsrCallable => "NOT_ISR_CALLABLE",
+            Errno::NotShell => "NOT_SHELL",
+            Errno::SymbolsFull => "SYMBOLS_FULL",
+            Errno::BadKind => "BAD_KIND",
+            Errno::LoadFailed => "LOAD_FAILED",
+            Errno::NoSuchModule => "NO_SUCH_MODULE",
+        }
+    }
+}
+
+impl Display for Errno {
+    fn fmt<W: fmt::Write>(&self, f: &mut Formatter<W>) -> fmt::Result {
+        f.write_str(self.name())
     }
 }

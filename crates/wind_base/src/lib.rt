@@ -6,6 +6,7 @@
 
 mod errno;
 mod gate;
+mod gate_rules;
 mod laws;
 pub mod limits;
 mod line;
@@ -19,7 +20,8 @@ pub mod text;
 pub mod words;
 
 pub use errno::Errno;
-pub use gate::{Gate, gate_name};
+pub use gate::Gate;
+pub use gate_rules::{Callers, GateRules, gate_name};
 pub use laws::tables_law;
 pub use line::{behind, line_len};
 pub use name::{Name, NameErr, ShortName};
@@ -28,12 +30,19 @@ pub use out_buf::OutBuf;
 pub use priority::Pri;
 pub use regs::Regs;
 pub use semaphore::{SemKind, SemOptions};
+use std::alloc::AllocError;
 use thiserror::Error;
 
 /// Host memory ran out. What the call was made on is as it was before.
 #[derive(Clone, Copy, Debug, PartialEq, Eq, Error)]
 #[error("out of memory")]
 pub struct NoMemory;
+
+impl From<AllocError> for NoMemory {
+    fn from(_: AllocError) -> NoMemory {
+        NoMemory
+    }
+}
 
 /// A piece exceeds the room that is left.
 #[derive(Clone, Copy, Debug, PartialEq, Eq, Error)]

@@ -30,9 +30,7 @@ impl OutBuf {
     pub fn reserved(alloc: Global, room: u32) -> Result<OutBuf, NoMemory>
         ensures { IfOk result (λ out. out ≡ record { bytes = []; room = room }) }
     {
-        let Ok(bytes) = Vec::with_capacity(alloc, room as usize) else {
-            return Err(NoMemory);
-        };
+        let bytes = Vec::with_capacity(alloc, room as usize)?;
         Ok(OutBuf {
             bytes,
             room: room as usize,

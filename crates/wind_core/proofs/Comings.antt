@@ -8,6 +8,7 @@ use Rattle.std.proofs.lemmas.List.Kept.{AllPairs-filter}
 use Rattle.std.proofs.lemmas.List.Quantifiers.{all_pairs_push}
 use Rattle.id_table.specs.Rows.{objects, added, removed, IdsBelow}
 use Rattle.id_table.specs.Rows as table
+use Rattle.id_table.specs.Source.{Ids, one_given}
 use Rattle.id_table.proofs.Owning.{objects-without}
 use Rattle.task_block.specs.declared.task.Task.{Task}
 use Rattle.task_block.specs.declared.task.NewTask.{NewTask}
@@ -67,11 +68,11 @@ removed_keeps k who l r d kept waits ready delays = (
 )
 
 -- ---- a task comes
-pub ids_below : (k : Inside) → Kept k → IdsBelow k.ids k.tasks.rows
+pub ids_below : (k : Inside) → Kept k → IdsBelow k.ids.next k.tasks.rows
 ids_below k kept i d within =
     let id : Task → ℕ = task_id in
     let read = get_or-map (λ (r : ℕ × Task). r.1) k.tasks.rows i d d.1 within in
-    subst (λ n. n < k.ids) (ap task_id read ∙ kept.1 i d within) (kept.2.ids i d.1 (omega (arith, within, length-map k.tasks.rows (λ (r : ℕ × Task). r.1))))
+    subst (λ n. n < k.ids.next) (ap task_id read ∙ kept.1 i d within) (kept.2.ids i d.1 (omega (arith, within, length-map k.tasks.rows (λ (r : ℕ × Task). r.1))))
 
 pub push_keeps : (s : KernState) (t : Task) → IsKern s → length s.tasks < 256 → s.next_id ≤ 1048576 → t.id ≡ s.next_id → t.since ≡ s.next_since → WakesAhead s.tick t
     → IsKern (record s { tasks = s.tasks ++ t ∷ []; next_id = s.next_id + 1; next_since = s.next_since + 1 })
@@ -98,24 +99,24 @@ added_queues k t r kept since awake free ready e =
       delays_held = kept.3.delays_held ∙ sym (delayed_push ts t awake);
     }
 
-pub added_keeps : (k : Inside) (t : Task) (r : urgent.Order) → Kept k → length (the_view k).tasks < 256 → k.ids ≤ 1048576 → t.id ≡ k.ids → t.since ≡ k.next_since → t.wake ≡ None → t.wait ≡ None
-    → is_ready t ≡ true → r ≡ urgent.with_task k.ready (as_ready t) → Kept (record k { tasks = added k.tasks k.ids t; ids = k.ids + 1; next_since = k.next_since + 1; ready = r })
+pub added_keeps : (k : Inside) (t : Task) (r : urgent.Order) → Kept k → length (the_view k).tasks < 256 → k.ids.next ≤ 1048576 → t.id ≡ k.ids.next → t.since ≡ k.next_since → t.wake ≡ None → t.wait ≡ None
+    → is_ready t ≡ true → r ≡ urgent.with_task k.ready (as_ready t) → Kept (record k { tasks = added k.tasks k.ids.next t; ids = one_given k.ids; next_since = k.next_since + 1; ready = r })
 added_keeps k t r kept few left id since awake free ready e = (
   kept.0,
-  All-push (λ (r : ℕ × Task). r.1.id ≡ r.0) k.tasks.rows (k.ids, t) kept.1 id,
-  subst (λ ts. IsKern (record (the_view k) { tasks = ts; next_id = k.ids + 1; next_since = k.next_since + 1 })) (sym (map-append (λ (r : ℕ × Task). r.1) k.tasks.rows ((k.ids, t) ∷ [])))
+  All-push (λ (r : ℕ × Task). r.1.id ≡ r.0) k.tasks.rows (k.ids.next, t) kept.1 id,
+  subst (λ ts. IsKern (record (the_view k) { tasks = ts; next_id = k.ids.next + 1; next_since = k.next_since + 1 })) (sym (map-append (λ (r : ℕ × Task). r.1) k.tasks.rows ((k.ids.next, t) ∷ [])))
       (push_keeps (the_view k) t kept.2 few left id since (subst (λ w. IfSome w (λ v. k.tick < v)) (sym awake) tt)),
-  subst (AreQueued k.waits r k.delays) (sym (map-append (λ (r : ℕ × Task). r.1) k.tasks.rows ((k.ids, t) ∷ []))) (added_queues k t r kept since awake free ready e),
+  subst (AreQueued k.waits r k.delays) (sym (map-append (λ (r : ℕ × Task). r.1) k.tasks.rows ((k.ids.next, t) ∷ []))) (added_queues k t r kept since awake free ready e),
 )
 
 -- a new task comes, made of n
-pub spawned_keeps : (k : Inside) (n : NewTask) (t : Task) (i j ids' : ℕ) (tasks' : table.Rows Task) (r : urgent.Order) → Kept k → length k.tasks.rows < 256 → k.ids ≤ 1048576
-    → t ≡ new_task i k.next_since n → i ≡ k.ids → tasks' ≡ added k.tasks j t → j ≡ k.ids → ids' ≡ k.ids + 1 → r ≡ urgent.with_task k.ready (n.pri, j)
+pub spawned_keeps : (k : Inside) (n : NewTask) (t : Task) (i j : ℕ) (ids' : Ids) (tasks' : table.Rows Task) (r : urgent.Order) → Kept k → length k.tasks.rows < 256 → k.ids.next ≤ 1048576
+    → t ≡ new_task i k.next_since n → i ≡ k.ids.next → tasks' ≡ added k.tasks j t → j ≡ k.ids.next → ids' ≡ one_given k.ids → r ≡ urgent.with_task k.ready (n.pri, j)
     → Kept (record k { tasks = tasks'; ids = ids'; next_since = k.next_since + 1; ready = r })
 spawned_keeps k n t i j ids' tasks' r kept few left made here rows own next put =
-    let id : t.id ≡ k.ids = ap task_id made ∙ here in
+    let id : t.id ≡ k.ids.next = ap task_id made ∙ here in
     subst (λ ts. Kept (record k { tasks = ts; ids = ids'; next_since = k.next_since + 1; ready = r })) (sym (rows ∙ ap (λ j. added k.tasks j t) own))
-    (subst (λ j. Kept (record k { tasks = added k.tasks k.ids t; ids = j; next_since = k.next_since + 1; ready = r })) (sym next)
+    (subst (λ j. Kept (record k { tasks = added k.tasks k.ids.next t; ids = j; next_since = k.next_since + 1; ready = r })) (sym next)
     (added_keeps k t r kept (omega (arith, few, length-map k.tasks.rows (λ (r : ℕ × Task). r.1))) left id
     (ap (λ (t : Task). t.since) made) (ap (λ (t : Task). t.wake) made) (ap (λ (t : Task). t.wait) made) (ap is_ready made)
     (put ∙ ap (λ n. urgent.with_task k.ready (n, j)) (sym (ap (λ (t : Task). t.pri) made)) ∙ ap (λ m. urgent.with_task k.ready (t.pri, m)) (own ∙ sym id))))
@@ -127,7 +128,7 @@ below_none (t ∷ ts) n below =
     let here : t.id < n = All-head (λ (u : Task). u.id < n) t ts below in
     ap (λ b. cond b (Some t) (task_of ts n)) (ne_eqb t.id n (λ q. omega arith)) ∙ below_none ts n (All-tail (λ (u : Task). u.id < n) t ts below)
 
-pub new_ready : (k : Inside) (i : ℕ) → Kept k → i ≡ k.ids → urgent.pri_of k.ready.tasks i ≡ None
+pub new_ready : (k : Inside) (i : ℕ) → Kept k → i ≡ k.ids.next → urgent.pri_of k.ready.tasks i ≡ None
 new_ready k i kept own =
     ap (λ o. urgent.pri_of o.tasks i) kept.3.ready_held
     ∙ ready_absent (objects k.tasks.rows) i (below_none (objects k.tasks.rows) i (subst (λ n. All (λ t. t.id < n) (objects k.tasks.rows)) (sym own) kept.2.ids))

@@ -1,5 +1,5 @@
 -- Every move of the kernel keeps the kept facts, and so do moves one after the other.
-use Rattle.std.proofs.Common.{ℕ, List, [], ◌∷◌, refl, arith}
+use Rattle.std.proofs.Common.{List, [], ◌∷◌, refl, arith}
 use Rattle.wind_core.specs.State.{KernState, IsKern}
 use Rattle.wind_core.specs.Moves.{wake_at, pended, delayed, suspended, unmarked, past_gate, with_answer, with_refusal, unreserved}
 use Rattle.wind_core.specs.Orders.{waiters}

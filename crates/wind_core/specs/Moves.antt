@@ -94,7 +94,7 @@ remove s who = record s { tasks = without task_id s.tasks who }
 abbrev pub is_endless : ℕ → Bool
 is_endless side = side == deletion_side || side == console_side
 
--- the tick at which a wait at this side ends that lasts so many ticks; none where it has no end
+-- the tick at which a wait at this side ends, by its timeout in ticks; none if it has no end
 abbrev pub wake_at : ℕ → ℕ → ℕ → Option ℕ
 wake_at side tick n = if is_endless side || n == wait_forever then None else Some (tick + n)
 
@@ -106,14 +106,14 @@ pended place fifo wake t = record t {
   turns = 0;
 }
 
--- the task begins to wait at a place, for so many ticks
+-- the task begins to wait at a place, for a number of ticks
 abbrev pub pend : KernState → ℕ → Place → Bool → ℕ → KernState
 pend s who place fifo n = renew_task s who (pended place fifo (wake_at place.side s.tick n))
 
 abbrev pub delayed : ℕ → ℕ → Task → Task
 delayed tick n t = if n == 0 then t else record t { wake = Some (tick + n); turns = 0 }
 
--- the task sleeps for so many ticks; with 0 it goes behind its equals
+-- the task sleeps for a number of ticks; with 0 it goes after its equals
 abbrev pub delay : KernState → ℕ → ℕ → KernState
 delay s who n = renew_task s who (delayed s.tick n)
 
@@ -172,7 +172,7 @@ abbrev pub has_pri : ℕ → Option Task → Bool
 has_pri pri None = false
 has_pri pri (Some t) = t.pri == pri
 
--- a ready task whose priority changes goes behind its new equals
+-- a ready task whose priority changes goes after its new equals
 abbrev pub change_pri : KernState → ℕ → ℕ → KernState
 change_pri s who pri = if has_pri pri (task_of s.tasks who) then s else move_task s who (with_pri pri)
 
@@ -180,7 +180,7 @@ change_pri s who pri = if has_pri pri (task_of s.tasks who) then s else move_tas
 abbrev pub unmarked : Task → Task
 unmarked t = record t { suspended = false; locks = 0; int_locked = false; again = false }
 
--- the task is taken out of all of these, and goes behind its equals
+-- the task is taken out of all of these, and goes after its equals
 abbrev pub reset : KernState → ℕ → KernState
 reset s who = renew_task s who unmarked
 
@@ -218,7 +218,7 @@ abbrev pub unreserve : KernState → ℕ → KernState
 unreserve s who = change_task s who unreserved
 
 -- ---- a call of the kernel
--- behind its call: the program counter becomes the link register
+-- after its call: the program counter becomes the link register
 abbrev pub past_gate : Task → Task
 past_gate t = record t { regs = record t.regs { pc = t.regs.lr } }
 

@@ -34,7 +34,7 @@ delayed_of ts = map as_sleeper (in_line wakes_before sleeps ts)
 abbrev pub delayed_tasks : List Task → timed.Order
 delayed_tasks ts = record { tasks = delayed_of ts; room = most_tasks }
 
--- a queue in which one task stands as it is now: behind all of its priority, or not at all
+-- a queue in which one task stands as it is now: after all of its priority, or not at all
 abbrev pub ready_mended : urgent.Order → Task → urgent.Order
 ready_mended o t = if is_ready t then urgent.with_task (urgent.without_task o t.id) (as_ready t) else urgent.without_task o t.id
 
@@ -43,7 +43,7 @@ abbrev pub with_wake : timed.Order → ℕ → Option ℕ → timed.Order
 with_wake o who None = o
 with_wake o who (Some wake) = timed.with_task o (who, wake)
 
--- a queue in which one task sleeps as it does now, behind all that wake when it does, or not at all
+-- a queue in which one task sleeps as it does now, after all that wake when it does, or not at all
 abbrev pub delays_mended : timed.Order → Task → timed.Order
 delays_mended o t = with_wake (timed.without_task o t.id) t.id t.wake
 

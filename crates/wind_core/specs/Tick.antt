@@ -11,7 +11,7 @@ use Rattle.wind_core.specs.State.{KernState, task_id}
 use Rattle.wind_core.specs.Orders.{running, due}
 use Rattle.wind_core.specs.Moves.{renewed, end_wait}
 
--- one more tick of a turn; one that is over begins anew, and the task goes behind its equals
+-- one more tick of a turn; one that is over begins anew, and the task goes after its equals
 abbrev pub turn_task : ℕ → ℕ → Task → Task
 turn_task slice since t =
     if nat_le slice (t.turns + 1) then renewed since (record t { turns = 0 })

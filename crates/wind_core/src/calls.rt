@@ -24,7 +24,7 @@ impl Kern {
         }
     }
 
-    /// The task goes on behind its call: the program counter becomes the link register.
+    /// The task goes on after its call: the program counter becomes the link register.
     pub fn leave_gate(&mut self, who: Ident)
         requires { Lives self.old who }
         ensures { self.new ≡ leave_gate self.old who }

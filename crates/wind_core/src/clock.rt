@@ -167,7 +167,7 @@ impl Kern {
     }
 
     /// A tick of the clock. The count rises by 1; where turns are counted and the runner holds no lock, its
-    /// turn is one tick longer, and where it is over, the runner goes behind its equals; and the tasks
+    /// turn is one tick longer, and if it is over, the runner goes after its equals; and the tasks
     /// whose tick has come go on, in order of arrival: one that waited with ERROR and `ObjTimeout`, one
     /// that was delayed with 0.
     pub fn tick(&mut self)

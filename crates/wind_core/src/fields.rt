@@ -30,7 +30,7 @@ impl Kern {
         }
     }
 
-    /// Ends the task's suspension. Where it is then ready, it stands behind its equals. Nothing changes
+    /// Ends the task's suspension. If it is then ready, it stands after its equals. Nothing changes
     /// where it is not suspended.
     pub fn resume(&mut self, who: Ident)
         requires live { Lives self.old who }
@@ -47,7 +47,7 @@ impl Kern {
     }
 
     /// Takes suspension, locks, held-back interrupts and the mark of a repeated call from the task, which
-    /// goes behind its equals.
+    /// goes after its equals.
     pub fn reset(&mut self, who: Ident)
         requires live { Lives self.old who }
         requires since { self.old.next_since + 1 < 2 ^ 64 }
@@ -69,7 +69,7 @@ impl Kern {
         }
     }
 
-    /// Gives the task a priority. A ready task whose priority changes stands behind its new equals.
+    /// Gives the task a priority. A ready task whose priority changes stands after its new equals.
     pub fn change_pri(&mut self, who: Ident, pri: Pri)
         requires live { Lives self.old who }
         requires since { self.old.next_since + 1 < 2 ^ 64 }

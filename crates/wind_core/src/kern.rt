@@ -32,7 +32,6 @@ pub struct Kern {
     // the tasks that sleep, in the order in which they wake
     pub(crate) delays: Delays,
     pub(crate) ids: IdSource,
-    pub(crate) lent: bool,
     pub(crate) next_since: u64,
     pub(crate) tick: u64,
     pub(crate) slice: u32,
@@ -49,9 +48,9 @@ impl Model for Kern {
 
     ghost Value = { KernState };
 
-    ghost view = { λ k. kern_state k.tasks.rows k.ids k.lent k.next_since k.tick k.slice k.last };
+    ghost view = { λ k. kern_state k.tasks.rows k.ids k.next_since k.tick k.slice k.last };
 
-    ghost invariant = { λ k. (k.tasks.room ≡ most_tasks) × SameIds k.tasks.rows × IsKern (kern_state k.tasks.rows k.ids k.lent k.next_since k.tick k.slice k.last) × AreQueued k.waits k.ready k.delays (objects k.tasks.rows) };
+    ghost invariant = { λ k. (k.tasks.room ≡ most_tasks) × SameIds k.tasks.rows × IsKern (kern_state k.tasks.rows k.ids k.next_since k.tick k.slice k.last) × AreQueued k.waits k.ready k.delays (objects k.tasks.rows) };
 }
 
 impl Kern {
@@ -67,7 +66,6 @@ impl Kern {
             ready: Ready::reserved(alloc, TASKS)?,
             delays: Delays::reserved(alloc, TASKS)?,
             ids: IdSource::new(),
-            lent: false,
             next_since: 0,
             tick: 0,
             slice: 0,
@@ -168,7 +166,7 @@ impl Kern {
         }
     }
 
-    /// Makes a new task, which is ready and stands behind its equals.
+    /// Makes a new task, which is ready and stands after its equals.
     ///
     /// # Errors
     ///
@@ -223,20 +221,19 @@ impl Kern {
     /// Lends the ids to whoever makes objects of another kind. Until they are back, no object is made here.
     pub fn lend_ids(&mut self) -> IdSource
         requires { self.old.lent ≡ false }
-        ensures value { result ≡ self.old.next_id }
+        ensures value { result ≡ record { next = self.old.next_id; lent = false } }
         ensures lent { self.new ≡ record self.old { lent = true } }
     {
-        self.lent = true;
-        self.ids.lent()
+        self.ids.lend()
     }
 
     /// Takes lent ids back. None of them may be one that was given before.
     pub fn put_ids(&mut self, ids: IdSource)
         requires lent { self.old.lent ≡ true }
-        requires ahead { self.old.next_id ≤ ids }
-        ensures { self.new ≡ record self.old { next_id = ids; lent = false } }
+        requires whole { ids.lent ≡ false }
+        requires ahead { self.old.next_id ≤ ids.next }
+        ensures { self.new ≡ record self.old { next_id = ids.next; lent = false } }
     {
-        self.lent = false;
-        self.ids = ids;
+        self.ids.put(ids);
     }
 }

@@ -9,7 +9,9 @@ mod laws;
 mod queries;
 mod queues;
 mod tasks;
+mod took;
 mod waits;
 
 pub use kern::Kern;
 pub use laws::{kept_law, runner_law, tick_law, waiters_law, wake_all_law};
+pub use took::Took;

@@ -33,7 +33,7 @@ pub(crate) fn mend_waits(waits: &mut Waits, task: &Task)
     }
 }
 
-// Puts the task behind its equals among those that are ready, or takes it out where it isn't ready.
+// Puts the task after its equals among those that are ready, or takes it out if it isn't ready.
 #[tactic(auto, using(ready_queue::proofs::Turns::taken_absent))]
 pub(crate) fn mend_ready(ready: &mut Ready, task: &Task)
     requires { length (ready_without ready.old.tasks task.now.id) < ready.old.room }
@@ -45,7 +45,7 @@ pub(crate) fn mend_ready(ready: &mut Ready, task: &Task)
     }
 }
 
-// Puts the task among those that sleep, behind all that wake when it does, or takes it out where it doesn't sleep.
+// Puts the task among those that sleep, after all that wake when it does, or takes it out if it doesn't sleep.
 #[tactic(auto, using(delay_queue::proofs::Waiting::taken_absent))]
 pub(crate) fn mend_delays(delays: &mut Delays, task: &Task)
     requires { length (delays_without delays.old.tasks task.now.id) < delays.old.room }
@@ -57,7 +57,7 @@ pub(crate) fn mend_delays(delays: &mut Delays, task: &Task)
     }
 }
 
-// Puts the task into each queue as it stands now. Where it is ready or sleeps, it stands behind its equals.
+// Puts the task into each queue as it stands now. If it is ready or sleeps, it stands after its equals.
 pub(crate) fn mend(waits: &mut Waits, ready: &mut Ready, delays: &mut Delays, task: &Task)
     requires waits { length (without_waiter waits.old task.now.id).waiters < waits.old.room }
     requires ready { length (ready_without ready.old.tasks task.now.id) < ready.old.room }
@@ -71,7 +71,7 @@ pub(crate) fn mend(waits: &mut Waits, ready: &mut Ready, delays: &mut Delays, ta
     mend_delays(delays, task);
 }
 
-// The task goes behind its equals, where its turn is over.
+// The task goes after its equals, if its turn is over.
 pub(crate) fn rotate_over(ready: &mut Ready, who: Ident, over: bool)
     ensures { ready.new ≡ (if over then rotated ready.old who else ready.old) }
 {

@@ -52,7 +52,7 @@ pub(crate) fn is_endless(side: u8) -> bool
     side == DELETION || side == CONSOLE
 }
 
-// The tick at which a wait at this side ends that lasts so many ticks. None where it has no end.
+// The tick at which a wait at this side ends, by its timeout in ticks. None if it has no end.
 pub(crate) fn wake_tick(side: u8, tick: u64, timeout: u32) -> Option<u64>
     requires { tick < 2 ^ 63 }
     ensures { result ≡ wake_at side tick timeout }
@@ -75,7 +75,7 @@ pub(crate) fn begin_wait(task: &mut Task, place: Place, fifo: bool, wake: Option
     task.turns = 0;
 }
 
-// The task begins to sleep for so many ticks.
+// The task begins to sleep for `ticks` ticks.
 pub(crate) fn begin_delay(task: &mut Task, tick: u64, ticks: u32)
     requires { tick < 2 ^ 63 }
     ensures { task.new ≡ delayed tick ticks task.old }
@@ -159,7 +159,7 @@ pub(crate) fn renew(task: &mut Task, next_since: &mut u64)
     *next_since += 1;
 }
 
-// One more tick of the task's turn. A turn that is over begins anew, behind the task's equals: whether it is.
+// One more tick of the task's turn. A turn that is over begins anew, after the task's equals: whether it is.
 pub(crate) fn count_turn(task: &mut Task, next_since: &mut u64, slice: u32) -> bool
     requires { next_since.old + 1 < 2 ^ 64 }
     ensures over { result ≡ nat_le slice (task.old.turns + 1) }
@@ -183,7 +183,7 @@ pub(crate) fn drop_reservation(task: &mut Task)
     task.regs.reserve = None;
 }
 
-// The task goes on behind its call.
+// The task goes on after its call.
 pub(crate) fn pass_gate(task: &mut Task)
     ensures { task.new ≡ past_gate task.old }
 {

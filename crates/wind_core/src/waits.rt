@@ -14,7 +14,7 @@ use id_table::{Ident, Place};
 use wind_base::Errno;
 
 impl Kern {
-    /// The task begins to wait at a place, behind its equals, for so many ticks, or without end where
+    /// The task begins to wait at a place, after its equals, for `timeout` ticks, or without end if
     /// `timeout` is `WAIT_FOREVER`. It waits in order of arrival where `fifo` is set, else by priority. For
     /// the deletion of a task and for the console it waits by priority and without end.
     pub fn pend(&mut self, who: Ident, place: Place, fifo: bool, timeout: u32)
@@ -31,7 +31,7 @@ impl Kern {
         mend(&mut self.waits, &mut self.ready, &mut self.delays, task);
     }
 
-    /// The task sleeps for so many ticks. With 0 it only goes behind its equals.
+    /// The task sleeps for `ticks` ticks. With 0 it only goes after its equals.
     pub fn delay(&mut self, who: Ident, ticks: u32)
         requires live { Lives self.old who }
         requires since { self.old.next_since + 1 < 2 ^ 64 }
@@ -45,7 +45,7 @@ impl Kern {
         mend(&mut self.waits, &mut self.ready, &mut self.delays, task);
     }
 
-    /// The task's wait or delay ends. Where it is then ready, it stands behind its equals.
+    /// The task's wait or delay ends. If it is then ready, it stands after its equals.
     pub fn release(&mut self, who: Ident)
         requires live { Lives self.old who }
         requires since { self.old.next_since + 1 < 2 ^ 64 }
@@ -58,7 +58,7 @@ impl Kern {
     }
 
     /// The task's wait or delay ends, and its call is answered: by `answer` in r3, and by an error number
-    /// where one is named. Where it is then ready, it stands behind its equals.
+    /// where one is named. If it is then ready, it stands after its equals.
     pub fn end_wait(&mut self, who: Ident, answer: u32, errno: Option<Errno>)
         requires live { Lives self.old who }
         requires since { self.old.next_since + 1 < 2 ^ 64 }

@@ -7,7 +7,7 @@ use Rattle.std.proofs.lemmas.List.Elements.{All-cons, All-append, All-weaker}
 use Rattle.std.proofs.lemmas.Option.{same_Some}
 use Rattle.wind_lists.specs.Sorting.{insert_sorted, sorted, first}
 use Rattle.wind_lists.specs.Records.{without}
-use Rattle.wind_lists.specs.Arrivals.{Change, comes, goes, put_behind, after_changes, arrivals, ranks_below, IsEarliest, ArrivalLaw, EarliestLaw}
+use Rattle.wind_lists.specs.Arrivals.{Change, comes, goes, put_behind, after_changes, arrivals, ranks_below, IsEarliest, ArrivalLaw}
 use Rattle.wind_lists.proofs.Sorting.{filter-sorted}
 
 module _ {X : Type 0} (id rank : X → ℕ) where
@@ -88,7 +88,8 @@ module _ {X : Type 0} (id rank : X → ℕ) where
             ] refl q
       ] refl (sym (first_of_insert x (sorted (ranks_below id rank) xs)) ∙ e)
 
-  pub first_earliest : EarliestLaw id rank
+  -- the first is the earliest of the least rank
+  pub first_earliest : (changes : List (Change X)) (x : X) → first (after_changes id rank changes) ≡ Some x → IsEarliest id rank (arrivals id rank changes) x
   first_earliest changes x e = earliest (arrivals id rank changes) x (ap first (sym (arrivals_sorted changes)) ∙ e)
 
   -- nobody is first only where nobody is left

@@ -1,8 +1,8 @@
 -- Elements that come and go, each with a rank: in order of rank, and those of one rank in order of arrival.
-use Rattle.std.specs.Prelude.{◌≡◌, ℕ, ◌<◌, ◌≤◌, nat_lt, nat_le, Bool, List, [], ◌∷◌, ◌++◌, Some}
+use Rattle.std.specs.Prelude.{◌≡◌, ℕ, ◌<◌, ◌≤◌, nat_lt, nat_le, Bool, List, [], ◌∷◌, ◌++◌}
 use Rattle.std.specs.List.{All}
 use Rattle.wind_lists.specs.Records.{without}
-use Rattle.wind_lists.specs.Sorting.{insert_sorted, sorted, first}
+use Rattle.wind_lists.specs.Sorting.{insert_sorted, sorted}
 
 -- an element comes, or that of an id goes
 pub data Change (X : Type 0) : Type 0 where
@@ -44,7 +44,3 @@ module _ {X : Type 0} (id rank : X → ℕ) where
     pub among : xs ≡ earlier ++ x ∷ later
     pub above : All (λ y. rank x < rank y) earlier
     pub least : All (λ y. rank x ≤ rank y) later
-
-  -- the first is the earliest of the least rank
-  abbrev pub EarliestLaw : Type 0
-  EarliestLaw = (changes : List (Change X)) (x : X) → first (after_changes changes) ≡ Some x → IsEarliest (arrivals changes) x

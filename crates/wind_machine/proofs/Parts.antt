@@ -36,7 +36,8 @@ use Rattle.wind_machine.specs.State.{ShellState}
 use Rattle.wind_machine.specs.Good.{HasItsLine}
 use Rattle.wind_machine.specs.Part.{Part, part_of, with_kern, writing}
 use Rattle.wind_machine.specs.Task.{aborted, listening, stack_pointer, call_regs}
-use Rattle.wind_machine.specs.Text.{prompt_text, value_text, fault_text}
+use Rattle.text_show.specs.Value.{value_text}
+use Rattle.wind_machine.specs.Text.{prompt_text, fault_text}
 use Rattle.wind_machine.specs.Shell.{at_prompt, shell_with, returned, prompt_part, read_part, read_text, eval_state, with_eval, calling, came_to, eval_part}
 use Rattle.wind_machine.specs.Processor.{bus_of, regs_of, told_of, trapped, is_return, without_own, return_part, call_part, gate_part, executed, word_part, part_at, gate_under, task_part}
 use Rattle.wind_machine.specs.declared.phase.Phase.TheVariants as phases

@@ -13,7 +13,8 @@ use Rattle.kernel_world.specs.Starting.{framed}
 use Rattle.wind_machine.specs.State.{ShellState}
 use Rattle.wind_machine.specs.Part.{Part, part_of, with_kern, writing}
 use Rattle.wind_machine.specs.Task.{listening, stack_pointer, call_regs}
-use Rattle.wind_machine.specs.Text.{prompt_text, value_text, syntax_text, fault_text}
+use Rattle.text_show.specs.Value.{value_text}
+use Rattle.wind_machine.specs.Text.{prompt_text, syntax_text, fault_text}
 use Rattle.wind_machine.specs.declared.phase.Phase.TheVariants as phases
 
 -- the shell without a line under evaluation, in phase Prompt

@@ -1,7 +1,6 @@
 -- The texts that the board writes. All but the prompt are this project's own.
-use Rattle.std.specs.Prelude.{ℕ, zero, suc, ◌/◌, ◌%◌, List, [], ◌∷◌, ◌++◌, ◌&&◌, false, nat_le, if◌then◌else◌, codes}
-use Rattle.std.specs.Fmt.{decimal, signed_decimal, digits}
-use Rattle.std.specs.Int.{cast_signed, w32}
+use Rattle.std.specs.Prelude.{ℕ, zero, suc, ◌/◌, ◌%◌, List, [], ◌++◌, false, codes}
+use Rattle.std.specs.Fmt.{decimal, digits}
 use Rattle.ppc_core.specs.declared.trap.Trap.{Trap}
 use Rattle.ppc_core.specs.declared.trap.Trap.TheVariants as traps
 use Rattle.shell_eval.specs.declared.fault.EvalFault.{EvalFault}
@@ -10,14 +9,6 @@ use Rattle.shell_eval.specs.declared.fault.EvalFault.TheVariants as faults
 -- the prompt, `-> `
 abbrev pub prompt_text : List ℕ
 prompt_text = codes "-> "
-
--- the character of a word that is a printable one of ASCII, as ` = 'c'`
-abbrev pub character_text : ℕ → List ℕ
-character_text v = if nat_le 32 v && nat_le v 126 then codes " = '" ++ v ∷ codes "'" else []
-
--- the line that tells a value: signed in decimal digits, in hexadecimal digits, and as a character where it is one
-unfoldable pub value_text : ℕ → List ℕ
-value_text v = codes "value = " ++ signed_decimal (cast_signed w32 v) ++ codes " = 0x" ++ digits 16 false v ++ character_text v ++ codes "\n"
 
 -- the line that tells the column of the first token that is refused
 unfoldable pub syntax_text : ℕ → List ℕ

@@ -1,6 +1,5 @@
--- What was asked of a folder and of a sink, in order, where they tell it; what is untold stays untold.
-use Rattle.std.specs.Prelude.{ℕ, List, [], ◌∷◌, ◌++◌, Option}
-use Rattle.std.specs.Option.{option_map}
+-- The fetches from a folder and the pieces put to a sink, in order, if they tell them. What is untold stays untold.
+use Rattle.std.specs.Prelude.{◌≡◌, ℕ, List, ◌++◌, Option, IfSome, IsSomeAnd}
 use Rattle.wind_outside.specs.declared.folder.Fetched.{Fetched}
 use Rattle.wind_outside.specs.declared.folder.Fetched.TheVariants as fetched
 use Rattle.wind_outside.specs.declared.sink.Put.{Put}
@@ -37,6 +36,6 @@ pub record Piece : Type 0 where
 abbrev pub piece_of : List ℕ → Put → Piece
 piece_of bytes outcome = record { bytes = bytes; outcome = outcome }
 
--- what is told, with one more at the end
-abbrev pub then : {X : Type 0} → Option (List X) → X → Option (List X)
-then told x = option_map (λ xs. xs ++ x ∷ []) told
+-- what is told now, if anything, is what was told before with these more at its end; so one that tells may stop, for good
+abbrev pub GrowsBy : {X : Type 0} → Option (List X) → Option (List X) → List X → Type 0
+GrowsBy old new more = IfSome new (λ told. IsSomeAnd old (λ before. told ≡ before ++ more))

@@ -1,9 +1,9 @@
 //! Folders of files.
 
-ghost use Rattle.std.specs.Prelude.{◌≡◌, ℕ, ◌≤◌, List, Option, IfSome};
+ghost use Rattle.std.specs.Prelude.{◌≡◌, ℕ, ◌≤◌, List, [], ◌∷◌, Option, IfSome};
 ghost use Rattle.wind_outside.specs.Counts.{Rose};
 ghost use Rattle.wind_outside.specs.Files.{Files, IsFetchOf, IsWithin};
-ghost use Rattle.wind_outside.specs.Requests.{Request, request_of, then};
+ghost use Rattle.wind_outside.specs.Requests.{GrowsBy, Request, request_of};
 ghost use Rattle.wind_outside.specs.declared.folder.Fetched.TheVariants as fetched;
 
 use std::alloc::Global;
@@ -26,7 +26,8 @@ pub enum Fetched {
 /// A folder of files.
 ///
 /// A contract sees its files and the fetches so far, each of which it may leave untold, and a count of its
-/// faults. The count never falls, and stands still at 2^64 - 1.
+/// faults. The count never falls, and stands still at 2^64 - 1. A folder that tells its fetches may stop: it
+/// may have no memory for one more.
 pub trait Folder {
     ghost files: { Self → Option Files };
 
@@ -39,7 +40,7 @@ pub trait Folder {
         ensures kept { files self.new ≡ files self.old }
         ensures told { IfSome (files self.old) (λ held. IsFetchOf (held name.now) limit result) }
         ensures within { IsWithin limit result }
-        ensures requested { requests self.new ≡ then (requests self.old) (request_of name.now limit result) }
+        ensures requested { GrowsBy (requests self.old) (requests self.new) (request_of name.now limit result ∷ []) }
         ensures failed { result ≡ fetched.Failed → Rose (faults self.old) (faults self.new) }
         ensures never_falls { faults self.old ≤ faults self.new };
 }

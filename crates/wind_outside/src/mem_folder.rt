@@ -1,10 +1,10 @@
 //! A folder in memory.
 
-ghost use Rattle.std.specs.Prelude.{◌≡◌, ◌≤◌, ◌↔◌, ℕ, List, Some, None, IfSome, OnOk, OnErr, Contains};
+ghost use Rattle.std.specs.Prelude.{◌≡◌, ◌≤◌, ◌↔◌, ℕ, List, [], ◌∷◌, Some, None, IfSome, OnOk, OnErr, Contains};
 ghost use Rattle.wind_outside.specs.Calls.{call_counted};
 ghost use Rattle.wind_outside.specs.Counts.{Rose};
 ghost use Rattle.wind_outside.specs.Files.{IsFetchOf, IsWithin, is_failed, with_file};
-ghost use Rattle.wind_outside.specs.Requests.{request_of, then};
+ghost use Rattle.wind_outside.specs.Requests.{GrowsBy, request_of};
 ghost use Rattle.wind_outside.specs.declared.folder.Fetched.TheVariants as fetched;
 
 use crate::calls::Calls;
@@ -42,9 +42,7 @@ impl MemFolder {
         ensures err { OnErr result ((other : List ℕ) → files_of self.new other ≡ files_of self.old other) }
         ensures calls { calls_of self.new ≡ calls_of self.old }
     {
-        let Ok(name) = name.to_string(self.alloc) else {
-            return Err(NoMemory);
-        };
+        let name = name.to_string(self.alloc)?;
         if self.files.insert(name, bytes).is_err() {
             return Err(NoMemory);
         }
@@ -66,7 +64,7 @@ impl Folder for MemFolder {
         ensures kept { Some (files_of self.new) ≡ Some (files_of self.old) }
         ensures told { IfSome (Some (files_of self.old)) (λ held. IsFetchOf (held name.now) limit result) }
         ensures within { IsWithin limit result }
-        ensures requested { None ≡ then None (request_of name.now limit result) }
+        ensures requested { GrowsBy None None (request_of name.now limit result ∷ []) }
         ensures failed { result ≡ fetched.Failed → Rose (calls_of self.old).faults (calls_of self.new).faults }
         ensures never_falls { (calls_of self.old).faults ≤ (calls_of self.new).faults }
 

@@ -1,9 +1,9 @@
 //! A sink in memory.
 
-ghost use Rattle.std.specs.Prelude.{◌≡◌, ◌<◌, ◌≤◌, ◌⊎◌, ◌↔◌, ℕ, [], Some, None, IfOk, Contains, length};
+ghost use Rattle.std.specs.Prelude.{◌≡◌, ◌<◌, ◌≤◌, ◌⊎◌, ◌↔◌, ℕ, [], ◌∷◌, Some, None, IfOk, Contains, length};
 ghost use Rattle.wind_outside.specs.Counts.{Rose};
 ghost use Rattle.wind_outside.specs.Told.{Appended, AppendedFront};
-ghost use Rattle.wind_outside.specs.Requests.{piece_of, then};
+ghost use Rattle.wind_outside.specs.Requests.{GrowsBy, piece_of};
 ghost use Rattle.wind_outside.specs.MemSink.{after_put};
 ghost use Rattle.wind_outside.specs.declared.sink.Put.TheVariants as puts;
 
@@ -65,7 +65,7 @@ impl Sink for MemSink {
     fn put(&mut self, piece: &[u8]) -> Put
         ensures done { result ≡ puts.Done → Appended (Some self.old.out.bytes) (Some self.new.out.bytes) piece.now }
         ensures part { AppendedFront (Some self.old.out.bytes) (Some self.new.out.bytes) piece.now }
-        ensures noted { None ≡ then None (piece_of piece.now result) }
+        ensures noted { GrowsBy None None (piece_of piece.now result ∷ []) }
         ensures failed { result ≡ puts.Failed → Rose self.old.calls.faults self.new.calls.faults }
         ensures never_falls { self.old.calls.faults ≤ self.new.calls.faults }
 

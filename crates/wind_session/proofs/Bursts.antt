@@ -3,14 +3,13 @@ use Rattle.std.proofs.Common.{◌≡◌, ℕ, zero, suc, ◌+◌, ◌++◌, List
 use Rattle.std.specs.Prelude.{nat_lt}
 use Rattle.std.proofs.lemmas.Bool.Decides.{nat_tests}
 use Rattle.std.proofs.lemmas.List.{append-nil}
-use Rattle.wind_outside.specs.Requests.{Request}
+use Rattle.wind_outside.specs.Requests.{GrowsBy, Request}
 use Rattle.wind_outside.specs.declared.sink.Put.TheVariants as puts
 use Rattle.wind_machine.specs.State.{State}
 use Rattle.wind_machine.specs.Machine.{file_asked, machine_step}
 use Rattle.wind_machine.specs.Run.{Answers, after, text}
 use Rattle.wind_machine.specs.Silent.{SilentSteps, SilentLaw, GoesOn}
 use Rattle.wind_session.specs.Modules.{Shelf, IsSaid}
-use Rattle.wind_session.specs.Fetches.{GrowsBy}
 use Rattle.wind_session.specs.Pieces.{output_piece, pieces_of}
 use Rattle.wind_session.proofs.FetchLemmas.{unasked_requests}
 use Rattle.wind_session.proofs.RunLemmas.{Behind}

@@ -5,7 +5,7 @@ use Rattle.std.specs.Str.{IsUtf8, is_utf8}
 use Rattle.std.proofs.lemmas.List.{append-nil}
 use Rattle.std.proofs.lemmas.Str.{IsUtf8-from_is_utf8, is_utf8-from_IsUtf8}
 use Rattle.wind_base.specs.Limits.{longest_module_file}
-use Rattle.wind_outside.specs.Requests.{Request, Outcome}
+use Rattle.wind_outside.specs.Requests.{GrowsBy, Request, Outcome}
 use Rattle.wind_outside.specs.Requests as outcomes
 use Rattle.live_loading.specs.Said.{FileSaid, Held, Missing, TooLong}
 use Rattle.wind_machine.specs.State.{State}
@@ -13,7 +13,7 @@ use Rattle.wind_machine.specs.Machine.{file_asked}
 use Rattle.wind_machine.specs.Run.{Answers, after}
 use Rattle.wind_session.specs.Command.{CommandState}
 use Rattle.wind_session.specs.Modules.{module_path}
-use Rattle.wind_session.specs.Fetches.{GrowsBy, LeadsTo, IsAfterFiles, EndsWithFiles, EndsWithRounds, EndsWithInputs, Stops, file_requests, module_request, outcome_said, requests_of, rounds_requests, step_request, text_request}
+use Rattle.wind_session.specs.Fetches.{LeadsTo, IsAfterFiles, EndsWithFiles, EndsWithRounds, EndsWithInputs, Stops, file_requests, module_request, outcome_said, requests_of, rounds_requests, step_request, text_request}
 use Rattle.wind_session.specs.declared.run.RunEnd.TheVariants as ends
 use Rattle.wind_session.specs.declared.ending.Status.{Status}
 use Rattle.wind_session.specs.declared.ending.Status.TheVariants as status
@@ -23,19 +23,25 @@ use Rattle.wind_session.specs.declared.ending.Which.TheVariants as which
 module _ {X : Type 0} where
   -- a list grows twice
   pub grows_both : (old mid new : Option (List X)) (a b : List X) → GrowsBy old mid a → GrowsBy mid new b → GrowsBy old new (a ++ b)
-  grows_both None mid new a b p q = q ∙ ap (option_map (λ xs. xs ++ b)) p
-  grows_both (Some x) mid new a b p q = q ∙ ap (option_map (λ xs. xs ++ b)) p ∙ ap Some (append_assoc x a b)
+  grows_both old mid None a b p q = tt
+  grows_both old None (Some z) a b p q = absurd q
+  grows_both None (Some y) (Some z) a b p q = absurd p
+  grows_both (Some x) (Some y) (Some z) a b p q = q ∙ ap (λ xs. xs ++ b) p ∙ append_assoc x a b
 
   -- it grows by nothing if it stays as it is
   pub grows_none : (old : Option (List X)) → GrowsBy old old []
-  grows_none None = refl
-  grows_none (Some x) = ap Some (sym (append-nil x))
+  grows_none None = tt
+  grows_none (Some x) = sym (append-nil x)
 
   pub grows_same : (old new : Option (List X)) → new ≡ old → GrowsBy old new []
-  grows_same old new same = same ∙ grows_none old
+  grows_same old new same = subst (λ told. GrowsBy old told []) (sym same) (grows_none old)
 
-  pub same_grown : (old new : Option (List X)) → GrowsBy old new [] → new ≡ old
-  same_grown old new grown = grown ∙ sym (grows_none old)
+  -- what grew twice grew from where the first growth would have led a list that is told to its end
+  pub grows_from : (old mid new : Option (List X)) (a b : List X) → GrowsBy old mid a → GrowsBy mid new b → GrowsBy (option_map (λ xs. xs ++ a) old) new b
+  grows_from old mid None a b p q = tt
+  grows_from old None (Some z) a b p q = absurd q
+  grows_from None (Some y) (Some z) a b p q = absurd p
+  grows_from (Some x) (Some y) (Some z) a b p q = q ∙ ap (λ xs. xs ++ b) p
 
 -- ---- the request for a module
 -- the request at the path of a module
@@ -98,16 +104,16 @@ unasked_requests folder said s i (suc k) unasked =
 -- memory ran out before the first request
 pub rounds_unread : (n : ℕ) (c : CommandState) (old : Option (List Request)) → EndsWithRounds n c status.NoMemory old old
 rounds_unread zero c old = inr (refl, refl)
-rounds_unread (suc n) c old = refl
+rounds_unread (suc n) c old = (refl, refl)
 
 pub inputs_unread : (command : Option CommandState) (old : Option (List Request)) → EndsWithInputs command status.NoMemory old old
 inputs_unread None old = refl
 inputs_unread (Some c) old = rounds_unread c.generate c old
 
 -- and after both files were found
-pub rounds_found : (n : ℕ) (c : CommandState) (old new : Option (List Request)) → GrowsBy old new (rounds_requests n c) → EndsWithRounds n c status.NoMemory old new
-rounds_found zero c old new grown = inl (record { console = outcomes.Found; ticks = outcomes.Found; requests = grown; status_is = tt })
-rounds_found (suc n) c old new grown = same_grown old new grown
+pub rounds_found : (n : ℕ) (c : CommandState) (old new : Option (List Request)) → GrowsBy old new (rounds_requests n c) → (n ≢ 0 → new ≡ old) → EndsWithRounds n c status.NoMemory old new
+rounds_found zero c old new grown unasked = inl (record { console = outcomes.Found; ticks = outcomes.Found; requests = grown; status_is = tt })
+rounds_found (suc n) c old new grown unasked = (refl, unasked (λ e. cc))
 
 -- with no rounds, the files of a command were fetched
 pub rounds_files : (n : ℕ) (c : CommandState) (s : Status) (old new : Option (List Request)) → n ≡ 0 → EndsWithFiles c s old new → EndsWithRounds n c s old new

@@ -1,7 +1,10 @@
 pub mod CommandLemmas
 pub mod FetchLemmas
+pub mod InputLemmas
+pub mod FailureLemmas
 pub mod LeftLemmas
 pub mod PlanLemmas
+pub mod ProgramLemmas
 pub mod ModuleLemmas
 pub mod RunLemmas
 pub mod Saying

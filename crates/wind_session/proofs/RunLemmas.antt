@@ -3,7 +3,7 @@ use Rattle.std.proofs.Common.{◌≡◌, ◌≢◌, ℕ, suc, ◌+◌, ◌<◌, 
 use Rattle.std.specs.Prelude.{take}
 use Rattle.std.proofs.lemmas.List.{append-nil}
 use Rattle.wind_outside.specs.Files.{Files}
-use Rattle.wind_outside.specs.Requests.{Request, Piece}
+use Rattle.wind_outside.specs.Requests.{GrowsBy, Request, Piece}
 use Rattle.wind_outside.specs.Told.{Appended, AppendedFront}
 use Rattle.wind_outside.specs.declared.sink.Put.TheVariants as puts
 use Rattle.live_loading.specs.Said.{FileSaid, Missing}
@@ -11,7 +11,7 @@ use Rattle.wind_machine.specs.State.{State}
 use Rattle.wind_machine.specs.Machine.{IsOver, file_asked, machine_step, may_lack_memory}
 use Rattle.wind_machine.specs.Run.{Answers, after, text, IsPart}
 use Rattle.wind_session.specs.Modules.{Shelf, IsSaid, AreSaid}
-use Rattle.wind_session.specs.Fetches.{GrowsBy, IsLastRequest, Stops, outcome_said, requests_of, step_request}
+use Rattle.wind_session.specs.Fetches.{IsLastRequest, Stops, outcome_said, requests_of, step_request}
 use Rattle.wind_session.specs.Outside.{outside}
 use Rattle.wind_session.specs.Pieces.{output_piece, pieces_of}
 use Rattle.wind_session.specs.Runs.{IsEnd, Made, Ran}

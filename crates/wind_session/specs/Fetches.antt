@@ -1,9 +1,9 @@
 -- Which files a session fetches, in which order, and how each fetch ends. A folder that doesn't tell its requests leaves all of this open.
 use Rattle.std.specs.Prelude.{◌≡◌, ◌≢◌, ◌⊎◌, ℕ, zero, suc, List, [], ◌∷◌, ◌++◌, Option, None, Some, if◌then◌else◌}
-use Rattle.std.specs.Option.{option_map}
+use Rattle.std.specs.List.{All}
 use Rattle.std.specs.Str.{is_utf8}
 use Rattle.wind_base.specs.Limits.{longest_module_file, longest_text_file}
-use Rattle.wind_outside.specs.Requests.{Request, Outcome}
+use Rattle.wind_outside.specs.Requests.{GrowsBy, Request, Outcome}
 use Rattle.wind_outside.specs.Requests as outcomes
 use Rattle.live_loading.specs.Said.{FileSaid, Held, Missing, TooLong}
 use Rattle.wind_machine.specs.State.{State}
@@ -17,10 +17,6 @@ use Rattle.wind_session.specs.declared.ending.Status.{Status}
 use Rattle.wind_session.specs.declared.ending.Status.TheVariants as status
 use Rattle.wind_session.specs.declared.ending.Which.{Which}
 use Rattle.wind_session.specs.declared.ending.Which.TheVariants as which
-
--- a list that is told has these more at its end
-abbrev pub GrowsBy : {X : Type 0} → Option (List X) → Option (List X) → List X → Type 0
-GrowsBy old new more = new ≡ option_map (λ xs. xs ++ more) old
 
 -- ---- the two files of a command
 -- the request for a text file
@@ -69,7 +65,7 @@ pub record EndsWithFiles (c : CommandState) (s : Status) (old new : Option (List
 -- the requests of a session without a run; if memory runs out before the first, and for a generated session, there is none
 abbrev pub EndsWithRounds : ℕ → CommandState → Status → Option (List Request) → Option (List Request) → Type 0
 EndsWithRounds zero c s old new = EndsWithFiles c s old new ⊎ ((s ≡ status.NoMemory) × (new ≡ old))
-EndsWithRounds (suc n) c s old new = new ≡ old
+EndsWithRounds (suc n) c s old new = (s ≡ status.NoMemory) × (new ≡ old)
 
 -- for words that are no command there is none
 abbrev pub EndsWithInputs : Option CommandState → Status → Option (List Request) → Option (List Request) → Type 0
@@ -117,3 +113,21 @@ pub record Requests (end : RunEnd) (folder : List ℕ) (said : Answers) (s : Sta
   pub last : List Request
   pub last_is : IsLastRequest end folder (file_asked (after said s k)) last
   pub requests : GrowsBy old new (requests_of folder said s k ++ last)
+
+-- ---- failures
+-- a fetch that didn't fail
+abbrev pub IsFine : Request → Type 0
+IsFine r = r.outcome ≢ outcomes.Failed
+
+-- the failure with which a session of this status ends: one fetch that failed if the status is ReadFault, otherwise none
+abbrev pub IsFailure : Status → List Request → Type 0
+IsFailure status.ReadFault last = (r : Request) × (last ≡ r ∷ []) × (r.outcome ≡ outcomes.Failed)
+IsFailure s last = last ≡ []
+
+-- of the requests of a session none failed but the last, and that one exactly if the status is ReadFault
+pub record FailsLast (s : Status) (old new : Option (List Request)) : Type 0 where
+  pub front : List Request
+  pub last : List Request
+  pub requests : GrowsBy old new (front ++ last)
+  pub fine : All IsFine front
+  pub failure : IsFailure s last

@@ -7,6 +7,7 @@ pub mod Modules
 pub mod Outside
 pub mod Pieces
 pub mod Plan
+pub mod Program
 pub mod Runs
 pub mod Status
 pub mod Texts

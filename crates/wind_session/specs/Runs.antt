@@ -1,13 +1,13 @@
 -- What a run of the wind machine leaves.
 use Rattle.std.specs.Prelude.{◌≡◌, ◌≢◌, ℕ, suc, ◌<◌, List, [], ◌++◌, Option, IsSome, Bool, true, false, take, length}
 use Rattle.wind_outside.specs.Told.{Appended}
-use Rattle.wind_outside.specs.Requests.{Request}
+use Rattle.wind_outside.specs.Requests.{GrowsBy, Request}
 use Rattle.wind_outside.specs.declared.sink.Put.TheVariants as puts
 use Rattle.wind_machine.specs.State.{State}
 use Rattle.wind_machine.specs.Machine.{file_asked, IsOver, may_lack_memory}
 use Rattle.wind_machine.specs.Run.{Answers, after, text, IsPart}
 use Rattle.wind_session.specs.Modules.{Shelf, AreSaid}
-use Rattle.wind_session.specs.Fetches.{GrowsBy, Requests}
+use Rattle.wind_session.specs.Fetches.{Requests}
 use Rattle.wind_session.specs.Outside.{Outside}
 use Rattle.wind_session.specs.Pieces.{output_piece, pieces_of}
 use Rattle.wind_session.specs.declared.run.RunEnd.{RunEnd}

@@ -6,10 +6,10 @@ ghost use Rattle.wind_outside.specs.Counts.{Rose};
 ghost use Rattle.wind_outside.specs.Devices.{slots_of};
 ghost use Rattle.board_player.specs.Seen.{seen};
 ghost use Rattle.generated_session.specs.Session.{most_rounds, summary_line};
-ghost use Rattle.wind_outside.specs.Requests.{Outcome};
+ghost use Rattle.wind_outside.specs.Requests.{GrowsBy, Outcome};
 ghost use Rattle.wind_outside.specs.Requests as outcomes;
 ghost use Rattle.wind_session.specs.Command.{command_of as command_of_lem};
-ghost use Rattle.wind_session.specs.Fetches.{GrowsBy, LeadsTo, IsAfterFiles, EndsWithFiles, EndsWithRounds, file_requests, rounds_requests, text_request};
+ghost use Rattle.wind_session.specs.Fetches.{LeadsTo, IsAfterFiles, EndsWithFiles, EndsWithRounds, FailsLast, file_requests, rounds_requests, text_request};
 ghost use Rattle.wind_session.specs.Outside.{outside};
 ghost use Rattle.wind_session.specs.Words.{command_state};
 ghost use Rattle.wind_session.specs.Plan.{Start, IsFilePlan, IsPlanOf, IsHeld, plan_ticks, generated_plan};
@@ -149,6 +149,7 @@ fn inputs_of<F: Folder>(alloc: Global, command: &Command, folder: &mut F) -> Res
         (rounds_requests command.now.generate (command_state command.now))) }
     ensures without_run { IfErr result (λ s. EndsWithRounds command.now.generate (command_state command.now) s
         (F.requests folder.old) (F.requests folder.new)) }
+    ensures unasked { command.now.generate ≢ 0 → F.requests folder.new ≡ F.requests folder.old }
     ensures known { IfErr result (λ s. s ≢ status.Usage) }
     ensures files { F.files folder.new ≡ F.files folder.old }
     ensures faults { F.faults folder.old ≤ F.faults folder.new }
@@ -236,6 +237,7 @@ fn session<F: Folder, O: Sink>(
         (outside (F.requests folder.new) (O.bytes out.new) (O.pieces out.new)) }
     ensures complete { IsComplete result.status (Some (command_state command.now)) (F.files folder.old) (Rose (F.faults folder.old) (F.faults folder.new)) (Rose (O.faults out.old) (O.faults out.new)) }
     ensures known { result.status ≢ status.Usage }
+    ensures fails_last { FailsLast result.status (F.requests folder.old) (F.requests folder.new) }
     ensures kept { IsKept (seen ⟦<dyn Device as Device>⟧) result.stand }
     ensures read_fault { result.status ≡ status.ReadFault → Rose (F.faults folder.old) (F.faults folder.new) }
     ensures write_fault { result.status ≡ status.WriteFault → Rose (O.faults out.old) (O.faults out.new) }
@@ -280,6 +282,7 @@ pub fn play<'a, F: Folder, O: Sink, E: Sink>(
         ((result.status ≡ status.Usage) ↔ (command_of_lem (map (λ w. w.now) words.now)
         ≡ None)) }
     ensures complete { IsComplete result.status (command_of_lem (map (λ w. w.now) words.now)) (F.files folder.old) (Rose (F.faults folder.old) (F.faults folder.new)) (Rose (O.faults out.old) (O.faults out.new)) }
+    ensures fails_last { FailsLast result.status (F.requests folder.old) (F.requests folder.new) }
     ensures kept { IsKept (seen ⟦<dyn Device as Device>⟧) result.stand }
     ensures read_fault { result.status ≡ status.ReadFault → Rose (F.faults folder.old) (F.faults folder.new) }
     ensures write_fault { result.status ≡ status.WriteFault → Rose (O.faults out.old) (O.faults out.new) }

@@ -6,7 +6,7 @@ ghost use Rattle.wind_outside.specs.Counts.{Rose};
 ghost use Rattle.wind_outside.specs.Told.{Appended, AppendedFront};
 ghost use Rattle.wind_outside.specs.declared.sink.Put.TheVariants as puts;
 ghost use Rattle.board_player.specs.Seen.{seen};
-ghost use Rattle.wind_session.specs.Fetches.{GrowsBy};
+ghost use Rattle.wind_outside.specs.Requests.{GrowsBy};
 ghost use Rattle.wind_session.specs.Outside.{outside};
 ghost use Rattle.wind_session.specs.Pieces.{output_piece};
 ghost use Rattle.wind_session.specs.Runs.{Ran, Counted};

@@ -40,6 +40,6 @@ stand_again-requires g c =
 
 pub returns-in_default-row-clause-err : goal.returns-in_default-row-clause-err
 returns-in_default-row-clause-err g c =
-    let lacks = subst (λ h. may_lack_memory h ≡ true) (gate_back c.args.gate _ _ c.args.call c.requires.is) c.in_default-row.ensures.memory in
+    let lacks = subst (λ h. may_lack_memory h ≡ true) (gate_back c.args.gate _ _ c.args.call.now c.requires.is) c.in_default-row.ensures.memory in
     same_again _ _ _ _ c.args.who.now c.counter-pc.result c.facts.ensures c.requires.caller (by_task c.args.gate c.args.who.now c.in_default.ensures lacks)
     c.counter-pc.ensures c.leave_gate-2.ensures.world c.in_default-row.ensures.err c.stand_again.ensures.world

@@ -1,6 +1,8 @@
-use Rattle.std.proofs.Common.{◌≡◌, ◌+◌, List, [], ◌∷◌, ◌++◌, length, take, drop, replicate, None, Ok, ap, ◌∙◌, subst, arith}
+use Rattle.std.proofs.Common.{◌≡◌, ◌+◌, List, [], ◌∷◌, ◌++◌, length, take, drop, replicate, None, Ok, sym, ap, ◌∙◌, subst, arith}
 use Rattle.wind_core.specs.State.{KernState}
+use Rattle.std.specs.List.{All}
 use Rattle.symbol_table.specs.declared.symbol.Symbol.{Symbol}
+use Rattle.symbol_table.specs.State.{HasName}
 use Rattle.id_table.specs.Rows.{Rows}
 use Rattle.module_image.specs.declared.segments.Needs.{Needs}
 use Rattle.module_image.specs.Needs.{needs_of}
@@ -8,6 +10,7 @@ use Rattle.module_image.specs.Exports.{export_count, exports}
 use Rattle.module_image.specs.Image.{image}
 use Rattle.module_image.specs.Making.{IsMade}
 use Rattle.module_image.proofs.Counts.{count_law}
+use Rattle.module_image.proofs.Names.{exports_named}
 use Rattle.module_loader.specs.declared.module.LoadedModule.{LoadedModule}
 use Rattle.module_loader.specs.Placing.{places_of, with_needs}
 use Rattle.module_loader.specs.Loading.{LoaderState, count_by, place_verdict, in_block, stored_all, record_of, IsVerdict}
@@ -54,6 +57,9 @@ commit-requires-clause-symbols c =
     let same = c.count_added-added.ensures ∙ ap (export_count c.args.mode) c.as_slice.ensures in
     let room = c.in-Ok-check_counts.ensures.room in
     omega arith
+
+pub commit-requires-clause-named : goal.commit-requires-clause-named
+commit-requires-clause-named c = subst (All HasName) (sym c.in-Ok-place.ensures.exports) (exports_named c.args.m.now c.args.mode c.in-Ok-place.r.0 c.get.result)
 
 pub commit-requires-clause-text : goal.commit-requires-clause-text
 commit-requires-clause-text c = (fits (goal.at.commit-requires-clause-text c).In-Ok-place).text

@@ -14,5 +14,5 @@ returns c =
     let order = ranks_by nat_list_cmp_total (λ s. s.now.name) in
     let answers = answers_always _ _ _ (λ f a r g h. search rules) in
     let by = seen_by (λ s. s.now) name_before in
-    ap (map (λ s. s.now)) (stable_sorted by order old new (c.in-Ok.ensures.sorted by order answers) (c.sort_by.ensures.stable by order answers))
+    ap (map (λ s. s.now)) (stable_sorted by order old new (c.in_ok-sort_by.ensures.sorted by order answers) (c.sort_by.ensures.stable by order answers))
     ∙ seen_sorted (λ s. s.now) name_before old

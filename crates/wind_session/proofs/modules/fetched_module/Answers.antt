@@ -3,7 +3,7 @@ use Rattle.std.specs.Str.{IsUtf8}
 use Rattle.wind_outside.specs.Requests as outcomes
 use Rattle.live_loading.specs.Said.{Held, TooLong, Missing}
 use Rattle.wind_session.specs.Modules.{IsSaidBy, module_path}
-use Rattle.wind_session.specs.Fetches.{GrowsBy}
+use Rattle.wind_outside.specs.Requests.{GrowsBy}
 use Rattle.wind_session.proofs.FetchLemmas.{grows_none, no_text_module, path_request, requested, stops_after, stops_unread}
 use Rattle.wind_session.proofs.ModuleLemmas.{of_text, of_no_text, found_said, missing_said, long_said}
 use Rattle.wind_session.proofs.modules.fetched_module.Goals as goal

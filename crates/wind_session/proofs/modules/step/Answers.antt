@@ -1,7 +1,8 @@
 use Rattle.std.proofs.Common.{◌≡◌, ◌∙◌, Some, None, refl, sym, ap, subst}
 use Rattle.live_loading.specs.Said.{Missing}
 use Rattle.wind_outside.specs.Requests as outcomes
-use Rattle.wind_session.specs.Fetches.{GrowsBy, step_request}
+use Rattle.wind_outside.specs.Requests.{GrowsBy}
+use Rattle.wind_session.specs.Fetches.{step_request}
 use Rattle.wind_session.proofs.FetchLemmas.{grows_none, stops_before}
 use Rattle.wind_machine.proofs.Asking.{asked_may}
 use Rattle.wind_session.proofs.modules.step.Goals as goal

@@ -5,6 +5,7 @@ use Rattle.wind_session.specs.Headline.{IsComplete}
 use Rattle.wind_session.specs.Plan.{Refuse}
 use Rattle.wind_session.specs.Texts.{memory_text}
 use Rattle.wind_session.specs.declared.ending.Status.TheVariants as status
+use Rattle.wind_session.proofs.FailureLemmas.{unfetched}
 use Rattle.wind_session.proofs.FetchLemmas.{inputs_unread}
 use Rattle.wind_session.proofs.PlanLemmas.{some_plan}
 use Rattle.wind_session.proofs.ToldLemmas.{memory_is_text}
@@ -32,3 +33,10 @@ returns-clause-complete g c =
     (Rose (g.F.Folder.faults c.args.folder.now) (g.F.Folder.faults c.session-ending.new.folder))
     (Rose (g.O.Sink.faults c.args.out.now) (g.O.Sink.faults c.session-ending.new.out)))
     (sym c.in-Ok.ensures.value) c.session-ending.ensures.complete
+
+-- nothing was fetched
+pub returns-in-Err-Usage-clause-fails_last : goal.returns-in-Err-Usage-clause-fails_last
+returns-in-Err-Usage-clause-fails_last g c = rw c.refused.ensures (unfetched status.Usage _ _ (λ e. cc) refl)
+
+pub returns-in-Err-NoMemory-clause-fails_last : goal.returns-in-Err-NoMemory-clause-fails_last
+returns-in-Err-NoMemory-clause-fails_last g c = rw c.refused-in-Err-NoMemory.ensures (unfetched status.NoMemory _ _ (λ e. cc) refl)

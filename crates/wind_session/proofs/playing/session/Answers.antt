@@ -1,10 +1,54 @@
-use Rattle.std.proofs.Common.{ap}
+use Rattle.std.proofs.Common.{ap, refl}
 use Rattle.wind_machine.specs.State.{State}
 use Rattle.wind_machine.specs.Machine.{opening}
 use Rattle.wind_outside.specs.Counts.{Rose}
+use Rattle.wind_session.specs.Fetches.{rounds_requests}
+use Rattle.wind_session.specs.Outside.{outside}
 use Rattle.wind_session.specs.Words.{command_state}
+use Rattle.wind_session.specs.declared.ending.Status.TheVariants as status
+use Rattle.wind_session.proofs.FetchLemmas.{rounds_found}
+use Rattle.wind_session.proofs.FailureLemmas.{fails_after, left_fails, rounds_fail}
+use Rattle.wind_session.proofs.InputLemmas.{left_after}
 use Rattle.wind_session.proofs.PlanLemmas.{complete_refused}
 use Rattle.wind_session.proofs.playing.session.Goals as goal
+
+-- the run that was played followed the fetches of the command's files
+pub returns-clause-machine : goal.returns-clause-machine
+returns-clause-machine g c =
+    let n = c.args.command.now.generate in
+    let told = outside (g.F.Folder.requests c.args.folder.now) (g.O.Sink.bytes c.args.out.now) (g.O.Sink.pieces c.args.out.now) in
+    let left = c.played-status.ensures.left in
+    record {
+      plan = _;
+      planned = c.in-Ok.ensures.start;
+      leaves = record {
+        end = left.0;
+        console = _;
+        schedule = _;
+        planned = refl;
+        left =
+            left_after (rounds_requests n (command_state c.args.command.now)) told (g.F.Folder.requests c.inputs_of.new.folder) c.in-Ok.ensures.found n c.played-status.result left.0 _ _ c.args.command.now.modules.now _ _ _ _ _
+            c.inputs_of.ensures.files c.in-Ok-boot.ensures.ok left.1;
+      };
+    }
+
+-- memory ran out for the board
+pub returns-in-Err-boot-clause-machine : goal.returns-in-Err-boot-clause-machine
+returns-in-Err-boot-clause-machine g c =
+    rw c.refused-in-Err-boot.ensures
+    (record {
+      plan = _;
+      planned = c.in-Ok.ensures.start;
+      leaves = (
+        c.in-Err-boot.ensures.err,
+        record {
+          bytes = refl;
+          pieces = refl;
+          refusal = tt;
+          fetches = rounds_found c.args.command.now.generate (command_state c.args.command.now) _ _ c.in-Ok.ensures.found c.inputs_of.ensures.unasked;
+        },
+      );
+    })
 
 -- what is refused had no plan to start, or a fault came
 pub returns-in-Err-clause-complete : goal.returns-in-Err-clause-complete
@@ -23,3 +67,21 @@ played-status-requires-clause-fresh g c = ap (λ (s : State). s.steps) c.in-Ok-b
 -- the board that is left has the kept facts, and so what is so at each instant
 pub returns-clause-kept : goal.returns-clause-kept
 returns-clause-kept g c = (c.facts.ensures, c.instant_law.ensures _ c.facts.ensures)
+
+-- ---- only the last fetch may have failed
+pub returns-in-Err-clause-fails_last : goal.returns-in-Err-clause-fails_last
+returns-in-Err-clause-fails_last g c =
+    rw c.refused.ensures (rounds_fail (command_state c.args.command.now) c.in-Err.status _ _ c.args.command.now.generate c.in-Err.ensures.without_run)
+
+pub returns-clause-fails_last : goal.returns-clause-fails_last
+returns-clause-fails_last g c =
+    let left = c.played-status.ensures.left in
+    fails_after c.played-status.result c.args.command.now.generate (command_state c.args.command.now) _ _ _ c.in-Ok.ensures.found
+    (left_fails c.args.command.now.generate c.played-status.result left.0 _ _ _ _ _ _ left.1)
+
+-- memory ran out for the board
+pub returns-in-Err-boot-clause-fails_last : goal.returns-in-Err-boot-clause-fails_last
+returns-in-Err-boot-clause-fails_last g c =
+    rw c.refused-in-Err-boot.ensures
+    (rounds_fail (command_state c.args.command.now) status.NoMemory _ _ c.args.command.now.generate
+    (rounds_found c.args.command.now.generate (command_state c.args.command.now) _ _ c.in-Ok.ensures.found c.inputs_of.ensures.unasked))

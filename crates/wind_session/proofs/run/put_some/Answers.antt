@@ -1,9 +1,8 @@
 use Rattle.std.proofs.Common.{◌≡◌, ◌==◌, ◌∷◌, [], List, ℕ, length, true, false, sym, refl, ◌∙◌, subst, arith}
 use Rattle.std.proofs.lemmas.Bool.{eqb-true}
-use Rattle.wind_outside.specs.Requests.{piece_of}
+use Rattle.wind_outside.specs.Requests.{GrowsBy, piece_of}
 use Rattle.wind_outside.specs.declared.sink.Put.{Put}
 use Rattle.wind_outside.specs.declared.sink.Put.TheVariants as puts
-use Rattle.wind_session.specs.Fetches.{GrowsBy}
 use Rattle.wind_session.specs.Pieces.{output_piece}
 use Rattle.wind_session.proofs.FetchLemmas.{grows_none}
 use Rattle.wind_session.proofs.run.put_some.Goals as goal

@@ -3,7 +3,7 @@ use Rattle.wind_outside.specs.Told.{Appended}
 use Rattle.wind_session.specs.Modules.{Shelf}
 use Rattle.wind_session.proofs.Saying.{saying}
 use Rattle.wind_session.proofs.RunLemmas.{nothing_said, begun, further, text_on, pieces_on, cut_off, quiet, lacking, unread, at_limit}
-use Rattle.wind_session.specs.Fetches.{GrowsBy}
+use Rattle.wind_outside.specs.Requests.{GrowsBy}
 use Rattle.wind_session.proofs.Bursts.{runs_on, as_written, as_put}
 use Rattle.wind_session.proofs.FetchLemmas.{grows_none}
 use Rattle.wind_session.proofs.ToldLemmas.{appended_none}

@@ -2,7 +2,7 @@ use Rattle.std.proofs.Common.{◌≡◌, ◌-◌, ◌≤◌}
 use Rattle.wind_outside.specs.Told.{Appended}
 use Rattle.wind_machine.specs.Run.{Answers, text}
 use Rattle.board_player.specs.Seen.{board_by}
-use Rattle.wind_session.specs.Fetches.{GrowsBy}
+use Rattle.wind_outside.specs.Requests.{GrowsBy}
 use Rattle.wind_session.specs.Pieces.{pieces_of}
 use Rattle.wind_session.proofs.RunLemmas.{Behind}
 use Rattle.wind_session.proofs.run.run_board.Given as goal

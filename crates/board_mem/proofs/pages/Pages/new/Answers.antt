@@ -9,7 +9,7 @@ pub returns : goal.returns
 returns c =
     let index = c.in-Ok.ensures.items_if_clones_equal (λ y e. e) in
     let store = c.resize.new.self.items in
-    let zeros : (i : ℕ) → i < page_bytes → get_or store i 0 ≡ 0 = λ i h. c.resize.ensures.by_index.1 i 0 (ap is_ok c.in-Ok-resize.is) (omega (arith, c.in-Ok-with_capacity.ensures.len)) h in
+    let zeros : (i : ℕ) → i < page_bytes → get_or store i 0 ≡ 0 = λ i h. c.resize.ensures.by_index.1 i 0 (ap is_ok c.in-Ok-resize.is) (omega (arith, c.in_ok-store.ensures.len)) h in
     ap₂ (λ (bytes : List ℕ) (made : List Bool). let r : PagesState = record { bytes = bytes; made = made } in r)
     (ap (λ i. bytes_of c.args.size i store) index ∙ bytes_of-unmade c.args.size _ store zeros)
     (ap made_of index ∙ made_of-unmade _)

@@ -1,6 +1,7 @@
 use Rattle.std.proofs.Common.{◌<◌, ◌∙◌, sym, subst}
 use Rattle.std.specs.List.{All}
 use Rattle.id_table.specs.Rows.{IdsBelow}
+use Rattle.id_table.specs.Source.{Ids}
 use Rattle.isr_watch.specs.declared.watchdog.Watchdog.{Watchdog}
 use Rattle.isr_watch.specs.State.{WatchState}
 use Rattle.isr_watch.proofs.Writes.{below_of, made_own}
@@ -10,7 +11,7 @@ pub add_watchdog-made-requires-clause-below : goal.add_watchdog-made-requires-cl
 add_watchdog-made-requires-clause-below c =
     let rs = c.self.inside.watchdogs.rows in
     let next = c.args.kern.now.next_id in
-    subst (λ n. IdsBelow n rs) (sym c.lend_ids-ids.ensures.value)
+    subst (λ (s : Ids). IdsBelow s.next rs) (sym c.lend_ids-ids.ensures.value)
     (below_of rs next c.self.invariant.0.own (subst (λ (s : WatchState). All (λ (w : Watchdog). w.id < next) s.watchdogs) (sym c.self.view_is) c.requires.below))
 
 pub invariant_of-self : goal.invariant_of-self

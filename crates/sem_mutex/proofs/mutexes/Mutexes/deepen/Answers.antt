@@ -5,7 +5,7 @@ use Rattle.sem_mutex.proofs.Answering.{few_safe, few_deep}
 use Rattle.sem_mutex.proofs.mutexes.Mutexes.deepen.Goals as goal
 
 pub guard-requires-clause-safe : goal.guard-requires-clause-safe
-guard-requires-clause-safe c = omega (arith, few_safe (both c.args.k.now c.args.self.now) c.args.who c.requires.early)
+guard-requires-clause-safe c = omega (arith, few_safe c.args.k.now c.args.who c.requires.early.safes)
 
 pub add_depth-requires : goal.add_depth-requires
 add_depth-requires c =

@@ -12,7 +12,7 @@ use Rattle.sem_mutex.proofs.mutexes.Mutexes.delete.Goals as goal
 
 pub end_owner-requires-clause-since : goal.end_owner-requires-clause-since
 end_owner-requires-clause-since c =
-    omega (arith, since_woken c.args.k.now c.wake_all.new.self (mutex_place c.in-Some.id) error_word (Some errors.ObjDeleted) c.facts.ensures c.wake_all.ensures, c.requires.early.sinces)
+    omega (arith, since_woken c.args.k.now c.wake_all.new.self (mutex_place c.in-Some.id) error_word (Some errors.ObjDeleted) c.facts.ensures c.wake_all.ensures, c.requires.since)
 
 pub returns : goal.returns
 returns c =

@@ -19,7 +19,7 @@ pub let_go-requires-clause-since : goal.let_go-requires-clause-since
 let_go-requires-clause-since c =
     let m = live_is (object_of c.args.self.now c.args.id) c.requires.there in
     let p = after_pass (both c.args.k.now c.args.self.now) (both c.pass_on.new.k c.pass_on.new.self) c.args.who c.args.id m.0 c.facts.ensures c.requires.live c.requires.kept m.1 c.pass_on.ensures in
-    omega (arith, p.sinces, c.requires.early.sinces)
+    omega (arith, p.sinces, c.requires.since)
 
 pub ease-requires-clause-live : goal.ease-requires-clause-live
 ease-requires-clause-live c =
@@ -32,7 +32,7 @@ ease-requires-clause-since c =
     let m = live_is (object_of c.args.self.now c.args.id) c.requires.there in
     let p = after_pass (both c.args.k.now c.args.self.now) (both c.pass_on.new.k c.pass_on.new.self) c.args.who c.args.id m.0 c.facts.ensures c.requires.live c.requires.kept m.1 c.pass_on.ensures in
     let q = let_go_after c.pass_on.new.k c.let_go.new.k c.args.who c.mutex.result.now c.let_go.ensures p.lives in
-    omega (arith, p.sinces, q.sinces, c.requires.early.sinces)
+    omega (arith, p.sinces, q.sinces, c.requires.since)
 
 pub returns : goal.returns
 returns c =

@@ -12,7 +12,7 @@ hand-requires-clause-held c =
     omega (arith, few_held (both c.args.k.now c.args.self.now) c.in-Some.next c.facts-2.ensures c.requires.kept)
 
 pub hand-requires-clause-safe : goal.hand-requires-clause-safe
-hand-requires-clause-safe c = omega (arith, few_safe (both c.args.k.now c.args.self.now) c.in-Some.next c.requires.early)
+hand-requires-clause-safe c = omega (arith, few_safe c.args.k.now c.in-Some.next c.requires.safe)
 
 pub end_wait-requires-clause-live : goal.end_wait-requires-clause-live
 end_wait-requires-clause-live c =

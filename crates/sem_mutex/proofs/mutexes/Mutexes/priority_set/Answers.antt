@@ -35,7 +35,7 @@ inherit-requires-clause-since c =
     let s = both c.args.k.now c.args.self.now in
     let may = reprices s (both c.change_pri.new.self c.args.self.now) c.args.who c.args.pri c.facts.ensures c.requires.live c.requires.kept
     (repriced s c.set_normal.new.self c.change_pri.new.self c.args.who c.args.pri c.pri_after-changed.result c.set_normal.ensures c.change_pri.ensures c.pri_after-changed.ensures) in
-    omega (arith, c.requires.early.sinces, may.sinces)
+    omega (arith, c.requires.since, may.sinces)
 
 pub returns-clause-kept : goal.returns-clause-kept
 returns-clause-kept c =

@@ -16,7 +16,7 @@ hand-requires-clause-held c =
     omega (arith, few_held (both c.args.k.now c.args.self.now) c.args.caller c.facts-2.ensures c.requires.kept)
 
 pub hand-requires-clause-safe : goal.hand-requires-clause-safe
-hand-requires-clause-safe c = omega (arith, few_safe (both c.args.k.now c.args.self.now) c.args.caller c.requires.early)
+hand-requires-clause-safe c = omega (arith, few_safe c.args.k.now c.args.caller c.requires.early.safes)
 
 pub returns-in_default-owner_by : goal.returns-in_default-owner_by
 returns-in_default-owner_by c =

@@ -1,7 +1,11 @@
-use Rattle.std.proofs.Common.{◌≡◌, ℕ, ◌+◌, ◌%◌, ◌<◌, List, [], ◌∷◌, ◌++◌, length, subst, sym, ap, ◌∙◌, arith, length-append}
+use Rattle.std.proofs.Common.{◌≡◌, ℕ, ◌+◌, ◌%◌, ◌<◌, ◌≤◌, List, [], ◌∷◌, ◌++◌, length, subst, sym, ap, ◌∙◌, arith, length-append}
+use Rattle.wind_base.specs.Limits.{longest_name}
 use Rattle.symbol_table.specs.declared.symbol.Symbol.{Symbol}
+use Rattle.symbol_table.specs.State.{IsNamed}
 use Rattle.symbol_table.specs.Chains.{ChainsState, chain_by_name, chain_by_value, name_hash, state_of}
+use Rattle.std.specs.List.{All}
 use Rattle.std.proofs.lemmas.List.{length-set}
+use Rattle.std.proofs.lemmas.List.Elements.{All-push}
 use Rattle.std.proofs.lemmas.Nat.{mod_below}
 use Rattle.symbol_table.proofs.Chaining.{pushed}
 use Rattle.symbol_table.proofs.chains.Chains.add.Goals as goal
@@ -13,7 +17,8 @@ invariant_of-self c =
     let more = c.push_reserved.new.self.items in
     let longer : more ≡ list ++ x ∷ [] = c.push_reserved.ensures.items in
     let size : length more ≡ length list + 1 = ap (λ (xs : List Symbol). length xs) longer ∙ length-append list (x ∷ []) in
-    let some : 0 < c.self.inside.spare = subst (λ (t : ChainsState). 0 < t.spare) (sym c.self.view_is) c.requires in
+    let some : 0 < c.self.inside.spare = subst (λ (t : ChainsState). 0 < t.spare) (sym c.self.view_is) c.requires.room in
+    let name : length x.name ≤ longest_name = subst (λ (bs : List ℕ). length bs ≤ longest_name) c.bytes.ensures.value c.bytes.ensures.within in
     let inv = c.self.invariant in
     let few = inv.3.few in
     let one = inv.0 in
@@ -33,6 +38,7 @@ invariant_of-self c =
       omega arith,
       record {
         few = omega arith;
+        named = subst (All IsNamed) (sym longer) (All-push IsNamed list x inv.3.named (record { some = c.requires.named; within = name }));
         names = pushed chain_by_name list more x (state_of c.self.inside.names) (state_of c.add.new.self) (c.hash_name-name.result % names) inv.3.names
             (ap (λ y. y % names) (c.hash_name-name.ensures.value ∙ ap name_hash c.bytes.ensures.value)) (mod_below c.hash_name-name.result names inv.3.names.some) longer c.add.ensures.before c.add.ensures.heads;
         values = pushed chain_by_value list more x (state_of c.self.inside.values) (state_of c.add-2.new.self) (c.hash_value-value.result % values) inv.3.values

@@ -1,5 +1,7 @@
 use Rattle.std.proofs.Common.{◌≡◌, ℕ, List, [], length, ap, ◌∙◌, arith}
 use Rattle.std.proofs.lemmas.List.{length-replicate}
+use Rattle.std.proofs.lemmas.List.Elements.{All-nil}
+use Rattle.symbol_table.specs.State.{IsNamed}
 use Rattle.symbol_table.specs.Chains.{state_of}
 use Rattle.symbol_table.proofs.Chaining.{chained_none}
 use Rattle.symbol_table.proofs.chains.Chains.new.Goals as goal
@@ -7,16 +9,17 @@ use Rattle.symbol_table.proofs.chains.Chains.new.Goals as goal
 pub invariant_of-result : goal.invariant_of-result
 invariant_of-result c =
     let none : c.new-3.result.items ≡ [] = c.new-3.ensures.items in
-    let names = ap (λ (xs : List ℕ). length xs) c.in-Ok.ensures.heads ∙ length-replicate {A = ℕ} 64 0 in
-    let values = ap (λ (xs : List ℕ). length xs) c.in-Ok-new.ensures.heads ∙ length-replicate {A = ℕ} 64 0 in
+    let names = ap (λ (xs : List ℕ). length xs) c.in_ok-names.ensures.heads ∙ length-replicate {A = ℕ} 64 0 in
+    let values = ap (λ (xs : List ℕ). length xs) c.in_ok-values.ensures.heads ∙ length-replicate {A = ℕ} 64 0 in
     rw none (
       omega arith,
       omega arith,
       omega arith,
       record {
         few = omega arith;
-        names = chained_none 64 (state_of c.in-Ok.names) (omega arith) c.in-Ok.ensures.before c.in-Ok.ensures.heads;
-        values = chained_none 64 (state_of c.in-Ok-new.values) (omega arith) c.in-Ok-new.ensures.before c.in-Ok-new.ensures.heads;
+        named = All-nil IsNamed;
+        names = chained_none 64 (state_of c.in_ok-names.names) (omega arith) c.in_ok-names.ensures.before c.in_ok-names.ensures.heads;
+        values = chained_none 64 (state_of c.in_ok-values.values) (omega arith) c.in_ok-values.ensures.before c.in_ok-values.ensures.heads;
         by_name = omega arith;
         by_value = omega arith;
       },

@@ -2,8 +2,8 @@ use Rattle.std.proofs.Common.{arith}
 use Rattle.wind_core.proofs.Comings.{ids_below, spawned_keeps, new_ready, ready_room}
 use Rattle.wind_core.proofs.kern.Kern.spawn_record.Goals as goal
 
-pub add-requires : goal.add-requires
-add-requires c = ids_below c.self.inside c.self.invariant
+pub add-requires-clause-below : goal.add-requires-clause-below
+add-requires-clause-below c = ids_below c.self.inside c.self.invariant
 
 pub put-requires : goal.put-requires
 put-requires c = record {

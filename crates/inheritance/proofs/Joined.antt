@@ -1,0 +1,23 @@
+-- The walk law of the tasks: what raising makes of each priority.
+use Rattle.std.proofs.Common.{ap, ◌∙◌, cond}
+use Rattle.wind_core.proofs.Ids.{ids}
+use Rattle.inheritance.specs.Reach.{boss, pri_of, lifted}
+use Rattle.inheritance.specs.Laws.{UrgencyLaw, PremiseLaw, HeirsLaw}
+use Rattle.inheritance.proofs.Lookups.{on_ids, place_on}
+use Rattle.inheritance.proofs.Walk.{walk_law}
+use Rattle.inheritance.proofs.Raising.{raised_to}
+use Rattle.inheritance.proofs.Same.{urgent_but}
+
+pub urgency_law : UrgencyLaw
+urgency_law s x lives =
+    (raised_to s.kern s.mutexes).pris x
+    ∙ ap (λ b. cond b (lifted s.kern s.mutexes x) (pri_of s.kern.tasks x)) (on_ids s.kern.tasks x lives)
+
+pub premise_law : PremiseLaw
+premise_law w ms ts urgent = urgent_but w ts ms urgent
+
+pub heirs_law : HeirsLaw
+heirs_law s w x urgent waits lives =
+    urgency_law s x lives
+    ∙ walk_law (boss s.kern.tasks s.mutexes) (pri_of s.kern.tasks) w 256 (ids s.kern.tasks) (urgent_but w s.kern.tasks s.mutexes urgent)
+    (place_on (ids s.kern.tasks) w (on_ids s.kern.tasks w waits)) x

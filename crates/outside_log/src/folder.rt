@@ -1,0 +1,111 @@
+//! A folder that logs its fetches.
+
+ghost use Rattle.std.specs.Prelude.{◌≡◌, [], ◌∷◌, Some, IfOk};
+ghost use Rattle.std.specs.Option.{option_map};
+ghost use Rattle.wind_outside.specs.Requests.{request_of, outcome_of as outcome_of_lem};
+ghost use Rattle.outside_log.specs.Fetches.{outcome_seen, request_seen, requests_told};
+
+use crate::entries::with_entry;
+use std::alloc::{AllocError, Global};
+use wind_outside::{Fetched, Folder};
+
+/// How a fetch ended.
+#[derive(Clone, Copy, Debug, PartialEq, Eq)]
+pub enum FetchOutcome {
+    /// The file was found.
+    Found,
+    /// There was no such file.
+    Missing,
+    /// The file was longer than the limit.
+    TooLong,
+    /// Reading failed.
+    Failed,
+    /// Host memory ran out.
+    NoMemory,
+}
+
+/// A fetch.
+#[derive(Debug, Drop)]
+pub struct LoggedFetch {
+    /// The name of the file.
+    pub name: String,
+    /// The most bytes that the file may have.
+    pub limit: u32,
+    /// How it ended.
+    pub outcome: FetchOutcome,
+}
+
+/// A folder that logs each fetch from another, in order, as long as there is memory for the log.
+#[derive(Drop)]
+pub struct LoggedFolder<F: Folder + Drop> {
+    folder: F,
+    log: Option<Vec<LoggedFetch>>,
+}
+
+impl<F: Folder + Drop> LoggedFolder<F> {
+    /// A log of this folder, without a fetch.
+    pub fn new(alloc: Global, folder: F) -> LoggedFolder<F>
+        ensures folder { result.folder ≡ folder }
+        ensures log { requests_told result.log ≡ Some [] }
+    {
+        LoggedFolder {
+            folder,
+            log: Some(Vec::new(alloc)),
+        }
+    }
+
+    /// The fetches so far. None if memory ran out for the log.
+    pub fn fetches(&self) -> Option<&[LoggedFetch]>
+        ensures { option_map (λ fetches. fetches.now) result ≡ option_map (λ fetches. fetches.items) self.now.log }
+    {
+        self.log.as_deref()
+    }
+}
+
+// How a fetch that gave this answer ended.
+fn outcome_of(answer: &Fetched) -> FetchOutcome
+    ensures { outcome_seen result ≡ outcome_of_lem answer.now }
+{
+    match answer {
+        Fetched::Found(_) => FetchOutcome::Found,
+        Fetched::Missing => FetchOutcome::Missing,
+        Fetched::TooLong => FetchOutcome::TooLong,
+        Fetched::Failed => FetchOutcome::Failed,
+        Fetched::NoMemory => FetchOutcome::NoMemory,
+    }
+}
+
+// The entry for a fetch.
+fn entry_of(
+    alloc: Global,
+    name: &str,
+    limit: u32,
+    answer: &Fetched,
+) -> Result<LoggedFetch, AllocError>
+    ensures { IfOk result (λ entry. request_seen entry ≡ request_of name.now limit answer.now) }
+{
+    let outcome = outcome_of(answer);
+    let name = name.to_string(alloc)?;
+    Ok(LoggedFetch {
+        name,
+        limit,
+        outcome,
+    })
+}
+
+impl<F: Folder + Drop> Folder for LoggedFolder<F> {
+    ghost use Rattle.outside_log.specs.Fetches.{requests_told};
+
+    ghost files = { λ f. F.files f.folder };
+
+    ghost requests = { λ f. requests_told f.log };
+
+    ghost faults = { λ f. F.faults f.folder };
+
+    fn fetch(&mut self, alloc: Global, name: &str, limit: u32) -> Fetched {
+        let answer = self.folder.fetch(alloc, name, limit);
+        let entry = entry_of(alloc, name, limit, &answer);
+        self.log = with_entry(self.log.take(), entry);
+        answer
+    }
+}

@@ -1,0 +1,70 @@
+//! The calls that sessions make of the folder and of the sink.
+
+use crate::session::{Failing, Logged, Session};
+use outside_log::{LoggedFetch, LoggedPut};
+use std::io;
+
+// Tells each fetch, in order.
+fn tell_fetches<R: Print + AllocGlobal>(
+    rt: &R,
+    name: &str,
+    failing: Failing,
+    fetches: &[LoggedFetch],
+) -> io::Result<()> {
+    for fetch in fetches {
+        let file = fetch.name.as_str();
+        let limit = fetch.limit;
+        let outcome = fetch.outcome;
+        println!(rt; "{name}, {failing}: fetch {file}, at most {limit} bytes: {outcome:?}")?;
+    }
+    Ok(())
+}
+
+// Tells each put, in order.
+fn tell_puts<R: Print + AllocGlobal>(
+    rt: &R,
+    name: &str,
+    failing: Failing,
+    puts: &[LoggedPut],
+) -> io::Result<()> {
+    for put in puts {
+        let piece = str::from_utf8(&put.bytes).unwrap_or("no text");
+        let outcome = put.outcome;
+        println!(rt; "{name}, {failing}: put {piece:?}: {outcome:?}")?;
+    }
+    Ok(())
+}
+
+// Tells the calls of a session.
+fn tell_calls<R: Print + AllocGlobal>(
+    rt: &R,
+    name: &str,
+    failing: Failing,
+    logged: &Logged,
+) -> io::Result<()> {
+    match logged.folder.fetches() {
+        Some(fetches) => tell_fetches(rt, name, failing, fetches)?,
+        None => println!(rt; "{name}, {failing}: no memory to log the fetches")?,
+    }
+    match logged.out.puts() {
+        Some(puts) => tell_puts(rt, name, failing, puts),
+        None => println!(rt; "{name}, {failing}: no memory to log the puts"),
+    }
+}
+
+/// The calls that fail, one in each session.
+const FAILING: [Failing; 4] = [
+    Failing::Nothing,
+    Failing::Fetch(2),
+    Failing::Fetch(3),
+    Failing::Put(4),
+];
+
+/// Plays a session in which nothing fails, and then those in which a call fails, and tells every fetch and every put.
+pub fn calls<R: Print + AllocGlobal>(rt: &R, session: &Session) -> io::Result<()> {
+    for failing in FAILING {
+        let logged = session.play_logged(rt.alloc(), failing)?;
+        tell_calls(rt, session.name, failing, &logged)?;
+    }
+    Ok(())
+}

@@ -1,0 +1,74 @@
+-- A run after the fetches of a command's files.
+use Rattle.std.proofs.Common.{◌≡◌, ℕ, zero, suc, List, ◌++◌, Option, subst}
+use Rattle.std.specs.Option.{option_map}
+use Rattle.wind_outside.specs.Files.{Files}
+use Rattle.wind_outside.specs.Requests.{GrowsBy, Request}
+use Rattle.wind_machine.specs.State.{State}
+use Rattle.wind_machine.specs.Run.{Answers}
+use Rattle.wind_session.specs.Fetches.{Requests, requests_of}
+use Rattle.wind_session.specs.Headline.{IsLeft}
+use Rattle.wind_session.specs.Modules.{Shelf}
+use Rattle.wind_session.specs.Outside.{Outside}
+use Rattle.wind_session.specs.Runs.{IsPut, IsWritten, Made}
+use Rattle.wind_session.specs.declared.run.RunEnd.{RunEnd}
+use Rattle.wind_session.specs.declared.run.RunEnd.TheVariants as ends
+use Rattle.wind_session.specs.declared.ending.Status.{Status}
+use Rattle.wind_session.proofs.FetchLemmas.{grows_from}
+
+-- what a folder tells after requests grew to `mid`, and what it would tell if it told them all
+module _ (first : List Request) (told : Outside) (mid : Option (List Request)) (grown : GrowsBy told.requests mid first) where
+  abbrev pub here : Outside
+  here = record told { requests = mid }
+
+  abbrev pub there : Outside
+  there = record told { requests = option_map (λ xs. xs ++ first) told.requests }
+
+  made_there : (end : RunEnd) (shelf : Shelf) (said : Answers) (s : State) (n k : ℕ) (board : State) (new : Option (List Request)) → Made end shelf said s n k board mid new → Made end shelf said s n k board there.requests new
+  made_there end shelf said s n k board new made = record {
+    counted = made.counted;
+    answers = made.answers;
+    part = made.part;
+    state = made.state;
+    ended = made.ended;
+    fetches = record {
+      last = made.fetches.last;
+      last_is = made.fetches.last_is;
+      requests = grows_from told.requests mid new first (requests_of shelf.name said s k ++ made.fetches.last) grown made.fetches.requests;
+    };
+  }
+
+  put_there : (said : Answers) (s : State) (k : ℕ) (new : Outside) → IsPut said s k here new → IsPut said s k there new
+  put_there said s k new put = record { gained = put.gained; pieces = put.pieces }
+
+  written_there : (end : RunEnd) (said : Answers) (s : State) (k : ℕ) (new : Outside) → IsWritten end said s k here new → IsWritten end said s k there new
+  written_there ends.WriteFault said s k new cut = record { before = cut.before; last = cut.last; wrote = cut.wrote; part = cut.part; gained = cut.gained; pieces = cut.pieces }
+  written_there ends.Quiet said s k new put = put_there said s k new put
+  written_there ends.Limit said s k new put = put_there said s k new put
+  written_there ends.ReadFault said s k new put = put_there said s k new put
+  written_there ends.NoMemory said s k new put = put_there said s k new put
+
+  left_there : (n : ℕ) (s : Status) (end : RunEnd) (shelf : Shelf) (start : State) (limit : ℕ) (board : State) (new : Outside) → IsLeft n s end shelf start limit board here new → IsLeft n s end shelf start limit board there new
+  left_there zero s end shelf start limit board new (is, ran) = (
+    is,
+    record {
+      said = ran.said;
+      k = ran.k;
+      made = made_there end shelf ran.said start limit ran.k board new.requests ran.made;
+      written = written_there end ran.said start ran.k new ran.written;
+    },
+  )
+  left_there (suc n) s end shelf start limit board new sums = record {
+    said = sums.said;
+    k = sums.k;
+    made = made_there end shelf sums.said start limit sums.k board new.requests sums.made;
+    summed = sums.summed;
+    all_put = sums.all_put;
+  }
+
+  -- the folder keeps its files, and the board opened as the plan says
+  pub left_after : (n : ℕ) (s : Status) (end : RunEnd) (held files : Option Files) (name : List ℕ) (opened start : State) (limit : ℕ) (board : State) (new : Outside) → held ≡ files → opened ≡ start
+      → IsLeft n s end (record { files = held; name = name }) opened limit board here new → IsLeft n s end (record { files = files; name = name }) start limit board there new
+  left_after n s end held files name opened start limit board new same_files same_start left =
+      left_there n s end (record { files = files; name = name }) start limit board new
+      (subst (λ (f : Option Files). IsLeft n s end (record { files = f; name = name }) start limit board here new) same_files
+      (subst (λ (u : State). IsLeft n s end (record { files = held; name = name }) u limit board here new) same_start left))
