@@ -32,8 +32,8 @@ compile() {
     powerpc-linux-gnu-gcc $options "$@"
 }
 
-# Makes what plays a loop so many times: the static program for the emulator, a session with a task, and one in which the shell
-# calls it between two looks at the ticks, of which one comes each 1,000 steps.
+# Makes what plays a loop a number of times: the static program for the emulator, a session with a task, and one in which the shell
+# calls it between two looks at the ticks, which come every 1,000 steps.
 prepare() {
     mkdir -p "$work/$1/task" "$work/$1/count"
     compile -nostdlib -static -no-pie -DLOOP="$1" -DROUNDS="$2" "$here/loops/start.S" "$work/loops.o" -o "$work/$1/stock"

@@ -1,6 +1,6 @@
 #!/bin/sh
 # Refuses each allocation of a session in turn, one in a run, and checks how the run ends: with status 6 and a prefix of the session's bytes, or
-# as without a refusal. It prints a line for each session, and ends with 1 where a run ended otherwise. It is no part of the gate.
+# as without a refusal. It prints a line for each session, and ends with 1 if a run ended otherwise. It is no part of the gate.
 #
 # usage: bench/refuse.sh PROGRAM
 set -eu

@@ -14,7 +14,7 @@ else
     program=$here/../crates/windplay/out/windplay
 fi
 
-# Plays the words in a folder. Sets `status`, `seconds`, and `peak` in KiB where the tool that tells it is installed.
+# Plays the words in a folder. Sets `status`, `seconds`, and `peak` in KiB if the tool that tells it is installed.
 measure() {
     folder=$1
     shift
@@ -35,7 +35,7 @@ tell() {
     awk "BEGIN { printf \"%-36s %12.0f %s a second (%s in %s s)\n\", \"$1\", $2 / ($seconds + 1e-9), \"$3\", \"$2\", \"$seconds\" }"
 }
 
-# Makes so many steps of a session that does not end before, and tells how many come in a second.
+# Makes a number of steps of a session that doesn't end before, and tells how many come in a second.
 steps() {
     name=$1
     folder=$2
@@ -57,7 +57,7 @@ console() {
     if [ "$status" -eq 0 ]; then tell "$name" "$count" "$what"; else printf '%-36s ended with status %s\n' "$name" "$status"; fi
 }
 
-# Tells how long one of something takes, in a run that took so many seconds more than another.
+# Tells how long one of something takes, in a run that took that many seconds more than another.
 each() {
     name=$1
     count=$2
@@ -69,7 +69,7 @@ each() {
     fi
 }
 
-# Makes a module with so many globals, each a word that holds the address of a symbol of the table below.
+# Makes a module with a number of globals, each a word that holds the address of a symbol of the table below.
 module() {
     awk "BEGIN { print \".data\"; for (i = 1; i <= $2; i++) printf \".globl s%d\\ns%d: .long t%d\\n\", i, i, i }" |
         powerpc-linux-gnu-as -o "$1" -
@@ -80,7 +80,7 @@ table() {
     awk 'BEGIN { for (i = 1; i <= 50000; i++) printf ".globl t%d\n.set t%d, %d\n", i, i, i }' | powerpc-linux-gnu-as -o "$1" -
 }
 
-# Loads a module with so many globals so many times, behind the table, and tells how long a load takes.
+# Loads a module with a number of globals a number of times, after the table, and tells how long a load takes.
 loads() {
     globals=$1
     times=$2
@@ -94,12 +94,12 @@ loads() {
     each "load, symbols: $globals" "$times" "$table_seconds"
 }
 
-# So many lines of 25 allocations each.
+# Lines of 25 allocations each, as many as asked.
 allocations() {
     awk "BEGIN { for (i = 0; i < $1; i++) { for (k = 1; k < 25; k++) printf \"malloc 1;\"; print \"malloc 1\" } }"
 }
 
-# A folder with one task that runs the loop of four instructions, and so many more that make this call and go on no more.
+# A folder with one task that runs the loop of four instructions, and a number of others that make this call and never go on.
 crowd() {
     mkdir -p "$work/crowd"
     : >"$work/crowd/ticks.txt"
@@ -112,7 +112,7 @@ crowd() {
 }
 
 # The console of a chain of 250 owners: each waits for the mutex of the one before, the first for a semaphore. Then the shell's task takes
-# the last mutex so many times, each time more urgent than before, and waits for a tick.
+# the last mutex a number of times, each time more urgent than before, and waits for a tick.
 chain() {
     mkdir -p "$work/chain"
     echo 'every 100 1000' >"$work/chain/ticks.txt"
@@ -161,7 +161,7 @@ awk 'BEGIN { for (i = 0; i < 20000; i++) print "1+2" }' >"$work/lines/console.tx
 console 'a long console' "$work/lines" 20000 lines
 lines_peak=$peak
 
-# 10,000 blocks, and 5,000 more behind them.
+# 10,000 blocks, and 5,000 more after them.
 : >"$work/blocks/ticks.txt"
 allocations 400 >"$work/blocks/console.txt"
 measure "$work/blocks" --limit 1000000000000
@@ -169,9 +169,9 @@ blocks_seconds=$seconds
 each 'malloc, the first 10,000 blocks' 10000 0
 allocations 600 >"$work/blocks/console.txt"
 measure "$work/blocks" --limit 1000000000000
-each 'malloc, behind 10,000 blocks' 5000 "$blocks_seconds"
+each 'malloc, after 10,000 blocks' 5000 "$blocks_seconds"
 
-# 10,000 symbols by loads of modules of three sizes, behind a table of 50,000.
+# 10,000 symbols by loads of modules of three sizes, after a table of 50,000.
 if command -v powerpc-linux-gnu-as >/dev/null; then
     : >"$work/loads/ticks.txt"
     table "$work/loads/t.o"

@@ -1,6 +1,6 @@
 #!/bin/sh
 # Plays each session of this folder with PROGRAM, with the words of its file `words` if there is one, and compares its
-# standard output with the file `stdout` beside it. Each has to end quiet, with status 0. It prints a line for each, and ends with 1 where one differs.
+# standard output with the file `stdout` beside it. Each has to end quiet, with status 0. It prints a line for each, and ends with 1 if one differs.
 #
 # usage: examples/replay.sh PROGRAM
 if [ $# -ne 1 ]; then

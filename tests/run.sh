@@ -1,6 +1,6 @@
 #!/bin/sh
 # Plays the cases of the folder `cases` with PROGRAM. It prints a line for each case that differs, and one that counts
-# them. It ends with 1 where a case differs, and with 2 where there is none or not all could be played.
+# them. It ends with 1 if a case differs, and with 2 if there is none or not all could be played.
 #
 # usage: tests/run.sh PROGRAM
 set -eu
@@ -55,7 +55,7 @@ ticks() {
     file ticks.txt "$1"
 }
 
-# Puts so many blanks into a file of the case.
+# Puts a number of blanks into a file of the case.
 blanks() {
     printf "%$2s" '' >"$work/session/$1"
 }
@@ -140,7 +140,7 @@ plays_with_err_closed() {
     (become "$@") >"$work/stdout" 2>&- || status=$?
 }
 
-# Standard output is a pipe of which the first so many bytes are read; then it is closed.
+# Standard output is a pipe; a number of bytes are read from it, then it is closed.
 plays_before_a_reader_of() {
     count=$1
     shift
@@ -194,7 +194,7 @@ ends() {
     tell
 }
 
-# Plays the case with no more words than a limit. It ends quiet behind exactly so many steps, with this standard output.
+# Plays the case with no more words than a limit. It ends quiet after exactly that many steps, with this standard output.
 lasts() {
     difference=
     plays --limit "$1"

@@ -1,7 +1,7 @@
 # An interrupt of the console in each state of the shell's task: its wait, its delay and its marks go, and what it owns stays.
 
-# Plays lines that come at once, of which the last leaves the shell's task as it is to be found. At 500 comes 0x03, which
-# ends its line, and at 600 another line. Behind each of both stands what the shell writes of it, with the prompts.
+# Plays lines that come at once; the last leaves the shell's task in the state to be tested. At 500 comes 0x03, which
+# ends its line, and at 600 another line. After each of the two stands what the shell writes of it, with the prompts.
 aborts() {
     printf '%b' "$1" >"$work/session/console.txt"
     length=$(wc -c <"$work/session/console.txt")

@@ -3,8 +3,8 @@
 # step of the shell or of an instruction adds 1 to board time.
 
 # At 0x1000 a task of ten instructions: `addi r5, r5, 1` and `stw r5, 0x2000(0)` four times, `nop` and a branch to the first. It begins at
-# time 16, with the first tick. Behind each tick the shell takes five steps and the task eleven, so each tick comes before another of the
-# ten: behind s steps of the task 4 words are stored for each ten, and one for each two of the rest, at most 4.
+# time 16, with the first tick. After each tick the shell takes five steps and the task eleven, so each tick comes before another of the
+# ten: after s steps of the task 4 words are stored for each ten, and one for each two of the rest, at most 4.
 shows 'a tick at each of ten instructions'
 console '*0x1000 = *0x1008 = *0x1010 = *0x1018 = 0x38a50001; *0x1004 = *0x100c = *0x1014 = *0x101c = 0x90a02000; *0x1020 = 0x60000000; *0x1024 = 0x4bffffdc
 sp 0x1000
@@ -43,7 +43,7 @@ value = 40 = 0x28 = '('
 value = 0 = 0x0
 -> "
 
-# At 0x1000 a store of r3 into the next instruction, and one of a loop into an instruction of its own: `li r3, k`, of which k grows at
+# At 0x1000 a store of r3 into the next instruction, and one of a loop into an instruction of its own: `li r3, k`, whose k grows at
 # each round.
 shows 'instructions that are stored and executed next'
 rows <<'ROWS'
@@ -54,7 +54,7 @@ rows <<'ROWS'
 (0x1000)(7); (0x1000)(3); *0x1010 => 7 | 10 | 945815562
 ROWS
 
-# Three times `nop` at 0x1000, and behind them a word that is no instruction.
+# Three times `nop` at 0x1000, and after them a word that is no instruction.
 trap='-> *0x1000 = *0x1004 = *0x1008 = 0x60000000
 value = 1610612736 = 0x60000000
 -> (0x100c)()
@@ -95,7 +95,7 @@ for row in '10 7 536870912' '11 0 0' '12 0 0' '13 7 536870912'; do
 ROWS
 done
 
-# At 0x1000 a function that adds nine times 1 to r3, so often as r3 says. The ticks at 20, 40 and 60 come behind `intUnlock`.
+# At 0x1000 a function that adds nine times 1 to r3, as often as r3 says. The ticks at 20, 40 and 60 come after `intUnlock`.
 shows 'ticks that are due while a function holds interrupts back'
 console '*0x1000 = 0x7c6903a6; *0x1004 = *0x1008 = *0x100c = *0x1010 = *0x1014 = *0x1018 = *0x101c = *0x1020 = *0x1024 = 0x38630001; *0x1028 = 0x4200ffdc; *0x102c = 0x4e800020
 intLock; (0x1000)(5); tickGet; intUnlock 0; tickGet
@@ -114,7 +114,7 @@ value = 0 = 0x0
 value = 3 = 0x3
 -> "
 
-# At 0x1000 a function that adds 1 to the counter in slot 2 and its word to r3, so often as r3 says; then the word is one of the empty
+# At 0x1000 a function that adds 1 to the counter in slot 2 and its word to r3, as often as r3 says; then the word is one of the empty
 # slot 3, at 0x1014.
 shows 'a device among instructions'
 rows <<'ROWS'
@@ -126,7 +126,7 @@ rows <<'ROWS'
 *0xe0002000 => 7
 ROWS
 
-# At 0x1000 a routine that adds 1 to the word at 0x2000, so often as r3 says. It begins with the tick at 40 and ends at 123; the ticks at 80
+# At 0x1000 a routine that adds 1 to the word at 0x2000, as often as r3 says. It begins with the tick at 40 and ends at 123; the ticks at 80
 # and at 120 come then, before the shell's task goes on.
 shows 'an interrupt routine, and ticks that are due meanwhile'
 console '*0x1000 = 0x7c6903a6; *0x1004 = 0x80a02000; *0x1008 = 0x38a50001; *0x100c = 0x90a02000; *0x1010 = 0x4200fff4; *0x1014 = 0x4e800020

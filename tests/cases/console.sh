@@ -40,7 +40,7 @@ ticks "$events"
 plays
 ends 0 "$written" ''
 
-shows 'a long line is cut behind 255 bytes, and an interrupt drops the lines that are kept'
+shows 'a long line is cut after 255 bytes, and an interrupt drops the lines that are kept'
 console "$(printf '%298s' '')12\\n1\\n2\\n\\0003$(printf '%250s' '')12345\\n"
 ticks 'rx 0 600\n'
 plays

@@ -40,7 +40,7 @@ rows <<'ROWS'
 *0xfffffffc => access fault at 0xfffffffc
 ROWS
 
-# At 0x1000 a store of the byte r4 to the queue, so often as r3 says.
+# At 0x1000 a store of the byte r4 to the queue, as often as r3 says.
 shows 'a byte queue keeps 64 bytes, and gives them in their order'
 rows <<'ROWS'
 *0xe0001000; *0xe0001004; *0xe0001004 = 7; *0xe0001004 => 0 | 0 | 7 | 0

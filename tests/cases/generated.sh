@@ -11,7 +11,7 @@ shows 'the first line of a session, up to the limit'
 plays --generate=1 --limit 5
 ends 3 'generated 1: 6 lines, 66 console bytes, 5 steps, 0 ticks, status 3\n' 'windplay: limit of 5 steps reached\n'
 
-shows 'a session of which no step is made'
+shows 'a session without a step'
 plays --limit 0 --generate 10000
 ends 3 'generated 10000: 30003 lines, 0 console bytes, 0 steps, 0 ticks, status 3\n' 'windplay: limit of 0 steps reached\n'
 
@@ -30,6 +30,6 @@ for rounds in '' -1 +1 0x10 1e3 10001 00000000000001; do
     refuses "'--generate <N>' takes 1 to 13 digits, and at most 10000"
 done
 
-shows 'standard output that is closed, behind a generated run'
+shows 'standard output that is closed, after a generated run'
 plays_with_out_closed --generate 1
 ends 5 '' 'windplay: writing failed\n'

@@ -1,7 +1,7 @@
-# Lines of the shell with what they come to, worked out by hand from the grammar of a line: where another reading of a line would
+# Lines of the shell with what they come to, worked out by hand from the grammar of a line: if another reading of a line would
 # come to the same, its numbers would be others.
 
-# Writes a text so many times.
+# Writes a text a number of times.
 repeat() {
     count=$2
     while [ "$count" -gt 0 ]; do

@@ -1,7 +1,7 @@
 # Blocks of memory, and symbols. What each line comes to was worked out by hand. The first block that is given lies at 0x15e20, which is
 # 89632.
 
-# At 0x1000 so many blocks of r4 bytes, and at 0x1040 so many frees of blocks from r4 on that lie r5 bytes apart: `mtctr r3`, so often `mr
+# At 0x1000 r3 blocks of r4 bytes, and at 0x1040 r3 frees of blocks from r4 on that lie r5 bytes apart: `mtctr r3`, that often `mr
 # r3, r4`, the call, `add r4, r4, r5` in the second, and `bdnz`, and back to the shell.
 functions='*0x1000 = *0x1040 = 0x7c6903a6; *0x1004 = *0x1044 = 0x7c832378; *0x1008 = 0x49000273; *0x1048 = 0x49000283 => 2087256998 | 2088969080 | 1224737395 | 1224737411
 *0x104c = 0x7c842a14; *0x100c = 0x4200fff8; *0x1050 = 0x4200fff4; *0x1010 = *0x1054 = 0x49000012 => 2089036308 | 1107361784 | 1107361780 | 1224736786'
@@ -16,7 +16,7 @@ memalign 3, 1; errnoGet => 0 | 1114115
 free 0x15e40; malloc 0 - 1; errnoGet; malloc(17) == 0x15e20 + 16 * 16382; malloc 1 => 0 | 0 | 1114113 | 1 | 0
 ROWS
 
-# As many blocks of 16 bytes as there may be, of which each second one is freed, and then the others: one hole is left.
+# As many blocks of 16 bytes as there may be; each second one is freed, and then the others: one hole is left.
 shows 'as many holes as there may be, which join'
 rows <<ROWS
 $functions

@@ -117,7 +117,7 @@ shows 'nor does a module with a symbol of its own and an undefined one'
 put_g g.o
 plays_cuts g.o 424 g nosuch
 
-shows 'a module that cannot be read ends the run, behind the steps that were made'
+shows 'a module that cannot be read ends the run, after the steps that were made'
 console '1+2\nld < .\n3\n'
 plays
 ends 4 '-> 1+2\nvalue = 3 = 0x3\n-> ld < .\n' 'windplay: reading failed\n'

@@ -41,7 +41,7 @@ port => undefined symbol: port
 moduleShow => MODULE                   ID       TEXT     DATA     BSS      | o                               2 00015e30 00015e40 00015e50 | 0
 ROWS
 
-shows 'its local symbols are added where the mode asks for them'
+shows 'its local symbols are added if the mode asks for them'
 put_object o
 rows <<'ROWS'
 ld 1, 0, "o" => undefined symbol: nosuch | 2

@@ -120,7 +120,7 @@ value = 1441794 = 0x160002
 value = 2 = 0x2
 -> ' ''
 
-# li r6,1024; mtctr r6; then so often: li r3,0; li r4,0; a call of semBCreate; bdnz; and back to the shell
+# li r6,1024; mtctr r6; then that often: li r3,0; li r4,0; a call of semBCreate; bdnz; and back to the shell
 shows 'as many semaphores as there may be, and a mutex beside them'
 console '*0x1000 = 0x38c00400; *0x1004 = 0x7cc903a6; *0x1008 = 0x38600000; *0x100c = 0x38800000
 *0x1010 = 0x49000143; *0x1014 = 0x4200fff4; *0x1018 = 0x49000012
@@ -319,7 +319,7 @@ value = 0 = 0x0
 -> value = -1 = 0xffffffff
 -> " ''
 
-shows 'the shell is deleted by nobody, also where it is safe'
+shows 'the shell is deleted by nobody, also if it is safe'
 console 'taskDelete 1; errnoGet\ntaskSafe\ntaskDelete 0; errnoGet\ntaskDelete 9; errnoGet\n'
 plays
 ends 0 '-> taskDelete 1; errnoGet

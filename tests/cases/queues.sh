@@ -1,7 +1,7 @@
 # Message queues, and the tasks that wait at them. What each line comes to was worked out by hand from the rules of the calls.
 
 # Two routines of tasks: the receive of r3 to r6 at 0x1000 and the send of r3 to r7 at 0x1020. Each stores its answer where r8 says, and
-# its error number 4 bytes behind that.
+# its error number 4 bytes after that.
 routines='*0x1000 = 0x490001d3; *0x1020 = 0x490001c3 => 1224737235 | 1224737219
 *0x1004 = *0x1024 = 0x90680000; *0x1008 = *0x1028 = 0x490002c3 => -1872232448 | 1224737475
 *0x100c = *0x102c = 0x90680004; *0x1010 = *0x1030 = 0x49000002 => -1872232444 | 1224736770'
@@ -88,7 +88,7 @@ msgQReceive 2, 0x3010, 2, 0; *0x3010 => 2 | 1869479936
 msgQReceive 2, 0x3020, 8, 0; *0x3020; msgQNumMsgs 2 => 3 | 1953984256 | 0
 ROWS
 
-# "abcd" is written over the front of "stuvwxyz", of which the task sends the four bytes from the third on.
+# "abcd" is written over the front of "stuvwxyz"; the task sends four bytes from the third on.
 shows 'a sender that waits sends what the receive has just written'
 ticks 'every 500 2\n'
 rows <<ROWS
@@ -116,7 +116,7 @@ msgQReceive 2, 0x3010, 8, 0; *0x3010; msgQReceive 2, 0x3020, 8, 0; *0x3020 => 3 
 msgQNumMsgs 2; taskDelay 1; *0x3200 => 1 | 0 | 0
 ROWS
 
-shows 'a wait that ended by its time is forgotten, where its task waits there again and where it waits elsewhere'
+shows 'a wait that ended by its time is forgotten, whether its task waits there again or elsewhere'
 ticks 'every 500 6\n'
 rows <<ROWS
 $routines
@@ -141,7 +141,7 @@ msgQDelete 2; msgQDelete 3; taskDelay 1 => 0 | 0 | 0
 *0x3200; *0x3204; *0x3210; *0x3214 => -1 | 3997699 | -1 | 3997699
 ROWS
 
-# `mtctr r3`, so often `li r3, 1`, `li r4, 1`, `li r5, 0`, a call of msgQCreate and `bdnz`, and back to the shell.
+# `mtctr r3`, that often `li r3, 1`, `li r4, 1`, `li r5, 0`, a call of msgQCreate and `bdnz`, and back to the shell.
 shows 'as many queues as there may be'
 rows <<'ROWS'
 *0x1000 = 0x7c6903a6; *0x1004 = 0x38600001; *0x1008 = 0x38800001; *0x100c = 0x38a00000 => 2087256998 | 945815553 | 947912705 | 950009856

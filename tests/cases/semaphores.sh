@@ -1,7 +1,7 @@
 # Who has a semaphore, and what a wait is answered; deletions of tasks that are safe. What each line comes to was worked out by hand
 # from the rules of the calls.
 
-# A task that takes the semaphore r3 with the timeout r4, and stores its answer where r8 says, and its error number 4 bytes behind.
+# A task that takes the semaphore r3 with the timeout r4, and stores its answer where r8 says, and its error number 4 bytes after.
 taker='*0x1000 = 0x49000173; *0x1004 = 0x90680000; *0x1008 = 0x490002c3 => 1224737139 | -1872232448 | 1224737475
 *0x100c = 0x90680004; *0x1010 = 0x49000002 => -1872232444 | 1224736770'
 
@@ -10,7 +10,7 @@ spawned() {
     printf 'task spawned: id = 0x%x, name = t%d | %d | 0' "$1" "$2" "$1"
 }
 
-# The first of each pair of tasks comes first, and the second is more urgent. A 9 stands where a task has no answer yet.
+# The first of each pair of tasks comes first, and the second is more urgent. A 9 stands for no answer yet.
 shows 'the most urgent has a semaphore, by the priority that it has when the semaphore is given'
 ticks 'every 500 6\n'
 rows <<ROWS
@@ -74,8 +74,8 @@ semMCreate 0x80000001; errnoGet => 0 | 1441794
 ROWS
 
 # At 0x1000 a task that calls taskSafe twice and suspends itself, and calls taskUnsafe and suspends itself as often as it is resumed. At
-# 0x1040 one that deletes the task of the id r3: its answer and error number go where r8 says and 4 bytes behind, and the error number
-# of the same call once more 8 bytes behind.
+# 0x1040 one that deletes the task of the id r3: its answer and error number go where r8 says and 4 bytes after, and the error number
+# of the same call once more 8 bytes after.
 shows 'a task that is safe twice goes when it is safe no more, by the first that waits to delete it'
 ticks 'every 500 5\n'
 rows <<ROWS
@@ -108,9 +108,9 @@ sp 0x1040, 2, 0, 0, 0, 0, 0x3000; taskDelay 1 => $(spawned 3 2)
 taskIdVerify 2; *0x3000; taskDelay 2; taskIdVerify 2; *0x3000; *0x3004 => 0 | 0 | 0 | -1 | -1 | 3997699
 ROWS
 
-# At 0x1000 so many semaphores, each made and deleted: `mtctr r3`, `li r3, 0`, `li r4, 0`, both calls, `bdnz`, and back to the shell. Each takes an
-# id, the first of them the one behind the shell's task, so the last id is left behind 1,048,574.
-shows 'no semaphore is made where the ids are used up'
+# At 0x1000 r3 semaphores, each made and deleted: `mtctr r3`, `li r3, 0`, `li r4, 0`, both calls, `bdnz`, and back to the shell. Each takes an
+# id, the first of them the one after the shell's task, so the last id is left after 1,048,574.
+shows 'no semaphore is made when the ids are used up'
 console '*0x1000 = 0x7c6903a6; *0x1004 = 0x38600000; *0x1008 = 0x38800000; *0x100c = 0x49000143
 *0x1010 = 0x490001a3; *0x1014 = 0x4200fff0; *0x1018 = 0x49000012
 (0x1000)(1048574)

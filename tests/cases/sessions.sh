@@ -1,6 +1,6 @@
 # Whole sessions. What they write, and the steps that they take, were worked out by hand from the rules of the
 # machine. The prompt at the start is a step. Then a line takes one to arrive, one to be read, one for each statement,
-# and one for the prompt; a call takes two and its own, of which a call of the kernel has one; a tick takes one, and so
+# and one for the prompt; a call takes two and its own (a call of the kernel has one); a tick takes one, and so
 # does a jump of time.
 
 shows 'a sum'
@@ -54,7 +54,7 @@ shows 'signs in a row'
 console '- -1 - - 2\n'
 lasts 5 '-> - -1 - - 2\nvalue = 3 = 0x3\n-> '
 
-shows 'a delay of two ticks, and a third tick behind the end of the console'
+shows 'a delay of two ticks, and a third tick after the end of the console'
 console 'taskDelay 2\ntickGet\n'
 ticks 'every 100 3\n'
 lasts 21 '-> taskDelay 2\nvalue = 0 = 0x0\n-> tickGet\nvalue = 2 = 0x2\n-> '
@@ -133,7 +133,7 @@ value = 7 = 0x7
 value = 89632 = 0x15e20
 -> '
 
-shows 'a session goes on behind a syntax error and a fault'
+shows 'a session goes on after a syntax error and a fault'
 console '1+\n1/0\n2\n'
 lasts 12 '-> 1+
 syntax error at column 3
@@ -257,7 +257,7 @@ shows 'a name before an operator is a value, and no call'
 console 'malloc -1\n'
 lasts 5 '-> malloc -1\nvalue = 16777839 = 0x100026f\n-> '
 
-# A branch to itself; the byte 0x03 ends the call at 500, and the line behind it is read at 600.
+# A branch to itself; the byte 0x03 ends the call at 500, and the line after it is read at 600.
 shows 'an interrupt of the console ends a call'
 console '*0x1000 = 0x48000000\n(0x1000)()\n\00031\n'
 ticks 'rx 0 32\nrx 500 1\nrx 600 2\n'
@@ -279,7 +279,7 @@ console '7\n8\n\00039\n'
 ticks 'rx 0 7\n'
 lasts 5 '7\n8\n\n9\n-> value = 9 = 0x9\n-> '
 
-shows 'a byte is erased, and where there is none, nothing is'
+shows 'a byte is erased, and if there is none, nothing is'
 console '1\0010\01772\n'
 lasts 5 '-> 1\0010 \00102\nvalue = 2 = 0x2\n-> '
 

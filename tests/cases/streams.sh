@@ -14,15 +14,15 @@ awk 'BEGIN { for (i = 0; i < 10000; i++) print "1+2" }' >"$work/session/console.
 plays_before_a_reader_of 6
 ends 5 '-> 1+2' 'windplay: writing failed\n'
 
-shows 'standard output that is closed, where nothing is written'
+shows 'standard output that is closed, if nothing is written'
 plays_with_out_closed --limit 0
 ends 3 '' 'windplay: limit of 0 steps reached\n'
 
-shows 'standard output that is closed, where the words are refused'
+shows 'standard output that is closed, if the words are refused'
 plays_with_out_closed x
 refuses "unexpected argument 'x' found"
 
-shows 'standard output that is closed, where a file is not there'
+shows 'standard output that is closed, if a file is not there'
 without ticks.txt
 plays_with_out_closed
 ends 2 '' 'windplay: ticks.txt: not found\n'
@@ -32,7 +32,7 @@ shows 'standard error that is closed, at the limit'
 plays_with_err_closed --limit 5
 ends 3 "$output" ''
 
-shows 'standard error that is closed, where the words are refused'
+shows 'standard error that is closed, if the words are refused'
 plays_with_err_closed x
 ends 1 '' ''
 
@@ -45,11 +45,11 @@ if [ -c /dev/full ]; then
     plays_out_to /dev/full
     ends 5 '' 'windplay: writing failed\n'
 
-    shows 'standard output that takes no byte, where nothing is written'
+    shows 'standard output that takes no byte, if nothing is written'
     plays_out_to /dev/full --limit 0
     ends 3 '' 'windplay: limit of 0 steps reached\n'
 
-    shows 'standard output that takes no byte, behind the limit'
+    shows 'standard output that takes no byte, after the limit'
     plays_out_to /dev/full --limit 1
     ends 5 '' 'windplay: writing failed\n'
 
@@ -57,7 +57,7 @@ if [ -c /dev/full ]; then
     plays_err_to /dev/full --limit 5
     ends 3 "$output" ''
 
-    shows 'standard error that takes no byte, where the words are refused'
+    shows 'standard error that takes no byte, if the words are refused'
     plays_err_to /dev/full x
     ends 1 '' ''
 

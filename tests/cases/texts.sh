@@ -1,6 +1,6 @@
 # Calls that write texts, and interrupts that are held back. What they write was worked out by hand from the rules.
 
-shows 'the table of the tasks, before and behind a delay of the locking shell'
+shows 'the table of the tasks, before and after a delay of the locking shell'
 console 'taskPrioritySet 0, 200\ntaskLock; sp taskSuspend; i; taskDelay 1; i\n'
 ticks 'tick 500\n'
 plays

@@ -44,7 +44,7 @@ ticks 'every 1 4294967295'
 plays --limit 1000
 ends 3 "$output" 'windplay: limit of 1000 steps reached\n'
 
-# Of 37,449 lines each gives a tick at one time, and one more as long behind that.
+# Of 37,449 lines each gives a tick at one time, and one more the same time after that.
 shows 'a tick file of 1 MiB'
 console ''
 yes 'every 4294967295 4294967295' | head -n 37449 >"$work/session/ticks.txt"

@@ -243,7 +243,7 @@ ld < a.o => 89648
 ld(1, 2, 3) => 3
 ROWS
 
-# `mtctr r3`, `li r6, 4`, so often `li r3, 0`, a call of symAdd and `bdnz`, and back to the shell. There are 49 symbols at the start:
+# `mtctr r3`, `li r6, 4`, that often `li r3, 0`, a call of symAdd and `bdnz`, and back to the shell. There are 49 symbols at the start:
 # with 65,486 more there is room for one.
 shows 'a full table of symbols'
 rows <<'ROWS'

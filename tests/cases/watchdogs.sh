@@ -68,7 +68,7 @@ exception illegal in interrupt at 0x00003000
 ' ''
 
 # The first of two routines of one tick is given up; the second gives the semaphore.
-shows 'the routine behind one that is given up runs'
+shows 'the routine after one that is given up runs'
 console 's = semBCreate(0, 0)
 v = wdCreate(); w = wdCreate()
 wdStart v, 1, 0x3000, 0; wdStart w, 1, semGive, s
@@ -157,7 +157,7 @@ taskDelay 1; *0x2000 == 0x13; taskDelay 1; *0x2000 == 0x132; taskDelay 1; *0x200
 ROWS
 
 # At 0x1040 a routine that cancels the watchdog of its parameter, at 0x1048 one that starts it with the routine 0x3000.
-shows 'a routine that is cancelled does not run, but where it is listed already'
+shows 'a routine that is cancelled does not run, unless it is listed already'
 ticks 'every 1000 6\n'
 rows <<ROWS
 $digits
@@ -171,7 +171,7 @@ wdStart 3, 1, 0x1000, 7; errnoGet; wdCancel 3; wdDelete 3; wdStart 0, 1, 0x1000,
 wdCreate; taskDelay 1; *0x2000 == 0x856 => 5 | 0 | 1
 ROWS
 
-# `mtctr r3`, so often a call of wdCreate and `bdnz`, and back to the shell.
+# `mtctr r3`, that often a call of wdCreate and `bdnz`, and back to the shell.
 shows 'as many watchdogs as there may be'
 rows <<'ROWS'
 *0x1000 = 0x7c6903a6; *0x1004 = 0x49000203; *0x1008 = 0x4200fffc; *0x100c = 0x49000012 => 2087256998 | 1224737283 | 1107361788 | 1224736786

@@ -21,7 +21,7 @@ shows 'a last -- is taken'
 plays --
 ends 0 "$output" ''
 
-shows 'a last -- behind an option is taken'
+shows 'a last -- after an option is taken'
 plays --limit 5 --
 ends 3 "$output" 'windplay: limit of 5 steps reached\n'
 
@@ -30,12 +30,12 @@ file c '7\n'
 plays --console c
 ends 0 '-> 7\nvalue = 7 = 0x7\n-> ' ''
 
-shows 'a value behind ='
+shows 'a value after ='
 file c '7\n'
 plays --console=c
 ends 0 '-> 7\nvalue = 7 = 0x7\n-> ' ''
 
-shows 'a value that begins with a dash, behind ='
+shows 'a value that begins with a dash, after ='
 file -c '7\n'
 plays --console=-c
 ends 0 '-> 7\nvalue = 7 = 0x7\n-> ' ''
@@ -45,7 +45,7 @@ file - '7\n'
 plays --console -
 ends 0 '-> 7\nvalue = 7 = 0x7\n-> ' ''
 
-shows 'a value with = behind ='
+shows 'a value with = after ='
 file 'a=b' '7\n'
 plays --console=a=b
 ends 0 '-> 7\nvalue = 7 = 0x7\n-> ' ''
@@ -88,11 +88,11 @@ shows 'help by its short name'
 plays -h
 ends 1 '' "$help"
 
-shows 'help behind a right option'
+shows 'help after a right option'
 plays --limit 5 -h
 ends 1 '' "$help"
 
-shows 'help comes before a limit out of form, and before files'
+shows 'help comes before an invalid limit, and before files'
 without console.txt
 plays --limit x --help
 ends 1 '' "$help"
@@ -121,26 +121,26 @@ Usage: windplay [OPTIONS]
 For more information, try '--help'.
 "
 
-# Words that are no option, alone and behind words that are right.
+# Words that are no option, alone and after words that are right.
 for word in x help -c -V -1 - '' --version --lim --Limit; do
     shows "the word '$word' is refused"
     plays "$word"
     refuses "unexpected argument '$word' found"
 
-    shows "the word '$word' is refused behind a right option"
+    shows "the word '$word' is refused after a right option"
     plays --modules . "$word"
     refuses "unexpected argument '$word' found"
 done
 
-shows 'a name behind one dash is refused by its first letter'
+shows 'a name after one dash is refused by its first letter'
 plays -limit 5
 refuses "unexpected argument '-l' found"
 
-shows 'a word behind -- is refused'
+shows 'a word after -- is refused'
 plays -- x
 refuses "unexpected argument 'x' found"
 
-shows 'an option behind -- is refused'
+shows 'an option after -- is refused'
 plays -- --limit
 refuses "unexpected argument '--limit' found"
 
@@ -177,14 +177,14 @@ shows 'a value for help is refused'
 plays --help=1
 refuses "unexpected value '1' for '--help' found; no more were expected"
 
-# Limits out of form: no digit, a sign, another radix, a blank, a letter; more than the most; more than 13 digits.
+# Invalid limits: no digit, a sign, another radix, a blank, a letter; more than the most; more than 13 digits.
 for limit in '' -1 +1 0x10 ' 1' '1 ' 1_000 1e3 x 5x 1000000000001 9999999999999 00000000000005 10000000000000; do
     shows "the limit '$limit' is refused"
     plays "--limit=$limit"
     refuses "'--limit <N>' takes 1 to 13 digits, and at most 1000000000000"
 done
 
-shows 'a limit out of form is refused before a file that is not there'
+shows 'an invalid limit is refused before a file that is not there'
 without console.txt
 plays --limit 1000000000001
 refuses "'--limit <N>' takes 1 to 13 digits, and at most 1000000000000"
@@ -219,7 +219,7 @@ ends 3 '-> *0x1000 = 0x48000000\nvalue = 1207959552 = 0x48000000\n-> (0x1000)()\
 
 # Which word it was, the text need not tell.
 for option in '' --console= --limit=; do
-    shows "a word that is no text is refused, behind '$option'"
+    shows "a word that is no text is refused, after '$option'"
     plays "$option$(printf '\377')"
     refuses "unexpected argument '(arguments that are no text)' found"
 done

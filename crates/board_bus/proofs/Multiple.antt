@@ -29,13 +29,13 @@ rt-below : (w : ℕ) → rt w < 32
 unfolding rt
 rt-below w = mod_below (w / 2 ^ 21) (2 ^ 5) (pow_pos 5)
 
--- what a range of RAM leaves of a choice by it
+-- a choice by a test that is true
 if_true : {A : Type 0} (t : Bool) (x y : A) → t ≡ true → (if t then x else y) ≡ x
 if_true true x y h = refl
 if_true false x y h = absurd (cc)
 
 module _ (b : BusState) (at count : ℕ) (h : all_ram board_meaning b at (4 * count) ≡ true) where
-  -- each word of the range is there
+  -- each word of the range is in RAM
   word-there : (k : ℕ) → k < count → has b.ram (at + 4 * k) 4 ≡ true
   word-there k lt = has-all_ram b (at + 4 * k) 4 ∙ all_ram-within board_meaning b at (4 * count) (4 * k) 4 (omega arith) h
 
@@ -46,13 +46,13 @@ module _ (b : BusState) (at count : ℕ) (h : all_ram board_meaning b at (4 * co
       ap (λ c. loaded_at c 4 (at + 4 * k)) (bus-loaded k (omega arith))
       ∙ if_true (has b.ram (at + 4 * k) 4) b _ (word-there k (omega arith))
 
-  -- what the load of word k answers
+  -- the result of the load of word k
   word-loaded : (k : ℕ) → k < count → answer_at (words_loaded board_meaning b at k) 4 (at + 4 * k) ≡ word_at b.ram (at + 4 * k)
   word-loaded k lt =
       ap (λ c. answer_at c 4 (at + 4 * k)) (bus-loaded k (omega arith))
       ∙ if_true (has b.ram (at + 4 * k) 4) (word_at b.ram (at + 4 * k)) _ (word-there k lt)
 
--- what n stores from an address on leave
+-- the bus after n stores from an address on
 record IsStoredTo (r : Regs) (b c : BusState) (t at n : ℕ) : Type 0 where
   words : (k : ℕ) → k < n → word_at c.ram (at + 4 * k) ≡ gpr r (t + k)
   others : (a : ℕ) → (a < at) ⊎ (at + 4 * n ≤ a) → get_or c.ram a 0 ≡ get_or b.ram a 0
@@ -62,7 +62,7 @@ record IsStoredTo (r : Regs) (b c : BusState) (t at n : ℕ) : Type 0 where
 last_or_below : (k n : ℕ) → k < suc n → (k < n) ⊎ (k ≡ n)
 last_or_below k n h = grind arith
 
--- one word more
+-- one more word
 store-step : (r : Regs) (b c : BusState) (t at n : ℕ) → ((j : ℕ) → gpr r j < 2 ^ 32) → at + 4 * suc n ≤ length b.ram → IsStoredTo r b c t at n → IsStoredTo r b (record c { ram = with_word c.ram (at + 4 * n) (gpr r (t + n)) }) t at (suc n)
 store-step r b c t at n small fits i =
     let value = gpr r (t + n) in

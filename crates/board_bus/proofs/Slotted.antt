@@ -5,7 +5,7 @@ use Rattle.std.proofs.lemmas.List.{map-set}
 use Rattle.wind_outside.specs.Devices.{DeviceState}
 use Rattle.board_bus.specs.Slots.{device_at, with_device, is_slot_word, slot_number, reached}
 
--- what stands in slot i
+-- the content of slot i
 device_seen : {D : Type 0} (f : D → DeviceState) (xs : List (Option D)) (i : ℕ) (d : Option D) → i < length xs → option_map f (get_or xs i d) ≡ device_at (map (option_map f) xs) i
 device_seen f [] i d h = absurd (omega arith)
 device_seen f (x ∷ xs) zero d h = refl
@@ -17,7 +17,7 @@ none_stays [] i e h = absurd (omega arith)
 none_stays (x ∷ xs) zero e h = ap (λ (y : Option DeviceState). y ∷ xs) (sym e)
 none_stays (x ∷ xs) (suc i) e h = ap (λ (ys : List (Option DeviceState)). x ∷ ys) (none_stays xs i e (omega arith))
 
--- behind the last slot there is no device
+-- after the last slot there is no device
 pub no_slot : (xs : List (Option DeviceState)) (i : ℕ) → length xs ≤ i → device_at xs i ≡ None
 no_slot [] i h = refl
 no_slot (x ∷ xs) zero h = absurd (omega arith)
@@ -27,13 +27,13 @@ set_is : (xs : List (Option DeviceState)) (i : ℕ) (h : DeviceState → DeviceS
 set_is xs i h None e lt = none_stays xs i e lt
 set_is xs i h (Some d) e lt = refl
 
--- a change of what stands in slot i changes that slot alone
+-- a change of the content of slot i changes only that slot
 pub slot_changed : {D : Type 0} (f : D → DeviceState) (h : DeviceState → DeviceState) (xs : List (Option D)) (i : ℕ) (old new d : Option D) → i < length xs → length (map (option_map f) xs) ≡ length xs → old ≡ get_or xs i d → option_map f new ≡ option_map h (option_map f old)
     → map (option_map f) (slice_set xs i new) ≡ with_device (map (option_map f) xs) i (option_map h (device_at (map (option_map f) xs) i))
 slot_changed f h xs i old new d lt same e p =
     map-set (option_map f) xs i new ∙ ap (slice_set (map (option_map f) xs) i) (p ∙ ap (λ o. option_map h (option_map f o)) e ∙ ap (option_map h) (device_seen f xs i d lt)) ∙ set_is (map (option_map f) xs) i h (device_at (map (option_map f) xs) i) refl (omega (arith, lt, same))
 
--- where an access is no word of a slot, or behind the last one, it reaches no device
+-- an access that isn't one of a slot's word, or is after the last slot, reaches no device
 pub unreached : (xs : List (Option DeviceState)) (n at : ℕ) → is_slot_word n at ≡ false → reached xs n at ≡ None
 unreached xs n at h = rw h refl
 
@@ -43,6 +43,6 @@ behind_last xs n at h = go (is_slot_word n at) where
   go true = no_slot xs (slot_number at) h
   go false = refl
 
--- where an access reaches no device, no slot changes
+-- if an access reaches no device, no slot changes
 pub nothing_changed : (h : DeviceState → DeviceState) (xs : List (Option DeviceState)) (n at : ℕ) → reached xs n at ≡ None → xs ≡ with_device xs (slot_number at) (option_map h (reached xs n at))
 nothing_changed h xs n at e = ap (λ o. with_device xs (slot_number at) (option_map h o)) (sym e)

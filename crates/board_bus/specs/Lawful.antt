@@ -1,4 +1,4 @@
--- The laws of the board's bus, proved: an access in RAM never faults, and no access changes how much RAM there is.
+-- The laws of the board's bus, proved: an access in RAM never faults, and no access changes the size of RAM.
 use Rattle.std.specs.Prelude.{◌≡◌, ℕ, ◌<◌, Bool, true, false, not, ◌&&◌, length, nat_lt, is_some, if◌then◌else◌}
 use Rattle.std.proofs.Common.{refl, sym, ap, ◌∙◌}
 use Rattle.board_mem.specs.Memory.{has, with_number}
@@ -9,7 +9,7 @@ use Rattle.board_bus.specs.BusState.{BusState}
 use Rattle.board_bus.specs.Slots.{reached, slots_loaded, slots_stored}
 use Rattle.board_bus.specs.Access.{board_meaning, faults_at, loaded_at, stored_at}
 
--- whether a range is there is whether it is all RAM
+-- a range is in RAM exactly if all its bytes are
 pub has-all_ram : (b : BusState) (at n : ℕ) → has b.ram at n ≡ all_ram board_meaning b at n
 has-all_ram b at n = sym (all_ram-below board_meaning b (length b.ram) at n (λ a. refl))
 
@@ -31,6 +31,7 @@ store_keeps b n at v a = go (has b.ram at n) refl where
   go true h = ap (nat_lt a) (length-with_number n b.ram at v h)
   go false h = refl
 
+-- the board's bus meets the laws of buses
 pub board_lawful : IsLawful board_meaning
 board_lawful =
     record {

@@ -17,20 +17,20 @@ pub record AreInRam (r : Regs) (w : ℕ) (b : BusState) : Type 0 where
   pub aligned : offset r w % 4 ≡ 0
   pub there : has b.ram (offset r w) (4 * (32 - rt w)) ≡ true
 
--- register RT + k holds the word at EA + 4k; nothing else changed but the address of the next instruction
+-- register RT + k holds the word at EA + 4k; nothing else changes but the program counter
 pub record HasLoaded (r s : Regs) (w : ℕ) (b : BusState) : Type 0 where
   pub words : (k : ℕ) → rt w + k < 32 → gpr s (rt w + k) ≡ word_at b.ram (offset r w + 4 * k)
   pub below : (j : ℕ) → j < rt w → gpr s j ≡ gpr r j
   pub others : s ≡ record (next r) { gpr = s.gpr }
 
--- the word at EA + 4k holds register RS + k; no other byte changed, and no device
+-- the word at EA + 4k is register RS + k; no other byte changes, and no device
 pub record HasStored (r : Regs) (w : ℕ) (b c : BusState) : Type 0 where
   pub words : (k : ℕ) → rt w + k < 32 → word_at c.ram (offset r w + 4 * k) ≡ gpr r (rt w + k)
   pub others : (a : ℕ) → (a < offset r w) ⊎ (offset r w + 4 * (32 - rt w) ≤ a) → slice_index c.ram a ≡ slice_index b.ram a
   pub size : length c.ram ≡ length b.ram
   pub slots : c.slots ≡ b.slots
 
--- lmw loads, and stmw stores, where the words are in RAM; registers are 32 words
+-- if the words are in RAM, lmw loads them and stmw stores them; registers are 32 words
 pub record MultipleLaw : Type 0 where
   pub load :
       (r : Regs) (w : ℕ) (b : BusState) → length r.gpr ≡ 32 → row_of w ≡ Some row.Lmw → AreInRam r w b →

@@ -10,7 +10,8 @@ use ppc_core::{Bus, Fault};
 use wind_outside::Device;
 
 impl BoardBus {
-    /// The word at an address, for an instruction. None where it is outside RAM, or not at a multiple of 4.
+    /// The word at an address, as an instruction. None if a byte of it is outside RAM, or if the
+    /// address isn't a multiple of 4.
     #[inline(always)]
     pub fn fetch(&self, addr: u32) -> Option<u32>
         ensures { result ≡ fetched (bus_seen ⟦<dyn Device as Device>⟧ self.now) addr }

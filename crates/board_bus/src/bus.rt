@@ -6,22 +6,22 @@ ghost use Rattle.wind_base.specs.Limits.{most_slots};
 use board_mem::Ram;
 use wind_outside::Slots;
 
-/// RAM from address 0 on, and up to 16 device slots, of 0x1000 bytes each, from 0xE0000000 on. A whole word at a
-/// multiple of 4 reaches the device in the slot of its address; every other access is to RAM alone. Where RAM goes
-/// on to the slots, it comes first.
+/// RAM from address 0 on, and up to 16 device slots of 0x1000 bytes each, from 0xE0000000 on. An
+/// access of a whole word at a multiple of 4 reaches the device in the slot of its address; every
+/// other access is to RAM only. If RAM overlaps the slots, RAM is accessed.
 ///
-/// The fields are public, so that RAM can be borrowed beside other parts of the board.
+/// The fields are public, so RAM can be borrowed together with other parts of the board.
 #[derive(Drop)]
 pub struct BoardBus {
     /// RAM.
     pub ram: Ram,
-    /// The slots, from slot 0 on. Those behind the last are empty.
+    /// The slots, from slot 0 on. Those after the last are empty.
     pub slots: Slots,
     pub ghost few: { length slots.items ≤ most_slots },
 }
 
 impl BoardBus {
-    /// A bus of this RAM and these slots. It takes no memory.
+    /// A bus with this RAM and these slots. It takes no memory.
     pub fn new(ram: Ram, slots: Slots) -> BoardBus
         requires { length slots.items ≤ most_slots }
         ensures ram { result.ram ≡ ram }

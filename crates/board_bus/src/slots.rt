@@ -8,14 +8,15 @@ ghost use Rattle.board_bus.specs.Slots.{is_slot_word as is_slot_word_lem, slot_n
 use wind_base::limits::{SLOT_BYTES, SLOTS, SLOTS_START};
 use wind_outside::{Device, Slots};
 
-// Whether the word at an address is one of a slot: a whole word at a multiple of 4, in the range of the slots.
+// Whether a word access at this address is to a slot: at a multiple of 4, in the range of the
+// slots.
 fn is_slot_word(addr: u32) -> bool
     ensures { result ≡ is_slot_word_lem 4 addr }
 {
     addr % 4 == 0 && addr >= SLOTS_START && addr < SLOTS_START + SLOTS as u32 * SLOT_BYTES
 }
 
-// The number of the slot of an address.
+// The number of the slot with this address.
 fn slot_number(addr: u32) -> usize
     requires { slots_start ≤ addr }
     ensures { result ≡ slot_number_lem addr }
@@ -23,7 +24,7 @@ fn slot_number(addr: u32) -> usize
     ((addr - SLOTS_START) / SLOT_BYTES) as usize
 }
 
-// How far an address lies behind the start of its slot.
+// The offset of an address from the start of its slot, in bytes.
 fn slot_offset(addr: u32) -> u32
     requires { slots_start ≤ addr }
     ensures { result ≡ slot_offset_lem addr }
@@ -31,7 +32,7 @@ fn slot_offset(addr: u32) -> u32
     (addr - SLOTS_START) % SLOT_BYTES
 }
 
-// Loads from what stands in one slot.
+// Loads from the device in a slot. None if the slot is empty.
 fn load_slot(slot: &mut Option<Box<dyn Device>>, off: u32) -> Option<u32>
     requires aligned { off % 4 ≡ 0 }
     requires inside { off < slot_bytes }
@@ -45,7 +46,7 @@ fn load_slot(slot: &mut Option<Box<dyn Device>>, off: u32) -> Option<u32>
     }
 }
 
-// Stores to what stands in one slot. Whether a device does.
+// Stores to the device in a slot. `false` if the slot is empty.
 fn store_slot(slot: &mut Option<Box<dyn Device>>, off: u32, v: u32) -> bool
     requires aligned { off % 4 ≡ 0 }
     requires inside { off < slot_bytes }
@@ -62,7 +63,7 @@ fn store_slot(slot: &mut Option<Box<dyn Device>>, off: u32, v: u32) -> bool
     }
 }
 
-// Loads from slot i.
+// Loads from slot `i`. None if it is empty.
 fn load(slots: &mut Slots, i: usize, off: u32) -> Option<u32>
     requires aligned { off % 4 ≡ 0 }
     requires inside { off < slot_bytes }
@@ -74,7 +75,7 @@ fn load(slots: &mut Slots, i: usize, off: u32) -> Option<u32>
     load_slot(&mut slots[i], off)
 }
 
-// Stores to slot i. Whether a device stands there.
+// Stores to slot `i`. `false` if it is empty.
 fn store(slots: &mut Slots, i: usize, off: u32, v: u32) -> bool
     requires aligned { off % 4 ≡ 0 }
     requires inside { off < slot_bytes }
@@ -86,7 +87,7 @@ fn store(slots: &mut Slots, i: usize, off: u32, v: u32) -> bool
     store_slot(&mut slots[i], off, v)
 }
 
-/// Loads the word of a device. None where the address reaches none.
+/// Loads a word from a device. None if the address reaches no device.
 #[inline(never)]
 pub(crate) fn load_word(slots: &mut Slots, addr: u32) -> Option<u32>
     ensures answer { result
@@ -104,7 +105,7 @@ pub(crate) fn load_word(slots: &mut Slots, addr: u32) -> Option<u32>
     load(slots, i, slot_offset(addr))
 }
 
-/// Stores a word to a device. Whether the address reaches one.
+/// Stores a word to a device. `false` if the address reaches no device.
 #[inline(never)]
 pub(crate) fn store_word(slots: &mut Slots, addr: u32, v: u32) -> bool
     ensures answer { result ≡ is_some (reached (slots_of kind_of words_of slots.old.items) 4 addr) }

@@ -1,4 +1,4 @@
--- Which pages were made, and what they are at the start.
+-- Which pages were created, and the pages at the start.
 use Rattle.std.proofs.Common.{◌≡◌, ℕ, zero, suc, ◌+◌, ◌%◌, ◌<◌, Bool, false, cond, List, [], ◌∷◌, length, get_or, map, replicate, refl, sym, ap, ◌∙◌, arith}
 use Rattle.std.specs.Prelude.{nat_lt}
 use Rattle.std.proofs.lemmas.Bool.Decides.{nat_tests}
@@ -8,12 +8,12 @@ use Rattle.board_mem.specs.Pages.{page_of, page_bytes, pages_for, was_made, made
 use Rattle.board_mem.specs.Store.{place_of, bytes_of, made_of, numbered, IsStore}
 use Rattle.board_mem.proofs.Stores.{get_or-bytes_of, length-bytes_of, length-made_of, bytes_of-is}
 
--- a page was made where it has a number
+-- a page was created exactly if it has a number
 was_made-made_of : (index : List ℕ) (page : ℕ) → page < length index → was_made (made_of index) page ≡ nat_lt 0 (get_or index page 0)
 unfolding made_of
 was_made-made_of index page h = get_or-map (λ n. nat_lt 0 n) index page 0 false h
 
--- as many pages were made as have numbers
+-- as many pages were created as have numbers
 pub made_count-made_of : (index : List ℕ) → made_count (made_of index) ≡ numbered index
 unfolding made_of
 made_count-made_of [] = refl
@@ -28,7 +28,7 @@ blank_byte size index store at zeros none =
     let start : place_of index at ≡ at % page_bytes = omega (arith, none) in
     ap (λ k. get_or store k 0) start ∙ zeros (at % page_bytes) (omega arith)
 
--- what the store says of its pages
+-- what the store says about its pages
 pub ArePages-stored : (size : ℕ) (index store : List ℕ) (capacity : ℕ) → IsStore size index store capacity → ArePages (record { bytes = bytes_of size index store; made = made_of index })
 ArePages-stored size index store capacity kept =
     let size_is = length-bytes_of size index store in
@@ -42,7 +42,7 @@ ArePages-stored size index store capacity kept =
           get_or-bytes_of size index store at within ∙ blank_byte size index store at kept.stored.zeros none;
     }
 
--- zeros at each place of a list of zeros, and behind it
+-- a list of zeros has a zero at each index, and after its end
 pub get_or-zeros : (n i : ℕ) → get_or (replicate n zero) i zero ≡ zero
 get_or-zeros zero i = refl
 get_or-zeros (suc n) zero = refl
@@ -54,7 +54,7 @@ bytes_of-unmade size count store zeros =
     bytes_of-is size (replicate count 0) store (replicate size 0) (length-replicate size zero) (λ at h.
     blank_byte size (replicate count 0) store at zeros (get_or-zeros count (page_of at)) ∙ sym (get_or-zeros size at))
 
--- and no page was made
+-- and no page was created
 pub made_of-unmade : (count : ℕ) → made_of (replicate count 0) ≡ replicate count false
 unfolding made_of
 made_of-unmade zero = refl

@@ -1,4 +1,4 @@
--- A range that is moved piece by piece is moved as a whole, also where it overlaps with where it goes.
+-- Moving a range piece by piece moves it as a whole, even if it overlaps its destination.
 use Rattle.std.proofs.Common.{◌≡◌, ℕ, ◌+◌, ◌≤◌, List, length, drop, sym, ap, ap₂, ◌∙◌, arith}
 use Rattle.std.proofs.lemmas.List.{length-drop, length-take-le}
 use Rattle.board_mem.specs.Memory.{bytes_at}
@@ -14,12 +14,12 @@ moved s from to n = written_at s to (bytes_at s.bytes from n)
 pub length-bytes_at : (ram : List ℕ) (at n : ℕ) → at + n ≤ length ram → length (bytes_at ram at n) ≡ n
 length-bytes_at ram at n le = length-take-le n (drop at ram) (omega (arith, length-drop at ram))
 
--- there are as many bytes as before
+-- the number of bytes stays
 pub length-moved : (s : PagesState) (from to n : ℕ) → from + n ≤ length s.bytes → to + n ≤ length s.bytes → length (moved s from to n).bytes ≡ length s.bytes
 length-moved s from to n source place =
     length-with_bytes s.bytes to (bytes_at s.bytes from n) (omega (arith, length-bytes_at s.bytes from n source, place))
 
--- to lower addresses, the lowest first
+-- to a lower address, lowest byte first
 pub moved_down : (s : PagesState) (from to n m : ℕ) → to ≤ from → from + (n + m) ≤ length s.bytes → moved (moved s from to n) (from + n) (to + n) m ≡ moved s from to (n + m)
 moved_down s from to n m down there =
     let first = bytes_at s.bytes from n in
@@ -29,7 +29,7 @@ moved_down s from to n m down there =
     ap₂ (λ (at : ℕ) (bytes : List ℕ). written_at (moved s from to n) at bytes) (ap (λ k. to + k) (sym size)) kept
     ∙ written_at-append s to first second (omega arith) ∙ ap (written_at s to) (bytes_at-append s.bytes from n m)
 
--- to higher addresses, the highest first
+-- to a higher address, highest byte first
 pub moved_up : (s : PagesState) (from to n m : ℕ) → from ≤ to → to + (n + m) ≤ length s.bytes → moved (moved s (from + n) (to + n) m) from to n ≡ moved s from to (n + m)
 moved_up s from to n m up there =
     let first = bytes_at s.bytes from n in

@@ -1,4 +1,4 @@
--- What is put into one page: the store and the pages after it.
+-- Bytes written into one page: the store and the pages afterwards.
 use Rattle.std.proofs.Common.{◌≡◌, ℕ, List, length, refl, sym, ap, ap₂, ◌∙◌, arith}
 use Rattle.board_mem.specs.Memory.{with_bytes}
 use Rattle.board_mem.specs.Pages.{PagesState, made_with, written_at}
@@ -7,7 +7,7 @@ use Rattle.board_mem.proofs.Stores.{length-made_of}
 use Rattle.board_mem.proofs.Windows.{IsWindow, window_page, bytes_of-put, IsStore-put}
 use Rattle.board_mem.proofs.Writings.{made_with-page}
 
--- bytes are put at an address, in a page that was made for it: from index and store over index₁ and store₁ to index₂ and store₂
+-- bytes are written at an address, in a page that was created for it: from index and store over index₁ and store₁ to index₂ and store₂
 pub record IsPut (size : ℕ) (index store index₁ store₁ index₂ store₂ : List ℕ) (capacity capacity₁ at : ℕ) (src : List ℕ) : Type 0 where
   pub window : IsWindow size index store capacity at (length src)
   pub page : IsMade index store index₁ store₁ capacity₁ at
@@ -15,7 +15,7 @@ pub record IsPut (size : ℕ) (index store index₁ store₁ index₂ store₂ :
   pub index_same : index₂ ≡ index₁
   pub put : store₂ ≡ with_bytes store₁ (place_of index₁ at) src
 
--- the range is a window still
+-- the range is still a window
 window_after : {size : ℕ} {index store index₁ store₁ index₂ store₂ : List ℕ} {capacity capacity₁ at : ℕ} {src : List ℕ} → IsPut size index store index₁ store₁ index₂ store₂ capacity capacity₁ at src → IsWindow size index₁ store₁ capacity₁ at (length src)
 window_after p = record {
   kept = record { stored = p.page.stored; cover = p.size_same ∙ p.window.kept.cover; addressed = p.window.kept.addressed };
@@ -24,7 +24,7 @@ window_after p = record {
   there = p.window.there;
 }
 
--- what holds of the store holds after it
+-- the invariant of the store holds afterwards
 pub IsStore-after : {size : ℕ} {index store index₁ store₁ index₂ store₂ : List ℕ} {capacity capacity₁ at : ℕ} {src : List ℕ} → IsPut size index store index₁ store₁ index₂ store₂ capacity capacity₁ at src → (capacity₂ : ℕ) → capacity₂ ≡ capacity₁ → IsStore size index₂ store₂ capacity₂
 IsStore-after {src = src} p capacity₂ e =
     rw (p.index_same, p.put, e) (IsStore-put (window_after p) p.page.numbered src refl)

@@ -6,16 +6,16 @@ use Rattle.byteorder.specs.Endian.{big_bytes}
 use Rattle.byteorder.specs.Numbers.{length-bytes_high_first}
 use Rattle.board_mem.specs.Memory.{has, with_bytes, with_number, written}
 
--- bytes that are put in place keep the length
+-- bytes that are written inside keep the length
 pub length-with_bytes : (ram : List ℕ) (at : ℕ) (bytes : List ℕ) → at + length bytes ≤ length ram → length (with_bytes ram at bytes) ≡ length ram
 length-with_bytes ram at bytes le =
     length-append (take at ram ++ bytes) (drop (at + length bytes) ram) ∙ omega (arith, le, length-append (take at ram) bytes, length-take-le at ram (omega arith), length-drop (at + length bytes) ram)
 
--- and so does a range of no bytes, wherever it begins
+-- and so does an empty range, wherever it begins
 length-no_bytes : (ram : List ℕ) (at : ℕ) → length (with_bytes ram at []) ≡ length ram
 length-no_bytes ram at = length-append (take at ram ++ []) (drop (at + 0) ram) ∙ omega (arith, length-append (take at ram) [], length-drop (at + 0) ram, length-take at ram)
 
--- the end of a range that is there
+-- the end of a range in RAM
 has_end : (ram : List ℕ) (at n : ℕ) → 0 < n → has ram at n ≡ true → at + n ≤ length ram
 has_end ram at n some h = grind (arith, nat_tests)
 
@@ -27,7 +27,7 @@ length-with_number (suc n) ram at v h =
     let le : at + suc n ≤ length ram = has_end ram at (suc n) (omega arith) h in
     length-with_bytes ram at bytes (omega (arith, size, le))
 
--- a write changes nothing where a byte is outside
+-- a write changes nothing if a byte is outside
 pub length-written : (n : ℕ) (ram : List ℕ) (at v : ℕ) → length (written n ram at v) ≡ length ram
 length-written n ram at v =
     elim (has ram at n) as (λ b. has ram at n ≡ b → length (cond b (with_number n ram at v) ram) ≡ length ram) [
@@ -35,7 +35,7 @@ length-written n ram at v =
       | false ↦ λ h. refl
     ] refl
 
--- bytes put where a range of as many is there
+-- bytes written to a range of their length in RAM
 pub length-with_range : (ram : List ℕ) (at : ℕ) (bytes : List ℕ) → has ram at (length bytes) ≡ true → length (with_bytes ram at bytes) ≡ length ram
 length-with_range ram at [] h = length-no_bytes ram at
 length-with_range ram at (b ∷ bs) h = length-with_bytes ram at (b ∷ bs) (has_end ram at (suc (length bs)) (omega arith) h)

@@ -1,4 +1,4 @@
--- The bytes and the pages that an index and its store stand for, byte by byte, and what a page that is made leaves of them.
+-- The bytes and pages of an index and its store, byte by byte, and what creating a page does to them.
 use Rattle.std.proofs.Common.{◌≡◌, ℕ, zero, suc, ◌+◌, ◌-◌, ◌*◌, ◌/◌, ◌%◌, ◌<◌, ◌≤◌, ◌^◌, true, cond, List, ◌++◌, length, get_or, set, map, replicate, refl, sym, ap, ◌∙◌, arith, inl, inr}
 use Rattle.std.specs.Prelude.{nat_lt}
 use Rattle.std.proofs.lemmas.Bool.Decides.{nat_tests}
@@ -23,14 +23,14 @@ pub length-made_of : (index : List ℕ) → length (made_of index) ≡ length in
 unfolding made_of
 length-made_of index = length-map index (λ number. nat_lt 0 number)
 
--- a list of bytes is the one that the pages stand for
+-- a list of bytes is the one that the pages spell
 pub bytes_of-is : (size : ℕ) (index store bytes : List ℕ) → length bytes ≡ size → ((at : ℕ) → at < size → get_or store (place_of index at) 0 ≡ get_or bytes at 0) → bytes_of size index store ≡ bytes
 bytes_of-is size index store bytes n same =
     ext_get_or 0 (bytes_of size index store) bytes (length-bytes_of size index store ∙ sym n) (λ at h.
     let within : at < size = omega (arith, length-bytes_of size index store) in
     get_or-bytes_of size index store at within ∙ same at within)
 
--- zeros past a list's end, and in a list of zeros
+-- zeros after a list's end, and in a list of zeros
 get_or-zeros : (n i : ℕ) → get_or (replicate n zero) i zero ≡ zero
 get_or-zeros zero i = refl
 get_or-zeros (suc n) zero = refl
@@ -44,12 +44,12 @@ numbered-set index page n h e some =
     let now : counts n ≡ 1 = grind (arith, nat_tests) in
     omega (arith, sum_by-set counts index page n 0 h, old, now)
 
--- there are fewer numbers than pages where one was not made
+-- if a page wasn't created, there are fewer numbers than pages
 numbered_below : (index : List ℕ) (page : ℕ) → page < length index → get_or index page 0 ≡ 0 → numbered index + 1 ≤ length index
 numbered_below index page h e =
     omega (arith, numbered-set index page 1 h e (omega arith), count_by-le-length (λ n. nat_lt 0 n) (set index page 1), length-set index page 1)
 
--- a page is made with the number behind those that were given, at the end of the store
+-- a page is created with the next number, at the end of the store
 pub record IsMaking (index store after : List ℕ) (capacity page number count : ℕ) : Type 0 where
   pub stored : AreStored index store capacity
   pub there : page < length index
@@ -58,7 +58,7 @@ pub record IsMaking (index store after : List ℕ) (capacity page number count :
   pub is_after : after ≡ store ++ replicate count 0
   pub is_count : count ≡ page_bytes
 
--- what the store then has where it ended
+-- the store's old part afterwards
 after-old : {index store after : List ℕ} {capacity page number count : ℕ} → IsMaking index store after capacity page number count → (i : ℕ) → i < length store → get_or after i 0 ≡ get_or store i 0
 after-old {store = store} {count = count} m i h = rw m.is_after (get_or_append_left store (replicate count 0) 0 i h)
 
@@ -77,7 +77,7 @@ number-same index page number k h e = rw e (get_or-set_same index page number 0 
 number-other : (index : List ℕ) (page number k : ℕ) → (k ≡ page → ⊥) → get_or (set index page number) k 0 ≡ get_or index k 0
 number-other index page number k other = get_or-set_other index page k number 0 other
 
--- making a page leaves every byte
+-- creating a page changes no byte
 pub bytes_of-making : {index store after : List ℕ} {capacity page number count : ℕ} → IsMaking index store after capacity page number count → (size : ℕ) → size ≤ page_bytes * length index → bytes_of size (set index page number) after ≡ bytes_of size index store
 bytes_of-making {index} {store} {after} {capacity} {page} {number} {count} m size le =
     bytes_of-is size (set index page number) after (bytes_of size index store) (length-bytes_of size index store) (λ at h.
@@ -100,7 +100,7 @@ bytes_of-making {index} {store} {after} {capacity} {page} {number} {count} m siz
 number-fresh : {index store after : List ℕ} {capacity page number count : ℕ} → IsMaking index store after capacity page number count → (k : ℕ) → k < length index → get_or index k 0 < number
 number-fresh m k h = omega (arith, m.stored.within k h, m.is_number)
 
--- making a page keeps what holds of the store
+-- creating a page keeps the store's invariant
 pub AreStored-making : {index store after : List ℕ} {capacity page number count : ℕ} → IsMaking index store after capacity page number count → (more : ℕ) → capacity ≤ more → AreStored (set index page number) after more
 AreStored-making {index} {store} {after} {capacity} {page} {number} {count} m more le =
     let size = length-set index page number in
@@ -129,18 +129,18 @@ AreStored-making {index} {store} {after} {capacity} {page} {number} {count} m mo
       short = omega (arith, size, m.stored.short);
     }
 
--- and the page is among those that were made
+-- and the page is then created
 pub made_of-set : (index : List ℕ) (page number : ℕ) → 0 < number → made_of (set index page number) ≡ set (made_of index) page true
 unfolding made_of
 made_of-set index page number some =
     map-set (λ n. nat_lt 0 n) index page number ∙ ap (λ b. set (map (λ n. nat_lt 0 n) index) page b) (grind (arith, nat_tests))
 
--- a page that was made stays so
+-- a page that was created stays so
 pub made_of-again : (index : List ℕ) (page : ℕ) → page < length index → 0 < get_or index page 0 → set (made_of index) page true ≡ made_of index
 made_of-again index page h some =
     sym (made_of-set index page (get_or index page 0) some) ∙ ap made_of (set-get_or index page 0)
 
--- there is room for a page more, and its number is in the store's length
+-- there is room for one more page, and its number fits the store's length
 pub room_for_page : (index store : List ℕ) (capacity page : ℕ) → AreStored index store capacity → page < length index → get_or index page 0 ≡ 0 → (length store + page_bytes ≤ capacity) × (page_bytes * (length store / page_bytes) ≡ length store) × (length store / page_bytes ≤ 2 ^ 20)
 room_for_page index store capacity page s h e =
     let below = numbered_below index page h e in

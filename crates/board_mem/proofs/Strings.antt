@@ -1,4 +1,4 @@
--- The front of a buffer that holds as many bytes as the longest string has.
+-- A prefix of a buffer that has as many bytes as the longest string with its zero.
 use Rattle.std.proofs.Common.{◌≡◌, ℕ, ◌+◌, ◌≤◌, ◌<◌, List, length, take, drop, sym, ap, ◌∙◌, arith}
 use Rattle.std.proofs.lemmas.List.{length-take, take-take}
 use Rattle.wind_base.specs.Limits.{longest_string}

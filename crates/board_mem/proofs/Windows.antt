@@ -1,4 +1,4 @@
--- A range in one page, in the store and in the bytes.
+-- A range in one page, in the store and among the bytes.
 use Rattle.std.proofs.Common.{◌≡◌, ℕ, ◌+◌, ◌-◌, ◌*◌, ◌%◌, ◌<◌, ◌≤◌, List, length, get_or, take, drop, ◌⊎◌, sym, ap, ◌∙◌, arith, inl, inr}
 use Rattle.std.proofs.lemmas.Bool.{cases_eq, cases_lt}
 use Rattle.std.proofs.lemmas.List.{ext_get_or, get_or-take, get_or-drop, length-take-le, length-drop}
@@ -9,18 +9,18 @@ use Rattle.board_mem.proofs.Sizes.{length-with_bytes}
 use Rattle.board_mem.proofs.Splices.{get_or-with_inside, get_or-with_below, get_or-with_behind}
 use Rattle.board_mem.proofs.Stores.{get_or-bytes_of, length-bytes_of, bytes_of-is}
 
--- n bytes from an address on are there, and in one page
+-- the n bytes from an address on exist, and are in one page
 pub record IsWindow (size : ℕ) (index store : List ℕ) (capacity at n : ℕ) : Type 0 where
   pub kept : IsStore size index store capacity
   pub some : 0 < n
   pub page : at % page_bytes + n ≤ page_bytes
   pub there : at + n ≤ size
 
--- their page is one of the index
+-- their page is in the index
 pub window_page : {size : ℕ} {index store : List ℕ} {capacity at n : ℕ} → IsWindow size index store capacity at n → page_of at < length index
 window_page w = omega (arith, w.kept.cover, w.some, w.there)
 
--- they stand together in the store
+-- they are consecutive in the store
 pub window_end : {size : ℕ} {index store : List ℕ} {capacity at n : ℕ} → IsWindow size index store capacity at n → place_of index at + n ≤ length store
 window_end {at = at} w = omega (arith, w.kept.stored.within (page_of at) (window_page w), w.page)
 
@@ -45,7 +45,7 @@ bytes_at-window {size} {index} {store} {capacity} {at} {n} w =
     ∙ sym (get_or-take n (drop at bytes) i 0 within ∙ get_or-drop at bytes i 0 ∙ get_or-bytes_of size index store (at + i) (omega (arith, w.there))
     ∙ ap (λ k. get_or store k 0) (window_place w i within)))
 
--- an address outside the window is no place inside its part of the store
+-- an address outside the window isn't in its part of the store
 place_outside : {size : ℕ} {index store : List ℕ} {capacity at n : ℕ} → IsWindow size index store capacity at n → 0 < get_or index (page_of at) 0 → (k : ℕ) → k < size → (k < at) ⊎ (at + n ≤ k) → (place_of index k < place_of index at) ⊎ (place_of index at + n ≤ place_of index k)
 place_outside {index = index} {at = at} {n = n} w made k h out =
     let here = window_page w in
@@ -63,7 +63,7 @@ place_outside {index = index} {at = at} {n = n} w made k h out =
       ]
     ]
 
--- what is put into the store leaves the bytes outside the window
+-- a write to the store keeps the bytes outside the window
 put_outside : {size : ℕ} {index store : List ℕ} {capacity at n : ℕ} → IsWindow size index store capacity at n → 0 < get_or index (page_of at) 0 → (src : List ℕ) → length src ≡ n → (k : ℕ) → k < size → (k < at) ⊎ (at + n ≤ k) → get_or (with_bytes store (place_of index at) src) (place_of index k) 0 ≡ get_or (bytes_of size index store) k 0
 put_outside {size} {index} {store} {at = at} w made src n k h out =
     let le : place_of index at ≤ length store = omega (arith, window_end w) in
@@ -73,7 +73,7 @@ put_outside {size} {index} {store} {at = at} w made src n k h out =
       | inr behind ↦ get_or-with_behind store (place_of index at) src (place_of index k) (omega (arith, n)) le ∙ same
     ]
 
--- bytes put into a window's part of the store are put into the bytes
+-- bytes written to a window's part of the store are written to the bytes
 pub bytes_of-put : {size : ℕ} {index store : List ℕ} {capacity at n : ℕ} → IsWindow size index store capacity at n → 0 < get_or index (page_of at) 0 → (src : List ℕ) → length src ≡ n → bytes_of size index (with_bytes store (place_of index at) src) ≡ with_bytes (bytes_of size index store) at src
 bytes_of-put {size} {index} {store} {capacity} {at} {n} w made src len =
     let bytes = bytes_of size index store in
@@ -95,7 +95,7 @@ bytes_of-put {size} {index} {store} {capacity} {at} {n} w made src len =
       ]
     ])
 
--- and what holds of the store holds on
+-- and the store's invariant still holds
 pub IsStore-put : {size : ℕ} {index store : List ℕ} {capacity at n : ℕ} → IsWindow size index store capacity at n → 0 < get_or index (page_of at) 0 → (src : List ℕ) → length src ≡ n → IsStore size index (with_bytes store (place_of index at) src) capacity
 IsStore-put {size} {index} {store} {capacity} {at} {n} w made src len =
     let kept = w.kept.stored in

@@ -6,7 +6,7 @@ use Rattle.byteorder.specs.Numbers.{big_from-take, big_number-reads_back, length
 use Rattle.board_mem.specs.Memory.{bytes_at, word_at, with_word}
 use Rattle.board_mem.proofs.Splices.{bytes_at-with_below, get_or-with_below, get_or-with_behind}
 
--- the word that is written
+-- the written word
 pub word_at-same : (ram : List ℕ) (at value : ℕ) → at ≤ length ram → value < 2 ^ 32 → word_at (with_word ram at value) at ≡ value
 word_at-same ram at value le lt =
     let whole : value % 256 ^ 4 ≡ value = omega arith in

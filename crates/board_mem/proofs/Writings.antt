@@ -1,4 +1,4 @@
--- Writings one after another, and those of nothing.
+-- Consecutive writes, and writes of nothing.
 use Rattle.std.proofs.Common.{◌≡◌, ℕ, ◌+◌, ◌-◌, ◌%◌, ◌<◌, ◌≤◌, Bool, true, false, List, [], ◌++◌, length, get_or, set, take, drop, refl, sym, ap, ap₂, ◌∙◌, arith, inl, inr}
 use Rattle.std.specs.Prelude.{◌||◌, if◌then◌else◌}
 use Rattle.std.proofs.lemmas.Bool.Decides.{nat_tests}
@@ -20,7 +20,7 @@ with_bytes-append ram at xs ys le =
     ∙ drop-drop (length ys) (at + length xs) ram ∙ ap (λ n. drop n ram) (omega (arith, length-append xs ys)) in
     ap₂ (λ b d. b ++ ys ++ d) before behind ∙ ap (λ b. b ++ drop (at + length (xs ++ ys)) ram) (append_assoc (take at ram) xs ys)
 
--- what is put before other bytes
+-- bytes written before other bytes
 with_bytes-prepend : (ram : List ℕ) (at : ℕ) (xs ys : List ℕ) → at + length xs ≤ length ram → with_bytes (with_bytes ram (at + length xs) ys) at xs ≡ with_bytes ram at (xs ++ ys)
 with_bytes-prepend ram at xs ys le =
     let front = take (at + length xs) ram in
@@ -48,7 +48,7 @@ unfolding made_with
 get_or-made_with made at n k h =
     get_or-map-range_with_len (λ (p : ℕ). was_made made p || meets at n p) 0 (length made) k k false h (omega arith)
 
--- two lists of pages are one where each page was made in both or in neither
+-- two lists of pages are equal if each page was created in both or in neither
 made_with-is : (made now : List Bool) (at n : ℕ) → length now ≡ length made → ((k : ℕ) → k < length made → (was_made made k || meets at n k) ≡ get_or now k false) → made_with made at n ≡ now
 made_with-is made now at n size same =
     let size_is = length-made_with made at n in
@@ -69,11 +69,11 @@ or_or : (a b c d : Bool) → (b || c) ≡ d → ((a || b) || c) ≡ (a || d)
 or_or true b c d e = refl
 or_or false b c d e = e
 
--- a range of nothing meets no page
+-- an empty range is in no page
 pub made_with-none : (made : List Bool) (at : ℕ) → made_with made at 0 ≡ made
 made_with-none made at = made_with-is made made at 0 refl (λ k h. or_false (was_made made k) (meets at 0 k) refl)
 
--- a range in one page meets that page alone
+-- a range in one page is in no other page
 pub made_with-page : (made : List Bool) (at n : ℕ) → 0 < n → at % page_bytes + n ≤ page_bytes → page_of at < length made → made_with made at n ≡ set made (page_of at) true
 made_with-page made at n some page h =
     let last : page_of (at + n - 1) ≡ page_of at = omega arith in
@@ -87,7 +87,7 @@ made_with-page made at n some page h =
           or_false (was_made made k) (meets at n k) missed ∙ sym (get_or-set_other made (page_of at) k true false other)
     ])
 
--- two ranges, the second behind the first, meet what both together meet
+-- a range and the one after it are together in the pages of both
 meets-append : (at n m k : ℕ) → (meets at n k || meets (at + n) m k) ≡ meets at (n + m) k
 meets-append at n m k = grind (arith, nat_tests)
 
@@ -100,7 +100,7 @@ made_with-append made at n m =
     ∙ or_or (was_made made k) (meets at n k) (meets (at + n) m k) (meets at (n + m) k) (meets-append at n m k)
     ∙ sym (get_or-made_with made at (n + m) k within))
 
--- and the other way round
+-- the same in the other order
 meets-prepend : (at n m k : ℕ) → (meets (at + n) m k || meets at n k) ≡ meets at (n + m) k
 meets-prepend at n m k = grind (arith, nat_tests)
 
@@ -130,7 +130,7 @@ pub written_at-none : (s : PagesState) (at : ℕ) → written_at s at [] ≡ s
 written_at-none s at =
     ap₂ (λ (bytes : List ℕ) (made : List Bool). let r : PagesState = record { bytes = bytes; made = made } in r) (with_bytes-none s.bytes at) (made_with-none s.made at)
 
--- nothing is written, or refused: the pages stay
+-- if nothing is written, or the write is refused, the pages stay
 pub written_or-none : (s : PagesState) (at : ℕ) (there : Bool) → (if there then written_at s at [] else s) ≡ s
 written_or-none s at true = written_at-none s at
 written_or-none s at false = refl

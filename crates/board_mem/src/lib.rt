@@ -1,4 +1,4 @@
-//! The board's RAM, as a list of bytes, in pages that are made when they are first written.
+//! The board's RAM, as a list of bytes, in pages that are created at their first write.
 #![tactic(auto)]
 
 mod outside;

@@ -1,8 +1,8 @@
-//! The refusal of an access.
+//! The error of an access outside RAM.
 
 use thiserror::Error;
 
-/// A byte of the range is outside RAM. What the call was made on is as it was before.
+/// A byte of the range is outside RAM. The object of the call is unchanged.
 #[derive(Clone, Copy, Debug, PartialEq, Eq, Error)]
 #[error("outside RAM")]
 pub struct Outside;

@@ -1,4 +1,4 @@
-//! Pages of memory, each made when it is first written.
+//! Memory in pages, each created at its first write.
 
 ghost use Rattle.std.specs.Prelude.{◌≡◌, ◌+◌, ◌-◌, ◌*◌, ◌%◌, ◌<◌, ◌≤◌, ◌^◌, ◌↔◌, IsTrue, IsOk, IfOk, if◌then◌else◌, length, replicate};
 ghost use Rattle.board_mem.specs.Memory.{has as has_lem, bytes_at};
@@ -10,15 +10,16 @@ use std::alloc::Global;
 use std::marker::Model;
 use wind_base::NoMemory;
 
-/// Memory in pages of 4,096 bytes. A page is made when it is first written; until then it reads as zeros, and no memory
-/// is touched for it. The room for all pages is taken at the start. Contracts see the bytes, and of each page whether
-/// it was made.
+/// Memory in pages of 4,096 bytes. A page is created at its first write; until then it reads as
+/// zeros and uses no memory. The room for all pages is reserved at the start. A contract sees the
+/// bytes, and which pages were created.
 #[derive(Drop)]
 pub struct Pages {
     size: u32,
-    // for each page of addresses the number of its page in the store: 0, the page of zeros, until it is made
+    // for each page of addresses, the number of its page in the store; 0, the page of zeros, until
+    // it is created
     index: Vec<u32>,
-    // a page of zeros, which is never written, and the pages that were made
+    // a page of zeros, which is never written, and then the created pages
     store: Vec<u8>,
 }
 
@@ -37,10 +38,10 @@ impl Model for Pages {
     ghost invariant = { λ p. IsStore p.size p.index.items p.store.items (vec_capacity p.store) };
 }
 
-// How many bytes are moved at once.
+// The greatest number of bytes moved at once.
 const BLOCK: u32 = 256;
 
-// How many bytes there are from an address on to the end of its page.
+// The number of bytes from an address to the end of its page.
 #[inline(always)]
 pub(crate) fn left_in_page(at: u32) -> usize
     ensures value { result ≡ page_bytes - at % page_bytes }
@@ -51,7 +52,7 @@ pub(crate) fn left_in_page(at: u32) -> usize
 }
 
 impl Pages {
-    /// This many zeros, of which no page is made. No other call takes memory.
+    /// `size` zeros, with no page created. No other call takes memory.
     pub fn new(alloc: Global, size: u32) -> Result<Pages, NoMemory>
         ensures { IfOk result (λ p. p ≡ unmade size) }
     {
@@ -66,7 +67,7 @@ impl Pages {
         Ok(Pages { size, index, store })
     }
 
-    /// How many bytes there are.
+    /// The number of bytes.
     #[inline(always)]
     pub fn size(&self) -> u32
         ensures { result ≡ length self.now.bytes }
@@ -74,7 +75,7 @@ impl Pages {
         self.size
     }
 
-    /// How many pages were made. It also says what the pages always are.
+    /// The number of created pages. The contract also states the invariant of the pages.
     pub fn made(&self) -> u32
         ensures count { result ≡ made_count self.now.made }
         ensures sound { ArePages self.now }
@@ -82,7 +83,7 @@ impl Pages {
         (self.store.len() / PAGE - 1) as u32
     }
 
-    // The `n` bytes from an address on, which are in one page.
+    // The `n` bytes from an address on, all in one page.
     #[inline(always)]
     pub(crate) fn piece(&self, at: u32, n: usize) -> &[u8]
         requires some { 0 < n }
@@ -94,7 +95,7 @@ impl Pages {
         &self.store[start..start + n]
     }
 
-    // Writes bytes from an address on, which are all in its page.
+    // Writes bytes from an address on, all in its page.
     #[inline(always)]
     pub(crate) fn put(&mut self, at: u32, src: &[u8])
         requires some { 0 < length src.now }
@@ -106,7 +107,7 @@ impl Pages {
         put_in(&mut self.store, start, src);
     }
 
-    // Writes `n` times this byte from an address on, all in its page.
+    // Writes this byte `n` times from an address on, all in its page.
     fn put_same(&mut self, at: u32, n: usize, byte: u8)
         requires some { 0 < n }
         requires page { at % page_bytes + n ≤ page_bytes }
@@ -134,7 +135,7 @@ impl Pages {
         }
     }
 
-    // Writes `n` times this byte from an address on, page by page.
+    // Writes this byte `n` times from an address on, page by page.
     fn put_same_across(&mut self, at: u32, n: u32, byte: u8)
         requires { at + n ≤ length self.old.bytes }
         ensures { self.new ≡ written_at self.old at (replicate n byte) }
@@ -166,7 +167,7 @@ impl Pages {
         }
     }
 
-    /// Whether each of the `n` bytes from an address on is there.
+    /// Whether the `n` bytes from an address on all exist.
     #[inline]
     pub fn has(&self, at: u32, n: usize) -> bool
         ensures { result ≡ has_lem self.now.bytes at n }
@@ -178,7 +179,8 @@ impl Pages {
         n == 0 || at as usize + n <= size
     }
 
-    /// Fills `dst` with the bytes from an address on.
+    /// Fills `dst` with the bytes from an address on. `Outside` if a byte doesn't exist; then `dst`
+    /// is unchanged.
     #[inline]
     pub fn read(&self, at: u32, dst: &mut [u8]) -> Result<(), Outside>
         ensures ok { IsOk result ↔ IsTrue (has_lem self.now.bytes at (length dst.old)) }
@@ -195,7 +197,8 @@ impl Pages {
         Ok(())
     }
 
-    /// Writes the bytes of `src` from an address on. It makes the pages that they meet, and none where it refuses.
+    /// Writes the bytes of `src` from an address on, and creates the pages that they are in.
+    /// `Outside` if a byte doesn't exist; then nothing is written or created.
     #[inline(always)]
     pub fn write(&mut self, at: u32, src: &[u8]) -> Result<(), Outside>
         ensures ok { IsOk result ↔ IsTrue (has_lem self.old.bytes at (length src.now)) }
@@ -216,7 +219,8 @@ impl Pages {
         Ok(())
     }
 
-    /// Writes `n` times this byte from an address on. It makes the pages that they meet, and none where it refuses.
+    /// Writes this byte `n` times from an address on, and creates the pages that they are in.
+    /// `Outside` if a byte doesn't exist; then nothing is written or created.
     pub fn fill(&mut self, at: u32, n: u32, byte: u8) -> Result<(), Outside>
         ensures ok { IsOk result ↔ IsTrue (has_lem self.old.bytes at n) }
         ensures pages { self.new ≡ (if has_lem self.old.bytes at n
@@ -231,7 +235,7 @@ impl Pages {
         self.put_same_across(at, n, byte);
         Ok(())
     }
-    // Copies at most `BLOCK` bytes from one address on to another. The ranges may overlap.
+    // Copies at most `BLOCK` bytes from one address to another. The ranges may overlap.
     fn move_block(&mut self, from: u32, to: u32, n: u32)
         requires block { n ≤ BLOCK }
         requires source { from + n ≤ length self.old.bytes }
@@ -244,7 +248,7 @@ impl Pages {
         self.put_across(to, block);
     }
 
-    // Copies bytes to lower addresses, the lowest first.
+    // Copies bytes to a lower address, lowest byte first.
     fn move_down(&mut self, from: u32, to: u32, n: u32)
         requires down { to ≤ from }
         requires there { from + n ≤ length self.old.bytes }
@@ -261,7 +265,7 @@ impl Pages {
         }
     }
 
-    // Copies bytes to higher addresses, the highest first.
+    // Copies bytes to a higher address, highest byte first.
     fn move_up(&mut self, from: u32, to: u32, n: u32)
         requires up { from ≤ to }
         requires there { to + n ≤ length self.old.bytes }
@@ -276,7 +280,8 @@ impl Pages {
         }
     }
 
-    /// Copies the `n` bytes from one address on to another. The ranges may overlap: the bytes are those from before.
+    /// Copies `n` bytes from one address to another. The ranges may overlap: the copy has the bytes
+    /// from before.
     pub fn move_bytes(&mut self, from: u32, to: u32, n: u32)
         requires source { IsTrue (has_lem self.old.bytes from n) }
         requires place { IsTrue (has_lem self.old.bytes to n) }

@@ -3,6 +3,7 @@
 ghost use Rattle.std.specs.Prelude.{◌≡◌, ◌<◌, ◌≤◌, ◌+◌, ◌^◌, ◌==◌, ◌↔◌, IsTrue, IsOk, IfOk, IfSome, if◌then◌else◌, length, take, position, replicate};
 ghost use Rattle.wind_base.specs.Limits.{longest_string};
 ghost use Rattle.board_mem.specs.Memory.{has, read, written, number_at, bytes_at, with_bytes, with_number, string_length, string_at, string_over};
+ghost use Rattle.board_mem.specs.Pages.{unmade, made_by};
 
 use crate::outside::Outside;
 use crate::pages::{Pages, left_in_page};
@@ -12,58 +13,58 @@ use std::alloc::Global;
 use std::marker::Model;
 use wind_base::NoMemory;
 
-/// RAM, from address 0 on. Numbers of several bytes have their most significant byte first. Contracts see it as the
-/// list of its bytes, whichever of its pages were made.
+/// RAM, from address 0 on. Numbers of several bytes have their most significant byte first. A
+/// contract sees its bytes, and whether each page was created.
 #[derive(Drop)]
 pub struct Ram {
     pages: Pages,
 }
 
 impl Model for Ram {
-    ghost use Rattle.std.specs.Prelude.{List, ℕ};
+    ghost use Rattle.board_mem.specs.Pages.{PagesState};
 
-    ghost Value = { List ℕ };
+    ghost Value = { PagesState };
 
-    ghost view = { λ r. r.pages.bytes };
+    ghost view = { λ r. r.pages };
 }
 
 impl Ram {
-    /// This many zeros. No page is made.
+    /// `size` zeros. No page is created.
     pub fn new(alloc: Global, size: u32) -> Result<Ram, NoMemory>
-        ensures { IfOk result (λ ram. ram ≡ replicate size 0) }
+        ensures { IfOk result (λ ram. ram ≡ unmade size) }
     {
         Ok(Ram {
             pages: Pages::new(alloc, size)?,
         })
     }
 
-    /// The pages, which stand for exactly the bytes.
+    /// The pages.
     pub fn pages(&self) -> &Pages
-        ensures { result.now.bytes ≡ self.now }
+        ensures { result.now ≡ self.now }
     {
         &self.pages
     }
 
-    /// How many bytes there are.
+    /// The number of bytes.
     pub fn size(&self) -> u32
-        ensures { result ≡ length self.now }
+        ensures { result ≡ length self.now.bytes }
     {
         self.pages.size()
     }
 
-    /// Whether each of the `n` bytes from an address on is in RAM.
+    /// Whether the `n` bytes from an address on are all in RAM.
     #[inline(always)]
     pub fn has(&self, addr: u32, n: u32) -> bool
-        ensures is { result ≡ has self.now addr n }
+        ensures is { result ≡ has self.now.bytes addr n }
         ensures end { IsTrue result → 0 < n → addr + n < 2 ^ 32 }
     {
         n == 0 || addr as usize + n as usize <= self.pages.size() as usize
     }
 
-    /// The byte at an address. None where it is outside.
+    /// The byte at an address. None if it is outside RAM.
     #[inline(always)]
     pub fn read8(&self, addr: u32) -> Option<u32>
-        ensures is { result ≡ read 1 self.now addr }
+        ensures is { result ≡ read 1 self.now.bytes addr }
         ensures below { IfSome result (λ v. v < 2 ^ 8) }
     {
         if !self.has(addr, 1) {
@@ -72,10 +73,10 @@ impl Ram {
         Some(self.pages.piece(addr, 1)[0] as u32)
     }
 
-    /// The half word at an address. None where a byte of it is outside.
+    /// The halfword at an address, with any alignment. None if a byte of it is outside RAM.
     #[inline(always)]
     pub fn read16(&self, addr: u32) -> Option<u32>
-        ensures is { result ≡ read 2 self.now addr }
+        ensures is { result ≡ read 2 self.now.bytes addr }
         ensures below { IfSome result (λ v. v < 2 ^ 16) }
     {
         if !self.has(addr, 2) {
@@ -87,12 +88,12 @@ impl Ram {
         Some(self.half_word_across(addr))
     }
 
-    // The half word at an address, one byte in each of two pages.
+    // The halfword at an address, with one byte in each of two pages.
     #[cold]
     #[inline(never)]
     fn half_word_across(&self, addr: u32) -> u32
-        requires { IsTrue (has self.now addr 2) }
-        ensures is { result ≡ number_at 2 self.now addr }
+        requires { IsTrue (has self.now.bytes addr 2) }
+        ensures is { result ≡ number_at 2 self.now.bytes addr }
         ensures below { result < 2 ^ 16 }
     {
         let mut bytes = [0; 2];
@@ -100,10 +101,10 @@ impl Ram {
         BigEndian::read_u16(&bytes) as u32
     }
 
-    /// The word at an address. None where a byte of it is outside.
+    /// The word at an address, with any alignment. None if a byte of it is outside RAM.
     #[inline(always)]
     pub fn read32(&self, addr: u32) -> Option<u32>
-        ensures { result ≡ read 4 self.now addr }
+        ensures { result ≡ read 4 self.now.bytes addr }
     {
         if !self.has(addr, 4) {
             return None;
@@ -114,23 +115,25 @@ impl Ram {
         Some(self.word_across(addr))
     }
 
-    // The word at an address whose bytes are in two pages.
+    // The word at an address, with bytes in two pages.
     #[cold]
     #[inline(never)]
     fn word_across(&self, addr: u32) -> u32
-        requires { IsTrue (has self.now addr 4) }
-        ensures { result ≡ number_at 4 self.now addr }
+        requires { IsTrue (has self.now.bytes addr 4) }
+        ensures { result ≡ number_at 4 self.now.bytes addr }
     {
         let mut bytes = [0; 4];
         self.pages.get_across(addr, &mut bytes);
         BigEndian::read_u32(&bytes)
     }
 
-    /// Writes the low byte of `v` to an address.
+    /// Writes the low byte of `v` at an address. `Outside` if it is outside RAM; then nothing
+    /// changes.
     #[inline(always)]
     pub fn write8(&mut self, addr: u32, v: u32) -> Result<(), Outside>
-        ensures ok { IsOk result ↔ IsTrue (has self.old addr 1) }
-        ensures bytes { self.new ≡ written 1 self.old addr v }
+        ensures ok { IsOk result ↔ IsTrue (has self.old.bytes addr 1) }
+        ensures bytes { self.new.bytes ≡ written 1 self.old.bytes addr v }
+        ensures made { self.new.made ≡ made_by self.old addr 1 }
     {
         if !self.has(addr, 1) {
             return Err(Outside);
@@ -139,11 +142,13 @@ impl Ram {
         Ok(())
     }
 
-    /// Writes the low half word of `v` to an address.
+    /// Writes the low halfword of `v` at an address. `Outside` if a byte of it is outside RAM; then
+    /// nothing changes.
     #[inline(always)]
     pub fn write16(&mut self, addr: u32, v: u32) -> Result<(), Outside>
-        ensures ok { IsOk result ↔ IsTrue (has self.old addr 2) }
-        ensures bytes { self.new ≡ written 2 self.old addr v }
+        ensures ok { IsOk result ↔ IsTrue (has self.old.bytes addr 2) }
+        ensures bytes { self.new.bytes ≡ written 2 self.old.bytes addr v }
+        ensures made { self.new.made ≡ made_by self.old addr 2 }
     {
         if !self.has(addr, 2) {
             return Err(Outside);
@@ -158,23 +163,25 @@ impl Ram {
         Ok(())
     }
 
-    // Writes a half word, one byte in each of two pages.
+    // Writes a halfword, with one byte in each of two pages.
     #[cold]
     #[inline(never)]
     fn put_half_word_across(&mut self, addr: u32, v: u32)
-        requires { IsTrue (has self.old addr 2) }
-        ensures { self.new ≡ with_number 2 self.old addr v }
+        requires { IsTrue (has self.old.bytes addr 2) }
+        ensures bytes { self.new.bytes ≡ with_number 2 self.old.bytes addr v }
+        ensures made { self.new.made ≡ made_by self.old addr 2 }
     {
         let mut bytes = [0; 2];
         BigEndian::write_u16(&mut bytes, (v % 0x1_0000) as u16);
         self.pages.put_across(addr, &bytes);
     }
 
-    /// Writes a word to an address.
+    /// Writes a word at an address. `Outside` if a byte of it is outside RAM; then nothing changes.
     #[inline(always)]
     pub fn write32(&mut self, addr: u32, v: u32) -> Result<(), Outside>
-        ensures ok { IsOk result ↔ IsTrue (has self.old addr 4) }
-        ensures bytes { self.new ≡ written 4 self.old addr v }
+        ensures ok { IsOk result ↔ IsTrue (has self.old.bytes addr 4) }
+        ensures bytes { self.new.bytes ≡ written 4 self.old.bytes addr v }
+        ensures made { self.new.made ≡ made_by self.old addr 4 }
     {
         if !self.has(addr, 4) {
             return Err(Outside);
@@ -189,59 +196,67 @@ impl Ram {
         Ok(())
     }
 
-    // Writes a word whose bytes are in two pages.
+    // Writes a word, with bytes in two pages.
     #[cold]
     #[inline(never)]
     fn put_word_across(&mut self, addr: u32, v: u32)
-        requires { IsTrue (has self.old addr 4) }
-        ensures { self.new ≡ with_number 4 self.old addr v }
+        requires { IsTrue (has self.old.bytes addr 4) }
+        ensures bytes { self.new.bytes ≡ with_number 4 self.old.bytes addr v }
+        ensures made { self.new.made ≡ made_by self.old addr 4 }
     {
         let mut bytes = [0; 4];
         BigEndian::write_u32(&mut bytes, v);
         self.pages.put_across(addr, &bytes);
     }
 
-    /// Fills `dst` with the bytes from an address on.
+    /// Fills `dst` with the bytes from an address on. `Outside` if a byte is outside RAM; then
+    /// `dst` is unchanged.
     pub fn copy_out(&self, addr: u32, dst: &mut [u8]) -> Result<(), Outside>
-        ensures ok { IsOk result ↔ IsTrue (has self.now addr (length dst.old)) }
-        ensures bytes { dst.new ≡ (if has self.now addr (length dst.old)
-            then bytes_at self.now addr (length dst.old) else dst.old) }
+        ensures ok { IsOk result ↔ IsTrue (has self.now.bytes addr (length dst.old)) }
+        ensures bytes { dst.new ≡ (if has self.now.bytes addr (length dst.old)
+            then bytes_at self.now.bytes addr (length dst.old) else dst.old) }
     {
         self.pages.read(addr, dst)
     }
 
-    /// Writes the bytes of `src` from an address on.
+    /// Writes the bytes of `src` from an address on. `Outside` if a byte is outside RAM; then
+    /// nothing changes.
     #[inline(always)]
     pub fn copy_in(&mut self, addr: u32, src: &[u8]) -> Result<(), Outside>
-        ensures ok { IsOk result ↔ IsTrue (has self.old addr (length src.now)) }
-        ensures bytes { self.new ≡ (if has self.old addr (length src.now)
-            then with_bytes self.old addr src.now else self.old) }
+        ensures ok { IsOk result ↔ IsTrue (has self.old.bytes addr (length src.now)) }
+        ensures bytes { self.new.bytes ≡ (if has self.old.bytes addr (length src.now)
+            then with_bytes self.old.bytes addr src.now else self.old.bytes) }
+        ensures made { self.new.made ≡ made_by self.old addr (length src.now) }
     {
         self.pages.write(addr, src)
     }
 
-    /// Writes `n` times this byte from an address on.
+    /// Writes this byte `n` times from an address on. `Outside` if a byte is outside RAM; then
+    /// nothing changes.
     pub fn fill(&mut self, addr: u32, n: u32, byte: u8) -> Result<(), Outside>
-        ensures ok { IsOk result ↔ IsTrue (has self.old addr n) }
-        ensures bytes { self.new ≡ (if has self.old addr n
-            then with_bytes self.old addr (replicate n byte) else self.old) }
+        ensures ok { IsOk result ↔ IsTrue (has self.old.bytes addr n) }
+        ensures bytes { self.new.bytes ≡ (if has self.old.bytes addr n
+            then with_bytes self.old.bytes addr (replicate n byte) else self.old.bytes) }
+        ensures made { self.new.made ≡ made_by self.old addr n }
     {
         self.pages.fill(addr, n, byte)
     }
 
-    /// Copies the `n` bytes from one address on to another. The ranges may overlap: the bytes are those from before.
+    /// Copies `n` bytes from one address to another. The ranges may overlap: the copy has the bytes
+    /// from before.
     pub fn move_bytes(&mut self, from: u32, to: u32, n: u32)
-        requires source { IsTrue (has self.old from n) }
-        requires place { IsTrue (has self.old to n) }
-        ensures { self.new ≡ with_bytes self.old to (bytes_at self.old from n) }
+        requires source { IsTrue (has self.old.bytes from n) }
+        requires place { IsTrue (has self.old.bytes to n) }
+        ensures bytes { self.new.bytes ≡ with_bytes self.old.bytes to (bytes_at self.old.bytes from n) }
+        ensures made { self.new.made ≡ made_by self.old to n }
     {
         self.pages.move_bytes(from, to, n);
     }
 
-    // Fills the front of `bytes` with those from an address on, as many as the longest string has with its zero, or
-    // all that there are. Their count.
+    // Fills a prefix of `bytes` with those from an address on: as many as the longest string has
+    // with its zero, or all that RAM has. Returns their number.
     fn front(&self, addr: u32, bytes: &mut [u8; STRING_ROOM]) -> usize
-        ensures front { take result bytes.new ≡ bytes_at self.now addr (longest_string + 1) }
+        ensures front { take result bytes.new ≡ bytes_at self.now.bytes addr (longest_string + 1) }
         ensures within { result ≤ longest_string + 1 }
     {
         let size = self.pages.size();
@@ -253,10 +268,10 @@ impl Ram {
         count
     }
 
-    /// A copy of the string at an address, which a zero ends, without its zero. None where no zero stands among the
-    /// first 1,024 bytes, or a byte before it is outside.
+    /// A copy of the zero-terminated string at an address, without its zero. None if there is no
+    /// zero among the first 1,024 bytes, or if a byte before it is outside RAM.
     pub fn string(&self, addr: u32) -> Option<RamString>
-        ensures { result ≡ string_at self.now addr }
+        ensures { result ≡ string_at self.now.bytes addr }
     {
         let mut bytes = [0; STRING_ROOM];
         let count = self.front(addr, &mut bytes);
@@ -264,12 +279,12 @@ impl Ram {
         Some(RamString::of_front(bytes, length))
     }
 
-    /// Copies the string at an address, which a zero ends, to the front of `dst`, without its zero, and answers its
-    /// length. None, with `dst` as it was, where no zero stands among the first 1,024 bytes, or a byte before it is
-    /// outside.
+    /// Copies the zero-terminated string at an address to the beginning of `dst`, without its zero,
+    /// and returns its length in bytes. None if there is no zero among the first 1,024 bytes, or if
+    /// a byte before it is outside RAM; then `dst` is unchanged.
     pub fn cstr(&self, addr: u32, dst: &mut [u8; STRING_ROOM]) -> Option<u32>
-        ensures count { result ≡ string_length self.now addr }
-        ensures bytes { dst.new ≡ string_over self.now addr result dst.old }
+        ensures count { result ≡ string_length self.now.bytes addr }
+        ensures bytes { dst.new ≡ string_over self.now.bytes addr result dst.old }
     {
         let mut bytes = [0; STRING_ROOM];
         let count = self.front(addr, &mut bytes);
@@ -279,7 +294,7 @@ impl Ram {
     }
 }
 
-// Where the first zero stands.
+// The index of the first zero. None if there is no zero.
 fn place_of_zero(bytes: &[u8]) -> Option<usize>
     ensures is { result ≡ position (λ b. b == 0) bytes.now }
     ensures within { IfSome result (λ k. k < length bytes.now) }

@@ -1,4 +1,4 @@
-//! A string out of RAM.
+//! Strings copied out of RAM.
 
 ghost use Rattle.std.specs.Prelude.{◌≡◌, ◌≤◌, length, take};
 ghost use Rattle.wind_base.specs.Limits.{longest_string};
@@ -6,11 +6,11 @@ ghost use Rattle.wind_base.specs.Limits.{longest_string};
 use std::marker::Model;
 use wind_base::limits::STRING_BYTES;
 
-// How many bytes the longest string has, with its zero.
+// The length in bytes of the longest string, with its zero.
 pub(crate) const STRING_ROOM: usize = STRING_BYTES as usize + 1;
 
-/// The bytes of a string, at most 1,023, without the zero that ends it: a copy of those in RAM. Contracts see it as the
-/// list of its bytes.
+/// A copy of the bytes of a string in RAM, at most 1,023, without its terminating zero. A contract
+/// sees the list of its bytes.
 #[derive(Drop)]
 pub struct RamString {
     bytes: [u8; STRING_ROOM],
@@ -29,7 +29,7 @@ impl Model for RamString {
 }
 
 impl RamString {
-    // The first bytes of these.
+    // The first `count` of these bytes.
     pub(crate) fn of_front(bytes: [u8; STRING_ROOM], count: usize) -> RamString
         requires { count ≤ longest_string }
         ensures { result ≡ take count bytes }
@@ -40,7 +40,7 @@ impl RamString {
         }
     }
 
-    /// The bytes.
+    /// The bytes of the string.
     pub fn bytes(&self) -> &[u8]
         ensures value { result.now ≡ self.now }
         ensures short { length result.now ≤ longest_string }

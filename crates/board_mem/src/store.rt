@@ -1,14 +1,14 @@
-//! The store of the pages, and the numbers that the pages of addresses have there.
+//! The store of the pages, and the number that each page of addresses has in it.
 
 ghost use Rattle.std.specs.Prelude.{◌≡◌, ◌+◌, ◌*◌, ◌%◌, ◌<◌, ◌≤◌, ℕ, true, length, replicate, slice_index, slice_set, vec_capacity};
 ghost use Rattle.board_mem.specs.Memory.{with_bytes};
 ghost use Rattle.board_mem.specs.Pages.{page_bytes, page_of};
 ghost use Rattle.board_mem.specs.Store.{AreStored, IsMade, bytes_of, made_of, place_of};
 
-/// How many bytes a page has.
+/// The size of a page in bytes.
 pub(crate) const PAGE: usize = 4_096;
 
-// The number that a page which was not made gets, with a page of zeros at the end of the store.
+// Creates a page: appends a page of zeros to the store, and returns its number.
 #[cold]
 #[inline(never)]
 fn make(index: &mut [u32], store: &mut Vec<u8>, page: usize) -> usize
@@ -31,7 +31,7 @@ fn make(index: &mut [u32], store: &mut Vec<u8>, page: usize) -> usize
     number
 }
 
-// The number of a page in the store. The page is made if it was not.
+// The number of a page in the store. The page is created if it wasn't yet.
 #[inline(always)]
 fn number_made(index: &mut [u32], store: &mut Vec<u8>, page: usize) -> usize
     requires stored { AreStored index.old store.old.items (vec_capacity store.old) }
@@ -50,7 +50,7 @@ fn number_made(index: &mut [u32], store: &mut Vec<u8>, page: usize) -> usize
     make(index, store, page)
 }
 
-/// Where the byte at an address stands in the store, in a page that is made if it was not.
+/// The index in the store of the byte at an address. Its page is created if it wasn't yet.
 #[inline(always)]
 pub(crate) fn place_made(index: &mut [u32], store: &mut Vec<u8>, at: usize) -> usize
     requires stored { AreStored index.old store.old.items (vec_capacity store.old) }
@@ -61,7 +61,7 @@ pub(crate) fn place_made(index: &mut [u32], store: &mut Vec<u8>, at: usize) -> u
     number_made(index, store, at / PAGE) * PAGE + at % PAGE
 }
 
-/// Where the byte at an address stands in the store.
+/// The index in the store of the byte at an address.
 #[inline(always)]
 pub(crate) fn place(index: &[u32], at: usize) -> usize
     requires there { page_of at < length index.now }
@@ -70,7 +70,7 @@ pub(crate) fn place(index: &[u32], at: usize) -> usize
     index[at / PAGE] as usize * PAGE + at % PAGE
 }
 
-/// Writes bytes from a place on.
+/// Writes bytes from an index on.
 #[inline(always)]
 pub(crate) fn put_in(store: &mut [u8], start: usize, src: &[u8])
     requires { start + length src.now ≤ length store.old }
@@ -79,7 +79,7 @@ pub(crate) fn put_in(store: &mut [u8], start: usize, src: &[u8])
     store[start..start + src.len()].copy_from_slice(src);
 }
 
-/// Writes `n` times this byte from a place on.
+/// Writes this byte `n` times from an index on.
 pub(crate) fn fill_in(store: &mut [u8], start: usize, n: usize, byte: u8)
     requires { start + n ≤ length store.old }
     ensures { store.new ≡ with_bytes store.old start (replicate n byte) }

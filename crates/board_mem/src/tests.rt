@@ -1,9 +1,9 @@
-//! RAM of the whole board, and its pages.
+//! Tests of RAM of the board's size, and of its pages.
 
 use crate::{Outside, Ram};
 use std::test::Fail;
 
-// RAM of this many zeros.
+// RAM with `size` zeros.
 fn zeros(rt: &HostRuntime, size: u32) -> Result<Ram, Fail> {
     Ok(Ram::new(rt.alloc(), size).or(Err("memory"))?)
 }

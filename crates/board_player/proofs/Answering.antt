@@ -1,5 +1,5 @@
 -- What a board answers for its next step.
-use Rattle.std.proofs.Common.{◌≡◌, ◌≢◌, List, ℕ, true, Option, None, Some, IfSome, Result, Ok, Err, sym, ap, ◌∙◌, refl}
+use Rattle.std.proofs.Common.{◌≡◌, ◌≢◌, List, ℕ, true, Option, None, Some, IfSome, Result, Ok, Err, sym, ap, ◌∙◌}
 use Rattle.std.specs.Prelude.{OnOk, OnErr, ◌↔◌}
 use Rattle.wind_base.specs.declared.NoMemory.{NoMemory}
 use Rattle.live_loading.specs.Said.{FileSaid}
@@ -16,7 +16,7 @@ pub steps_on : (s t : State) (n : Next) → n ≡ next s → ((said : FileSaid) 
 unfolding machine_step
 steps_on s t n e on said = ap (state_after said s) (sym e) ∙ on said
 
--- the file that it asks for
+-- the file that the step needs
 pub asked_is : (s : State) (n : Next) (o : Option (List ℕ)) → n ≡ next s → o ≡ file_of n → o ≡ file_asked s
 unfolding file_asked
 asked_is s n o e q = q ∙ ap file_of e
@@ -25,11 +25,11 @@ pub asked_name : (o p : Option (List ℕ)) → o ≡ p → IfSome o (λ name. p 
 asked_name None p e = tt
 asked_name (Some name) p e = sym e
 
--- the run is over exactly if that comes next
+-- the run is over exactly if `Over` comes next
 pub is_over : {A : Type 0} (s : State) (n : Next) (r quiet : A) → n ≡ next s → (r ≡ quiet) ↔ (n ≡ Over) → (r ≡ quiet) ↔ IsOver s
 is_over s n r quiet e both = (λ q. sym e ∙ both.0 q, λ over. both.1 (e ∙ over))
 
--- a run that lacks memory is not over
+-- a run that may run out of memory isn't over
 pub lacking_goes_on : (s : State) → may_lack_memory s ≡ true → IsOver s → ⊥
 lacking_goes_on s may over = let bad : next_may s Over ≡ true = sym (ap (next_may s) over) ∙ may in absurd (cc)
 

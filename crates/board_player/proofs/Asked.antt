@@ -1,5 +1,5 @@
--- What the next step asks for.
-use Rattle.std.proofs.Common.{◌≡◌, ℕ, Bool, true, false, cond, eqb, List, Option, None, Some, refl, sym, ap, ◌∙◌}
+-- The file that the next step needs.
+use Rattle.std.proofs.Common.{◌≡◌, ℕ, true, false, cond, eqb, List, Option, None, Some, refl, sym, ap, ◌∙◌}
 use Rattle.std.specs.Prelude.{slice_index, unwrap_or}
 use Rattle.std.specs.Option.{option_map}
 use Rattle.std.proofs.lemmas.Bool.{eqb-true}
@@ -24,7 +24,7 @@ use Rattle.wind_machine.specs.declared.phase.Phase.TheVariants as phases
 use Rattle.wind_machine.proofs.Free.{own_found}
 use Rattle.wind_machine.proofs.Asking.{shells, shell_ready, at_load}
 
--- ---- the file that the shell's task asks for in a call: the one of its call, at the gate of ld
+-- ---- the file that the shell's task needs in a call: the one of its call, at the gate of ld
 pub elsewhere_at : (o : Option Gate) (w : WorldState) → (o ≡ Some gates.Ld → ⊥) → file_at o w ≡ None
 elsewhere_at None w other = refl
 elsewhere_at (Some gates.Ld) w other = absurd (other refl)
@@ -33,13 +33,14 @@ elsewhere_at (Some g) w other = refl
 pub at_load_is : (o : Option Gate) (w : WorldState) → o ≡ Some gates.Ld → file_at o w ≡ file_wanted gates.Ld w shell
 at_load_is o w e = ap (λ p. file_at p w) e
 
--- ---- a step that asks for none
--- its call asks for none, at the gate where it stands
+-- ---- a step that needs no file
+-- its call needs none, at the gate where the task is
 others_want : (g : Gate) (w : WorldState) (who : ℕ) → eqb who shell_id ≡ false → file_wanted g w (by_task who) ≡ None
 others_want gates.Ld w who e = ap (λ b. cond b (file_name (string_at w.ram (slice_index (caller_words w (by_task who)) 5))) None) e
 others_want g w who e = refl
 
--- the registers of the shell's task, and so the file of its call, are those before other tasks' reservations go
+-- the registers of the shell's task, and so the file of its call, are those before other tasks' reservations are
+-- dropped
 same_regs : (s : State) → caller_regs (shell_world s).kern s.world.watch.level shell ≡ caller_regs s.world.kern s.world.watch.level shell
 same_regs s = ap (λ o. unwrap_or (option_map (λ t. t.regs) o) no_regs) (own_found s.world.kern.tasks shell_id)
 
@@ -60,14 +61,14 @@ unasked_call s who at g v turned here some none call =
       | false ↦ λ own asks. others_want g v who own
     ] refl none
 
--- ---- a step that asks for a file
+-- ---- a step that needs a file
 pub wanted : (s : State) (name : List ℕ) → file_asked s ≡ Some name → file_wanted gates.Ld (shell_world s) shell ≡ Some name
 wanted s name e = same_wanted s gates.Ld ∙ (at_load s.shell.phase s.world name (shells s name e).file).wanted
 
 pub asker_ready : (s : State) (name : List ℕ) → Good s → file_asked s ≡ Some name → IsReady s.world.kern shell_id
 asker_ready s name g e = shell_ready s g (shells s name e).who
 
--- no routine asks for one
+-- no routine needs one
 pub routine_wants : (g : Gate) (w : WorldState) (name : List ℕ) → file_wanted g w Interrupt ≡ Some name → ⊥
 routine_wants gates.Ld w name e = absurd (cc)
 routine_wants g w name e = absurd (cc)

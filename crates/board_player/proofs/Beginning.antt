@@ -1,4 +1,4 @@
--- What is known where a step begins.
+-- What is known when a step begins.
 use Rattle.std.proofs.Common.{ℕ, ◌^◌, ◌≤◌, ◌<◌, true, false, cond, eqb, List, [], ◌∷◌, map, Some, IsSome, refl, arith}
 use Rattle.std.proofs.lemmas.List.Elements.{All-weaker}
 use Rattle.task_block.specs.declared.task.Task.{Task}
@@ -9,7 +9,7 @@ use Rattle.wind_machine.specs.State.{State}
 use Rattle.wind_machine.specs.Good.{Good}
 use Rattle.wind_machine.specs.Reserving.{drop_all}
 
--- the counters lie far below their ends
+-- the counters are far below their limits
 pub good_early : (s : State) → Good s → s.steps < 10 ^ 12 → IsEarly s.world
 good_early s g few = record {
   sinces = omega (arith, g.sinces, few);
@@ -21,7 +21,7 @@ good_early s g few = record {
   starts = omega (arith, g.starts, few);
 }
 
--- before an event, whoever lives still lives
+-- before an event, a task that lives still does
 pub all_live : (k : KernState) (who : ℕ) → Lives k who → Lives (drop_all k) who
 all_live k who live = all_found k.tasks who live where
   all_found : (ts : List Task) (who : ℕ) → IsSome (task_of ts who) → IsSome (task_of (map unreserved ts) who)

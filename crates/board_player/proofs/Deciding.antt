@@ -1,10 +1,9 @@
 -- What comes next, by what the code knows of the state.
-use Rattle.std.proofs.Common.{◌≡◌, ℕ, Bool, true, false, cond, eqb, not, length, List, Option, None, Some, is_some, IsSome, refl, sym, ap, ◌∙◌, subst}
+use Rattle.std.proofs.Common.{◌≡◌, ℕ, Bool, true, false, cond, eqb, not, length, List, Option, None, Some, IsSome, refl, sym, ap, ◌∙◌}
 use Rattle.std.specs.Prelude.{◌&&◌, Result, Ok, Err, OnErr}
 use Rattle.wind_base.specs.declared.NoMemory.{NoMemory}
 use Rattle.std.specs.Option.{option_map}
 use Rattle.std.proofs.lemmas.Bool.{eqb-true}
-use Rattle.task_block.specs.declared.task.Task.{Task}
 use Rattle.tick_file.specs.Schedule.{Timed, at}
 use Rattle.tick_file.specs.declared.event.Event.{Event}
 use Rattle.con_line.specs.Lines.{has_line}
@@ -19,7 +18,7 @@ use Rattle.wind_machine.specs.Good.{Good}
 use Rattle.wind_machine.specs.Task.{waits_for_console}
 use Rattle.wind_machine.specs.Events.{next_event}
 use Rattle.wind_machine.specs.ActorSteps.{file_in, file_for}
-use Rattle.wind_machine.specs.Next.{is_active, holds_back, event_of, due_at, due_event, console_is_due, act_or_load, task_next, next, NothingIsDue, IsLeftToTasks, ComesNext}
+use Rattle.wind_machine.specs.Next.{is_active, holds_back, event_of, due_at, due_event, console_is_due, act_or_load, task_next, next, NothingIsDue, IsLeftToTasks}
 use Rattle.wind_machine.specs.Machine.{next_may, may_lack_memory}
 use Rattle.wind_machine.specs.declared.next.Next.{Next}
 use Rattle.wind_machine.specs.declared.next.Next.TheVariants.{Come, Arrive, Routine, Act, Load, Jump, Over}
@@ -72,7 +71,7 @@ load_may : (s : State) (who : ℕ) (o : Option (List ℕ)) → IsSome o → next
 load_may s who None some = absurd (cc)
 load_may s who (Some name) some = refl
 
--- a load may lack memory
+-- a load may run out of memory
 load_lacks : (s : State) (who : ℕ) → is_active s.world ≡ false → None ≡ option_map event_of (due_event s) → false ≡ console_is_due s → Some who ≡ option_map task_id (running s.world.kern) → IsSome (file_for s who) → may_lack_memory s ≡ true
 load_lacks s who idle none silent runs some =
     ap (next_may s) (sym (by_file s who (left_to_tasks s idle none silent) (sym runs) (file_for s who) refl)) ∙ load_may s who (file_for s who) some
@@ -97,8 +96,8 @@ pub no_jump : (o : Option Timed) → None ≡ option_map at o → Over ≡ jump_
 no_jump None e = refl
 no_jump (Some t) e = absurd (cc)
 
--- ---- what is so if it comes
--- an event comes while no routine is active
+-- ---- what holds if it comes
+-- an event occurs while no routine is active
 due_idle : (s : State) (e : Event) (b : Bool) → is_active s.world ≡ b → option_map event_of (due_event s) ≡ Some e → b ≡ false
 due_idle s e true active due = let none : due_event s ≡ None = (nothing_due s active).event in let bad : None ≡ Some e = sym (ap (option_map event_of) none) ∙ due in absurd (cc)
 due_idle s e false active due = refl

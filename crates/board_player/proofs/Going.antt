@@ -1,10 +1,9 @@
--- Behind an instruction of a task, whoever ran runs on.
-use Rattle.std.proofs.Common.{◌≡◌, ℕ, Bool, true, false, cond, eqb, not, List, [], ◌∷◌, map, Option, None, Some, is_some, Result, Ok, refl, sym, ap, ◌∙◌, subst}
+-- After an instruction of a task, the same task runs on.
+use Rattle.std.proofs.Common.{◌≡◌, ℕ, Bool, true, false, cond, eqb, not, List, [], ◌∷◌, map, Option, None, Some, is_some, refl, sym, ap, ◌∙◌, subst}
 use Rattle.std.specs.List.{filter, find}
 use Rattle.std.specs.Option.{option_map}
 use Rattle.std.proofs.lemmas.Option.{same_Some}
 use Rattle.std.proofs.lemmas.Simd.{map-map}
-use Rattle.wind_base.specs.declared.NoMemory.{NoMemory}
 use Rattle.wind_base.specs.declared.regs.Regs.{Regs}
 use Rattle.task_block.specs.declared.task.Task.{Task}
 use Rattle.task_block.specs.Standing.{is_ready}
@@ -24,7 +23,7 @@ use Rattle.board_player.specs.declared.order.Running.{Running}
 use Rattle.board_player.specs.declared.order.Known.{Known}
 use Rattle.board_player.specs.declared.order.Known.TheVariants.{Nothing, Runner, Routine}
 
--- ---- a list of which each element is changed, where that keeps the order and the test
+-- ---- a list in which each element is changed, if that keeps the order and the test
 module _ {X : Type 0} (f : X → X) where
   filter_changed : (p : X → Bool) → ((x : X) → p (f x) ≡ p x) → (xs : List X) → filter p (map f xs) ≡ map f (filter p xs)
   filter_changed p same [] = refl
@@ -61,7 +60,7 @@ module _ {X : Type 0} (f : X → X) where
         | false ↦ find_changed p same xs
       ]
 
--- ---- a task with other registers stands as before
+-- ---- a task with other registers is as ready as before
 module _ (who : ℕ) (regs : Regs) where
   -- what a step of the task leaves of each record
   abbrev left : Task → Task
@@ -119,7 +118,7 @@ module _ (who : ℕ) (regs : Regs) where
       ∙ ap (or_else (option_map left (keeper (task_of k.tasks who)))) (urgent_left k.tasks)
       ∙ either_left (keeper (task_of k.tasks who)) (most_urgent k.tasks)
 
--- ---- whoever runs runs on where it is noted as the one that ran last
+-- ---- the running task runs on if it is noted as the one that ran last
 keeps : (o : Option Task) (x : Task) → keeper o ≡ Some x → keeps_running x ≡ true
 keeps None x e = absurd (cc)
 keeps (Some t) x e =
@@ -140,7 +139,7 @@ runs_again k x up e =
     ap (λ o. or_else (keeper o) (most_urgent k.tasks)) (running_found k x up e)
     ∙ again (last_task k.tasks k.last) (most_urgent k.tasks) x e
 
--- ---- behind a step in which only registers change
+-- ---- after a step in which only registers change
 runs_on : (k : KernState) (level : Option Regs) (r : Running) (regs : Regs) (x : Task) → Rising task_id k.tasks → running k ≡ Some x → IsRunner k level r
     → IsRunner (record (set_regs (drop_others k x.id) x.id regs) { last = Some x.id }) level r
 runs_on k level r regs x up e is =

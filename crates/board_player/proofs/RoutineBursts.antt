@@ -1,18 +1,12 @@
 -- Instructions of an interrupt routine, one after the other, are silent steps.
-use Rattle.std.proofs.Common.{◌≡◌, ℕ, zero, suc, ◌+◌, Bool, true, false, cond, List, [], ◌∷◌, map, Option, None, Some, is_some, IsSome, refl, sym, ap, ap₂, ◌∙◌, subst, arith}
+use Rattle.std.proofs.Common.{◌≡◌, ℕ, zero, suc, ◌+◌, Bool, true, List, [], ◌∷◌, Option, None, Some, is_some, IsSome, refl, sym, ap, ap₂, ◌∙◌, subst, arith}
 use Rattle.std.specs.List.{All}
 use Rattle.std.proofs.lemmas.List.Elements.{All-nil, All-cons, All-map}
-use Rattle.std.specs.Prelude.{unwrap_or, not, ◌&&◌}
-use Rattle.std.specs.Option.{option_map}
-use Rattle.wind_base.specs.Limits.{gates_start}
-use Rattle.wind_base.specs.Gates.{gate_at}
+use Rattle.std.specs.Prelude.{unwrap_or, ◌&&◌}
 use Rattle.wind_base.specs.declared.regs.Regs.{Regs}
 use Rattle.task_block.specs.declared.task.Task.{Task}
 use Rattle.wind_core.specs.State.{KernState}
-use Rattle.wind_core.specs.Orders.{running}
 use Rattle.wind_core.specs.Moves.{unreserved}
-use Rattle.isr_watch.specs.State.{WatchState}
-use Rattle.isr_watch.specs.Calls.{with_level}
 use Rattle.board_bus.specs.BusState.{BusState}
 use Rattle.kernel_world.specs.State.{WorldState}
 use Rattle.kernel_world.specs.Kept.{ReservedBy}
@@ -23,8 +17,7 @@ use Rattle.wind_machine.specs.Reserving.{drop_all}
 use Rattle.wind_machine.specs.Processor.{bus_of}
 use Rattle.wind_machine.specs.Routine.{routine_regs, routine_at, routine_word, routine_executed, routine_part}
 use Rattle.wind_machine.specs.Events.{cleared, unreserved_world}
-use Rattle.wind_machine.specs.ActorSteps.{routine_step}
-use Rattle.wind_machine.specs.Next.{is_active, next}
+use Rattle.wind_machine.specs.Next.{next}
 use Rattle.wind_machine.specs.Machine.{file_of, file_asked, Steps}
 use Rattle.wind_machine.specs.declared.next.Next.TheVariants.{Routine}
 use Rattle.wind_machine.proofs.Reserving.{all_none}
@@ -39,7 +32,7 @@ use Rattle.board_player.proofs.Answering.{steps_on}
 pub routine_alone : (k : KernState) → ReservedBy None k → drop_all k ≡ k
 routine_alone k none = ap (λ ts. record k { tasks = ts }) (all_none k.tasks none)
 
--- a task without a reservation is none that has one
+-- the task has no reservation
 abbrev HasNone : Task → Type 0
 HasNone t = IsSome t.regs.reserve → None ≡ Some t.id
 
@@ -50,7 +43,7 @@ each_has_none : (ts : List Task) → All (λ t. HasNone (unreserved t)) ts
 each_has_none [] = All-nil (λ t. HasNone (unreserved t))
 each_has_none (t ∷ ts) = All-cons (λ u. HasNone (unreserved u)) t ts (dropped_has_none t) (each_has_none ts)
 
--- once all were dropped, nobody has one
+-- after all reservations are dropped, nobody has one
 pub none_reserved : (k new : KernState) → new ≡ drop_all k → ReservedBy None new
 none_reserved k new e = subst (ReservedBy None) (sym e) (All-map HasNone unreserved k.tasks (each_has_none k.tasks))
 
@@ -87,7 +80,7 @@ module _ (s : State) (on : RoutineRunsOn s) where
     one_step : IsSilentStep s (routine_moved s r b 1)
     one_step = record { unasked = unasked; steps = steps; silent = on.silent; counted = refl; uneventful = refl }
 
--- ---- it goes on after them
+-- ---- the routine goes on after them
 module _ (s : State) (on : RoutineRunsOn s) where
   on_after : (m : Regs) (c : BusState) (k : ℕ) → RoutineRunsOn (routine_moved s m c k)
   on_after m c k = record { active = refl; alone = on.alone; silent = on.silent }
@@ -119,6 +112,6 @@ routine_gone s k time count w on ran t c =
 pub routine_left : (level : Option Regs) (k turned done : KernState) (b : Bool) → turned ≡ drop_all k → (b ≡ true → done ≡ turned) → (b ≡ true → is_some level ≡ true) → b ≡ true → IsRoutine done level
 routine_left level k turned done b began same active is_done = record { active = active is_done; none = none_reserved k done (same is_done ∙ began) }
 
--- it is active as before
+-- a routine is active as before
 pub still_routine : (k : ℕ) (old new : WorldState) → RoutineRanMany k old new → IsRoutine old.kern old.watch.level → IsRoutine new.kern new.watch.level
 still_routine k old new ran is = subst (λ (w : WorldState). IsRoutine w.kern w.watch.level) (sym ran.world) (record { active = refl; none = is.none })

@@ -1,4 +1,4 @@
--- A step of a task, by where its program counter stands.
+-- A step of a task, by its program counter.
 use Rattle.std.proofs.Common.{◌≡◌, ℕ, None, Some, sym, ap, ◌∙◌}
 use Rattle.wind_base.specs.Limits.{gates_start}
 use Rattle.wind_base.specs.Gates.{gate_at}

@@ -1,5 +1,5 @@
 -- Instructions of a task, one after the other, are silent steps.
-use Rattle.std.proofs.Common.{◌≡◌, ℕ, zero, suc, ◌+◌, ◌≤◌, Bool, true, false, cond, eqb, not, ◌&&◌, length, List, [], ◌∷◌, map, Option, None, Some, is_some, IfSome, refl, sym, ap, ap₂, ◌∙◌, subst, arith}
+use Rattle.std.proofs.Common.{◌≡◌, ℕ, zero, suc, ◌+◌, ◌≤◌, Bool, true, false, cond, eqb, not, ◌&&◌, length, List, [], ◌∷◌, map, Option, None, Some, IfSome, refl, sym, ap, ap₂, ◌∙◌, subst, arith}
 use Rattle.std.specs.Prelude.{unwrap_or, nat_le}
 use Rattle.std.specs.Option.{option_map}
 use Rattle.std.proofs.lemmas.Bool.{eq-eqb, eqb-true}
@@ -22,7 +22,6 @@ use Rattle.kernel_world.specs.State.{WorldState}
 use Rattle.kernel_world.specs.Actors.{shell_id}
 use Rattle.kernel_world.specs.Kept.{ReservedBy}
 use Rattle.kernel_world.specs.Starting.{no_regs}
-use Rattle.kernel_world.specs.declared.actor.Actor.TheVariants.{Task as by_task, Interrupt}
 use Rattle.live_loading.specs.Said.{Missing}
 use Rattle.wind_machine.specs.State.{State}
 use Rattle.wind_machine.specs.Good.{Good}
@@ -35,7 +34,7 @@ use Rattle.wind_machine.specs.Silent.{IsSilentStep, SilentSteps}
 use Rattle.board_turns.specs.Instructions.{Executes, ExecutesMany, executed_to}
 use Rattle.wind_machine.specs.Events.{next_event}
 use Rattle.wind_machine.specs.ActorSteps.{at_turn, stepped, file_at, file_in, file_for, shell_step, task_step, step_of}
-use Rattle.wind_machine.specs.Next.{event_of, holds_back, is_open, is_active, due_at, due_event, console_is_due, next}
+use Rattle.wind_machine.specs.Next.{event_of, holds_back, is_open, is_active, due_at, due_event, next}
 use Rattle.wind_machine.specs.Machine.{file_of, file_asked, Steps}
 use Rattle.wind_machine.specs.declared.next.Next.TheVariants.{Act}
 use Rattle.wind_machine.proofs.Reserving.{last_own, own_regs}
@@ -63,7 +62,7 @@ module _ (who : ℕ) (m : Regs) where
   task_changed : (ts : List Task) (n : ℕ) → task_of (change task_id ts who with_regs) n ≡ option_map changed (task_of ts n)
   task_changed ts n = find_changed changed (λ t. eqb t.id n) (λ t. ap (λ i. eqb i n) (changed_id t)) ts
 
-  -- nobody else has a reservation then who had none
+  -- no other task has a reservation then, if none had one
   drops_one : (t : Task) → unless_own who (changed t) ≡ cond (eqb (unless_own who t).id who) (with_regs (unless_own who t)) (unless_own who t)
   drops_one t =
       elim (eqb t.id who) as (λ b. eqb t.id who ≡ b → cond (eqb (cond b (with_regs t) t).id who) (cond b (with_regs t) t) (unreserved (cond b (with_regs t) t)) ≡ cond (eqb (cond b t (unreserved t)).id who) (with_regs (cond b t (unreserved t))) (cond b t (unreserved t))) [
@@ -113,7 +112,7 @@ module _ (who : ℕ) (m : Regs) where
 regs_by : (w : WorldState) (who : ℕ) (o : Option Task) → task_of w.kern.tasks who ≡ o → regs_of w who ≡ unwrap_or (option_map (λ t. t.regs) o) no_regs
 regs_by w who o e = ap (λ q. unwrap_or (option_map (λ t. t.regs) q) no_regs) e
 
--- whoever runs has its registers
+-- the running task is found among the tasks
 pub record IsFound (k : KernState) (who : ℕ) : Type 0 where
   pub task : Task
   pub there : task_of k.tasks who ≡ Some task
@@ -163,7 +162,7 @@ module _ (s : State) (who : ℕ) (on : RunsOn s who) (room : HasRoom (is_open s)
           | false ↦ λ e. refl
         ] refl
 
-    -- it asks for no file, since it is at no gate
+    -- it needs no file, because it is at no gate
     file_none : file_for s who ≡ None
     file_none =
         elim (eqb who shell_id) as (λ b. eqb who shell_id ≡ b → cond b (file_in s.shell.phase s.world) None ≡ None) [
@@ -187,7 +186,7 @@ module _ (s : State) (who : ℕ) (on : RunsOn s who) (room : HasRoom (is_open s)
     one_step : IsSilentStep s (moved s who r b 1)
     one_step = record { unasked = unasked; steps = steps; silent = on.silent; counted = refl; uneventful = refl }
 
--- ---- it runs on behind them
+-- ---- the task runs on after them
 module _ (s : State) (who : ℕ) (up : Rising task_id s.world.kern.tasks) (on : RunsOn s who) where
   abbrev there : Regs → KernState
   there m = set_regs s.world.kern who m
@@ -259,7 +258,7 @@ module _ (s : State) (who : ℕ) (up : Rising task_id s.world.kern.tasks) (on : 
         let ex : Executes (regs_of u.world who) (bus_of u.world) r b = subst (λ x. Executes x c r b) (sym (same_regs m c)) many.3 in
         (u, bursts n room k (omega (arith, h)) m c many.2, subst (IsSilentStep u) (further m r c b k) (one_step u who (on_behind m c k) here r b ex))
 
--- ---- the facts are kept
+-- ---- the invariant is kept
 pub record Holds (s t : State) : Type 0 where
   pub good : Good t
   pub same : t.schedule ≡ s.schedule
@@ -275,7 +274,7 @@ holds_on law (suc k) s t early good steps =
       same = step.uneventful ∙ before.same;
     }
 
--- whoever ran last alone has a reservation
+-- only the task that ran last may have a reservation
 pub alone_by : (s : State) (who : ℕ) → ReservedBy s.world.kern.last s.world.kern → s.world.kern.last ≡ Some who → drop_others s.world.kern who ≡ s.world.kern
 alone_by s who by last = ap (λ ts. record s.world.kern { tasks = ts }) (last_own s.world.kern.tasks who (subst (λ o. ReservedBy o s.world.kern) last by))
 

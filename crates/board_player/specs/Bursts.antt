@@ -1,5 +1,5 @@
--- Where a task, or an interrupt routine, goes on by instructions.
-use Rattle.std.specs.Prelude.{◌≡◌, ℕ, ◌+◌, ◌<◌, ◌≤◌, List, [], Bool, true, false, Option, None, Some}
+-- When a task or an interrupt routine goes on by instructions.
+use Rattle.std.specs.Prelude.{◌≡◌, ℕ, ◌+◌, ◌<◌, ◌≤◌, [], Bool, true, false, Option, None, Some}
 use Rattle.wind_base.specs.declared.regs.Regs.{Regs}
 use Rattle.board_bus.specs.BusState.{BusState}
 use Rattle.tick_file.specs.Schedule.{Timed}
@@ -11,24 +11,25 @@ use Rattle.wind_machine.specs.Next.{is_active, console_is_due}
 use Rattle.wind_machine.specs.declared.phase.Phase.TheVariants as phases
 use Rattle.board_turns.specs.Instructions.{executed_to, routine_executed_to}
 
--- this task runs and goes on: it ran last, it wrote nothing, its steps are instructions and calls, and nothing but an event can be due
+-- this task runs and goes on: it ran last, it wrote nothing, its steps are instructions and kernel calls, and only
+-- an event can be due
 pub record RunsOn (s : State) (who : ℕ) : Type 0 where
   pub idle : is_active s.world ≡ false
   pub runs : Some who ≡ runner s.world.kern
-  -- the shell's steps are those of its task in a call alone
+  -- for the shell, the steps of its task are such only during a call
   pub calls : who ≡ shell_id → s.shell.phase ≡ phases.Call
   pub last : s.world.kern.last ≡ Some who
   pub alone : drop_others s.world.kern who ≡ s.world.kern
   pub silent : s.world.output ≡ []
   pub console : false ≡ console_is_due s
 
--- the interrupt routine that is active goes on: it wrote nothing, and no task has a reservation
+-- the active interrupt routine goes on: it wrote nothing, and no task has a reservation
 pub record RoutineRunsOn (s : State) : Type 0 where
   pub active : is_active s.world ≡ true
   pub alone : drop_all s.world.kern ≡ s.world.kern
   pub silent : s.world.output ≡ []
 
--- k steps of a task are made before this event is due, if interrupts may come
+-- k steps of a task come before this event is due, if interrupts may come
 abbrev pub HasRoom : Bool → Option Timed → ℕ → ℕ → Type 0
 HasRoom false next time k = Unit {0}
 HasRoom true None time k = Unit {0}
@@ -38,6 +39,6 @@ HasRoom true (Some e) time k = 0 < k → time + k ≤ e.time
 abbrev pub moved : State → ℕ → Regs → BusState → ℕ → State
 moved s who regs bus k = record s { world = executed_to s.world who regs bus; time = s.time + k; steps = s.steps + k }
 
--- and after k instructions of the interrupt routine
+-- and after k instructions of the active interrupt routine
 abbrev pub routine_moved : State → Regs → BusState → ℕ → State
 routine_moved s regs bus k = record s { world = routine_executed_to s.world regs bus; time = s.time + k; steps = s.steps + k }

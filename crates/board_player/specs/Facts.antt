@@ -1,7 +1,7 @@
--- The kept facts are propositions.
+-- The invariant's parts are propositions.
 use mathlib.Core.Path.{sym, ap, ◌∙◌}
 use mathlib.Core.HLevel.{Σ_prop_path}
-use Rattle.std.specs.Prelude.{◌≡◌, ℕ, ◌+◌, ◌≤◌, ◌<◌, true, min, List, [], ◌∷◌, length, Option, None, Some}
+use Rattle.std.specs.Prelude.{◌≡◌, ℕ, ◌+◌, ◌≤◌, ◌<◌, true, min, List, [], ◌∷◌, length, Option, Some}
 use Rattle.std.proofs.Props.{props}
 use Rattle.std.specs.Coded.{Unit-prop}
 use Rattle.wind_base.specs.declared.regs.Regs.{Regs}
@@ -18,7 +18,7 @@ use Rattle.board_player.specs.Going.{IsRunner, IsRoutine, IsKnown}
 use Rattle.board_player.specs.declared.order.Known.{Known}
 use Rattle.board_player.specs.declared.order.Known.TheVariants.{Nothing, Runner, Routine}
 
--- blocks lie in order in one way
+-- that blocks are in order is a proposition
 pub Laid-prop : (lo hi : ℕ) (bs : List Block) → IsProp (Laid lo hi bs)
 Laid-prop lo hi [] = Unit-prop
 Laid-prop lo hi (b ∷ bs) =
@@ -26,7 +26,7 @@ Laid-prop lo hi (b ∷ bs) =
     let whole : IsProp ((lo ≤ b.addr) × (0 < b.size) × (b.addr + b.size ≤ hi) × Laid (b.addr + b.size) hi bs) = hlevel (props, behind) in
     whole
 
--- what is kept of a task that waits at a queue, of its ask
+-- what holds of a task that waits at a queue, by its ask
 abbrev OfAsk : ℕ → List Ask → Task → Place → QueueState → Ask → Type 0
 OfAsk size asks t place q ask =
     (ask_of asks t.id ≡ Some ask) × (ask.place ≡ place)
@@ -40,7 +40,7 @@ OfAsk-prop size asks t place q ask = hlevel props
 one_ask : (o : Option Ask) (a b : Ask) → o ≡ Some a → o ≡ Some b → a ≡ b
 one_ask o a b p r = let both : Some a ≡ Some b = sym p ∙ r in cc
 
--- so that is kept in one way
+-- that such a task can be served is a proposition
 pub IsServable-prop : (size : ℕ) (asks : List Ask) (t : Task) (place : Place) (q : QueueState) → IsProp (IsServable size asks t place q)
 IsServable-prop size asks t place q s u =
     ap
@@ -48,7 +48,7 @@ IsServable-prop size asks t place q s u =
     (Σ_prop_path {A = Ask} {B = OfAsk size asks t place q} (OfAsk-prop size asks t place q) {u = (s.ask, (s.own, s.there, s.receiver, s.sender))} {v = (u.ask, (u.own, u.there, u.receiver, u.sender))}
     (one_ask (ask_of asks t.id) s.ask u.ask s.own u.own))
 
--- who makes the next step is known in one way
+-- what is known of who makes the next step is a proposition
 pub IsKnown-prop : (k : KernState) (level : Option Regs) (known : Known) → IsProp (IsKnown k level known)
 IsKnown-prop k level Nothing = Unit-prop
 IsKnown-prop k level (Runner r) = let one : IsProp (IsRunner k level r) = hlevel props in one

@@ -1,4 +1,4 @@
--- What is known of who makes the next step, after an instruction.
+-- What is known after an instruction about who makes the next step.
 use Rattle.std.specs.Prelude.{◌≡◌, ℕ, true, false, not, Option, None, Some, is_some}
 use Rattle.wind_base.specs.declared.regs.Regs.{Regs}
 use Rattle.wind_core.specs.State.{KernState}
@@ -22,12 +22,13 @@ pub record IsRoutine (k : KernState) (level : Option Regs) : Type 0 where
   pub active : is_some level ≡ true
   pub none : ReservedBy None k
 
--- what is known is so
+-- what is known holds
 abbrev pub IsKnown : KernState → Option Regs → Known → Type 0
 IsKnown k level Nothing = Unit {0}
 IsKnown k level (Runner r) = IsRunner k level r
 IsKnown k level Routine = IsRoutine k level
 
--- the kernel is as it was, but for the registers of this task, and that no other task keeps a reservation: so it is after a step of this task
+-- the kernel after a step of this task: only the task's registers have changed, other tasks' reservations are
+-- dropped, and the task ran last
 abbrev pub OnlyStepped : KernState → KernState → ℕ → Type 0
 OnlyStepped old new who = (regs : Regs) × (new ≡ record (set_regs (drop_others old who) who regs) { last = Some who })

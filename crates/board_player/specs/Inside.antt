@@ -9,7 +9,7 @@ use Rattle.kernel_world.specs.Seen.{world_with}
 use Rattle.wind_machine.specs.State.{State}
 use Rattle.board_player.specs.declared.parts.Parts.{Parts}
 
--- the parts, where these stand for the slots
+-- the parts, with these as their slots
 abbrev pub parts_with : {I : Type 0} {X : I → Type 0} → List (Option DeviceState) → Parts I X → State
 parts_with slots p = record {
   left = p.feed;
@@ -21,19 +21,20 @@ parts_with slots p = record {
   steps = p.clock.steps;
 }
 
--- without slots
+-- the parts without slots
 abbrev pub inside : {I : Type 0} {X : I → Type 0} → Parts I X → State
 inside p = parts_with [] p
 
--- where a device is seen by these
+-- the parts, with each device seen by these two functions
 abbrev pub parts_by : {I : Type 0} {X : I → Type 0} → (DynBox I Global X → DeviceKind) → (DynBox I Global X → List ℕ) → Parts I X → State
 parts_by kind_of words_of p = parts_with (slots_of kind_of words_of p.world.bus.slots.items) p
 
--- where a device is seen as its kind and its words
+-- the parts, with each device seen as its kind and its words
 abbrev pub parts_seen : {I : Type 0} {X : I → Type 0} → ((i : I) → Ghosts (X i)) → Parts I X → State
 parts_seen devices p = parts_by (λ d. (devices d.vtable).kind_of d.value) (λ d. (devices d.vtable).words_of d.value) p
 
--- each of the two buffers has room for what a step writes: a byte of the console echoes three bytes at most, and an end may be supplied behind a chunk
+-- each of the two buffers has room for what a step writes: a byte of the console echoes at most three bytes, and a
+-- newline may be supplied after a chunk
 pub record IsSpacious {I : Type 0} {X : I → Type 0} (p : Parts I X) : Type 0 where
   pub out : 12291 ≤ p.world.out.room + length p.world.out.bytes
   pub spare : 12291 ≤ p.spare.room + length p.spare.bytes

@@ -6,13 +6,14 @@ use Rattle.wind_machine.specs.declared.next.Next.TheVariants.{Jump, Over}
 use Rattle.board_player.specs.declared.order.Known.{Known}
 use Rattle.board_player.specs.declared.order.Known.TheVariants.{Nothing, Runner, Routine}
 
--- after a step of an interrupt routine: it is active still, if the step was an instruction that caused no exception; or nothing
+-- what may be noted after a step of an interrupt routine: nothing, or that the routine is still active, if the step
+-- was an instruction that caused no exception
 abbrev pub RoutineKnown : Bool → Known → Type 0
 RoutineKnown is_done Nothing = Unit {0}
 RoutineKnown is_done (Runner r) = ⊥
 RoutineKnown is_done Routine = is_done ≡ true
 
--- where nobody runs, time jumps to the next event, if there is one
+-- if nobody runs, time jumps to the next event, or the run is over
 abbrev pub jump_or_over : Option Timed → Next
 jump_or_over None = Over
 jump_or_over (Some e) = Jump e.time

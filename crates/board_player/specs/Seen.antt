@@ -8,10 +8,10 @@ use Rattle.wind_machine.specs.State.{State}
 use Rattle.board_player.specs.Inside.{parts_by, parts_seen}
 use Rattle.board_player.specs.declared.board.Board.{Board}
 
--- a board, where a device is seen by these
+-- a board, with each device seen by these two functions
 abbrev pub board_by : {I : Type 0} {X : I → Type 0} → (DynBox I Global X → DeviceKind) → (DynBox I Global X → List ℕ) → Board I X → State
 board_by kind_of words_of b = parts_by kind_of words_of b.parts
 
--- a board, where a device is seen as its kind and its words
+-- a board, with each device seen as its kind and its words
 abbrev pub seen : {I : Type 0} {X : I → Type 0} → ((i : I) → Ghosts (X i)) → Board I X → State
 seen devices b = parts_seen devices b.parts

@@ -1,4 +1,4 @@
-//! A board: all of the wind machine.
+//! A board: the whole wind machine.
 
 ghost use Rattle.std.specs.Prelude.{◌≡◌, ◌≤◌, ◌+◌, length};
 ghost use Rattle.std.proofs.Props.{props};
@@ -24,15 +24,15 @@ use wind_base::{Name, NoMemory, OutBuf};
 use wind_machine::step_law;
 use wind_outside::{Device, Slots};
 
-// The room for what one step writes: a byte of the console echoes three bytes at most, and an end may be supplied
-// behind a chunk.
+// The room, in bytes, for what one step writes. Each byte of the console echoes at most three
+// bytes, and a newline may be supplied after a chunk.
 const OUTPUT_BYTES: u32 = 3 * (CHUNK_BYTES as u32 + 1);
 
-/// A board.
+/// A board: the wind machine's state in memory.
 #[derive(Drop)]
 pub struct Board {
     parts: Parts,
-    // who makes the next step, where that is known from the step before
+    // who makes the next step, if that is known from the step before
     known: Known,
     ghost good: { Good (inside parts) } by { Prim.hlevel (props, Laid-prop, IsServable-prop) },
     ghost space: { IsSpacious parts },
@@ -47,8 +47,8 @@ impl Board {
     ghost use Rattle.wind_machine.specs.Machine.{opening};
     ghost use Rattle.wind_base.specs.Limits.{most_slots};
 
-    /// A board in the opening state, over this console file, these events and these devices. For want of memory the
-    /// slots come back as they were.
+    /// Makes a board in the opening state, with this console file, these events and these devices.
+    /// If memory runs out, the slots come back as they were.
     #[tactic(auto, unfolding(wind_machine::specs::Machine::opening))]
     pub fn boot(
         alloc: Global,
@@ -91,7 +91,7 @@ impl Board {
         &self.parts.world
     }
 
-    /// How many ticks have come.
+    /// How many ticks have occurred.
     pub fn ticks(&self) -> u64
         ensures { result ≡ (seen ⟦<dyn Device as Device>⟧ self.now).world.kern.tick }
     {
@@ -110,8 +110,8 @@ impl Board {
     ghost use Rattle.board_player.specs.Seen.{seen};
     ghost use Rattle.board_player.specs.declared.Step.TheVariants as steps;
 
-    /// Makes the next step, if there is one and it asks for no file. Host memory may run out only where that is said of
-    /// the state. Nothing changes unless the step is made.
+    /// Makes the next step, if there is one and it needs no file. Host memory may run out only if
+    /// the state permits it. Unless the step is made, nothing changes.
     #[tactic(auto, using(crate::proofs::Answering::is_over, crate::proofs::Answering::asked_is))]
     #[inline(always)]
     pub fn step(&mut self) -> Step
@@ -135,8 +135,9 @@ impl Board {
         make(&mut self.parts, &mut self.known, next)
     }
 
-    /// Makes at most `most` steps that ask for no file and write nothing, in one go: instructions of whoever is known to make
-    /// the next steps. Returns how many it made. It may always be 0; what the next step is, `step` alone tells.
+    /// Makes at most `most` steps at once: instructions of whoever is known to make the next steps.
+    /// They need no file and write nothing. Returns how many it made, which may always be 0; only
+    /// `step` tells what the next step is.
     #[tactic(auto, using(crate::proofs::TaskBursts::holds_on))]
     #[inline(always)]
     pub fn burst(&mut self, most: u64) -> u64
@@ -153,8 +154,8 @@ impl Board {
         burst(&mut self.parts, self.known, most)
     }
 
-    /// Makes the next step, which loads the file of this name, with what is said of that file. It is made, unless host
-    /// memory runs out; nothing changes then.
+    /// Makes the next step, which loads the file with this name, given what is said of that file.
+    /// If host memory runs out, nothing changes.
     pub fn step_load(&mut self, name: &Name, file: &FileAnswer) -> Result<(), NoMemory>
         requires few { (seen ⟦<dyn Device as Device>⟧ self.old).steps < most_steps }
         requires asked { file_asked (seen ⟦<dyn Device as Device>⟧ self.old) ≡ Some name.now }
@@ -179,14 +180,14 @@ impl Board {
         self.parts.world.out.bytes()
     }
 
-    /// How many steps were made.
+    /// How many steps the board has made.
     pub fn steps(&self) -> u64
         ensures { result ≡ (seen ⟦<dyn Device as Device>⟧ self.now).steps }
     {
         self.parts.clock.steps
     }
 
-    /// The kept facts hold of every board.
+    /// The invariant holds for every board.
     pub fn facts(&self)
         ensures { Good (seen ⟦<dyn Device as Device>⟧ self.now) }
     {

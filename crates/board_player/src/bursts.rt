@@ -1,4 +1,4 @@
-//! Instructions of one task, or of one interrupt routine, made in one go while nothing else can come.
+//! Instructions of one task or interrupt routine, made at once while nothing else can come.
 
 ghost use Rattle.std.specs.Prelude.{◌≡◌, ◌+◌, ◌<◌, ◌≤◌, true, Some, None};
 ghost use Rattle.wind_base.specs.Limits.{most_steps};
@@ -23,14 +23,15 @@ use tick_file::Event;
 use wind_machine::Phase;
 use wind_outside::Device;
 
-// Whether a task's steps are instructions and calls: those of the shell's task are in a call alone.
+// Whether a task's steps are instructions and kernel calls. For the shell's task, they are only
+// during a call.
 fn makes_instructions(parts: &Parts, who: Ident) -> bool
     ensures { result ≡ true → who ≡ 1 → parts.now.shell.phase ≡ phases.Call }
 {
     who != shell_id() || matches!(parts.shell.phase(), Phase::Call)
 }
 
-// Whether the task that runs goes on: it ran last, it wrote nothing, and nothing but an event can be due.
+// Whether the running task goes on: it ran last, it wrote nothing, and only an event can be due.
 #[tactic(auto, using(crate::proofs::Running::opens, crate::proofs::TaskBursts::alone_by))]
 fn runs_on(parts: &Parts, now: Running, who: Ident) -> bool
     requires good { Good (inside parts.now) }
@@ -47,7 +48,7 @@ fn runs_on(parts: &Parts, now: Running, who: Ident) -> bool
     }
 }
 
-// How many steps, at most `most`, are made before an event of this time is due.
+// How many steps, at most `most`, come before an event at this time is due.
 fn steps_before(next: (u64, Event), time: u128, most: u64) -> u64
     ensures room { 0 < result → time + result ≤ next.0 }
     ensures within { result ≤ most }
@@ -59,7 +60,7 @@ fn steps_before(next: (u64, Event), time: u128, most: u64) -> u64
     }
 }
 
-// How many steps, at most `most`, are made before the next event is due.
+// How many steps, at most `most`, come before the next event is due.
 fn room_before_event(parts: &Parts, is_open: bool, most: u64) -> u64
     requires { is_open ≡ is_open_lem (parts_seen ⟦<dyn Device as Device>⟧ parts.now) }
     ensures room { HasRoom is_open (next_event (parts_seen ⟦<dyn Device as Device>⟧ parts.now))
@@ -75,7 +76,7 @@ fn room_before_event(parts: &Parts, is_open: bool, most: u64) -> u64
     }
 }
 
-// A task that goes on makes at most `most` instructions. Returns how many it made.
+// Makes at most `most` instructions of a task that goes on. Returns how many it made.
 fn go_on(parts: &mut Parts, who: Ident, most: u64) -> u64
     requires good { Good (inside parts.old) }
     requires few { parts.old.clock.steps + most ≤ most_steps }
@@ -95,7 +96,7 @@ fn go_on(parts: &mut Parts, who: Ident, most: u64) -> u64
     made
 }
 
-// The task that runs makes at most `most` instructions, if it goes on. Returns how many it made.
+// Makes at most `most` instructions of the running task, if it goes on. Returns how many it made.
 fn burst_of_task(parts: &mut Parts, now: Running, most: u64) -> u64
     requires good { Good (inside parts.old) }
     requires few { parts.old.clock.steps + most ≤ most_steps }
@@ -118,7 +119,7 @@ fn burst_of_task(parts: &mut Parts, now: Running, most: u64) -> u64
     go_on(parts, who, room)
 }
 
-// Whether the interrupt routine that is active wrote nothing in the step before.
+// Whether the active interrupt routine wrote nothing in the step before.
 fn routine_runs_on(parts: &Parts) -> bool
     requires { IsRoutine parts.now.world.kern parts.now.world.watch.level }
     ensures { result ≡ true → RoutineRunsOn (parts_seen ⟦<dyn Device as Device>⟧ parts.now) }
@@ -126,8 +127,8 @@ fn routine_runs_on(parts: &Parts) -> bool
     parts.world.out.bytes().is_empty()
 }
 
-// The interrupt routine that is active makes at most `most` instructions, if it wrote nothing in the step before. Nothing
-// else can come meanwhile. Returns how many it made.
+// Makes at most `most` instructions of the active interrupt routine, if it wrote nothing in the
+// step before. Nothing else can come meanwhile. Returns how many it made.
 fn burst_of_routine(parts: &mut Parts, most: u64) -> u64
     requires good { Good (inside parts.old) }
     requires few { parts.old.clock.steps + most ≤ most_steps }
@@ -147,8 +148,8 @@ fn burst_of_routine(parts: &mut Parts, most: u64) -> u64
     made
 }
 
-/// Whoever is known to make the next steps makes at most `most` instructions, as long as nothing else can come. Returns
-/// how many it made: 0 if nothing is known.
+/// Makes at most `most` instructions of whoever is known to make the next steps, as long as nothing
+/// else can come. Returns how many it made: 0 if nothing is known.
 #[inline(never)]
 pub(crate) fn burst(parts: &mut Parts, known: Known, most: u64) -> u64
     requires good { Good (inside parts.old) }

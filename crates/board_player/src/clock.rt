@@ -1,9 +1,9 @@
-//! Board time, and the count of steps.
+//! Board time, and the number of steps.
 
 ghost use Rattle.std.specs.Prelude.{◌≡◌, ◌+◌, ◌<◌, ◌≤◌, ◌^◌};
 ghost use Rattle.wind_base.specs.Limits.{most_steps};
 
-/// Board time, and how many steps were made.
+/// Board time, and the number of steps made.
 #[derive(Clone, Copy, Debug, PartialEq, Eq)]
 pub struct Clock {
     pub(crate) time: u128,
@@ -18,7 +18,7 @@ impl Clock {
         Clock { time: 0, steps: 0 }
     }
 
-    /// A step that takes board time.
+    /// Counts one step, which takes one unit of board time.
     pub(crate) fn step(&mut self)
         requires time { self.old.time < 2 ^ 65 }
         requires steps { self.old.steps < most_steps }
@@ -28,7 +28,7 @@ impl Clock {
         self.steps += 1;
     }
 
-    /// `n` steps that take board time.
+    /// Counts `n` steps, each of which takes one unit of board time.
     pub(crate) fn advance(&mut self, n: u64)
         requires time { self.old.time < 2 ^ 65 }
         requires steps { self.old.steps + n ≤ most_steps }
@@ -38,7 +38,7 @@ impl Clock {
         self.steps += n;
     }
 
-    /// An event, which is a step that leaves board time.
+    /// Counts an event: a step that takes no board time.
     pub(crate) fn event(&mut self)
         requires { self.old.steps < most_steps }
         ensures { self.new ≡ record self.old { steps = self.old.steps + 1 } }
@@ -46,7 +46,7 @@ impl Clock {
         self.steps += 1;
     }
 
-    /// Board time becomes this, which is a step.
+    /// Counts a step that moves board time to `time`.
     pub(crate) fn jump(&mut self, time: u64)
         requires { self.old.steps < most_steps }
         ensures { self.new ≡ record { time = time; steps = self.old.steps + 1 } }

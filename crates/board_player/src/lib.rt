@@ -12,14 +12,14 @@ mod steps;
 pub use board::Board;
 use wind_base::Name;
 
-/// What a call for the next step answers.
+/// What the board answers when it is asked for the next step.
 #[derive(Drop)]
 pub enum Step {
     /// The step was made.
     Stepped,
     /// There is no further step.
     Quiet,
-    /// The step loads the file of this name, and is made by `step_load`. Nothing has changed.
+    /// The step loads the file with this name, and `step_load` makes it. Nothing has changed.
     NeedsFile(Name),
     /// Host memory ran out. The board is as it was before.
     NoMemory,

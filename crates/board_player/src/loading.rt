@@ -23,7 +23,7 @@ use wind_base::{Gate, Name, NoMemory};
 use wind_machine::Phase;
 use wind_outside::Device;
 
-// Whether the shell's task stands at the gate of `ld`.
+// Whether the shell's task is at the gate of `ld`.
 fn is_at_load(parts: &Parts) -> bool
     ensures { (result ≡ true)
         ↔ (gate_under (parts_seen ⟦<dyn Device as Device>⟧ parts.now).world 1 ≡ Some gates.Ld) }
@@ -34,7 +34,7 @@ fn is_at_load(parts: &Parts) -> bool
     }
 }
 
-// The file that the shell's task asks for where it stands in a call.
+// The file that the shell's task needs at its place in a call.
 #[tactic(auto, using(crate::proofs::Asked::at_load_is, crate::proofs::Asked::elsewhere_at))]
 #[inline(never)]
 fn file_in_call(parts: &Parts) -> Result<Option<Name>, NoMemory>
@@ -52,7 +52,7 @@ fn file_in_call(parts: &Parts) -> Result<Option<Name>, NoMemory>
     )
 }
 
-// The file that the shell's task asks for, by its phase.
+// The file that the shell's task needs, by its phase.
 fn shells_file(parts: &Parts) -> Result<Option<Name>, NoMemory>
     ensures file { IfOk result (λ o. o ≡ file_in parts.now.shell.phase
         (parts_seen ⟦<dyn Device as Device>⟧ parts.now).world) }
@@ -65,7 +65,7 @@ fn shells_file(parts: &Parts) -> Result<Option<Name>, NoMemory>
     }
 }
 
-/// The name of the file that the step of the task of this id asks for, if it does.
+/// The name of the file that the step of this task needs, if it needs one.
 #[inline(always)]
 pub(crate) fn file_for(parts: &Parts, who: Ident) -> Result<Option<Name>, NoMemory>
     ensures file { IfOk result (λ o. o ≡ file_for_lem (parts_seen ⟦<dyn Device as Device>⟧ parts.now) who) }
@@ -78,7 +78,8 @@ pub(crate) fn file_for(parts: &Parts, who: Ident) -> Result<Option<Name>, NoMemo
     }
 }
 
-/// The shell's task loads the file of this name, of which this is said. For want of memory nothing changes.
+/// The shell's task loads the file with this name, given what is said of that file. If memory runs
+/// out, nothing changes.
 #[tactic(auto, using(crate::proofs::Beginning::good_early, crate::proofs::Asked::wanted, crate::proofs::Asked::asker_ready))]
 pub(crate) fn load(parts: &mut Parts, name: &Name, file: &FileAnswer) -> Result<(), NoMemory>
     requires good { Good (inside parts.old) }

@@ -1,4 +1,4 @@
-//! What comes next, and the step that it is.
+//! What comes next, and making that step.
 
 ghost use Rattle.std.specs.Prelude.{◌≡◌, ◌≢◌, ◌↔◌, ◌^◌, ◌<◌, true, None, Some, Ok, IfOk, IfSome, IsSome, nat_le, if◌then◌else◌, not, option_map, OnOk, OnErr};
 ghost use Rattle.wind_base.specs.Limits.{most_steps};
@@ -31,7 +31,7 @@ use wind_base::NoMemory;
 use wind_machine::{Next, Phase};
 use wind_outside::Device;
 
-// The event, where its time has come.
+// The event, if its time has come.
 fn when_due(next: (u64, Event), time: u128) -> Option<Event>
     ensures { result ≡ (if nat_le next.0 time then Some next.1 else None) }
 {
@@ -49,18 +49,18 @@ pub struct Running {
     pub(crate) is_open: bool,
 }
 
-/// What is known of who makes the next step, from the step before.
+/// What is known, from the step before, about who makes the next step.
 #[derive(Clone, Copy, Debug, PartialEq, Eq)]
 pub enum Known {
     /// Nothing.
     Nothing,
-    /// No interrupt routine is active, and this is the task that runs.
+    /// No interrupt routine is active, and this task runs.
     Runner(Running),
     /// An interrupt routine is active, and no task has a reservation.
     Routine,
 }
 
-// Which task runs, which is asked if it isn't known. If no task is ready, nobody runs.
+// Finds which task runs, when that isn't known. If no task is ready, nobody runs.
 #[tactic(auto, using(crate::proofs::Idle::nobody_runs))]
 #[inline(never)]
 fn ask(parts: &Parts) -> Running
@@ -85,7 +85,7 @@ fn ask(parts: &Parts) -> Running
     }
 }
 
-// Which task runs, as it is known from the step before, or else asked.
+// Which task runs: known from the step before, or found now.
 fn who_runs(parts: &Parts, known: &Known) -> Running
     requires { IsKnown parts.now.world.kern parts.now.world.watch.level known.now }
     ensures who { result.who ≡ option_map task_id (running_lem parts.now.world.kern) }
@@ -97,7 +97,7 @@ fn who_runs(parts: &Parts, known: &Known) -> Running
     }
 }
 
-/// The event that is due, if one is, where it is known whether interrupts may come.
+/// The event that is due, if one is, given whether interrupts may come.
 #[inline]
 pub(crate) fn due_event(parts: &Parts, is_open: bool) -> Option<Event>
     requires { is_open ≡ is_open_lem (parts_seen ⟦<dyn Device as Device>⟧ parts.now) }
@@ -125,8 +125,8 @@ pub(crate) fn console_is_due(parts: &Parts, is_open: bool) -> bool
         && !parts.console.has_line()
 }
 
-// The shell's step, by its phase. If memory runs out, nothing changes. Returns whether it was an instruction that caused
-// no exception.
+// Makes the shell's step, by its phase. If memory runs out, nothing changes. Returns whether the
+// step was an instruction that caused no exception.
 #[inline(never)]
 fn run_shell(parts: &mut Parts) -> Result<bool, NoMemory>
     requires good { Good (inside parts.old) }
@@ -161,8 +161,8 @@ fn run_shell(parts: &mut Parts) -> Result<bool, NoMemory>
     }
 }
 
-// The step of whoever runs. If memory runs out, nothing changes. Returns whether it was an instruction that caused no
-// exception.
+// Makes the step of whoever runs. If memory runs out, nothing changes. Returns whether the step was
+// an instruction that caused no exception.
 #[inline(always)]
 fn run_task(parts: &mut Parts, who: Ident) -> Result<bool, NoMemory>
     requires good { Good (inside parts.old) }
@@ -187,7 +187,8 @@ fn run_task(parts: &mut Parts, who: Ident) -> Result<bool, NoMemory>
     }
 }
 
-// What is known after a step of the interrupt routine: after an instruction that caused no exception, it is active still.
+// What is known after a step of the interrupt routine: after an instruction that caused no
+// exception, it is still active.
 fn routine_runs_on(is_done: bool) -> Known
     ensures { RoutineKnown is_done result }
 {
@@ -198,7 +199,7 @@ fn routine_runs_on(is_done: bool) -> Known
     }
 }
 
-// A time of 64 bits.
+// A time is below 2^64.
 fn is_time(time: u64)
     ensures { time < 2 ^ 64 }
 {
@@ -215,7 +216,7 @@ pub(crate) fn is_early(parts: &Parts)
     }
 }
 
-// Whether an interrupt routine is active, as it is known from the step before, or as it is asked.
+// Whether an interrupt routine is active: known from the step before, or found now.
 fn is_active(parts: &Parts, known: &Known) -> bool
     requires { IsKnown parts.now.world.kern parts.now.world.watch.level known.now }
     ensures { result ≡ is_active_lem (parts_seen ⟦<dyn Device as Device>⟧ parts.now).world }
@@ -227,7 +228,7 @@ fn is_active(parts: &Parts, known: &Known) -> bool
     }
 }
 
-// The step of the task of this id: a load, if it asks for a file.
+// The step of this task: a load, if it needs a file.
 fn task_next(parts: &Parts, who: Ident) -> Result<Next, NoMemory>
     ensures next { IfOk result (λ n. n ≡ task_next_lem (parts_seen ⟦<dyn Device as Device>⟧ parts.now) who) }
     ensures memory { OnErr result (IsSome (file_for_lem (parts_seen ⟦<dyn Device as Device>⟧ parts.now) who)) }
@@ -238,7 +239,7 @@ fn task_next(parts: &Parts, who: Ident) -> Result<Next, NoMemory>
     }
 }
 
-// Where nobody runs, time jumps to the next event, if there is one.
+// If nobody runs, time jumps to the next event, or the run is over.
 #[tactic(auto, using(crate::proofs::Deciding::jump_there, crate::proofs::Deciding::no_jump))]
 fn jump_or_over(parts: &Parts) -> Next
     ensures { result ≡ jump_or_over_lem (next_event (parts_seen ⟦<dyn Device as Device>⟧ parts.now)) }
@@ -249,7 +250,7 @@ fn jump_or_over(parts: &Parts) -> Next
     }
 }
 
-/// What comes next. Who runs is known then, unless an interrupt routine is active.
+/// What comes next. It also finds who runs, unless an interrupt routine is active.
 #[tactic(auto, using(crate::proofs::Running::opens, crate::proofs::Deciding::routine_next, crate::proofs::Deciding::console_next, crate::proofs::Deciding::runner_next, crate::proofs::Deciding::nobody_next))]
 #[inline(always)]
 pub(crate) fn next(parts: &Parts, known: &mut Known) -> Result<Next, NoMemory>
@@ -277,7 +278,8 @@ pub(crate) fn next(parts: &Parts, known: &mut Known) -> Result<Next, NoMemory>
     }
 }
 
-// The task that runs makes a step that asks for no file. Who runs stays known after an instruction that caused no exception.
+// Makes a step of the running task that needs no file. After an instruction that caused no
+// exception, who runs stays known.
 #[inline(always)]
 fn act(parts: &mut Parts, known: &mut Known, who: Ident) -> Step
     requires good { Good (inside parts.old) }
@@ -308,8 +310,8 @@ fn act(parts: &mut Parts, known: &mut Known, who: Ident) -> Step
     }
 }
 
-/// Makes the step that comes next, unless it is a load, or the run is over. Nothing changes unless it is made. Keeps what
-/// is known of who makes the step after it.
+/// Makes the step that comes next, unless it is a load or the run is over. Unless the step is made,
+/// nothing changes. Notes what is known of who makes the step after it.
 #[inline(always)]
 pub(crate) fn make(parts: &mut Parts, known: &mut Known, next: Next) -> Step
     requires good { Good (inside parts.old) }

@@ -18,6 +18,6 @@ pub struct Parts {
     pub(crate) world: World,
     pub(crate) schedule: Schedule,
     pub(crate) clock: Clock,
-    /// What the step before wrote, while a step that may lack memory is made.
+    /// Holds what the step before wrote, during a step that may run out of memory.
     pub(crate) spare: OutBuf,
 }

@@ -32,7 +32,7 @@ use wind_base::text::add;
 use wind_base::{Gate, NoMemory};
 use wind_outside::Device;
 
-/// The step of a task is made: it is the one that ran last.
+/// Ends the step of a task, which is now the one that ran last.
 pub(crate) fn end(parts: &mut Parts, who: Ident)
     requires time { parts.old.clock.time < 2 ^ 65 }
     requires few { parts.old.clock.steps < most_steps }
@@ -45,7 +45,7 @@ pub(crate) fn end(parts: &mut Parts, who: Ident)
     parts.clock.step();
 }
 
-/// The shell writes its prompt, and waits for the console where no line is kept.
+/// The shell writes its prompt, and waits for the console if there is no finished line.
 #[tactic(auto, using(crate::proofs::Beginning::good_early))]
 pub(crate) fn prompt(parts: &mut Parts)
     requires good { Good (inside parts.old) }
@@ -65,7 +65,8 @@ pub(crate) fn prompt(parts: &mut Parts)
     end(parts, shell_id());
 }
 
-// Copies the first finished line to the front of a room, and tells how many bytes it has: 0 where no line is kept.
+// Copies the first finished line to the beginning of `room`, and returns its length in bytes: 0 if
+// there is no finished line.
 fn copy_line(console: &Console, room: &mut [u8; LINE_ROOM]) -> usize
     ensures line { take result room.new ≡ front_line console.now }
     ensures short { result ≤ longest_line }
@@ -76,7 +77,7 @@ fn copy_line(console: &Console, room: &mut [u8; LINE_ROOM]) -> usize
     }
 }
 
-/// The shell takes a line and reads it. For want of memory nothing changes.
+/// The shell takes a line and reads it. If memory runs out, nothing changes.
 #[tactic(auto, using(crate::proofs::Beginning::good_early))]
 pub(crate) fn read(parts: &mut Parts) -> Result<(), NoMemory>
     requires good { Good (inside parts.old) }
@@ -104,7 +105,7 @@ pub(crate) fn read(parts: &mut Parts) -> Result<(), NoMemory>
     Ok(())
 }
 
-/// The shell goes on with its first statement. For want of memory nothing changes.
+/// The shell goes on with its first statement. If memory runs out, nothing changes.
 #[tactic(auto, using(crate::proofs::Beginning::good_early))]
 pub(crate) fn evaluate(parts: &mut Parts) -> Result<(), NoMemory>
     requires good { Good (inside parts.old) }
@@ -126,7 +127,7 @@ pub(crate) fn evaluate(parts: &mut Parts) -> Result<(), NoMemory>
     Ok(())
 }
 
-// An instruction of a task that stands at no gate. Tells whether it came without an exception.
+// Makes an instruction of a task that is at no gate. Returns whether it caused no exception.
 #[tactic(auto, using(crate::proofs::Beginning::good_early))]
 #[inline(always)]
 fn run_word(parts: &mut Parts, who: Ident, at: u32) -> bool
@@ -174,7 +175,8 @@ fn run_sure_gate(parts: &mut Parts, who: Ident, at: u32, gate: Gate)
     }
 }
 
-// What a task does at a gate whose call may run out of memory. Nothing changes then: what the call would undo is kept.
+// What a task does at a gate whose call may run out of memory. If it does, nothing changes: what
+// undoes the call is held until then.
 #[tactic(auto, using(crate::proofs::Beginning::good_early))]
 #[inline(never)]
 fn run_revocable_gate(parts: &mut Parts, who: Ident, at: u32, gate: Gate) -> Result<(), NoMemory>
@@ -233,8 +235,9 @@ fn run_gate(parts: &mut Parts, who: Ident, at: u32, gate: Gate) -> Result<(), No
     Ok(())
 }
 
-/// A task is at a gate, or makes an instruction. For want of memory, which comes only at a gate whose call may lack it,
-/// nothing changes. Tells whether it was an instruction that came without an exception.
+/// Makes a step of a task: what it does at a gate, or an instruction. Memory may run out only at a
+/// gate whose call may run out of it, and nothing changes then. Returns whether the step was an
+/// instruction that caused no exception.
 #[inline(always)]
 pub(crate) fn run(parts: &mut Parts, who: Ident) -> Result<bool, NoMemory>
     requires good { Good (inside parts.old) }
@@ -264,8 +267,8 @@ pub(crate) fn run(parts: &mut Parts, who: Ident) -> Result<bool, NoMemory>
     }
 }
 
-/// The interrupt routine that is active makes a step. Returns whether it was an instruction that caused no exception; the
-/// routine is active still then, and no task has a reservation.
+/// Makes a step of the active interrupt routine. Returns whether it was an instruction that caused
+/// no exception; if so, the routine is still active, and no task has a reservation.
 #[tactic(auto, using(crate::proofs::Beginning::good_early))]
 #[inline(never)]
 pub(crate) fn step_routine(parts: &mut Parts) -> bool
@@ -299,7 +302,7 @@ pub(crate) fn arrive(parts: &mut Parts)
     parts.clock.event();
 }
 
-// So many bytes come, with an end behind them where it is supplied.
+// Hears the next `len` bytes, and then a newline if one is supplied.
 fn hear_bytes(parts: &mut Parts, len: usize, is_unended: bool)
     requires live { Lives parts.old.world.kern 1 }
     requires since { parts.old.world.kern.next_since + 8194 < 2 ^ 64 }
@@ -322,7 +325,7 @@ fn hear_bytes(parts: &mut Parts, len: usize, is_unended: bool)
     parts.feed.advance(len);
 }
 
-// A tick comes.
+// A tick occurs.
 fn tick(parts: &mut Parts)
     requires since { parts.old.world.kern.next_since < 2 ^ 63 }
     requires tick { parts.old.world.kern.tick < 2 ^ 63 }
@@ -340,7 +343,7 @@ fn tick(parts: &mut Parts)
     parts.clock.event();
 }
 
-// So many bytes arrive, as the tick file asks.
+// `n` bytes arrive, as the tick file asks.
 fn receive(parts: &mut Parts, n: u32)
     requires live { Lives parts.old.world.kern 1 }
     requires since { parts.old.world.kern.next_since + 8194 < 2 ^ 64 }
@@ -355,7 +358,7 @@ fn receive(parts: &mut Parts, n: u32)
     parts.clock.event();
 }
 
-/// The event that is due comes.
+/// The due event occurs.
 #[tactic(auto, using(crate::proofs::Beginning::all_live))]
 #[inline(never)]
 pub(crate) fn come(parts: &mut Parts, event: Event)
@@ -375,7 +378,7 @@ pub(crate) fn come(parts: &mut Parts, event: Event)
     }
 }
 
-/// Board time becomes that of an event.
+/// Moves board time to that of an event.
 pub(crate) fn jump(parts: &mut Parts, time: u64)
     requires few { parts.old.clock.steps < most_steps }
     requires space { IsSpacious parts.old }

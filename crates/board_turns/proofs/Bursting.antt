@@ -1,12 +1,11 @@
 -- Instructions, one after the other.
-use Rattle.std.proofs.Common.{◌≡◌, ℕ, suc, ◌+◌, ◌-◌, ◌/◌, ◌%◌, ◌<◌, ◌&&◌, Bool, true, false, cond, eqb, Option, None, Some, Result, Ok, Err, refl, sym, ap, ◌∙◌, subst, add-one, arith}
+use Rattle.std.proofs.Common.{◌≡◌, ℕ, ◌+◌, ◌-◌, ◌/◌, ◌%◌, ◌<◌, ◌&&◌, Bool, true, false, cond, eqb, Option, None, Some, Result, refl, sym, ap, ◌∙◌, subst, add-one, arith}
 use Rattle.std.specs.Prelude.{is_err, unwrap_or, nat_le}
 use Rattle.std.specs.Option.{option_map}
 use Rattle.std.proofs.lemmas.Bool.Decides.{nat_tests}
 use Rattle.wind_base.specs.Limits.{gates_start, gate_bytes}
 use Rattle.wind_base.specs.Gates.{gate_at, gate_of}
 use Rattle.wind_base.specs.declared.regs.Regs.{Regs}
-use Rattle.task_block.specs.declared.task.Task.{Task}
 use Rattle.ppc_core.specs.Instructions.{exec_of}
 use Rattle.ppc_core.specs.Outcomes.{Outcome, Done, Trapped, Leaves}
 use Rattle.ppc_core.specs.declared.trap.Trap.{Trap}
@@ -17,10 +16,10 @@ use Rattle.kernel_world.specs.State.{WorldState}
 use Rattle.kernel_world.specs.Starting.{no_regs}
 use Rattle.wind_machine.specs.Processor.{bus_of, regs_of}
 use Rattle.wind_machine.specs.Routine.{routine_regs}
-use Rattle.board_turns.specs.Instructions.{Executes, ExecutesMany, executed_to, routine_executed_to}
+use Rattle.board_turns.specs.Instructions.{ExecutesMany, executed_to, routine_executed_to}
 use Rattle.board_turns.specs.Running.{RanMany, RoutineRanMany}
 
--- no gate stands below the first
+-- no gate is below the first
 no_gate : (at : ℕ) → at < gates_start → gate_at gates_start at ≡ None
 no_gate at h =
     let below : nat_le gates_start at ≡ false = grind (arith, nat_tests, h) in
@@ -30,7 +29,7 @@ done_by : (o : Outcome BusState) (m after : Regs) (c bus : BusState) (res : Resu
 done_by (Done r d) m after c bus res b l e f = ap (λ x. Done x d) (sym l.1) ∙ ap (λ x. Done after x) (sym l.2)
 done_by (Trapped t) m after c bus res b l e f = let bad : b ≡ true = e ∙ ap is_err l.0 in absurd (cc)
 
--- one more was executed
+-- one more instruction was executed
 pub one_more : (k word : ℕ) (r m after : Regs) (b c bus : BusState) (found : Option ℕ) (res : Result (Unit {0}) Trap) (bad : Bool)
     → ExecutesMany k r b m c → m.pc < gates_start → found ≡ fetched c m.pc → found ≡ Some word
     → Leaves (exec_of board_meaning m word c) m c after bus res → bad ≡ is_err res → bad ≡ false → ExecutesMany (k + 1) r b after bus
@@ -47,7 +46,7 @@ one_more k word r m after b c bus found res bad many below fetch there leaves er
       },
     )
 
--- a task has executed so many
+-- a task has executed k instructions
 pub ran_many : (w : WorldState) (who k : ℕ) (old regs : Regs) (bus : BusState) → option_map (λ t. t.regs) (task_of w.kern.tasks who) ≡ Some old → ExecutesMany k old (bus_of w) regs bus → RanMany k who w (executed_to w who regs bus)
 ran_many w who k old regs bus e many =
     let same : regs_of w who ≡ old = ap (λ o. unwrap_or o no_regs) e in

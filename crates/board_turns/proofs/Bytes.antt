@@ -1,4 +1,4 @@
--- A loop over the bytes that come.
+-- A loop over arriving bytes.
 use Rattle.std.proofs.Common.{◌≡◌, ℕ, ◌+◌, ◌<◌, List, ◌∷◌, length, drop, get_or, drop-cons, add-one, sym, ap, ◌∙◌}
 use Rattle.std.specs.List.{fold}
 use Rattle.wind_machine.specs.Events.{Heard, hear, heard_all}

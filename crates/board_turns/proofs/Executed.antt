@@ -64,7 +64,7 @@ module _ (w : WorldState) where
       let same : routine_regs w ≡ old = ap (λ o. unwrap_or o no_regs) e in
       subst (λ x. RoutineRan (exec_of board_meaning x word (bus_of w)) r w (routine_left regs bus)) (sym same) (by_routine (exec_of board_meaning old word (bus_of w)) r old regs bus e l)
 
--- ---- one without an exception leaves the kernel but for registers, and the watchdogs
+-- ---- an instruction without an exception leaves the kernel, except for registers, and the watchdogs as they were
 pub only_regs : (o : Outcome BusState) (r : Result (Unit {0}) Trap) (who : ℕ) (old new : WorldState) → Ran o r who old new → r ≡ Ok tt → OnlyRegs old.kern new.kern who
 only_regs (Done regs bus) r who old new ran ok = (regs, ap (λ w. w.kern) ran.1)
 only_regs (Trapped trap) r who old new ran ok = absurd (cc)

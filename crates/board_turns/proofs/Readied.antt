@@ -1,4 +1,4 @@
--- A turn begins, and may be given back.
+-- The step of a task begins, and may be undone.
 use Rattle.std.proofs.Common.{◌≡◌, ℕ, ◌-◌, ◌^◌, ◌≤◌, ◌<◌, false, Option, None, Some, is_some, refl, sym, ap, ◌∙◌, arith}
 use Rattle.std.specs.Option.{option_map}
 use Rattle.std.specs.Prelude.{unwrap_or}
@@ -27,12 +27,12 @@ within w early = (
   All-weaker (λ r. r.1.depth < 2 ^ 60) (λ r. r.1.depth ≤ 2 ^ 60 - 1) (λ r h. omega (arith, h)) w.objects.mutexes early.depths,
 )
 
--- ---- a turn
+-- ---- the step begins
 pub readies : (w : WorldState) (who : ℕ) → IsWorld w → IsEarly w → Readies w (at_turn w who) who
 readies w who kept early =
     let a = others_advance w (2 ^ 60 - 1) kept (within w early) who in
     record {
-      kept = record { kern = a.kept.kern; home = a.kept.home; objects = a.kept.objects; pool = a.kept.pool; stacks = a.kept.stacks; modules = a.kept.modules; ram = a.kept.ram; symbols = a.kept.symbols; watch = a.kept.watch };
+      kept = record { kern = a.kept.kern; home = a.kept.home; objects = a.kept.objects; pool = a.kept.pool; stacks = a.kept.stacks; modules = a.kept.modules; ram = a.kept.ram; symbols = a.kept.symbols; watch = a.kept.watch; ids = a.kept.ids };
       early = record {
         sinces = early.sinces;
         ticks = early.ticks;
@@ -52,7 +52,7 @@ pub all_ready : (w : WorldState) → IsWorld w → IsEarly w → IsReadied (clea
 all_ready w kept early =
     let a = all_advance w (2 ^ 60 - 1) kept (within w early) in
     record {
-      kept = record { kern = a.kept.kern; home = a.kept.home; objects = a.kept.objects; pool = a.kept.pool; stacks = a.kept.stacks; modules = a.kept.modules; ram = a.kept.ram; symbols = a.kept.symbols; watch = a.kept.watch };
+      kept = record { kern = a.kept.kern; home = a.kept.home; objects = a.kept.objects; pool = a.kept.pool; stacks = a.kept.stacks; modules = a.kept.modules; ram = a.kept.ram; symbols = a.kept.symbols; watch = a.kept.watch; ids = a.kept.ids };
       early = record {
         sinces = early.sinces;
         ticks = early.ticks;
@@ -64,7 +64,7 @@ all_ready w kept early =
       };
     }
 
--- ---- it is given back
+-- ---- it is undone
 given : (k : KernState) (o : Option ℕ) → IsKern k → put_back (without k o) (kept_if k.tasks o) ≡ k
 given k None is = refl
 given k (Some last) is = by_task (task_of k.tasks last) refl where

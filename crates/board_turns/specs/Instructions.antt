@@ -23,14 +23,15 @@ abbrev pub completes : Option ℕ → Regs → BusState → Bool
 completes None regs bus = false
 completes (Some word) regs bus = is_done (exec_of board_meaning regs word bus)
 
--- one instruction leads from these registers and this bus to those: the program counter is no gate's address, the word there can be fetched, and its effect is no trap
+-- one instruction leads from these registers and this bus to those: no gate is at the program counter, the word
+-- there can be fetched, and its effect is no trap
 pub record Executes (r : Regs) (b : BusState) (after : Regs) (bus : BusState) : Type 0 where
   pub no_gate : gate_at gates_start r.pc ≡ None
   pub word : ℕ
   pub there : fetched b r.pc ≡ Some word
   pub done : exec_of board_meaning r word b ≡ Done after bus
 
--- k instructions do, one after the other
+-- k instructions lead there, one after the other
 abbrev pub ExecutesMany : ℕ → Regs → BusState → Regs → BusState → Type 0
 ExecutesMany zero r b after bus = (after ≡ r) × (bus ≡ b)
 ExecutesMany (suc k) r b after bus = (m : Regs) × (c : BusState) × ExecutesMany k r b m c × Executes m c after bus
@@ -39,6 +40,6 @@ ExecutesMany (suc k) r b after bus = (m : Regs) × (c : BusState) × ExecutesMan
 abbrev pub executed_to : WorldState → ℕ → Regs → BusState → WorldState
 executed_to w who regs bus = with_bus (with_kern w (set_regs w.kern who regs)) bus
 
--- the world with these registers of the interrupt routine, and this bus
+-- the world with these registers of the active interrupt routine, and this bus
 abbrev pub routine_executed_to : WorldState → Regs → BusState → WorldState
 routine_executed_to w regs bus = with_bus (with_watch w (with_level w.watch regs)) bus

@@ -1,4 +1,4 @@
--- How the step of a task begins, and how one that lacks memory leaves all as it was.
+-- How the step of a task begins, and how a step that runs out of memory leaves everything as it was.
 use Rattle.std.specs.Prelude.{◌≡◌, ℕ, List, Option, None, Some, ◌==◌, if◌then◌else◌, is_some}
 use Rattle.wind_base.specs.declared.regs.Regs.{Regs}
 use Rattle.task_block.specs.declared.task.Task.{Task}
@@ -9,12 +9,12 @@ use Rattle.kernel_world.specs.State.{WorldState}
 use Rattle.kernel_world.specs.Kept.{IsWorld, IsEarly}
 use Rattle.wind_machine.specs.Processor.{regs_of}
 
--- a task, if there is one and it lives
+-- the task, if there is one and it lives
 abbrev pub if_live : List Task → Option ℕ → Option ℕ
 if_live ts None = None
 if_live ts (Some last) = if is_some (task_of ts last) then Some last else None
 
--- a task, if it is another than this one
+-- the task, if it is another than this one
 abbrev pub if_other : ℕ → Option ℕ → Option ℕ
 if_other who None = None
 if_other who (Some last) = if last == who then None else Some last
@@ -35,21 +35,22 @@ kept_if ts (Some last) = with_regs (task_of ts last)
 abbrev pub kept_of : KernState → ℕ → Option (ℕ × Regs)
 kept_of k who = kept_if k.tasks (other_holder k who)
 
--- a task has its registers again
+-- the task has its registers again
 abbrev pub put_back : KernState → Option (ℕ × Regs) → KernState
 put_back k None = k
 put_back k (Some kept) = set_regs k kept.0 kept.1
 
--- the world as it was before, with the bytes that were written then
+-- the world as it was before the step, with these bytes as its output
 abbrev pub restored : WorldState → List ℕ → Option (ℕ × Regs) → WorldState
 restored w bytes kept = record w { kern = put_back w.kern kept; output = bytes }
 
--- the kernel in which this task, if one, has no reservation
+-- the kernel in which this task, if one is given, has no reservation
 abbrev pub without : KernState → Option ℕ → KernState
 without k None = k
 without k (Some last) = unreserve k last
 
--- what a turn keeps: the facts, whoever lives, and, of the task whose turn it is, the registers and that it is ready
+-- the beginning of a step keeps the invariant, whoever lives, and, of the task that makes the step, its registers
+-- and that it is ready
 pub record Readies (old new : WorldState) (who : ℕ) : Type 0 where
   pub kept : IsWorld new
   pub early : IsEarly new
@@ -57,7 +58,7 @@ pub record Readies (old new : WorldState) (who : ℕ) : Type 0 where
   pub ready : IsReady old.kern who → IsReady new.kern who
   pub regs : regs_of new who ≡ regs_of old who
 
--- the facts of a world at a turn
+-- the invariant of a world after the beginning of a step
 pub record IsReadied (w : WorldState) : Type 0 where
   pub kept : IsWorld w
   pub early : IsEarly w

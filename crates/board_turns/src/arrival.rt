@@ -14,7 +14,7 @@ use con_line::{ByteDone, Console};
 use wind_base::OutBuf;
 use wind_core::Kern;
 
-// A kept line wakes a shell that waits for the console, which then reads it.
+// If the shell waits for the console, a finished line wakes it, and it reads the line next.
 fn wake(shell: &mut Shell, kern: &mut Kern)
     requires live { Lives kern.old 1 }
     requires since { kern.old.next_since + 1 < 2 ^ 64 }
@@ -27,7 +27,7 @@ fn wake(shell: &mut Shell, kern: &mut Kern)
     }
 }
 
-// What a byte of the console did to the shell and its task.
+// What a byte of the console does to the shell and its task.
 fn hear_byte(done: ByteDone, shell: &mut Shell, kern: &mut Kern)
     requires live { Lives kern.old 1 }
     requires since { kern.old.next_since + 2 < 2 ^ 64 }
@@ -44,7 +44,7 @@ fn hear_byte(done: ByteDone, shell: &mut Shell, kern: &mut Kern)
     }
 }
 
-// One byte comes, and what it echoes is added.
+// Hears one byte, and adds what it echoes.
 #[tactic(auto, using(wind_machine::proofs::TaskLemmas::after_lives, wind_machine::proofs::TaskLemmas::after_since))]
 fn hear_one(byte: u8, console: &mut Console, shell: &mut Shell, kern: &mut Kern, out: &mut OutBuf)
     requires room { 3 ≤ out.old.room }
@@ -60,7 +60,7 @@ fn hear_one(byte: u8, console: &mut Console, shell: &mut Shell, kern: &mut Kern,
     hear_byte(console.byte(byte, out), shell, kern);
 }
 
-// Bytes come, each in turn, and what they echo is added.
+// Hears bytes one after the other, and adds what they echo.
 #[tactic(auto, unfolding(wind_machine::specs::Events::heard_all))]
 fn hear(bytes: &[u8], console: &mut Console, shell: &mut Shell, kern: &mut Kern, out: &mut OutBuf)
     requires room { 3 * length bytes.now ≤ out.old.room }
@@ -78,7 +78,7 @@ fn hear(bytes: &[u8], console: &mut Console, shell: &mut Shell, kern: &mut Kern,
     }
 }
 
-/// The bytes of a chunk come, with an end behind them where it is supplied.
+/// Hears the bytes of a chunk, and then a newline if one is supplied.
 #[tactic(auto, unfolding(wind_machine::specs::Events::heard_all))]
 pub fn hear_chunk(
     bytes: &[u8],

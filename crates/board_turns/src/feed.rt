@@ -1,4 +1,4 @@
-//! The console file, as far as it has not come yet.
+//! The part of the console file that has not arrived yet.
 
 ghost use Rattle.std.specs.Prelude.{◌≡◌, ◌<◌, ◌≤◌, ◌++◌, IfSome, take, drop, length};
 ghost use Rattle.wind_base.specs.Limits.{longest_chunk};
@@ -7,7 +7,7 @@ ghost use Rattle.wind_machine.specs.Feed.{is_end as is_end_lem, first_end as fir
 use std::marker::Model;
 use wind_base::limits::CHUNK_BYTES;
 
-/// The bytes of the console file that are left.
+/// The bytes of the console file that have not arrived yet.
 #[derive(Drop)]
 pub struct Feed {
     file: Vec<u8>,
@@ -25,7 +25,7 @@ impl Model for Feed {
 }
 
 impl Feed {
-    /// The whole file.
+    /// All bytes of a console file.
     pub fn new(file: Vec<u8>) -> Feed
         ensures { result ≡ file.items }
     {
@@ -39,7 +39,7 @@ impl Feed {
         &self.file[self.next..]
     }
 
-    /// Takes bytes from the front.
+    /// Takes the next `n` bytes.
     pub fn advance(&mut self, n: usize)
         requires { n ≤ length self.old }
         ensures { self.new ≡ drop n self.old }
@@ -54,7 +54,7 @@ fn is_end(byte: u8) -> bool
     byte == b'\n' || byte == b'\r'
 }
 
-// Where the first end of a line stands that may come at once.
+// Where the first end of a line is among the bytes that may arrive at once.
 fn first_end(left: &[u8]) -> Option<usize>
     ensures exact { result ≡ first_end_lem left.now }
     ensures inside { IfSome result (λ k. k < length left.now) }
@@ -63,7 +63,7 @@ fn first_end(left: &[u8]) -> Option<usize>
     left.iter().take(CHUNK_BYTES).position(|byte| is_end(*byte))
 }
 
-/// How many bytes of the file the next chunk takes, and whether an end is supplied behind them.
+/// How many bytes of the file the next chunk takes, and whether a newline is supplied after them.
 pub fn chunk_len(left: &[u8]) -> (usize, bool)
     ensures chunk { chunk left.now ≡ take result.0 left.now ++ supplied result.1 }
     ensures after { after_chunk left.now ≡ drop result.0 left.now }
@@ -77,7 +77,7 @@ pub fn chunk_len(left: &[u8]) -> (usize, bool)
     }
 }
 
-/// How many bytes an event of the tick file takes: so many, at most 4096, and fewer where fewer are left.
+/// How many bytes an event of the tick file takes: `n`, at most 4096, and no more than are left.
 pub fn brought(left: &[u8], n: u32) -> usize
     ensures taken { take result left.now ≡ take (brought_by n) left.now }
     ensures after { drop result left.now ≡ drop (brought_by n) left.now }

@@ -1,4 +1,4 @@
-//! Instructions of one context, one after the other, with nothing between.
+//! Instructions of one context, one after the other, with nothing in between.
 
 ghost use Rattle.std.specs.Prelude.{◌≡◌, ◌≤◌, true, is_some};
 ghost use Rattle.wind_core.specs.State.{Lives, IsKern};
@@ -15,9 +15,10 @@ use wind_base::Regs;
 use wind_base::limits::GATES_START;
 use wind_outside::Device;
 
-// Executes at most `most` instructions. Ends before one that is at or above the first gate, can't be fetched, or causes an
-// exception, which changes nothing. Returns how many were executed. The test of the program counter costs the host two
-// instructions; which gate it is, where it is one, would cost thirteen.
+// Executes at most `most` instructions, and returns how many it executed. It stops before an
+// instruction that is at or above the first gate, can't be fetched, or causes an exception. On the
+// host, this test of the program counter costs two instructions; looking for the gate itself would
+// cost thirteen.
 #[inline(never)]
 fn run_words(regs: &mut Regs, bus: &mut BoardBus, most: u64) -> u64
     requires { Unit {0} }
@@ -39,8 +40,8 @@ fn run_words(regs: &mut Regs, bus: &mut BoardBus, most: u64) -> u64
     most
 }
 
-/// A task executes at most `most` instructions, as long as each is below the gates, can be fetched and causes no exception.
-/// Returns how many it executed.
+/// Executes at most `most` instructions of a task, as long as each is below the gates, can be
+/// fetched and causes no exception. Returns how many it executed.
 pub fn execute_many(world: &mut World, who: Ident, most: u64) -> u64
     requires live { Lives world.old.kern who }
     requires kern { IsKern world.old.kern }
@@ -52,7 +53,7 @@ pub fn execute_many(world: &mut World, who: Ident, most: u64) -> u64
     run_words(world.kern.regs_of(who), &mut world.bus, most)
 }
 
-/// The interrupt routine that is active does so.
+/// The same for the active interrupt routine.
 pub fn execute_many_of_routine(world: &mut World, most: u64) -> u64
     requires active { is_some world.old.watch.level ≡ true }
     ensures ran { RoutineRanMany result (world_seen ⟦<dyn Device as Device>⟧ world.old)

@@ -1,5 +1,5 @@
-//! A turn of those who act on the board: the shell, a task, the interrupt routine that is active; and the bytes of the
-//! console, as they come.
+//! One step of each actor on the board (the shell, a task, the active interrupt routine), and the
+//! arrival of the console's bytes.
 #![tactic(auto)]
 
 mod arrival;

@@ -1,4 +1,4 @@
-//! A step of a task: at a gate, or an instruction.
+//! A step of a task: what it does at a gate, or one instruction.
 
 ghost use Rattle.std.specs.Prelude.{◌≡◌, ◌+◌, ◌^◌, ◌<◌, ◌≤◌, [], true, None, OnOk, OnErr, slice_index};
 ghost use Rattle.wind_core.specs.State.{Lives, IsKern, task_of};
@@ -32,7 +32,7 @@ use task_calls::end_task;
 use wind_base::{Gate, NoMemory};
 use wind_outside::Device;
 
-// Tells an exception of a task.
+// Writes the line that reports an exception of a task.
 fn tell(world: &mut World, who: Ident, trap: Trap)
     requires { 160 ≤ world.old.out.room }
     ensures told { world_seen ⟦<dyn Device as Device>⟧ world.new
@@ -50,7 +50,8 @@ fn tell(world: &mut World, who: Ident, trap: Trap)
     }
 }
 
-// A task causes an exception: it is suspended, with its registers as they are; in a call of the shell, the shell aborts.
+// A task causes an exception: it is suspended, and keeps its registers. If it was in a call of the
+// shell, the shell aborts the line.
 #[cold]
 #[inline(never)]
 fn fault(shell: &mut Shell, world: &mut World, who: Ident, trap: Trap)
@@ -70,7 +71,7 @@ fn fault(shell: &mut Shell, world: &mut World, who: Ident, trap: Trap)
     }
 }
 
-// Whether the gate is the one by which the task ends, or by which a call of the shell returns.
+// Whether the gate is the one at which this task ends, or at which a call of the shell returns.
 fn is_return(gate: Gate, who: Ident) -> bool
     ensures { result ≡ is_return_lem gate who }
 {
@@ -92,7 +93,7 @@ fn answer_of(world: &World, who: Ident) -> u32
     }
 }
 
-// A call of the shell returns with r3, and any other task ends.
+// A call of the shell returns with r3 as its value; any other task ends.
 fn return_from(shell: &mut Shell, world: &mut World, who: Ident)
     requires live { Lives world.old.kern who }
     requires phase { who ≡ 1 → shell.old.phase ≡ phases.Call }
@@ -109,7 +110,7 @@ fn return_from(shell: &mut Shell, world: &mut World, who: Ident)
     }
 }
 
-// A kernel call. For want of memory nothing changes.
+// Makes a kernel call. If memory runs out, nothing changes.
 fn call(alloc: Global, world: &mut World, who: Ident, gate: Gate) -> Result<(), NoMemory>
     requires call { is_call_lem gate ≡ true }
     requires unasked { file_wanted gate (world_seen ⟦<dyn Device as Device>⟧ world.old) (actors.Task who) ≡ None }
@@ -126,7 +127,7 @@ fn call(alloc: Global, world: &mut World, who: Ident, gate: Gate) -> Result<(), 
     ensures space { HoldsSpace world.old.out world.new.out }
 {
     match kernel_call(alloc, world, gate, &Actor::Task(who)) {
-        // the step of a call that asks for a file is another
+        // a call that needs a file is made by another step
         Called::NeedsFile(_) => unreachable!(),
         Called::NoMemory => Err(NoMemory),
         Called::Done | Called::Pended | Called::Ended => {
@@ -136,7 +137,8 @@ fn call(alloc: Global, world: &mut World, who: Ident, gate: Gate) -> Result<(), 
     }
 }
 
-/// What a task does at a gate. Host memory may run out only where the gate's call may lack it, and nothing changes then.
+/// What a task does at a gate. Host memory may run out only if the gate's call may run out of it;
+/// nothing changes then.
 pub fn at_gate(
     alloc: Global,
     shell: &mut Shell,
@@ -170,7 +172,7 @@ pub fn at_gate(
     Ok(())
 }
 
-// One instruction of a task. A trap changes nothing.
+// Executes one instruction of a task. A trap changes nothing.
 fn run_word(world: &mut World, who: Ident, word: u32) -> Result<(), Trap>
     requires live { Lives world.old.kern who }
     requires kern { IsKern world.old.kern }
@@ -193,8 +195,9 @@ pub fn counter(world: &World, who: Ident) -> u32
     }
 }
 
-/// A task executes the instruction at this address. If its word can't be fetched, that is an access to nothing. Returns
-/// true exactly if the instruction causes no exception; only registers of the task and the bus change then.
+/// Executes the instruction of a task at this address. If its word can't be fetched, that is an
+/// access to nothing. Returns true exactly if the instruction causes no exception; it then changes
+/// only registers of the task and the bus.
 #[tactic(auto, using(crate::proofs::Executed::done_so, crate::proofs::Executed::not_done_so))]
 #[inline(always)]
 pub fn execute(shell: &mut Shell, world: &mut World, who: Ident, at: u32) -> bool

@@ -1,4 +1,4 @@
-//! Reservations go.
+//! When reservations are dropped.
 
 ghost use Rattle.std.specs.Prelude.{◌≡◌, IfSome};
 ghost use Rattle.wind_core.specs.State.{Lives};
@@ -10,7 +10,7 @@ ghost use Rattle.wind_machine.specs.Reserving.{drop_others as drop_others_lem, d
 use id_table::Ident;
 use wind_core::Kern;
 
-// The task, where it lives.
+// The task, if it lives.
 fn if_live(kern: &Kern, who: Option<Ident>) -> Option<Ident>
     ensures task { result ≡ if_live_lem kern.now.tasks who }
     ensures live { IfSome result (λ id. Lives kern.now id) }
@@ -21,7 +21,7 @@ fn if_live(kern: &Kern, who: Option<Ident>) -> Option<Ident>
     }
 }
 
-// The task that ran last, where it is another one.
+// The task that ran last, if it is another one.
 fn other_last(kern: &Kern, who: Ident) -> Option<Ident>
     ensures { result ≡ if_other who kern.now.last }
 {
@@ -31,7 +31,8 @@ fn other_last(kern: &Kern, who: Ident) -> Option<Ident>
     }
 }
 
-/// The task whose reservation goes at a step of this one. Only the task that ran last can have one.
+/// The task whose reservation is dropped at a step of `who`. Only the task that ran last can have
+/// one.
 pub(crate) fn other_holder(kern: &Kern, who: Ident) -> Option<Ident>
     ensures holder { result ≡ other_holder_lem kern.now who }
     ensures live { IfSome result (λ last. Lives kern.now last) }
@@ -39,7 +40,7 @@ pub(crate) fn other_holder(kern: &Kern, who: Ident) -> Option<Ident>
     if_live(kern, other_last(kern, who))
 }
 
-// This task, if one, keeps no reservation.
+// Drops the reservation of this task, if one is given.
 #[inline]
 fn drop_of(kern: &mut Kern, holder: Option<Ident>)
     requires { IfSome holder (λ last. Lives kern.old last) }
@@ -50,7 +51,7 @@ fn drop_of(kern: &mut Kern, holder: Option<Ident>)
     }
 }
 
-/// No task but this one keeps a reservation.
+/// Drops the reservations of all tasks except this one.
 #[tactic(auto, using(crate::proofs::Dropped::dropped_others))]
 #[inline]
 pub(crate) fn drop_others(kern: &mut Kern, who: Ident)
@@ -61,7 +62,7 @@ pub(crate) fn drop_others(kern: &mut Kern, who: Ident)
     drop_of(kern, holder);
 }
 
-/// No task keeps a reservation.
+/// Drops the reservations of all tasks.
 #[tactic(auto, using(crate::proofs::Dropped::dropped_all))]
 pub fn drop_all(kern: &mut Kern)
     requires { ReservedBy kern.old.last kern.old }
@@ -71,7 +72,7 @@ pub fn drop_all(kern: &mut Kern)
     drop_of(kern, holder);
 }
 
-/// The task keeps no reservation.
+/// Drops the reservation of this task.
 #[tactic(auto, using(crate::proofs::Dropped::not_own))]
 pub fn drop_own(kern: &mut Kern, who: Ident)
     ensures { kern.new ≡ unreserve kern.old who }

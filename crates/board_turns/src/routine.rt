@@ -1,4 +1,4 @@
-//! A step of the interrupt routine that is active: at a gate, or an instruction.
+//! A step of the active interrupt routine: what it does at a gate, or one instruction.
 
 ghost use Rattle.std.specs.Prelude.{◌≡◌, ◌≤◌, [], true, is_some};
 ghost use Rattle.wind_base.specs.OutBuf.{KeepsSpace};
@@ -24,10 +24,10 @@ use wind_base::Gate;
 use wind_base::limits::{GATES_START, INTERRUPT_STACK_BYTES, POOL_START, SHELL_STACK_BYTES};
 use wind_outside::Device;
 
-/// Where the interrupt stack ends, which is behind the stack of the shell's task.
+/// The end of the interrupt stack, which comes after the stack of the shell's task.
 pub const INTERRUPT_TOP: u32 = POOL_START + SHELL_STACK_BYTES + INTERRUPT_STACK_BYTES;
 
-// The routine is done: the next listed one is active, or none.
+// The routine is done: the next listed one becomes active, if there is one.
 fn next_routine(world: &mut World)
     ensures world { world_seen ⟦<dyn Device as Device>⟧ world.new
         ≡ next_routine_lem (world_seen ⟦<dyn Device as Device>⟧ world.old) }
@@ -46,7 +46,7 @@ fn counter(world: &World) -> u32
     }
 }
 
-// The routine causes an exception: it is told, and given up, and it alone.
+// The routine causes an exception: it is reported, and only this routine is given up.
 fn give_up(world: &mut World, trap: Trap)
     requires room { 160 ≤ world.old.out.room }
     ensures world { world_seen ⟦<dyn Device as Device>⟧ world.new
@@ -58,7 +58,7 @@ fn give_up(world: &mut World, trap: Trap)
     next_routine(world);
 }
 
-// The routine keeps no reservation.
+// Drops the routine's reservation.
 fn drop_reserve(watch: &mut Watch)
     ensures { watch.new ≡ level_by without_reserve watch.old }
 {
@@ -67,7 +67,7 @@ fn drop_reserve(watch: &mut Watch)
     }
 }
 
-// A kernel call, which lacks no memory.
+// Makes a kernel call, which can't run out of memory.
 fn call(alloc: Global, world: &mut World, gate: Gate)
     requires call { is_call_lem gate ≡ true }
     requires kept { IsWorld (world_with [] world.old) }
@@ -101,7 +101,7 @@ fn at_gate(alloc: Global, world: &mut World, gate: Gate)
     }
 }
 
-// One instruction of the routine. A trap changes nothing.
+// Executes one instruction of the routine. A trap changes nothing.
 fn run_word(world: &mut World, word: u32) -> Result<(), Trap>
     requires active { is_some world.old.watch.level ≡ true }
     ensures ran { RoutineRan (exec_of board_meaning (routine_regs (world_seen ⟦<dyn Device as Device>⟧ world.old)) word
@@ -115,8 +115,9 @@ fn run_word(world: &mut World, word: u32) -> Result<(), Trap>
     }
 }
 
-// The routine executes the instruction at this address. If its word can't be fetched, that is an access to nothing.
-// Returns true exactly if the instruction causes no exception; only registers of the routine and the bus change then.
+// Executes the routine's instruction at this address. If its word can't be fetched, that is an
+// access to nothing. Returns true exactly if the instruction causes no exception; it then changes
+// only registers of the routine and the bus.
 #[tactic(auto, using(crate::proofs::Executed::routine_done_so, crate::proofs::Executed::routine_not_done_so))]
 fn execute(world: &mut World, at: u32) -> bool
     requires active { is_some world.old.watch.level ≡ true }
@@ -144,8 +145,9 @@ fn execute(world: &mut World, at: u32) -> bool
     }
 }
 
-/// The interrupt routine that is active makes a step: a call, if it is at a gate, or else an instruction. Returns whether
-/// it was an instruction that caused no exception; the routine is active still, and the tasks are as they were.
+/// Makes a step of the active interrupt routine: a call, if it is at a gate, else an instruction.
+/// Returns whether the step was an instruction that caused no exception; if so, the routine is
+/// still active, and the tasks are as they were.
 #[tactic(auto, unfolding(wind_machine::specs::Routine::routine_part))]
 pub fn run_routine(alloc: Global, world: &mut World) -> bool
     requires active { is_some world.old.watch.level ≡ true }

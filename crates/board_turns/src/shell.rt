@@ -31,13 +31,13 @@ use wind_base::{NoMemory, OutBuf};
 use wind_machine::Phase;
 use wind_outside::Device;
 
-/// The shell.
+/// The shell: its phase, and the statements of its line.
 #[derive(Drop)]
 pub struct Shell {
     phase: Phase,
-    /// The statement under evaluation, if one was begun.
+    /// The statement under evaluation, if one has begun.
     current: Option<Eval>,
-    /// The statements behind it.
+    /// The statements after it.
     stmts: Vec<Stmt>,
 }
 
@@ -78,7 +78,7 @@ impl Shell {
         self.phase
     }
 
-    /// It has written its prompt.
+    /// Notes that the shell has written its prompt.
     pub fn prompt(&mut self, has_line: bool)
         ensures { self.new ≡ prompted has_line self.old }
     {
@@ -87,7 +87,7 @@ impl Shell {
         }
     }
 
-    /// The line under evaluation goes.
+    /// Drops the line under evaluation.
     pub(crate) fn abort(&mut self)
         ensures { self.new ≡ at_prompt }
     {
@@ -96,14 +96,14 @@ impl Shell {
         self.stmts.clear();
     }
 
-    /// A line is kept, which it reads next.
+    /// Notes that a line is finished, which the shell reads next.
     pub(crate) fn take_line(&mut self)
         ensures { self.new ≡ record self.old { phase = phases.Read } }
     {
         self.phase = Phase::Read;
     }
 
-    /// Reads a line. For want of memory nothing changes.
+    /// Reads a line. If memory runs out, nothing changes.
     pub fn read(&mut self, alloc: Global, line: &[u8], out: &mut OutBuf) -> Result<(), NoMemory>
         requires line { length line.now ≤ longest_line }
         requires room { 64 ≤ out.old.room }
@@ -127,7 +127,7 @@ impl Shell {
         }
     }
 
-    // A line has these statements.
+    // Begins a line with these statements.
     fn begin(&mut self, stmts: Vec<Stmt>)
         ensures { self.new ≡ begun (map plain_stmt stmts.items) }
     {
@@ -140,7 +140,7 @@ impl Shell {
         self.stmts = stmts;
     }
 
-    /// A call has returned with this value.
+    /// Gives the call that the shell awaits its value.
     pub(crate) fn give_value(&mut self, value: u32)
         requires { self.old.phase ≡ phases.Call }
         ensures { self.new ≡ returned value self.old }
@@ -149,12 +149,12 @@ impl Shell {
         self.phase = Phase::Eval;
     }
 
-    /// Goes on with its first statement. For want of memory nothing changes.
+    /// Goes on with the first statement. If memory runs out, nothing changes.
     #[tactic(auto, using(crate::proofs::Blanks::blank))]
     pub fn evaluate(&mut self, alloc: Global, world: &mut World) -> Result<(), NoMemory>
         requires phase { self.old.phase ≡ phases.Eval }
-        requires pool { world.old.part.end ≤ length world.old.bus.ram }
-        requires ram { length world.old.bus.ram ≡ ram_bytes }
+        requires pool { world.old.part.end ≤ length world.old.bus.ram.bytes }
+        requires ram { length world.old.bus.ram.bytes ≡ ram_bytes }
         requires live { Lives world.old.kern 1 }
         ensures ok { OnOk result (part_of self.new (world_seen ⟦<dyn Device as Device>⟧ world.new)
             ≡ eval_part self.old.trees (world_seen ⟦<dyn Device as Device>⟧ world.old)) }
@@ -188,7 +188,7 @@ impl Shell {
     }
 }
 
-// Whether these are the statements of a line without a token.
+// Whether these are the statements of a line without tokens.
 fn is_nothing(stmts: &[Stmt]) -> bool
     ensures { result ≡ is_nothing_lem (map plain_stmt stmts.now) }
 {
@@ -208,7 +208,7 @@ fn phase_of(stmts: &[Stmt]) -> Phase
     }
 }
 
-// Gives the call that is awaited its value.
+// Gives the awaited call its value.
 fn fill(current: &mut Option<Eval>, value: u32)
     requires { holes_of current.old ≡ 1 }
     ensures filled { (behind : List PlainStmt) → trees_of current.new behind
@@ -231,7 +231,7 @@ fn drop_first(stmts: &mut Vec<Stmt>)
     }
 }
 
-// The evaluation of a statement, where it has a token.
+// The evaluation of a statement, if it has a token.
 #[tactic(auto, using(crate::proofs::Blanks::with_token))]
 fn start(alloc: Global, stmt: &Stmt) -> Result<Option<Eval>, NoMemory>
     ensures tree { IfOk result (λ e. e ≡ begun_tree (plain_stmt stmt.now)) }
@@ -245,7 +245,8 @@ fn start(alloc: Global, stmt: &Stmt) -> Result<Option<Eval>, NoMemory>
     }
 }
 
-// Begins the first statement, where none is begun and it has a token. For want of memory nothing changes.
+// Begins the first statement, if none has begun and it has a token. If memory runs out, nothing
+// changes.
 fn begin_first(
     alloc: Global,
     current: &mut Option<Eval>,
@@ -271,9 +272,9 @@ fn begin_first(
     Ok(())
 }
 
-// Goes on with a statement, as far as it comes. For want of memory nothing changes.
+// Goes on with a statement, as far as it can. If memory runs out, nothing changes.
 fn go(eval: &mut Eval, world: &mut World) -> Result<Went, NoMemory>
-    requires pool { world.old.part.end ≤ length world.old.bus.ram }
+    requires pool { world.old.part.end ≤ length world.old.bus.ram.bytes }
     requires waits { holes eval.old ≡ 0 }
     ensures went { IfOk result (λ went. came went (eval_state (world_seen ⟦<dyn Device as Device>⟧ world.new)) eval.new
         ≡ evaluate (eval_state (world_seen ⟦<dyn Device as Device>⟧ world.old)) eval.old) }
@@ -284,7 +285,7 @@ fn go(eval: &mut Eval, world: &mut World) -> Result<Went, NoMemory>
         ≡ world_seen ⟦<dyn Device as Device>⟧ world.old) }
     ensures same { OnErr result (eval.new ≡ eval.old) }
     ensures kern { world.new.kern ≡ world.old.kern }
-    ensures ram { length world.new.bus.ram ≡ length world.old.bus.ram }
+    ensures ram { length world.new.bus.ram.bytes ≡ length world.old.bus.ram.bytes }
     ensures room { OnOk result (kept_free ≤ world.new.out.room) }
     ensures space { HoldsSpace world.old.out world.new.out }
 {

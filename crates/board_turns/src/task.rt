@@ -18,10 +18,11 @@ use wind_base::words::WAIT_FOREVER;
 use wind_core::Kern;
 use wind_outside::Device;
 
-// r1 at the start of a call: a frame below the end of its stack, which begins where the pool does.
+// r1 at the start of a call: one frame below the end of the stack of the shell's task, which begins
+// where the pool does.
 const STACK_POINTER: u32 = POOL_START + SHELL_STACK_BYTES - FRAME_BYTES;
 
-/// Its id.
+/// The id of the shell's task.
 pub fn shell_id() -> Ident
     ensures { result ≡ 1 }
 {
@@ -31,7 +32,7 @@ pub fn shell_id() -> Ident
     }
 }
 
-// Where it waits for the console.
+// The place at which the shell's task waits for the console.
 fn console() -> Place
     ensures { result ≡ console_place }
 {
@@ -51,7 +52,7 @@ fn is_at_console(task: &Task) -> bool
     }
 }
 
-/// Whether it waits for the console.
+/// Whether the shell's task waits for the console.
 #[inline(never)]
 pub fn waits_for_console(kern: &Kern) -> bool
     ensures { result ≡ waits_for_console_lem kern.now }
@@ -62,7 +63,7 @@ pub fn waits_for_console(kern: &Kern) -> bool
     }
 }
 
-// Whether it waits for something, or is delayed.
+// Whether the shell's task waits for something or is delayed.
 fn is_held(kern: &Kern) -> bool
     ensures { result ≡ is_held_lem (shell_task kern.now) }
 {
@@ -72,7 +73,7 @@ fn is_held(kern: &Kern) -> bool
     }
 }
 
-/// It begins to wait for the console.
+/// The shell's task begins to wait for the console.
 pub fn listen(kern: &mut Kern)
     requires live { Lives kern.old 1 }
     requires since { kern.old.next_since + 1 < 2 ^ 64 }
@@ -82,7 +83,7 @@ pub fn listen(kern: &mut Kern)
     kern.pend(shell_id(), console(), false, WAIT_FOREVER);
 }
 
-// Its wait or delay ends, where it has one.
+// Ends the wait or delay of the shell's task, if it has one.
 fn let_go(kern: &mut Kern)
     requires live { Lives kern.old 1 }
     requires since { kern.old.next_since + 1 < 2 ^ 64 }
@@ -93,7 +94,7 @@ fn let_go(kern: &mut Kern)
     }
 }
 
-/// It is aborted: no wait, no delay, and none of its marks is left.
+/// Aborts the shell's task: it has no wait, no delay, and none of its marks afterwards.
 #[tactic(auto, using(wind_machine::proofs::TaskLemmas::let_go_lives, wind_machine::proofs::TaskLemmas::let_go_since))]
 pub(crate) fn abort(kern: &mut Kern)
     requires live { Lives kern.old 1 }
@@ -111,7 +112,7 @@ fn return_address() -> u32
     Gate::ShellReturn.address(GATES_START)
 }
 
-/// It begins a call: its registers are those of a call, and the frame is in RAM.
+/// Begins a call of the shell's task: sets its registers, and puts the frame into RAM.
 pub(crate) fn begin_call(world: &mut World, callee: u32, words: &[u32; 10])
     requires live { Lives world.old.kern 1 }
     ensures called { world_seen ⟦<dyn Device as Device>⟧ world.new

@@ -10,7 +10,7 @@ use shell_eval::EvalFault;
 use wind_base::text::{add, add_decimal, add_hex};
 use wind_base::{Name, OutBuf, ShortName};
 
-/// Adds the line that tells the column of a syntax error.
+/// Adds the line that reports the column of a syntax error.
 pub(crate) fn add_syntax(out: &mut OutBuf, column: u32)
     requires { 64 ≤ out.old.room }
     ensures { Added 64 out.old out.new (syntax_text column) }
@@ -20,7 +20,7 @@ pub(crate) fn add_syntax(out: &mut OutBuf, column: u32)
     add(out, b"\n");
 }
 
-// Adds the lowest hexadecimal digits of a word, so many of them.
+// Adds the lowest `places` hexadecimal digits of a word.
 fn add_last_digits(out: &mut OutBuf, v: u32, places: u32)
     requires { 8 * places ≤ out.old.room }
     ensures { Added (8 * places) out.old out.new (last_digits places v) }
@@ -40,7 +40,7 @@ fn add_eight_digits(out: &mut OutBuf, v: u32)
     add_last_digits(out, v, 8);
 }
 
-// Adds the line that tells a name that means no symbol.
+// Adds the line that reports a name that means no symbol.
 fn add_undefined(out: &mut OutBuf, name: &Name)
     requires { 300 ≤ out.old.room }
     ensures { Added 300 out.old out.new (fault_text (faults.Undefined name.now)) }
@@ -50,7 +50,7 @@ fn add_undefined(out: &mut OutBuf, name: &Name)
     add(out, b"\n");
 }
 
-// Adds the line that tells an address that cannot be reached.
+// Adds the line that reports an address that cannot be reached.
 fn add_access(out: &mut OutBuf, at: u32)
     requires { 300 ≤ out.old.room }
     ensures { Added 300 out.old out.new (fault_text (faults.AccessAt at)) }
@@ -60,7 +60,7 @@ fn add_access(out: &mut OutBuf, at: u32)
     add(out, b"\n");
 }
 
-/// Adds the line that tells a fault of evaluation.
+/// Adds the line that reports a fault of evaluation.
 #[tactic(auto, unfolding(wind_machine::specs::Text::fault_text))]
 pub(crate) fn add_fault(out: &mut OutBuf, fault: &EvalFault)
     requires { 300 ≤ out.old.room }
@@ -89,7 +89,7 @@ fn kind_text(trap: Trap) -> &'static [u8]
     }
 }
 
-// Adds an end of line, and what kind of exception a context of this name has caused.
+// Adds a newline, and what kind of exception a context with this name has caused.
 fn add_cause(out: &mut OutBuf, trap: Trap, name: &[u8])
     requires room { 60 ≤ out.old.room }
     requires short { length name.now ≤ 31 }
@@ -101,7 +101,7 @@ fn add_cause(out: &mut OutBuf, trap: Trap, name: &[u8])
     add(out, name);
 }
 
-// Adds the id of a task, and an address, to the end of the line.
+// Adds the id of a task and an address, and ends the line.
 fn add_place(out: &mut OutBuf, id: u32, at: u32)
     requires { 96 ≤ out.old.room }
     ensures { Added 96 out.old out.new (place_text id at) }
@@ -113,7 +113,7 @@ fn add_place(out: &mut OutBuf, id: u32, at: u32)
     add(out, b"\n");
 }
 
-/// Adds the line that tells an exception of the task of this name and id, behind an end of line.
+/// Adds a newline, and the line that reports an exception of the task with this name and id.
 pub(crate) fn add_exception(out: &mut OutBuf, trap: Trap, name: &ShortName, id: u32, at: u32)
     requires { 160 ≤ out.old.room }
     ensures { Added 160 out.old out.new (exception_text trap name.now id at) }
@@ -122,7 +122,7 @@ pub(crate) fn add_exception(out: &mut OutBuf, trap: Trap, name: &ShortName, id: 
     add_place(out, id, at);
 }
 
-// Adds an address, to the end of the line.
+// Adds an address, and ends the line.
 fn add_level(out: &mut OutBuf, at: u32)
     requires { 80 ≤ out.old.room }
     ensures { Added 80 out.old out.new (level_text at) }
@@ -132,7 +132,7 @@ fn add_level(out: &mut OutBuf, at: u32)
     add(out, b"\n");
 }
 
-/// Adds the line that tells an exception of an interrupt routine, behind an end of line.
+/// Adds a newline, and the line that reports an exception of an interrupt routine.
 pub(crate) fn add_routine_exception(out: &mut OutBuf, trap: Trap, at: u32)
     requires { 160 ≤ out.old.room }
     ensures { Added 160 out.old out.new (routine_text trap at) }

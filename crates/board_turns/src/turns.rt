@@ -1,4 +1,4 @@
-//! How the step of a task begins, and how it is given back where it lacks memory.
+//! How the step of a task begins, and how it is undone if it runs out of memory.
 
 ghost use Rattle.std.specs.Prelude.{◌≡◌, ◌+◌, [], Some, length};
 ghost use Rattle.kernel_world.specs.Kept.{ReservedBy, IsWorld, IsEarly};
@@ -15,7 +15,7 @@ use wind_base::{OutBuf, Regs};
 use wind_core::Kern;
 use wind_outside::Device;
 
-/// The turn of a task begins: nothing is written yet, and no other task has a reservation.
+/// Begins the step of a task: clears the output, and drops the reservations of all other tasks.
 #[tactic(auto, using(crate::proofs::Readied::readies))]
 #[inline]
 pub fn turn(world: &mut World, who: Ident)
@@ -32,7 +32,8 @@ pub fn turn(world: &mut World, who: Ident)
     world.out.clear();
 }
 
-/// The turn of an interrupt routine begins: nothing is written yet, and no task has a reservation.
+/// Begins the step of an interrupt routine: clears the output, and drops the reservations of all
+/// tasks.
 #[tactic(auto, using(crate::proofs::Readied::all_ready))]
 pub fn routine_turn(world: &mut World)
     requires reserved { ReservedBy world.old.kern.last world.old.kern }
@@ -49,7 +50,7 @@ pub fn routine_turn(world: &mut World)
     world.out.clear();
 }
 
-// The task whose reservation goes at this turn, with its registers.
+// The task whose reservation this step drops, with its registers.
 fn kept_of(kern: &Kern, who: Ident) -> Option<(Ident, Regs)>
     ensures { result ≡ kept_of_lem kern.now who }
 {
@@ -60,8 +61,8 @@ fn kept_of(kern: &Kern, who: Ident) -> Option<(Ident, Regs)>
     }
 }
 
-/// The same for a turn that may lack memory, with what gives back the world as it was: what was written before is in
-/// `spare` meanwhile.
+/// Begins a step that may run out of memory, and returns what undoes this beginning. Meanwhile
+/// `spare` holds what was written before.
 #[tactic(auto, using(crate::proofs::Readied::readies, crate::proofs::Readied::world_back))]
 pub fn revocable_turn(world: &mut World, spare: &mut OutBuf, who: Ident) -> Option<(Ident, Regs)>
     requires reserved { ReservedBy world.old.kern.last world.old.kern }
@@ -83,7 +84,7 @@ pub fn revocable_turn(world: &mut World, spare: &mut OutBuf, who: Ident) -> Opti
     kept
 }
 
-// A task has its registers again.
+// Gives a task its registers back.
 #[tactic(auto, using(crate::proofs::Readied::not_written))]
 fn put_back(kern: &mut Kern, who: Ident, regs: Regs)
     ensures { kern.new ≡ put_back_lem kern.old (Some (who, regs)) }
@@ -93,7 +94,7 @@ fn put_back(kern: &mut Kern, who: Ident, regs: Regs)
     }
 }
 
-// So has the task that was kept, if one was.
+// Gives this task, if there is one, the registers that it had.
 fn put_kept(kern: &mut Kern, kept: Option<(Ident, Regs)>)
     ensures { kern.new ≡ put_back_lem kern.old kept }
 {
@@ -102,7 +103,7 @@ fn put_kept(kern: &mut Kern, kept: Option<(Ident, Regs)>)
     }
 }
 
-/// The turn lacked memory: all is given back that its beginning took.
+/// The step ran out of memory: undoes all that its beginning did.
 pub fn give_back(world: &mut World, spare: &mut OutBuf, kept: Option<(Ident, Regs)>)
     ensures world { world_seen ⟦<dyn Device as Device>⟧ world.new
         ≡ restored (world_seen ⟦<dyn Device as Device>⟧ world.old) spare.old.bytes kept }

@@ -1,5 +1,5 @@
--- A world keeps its facts, and its counters stay low, however often it is called.
-use Rattle.std.proofs.Common.{◌≡◌, ℕ, ◌+◌, ◌*◌, ◌<◌, ◌≤◌, true, false, cond, List, [], ◌∷◌, Option, length, refl, sym, ap, subst, ◌∙◌, arith}
+-- A world keeps its invariant, and its counters stay low, however often it is called.
+use Rattle.std.proofs.Common.{◌≡◌, ℕ, ◌+◌, ◌*◌, ◌<◌, ◌≤◌, true, false, cond, List, [], ◌∷◌, map, Option, length, refl, sym, ap, subst, ◌∙◌, arith}
 use Rattle.std.specs.List.{All}
 use Rattle.std.proofs.lemmas.List.Elements.{All-cons}
 use Rattle.wind_base.specs.declared.gate.Gate.{Gate}
@@ -8,33 +8,35 @@ use Rattle.wind_outside.specs.Devices.{DeviceState}
 use Rattle.task_block.specs.declared.task.Task.{Task}
 use Rattle.board_mem.specs.Memory.{has, with_bytes}
 use Rattle.board_mem.proofs.Sizes.{length-with_range}
-use Rattle.wind_core.specs.State.{KernState}
+use Rattle.wind_core.specs.State.{KernState, task_id}
 use Rattle.wind_core.specs.Moves.{set_regs}
 use Rattle.wind_core.specs.Move.{SetRegs}
 use Rattle.wind_core.proofs.Moving.{move_keeps}
 use Rattle.wind_core.proofs.Stable.{All-change}
 use Rattle.wind_core.proofs.Unwritten.{map-change}
 use Rattle.isr_watch.specs.declared.watchdog.Watchdog.{Watchdog}
-use Rattle.isr_watch.specs.State.{WatchState, IsWatch}
+use Rattle.isr_watch.specs.State.{WatchState, IsWatch, watchdog_id}
 use Rattle.isr_watch.specs.Laws.{AllBelow}
 use Rattle.kernel_world.specs.State.{WorldState}
-use Rattle.kernel_world.specs.Kept.{KeepsWatch, IsWorld, HasCounts, Within, AreStacks, task_stacks}
+use Rattle.kernel_world.specs.Kept.{stack_of, routine_stack, KeepsWatch, IsWorld, HasCounts, Within, AreStacks, task_stacks}
 use Rattle.kernel_world.specs.Objects.{IsFree}
 use Rattle.kernel_world.specs.Actors.{MayCall}
 use Rattle.kernel_calls.specs.Calls.{call, is_made}
 use Rattle.task_calls.specs.Ending.{ended}
-use Rattle.kernel_world.specs.Opening.{opening_world, interrupt_stack}
+use Rattle.kernel_world.specs.Opening.{opening_world}
 use Rattle.kernel_world.specs.declared.actor.Actor.{Actor}
 use Rattle.kernel_calls.specs.declared.calls.Called.{Called}
 use Rattle.kernel_calls.specs.declared.calls.Called.TheVariants.{Done, Pended, Ended, NeedsFile, NoMemory}
 use Rattle.kernel_world.proofs.Holding.{loaded_on}
+use Rattle.kernel_world.proofs.LiveIds.{Fewer, Nothing, fewer_same}
+use Rattle.kernel_world.proofs.WorldIds.{ids_kern, ids_watch}
 use Rattle.kernel_world.proofs.Advancing.{within_more}
 use Rattle.kernel_calls.proofs.Passing.{call_passes}
 use Rattle.kernel_calls.proofs.Departing.{ends}
 use Rattle.kernel_world.proofs.ObjectMoves.{objects-move}
 use Rattle.kernel_world.proofs.Opened.{opens}
 
--- the kept facts hold, and the counters are as low as n calls from the start leave them
+-- the invariant holds, and the counters are as low as n calls from the start leave them
 abbrev pub Used : WorldState → ℕ → Type 0
 Used w n = IsWorld w × Within n w × (w.kern.next_since ≤ 1 + 1024 * n) × (w.kern.tick ≡ 0) × (w.names ≤ 1 + n) × (w.watch.next_start ≤ 1 + n)
 
@@ -70,18 +72,19 @@ used_called NoMemory g w v a n may made same u = subst (λ x. Used x (n + 1)) (s
 pub used_regs : (w : WorldState) (k : KernState) (who n : ℕ) (regs : Regs) → IsFree w.kern who → k ≡ set_regs w.kern who regs → Used w n → Used (record w { kern = k }) n
 used_regs w k who n regs free e (kept, within, sinces, count, names, starts) =
     let f : Task → Task = λ t. record t { regs = regs } in
-    let stacks : task_stacks (set_regs w.kern who regs) ≡ task_stacks w.kern = map-change (λ t. t.stack) w.kern.tasks who f (λ t. refl) in
+    let stacks : task_stacks (set_regs w.kern who regs) ≡ task_stacks w.kern = map-change stack_of w.kern.tasks who f (λ t. refl) in
     subst (λ j. Used (record w { kern = j }) n) (sym e) (
       record {
         kern = move_keeps w.kern (SetRegs who regs) kept.kern tt;
         home = kept.home;
         objects = objects-move w.kern w.objects kept.kern kept.objects (SetRegs who regs) (tt, free, tt, tt);
         pool = kept.pool;
-        stacks = subst (λ s. AreStacks w.part (interrupt_stack ∷ s)) (sym stacks) kept.stacks;
+        stacks = subst (λ s. AreStacks w.part (routine_stack ∷ s)) (sym stacks) kept.stacks;
         modules = loaded_on w.kern w.part w.modules kept.modules (set_regs w.kern who regs) (omega arith) stacks;
         ram = kept.ram;
         symbols = kept.symbols;
         watch = kept.watch;
+        ids = ids_kern w kept.ids (set_regs w.kern who regs) (map-change task_id w.kern.tasks who f (λ t. refl)) (omega arith);
       },
       (All-change (HasCounts n) w.kern.tasks who f (λ t h. h) within.0, within.1),
       sinces,
@@ -97,7 +100,7 @@ used_end w v who n e (kept, within, sinces, count, names, starts) =
     subst (λ x. Used x (n + 1)) (sym e)
     (b.kept, within_more (ended w who) n (n + 1) (omega arith) b.within, omega (arith, b.sinces, sinces), b.count ∙ count, omega (arith, b.names, names), omega (arith, b.starts, starts))
 
--- bytes that are put where there is room for them keep the length
+-- bytes written where there is room for them keep the length
 sized : (ram : List ℕ) (at n : ℕ) (bytes : List ℕ) → length bytes ≡ n → length (cond (has ram at n) (with_bytes ram at bytes) ram) ≡ length ram
 sized ram at n bytes size =
     elim (has ram at n) as (λ b. has ram at n ≡ b → length (cond b (with_bytes ram at bytes) ram) ≡ length ram) [
@@ -107,24 +110,26 @@ sized ram at n bytes size =
 
 used_ram : (w : WorldState) (ram : List ℕ) (n : ℕ) → length ram ≡ length w.ram → Used w n → Used (record w { ram = ram }) n
 used_ram w ram n e (kept, within, sinces, count, names, starts) =
-    (record { kern = kept.kern; home = kept.home; objects = kept.objects; pool = kept.pool; stacks = kept.stacks; modules = kept.modules; ram = e ∙ kept.ram; symbols = kept.symbols; watch = kept.watch }, within, sinces, count, names, starts)
+    (record { kern = kept.kern; home = kept.home; objects = kept.objects; pool = kept.pool; stacks = kept.stacks; modules = kept.modules; ram = e ∙ kept.ram; symbols = kept.symbols; watch = kept.watch; ids = kept.ids }, within, sinces, count, names, starts)
 
--- other watchdogs, with ids that were given
-pub used_watch : (w : WorldState) (s : WatchState) (n : ℕ) → KeepsWatch w.kern.next_id s → s.next_start ≤ 1 + n → Used w n → Used (record w { watch = s }) n
-used_watch w s n watch starts (kept, within, sinces, count, names, _) =
-    (record { kern = kept.kern; home = kept.home; objects = kept.objects; pool = kept.pool; stacks = kept.stacks; modules = kept.modules; ram = kept.ram; symbols = kept.symbols; watch = watch }, within, sinces, count, names, starts)
+-- other watchdogs, with ids that were handed out
+pub used_watch : (w : WorldState) (s : WatchState) (n : ℕ) → KeepsWatch w.kern.next_id s → s.next_start ≤ 1 + n → Fewer (map watchdog_id s.watchdogs) (map watchdog_id w.watch.watchdogs) → Used w n → Used (record w { watch = s }) n
+used_watch w s n watch starts fewer (kept, within, sinces, count, names, _) =
+    (record { kern = kept.kern; home = kept.home; objects = kept.objects; pool = kept.pool; stacks = kept.stacks; modules = kept.modules; ram = kept.ram; symbols = kept.symbols; watch = watch; ids = ids_watch w kept.ids w.kern s refl (Nothing (omega arith) fewer) }, within, sinces, count, names, starts)
 
--- none of them lives, and one is active
+-- no watchdog lives, and one's routine is active
 pub used_alarm : (slots : List (Option DeviceState)) (w : WorldState) (s : WatchState) → w ≡ opening_world slots → IsWatch s → s.watchdogs ≡ [] → s.next_start ≤ 1 → Used (record w { watch = s }) 0
 used_alarm slots w s e is none starts =
     let ids : AllBelow w.kern.next_id s = subst (All (λ (v : Watchdog). v.id < w.kern.next_id)) (sym none) (λ i d within. absurd (omega (arith, within))) in
-    used_watch w s 0 (record { watch = is; ids = ids }) starts (used_start slots w e)
+    used_watch w s 0 (record { watch = is; ids = ids }) starts
+    (subst (λ vs. Fewer (map watchdog_id vs) (map watchdog_id w.watch.watchdogs)) (sym none) (λ n. omega arith)) (used_start slots w e)
 
 -- and it has other registers
 pub used_level : (w : WorldState) (s : WatchState) (n : ℕ) → IsWatch s → s.watchdogs ≡ w.watch.watchdogs → s.next_start ≡ w.watch.next_start → Used w n → Used (record w { watch = s }) n
 used_level w s n is same starts u =
     let ids : AllBelow w.kern.next_id s = subst (All (λ (v : Watchdog). v.id < w.kern.next_id)) (sym same) u.0.watch.ids in
-    used_watch w s n (record { watch = is; ids = ids }) (omega (arith, starts, u.5)) u
+    used_watch w s n (record { watch = is; ids = ids }) (omega (arith, starts, u.5))
+    (fewer_same (map watchdog_id w.watch.watchdogs) (map watchdog_id s.watchdogs) (ap (map watchdog_id) same)) u
 
 -- RAM has other bytes in a range
 pub used_bytes : (w : WorldState) (ram : List ℕ) (at n calls : ℕ) (bytes : List ℕ) → length bytes ≡ n → ram ≡ cond (has w.ram at n) (with_bytes w.ram at bytes) w.ram → Used w calls → Used (record w { ram = ram }) calls

@@ -1,4 +1,4 @@
-//! A world from its start on, in which callers stand at gates and make their calls.
+//! A world from its start on, in which callers are put at gates and make their calls.
 
 ghost use Rattle.std.specs.Prelude.{◌≡◌, ◌≤◌, true, false, [], None, IfSome};
 ghost use Rattle.isr_watch.specs.State.{IsWatch};
@@ -18,15 +18,15 @@ use wind_base::{Gate, Regs};
 use wind_core::Kern;
 use wind_outside::Slots;
 
-// The callers: the shell's task, by the number of its id, and the interrupt routine.
+// The callers: the shell's task, by its id, and the interrupt routine.
 pub(crate) const SHELL: u32 = 1;
 
 pub(crate) const ROUTINE: u32 = 0;
 
-// Where the callers have their frames, unless it is said otherwise.
+// Where the callers have their frames, unless a frame is given.
 pub(crate) const FRAME: u32 = 0x8000;
 
-// Where the calls return to.
+// The return address of the calls.
 pub(crate) const BACK: u32 = 0x2001;
 
 // A world from its start on, and how many calls were made in it.
@@ -67,7 +67,8 @@ fn may_call(kern: &Kern, who: &Actor) -> bool
     }
 }
 
-// The routine of a watchdog that has run out becomes active, and the watchdog is deleted. False where that can't be done.
+// Makes the routine of an expired watchdog active, and deletes the watchdog. Returns false if that
+// can't be done.
 fn run_out(kern: &mut Kern, watch: &mut Watch) -> bool
     requires ids { kern.old.lent ≡ false }
     requires fresh { watch.old ≡ record { watchdogs = []; level = None; listed = []; next_start = 0 } }
@@ -85,7 +86,7 @@ fn run_out(kern: &mut Kern, watch: &mut Watch) -> bool
     watch.delete(id.get()).is_ok()
 }
 
-// The same, with the ids of a kernel of its own.
+// The same, with a kernel that only hands out ids.
 fn activate(alloc: Global, watch: &mut Watch) -> bool
     requires fresh { watch.old ≡ record { watchdogs = []; level = None; listed = []; next_start = 0 } }
     ensures none { result ≡ true → watch.new.watchdogs ≡ [] }
@@ -97,7 +98,7 @@ fn activate(alloc: Global, watch: &mut Watch) -> bool
     }
 }
 
-// No watchdog lives, and the routine of one that has run out is active.
+// Without live watchdogs, with the routine of an expired one active.
 fn with_routine(alloc: Global) -> Option<Watch>
     ensures watch { IfSome result (λ w. IsWatch w) }
     ensures none { IfSome result (λ w. w.watchdogs ≡ []) }
@@ -111,7 +112,7 @@ fn with_routine(alloc: Global) -> Option<Watch>
     if active { Some(watch) } else { None }
 }
 
-// The active routine has other registers.
+// Sets the registers of the active routine.
 fn set_level(watch: &mut Watch, regs: Regs)
     ensures watch { IsWatch watch.new }
     ensures same { watch.new.watchdogs ≡ watch.old.watchdogs }
@@ -124,7 +125,8 @@ fn set_level(watch: &mut Watch, regs: Regs)
 }
 
 impl Bench {
-    // The world at the start, without devices. None where it can't be made, as for want of memory.
+    // The world at the start, without devices. `None` if it can't be made, for example because
+    // memory runs out.
     pub(crate) fn new(alloc: Global) -> Option<Bench> {
         let slots: Slots = Vec::new(alloc);
         let watch = with_routine(alloc)?;
@@ -135,29 +137,29 @@ impl Bench {
         Some(Bench { world, calls: 0 })
     }
 
-    // These bytes stand in RAM from an address on. False where they don't fit.
+    // Puts these bytes into RAM from an address on. Returns false if they don't fit.
     pub(crate) fn write(&mut self, address: u32, bytes: &[u8]) -> bool {
         self.world.bus.ram.copy_in(address, bytes).is_ok()
     }
 
-    // So many bytes do.
+    // Puts `count` equal bytes into RAM. Returns false if they don't fit.
     pub(crate) fn fill(&mut self, address: u32, count: u32, byte: u8) -> bool {
         self.world.bus.ram.fill(address, count, byte).is_ok()
     }
 
-    // A task that is ready has other registers.
+    // Sets the registers of a task, if it is ready.
     fn set_task(&mut self, who: Ident, regs: Regs) {
         if may_call(&self.world.kern, &Actor::Task(who)) {
             self.world.kern.set_regs(who, regs);
         }
     }
 
-    // The interrupt routine has.
+    // Sets the registers of the interrupt routine.
     fn set_routine(&mut self, regs: Regs) {
         set_level(&mut self.world.watch, regs);
     }
 
-    // Makes the call. None where it can't be made.
+    // Makes the call. Returns `None` if it can't be made.
     fn make(&mut self, alloc: Global, gate: Gate, who: &Actor) -> Option<Called> {
         if self.calls >= 1 << 20 || self.world.out.room() < 4096 {
             return None;
@@ -170,7 +172,7 @@ impl Bench {
         Some(called)
     }
 
-    // A caller comes to a gate, with this r1 and these words, and makes its call.
+    // Puts a caller at a gate, with this r1 and these argument words, and makes its call.
     pub(crate) fn call(
         &mut self,
         alloc: Global,
@@ -192,7 +194,7 @@ impl Bench {
         }
     }
 
-    // False where it doesn't live.
+    // Ends the task. Returns false if it doesn't live.
     fn end_task(&mut self, who: Ident) -> bool {
         if self.calls >= 1 << 20 || self.world.kern.task(who).is_none() {
             return false;
@@ -202,7 +204,7 @@ impl Bench {
         true
     }
 
-    // A task ends. False where none of this number lives.
+    // Ends the task with this id. Returns false if there is none.
     pub(crate) fn end(&mut self, who: u32) -> bool {
         match Ident::new(who) {
             Some(id) => self.end_task(id),
@@ -218,7 +220,7 @@ impl Bench {
         self.world.kern.live()
     }
 
-    // The bytes of the block that begins at an address.
+    // The size in bytes of the block that begins at an address.
     pub(crate) fn block(&self, address: u32) -> Option<u32> {
         self.world.part.size_of(address)
     }

@@ -1,10 +1,10 @@
-//! What stands in a world.
+//! What a world shows.
 
 use crate::bench::Bench;
 use symbol_table::SymKind;
 use task_block::Task;
 
-// What may be seen of a world.
+// What can be seen of a world.
 #[derive(Clone, Copy)]
 pub(crate) enum Look {
     // the word of RAM at an address
@@ -13,29 +13,29 @@ pub(crate) enum Look {
     Frame(u32, [u32; 16]),
     // what was written
     Output(&'static [u8]),
-    // the block of the partition that begins at an address: its bytes
+    // the block of the partition that begins at an address, and its size in bytes
     Block(u32, u32),
     // how many tasks live
     Tasks(u32),
     // how many symbols there are
     Symbols(u32),
-    // the symbol at a place, a global one of group 0: its name, its value and its kind
+    // the symbol with this number, a global one of group 0: its name, its value and its kind
     Symbol(u32, &'static [u8], u32, SymKind),
-    // the task of an id
+    // the task with this id
     Task(u32, TaskLook),
 }
 
-// What may be seen of a task.
+// What can be seen of a task.
 #[derive(Clone, Copy)]
 pub(crate) enum TaskLook {
     Suspended(bool),
-    // the priority by which it is scheduled, and the one that it was given
+    // its current priority, and its normal one
     Priorities(u32, u32),
     // how often it has locked the scheduler
     Locks(u64),
     // whether it waits for something
     Waits(bool),
-    // the tick at which it is ready, or that it is now
+    // the tick at which it becomes ready, or none if it isn't delayed
     Wake(Option<u64>),
     // its name, the address of its stack, r1 and its priority
     Made(&'static [u8], u32, u32, u32),
@@ -97,7 +97,7 @@ fn sees_symbol(bench: &Bench, place: u32, name: &[u8], value: u32, kind: SymKind
     }
 }
 
-// Whether it stands so.
+// Whether the world shows this.
 pub(crate) fn sees(bench: &Bench, look: Look) -> bool {
     match look {
         Look::Word(address, word) => bench.word(address) == Some(word),

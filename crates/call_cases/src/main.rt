@@ -1,5 +1,5 @@
-//! Plays tables of calls over a world from its start on, and tells of each whether it goes as it was worked out by
-//! hand.
+//! Plays tables of calls over a world from its start on, and prints whether each goes as worked out
+//! by hand.
 #![tactic(auto)]
 
 mod bench;
@@ -19,7 +19,7 @@ fn main(rt: HostRuntime) -> io::Result<()> {
     Ok(())
 }
 
-// Plays the tables of a group, and tells what comes of each.
+// Plays the tables of a group, and prints the outcome of each.
 fn play_all<R: Print + AllocGlobal>(rt: &R, group: &[Table]) -> io::Result<()> {
     for table in group {
         let name = table.name;

@@ -1,4 +1,4 @@
-//! Steps over a world, in their order.
+//! Steps over a world, one after the other.
 
 use crate::bench::{BACK, Bench, FRAME, SHELL};
 use crate::looks::{Look, sees};
@@ -8,38 +8,38 @@ use wind_base::Gate;
 use wind_base::limits::GATES_START;
 use wind_base::words::OK;
 
-// A step; callers and tasks go by the numbers of their ids, and the interrupt routine by 0.
+// A step. Callers and tasks are given by their ids, and the interrupt routine by 0.
 #[derive(Clone, Copy)]
 pub(crate) enum Step {
-    // a caller makes the call of a gate with its first four words; then what stands in r3, and its error number
+    // a caller makes the call of a gate with its first four words; then r3 and the error number
     Call(u32, Gate, [u32; 4], u32, u32),
-    // the same by one that is answered later
+    // the same for a caller that is answered later
     Wait(u32, Gate, [u32; 4], u32, u32),
-    // the shell's task calls ld with these words, and asks for the file of this name
+    // the shell's task calls ld with these words, and needs the file with this name
     Asks([u32; 4], &'static [u8]),
-    // the shell's task, whose r1 this is, asks by taskSpawn for a task of this name, priority and stack, which begins
-    // at 0x4000 with the words 1, 2 and 3, and seven above r1; then r3 and its error number
+    // the shell's task, with this r1, calls taskSpawn with this name, priority and stack, the entry
+    // 0x4000 and the words 1, 2 and 3, and seven above r1; then r3 and the error number
     Spawn(u32, [u32; 3], u32, u32),
-    // the same by sp, with the words 1 to 7, and two above r1
+    // the same with sp, the words 1 to 7, and two above r1
     Quick(u32, u32, u32),
-    // the shell's task asks by taskSpawn for so many tasks, whose ids are those from this one on
+    // the shell's task spawns this many tasks, whose ids count from this one
     SpawnAll(u32, u32),
-    // the shell's task adds so many symbols of the name at an address
+    // the shell's task adds this many symbols with the name at an address
     AddAll(u32, u32),
     // a task ends
     End(u32),
-    // a task ends itself by taskDelete
+    // a task deletes itself by taskDelete
     Leave(u32),
-    // the first task begins to wait until the second may be deleted
+    // the first task begins to wait until it may delete the second
     Await(u32, u32),
-    // these bytes stand from an address on
+    // puts these bytes into RAM from an address on
     Write(u32, &'static [u8]),
-    // so many bytes do
+    // puts this many equal bytes into RAM from an address on
     Fill(u32, u32, u8),
     See(Look),
 }
 
-// How a call that was made went on.
+// How a call went on after it was made.
 #[derive(Clone, Copy, PartialEq, Eq)]
 enum Made {
     Done,
@@ -47,7 +47,7 @@ enum Made {
     Ended,
 }
 
-// None where it wasn't made.
+// How the call went on; `None` if it wasn't made.
 fn how_made(called: &Called) -> Option<Made> {
     match called {
         Called::Done => Some(Made::Done),
@@ -57,14 +57,14 @@ fn how_made(called: &Called) -> Option<Made> {
     }
 }
 
-// A caller comes to a gate with these words and makes its call. None where it isn't made.
+// Puts a caller at a gate with these words, and makes its call. Returns `None` if it isn't made.
 fn call_made(alloc: Global, bench: &mut Bench, call: (u32, Gate, u32, [u32; 10])) -> Option<Made> {
     let (who, gate, frame, words) = call;
     how_made(&bench.call(alloc, who, gate, frame, &words)?)
 }
 
-// Makes a call of the gate, and says whether it comes to this, and its caller stands behind it with this in r3 and this
-// error number.
+// Makes a call of the gate. Returns whether it goes on like this, and its caller is after the gate
+// with this r3 and this error number.
 fn comes_to(
     alloc: Global,
     bench: &mut Bench,
@@ -88,13 +88,13 @@ fn spawning([name, pri, stack]: [u32; 3]) -> [u32; 10] {
 // The words of sp.
 const QUICK: [u32; 10] = [0x4000, 1, 2, 3, 4, 5, 6, 7, 0, 0];
 
-// Whether a task that deletes itself is told to have ended.
+// Whether the board is told that a task that deletes itself has ended.
 fn leaves(alloc: Global, bench: &mut Bench, who: u32) -> bool {
     let call = (who, Gate::TaskDelete, FRAME, four([0; 4]));
     call_made(alloc, bench, call) == Some(Made::Ended) && bench.task(who).is_none()
 }
 
-// Whether a task that asks for a deletion pends, and stands at the gate of its call.
+// Whether a task that wants to delete another pends, and is at the gate of its call.
 fn awaits(alloc: Global, bench: &mut Bench, who: u32, target: u32) -> bool {
     let call = (who, Gate::TaskDelete, FRAME, four([target, 0, 0, 0]));
     let gate = Gate::TaskDelete.address(GATES_START);
@@ -102,7 +102,7 @@ fn awaits(alloc: Global, bench: &mut Bench, who: u32, target: u32) -> bool {
         && bench.standing(who) == Some((gate, target, 0))
 }
 
-// Whether the shell's task asks for the file of this name, and stands at the gate of its call.
+// Whether the shell's task needs the file with this name, and is at the gate of its call.
 fn asks(alloc: Global, bench: &mut Bench, words: [u32; 4], name: &[u8]) -> bool {
     let gate = Gate::Ld.address(GATES_START);
     match bench.call(alloc, SHELL, Gate::Ld, FRAME, &four(words)) {
@@ -113,13 +113,13 @@ fn asks(alloc: Global, bench: &mut Bench, words: [u32; 4], name: &[u8]) -> bool 
     }
 }
 
-// Whether taskSpawn by the shell's task, with this r1, answers this, with this error number.
+// Whether taskSpawn by the shell's task, with this r1, leaves this r3 and error number.
 fn spawns(alloc: Global, bench: &mut Bench, r1: u32, asked: [u32; 3], told: (u32, u32)) -> bool {
     let call = (SHELL, Gate::TaskSpawn, r1, spawning(asked));
     comes_to(alloc, bench, call, (Made::Done, told.0, told.1))
 }
 
-// Whether so many tasks are spawned, with ids from this one on.
+// Whether this many tasks are spawned, with ids that count from this one.
 fn spawns_all(alloc: Global, bench: &mut Bench, first: u32, count: u32) -> bool {
     for k in 0..count {
         let id = first.wrapping_add(k);
@@ -130,7 +130,7 @@ fn spawns_all(alloc: Global, bench: &mut Bench, first: u32, count: u32) -> bool 
     true
 }
 
-// Whether so many symbols of the name at an address are added.
+// Whether this many symbols with the name at an address are added.
 fn adds_all(alloc: Global, bench: &mut Bench, name: u32, count: u32) -> bool {
     for value in 0..count {
         let call = (SHELL, Gate::SymAdd, FRAME, four([0, name, value, 2]));
@@ -141,7 +141,7 @@ fn adds_all(alloc: Global, bench: &mut Bench, name: u32, count: u32) -> bool {
     true
 }
 
-// Makes a step, and says whether it is as it says.
+// Makes a step, and returns whether it goes as it says.
 fn goes(alloc: Global, bench: &mut Bench, step: Step) -> bool {
     match step {
         Step::Call(who, gate, words, r3, errno) => {
@@ -169,23 +169,23 @@ fn goes(alloc: Global, bench: &mut Bench, step: Step) -> bool {
     }
 }
 
-// Steps over a world from its start on, in their order, with what they show.
+// Steps over a world from its start on, and what they show.
 #[derive(Clone, Copy)]
 pub(crate) struct Table {
     pub(crate) name: &'static str,
     pub(crate) steps: &'static [Step],
 }
 
-// What came of a table.
+// The outcome of a table.
 pub(crate) enum Outcome {
     AsWorkedOut,
-    // the step of this number isn't as it says, the first being number 1
+    // the step with this number, counted from 1, doesn't go as it says
     Wrong(u64),
     // no world could be made
     NoWorld,
 }
 
-// Makes the steps, up to the first that isn't as it says.
+// Makes the steps, and stops at the first that doesn't go as it says.
 fn play_steps(alloc: Global, bench: &mut Bench, steps: &[Step]) -> Outcome {
     let mut number = 0u64;
     for step in steps {
@@ -197,7 +197,7 @@ fn play_steps(alloc: Global, bench: &mut Bench, steps: &[Step]) -> Outcome {
     Outcome::AsWorkedOut
 }
 
-// Makes the steps of a table over a world of their own.
+// Makes the steps of a table over a world of its own.
 pub(crate) fn play(alloc: Global, table: &Table) -> Outcome {
     match Bench::new(alloc) {
         Some(mut bench) => play_steps(alloc, &mut bench, table.steps),

@@ -42,10 +42,11 @@ const BAD_KIND: u32 = 0x1c_0002;
 
 const NOT_ISR_CALLABLE: u32 = 0x43_0001;
 
-// The first address behind RAM.
+// The first address after RAM.
 const RAM_END: u32 = 0x0100_0000;
 
-// Where the first block is given: behind the stack of the shell's task and the interrupt stack.
+// Where the first allocated block begins: after the stack of the shell's task and the interrupt
+// stack.
 const FIRST: u32 = 0x1_5e20;
 
 // The tables, by what they are about.

@@ -1,5 +1,5 @@
-//! Files of cases, one a line: each is played, and compared with what its line says. An empty line, and one that begins
-//! with `#`, is no case.
+//! Files of test cases, one for each line: each is played, and compared with what its line says. An
+//! empty line, or a line that begins with `#`, is not a case.
 #![tactic(auto)]
 
 mod playing;

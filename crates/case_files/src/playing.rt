@@ -1,4 +1,4 @@
-//! How the cases of files are played.
+//! Plays the cases of files.
 
 use crate::reading::Trouble;
 use std::alloc::Global;
@@ -6,17 +6,17 @@ use std::env::{self, Env};
 use std::fs::{self, Files};
 use std::io;
 
-/// What plays the cases of one file.
+/// A player of the cases of one file.
 pub trait Player {
-    /// One that has played nothing.
+    /// A player that has played nothing.
     fn new(alloc: Global) -> Result<Self, Trouble>;
 
-    /// Plays a case. Gives the answer if it is another than the line says.
+    /// Plays a case. Returns the result if it differs from what the line says.
     fn play(&mut self, line: &str) -> Result<Option<String>, Trouble>;
 }
 
-/// Plays the cases of each file that the program's words name, each file with a player of its own. Tells of each case
-/// whose answer is another, and of each file how many agree.
+/// Plays the cases of each file named by the program's arguments, with a new player for each file.
+/// Prints each case whose result differs, and for each file how many cases agree.
 pub fn play_files<P: Player + Drop, R: Env + Files + Print + AllocGlobal>(
     rt: &R,
 ) -> io::Result<()> {

@@ -1,12 +1,12 @@
-//! Words of a case.
+//! The words of a case.
 
 use std::alloc::{AllocError, AllocFailed, Global};
 use wind_base::{Name, NoMemory};
 
-/// Why a case is not played.
+/// Why a case can't be played.
 #[derive(Clone, Copy, Debug, PartialEq, Eq, Drop)]
 pub enum Trouble {
-    /// The line is none that is understood.
+    /// The line is invalid.
     Unreadable,
     /// Host memory ran out.
     NoMemory,
@@ -30,12 +30,12 @@ impl From<NoMemory> for Trouble {
     }
 }
 
-/// A number in hexadecimal digits.
+/// The number that a word writes in hexadecimal digits.
 pub fn number(word: &str) -> Result<u32, Trouble> {
     u32::from_str_radix(word, 16).or(Err(Trouble::Unreadable))
 }
 
-/// A name as it stands there.
+/// A word, as a name.
 pub fn name(alloc: Global, word: &str) -> Result<Name, Trouble> {
     Name::new(alloc, word.as_bytes()).or(Err(Trouble::Unreadable))
 }

@@ -24,13 +24,13 @@ line_end n b bs e = let t : (b == 10) ≡ true = grind (arith, nat_tests) in ap 
 pub line_more : (n b : ℕ) (bs : List ℕ) → b ≢ 10 → are_lines n (b ∷ bs) ≡ are_lines (n + 1) bs
 line_more n b bs e = let t : (b == 10) ≡ false = grind (arith, nat_tests) in ap (λ x. if x then nat_le n 255 && are_lines 0 bs else are_lines (n + 1) bs) t
 
--- a line that is ended, after n bytes of it
+-- a line with its end, after n bytes of it
 ended_line : (n : ℕ) (line : List ℕ) → All (λ b. b ≢ 10) line → n + length line ≤ 255 → are_lines n (line ++ 10 ∷ []) ≡ true
 ended_line n [] plain short = let t : nat_le n 255 ≡ true = grind (arith, nat_tests) in ap (λ x. x && true) t
 ended_line n (b ∷ bs) plain short =
     line_more n b (bs ++ 10 ∷ []) (All-head (λ x. x ≢ 10) b bs plain) ∙ ended_line (n + 1) bs (All-tail (λ x. x ≢ 10) b bs plain) (omega arith)
 
--- a further line behind finished ones
+-- another line after finished ones
 pub lines_more : (n : ℕ) (finished line : List ℕ) → are_lines n finished ≡ true → All (λ b. b ≢ 10) line → length line ≤ 255 → are_lines n (finished ++ (line ++ 10 ∷ [])) ≡ true
 lines_more n [] line h plain short = let none : n ≡ 0 = grind (arith, nat_tests) in ended_line n line plain (omega arith)
 lines_more n (b ∷ bs) line h plain short =

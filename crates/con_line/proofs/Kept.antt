@@ -1,4 +1,4 @@
--- What a byte and the dropping of a line keep of the lines.
+-- A byte and the dropping of a line keep the invariant of the lines.
 use Rattle.std.proofs.Common.{◌≡◌, ◌≢◌, ℕ, ◌+◌, ◌-◌, ◌<◌, ◌≤◌, List, [], ◌∷◌, ◌++◌, Bool, true, false, refl, ap, sym, ◌∙◌, arith, length, length-append, length-drop}
 use Rattle.std.specs.Prelude.{if◌then◌else◌, All}
 use Rattle.std.proofs.lemmas.Bool.Decides.{nat_tests}
@@ -29,7 +29,7 @@ no_bytes k d below = absurd (omega arith)
 no_lines : KeepsLines [] []
 no_lines = record { short = omega arith; unended = no_bytes; lines = refl; within = omega arith }
 
--- a line that is kept
+-- a line that is added
 line_kept : (edited finished : List ℕ) → KeepsLines edited finished → length finished + length (edited ++ 10 ∷ []) ≤ 4096 → KeepsLines [] (finished ++ (edited ++ 10 ∷ []))
 line_kept edited finished h room = record {
   short = omega arith;
@@ -63,7 +63,7 @@ key_keeps keys.Text c b plain h =
     (λ e. h)
 key_keeps keys.Ignored c b plain h = h
 
--- a byte that is typed is no end
+-- a typed byte is no end of line
 pub text_key : (b : ℕ) → key_of b ≡ keys.Text → b ≢ 10
 text_key b e ten = let bad : keys.NewLine ≡ keys.Text = ap key_of (sym ten) ∙ e in cc
 

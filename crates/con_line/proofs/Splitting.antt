@@ -24,7 +24,7 @@ made (line ∷ lines) h =
     made_after 0 line (joined lines) is.unended (omega (arith, is.short)) (made lines (All-tail IsLine line lines h))
 
 -- ---- finished lines are lines with their ends
--- these bytes, behind the begun ones of a line
+-- these bytes, after the bytes of a begun line
 abbrev pub Split : List ℕ → List ℕ → Type 0
 Split begun bytes = (lines : List (List ℕ)) × All IsLine lines × (joined lines ≡ begun ++ bytes)
 
@@ -64,7 +64,7 @@ split_after (b ∷ bs) begun plain h =
 pub split : SplitLaw
 split bytes h = split_after bytes [] no_byte h
 
--- ---- the front one
+-- ---- the first line
 front_length : (line rest : List ℕ) → All (λ b. b ≢ 10) line → line_length ((line ++ 10 ∷ []) ++ rest) ≡ length line
 front_length [] rest plain = length_end 10 rest refl
 front_length (b ∷ bs) rest plain =

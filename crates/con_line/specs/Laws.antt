@@ -1,11 +1,11 @@
--- What follows of the console's definitions alone.
+-- What follows from the console's definitions alone.
 use Rattle.std.specs.Prelude.{◌≡◌, ◌≢◌, ℕ, ◌≤◌, List, [], ◌∷◌, ◌++◌, true, All, length}
 use Rattle.wind_base.specs.Limits.{longest_line}
 use Rattle.con_line.specs.State.{ConsoleState, opening_console}
 use Rattle.con_line.specs.Keys.{after_byte}
 use Rattle.con_line.specs.Lines.{KeepsLines, with_end, are_lines, front_line, line_dropped}
 
--- the facts on lines hold before the first byte, and a byte and the dropping of a line keep them
+-- the invariant of the lines holds before the first byte, and a byte and the dropping of a line keep it
 abbrev pub Keeps : ConsoleState → Type 0
 Keeps c = KeepsLines c.edited c.finished
 
@@ -28,14 +28,14 @@ abbrev pub joined : List (List ℕ) → List ℕ
 joined [] = []
 joined (line ∷ lines) = with_end line ++ joined lines
 
--- bytes are finished lines exactly where they are lines, each with its end
+-- bytes are finished lines exactly if they are lines, each with its end
 abbrev pub MadeLaw : Type 0
 MadeLaw = (lines : List (List ℕ)) → All IsLine lines → are_lines 0 (joined lines) ≡ true
 
 abbrev pub SplitLaw : Type 0
 SplitLaw = (bytes : List ℕ) → are_lines 0 bytes ≡ true → (lines : List (List ℕ)) × All IsLine lines × (joined lines ≡ bytes)
 
--- of such lines the front one is the first, and what is left without it are the others
+-- the first of such lines is the one that is read, and dropping it leaves the others
 abbrev pub FrontLaw : Type 0
 FrontLaw = (c : ConsoleState) (line : List ℕ) (lines : List (List ℕ)) → IsLine line
     → c.finished ≡ joined (line ∷ lines) → (front_line c ≡ line) × ((line_dropped c).finished ≡ joined lines)

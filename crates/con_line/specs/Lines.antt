@@ -1,4 +1,4 @@
--- The finished lines, and what is kept of them.
+-- The finished lines, and their invariant.
 use Rattle.std.specs.Prelude.{◌≡◌, ◌≢◌, ℕ, ◌+◌, ◌≤◌, List, [], ◌∷◌, ◌++◌, Bool, true, ◌==◌, ◌&&◌, not, nat_le}
 use Rattle.std.specs.Prelude.{if◌then◌else◌, All, take, drop, length}
 use Rattle.wind_base.specs.Limits.{longest_line, most_kept_bytes}
@@ -9,15 +9,15 @@ use Rattle.con_line.specs.State.{ConsoleState}
 abbrev pub with_end : List ℕ → List ℕ
 with_end line = line ++ 10 ∷ []
 
--- whether a line is kept with its end behind these finished ones: together they stay within their room
+-- whether a line is added with its end after these finished ones: together they fit in the room
 abbrev pub is_kept : List ℕ → List ℕ → Bool
 is_kept finished line = nat_le (length finished + length (with_end line)) most_kept_bytes
 
--- the finished lines with that one, where it is kept
+-- the finished lines with that one, if it is added
 abbrev pub kept_behind : List ℕ → List ℕ → List ℕ
 kept_behind finished line = if is_kept finished line then finished ++ with_end line else finished
 
--- whether a finished line is kept
+-- whether there is a finished line
 abbrev pub has_line : ConsoleState → Bool
 has_line c = not (length c.finished == 0)
 
@@ -28,20 +28,20 @@ front_line c = take (line_length c.finished) c.finished
 abbrev pub line_dropped : ConsoleState → ConsoleState
 line_dropped c = record c { finished = drop (line_length c.finished + 1) c.finished }
 
--- bytes at the front of a room, whose rest stays
+-- bytes at the beginning of a room, whose rest stays
 abbrev pub laid_in : List ℕ → List ℕ → List ℕ
 laid_in bytes room = bytes ++ drop (length bytes) room
 
--- whether each line of these bytes is ended, with at most 255 bytes before its end; n bytes of the first came before
+-- whether each line of these bytes has an end and at most 255 bytes before it; n bytes of the first line came before
 abbrev pub are_lines : ℕ → List ℕ → Bool
 are_lines n [] = n == 0
 are_lines n (b ∷ bs) = if b == 10 then nat_le n longest_line && are_lines 0 bs else are_lines (n + 1) bs
 
--- what is kept of the lines of a console
+-- the invariant of a console's lines
 pub record KeepsLines (edited finished : List ℕ) : Type 0 where
   -- the edited line has at most 255 bytes, and no end
   pub short : length edited ≤ longest_line
   pub unended : All (λ b. b ≢ 10) edited
-  -- the finished lines are ended, and have at most 255 bytes each and 4096 together
+  -- each finished line has an end and at most 255 bytes, and together they have at most 4096
   pub lines : are_lines 0 finished ≡ true
   pub within : length finished ≤ most_kept_bytes

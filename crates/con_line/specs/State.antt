@@ -10,6 +10,6 @@ pub record ConsoleState : Type 0 where
 abbrev pub console_of : List ℕ → Bool → List ℕ → ConsoleState
 console_of edited mark finished = record { edited = edited; after_return = mark; finished = finished }
 
--- before its first byte
+-- the console before its first byte
 abbrev pub opening_console : ConsoleState
 opening_console = console_of [] false []

@@ -19,21 +19,21 @@ use wind_base::limits::LINE_BYTES;
 use wind_base::text::add;
 use wind_base::{NoMemory, OutBuf};
 
-/// The bytes of a room that takes any line with its end.
+/// The room, in bytes, for any line and its end.
 pub const LINE_ROOM: usize = LINE_BYTES + 1;
 
-/// What a byte did beside its effect on the edited line.
+/// What a byte does besides its effect on the edited line.
 #[derive(Clone, Copy, Debug, PartialEq, Eq)]
 pub enum ByteDone {
     /// It aborts the shell.
     Abort,
-    /// A finished line is kept.
+    /// The edited line is finished, and kept until it is read.
     Line,
-    /// Nothing.
+    /// Nothing more.
     Kept,
 }
 
-/// The console. No call but `new` takes memory.
+/// The console. Only `new` allocates memory.
 #[derive(Drop)]
 pub struct Console {
     edited: ArrayVec<u8, LINE_BYTES>,
@@ -53,7 +53,7 @@ impl Model for Console {
 }
 
 impl Console {
-    /// A console before its first byte. The room for its lines is taken here.
+    /// Makes a console before its first byte. It allocates the room for the console's lines.
     pub fn new(alloc: Global) -> Result<Console, NoMemory>
         ensures { IfOk result (λ c. c ≡ opening_console) }
     {
@@ -65,8 +65,8 @@ impl Console {
         })
     }
 
-    /// A byte comes, and what it echoes is added: three bytes at most. It answers `Abort` for 0x03 alone,
-    /// and `Line` exactly where the edited line ends and is kept.
+    /// Takes a byte, and adds what it echoes: at most three bytes. Returns `Abort` only for 0x03,
+    /// and `Line` exactly if the edited line ends and is kept.
     pub fn byte(&mut self, byte: u8, echo: &mut OutBuf) -> ByteDone
         requires { 3 ≤ echo.old.room }
         ensures after { self.new ≡ after_byte self.old byte }
@@ -87,15 +87,16 @@ impl Console {
         done
     }
 
-    /// Whether a finished line is kept.
+    /// Whether there is a finished line.
     pub fn has_line(&self) -> bool
         ensures { result ≡ has_line_lem self.now }
     {
         !self.finished.is_empty()
     }
 
-    /// The first finished line is copied to the front of `dst`, without its 0x0A, and stays. How many
-    /// bytes it has; None, and `dst` is as it was, exactly where no line is kept.
+    /// Copies the first finished line to the beginning of `dst`, without its 0x0A; the line stays.
+    /// Returns its length in bytes. If there is no finished line, it returns `None`, and `dst` is
+    /// as it was.
     pub fn front_line(&self, dst: &mut [u8; LINE_ROOM]) -> Option<u32>
         ensures count { result ≡ (if has_line_lem self.now then Some (length (front_line_of self.now)) else None) }
         ensures line { dst.new ≡ laid_in (front_line_of self.now) dst.old }
@@ -110,7 +111,7 @@ impl Console {
         Some(len as u32)
     }
 
-    /// The first finished line goes, with its 0x0A. False exactly where no line is kept.
+    /// Drops the first finished line, with its 0x0A. Returns false exactly if there is none.
     pub fn drop_line(&mut self) -> bool
         ensures after { self.new ≡ line_dropped self.old }
         ensures dropped { result ≡ has_line_lem self.old }
@@ -120,17 +121,17 @@ impl Console {
         kept
     }
 
-    /// Tells what is kept of the lines: the edited one has at most 255 bytes and no 0x0A, and the finished
-    /// ones are ended, with at most 255 bytes each and 4096 together.
+    /// Gives the invariant of the lines. The edited line has at most 255 bytes and no 0x0A. Each
+    /// finished line has an end and at most 255 bytes; together they have at most 4096 bytes.
     pub fn facts(&self)
         ensures { KeepsLines self.now.edited self.now.finished }
     {
-        // The type keeps the facts; a look at a field brings them in.
+        // The type keeps the invariant; a look at a field gives it.
         let _ = &self.finished;
     }
 }
 
-// A key is pressed, which leaves the mark.
+// Handles a key, except for the mark of 0x0D.
 fn press(
     key: Key,
     byte: u8,
@@ -177,7 +178,7 @@ fn press(
     }
 }
 
-// The edited line ends, and is kept where the finished ones leave room for it.
+// Ends the edited line. It is kept if there is room for it among the finished ones.
 fn end_line(
     edited: &mut ArrayVec<u8, LINE_BYTES>,
     finished: &mut Finished,
@@ -195,7 +196,7 @@ fn end_line(
     if kept { ByteDone::Line } else { ByteDone::Kept }
 }
 
-// Erases the last byte of the edited line, where there is one.
+// Erases the last byte of the edited line, if there is one.
 fn erase(edited: &mut ArrayVec<u8, LINE_BYTES>, echo: &mut OutBuf)
     requires { 3 ≤ echo.old.room }
     ensures line { edited.new.items ≡ erased edited.old.items }
@@ -206,7 +207,7 @@ fn erase(edited: &mut ArrayVec<u8, LINE_BYTES>, echo: &mut OutBuf)
     }
 }
 
-// Types a byte, where the edited line has room.
+// Types a byte, if the edited line has room.
 fn enter(edited: &mut ArrayVec<u8, LINE_BYTES>, byte: u8, echo: &mut OutBuf)
     requires { 3 ≤ echo.old.room }
     ensures line { edited.new.items ≡ typed edited.old.items byte }

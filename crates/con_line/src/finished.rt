@@ -10,7 +10,7 @@ use std::marker::Model;
 use wind_base::NoMemory;
 use wind_base::limits::KEPT_BYTES;
 
-/// The finished lines, each with its 0x0A, oldest first. Their room is taken once.
+/// The finished lines, each with its 0x0A, oldest first. Their room is allocated once.
 #[derive(Drop)]
 pub(crate) struct Finished {
     ring: HeapCircularBuffer<u8>,
@@ -28,7 +28,7 @@ impl Model for Finished {
 }
 
 impl Finished {
-    /// No line.
+    /// Makes a list without lines, and allocates its room.
     pub(crate) fn new(alloc: Global) -> Result<Finished, NoMemory>
         ensures { IfOk result (λ f. f ≡ []) }
     {
@@ -43,15 +43,15 @@ impl Finished {
         self.ring.is_empty()
     }
 
-    /// All lines go.
+    /// Drops all lines.
     pub(crate) fn clear(&mut self)
         ensures { self.new ≡ [] }
     {
         self.ring.clear();
     }
 
-    /// A line goes with its end behind the others. False, and nothing changes, where they leave no room
-    /// for it.
+    /// Adds a line with its end after the others. If there is no room for it, it returns false, and
+    /// nothing changes.
     pub(crate) fn keep(&mut self, line: &[u8]) -> bool
         ensures kept { result ≡ is_kept self.old line.now }
         ensures lines { self.new ≡ kept_behind self.old line.now }
@@ -64,7 +64,7 @@ impl Finished {
         true
     }
 
-    /// How many bytes the first line has before its end.
+    /// The length of the first line in bytes, without its end.
     pub(crate) fn front_len(&self) -> usize
         ensures exact { result ≡ line_length self.now }
         ensures inside { result ≤ length self.now }
@@ -72,7 +72,7 @@ impl Finished {
         self.ring.iter().take_while(|byte| **byte != b'\n').count()
     }
 
-    /// Copies as many of the first bytes as `dst` has.
+    /// Copies the first bytes, as many as `dst` takes.
     pub(crate) fn copy_front(&self, dst: &mut [u8])
         requires { length dst.old ≤ length self.now }
         ensures { dst.new ≡ take (length dst.old) self.now }
@@ -84,7 +84,7 @@ impl Finished {
         dst[from_near..from_near + from_far].copy_from_slice(&far[..from_far]);
     }
 
-    /// The first line goes, with its end.
+    /// Drops the first line with its end.
     pub(crate) fn drop_front(&mut self)
         ensures { self.new ≡ drop (line_length self.old + 1) self.old }
     {

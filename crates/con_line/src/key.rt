@@ -1,4 +1,4 @@
-//! What a byte of the console is for.
+//! What each byte of the console is for.
 
 ghost use Rattle.std.specs.Prelude.{◌≡◌};
 ghost use Rattle.con_line.specs.Keys.{key_of as key_of_lem};

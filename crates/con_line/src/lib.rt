@@ -1,4 +1,4 @@
-//! The console: the line that is edited, and the finished lines that are kept until they are read.
+//! The console: the edited line, and the finished lines, which are kept until they are read.
 #![tactic(auto)]
 
 mod console;

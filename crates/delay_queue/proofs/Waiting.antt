@@ -1,4 +1,4 @@
--- Ticks between tasks: what is seen of them, as one comes and one goes.
+-- Gaps between tasks: what a contract sees of them, as one is added and one removed.
 use Rattle.std.proofs.Common.{◌≡◌, ℕ, suc, ◌+◌, ◌-◌, ◌<◌, ◌≤◌, ◌^◌, true, false, cond, not, eqb, leb, List, [], ◌∷◌, ◌++◌, length, Option, None, Some, is_some, refl, sym, ap, ◌∙◌, subst, arith, append_assoc}
 use Rattle.std.specs.Prelude.{IsSome, IsSomeAnd}
 use Rattle.std.specs.Option.{option_map}
@@ -45,7 +45,7 @@ pub length-wakes : (b : ℕ) (c : Cells) → length (wakes_from b c) ≡ length 
 length-wakes b [] = refl
 length-wakes b (x ∷ xs) = ap suc (length-wakes (b + x.1) xs)
 
--- ---- the one list
+-- ---- the only list
 pub one_chain : (cs : List Cells) → length cs ≡ 1 → cs ≡ chain_at cs 0 ∷ []
 one_chain [] e = absurd (omega (arith, e))
 one_chain (c ∷ []) e = refl
@@ -73,7 +73,7 @@ put_at (x ∷ xs) next cell ys e a =
     other (z ∷ zs) q none = ap (λ o. is_key o x.0) q ∙ (absent_cons x.0 z zs none).0
 
 -- ---- the place of a wake
--- so many tasks were passed: the next is the first of the rest, and the wake lies so many ticks after the last
+-- the given number of tasks was passed: `next` is the first of the rest, and the wake is `left` ticks after the last one passed
 pub record Passed (c : Cells) (wake : ℕ) (next : Option ℕ) (left passed : ℕ) : Type 0 where
   pub front : Cells
   pub back : Cells
@@ -85,8 +85,8 @@ pub record Passed (c : Cells) (wake : ℕ) (next : Option ℕ) (left passed : �
 pub none_passed : (c : Cells) (wake : ℕ) → Passed c wake (first_key c) wake 0
 none_passed c wake = record { front = []; back = c; whole = refl; next_is = refl; sum = omega arith; count = refl }
 
--- ---- a task comes
--- the list, where the first keeps fewer ticks, or more
+-- ---- a task is added
+-- the list with a smaller or greater gap before its first task
 abbrev less_first : ℕ → Cells → Cells
 less_first n [] = []
 less_first n (c ∷ cs) = (c.0, c.1 - n) ∷ cs
@@ -108,7 +108,7 @@ came b who left wake (x ∷ xs) ys e later =
     ap (λ zs. (x.0, b + x.1) ∷ zs) (came (b + x.1) who left wake xs ys (omega (arith, e)) later)
     ∙ sym (ap (λ t. cond t ((x.0, b + x.1) ∷ put_in (wakes_from (b + x.1) (xs ++ ys)) (who, wake)) ((who, wake) ∷ (x.0, b + x.1) ∷ wakes_from (b + x.1) (xs ++ ys))) (le-leb (b + x.1) wake (omega (arith, e))))
 
--- the list after a task came, and what is seen of it
+-- the list after a task is added, and what a contract sees of it
 pub record Came (t : Chains ℕ) (who wake : ℕ) (next : Option ℕ) (left : ℕ) : Type 0 where
   pub list : Cells
   pub chains : with_gap (with_cell t 0 next (who, left)) next (λ gap. gap - left) ≡ record { chains = list ∷ []; room = t.room }
@@ -146,7 +146,7 @@ task_came c room who wake next left a none place =
         ∙ shift_first (λ gap. gap - left) room (place.front ++ (who, left) ∷ []) y ys (subst Apart (sym e) b)
         ∙ ap {B = Chains ℕ} (λ zs. record { chains = zs ∷ []; room = room }) (append_assoc place.front ((who, left) ∷ []) ((y.0, y.1 - left) ∷ ys))
 
--- ---- a task goes
+-- ---- a task is removed
 went : (b who gap : ℕ) (xs ys : Cells) → Absent who xs → Absent who ys → wakes_from b (xs ++ more_first gap ys) ≡ taken_out (wakes_from b (xs ++ (who, gap) ∷ ys)) who
 went b who gap [] [] front back = rw (eq-eqb who who refl) refl
 went b who gap [] (y ∷ ys) front back =
@@ -192,14 +192,14 @@ all_put P t (u ∷ us) p ps =
       | false ↦ All-cons P t (u ∷ us) p ps
     ]
 
--- two gaps in a row are no more than the wake behind them
+-- two consecutive gaps are together at most the wake after them
 pub two_gaps : (b bound : ℕ) (xs : Cells) (c d : ℕ × ℕ) (ys : Cells) → All (λ t. t.1 < bound) (wakes_from b (xs ++ c ∷ d ∷ ys)) → d.1 + c.1 < bound
 two_gaps b bound [] c d ys all =
     let second : b + c.1 + d.1 < bound = all 1 (0, 0) (omega arith) in
     omega (arith, second)
 two_gaps b bound (x ∷ xs) c d ys all = two_gaps (b + x.1) bound xs c d ys (All-tail (λ (t : ℕ × ℕ). t.1 < bound) (x.0, b + x.1) (wakes_from (b + x.1) (xs ++ c ∷ d ∷ ys)) all)
 
--- ---- the one list as a whole
+-- ---- the list as a whole
 abbrev pub single : Cells → ℕ → Chains ℕ
 single c room = record { chains = c ∷ []; room = room }
 
@@ -212,7 +212,7 @@ absent_from t who one none = unmapped (of_id cell_key (chain_at t.chains 0) who)
 some_and : (P : ℕ → Type 0) (o : Option ℕ) (n : ℕ) → o ≡ Some n → P n → IsSomeAnd o P
 some_and P o n e p = subst (λ q. IsSomeAnd q P) (sym e) p
 
--- what is known of a list while a task is put in
+-- what is known of a list while a task is added
 pub record Coming (t : Chains ℕ) (who wake : ℕ) (next : Option ℕ) (left : ℕ) : Type 0 where
   pub follows : (r : Option ℕ) → NextIs (with_cell t 0 next (who, left)).chains who r → r ≡ next
   pub fits : (x : ℕ) → next ≡ Some x → IsSomeAnd (value_of (with_cell t 0 next (who, left)).chains x) (λ gap. left ≤ gap)
@@ -246,7 +246,7 @@ pub coming : (t : Chains ℕ) (who wake : ℕ) (next : Option ℕ) (left : ℕ) 
 coming t who wake next left one a none place =
     subst (λ u. Coming u who wake next left) (sym (is_single t one)) (coming_single (chain_at t.chains 0) t.room who wake next left a (absent_from t who one none) place)
 
--- the key that comes next stands in the list
+-- the next key is in the list
 pub next_there : (c : Cells) (wake : ℕ) (next : Option ℕ) (left x : ℕ) → IsPlace c wake next left → next ≡ Some x → IsSome (value_in c x)
 next_there c wake next left x place e = subst (λ zs. IsSome (value_in zs x)) (sym place.whole) (there place.back (sym place.next_is ∙ e))
   where
@@ -254,7 +254,7 @@ next_there c wake next left x place e = subst (λ zs. IsSome (value_in zs x)) (s
     there [] q = absurd (cc)
     there (y ∷ ys) q = subst (λ k. IsSome (value_in (place.front ++ y ∷ ys) k)) (same_Some y.0 x q) (value_there place.front y.0 y.1 ys)
 
--- what is known of a list while a task is taken out
+-- what is known of a list while a task is removed
 pub record Going (t : Chains ℕ) (who : ℕ) (next : Option ℕ) (gap : ℕ) : Type 0 where
   pub fits : (x : ℕ) → next ≡ Some x → IsSomeAnd (value_of (without_cell t who).chains x) (λ g. g + gap < 2 ^ 64)
   pub went : Went t who next gap
@@ -284,7 +284,7 @@ going t who gap next is a value after =
     subst (λ u. Going u who next gap) (sym (is_single t is.one))
     (going_single (chain_at t.chains 0) t.room who gap next found.spot.front found.spot.back a whole (after 0 found.spot.front found.spot.back gap whole) is.wakes)
 
--- without a task that isn't there the list is as it was
+-- removing a task that isn't there changes nothing
 pub none_goes : (t : Chains ℕ) (who : ℕ) → length t.chains ≡ 1 → value_of t.chains who ≡ None → without_cell t who ≡ t
 none_goes t who one none =
     let c = chain_at t.chains 0 in
@@ -292,7 +292,7 @@ none_goes t who one none =
     ∙ ap {B = Chains ℕ} (λ zs. single zs t.room) (none_without cell_key c who (absent_from t who one none))
     ∙ sym (is_single t one)
 
--- ---- what is kept
+-- ---- the invariant
 pub timed_single : (t : Chains ℕ) (list : Cells) (room : ℕ) → t ≡ single list room → All (λ d. d.1 < 2 ^ 64) (wakes_from 0 list) → IsTimed t.chains
 timed_single t list room e all = subst (λ u. IsTimed u.chains) (sym e) (record { one = refl; wakes = all })
 
@@ -302,11 +302,11 @@ order_alike ts us room e = λ i. record { tasks = e i; room = room }
 pub none_taken : (ts : Cells) (who : ℕ) → wake_of ts who ≡ None → ts ≡ taken_out ts who
 none_taken ts who none = sym (none_without task_id ts who (unmapped (of_id task_id ts who) none))
 
--- who was taken out is not there
+-- a removed task isn't there
 pub taken_absent : (ts : Cells) (who : ℕ) → wake_of (taken_out ts who) who ≡ None
 taken_absent ts who = ap (option_map task_wake) (gone task_id ts who)
 
--- ---- who is due
+-- ---- which task is due
 pub first_due : (b tick : ℕ) (c : Cells) (gap who : ℕ) → first_value c ≡ Some gap → first_key c ≡ Some who → b + gap ≤ tick → due_at (wakes_from b c) tick ≡ Some who
 first_due b tick [] gap who e k h = absurd (cc)
 first_due b tick (x ∷ xs) gap who e k h =
@@ -323,7 +323,7 @@ pub nobody_due : (b tick : ℕ) (c : Cells) → first_value c ≡ None → due_a
 nobody_due b tick [] e = refl
 nobody_due b tick (x ∷ xs) e = absurd (cc)
 
--- ---- the place of a wake, a task further on
+-- ---- the place of a wake, one task further
 pub passed_value : (cs : List Cells) (wake : ℕ) (next : Option ℕ) (left passed id : ℕ) → length cs ≡ 1 → Passed (chain_at cs 0) wake next left passed → next ≡ Some id → IsSome (value_of cs id)
 passed_value cs wake next left passed id one p e =
     subst (λ zs. IsSome (value_in zs id)) (sym (one_cells cs one ∙ p.whole)) (there p.back (sym p.next_is ∙ e))
@@ -332,7 +332,7 @@ passed_value cs wake next left passed id one p e =
     there [] q = absurd (cc)
     there (y ∷ ys) q = subst (λ k. IsSome (value_in (p.front ++ y ∷ ys) k)) (same_Some y.0 id q) (value_there p.front y.0 y.1 ys)
 
--- the next that was not passed, with its gap
+-- the first task that wasn't passed, with its gap
 pub record Further (c front : Cells) (id gap : ℕ) (back : Cells) : Type 0 where
   pub rest : Cells
   pub back_is : back ≡ (id, gap) ∷ rest

@@ -1,14 +1,14 @@
--- How tasks that wait are kept: one list, in which each keeps the ticks after the one before it.
+-- What is inside the queue: one list, in which each task stores the gap to the task before it, in ticks.
 use Rattle.std.specs.Prelude.{◌≡◌, ℕ, ◌+◌, ◌<◌, ◌^◌, List, [], ◌∷◌, ◌++◌, length, Option, None, Some}
 use Rattle.std.specs.List.{All}
 use Rattle.linked_lists.specs.Chains.{Chains, chain_at, first_key, first_value, value_of, with_value}
 
--- the tasks of a list, where the first keeps the ticks after this one
+-- the tasks of a list with their wakes; the first task stores the ticks after this one
 abbrev pub wakes_from : ℕ → List (ℕ × ℕ) → List (ℕ × ℕ)
 wakes_from tick [] = []
 wakes_from tick (c ∷ cs) = (c.0, tick + c.1) ∷ wakes_from (tick + c.1) cs
 
--- the ticks from before the first to the last
+-- the sum of the gaps of a list: the ticks from before the first wake to the last
 abbrev pub total : List (ℕ × ℕ) → ℕ
 total [] = 0
 total (c ∷ cs) = c.1 + total cs
@@ -18,7 +18,7 @@ pub record IsTimed (cs : List (List (ℕ × ℕ))) : Type 0 where
   pub one : length cs ≡ 1
   pub wakes : All (λ t. t.1 < 2 ^ 64) (wakes_from 0 (chain_at cs 0))
 
--- where a wake has its place: behind those that are due at it or before, so many ticks after the last of them
+-- the place of a wake: after all tasks with that wake or an earlier one, and the given number of ticks after the last of them
 pub record IsPlace (c : List (ℕ × ℕ)) (wake : ℕ) (next : Option ℕ) (left : ℕ) : Type 0 where
   pub front : List (ℕ × ℕ)
   pub back : List (ℕ × ℕ)
@@ -27,11 +27,12 @@ pub record IsPlace (c : List (ℕ × ℕ)) (wake : ℕ) (next : Option ℕ) (lef
   pub sum : total front + left ≡ wake
   pub later : (gap : ℕ) → first_value back ≡ Some gap → left < gap
 
--- the list with other ticks before a task, where there is one
+-- the list with another gap before a task, if the task has a gap
 abbrev pub gap_put : Chains ℕ → ℕ → (ℕ → ℕ) → Option ℕ → Chains ℕ
 gap_put t id f None = t
 gap_put t id f (Some gap) = with_value t id (f gap)
 
+-- the list with another gap before a task, if there is one
 abbrev pub with_gap : Chains ℕ → Option ℕ → (ℕ → ℕ) → Chains ℕ
 with_gap t None f = t
 with_gap t (Some id) f = gap_put t id f (value_of t.chains id)

@@ -1,4 +1,4 @@
-//! Who waits for a tick.
+//! The queue of tasks that wait for a tick.
 
 ghost use Rattle.std.specs.Prelude.{◌≡◌, ◌<◌, [], None, length, IfOk, is_some};
 ghost use Rattle.delay_queue.specs.Wakes.{Order, wake_of, with_task, without_task, due_at, without_due};
@@ -10,8 +10,8 @@ use std::alloc::Global;
 use std::marker::Model;
 use wind_base::NoMemory;
 
-/// The tasks that wait for a tick: one linked list, in which each node keeps the ticks after the node before it, and the
-/// first those after tick 0.
+/// The tasks that wait for a tick: one linked list, in which each node stores its wake less that of
+/// the node before it, in ticks. The first node stores its wake itself.
 #[derive(Drop)]
 pub struct Delays {
     tasks: IdLists<u64>,
@@ -31,7 +31,7 @@ impl Model for Delays {
 }
 
 impl Delays {
-    /// Nobody waits, and there is room for `n` tasks. No other call takes memory.
+    /// An empty queue with room for `n` tasks. No other call takes memory.
     pub fn reserved(alloc: Global, n: u32) -> Result<Delays, NoMemory>
         ensures { IfOk result (λ d. d ≡ record { tasks = []; room = n }) }
     {
@@ -39,22 +39,22 @@ impl Delays {
         Ok(Delays { tasks })
     }
 
-    /// How many tasks wait.
+    /// The number of tasks that wait.
     pub fn len(&self) -> usize
         ensures { result ≡ length self.now.tasks }
     {
         self.tasks.len()
     }
 
-    /// For how many tasks there is room.
+    /// The greatest number of tasks that wait.
     pub fn room(&self) -> usize
         ensures { result ≡ self.now.room }
     {
         self.tasks.room()
     }
 
-    /// The task waits from now on for the tick `wake`, behind all that are due at it or before. It must not wait
-    /// already, and fewer may wait than there is room for.
+    /// Adds a task that waits for the tick `wake`, after all tasks with the same wake or an earlier
+    /// one. It must not be in the queue yet, and the queue must have room for it.
     pub fn put(&mut self, who: Ident, wake: u64)
         requires absent { wake_of self.old.tasks who ≡ None }
         requires room { length self.old.tasks < self.old.room }
@@ -67,7 +67,7 @@ impl Delays {
         lessen(&mut self.tasks, next, left);
     }
 
-    /// The task waits no longer. False, and nothing changes, where it doesn't wait.
+    /// Removes a task. `false` if it isn't in the queue; then nothing changes.
     pub fn take(&mut self, who: Ident) -> bool
         ensures value { result ≡ is_some (wake_of self.old.tasks who) }
         ensures tasks { self.new ≡ without_task self.old who }
@@ -81,8 +81,8 @@ impl Delays {
         true
     }
 
-    /// The first of the tasks, where it is due at a tick: of those of the least wake the one that was put in first. None
-    /// where nobody is due.
+    /// The first task, if its wake is at most `tick`: of the tasks with the least wake, the one
+    /// added first. None if no task is due.
     pub fn first_due(&self, tick: u64) -> Option<Ident>
         ensures { result ≡ due_at self.now.tasks tick }
     {
@@ -93,8 +93,8 @@ impl Delays {
         self.tasks.first(LIST)
     }
 
-    /// Takes the first of the tasks out where it is due at a tick: of those of the least wake the one that was put in
-    /// first. None, and nothing changes, where nobody is due.
+    /// Removes the first task if its wake is at most `tick`: of the tasks with the least wake, the
+    /// one added first. None if no task is due; then nothing changes.
     pub fn due(&mut self, tick: u64) -> Option<Ident>
         ensures value { result ≡ due_at self.old.tasks tick }
         ensures tasks { self.new ≡ without_due self.old tick }

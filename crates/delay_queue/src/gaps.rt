@@ -1,4 +1,4 @@
-//! The ticks between a task and the one before it.
+//! Gaps: the ticks between the wakes of neighbouring tasks.
 
 ghost use Rattle.std.specs.Prelude.{◌≡◌, ◌+◌, ◌-◌, ◌<◌, ◌≤◌, ◌^◌, length, IsSomeAnd};
 ghost use Rattle.std.specs.Option.{ForSome};
@@ -8,17 +8,18 @@ ghost use Rattle.delay_queue.specs.Inside.{IsPlace, with_gap};
 use id_table::Ident;
 use linked_lists::IdLists;
 
-/// The one list.
+/// The number of the only list.
 pub(crate) const LIST: usize = 0;
 
-// Where a wake has its place: before this task, so many ticks after the task before.
+// The place of a wake: before the task `next`, and `left` ticks after the wake of the task before.
 #[derive(Drop)]
 pub(crate) struct Place {
     pub(crate) next: Option<Ident>,
     pub(crate) left: u64,
 }
 
-// The first task that is due after a tick, and how many ticks the tick lies after the task before it.
+// The first task with a wake after this one, and the ticks from the wake of the task before it to
+// this one.
 pub(crate) fn place_of(tasks: &IdLists<u64>, wake: u64) -> Place
     requires { length tasks.now.chains ≡ 1 }
     ensures { IsPlace (chain_at tasks.now.chains 0) wake result.next result.left }
@@ -40,7 +41,7 @@ pub(crate) fn place_of(tasks: &IdLists<u64>, wake: u64) -> Place
     Place { next, left }
 }
 
-// Takes ticks from those before a task.
+// Shortens the gap before a task, if there is a task.
 pub(crate) fn lessen(tasks: &mut IdLists<u64>, next: Option<Ident>, ticks: u64)
     requires { ForSome next (λ id. IsSomeAnd (value_of tasks.old.chains id) (λ gap. ticks ≤ gap)) }
     ensures { tasks.new ≡ with_gap tasks.old next (λ gap. gap - ticks) }
@@ -51,7 +52,7 @@ pub(crate) fn lessen(tasks: &mut IdLists<u64>, next: Option<Ident>, ticks: u64)
     }
 }
 
-// Adds ticks to those before a task.
+// Lengthens the gap before a task, if there is a task.
 pub(crate) fn lengthen(tasks: &mut IdLists<u64>, next: Option<Ident>, ticks: u64)
     requires { ForSome next (λ id. IsSomeAnd (value_of tasks.old.chains id) (λ gap. gap + ticks < 2 ^ 64)) }
     ensures { tasks.new ≡ with_gap tasks.old next (λ gap. gap + ticks) }

@@ -1,10 +1,10 @@
-//! Tasks that wait, with ample memory.
+//! Tests of tasks that wait, with ample memory.
 
 use crate::Delays;
 use id_table::Ident;
 use std::test::Fail;
 
-// Lets a task wait, where there is room for one more.
+// Adds a task if there is room for one more; removes it first if it is there.
 #[tactic(auto, using(crate::proofs::Waiting::taken_absent))]
 fn put(delays: &mut Delays, who: u32, wake: u64) -> Option<()> {
     let who = Ident::new(who)?;
@@ -17,7 +17,7 @@ fn put(delays: &mut Delays, who: u32, wake: u64) -> Option<()> {
     }
 }
 
-// The number of the next that is due at a tick.
+// Removes the first task that is due at a tick and returns its number.
 fn next(delays: &mut Delays, tick: u64) -> Option<u32> {
     let who = delays.due(tick)?;
     Some(who.get())

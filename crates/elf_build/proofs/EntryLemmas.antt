@@ -1,4 +1,4 @@
--- Entries that stand at a place are read there.
+-- Entries that are at a place are read there.
 use Rattle.std.proofs.Common.{◌≡◌, ℕ, ◌+◌, ◌*◌, ◌<◌, ◌≤◌, ◌^◌, List, [], length, drop, refl, ◌∙◌, ap, arith}
 use Rattle.elf_read.specs.declared.entries.SectionHeader.{SectionHeader}
 use Rattle.elf_read.specs.declared.entries.SymbolEntry.{SymbolEntry}

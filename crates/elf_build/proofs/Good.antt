@@ -1,4 +1,4 @@
--- What is asked of the sections, symbols and relocations of a buildable module, one by one.
+-- What is required of the sections, symbols and relocations of a buildable module, one by one.
 use Rattle.std.proofs.Common.{◌≡◌, ◌≢◌, ℕ, ◌+◌, ◌<◌, ◌≤◌, ◌^◌, List, length, get_or, true, false, refl}
 use Rattle.std.specs.Prelude.{◌==◌, bit_and}
 use Rattle.std.specs.List.{All}
@@ -23,7 +23,7 @@ pub record GoodSect (s : Sect) : Type 0 where
   pub size : size_of s.body ≤ most_section_bytes
   pub flags : s.flags < 2 ^ 32
 
--- a symbol's place is one that a file of loaded sections has
+-- a symbol's place is one that a file with only loaded sections has
 abbrev pub GoodPlace : List Sect → SymPlace → ℕ → ℕ → Type 0
 GoodPlace ss Undefined value size = Unit {0}
 GoodPlace ss Absolute value size = Unit {0}

@@ -1,4 +1,4 @@
--- The test for a buildable module says exactly what it is to be one.
+-- The test for a buildable module is exact.
 use Rattle.std.proofs.Common.{◌-◌, ◌<◌, ◌^◌, length, get_or, arith}
 use Rattle.elf_read.specs.declared.module.Module.{Module}
 use Rattle.elf_build.specs.Buildable.{Buildable}
@@ -34,7 +34,7 @@ judged m s p short =
       relocs_fit = λ k d l. (p.relocs k d l).fits;
     }
 
--- all that is tested
+-- everything that is tested
 pub record Tested (m : Module) : Type 0 where
   pub small : IsSmall m
   pub parts : HasBuildableParts m

@@ -1,4 +1,4 @@
--- What a built file's front and tables say.
+-- What a built file's ELF header and tables say.
 use Rattle.std.proofs.Common.{◌≡◌, ℕ, zero, suc, ◌+◌, ◌*◌, ◌/◌, ◌<◌, ◌≤◌, ◌^◌, List, [], ◌∷◌, length, get_or, refl, sym, ◌∙◌, ap, subst, arith, length-append, Bool, true, false, nat_lt}
 use Rattle.std.specs.Prelude.{◌==◌, ◌&&◌, not, if◌then◌else◌, bit_and}
 use Rattle.std.specs.List.{All, flat_map}

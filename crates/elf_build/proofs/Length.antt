@@ -1,4 +1,4 @@
--- How long a built file is.
+-- The length of a built file.
 use Rattle.std.proofs.Common.{◌≡◌, ◌+◌, ◌*◌, List, length, refl, arith, length-append}
 use Rattle.std.specs.List.{flat_map}
 use Rattle.elf_read.specs.declared.module.Sect.{Sect}

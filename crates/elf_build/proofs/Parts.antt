@@ -1,4 +1,4 @@
--- The parts of a file together, and what the code asks of a module.
+-- The parts of a file together, and what the code requires of a module.
 use Rattle.std.proofs.Common.{◌≡◌, ℕ, ◌+◌, ◌*◌, ◌<◌, ◌≤◌, List, ◌++◌, length, get_or, refl, arith, append_assoc, length-append}
 use Rattle.elf_read.specs.declared.module.Sect.{Sect}
 use Rattle.elf_read.specs.declared.module.SymPlace.{SymPlace}
@@ -24,7 +24,7 @@ pub length_relocs : (rs : List Rel) → length (relocs_of rs) ≡ 12 * length rs
 unfolding relocs_of
 length_relocs rs = length_flat rel_bytes 12 length_relocation rs
 
--- the file, with its parts joined as they are written
+-- the file, with its parts in the order in which they are written
 pub joined : (m : Module) → (front_of (headers_at m) (header_total m) (count_of m + 3) ++ parts_of m) ++ headers_of m ≡ file_of m
 unfolding parts_of file_of
 joined m = simp append_assoc

@@ -31,7 +31,7 @@ use Rattle.elf_build.proofs.Known.{Known, length_symbols, not_loaded, null_flags
 use Rattle.elf_build.proofs.Parts.{length_front}
 use Rattle.elf_build.proofs.RoundTrip.{Held, held, table_flags, strings_flags, names_flags, kind_not_four, null_kind, table_kind, strings_kind, names_kind, none_in_front, module_holds}
 
--- ---- the front
+-- ---- the ELF header
 
 ident_by : (bytes : List ℕ) (i : ℕ) (m : ℕ) (ms : List ℕ) → slice_index bytes i ≡ m → ident_from (i + 1) ms bytes ≡ Ok tt → ident_from i (m ∷ ms) bytes ≡ Ok tt
 ident_by bytes i m ms h rest = and_ok (unless (slice_index bytes i == m) (NotElf i)) (ident_from (i + 1) ms bytes) (ap (λ b. unless b (NotElf i)) (equals (slice_index bytes i) m h)) rest
@@ -103,7 +103,7 @@ headers_pass bytes m h b =
 
 -- ---- a rule for each header
 
--- a rule that holds of each header of a built file
+-- a rule that each header of a built file meets
 each_passes : (bytes : List ℕ) (m : Module) (rule : ℕ → Rule) → Held bytes m → rule 0 ≡ Ok tt → ((i : ℕ) (s : Sect) → SectAt bytes i s → rule i ≡ Ok tt) → rule (count_of m + 1) ≡ Ok tt → rule (count_of m + 2) ≡ Ok tt → rule (count_of m + 3) ≡ Ok tt → each (count_of m + 4) (length (tables_of m.relocs)) rule ≡ Ok tt → each 0 (half bytes 48) rule ≡ Ok tt
 each_passes bytes m rule h h0 hs h1 h2 h3 hr =
     ap (λ k. each 0 k rule) h.facts.count_is
@@ -320,7 +320,7 @@ rela_passes bytes m i g t x =
     (ap (λ b. unless b (BadSection (header_place bytes i))) x.form)
     (ap (λ b. unless b (TooMany (header_place bytes i))) (at_most (total (i + 1) (rela_count bytes)) 1048576 t)))
 
--- a rule for each group, where the number stays below a bound
+-- a rule for each group, if the number stays below a bound
 each_below : (bytes : List ℕ) (rule : ℕ → Rule) (i n : ℕ) (gs : List RelocTable) → i + length gs ≤ n → ((j : ℕ) (g : RelocTable) → j < n → TableAt bytes j g → rule j ≡ Ok tt) → AllAt (TableAt bytes) i gs → each i (length gs) rule ≡ Ok tt
 each_below bytes rule i n [] l go all = refl
 each_below bytes rule i n (g ∷ gs) l go (one, others) =

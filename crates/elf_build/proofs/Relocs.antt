@@ -148,7 +148,7 @@ rels_are bytes sections place table symbols i q at j (r ∷ rs) c o e s good of 
 
 -- ---- the tables of relocations
 
--- header number i is of the relocations of one section
+-- header number i is that of the relocations of one section
 pub record TableAt (bytes : List ℕ) (i : ℕ) (g : RelocTable) : Type 0 where
   pub name : (header bytes i).name ≡ 27
   pub kind : (header bytes i).kind ≡ 4

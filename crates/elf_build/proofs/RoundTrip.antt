@@ -1,4 +1,4 @@
--- A built file holds its module.
+-- Reading a built file gives its module.
 use Rattle.std.proofs.Common.{◌≡◌, ℕ, suc, ◌+◌, ◌-◌, ◌/◌, ◌<◌, List, [], ◌∷◌, length, get_or, refl, ◌∙◌, ap, arith, append-nil, true, false}
 use Rattle.std.specs.Prelude.{◌==◌, ◌&&◌, if◌then◌else◌, bit_and}
 use Rattle.elf_read.specs.declared.module.Body.{Body}
@@ -20,7 +20,7 @@ use Rattle.elf_build.proofs.Relocs.{TableAt, tables_gathered}
 use Rattle.elf_build.proofs.Splits.{gathered_headers, gathered_none_at, front_headers}
 use Rattle.elf_build.proofs.Known.{Known, known, sects_held, loads_held, table_held, table_there, count_held, syms_held, relas_held, not_loaded, null_flags, sect_at, no_sect}
 
--- what a built file is known to hold
+-- what is known of a built file
 pub record Held (bytes : List ℕ) (m : Module) : Type 0 where
   pub parts : Parts bytes m
   pub headers : Headers bytes m
@@ -57,7 +57,7 @@ held m b =
       relas = relas_held (file_of m) m p h k b sects loads table there count syms;
     }
 
--- ---- what the file holds
+-- ---- the file's module
 
 pub table_flags : (bytes : List ℕ) (m : Module) → Known bytes m → (bit_and (header bytes (count_of m + 1)).flags 2 == 0) ≡ true
 unfolding symtab_header
@@ -95,7 +95,7 @@ symbols_hold bytes m h =
     let e : symbol_count bytes - 1 ≡ length m.symbols = omega arith in
     ap (λ k. gathered 1 k (syms_at bytes)) e ∙ syms_gathered bytes 1 m.symbols h.syms
 
--- no relocations where the kind is not 4
+-- no relocations if the kind isn't 4
 no_rels : (bytes : List ℕ) (i : ℕ) → ((header bytes i).kind == 4) ≡ false → rela_count bytes i ≡ 0
 unfolding rela_count is_applied
 no_rels bytes i h = ap (λ b. if b && is_loaded bytes (header bytes i).info then (header bytes i).size / 12 else 0) h

@@ -32,7 +32,7 @@ pub record Reads (bytes : List ℕ) (place count : ℕ) (names : List ℕ) : Typ
   pub short : length bytes < 2 ^ 32
   pub names_short : length names < 2 ^ 32
 
--- header number i is of this section
+-- header number i is that of this section
 pub record SectAt (bytes : List ℕ) (i : ℕ) (s : Sect) : Type 0 where
   pub loaded : is_loaded bytes i ≡ true
   pub same : sect_of bytes i ≡ s
@@ -136,7 +136,7 @@ sect_is bytes names place count i name at s r l h n c good =
 
 -- ---- all of them
 
--- P holds of each item and its number, from number i on
+-- P holds for each item and its number, from number i on
 abbrev pub AllAt : {X : Type 0} → (ℕ → X → Type 0) → ℕ → List X → Type 0
 AllAt P i [] = Unit {0}
 AllAt P i (x ∷ xs) = P i x × AllAt P (i + 1) xs

@@ -6,7 +6,7 @@ use Rattle.elf_read.specs.declared.module.Sect.{Sect}
 use Rattle.elf_read.specs.declared.module.Sym.{Sym}
 use Rattle.elf_build.specs.File.{sect_name, sym_name, sect_content}
 
--- what is left of the contents, one section on
+-- the rest of the contents, one section further
 pub contents_left : (ss : List Sect) (i : ℕ) (d : Sect) → i < length ss → length (flat_map sect_content (drop i ss)) ≡ length (sect_content (get_or ss i d)) + length (flat_map sect_content (drop (i + 1) ss))
 contents_left ss i d h =
     ap (λ xs. length (flat_map sect_content xs)) (drop_more ss i d h)

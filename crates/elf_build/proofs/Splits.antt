@@ -23,7 +23,7 @@ each_split i (suc a) b rule h t =
     let g : i + 1 + a ≡ i + suc a = omega arith in
     ap (λ k. each i k rule) e ∙ split_by i a b rule (rule i) h (λ x. each_split (i + 1) a b rule x (ap (λ k. each k b rule) g ∙ t))
 
--- headers: number 0, the sections, three tables, the sections of relocations
+-- the headers: number 0, the sections, three tables, the tables of relocations
 pub each_header : (n k : ℕ) (rule : ℕ → Rule) → rule 0 ≡ Ok tt → each 1 n rule ≡ Ok tt → rule (n + 1) ≡ Ok tt → rule (n + 2) ≡ Ok tt → rule (n + 3) ≡ Ok tt → each (n + 4) k rule ≡ Ok tt → each 0 (n + k + 4) rule ≡ Ok tt
 each_header n k rule h0 hs h1 h2 h3 hr =
     let count : n + k + 4 ≡ suc (n + suc (suc (suc k))) = omega arith in
@@ -73,13 +73,13 @@ first_is i (suc n) (suc k) p l h t =
     else_branch (p i) i (first_from (i + 1) n p) (ap p e ∙ h 0 (omega arith))
     ∙ (first_is (i + 1) n k p (omega arith) (λ j m. let x : i + 1 + j ≡ i + suc j = omega arith in ap p x ∙ h (suc j) (omega arith)) (ap p g ∙ t) ∙ g)
 
--- below n, or n and more
+-- a number is below n, or it is n plus another
 pub split_at : (n k : ℕ) → (k < n) ⊎ ((q : ℕ) × (k ≡ n + q))
 split_at zero k = inr (k, (let e : k ≡ 0 + k = omega arith in e))
 split_at (suc n) zero = inl (omega arith)
 split_at (suc n) (suc k) = elim (split_at n k) [ inl l ↦ inl (omega arith) | inr q ↦ inr (q.0, (let a = q.1 in let e : suc k ≡ suc n + q.0 = omega arith in e)) ]
 
--- what holds of each header in front of the sections of relocations
+-- a property of each header before those of the tables of relocations
 pub front_headers : (n : ℕ) (Q : ℕ → Type 0) → Q 0 → ((k : ℕ) → k < n → Q (suc k)) → Q (n + 1) → Q (n + 2) → Q (n + 3) → (i : ℕ) → i < n + 4 → Q i
 front_headers n Q q0 qs q1 q2 q3 zero l = q0
 front_headers n Q q0 qs q1 q2 q3 (suc k) l =

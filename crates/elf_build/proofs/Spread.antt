@@ -1,4 +1,4 @@
--- Where the parts of a built file stand.
+-- The places of the parts of a built file.
 use Rattle.std.proofs.Common.{◌≡◌, ℕ, ◌+◌, ◌*◌, ◌<◌, ◌^◌, List, [], ◌∷◌, ◌++◌, length, drop, refl, subst, arith, length-append}
 use Rattle.elf_read.specs.declared.module.Sect.{Sect}
 use Rattle.elf_read.specs.declared.module.Module.{Module}
@@ -47,7 +47,7 @@ parts_stand m b =
       short = b.short;
     }
 
--- ---- the front
+-- ---- the ELF header
 
 pub headers_place : (bytes : List ℕ) (headers count names : ℕ) → Stands bytes 0 (front_of headers count names) → headers < 2 ^ 32 → word bytes 32 ≡ headers
 unfolding front_of

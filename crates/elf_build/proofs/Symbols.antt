@@ -86,7 +86,7 @@ not_elsewhere bytes ss (Section k) value size l h =
     ∙ ap not (ap (is_loaded bytes) e ∙ l.loaded k a))
 not_elsewhere bytes ss Elsewhere value size l h = absurd h
 
--- ---- the rule on symbols
+-- ---- the rule of symbols
 
 abbrev placed_at : ℕ → ℕ → Bool
 placed_at count n = nat_lt n count || (n == 0xfff1 || n == 0xfff2)
@@ -136,7 +136,7 @@ pub record SymReads (bytes : List ℕ) (place : ℕ) (strings : List ℕ) (secti
   pub short : length strings < 2 ^ 32
   pub loads : Loads bytes sections
 
--- entry number k is of this symbol
+-- entry number k is that of this symbol
 pub record SymAt (bytes : List ℕ) (k : ℕ) (s : Sym) : Type 0 where
   pub same : sym_of bytes k ≡ s
   pub stands : is_elsewhere bytes (symbol bytes k).section ≡ false

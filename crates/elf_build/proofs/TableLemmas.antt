@@ -79,7 +79,7 @@ table_step o symtab at section n rs d h e =
     ∙ (ap (λ s. o ++ (header_bytes (table_header symtab at s n) ++ table_headers symtab (at + 12 * n) rest)) e
     ∙ ap (λ xs. o ++ xs) (sym all))
 
--- ---- what tables hold
+-- ---- the contents of tables
 abbrev pub relocs_in : RelocTable → List Rel
 relocs_in t = t.relocs
 
@@ -96,7 +96,7 @@ pub flat_tables : (rs : List Rel) → flat_map relocs_in (tables_of rs) ≡ rs
 flat_tables [] = refl
 flat_tables (r ∷ rs) = flat_joined r (tables_of rs) ∙ ap (λ xs. r ∷ xs) (flat_tables rs)
 
--- a table has relocations, and they are of its section
+-- a table has relocations, and they are for its section
 pub record IsRelocTable (t : RelocTable) : Type 0 where
   pub some : 0 < length t.relocs
   pub same : All (λ r. r.section ≡ t.section) t.relocs

@@ -1,6 +1,5 @@
--- The file of a module: header, contents, symbols, relocations, names of symbols, names of sections, section headers.
--- The headers are number 0, those of the sections, of the symbol table, of both tables of names, and of the tables of
--- relocations.
+-- The file of a module: ELF header, contents, symbols, relocations, names of symbols, names of sections, section headers.
+-- The section headers are number 0, those of the sections, of the symbol table, of both tables of names, and of the tables of relocations.
 use Rattle.std.specs.Prelude.{ℕ, suc, ◌+◌, ◌*◌, ◌==◌, if◌then◌else◌, List, [], ◌∷◌, ◌++◌, length}
 use Rattle.std.specs.List.{flat_map}
 use Rattle.byteorder.specs.Endian.{big_bytes}
@@ -21,97 +20,108 @@ fixed_names =
     ∷ 46 ∷ 115 ∷ 104 ∷ 115 ∷ 116 ∷ 114 ∷ 116 ∷ 97 ∷ 98 ∷ 0
     ∷ 46 ∷ 114 ∷ 101 ∷ 108 ∷ 97 ∷ 0 ∷ []
 
--- where these names begin, and where the first name behind them
+-- the place of ".symtab" in the table of section names
 abbrev pub symtab_name : ℕ
 symtab_name = 1
 
+-- the place of ".strtab" there
 abbrev pub strtab_name : ℕ
 strtab_name = 9
 
+-- the place of ".shstrtab" there
 abbrev pub shstrtab_name : ℕ
 shstrtab_name = 17
 
+-- the place of ".rela" there
 abbrev pub rela_name : ℕ
 rela_name = 27
 
+-- the place of the first name after these
 abbrev pub first_name : ℕ
 first_name = 33
 
+-- a section's name with its terminating zero
 abbrev pub sect_name : Sect → List ℕ
 sect_name s = ended s.name
 
+-- a symbol's name with its terminating zero
 abbrev pub sym_name : Sym → List ℕ
 sym_name s = ended s.name
 
--- the names of sections
+-- the table of section names
 unfoldable pub names_of : List Sect → List ℕ
 names_of ss = fixed_names ++ flat_map sect_name ss
 
--- the names of symbols
+-- the table of symbol names
 unfoldable pub strings_of : List Sym → List ℕ
 strings_of ss = 0 ∷ flat_map sym_name ss
 
 -- ---- contents and symbols
+-- the content of a section in the file
 abbrev pub sect_content : Sect → List ℕ
 sect_content s = content_of s.body
 
+-- the contents of all sections
 unfoldable pub contents_of : List Sect → List ℕ
 contents_of ss = flat_map sect_content ss
 
--- the entries of symbols whose names begin at this place and behind it
+-- the entries of symbols; the first one's name begins at this place, the others' after it
 abbrev pub symbols_from : ℕ → List Sym → List ℕ
 symbols_from name [] = []
 symbols_from name (s ∷ ss) = symbol_bytes (sym_entry name s) ++ symbols_from (name + length s.name + 1) ss
 
--- number 0, and the symbols
+-- the symbol table: entry number 0, and the symbols
 unfoldable pub symbols_of : List Sym → List ℕ
 symbols_of ss = symbol_bytes no_symbol ++ symbols_from 1 ss
 
--- one more than the number of the last local symbol, for symbols from number k on
+-- the number of the last local symbol, plus 1, for symbols from number k on
 abbrev pub locals_from : ℕ → ℕ → List Sym → ℕ
 locals_from last k [] = last
 locals_from last k (s ∷ ss) = locals_from (if s.binding == 0 then k + 1 else last) (k + 1) ss
 
+-- the number of the last local symbol, plus 1
 abbrev pub locals_end : List Sym → ℕ
 locals_end ss = locals_from 1 1 ss
 
 -- ---- tables of relocations
--- relocations of one section, one behind another
+-- a table of relocations: consecutive relocations of one section
 pub record RelocTable : Type 0 where
   pub section : ℕ
   pub relocs : List Rel
 
--- a relocation in front of tables: in the first one, where that is of its section, else in a table of its own
+-- a relocation put before tables: in the first table, if that is for its section, otherwise in a table of its own
 abbrev pub joined : Rel → List RelocTable → List RelocTable
 joined r [] = record { section = r.section; relocs = r ∷ [] } ∷ []
 joined r (t ∷ ts) =
     if r.section == t.section then record { section = t.section; relocs = r ∷ t.relocs } ∷ ts
     else record { section = r.section; relocs = r ∷ [] } ∷ t ∷ ts
 
--- relocations in as few tables as their order allows: one for each section that has some, where their sections rise
+-- the relocations in as few tables as their order allows: one for each section with relocations, if they are in order of their sections
 abbrev pub tables_of : List Rel → List RelocTable
 tables_of [] = []
 tables_of (r ∷ rs) = joined r (tables_of rs)
 
--- how many relocations in front are of this section
+-- the number of relocations at the beginning of the list that are for this section
 abbrev pub leading : ℕ → List Rel → ℕ
 leading section [] = 0
 leading section (r ∷ rs) = if r.section == section then suc (leading section rs) else 0
 
+-- the bytes of a relocation's entry
 abbrev pub rel_bytes : Rel → List ℕ
 rel_bytes r = relocation_bytes (rel_entry r)
 
+-- the entries of all relocations
 unfoldable pub relocs_of : List Rel → List ℕ
 relocs_of rs = flat_map rel_bytes rs
 
 -- ---- section headers
--- the headers of sections whose names and contents begin at these places and behind them
+-- the headers of sections; the first one's name and content begin at these places, the others' after them
 abbrev pub sect_headers : ℕ → ℕ → List Sect → List ℕ
 sect_headers name at [] = []
 sect_headers name at (s ∷ ss) =
     header_bytes (sect_header name at s) ++ sect_headers (name + length s.name + 1) (at + length (sect_content s)) ss
 
--- the header of a table of relocations: which section's, where it begins, and how many there are
+-- the header of a table of relocations, from its section, its offset, and the number of its relocations
 unfoldable pub table_header : ℕ → ℕ → ℕ → ℕ → SectionHeader
 table_header symtab at section count = record {
   name = rela_name;
@@ -125,13 +135,14 @@ table_header symtab at section count = record {
   entry_size = rela_bytes;
 }
 
--- the headers of tables that begin at this place and behind it
+-- the headers of tables; the first table begins at this offset, the others after it
 abbrev pub table_headers : ℕ → ℕ → List RelocTable → List ℕ
 table_headers symtab at [] = []
 table_headers symtab at (t ∷ ts) =
     header_bytes (table_header symtab at t.section (length t.relocs))
     ++ table_headers symtab (at + rela_bytes * length t.relocs) ts
 
+-- section header number 0
 unfoldable pub null_header : SectionHeader
 null_header = record {
   name = 0;
@@ -174,36 +185,36 @@ symtab_header at size link locals = record {
 }
 
 -- ---- places
--- how many sections a module has
+-- the number of a module's sections
 abbrev pub count_of : Module → ℕ
 count_of m = length m.sections
 
--- how many section headers its file has
+-- the number of section headers in its file
 abbrev pub header_total : Module → ℕ
 header_total m = count_of m + length (tables_of m.relocs) + 4
 
--- where the symbol table begins
+-- the offset of the symbol table
 unfoldable pub symbols_at : Module → ℕ
 symbols_at m = ehdr_bytes + length (contents_of m.sections)
 
--- where the relocations begin
+-- the offset of the relocations
 unfoldable pub relocs_at : Module → ℕ
 relocs_at m = symbols_at m + length (symbols_of m.symbols)
 
--- where the names of symbols begin
+-- the offset of the names of symbols
 unfoldable pub strings_at : Module → ℕ
 strings_at m = relocs_at m + length (relocs_of m.relocs)
 
--- where the names of sections begin
+-- the offset of the names of sections
 unfoldable pub names_at : Module → ℕ
 names_at m = strings_at m + length (strings_of m.symbols)
 
--- where the section headers begin
+-- the offset of the section headers
 unfoldable pub headers_at : Module → ℕ
 headers_at m = names_at m + length (names_of m.sections)
 
 -- ---- the file
--- its section headers
+-- the section headers of the file
 unfoldable pub headers_of : Module → List ℕ
 headers_of m =
     header_bytes null_header
@@ -214,7 +225,7 @@ headers_of m =
     ++ (header_bytes (strings_header shstrtab_name (names_at m) (length (names_of m.sections)))
     ++ table_headers (count_of m + 1) (relocs_at m) (tables_of m.relocs)))))
 
--- the ELF header: where the section headers begin, how many they are, and which one is of the names
+-- the ELF header, from the offset and number of the section headers, and the number of the one for the section names
 unfoldable pub front_of : ℕ → ℕ → ℕ → List ℕ
 front_of headers count names =
     0x7f ∷ 0x45 ∷ 0x4c ∷ 0x46 ∷ 1 ∷ 2 ∷ 1 ∷ 0 ∷ 0 ∷ 0 ∷ 0 ∷ 0 ∷ 0 ∷ 0 ∷ 0 ∷ 0
@@ -223,6 +234,7 @@ front_of headers count names =
     ++ 0 ∷ 0 ∷ 0 ∷ 0 ∷ 0 ∷ 52 ∷ 0 ∷ 0 ∷ 0 ∷ 0 ∷ 0 ∷ 40
     ∷ (big_bytes 2 count ++ big_bytes 2 names))
 
+-- the whole file
 unfoldable pub file_of : Module → List ℕ
 file_of m =
     front_of (headers_at m) (header_total m) (count_of m + 3)

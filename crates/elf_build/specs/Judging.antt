@@ -1,4 +1,4 @@
--- What the test for a buildable module asks of each part.
+-- What the test `is_buildable` requires of each part.
 use Rattle.std.specs.Prelude.{◌≢◌, ℕ, ◌+◌, ◌<◌, ◌≤◌, List, length, slice_index_or, All}
 use Rattle.wind_base.specs.Limits.{most_section_headers, most_symbol_entries, most_relocations}
 use Rattle.elf_read.specs.declared.module.SymPlace.{SymPlace}
@@ -12,26 +12,26 @@ use Rattle.elf_read.specs.Modules.{IsSect, IsPlaced, IsSym, HoldsBytes}
 use Rattle.elf_build.specs.Buildable.{IsHere, SectFits, SymFits, RelFits, Rises}
 use Rattle.elf_build.specs.File.{header_total}
 
--- a section that can be loaded, and whose numbers fit
+-- a section that can be loaded, with numbers that fit
 abbrev pub IsBuildableSect : Sect → Type 0
 IsBuildableSect s = IsSect s × SectFits s
 
--- a symbol of this value and size can stand at this place, and the place is not in a section that is not loaded
+-- a symbol with this value and size can be at this place, and the place isn't a section that isn't loaded
 abbrev pub IsBuildablePlace : List Sect → SymPlace → ℕ → ℕ → Type 0
 IsBuildablePlace ss place value size = IsPlaced ss place value size × (place ≢ Elsewhere)
 
--- a symbol that stands here, and whose numbers fit
+-- a symbol that is here, with numbers that fit
 abbrev pub IsBuildableSym : List Sect → Sym → Type 0
 IsBuildableSym ss s = IsSym ss s × (IsHere s × SymFits s)
 
--- a relocation of bytes of a section, to one of so many symbols or to none; all symbols are asked to be here anyway
+-- a relocation inside a section's bytes, with one of the given number of symbols or none; that symbols are here is required elsewhere
 pub record IsBuildableRel (ss : List Sect) (symbols : ℕ) (r : Rel) : Type 0 where
   pub section : r.section < length ss
   pub inside : (d : Sect) → HoldsBytes (slice_index_or ss r.section d).body (r.offset + width r.kind)
   pub symbol : r.symbol ≤ symbols
   pub fits : RelFits r
 
--- the counts of a module are within their limits
+-- a module's counts are within their limits
 pub record IsSmall (m : Module) : Type 0 where
   pub headers : header_total m ≤ most_section_headers
   pub symbols : length m.symbols < most_symbol_entries

@@ -1,4 +1,4 @@
--- What the code that writes a file asks of a module, and where it puts the file's parts.
+-- What the code that writes a file requires of a module, and where it puts the file's parts.
 use Rattle.std.specs.Prelude.{◌≡◌, ℕ, ◌+◌, ◌*◌, ◌<◌, ◌≤◌, ◌^◌, List, ◌∷◌, ◌++◌, length, take, drop, slice_index_or, All}
 use Rattle.wind_base.specs.Limits.{most_section_headers, most_symbol_entries, most_relocations}
 use Rattle.elf_read.specs.declared.module.SymPlace.{SymPlace}
@@ -16,7 +16,7 @@ use Rattle.elf_build.specs.File.{tables_of, header_total, contents_of, symbols_o
 abbrev pub IsShort : Sect → Type 0
 IsShort s = size_of s.body < 2 ^ 32
 
--- a place has a section number
+-- a place has a section number that fits
 abbrev pub HasNumber : SymPlace → Type 0
 HasNumber (Section i) = i < most_section_headers
 HasNumber _ = Unit {0}
@@ -27,7 +27,7 @@ pub record HasEntry (s : Sym) : Type 0 where
   pub binding : s.binding ≤ stb_weak
   pub kind : s.kind ≤ stt_common
 
--- a relocation's symbol fits its entry, and its section a header
+-- a relocation's symbol fits its entry, and its section fits a header
 pub record HasNumbers (r : Rel) : Type 0 where
   pub symbol : r.symbol < most_symbol_entries
   pub section : r.section < most_section_headers
@@ -39,6 +39,7 @@ pub record LeadsTable (n : ℕ) (rs : List Rel) : Type 0 where
   pub table : (d : Rel) →
       tables_of rs ≡ record { section = (slice_index_or rs 0 d).section; relocs = take n rs } ∷ tables_of (drop n rs)
 
+-- what the code that writes a file requires of a module
 pub record Writable (m : Module) : Type 0 where
   pub few_headers : header_total m ≤ most_section_headers
   pub few_symbols : length m.symbols < most_symbol_entries
@@ -50,6 +51,7 @@ pub record Writable (m : Module) : Type 0 where
   pub ends : headers_at m < 2 ^ 32
   pub tables : relocs_at m + rela_bytes * length m.relocs ≤ headers_at m
 
+-- the offsets of the file's parts
 unfoldable pub layout_of : Module → Layout
 layout_of m = record {
   symbols = symbols_at m;

@@ -1,4 +1,4 @@
-//! The file of a module.
+//! The object file of a module.
 
 ghost use Rattle.std.specs.Prelude.{◌≡◌, ◌+◌, ◌*◌, ◌++◌, ◌^◌, ◌<◌, ◌≤◌, [], length, IfOk};
 ghost use Rattle.elf_read.specs.Contents.{ModuleOf};
@@ -18,7 +18,7 @@ use elf_read::standard::EHDR_BYTES;
 use std::alloc::{AllocError, Global};
 use wind_base::NoMemory;
 
-// Where the parts of a file begin, and where the section headers do.
+// The offsets at which the parts of a file and its section headers begin.
 #[derive(Clone, Copy, Drop)]
 struct Layout {
     symbols: u32,
@@ -28,7 +28,7 @@ struct Layout {
     headers: u32,
 }
 
-// The end of the file so far, its header included.
+// The offset of the end of the file so far, with its ELF header.
 fn end_of(parts: &[u8]) -> u32
     requires { 52 + length parts.now < 2 ^ 32 }
     ensures { result ≡ 52 + length parts.now }
@@ -104,8 +104,8 @@ fn put_file(alloc: Global, m: &Module) -> Result<Vec<u8>, AllocError>
     Ok(out)
 }
 
-/// The file that holds this module: ELF header, contents, symbols, relocations, names, and the section headers
-/// last. `is_buildable` is the test that a module has one.
+/// The object file of this module: ELF header, contents, symbols, relocations, names, and then the
+/// section headers. `is_buildable` tests whether a module has a file.
 #[tactic(auto, using(crate::proofs::Parts::writable))]
 pub fn build(alloc: Global, m: &Module) -> Result<Vec<u8>, NoMemory>
     requires { Buildable m.now }

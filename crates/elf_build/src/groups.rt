@@ -1,4 +1,4 @@
-//! Relocations of one section in a row, which make a table.
+//! Consecutive relocations of one section; they form a table.
 
 ghost use Rattle.std.specs.Prelude.{◌≡◌, ◌≤◌, ◌<◌, length, drop};
 ghost use Rattle.elf_build.specs.File.{leading as leading_of, tables_of};
@@ -6,7 +6,7 @@ ghost use Rattle.elf_build.specs.Writable.{LeadsTable};
 
 use elf_read::Rel;
 
-// How many relocations in front are of this section.
+// The number of relocations at the beginning of the list that are for this section.
 fn leading(section: u32, relocs: &[Rel]) -> usize
     ensures value { result ≡ leading_of section relocs.now }
     ensures within { result ≤ length relocs.now }
@@ -19,7 +19,7 @@ fn leading(section: u32, relocs: &[Rel]) -> usize
     relocs.len()
 }
 
-/// How many relocations the first table takes.
+/// The number of relocations in the first table.
 #[tactic(auto, using(crate::proofs::TableLemmas::leads_first))]
 pub(crate) fn first_len(relocs: &[Rel]) -> usize
     requires { 0 < length relocs.now }
@@ -28,7 +28,7 @@ pub(crate) fn first_len(relocs: &[Rel]) -> usize
     leading(relocs[0].section, relocs)
 }
 
-/// The relocations behind the first `n`.
+/// The relocations after the first `n`.
 pub(crate) fn behind(relocs: &[Rel], n: usize) -> &[Rel]
     requires { n ≤ length relocs.now }
     ensures { result.now ≡ drop n relocs.now }
@@ -36,7 +36,7 @@ pub(crate) fn behind(relocs: &[Rel], n: usize) -> &[Rel]
     &relocs[n..]
 }
 
-/// How many tables the relocations make.
+/// The number of tables that the relocations form.
 pub(crate) fn table_count(relocs: &[Rel]) -> usize
     ensures value { result ≡ length (tables_of relocs.now) }
     ensures few { result ≤ length relocs.now }

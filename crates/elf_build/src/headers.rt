@@ -1,4 +1,4 @@
-//! The ELF header and the section headers put behind bytes.
+//! Appends the ELF header and the section headers.
 
 ghost use Rattle.std.specs.Prelude.{◌≡◌, ◌+◌, ◌*◌, ◌++◌, ◌^◌, ◌<◌, ◌≤◌, length, IfOk};
 ghost use Rattle.std.specs.List.{All};
@@ -19,19 +19,19 @@ use elf_read::standard::{
 use elf_read::{Body, Rel, Sect, SectionHeader, Sym};
 use std::alloc::AllocError;
 
-/// Where `.symtab` stands among the names of sections.
+/// The place of `.symtab` in the table of section names.
 pub(crate) const SYMTAB_NAME: u32 = 1;
 
-/// Where `.strtab` stands there.
+/// The place of `.strtab` there.
 pub(crate) const STRTAB_NAME: u32 = 9;
 
-/// Where `.shstrtab` stands there.
+/// The place of `.shstrtab` there.
 pub(crate) const SHSTRTAB_NAME: u32 = 17;
 
-// Where `.rela` stands there.
+// The place of `.rela` there.
 const RELA_NAME: u32 = 27;
 
-/// Where the first name behind these stands.
+/// The place of the first name after these.
 pub(crate) const FIRST_NAME: u32 = 33;
 
 fn kind_of(body: &Body) -> u32
@@ -53,7 +53,7 @@ fn size_of(body: &Body) -> u32
     }
 }
 
-// The header of a section whose name and content begin at these places.
+// The header of a section, whose name and content begin at these places.
 #[tactic(auto, unfolding(crate::specs::Entries::sect_header))]
 fn sect_header(name: u32, at: u32, s: &Sect) -> SectionHeader
     requires { size_of_body s.now.body < 2 ^ 32 }
@@ -72,7 +72,7 @@ fn sect_header(name: u32, at: u32, s: &Sect) -> SectionHeader
     }
 }
 
-/// The headers of the module's sections.
+/// Appends the headers of the module's sections.
 #[tactic(auto, unfolding(crate::specs::File::contents_of), using(crate::proofs::Joins::two, crate::proofs::Sizes::contents_left))]
 pub(crate) fn put_sect_headers(out: &mut Vec<u8>, sections: &[Sect]) -> Result<(), AllocError>
     requires few { length sections.now ≤ most_section_headers }
@@ -90,7 +90,7 @@ pub(crate) fn put_sect_headers(out: &mut Vec<u8>, sections: &[Sect]) -> Result<(
     Ok(())
 }
 
-/// One more than the number of the last local symbol.
+/// The number of the last local symbol, plus 1.
 pub(crate) fn locals_end(symbols: &[Sym]) -> u32
     requires { length symbols.now < most_symbol_entries }
     ensures { result ≡ locals_end_of symbols.now }
@@ -104,7 +104,8 @@ pub(crate) fn locals_end(symbols: &[Sym]) -> u32
     last
 }
 
-// The header of a table of relocations: which section's, where it begins, and how many there are.
+// The header of a table of relocations, from its section, its offset, and the number of its
+// relocations.
 #[tactic(auto, unfolding(crate::specs::File::table_header))]
 fn table_header(symtab: u32, at: u32, section: u32, count: u32) -> SectionHeader
     requires few { count < 2 ^ 28 }
@@ -124,7 +125,7 @@ fn table_header(symtab: u32, at: u32, section: u32, count: u32) -> SectionHeader
     }
 }
 
-/// The headers of the tables of relocations, which begin at a place.
+/// Appends the headers of the tables of relocations; the first table begins at an offset.
 #[tactic(auto, using(crate::proofs::TableLemmas::table_step))]
 pub(crate) fn put_table_headers(
     out: &mut Vec<u8>,
@@ -203,7 +204,8 @@ pub(crate) fn symtab_header(at: u32, size: u32, link: u32, locals: u32) -> Secti
     }
 }
 
-/// The ELF header: where the section headers begin, how many they are, and which one is of the names.
+/// Appends the ELF header, from the offset and number of the section headers, and the number of the
+/// one for the section names.
 #[tactic(auto, unfolding(crate::specs::File::front_of), using(crate::proofs::Joins::five))]
 pub(crate) fn put_front(
     out: &mut Vec<u8>,

@@ -140,9 +140,9 @@ fn is_small(m: &Module) -> bool
         && m.symbols.as_slice().len() < SYMBOL_ENTRIES as usize
 }
 
-/// Whether a module has a file, which is then what `build` makes of it: all that a file's rules ask of it holds,
-/// no symbol stands in a section that is not loaded, no name has a zero, the relocations stand by rising section,
-/// and the file is shorter than 4 GiB.
+/// Whether a module has a file, which `build` then makes. It has one if it meets all rules of files
+/// and the file is shorter than 4 GiB. Besides, no symbol may be in a section that isn't loaded, no
+/// name may have a zero, and the relocations must be in order of their sections.
 #[tactic(auto, using(crate::proofs::Judged::judged, crate::proofs::Judged::unjudged))]
 pub fn is_buildable(m: &Module) -> bool
     ensures { IsTrue result ↔ Buildable m.now }

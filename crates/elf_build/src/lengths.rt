@@ -1,4 +1,4 @@
-//! How long the file of a module is.
+//! The length of a module's file.
 
 ghost use Rattle.std.specs.Prelude.{◌≡◌, ◌+◌, ◌*◌, ◌<◌, ◌≤◌, ◌^◌, length};
 ghost use Rattle.std.specs.List.{All, flat_map};
@@ -52,7 +52,7 @@ fn sym_names_len(symbols: &[Sym]) -> usize
     sum
 }
 
-/// How many bytes the file of a module has.
+/// The length of a module's file, in bytes.
 #[tactic(auto, using(crate::proofs::Length::length_formula))]
 pub(crate) fn file_len(m: &Module) -> usize
     requires small { IsSmall m.now }

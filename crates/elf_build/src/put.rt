@@ -1,4 +1,4 @@
-//! Numbers and entries put behind bytes.
+//! Appends numbers and entries.
 
 ghost use Rattle.std.specs.Prelude.{◌≡◌, ◌++◌, ◌∷◌, [], ◌^◌, ◌<◌, IfOk};
 ghost use Rattle.std.specs.List.{flat_map};
@@ -8,28 +8,28 @@ ghost use Rattle.elf_build.specs.Entries.{header_bytes, symbol_bytes, relocation
 use elf_read::{RelaEntry, SectionHeader, SymbolEntry};
 use std::alloc::AllocError;
 
-/// Bytes.
+/// Appends bytes.
 pub(crate) fn put_bytes(out: &mut Vec<u8>, piece: &[u8]) -> Result<(), AllocError>
     ensures { IfOk result (λ u. out.new.items ≡ out.old.items ++ piece.now) }
 {
     out.extend_from_slice(piece)
 }
 
-/// A number of two bytes.
+/// Appends a number of two bytes, high byte first.
 pub(crate) fn put_half(out: &mut Vec<u8>, n: u16) -> Result<(), AllocError>
     ensures { IfOk result (λ u. out.new.items ≡ out.old.items ++ big_bytes 2 n) }
 {
     put_bytes(out, &n.to_be_bytes())
 }
 
-/// A number of four bytes.
+/// Appends a number of four bytes, high byte first.
 pub(crate) fn put_word(out: &mut Vec<u8>, n: u32) -> Result<(), AllocError>
     ensures { IfOk result (λ u. out.new.items ≡ out.old.items ++ big_bytes 4 n) }
 {
     put_bytes(out, &n.to_be_bytes())
 }
 
-/// A name, and the zero that ends it.
+/// Appends a name and its terminating zero.
 #[tactic(auto, using(crate::proofs::Joins::two))]
 pub(crate) fn put_name(out: &mut Vec<u8>, name: &[u8]) -> Result<(), AllocError>
     ensures { IfOk result (λ u. out.new.items ≡ out.old.items ++ ended name.now) }
@@ -38,7 +38,7 @@ pub(crate) fn put_name(out: &mut Vec<u8>, name: &[u8]) -> Result<(), AllocError>
     put_bytes(out, &[0])
 }
 
-// Numbers of four bytes each.
+// Appends numbers of four bytes each.
 #[tactic(auto, using(crate::proofs::Joins::flat_step))]
 fn put_words(out: &mut Vec<u8>, words: &[u32]) -> Result<(), AllocError>
     ensures { IfOk result (λ u. out.new.items ≡ out.old.items ++ flat_map (big_bytes 4) words.now) }
@@ -49,7 +49,7 @@ fn put_words(out: &mut Vec<u8>, words: &[u32]) -> Result<(), AllocError>
     Ok(())
 }
 
-/// A section header.
+/// Appends a section header.
 #[tactic(auto, unfolding(crate::specs::Entries::header_bytes))]
 pub(crate) fn put_header(out: &mut Vec<u8>, h: SectionHeader) -> Result<(), AllocError>
     ensures { IfOk result (λ u. out.new.items ≡ out.old.items ++ header_bytes h) }
@@ -71,7 +71,7 @@ pub(crate) fn put_header(out: &mut Vec<u8>, h: SectionHeader) -> Result<(), Allo
     )
 }
 
-/// An entry of a symbol table.
+/// Appends a symbol table entry.
 #[tactic(auto, unfolding(crate::specs::Entries::symbol_bytes), using(crate::proofs::Joins::five))]
 pub(crate) fn put_symbol(out: &mut Vec<u8>, e: SymbolEntry) -> Result<(), AllocError>
     ensures { IfOk result (λ u. out.new.items ≡ out.old.items ++ symbol_bytes e) }
@@ -83,7 +83,7 @@ pub(crate) fn put_symbol(out: &mut Vec<u8>, e: SymbolEntry) -> Result<(), AllocE
     put_half(out, e.section)
 }
 
-/// An entry of a table of relocations.
+/// Appends a relocation entry.
 #[tactic(auto, unfolding(crate::specs::Entries::relocation_bytes), using(crate::proofs::Joins::three))]
 pub(crate) fn put_relocation(out: &mut Vec<u8>, r: RelaEntry) -> Result<(), AllocError>
     ensures { IfOk result (λ u. out.new.items ≡ out.old.items ++ relocation_bytes r) }

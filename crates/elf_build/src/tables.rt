@@ -1,4 +1,4 @@
-//! Contents, names, symbols and relocations put behind bytes.
+//! Appends contents, names, symbols and relocations.
 
 ghost use Rattle.std.specs.Prelude.{◌≡◌, ◌+◌, ◌*◌, ◌++◌, ◌^◌, ◌<◌, ◌≤◌, length, IfOk};
 ghost use Rattle.std.specs.List.{All, flat_map};
@@ -13,7 +13,7 @@ use elf_read::standard::{SHN_ABS, SHN_COMMON, SHN_UNDEF};
 use elf_read::{Body, Rel, RelaEntry, Sect, Sym, SymPlace, SymbolEntry};
 use std::alloc::AllocError;
 
-/// What a section holds in the file.
+/// The content of a section in the file.
 pub(crate) fn content(body: &Body) -> &[u8]
     ensures { result.now ≡ content_of_body body.now }
 {
@@ -23,7 +23,7 @@ pub(crate) fn content(body: &Body) -> &[u8]
     }
 }
 
-/// What all sections hold.
+/// Appends the contents of all sections.
 #[tactic(auto, unfolding(crate::specs::File::contents_of), using(crate::proofs::Joins::flat_step))]
 pub(crate) fn put_contents(out: &mut Vec<u8>, sections: &[Sect]) -> Result<(), AllocError>
     ensures { IfOk result (λ u. out.new.items ≡ out.old.items ++ contents_of sections.now) }
@@ -34,7 +34,7 @@ pub(crate) fn put_contents(out: &mut Vec<u8>, sections: &[Sect]) -> Result<(), A
     Ok(())
 }
 
-// The names that each file has.
+// Appends the names that are in each file.
 #[tactic(auto, unfolding(crate::specs::File::fixed_names))]
 fn put_fixed_names(out: &mut Vec<u8>) -> Result<(), AllocError>
     ensures { IfOk result (λ u. out.new.items ≡ out.old.items ++ fixed_names) }
@@ -52,7 +52,7 @@ fn put_sect_names(out: &mut Vec<u8>, sections: &[Sect]) -> Result<(), AllocError
     Ok(())
 }
 
-/// The names of sections.
+/// Appends the table of section names.
 #[tactic(auto, unfolding(crate::specs::File::names_of), using(crate::proofs::Joins::two))]
 pub(crate) fn put_names(out: &mut Vec<u8>, sections: &[Sect]) -> Result<(), AllocError>
     ensures { IfOk result (λ u. out.new.items ≡ out.old.items ++ names_of sections.now) }
@@ -71,7 +71,7 @@ fn put_sym_names(out: &mut Vec<u8>, symbols: &[Sym]) -> Result<(), AllocError>
     Ok(())
 }
 
-/// The names of symbols.
+/// Appends the table of symbol names.
 #[tactic(auto, unfolding(crate::specs::File::strings_of), using(crate::proofs::Joins::two))]
 pub(crate) fn put_strings(out: &mut Vec<u8>, symbols: &[Sym]) -> Result<(), AllocError>
     ensures { IfOk result (λ u. out.new.items ≡ out.old.items ++ strings_of symbols.now) }
@@ -80,7 +80,7 @@ pub(crate) fn put_strings(out: &mut Vec<u8>, symbols: &[Sym]) -> Result<(), Allo
     put_sym_names(out, symbols)
 }
 
-// The section number of a place.
+// The section number for a place.
 fn number_of(place: SymPlace) -> u16
     requires { HasNumber place }
     ensures { result ≡ number_of_place place }
@@ -94,7 +94,7 @@ fn number_of(place: SymPlace) -> u16
     }
 }
 
-// The entry of a symbol whose name begins at this place.
+// The entry of a symbol, whose name begins at this place.
 #[tactic(auto, unfolding(crate::specs::Entries::sym_entry))]
 fn sym_entry(name: u32, s: &Sym) -> SymbolEntry
     requires { HasEntry s.now }
@@ -123,7 +123,7 @@ fn put_symbols_from(out: &mut Vec<u8>, symbols: &[Sym]) -> Result<(), AllocError
     Ok(())
 }
 
-/// The symbol table.
+/// Appends the symbol table.
 #[tactic(auto, unfolding(crate::specs::File::symbols_of), using(crate::proofs::Joins::two))]
 pub(crate) fn put_symbols(out: &mut Vec<u8>, symbols: &[Sym]) -> Result<(), AllocError>
     requires few { length symbols.now < most_symbol_entries }
@@ -154,7 +154,7 @@ fn rel_entry(r: Rel) -> RelaEntry
     }
 }
 
-/// The relocations.
+/// Appends the relocations.
 #[tactic(auto, unfolding(crate::specs::File::relocs_of), using(crate::proofs::Joins::flat_step))]
 pub(crate) fn put_relocs(out: &mut Vec<u8>, relocs: &[Rel]) -> Result<(), AllocError>
     requires { All HasNumbers relocs.now }

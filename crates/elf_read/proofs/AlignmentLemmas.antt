@@ -17,8 +17,8 @@ or_rest : (a b : Bool) → b ≡ true → (a || b) ≡ true
 or_rest true b h = refl
 or_rest false b h = h
 
--- ---- numbers that a function makes
--- number i + k of those from i on is there
+-- ---- numbers that a function gives
+-- the number for i + k is in the list
 made_there : (f : ℕ → ℕ) (n i k : ℕ) → k < n → has_number (map f (range_with_len i n)) (f (i + k)) ≡ true
 made_there f zero i k l = absurd (omega arith)
 made_there f (suc n) i zero l =
@@ -29,7 +29,7 @@ made_there f (suc n) i (suc k) l =
     or_rest (f i == f (i + suc k)) (has_number (map f (range_with_len (i + 1) n)) (f (i + suc k)))
     (subst (λ j. has_number (map f (range_with_len (i + 1) n)) (f j) ≡ true) e (made_there f n (i + 1) k (omega arith)))
 
--- one of the first n numbers from i on
+-- x is the number for one of the n arguments from i on
 abbrev Made : (ℕ → ℕ) → ℕ → ℕ → ℕ → Type 0
 Made f n i x = (k : ℕ) × ((k < n) × (x ≡ f (i + k)))
 

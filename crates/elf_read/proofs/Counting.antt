@@ -1,4 +1,4 @@
--- Lists, sums and searches over numbers: how long they are, and what stands in them.
+-- Lists, sums and searches over numbers: their lengths and contents.
 use Rattle.std.proofs.Common.{◌≡◌, ℕ, zero, suc, ◌+◌, ◌-◌, ◌<◌, ◌≤◌, List, [], ◌∷◌, ◌++◌, length, get_or, Bool, true, false, refl, sym, ◌∙◌, ap, subst, arith, length-append, append_assoc}
 use Rattle.std.specs.Prelude.{if◌then◌else◌}
 use Rattle.std.specs.List.{All}
@@ -50,7 +50,7 @@ gathered_parts (suc k) i n f =
     ∙ (ap (λ zs. f i ++ zs) (gathered_parts k (i + 1) n f ∙ ap (λ m. gathered (i + 1) k f ++ gathered m n f) e)
     ∙ sym (append_assoc (f i) (gathered (i + 1) k f) (gathered (i + suc k) n f)))
 
--- what stands behind the lists of the numbers before k, where number k lists one item
+-- the item after the lists for the numbers before k, if the list for k is one item
 pub item_at : {X : Type 0} (k n : ℕ) (f : ℕ → List X) (g : ℕ → ℕ) (x d : X) → ((j : ℕ) → length (f j) ≡ g j) → k < n → f k ≡ x ∷ [] → get_or (gathered 0 n f) (total k g) d ≡ x
 item_at k n f g x d h l is =
     let m = n - (k + 1) in
@@ -64,7 +64,7 @@ item_at k n f g x d h l is =
     ap (λ zs. get_or zs (total k g) d) whole
     ∙ (ap (λ j. get_or (gathered 0 k f ++ (x ∷ [] ++ rest)) j d) len ∙ get_or-append-add (gathered 0 k f) (x ∷ [] ++ rest) 0 d)
 
--- number k of a list with one item for each of n numbers from i on
+-- item k of a list with one item for each of n numbers from i on
 pub one_at : {X : Type 0} (n i k : ℕ) (f : ℕ → X) (d : X) → k < n → get_or (gathered i n (λ j. f j ∷ [])) k d ≡ f (i + k)
 one_at zero i k f d l = absurd (omega arith)
 one_at (suc n) i zero f d l = let e : i ≡ i + 0 = omega arith in ap f e
@@ -80,7 +80,7 @@ total_up (suc n) i g =
     let next = total_more i g in
     omega arith
 
--- a number that counts 1 among n
+-- a number below n that counts 1
 pub total_below : (k n : ℕ) (g : ℕ → ℕ) → k < n → g k ≡ 1 → total k g < total n g
 total_below k n g l one =
     let next = total_more k g in
@@ -89,12 +89,12 @@ total_below k n g l one =
     let t : total (k + 1 + (n - (k + 1))) g ≡ total n g = ap (λ j. total j g) e in
     omega arith
 
--- each number counts 1 at most
+-- each number counts at most 1
 pub total_few : (n : ℕ) (g : ℕ → ℕ) → ((j : ℕ) → g j ≤ 1) → total n g ≤ n
 total_few zero g h = omega arith
 total_few (suc n) g h = let more = total_few n g h in let here = h n in omega arith
 
--- a bound that holds wherever something is added
+-- a bound that holds at each number where something is added
 pub total_bound : (n bound : ℕ) (g : ℕ → ℕ) → ((j : ℕ) → j < n → 0 < g j → total (j + 1) g ≤ bound) → total n g ≤ bound
 total_bound zero bound g h = omega arith
 total_bound (suc n) bound g h = by (total_bound n bound g (λ j l p. h j (omega arith) p)) (g n) refl

@@ -10,7 +10,7 @@ before_more : (rs : List Rule) (n : ℕ) → ((i : ℕ) → i < n → slice_get 
 before_more rs n h zero l = refl
 before_more rs n h (suc i) l = h i (omega arith)
 
--- one rule in front of others
+-- one rule before others
 in_front : (r : Rule) (rs : List Rule) (e : ElfErr) → (first_of rs ≡ Err e → IsFirst rs e) → (r and_then first_of rs) ≡ Err e → IsFirst (r ∷ rs) e
 in_front (Err d) rs e more h = record { number = 0; fails = ap Some h; before = λ i l. absurd (omega arith) }
 in_front (Ok tt') rs e more h =

@@ -1,4 +1,4 @@
--- Steps of lists and sums that are made number by number.
+-- Steps of lists and sums that are computed number by number.
 use Rattle.std.proofs.Common.{◌≡◌, ℕ, suc, ◌+◌, ◌-◌, ◌<◌, ◌≤◌, List, [], ◌∷◌, ◌++◌, sym, ◌∙◌, ap, arith, map, get_or, length, append_assoc, append-nil}
 use Rattle.std.specs.List.{range_with_len}
 use Rattle.std.proofs.lemmas.List.FromFn.{map-range_with_len_more, get_or-map-range_with_len, length-map-range_with_len}
@@ -31,7 +31,7 @@ first_passed i n p h other = first_more i n p h ∙ ap (λ b. if b then i else f
 pub gathered_empty : {X : Type 0} (i n : ℕ) (f : ℕ → List X) → n ≤ i → gathered i (n - i) f ≡ []
 gathered_empty i n f h = let e : n - i ≡ 0 = omega arith in ap (λ k. gathered i k f) e
 
--- a list made by number: one more, and what it holds
+-- a list of numbers: one more number, and its items
 pub numbers_more : (f : ℕ → ℕ) (n : ℕ) → map f (range_with_len 0 (n + 1)) ≡ map f (range_with_len 0 n) ++ f n ∷ []
 numbers_more f n = map-range_with_len_more f 0 n n (omega arith)
 
@@ -41,7 +41,7 @@ number_at f n i h = get_or-map-range_with_len f 0 n i i 0 h (omega arith)
 pub numbers_count : (xs : List ℕ) (f : ℕ → ℕ) (n : ℕ) → xs ≡ map f (range_with_len 0 n) → length xs ≡ n
 numbers_count xs f n h = ap length h ∙ length-map-range_with_len f 0 n
 
--- what is listed for number i goes behind what was listed before it
+-- the list for number i goes after those before it
 pub gathered_step : {X : Type 0} (xs ys : List X) (i n : ℕ) (f : ℕ → List X) → i < n → ys ≡ f i → (xs ++ ys) ++ gathered (i + 1) (n - (i + 1)) f ≡ xs ++ gathered i (n - i) f
 gathered_step xs ys i n f h e =
     append_assoc xs ys (gathered (i + 1) (n - (i + 1)) f)

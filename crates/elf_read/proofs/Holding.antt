@@ -1,4 +1,4 @@
--- What is known of each module that a file holds, by the rules that do not refuse the file.
+-- What is known of a file's module, by the rules that don't refuse the file.
 use Rattle.std.proofs.Common.{◌≡◌, ℕ, zero, suc, ◌+◌, ◌-◌, ◌/◌, ◌<◌, ◌≤◌, List, [], ◌∷◌, length, get_or, take, drop, refl, sym, ◌∙◌, ap, subst, arith, length-take, length-drop, Bool, true, false, Ok}
 use Rattle.std.specs.Prelude.{◌≢◌, ◌==◌, ◌&&◌, ◌||◌, not, nat_lt, nat_le, bit_and, if◌then◌else◌}
 use Rattle.std.specs.List.{All, list_any}
@@ -124,7 +124,7 @@ align_right n h = by (n == 0) h
     by true h = one_alignment
     by false h = h
 
--- what a section holds lies in the file, where it holds bytes
+-- the content of a section is in the file, if the section has bytes
 held : (h : SectionHeader) → CanLoad h → (h.kind == sht_nobits) ≡ false → has_content h ≡ true
 unfolding has_content
 held h can off = by (h.kind == sht_null) refl (h.kind == sht_nobits) off
@@ -223,7 +223,7 @@ few_sections bytes p =
     by false = omega arith
 
 -- ---- symbols
--- what the rule of symbols says of an entry
+-- what the rule of symbols says about an entry
 record RightSymbol (bytes : List ℕ) (e : SymbolEntry) : Type 0 where
   name : has_name (symbol_names bytes) e.name ≡ true
   binding : st_bind e.info ≤ stb_weak
@@ -350,7 +350,7 @@ some_applied bytes i k l = by (is_applied bytes i) l
     by true l = refl
     by false l = absurd (omega arith)
 
--- what the rule of relocations says of one
+-- what the rule of relocations says about a relocation
 record RightRelocation (bytes : List ℕ) (target : SectionHeader) (r : RelaEntry) : Type 0 where
   held : (target.kind == sht_nobits) ≡ false
   number : r_sym r.info < symbol_count bytes
@@ -380,7 +380,7 @@ holds_bytes bytes p i n loaded off l = by ((header bytes i).kind == sht_nobits) 
     by true q = cc
     by false q = let all = length_content bytes p i (loaded_low bytes i loaded) (held (header bytes i) (loads_right bytes p i loaded) off) in omega arith
 
--- a symbol of a section that is there and not elsewhere is here
+-- a symbol is here if its section exists and isn't one that isn't loaded
 is_here : (bytes : List ℕ) (e : SymbolEntry) → has_place bytes e ≡ true → is_elsewhere bytes e.section ≡ false → place_of bytes e.section ≢ Elsewhere
 unfolding place_of has_place is_elsewhere
 is_here bytes e place off = by (e.section == shn_undef) (e.section == shn_abs) (e.section == shn_common) (nat_lt e.section (header_count bytes)) (is_loaded bytes e.section) place off

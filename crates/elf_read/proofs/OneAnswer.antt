@@ -1,4 +1,4 @@
--- Each file has one answer, and want of memory is none of its refusals.
+-- Each file has one result, and running out of memory isn't the refusal of a rule.
 use Rattle.std.proofs.Common.{◌≡◌, ◌⊎◌, inl, inr, ℕ, zero, suc, ◌+◌, ◌-◌, List, [], ◌∷◌, Ok, Err, Bool, true, false, refl}
 use Rattle.std.specs.Prelude.{◌==◌, ◌||◌, nat_lt, nat_le}
 use Rattle.std.specs.List.{AllByRecursion}
@@ -30,7 +30,7 @@ answer_by bytes (Err d) h = inr (record {
 pub one_answer : OneAnswer
 one_answer bytes = answer_by bytes (checked bytes) refl
 
--- ---- want of memory
+-- ---- out of memory
 
 abbrev IsClean : Rule → Type 0
 IsClean r = r ≡ Err NoMemory → ⊥
@@ -91,7 +91,7 @@ clean_table bytes i =
 clean_relocations : (bytes : List ℕ) (i : ℕ) → IsClean (relocations_rule bytes i)
 clean_relocations bytes i = clean_each 0 (rela_count bytes i) (relocation_rule bytes i) (λ k. clean_unless _ (BadReloc _) (λ e. cc))
 
--- no rule of a list refuses for want of memory
+-- no rule of a list refuses because memory ran out
 clean_first : (rs : List Rule) → AllByRecursion IsClean rs → IsClean (first_of rs)
 clean_first [] h k = cc
 clean_first (r ∷ rs) (p, ps) k = clean_and r (first_of rs) p (clean_first rs ps) k

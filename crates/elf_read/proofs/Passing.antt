@@ -1,4 +1,4 @@
--- What follows where rules hold.
+-- What follows if rules hold.
 use Rattle.std.proofs.Common.{◌≡◌, ℕ, zero, suc, ◌+◌, ◌<◌, ◌≤◌, List, [], ◌∷◌, Ok, Err, Some, Bool, true, false, refl, sym, ◌∙◌, ap, arith}
 use Rattle.std.specs.Prelude.{◌&&◌, not, nat_lt, nat_le, slice_get}
 use Rattle.std.proofs.lemmas.Bool.Decides.{nat_tests}
@@ -41,13 +41,13 @@ pub when_holds : (b : Bool) (r : Rule) → b ≡ true → when b r ≡ Ok tt →
 when_holds true r is h = h
 when_holds false r is h = cc
 
--- rule number i of a list that holds
+-- rule number i of a list of rules that hold
 pub holds_at : (rs : List Rule) → first_of rs ≡ Ok tt → (i : ℕ) (r : Rule) → slice_get rs i ≡ Some r → r ≡ Ok tt
 holds_at [] h i r at = cc
 holds_at (s ∷ rs) h zero r at = let e : s ≡ r = cc in sym e ∙ first_holds s (first_of rs) h
 holds_at (s ∷ rs) h (suc i) r at = holds_at rs (rest_holds s (first_of rs) h) i r at
 
--- a rule for each of n numbers, at the number j behind the first
+-- a rule for each of n numbers from i on, at the j-th number after the first
 pub each_holds : (n i j : ℕ) (rule : ℕ → Rule) → each i n rule ≡ Ok tt → j < n → rule (i + j) ≡ Ok tt
 each_holds zero i j rule h l = absurd (omega arith)
 each_holds (suc n) i zero rule h l = let e : i + 0 ≡ i = omega arith in ap rule e ∙ first_holds (rule i) (each (i + 1) n rule) h

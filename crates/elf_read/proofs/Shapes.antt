@@ -1,4 +1,4 @@
--- The outline of what a file holds, from the shapes of its sections.
+-- The outline of a file's module, from the shapes of its sections.
 use Rattle.std.proofs.Common.{◌≡◌, ℕ, zero, suc, ◌+◌, ◌-◌, List, ◌++◌, map, refl, sym, ap, ap₂, ◌∙◌}
 use Rattle.std.proofs.lemmas.List.{map-append}
 use Rattle.elf_read.specs.declared.module.Sym.{Sym}

@@ -1,4 +1,4 @@
--- What a file holds that no rule refuses.
+-- The module of a file that no rule refuses.
 use Rattle.std.specs.Prelude.{◌≡◌, ℕ, ◌-◌, if◌then◌else◌, ◌==◌, List, [], ◌∷◌, drop, Ok, ◌⊎◌}
 use Rattle.elf_read.specs.declared.error.ElfErr.{ElfErr}
 use Rattle.elf_read.specs.declared.error.ElfErr.TheVariants as errors
@@ -17,16 +17,16 @@ use Rattle.elf_read.specs.Numbered.{gathered}
 use Rattle.elf_read.specs.Rules.{checked, Refused}
 use Rattle.elf_read.specs.Tables.{header_count, header, content, is_loaded, loaded_before, section_names, symbol_count, symbol, symbol_names, rela_count, relocation}
 
--- the name at place k of a string table
+-- the name at index k of a string table
 abbrev pub name_at : List ℕ → ℕ → List ℕ
 name_at strings k = text_of (drop k strings)
 
 -- ---- sections
--- what section number i, which has this header, holds when it is loaded
+-- the content of section number i, which has this header, when it is loaded
 abbrev pub body_of : List ℕ → ℕ → SectionHeader → Body
 body_of bytes i h = if h.kind == sht_nobits then Size h.size else Bytes (content bytes i)
 
--- the section of header number i; alignment 0 stands for 1
+-- the section with header number i; alignment 0 means 1
 unfoldable pub sect_of : List ℕ → ℕ → Sect
 sect_of bytes i = record {
   name = name_at (section_names bytes) (header bytes i).name;
@@ -35,12 +35,12 @@ sect_of bytes i = record {
   body = body_of bytes i (header bytes i);
 }
 
--- that section, where it is loaded
+-- that section, if it is loaded
 abbrev pub sects_at : List ℕ → ℕ → List Sect
 sects_at bytes i = if is_loaded bytes i then sect_of bytes i ∷ [] else []
 
 -- ---- symbols
--- where a symbol of section number n stands
+-- the place of a symbol whose section is number n
 unfoldable pub place_of : List ℕ → ℕ → SymPlace
 place_of bytes n =
     if n == shn_undef then Undefined
@@ -60,6 +60,7 @@ sym_of bytes k = record {
   place = place_of bytes (symbol bytes k).section;
 }
 
+-- that symbol, in a list
 abbrev pub syms_at : List ℕ → ℕ → List Sym
 syms_at bytes k = sym_of bytes k ∷ []
 
@@ -74,12 +75,12 @@ rel_of bytes i k = record {
   addend = (relocation bytes i k).addend;
 }
 
--- those of section number i, where they are of a loaded section
+-- the relocations of section number i, if they are for a loaded section
 unfoldable pub rels_at : List ℕ → ℕ → List Rel
 rels_at bytes i = gathered 0 (rela_count bytes i) (λ k. rel_of bytes i k ∷ [])
 
 -- ---- the module
--- the loaded sections, the symbols behind number 0 and the relocations of loaded sections, each in the file's order
+-- the loaded sections, the symbols after number 0, and the relocations of loaded sections, each in the file's order
 unfoldable pub module_at : List ℕ → Module
 module_at bytes = record {
   sections = gathered 0 (header_count bytes) (sects_at bytes);
@@ -87,11 +88,11 @@ module_at bytes = record {
   relocs = gathered 0 (header_count bytes) (rels_at bytes);
 }
 
--- no rule refuses the file, and m is what it holds
+-- no rule refuses the file, and m is its module
 pub record ModuleOf (bytes : List ℕ) (m : Module) : Type 0 where
   pub passes : checked bytes ≡ Ok tt
   pub holds : m ≡ module_at bytes
 
--- e is the refusal of the file, or want of memory
+-- e is the refusal of the file, or memory ran out
 abbrev pub FailsRightly : List ℕ → ElfErr → Type 0
 FailsRightly bytes e = (e ≡ errors.NoMemory) ⊎ Refused bytes e

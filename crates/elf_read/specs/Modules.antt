@@ -1,4 +1,4 @@
--- What is known of each module that a file holds.
+-- What is known of the module of a file.
 use Rattle.std.specs.Prelude.{◌≡◌, ◌≢◌, ℕ, ◌+◌, ◌-◌, ◌<◌, ◌≤◌, true, false, ◌==◌, bit_and, List, length, slice_index_or, All}
 use Rattle.wind_base.specs.Limits.{longest_name, most_section_headers, most_symbol_entries, most_relocations, most_section_bytes}
 use Rattle.elf_read.specs.declared.module.Body.{Body}
@@ -14,13 +14,13 @@ use Rattle.elf_read.specs.Tables.{width}
 use Rattle.elf_read.specs.Rules.{is_alignment}
 use Rattle.elf_read.specs.Contents.{ModuleOf}
 
--- a name that a string table can hold: of 255 bytes at most, none of them zero
+-- a name that a string table can hold: at most 255 bytes, none of them zero
 pub record IsName (name : List ℕ) : Type 0 where
   pub size : length name ≤ longest_name
   pub no_zero : All (λ b. b ≢ 0) name
 
 -- ---- sections
--- how many bytes a section takes when it is loaded
+-- the size in bytes of a section when it is loaded
 abbrev pub size_of : Body → ℕ
 size_of (Bytes bs) = length bs
 size_of (Size n) = n
@@ -34,7 +34,7 @@ pub record IsSect (s : Sect) : Type 0 where
   pub size : size_of s.body ≤ most_section_bytes
 
 -- ---- symbols
--- a symbol of this value and size can stand at this place: in its section or at its end, or in room that can be given
+-- a symbol with this value and size can be at this place: in its section or at its end, or common with a valid alignment and size
 abbrev pub IsPlaced : List Sect → SymPlace → ℕ → ℕ → Type 0
 IsPlaced ss Undefined value size = Unit {0}
 IsPlaced ss Absolute value size = Unit {0}
@@ -50,12 +50,12 @@ pub record IsSym (ss : List Sect) (s : Sym) : Type 0 where
   pub place : IsPlaced ss s.place s.value s.size
 
 -- ---- relocations
--- a section has so many bytes, and they are no zeros that it stands for
+-- a section has at least this many bytes in the file; it isn't all zeros
 abbrev pub HoldsBytes : Body → ℕ → Type 0
 HoldsBytes (Bytes bs) n = n ≤ length bs
 HoldsBytes (Size k) n = ⊥
 
--- a relocation of a module with these sections and symbols: it changes bytes, and its symbol, if it has one, is here
+-- a relocation of a module with these sections and symbols: it is inside its section's bytes, and its symbol, if it has one, is here
 pub record IsRel (ss : List Sect) (ys : List Sym) (r : Rel) : Type 0 where
   pub section : r.section < length ss
   pub inside : (d : Sect) → HoldsBytes (slice_index_or ss r.section d).body (r.offset + width r.kind)
@@ -71,6 +71,6 @@ pub record IsModule (m : Module) : Type 0 where
   pub symbols : All (IsSym m.sections) m.symbols
   pub relocs : All (IsRel m.sections m.symbols) m.relocs
 
--- what a file holds is such a module
+-- the module of a file is such a module
 abbrev pub HoldsModule : Type 0
 HoldsModule = (bytes : List ℕ) (m : Module) → ModuleOf bytes m → IsModule m

@@ -1,4 +1,4 @@
--- The outline of a module: what it is without the bytes of its sections and without its relocations.
+-- The outline of a module: the module without the bytes of its sections and without relocations.
 use Rattle.std.specs.Prelude.{Bool, true, false, map}
 use Rattle.elf_read.specs.declared.module.Body.{Body}
 use Rattle.elf_read.specs.declared.module.Body.TheVariants.{Bytes, Size}
@@ -13,7 +13,7 @@ abbrev pub has_bytes : Body → Bool
 has_bytes (Bytes bs) = true
 has_bytes (Size n) = false
 
--- how a section lies in memory
+-- the shape of a section in memory
 abbrev pub shape_of : Sect → Shape
 shape_of s = record { flags = s.flags; align = s.align; size = size_of s.body; has_bytes = has_bytes s.body }
 

@@ -6,7 +6,7 @@ use Rattle.elf_read.specs.declared.error.ElfErr.{ElfErr}
 abbrev pub Rule : Type 0
 Rule = Result Unit ElfErr
 
--- the first rule, and where it holds the second
+-- the first rule, and if it holds, the second
 infixr 10 ◌and_then◌
 abbrev pub ◌and_then◌ : Rule → Rule → Rule
 (Ok u) and_then r = r
@@ -17,7 +17,7 @@ abbrev pub unless : Bool → ElfErr → Rule
 unless true e = Ok tt
 unless false e = Err e
 
--- the rule, where b holds
+-- the rule, if b holds
 abbrev pub when : Bool → Rule → Rule
 when true r = r
 when false r = Ok tt

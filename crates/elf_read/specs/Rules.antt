@@ -1,4 +1,4 @@
--- The rules of an object file in their order. Offsets are those of the field, the header or the entry that fails.
+-- The rules of an object file, in order. Offsets are those of the field, header or entry that fails.
 use Rattle.std.specs.Prelude.{◌≡◌, ℕ, ◌+◌, ◌-◌, ◌/◌, ◌%◌, Bool, ◌&&◌, ◌||◌, not, nat_lt, nat_le, ◌==◌, bit_and, List, [], ◌∷◌, length, slice_index, Ok, Err}
 use Rattle.wind_base.specs.Limits.{most_section_headers, most_symbol_entries, most_relocations, most_section_bytes}
 use Rattle.elf_read.specs.declared.error.ElfErr.{ElfErr}
@@ -13,28 +13,28 @@ use Rattle.elf_read.specs.Numbered.{total}
 use Rattle.elf_read.specs.Tables.{header_count, header_place, header, is_loaded, is_elsewhere, has_name, has_number, section_names, is_symtab, symtab, has_symtab, symbol_count, symbol_place, symbol, symbol_names, rela_count, rela_place, relocation, width}
 
 -- ---- the file's header
--- the file has one
+-- the file has a header
 abbrev pub length_rule : List ℕ → Rule
 length_rule bytes = unless (nat_le ehdr_bytes (length bytes)) (Short (length bytes))
 
--- these bytes stand at place i and behind it
+-- these bytes are in the file from offset i on
 abbrev pub ident_from : ℕ → List ℕ → List ℕ → Rule
 ident_from i [] bytes = Ok tt
 ident_from i (b ∷ bs) bytes = unless (slice_index bytes i == b) (NotElf i) and_then ident_from (i + 1) bs bytes
 
--- an ELF file of 32 bits, high byte first, of the current version
+-- a 32-bit, big-endian ELF file of the current version
 abbrev pub ident_rule : List ℕ → Rule
 ident_rule bytes = ident_from 0 ident bytes
 
--- for this processor
+-- a file for PowerPC
 abbrev pub machine_rule : List ℕ → Rule
 machine_rule bytes = unless (half bytes e_machine == em_ppc) (NotPpc e_machine)
 
--- relocatable
+-- a relocatable file
 abbrev pub type_rule : List ℕ → Rule
 type_rule bytes = unless (half bytes e_type == et_rel) (NotRel e_type)
 
--- there are section headers, not too many; one of them is that of the names; they lie in the file
+-- there are section headers, not too many; one of them is that of the section names; they are in the file
 abbrev pub headers_rule : List ℕ → Rule
 headers_rule bytes =
     unless (half bytes e_shentsize == shdr_bytes) (BadSection e_shentsize)
@@ -44,27 +44,28 @@ headers_rule bytes =
     and_then unless (nat_le (header_place bytes (header_count bytes)) (length bytes)) (Short e_shoff)
 
 -- ---- sections
--- a section of this header holds something in the file
+-- a section with this header has content in the file
 unfoldable pub has_content : SectionHeader → Bool
 has_content h = not (h.kind == sht_null) && not (h.kind == sht_nobits)
 
--- what section number i holds lies in the file
+-- the content of section number i is in the file
 abbrev pub content_rule : List ℕ → ℕ → Rule
 content_rule bytes i =
     when (has_content (header bytes i))
     (unless (nat_le ((header bytes i).offset + (header bytes i).size) (length bytes))
     (Short (header_place bytes i + sh_offset)))
 
--- the sections' names stand in a string table
+-- the section names are in a string table
 abbrev pub strings_rule : List ℕ → Rule
 strings_rule bytes =
     unless ((header bytes (half bytes e_shstrndx)).kind == sht_strtab)
     (BadSection (header_place bytes (half bytes e_shstrndx)))
 
--- section number i has a name there
+-- section number i has a valid name there
 abbrev pub name_rule : List ℕ → ℕ → Rule
 name_rule bytes i = unless (has_name (section_names bytes) (header bytes i).name) (BadSection (header_place bytes i))
 
+-- the section names are in a string table, and each section has one
 abbrev pub names_rule : List ℕ → Rule
 names_rule bytes = strings_rule bytes and_then each 0 (header_count bytes) (name_rule bytes)
 
@@ -72,22 +73,23 @@ names_rule bytes = strings_rule bytes and_then each 0 (header_count bytes) (name
 abbrev pub alignments : List ℕ
 alignments = 1 ∷ 2 ∷ 4 ∷ 8 ∷ 16 ∷ 32 ∷ 64 ∷ 128 ∷ 256 ∷ 512 ∷ 1024 ∷ 2048 ∷ 4096 ∷ 8192 ∷ 16384 ∷ 32768 ∷ 65536 ∷ []
 
+-- a number is an alignment: a power of two up to 65,536
 unfoldable pub is_alignment : ℕ → Bool
 is_alignment n = has_number alignments n
 
--- a section of this header can be loaded; alignment 0 stands for 1
+-- a section with this header can be loaded; alignment 0 means 1
 unfoldable pub is_loadable : SectionHeader → Bool
 is_loadable h =
     (h.kind == sht_progbits || (h.kind == sht_note || h.kind == sht_nobits))
     && ((bit_and h.flags shf_tls_or_compressed == 0)
     && ((h.align == 0 || is_alignment h.align) && nat_le h.size most_section_bytes))
 
--- section number i, if it is to be loaded, can be
+-- section number i can be loaded, if it is to be loaded
 abbrev pub load_rule : List ℕ → ℕ → Rule
 load_rule bytes i = when (is_loaded bytes i) (unless (is_loadable (header bytes i)) (BadSection (header_place bytes i)))
 
 -- ---- symbols
--- section number i is the only symbol table so far, and of the right form
+-- section number i is the first symbol table, and valid
 unfoldable pub is_right_symtab : List ℕ → ℕ → Bool
 is_right_symtab bytes i =
     (i == symtab bytes)
@@ -96,27 +98,28 @@ is_right_symtab bytes i =
     && (nat_lt (header bytes i).link (header_count bytes)
     && ((header bytes (header bytes i).link).kind == sht_strtab))))
 
--- section number i, if it is a symbol table, is a right one without too many entries
+-- section number i, if it is a symbol table, is valid and hasn't too many entries
 abbrev pub symtab_rule : List ℕ → ℕ → Rule
 symtab_rule bytes i =
     when (is_symtab bytes i)
     (unless (is_right_symtab bytes i) (BadSection (header_place bytes i))
     and_then unless (nat_le ((header bytes i).size / sym_bytes) most_symbol_entries) (TooMany (header_place bytes i)))
 
--- a symbol's section is one of the file's, or it is absolute or common
+-- a symbol's section exists, or the symbol is absolute or common
 unfoldable pub has_place : List ℕ → SymbolEntry → Bool
 has_place bytes e = nat_lt e.section (header_count bytes) || (e.section == shn_abs || e.section == shn_common)
 
--- a symbol of a loaded section lies in it or at its end; section number 0 is none
+-- a symbol of a loaded section is in it or at its end; section number 0 is not a section
 unfoldable pub lies_inside : List ℕ → SymbolEntry → Bool
 lies_inside bytes e =
     e.section == shn_undef
     || (not (is_loaded bytes e.section) || nat_le e.value (header bytes e.section).size)
 
--- a common symbol, whose value is its alignment, can be given room
+-- a common symbol, whose value is its alignment, has a valid alignment and size
 unfoldable pub is_right_common : SymbolEntry → Bool
 is_right_common e = not (e.section == shn_common) || (is_alignment e.value && nat_le e.size most_section_bytes)
 
+-- a symbol is valid: its name, its binding and type, its place, and its value and size
 unfoldable pub is_right_symbol : List ℕ → SymbolEntry → Bool
 is_right_symbol bytes e =
     has_name (symbol_names bytes) e.name
@@ -124,12 +127,12 @@ is_right_symbol bytes e =
     && (nat_le (st_type e.info) stt_common
     && (has_place bytes e && (lies_inside bytes e && is_right_common e))))
 
--- symbol number k is right
+-- symbol number k is valid
 abbrev pub symbol_rule : List ℕ → ℕ → Rule
 symbol_rule bytes k = unless (is_right_symbol bytes (symbol bytes k)) (BadSymbol (symbol_place bytes k))
 
 -- ---- relocations
--- section number i is a table of relocations with addends, of the right form
+-- section number i is a valid table of relocations with addends
 unfoldable pub is_right_table : List ℕ → ℕ → Bool
 is_right_table bytes i =
     ((header bytes i).kind == sht_rela)
@@ -137,8 +140,8 @@ is_right_table bytes i =
     && (((header bytes i).size % rela_bytes == 0)
     && (has_symtab bytes && ((header bytes i).link == symtab bytes))))
 
--- section number i, if it has relocations, names a section; if that is loaded, i is a right table, and the relocations
--- up to there are not too many
+-- section number i, if it has relocations, names a section; if that is loaded, i is a valid table, and there aren't too many relocations
+-- up to and including this table
 abbrev pub table_rule : List ℕ → ℕ → Rule
 table_rule bytes i =
     when ((header bytes i).kind == sht_rela || (header bytes i).kind == sht_rel)
@@ -147,7 +150,7 @@ table_rule bytes i =
     (unless (is_right_table bytes i) (BadSection (header_place bytes i))
     and_then unless (nat_le (total (i + 1) (rela_count bytes)) most_relocations) (TooMany (header_place bytes i))))
 
--- a relocation changes bytes of its target, and its symbol is there and not elsewhere
+-- a relocation is inside its section's bytes, and its symbol exists and isn't in a section that isn't loaded
 unfoldable pub is_right_relocation : List ℕ → SectionHeader → RelaEntry → Bool
 is_right_relocation bytes target r =
     not (target.kind == sht_nobits)
@@ -155,17 +158,18 @@ is_right_relocation bytes target r =
     && ((r_sym r.info == 0 || not (is_elsewhere bytes (symbol bytes (r_sym r.info)).section))
     && nat_le (r.offset + width (r_type r.info)) target.size))
 
--- relocation number k of section number i is right
+-- relocation number k of section number i is valid
 abbrev pub relocation_rule : List ℕ → ℕ → ℕ → Rule
 relocation_rule bytes i k =
     unless (is_right_relocation bytes (header bytes (header bytes i).info) (relocation bytes i k))
     (BadReloc (rela_place bytes i k))
 
+-- all relocations of section number i are valid
 abbrev pub relocations_rule : List ℕ → ℕ → Rule
 relocations_rule bytes i = each 0 (rela_count bytes i) (relocation_rule bytes i)
 
 -- ---- all rules
--- in their order
+-- the rules, in order
 abbrev pub rules_of : List ℕ → List Rule
 rules_of bytes =
     length_rule bytes
@@ -182,7 +186,7 @@ rules_of bytes =
     ∷ each 0 (header_count bytes) (relocations_rule bytes)
     ∷ []
 
--- the first that fails
+-- the first rule that fails
 unfoldable pub checked : List ℕ → Rule
 checked bytes = first_of (rules_of bytes)
 

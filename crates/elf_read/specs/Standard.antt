@@ -1,16 +1,16 @@
--- The words of the ELF format and their numbers: System V ABI, edition 4.1, "Object Files", and its PowerPC supplement.
+-- The numbers of the ELF format: System V ABI, edition 4.1, "Object Files", and the PowerPC Processor Supplement.
 use Rattle.std.specs.Prelude.{ℕ, ◌/◌, ◌%◌, List, [], ◌∷◌}
 
 -- ---- the ELF header
--- how many bytes it has
+-- its size in bytes
 abbrev pub ehdr_bytes : ℕ
 ehdr_bytes = 52
 
--- the front of e_ident: the magic number, 32-bit objects, high byte first, the current version
+-- the beginning of e_ident: the magic number, 32-bit objects, high byte first, the current version
 abbrev pub ident : List ℕ
 ident = 0x7f ∷ 0x45 ∷ 0x4c ∷ 0x46 ∷ 1 ∷ 2 ∷ 1 ∷ []
 
--- where its fields stand
+-- the places of its fields, as offsets in bytes
 abbrev pub e_type : ℕ
 e_type = 16
 
@@ -37,7 +37,7 @@ abbrev pub em_ppc : ℕ
 em_ppc = 20
 
 -- ---- section headers
--- how many bytes one has, and where its field sh_offset stands in it
+-- the size in bytes of a header, and the place of its field sh_offset
 abbrev pub shdr_bytes : ℕ
 shdr_bytes = 40
 
@@ -80,7 +80,7 @@ abbrev pub shf_tls_or_compressed : ℕ
 shf_tls_or_compressed = 0xc00
 
 -- ---- the symbol table
--- how many bytes an entry has
+-- the size in bytes of an entry
 abbrev pub sym_bytes : ℕ
 sym_bytes = 16
 
@@ -101,7 +101,7 @@ st_bind info = info / 16
 abbrev pub st_type : ℕ → ℕ
 st_type info = info % 16
 
--- the greatest binding and the greatest type that the ABI names: STB_WEAK and STT_COMMON
+-- the greatest binding and the greatest type that the ABI defines: STB_WEAK and STT_COMMON
 abbrev pub stb_weak : ℕ
 stb_weak = 2
 
@@ -109,7 +109,7 @@ abbrev pub stt_common : ℕ
 stt_common = 5
 
 -- ---- relocations
--- how many bytes an entry with an addend has
+-- the size in bytes of an entry with an addend
 abbrev pub rela_bytes : ℕ
 rela_bytes = 12
 
@@ -120,11 +120,11 @@ r_sym info = info / 256
 abbrev pub r_type : ℕ → ℕ
 r_type info = info % 256
 
--- the types that change a half word: R_PPC_ADDR16, its _LO, _HI and _HA, and R_PPC_UADDR16
+-- the types that change a halfword: R_PPC_ADDR16, its _LO, _HI and _HA, and R_PPC_UADDR16
 abbrev pub half_types : List ℕ
 half_types = 3 ∷ 4 ∷ 5 ∷ 6 ∷ 25 ∷ []
 
--- the types that change a word: R_PPC_ADDR32, R_PPC_ADDR24, R_PPC_ADDR14 and its two with a hint, R_PPC_REL24,
--- R_PPC_REL14 and its two with a hint, R_PPC_UADDR32 and R_PPC_REL32
+-- the types that change a word: R_PPC_ADDR32, R_PPC_ADDR24, R_PPC_ADDR14 and its two with a branch hint, R_PPC_REL24,
+-- R_PPC_REL14 and its two with a branch hint, R_PPC_UADDR32 and R_PPC_REL32
 abbrev pub word_types : List ℕ
 word_types = 1 ∷ 2 ∷ 7 ∷ 8 ∷ 9 ∷ 10 ∷ 11 ∷ 12 ∷ 13 ∷ 24 ∷ 26 ∷ []

@@ -1,4 +1,4 @@
-//! All rules in their order.
+//! All rules, in order.
 
 ghost use Rattle.std.specs.Prelude.{◌≡◌};
 ghost use Rattle.elf_read.specs.Rules.{checked};
@@ -10,8 +10,8 @@ use crate::section_rules::{check_contents, check_loads, check_names};
 use crate::symbol_rules::{check_symbols, check_symtabs};
 use crate::tables::symtab;
 
-/// All rules of an object file in their order, up to the first that fails, which is the refusal. It takes
-/// no memory, and time for each byte and each entry of the file.
+/// Checks all rules of an object file in order. The first rule that fails is the refusal. It takes
+/// no memory, and time for each byte and entry of the file.
 #[tactic(auto, unfolding(crate::specs::Rules::checked))]
 pub fn check(bytes: &[u8]) -> Result<(), ElfErr>
     ensures { result ≡ checked bytes.now }

@@ -2,32 +2,32 @@
 
 use thiserror::Error;
 
-/// Why a file is refused, with the offset in it of the field, the header or the entry that a rule refuses;
-/// a file without a header is refused at its end.
+/// Why a file is refused. The number is the offset in the file, in bytes, of the field, header or
+/// entry that a rule refuses. For a file without a header it is the end of the file.
 #[derive(Clone, Copy, Debug, PartialEq, Eq, Error)]
 pub enum ElfErr {
-    /// The file ends before its header, its section headers or what a section holds.
+    /// The file ends before the end of its header, its section headers or a section's content.
     #[error("short file at {0}")]
     Short(u64),
-    /// The file does not begin as an ELF file of 32 bits with the high byte first.
+    /// The file doesn't begin as a 32-bit, big-endian ELF file.
     #[error("not ELF at {0}")]
     NotElf(u64),
     /// The file is for another processor.
     #[error("not PowerPC at {0}")]
     NotPpc(u64),
-    /// The file is not relocatable.
+    /// The file isn't a relocatable file.
     #[error("not relocatable at {0}")]
     NotRel(u64),
-    /// A field that places the section headers, or a section header, is not of the form that is read.
+    /// A section header, or a field that locates the section headers, is invalid.
     #[error("bad section at {0}")]
     BadSection(u64),
-    /// A symbol is not of the form that is read.
+    /// A symbol is invalid.
     #[error("bad symbol at {0}")]
     BadSymbol(u64),
-    /// A relocation does not lie in its section, or its symbol is not there.
+    /// A relocation isn't inside its section, or its symbol doesn't exist.
     #[error("bad relocation at {0}")]
     BadReloc(u64),
-    /// There are more section headers, symbols or relocations than are read.
+    /// There are more section headers, symbols or relocations than the limits allow.
     #[error("too many entries at {0}")]
     TooMany(u64),
     /// Host memory ran out.

@@ -22,7 +22,7 @@ pub(crate) fn check_length(bytes: &[u8]) -> Result<(), ElfErr>
     Ok(())
 }
 
-// These bytes stand in front.
+// The file begins with these bytes.
 fn check_front(bytes: &[u8], front: &[u8]) -> Result<(), ElfErr>
     ensures { result ≡ ident_from 0 front.now bytes.now }
 {
@@ -34,14 +34,14 @@ fn check_front(bytes: &[u8], front: &[u8]) -> Result<(), ElfErr>
     Ok(())
 }
 
-/// It is an ELF file of 32 bits, high byte first, of the current version.
+/// It is a 32-bit, big-endian ELF file of the current version.
 pub(crate) fn check_ident(bytes: &[u8]) -> Result<(), ElfErr>
     ensures { result ≡ ident_rule bytes.now }
 {
     check_front(bytes, &IDENT)
 }
 
-/// It is for this processor.
+/// It is for PowerPC.
 pub(crate) fn check_machine(bytes: &[u8]) -> Result<(), ElfErr>
     ensures { result ≡ machine_rule bytes.now }
 {
@@ -61,7 +61,8 @@ pub(crate) fn check_type(bytes: &[u8]) -> Result<(), ElfErr>
     Ok(())
 }
 
-/// The section headers lie in the file, and one of them is that of the names.
+/// There are section headers, within the limit and in the file, and one of them is that of the
+/// section names.
 pub(crate) fn check_headers(bytes: &[u8]) -> Result<(), ElfErr>
     ensures { result ≡ headers_rule bytes.now }
 {

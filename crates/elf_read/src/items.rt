@@ -1,10 +1,10 @@
-//! The lists that a module is made of.
+//! Lists, of which a module consists.
 
 ghost use Rattle.std.specs.Prelude.{◌≡◌};
 
 use std::marker::Model;
 
-/// Items in order. Contracts see them as a list.
+/// Items in order. A contract sees them as a list.
 #[derive(Drop)]
 pub struct Items<T> {
     kept: Vec<T>,
@@ -22,7 +22,7 @@ impl<T> Model for Items<T> {
 }
 
 impl<T> Items<T> {
-    /// These items. It takes no memory.
+    /// The items of a `Vec`. It takes no memory.
     pub fn from_vec(kept: Vec<T>) -> Items<T>
         ensures { result ≡ kept.items }
     {

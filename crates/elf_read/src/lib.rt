@@ -1,5 +1,5 @@
-//! Relocatable object files for PowerPC (ELF, System V ABI): what a file holds, or the first rule that
-//! refuses it.
+//! Relocatable object files for PowerPC (ELF, System V ABI): reads the module of a file, or finds
+//! the first rule that refuses the file.
 #![tactic(auto)]
 
 mod checking;

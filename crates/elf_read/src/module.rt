@@ -1,4 +1,4 @@
-//! What an object file holds.
+//! The module of an object file.
 
 use crate::items::Items;
 use wind_base::Name;
@@ -6,82 +6,93 @@ use wind_base::Name;
 /// Bytes in order.
 pub type Bytes = Items<u8>;
 
-/// Sections in the order of their numbers.
+/// Sections, by section number.
 pub type SectList = Items<Sect>;
 
-/// Symbols in the order of their numbers.
+/// Symbols, by symbol number.
 pub type SymList = Items<Sym>;
 
-/// Relocations in the order of the file.
+/// Relocations, in the order of the file.
 pub type RelList = Items<Rel>;
 
-/// What a section holds when it is loaded.
+/// The content of a loaded section.
 #[derive(Drop)]
 pub enum Body {
     /// These bytes.
     Bytes(Bytes),
-    /// So many zeros.
+    /// The given number of zeros.
     Size(u32),
 }
 
-/// A section that is loaded.
+/// A loaded section.
 #[derive(Drop)]
 pub struct Sect {
+    /// Its name.
     pub name: Name,
     /// `sh_flags` of its header.
     pub flags: u32,
     /// The alignment of its first byte: a power of two up to 65,536.
     pub align: u32,
+    /// Its content.
     pub body: Body,
 }
 
-/// Where a symbol stands.
+/// The place of a symbol.
 #[derive(Clone, Copy, Debug, PartialEq, Eq, Drop)]
 pub enum SymPlace {
-    /// Nowhere in this file.
+    /// The symbol isn't defined in this file.
     Undefined,
-    /// At its value.
+    /// The symbol's value is absolute.
     Absolute,
-    /// In room that is still to be given: the value is its alignment.
+    /// The symbol is common: its room is still to be allocated, and its value is the alignment.
     Common,
-    /// In the section of this number among those that are loaded, from 0 on; the value is the offset there.
+    /// The symbol is in this section; loaded sections are numbered from 0 on. Its value is the
+    /// offset there, in bytes.
     Section(u32),
-    /// In a section that is not loaded.
+    /// The symbol is in a section that isn't loaded.
     Elsewhere,
 }
 
 /// A symbol.
 #[derive(Drop)]
 pub struct Sym {
+    /// Its name. It can be empty.
     pub name: Name,
-    /// The binding of the ABI: 0 local, 1 global, 2 weak.
+    /// Its binding (System V ABI): 0 is local, 1 global, 2 weak.
     pub binding: u8,
-    /// The type of the ABI, from 0 to 5.
+    /// Its type (System V ABI), from 0 to 5.
     pub kind: u8,
+    /// Its value, as its place says.
     pub value: u32,
-    /// In bytes; 0, where it has none or none is known.
+    /// Its size in bytes. 0 if it has none, or if it isn't known.
     pub size: u32,
+    /// Its place.
     pub place: SymPlace,
 }
 
 /// A relocation.
 #[derive(Clone, Copy, Debug, PartialEq, Eq, Drop)]
 pub struct Rel {
-    /// The number of the section that it changes, among those that are loaded, from 0 on.
+    /// The section that it changes; loaded sections are numbered from 0 on.
     pub section: u32,
-    /// Where in that section, in bytes.
+    /// The offset in that section, in bytes.
     pub offset: u32,
-    /// The type of the PowerPC supplement.
+    /// The type (System V ABI, PowerPC Processor Supplement).
     pub kind: u8,
-    /// The number of its symbol, from 1 on; 0, where it has none.
+    /// The number of its symbol, from 1 on. 0 if it has no symbol.
     pub symbol: u32,
+    /// The addend.
     pub addend: u32,
 }
 
-/// What an object file holds: its loaded sections, all its symbols, and the relocations of its loaded sections.
+/// The module of an object file: the loaded sections, all symbols, and the relocations of the
+/// loaded sections.
 #[derive(Drop)]
 pub struct Module {
+    /// The loaded sections.
     pub sections: SectList,
+    /// All symbols, from number 1 on.
     pub symbols: SymList,
+    /// The relocations of the loaded sections.
     pub relocs: RelList,
 }

@@ -1,4 +1,4 @@
-//! What an object file holds, without the bytes of its sections.
+//! The outline of an object file: its module without the sections' bytes.
 
 ghost use Rattle.std.specs.Prelude.{◌≡◌, ◌<◌, ◌^◌, ◌++◌, Ok, IfOk, IfErr, map};
 ghost use Rattle.elf_read.specs.Contents.{body_of as body_at, sect_of as sect_at, sects_at, module_at, FailsRightly};
@@ -19,28 +19,29 @@ use crate::tables::{content, header, header_count, is_loaded, symtab};
 use std::alloc::{AllocError, Global};
 use wind_base::NoMemory;
 
-/// How a loaded section lies in memory.
+/// The shape of a loaded section in memory.
 #[derive(Clone, Copy, Debug, PartialEq, Eq, Drop)]
 pub struct Shape {
     /// `sh_flags` of its header.
     pub flags: u32,
     /// The alignment of its first byte: a power of two up to 65,536.
     pub align: u32,
-    /// In bytes.
+    /// The size in bytes.
     pub size: u64,
-    /// Whether the file holds its bytes. The bytes of any other section are zeros.
+    /// Whether the file holds the section's bytes. If not, they are zeros.
     pub has_bytes: bool,
 }
 
-/// What an object file holds, without the bytes of its sections and without its relocations.
+/// The module of an object file, without the sections' bytes and without relocations.
 #[derive(Drop)]
 pub struct Outline {
-    /// The loaded sections in the order of their numbers.
+    /// The shapes of the loaded sections, by section number.
     pub shapes: Items<Shape>,
+    /// All symbols, from number 1 on.
     pub symbols: SymList,
 }
 
-// How many bytes section number `i` has in memory.
+// The size in bytes of section number `i` in memory.
 fn size_at(bytes: &[u8], i: usize, h: SectionHeader) -> u64
     requires low { i < 2 ^ 16 }
     requires is { h ≡ header_at bytes.now i }
@@ -77,7 +78,7 @@ fn read_shape(bytes: &[u8], i: usize) -> Shape
     }
 }
 
-// Adds the shape of section number `i`, if it is loaded.
+// Adds the shape of section number `i`, if the section is loaded.
 fn read_shapes_at(list: &mut Vec<Shape>, bytes: &[u8], i: usize) -> Result<(), AllocError>
     requires { i < 2 ^ 16 }
     ensures { IfOk result (λ u. list.new.items ≡ list.old.items ++ map shape_of (sects_at bytes.now i)) }
@@ -115,8 +116,8 @@ fn gather_outline(alloc: Global, bytes: &[u8]) -> Result<Outline, AllocError>
     })
 }
 
-/// Reads the outline of the module that an object file holds, or answers the refusal of the first rule that fails. It copies
-/// no byte of a section.
+/// Reads the outline of an object file's module, or returns the refusal of the first rule that
+/// fails. It copies no bytes of a section.
 #[tactic(auto, using(crate::proofs::Holding::module_is))]
 pub fn read_outline(alloc: Global, bytes: &[u8]) -> Result<Outline, ElfErr>
     ensures outline { IfOk result (λ o. o ≡ outline_of (module_at bytes.now)) }
@@ -131,7 +132,7 @@ pub fn read_outline(alloc: Global, bytes: &[u8]) -> Result<Outline, ElfErr>
     Ok(o)
 }
 
-/// Reads the module of a file whose outline was read.
+/// Reads the module of a file, given its outline.
 #[tactic(auto, unfolding(crate::specs::Contents::module_at))]
 pub fn fill(alloc: Global, bytes: &[u8], outline: Outline) -> Result<Module, NoMemory>
     requires { outline ≡ outline_of (module_at bytes.now) }
@@ -144,7 +145,7 @@ pub fn fill(alloc: Global, bytes: &[u8], outline: Outline) -> Result<Module, NoM
     }
 }
 
-/// How a section lies in memory.
+/// The shape of a section in memory.
 pub fn find_shape(s: &Sect) -> Shape
     ensures { result ≡ shape_of s.now }
 {

@@ -1,4 +1,5 @@
-//! Numbers, pieces and entries at places of a file. What lies past the file's end reads as 0 or as nothing.
+//! Numbers, pieces and entries at offsets of a file. Numbers after the end of the file are 0, and
+//! pieces are empty.
 
 ghost use Rattle.std.specs.Prelude.{◌≡◌, ◌+◌, ◌*◌, ◌≤◌, ◌<◌, ◌^◌, length, slice_index, drop};
 ghost use Rattle.elf_read.specs.Places.{half as half_at, word as word_at, part as part_at, header_at, symbol_at, rela_at, text_of};
@@ -6,14 +7,14 @@ ghost use Rattle.elf_read.specs.Places.{half as half_at, word as word_at, part a
 use crate::entries::{RelaEntry, SectionHeader, SymbolEntry};
 use byteorder::{BigEndian, ByteOrder};
 
-/// The byte at a place.
+/// The byte at an offset.
 pub(crate) fn byte(bytes: &[u8], at: usize) -> u8
     ensures { result ≡ slice_index bytes.now at }
 {
     if at < bytes.len() { bytes[at] } else { 0 }
 }
 
-/// The number of two bytes at a place.
+/// The number of two bytes at an offset, high byte first.
 #[tactic(auto, unfolding(crate::specs::Places::half))]
 pub(crate) fn half(bytes: &[u8], at: usize) -> u16
     requires { at < 2 ^ 40 }
@@ -26,7 +27,7 @@ pub(crate) fn half(bytes: &[u8], at: usize) -> u16
     }
 }
 
-/// The number of four bytes at a place.
+/// The number of four bytes at an offset, high byte first.
 #[tactic(auto, unfolding(crate::specs::Places::word))]
 pub(crate) fn word(bytes: &[u8], at: usize) -> u32
     requires { at < 2 ^ 40 }
@@ -39,7 +40,7 @@ pub(crate) fn word(bytes: &[u8], at: usize) -> u32
     }
 }
 
-/// What stands behind a place.
+/// The bytes from an offset on.
 pub(crate) fn rest_at(bytes: &[u8], at: usize) -> &[u8]
     ensures { result.now ≡ drop at bytes.now }
 {
@@ -50,7 +51,7 @@ pub(crate) fn rest_at(bytes: &[u8], at: usize) -> &[u8]
     }
 }
 
-/// So many bytes at a place; fewer, where the file ends before.
+/// The given number of bytes at an offset, or fewer if the file ends before.
 pub(crate) fn part(bytes: &[u8], at: usize, size: usize) -> &[u8]
     ensures { result.now ≡ part_at bytes.now at size }
 {
@@ -62,7 +63,7 @@ pub(crate) fn part(bytes: &[u8], at: usize, size: usize) -> &[u8]
     }
 }
 
-/// The text in front, up to a zero.
+/// The bytes before the first zero.
 pub(crate) fn text(bytes: &[u8]) -> &[u8]
     ensures { result.now ≡ text_of bytes.now }
 {
@@ -74,7 +75,7 @@ pub(crate) fn text(bytes: &[u8]) -> &[u8]
     bytes
 }
 
-/// The section header at a place.
+/// The section header at an offset.
 #[tactic(auto, unfolding(crate::specs::Places::header_at))]
 pub(crate) fn header_entry(bytes: &[u8], at: usize) -> SectionHeader
     requires { at < 2 ^ 39 }
@@ -93,7 +94,7 @@ pub(crate) fn header_entry(bytes: &[u8], at: usize) -> SectionHeader
     }
 }
 
-/// The symbol's entry at a place.
+/// The symbol table entry at an offset.
 #[tactic(auto, unfolding(crate::specs::Places::symbol_at))]
 pub(crate) fn symbol_entry(bytes: &[u8], at: usize) -> SymbolEntry
     requires { at < 2 ^ 39 }
@@ -108,7 +109,7 @@ pub(crate) fn symbol_entry(bytes: &[u8], at: usize) -> SymbolEntry
     }
 }
 
-/// The relocation's entry at a place.
+/// The relocation entry at an offset.
 #[tactic(auto, unfolding(crate::specs::Places::rela_at))]
 pub(crate) fn rela_entry(bytes: &[u8], at: usize) -> RelaEntry
     requires { at < 2 ^ 39 }

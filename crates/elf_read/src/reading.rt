@@ -1,4 +1,4 @@
-//! What an accepted file holds.
+//! Reads the module of an accepted file.
 
 ghost use Rattle.std.specs.Prelude.{◌≡◌, ◌+◌, ◌-◌, ◌*◌, ◌≤◌, ◌<◌, ◌^◌, ◌++◌, length, drop, map, IfOk, IfErr, IsTrue, [], Ok};
 ghost use Rattle.elf_read.specs.Contents.{name_at, body_of as body_at, sect_of as sect_at, place_of as place_at, sym_of as sym_at, syms_at, sects_at, rel_of as rel_at, rels_at, module_at, ModuleOf, FailsRightly};
@@ -20,11 +20,11 @@ use crate::tables::{
 use std::alloc::{AllocError, Global};
 use wind_base::Name;
 
-// The name at a place of a table of strings.
+// The name at an index of a string table.
 fn read_name(alloc: Global, strings: &[u8], k: usize) -> Result<Name, AllocError>
     ensures { IfOk result (λ name. name ≡ name_at strings.now k) }
 {
-    // a name that is too long was refused by a rule, so memory alone can lack here
+    // a rule has refused names that are too long, so only memory can run out here
     Name::new(alloc, text(rest_at(strings, k))).map_err(|_| AllocError)
 }
 
@@ -36,7 +36,8 @@ fn copied(alloc: Global, bytes: &[u8]) -> Result<Bytes, AllocError>
     Ok(Bytes::from_vec(items))
 }
 
-// The number of each section among the loaded ones: how many of them stand before it.
+// For each section, the number of loaded sections before it. That is its number among the loaded
+// ones.
 #[tactic(auto, unfolding(crate::specs::Tables::loaded_before), using(crate::proofs::Gather::numbers_more, crate::proofs::Gather::total_more))]
 pub(crate) fn section_numbers(alloc: Global, bytes: &[u8]) -> Result<Vec<u32>, AllocError>
     ensures { IfOk result (λ v. v.items ≡ section_numbers_of bytes.now) }
@@ -83,7 +84,7 @@ fn read_sect(alloc: Global, bytes: &[u8], names: &[u8], i: usize) -> Result<Sect
     })
 }
 
-// Adds the section of header number `i`, where it is loaded.
+// Adds the section of header number `i`, if it is loaded.
 fn read_sects_at(
     alloc: Global,
     list: &mut Vec<Sect>,
@@ -115,7 +116,7 @@ fn read_sects(alloc: Global, bytes: &[u8]) -> Result<SectList, AllocError>
     Ok(SectList::from_vec(list))
 }
 
-// Where a symbol stands, by its section's number.
+// The place of a symbol, by the number of its section.
 #[tactic(auto, unfolding(crate::specs::Contents::place_of, crate::specs::Tables::is_loaded), using(crate::proofs::Gather::number_at, crate::proofs::Gather::numbers_count))]
 fn read_place(bytes: &[u8], numbers: &[u32], n: u16) -> SymPlace
     requires all { numbers.now ≡ section_numbers_of bytes.now }
@@ -203,7 +204,7 @@ fn read_rel(bytes: &[u8], section: u32, i: usize, k: usize) -> Rel
     }
 }
 
-// The number of the section that header number `i` relocates.
+// The number, among the loaded sections, of the section that header number `i` relocates.
 #[tactic(auto, unfolding(crate::specs::Tables::is_applied, crate::specs::Tables::is_loaded), using(crate::proofs::Gather::number_at, crate::proofs::Gather::numbers_count))]
 fn target_number(bytes: &[u8], numbers: &[u32], i: usize) -> u32
     requires low { i < 2 ^ 16 }
@@ -236,7 +237,7 @@ fn read_applied(
     Ok(())
 }
 
-// Adds the relocations of section number `i`, where it has any.
+// Adds the relocations of section number `i`, if it has any.
 #[tactic(auto, unfolding(crate::specs::Contents::rels_at, crate::specs::Tables::rela_count))]
 fn read_rels_at(
     list: &mut Vec<Rel>,
@@ -267,7 +268,7 @@ fn read_rels(alloc: Global, bytes: &[u8], numbers: &[u32]) -> Result<RelList, Al
     Ok(RelList::from_vec(list))
 }
 
-// What the file holds, with these symbols.
+// The file's module, with these symbols.
 #[tactic(auto, unfolding(crate::specs::Contents::module_at))]
 pub(crate) fn complete(
     alloc: Global,
@@ -288,7 +289,7 @@ pub(crate) fn complete(
     })
 }
 
-// What the file holds.
+// The file's module.
 #[tactic(auto, unfolding(crate::specs::Contents::module_at))]
 fn read_module(alloc: Global, bytes: &[u8]) -> Result<Module, AllocError>
     ensures { IfOk result (λ m. m ≡ module_at bytes.now) }
@@ -298,8 +299,8 @@ fn read_module(alloc: Global, bytes: &[u8]) -> Result<Module, AllocError>
     complete(alloc, bytes, &numbers, symbols)
 }
 
-/// Reads an object file: the module that it holds, or the refusal of the first rule that fails, or want of
-/// memory. It takes time for each byte and each entry of the file, and room for what the module holds.
+/// Reads an object file's module, or returns the refusal of the first rule that fails, or runs out
+/// of memory. It takes time for each byte and entry of the file, and memory for the module.
 #[tactic(auto, using(crate::proofs::Holding::module_is))]
 pub fn read(alloc: Global, bytes: &[u8]) -> Result<Module, ElfErr>
     ensures module { IfOk result (ModuleOf bytes.now) }

@@ -15,7 +15,7 @@ use crate::tables::{
 };
 use wind_base::limits::RELOCATIONS;
 
-// Whether section number `i` is a table of relocations with addends, of the right form.
+// Whether section number `i` is a valid table of relocations with addends.
 #[tactic(auto, unfolding(crate::specs::Rules::is_right_table))]
 fn is_right_table(bytes: &[u8], symtab: usize, i: usize) -> bool
     requires table { symtab ≡ symtab_of bytes.now }
@@ -30,7 +30,7 @@ fn is_right_table(bytes: &[u8], symtab: usize, i: usize) -> bool
         && h.link as usize == symtab
 }
 
-// `sofar` counts the relocations of the sections up to this one.
+// `sofar` is the number of relocations in the sections up to and including this one.
 fn check_table(bytes: &[u8], symtab: usize, i: usize, sofar: usize) -> Result<(), ElfErr>
     requires table { symtab ≡ symtab_of bytes.now }
     requires low { i < 2 ^ 16 }
@@ -56,7 +56,7 @@ fn check_table(bytes: &[u8], symtab: usize, i: usize, sofar: usize) -> Result<()
     Ok(())
 }
 
-/// Each table of relocations for a loaded section is right, and they have not too many together.
+/// Each table of relocations for a loaded section is valid, and together they aren't too many.
 #[tactic(auto, using(crate::proofs::Each::each_more, crate::proofs::Each::each_none, crate::proofs::Gather::total_more))]
 pub(crate) fn check_tables(bytes: &[u8], symtab: usize) -> Result<(), ElfErr>
     requires { symtab ≡ symtab_of bytes.now }
@@ -71,7 +71,8 @@ pub(crate) fn check_tables(bytes: &[u8], symtab: usize) -> Result<(), ElfErr>
     Ok(())
 }
 
-// Whether a relocation changes bytes of its target, and its symbol is there and not elsewhere.
+// Whether a relocation is inside its section's bytes, and its symbol exists and isn't in a section
+// that isn't loaded.
 #[tactic(auto, unfolding(crate::specs::Rules::is_right_relocation))]
 fn is_right_relocation(bytes: &[u8], symtab: usize, target: SectionHeader, r: RelaEntry) -> bool
     requires table { symtab ≡ symtab_of bytes.now }
@@ -113,7 +114,7 @@ fn check_relocations_of(bytes: &[u8], symtab: usize, i: usize) -> Result<(), Elf
     Ok(())
 }
 
-/// Each relocation of a loaded section is right.
+/// Each relocation of a loaded section is valid.
 #[tactic(auto, using(crate::proofs::Each::each_more, crate::proofs::Each::each_none))]
 pub(crate) fn check_relocations(bytes: &[u8], symtab: usize) -> Result<(), ElfErr>
     requires table { symtab ≡ symtab_of bytes.now }

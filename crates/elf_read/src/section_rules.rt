@@ -1,4 +1,4 @@
-//! The rules of sections: what they hold, their names, and which of them can be loaded.
+//! The rules of sections: their content, their names, and whether they can be loaded.
 
 ghost use Rattle.std.specs.Prelude.{◌≡◌, ◌<◌, ◌^◌};
 ghost use Rattle.elf_read.specs.Rule.{each};
@@ -15,7 +15,7 @@ use crate::standard::{
 use crate::tables::{has_name, header, header_count, header_place, is_loaded, section_names};
 use wind_base::limits::SECTION_BYTES;
 
-// Whether a section of this header holds something in the file.
+// Whether a section with this header has content in the file.
 #[tactic(auto, unfolding(crate::specs::Rules::has_content))]
 fn has_content(h: SectionHeader) -> bool
     ensures { result ≡ has_content_of h }
@@ -35,7 +35,7 @@ fn check_content(bytes: &[u8], i: usize) -> Result<(), ElfErr>
     Ok(())
 }
 
-/// What each section holds lies in the file.
+/// The content of each section is in the file.
 #[tactic(auto, using(crate::proofs::Each::each_more, crate::proofs::Each::each_none))]
 pub(crate) fn check_contents(bytes: &[u8]) -> Result<(), ElfErr>
     ensures { result ≡ each 0 (header_count_of bytes.now) (content_rule bytes.now) }
@@ -47,7 +47,7 @@ pub(crate) fn check_contents(bytes: &[u8]) -> Result<(), ElfErr>
     Ok(())
 }
 
-// The names of sections stand in a string table.
+// The section names are in a string table.
 fn check_strings(bytes: &[u8]) -> Result<(), ElfErr>
     ensures { result ≡ strings_rule bytes.now }
 {
@@ -101,7 +101,7 @@ pub fn is_alignment(n: u32) -> bool
     .any(|p| *p == n)
 }
 
-// Whether a section of this header can be loaded.
+// Whether a section with this header can be loaded.
 #[tactic(auto, unfolding(crate::specs::Rules::is_loadable))]
 fn is_loadable(h: SectionHeader) -> bool
     ensures { result ≡ is_loadable_of h }
@@ -122,7 +122,7 @@ fn check_load(bytes: &[u8], i: usize) -> Result<(), ElfErr>
     Ok(())
 }
 
-/// Each section that is to be loaded can be.
+/// Each section that is to be loaded can be loaded.
 #[tactic(auto, using(crate::proofs::Each::each_more, crate::proofs::Each::each_none))]
 pub(crate) fn check_loads(bytes: &[u8]) -> Result<(), ElfErr>
     ensures { result ≡ each 0 (header_count_of bytes.now) (load_rule bytes.now) }

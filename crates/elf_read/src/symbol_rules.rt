@@ -1,4 +1,4 @@
-//! The rules of the symbol table and its symbols.
+//! The rules of the symbol table and of its symbols.
 
 ghost use Rattle.std.specs.Prelude.{◌≡◌, ◌-◌, ◌<◌, ◌^◌};
 ghost use Rattle.elf_read.specs.Rule.{each};
@@ -17,7 +17,7 @@ use crate::tables::{
 };
 use wind_base::limits::{SECTION_BYTES, SYMBOL_ENTRIES};
 
-// Whether section number `i` is the only symbol table so far, and of the right form.
+// Whether section number `i` is the first symbol table, and valid.
 #[tactic(auto, unfolding(crate::specs::Rules::is_right_symtab))]
 fn is_right_symtab(bytes: &[u8], symtab: usize, i: usize) -> bool
     requires table { symtab ≡ symtab_of bytes.now }
@@ -49,7 +49,7 @@ fn check_symtab(bytes: &[u8], symtab: usize, i: usize) -> Result<(), ElfErr>
     Ok(())
 }
 
-/// There is one symbol table at most, of the right form and not too large.
+/// There is at most one symbol table; it is valid and not too large.
 #[tactic(auto, using(crate::proofs::Each::each_more, crate::proofs::Each::each_none))]
 pub(crate) fn check_symtabs(bytes: &[u8], symtab: usize) -> Result<(), ElfErr>
     requires { symtab ≡ symtab_of bytes.now }
@@ -62,7 +62,7 @@ pub(crate) fn check_symtabs(bytes: &[u8], symtab: usize) -> Result<(), ElfErr>
     Ok(())
 }
 
-// Whether a symbol's section is one of the file's, or it is absolute or common.
+// Whether a symbol's section exists, or the symbol is absolute or common.
 #[tactic(auto, unfolding(crate::specs::Rules::has_place))]
 fn has_place(bytes: &[u8], e: SymbolEntry) -> bool
     ensures { result ≡ has_place_of bytes.now e }
@@ -70,7 +70,7 @@ fn has_place(bytes: &[u8], e: SymbolEntry) -> bool
     (e.section as usize) < header_count(bytes) || e.section == SHN_ABS || e.section == SHN_COMMON
 }
 
-// Whether a symbol, where its section is loaded, lies in it or at its end.
+// Whether a symbol, if its section is loaded, is in that section or at its end.
 #[tactic(auto, unfolding(crate::specs::Rules::lies_inside))]
 fn lies_inside(bytes: &[u8], e: SymbolEntry) -> bool
     ensures { result ≡ lies_inside_of bytes.now e }
@@ -80,7 +80,7 @@ fn lies_inside(bytes: &[u8], e: SymbolEntry) -> bool
         || e.value <= header(bytes, e.section as usize).size
 }
 
-// Whether a symbol, where it is common, can be given room.
+// Whether a symbol, if it is common, has a valid alignment and size.
 #[tactic(auto, unfolding(crate::specs::Rules::is_right_common))]
 fn is_right_common(e: SymbolEntry) -> bool
     ensures { result ≡ is_right_common_of e }
@@ -114,7 +114,7 @@ fn check_symbol(bytes: &[u8], symtab: usize, names: &[u8], k: usize) -> Result<(
     Ok(())
 }
 
-/// Each symbol is right, number 0 aside.
+/// Each symbol but number 0 is valid.
 #[tactic(auto, using(crate::proofs::Each::each_more, crate::proofs::Each::each_none, crate::proofs::Each::each_empty))]
 pub(crate) fn check_symbols(bytes: &[u8], symtab: usize) -> Result<(), ElfErr>
     requires table { symtab ≡ symtab_of bytes.now }

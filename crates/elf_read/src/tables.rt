@@ -12,7 +12,7 @@ use crate::standard::{
 };
 use wind_base::limits::NAME_BYTES;
 
-/// How many section headers there are.
+/// The number of section headers.
 pub(crate) fn header_count(bytes: &[u8]) -> usize
     ensures value { result ≡ header_count_of bytes.now }
     ensures few { result < 2 ^ 16 }
@@ -20,7 +20,7 @@ pub(crate) fn header_count(bytes: &[u8]) -> usize
     half(bytes, E_SHNUM) as usize
 }
 
-/// Where section header number `i` begins.
+/// The offset of section header number `i`.
 pub(crate) fn header_place(bytes: &[u8], i: usize) -> usize
     requires { i < 2 ^ 32 }
     ensures value { result ≡ header_place_of bytes.now i }
@@ -38,7 +38,7 @@ pub(crate) fn header(bytes: &[u8], i: usize) -> SectionHeader
     header_entry(bytes, header_place(bytes, i))
 }
 
-/// What section number `i` holds in the file.
+/// The content of section number `i` in the file.
 #[tactic(auto, unfolding(crate::specs::Tables::content))]
 pub(crate) fn content(bytes: &[u8], i: usize) -> &[u8]
     requires { i < 2 ^ 32 }
@@ -48,7 +48,7 @@ pub(crate) fn content(bytes: &[u8], i: usize) -> &[u8]
     part(bytes, h.offset as usize, h.size as usize)
 }
 
-/// Whether there is a section of number `i`, and it is loaded.
+/// Whether section number `i` exists and is loaded.
 #[tactic(auto, unfolding(crate::specs::Tables::is_loaded))]
 pub(crate) fn is_loaded(bytes: &[u8], i: usize) -> bool
     requires { i < 2 ^ 32 }
@@ -57,7 +57,7 @@ pub(crate) fn is_loaded(bytes: &[u8], i: usize) -> bool
     i < header_count(bytes) && header(bytes, i).flags & SHF_ALLOC != 0
 }
 
-/// Whether there is a section of number `i`, other than number 0, and it is not loaded.
+/// Whether section number `i` exists, isn't number 0, and isn't loaded.
 #[tactic(auto, unfolding(crate::specs::Tables::is_elsewhere))]
 pub(crate) fn is_elsewhere(bytes: &[u8], i: usize) -> bool
     requires { i < 2 ^ 32 }
@@ -66,7 +66,7 @@ pub(crate) fn is_elsewhere(bytes: &[u8], i: usize) -> bool
     i != 0 && i < header_count(bytes) && !is_loaded(bytes, i)
 }
 
-/// Whether a name begins at place `k` of a string table.
+/// Whether a name begins at index `k` of a string table.
 #[tactic(auto, unfolding(crate::specs::Tables::has_name))]
 pub(crate) fn has_name(strings: &[u8], k: usize) -> bool
     ensures { result ≡ has_name_at strings.now k }
@@ -81,7 +81,7 @@ pub(crate) fn section_names(bytes: &[u8]) -> &[u8]
     content(bytes, half(bytes, E_SHSTRNDX) as usize)
 }
 
-/// Whether the header of number `i` is that of a symbol table.
+/// Whether header number `i` is that of a symbol table.
 pub(crate) fn is_symtab(bytes: &[u8], i: usize) -> bool
     requires { i < 2 ^ 32 }
     ensures { result ≡ is_symtab_at bytes.now i }
@@ -89,7 +89,7 @@ pub(crate) fn is_symtab(bytes: &[u8], i: usize) -> bool
     header(bytes, i).kind == SHT_SYMTAB
 }
 
-/// The number of the first symbol table, or the count of headers.
+/// The number of the first symbol table, or the number of headers if there is none.
 #[tactic(auto, unfolding(crate::specs::Tables::symtab), using(crate::proofs::Gather::first_found, crate::proofs::Gather::first_passed, crate::proofs::Gather::first_none))]
 pub(crate) fn symtab(bytes: &[u8]) -> usize
     ensures value { result ≡ symtab_of bytes.now }
@@ -105,7 +105,7 @@ pub(crate) fn symtab(bytes: &[u8]) -> usize
     count
 }
 
-/// How many entries the symbol table has.
+/// The number of entries in the symbol table, including entry 0.
 #[tactic(auto, unfolding(crate::specs::Tables::symbol_count))]
 pub(crate) fn symbol_count(bytes: &[u8], symtab: usize) -> usize
     requires table { symtab ≡ symtab_of bytes.now }
@@ -120,7 +120,7 @@ pub(crate) fn symbol_count(bytes: &[u8], symtab: usize) -> usize
     }
 }
 
-/// Where entry number `k` of the symbol table begins.
+/// The offset of entry number `k` of the symbol table.
 pub(crate) fn symbol_place(bytes: &[u8], symtab: usize, k: usize) -> usize
     requires table { symtab ≡ symtab_of bytes.now }
     requires low { symtab < 2 ^ 16 }
@@ -151,7 +151,7 @@ pub(crate) fn symbol_names(bytes: &[u8], symtab: usize) -> &[u8]
     content(bytes, header(bytes, symtab).link as usize)
 }
 
-/// Whether section number `i` has relocations of a loaded section.
+/// Whether section number `i` has the relocations of a loaded section.
 #[tactic(auto, unfolding(crate::specs::Tables::is_applied))]
 pub(crate) fn is_applied(bytes: &[u8], i: usize) -> bool
     requires { i < 2 ^ 16 }
@@ -161,7 +161,7 @@ pub(crate) fn is_applied(bytes: &[u8], i: usize) -> bool
     h.kind == SHT_RELA && is_loaded(bytes, h.info as usize)
 }
 
-/// How many relocations section number `i` has for a loaded section.
+/// The number of relocations in section number `i`, if they are for a loaded section, otherwise 0.
 #[tactic(auto, unfolding(crate::specs::Tables::rela_count))]
 pub(crate) fn rela_count(bytes: &[u8], i: usize) -> usize
     requires { i < 2 ^ 16 }
@@ -175,7 +175,7 @@ pub(crate) fn rela_count(bytes: &[u8], i: usize) -> usize
     }
 }
 
-/// Where relocation number `k` of section number `i` begins.
+/// The offset of relocation number `k` of section number `i`.
 pub(crate) fn rela_place(bytes: &[u8], i: usize, k: usize) -> usize
     requires section { i < 2 ^ 16 }
     requires fits { k < 2 ^ 29 }
@@ -195,7 +195,7 @@ pub(crate) fn relocation(bytes: &[u8], i: usize, k: usize) -> RelaEntry
     rela_entry(bytes, rela_place(bytes, i, k))
 }
 
-// Whether a relocation of this type changes a half word.
+// Whether a relocation of this type changes a halfword.
 fn is_half_type(kind: u8) -> bool
     ensures { result ≡ has_number_of half_types kind }
 {
@@ -209,7 +209,7 @@ fn is_word_type(kind: u8) -> bool
     WORD_TYPES.iter().any(|t| *t == kind)
 }
 
-/// How many bytes a relocation of this type changes: 0, 2 or 4.
+/// The number of bytes that a relocation of this type changes: 0, 2 or 4.
 #[tactic(auto, unfolding(crate::specs::Tables::width))]
 pub fn width(kind: u8) -> u32
     ensures value { result ≡ width_of kind }

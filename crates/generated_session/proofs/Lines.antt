@@ -1,5 +1,5 @@
--- The tick file of a generated session is one line, of the grammar.
-use Rattle.std.proofs.Common.{◌≡◌, ℕ, ◌+◌, ◌<◌, ◌≤◌, ◌^◌, true, false, Bool, List, [], ◌∷◌, ◌++◌, None, refl, ap, sym, subst, ◌∙◌, arith, length, cond}
+-- The tick file of a generated session is one valid line.
+use Rattle.std.proofs.Common.{◌≡◌, ℕ, ◌+◌, ◌<◌, ◌≤◌, ◌^◌, true, false, Bool, List, [], ◌∷◌, ◌++◌, None, refl, ap, ◌∙◌, arith, cond}
 use Rattle.std.specs.Prelude.{◌==◌, ◌&&◌, not, codes}
 use Rattle.std.specs.List.{list_all}
 use Rattle.std.specs.Fmt.{decimal}
@@ -10,7 +10,6 @@ use Rattle.std.proofs.lemmas.Fmt.{digits_decimal, decimal_is_IsNumeral, decimal_
 use Rattle.std.proofs.lemmas.Str.Parse.{IsNumeralModel, numerals_by_value, tells_all_ascii_digits}
 use Rattle.std.proofs.lemmas.Bool.Decides.{nat_tests}
 use Rattle.tick_file.specs.declared.event.Rule.TheVariants.{Every}
-use Rattle.tick_file.specs.declared.event.Said.{Said}
 use Rattle.tick_file.specs.declared.event.Said.TheVariants.{Says}
 use Rattle.tick_file.specs.Grammar.{said}
 use Rattle.tick_file.specs.Forms.{GrammarLaw, IsLineOf, IsNumber}
@@ -78,7 +77,7 @@ digits_no_end (d ∷ ds) e =
     let k = both_hold (is_ascii_digit d) (list_all is_ascii_digit ds) e in
     ap (λ b. b && list_all (λ b. not (b == 10)) ds) (digit_no_end d k.0) ∙ digits_no_end ds k.1
 
--- no line of it is outside the grammar
+-- none of its lines is invalid
 pub ticks_are_good : (n : ℕ) → n ≤ most_rounds → GrammarLaw → first_bad_line (generated_ticks n) ≡ None
 unfolding first_bad_line tick_lines generated_ticks
 ticks_are_good n h law =

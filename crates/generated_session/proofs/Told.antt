@@ -1,5 +1,5 @@
--- Texts that are put in pieces.
-use Rattle.std.proofs.Common.{◌≡◌, ℕ, ◌+◌, ◌≤◌, ◌<◌, List, [], ◌∷◌, ◌++◌, Option, Some, None, Bor, map, length, take, drop, refl, ap, sym, subst, ◌∙◌, append_assoc, arith}
+-- Texts put piece by piece.
+use Rattle.std.proofs.Common.{◌≡◌, ℕ, ◌+◌, ◌≤◌, ◌<◌, List, [], ◌∷◌, ◌++◌, Option, Some, None, Bor, map, length, take, drop, refl, ap, sym, subst, ◌∙◌, append_assoc}
 use Rattle.std.specs.List.{concat}
 use Rattle.std.specs.Option.{option_map}
 use Rattle.std.proofs.lemmas.List.{append-nil, take-append-drop}
@@ -26,7 +26,7 @@ bytes_both (p ∷ ps) qs = ap (λ bytes. p.now ++ bytes) (bytes_both ps qs) ∙ 
 bytes_more : (ps : List (Bor (List ℕ))) (p : Bor (List ℕ)) → bytes_of (ps ++ p ∷ []) ≡ bytes_of ps ++ p.now
 bytes_more ps p = bytes_both ps (p ∷ []) ∙ ap (λ bytes. bytes_of ps ++ bytes) (append-nil p.now)
 
--- a front of a text
+-- a prefix of a text
 take_front : (front rest : List ℕ) → take (length front) (front ++ rest) ≡ front
 take_front [] rest = refl
 take_front (b ∷ bs) rest = ap (λ bytes. b ∷ bytes) (take_front bs rest)
@@ -37,7 +37,7 @@ front_of old new front rest text whole gained =
 
 module _ (ps : List (Bor (List ℕ))) (i : ℕ) (p : Bor (List ℕ)) (on : take (i + 1) ps ≡ take i ps ++ p ∷ []) (old mid new : Option (List ℕ))
     (told : Appended old mid (bytes_of (take i ps))) where
-  -- one piece more was put
+  -- one more piece was put
   pub piece_put : Appended mid new p.now → Appended old new (bytes_of (take (i + 1) ps))
   piece_put more =
       subst (Appended old new) (sym (bytes_more (take i ps) p) ∙ ap bytes_of (sym on)) (appended_both old mid new (bytes_of (take i ps)) p.now told more)

@@ -3,15 +3,15 @@ use Rattle.std.specs.Prelude.{ℕ, zero, suc, ◌+◌, ◌*◌, List, [], ◌∷
 use Rattle.std.specs.Fmt.{decimal}
 use Rattle.std.specs.List.{concat}
 
--- the most rounds that a session is generated with
+-- the most rounds of a generated session
 abbrev pub most_rounds : ℕ
 most_rounds = 10000
 
--- the lines of number k: a sum, a task that takes the mutex, and a delay
+-- the lines of round k: a sum, a task that takes the mutex, and a delay
 abbrev pub round : ℕ → List ℕ
 round k = codes "g = g + " ++ (decimal k ++ (codes " * " ++ (decimal k ++ (codes "\nsp semTake, m, " ++ (decimal k ++ codes " % 5 + 1\ntaskDelay 1\n")))))
 
--- those of the numbers 1 to n
+-- the lines of rounds 1 to n
 abbrev pub rounds : ℕ → List ℕ
 rounds zero = []
 rounds (suc n) = rounds n ++ round (suc n)
@@ -20,7 +20,7 @@ rounds (suc n) = rounds n ++ round (suc n)
 unfoldable pub generated_console : ℕ → List ℕ
 generated_console n = (codes "g = 0\nm = semMCreate(13)\n" ++ rounds n) ++ codes "g\n"
 
--- how many lines that is
+-- how many lines the console has
 abbrev pub generated_lines : ℕ → ℕ
 generated_lines n = 3 * n + 3
 
@@ -28,7 +28,8 @@ generated_lines n = 3 * n + 3
 unfoldable pub generated_ticks : ℕ → List ℕ
 generated_ticks n = codes "every 100 " ++ decimal (n + 8)
 
--- the pieces of the line that tells of a run of so many rounds: its lines, the bytes that it wrote, its steps and ticks, and the number of its status
+-- the pieces of the line that sums up a run of n rounds: its lines, the bytes that it wrote, its steps and ticks,
+-- and the number of its status
 abbrev pub summary_pieces : ℕ → ℕ → ℕ → ℕ → ℕ → List (List ℕ)
 summary_pieces n bytes steps ticks status =
     codes "generated " ∷ decimal n ∷ codes ": " ∷ decimal (generated_lines n) ∷ codes " lines, "

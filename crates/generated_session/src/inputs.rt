@@ -9,10 +9,10 @@ use std::fmt::Write;
 use tick_file::{Schedule, TickErr, grammar_law, read_ticks};
 use wind_base::NoMemory;
 
-// Ticks that come beside those for which the rounds wait.
+// How many ticks come in addition to those for which the rounds wait.
 const MORE_TICKS: u32 = 8;
 
-// Adds the lines of one number to a text.
+// Adds the lines of round `k` to a text.
 fn add_round(text: &mut String, k: u32) -> Result<(), AllocError>
     ensures { OnOk result (string_bytes text.new ≡ string_bytes text.old ++ round k) }
 {
@@ -22,7 +22,7 @@ fn add_round(text: &mut String, k: u32) -> Result<(), AllocError>
     )
 }
 
-// Adds the lines of the numbers 1 to `rounds` to a text.
+// Adds the lines of rounds 1 to `rounds` to a text.
 fn add_rounds(text: &mut String, rounds: u32) -> Result<(), AllocError>
     requires { rounds ≤ most_rounds }
     ensures { OnOk result (string_bytes text.new ≡ string_bytes text.old ++ rounds_lem rounds) }
@@ -45,7 +45,7 @@ fn text_of(alloc: Global, rounds: u32) -> Result<String, AllocError>
     Ok(text)
 }
 
-/// The bytes of the console of a session of so many rounds, at most 10,000.
+/// The bytes of the console of a session with this many rounds, at most 10,000.
 pub fn console_of(alloc: Global, rounds: u32) -> Result<Vec<u8>, NoMemory>
     requires { rounds ≤ most_rounds }
     ensures { IfOk result (λ bytes. bytes.items ≡ generated_console rounds) }
@@ -56,7 +56,7 @@ pub fn console_of(alloc: Global, rounds: u32) -> Result<Vec<u8>, NoMemory>
     }
 }
 
-// The tick file of a session of so many rounds.
+// The tick file of a session with this many rounds.
 #[tactic(auto, unfolding(crate::specs::Session::generated_ticks))]
 fn ticks_of(alloc: Global, rounds: u32) -> Result<String, AllocError>
     requires { rounds ≤ most_rounds }
@@ -66,8 +66,8 @@ fn ticks_of(alloc: Global, rounds: u32) -> Result<String, AllocError>
     format!(in alloc; "every 100 {count}")
 }
 
-/// The schedule of the tick file of a session of so many rounds, at most 10,000. Its one line is of the grammar, so that
-/// only memory can lack.
+/// The schedule of a session with this many rounds, at most 10,000. Its tick file has one valid
+/// line, so the only error is that memory runs out.
 pub fn schedule_of(alloc: Global, rounds: u32) -> Result<Schedule, NoMemory>
     requires { rounds ≤ most_rounds }
     ensures { IfOk result (λ schedule. schedule ≡ timetable_of (generated_ticks rounds)) }

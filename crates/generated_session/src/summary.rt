@@ -1,4 +1,4 @@
-//! The line that sums a generated session up.
+//! The line that sums up a generated session.
 
 ghost use Rattle.std.specs.Prelude.{◌≡◌, ◌≤◌, map};
 ghost use Rattle.std.specs.List.{concat};
@@ -10,22 +10,22 @@ ghost use Rattle.generated_session.specs.Session.{most_rounds, summary_line};
 use itoa::Buffer;
 use wind_outside::{Put, Sink};
 
-/// What the line tells.
+/// What the line reports.
 #[derive(Clone, Copy)]
 pub struct Summary {
-    /// With how many rounds the session was generated.
+    /// How many rounds the session has.
     pub rounds: u32,
     /// How many bytes the run wrote.
     pub bytes: u128,
-    /// How many steps it made.
+    /// How many steps the run made.
     pub steps: u64,
-    /// How many ticks came.
+    /// How many ticks occurred.
     pub ticks: u64,
-    /// The number of its status.
+    /// The number of the run's status.
     pub status: u8,
 }
 
-// Puts pieces, up to the first that fails.
+// Puts pieces, and stops at the first that fails.
 fn put_all<O: Sink>(out: &mut O, pieces: &[&[u8]]) -> Put
     ensures done { result ≡ puts.Done → Appended (O.bytes out.old) (O.bytes out.new) (concat (map (λ p. p.now) pieces.now)) }
     ensures part { result ≡ puts.Failed → AppendedFront (O.bytes out.old) (O.bytes out.new) (concat (map (λ p. p.now) pieces.now)) }
@@ -42,7 +42,7 @@ fn put_all<O: Sink>(out: &mut O, pieces: &[&[u8]]) -> Put
 }
 
 impl Summary {
-    /// Puts the line, up to a piece that fails.
+    /// Puts the line piece by piece, and stops at the first piece that fails.
     pub fn put<O: Sink>(&self, out: &mut O) -> Put
         requires { self.now.rounds ≤ most_rounds }
         ensures done { result ≡ puts.Done → Appended (O.bytes out.old) (O.bytes out.new)

@@ -1,4 +1,4 @@
--- The rows of a table, from its entries and its slab.
+-- The rows of a table, from its entries and slab.
 use Rattle.std.proofs.Common.{◌≡◌, ℕ, zero, suc, ◌+◌, ◌<◌, true, false, cond, not, eqb, List, [], ◌∷◌, ◌++◌, map, length, get_or, take, drop, Option, None, Some, refl, sym, ap, ◌∙◌, subst, arith, ⊎_elim}
 use Rattle.std.specs.Prelude.{nat_lt, if◌then◌else◌}
 use Rattle.std.specs.Option.{IsSome, option_map}
@@ -80,12 +80,12 @@ module _ {T : Type 0} where
       let row = row_is slots e es (h 0 e (omega arith)) in
       ap length row.2 ∙ ap suc (length-rows es slots (rest_present slots e es h))
 
-  -- a look-up at a first row
+  -- a look-up that begins with a first row
   pub object_of-cons : (i : ℕ) (v : T) (rs : List (ℕ × T)) (id : ℕ) → object_of ((i, v) ∷ rs) id ≡ cond (eqb i id) (Some v) (object_of rs id)
   object_of-cons i v rs id =
       elim (eqb i id) as (λ b. option_map row_object (cond b (Some (i, v)) (of_id row_id rs id)) ≡ cond b (Some v) (object_of rs id)) [ true ↦ refl | false ↦ refl ]
 
-  -- the object of an id is what its entry's key has
+  -- the object with an id is the one under its entry's key
   pub object_at : (order : List Entry) (slots : Slab T) (id at : ℕ) (d : Entry) → Present order slots → AllPairs (λ c e. c.id < e.id) order → EntryAt order id at
       → object_of (rows_in order slots) id ≡ get slots (get_or order at d).key
   object_at [] slots id at d h up stands = absurd (omega (arith, stands.within))
@@ -135,7 +135,7 @@ module _ {T : Type 0} where
       subst (All (λ r. IsId r.0)) (sym row.2)
       (All-cons (λ (r : ℕ × T). IsId r.0) (e.id, row.0) (rows_in es slots) (ranged 0 e (omega arith)) (ranged_rows es slots (rest_present slots e es h) (λ k d hk. ranged (suc k) d (omega arith))))
 
-  -- what the rows keep
+  -- the invariant of the rows
   pub rows_sound : (order : List Entry) (slots : Slab T) (room : ℕ) → IsKept order slots room → IsTable (record { rows = rows_in order slots; room = room })
   rows_sound order slots room is = record {
     few = omega (arith, length-rows order slots is.present, is.fits);
@@ -146,14 +146,14 @@ module _ {T : Type 0} where
   pub above_rows : (order : List Entry) (slots : Slab T) (n : ℕ) → Present order slots → next_above (rows_in order slots) n ≡ option_map (λ e. e.id) (find (λ (e : Entry). nat_lt n e.id) order)
   above_rows order slots n h = ap (find (λ id. nat_lt n id)) (ids_rows order slots h) ∙ above_ids order n
 
-  -- the keys of a list have what they had
+  -- if the keys of a list keep their objects, the rows stay
   pub rows_same : (order : List Entry) (old new : Slab T) → ((k : ℕ) (d : Entry) → k < length order → get new (get_or order k d).key ≡ get old (get_or order k d).key) → rows_in order new ≡ rows_in order old
   rows_same [] old new h = refl
   rows_same (e ∷ es) old new h =
       ap (λ o. cons_option (option_map (λ x. (e.id, x)) o) (rows_in es new)) (h 0 e (omega arith))
       ∙ ap (λ rs. cons_option (option_map (λ x. (e.id, x)) (get old e.key)) rs) (rows_same es old new (λ k d hk. h (suc k) d (omega arith)))
 
-  -- one key is written
+  -- the object of one key is overwritten
   pub rows_written : (order : List Entry) (old new : Slab T) (id key : ℕ) (w : T) → Present order old
       → ((k : ℕ) (d : Entry) → k < length order → eqb (get_or order k d).id id ≡ eqb (get_or order k d).key key)
       → ((j : ℕ) → get new j ≡ cond (eqb j key) (Some w) (get old j))
@@ -181,7 +181,7 @@ module _ {T : Type 0} where
       ∙ ap (λ rs. (e.id, row.0) ∷ rs) (kept_all es slots id (rest_present slots e es h) (λ k d hk. none (suc k) d (omega arith)))
       ∙ sym row.2
 
-  -- one more row
+  -- one row is added
   pub rows_pushed : (order : List Entry) (old new : Slab T) (e : Entry) (value : T) → ((k : ℕ) (d : Entry) → k < length order → get new (get_or order k d).key ≡ get old (get_or order k d).key)
       → get new e.key ≡ Some value → rows_in (order ++ e ∷ []) new ≡ rows_in order old ++ (e.id, value) ∷ []
   rows_pushed order old new e value same here =
@@ -200,7 +200,7 @@ module _ {T : Type 0} where
       let all : IdsBelow n ((e.id, row.0) ∷ rows_in es slots) = subst (IdsBelow n) row.2 below in
       ids_below es slots n (rest_present slots e es h) (λ j c hj. all (suc j) c (omega arith)) k d (omega arith)
 
-  -- one key is emptied
+  -- the object of one key is removed
   pub rows_removed : (order : List Entry) (old new : Slab T) (id at : ℕ) → Present order old → AllPairs (λ c e. c.id < e.id) order → EntryAt order id at
       → ((k : ℕ) (d : Entry) → k < length order → (k ≡ at → ⊥) → get new (get_or order k d).key ≡ get old (get_or order k d).key)
       → rows_in (remove order at) new ≡ without (rows_in order old) id
@@ -226,7 +226,7 @@ module _ {T : Type 0} where
       ∙ ap (λ b. cond (not b) ((e.id, row.0) ∷ without (rows_in es old) id) (without (rows_in es old) id)) (sym other)
       ∙ ap (λ rs. without rs id) (sym row.2)
 
-  -- what a slab has after one write
+  -- what a slab holds after one write
   pub with_value_says : (slots : Slab T) (key : ℕ) (w : T) → IsSome (get slots key) → (j : ℕ) → get (with_value slots key w) j ≡ cond (eqb j key) (Some w) (get slots j)
   with_value_says slots key w h j =
       let u = Updates-with_value slots key w h in
@@ -235,7 +235,7 @@ module _ {T : Type 0} where
       (λ (ne : j ≡ key → ⊥). u.others j ne ∙ ap (λ b. cond b (Some w) (get slots j)) (sym (ne_eqb j key ne)))
       (cases_eq j key)
 
-  -- a write through a key is a write of the object of its id
+  -- a write through a key is a write of the object with its id
   pub object_written : (order : List Entry) (slots : Slab T) (room id at : ℕ) (x : Entry) (v w : T) → IsKept order slots room → EntryAt order id at → x ≡ get_or order at x → get slots x.key ≡ Some v
       → rows_in order (with_value slots x.key w) ≡ with_object (rows_in order slots) id w
   object_written order slots room id at x v w is stands here has =
@@ -265,7 +265,7 @@ module _ {T : Type 0} where
         rows_pushed order old new e value same u.changed,
       )
 
-  -- and after one is taken out
+  -- and after one is removed
   pub IsKept-remove : (order : List Entry) (old new : Slab T) (room id at : ℕ) (x : Entry) → IsKept order old room → EntryAt order id at → x ≡ get_or order at x
       → Updates old new x.key None → slab_len new + 1 ≡ slab_len old → new.capacity ≡ old.capacity
       → IsKept (remove order at) new room × (rows_in (remove order at) new ≡ without (rows_in order old) id)
@@ -293,11 +293,11 @@ module _ {T : Type 0} where
   pub rows_alike : (rs us : List (ℕ × T)) (n : ℕ) → rs ≡ us → ◌≡◌ {A = Rows T} (record { rows = rs; room = n }) (record { rows = us; room = n })
   rows_alike rs us n e = λ i. record { rows = e i; room = n }
 
-  -- nothing has this id
+  -- no entry has this id, so nothing changes
   pub without_none : (order : List Entry) (slots : Slab T) (room id : ℕ) → IsKept order slots room → ((k : ℕ) (d : Entry) → k < length order → (get_or order k d).id ≡ id → ⊥) → rows_in order slots ≡ without (rows_in order slots) id
   without_none order slots room id is none = sym (kept_all order slots id is.present none)
 
-  -- the object at a place is what its key has
+  -- the object at a place is the one under its key
   pub object_in : (order : List Entry) (slots : Slab T) (k : ℕ) (d : Entry) (v : T) → Present order slots → k < length order → get slots (get_or order k d).key ≡ Some v
       → v ≡ get_or (objects (rows_in order slots)) k v
   object_in [] slots k d v h hk e = absurd (omega arith)

@@ -1,4 +1,4 @@
--- Look-ups by id, in a table's rows and after a move of theirs.
+-- Look-ups by id in a table's rows, before and after changes.
 use Rattle.std.proofs.Common.{◌≡◌, ℕ, ◌<◌, Bool, true, false, not, cond, eqb, List, [], ◌∷◌, ◌++◌, Option, None, Some, is_some, refl, sym, ap, ◌∙◌, subst}
 use Rattle.std.specs.List.{All}
 use Rattle.std.specs.Option.{option_map}
@@ -10,7 +10,7 @@ use Rattle.id_table.specs.Rows.{Rows, IsId, IsTable, IdsBelow, row_id, row_objec
 use Rattle.id_table.proofs.Kept.{object_of-cons}
 
 module _ {T : Type 0} where
-  -- what has no id is not there
+  -- a number that isn't an id isn't found
   pub no_object_of : (t : Rows T) (n : ℕ) → IsTable t → (IsId n → ⊥) → object_of t.rows n ≡ None
   no_object_of t n is outside =
       elim (of_id row_id t.rows n) as (λ o. of_id row_id t.rows n ≡ o → option_map row_object o ≡ None) [
@@ -18,7 +18,7 @@ module _ {T : Type 0} where
         | Some r ↦ λ e. absurd (outside (subst IsId (found_id row_id t.rows n r e) (All-contains (λ x. IsId x.0) t.rows r is.ranged (found_at row_id t.rows n r e))))
       ] refl
 
-  -- a first row that is written, or not, and the rest of the look-up
+  -- the first row, overwritten or not, and the rest of the look-up
   at_first : (i n id : ℕ) (v w y : T) (o p : Option T) → (eqb i n ≡ true → cond (eqb n id) y v ≡ w) → p ≡ option_map (λ x. cond (eqb n id) y x) o
       → cond (eqb i n) (Some w) p ≡ option_map (λ x. cond (eqb n id) y x) (cond (eqb i n) (Some v) o)
   at_first i n id v w y o p here rest =
@@ -39,7 +39,7 @@ module _ {T : Type 0} where
       ] refl
       ∙ ap (option_map (λ x. cond (eqb n id) y x)) (sym (object_of-cons r.0 r.1 rs n))
 
-  -- after one is taken out
+  -- a look-up after an object is removed
   pub object_of-without : (rs : List (ℕ × T)) (id n : ℕ) → object_of (without rs id) n ≡ cond (eqb n id) None (object_of rs n)
   object_of-without [] id n = elim (eqb n id) as (λ b. ◌≡◌ {A = Option T} None (cond b None None)) [ true ↦ refl | false ↦ refl ]
   object_of-without (r ∷ rs) id n =
@@ -61,7 +61,7 @@ module _ {T : Type 0} where
       ] refl
       ∙ ap (cond (eqb n id) None) (sym (object_of-cons r.0 r.1 rs n))
 
-  -- after one is added at the end
+  -- a look-up after an object is added at the end
   pub object_of-push : (rs : List (ℕ × T)) (id n : ℕ) (v : T) → object_of (rs ++ (id, v) ∷ []) n ≡ cond (is_some (object_of rs n)) (object_of rs n) (cond (eqb id n) (Some v) None)
   object_of-push [] id n v = object_of-cons id v [] n
   object_of-push (r ∷ rs) id n v =
@@ -72,7 +72,7 @@ module _ {T : Type 0} where
       ]
       ∙ ap (λ o. cond (is_some o) o (cond (eqb id n) (Some v) None)) (sym (object_of-cons r.0 r.1 rs n))
 
-  -- what holds of each row, and of the written one, holds after a write
+  -- a property of each row, and of the overwritten one, holds after a write
   pub All-write : (P : ℕ × T → Type 0) (rs : List (ℕ × T)) (id : ℕ) (y : T) → All P rs → ((r : ℕ × T) → P r → P (r.0, y)) → All P (with_object rs id y)
   All-write P [] id y all keeps = all
   All-write P (r ∷ rs) id y all keeps =
@@ -80,7 +80,7 @@ module _ {T : Type 0} where
       (elim (eqb r.0 id) as (λ b. P (cond b (r.0, y) r)) [ true ↦ keeps r (All-head P r rs all) | false ↦ All-head P r rs all ])
       (All-write P rs id y (All-tail P r rs all) keeps)
 
-  -- what holds of each row holds of the one that is found
+  -- a property of each row holds for the found one
   pub found_has : (P : T → Type 0) (rs : List (ℕ × T)) (n : ℕ) (v : T) → All (λ r. P r.1) rs → object_of rs n ≡ Some v → P v
   found_has P rs n v all e =
       elim (of_id row_id rs n) as (λ o. of_id row_id rs n ≡ o → option_map row_object o ≡ Some v → P v) [
@@ -88,7 +88,7 @@ module _ {T : Type 0} where
         | Some r ↦ λ q f. let same : r.1 ≡ v = cc in subst P same (All-contains (λ x. P x.1) rs r all (found_at row_id rs n r q))
       ] refl e
 
-  -- the id of one that is found lies below the next
+  -- the id of a found object is below the next one
   pub found_below : (rs : List (ℕ × T)) (next n : ℕ) (v : T) → IdsBelow next rs → object_of rs n ≡ Some v → n < next
   found_below rs next n v all e =
       elim (of_id row_id rs n) as (λ o. of_id row_id rs n ≡ o → option_map row_object o ≡ Some v → n < next) [

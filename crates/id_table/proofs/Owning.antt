@@ -1,4 +1,4 @@
--- Tables whose objects have their ids too: what is done to the rows is done to the objects.
+-- Tables whose objects have their ids too: changes of the rows are changes of the objects.
 use Rattle.std.proofs.Common.{◌≡◌, ℕ, zero, suc, ◌+◌, ◌<◌, Bool, true, false, not, cond, eqb, ltb, List, [], ◌∷◌, take, get_or, length, Option, Some, refl, sym, ap, ◌∙◌, arith}
 use Rattle.std.specs.List.{All, find}
 use Rattle.std.specs.Option.{option_map}
@@ -13,14 +13,14 @@ use Rattle.id_table.specs.Rows as table
 use Rattle.id_table.proofs.Kept.{object_of-cons}
 
 module _ {X : Type 0} (id : X → ℕ) where
-  -- each object has the id under which it is kept
+  -- each object has the id under which the table has it
   abbrev pub OwnIds : List (ℕ × X) → Type 0
   OwnIds rs = All (λ r. id r.1 ≡ r.0) rs
 
   own_tail : (r : ℕ × X) (rs : List (ℕ × X)) → OwnIds (r ∷ rs) → OwnIds rs
   own_tail r rs h k d hk = h (suc k) d (omega arith)
 
-  -- a look-up by id in the table is one among its objects
+  -- a look-up by id in the table is a look-up among its objects
   pub object-record : (rs : List (ℕ × X)) (n : ℕ) → OwnIds rs → object_of rs n ≡ of_id id (objects rs) n
   object-record [] n h = refl
   object-record (r ∷ rs) n h =
@@ -28,7 +28,7 @@ module _ {X : Type 0} (id : X → ℕ) where
       ∙ ap (cond (eqb r.0 n) (Some r.1)) (object-record rs n (own_tail r rs h))
       ∙ ap (λ m. cond (eqb m n) (Some r.1) (of_id id (objects rs) n)) (sym (h 0 r (omega arith)))
 
-  -- a write of an object puts it in the place of that object
+  -- a write of an object replaces that object
   pub objects-replace : (rs : List (ℕ × X)) (n : ℕ) (y : X) → OwnIds rs → objects (with_object rs n y) ≡ replace id (objects rs) n y
   objects-replace [] n y h = refl
   objects-replace (r ∷ rs) n y h =
@@ -54,7 +54,7 @@ module _ {X : Type 0} (id : X → ℕ) where
         | false ↦ above-objects rs n (own_tail r rs h)
       ]
 
-  -- to take out a row is to take out its object
+  -- removing a row removes its object
   pub objects-without : (rs : List (ℕ × X)) (n : ℕ) → OwnIds rs → objects (table.without rs n) ≡ without id (objects rs) n
   objects-without [] n h = refl
   objects-without (r ∷ rs) n h =
@@ -64,7 +64,7 @@ module _ {X : Type 0} (id : X → ℕ) where
       ]
       ∙ ap (λ m. cond (not (eqb m n)) (r.1 ∷ without id (objects rs) n) (without id (objects rs) n)) (sym (h 0 r (omega arith)))
 
--- one object further in a pass over a table
+-- one object further in a scan of a table
 pub pass_more : {X : Type 0} (lt : X → X → Bool) → IsStrictWeakOrder lt → (p : X → Bool) (rs : List (ℕ × X)) (i n : ℕ) (x : X) (best more : Option X)
     → n ≡ length rs → i < n → x ≡ get_or (objects rs) i x → best ≡ first (in_line lt p (take i (objects rs))) → more ≡ pick lt p best x
     → more ≡ first (in_line lt p (take (i + 1) (objects rs)))

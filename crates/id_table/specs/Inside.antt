@@ -1,4 +1,4 @@
--- How a table is kept: a list of ids with the key of each in the slab.
+-- What is inside a table: a list of entries, each an id and the key of its object in the slab.
 use Rattle.std.specs.Prelude.{slice_index_or, ◌≡◌, ℕ, ◌<◌, ◌≤◌, List, length, Option, IsSome}
 use Rattle.std.specs.List.{AllPairs, All, filter_map}
 use Rattle.std.specs.Option.{option_map}
@@ -6,16 +6,17 @@ use Rattle.slab.specs.Slab.{Slab, get, slab_len}
 use Rattle.id_table.specs.declared.entry.Entry.{Entry}
 use Rattle.id_table.specs.Rows.{IsId}
 
+-- the id of an entry
 abbrev pub entry_id : Entry → ℕ
 entry_id e = e.id
 
--- the entry of this id stands at this place
+-- the entry with this id is at this place
 pub record EntryAt (order : List Entry) (id place : ℕ) : Type 0 where
   pub within : place < length order
   pub same : (d : Entry) → (slice_index_or order place d).id ≡ id
 
 module _ {T : Type 0} where
-  -- an entry's id, with the object that its key has
+  -- an entry's id, with the object of its key
   abbrev pub row_at : Slab T → Entry → Option (ℕ × T)
   row_at slots e = option_map (λ v. (e.id, v)) (get slots e.key)
 
@@ -23,7 +24,8 @@ module _ {T : Type 0} where
   abbrev pub rows_in : List Entry → Slab T → List (ℕ × T)
   rows_in order slots = filter_map (row_at slots) order
 
-  -- each entry has an object of its own, and there is no other; the ids are such, and rise; the room is there
+  -- the invariant: each entry has an object of its own, and there are no others; the ids are valid and rise;
+  -- there are at most `room` entries, and the slab has that capacity
   pub record IsKept (order : List Entry) (slots : Slab T) (room : ℕ) : Type 0 where
     pub present : All (λ e. IsSome (get slots e.key)) order
     pub apart : AllPairs (λ d e. d.key ≡ e.key → ⊥) order

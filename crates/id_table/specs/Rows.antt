@@ -1,4 +1,4 @@
--- What a contract sees of a table: its objects by rising id, and how many it may have.
+-- What a contract sees of a table: its objects by rising id, and the greatest number of them.
 use Rattle.std.specs.Prelude.{ℕ, ◌<◌, ◌≤◌, nat_lt, List, [], ◌∷◌, ◌++◌, map, length, Option, refl}
 use Rattle.std.specs.List.{All, AllPairs, find}
 use Rattle.std.specs.Option.{option_map}
@@ -11,11 +11,11 @@ pub record Rows (T : Type 0) : Type 0 where
   pub rows : List (ℕ × T)
   pub room : ℕ
 
--- the number of an object
+-- a number is a valid id
 abbrev pub IsId : ℕ → Type 0
 IsId n = (0 < n) × (n ≤ greatest_id)
 
--- such a table, as a pair
+-- a table, coded as a pair
 abbrev pub rows_code : {T : Type 0} → Coded T → Coded (Rows T)
 rows_code {T} code =
     code_by
@@ -30,18 +30,19 @@ module _ {T : Type 0} where
   abbrev pub row_id : ℕ × T → ℕ
   row_id r = r.0
 
+  -- the object of a row
   abbrev pub row_object : ℕ × T → T
   row_object r = r.1
 
-  -- the object of this id
+  -- the object with this id
   abbrev pub object_of : List (ℕ × T) → ℕ → Option T
   object_of rs id = option_map row_object (records.of_id row_id rs id)
 
-  -- the same objects, but for that of this id
+  -- the same objects, but with another value for this id
   abbrev pub with_object : List (ℕ × T) → ℕ → T → List (ℕ × T)
   with_object rs id value = records.change row_id rs id (λ r. (r.0, value))
 
-  -- the objects without that of this id
+  -- the objects without the one with this id
   abbrev pub without : List (ℕ × T) → ℕ → List (ℕ × T)
   without rs id = records.without row_id rs id
 
@@ -49,7 +50,7 @@ module _ {T : Type 0} where
   abbrev pub ids : List (ℕ × T) → List ℕ
   ids rs = map row_id rs
 
-  -- the first of the live ids above this number: the least, since they rise
+  -- the first of the live ids above this number; it is the least, since they rise
   abbrev pub next_above : List (ℕ × T) → ℕ → Option ℕ
   next_above rs n = find (λ id. nat_lt n id) (ids rs)
 
@@ -57,17 +58,19 @@ module _ {T : Type 0} where
   abbrev pub Rises : List (ℕ × T) → Type 0
   Rises rs = AllPairs (λ i j. i < j) (ids rs)
 
-  -- each id is below the next that is given out
+  -- each id is below the next one to be given
   abbrev pub IdsBelow : ℕ → List (ℕ × T) → Type 0
   IdsBelow next rs = All (λ r. r.0 < next) rs
 
-  -- the table after an object is added, written or taken out
+  -- the table after an object is added
   abbrev pub added : Rows T → ℕ → T → Rows T
   added t id value = record t { rows = t.rows ++ (id, value) ∷ [] }
 
+  -- the table after an object is overwritten
   abbrev pub rewritten : Rows T → ℕ → T → Rows T
   rewritten t id value = record t { rows = with_object t.rows id value }
 
+  -- the table after an object is removed
   abbrev pub removed : Rows T → ℕ → Rows T
   removed t id = record t { rows = without t.rows id }
 
@@ -75,7 +78,7 @@ module _ {T : Type 0} where
   abbrev pub objects : List (ℕ × T) → List T
   objects rs = map row_object rs
 
-  -- what a table keeps: there are no more objects than room, and their ids are such, and rise
+  -- the table's invariant: it has at most as many objects as room, and its ids are valid and rise
   pub record IsTable (t : Rows T) : Type 0 where
     pub few : length t.rows ≤ t.room
     pub rising : records.Rising row_id t.rows

@@ -1,7 +1,7 @@
 -- What a contract sees of a source of ids.
 use Rattle.std.specs.Prelude.{ℕ, ◌+◌, Bool}
 
--- the id that is given next, and whether the ids are lent to another source: none is given here until they are back
+-- the next id that will be given, and whether the ids are lent to another source; while they are, this source gives none
 pub record Ids : Type 0 where
   pub next : ℕ
   pub lent : Bool

@@ -1,4 +1,4 @@
-//! Which ids are live, and where their objects lie.
+//! Which ids are live, and where their objects are in the slab.
 
 ghost use Rattle.std.specs.Prelude.{◌≡◌, ◌<◌, ◌≤◌, ℕ, length, nat_lt, true, false, MatchOption, option_copied, slice_index_or};
 ghost use Rattle.std.specs.List.{find};
@@ -9,14 +9,14 @@ ghost use Rattle.id_table.specs.declared.entry.Entry.{Entry};
 
 use crate::ident::Ident;
 
-// A live id, and where its object lies.
+// A live id, and the key of its object in the slab.
 #[derive(Drop)]
 pub(crate) struct Entry {
     pub(crate) id: Ident,
     pub(crate) key: usize,
 }
 
-// How many entries have an id below this one.
+// The number of entries with an id below this one.
 fn rank_of(order: &[Entry], id: Ident) -> usize
     requires { Rising entry_id order.now }
     ensures within { result ≤ length order.now }
@@ -26,7 +26,7 @@ fn rank_of(order: &[Entry], id: Ident) -> usize
     order.partition_point(|entry| entry.id.get() < number)
 }
 
-// Where the entry of an id stands. None where there is none.
+// The place of the entry with this id. None if there is none.
 #[inline(never)]
 fn place_of(order: &[Entry], id: Ident) -> Option<usize>
     requires { Rising entry_id order.now }
@@ -43,7 +43,7 @@ fn place_of(order: &[Entry], id: Ident) -> Option<usize>
     }
 }
 
-// The same, where one place is looked at first: that of the last entry that was found, as a rule.
+// The same, but looks first at the place `near`: usually that of the last entry found.
 #[inline]
 pub(crate) fn place_near(order: &[Entry], id: Ident, near: usize) -> Option<usize>
     requires { Rising entry_id order.now }
@@ -55,7 +55,7 @@ pub(crate) fn place_near(order: &[Entry], id: Ident, near: usize) -> Option<usiz
     place_of(order, id)
 }
 
-// The first entry whose id is above a number.
+// The first entry with an id above `n`.
 pub(crate) fn entry_above(order: &[Entry], n: u32) -> Option<&Entry>
     ensures { option_copied result ≡ find (λ e. nat_lt n e.id) order.now }
 {

@@ -1,4 +1,4 @@
-//! The numbers of kernel objects.
+//! The ids of kernel objects.
 
 ghost use Rattle.std.specs.Prelude.{◌≡◌, ◌<◌, ◌≤◌, SomeIff};
 ghost use Rattle.wind_base.specs.Limits.{greatest_id};
@@ -6,7 +6,7 @@ ghost use Rattle.wind_base.specs.Limits.{greatest_id};
 use std::marker::Model;
 use wind_base::limits::IDS;
 
-/// The number of a kernel object, from 1 to 1,048,576.
+/// The id of a kernel object, from 1 to 1,048,576.
 #[derive(Clone, Copy, Debug, PartialEq, Eq)]
 pub struct Ident {
     number: u32,
@@ -26,7 +26,7 @@ impl Model for Ident {
 }
 
 impl Ident {
-    /// The id of this number. None where it is 0 or above 1,048,576.
+    /// The id with this number. None if it is 0 or above 1,048,576.
     pub fn new(n: u32) -> Option<Ident>
         ensures { SomeIff result ((0 < n) × (n ≤ greatest_id)) n }
     {
@@ -47,7 +47,7 @@ impl Ident {
     }
 }
 
-/// What a task waits for: an object, and at which of its sides.
+/// Where a task waits: an object, and one of its sides.
 #[derive(Clone, Copy, Debug, PartialEq, Eq)]
 pub struct Place {
     /// The side of the object, one of `sides`.

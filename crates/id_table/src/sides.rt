@@ -1,13 +1,13 @@
 //! The sides of a place at which tasks wait.
 
-/// At a semaphore or a mutex, or as a receiver at a message queue.
+/// The task waits for a semaphore or a mutex, or receives from a message queue.
 pub const OBJECT: u8 = 0;
 
-/// As a sender at a message queue.
+/// The task sends to a message queue.
 pub const SENDERS: u8 = 1;
 
-/// For the deletion of a task that is safe from it.
+/// The task deletes a task that is protected from deletion.
 pub const DELETION: u8 = 2;
 
-/// For a line of the console.
+/// The task waits for a console line.
 pub const CONSOLE: u8 = 3;

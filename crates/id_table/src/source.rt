@@ -1,4 +1,4 @@
-//! Where ids come from.
+//! The source of ids.
 
 ghost use Rattle.std.specs.Prelude.{◌≡◌, ◌<◌, ◌≤◌, ◌+◌, ◌-◌, true, false, SomeIff, nat_le, if◌then◌else◌};
 ghost use Rattle.wind_base.specs.Limits.{greatest_id};
@@ -8,8 +8,8 @@ use crate::ident::Ident;
 use std::marker::Model;
 use wind_base::limits::IDS;
 
-/// The ids that were not given yet. They are given in order, each once; seen as the next of them, and whether
-/// they are lent to another source.
+/// The ids not given yet. They are given in rising order, each once. A contract sees the next id,
+/// and whether the ids are lent to another source.
 #[derive(Drop)]
 pub struct IdSource {
     next: u32,
@@ -29,7 +29,7 @@ impl Model for IdSource {
 }
 
 impl IdSource {
-    /// All ids from 1 on.
+    /// A source of all ids, from 1 on.
     pub fn new() -> IdSource
         ensures { result ≡ record { next = 1; lent = false } }
     {
@@ -39,7 +39,8 @@ impl IdSource {
         }
     }
 
-    /// Lends the ids to another source. None is given here until they are put back, so no id is given twice.
+    /// Lends the ids to another source. This source gives none until they are put back, so no id is
+    /// given twice.
     pub fn lend(&mut self) -> IdSource
         requires { self.old.lent ≡ false }
         ensures value { result ≡ self.old }
@@ -52,7 +53,7 @@ impl IdSource {
         }
     }
 
-    /// Takes lent ids back. None of them may be one that was given before.
+    /// Takes lent ids back. None of them may have been given before.
     pub fn put(&mut self, ids: IdSource)
         requires lent { self.old.lent ≡ true }
         requires whole { ids.lent ≡ false }
@@ -63,7 +64,7 @@ impl IdSource {
         self.lent = false;
     }
 
-    /// The id that is given next. None where none is left.
+    /// The next id that will be given. None if no id is left.
     pub fn peek(&self) -> Option<Ident>
         ensures { SomeIff result (self.now.next ≤ greatest_id) self.now.next }
     {
@@ -78,7 +79,7 @@ impl IdSource {
         IDS - (self.next - 1)
     }
 
-    /// Gives the next id. None where none is left.
+    /// Gives the next id. None if no id is left.
     pub(crate) fn draw(&mut self) -> Option<Ident>
         requires { self.old.lent ≡ false }
         ensures id { SomeIff result (self.old.next ≤ greatest_id) self.old.next }

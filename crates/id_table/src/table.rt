@@ -1,4 +1,4 @@
-//! Objects by id.
+//! Tables of objects by id.
 
 ghost use Rattle.std.specs.Prelude.{◌≡◌, ◌<◌, ◌≤◌, ◌+◌, [], false, length, IfOk, IfErr, IsOk, ◌↔◌, Some, IsSome, is_some, option_copied, slice_index_or};
 ghost use Rattle.std.specs.Option.{option_copied_mut};
@@ -15,11 +15,11 @@ use std::alloc::Global;
 use std::marker::Model;
 use wind_base::NoMemory;
 
-/// Objects by id, at most so many.
+/// Objects by id, with a limit on their number.
 #[derive(Drop)]
 pub struct Table<T> {
     room: usize,
-    // where the object stood that was lent to be written last: it is looked for there first
+    // the place of the last object that was lent for writing; look-ups for writing begin there
     recent: usize,
     // by rising id
     order: Vec<Entry>,
@@ -63,22 +63,22 @@ impl<T> Table<T> {
         })
     }
 
-    /// Does nothing. Its contract tells the facts that the table keeps.
+    /// Does nothing. Its contract states the table's invariant.
     pub fn facts(&self)
         ensures { IsTable self.now }
     {
-        // to read the order is to know them
+        // reading the order makes the invariant known
         let _ = &self.order;
     }
 
-    /// How many objects there are.
+    /// The number of objects.
     pub fn len(&self) -> usize
         ensures { result ≡ length self.now.rows }
     {
         self.order.len()
     }
 
-    /// The object at this place, counted from 0 by rising id.
+    /// The object at this place; places count from 0 by rising id.
     pub fn value_at(&self, place: usize) -> &T
         requires { place < length self.now.rows }
         ensures { result.now ≡ slice_index_or (objects self.now.rows) place result.now }
@@ -87,7 +87,7 @@ impl<T> Table<T> {
         &self.slots[key]
     }
 
-    /// The object of this id. None where the id is not live here.
+    /// The object with this id. None if the id isn't live in this table.
     pub fn get(&self, id: Ident) -> Option<&T>
         ensures { option_copied result ≡ object_of self.now.rows id }
     {
@@ -95,14 +95,14 @@ impl<T> Table<T> {
         self.slots.get(self.order[at].key)
     }
 
-    /// Whether this id is live here.
+    /// Whether this id is live in this table.
     pub fn contains(&self, id: Ident) -> bool
         ensures { result ≡ is_some (object_of self.now.rows id) }
     {
         self.get(id).is_some()
     }
 
-    /// The least live id above a number. None where there is none.
+    /// The least live id above `id`. None if there is none.
     pub fn next_after(&self, id: u32) -> Option<Ident>
         ensures value { result ≡ next_above self.now.rows id }
         ensures rising { Rises self.now.rows }
@@ -113,7 +113,7 @@ impl<T> Table<T> {
         }
     }
 
-    /// The object of this id, which there is, to be written.
+    /// A mutable reference to the object with this id, which must exist.
     pub fn object_mut(&mut self, id: Ident) -> &mut T
         requires { IsSome (object_of self.old.rows id) }
         ensures* writes_back { sem 𝓛 (lends_object T.row self.entry id result) }
@@ -129,7 +129,7 @@ impl<T> Table<T> {
         }
     }
 
-    /// The object of this id, to be written. None where the id is not live here.
+    /// A mutable reference to the object with this id. None if the id isn't live in this table.
     pub fn get_mut(&mut self, id: Ident) -> Option<&mut T>
         ensures* writes_back { sem 𝓛 (lends_found T.row self.entry id result) }
         ensures value { option_copied_mut result ≡ object_of self.old.rows id }
@@ -141,7 +141,7 @@ impl<T> Table<T> {
         }
     }
 
-    /// Takes the object of this id out. None where the id is not live here.
+    /// Removes the object with this id. None if the id isn't live in this table.
     pub fn remove(&mut self, id: Ident) -> Option<T>
         ensures value { result ≡ object_of self.old.rows id }
         ensures rows { self.new ≡ removed self.old id }
@@ -151,8 +151,9 @@ impl<T> Table<T> {
         Some(self.slots.remove(key))
     }
 
-    /// Adds an object under the next id of the source, whose ids aren't lent; each id that is live here is
-    /// below that. Gives the object back, and changes nothing, where the room is full or no id is left.
+    /// Adds an object under the source's next id. The source's ids aren't lent, and every live id
+    /// of this table is below the next. If the table is full or no id is left, nothing changes and
+    /// the object is returned.
     pub fn add(&mut self, ids: &mut IdSource, value: T) -> Result<Ident, T>
         requires home { ids.old.lent ≡ false }
         requires below { IdsBelow ids.old.next self.old.rows }

@@ -1,4 +1,4 @@
-//! Tables with ample memory.
+//! Tests of tables, with ample memory.
 
 use crate::{IdSource, Ident, Table};
 use std::test::Fail;

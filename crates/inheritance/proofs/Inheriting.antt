@@ -1,4 +1,4 @@
--- A kernel in which some tasks were given one priority: in whatever order, where at most one of them is ready.
+-- A kernel in which some tasks were given one priority; their order doesn't matter if at most one of them is ready.
 use Rattle.std.proofs.Common.{◌≡◌, ℕ, ◌+◌, Bool, true, false, cond, ◌&&◌, ◌||◌, eqb, List, [], ◌∷◌, map, get_or, Option, None, Some, is_some, refl, sym, ap, ◌∙◌, arith, ⊎_elim}
 use Rattle.std.specs.Option.{option_map}
 use Rattle.std.specs.List.{All, Contains}
@@ -21,23 +21,23 @@ map_twice f g h [] same = refl
 map_twice f g h (t ∷ ts) same =
     ap (λ u. u ∷ map f (map g ts)) (All-head (λ v. f (g v) ≡ h v) t ts same) ∙ ap (λ us. h t ∷ us) (map_twice f g h ts (All-tail (λ v. f (g v) ≡ h v) t ts same))
 
--- what a look-up finds where g is made of each task
+-- a look-up after g is applied to each task
 task_of-map : (g : Task → Task) → ((t : Task) → (g t).id ≡ t.id) → (ts : List Task) (y : ℕ) → task_of (map g ts) y ≡ option_map g (task_of ts y)
 task_of-map g keeps [] y = refl
 task_of-map g keeps (t ∷ ts) y =
     ap (λ n. cond (eqb n y) (Some (g t)) (task_of (map g ts) y)) (keeps t)
     ∙ elim (eqb t.id y) as (λ b. cond b (Some (g t)) (task_of (map g ts) y) ≡ option_map g (cond b (Some t) (task_of ts y))) [ true ↦ refl | false ↦ task_of-map g keeps ts y ]
 
--- ---- those that pass the test have priority p
+-- the tasks that pass the test get priority p
 abbrev pub given : ℕ → ℕ → (ℕ → Bool) → Task → Task
 given since p on t = cond (on t.id) (settled since (with_pri p t)) t
 
--- one order number, where the task was given the priority and is ready
+-- one order number, if the task was given the priority and is ready
 abbrev pub numbers : Bool → Option Task → ℕ
 numbers b None = 0
 numbers b (Some t) = cond (b && is_ready t) 1 0
 
--- those that pass the test have priority p, and z is the only one of them that may be ready
+-- the tasks that pass the test have priority p, and only z of them can be ready
 abbrev pub inherited : KernState → ℕ → ℕ → (ℕ → Bool) → KernState
 inherited k p z on = record k {
   tasks = map (given k.next_since p on) k.tasks;
@@ -66,7 +66,7 @@ module _ (k : KernState) (p z : ℕ) where
   pri_on on y t e =
       ap pri_in (found on y ∙ ap (option_map (given k.next_since p on)) e) ∙ given-pri k.next_since p on t ∙ ap (λ n. cond (on n) p t.pri) (found_id task_id k.tasks y t e)
 
-  -- nobody is given it
+  -- no task is given it
   pub none_on : inherited k p z (λ _. false) ≡ k
   none_on =
       ap (λ ts. record k { tasks = ts; next_since = k.next_since + numbers false (task_of k.tasks z) }) (map-id k.tasks)
@@ -88,7 +88,7 @@ module _ (k : KernState) (p z : ℕ) where
       number None h = refl
       number (Some t) h = ap (λ b. numbers b (Some t)) (h refl)
 
-  -- who has been given it stays as he is
+  -- a task that has been given it stays as it is
   pub again : (on : ℕ → Bool) (x : ℕ) (t : Task) → task_of k.tasks x ≡ Some t → on x ≡ true → change_pri (inherited k p z on) x p ≡ inherited k p z on
   again on x t e already =
       let r : KernState = inherited k p z on in
@@ -97,7 +97,7 @@ module _ (k : KernState) (p z : ℕ) where
       let has : u.pri ≡ p = given-pri k.next_since p on t ∙ ap (λ n. cond (on n) p t.pri) (found_id task_id k.tasks x t e) ∙ ap (λ b. cond b p t.pri) already in
       ap (λ o. cond (has_pri p o) r (move_found r x (with_pri p) o)) here ∙ ap (λ b. cond b r (move_found r x (with_pri p) (Some u))) (eq-eqb u.pri p has)
 
-  -- and who has not, with the priority that he has
+  -- and a task that hasn't, with its own priority
   pub untouched : (on : ℕ → Bool) (x : ℕ) (t : Task) → task_of k.tasks x ≡ Some t → on x ≡ false → change_pri (inherited k p z on) x (pri_of k.tasks x) ≡ inherited k p z on
   untouched on x t e off =
       let r : KernState = inherited k p z on in

@@ -1,4 +1,4 @@
--- The walk law of the tasks: what raising makes of each priority.
+-- The walk law for tasks: what raising does to each priority.
 use Rattle.std.proofs.Common.{ap, ◌∙◌, cond}
 use Rattle.wind_core.proofs.Ids.{ids}
 use Rattle.inheritance.specs.Reach.{boss, pri_of, lifted}

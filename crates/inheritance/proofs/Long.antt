@@ -1,4 +1,4 @@
--- A walk longer than there are tasks meets no further task.
+-- A walk with more steps than there are tasks meets no further task.
 use Rattle.std.proofs.Common.{◌≡◌, ℕ, zero, suc, ◌+◌, ◌<◌, ◌≤◌, Bool, true, false, cond, not, eqb, List, [], ◌∷◌, map, length, get_or, Option, Some, refl, sym, ap, ◌∙◌, subst, arith, ◌⊎◌, inl, inr, ⊎_elim}
 use Rattle.std.specs.List.{filter}
 use Rattle.std.proofs.lemmas.Bool.{cases_eq, ne_eqb, eq-eqb}
@@ -33,7 +33,7 @@ fewer_but c (v ∷ vs) h =
     (on_cases v c vs h)
 
 module _ (up : ℕ → Option ℕ) where
-  -- x is met in at most k steps from y, through these ids alone
+  -- x is met in at most k steps from y, through only these ids
   abbrev Walks : List ℕ → ℕ → ℕ → ℕ → Type 0
   Walks ids zero y x = ⊥
   Walks ids (suc k) y x = (z : ℕ) × (up y ≡ Some z) × (is_on ids z ≡ true) × ((z ≡ x) ⊎ Walks ids k z x)
@@ -44,7 +44,7 @@ module _ (up : ℕ → Option ℕ) where
       let s = path_cases up k y x h in
       (s.0, s.1, stays y s.0 s.1, ⊎_elim (λ (e : s.0 ≡ x). inl e) (λ (r : is_on (path up k s.0) x ≡ true). inr (walks_from ids stays k s.0 x r)) s.2)
 
-  -- a walk avoids c, or ends in it, or can begin anew at it
+  -- a walk avoids c, or ends at it, or can begin again at it
   avoid : (c : ℕ) (ids : List ℕ) (k y x : ℕ) → Walks ids k y x → (x ≡ c) ⊎ (((j : ℕ) × Walks (but c ids) j c x) ⊎ Walks (but c ids) k y x)
   avoid c ids zero y x h = absurd h
   avoid c ids (suc k) y x h =
@@ -73,7 +73,7 @@ module _ (up : ℕ → Option ℕ) where
       h.3)
       (cases_eq h.0 c)
 
-  -- as many steps as there are ids are enough
+  -- as many steps as there are ids suffice
   short : (m : ℕ) (ids : List ℕ) → length ids ≤ m → (k y x : ℕ) → Walks ids k y x → is_on (path up m y) x ≡ true
   short m ids le zero y x h = absurd h
   short zero ids le (suc k) y x h = let few = fewer_but h.0 ids h.2 in absurd (omega arith)
@@ -93,7 +93,7 @@ module _ (up : ℕ → Option ℕ) where
   pub long_path : (ids : List ℕ) → StaysIn up ids → (m k y x : ℕ) → length ids ≤ m → is_on (path up k y) x ≡ true → is_on (path up m y) x ≡ true
   long_path ids stays m k y x le h = short m ids le k y x (walks_from ids stays k y x h)
 
-  -- who reaches y reaches y's boss, one step further on
+  -- a task that reaches y reaches y's boss in one step more
   pub reach_on : (n z y x : ℕ) → is_on (path up n z) y ≡ true → up y ≡ Some x → is_on (path up (suc n) z) x ≡ true
   reach_on zero z y x h e = absurd (cc)
   reach_on (suc n) z y x h e =
@@ -103,7 +103,7 @@ module _ (up : ℕ → Option ℕ) where
       (λ (r : is_on (path up n s.0) y ≡ true). reach_on n s.0 y x r e)
       s.2)
 
--- a bound of the priorities of those among ids that pass is one of the most urgent of them
+-- a bound of the priorities of the ids that pass is a bound of the most urgent of them
 pub most_each : (pri : ℕ → ℕ) (b p : ℕ) (r : ℕ → Bool) (ids : List ℕ) → b ≤ p → ((k v : ℕ) → k < length ids → get_or ids k v ≡ v → r v ≡ true → b ≤ pri v) → b ≤ most p (map pri (filter r ids))
 most_each pri b p r [] hp h = hp
 most_each pri b p r (y ∷ ys) hp h =

@@ -1,4 +1,4 @@
--- The walk from owner to owner leaves what raising leaves.
+-- The walk from owner to owner has the same result as raising.
 use Rattle.std.proofs.Common.{◌≡◌, ℕ, zero, suc, ◌-◌, ◌+◌, ◌<◌, ◌≤◌, Bool, true, false, cond, ◌&&◌, ◌||◌, eqb, ltb, List, [], ◌∷◌, length, get_or, Option, None, Some, is_some, refl, sym, ap, ◌∙◌, subst, arith, ◌⊎◌, inl, inr, ⊎_elim}
 use Rattle.std.proofs.lemmas.Bool.{cases_eq, cases_lt, eq-eqb, ne_eqb, lt-ltb, le-ltb}
 use Rattle.std.proofs.lemmas.Option.{same_Some}
@@ -18,7 +18,7 @@ use Rattle.inheritance.proofs.Same.{urgent_but}
 use Rattle.inheritance.proofs.Inheriting.{inherited, waits_on, pri_on, none_on, alike_on, again, untouched, one_more}
 
 -- ---- the walk
--- each heir in turn, n at most, gets priority p
+-- each heir in turn, at most n of them, gets priority p
 abbrev pub walked : List (ℕ × Mutex) → ℕ → ℕ → KernState → ℕ → KernState
 walked ms p zero r at = r
 walked ms p (suc n) r at = elim (heir r.tasks ms p at) [ None ↦ r | Some x ↦ walked ms p n (change_pri r x p) x ]
@@ -48,7 +48,7 @@ abbrev end_of : (ℕ → Option ℕ) → ℕ → ℕ → ℕ
 end_of up zero y = y
 end_of up (suc n) y = elim (up y) [ None ↦ y | Some x ↦ end_of up n x ]
 
--- only the end of a path waits for nobody
+-- only the end of a path waits for no task
 only_end : (up : ℕ → Option ℕ) (n y x : ℕ) → is_on (path up n y) x ≡ true → up x ≡ None → x ≡ end_of up n y
 only_end up zero y x h e = absurd (cc)
 only_end up (suc n) y x h e =
@@ -60,7 +60,7 @@ only_end up (suc n) y x h e =
     ended zero v q = refl
     ended (suc m) v q = sym (ap (λ o. elim o [ None ↦ v | Some u ↦ end_of up m u ]) q)
 
--- a ready task waits for nobody
+-- a ready task waits for no task
 ready_free : (ts : List Task) (ms : List (ℕ × Mutex)) (x : ℕ) (t : Task) → task_of ts x ≡ Some t → is_ready t ≡ true → boss ts ms x ≡ None
 ready_free ts ms x t e ready = ap (λ o. live_one ts (owner_at ms (wait_of o))) e ∙ ap (λ w. live_one ts (owner_at ms w)) (free t.wait ready)
   where
@@ -104,7 +104,7 @@ or_moved false c d = refl
 eqb_sym : (x y : ℕ) → eqb x y ≡ eqb y x
 eqb_sym x y = ⊎_elim (λ (e : x ≡ y). eq-eqb x y e ∙ sym (eq-eqb y x (sym e))) (λ (ne : x ≡ y → ⊥). ne_eqb x y ne ∙ sym (ne_eqb y x (λ e. ne (sym e)))) (cases_eq x y)
 
--- ---- where each owner is as urgent as its waiters but w
+-- ---- each owner is as urgent as its waiters, except w
 module _ (k : KernState) (ms : List (ℕ × Mutex)) (w : ℕ) (is : IsKern k) (lives : is_some (task_of k.tasks w) ≡ true) (urgent : OwnersUrgentBut w ms k.tasks) where
   abbrev up : ℕ → Option ℕ
   up = boss k.tasks ms
@@ -118,7 +118,7 @@ module _ (k : KernState) (ms : List (ℕ × Mutex)) (w : ℕ) (is : IsKern k) (l
   abbrev fronts : ℕ → ℕ → List ℕ
   fronts n y = front up pri w good n y
 
-  -- those that pass the test have the priority of w
+  -- the tasks that pass the test have the priority of w
   abbrev with_heirs : (ℕ → Bool) → KernState
   with_heirs on = inherited k (pri w) (end_of up 256 w) on
 
@@ -133,11 +133,11 @@ module _ (k : KernState) (ms : List (ℕ × Mutex)) (w : ℕ) (is : IsKern k) (l
   heir_on : (on : ℕ → Bool) (y : ℕ) → heir (with_heirs on).tasks ms (pri w) y ≡ heir_of (with_heirs on).tasks (pri w) (up y)
   heir_on on y = ap (heir_of (with_heirs on).tasks (pri w)) (bosses_on on y)
 
-  -- whom those that have it wait for has it too, but for the last of them
+  -- the tasks that have it wait only for tasks that have it, except the last of them
   abbrev IsClosed : (ℕ → Bool) → ℕ → Type 0
   IsClosed on at = (y x : ℕ) → on y ≡ true → (y ≡ at → ⊥) → up y ≡ Some x → on x ≡ true
 
-  -- so all whom those reach have it, once the last one's owner has it
+  -- so all tasks that they reach have it, once the last one's owner has it
   closed_path : (on : ℕ → Bool) → ((y x : ℕ) → on y ≡ true → up y ≡ Some x → on x ≡ true) → (n y x : ℕ) → on y ≡ true → is_on (path up n y) x ≡ true → on x ≡ true
   closed_path on closed zero y x h r = absurd (cc)
   closed_path on closed (suc n) y x h r =
@@ -145,12 +145,12 @@ module _ (k : KernState) (ms : List (ℕ × Mutex)) (w : ℕ) (is : IsKern k) (l
       let next = closed y s.0 h s.1 in
       ⊎_elim (λ (e : s.0 ≡ x). subst (λ v. on v ≡ true) e next) (λ (q : is_on (path up n s.0) x ≡ true). closed_path on closed n s.0 x next q) s.2
 
-  -- from `at` on, the owners before the first that is as urgent get it too
+  -- from `at` on, the owners before the first that is at least as urgent get it too
   abbrev IsWalk : ℕ → Type 0
   IsWalk n = (at : ℕ) (on : ℕ → Bool) → IsClosed on at → ((x : ℕ) → is_on (fronts n at) x ≡ true → is_on (fronts 256 w) x ≡ true)
       → walked ms (pri w) n (with_heirs on) at ≡ with_heirs (λ x. on x || is_on (fronts n at) x)
 
-  -- one step, where the rest of the walk does so
+  -- one step, if the rest of the walk does so
   module _ (n at : ℕ) (on : ℕ → Bool) (closed : IsClosed on at) (within : (x : ℕ) → is_on (fronts (suc n) at) x ≡ true → is_on (fronts 256 w) x ≡ true) (rest : IsWalk n) where
     abbrev goes_to : Option ℕ → KernState
     goes_to o = elim o [ None ↦ with_heirs on | Some x ↦ walked ms (pri w) n (change_pri (with_heirs on) x (pri w)) x ]
@@ -220,7 +220,7 @@ module _ (k : KernState) (ms : List (ℕ × Mutex)) (w : ℕ) (is : IsKern k) (l
   walk_is (suc n) = λ at on closed within.
       ap (goes_to n at on closed within (walk_is n)) (heir_on on at) ∙ step n at on closed within (walk_is n) (up at) refl
 
-  -- ---- the same by a pass over all tasks
+  -- ---- the same by a scan of all tasks
   goal_is : (x : ℕ) → lifted k ms x ≡ cond (is_on (fronts 256 w) x) (pri w) (pri x)
   goal_is x = walk_law up pri w 256 (ids k.tasks) good (place_on (ids k.tasks) w (on_ids k.tasks w lives)) x
 

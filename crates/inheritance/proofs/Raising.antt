@@ -1,4 +1,4 @@
--- What raising leaves: who waits for whom, and each task's priority.
+-- The result of raising: which task waits for which, and each task's priority.
 use Rattle.std.proofs.Common.{◌≡◌, ℕ, suc, ◌+◌, ◌<◌, ◌≤◌, Bool, true, false, cond, ◌||◌, eqb, List, [], ◌∷◌, length, get_or, Option, None, Some, is_some, refl, sym, ap, ◌∙◌, subst, arith, ⊎_elim}
 use mathlib.Core.Path.{fun_ext}
 use Rattle.std.specs.Option.{option_map}
@@ -18,7 +18,7 @@ use Rattle.inheritance.proofs.Lookups.{live_is, on_ids, place_on, each_lives}
 use Rattle.inheritance.proofs.Long.{owner_law}
 use Rattle.wind_core.proofs.Unwritten.{task_of-change}
 
--- ---- a change of a priority changes no wait, and that priority alone
+-- ---- a change of a priority changes no wait and no other priority
 pub repri-id : (n pri : ℕ) (t : Task) → (settled n (with_pri pri t)).id ≡ t.id
 repri-id n pri t = elim (is_ready (with_pri pri t)) as (λ b. (cond b (renewed n (with_pri pri t)) (with_pri pri t)).id ≡ t.id) [ true ↦ refl | false ↦ refl ]
 
@@ -122,11 +122,11 @@ raise_all goal (u ∷ us) r live =
         ∙ ap (λ c. cond (c || b) (goal y) (pri_of r.tasks y)) (sym (ne_eqb u.id y (λ e. ne (sym e)))))
         (cases_eq y u.id)
 
--- each live task has its urgency, and waits as before
+-- each live task has its most urgent priority, and waits as before
 pub raised_to : (k : KernState) (ms : List (ℕ × Mutex)) → RaisedTo k (raised_kern k ms) (lifted k ms) (ids k.tasks)
 raised_to k ms = raise_all (lifted k ms) k.tasks k (each_lives k.tasks)
 
--- ---- who waits for whom stays
+-- ---- which task waits for which stays
 pub boss-alike : (ts us : List Task) (ms : List (ℕ × Mutex)) → ((y : ℕ) → option_map (λ t. t.wait) (task_of us y) ≡ option_map (λ t. t.wait) (task_of ts y)) → (y : ℕ) → boss us ms y ≡ boss ts ms y
 boss-alike ts us ms h y = one_alike (owner_at ms (wait_of (task_of us y))) ∙ ap (λ w. live_one ts (owner_at ms w)) (wait_alike (task_of ts y) (task_of us y) (h y))
   where
@@ -149,7 +149,7 @@ boss-alike ts us ms h y = one_alike (owner_at ms (wait_of (task_of us y))) ∙ a
 pub bosses : (r n : KernState) (goal : ℕ → ℕ) (some : List ℕ) (ms : List (ℕ × Mutex)) → RaisedTo r n goal some → boss n.tasks ms ≡ boss r.tasks ms
 bosses r n goal some ms to = fun_ext (boss-alike r.tasks n.tasks ms to.waits)
 
--- ---- a boss and its waiter live
+-- ---- a boss and its waiter are live
 pub boss_lives : (ts : List Task) (ms : List (ℕ × Mutex)) (y x : ℕ) → boss ts ms y ≡ Some x → (is_some (task_of ts y) ≡ true) × (is_some (task_of ts x) ≡ true)
 boss_lives ts ms y x e = (waits (task_of ts y) e, of_owner (owner_at ms (wait_of (task_of ts y))) e)
   where

@@ -1,4 +1,4 @@
--- The laws of raising, as the tasks stand in the list.
+-- The laws of raising, for the tasks as the list has them.
 use Rattle.std.proofs.Common.{◌≡◌, ℕ, zero, suc, ◌≤◌, true, false, cond, List, [], ◌∷◌, map, get_or, Option, None, Some, is_some, refl, sym, ap, ◌∙◌, subst, arith, ⊎_elim}
 use Rattle.std.specs.List.{filter, All, Contains}
 use Rattle.std.proofs.lemmas.Bool.{eq-eqb}
@@ -19,7 +19,7 @@ use Rattle.inheritance.proofs.Lookups.{live_is}
 use Rattle.inheritance.proofs.Walk.{path_cases, most_own, most_least}
 use Rattle.inheritance.proofs.Raising.{boss_urgent, boss_lives}
 
--- ---- a task that lends, and its boss
+-- ---- a task that passes its priority on, and its boss
 pub boss_is : (ts : List Task) (ms : List (ℕ × Mutex)) (y x : Task) → Rising task_id ts → Contains ts y → Contains ts x → owner_at ms y.wait ≡ Some x.id → boss ts ms y.id ≡ Some x.id
 boss_is ts ms y x up at_y at_x e =
     ap (λ o. live_one ts (owner_at ms (wait_of o))) (found_in task_id ts y up at_y)
@@ -59,7 +59,7 @@ urgent_but w ts ms urgent y x other e =
 pub urgent_at : (ts : List Task) (ms : List (ℕ × Mutex)) → OwnersUrgent ms ts → (y x : ℕ) → boss ts ms y ≡ Some x → pri_of ts x ≤ pri_of ts y
 urgent_at ts ms urgent y x e = urgent_but (suc y) ts ms (λ i d hi other. urgent i d hi) y x (λ q. omega (arith, q)) e
 
--- ---- raising keeps the kernel's facts
+-- ---- raising keeps the kernel's invariant
 pub repried_keeps : (goal : ℕ → ℕ) (us : List Task) (r : KernState) → IsKern r → IsKern (repried r goal us)
 repried_keeps goal [] r is = is
 repried_keeps goal (u ∷ us) r is = repried_keeps goal us (change_pri r u.id (goal u.id)) (move_keeps r (ChangePri u.id (goal u.id)) is tt)
@@ -68,7 +68,7 @@ pub raised_law : RaisedLaw
 raised_law s is =
     urgent_from (raised s).kern.tasks s.mutexes (repried_keeps (lifted s.kern s.mutexes) s.kern.tasks s.kern is).rising (boss_urgent s.kern s.mutexes is.few)
 
--- ---- where each owner is as urgent already
+-- ---- each owner is as urgent already
 module _ (up : ℕ → Option ℕ) (pri : ℕ → ℕ) (good : (y x : ℕ) → up y ≡ Some x → pri x ≤ pri y) where
   reached : (n y x : ℕ) → is_on (path up n y) x ≡ true → pri x ≤ pri y
   reached zero y x h = absurd (cc)

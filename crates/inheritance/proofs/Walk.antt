@@ -62,7 +62,7 @@ module _ (up : ℕ → Option ℕ) (pri : ℕ → ℕ) (w : ℕ) (good : GoodBut
   abbrev lower : ℕ → Bool
   lower z = ltb (pri w) (pri z)
 
-  -- who reaches x is at most as urgent as x, or reaches it through w and is at most as urgent as w
+  -- a task that reaches x is at most as urgent as x, or reaches it through w and is at most as urgent as w
   pub through : (n y x : ℕ) → is_on (path up n y) x ≡ true → (pri x ≤ pri y) ⊎ ((pri w ≤ pri y) × (is_on (path up n w) x ≡ true))
   through zero y x h = absurd (cc)
   through (suc n) y x h =
@@ -151,7 +151,7 @@ module _ (up : ℕ → Option ℕ) (pri : ℕ → ℕ) (w : ℕ) (good : GoodBut
       (λ (ne : k ≡ suc n → ⊥). front_more n w x (front_upto n k x (omega arith) h))
       (cases_eq k (suc n))
 
-  -- what w reaches and is less urgent stands before the first one at least as urgent as w, cycles included
+  -- a task that w reaches and that is less urgent than w comes before the first one at least as urgent as w, even in cycles
   pub in_front : (fuel n x : ℕ) → n ≤ fuel → is_on (path up n w) x ≡ true → pri w < pri x → is_on (front n w) x ≡ true
   in_front zero n x le h less =
       let e : n ≡ 0 = omega arith in
@@ -163,7 +163,7 @@ module _ (up : ℕ → Option ℕ) (pri : ℕ → ℕ) (w : ℕ) (good : GoodBut
       (λ (p : (k : ℕ) × (k < n) × (is_on (path up k w) x ≡ true)). front_upto n p.0 x (omega (arith, p.1)) (in_front fuel p.0 x (omega (arith, p.1)) p.2 less))
       (front_or_through n w x h less)
 
-  -- and the other way round
+  -- and conversely
   pub from_front : (n y x : ℕ) → is_on (front n y) x ≡ true → (is_on (path up n y) x ≡ true) × (pri w < pri x)
   from_front zero y x h = absurd (cc)
   from_front (suc n) y x h =

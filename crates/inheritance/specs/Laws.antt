@@ -1,4 +1,4 @@
--- The walk from owner to owner, and what raising leaves.
+-- The walk from owner to owner, and the priorities after raising.
 use Rattle.std.specs.Prelude.{◌≡◌, ℕ, ◌≤◌, cond, nat_lt, true, length, map, List, Option, Some}
 use Rattle.std.specs.List.{All, Contains}
 use Rattle.task_block.specs.declared.task.Task.{Task}
@@ -7,22 +7,21 @@ use Rattle.inheritance.specs.declared.mutex.Mutex.{Mutex}
 use Rattle.inheritance.specs.Mutexes.{MutexState}
 use Rattle.inheritance.specs.Reach.{boss, owner_at, pri_of, raised, path, is_on, urgency, front_while}
 
--- each owner is at least as urgent as its waiters, but for the waiter w
+-- each owner is at least as urgent as its waiters, except the waiter w
 abbrev pub GoodBut : (ℕ → Option ℕ) → (ℕ → ℕ) → ℕ → Type 0
 GoodBut up pri w = (y x : ℕ) → (y ≡ w → ⊥) → up y ≡ Some x → pri x ≤ pri y
 
--- the owners on the path of w before the first one that is at least as urgent as w get w's priority, and no other
--- task's changes
+-- the owners on the path of w before the first that is at least as urgent as w get w's priority, and no other priority changes
 abbrev pub WalkLaw : Type 0
 WalkLaw = (up : ℕ → Option ℕ) (pri : ℕ → ℕ) (w n : ℕ) (ids : List ℕ) → GoodBut up pri w → Contains ids w
     → (x : ℕ)
     → urgency up pri n ids x ≡ cond (is_on (front_while (λ z. nat_lt (pri w) (pri z)) (path up n w)) x) (pri w) (pri x)
 
--- all whom a task waits for are among these
+-- all tasks that a task waits for are among these
 abbrev pub StaysIn : (ℕ → Option ℕ) → List ℕ → Type 0
 StaysIn up ids = (y x : ℕ) → up y ≡ Some x → is_on ids x ≡ true
 
--- where a walk may be as long as there are tasks, an owner is at least as urgent as each of its waiters, also in a cycle
+-- if a walk can be as long as there are tasks, an owner is at least as urgent as each of its waiters, also in a cycle
 abbrev pub OwnerLaw : Type 0
 OwnerLaw = (up : ℕ → Option ℕ) (pri : ℕ → ℕ) (n : ℕ) (ids : List ℕ) → StaysIn up ids → length ids ≤ n
     → (y x : ℕ) → up y ≡ Some x → Contains ids y → urgency up pri n ids x ≤ urgency up pri n ids y
@@ -31,29 +30,30 @@ OwnerLaw = (up : ℕ → Option ℕ) (pri : ℕ → ℕ) (n : ℕ) (ids : List �
 abbrev pub OwnersUrgent : List (ℕ × Mutex) → List Task → Type 0
 OwnersUrgent ms ts = All (λ y. All (λ x. owner_at ms y.wait ≡ Some x.id → x.pri ≤ y.pri) ts) ts
 
--- the same but for the waiter w
+-- the same, except for the waiter w
 abbrev pub OwnersUrgentBut : ℕ → List (ℕ × Mutex) → List Task → Type 0
 OwnersUrgentBut w ms ts = All (λ y. (y.id ≡ w → ⊥) → All (λ x. owner_at ms y.wait ≡ Some x.id → x.pri ≤ y.pri) ts) ts
 
--- after raising it is so
+-- after raising, each live owner is at least as urgent as its waiters
 abbrev pub RaisedLaw : Type 0
 RaisedLaw = (s : MutexState) → IsKern s.kern → OwnersUrgent s.mutexes (raised s).kern.tasks
 
--- where it is so, raising changes nothing
+-- if each was so before, raising changes nothing
 abbrev pub SameLaw : Type 0
 SameLaw = (s : MutexState) → IsKern s.kern → OwnersUrgent s.mutexes s.kern.tasks → raised s ≡ s
 
--- raising gives each live task the urgency that the walk law speaks of, by the bosses and the priorities before
+-- raising gives each live task the priority that the walk law names, by the bosses and priorities before
 abbrev pub UrgencyLaw : Type 0
 UrgencyLaw = (s : MutexState) (x : ℕ) → Lives s.kern x
     → pri_of (raised s).kern.tasks x
     ≡ urgency (boss s.kern.tasks s.mutexes) (pri_of s.kern.tasks) 256 (map task_id s.kern.tasks) x
 
--- if each owner is as urgent as its waiters, but for the waiter w, then the premise of the walk law holds of bosses and priorities
+-- if each owner is at least as urgent as its waiters, except the waiter w, the premise of the walk law holds for bosses and priorities
 abbrev pub PremiseLaw : Type 0
 PremiseLaw = (w : ℕ) (ms : List (ℕ × Mutex)) (ts : List Task) → OwnersUrgentBut w ms ts → GoodBut (boss ts ms) (pri_of ts) w
 
--- so raising gives w's priority to the live owners on its path before the first that is as urgent, and changes no other priority
+-- so raising gives w's priority to the live owners on its path before the first that is at least as urgent,
+-- and changes no other priority
 abbrev pub HeirsLaw : Type 0
 HeirsLaw = (s : MutexState) (w x : ℕ) → OwnersUrgentBut w s.mutexes s.kern.tasks → Lives s.kern w → Lives s.kern x
     → pri_of (raised s).kern.tasks x

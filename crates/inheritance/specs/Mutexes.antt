@@ -1,4 +1,4 @@
--- What a contract sees of the mutexes, and of the tasks beside them.
+-- What a contract sees of the mutexes, together with the kernel's tasks.
 use Rattle.std.specs.Prelude.{ℕ, Bool, false, ◌==◌, ◌&&◌, List, Option, None, Some}
 use Rattle.std.specs.List.{count_by}
 use Rattle.wind_base.specs.Limits.{most_mutexes}
@@ -13,21 +13,24 @@ pub record MutexState : Type 0 where
   pub kern : KernState
   pub mutexes : List (ℕ × Mutex)
 
+-- the kernel and the mutexes together
 abbrev pub both : KernState → List (ℕ × Mutex) → MutexState
 both kern mutexes = record { kern = kern; mutexes = mutexes }
 
--- what the list of mutexes keeps: no more than there may be, by rising id, and each number is an id
+-- the invariant of the list of mutexes: at most as many as allowed, by rising id, and each id is valid
 abbrev pub AreMutexes : List (ℕ × Mutex) → Type 0
 AreMutexes ms = IsTable (record { rows = ms; room = most_mutexes })
 
--- where those wait who want a mutex
+-- the place at which tasks wait for a mutex
 abbrev pub mutex_place : ℕ → Place
 mutex_place id = record { side = object_side; id = id }
 
+-- an optional id is this one
 abbrev pub is_id : ℕ → Option ℕ → Bool
 is_id who None = false
 is_id who (Some o) = o == who
 
+-- the owner of a mutex, if there is a mutex and it has an owner
 abbrev pub owner_in : Option Mutex → Option ℕ
 owner_in None = None
 owner_in (Some m) = m.owner
@@ -36,6 +39,6 @@ owner_in (Some m) = m.owner
 abbrev pub holds : ℕ → Mutex → Bool
 holds who m = m.inversion_safe && is_id who m.owner
 
--- how many inversion-safe mutexes the task owns
+-- the number of inversion-safe mutexes that the task owns
 abbrev pub held_count : List (ℕ × Mutex) → ℕ → ℕ
 held_count ms who = count_by (λ r. holds who r.1) ms

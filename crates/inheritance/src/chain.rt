@@ -1,4 +1,4 @@
-//! Whom a task waits for.
+//! Which task a task waits for.
 
 ghost use Rattle.std.specs.Prelude.{◌≡◌};
 ghost use Rattle.inheritance.specs.Reach.{boss as boss_lem};
@@ -8,7 +8,7 @@ use id_table::sides::OBJECT;
 use id_table::{Ident, Table};
 use wind_core::Kern;
 
-/// The live owner of the inversion-safe mutex that the task waits for.
+/// The live owner of the inversion-safe mutex that the task waits for. None if there is none.
 pub fn boss(k: &Kern, mutexes: &Table<Mutex>, who: Ident) -> Option<Ident>
     ensures { result ≡ boss_lem k.now.tasks mutexes.now.rows who }
 {

@@ -1,4 +1,4 @@
-//! Owners inherit the urgency of the tasks that wait for them.
+//! Priority inheritance: owners inherit the priorities of the tasks that wait for them.
 
 ghost use Rattle.std.specs.Prelude.{◌≡◌, ◌<◌, ◌^◌, min};
 ghost use Rattle.wind_core.specs.State.{Lives};
@@ -19,7 +19,7 @@ pub fn more_urgent(a: Pri, b: Pri) -> Pri
     if a.get() < b.get() { a } else { b }
 }
 
-// The priority of a task that lives.
+// The priority of a live task.
 fn priority(k: &Kern, who: Ident) -> Pri
     requires { Lives k.now who }
     ensures { result ≡ pri_of k.now.tasks who }
@@ -30,7 +30,7 @@ fn priority(k: &Kern, who: Ident) -> Pri
     }
 }
 
-// The live owner that the task waits for, where it is less urgent than this priority.
+// The live owner that the task waits for, if the owner is less urgent than this priority.
 fn heir(k: &Kern, mutexes: &Table<Mutex>, who: Ident, pri: Pri) -> Option<Ident>
     ensures { result ≡ heir_lem k.now.tasks mutexes.now.rows pri who }
 {
@@ -43,10 +43,11 @@ fn heir(k: &Kern, mutexes: &Table<Mutex>, who: Ident, pri: Pri) -> Option<Ident>
     }
 }
 
-/// The owner that the task waits for, the one that this owner waits for, and so on, get the priority of the task,
-/// up to the first that is at least as urgent. A ready task whose priority changes stands after its new equals.
-/// Asks that each other waiter has lent its urgency before; then each task has the most urgent priority of itself
-/// and of those that wait for it.
+/// Passes the task's priority on to the owner that it waits for, to the owner that this one waits
+/// for, and so on. This ends at the first owner that is at least as urgent. A ready task whose
+/// priority changes goes after its new equals. Every other waiter must have passed its priority on
+/// before. Afterwards each task has the most urgent priority of itself and of the tasks that wait
+/// for it.
 pub fn inherit(k: &mut Kern, mutexes: &Table<Mutex>, who: Ident)
     requires live { Lives k.old who }
     requires urgent { OwnersUrgentBut who mutexes.now.rows k.old.tasks }
@@ -56,7 +57,8 @@ pub fn inherit(k: &mut Kern, mutexes: &Table<Mutex>, who: Ident)
     k.facts();
     let pri = priority(k, who);
     let mut at = who;
-    // No walk is longer than there may be tasks: one that has inherited already ends it.
+    // A walk has at most as many steps as there can be tasks: an owner that has inherited already
+    // ends it.
     for step in 0..TASKS {
         let Some(owner) = heir(k, mutexes, at, pri) else {
             return;

@@ -1,4 +1,5 @@
-//! Whom a task waits for by the owners of mutexes, and the urgency that owners inherit of their waiters.
+//! Which tasks wait for which mutex owners, and the priorities that owners inherit from their
+//! waiters.
 #![tactic(auto)]
 
 mod chain;

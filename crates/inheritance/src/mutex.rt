@@ -2,17 +2,18 @@
 
 use id_table::Ident;
 
-/// A semaphore for mutual exclusion: whoever takes it owns it.
+/// A semaphore for mutual exclusion: the task that takes it owns it (VxWorks 5.4 Reference Manual,
+/// semMLib).
 #[derive(Drop)]
 pub struct Mutex {
-    /// Whether its waiters stand by urgency, and not by arrival.
+    /// Whether tasks wait for it by priority. If not, they wait in order of arrival.
     pub by_priority: bool,
-    /// Whether its owner is safe from deletion.
+    /// Whether each take is a safe section of its owner.
     pub delete_safe: bool,
-    /// Whether its waiters lend their urgency to its owner.
+    /// Whether its owner inherits the priorities of its waiters.
     pub inversion_safe: bool,
-    /// The task that owns it, live or ended.
+    /// The task that owns it, live or ended. None if it is free.
     pub owner: Option<Ident>,
-    /// How often the owner took it and did not give it back.
+    /// How many times the owner has taken it and not given it back.
     pub depth: u64,
 }

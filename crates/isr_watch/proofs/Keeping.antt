@@ -1,4 +1,4 @@
--- Each call on watchdogs keeps what is kept of them.
+-- Each call on watchdogs keeps their invariant.
 use Rattle.std.proofs.Common.{◌≡◌, ℕ, suc, ◌+◌, ◌<◌, ◌≤◌, true, false, not, cond, eqb, leb, ltb, List, [], ◌∷◌, ◌++◌, length, map, get_or, Option, None, Some, refl, sym, subst, arith}
 use Rattle.std.specs.List.{All}
 use Rattle.std.proofs.lemmas.Bool.{leb-false}
@@ -54,7 +54,7 @@ rising_push (w ∷ ws) v below all =
     behind [] each = All-cons (λ u. w.id < u.id) v [] (All-head (λ u. u.id < v.id) w ws below) each
     behind (u ∷ us) each = All-cons (λ x. w.id < x.id) u (us ++ v ∷ []) (All-head (λ x. w.id < x.id) u us each) (behind us (All-tail (λ x. w.id < x.id) u us each))
 
--- ---- how many live
+-- ---- the number of live watchdogs
 few_without : (ws : List Watchdog) (id : ℕ) → length (without watchdog_id ws id) ≤ length ws
 few_without [] id = omega arith
 few_without (w ∷ ws) id =

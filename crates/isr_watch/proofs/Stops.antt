@@ -1,4 +1,4 @@
--- One watchdog after the other stops and is listed.
+-- The watchdogs that are due stop and are listed one after the other.
 use Rattle.std.proofs.Common.{◌≡◌, ℕ, ◌+◌, ◌≤◌, true, false, cond, eqb, List, [], ◌∷◌, map, length, Option, None, Some, IsSome, refl, sym, ap, ◌∙◌, subst, arith}
 use Rattle.std.specs.List.{All}
 use Rattle.std.specs.Option.{option_map}
@@ -26,7 +26,7 @@ starts_before-order = IsStrictWeakOrder-by_number (λ (w : Watchdog). start_of w
 pub length-due : (ws : List Watchdog) (tick : ℕ) → length (due_watchdogs ws tick) ≤ length ws
 length-due ws tick = length-in_line watchdog_id starts_before starts_before-order (is_due tick) ws
 
--- where one that is due stops, the others that are due stop as before
+-- after one that is due has stopped, the others that are due stop as before
 stop_once : (tick n : ℕ) (ws : List Watchdog) → All (λ w. w.id ≡ n → is_due tick w ≡ true) ws → stop_due tick (change watchdog_id ws n stopped) ≡ stop_due tick ws
 stop_once tick n [] all = refl
 stop_once tick n (w ∷ ws) all =
@@ -44,7 +44,7 @@ none_due tick (w ∷ ws) all =
     ap (λ b. cond b (stopped w) w ∷ stop_due tick ws) (All-head (λ (v : Watchdog). is_due tick v ≡ false) w ws all)
     ∙ ap (λ vs. w ∷ vs) (none_due tick ws (All-tail (λ (v : Watchdog). is_due tick v ≡ false) w ws all))
 
--- one turn of the loop
+-- one iteration of the loop
 pub record Turn (t u : Rows Watchdog) (tick : ℕ) (f : Alarm) : Type 0 where
   pub own : SameIds u.rows
   pub watchdogs : stop_due tick (objects u.rows) ≡ stop_due tick (objects t.rows)

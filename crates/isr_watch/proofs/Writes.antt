@@ -1,11 +1,11 @@
--- The table of watchdogs, where one is written, added or taken out.
+-- The table of watchdogs after one is overwritten, added or removed.
 use Rattle.std.proofs.Common.{◌≡◌, ℕ, ◌+◌, ◌<◌, List, length, Option, None, Some, IsSome, Result, Ok, Err, IfOk, IfErr, refl, sym, ap, ◌∙◌, subst, arith}
 use Rattle.std.specs.List.{All}
 use Rattle.std.proofs.lemmas.List.{length-map, get_or-map}
 use Rattle.std.proofs.lemmas.List.Elements.{All-push}
 use Rattle.wind_base.specs.declared.errno.Errno.{Errno}
 use Rattle.wind_base.specs.declared.regs.Regs.{Regs}
-use Rattle.id_table.specs.Rows.{Rows, IdsBelow, IsTable, row_id, row_object, object_of, objects, with_object, added}
+use Rattle.id_table.specs.Rows.{Rows, IdsBelow, row_id, row_object, object_of, objects, with_object, added}
 use Rattle.id_table.specs.Rows as table
 use Rattle.id_table.specs.Source.{Ids, one_given}
 use Rattle.id_table.proofs.Owning.{object-record, objects-replace, objects-without, OwnIds-write}
@@ -33,7 +33,7 @@ below_of rs next own below i d within =
     let read = ap watchdog_id (get_or-map row_object rs i d d.1 within) ∙ own i d within in
     omega (arith, read, below i d.1 (omega (arith, within, length-map rs row_object)))
 
--- the watchdog of an id, in the table and among the records
+-- the watchdog with an id, in the table and among the records
 pub found_record : (rs : List (ℕ × Watchdog)) (n : ℕ) (v : Watchdog) → SameIds rs → object_of rs n ≡ Some v → of_id watchdog_id (objects rs) n ≡ Some v
 found_record rs n v own value = sym (object-record watchdog_id rs n own) ∙ value
 
@@ -45,7 +45,7 @@ write_is : (rs : List (ℕ × Watchdog)) (n : ℕ) (v : Watchdog) (f : Watchdog 
 write_is rs n v f own up value =
     objects-replace watchdog_id rs n (f v) own ∙ replace-change watchdog_id (objects rs) n v f (rising_of rs own up) (found_record rs n v own value)
 
--- where the records have it, the table has it
+-- a watchdog among the records is in the table
 pub lives_in : (rs : List (ℕ × Watchdog)) (n : ℕ) → SameIds rs → IsSome (of_id watchdog_id (objects rs) n) → (v : Watchdog) × (object_of rs n ≡ Some v)
 lives_in rs n own lives = some_of (object_of rs n) (subst (λ o. IsSome o) (sym (object-record watchdog_id rs n own)) lives)
   where
@@ -54,7 +54,7 @@ lives_in rs n own lives = some_of (object_of rs n) (subst (λ o. IsSome o) (sym 
     some_of (Some v) h = (v, refl)
 
 -- ---- the calls
--- a watchdog is added, or all stays
+-- a watchdog is added, or nothing changes
 pub made_own : (t u : Rows Watchdog) (i j : Ids) (r : Result ℕ Errno) → SameIds t.rows
     → IfOk r (λ id. (create_refusal (length t.rows) i.next ≡ None) × (id ≡ i.next) × (j ≡ one_given i) × (u ≡ added t i.next (new_watchdog i.next)))
     → IfErr r (λ e. (create_refusal (length t.rows) i.next ≡ Some e) × (j ≡ i) × (u ≡ t)) → SameIds u.rows × (u.room ≡ t.room)

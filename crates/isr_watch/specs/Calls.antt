@@ -1,4 +1,4 @@
--- What the calls on watchdogs make of them (VxWorks 5.4 Reference Manual, wdLib), and the interrupt level.
+-- What the calls on watchdogs do (VxWorks 5.4 Reference Manual, wdLib), and the interrupt level.
 use Rattle.std.specs.Prelude.{ℕ, ◌+◌, ◌*◌, ◌-◌, nat_lt, nat_le, if◌then◌else◌, max, List, [], ◌∷◌, ◌++◌, map, replicate, slice_set, Option, None, Some}
 use Rattle.wind_base.specs.Limits.{most_watchdogs, greatest_id, frame_bytes, gates_start, gate_bytes}
 use Rattle.wind_base.specs.declared.errno.Errno.{Errno}
@@ -9,39 +9,40 @@ use Rattle.isr_watch.specs.declared.watchdog.Watchdog.{Watchdog}
 use Rattle.isr_watch.specs.declared.watchdog.Routine.{Routine}
 use Rattle.isr_watch.specs.State.{WatchState, watchdog_id, watchdog_of, watchdog_routine, is_due, due_watchdogs}
 
--- ---- watchdogs come and go
+-- ---- watchdogs are made and deleted
 -- a watchdog that was never started
 abbrev pub new_watchdog : ℕ → Watchdog
 new_watchdog id = record { id = id; routine = record { entry = 0; param = 0 }; timer = None }
 
--- why none is made, where so many live and this id is next
+-- why no watchdog can be made, if this many are live and this id is next
 abbrev pub create_refusal : ℕ → ℕ → Option Errno
 create_refusal live next_id =
     if nat_le most_watchdogs live then Some errors.TooMany
     else if nat_lt greatest_id next_id then Some errors.IdsSpent
     else None
 
--- it is there, under this id
+-- the watchdog is added under this id
 abbrev pub created : WatchState → ℕ → WatchState
 created s id = record s { watchdogs = s.watchdogs ++ new_watchdog id ∷ [] }
 
--- the watchdog is gone; its routine stays listed, where it is
+-- the watchdog is removed; if its routine is listed, that stays listed
 abbrev pub deleted : WatchState → ℕ → Option Watchdog → WatchState
 deleted s id None = s
 deleted s id (Some w) = record s { watchdogs = without watchdog_id s.watchdogs id }
 
+-- the watchdog with this id is deleted
 abbrev pub delete : WatchState → ℕ → WatchState
 delete s id = deleted s id (watchdog_of s.watchdogs id)
 
--- ---- it runs, and it stops
--- from this tick on it runs for so many ticks, and for one where they are 0
+-- ---- watchdogs are started and stopped
+-- it is running from this tick on, for the given number of ticks, or for one if that is 0
 abbrev pub started : ℕ → ℕ → Routine → ℕ → Watchdog → Watchdog
 started tick delay routine number w = record w {
   routine = routine;
   timer = Some (record { due = tick + max delay 1; start = number });
 }
 
--- a live watchdog is started, also where it runs, and is last in the order of start
+-- a live watchdog is started, or restarted if it is running, and goes last in the order of start
 abbrev pub start_found : WatchState → ℕ → ℕ → ℕ → Routine → Option Watchdog → WatchState
 start_found s id tick delay routine None = s
 start_found s id tick delay routine (Some w) = record s {
@@ -49,26 +50,29 @@ start_found s id tick delay routine (Some w) = record s {
   next_start = s.next_start + 1;
 }
 
+-- the watchdog with this id is started
 abbrev pub start : WatchState → ℕ → ℕ → ℕ → Routine → WatchState
 start s id tick delay routine = start_found s id tick delay routine (watchdog_of s.watchdogs id)
 
+-- the watchdog isn't running
 abbrev pub stopped : Watchdog → Watchdog
 stopped w = record w { timer = None }
 
--- a live watchdog is stopped; its routine stays listed, where it is
+-- a live watchdog is stopped; if its routine is listed, that stays listed
 abbrev pub cancel_found : WatchState → ℕ → Option Watchdog → WatchState
 cancel_found s id None = s
 cancel_found s id (Some w) = record s { watchdogs = change watchdog_id s.watchdogs id stopped }
 
+-- the watchdog with this id is stopped
 abbrev pub cancel : WatchState → ℕ → WatchState
 cancel s id = cancel_found s id (watchdog_of s.watchdogs id)
 
 -- ---- the interrupt level
--- the gate at which a routine's return ends it
+-- the gate to which a routine returns
 abbrev pub routine_gate : ℕ
 routine_gate = gates_start + 2 * gate_bytes
 
--- a routine begins with its parameter in r3, below the top of the interrupt stack, and returns to its gate
+-- a routine begins with its parameter in r3, its stack below the top of the interrupt stack, and returns to its gate
 abbrev pub regs_of : ℕ → Routine → Regs
 regs_of top x = record {
   gpr = slice_set (slice_set (replicate 32 0) 1 (top - frame_bytes)) 3 x.param;
@@ -80,34 +84,35 @@ regs_of top x = record {
   reserve = None;
 }
 
--- the first of the listed routines begins, and the others stay listed
+-- the first listed routine becomes active, and the others stay listed
 abbrev pub level_of : ℕ → List Routine → Option Regs
 level_of top [] = None
 level_of top (x ∷ xs) = Some (regs_of top x)
 
+-- the routines that stay listed
 abbrev pub rest_of : List Routine → List Routine
 rest_of [] = []
 rest_of (x ∷ xs) = xs
 
--- the active routine is done: the next listed one is active, or none
+-- the active routine ends: the next listed one becomes active, or none
 abbrev pub finish : WatchState → ℕ → WatchState
 finish s top = record s { level = level_of top s.listed; listed = rest_of s.listed }
 
--- those that are due stop
+-- the watchdogs that are due stop
 abbrev pub stop_due : ℕ → List Watchdog → List Watchdog
 stop_due tick ws = map (λ w. if is_due tick w then stopped w else w) ws
 
--- their routines are listed, in order of start
+-- the watchdogs that are due stop, and their routines are listed in order of start
 abbrev pub listed_at : ℕ → WatchState → WatchState
 listed_at tick s = record s {
   watchdogs = stop_due tick s.watchdogs;
   listed = s.listed ++ map watchdog_routine (due_watchdogs s.watchdogs tick);
 }
 
--- a tick: that, and the first listed routine is active
+-- a tick: the same, and then the first listed routine becomes active
 abbrev pub due : WatchState → ℕ → ℕ → WatchState
 due s tick top = finish (listed_at tick s) top
 
--- the active routine goes on with these registers
+-- the active routine with these registers
 abbrev pub with_level : WatchState → Regs → WatchState
 with_level s regs = record s { level = Some regs }

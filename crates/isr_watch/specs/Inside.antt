@@ -1,4 +1,4 @@
--- How the watchdogs are kept: a table by id, of records that have their ids too.
+-- What is inside the watchdogs: a table of records by id, where each record also has its id.
 use Rattle.std.specs.Prelude.{◌≡◌, ℕ, List, [], Option, None}
 use Rattle.std.specs.List.{All}
 use Rattle.wind_base.specs.Limits.{most_watchdogs}
@@ -9,10 +9,11 @@ use Rattle.isr_watch.specs.declared.watchdog.Routine.{Routine}
 use Rattle.isr_watch.specs.declared.watchdog.Alarm.{Alarm}
 use Rattle.isr_watch.specs.State.{WatchState}
 
--- each record has the id under which it is kept
+-- each record has the id under which the table has it
 abbrev pub SameIds : List (ℕ × Watchdog) → Type 0
 SameIds rs = All (λ r. r.1.id ≡ r.0) rs
 
+-- what a contract sees, from a table's rows, the active routine's registers, the listed routines and the next start
 abbrev pub watch_state : List (ℕ × Watchdog) → Option Regs → List Routine → ℕ → WatchState
 watch_state rs level listed next_start = record {
   watchdogs = objects rs;
@@ -21,12 +22,12 @@ watch_state rs level listed next_start = record {
   next_start = next_start;
 }
 
--- nothing is listed where no routine is active
+-- the rest of the invariant: no routine is listed unless one is active
 pub record IsLevel (t : Rows Watchdog) (level : Option Regs) (listed : List Routine) : Type 0 where
   pub own : SameIds t.rows
   pub room : t.room ≡ most_watchdogs
   pub idle : level ≡ None → listed ≡ []
 
--- a watchdog that is due, as the code takes it from the table
+-- a watchdog that is due, as the code copies it from the table
 abbrev pub alarm_of : Watchdog → Alarm
 alarm_of w = record { id = w.id; routine = w.routine }

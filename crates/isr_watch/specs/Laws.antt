@@ -1,4 +1,4 @@
--- What follows of the definitions of watchdogs alone.
+-- What follows from the definitions of watchdogs alone.
 use Rattle.std.specs.Prelude.{◌≡◌, ℕ, ◌+◌, ◌<◌, ◌≤◌, length, None, IsSome}
 use Rattle.std.specs.List.{All}
 use Rattle.wind_base.specs.declared.regs.Regs.{Regs}
@@ -6,11 +6,11 @@ use Rattle.isr_watch.specs.declared.watchdog.Routine.{Routine}
 use Rattle.isr_watch.specs.State.{WatchState, IsWatch}
 use Rattle.isr_watch.specs.Calls.{create_refusal, created, delete, start, cancel, due, finish, with_level}
 
--- each watchdog's id lies below this number
+-- each watchdog's id is below this number
 abbrev pub AllBelow : ℕ → WatchState → Type 0
 AllBelow n s = All (λ w. w.id < n) s.watchdogs
 
--- they do after each call, and a start raises the number of the next one by 1 at most
+-- the ids are below it after each call, and a start raises the number of the next start by at most 1
 pub record IdsStay (n : ℕ) (s : WatchState) : Type 0 where
   pub creating : (id : ℕ) → id < n → AllBelow n (created s id)
   pub deleting : (id : ℕ) → AllBelow n (delete s id)
@@ -20,10 +20,11 @@ pub record IdsStay (n : ℕ) (s : WatchState) : Type 0 where
   pub ticking : (tick top : ℕ) → AllBelow n (due s tick top)
   pub finishing : (top : ℕ) → AllBelow n (finish s top)
 
+-- ids below a number stay below it
 abbrev pub IdsLaw : Type 0
 IdsLaw = (n : ℕ) (s : WatchState) → AllBelow n s → IdsStay n s
 
--- each call keeps what is kept of watchdogs; one that is made has the next id
+-- each call keeps the watchdogs' invariant; a new watchdog has the next id
 pub record WatchStays (n : ℕ) (s : WatchState) : Type 0 where
   pub creating : create_refusal (length s.watchdogs) n ≡ None → IsWatch (created s n)
   pub deleting : (id : ℕ) → IsWatch (delete s id)
@@ -31,8 +32,9 @@ pub record WatchStays (n : ℕ) (s : WatchState) : Type 0 where
   pub cancelling : (id : ℕ) → IsWatch (cancel s id)
   pub ticking : (tick top : ℕ) → IsWatch (due s tick top)
   pub finishing : (top : ℕ) → IsWatch (finish s top)
-  -- so do the registers with which the active routine goes on
+  -- so does a change of the active routine's registers
   pub going_on : (regs : Regs) → IsSome s.level → IsWatch (with_level s regs)
 
+-- each call keeps the watchdogs' invariant
 abbrev pub KeptLaw : Type 0
 KeptLaw = (n : ℕ) (s : WatchState) → IsWatch s → AllBelow n s → WatchStays n s

@@ -1,14 +1,15 @@
-//! What follows of the definitions alone.
+//! What follows from the definitions alone.
 
 ghost use Rattle.isr_watch.specs.Laws.{IdsLaw, KeptLaw};
 
-/// Where the id of each watchdog lies below a number, it does after each call; and a start raises the number of the
-/// next one by 1 at most.
+/// The law of ids: if the id of each watchdog is below a number, it still is after each call. A
+/// start raises the number of the next start by at most 1.
 pub fn ids_law()
     ensures { IdsLaw }
 {}
 
-/// Each call keeps what is kept of watchdogs: few live, their ids rise, and nothing is listed where no routine is active.
+/// The law of the watchdogs' invariant, which each call keeps: at most 256 live, their ids rise,
+/// and no routine is listed unless one is active.
 pub fn kept_law()
     ensures { KeptLaw }
 {}

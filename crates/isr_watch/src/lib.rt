@@ -1,4 +1,5 @@
-//! Watchdog timers, and the interrupt level at which their routines run.
+//! Watchdog timers (VxWorks 5.4 Reference Manual, wdLib), and the interrupt level at which their
+//! routines run.
 #![tactic(auto)]
 
 mod laws;

@@ -1,4 +1,4 @@
-//! What a tick lists.
+//! The routines that a tick lists.
 
 ghost use Rattle.std.specs.Prelude.{◌≡◌, ◌≤◌, ◌+◌, ◌++◌, map, length, option_copied};
 ghost use Rattle.std.specs.Option.{option_map};
@@ -14,7 +14,7 @@ use id_table::Table;
 use std::collections::VecDeque;
 use wind_base::Regs;
 
-// The first started of the watchdogs that are due.
+// Of the watchdogs that are due, the one started first.
 fn first_due(watchdogs: &Table<Watchdog>, tick: u64) -> Option<&Watchdog>
     ensures { option_copied result ≡ first_due_lem (objects watchdogs.now.rows) tick }
 {
@@ -25,7 +25,7 @@ fn first_due(watchdogs: &Table<Watchdog>, tick: u64) -> Option<&Watchdog>
     best
 }
 
-// The same, with the facts that the table keeps.
+// The same, with the table's invariant.
 fn front_due(watchdogs: &Table<Watchdog>, tick: u64) -> Option<Alarm>
     ensures first { result ≡ option_map alarm_of_lem (first_due_lem (objects watchdogs.now.rows) tick) }
     ensures sound { IsTable watchdogs.now }
@@ -34,7 +34,7 @@ fn front_due(watchdogs: &Table<Watchdog>, tick: u64) -> Option<Alarm>
     first_due(watchdogs, tick).map(|watchdog| alarm_of(watchdog))
 }
 
-// All that are due stop, and their routines are listed in order of start.
+// Stops all watchdogs that are due, and lists their routines in order of start.
 pub(crate) fn list_due(watchdogs: &mut Table<Watchdog>, listed: &mut VecDeque<Routine>, tick: u64)
     requires own { SameIds watchdogs.old.rows }
     requires room { deque_len listed.old + length watchdogs.old.rows ≤ deque_capacity listed.old }
@@ -51,7 +51,7 @@ pub(crate) fn list_due(watchdogs: &mut Table<Watchdog>, listed: &mut VecDeque<Ro
     }
 }
 
-// The first listed routine begins, if there is one.
+// Takes the first listed routine, if there is one, and makes the registers with which it begins.
 pub(crate) fn next_level(listed: &mut VecDeque<Routine>, top: u32) -> Option<Regs>
     requires { frame_bytes ≤ top }
     ensures level { result ≡ level_of top listed.old.items }

@@ -21,7 +21,7 @@ use wind_base::limits::WATCHDOGS;
 use wind_base::{Errno, NoMemory, Regs};
 use wind_core::Kern;
 
-/// The watchdogs, the routines that a tick listed, and the registers of the one that is active.
+/// The watchdogs, the routines listed by a tick, and the registers of the active routine.
 #[derive(Drop)]
 pub struct Watch {
     watchdogs: Table<Watchdog>,
@@ -69,7 +69,7 @@ fn add_watchdog(watchdogs: &mut Table<Watchdog>, ids: &mut IdSource) -> Result<I
 impl Watch {
     ghost use Rattle.isr_watch.specs.Lends.{lends_regs, lends_found};
 
-    /// No watchdog, with room for 256. No other call takes memory.
+    /// No watchdogs, with room for 256. No other call takes memory.
     pub fn reserved(alloc: Global) -> Result<Watch, NoMemory>
         ensures { IfOk result (λ w. w ≡ record { watchdogs = []; level = None; listed = []; next_start = 0 }) }
     {
@@ -85,25 +85,26 @@ impl Watch {
         })
     }
 
-    /// Does nothing. Its contract tells the facts that the type keeps.
+    /// Does nothing. Its contract states the watchdogs' invariant.
     pub fn facts(&self)
         ensures { IsWatch self.now }
     {
         self.watchdogs.facts();
     }
 
-    /// How many starts there were, so that a caller can test that they are far from their end.
+    /// The number of starts so far. A caller can test that it is far from overflow.
     pub fn starts(&self) -> u64
         ensures { result ≡ self.now.next_start }
     {
         self.next_start
     }
 
-    /// Makes a watchdog that doesn't run (VxWorks 5.4 Reference Manual, wdCreate).
+    /// Makes a watchdog that isn't running (VxWorks 5.4 Reference Manual, wdCreate).
     ///
     /// # Errors
     ///
-    /// `TooMany` where 256 watchdogs live, else `IdsSpent` where no id is left. Nothing changes then.
+    /// `TooMany` if 256 watchdogs are live; otherwise `IdsSpent` if no id is left. Then nothing
+    /// changes.
     pub fn create(&mut self, kern: &mut Kern) -> Result<Ident, Errno>
         requires ids { kern.old.lent ≡ false }
         requires below { All (λ w. w.id < kern.old.next_id) self.old.watchdogs }
@@ -119,7 +120,7 @@ impl Watch {
         made
     }
 
-    // The id of this number, where its watchdog lives.
+    // The id with this number, if its watchdog is live.
     fn find(&self, number: u32) -> Option<Ident>
         ensures { MatchOption result (watchdog_of self.now.watchdogs number ≡ None)
             (λ id. (id ≡ number) × IsSome (watchdog_of self.now.watchdogs id)) }
@@ -135,12 +136,13 @@ impl Watch {
         }
     }
 
-    /// Starts a watchdog, anew where it runs (VxWorks 5.4 Reference Manual, wdStart): it is due `delay` ticks after
-    /// `tick`, and one tick after it where that is 0, and is last in the order of start.
+    /// Starts a watchdog, or restarts it if it is running (VxWorks 5.4 Reference Manual, wdStart).
+    /// It is due `delay` ticks after `tick`, or one tick after if `delay` is 0, and goes last in
+    /// the order of start.
     ///
     /// # Errors
     ///
-    /// `ObjIdError` where no watchdog of the id lives. Nothing changes then.
+    /// `ObjIdError` if there is no such watchdog. Then nothing changes.
     pub fn start(&mut self, id: u32, tick: u64, delay: u32, routine: Routine) -> Result<(), Errno>
         requires tick { tick < 2 ^ 63 }
         requires next { self.old.next_start < 2 ^ 63 }
@@ -163,11 +165,12 @@ impl Watch {
         Ok(())
     }
 
-    /// Stops a watchdog (VxWorks 5.4 Reference Manual, wdCancel). A routine that is listed stays listed.
+    /// Stops a watchdog (VxWorks 5.4 Reference Manual, wdCancel). If its routine is listed, that
+    /// stays listed.
     ///
     /// # Errors
     ///
-    /// `ObjIdError` where no watchdog of the id lives. Nothing changes then.
+    /// `ObjIdError` if there is no such watchdog. Then nothing changes.
     pub fn cancel(&mut self, id: u32) -> Result<(), Errno>
         ensures live { IsOk result ↔ IsSome (watchdog_of self.old.watchdogs id) }
         ensures err { IfErr result (λ e. e ≡ ObjIdError) }
@@ -181,12 +184,12 @@ impl Watch {
         Ok(())
     }
 
-    /// Deletes a watchdog, which stops it (VxWorks 5.4 Reference Manual, wdDelete). A routine that is listed stays
-    /// listed.
+    /// Deletes a watchdog, which stops it (VxWorks 5.4 Reference Manual, wdDelete). If its routine
+    /// is listed, that stays listed.
     ///
     /// # Errors
     ///
-    /// `ObjIdError` where no watchdog of the id lives. Nothing changes then.
+    /// `ObjIdError` if there is no such watchdog. Then nothing changes.
     pub fn delete(&mut self, id: u32) -> Result<(), Errno>
         ensures live { IsOk result ↔ IsSome (watchdog_of self.old.watchdogs id) }
         ensures err { IfErr result (λ e. e ≡ ObjIdError) }
@@ -206,14 +209,14 @@ impl Watch {
         self.level.is_some()
     }
 
-    /// The registers of the active routine. None where no routine is active.
+    /// The registers of the active routine. None if no routine is active.
     pub fn regs(&self) -> Option<&Regs>
         ensures { option_copied result ≡ self.now.level }
     {
         self.level.as_ref()
     }
 
-    // The registers of the routine that is active, to be written.
+    // A mutable reference to the registers of the active routine, which must exist.
     fn level_mut(&mut self) -> &mut Regs
         requires { IsSome self.old.level }
         ensures* writes_back { sem 𝓛 (lends_regs self.entry result) }
@@ -225,7 +228,7 @@ impl Watch {
         }
     }
 
-    /// The registers of the active routine, to be written. None where no routine is active.
+    /// A mutable reference to the registers of the active routine. None if no routine is active.
     pub fn regs_mut(&mut self) -> Option<&mut Regs>
         ensures* writes_back { sem 𝓛 (lends_found self.entry result) }
         ensures value { option_copied_mut result ≡ self.old.level }
@@ -237,8 +240,9 @@ impl Watch {
         }
     }
 
-    /// A tick: the watchdogs that are due stop, their routines are listed in order of start, and the first begins below
-    /// `top`, which is the end of the interrupt stack.
+    /// A tick. The watchdogs that are due stop, and their routines are listed in order of start.
+    /// The first listed one becomes active. Its stack begins below `top`, the end of the interrupt
+    /// stack.
     pub fn due(&mut self, tick: u64, top: u32)
         requires top { frame_bytes ≤ top }
         requires level { self.old.level ≡ None }
@@ -249,7 +253,8 @@ impl Watch {
         self.level = next_level(&mut self.listed, top);
     }
 
-    /// The active routine is done: the next listed one begins below `top`, if there is one.
+    /// Ends the active routine. The next listed one becomes active, if there is one. Its stack
+    /// begins below `top`.
     pub fn finish(&mut self, top: u32)
         requires { frame_bytes ≤ top }
         ensures { self.new ≡ finish self.old top }

@@ -1,4 +1,4 @@
-//! One watchdog, and the routine that it calls.
+//! A watchdog, and the routine that it calls.
 
 ghost use Rattle.std.specs.Prelude.{◌≡◌, ◌<◌, ◌≤◌, ◌^◌, option_copied};
 ghost use Rattle.wind_base.specs.Limits.{frame_bytes};
@@ -11,39 +11,39 @@ use id_table::Ident;
 use wind_base::Regs;
 use wind_base::limits::{FRAME_BYTES, GATE_BYTES, GATES_START};
 
-// The gate at which a routine's return ends it.
+// The gate to which a routine returns.
 const ROUTINE_GATE: u32 = GATES_START + 2 * GATE_BYTES;
 
-/// A routine with its parameter.
+/// A routine and its parameter.
 #[derive(Clone, Copy, Debug, PartialEq, Eq)]
 pub struct Routine {
-    /// The address at which it begins.
+    /// The address of its first instruction.
     pub entry: u32,
-    /// What it finds in r3.
+    /// The parameter, passed in r3.
     pub param: u32,
 }
 
 /// When a running watchdog is due.
 #[derive(Clone, Copy)]
 pub struct Timer {
-    /// The tick.
+    /// The tick at which it is due.
     pub due: u64,
-    /// The number of its start: the lower came earlier.
+    /// The number of its start: the lower number is the earlier start.
     pub start: u64,
 }
 
 /// A watchdog.
 #[derive(Drop)]
 pub struct Watchdog {
-    /// The number by which it is named in calls.
+    /// The id by which calls name it.
     pub id: Ident,
-    /// What it calls.
+    /// The routine that it calls.
     pub routine: Routine,
-    /// When it is due, where it runs.
+    /// When it is due, if it is running.
     pub timer: Option<Timer>,
 }
 
-// A watchdog that is due, with what it calls.
+// A watchdog that is due, with its routine.
 #[derive(Clone, Copy)]
 pub(crate) struct Alarm {
     pub(crate) id: Ident,
@@ -61,7 +61,7 @@ pub(crate) fn new_watchdog(id: Ident) -> Watchdog
     }
 }
 
-// Whether a watchdog runs and its tick has come.
+// Whether a watchdog is running and its tick is reached.
 fn is_due(watchdog: &Watchdog, tick: u64) -> bool
     ensures { result ≡ is_due_lem tick watchdog.now }
 {
@@ -80,7 +80,7 @@ fn start_of(watchdog: &Watchdog) -> u64
     }
 }
 
-// The watchdog, where it is due and was started before the best so far; or else that one.
+// The watchdog if it is due and was started before the best so far; otherwise the best so far.
 pub(crate) fn better_due<'a>(
     best: Option<&'a Watchdog>,
     next: &'a Watchdog,
@@ -124,7 +124,7 @@ pub(crate) fn regs_of(top: u32, routine: Routine) -> Regs
     }
 }
 
-// It runs, from this tick on: for so many ticks, and one at least.
+// Starts it at this tick, for `delay` ticks, or for one if `delay` is 0.
 pub(crate) fn begin(watchdog: &mut Watchdog, tick: u64, delay: u32, routine: Routine, start: u64)
     requires { tick < 2 ^ 63 }
     ensures { watchdog.new ≡ started tick delay routine start watchdog.old }
@@ -136,7 +136,7 @@ pub(crate) fn begin(watchdog: &mut Watchdog, tick: u64, delay: u32, routine: Rou
     });
 }
 
-// It stops.
+// Stops it.
 pub(crate) fn stop(watchdog: &mut Watchdog)
     ensures { watchdog.new ≡ stopped watchdog.old }
 {

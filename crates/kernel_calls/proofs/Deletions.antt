@@ -25,7 +25,7 @@ use Rattle.kernel_world.proofs.Advancing.{of_tasks, within_more}
 use Rattle.kernel_calls.proofs.Departing.{Departs, parted, departs}
 use Rattle.kernel_calls.proofs.Serves.{Serves, served}
 
--- the shell's task is no task that goes: a call on it is refused
+-- the shell's task is never deleted: a call to delete it is refused
 not_shell : (ts : List TaskRecord) (caller n : ℕ) (d : Deed) → deed_of ts caller n ≡ d → ((e : Errno) → Refuses e ≡ d → ⊥) → n ≡ 1 → ⊥
 not_shell ts caller n d is differs shell = differs errors.InvalidOperation (subst (λ m. deed_of ts caller m ≡ d) shell is)
 

@@ -1,4 +1,4 @@
--- What the rows of some calls come to.
+-- The results of the rows of some calls.
 use Rattle.std.proofs.Common.{◌≡◌, List, ℕ, Option, None, Some, refl, sym, ap, ◌∙◌}
 use Rattle.task_block.specs.declared.task.Task.{Task as TaskRecord}
 use Rattle.board_mem.specs.Memory.{string_at}
@@ -14,7 +14,7 @@ use Rattle.kernel_world.specs.declared.call.Call.{Call}
 use Rattle.kernel_world.specs.declared.call.Call.TheVariants as calls
 use Rattle.kernel_world.specs.declared.reply.Reply.{Reply}
 
--- msgQCreate: the kernel's objects but for the queues stay
+-- msgQCreate: the kernel's objects stay, except for the queues
 pub created : (w : WorldState) (k : KernState) (o : Objects) (reply : Reply) (max_msgs max_len options : ℕ)
     → queue_row (scene k o.queues w.ram) reply ≡ create_row (scene_of w) max_msgs max_len options → o ≡ record w.objects { queues = o.queues }
     → with_reply (record w { kern = k; objects = o }) reply ≡ of_queues w (create_row (scene_of w) max_msgs max_len options)

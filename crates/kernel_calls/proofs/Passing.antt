@@ -4,7 +4,8 @@ use Rattle.std.specs.Prelude.{slice_index}
 use Rattle.wind_base.specs.declared.gate.Gate.{Gate}
 use Rattle.wind_base.specs.declared.gate.Gate.TheVariants as gates
 use Rattle.wind_base.specs.declared.errno.Errno.{Errno}
-use Rattle.id_table.specs.Rows.{object_of}
+use Rattle.std.specs.List.{All}
+use Rattle.id_table.specs.Rows.{object_of, ids}
 use Rattle.wind_base.specs.declared.errno.Errno.TheVariants as errors
 use Rattle.task_block.specs.declared.task.Task.{Task as TaskRecord}
 use Rattle.board_mem.specs.Memory.{has, with_word}
@@ -47,14 +48,18 @@ use Rattle.kernel_calls.proofs.Deletions.{delete_serves}
 use Rattle.task_calls.proofs.Deleting.{objects-safe_row, objects-unsafe_row}
 use Rattle.object_calls.proofs.ObjectRows.{keeps-binary_row, keeps-counting_row, keeps-mutex_row, keeps-take_row, keeps-give_row, keeps-flush_row, keeps-delete_row, keeps-priority_row}
 use Rattle.object_calls.proofs.SemGoes.{binary_goes, counting_goes, mutex_goes, take_goes, give_goes, flush_goes, delete_goes, priority_goes}
+use Rattle.kernel_world.specs.LiveIds.{object_ids}
+use Rattle.kernel_world.proofs.LiveIds.{Owns, Given, Nothing, given_none}
+use Rattle.kernel_world.proofs.WorldIds.{tasks_own, ids_objects}
+use Rattle.object_calls.proofs.RowIds.{NoneComes, Comes, binary_comes, counting_comes, mutex_comes, take_stays, give_stays, flush_stays, delete_stays, priority_stays, send_stays, receive_row_stays, queue_delete_stays, queue_create_comes, queues_given, mutex_owned, binary_owned, counting_owned, take_owned, give_owned, flush_owned, delete_owned, priority_owned}
 use Rattle.object_calls.proofs.Depths.{binary_depths, counting_depths, mutex_depths, take_depths, give_depths, flush_depths, delete_depths, priority_depths}
 
--- a deletion by whoever calls
+-- a deletion by any caller
 delete_row_serves : (w : WorldState) (kept : IsWorld w) (n : ℕ) (within : Within n w) (a : Actor) (id : ℕ) → MayCall w.kern a → Serves w a (of_deletion w (delete_row w.kern w.part a id)) (n + 1)
 delete_row_serves w kept n within (Task who) id may = delete_serves w kept n within who id may
 delete_row_serves w kept n within Interrupt id may = served w Interrupt (of_deletion w (delete_row w.kern w.part Interrupt id)) (n + 1) (nowhere w kept n within)
 
--- a priority that is told
+-- a priority that is reported
 module _ (w : WorldState) (kept : IsWorld w) (n : ℕ) (within : Within n w) where
   told_advances : (at : ℕ) (o : Option TaskRecord) → Advances w (priority_in w at o).world (n + 1) call_sinces 1
   told_advances at None = nowhere w kept n within
@@ -73,16 +78,35 @@ module _ (w : WorldState) (kept : IsWorld w) (n : ℕ) (within : Within n w) (a 
   of_kern_row : (r : KernRow) → Goes w.kern r.kern (n + 1) call_sinces → KeepsObjects r.kern w.objects → Serves w a (of_kern w r) (n + 1)
   of_kern_row r g objects = served w a (of_kern w r) (n + 1) (of_tasks w kept n within r.kern g objects)
 
-  of_object_row : (r : ObjectRow) → Goes w.kern r.kern (n + 1) call_sinces → KeepsObjects r.kern r.objects → DepthsWithin (n + 1) r.objects → Serves w a (of_objects w r) (n + 1)
-  of_object_row r g objects depths = served w a (of_objects w r) (n + 1) (of_both w kept n within r.kern r.objects g objects depths)
+  -- an owner of a mutex: nobody, or a task whose id no object has
+  abbrev MayOwn : Option ℕ → Type 0
+  MayOwn = Owns w.kern.next_id (object_ids w)
 
-  of_queue_row : (r : QueueRow) → IsNear (scene_of w) n kept.kern within.0 r.scene → KeepsObjects r.scene.kern (record w.objects { queues = r.scene.queues }) → Serves w a (of_queues w r) (n + 1)
-  of_queue_row r near objects = served w a (of_queues w r) (n + 1) (of_scene w kept n within r.scene near.0 near.1 objects)
+  tasks_may : All (λ t. MayOwn (Some t.id)) w.kern.tasks
+  tasks_may = tasks_own w kept.ids
+
+  -- at most one object is added, with the next id
+  of_object_row : (r : ObjectRow) → Goes w.kern r.kern (n + 1) call_sinces → KeepsObjects r.kern r.objects → DepthsWithin (n + 1) r.objects → Comes w.kern w.objects r
+      → All (λ m. MayOwn m.1.owner) r.objects.mutexes → Serves w a (of_objects w r) (n + 1)
+  of_object_row r g objects depths comes owners =
+      served w a (of_objects w r) (n + 1) (of_both w kept n within r.kern r.objects g objects depths (ids_objects w kept.ids r.kern r.objects g.alone comes owners))
+
+  -- no object is added
+  of_still_row : (r : ObjectRow) → Goes w.kern r.kern (n + 1) call_sinces → KeepsObjects r.kern r.objects → DepthsWithin (n + 1) r.objects → NoneComes w.objects r.objects
+      → All (λ m. MayOwn m.1.owner) r.objects.mutexes → Serves w a (of_objects w r) (n + 1)
+  of_still_row r g objects depths stays owners = of_object_row r g objects depths (Nothing g.next stays) owners
+
+  of_queue_row : (r : QueueRow) → IsNear (scene_of w) n kept.kern within.0 r.scene → KeepsObjects r.scene.kern (record w.objects { queues = r.scene.queues })
+      → Given w.kern.next_id r.scene.kern.next_id (ids w.objects.queues.queues) (ids r.scene.queues.queues) → Serves w a (of_queues w r) (n + 1)
+  of_queue_row r near objects given =
+      served w a (of_queues w r) (n + 1) (of_scene w kept n within r.scene near.0 near.1 objects
+      (ids_objects w kept.ids r.scene.kern (record w.objects { queues = r.scene.queues }) near.0.alone
+      (queues_given w.objects r.scene.queues w.kern.next_id r.scene.kern.next_id given) kept.ids.owners))
 
   of_watch_row : (r : WatchRow) → Advances w (of_watch w r).world n 0 1 → Serves w a (of_watch w r) (n + 1)
   of_watch_row r g = served w a (of_watch w r) (n + 1) (advances_more w (of_watch w r).world n (n + 1) 0 call_sinces 1 1 (omega arith) (omega arith) (omega arith) g)
 
-  -- what is written is no matter of the kept facts
+  -- the invariant doesn't mention what is written
   writing : (v : WorldState) (text : List ℕ) → Advances w v (n + 1) call_sinces 1 → Advances w (record v { output = text }) (n + 1) call_sinces 1
   writing v text g =
       let more = beside v g.kept (n + 1) g.within v.slots text v.int_errno in
@@ -92,7 +116,7 @@ module _ (w : WorldState) (kept : IsWorld w) (n : ℕ) (within : Within n w) (a 
   of_text_row : (r : ShowRow) → Serves w a (of_text w r) (n + 1)
   of_text_row r = served w a (of_text w r) (n + 1) (writing w (w.output ++ r.text) (nowhere w kept n within))
 
-  -- whoever takes or gives a mutex, or calls on a queue, lives
+  -- a caller that takes or gives a mutex, or calls on a queue, lives
   pub row_serves : (g : Gate) (ram r : List ℕ) → (is_mutex w.objects (slice_index r 3) ≡ true → Acts w.kern a) → (is_some (object_of w.objects.queues.queues (slice_index r 3)) ≡ true → Acts w.kern a) → MayCall w.kern a → Serves w a (row_of (call_of g ram r) w a) (n + 1)
   row_serves gates.TaskSpawn ram r live there may = served w a _ (n + 1) (spawn_advances w kept n within (task_wanted w.ram (slice_index r 3) (slice_index r 4) (slice_index r 6) (slice_index r 7) (ten_arguments ram r)))
   row_serves gates.Sp ram r live there may =
@@ -112,27 +136,42 @@ module _ (w : WorldState) (kept : IsWorld w) (n : ℕ) (within : Within n w) (a 
   row_serves gates.KernelTimeSlice ram r live there may = of_kern_row _ (slice_goes w.kern n kept.kern within.0 (slice_index r 3)) (objects-slice_row w.kern w.objects kept.kern kept.objects (slice_index r 3))
   row_serves gates.TaskPriorityGet ram r live there may = served w a _ (n + 1) (told_advances w kept n within (slice_index r 4) (task_at w.kern (target w.kern a (slice_index r 3))))
   row_serves gates.TickGet ram r live there may = idle _
-  row_serves gates.TaskPrioritySet ram r live there may = of_object_row _ (priority_goes w.kern w.objects n kept.kern within.0 (slice_index r 4) (target w.kern a (slice_index r 3))) (keeps-priority_row w.kern w.objects kept.kern kept.objects (slice_index r 4) (target w.kern a (slice_index r 3))) (priority_depths w.kern w.objects n within.1 (slice_index r 4) (target w.kern a (slice_index r 3)))
+  row_serves gates.TaskPrioritySet ram r live there may = of_still_row _ (priority_goes w.kern w.objects n kept.kern within.0 (slice_index r 4) (target w.kern a (slice_index r 3))) (keeps-priority_row w.kern w.objects kept.kern kept.objects (slice_index r 4) (target w.kern a (slice_index r 3))) (priority_depths w.kern w.objects n within.1 (slice_index r 4) (target w.kern a (slice_index r 3)))
+      (priority_stays w.kern w.objects (slice_index r 4) (target w.kern a (slice_index r 3))) (priority_owned w.kern w.objects kept.kern MayOwn tt tasks_may kept.ids.owners (slice_index r 4) (target w.kern a (slice_index r 3)))
   row_serves gates.SemBCreate ram r live there may = of_object_row _ (binary_goes w.kern w.objects n kept.kern within.0 (slice_index r 3) (slice_index r 4)) (keeps-binary_row w.kern w.objects kept.kern kept.objects (slice_index r 3) (slice_index r 4)) (binary_depths w.kern w.objects n within.1 (slice_index r 3) (slice_index r 4))
+      (binary_comes w.kern w.objects (slice_index r 3) (slice_index r 4)) (binary_owned w.kern w.objects kept.kern MayOwn tt tasks_may kept.ids.owners (slice_index r 3) (slice_index r 4))
   row_serves gates.SemCCreate ram r live there may = of_object_row _ (counting_goes w.kern w.objects n kept.kern within.0 (slice_index r 3) (slice_index r 4)) (keeps-counting_row w.kern w.objects kept.kern kept.objects (slice_index r 3) (slice_index r 4)) (counting_depths w.kern w.objects n within.1 (slice_index r 3) (slice_index r 4))
+      (counting_comes w.kern w.objects (slice_index r 3) (slice_index r 4)) (counting_owned w.kern w.objects kept.kern MayOwn tt tasks_may kept.ids.owners (slice_index r 3) (slice_index r 4))
   row_serves gates.SemMCreate ram r live there may = of_object_row _ (mutex_goes w.kern w.objects n kept.kern within.0 (slice_index r 3)) (keeps-mutex_row w.kern w.objects kept.kern kept.objects (slice_index r 3)) (mutex_depths w.kern w.objects n within.1 (slice_index r 3))
-  row_serves gates.SemTake ram r live there may = of_object_row _ (take_goes w.kern w.objects n kept.kern within.0 a (slice_index r 3) (slice_index r 4)) (keeps-take_row w.kern w.objects kept.kern kept.objects a (slice_index r 3) (slice_index r 4) live) (take_depths w.kern w.objects n within.1 a (slice_index r 3) (slice_index r 4))
-  row_serves gates.SemGive ram r live there may = of_object_row _ (give_goes w.kern w.objects n kept.kern within.0 a (slice_index r 3)) (keeps-give_row w.kern w.objects kept.kern kept.objects a (slice_index r 3) live) (give_depths w.kern w.objects n within.1 a (slice_index r 3))
-  row_serves gates.SemFlush ram r live there may = of_object_row _ (flush_goes w.kern w.objects n kept.kern within.0 (slice_index r 3)) (keeps-flush_row w.kern w.objects kept.kern kept.objects (slice_index r 3)) (flush_depths w.kern w.objects n within.1 (slice_index r 3))
-  row_serves gates.SemDelete ram r live there may = of_object_row _ (delete_goes w.kern w.objects n kept.kern within.0 (slice_index r 3)) (keeps-delete_row w.kern w.objects kept.kern kept.objects (slice_index r 3)) (delete_depths w.kern w.objects n within.1 (slice_index r 3))
+      (mutex_comes w.kern w.objects (slice_index r 3)) (mutex_owned w.kern w.objects kept.kern MayOwn tt tasks_may kept.ids.owners (slice_index r 3))
+  row_serves gates.SemTake ram r live there may = of_still_row _ (take_goes w.kern w.objects n kept.kern within.0 a (slice_index r 3) (slice_index r 4)) (keeps-take_row w.kern w.objects kept.kern kept.objects a (slice_index r 3) (slice_index r 4) live) (take_depths w.kern w.objects n within.1 a (slice_index r 3) (slice_index r 4))
+      (take_stays w.kern w.objects a (slice_index r 3) (slice_index r 4)) (take_owned w.kern w.objects kept.kern MayOwn tt tasks_may kept.ids.owners a (slice_index r 3) (slice_index r 4) live)
+  row_serves gates.SemGive ram r live there may = of_still_row _ (give_goes w.kern w.objects n kept.kern within.0 a (slice_index r 3)) (keeps-give_row w.kern w.objects kept.kern kept.objects a (slice_index r 3) live) (give_depths w.kern w.objects n within.1 a (slice_index r 3))
+      (give_stays w.kern w.objects a (slice_index r 3)) (give_owned w.kern w.objects kept.kern MayOwn tt tasks_may kept.ids.owners a (slice_index r 3))
+  row_serves gates.SemFlush ram r live there may = of_still_row _ (flush_goes w.kern w.objects n kept.kern within.0 (slice_index r 3)) (keeps-flush_row w.kern w.objects kept.kern kept.objects (slice_index r 3)) (flush_depths w.kern w.objects n within.1 (slice_index r 3))
+      (flush_stays w.kern w.objects (slice_index r 3)) (flush_owned w.kern w.objects kept.kern MayOwn tt tasks_may kept.ids.owners (slice_index r 3))
+  row_serves gates.SemDelete ram r live there may = of_still_row _ (delete_goes w.kern w.objects n kept.kern within.0 (slice_index r 3)) (keeps-delete_row w.kern w.objects kept.kern kept.objects (slice_index r 3)) (delete_depths w.kern w.objects n within.1 (slice_index r 3))
+      (delete_stays w.kern w.objects (slice_index r 3)) (delete_owned w.kern w.objects kept.kern MayOwn tt tasks_may kept.ids.owners (slice_index r 3))
   row_serves gates.MsgQCreate ram r live there may =
       of_queue_row _ (create_near (scene_of w) n kept.kern within.0 (slice_index r 3) (slice_index r 4) (slice_index r 5))
       (keeps-create_row w.kern w.objects w.ram kept.kern kept.objects kept.ram (slice_index r 3) (slice_index r 4) (slice_index r 5))
+      (queue_create_comes (scene_of w) (slice_index r 3) (slice_index r 4) (slice_index r 5))
   row_serves gates.MsgQSend ram r live there may =
       let near = send_near (scene_of w) n kept.kern within.0 (kept.objects.queues w.ram kept.ram) (slice_index r 3) (sending a (slice_index r 4) (slice_index r 5) (slice_index r 6) (slice_index r 7)) in
       of_queue_row _ near
       (keeps-send_row w.kern w.objects w.ram kept.kern kept.objects kept.ram a (slice_index r 3) (slice_index r 4) (slice_index r 5) (slice_index r 6) (slice_index r 7) (λ h. is_caller w.kern a (there h) may) (near.1 ∙ kept.ram))
+      (Nothing near.0.next (send_stays (scene_of w) (slice_index r 3) (sending a (slice_index r 4) (slice_index r 5) (slice_index r 6) (slice_index r 7))))
   row_serves gates.MsgQReceive ram r live there may =
       let near = receive_row_near (scene_of w) n kept.kern within.0 (kept.objects.queues w.ram kept.ram) a (slice_index r 3) (slice_index r 4) (slice_index r 5) (slice_index r 6) in
       of_queue_row _ near
       (keeps-receive_row w.kern w.objects w.ram kept.kern kept.objects kept.ram a (slice_index r 3) (slice_index r 4) (slice_index r 5) (slice_index r 6) (λ h. is_caller w.kern a (there h) may) (near.1 ∙ kept.ram))
-  row_serves gates.MsgQDelete ram r live there may = of_queue_row _ (delete_near (scene_of w) n kept.kern within.0 (slice_index r 3)) (keeps-queue_delete_row w.kern w.objects w.ram kept.kern kept.objects kept.ram (slice_index r 3))
+      (Nothing near.0.next (receive_row_stays (scene_of w) a (slice_index r 3) (slice_index r 4) (slice_index r 5) (slice_index r 6)))
+  row_serves gates.MsgQDelete ram r live there may =
+      let near = delete_near (scene_of w) n kept.kern within.0 (slice_index r 3) in
+      of_queue_row _ near (keeps-queue_delete_row w.kern w.objects w.ram kept.kern kept.objects kept.ram (slice_index r 3))
+      (Nothing near.0.next (queue_delete_stays (scene_of w) (slice_index r 3)))
   row_serves gates.MsgQNumMsgs ram r live there may = of_queue_row _ (near_itself (scene_of w) n kept.kern within.0) kept.objects
+      (given_none w.kern.next_id w.kern.next_id (ids w.objects.queues.queues) (omega arith))
   row_serves gates.WdCreate ram r live there may = of_watch_row _ (create_advances w kept n within)
   row_serves gates.WdStart ram r live there may = of_watch_row _ (start_advances w kept n within (slice_index r 3) (slice_index r 4) (routine_of (slice_index r 5) (slice_index r 6)))
   row_serves gates.WdCancel ram r live there may = of_watch_row _ (cancel_advances w kept n within (slice_index r 3))

@@ -11,7 +11,7 @@ use Rattle.kernel_world.specs.declared.call.Call.{Call}
 use Rattle.kernel_world.specs.declared.reply.Reply.{Reply}
 use Rattle.kernel_calls.specs.Calls.{with_reply, row, row_of, row_unless, refusal_before, made}
 
--- it is the gate's own
+-- the call belongs to the gate
 abbrev IsOf : Gate → Option Call → Type 0
 IsOf g None = is_call g ≡ false
 IsOf g (Some c) = gate_of c ≡ g
@@ -25,7 +25,7 @@ of_gate g ram r = refl
 pub gate_back : (g : Gate) (ram r : List ℕ) (c : Call) → Some c ≡ call_of g ram r → gate_of c ≡ g
 gate_back g ram r c e = subst (IsOf g) (sym e) (of_gate g ram r)
 
--- there is one at the gate of a call
+-- there is a call at the gate of a call
 pub always_there : (g : Gate) (ram r : List ℕ) → is_call g ≡ true → None ≡ call_of g ram r → ⊥
 always_there g ram r h e = let never : is_call g ≡ false = subst (IsOf g) (sym e) (of_gate g ram r) in absurd (cc)
 

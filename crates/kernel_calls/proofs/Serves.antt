@@ -1,4 +1,4 @@
--- What holds from one world to the next within a call, whoever is taken out by it.
+-- What holds from one world to the next within a call, whichever task it removes.
 use Rattle.std.proofs.Common.{◌≡◌, ℕ, sym, ◌∙◌, arith, inl, inr, ⊎_elim}
 use Rattle.wind_core.specs.State.{task_of}
 use Rattle.task_safety.specs.Safety.{safe_of}
@@ -12,12 +12,12 @@ use Rattle.kernel_world.specs.declared.actor.Actor.TheVariants.{Task, Interrupt}
 use Rattle.kernel_world.specs.declared.reply.Reply.TheVariants.{Gone}
 use Rattle.kernel_world.proofs.Advancing.{Advances}
 
--- a row keeps what a call keeps, and its caller lives on where it is to be answered
+-- a row keeps what a call keeps, and its caller lives on if it is to be answered
 pub record Serves (w : WorldState) (a : Actor) (r : Row) (n : ℕ) : Type 0 where
   pub passes : Passes w r.world a n call_sinces 1
   pub acts : (r.reply ≡ Gone → ⊥) → Acts w.kern a → Acts r.world.kern a
 
--- whoever acts goes on where all tasks live on
+-- the caller lives on if all tasks do
 pub acts_on : (w v : WorldState) (a : Actor) (n d m : ℕ) → Advances w v n d m → Acts w.kern a → Acts v.kern a
 acts_on w v (Task who) n d m g live = g.lives who live
 acts_on w v Interrupt n d m g live = live
@@ -39,7 +39,7 @@ passes_by w v a n d m g = record {
 pub served : (w : WorldState) (a : Actor) (r : Row) (n : ℕ) → Advances w r.world n call_sinces 1 → Serves w a r n
 served w a r n g = record { passes = passes_by w r.world a n call_sinces 1 g; acts = λ stays live. acts_on w r.world a n call_sinces 1 g live }
 
--- all live on first, as safe as they were
+-- first all live on, as safe as they were
 pub passes_behind : (w v u : WorldState) (a : Actor) (l n d m : ℕ) → Advances w v l 0 0 → ((id : ℕ) → safe_of (task_of v.kern.tasks id) ≡ safe_of (task_of w.kern.tasks id))
     → Passes v u a n d m → Passes w u a n d m
 passes_behind w v u a l n d m g safes p = record {

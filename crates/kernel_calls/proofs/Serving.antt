@@ -1,4 +1,4 @@
--- The caller of a call lives on until it is answered, unless it has ended itself, and the world keeps its facts.
+-- The caller of a call lives on until it is answered, unless it has ended, and the world keeps its invariant.
 use Rattle.std.proofs.Common.{◌≡◌, ◌≢◌, ◌+◌, ◌^◌, true, false, not, ◌&&◌, cond, None, Some, refl, ap, ◌∙◌, sym, subst}
 use Rattle.wind_base.specs.declared.gate.Gate.{Gate}
 use Rattle.module_loader.specs.Holding.{AreHeld}
@@ -21,7 +21,7 @@ use Rattle.kernel_calls.proofs.Passing.{made_serves}
 use Rattle.kernel_world.proofs.Replying.{left_advances, replied_advances}
 use Rattle.kernel_world.proofs.Early.{early_within}
 
--- the objects have their facts after the gate too
+-- the objects keep their invariant after the gate
 pub left_objects : (w : WorldState) (a : Actor) → IsWorld w → MayCall w.kern a → IsEarly w → KeepsObjects (left_gate w a).kern (left_gate w a).objects
 left_objects w a kept may early = (left_advances w kept (2 ^ 60) (early_within w early) a may).kept.objects
 
@@ -33,7 +33,7 @@ left_modules w a kept may early = (left_advances w kept (2 ^ 60) (early_within w
 pub left_watch : (w : WorldState) (a : Actor) → IsWorld w → MayCall w.kern a → IsEarly w → KeepsWatch (left_gate w a).kern.next_id (left_gate w a).watch
 left_watch w a kept may early = (left_advances w kept (2 ^ 60) (early_within w early) a may).kept.watch
 
--- a call that may lack memory is that of a task, as a routine's is refused before
+-- a call that may run out of memory is that of a task, because a routine's is refused before
 none_lacks : (g : Gate) → may_lack_memory g ≡ true → is_isr_callable g ≡ false
 none_lacks gates.SymAdd h = refl
 none_lacks gates.MsgQCreate h = refl

@@ -1,4 +1,4 @@
--- What the calls that write texts leave of the output, and of who calls them.
+-- What the calls that write texts do to the output, and to their caller.
 use Rattle.std.proofs.Common.{◌≡◌, ℕ, ◌≤◌, List, take, Option, None, Some, refl, sym, subst, arith}
 use Rattle.std.specs.Option.{option_map}
 use Rattle.std.proofs.lemmas.List.{length-append, length-take}

@@ -1,4 +1,4 @@
--- A caller that has left its gate stands there again.
+-- A caller that has left its gate is put back there.
 use Rattle.std.proofs.Common.{◌≡◌, ℕ, Bool, true, false, cond, eqb, List, [], ◌∷◌, Option, None, Some, refl, sym, ap, ◌∙◌}
 use Rattle.std.specs.Option.{option_map}
 use Rattle.wind_base.specs.declared.regs.Regs.{Regs}
@@ -31,7 +31,7 @@ pub stood : (w : WorldState) (a : Actor) (who : ℕ) (r : Regs) (pc : ℕ) → a
     → record w { kern = set_regs w.kern who (with_counter pc r) } ≡ standing_at w a pc
 stood w a who r pc is kern e = ap (λ k. record w { kern = k }) (set_counter w.kern who r pc kern e) ∙ ap (λ b. standing_at w b pc) (sym is)
 
--- ---- who has left its gate
+-- ---- a task that has left its gate
 module _ (who : ℕ) (f : TaskRecord → TaskRecord) where
   both : (ts : List TaskRecord) → change task_id (change task_id ts who past_gate) who f ≡ change task_id ts who (λ t. f (past_gate t))
   both [] = refl

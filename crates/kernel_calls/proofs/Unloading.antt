@@ -1,4 +1,4 @@
--- What is kept where a module is unloaded.
+-- What holds when a module is unloaded.
 use Rattle.std.proofs.Common.{◌≡◌, ℕ, zero, suc, ◌+◌, ◌-◌, ◌<◌, ◌≤◌, Bool, true, false, not, cond, eqb, List, [], ◌∷◌, length, get_or, Option, Some, None, IsSome, is_some, refl, sym, ◌∙◌, subst, arith}
 use Rattle.std.specs.Prelude.{reverse}
 use Rattle.std.specs.List.{All, find}
@@ -22,9 +22,9 @@ use Rattle.wind_core.specs.State.{KernState}
 use Rattle.kernel_world.specs.State.{WorldState}
 use Rattle.kernel_calls.specs.ModuleRows.{newest_of, meant_module, unload_meant, unload_row}
 use Rattle.kernel_calls.specs.Calls.{of_modules}
-use Rattle.kernel_world.specs.Kept.{KeepsPool, IsKernels, AreStacks, KeepsLoaded, task_stacks, IsWorld, Within, call_sinces}
-use Rattle.kernel_world.specs.Opening.{interrupt_stack}
+use Rattle.kernel_world.specs.Kept.{Stack, routine_stack, IsStack, KeepsPool, AreStacks, KeepsLoaded, task_stacks, IsWorld, Within, call_sinces}
 use Rattle.kernel_world.proofs.Advancing.{Advances, nowhere, of_unload}
+use Rattle.kernel_world.proofs.LiveIds.{fewer_without}
 use Rattle.kernel_world.proofs.Holding.{IsNoModules}
 use Rattle.kernel_world.proofs.Stacks.{pool-free}
 
@@ -66,7 +66,7 @@ meant_lives ms ram x id e =
       | false ↦ λ there q. newest_lives ms (string_at ram x) id q
     ] refl e
 
--- ---- its blocks go
+-- ---- its blocks are freed
 pool_without : (gs : List Segment) (p : PartState) → KeepsPool p → KeepsPool (without_all p gs)
 pool_without [] p k = k
 pool_without (g ∷ gs) p k =
@@ -74,13 +74,13 @@ pool_without (g ∷ gs) p k =
     (elim (eqb g.size 0) as (λ b. KeepsPool (cond b p (after_free p g.addr Kernel))) [ true ↦ k | false ↦ pool-free p g.addr Kernel k ])
 
 module _ (k : KernState) (p : PartState) (ms : List (ℕ × LoadedModule)) (kept : KeepsLoaded k p ms) (id : ℕ) (m : LoadedModule) (live : object_of ms id ≡ Some m) where
-  -- the blocks that go are no stacks
-  kernels_left : (a : ℕ) → IsNoModules ms a → IsKernels p a → IsKernels (without_all p m.segments) a
-  kernels_left a none there = let less = parted ms id a m live in others_stay m.segments p a (omega (arith, none)) ∙ there
+  -- the freed blocks are no stacks
+  kernels_left : (s : Stack) → IsNoModules ms s → IsStack p s → IsStack (without_all p m.segments) s
+  kernels_left s none there = let less = parted ms id s.addr m live in others_stay m.segments p s.addr (omega (arith, none)) ∙ there
 
-  stacks_without : AreStacks p (interrupt_stack ∷ task_stacks k) → AreStacks (without_all p m.segments) (interrupt_stack ∷ task_stacks k)
+  stacks_without : AreStacks p (routine_stack ∷ task_stacks k) → AreStacks (without_all p m.segments) (routine_stack ∷ task_stacks k)
   stacks_without s = record {
-    kernels = λ i d within. kernels_left (get_or (interrupt_stack ∷ task_stacks k) i d) (kept.apart i d within) (s.kernels i d within);
+    kernels = λ i d within. kernels_left (get_or (routine_stack ∷ task_stacks k) i d) (kept.apart i d within) (s.kernels i d within);
     apart = s.apart;
   }
 
@@ -90,7 +90,7 @@ module _ (k : KernState) (p : PartState) (ms : List (ℕ × LoadedModule)) (kept
     rising = AllPairs-filter (λ r t. r.0 < t.0) (λ r. not (eqb r.0 id)) ms kept.rising;
     below = All-filter (λ r. not (eqb r.0 id)) (λ r. r.0 < k.next_id) ms kept.below;
     held = unload_holds ms p id m kept.held live;
-    apart = All-weaker (IsNoModules ms) (IsNoModules (without ms id)) (λ a none. (let less = fewer ms id a in omega (arith, none))) (interrupt_stack ∷ task_stacks k) kept.apart;
+    apart = All-weaker (IsNoModules ms) (IsNoModules (without ms id)) (λ s none. (let less = fewer ms id s.addr in omega (arith, none))) (routine_stack ∷ task_stacks k) kept.apart;
   }
     where
       shorter : (rs : List (ℕ × LoadedModule)) → length (without rs id) ≤ length rs
@@ -112,7 +112,7 @@ module _ (w : WorldState) (kept : IsWorld w) (n : ℕ) (within : Within n w) whe
   by_live id None e live = absurd (cc)
   by_live id (Some m) e live =
       of_unload w kept n within (without_group id w.symbols) (without w.modules id) (without_all w.part m.segments) (omega (arith, few_symbols id w.symbols, kept.symbols))
-      (pool_without m.segments w.part kept.pool) (stacks_without w.kern w.part w.modules kept.modules id m e kept.stacks) (loaded_without w.kern w.part w.modules kept.modules id m e)
+      (pool_without m.segments w.part kept.pool) (stacks_without w.kern w.part w.modules kept.modules id m e kept.stacks) (loaded_without w.kern w.part w.modules kept.modules id m e) (fewer_without w.modules id)
 
   by_meant : (x : ℕ) (o : Option ℕ) → meant_module w.modules w.ram x ≡ o → Advances w (of_modules w (unload_meant w.symbols w.modules w.part o)).world (n + 1) call_sinces 1
   by_meant x None e = nowhere w kept n within

@@ -40,7 +40,8 @@ pub record Row : Type 0 where
 abbrev pub with_reply : WorldState → Reply → Row
 with_reply w r = record { world = w; reply = r }
 
--- a row of the kernel's tasks, of semaphores and mutexes, of queues, of watchdogs, of texts, of a deletion, of the partition, of the symbols, of a spawn
+-- the world and the reply after a row of one kind: of tasks, objects, queues, watchdogs, texts, a deletion, the
+-- partition, symbols
 abbrev pub of_kern : WorldState → KernRow → Row
 of_kern w r = with_reply (record w { kern = r.kern }) r.reply
 
@@ -68,14 +69,14 @@ of_part w r = with_reply (record w { part = r.part }) r.reply
 abbrev pub of_symbols : WorldState → SymbolRow → Row
 of_symbols w r = with_reply (record w { symbols = r.symbols }) r.reply
 
--- of an unload
+-- the same of an unload, and of a spawn
 abbrev pub of_modules : WorldState → ModuleRow → Row
 of_modules w r = with_reply (record w { symbols = r.symbols; modules = r.modules; part = r.part }) r.reply
 
 abbrev pub of_spawn : WorldState → SpawnRow → Row
 of_spawn w r = with_reply (after_spawn w r.after) r.reply
 
--- sp writes what it has made
+-- sp also writes the line that reports the task
 abbrev pub of_quick : WorldState → SpawnRow → Row
 of_quick w r = with_reply (record (after_spawn w r.after) { output = w.output ++ quick_text w.names r.reply }) r.reply
 
@@ -90,7 +91,7 @@ abbrev pub task_at : KernState → Option ℕ → Option TaskRecord
 task_at k None = None
 task_at k (Some id) = task_of k.tasks id
 
--- the row of a call; that of ld is made if it asks for no file, as its name can't be read
+-- the row of a call; ld comes to its row only if it needs no file, because the file's name can't be read
 abbrev pub row : Call → WorldState → Actor → Row
 row (calls.TaskSpawn name priority options stack_size entry arguments) w a = of_spawn w (spawned_if (spawn_state w) (task_wanted w.ram name priority stack_size entry arguments))
 row (calls.Sp entry arguments) w a = of_quick w (spawned_if (spawn_state w) (quick_wanted entry arguments))
@@ -142,7 +143,7 @@ row (calls.Lkup text) w a = of_text w (show.lookup_row w.symbols w.ram text)
 row calls.ModuleShow w a = of_text w (show.modules_row w.modules)
 row (calls.D address units width) w a = of_text w (show.dump_row w.ram address units width)
 
--- the row of the call at a gate; at a gate of no call nothing happens
+-- the row of the call at a gate; if the gate has no call, nothing happens
 abbrev pub row_of : Option Call → WorldState → Actor → Row
 row_of None w a = with_reply w Later
 row_of (Some c) w a = row c w a
@@ -151,7 +152,8 @@ row_of (Some c) w a = row c w a
 abbrev pub answered : Gate → Actor → Row → WorldState
 answered g a r = replied g r.world a r.reply
 
--- refused at interrupt level; then for another task than the shell's; then by the row
+-- refused at interrupt level if the call isn't allowed there; then if only the shell's task may make it and the
+-- caller is another
 abbrev pub refusal_before : Gate → Actor → Option Errno
 refusal_before g a =
     if is_interrupt a && not (is_isr_callable g) then Some errors.NotIsrCallable
@@ -165,15 +167,15 @@ row_unless None c w a = row_of c w a
 abbrev pub allowed_row : Gate → Option Call → WorldState → Actor → Row
 allowed_row g c w a = row_unless (refusal_before g a) c w a
 
--- what a call makes: the caller goes on after its gate, and the effect is made
+-- a call up to the answer: the caller goes on after its gate, and the call has its effect
 abbrev pub made : Gate → WorldState → Actor → Row
 made g w a = allowed_row g (call_by g w a) (left_gate w a) a
 
--- a call: then the caller is answered
+-- a whole call: the caller is answered too
 abbrev pub call : Gate → WorldState → Actor → WorldState
 call g w a = answered g a (made g w a)
 
--- what the board is told
+-- what the board is told after a reply
 abbrev pub told_by : Reply → Called
 told_by (Answer value) = called.Done
 told_by (Refusal e) = called.Done
@@ -183,13 +185,13 @@ told_by Gone = called.Ended
 abbrev pub told : Gate → WorldState → Actor → Called
 told g w a = told_by (made g w a).reply
 
--- ---- the file that a call asks for
--- a name has from 1 to 255 bytes
+-- ---- the file that a call needs
+-- a name has 1 to 255 bytes
 abbrev pub file_name : Option (List ℕ) → Option (List ℕ)
 file_name None = None
 file_name (Some name) = if length name == 0 || nat_lt longest_name (length name) then None else Some name
 
--- ld asks for the file whose name stands at an address, if the shell's task makes the call; no other call asks for any
+-- ld needs the file whose name is at an address, if the shell's task makes the call; no other call needs a file
 abbrev pub file_named : Call → List ℕ → Actor → Option (List ℕ)
 file_named (calls.Ld symbols no_abort name) ram a = if is_shell a then file_name (string_at ram name) else None
 file_named c ram a = None
@@ -209,7 +211,7 @@ is_made called.Ended = true
 is_made (called.NeedsFile name) = false
 is_made called.NoMemory = false
 
--- the file that an answer asks for
+-- the file that an answer names
 abbrev pub asked_for : Called → Option (List ℕ)
 asked_for (called.NeedsFile name) = Some name
 asked_for c = None

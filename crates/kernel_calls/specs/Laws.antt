@@ -1,4 +1,4 @@
--- What follows of the definitions of the calls alone.
+-- What follows from the definitions of the calls alone.
 use Rattle.std.specs.Prelude.{◌≡◌, ℕ, ◌+◌, ◌≤◌, ◌⊎◌, List, Option}
 use Rattle.wind_base.specs.declared.gate.Gate.{Gate}
 use Rattle.wind_outside.specs.Devices.{DeviceState}
@@ -13,11 +13,13 @@ use Rattle.kernel_world.specs.Kept.{IsWorld, Within, ReservedBy, call_sinces}
 use Rattle.kernel_world.specs.declared.actor.Actor.{Actor}
 use Rattle.kernel_world.specs.declared.actor.Actor.TheVariants.{Task}
 
--- a task that lives in one world and not in the next was not safe from deletion, or is the actor itself
+-- a task that lives in one world and not in the next was not safe from deletion, or is the caller
 abbrev pub OnlyUnsafeGo : WorldState → Actor → WorldState → Type 0
 OnlyUnsafeGo w a v = (id : ℕ) → Lives w.kern id → (Lives v.kern id → ⊥) → (safe_of (task_of w.kern.tasks id) ≡ 0) ⊎ (a ≡ Task id)
 
--- from one world to another within one call: the kept facts hold, nobody safe is gone, the shell's task lives on, counts stay within n, no task has a reservation that had none, at most d order numbers, m name numbers and m numbers of a watchdog's start were given out, and the tick count stood
+-- from one world to another within one call: the invariant holds; no safe task but the caller is gone, and the
+-- shell's task lives on; counts stay within n; no task has a reservation that had none; the tick count is the same;
+-- at most d order numbers, m numbers for names and m numbers for starts of watchdogs were handed out
 pub record Passes (w v : WorldState) (a : Actor) (n d m : ℕ) : Type 0 where
   pub kept : IsWorld v
   pub gone : OnlyUnsafeGo w a v
@@ -30,15 +32,15 @@ pub record Passes (w v : WorldState) (a : Actor) (n d m : ℕ) : Type 0 where
   pub names : v.names ≤ w.names + m
   pub starts : v.watch.next_start ≤ w.watch.next_start + m
 
--- the world at the start has the kept facts
+-- the world at the start has the invariant
 abbrev pub OpeningLaw : Type 0
 OpeningLaw = (slots : List (Option DeviceState)) → IsWorld (opening_world slots)
 
--- every call keeps them, whoever makes it
+-- every call keeps the invariant, whoever makes it
 abbrev pub CallLaw : Type 0
 CallLaw = (g : Gate) (w : WorldState) (a : Actor) (n : ℕ) → IsWorld w → MayCall w.kern a → Within n w → Passes w (call g w a) a (n + 1) call_sinces 1
 
--- so does the end of a task; the others live on
+-- the end of a task keeps the invariant, and the other tasks live on
 pub record Ends (w v : WorldState) (who n : ℕ) : Type 0 where
   pub kept : IsWorld v
   pub lives : (id : ℕ) → (id ≡ who → ⊥) → Lives w.kern id → Lives v.kern id

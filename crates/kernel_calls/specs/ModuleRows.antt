@@ -23,11 +23,11 @@ abbrev pub newest_of : List (ℕ × LoadedModule) → Option (List ℕ) → Opti
 newest_of ms None = None
 newest_of ms (Some name) = newest_named ms name
 
--- the module that a word means: that of this id, else the newest of the name at this address
+-- the module that a word means: the one with this id, else the newest one with the name at this address
 abbrev pub meant_module : List (ℕ × LoadedModule) → List ℕ → ℕ → Option ℕ
 meant_module ms ram x = if is_some (object_of ms x) then Some x else newest_of ms (string_at ram x)
 
--- its symbols go, its record and its blocks
+-- its symbols and its record are removed, and its blocks are freed
 abbrev pub unload_meant : List Symbol → List (ℕ × LoadedModule) → PartState → Option ℕ → ModuleRow
 unload_meant ss ms p None = record { symbols = ss; modules = ms; part = p; reply = Refusal errors.NoSuchModule }
 unload_meant ss ms p (Some id) = record {
@@ -37,6 +37,6 @@ unload_meant ss ms p (Some id) = record {
   reply = Answer ok_word;
 }
 
--- unld: no byte of RAM changes, and the options are not used
+-- unld: no byte of RAM changes, and the options aren't used
 abbrev pub unload_row : List Symbol → List (ℕ × LoadedModule) → PartState → List ℕ → ℕ → ModuleRow
 unload_row ss ms p ram x = unload_meant ss ms p (meant_module ms ram x)

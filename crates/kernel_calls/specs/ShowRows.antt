@@ -26,11 +26,11 @@ shows text value = record { text = text; reply = Answer value }
 abbrev pub shows_none : Errno → ShowRow
 shows_none e = record { text = []; reply = Refusal e }
 
--- ---- printf: its first seven values, and the others on the stack
+-- ---- printf: its first seven values are given, and the others are on the stack
 abbrev pub values_of : List ℕ → List ℕ → ℕ → Source
 values_of ram first stack = record { first = first; stack = stack; ram = ram }
 
--- the answer is the count of bytes written
+-- the answer is the number of bytes written
 abbrev pub printed : Option (List ℕ) → ShowRow
 printed None = shows_none errors.BadAddress
 printed (Some text) = shows text (length text)
@@ -38,12 +38,12 @@ printed (Some text) = shows text (length text)
 abbrev pub printf_row : List ℕ → ℕ → List ℕ → ℕ → ShowRow
 printf_row ram format first stack = printed (printf_of (values_of ram first stack) format)
 
--- ---- i: the table of the tasks
+-- ---- i: the table of tasks
 abbrev pub tasks_row : KernState → ShowRow
 tasks_row k = shows (task_table_of k) ok_word
 
--- ---- lkup: the symbols whose names have the text at an address
--- that text; at address 0 there is the empty one, which every name has
+-- ---- lkup: the symbols whose names contain the text at an address
+-- that text; address 0 means the empty text, which every name contains
 abbrev pub text_wanted : List ℕ → ℕ → Option (List ℕ)
 text_wanted ram at = if at == 0 then Some [] else string_at ram at
 
@@ -54,11 +54,11 @@ lookup_by ss (Some text) = shows (symbol_rows_of ss text) ok_word
 abbrev pub lookup_row : List Symbol → List ℕ → ℕ → ShowRow
 lookup_row ss ram at = lookup_by ss (text_wanted ram at)
 
--- ---- moduleShow: the table of the modules
+-- ---- moduleShow: the table of modules
 abbrev pub modules_row : List (ℕ × LoadedModule) → ShowRow
 modules_row ms = shows (module_table_of ms) ok_word
 
--- ---- d: so many units of so many bytes; a width of 0 counts as 2, and no units as those of 128 bytes
+-- ---- d: units of a width in bytes; width 0 means 2, and 0 units mean as many as make 128 bytes
 abbrev pub width_of : ℕ → ℕ
 width_of width = if width == 0 then 2 else width
 
@@ -68,7 +68,7 @@ units_of units width = if units == 0 then 128 / width else units
 abbrev pub is_width : ℕ → Bool
 is_width width = width == 1 || (width == 2 || width == 4)
 
--- the most bytes of a dump
+-- the most bytes that a dump may show
 abbrev pub most_dumped : ℕ
 most_dumped = 65536
 

@@ -4,7 +4,7 @@ use Rattle.wind_base.specs.OutBuf.{Output}
 use Rattle.wind_base.specs.declared.gate.Gate.{Gate}
 use Rattle.wind_base.specs.declared.gate.Gate.TheVariants as gates
 
--- the calls that make room of their own for what they write
+-- the calls that reserve their own room for what they write
 abbrev pub makes_room : Gate → Bool
 makes_room gates.I = true
 makes_room gates.Lkup = true
@@ -12,6 +12,6 @@ makes_room gates.ModuleShow = true
 makes_room gates.D = true
 makes_room g = false
 
--- what is held and what fits besides are together at least as many bytes as before
+-- the bytes held and the free room together are at least as many as before
 abbrev pub HoldsSpace : Output → Output → Type 0
 HoldsSpace old new = old.room + length old.bytes ≤ new.room + length new.bytes

@@ -1,4 +1,4 @@
--- A caller stands at its gate again, as before its call.
+-- A caller is put back at its gate, as before its call.
 use Rattle.std.specs.Prelude.{ℕ, Option, None, Some}
 use Rattle.wind_base.specs.declared.regs.Regs.{Regs}
 use Rattle.task_block.specs.declared.task.Task.{Task as TaskRecord}
@@ -17,7 +17,7 @@ abbrev pub counter_of : WorldState → Actor → ℕ
 counter_of w (Task who) = counter_in (task_of w.kern.tasks who)
 counter_of w Interrupt = 0
 
--- the registers, and a task, with this program counter
+-- the registers with this program counter, and a task with it
 abbrev pub with_counter : ℕ → Regs → Regs
 with_counter pc r = record r { pc = pc }
 

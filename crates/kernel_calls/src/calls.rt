@@ -1,4 +1,4 @@
-//! A call of the kernel: its frame, its refusals and its answer.
+//! A kernel call: the gate that it leaves, its refusals and its answer.
 
 ghost use Rattle.std.specs.Prelude.{◌≡◌, ◌<◌, ◌≤◌, [], true, false, None, Some, IfOk, IfSome, OnErr};
 ghost use Rattle.wind_base.specs.OutBuf.{KeepsSpace};
@@ -23,29 +23,30 @@ use std::alloc::Global;
 use wind_base::{Errno, Gate, Name, NoMemory};
 use wind_outside::Device;
 
-/// What a call of the kernel answers to the board.
+/// What a kernel call answers to the board.
 #[derive(Drop)]
 pub enum Called {
     /// The call is done, and its caller is answered.
     Done,
-    /// The caller pends, or is delayed, and is answered at the end of that.
+    /// The caller pends or is delayed. It is answered when that ends.
     Pended,
-    /// The caller has ended itself.
+    /// The caller has ended.
     Ended,
-    /// The call asks for the file of this name, and is to be made with what is said of it. The world is as it was before.
+    /// The call needs the file with this name, and is to be made again with what is said of the
+    /// file. The world is as it was before.
     NeedsFile(Name),
     /// Host memory ran out. The world is as it was before.
     NoMemory,
 }
 
-// Whether it is the interrupt level.
+// Whether the caller is the interrupt level.
 fn is_interrupt(who: &Actor) -> bool
     ensures { result ≡ is_interrupt_lem who.now }
 {
     matches!(who, Actor::Interrupt)
 }
 
-// Why the caller may not make the call at all.
+// Why this caller may not make the call at all.
 fn refusal_before(gate: Gate, who: &Actor) -> Option<Errno>
     ensures { result ≡ refusal_before_lem gate who.now }
 {
@@ -58,7 +59,7 @@ fn refusal_before(gate: Gate, who: &Actor) -> Option<Errno>
     None
 }
 
-// What the board is told of a reply.
+// What the board is told after a reply.
 fn told(reply: &Reply) -> Called
     ensures answer { result ≡ told_by reply.now }
     ensures made { is_made result ≡ true }
@@ -70,7 +71,7 @@ fn told(reply: &Reply) -> Called
     }
 }
 
-// The program counter of a caller that is a task, so that it can stand at its gate again.
+// The program counter of a caller that is a task. With it, the task can be put back at its gate.
 fn counter(w: &World, who: &Actor) -> u32
     ensures { result ≡ counter_of (world_seen ⟦<dyn Device as Device>⟧ w.now) who.now }
 {
@@ -83,7 +84,7 @@ fn counter(w: &World, who: &Actor) -> u32
     }
 }
 
-// A task that has left its gate stands there again.
+// Puts a task that has left its gate back there.
 fn stand_again(w: &mut World, who: &Actor, pc: u32)
     requires { Acts w.old.kern who.now }
     ensures world { world_seen ⟦<dyn Device as Device>⟧ w.new
@@ -96,8 +97,8 @@ fn stand_again(w: &mut World, who: &Actor, pc: u32)
     }
 }
 
-// What a call makes, before its caller is answered: it goes on after its gate, and the effect is made. If memory runs out,
-// nothing changes.
+// Makes a call up to the answer: the caller goes on after its gate, and the call has its effect. If
+// memory runs out, nothing changes.
 fn make(
     alloc: Global,
     w: &mut World,
@@ -133,10 +134,12 @@ fn make(
     Ok(reply)
 }
 
-/// Makes the call of a gate: the caller goes on after its gate, the effect of the call's row is made, and the caller is answered
-/// in r3, at once or at the end of its wait, unless it has ended itself. A task that calls is ready. A call of `ld` that asks
-/// for a file is not made, and says for which. Host memory may run out only at `symAdd`, `msgQCreate`, `ld`, `i`, `lkup`,
-/// `moduleShow` and `d` of a task, and the world is then as it was. No call deletes the shell's task.
+/// Makes the call of a gate. A caller that is a task must be ready. The caller goes on after its
+/// gate, and the call has the effect of its row. The caller is answered in r3, at once or at the
+/// end of its wait, unless it has ended. A call of `ld` that needs a file is not made, and the
+/// result names the file. Host memory may run out only at `symAdd`, `msgQCreate`, `ld`, `i`,
+/// `lkup`, `moduleShow` and `d` of a task, and the world is then as it was. No call deletes the
+/// shell's task.
 pub fn kernel_call(alloc: Global, w: &mut World, gate: Gate, who: &Actor) -> Called
     requires call { is_call gate ≡ true }
     requires caller { Acts w.old.kern who.now }

@@ -1,4 +1,4 @@
-//! The file that a call asks for.
+//! The file that a call needs.
 
 ghost use Rattle.std.specs.Prelude.{◌≡◌, IfOk, OnErr, IsSome};
 ghost use Rattle.board_mem.specs.Memory.{string_at};
@@ -12,10 +12,10 @@ use wind_base::limits::NAME_BYTES;
 use wind_base::{Gate, Name, NoMemory};
 use wind_outside::Device;
 
-// The string at an address, where it has from 1 to 255 bytes.
+// The string at an address, if it has 1 to 255 bytes.
 fn file_name(alloc: Global, ram: &Ram, at: u32) -> Result<Option<Name>, NoMemory>
-    ensures name { IfOk result (λ name. name ≡ file_name_lem (string_at ram.now at)) }
-    ensures memory { OnErr result (IsSome (file_name_lem (string_at ram.now at))) }
+    ensures name { IfOk result (λ name. name ≡ file_name_lem (string_at ram.now.bytes at)) }
+    ensures memory { OnErr result (IsSome (file_name_lem (string_at ram.now.bytes at))) }
 {
     let Some(string) = ram.string(at) else {
         return Ok(None);
@@ -30,16 +30,17 @@ fn file_name(alloc: Global, ram: &Ram, at: u32) -> Result<Option<Name>, NoMemory
     }
 }
 
-// The name of the file that a call asks for: that at an address, of 1 to 255 bytes, if the shell's task calls `ld`. None if it
-// asks for no file. Host memory may run out only if it asks for one.
+// The name of the file that a call needs: the string at an address, of 1 to 255 bytes, if the
+// shell's task calls `ld`. `None` if the call needs no file. Host memory may run out only if it
+// needs one.
 pub(crate) fn file_of(
     alloc: Global,
     ram: &Ram,
     call: &Call,
     who: &Actor,
 ) -> Result<Option<Name>, NoMemory>
-    ensures wanted { IfOk result (λ o. o ≡ file_named call.now ram.now who.now) }
-    ensures memory { OnErr result (IsSome (file_named call.now ram.now who.now)) }
+    ensures wanted { IfOk result (λ o. o ≡ file_named call.now ram.now.bytes who.now) }
+    ensures memory { OnErr result (IsSome (file_named call.now ram.now.bytes who.now)) }
 {
     match call {
         Call::Ld { name, .. } if is_shell(who) => file_name(alloc, ram, *name),
@@ -47,8 +48,9 @@ pub(crate) fn file_of(
     }
 }
 
-/// The name of the file that the call of a gate asks for: that at the address in r5, of 1 to 255 bytes, if the shell's task calls
-/// `ld`. None if it asks for no file. Host memory may run out only if it asks for one.
+/// The name of the file that the call of a gate needs: the string at the address in r5, of 1 to 255
+/// bytes, if the shell's task calls `ld`. `None` if the call needs no file. Host memory may run out
+/// only if it needs one.
 pub fn file_wanted(
     alloc: Global,
     w: &World,

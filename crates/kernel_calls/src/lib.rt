@@ -1,4 +1,4 @@
-//! The kernel's calls, one row for each gate, over the world that they read and change.
+//! The kernel's calls: one row for each gate, over the world that they read and change.
 #![tactic(auto)]
 
 mod calls;

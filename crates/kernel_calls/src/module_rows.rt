@@ -11,9 +11,9 @@ use module_loader::Modules;
 use symbol_table::Symbols;
 use wind_base::Errno;
 
-// The id of the module that a word means: its id, or the address of its name.
+// The id of the module that a word means: the word is its id, or the address of its name.
 fn meant_module(mods: &Modules, ram: &Ram, x: u32) -> Option<u32>
-    ensures { result ≡ meant_module_lem mods.now ram.now x }
+    ensures { result ≡ meant_module_lem mods.now ram.now.bytes x }
 {
     if mods.get(x).is_some() {
         return Some(x);
@@ -23,7 +23,7 @@ fn meant_module(mods: &Modules, ram: &Ram, x: u32) -> Option<u32>
     Some(id.get())
 }
 
-// unld: the symbols, the record and the blocks of a module go.
+// unld: removes a module's symbols and record, and frees its blocks.
 #[tactic(auto, using(crate::proofs::Unloading::meant_lives))]
 pub(crate) fn unload(
     mods: &mut Modules,
@@ -33,10 +33,10 @@ pub(crate) fn unload(
     x: u32,
 ) -> Reply
     requires { AreHeld mods.old part.old }
-    ensures symbols { syms.new.list ≡ (unload_row syms.old.list mods.old part.old ram.now x).symbols }
-    ensures modules { mods.new ≡ (unload_row syms.old.list mods.old part.old ram.now x).modules }
-    ensures part { part.new ≡ (unload_row syms.old.list mods.old part.old ram.now x).part }
-    ensures reply { result ≡ (unload_row syms.old.list mods.old part.old ram.now x).reply }
+    ensures symbols { syms.new.list ≡ (unload_row syms.old.list mods.old part.old ram.now.bytes x).symbols }
+    ensures modules { mods.new ≡ (unload_row syms.old.list mods.old part.old ram.now.bytes x).modules }
+    ensures part { part.new ≡ (unload_row syms.old.list mods.old part.old ram.now.bytes x).part }
+    ensures reply { result ≡ (unload_row syms.old.list mods.old part.old ram.now.bytes x).reply }
 {
     let Some(id) = meant_module(mods, ram, x) else {
         return Reply::Refusal(Errno::NoSuchModule);

@@ -37,7 +37,7 @@ use task_calls::task_rows::{
 use wind_base::{Errno, NoMemory};
 use wind_outside::Device;
 
-// Makes the task that is asked for.
+// Makes the task that is asked for, unless the request was refused.
 fn spawn(w: &mut World, wanted: Result<Wanted, Errno>) -> Reply
     requires home { w.old.kern.lent ≡ false }
     requires end { w.old.part.end ≡ ram_bytes }
@@ -56,7 +56,7 @@ fn spawn(w: &mut World, wanted: Result<Wanted, Errno>) -> Reply
     )
 }
 
-// Makes the task that sp asks for, and writes what was made.
+// Makes the task that sp asks for, and writes the line that reports it.
 fn spawn_quickly(w: &mut World, wanted: Result<Wanted, Errno>) -> Reply
     requires home { w.old.kern.lent ≡ false }
     requires end { w.old.part.end ≡ ram_bytes }
@@ -79,7 +79,7 @@ fn spawn_quickly(w: &mut World, wanted: Result<Wanted, Errno>) -> Reply
     reply
 }
 
-// taskPriorityGet: the priority goes to a word of RAM.
+// taskPriorityGet: puts the priority in a word of RAM.
 fn get_priority(w: &mut World, who: Actor, id: u32, address: u32) -> Reply
     requires live { Acts w.old.kern who }
     ensures row { with_reply (world_seen ⟦<dyn Device as Device>⟧ w.new) result
@@ -130,7 +130,7 @@ fn create_queue(
 fn add(alloc: Global, w: &mut World, table: u32, symbol: NewSymbol) -> Result<Reply, NoMemory>
     ensures ok { IfOk result (λ r. with_reply (world_seen ⟦<dyn Device as Device>⟧ w.new) r
         ≡ of_symbols (world_seen ⟦<dyn Device as Device>⟧ w.old)
-        (symbol_row w.old.syms.list w.old.bus.ram table symbol.name symbol.value symbol.kind)) }
+        (symbol_row w.old.syms.list w.old.bus.ram.bytes table symbol.name symbol.value symbol.kind)) }
     ensures err { OnErr result (world_seen ⟦<dyn Device as Device>⟧ w.new ≡ world_seen ⟦<dyn Device as Device>⟧ w.old) }
     ensures out { w.new.out ≡ w.old.out }
 {
@@ -142,7 +142,7 @@ fn send(w: &mut World, who: Actor, id: u32, words: SendWords) -> Reply
     requires live { Acts w.old.kern who }
     requires ready { MayCall w.old.kern who }
     requires objects { KeepsObjects w.old.kern w.old.objects }
-    requires ram { length w.old.bus.ram ≡ ram_bytes }
+    requires ram { length w.old.bus.ram.bytes ≡ ram_bytes }
     requires early { IsEarly (world_with [] w.old) }
     ensures row { with_reply (world_seen ⟦<dyn Device as Device>⟧ w.new) result
         ≡ row_lem (calls.MsgQSend id words.buffer words.count words.timeout words.priority)
@@ -157,7 +157,7 @@ fn receive(w: &mut World, who: Actor, id: u32, words: ReceiveWords) -> Reply
     requires live { Acts w.old.kern who }
     requires ready { MayCall w.old.kern who }
     requires objects { KeepsObjects w.old.kern w.old.objects }
-    requires ram { length w.old.bus.ram ≡ ram_bytes }
+    requires ram { length w.old.bus.ram.bytes ≡ ram_bytes }
     requires early { IsEarly (world_with [] w.old) }
     ensures row { with_reply (world_seen ⟦<dyn Device as Device>⟧ w.new) result
         ≡ row_lem (calls.MsgQReceive id words.buffer words.count words.timeout)
@@ -172,14 +172,15 @@ fn unload_module(w: &mut World, which: u32) -> Reply
     requires held { AreHeld w.old.mods w.old.part }
     ensures row { with_reply (world_seen ⟦<dyn Device as Device>⟧ w.new) result
         ≡ of_modules (world_seen ⟦<dyn Device as Device>⟧ w.old)
-        (unload_row w.old.syms.list w.old.mods w.old.part w.old.bus.ram which) }
+        (unload_row w.old.syms.list w.old.mods w.old.part w.old.bus.ram.bytes which) }
     ensures out { w.new.out ≡ w.old.out }
 {
     let bus = &w.bus;
     unload(&mut w.mods, &mut w.part, &mut w.syms, &bus.ram, which)
 }
 
-// The row of a call, on the world that its caller has left. If memory runs out, nothing changes.
+// Makes the row of a call in a world whose caller has left its gate. If memory runs out, nothing
+// changes.
 pub(crate) fn row(alloc: Global, w: &mut World, call: &Call, who: Actor) -> Result<Reply, NoMemory>
     requires live { Acts w.old.kern who }
     requires home { w.old.kern.lent ≡ false }
@@ -187,7 +188,7 @@ pub(crate) fn row(alloc: Global, w: &mut World, call: &Call, who: Actor) -> Resu
     requires ready { MayCall w.old.kern who }
     requires objects { KeepsObjects w.old.kern w.old.objects }
     requires watch { KeepsWatch w.old.kern.next_id w.old.watch }
-    requires ram { length w.old.bus.ram ≡ ram_bytes }
+    requires ram { length w.old.bus.ram.bytes ≡ ram_bytes }
     requires modules { AreHeld w.old.mods w.old.part }
     requires early { IsEarly (world_with [] w.old) }
     requires room { 4096 ≤ w.old.out.room }
@@ -331,7 +332,7 @@ pub(crate) fn row(alloc: Global, w: &mut World, call: &Call, who: Actor) -> Resu
             set_errno(w, &who, number);
             Ok(DONE)
         }
-        // It has asked for no file, as its name can't be read.
+        // The call needed no file, because the file's name can't be read.
         Call::Ld { .. } => Ok(Reply::Refusal(Errno::BadAddress)),
         Call::Unld { which, .. } => Ok(unload_module(w, which)),
         Call::I => show_tasks(alloc, &w.kern, &mut w.out),

@@ -14,10 +14,10 @@ use text_show::{dump, module_rows, printf_text, symbol_rows, task_table};
 use wind_base::{Errno, NoMemory, OutBuf};
 use wind_core::Kern;
 
-// The most bytes of a dump.
+// The most bytes that a dump may show.
 const MOST_DUMPED: u64 = 65_536;
 
-// printf, with its first seven values, and the others on the stack.
+// printf, with its first seven values given and the others on the stack.
 pub(crate) fn print(
     ram: &Ram,
     format: u32,
@@ -26,8 +26,8 @@ pub(crate) fn print(
     out: &mut OutBuf,
 ) -> Reply
     requires { 4096 ≤ out.old.room }
-    ensures reply { result ≡ (printf_row ram.now format values.now stack).reply }
-    ensures text { out.new.bytes ≡ out.old.bytes ++ (printf_row ram.now format values.now stack).text }
+    ensures reply { result ≡ (printf_row ram.now.bytes format values.now stack).reply }
+    ensures text { out.new.bytes ≡ out.old.bytes ++ (printf_row ram.now.bytes format values.now stack).text }
     ensures space { KeepsSpace out.old out.new }
 {
     match printf_text(format, values, stack, ram, out) {
@@ -36,7 +36,7 @@ pub(crate) fn print(
     }
 }
 
-// i: the table of the tasks. If memory runs out, nothing is written.
+// i: writes the table of tasks. If memory runs out, nothing is written.
 pub(crate) fn show_tasks(alloc: Global, kern: &Kern, out: &mut OutBuf) -> Result<Reply, NoMemory>
     ensures ok { IfOk result (λ r. (r ≡ (tasks_row kern.now).reply)
         × (out.new ≡ with_text out.old (tasks_row kern.now).text)) }
@@ -46,8 +46,8 @@ pub(crate) fn show_tasks(alloc: Global, kern: &Kern, out: &mut OutBuf) -> Result
     Ok(DONE)
 }
 
-// lkup: the symbols whose names have the text at an address, and all where the address is 0. If memory runs out, nothing is
-// written.
+// lkup: writes the symbols whose names contain the text at an address, or all symbols if the
+// address is 0. If memory runs out, nothing is written.
 pub(crate) fn show_symbols(
     alloc: Global,
     syms: &Symbols,
@@ -55,8 +55,8 @@ pub(crate) fn show_symbols(
     at: u32,
     out: &mut OutBuf,
 ) -> Result<Reply, NoMemory>
-    ensures ok { IfOk result (λ r. (r ≡ (lookup_row syms.now.list ram.now at).reply)
-        × (out.new ≡ with_text out.old (lookup_row syms.now.list ram.now at).text)) }
+    ensures ok { IfOk result (λ r. (r ≡ (lookup_row syms.now.list ram.now.bytes at).reply)
+        × (out.new ≡ with_text out.old (lookup_row syms.now.list ram.now.bytes at).text)) }
     ensures err { OnErr result (out.new ≡ out.old) }
 {
     if at == 0 {
@@ -70,7 +70,7 @@ pub(crate) fn show_symbols(
     Ok(DONE)
 }
 
-// moduleShow: the table of the modules. If memory runs out, nothing is written.
+// moduleShow: writes the table of modules. If memory runs out, nothing is written.
 pub(crate) fn show_modules(
     alloc: Global,
     mods: &Modules,
@@ -84,14 +84,14 @@ pub(crate) fn show_modules(
     Ok(DONE)
 }
 
-// The width that a number asks for.
+// The width in bytes that a number means: 0 means 2.
 fn width_of(width: u32) -> u32
     ensures { result ≡ width_of_lem width }
 {
     if width == 0 { 2 } else { width }
 }
 
-// How many units a number asks for.
+// How many units a number means: 0 means as many as make 128 bytes.
 fn units_of(units: u32, width: u32) -> u32
     requires { 1 ≤ width }
     ensures { result ≡ units_of_lem units width }
@@ -99,7 +99,7 @@ fn units_of(units: u32, width: u32) -> u32
     if units == 0 { 128 / width } else { units }
 }
 
-// Writes a dump where it isn't too long, and its bytes are there.
+// Writes a dump, if it isn't too long and its bytes are in RAM.
 fn dump_in(
     alloc: Global,
     ram: &Ram,
@@ -110,8 +110,8 @@ fn dump_in(
 ) -> Result<Reply, NoMemory>
     requires some { 1 ≤ width }
     requires wide { width ≤ 4 }
-    ensures ok { IfOk result (λ r. (r ≡ (dump_in_lem ram.now at units width).reply)
-        × (out.new ≡ with_text out.old (dump_in_lem ram.now at units width).text)) }
+    ensures ok { IfOk result (λ r. (r ≡ (dump_in_lem ram.now.bytes at units width).reply)
+        × (out.new ≡ with_text out.old (dump_in_lem ram.now.bytes at units width).text)) }
     ensures err { OnErr result (out.new ≡ out.old) }
 {
     if u64::from(units) * u64::from(width) > MOST_DUMPED {
@@ -124,7 +124,7 @@ fn dump_in(
     Ok(DONE)
 }
 
-// d: units of so many bytes from an address on. If memory runs out, nothing is written.
+// d: writes units of a width in bytes, from an address on. If memory runs out, nothing is written.
 pub(crate) fn show_memory(
     alloc: Global,
     ram: &Ram,
@@ -133,8 +133,8 @@ pub(crate) fn show_memory(
     width: u32,
     out: &mut OutBuf,
 ) -> Result<Reply, NoMemory>
-    ensures ok { IfOk result (λ r. (r ≡ (dump_row ram.now at units width).reply)
-        × (out.new ≡ with_text out.old (dump_row ram.now at units width).text)) }
+    ensures ok { IfOk result (λ r. (r ≡ (dump_row ram.now.bytes at units width).reply)
+        × (out.new ≡ with_text out.old (dump_row ram.now.bytes at units width).text)) }
     ensures err { OnErr result (out.new ≡ out.old) }
 {
     let width = width_of(width);

@@ -1,31 +1,37 @@
--- What a call keeps while all its tasks live on: the kept facts, and the counters within their bounds.
-use Rattle.std.proofs.Common.{◌≡◌, ℕ, ◌+◌, ◌<◌, ◌≤◌, List, ◌∷◌, length, Option, None, Some, refl, sym, ◌∙◌, subst, arith}
+-- What a call keeps while all its tasks live on: the invariant, and the bounds of the counters.
+use Rattle.std.proofs.Common.{◌≡◌, ℕ, ◌+◌, ◌<◌, ◌≤◌, List, ◌∷◌, map, length, Option, None, Some, refl, sym, ◌∙◌, subst, arith}
 use Rattle.std.specs.Option.{option_map}
 use Rattle.std.proofs.lemmas.List.Elements.{All-weaker}
 use Rattle.wind_base.specs.Limits.{most_symbols}
 use Rattle.wind_base.specs.declared.regs.Regs.{Regs}
 use Rattle.wind_outside.specs.Devices.{DeviceState}
 use Rattle.symbol_table.specs.declared.symbol.Symbol.{Symbol}
+use Rattle.id_table.specs.Rows as table
 use Rattle.module_loader.specs.declared.module.LoadedModule.{LoadedModule}
 use Rattle.mem_partition.specs.State.{PartState}
 use Rattle.wind_core.specs.State.{KernState, Lives}
 use Rattle.wind_core.specs.Move.{SetErrno}
 use Rattle.wind_core.proofs.Ids.{lives_by}
 use Rattle.msg_queue.specs.State.{Scene}
-use Rattle.isr_watch.specs.State.{WatchState, IsWatch}
+use Rattle.isr_watch.specs.State.{WatchState, IsWatch, watchdog_id}
 use Rattle.kernel_world.specs.State.{WorldState}
 use Rattle.kernel_world.specs.Objects.{KeepsObjects, DepthsWithin}
 use Rattle.kernel_world.specs.Replies.{level_by, at_level, with_errno}
-use Rattle.kernel_world.specs.Opening.{interrupt_stack}
-use Rattle.kernel_world.specs.Kept.{KeepsPool, KeepsLoaded, task_stacks, AreStacks, KeepsWatch, IsWorld, ReservedBy, Within, call_sinces}
+use Rattle.kernel_world.specs.Kept.{routine_stack, KeepsPool, KeepsLoaded, task_stacks, AreStacks, KeepsWatch, IsWorld, ReservedBy, Within, call_sinces}
 use Rattle.kernel_world.specs.declared.objects.Objects.{Objects}
 use Rattle.kernel_world.specs.declared.actor.Actor.{Actor}
 use Rattle.kernel_world.specs.declared.actor.Actor.TheVariants.{Task, Interrupt}
 use Rattle.kernel_world.proofs.Goes.{Goes, goes_nowhere, more_counts, goes-move, reserved_by}
 use Rattle.kernel_world.proofs.ObjectMoves.{objects-move}
 use Rattle.kernel_world.proofs.Holding.{loaded_on}
+use Rattle.kernel_world.specs.LiveIds.{KeepsIds}
+use Rattle.kernel_world.proofs.LiveIds.{Fewer, Given, fewer_same, given_none}
+use Rattle.kernel_world.proofs.WorldIds.{ids_kern, ids_watch, ids_modules}
 
--- from one world to another: the kept facts hold, tasks that live live on, counts stay within n, no task has a reservation that had none, at most d order numbers, m name numbers and m numbers of a watchdog's start were given out, and the tick count stood
+-- from one world to another: the invariant holds, tasks that live live on, counts stay within n, and the tick
+-- count is the same;
+-- no task has a reservation that had none; at most d order numbers, m numbers for names and m for starts of
+-- watchdogs were handed out
 pub record Advances (w v : WorldState) (n d m : ℕ) : Type 0 where
   pub kept : IsWorld v
   pub lives : (who : ℕ) → Lives w.kern who → Lives v.kern who
@@ -42,11 +48,11 @@ pub within_more : (w : WorldState) (l n : ℕ) → l ≤ n → Within l w → Wi
 within_more w l n more within =
     (more_counts w.kern l n more within.0, All-weaker (λ r. r.1.depth ≤ l) (λ r. r.1.depth ≤ n) (λ r h. omega (arith, h, more)) w.objects.mutexes within.1)
 
--- the ids of watchdogs lie below a later id too
+-- the ids of watchdogs are below a later next id too
 pub watch_on : (m n : ℕ) (s : WatchState) → m ≤ n → KeepsWatch m s → KeepsWatch n s
 watch_on m n s more h = record { watch = h.watch; ids = All-weaker (λ v. v.id < m) (λ v. v.id < n) (λ v below. omega (arith, below, more)) s.watchdogs h.ids }
 
--- nothing is listed where no routine is active, whatever registers the active one has
+-- if no routine is active, none is listed, whatever registers the active one has
 level_is : (f : Regs → Regs) (s : WatchState) → IsWatch s → IsWatch (level_by f s)
 level_is f s is = record {
   few = is.few;
@@ -82,19 +88,21 @@ advances_more w v l n d e m o more sinces names a = record {
 }
 
 module _ (w : WorldState) (kept : IsWorld w) where
-  -- the tasks go, and the objects with them
-  pub by_objects : (j : KernState) (o : Objects) (n d : ℕ) → Goes w.kern j n d → KeepsObjects j o → DepthsWithin n o → Advances w (record w { kern = j; objects = o }) n d 0
-  by_objects j o n d g objects depths = record {
+  -- the tasks change, and the objects with them
+  pub by_objects : (j : KernState) (o : Objects) (n d : ℕ) → Goes w.kern j n d → KeepsObjects j o → DepthsWithin n o → KeepsIds (record w { kern = j; objects = o })
+      → Advances w (record w { kern = j; objects = o }) n d 0
+  by_objects j o n d g objects depths own = record {
     kept = record {
       kern = g.kern;
       home = g.lent ∙ kept.home;
       objects = objects;
       pool = kept.pool;
-      stacks = subst (λ s. AreStacks w.part (interrupt_stack ∷ s)) (sym g.stacks) kept.stacks;
+      stacks = subst (λ s. AreStacks w.part (routine_stack ∷ s)) (sym g.stacks) kept.stacks;
       modules = loaded_on w.kern w.part w.modules kept.modules j g.next g.stacks;
       ram = kept.ram;
       symbols = kept.symbols;
       watch = watch_on w.kern.next_id j.next_id w.watch g.next kept.watch;
+      ids = own;
     };
     lives = λ who h. lives_by j.tasks w.kern.tasks who g.alone h;
     within = (g.counts, depths);
@@ -107,18 +115,18 @@ module _ (w : WorldState) (kept : IsWorld w) where
   }
 
   pub by_kern : (j : KernState) (n d : ℕ) → Goes w.kern j n d → KeepsObjects j w.objects → DepthsWithin n w.objects → Advances w (record w { kern = j }) n d 0
-  by_kern j n d g objects depths = by_objects j w.objects n d g objects depths
+  by_kern j n d g objects depths = by_objects j w.objects n d g objects depths (ids_kern w kept.ids j g.alone g.next)
 
   module _ (n : ℕ) (within : Within n w) where
     more : Within (n + 1) w
     more = within_more w n (n + 1) (omega arith) within
 
-    -- blocks, symbols, modules and RAM go, and what is no matter of the kept facts
+    -- blocks, symbols, modules and RAM change, and so may what the invariant doesn't mention
     pub of_parts : (p : PartState) (ss : List Symbol) (ms : List (ℕ × LoadedModule)) (ram : List ℕ) (slots : List (Option DeviceState)) (output : List ℕ) (errno : ℕ)
-        → KeepsPool p → AreStacks p (interrupt_stack ∷ task_stacks w.kern) → KeepsLoaded w.kern p ms → length ss ≤ most_symbols → length ram ≡ length w.ram
+        → KeepsPool p → AreStacks p (routine_stack ∷ task_stacks w.kern) → KeepsLoaded w.kern p ms → length ss ≤ most_symbols → length ram ≡ length w.ram → Fewer (table.ids ms) (table.ids w.modules)
         → Advances w (record w { part = p; symbols = ss; modules = ms; ram = ram; slots = slots; output = output; int_errno = errno }) n 0 0
-    of_parts p ss ms ram slots output errno pool stacks modules few same = record {
-      kept = record { kern = kept.kern; home = kept.home; objects = kept.objects; pool = pool; stacks = stacks; modules = modules; ram = same ∙ kept.ram; symbols = few; watch = kept.watch };
+    of_parts p ss ms ram slots output errno pool stacks modules few same fewer = record {
+      kept = record { kern = kept.kern; home = kept.home; objects = kept.objects; pool = pool; stacks = stacks; modules = modules; ram = same ∙ kept.ram; symbols = few; watch = kept.watch; ids = ids_modules w kept.ids ms fewer };
       lives = λ who h. h;
       within = within;
       last = refl;
@@ -129,21 +137,25 @@ module _ (w : WorldState) (kept : IsWorld w) where
       starts = omega arith;
     }
 
-    -- nothing is touched but what is no matter of the kept facts
-    pub beside : (slots : List (Option DeviceState)) (output : List ℕ) (errno : ℕ) → Advances w (record w { slots = slots; output = output; int_errno = errno }) n 0 0
-    beside slots output errno = of_parts w.part w.symbols w.modules w.ram slots output errno kept.pool kept.stacks kept.modules kept.symbols refl
+    -- the modules stay
+    same_modules : Fewer (table.ids w.modules) (table.ids w.modules)
+    same_modules = fewer_same (table.ids w.modules) (table.ids w.modules) refl
 
-    -- a move that gives out nothing, as a call that gives out numbers
+    -- only what the invariant doesn't mention changes
+    pub beside : (slots : List (Option DeviceState)) (output : List ℕ) (errno : ℕ) → Advances w (record w { slots = slots; output = output; int_errno = errno }) n 0 0
+    beside slots output errno = of_parts w.part w.symbols w.modules w.ram slots output errno kept.pool kept.stacks kept.modules kept.symbols refl same_modules
+
+    -- a move that hands out no numbers, seen as a call that may
     pub as_call : (v : WorldState) → Advances w v n 0 0 → Advances w v (n + 1) call_sinces 1
     as_call v a = advances_more w v n (n + 1) 0 call_sinces 0 1 (omega arith) (omega arith) (omega arith) a
 
     pub stays : Advances w w n 0 0
     stays = beside w.slots w.output w.int_errno
 
-    -- the watchdogs go, and what has become of the next id with them
+    -- the watchdogs change, and the next id with them
     pub of_watches : (j : KernState) (s : WatchState) (m : ℕ) → Goes w.kern j n 0 → KeepsObjects j w.objects → KeepsWatch j.next_id s → s.next_start ≤ w.watch.next_start + m
-        → Advances w (record w { kern = j; watch = s }) n 0 m
-    of_watches j s m g objects watch starts =
+        → Given w.kern.next_id j.next_id (map watchdog_id w.watch.watchdogs) (map watchdog_id s.watchdogs) → Advances w (record w { kern = j; watch = s }) n 0 m
+    of_watches j s m g objects watch starts given =
         let moved = by_kern j n 0 g objects within.1 in
         record {
           kept = record {
@@ -156,6 +168,7 @@ module _ (w : WorldState) (kept : IsWorld w) where
             ram = moved.kept.ram;
             symbols = moved.kept.symbols;
             watch = watch;
+            ids = ids_watch w kept.ids j s g.alone given;
           };
           lives = moved.lives;
           within = moved.within;
@@ -171,7 +184,7 @@ module _ (w : WorldState) (kept : IsWorld w) where
     pub at_routine : (f : Regs → Regs) → Advances w (at_level w f) n 0 0
     at_routine f =
         of_watches w.kern (level_by f w.watch) 0 (goes_nowhere w.kern n kept.kern within.0) kept.objects
-        (record { watch = level_is f w.watch kept.watch.watch; ids = kept.watch.ids }) (omega arith)
+        (record { watch = level_is f w.watch kept.watch.watch; ids = kept.watch.ids }) (omega arith) (given_none w.kern.next_id w.kern.next_id (map watchdog_id w.watch.watchdogs) (omega arith))
 
     pub nowhere : Advances w w (n + 1) call_sinces 1
     nowhere = as_call w stays
@@ -181,16 +194,18 @@ module _ (w : WorldState) (kept : IsWorld w) where
         advances_more w (record w { kern = j }) (n + 1) (n + 1) call_sinces call_sinces 0 1 (omega arith) (omega arith) (omega arith)
         (by_kern j (n + 1) call_sinces g objects more.1)
 
-    pub of_both : (j : KernState) (o : Objects) → Goes w.kern j (n + 1) call_sinces → KeepsObjects j o → DepthsWithin (n + 1) o → Advances w (record w { kern = j; objects = o }) (n + 1) call_sinces 1
-    of_both j o g objects depths =
+    pub of_both : (j : KernState) (o : Objects) → Goes w.kern j (n + 1) call_sinces → KeepsObjects j o → DepthsWithin (n + 1) o → KeepsIds (record w { kern = j; objects = o })
+        → Advances w (record w { kern = j; objects = o }) (n + 1) call_sinces 1
+    of_both j o g objects depths own =
         advances_more w (record w { kern = j; objects = o }) (n + 1) (n + 1) call_sinces call_sinces 0 1 (omega arith) (omega arith) (omega arith)
-        (by_objects j o (n + 1) call_sinces g objects depths)
+        (by_objects j o (n + 1) call_sinces g objects depths own)
 
-    -- so do tasks, queues and RAM
+    -- and so do tasks, queues and RAM
     pub of_scene : (t : Scene) → Goes w.kern t.kern (n + 1) call_sinces → length t.ram ≡ length w.ram → KeepsObjects t.kern (record w.objects { queues = t.queues })
+        → KeepsIds (record w { kern = t.kern; objects = record w.objects { queues = t.queues } })
         → Advances w (record w { kern = t.kern; objects = record w.objects { queues = t.queues }; ram = t.ram }) (n + 1) call_sinces 1
-    of_scene t g size objects =
-        let both = of_both t.kern (record w.objects { queues = t.queues }) g objects more.1 in
+    of_scene t g size objects own =
+        let both = of_both t.kern (record w.objects { queues = t.queues }) g objects more.1 own in
         record {
           kept = record {
             kern = both.kept.kern;
@@ -202,6 +217,7 @@ module _ (w : WorldState) (kept : IsWorld w) where
             ram = size ∙ kept.ram;
             symbols = kept.symbols;
             watch = both.kept.watch;
+            ids = both.kept.ids;
           };
           lives = both.lives;
           within = both.within;
@@ -213,19 +229,19 @@ module _ (w : WorldState) (kept : IsWorld w) where
           starts = both.starts;
         }
 
-    pub of_blocks : (p : PartState) → KeepsPool p → AreStacks p (interrupt_stack ∷ task_stacks w.kern) → KeepsLoaded w.kern p w.modules → Advances w (record w { part = p }) (n + 1) call_sinces 1
-    of_blocks p pool stacks modules = as_call (record w { part = p }) (of_parts p w.symbols w.modules w.ram w.slots w.output w.int_errno pool stacks modules kept.symbols refl)
+    pub of_blocks : (p : PartState) → KeepsPool p → AreStacks p (routine_stack ∷ task_stacks w.kern) → KeepsLoaded w.kern p w.modules → Advances w (record w { part = p }) (n + 1) call_sinces 1
+    of_blocks p pool stacks modules = as_call (record w { part = p }) (of_parts p w.symbols w.modules w.ram w.slots w.output w.int_errno pool stacks modules kept.symbols refl same_modules)
 
     pub of_list : (ss : List Symbol) → length ss ≤ most_symbols → Advances w (record w { symbols = ss }) (n + 1) call_sinces 1
-    of_list ss few = as_call (record w { symbols = ss }) (of_parts w.part ss w.modules w.ram w.slots w.output w.int_errno kept.pool kept.stacks kept.modules few refl)
+    of_list ss few = as_call (record w { symbols = ss }) (of_parts w.part ss w.modules w.ram w.slots w.output w.int_errno kept.pool kept.stacks kept.modules few refl same_modules)
 
     -- symbols, modules and blocks
-    pub of_unload : (ss : List Symbol) (ms : List (ℕ × LoadedModule)) (p : PartState) → length ss ≤ most_symbols → KeepsPool p → AreStacks p (interrupt_stack ∷ task_stacks w.kern) → KeepsLoaded w.kern p ms
+    pub of_unload : (ss : List Symbol) (ms : List (ℕ × LoadedModule)) (p : PartState) → length ss ≤ most_symbols → KeepsPool p → AreStacks p (routine_stack ∷ task_stacks w.kern) → KeepsLoaded w.kern p ms → Fewer (table.ids ms) (table.ids w.modules)
         → Advances w (record w { symbols = ss; modules = ms; part = p }) (n + 1) call_sinces 1
-    of_unload ss ms p few pool stacks modules = as_call (record w { symbols = ss; modules = ms; part = p }) (of_parts p ss ms w.ram w.slots w.output w.int_errno pool stacks modules few refl)
+    of_unload ss ms p few pool stacks modules fewer = as_call (record w { symbols = ss; modules = ms; part = p }) (of_parts p ss ms w.ram w.slots w.output w.int_errno pool stacks modules few refl fewer)
 
     pub of_memory : (ram : List ℕ) → length ram ≡ length w.ram → Advances w (record w { ram = ram }) (n + 1) call_sinces 1
-    of_memory ram same = as_call (record w { ram = ram }) (of_parts w.part w.symbols w.modules ram w.slots w.output w.int_errno kept.pool kept.stacks kept.modules kept.symbols same)
+    of_memory ram same = as_call (record w { ram = ram }) (of_parts w.part w.symbols w.modules ram w.slots w.output w.int_errno kept.pool kept.stacks kept.modules kept.symbols same same_modules)
 
     pub errno_advances : (a : Actor) (e : ℕ) → Advances w (with_errno w a e) n 0 0
     errno_advances (Task who) e = by_kern _ n 0 (goes-move w.kern n kept.kern within.0 (SetErrno who e) tt) (objects-move w.kern w.objects kept.kern kept.objects (SetErrno who e) (tt, tt, tt, tt)) within.1

@@ -1,4 +1,4 @@
--- Ids of objects of several kinds: an id is that of one kind alone.
+-- Ids of objects of several kinds: each id belongs to one kind only.
 use Rattle.std.proofs.Common.{◌≡◌, ℕ, ◌<◌, ◌≤◌, true, false, cond, eqb, List, [], ◌∷◌, ◌++◌, length, replicate, Option, None, Some, is_some, refl, ap, ◌∙◌, subst, arith}
 use Rattle.std.specs.List.{All}
 use Rattle.std.specs.Option.{option_map}
@@ -49,7 +49,7 @@ pub none_without : {X : Type 0} (rs : List (ℕ × X)) (id n : ℕ) → object_o
 none_without {X} rs id n none =
     object_of-without rs id n ∙ ap (cond (eqb n id) None) none ∙ elim (eqb n id) as (λ b. ◌≡◌ {A = Option X} (cond b None None) None) [ true ↦ refl | false ↦ refl ]
 
--- where the ids of these objects are none of those, one of those is none of these
+-- if the ids of these objects are none of those, each of those ids is none of these
 pub other_kind : {X Y : Type 0} (rs : List (ℕ × X)) (ss : List (ℕ × Y)) (n : ℕ) → All (λ r. object_of ss r.0 ≡ None) rs → is_some (object_of ss n) ≡ true → object_of rs n ≡ None
 other_kind {X} {Y} rs ss n apart there =
     elim (object_of rs n) as (λ o. object_of rs n ≡ o → o ≡ None) [
@@ -60,8 +60,8 @@ other_kind {X} {Y} rs ss n apart there =
           absurd (cc)
     ] refl
 
--- ---- what is kept of the queues beside any RAM of the board's size
--- what holds beside any list of a length holds
+-- ---- the invariant of the queues with any RAM of the board's size
+-- what holds with any list of a length holds
 beside_any : {C : Type 0} (n : ℕ) → ((ram : List ℕ) → length ram ≡ n → C) → C
 beside_any n holds = holds (replicate n 0) (length-replicate n 0)
 

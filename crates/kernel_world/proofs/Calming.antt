@@ -1,4 +1,4 @@
--- What every move of the kernel keeps of message queues: all, as it begins no wait at one.
+-- Every move of the kernel keeps the whole invariant of message queues, because it begins no wait at one.
 use Rattle.std.proofs.Common.{◌≡◌, ℕ, ◌-◌, ◌<◌, true, false, cond, ◌&&◌, ltb, leb, List, [], ◌∷◌, length, get_or, map, Some, refl, sym, subst, arith}
 use Rattle.std.specs.List.{All, AllPairs}
 use Rattle.std.proofs.lemmas.List.{length-map, get_or-map}
@@ -19,7 +19,7 @@ use Rattle.msg_queue.proofs.Calm.{at_first, calm_at, calm_then, calm_stays, calm
 use Rattle.msg_queue.proofs.Events.{keeps}
 use Rattle.kernel_world.specs.declared.objects.Objects.{Objects}
 
--- the queues, whatever RAM of the board's size stands beside them
+-- the queues, with any RAM of the board's size
 abbrev pub KeepsQueues : KernState → Objects → Type 0
 KeepsQueues k o = (ram : List ℕ) → length ram ≡ ram_bytes → IsKept (scene k o.queues ram)
 
@@ -50,7 +50,7 @@ module _ (rs : List (ℕ × QueueState)) where
   pub calm-raised : (k : KernState) (ms : List (ℕ × Mutex)) → IsKern k → IsCalm rs k (raised_kern k ms)
   calm-raised k ms is = calm-repried k (lifted k ms) k.tasks is
 
--- ---- a field of each task that is none of those that the kernel's facts and waits read
+-- ---- a change of tasks' fields that neither the kernel's invariant nor that of waits reads
 pub record Spares (f : Task → Task) : Type 0 where
   pub id : (t : Task) → (f t).id ≡ t.id
   pub since : (t : Task) → (f t).since ≡ t.since

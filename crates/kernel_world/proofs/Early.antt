@@ -1,4 +1,4 @@
--- Counters that lie below a bound.
+-- Counters below a bound.
 use Rattle.std.proofs.Common.{◌<◌, ◌≤◌, ◌^◌, List, arith}
 use Rattle.std.specs.List.{All}
 use Rattle.std.proofs.lemmas.List.Elements.{All-weaker}
@@ -14,11 +14,11 @@ use Rattle.kernel_world.specs.Kept.{IsEarly, HasCounts, Within}
 both_counts : (ts : List Task) → All (λ t. t.locks < 2 ^ 60) ts → All (λ t. t.safe < 2 ^ 60) ts → All (HasCounts (2 ^ 60)) ts
 both_counts ts locks safes i d within = (omega (arith, locks i d within), omega (arith, safes i d within))
 
--- counts that lie below a bound are within it
+-- counts below a bound are within it
 pub early_within : (w : WorldState) → IsEarly w → Within (2 ^ 60) w
 early_within w e = (both_counts w.kern.tasks e.locks e.safes, All-weaker (λ r. r.1.depth < 2 ^ 60) (λ r. r.1.depth ≤ 2 ^ 60) (λ r h. omega (arith, h)) w.objects.mutexes e.depths)
 
--- they stay so where a caller goes on behind its gate
+-- the counters stay below it if a caller goes on after its gate
 pub left_early : (w : WorldState) (a : Actor) → IsEarly w → IsEarly (left_gate w a)
 left_early w (ATask who) e = record {
   sinces = e.sinces;

@@ -1,4 +1,4 @@
--- What a move of the kernel keeps, and how far it takes the counters.
+-- What a move of the kernel keeps, and by how much it raises the counters.
 use Rattle.std.proofs.Common.{◌≡◌, ℕ, List, length, map, Option, ◌+◌, ◌-◌, ◌<◌, ◌≤◌, true, false, ◌&&◌, cond, eqb, leb, ltb, [], ◌∷◌, None, Some, IsSome, refl, sym, ap, ◌∙◌, subst, arith}
 use Rattle.std.specs.List.{All}
 use Rattle.std.proofs.lemmas.Bool.{leb-false}
@@ -21,13 +21,15 @@ use Rattle.task_safety.specs.Safety.{deletion, safe_of, make_safe, lessen}
 use Rattle.inheritance.specs.declared.mutex.Mutex.{Mutex}
 use Rattle.inheritance.specs.Reach.{lifted, repried, raised_kern}
 use Rattle.msg_queue.proofs.Calm.{next-move}
-use Rattle.kernel_world.specs.Kept.{task_stacks, HasCounts, CountsWithin}
+use Rattle.kernel_world.specs.Kept.{stack_of, task_stacks, HasCounts, CountsWithin}
 
 -- the reservations of tasks
 abbrev pub reservations : List Task → List (Option ℕ)
 reservations ts = map (λ t. t.regs.reserve) ts
 
--- from k to j: the kept facts hold, the same tasks live on the same stacks, the ids are where they were, the counts of locks and safe sections stay within n, at most d order numbers were given out, ids rose, and the tick count stood
+-- from k to j: the invariant holds, the same tasks live on the same stacks, and ids are lent or not, as before;
+-- counts of locks and safe sections stay within n, at most d order numbers were handed out, ids rose, and the tick
+-- count is the same
 pub record Goes (k j : KernState) (n d : ℕ) : Type 0 where
   pub kern : IsKern j
   pub alone : ids j.tasks ≡ ids k.tasks
@@ -76,12 +78,12 @@ goes_further k j m n d e more longer g = record {
 }
 
 -- the three ways in which one task is changed
-pub by_change : (k : KernState) (who n : ℕ) (f : Task → Task) → IsKern (change_task k who f) → ((t : Task) → (f t).id ≡ t.id) → ((t : Task) → (f t).stack ≡ t.stack) → ((t : Task) → (f t).regs.reserve ≡ t.regs.reserve) → ((t : Task) → HasCounts n t → HasCounts n (f t)) → CountsWithin n k
+pub by_change : (k : KernState) (who n : ℕ) (f : Task → Task) → IsKern (change_task k who f) → ((t : Task) → (f t).id ≡ t.id) → ((t : Task) → stack_of (f t) ≡ stack_of t) → ((t : Task) → (f t).regs.reserve ≡ t.regs.reserve) → ((t : Task) → HasCounts n t → HasCounts n (f t)) → CountsWithin n k
     → Goes k (change_task k who f) n 0
 by_change k who n f is id stack reserve counts within = record {
   kern = is;
   alone = ids-change k.tasks who f id;
-  stacks = map-change (λ t. t.stack) k.tasks who f stack;
+  stacks = map-change stack_of k.tasks who f stack;
   lent = refl;
   last = refl;
   reserves = map-change (λ t. t.regs.reserve) k.tasks who f reserve;
@@ -91,12 +93,12 @@ by_change k who n f is id stack reserve counts within = record {
   count = refl;
 }
 
-by_renewal : (k : KernState) (who n : ℕ) (f : Task → Task) → IsKern (renew_task k who f) → ((t : Task) → (f t).id ≡ t.id) → ((t : Task) → (f t).stack ≡ t.stack) → ((t : Task) → (f t).regs.reserve ≡ t.regs.reserve) → ((t : Task) → HasCounts n t → HasCounts n (f t)) → CountsWithin n k
+by_renewal : (k : KernState) (who n : ℕ) (f : Task → Task) → IsKern (renew_task k who f) → ((t : Task) → (f t).id ≡ t.id) → ((t : Task) → stack_of (f t) ≡ stack_of t) → ((t : Task) → (f t).regs.reserve ≡ t.regs.reserve) → ((t : Task) → HasCounts n t → HasCounts n (f t)) → CountsWithin n k
     → Goes k (renew_task k who f) n 1
 by_renewal k who n f is id stack reserve counts within = record {
   kern = is;
   alone = ids-change k.tasks who (λ t. renewed k.next_since (f t)) id;
-  stacks = map-renew (λ t. t.stack) (λ since t. refl) k who f stack;
+  stacks = map-renew stack_of (λ since t. refl) k who f stack;
   lent = refl;
   last = refl;
   reserves = map-renew (λ t. t.regs.reserve) (λ since t. refl) k who f reserve;
@@ -115,7 +117,7 @@ lent-move k who f = elim (task_of k.tasks who) as (λ o. (move_found k who f o).
 last-move : (k : KernState) (who : ℕ) (f : Task → Task) → (move_task k who f).last ≡ k.last
 last-move k who f = elim (task_of k.tasks who) as (λ o. (move_found k who f o).last ≡ k.last) [ None ↦ refl | Some t ↦ refl ]
 
--- at most one order number is given out where one task is moved
+-- at most one order number is handed out if one task is moved
 since-move : (s : KernState) (who : ℕ) (f : Task → Task) → (move_task s who f).next_since ≤ s.next_since + 1
 since-move s who f =
     elim (task_of s.tasks who) as (λ o. (move_found s who f o).next_since ≤ s.next_since + 1) [
@@ -123,12 +125,12 @@ since-move s who f =
       | Some t ↦ elim (is_ready (f t)) as (λ b. s.next_since + cond b 1 0 ≤ s.next_since + 1) [ true ↦ omega arith | false ↦ omega arith ]
     ]
 
-by_move : (k : KernState) (who n : ℕ) (f : Task → Task) → IsKern (move_task k who f) → ((t : Task) → (f t).id ≡ t.id) → ((t : Task) → (f t).stack ≡ t.stack) → ((t : Task) → (f t).regs.reserve ≡ t.regs.reserve) → ((t : Task) → HasCounts n t → HasCounts n (f t)) → CountsWithin n k
+by_move : (k : KernState) (who n : ℕ) (f : Task → Task) → IsKern (move_task k who f) → ((t : Task) → (f t).id ≡ t.id) → ((t : Task) → stack_of (f t) ≡ stack_of t) → ((t : Task) → (f t).regs.reserve ≡ t.regs.reserve) → ((t : Task) → HasCounts n t → HasCounts n (f t)) → CountsWithin n k
     → Goes k (move_task k who f) n 1
 by_move k who n f is id stack reserve counts within = record {
   kern = is;
   alone = ids-move k who f id;
-  stacks = map-move (λ t. t.stack) (λ since t. refl) k who f stack;
+  stacks = map-move stack_of (λ since t. refl) k who f stack;
   lent = lent-move k who f;
   last = last-move k who f;
   reserves = map-move (λ t. t.regs.reserve) (λ since t. refl) k who f reserve;
@@ -163,8 +165,8 @@ module _ (k : KernState) (n : ℕ) (is : IsKern k) (within : CountsWithin n k) w
   delayed_id : (m : ℕ) (t : Task) → (delayed k.tick m t).id ≡ t.id
   delayed_id m t = elim (eqb m 0) as (λ b. (cond b t (record t { wake = Some (k.tick + m); turns = 0 })).id ≡ t.id) [ true ↦ refl | false ↦ refl ]
 
-  delayed_stack : (m : ℕ) (t : Task) → (delayed k.tick m t).stack ≡ t.stack
-  delayed_stack m t = elim (eqb m 0) as (λ b. (cond b t (record t { wake = Some (k.tick + m); turns = 0 })).stack ≡ t.stack) [ true ↦ refl | false ↦ refl ]
+  delayed_stack : (m : ℕ) (t : Task) → stack_of (delayed k.tick m t) ≡ stack_of t
+  delayed_stack m t = elim (eqb m 0) as (λ b. stack_of (cond b t (record t { wake = Some (k.tick + m); turns = 0 })) ≡ stack_of t) [ true ↦ refl | false ↦ refl ]
 
   delayed_reserve : (m : ℕ) (t : Task) → (delayed k.tick m t).regs.reserve ≡ t.regs.reserve
   delayed_reserve m t = elim (eqb m 0) as (λ b. (cond b t (record t { wake = Some (k.tick + m); turns = 0 })).regs.reserve ≡ t.regs.reserve) [ true ↦ refl | false ↦ refl ]
@@ -224,7 +226,7 @@ KeepsWithin n k (DrawIds next) = (k.next_id ≤ next) × (next ≤ 1048577)
 KeepsWithin n k (Lend on) = ⊥
 KeepsWithin n k m = Unit {0}
 
--- the most order numbers that it gives out
+-- the most order numbers that it hands out
 abbrev pub most_sinces : Move → ℕ
 most_sinces (Pend who place fifo m) = 1
 most_sinces (Delay who m) = 1
@@ -238,7 +240,7 @@ most_sinces (Reset who) = 1
 most_sinces m = 0
 
 module _ (k : KernState) (n : ℕ) (is : IsKern k) (within : CountsWithin n k) where
-  -- what is beside the tasks is written, and ids are drawn
+  -- fields other than the tasks are written, and ids are taken
   beside_tasks : (next slice : ℕ) → IsKern (record k { next_id = next; slice = slice }) → k.next_id ≤ next → Goes k (record k { next_id = next; slice = slice }) n 0
   beside_tasks next slice is_next more = record {
     kern = is_next;
@@ -309,7 +311,7 @@ module _ (k : KernState) (n : ℕ) (is : IsKern k) (within : CountsWithin n k) w
         | false ↦ goes_further k less n n 0 256 (omega arith) (omega arith) one
       ]
 
--- who has no reservation has none after a move
+-- a task without a reservation has none after a move
 pub reserved_by : (ts us : List Task) (who : Option ℕ) → ids us ≡ ids ts → reservations us ≡ reservations ts
     → All (λ t. IsSome t.regs.reserve → who ≡ Some t.id) ts → All (λ t. IsSome t.regs.reserve → who ≡ Some t.id) us
 reserved_by [] [] who i r all = all
@@ -328,8 +330,8 @@ reserved_by (t ∷ ts) (u ∷ us) who i r all =
     tails : {A : Type 0} (a b : A) (xs ys : List A) → a ∷ xs ≡ b ∷ ys → xs ≡ ys
     tails a b xs ys e = cc
 
--- ---- an id is drawn
--- where making is not refused, an id is left
+-- ---- an id is taken
+-- if making an object isn't refused, an id is left
 pub id_left : (most m id : ℕ) (e f : Errno) → cond (leb most m) (Some e) (cond (leb 1048577 id) (Some f) None) ≡ None → id ≤ 1048576
 id_left most m id e f none =
     elim (leb most m) as (λ b. cond b (Some e) (cond (leb 1048577 id) (Some f) None) ≡ None → id ≤ 1048576) [

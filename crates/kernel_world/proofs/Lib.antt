@@ -8,6 +8,8 @@ pub mod Apart
 pub mod Waiting
 pub mod ObjectMoves
 pub mod Goes
+pub mod LiveIds
+pub mod WorldIds
 pub mod Advancing
 pub mod Replying
 pub mod Opened

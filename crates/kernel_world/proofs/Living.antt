@@ -26,7 +26,7 @@ live_found ts n =
           ] refl
     ]
 
--- who is ready waits for nothing
+-- a ready task waits for nothing
 ready_waits : (t : Task) → is_ready t ≡ true → t.wait ≡ None
 ready_waits t ready =
     elim t.wait as (λ o. (is_none o && (is_none t.wake && not t.suspended)) ≡ true → o ≡ None) [ None ↦ λ e. refl | Some p ↦ λ e. absurd (cc) ] ready
@@ -35,7 +35,7 @@ pub ready_free : (k : KernState) (who : ℕ) → IsReady k who → IsFree k who
 ready_free k who ready =
     elim (task_of k.tasks who) as (λ o. IfSome o (λ t. is_ready t ≡ true) → IfSome o (λ t. t.wait ≡ None)) [ None ↦ λ h. tt | Some t ↦ ready_waits t ] ready
 
--- a caller lives on that goes on behind its gate, or whose error number is set
+-- a caller that goes on after its gate, or whose error number is set, lives on
 pub left_acts : (w : WorldState) (a : Actor) → Acts w.kern a → Acts (left_gate w a).kern a
 left_acts w (ATask who) live = lives_by (leave_gate w.kern who).tasks w.kern.tasks who (ids-change w.kern.tasks who past_gate (λ t. refl)) live
 left_acts w Interrupt live = live

@@ -1,4 +1,4 @@
--- What every move of the kernel keeps of the objects beside its tasks, which it doesn't write.
+-- What every move of the kernel keeps of the objects, none of which it writes.
 use Rattle.std.proofs.Common.{◌≡◌, ℕ, ◌+◌, ◌<◌, Bool, true, false, cond, eqb, map, Option, None, Some, IfSome, refl, sym, ap, ◌∙◌, subst, arith}
 use Rattle.std.specs.List.{All}
 use Rattle.std.specs.Option.{option_map}
@@ -69,7 +69,7 @@ abbrev pub SparesObjects : KernState → Objects → Move → Type 0
 SparesObjects k o m = IsAllowed k m × SparesWaits k o m × SparesMutexes (with_mutexes k o.mutexes) m × SparesQueues o.queues.queues k m
 
 module _ (k : KernState) (o : Objects) (is : IsKern k) (kept : KeepsObjects k o) where
-  -- from what is kept of waits and of mutexes, where no wait at a queue begins
+  -- by the invariants of waits and of mutexes, if no wait at a queue begins
   pub by_kern : (j : KernState) → KeepsWaits j o → KeepsMutexes (with_mutexes j o.mutexes) → IsCalm o.queues.queues k j → KeepsObjects j o
   by_kern j waits mutexes calm = record {
     waits = waits;
@@ -106,13 +106,13 @@ module _ (k : KernState) (o : Objects) (is : IsKern k) (kept : KeepsObjects k o)
   objects-lessen who n =
       by_kern (lessen k who n) (waits-lessen k o is kept.waits who n) ((safety_law (with_mutexes k o.mutexes) kept.mutexes).lessening who n) (calm-lessen o.queues.queues k who n is)
 
--- the wait of a task ends, and then its marks go
+-- the wait of a task ends, and then its marks are cleared
 pub objects-reset_released : (k : KernState) (o : Objects) → IsKern k → KeepsObjects k o → (who : ℕ) → KeepsObjects (reset (release k who) who) o
 objects-reset_released k o is kept who =
     objects-move (release k who) o (move_keeps k (Release who) is tt) (objects-move k o is kept (Release who) (tt, tt, tt, tt)) (Reset who) (tt, free-release k who, tt, tt)
 
--- ---- reservations of many tasks go
--- all but those of some tasks
+-- ---- reservations of many tasks are dropped
+-- all are dropped, except those of some tasks
 abbrev pub dropped : (Task → Bool) → Task → Task
 dropped keeps t = cond (keeps t) t (unreserved t)
 

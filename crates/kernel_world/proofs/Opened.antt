@@ -1,4 +1,4 @@
--- The world at the start has the kept facts.
+-- The world at the start has the invariant.
 use Rattle.std.proofs.Common.{◌≡◌, ℕ, zero, suc, Bool, true, false, not, cond, ◌&&◌, leb, subst, ◌<◌, ◌≤◌, List, [], ◌∷◌, length, Option, IfSome, Some, None, Ok, Err, refl, sym, ap, ◌∙◌, length-append, arith}
 use Rattle.std.specs.Prelude.{option_and_then, replicate}
 use Rattle.std.specs.List.{All, slice_get}
@@ -32,9 +32,10 @@ use Rattle.sem_mutex.proofs.Opening.{opening_keeps}
 use Rattle.sem_mutex.proofs.Lawful.{beside_law}
 use Rattle.msg_queue.proofs.Events.{starts}
 use Rattle.kernel_world.specs.Objects.{no_objects, is_live, WaitsRight, KeepsObjects}
-use Rattle.kernel_world.specs.Opening.{empty_kern, opening_kern, shell_record, interrupt_stack, opening_part, stack_block, symbol_if_named, symbols_of_gate, gate_symbols, zeros, opening_world}
-use Rattle.kernel_world.specs.Kept.{IsKernels, AreStacks, IsWorld}
+use Rattle.kernel_world.specs.Opening.{empty_kern, opening_kern, shell_record, opening_part, stack_block, symbol_if_named, symbols_of_gate, gate_symbols, zeros, opening_world}
+use Rattle.kernel_world.specs.Kept.{Stack, stack_of, routine_stack, IsStack, AreApart, AreStacks, IsWorld}
 use Rattle.kernel_world.proofs.Holding.{IsNoModules}
+use Rattle.kernel_world.proofs.LiveIds.{HasOwner, ids_task}
 
 -- the pool with these blocks
 abbrev pub pool : List Block → PartState
@@ -86,7 +87,7 @@ pub count_gates : length gates ≡ 52
 unfolding gates
 count_gates = refl
 
--- a name, if there is one, has bytes
+-- a name, if there is one, isn't empty
 abbrev has_bytes : Option (List ℕ) → Bool
 has_bytes None = true
 has_bytes (Some name) = leb 1 (length name)
@@ -122,7 +123,7 @@ length-zeros : (n : ℕ) → length (zeros n) ≡ n
 unfolding zeros
 length-zeros n = length-replicate n 0
 
--- a gate has one symbol at most
+-- a gate has at most one symbol
 named_few : (g : Gate) (name : Option (List ℕ)) → length (symbol_if_named g name) ≤ 1
 named_few g None = omega arith
 named_few g (Some name) = omega arith
@@ -149,11 +150,15 @@ empty_keeps = record {
   ahead = λ i d within. absurd (omega arith);
 }
 
-two_apart : AreStacks opening_part (85536 ∷ 65536 ∷ [])
+abbrev shell_stack : Stack
+shell_stack = stack_of (new_task 1 0 shell_record)
+
+two_apart : AreStacks opening_part (routine_stack ∷ shell_stack ∷ [])
+unfolding rounded aligned
 two_apart = record {
-  kernels = All-cons (IsKernels opening_part) 85536 (65536 ∷ []) refl (All-cons (IsKernels opening_part) 65536 [] refl (λ i d within. absurd (omega arith)));
-  apart = AllPairs-cons (λ a b. a ≡ b → ⊥) 85536 (65536 ∷ [])
-      (All-cons (λ b. 85536 ≡ b → ⊥) 65536 [] (λ e. omega arith) (λ i d within. absurd (omega arith)))
+  kernels = All-cons (IsStack opening_part) routine_stack (shell_stack ∷ []) refl (All-cons (IsStack opening_part) shell_stack [] refl (λ i d within. absurd (omega arith)));
+  apart = AllPairs-cons AreApart routine_stack (shell_stack ∷ [])
+      (All-cons (AreApart routine_stack) shell_stack [] (λ e. omega arith) (λ i d within. absurd (omega arith)))
       (λ i j d lt within. absurd (omega arith));
 }
 
@@ -163,7 +168,7 @@ none_yet P = λ i d within. absurd (omega arith)
 of_one : (P : Task → Type 0) → P (new_task 1 0 shell_record) → All P opening_kern.tasks
 of_one P one = All-cons P (new_task 1 0 shell_record) [] one (none_yet P)
 
--- the shell's task waits for nothing, and there is no object
+-- the shell's task waits for nothing, and there are no objects
 opening_objects : KeepsObjects opening_kern no_objects
 opening_objects = record {
   waits = record {
@@ -202,10 +207,11 @@ opens slots = record {
     few = omega arith;
     rising = λ i j d lt within. absurd (omega arith);
     below = none_yet (λ r. r.0 < 2);
-    held = record { blocks = λ a some. absurd (omega arith); distinct = λ a. omega arith };
-    apart = All-cons (IsNoModules []) interrupt_stack (pool_start ∷ []) refl (All-cons (IsNoModules []) pool_start [] refl (none_yet (IsNoModules [])));
+    held = record { blocks = λ i d within. absurd (omega arith); distinct = λ a. omega arith };
+    apart = All-cons (IsNoModules []) routine_stack (shell_stack ∷ []) refl (All-cons (IsNoModules []) shell_stack [] refl (none_yet (IsNoModules [])));
   };
   ram = length-zeros ram_bytes;
   symbols = symbols_few;
   watch = record { watch = record { few = omega arith; rising = λ i j d lt within. absurd (omega arith); idle = λ none. refl }; ids = λ i d within. absurd (omega arith) };
+  ids = ids_task 1 [] [] [] (record { distinct = λ n. omega arith; below = λ n some. absurd (omega arith); owners = none_yet (HasOwner 1 []) });
 }

@@ -1,4 +1,4 @@
--- What is kept where a caller goes on behind its gate, and is answered.
+-- What holds when a caller goes on after its gate and is answered.
 use Rattle.std.proofs.Common.{◌≡◌, ℕ, None, Some, IfSome, true, false, cond, eqb, refl, sym, ap, ◌∙◌, subst}
 use Rattle.std.specs.Option.{option_map}
 use Rattle.wind_base.specs.Errno.{errno_number}
@@ -23,7 +23,7 @@ use Rattle.kernel_world.proofs.ObjectMoves.{objects-move}
 use Rattle.kernel_world.proofs.Advancing.{Advances, advances_on, at_routine, stays, by_kern, errno_advances}
 use Rattle.kernel_world.proofs.Living.{ready_free}
 
--- who goes on behind its gate is as safe as before
+-- a caller that goes on after its gate is as safe as before
 pub safe_left : (w : WorldState) (a : Actor) (id : ℕ) → safe_of (task_of (left_gate w a).kern.tasks id) ≡ safe_of (task_of w.kern.tasks id)
 safe_left w (Task who) id =
     ap safe_of (task_of-change w.kern.tasks who id past_gate (λ t. refl))

@@ -1,4 +1,4 @@
--- Safe counts, and waits for a deletion, where each task keeps them.
+-- Safe counts, and waits for a deletion, when tasks keep both.
 use Rattle.std.proofs.Common.{◌≡◌, ℕ, ◌-◌, ◌<◌, true, false, cond, ◌&&◌, eqb, ltb, leb, List, [], ◌∷◌, map, Option, None, Some, IfSome, refl, sym, ap, ◌∙◌, subst, arith}
 use Rattle.std.specs.Option.{option_map}
 use Rattle.std.specs.Prelude.{unwrap_or}
@@ -19,7 +19,7 @@ use Rattle.task_safety.specs.Kept.{Deletes, IsSafe, KeepsDeleters}
 abbrev pub counted : Task → ℕ × ℕ
 counted t = with_id (λ u. u.safe) t
 
--- the same safe counts by the same ids
+-- the same ids have the same safe counts
 pub safe-same : (ts us : List Task) (id : ℕ) → map counted ts ≡ map counted us → safe_of (task_of ts id) ≡ safe_of (task_of us id)
 safe-same ts us id e = is (task_of ts id) ∙ ap (λ o. unwrap_or o 0) (found_by (λ u. u.safe) ts us id e) ∙ sym (is (task_of us id))
   where
@@ -38,7 +38,7 @@ deletes-weaker P Q t more h =
       | Some p ↦ λ q side. (more p.id (q side).0, (q side).1)
     ] h
 
--- each task is changed, but for what is read of it for a deletion
+-- each task is changed, except for what is read of it for a deletion
 pub deleters-map : (k : KernState) (f : Task → Task) → ((t : Task) → counted (f t) ≡ counted t) → ((P : ℕ → Type 0) (t : Task) → Deletes P t → Deletes P (f t)) → KeepsDeleters k → KeepsDeleters (record k { tasks = map f k.tasks })
 deleters-map k f same keeps all =
     let j : KernState = record k { tasks = map f k.tasks } in

@@ -1,18 +1,18 @@
--- The stacks are Kernel blocks, whatever is given or taken back besides.
-use Rattle.std.proofs.Common.{◌≡◌, ℕ, true, eqb, List, [], ◌∷◌, ◌++◌, get_or, Option, Some, None, IsSome, Result, Ok, Err, refl, sym, subst}
+-- The stacks stay Kernel blocks of their sizes when other blocks are allocated or freed.
+use Rattle.std.proofs.Common.{◌≡◌, ℕ, true, eqb, List, [], ◌∷◌, ◌++◌, get_or, Option, Some, None, IsSome, Result, Ok, Err, refl, sym, ◌∙◌, subst}
 use Rattle.std.proofs.lemmas.List.Elements.{All-weaker, All-push}
 use Rattle.std.proofs.lemmas.List.Quantifiers.{all_pairs_push}
-use Rattle.std.proofs.lemmas.Bool.{eq-eqb, and_from}
+use Rattle.std.proofs.lemmas.Bool.{eq-eqb, ne_eqb, and_from, and_left}
 use Rattle.mem_partition.specs.Place.{rounded}
-use Rattle.mem_partition.specs.State.{PartState, IsPart, own_block, alloc_of, after_alloc, taken_at, size_or, freed, after_free, with_block}
+use Rattle.mem_partition.specs.State.{PartState, IsPart, own_block, same_class, alloc_of, after_alloc, taken_at, size_or, freed, after_free, with_block}
 use Rattle.mem_partition.specs.declared.block.Block.{Block}
 use Rattle.mem_partition.specs.declared.block.Class.{Class}
 use Rattle.mem_partition.specs.declared.block.Class.TheVariants.{User, Kernel}
 use Rattle.mem_partition.specs.declared.block.PartErr.{PartErr}
 use Rattle.mem_partition.proofs.Keeping.{free_kept, with_blocks}
-use Rattle.mem_partition.proofs.Allocs.{rounded_some, alloc_lies, alloc_kept, given_block, after_is}
-use Rattle.mem_partition.proofs.Owners.{is_own, kept-with_block, found-with_block, fresh_address, own-without, classes_apart}
-use Rattle.kernel_world.specs.Kept.{KeepsPool, IsKernels, AreStacks}
+use Rattle.mem_partition.proofs.Allocs.{rounded_some, find_with, alloc_lies, alloc_kept, given_block, after_is}
+use Rattle.mem_partition.proofs.Owners.{is_own, find-with_block, fresh_address, own-without, classes_apart}
+use Rattle.kernel_world.specs.Kept.{KeepsPool, Stack, IsStack, AreApart, AreStacks}
 
 -- the pool is that of the board, whatever blocks there are
 pool_with : (p : PartState) (bs : List Block) → KeepsPool p → IsPart (with_blocks p bs) → KeepsPool (with_blocks p bs)
@@ -34,57 +34,68 @@ pool-free p at class k = go (own_block p.blocks at class) refl where
   go None same = k
   go (Some b) same = pool_with p _ k (subst (λ o. IsPart (freed p at (size_or o))) same (free_kept p at class k.blocks))
 
--- a Kernel block stays one where a block is given
-pub kernels-alloc : (p : PartState) (n align : ℕ) (class : Class) (a : ℕ) → IsKernels p a → IsKernels (after_alloc p n align class) a
+-- the Kernel block at an address stays as it is when a block is allocated
+pub kernels-alloc : (p : PartState) (n align : ℕ) (class : Class) (a : ℕ) → IsPart p → IsSome (own_block p.blocks a Kernel)
+    → own_block (after_alloc p n align class).blocks a Kernel ≡ own_block p.blocks a Kernel
 unfolding after_alloc
-kernels-alloc p n align class a h = go (alloc_of p n align) where
-  go : (r : Result ℕ PartErr) → IsKernels (taken_at p n class r) a
-  go (Err e) = h
-  go (Ok at) = kept-with_block (is_own a Kernel) (given_block n at class) p.blocks h
+kernels-alloc p n align class a is there = go (alloc_of p n align) refl where
+  go : (r : Result ℕ PartErr) → alloc_of p n align ≡ r → own_block (taken_at p n class r).blocks a Kernel ≡ own_block p.blocks a Kernel
+  go (Err e) same = refl
+  go (Ok at) same =
+      let other : at ≡ a → ⊥ = λ e. fresh_address p.start p.end p.blocks (rounded n) at a Kernel is.laid (rounded_some n) (alloc_lies p n align at same).apart there (sym e) in
+      find-with_block (is_own a Kernel) (given_block n at class) p.blocks (and_left (eqb at a) (same_class class Kernel) (ne_eqb at a other))
 
--- and where a User block is taken back
-pub kernels-free : (p : PartState) (at a : ℕ) → IsPart p → IsKernels p a → IsKernels (after_free p at User) a
+-- and when a User block is freed
+pub kernels-free : (p : PartState) (at a : ℕ) → IsPart p → IsSome (own_block p.blocks a Kernel)
+    → own_block (after_free p at User).blocks a Kernel ≡ own_block p.blocks a Kernel
 unfolding after_free
 kernels-free p at a is h = go (own_block p.blocks at User) refl where
-  go : (o : Option Block) → own_block p.blocks at User ≡ o → IsKernels (freed p at (size_or o)) a
-  go None same = h
+  go : (o : Option Block) → own_block p.blocks at User ≡ o → own_block (freed p at (size_or o)).blocks a Kernel ≡ own_block p.blocks a Kernel
+  go None same = refl
   go (Some b) same =
       let there : IsSome (own_block p.blocks at User) = subst IsSome (sym same) refl in
-      let apart : a ≡ at → ⊥ = classes_apart p.start p.end p.blocks at a User Kernel is.laid refl there h in
-      subst IsSome (sym (own-without at a Kernel p.blocks apart)) h
+      own-without at a Kernel p.blocks (classes_apart p.start p.end p.blocks at a User Kernel is.laid refl there h)
 
--- and where another Kernel block is
-pub kernels-other : (p : PartState) (at a : ℕ) → (a ≡ at → ⊥) → IsKernels p a → IsKernels (after_free p at Kernel) a
+-- and when another Kernel block is
+pub kernels-other : (p : PartState) (at a : ℕ) → (a ≡ at → ⊥) → own_block (after_free p at Kernel).blocks a Kernel ≡ own_block p.blocks a Kernel
 unfolding after_free
-kernels-other p at a apart h = go (own_block p.blocks at Kernel) where
-  go : (o : Option Block) → IsKernels (freed p at (size_or o)) a
-  go None = h
-  go (Some b) = subst IsSome (sym (own-without at a Kernel p.blocks apart)) h
+kernels-other p at a apart = go (own_block p.blocks at Kernel) where
+  go : (o : Option Block) → own_block (freed p at (size_or o)).blocks a Kernel ≡ own_block p.blocks a Kernel
+  go None = refl
+  go (Some b) = own-without at a Kernel p.blocks apart
 
-pub stacks-alloc : (p : PartState) (n align : ℕ) (class : Class) (ats : List ℕ) → AreStacks p ats → AreStacks (after_alloc p n align class) ats
-stacks-alloc p n align class ats s = record {
-  kernels = All-weaker (IsKernels p) (IsKernels (after_alloc p n align class)) (λ a h. kernels-alloc p n align class a h) ats s.kernels;
+pub is_there : (p : PartState) (s : Stack) → IsStack p s → IsSome (own_block p.blocks s.addr Kernel)
+is_there p s h = subst IsSome (sym h) refl
+
+pub stacks-alloc : (p : PartState) (n align : ℕ) (class : Class) (stacks : List Stack) → IsPart p → AreStacks p stacks → AreStacks (after_alloc p n align class) stacks
+stacks-alloc p n align class stacks is s = record {
+  kernels = All-weaker (IsStack p) (IsStack (after_alloc p n align class)) (λ x h. kernels-alloc p n align class x.addr is (is_there p x h) ∙ h) stacks s.kernels;
   apart = s.apart;
 }
 
-pub stacks-free : (p : PartState) (at : ℕ) (ats : List ℕ) → IsPart p → AreStacks p ats → AreStacks (after_free p at User) ats
-stacks-free p at ats is s = record {
-  kernels = All-weaker (IsKernels p) (IsKernels (after_free p at User)) (λ a h. kernels-free p at a is h) ats s.kernels;
+pub stacks-free : (p : PartState) (at : ℕ) (stacks : List Stack) → IsPart p → AreStacks p stacks → AreStacks (after_free p at User) stacks
+stacks-free p at stacks is s = record {
+  kernels = All-weaker (IsStack p) (IsStack (after_free p at User)) (λ x h. kernels-free p at x.addr is (is_there p x h) ∙ h) stacks s.kernels;
   apart = s.apart;
 }
 
--- a new Kernel block is one stack more
-new_kernels : (p : PartState) (n align at : ℕ) → alloc_of p n align ≡ Ok at → IsKernels (after_alloc p n align Kernel) at
-new_kernels p n align at e =
-    subst (λ q. IsKernels q at) (sym (after_is p n align at Kernel e))
-    (found-with_block (is_own at Kernel) (given_block n at Kernel) p.blocks (and_from (eqb at at) true (eq-eqb at at refl) refl))
+-- a new Kernel block is one more stack
+new_stack : (p : PartState) (n align at : ℕ) → IsPart p → alloc_of p n align ≡ Ok at → IsStack (after_alloc p n align Kernel) (record { addr = at; size = n })
+new_stack p n align at is e =
+    let b = given_block n at Kernel in
+    subst (λ (q : PartState). own_block q.blocks at Kernel ≡ Some b) (sym (after_is p n align at Kernel e))
+    (find_with (is_own at Kernel) b p.start p.end p.blocks is.laid (rounded_some n) (alloc_lies p n align at e).apart
+    (and_from (eqb at at) true (eq-eqb at at refl) refl)
+    (λ c q. and_left (eqb c.addr at) (same_class c.class Kernel) (ne_eqb c.addr at q)))
 
-pub stacks-more : (p : PartState) (n align at : ℕ) (ats : List ℕ) → IsPart p → alloc_of p n align ≡ Ok at → AreStacks p ats → AreStacks (after_alloc p n align Kernel) (ats ++ at ∷ [])
-stacks-more p n align at ats is e s =
-    let lies = alloc_lies p n align at e in
+pub stacks-more : (p : PartState) (n align at : ℕ) (stacks : List Stack) → IsPart p → alloc_of p n align ≡ Ok at → AreStacks p stacks
+    → AreStacks (after_alloc p n align Kernel) (stacks ++ record { addr = at; size = n } ∷ [])
+stacks-more p n align at stacks is e s =
+    let new : Stack = record { addr = at; size = n } in
     let q = after_alloc p n align Kernel in
     record {
-      kernels = All-push (IsKernels q) ats at (stacks-alloc p n align Kernel ats s).kernels (new_kernels p n align at e);
-      apart = all_pairs_push (λ a b. a ≡ b → ⊥) ats at s.apart
-          (λ k d within. fresh_address p.start p.end p.blocks (rounded n) at (get_or ats k d) Kernel is.laid (rounded_some n) lies.apart (s.kernels k d within));
+      kernels = All-push (IsStack q) stacks new (stacks-alloc p n align Kernel stacks is s).kernels (new_stack p n align at is e);
+      apart = all_pairs_push AreApart stacks new s.apart
+          (λ k d within. fresh_address p.start p.end p.blocks (rounded n) at (get_or stacks k d).addr Kernel is.laid (rounded_some n) (alloc_lies p n align at e).apart
+          (is_there p (get_or stacks k d) (s.kernels k d within)));
     }

@@ -1,4 +1,5 @@
--- What every move of the kernel keeps of waits: of those for semaphores, of those to delete a task, and that each is for what lives.
+-- What every move of the kernel keeps of waits: of those for semaphores and those to delete a task, and that each
+-- is for something that lives.
 use Rattle.std.proofs.Common.{◌≡◌, ℕ, ◌+◌, ◌-◌, ◌<◌, ◌≤◌, Bool, true, false, cond, not, ◌&&◌, eqb, ltb, leb, List, [], ◌∷◌, Option, None, Some, IfSome, refl, sym, ap, ◌∙◌, subst}
 use Rattle.std.specs.List.{All}
 use Rattle.std.proofs.lemmas.List.Elements.{All-filter, All-push}
@@ -37,7 +38,7 @@ right_renews since t h = record { console = h.console; repeats = h.repeats }
 right_answers : (a : ℕ) (e : Option Errno) (t : Task) → WaitsRight t → WaitsRight (answered a e t)
 right_answers a e t h = record { console = tt; repeats = tt }
 
--- whoever waits for nothing does so as it may
+-- a task that waits for nothing satisfies the rules of waits
 pub right_idle : (t : Task) → t.wait ≡ None → WaitsRight t
 right_idle t none = record {
   console = subst (λ w. IfSome w (λ p. p.side ≡ console_side → t.id ≡ 1)) (sym none) tt;
@@ -45,7 +46,7 @@ right_idle t none = record {
 }
 
 -- ---- from one kernel to the next
--- waits begin at places alone where they may, and what they are for lives
+-- waits begin only at places where they may, and what they are for lives
 pub waits_keep : (k j : KernState) (o : Objects) (begins : Place → Bool) → BeginsOnly begins k j → ((p : Place) → begins p ≡ true → MayBegin (both k o.semaphores) p × (is_live o p ≡ true))
     → KeepsDeleters j → All WaitsRight j.tasks → KeepsWaits k o → KeepsWaits j o
 waits_keep k j o begins from may deleters right kept =
@@ -72,7 +73,8 @@ right_end_waits k [] value errno all = all
 right_end_waits k (t ∷ ts) value errno all = right_end_waits (end_wait k t.id value errno) ts value errno (move_task-stable WaitsRight right_renews k t.id (answered value errno) (right_answers value errno) all)
 
 -- ---- every move
--- a task may begin to wait at a place: what it waits for lives, is no semaphore to be had, and no deletion; the console has one waiter
+-- a task may begin to wait at a place: what it waits for lives, and is neither an available semaphore nor a
+-- deletion; only the shell's task waits for the console
 pub record MayWait (k : KernState) (o : Objects) (who : ℕ) (place : Place) : Type 0 where
   pub may : MayBegin (both k o.semaphores) place
   pub lives : is_live o place ≡ true
@@ -95,7 +97,7 @@ module _ (k : KernState) (o : Objects) (is : IsKern k) (kept : KeepsWaits k o) w
   calmly : (m : Move) → BeginsOnly nowhere k (apply k m) → KeepsDeleters (apply k m) → All WaitsRight (apply k m).tasks → KeepsWaits (apply k m) o
   calmly m begins goes right = waits_calm k (apply k m) o begins goes right kept
 
-  -- the task's wait, its id and where it stands are the same
+  -- the task's wait, its id and its program counter are the same
   right_change : (who : ℕ) (f : Task → Task) → ((t : Task) → WaitsRight t → WaitsRight (f t)) → All WaitsRight (change_task k who f).tasks
   right_change who f keeps = All-change WaitsRight k.tasks who f keeps kept.right
 
@@ -200,7 +202,7 @@ module _ (k : KernState) (o : Objects) (is : IsKern k) (kept : KeepsWaits k o) w
   pub waits-raised : (ms : List (ℕ × Mutex)) → KeepsWaits (raised_kern k ms) o
   waits-raised ms = waits-repried k o (lifted k ms) k.tasks is kept
 
-  -- where the last safe section ends, all who wait to delete the task go on
+  -- when the last safe section ends, all who wait to delete the task go on
   pub waits-lessen : (who n : ℕ) → KeepsWaits (lessen k who n) o
   waits-lessen who n =
       let count : ℕ = safe_of (task_of k.tasks who) in

@@ -1,4 +1,4 @@
--- What each gate's call allows.
+-- What each gate's call permits.
 use Rattle.std.specs.Prelude.{ℕ, Bool, true, false}
 use Rattle.wind_base.specs.Gates.{rules_of}
 use Rattle.wind_base.specs.declared.gate_rules.Callers.{Callers}
@@ -6,7 +6,7 @@ use Rattle.wind_base.specs.declared.gate_rules.Callers.TheVariants.{All, Shell}
 use Rattle.wind_base.specs.declared.gate.Gate.{Gate}
 use Rattle.wind_base.specs.declared.gate.Gate.TheVariants as gates
 
--- every gate is that of a call, but for those of the three returns
+-- every gate is that of a call, except the three return gates
 abbrev pub is_call : Gate → Bool
 is_call gates.TaskReturn = false
 is_call gates.ShellReturn = false
@@ -26,11 +26,11 @@ is_shell_alone c = false
 abbrev pub is_isr_callable : Gate → Bool
 is_isr_callable g = is_all (rules_of g).callers
 
--- the shell's task alone may make it
+-- only the shell's task may make it
 abbrev pub is_shells_own : Gate → Bool
 is_shells_own g = is_shell_alone (rules_of g).callers
 
--- what it answers if it is refused
+-- the word that a refused call answers
 abbrev pub refusal_word : Gate → ℕ
 refusal_word g = (rules_of g).refusal
 

@@ -1,4 +1,5 @@
--- A call of the kernel as a value: what its caller asks for, by name. Arguments are words in r3 to r10; those after them stand on the stack, from 8 bytes above r1 on (System V ABI, PowerPC supplement, parameter passing).
+-- A kernel call as a value: what its caller asks for, by name. Arguments are words in r3 to r10; those after them
+-- are on the stack, from 8 bytes above r1 on (System V ABI, PowerPC supplement, parameter passing).
 use Rattle.std.specs.Prelude.{ℕ, ◌++◌, List, [], ◌∷◌, slice_index, Option, None, Some}
 use Rattle.std.specs.Option.{option_map}
 use Rattle.wind_base.specs.declared.gate.Gate.{Gate}
@@ -9,7 +10,7 @@ use Rattle.kernel_world.specs.declared.actor.Actor.{Actor}
 use Rattle.kernel_world.specs.declared.call.Call.{Call}
 use Rattle.kernel_world.specs.declared.call.Call.TheVariants as calls
 
--- the words after those in registers; none if a byte of them is outside RAM
+-- the argument words after those in registers; none if a byte of them is outside RAM
 abbrev pub seven_words : List ℕ → ℕ → Option (List ℕ)
 seven_words ram at =
     all_there (stack_word ram at 0 ∷ stack_word ram at 1 ∷ stack_word ram at 2 ∷ stack_word ram at 3 ∷ stack_word ram at 4 ∷ stack_word ram at 5 ∷ stack_word ram at 6 ∷ [])
@@ -17,7 +18,7 @@ seven_words ram at =
 abbrev pub two_words : List ℕ → ℕ → Option (List ℕ)
 two_words ram at = all_there (stack_word ram at 0 ∷ stack_word ram at 1 ∷ [])
 
--- the ten arguments of a task that taskSpawn makes: r8 to r10, and seven words more
+-- the ten arguments of a task that taskSpawn makes: r8 to r10, and seven more words
 abbrev pub ten_arguments : List ℕ → List ℕ → Option (List ℕ)
 ten_arguments ram r = option_map (λ more. slice_index r 8 ∷ slice_index r 9 ∷ slice_index r 10 ∷ more) (seven_words ram (slice_index r 1))
 
@@ -25,7 +26,7 @@ ten_arguments ram r = option_map (λ more. slice_index r 8 ∷ slice_index r 9 �
 abbrev pub seven_values : List ℕ → List ℕ
 seven_values r = slice_index r 4 ∷ slice_index r 5 ∷ slice_index r 6 ∷ slice_index r 7 ∷ slice_index r 8 ∷ slice_index r 9 ∷ slice_index r 10 ∷ []
 
--- the arguments of a task that sp makes: r4 to r10, and two words more; the tenth is 0
+-- the arguments of a task that sp makes: r4 to r10, and two more words; the tenth is 0
 abbrev pub quick_arguments : List ℕ → List ℕ → Option (List ℕ)
 quick_arguments ram r = option_map (λ more. seven_values r ++ more ++ 0 ∷ []) (two_words ram (slice_index r 1))
 
@@ -45,7 +46,7 @@ four f r = Some (f (slice_index r 3) (slice_index r 4) (slice_index r 5) (slice_
 abbrev five : (ℕ → ℕ → ℕ → ℕ → ℕ → Call) → List ℕ → Option Call
 five f r = Some (f (slice_index r 3) (slice_index r 4) (slice_index r 5) (slice_index r 6) (slice_index r 7))
 
--- the call of a gate, with the words r in its caller's registers; the gates of returns have none
+-- the call of a gate, with the words r in its caller's registers; the return gates have none
 abbrev pub call_of : Gate → List ℕ → List ℕ → Option Call
 call_of gates.TaskReturn ram r = None
 call_of gates.ShellReturn ram r = None

@@ -1,9 +1,10 @@
--- The facts that the world has at the start and every call keeps.
+-- The invariant of the world: it holds at the start, and every call keeps it.
 use Rattle.std.specs.Prelude.{◌≡◌, ℕ, ◌^◌, ◌<◌, ◌≤◌, List, [], ◌∷◌, length, map, false, Option, Some, IsSome}
 use Rattle.std.specs.List.{All, AllPairs}
-use Rattle.wind_base.specs.Limits.{ram_bytes, pool_start, most_blocks, most_modules, most_symbols}
+use Rattle.wind_base.specs.Limits.{ram_bytes, pool_start, interrupt_stack_bytes, most_blocks, most_modules, most_symbols}
 use Rattle.wind_lists.specs.Records.{Rising}
 use Rattle.id_table.specs.Rows.{IdsBelow, row_id}
+use Rattle.mem_partition.specs.Place.{rounded}
 use Rattle.mem_partition.specs.State.{PartState, IsPart, own_block}
 use Rattle.mem_partition.specs.declared.block.Class.TheVariants.{Kernel}
 use Rattle.module_loader.specs.declared.module.LoadedModule.{LoadedModule}
@@ -14,45 +15,64 @@ use Rattle.isr_watch.specs.State.{WatchState, IsWatch}
 use Rattle.isr_watch.specs.Laws.{AllBelow}
 use Rattle.kernel_world.specs.Objects.{KeepsObjects, DepthsWithin}
 use Rattle.kernel_world.specs.State.{WorldState}
-use Rattle.kernel_world.specs.Opening.{interrupt_stack}
+use Rattle.kernel_world.specs.Opening.{interrupt_stack, stack_block}
+use Rattle.kernel_world.specs.LiveIds.{KeepsIds}
 
--- the pool is that of the board
+-- the pool is the board's
 pub record KeepsPool (p : PartState) : Type 0 where
   pub blocks : IsPart p
   pub start : p.start ≡ pool_start
   pub end : p.end ≡ ram_bytes
   pub room : p.room ≡ most_blocks
 
+-- a stack: its address, and its size in bytes
+pub record Stack : Type 0 where
+  pub addr : ℕ
+  pub size : ℕ
+
+-- the stack of a task
+abbrev pub stack_of : Task → Stack
+stack_of t = record { addr = t.stack; size = t.stack_size }
+
+-- the stack of interrupt routines
+abbrev pub routine_stack : Stack
+routine_stack = record { addr = interrupt_stack; size = interrupt_stack_bytes }
+
 -- the stacks of the live tasks, by rising id
-abbrev pub task_stacks : KernState → List ℕ
-task_stacks k = map (λ t. t.stack) k.tasks
+abbrev pub task_stacks : KernState → List Stack
+task_stacks k = map stack_of k.tasks
 
--- a Kernel block begins at the address
-abbrev pub IsKernels : PartState → ℕ → Type 0
-IsKernels p at = IsSome (own_block p.blocks at Kernel)
+-- the stack is a Kernel block of its size, rounded up
+abbrev pub IsStack : PartState → Stack → Type 0
+IsStack p s = own_block p.blocks s.addr Kernel ≡ Some (stack_block s.addr (rounded s.size))
 
--- these are the addresses of Kernel blocks, and no two are one
-pub record AreStacks (p : PartState) (ats : List ℕ) : Type 0 where
-  pub kernels : All (IsKernels p) ats
-  pub apart : AllPairs (λ a b. a ≡ b → ⊥) ats
+-- two stacks begin at different addresses
+abbrev pub AreApart : Stack → Stack → Type 0
+AreApart a b = a.addr ≡ b.addr → ⊥
 
--- the interrupt stack and those of the live tasks are Kernel blocks, all distinct
+-- these stacks are Kernel blocks of their sizes, and no two are the same
+pub record AreStacks (p : PartState) (stacks : List Stack) : Type 0 where
+  pub kernels : All (IsStack p) stacks
+  pub apart : AllPairs AreApart stacks
+
+-- the interrupt stack and those of the live tasks are Kernel blocks of their sizes, all distinct
 abbrev pub KeepsStacks : KernState → PartState → Type 0
-KeepsStacks k p = AreStacks p (interrupt_stack ∷ task_stacks k)
+KeepsStacks k p = AreStacks p (routine_stack ∷ task_stacks k)
 
--- no more modules live than may, their ids rise and are below the next, and their segments, those without a block aside, are distinct Kernel blocks, of which none is one of the stacks
-pub record AreLoaded (next : ℕ) (stacks : List ℕ) (p : PartState) (modules : List (ℕ × LoadedModule)) : Type 0 where
+-- no more modules live than may, and their ids rise and are below the next one;
+-- those of their segments that have a block are distinct Kernel blocks of their sizes, and none is a stack
+pub record AreLoaded (next : ℕ) (stacks : List Stack) (p : PartState) (modules : List (ℕ × LoadedModule)) : Type 0 where
   pub few : length modules ≤ most_modules
   pub rising : Rising row_id modules
   pub below : IdsBelow next modules
   pub held : AreHeld modules p
-  pub apart : All (λ at. occurs at (held_by modules) ≡ 0) stacks
+  pub apart : All (λ s. occurs s.addr (held_by modules) ≡ 0) stacks
 
--- so are the modules, beside the interrupt stack and the stacks of the live tasks
+-- the same for the world's modules, with the interrupt stack and the stacks of the live tasks
 abbrev pub KeepsLoaded : KernState → PartState → List (ℕ × LoadedModule) → Type 0
-KeepsLoaded k p modules = AreLoaded k.next_id (interrupt_stack ∷ task_stacks k) p modules
+KeepsLoaded k p modules = AreLoaded k.next_id (routine_stack ∷ task_stacks k) p modules
 
--- the watchdogs are as their calls keep them, and each has an id below the next one
+-- the watchdogs keep their own invariant, and each has an id below the next one
 pub record KeepsWatch (next : ℕ) (s : WatchState) : Type 0 where
   pub watch : IsWatch s
   pub ids : AllBelow next s
@@ -68,12 +88,13 @@ pub record KeepsWorld (w : WorldState) : Type 0 where
   pub ram : length w.ram ≡ ram_bytes
   pub symbols : length w.symbols ≤ most_symbols
   pub watch : KeepsWatch w.kern.next_id w.watch
+  pub ids : KeepsIds w
 
--- the same, whatever stands in the slots
+-- the invariant of a world, whatever devices are in its slots
 abbrev pub IsWorld : WorldState → Type 0
 IsWorld w = KeepsWorld (record w { slots = [] })
 
--- no task but this one has a reservation (Power ISA, lwarx and stwcx.)
+-- only this task may have a reservation (Power ISA, lwarx and stwcx.)
 abbrev pub ReservedBy : Option ℕ → KernState → Type 0
 ReservedBy who k = All (λ t. IsSome t.regs.reserve → who ≡ Some t.id) k.tasks
 
@@ -88,7 +109,7 @@ CountsWithin n k = All (HasCounts n) k.tasks
 abbrev pub Within : ℕ → WorldState → Type 0
 Within n w = CountsWithin n w.kern × DepthsWithin n w.objects
 
--- the counters lie far below their ends
+-- the counters are far below their limits
 pub record Early (w : WorldState) : Type 0 where
   pub sinces : w.kern.next_since < 2 ^ 60
   pub ticks : w.kern.tick < 2 ^ 60
@@ -101,6 +122,6 @@ pub record Early (w : WorldState) : Type 0 where
 abbrev pub IsEarly : WorldState → Type 0
 IsEarly w = Early (record w { slots = [] })
 
--- the most order numbers that one call gives out
+-- the most order numbers that one call hands out
 abbrev pub call_sinces : ℕ
 call_sinces = 1024

@@ -7,4 +7,5 @@ pub mod Allowed
 pub mod Replies
 pub mod Opening
 pub mod Seen
+pub mod LiveIds
 pub mod Kept

@@ -1,4 +1,4 @@
--- What is kept of the objects beside the kernel's tasks, and of the waits for them.
+-- The invariant of the objects other than the kernel's tasks, and of the waits for them.
 use Rattle.std.specs.Prelude.{◌≡◌, ℕ, ◌==◌, ◌<◌, ◌≤◌, ◌&&◌, ◌||◌, Bool, true, List, [], length, None, IfSome, is_some}
 use Rattle.std.specs.List.{All}
 use Rattle.wind_base.specs.Limits.{gates_start, ram_bytes}
@@ -38,16 +38,17 @@ is_live_beside o p =
 abbrev pub is_live : Objects → Place → Bool
 is_live o p = live_with (is_live_beside o) o.semaphores p
 
--- where a call to delete a task stands that is to be repeated
+-- the gate of taskDelete; a task that waits for a deletion is there, so that it repeats its call
 abbrev pub deletion_gate : ℕ
 deletion_gate = gate_address gates_start gates.TaskDelete
 
--- the console has the shell's task for a waiter alone, and a task that waits for a deletion stands at the gate of its call
+-- only the shell's task waits for the console, and a task that waits for a deletion is at the gate of taskDelete
 pub record WaitsRight (t : Task) : Type 0 where
   pub console : IfSome t.wait (λ p. p.side ≡ console_side → t.id ≡ 1)
   pub repeats : IfSome t.wait (λ p. p.side ≡ deletion_side → t.regs.pc ≡ deletion_gate)
 
--- what every move of the kernel keeps by itself: of semaphores, of those who wait to delete a task, and that each waits for what lives
+-- what each move of the kernel keeps by itself: the invariant of semaphores, that of tasks that wait to delete a
+-- task, and that every wait is for something that lives
 pub record KeepsWaits (k : KernState) (o : Objects) : Type 0 where
   pub semaphores : KeepsSemaphores (with_semaphores k o.semaphores)
   pub deleters : KeepsDeleters k
@@ -59,11 +60,11 @@ pub record KeepsObjects (k : KernState) (o : Objects) : Type 0 where
   pub waits : KeepsWaits k o
   pub mutexes : KeepsMutexes (with_mutexes k o.mutexes)
   pub table : AreMutexes o.mutexes
-  -- the queues, whatever RAM of the board's size stands beside them
+  -- the queues, with any RAM of the board's size
   pub queues : (ram : List ℕ) → length ram ≡ ram_bytes → IsKept (scene k o.queues ram)
   -- no queue has number 0
   pub queues_ranged : All (λ r. 0 < r.0) o.queues.queues
-  -- no id is that of two kinds of objects
+  -- no two objects of different kinds have the same id
   pub apart : All (λ r. object_of o.semaphores r.0 ≡ None) o.mutexes
   pub queues_apart : All (λ r. (object_of o.semaphores r.0 ≡ None) × (object_of o.mutexes r.0 ≡ None)) o.queues.queues
 
@@ -75,6 +76,6 @@ DepthsWithin n o = All (λ r. r.1.depth ≤ n) o.mutexes
 abbrev pub IsFree : KernState → ℕ → Type 0
 IsFree k who = IfSome (task_of k.tasks who) (λ t. t.wait ≡ None)
 
--- it is ready, and so waits for nothing
+-- the task is ready, so it waits for nothing
 abbrev pub IsReady : KernState → ℕ → Type 0
 IsReady k who = IfSome (task_of k.tasks who) (λ t. is_ready t ≡ true)

@@ -19,7 +19,7 @@ use Rattle.kernel_world.specs.Starting.{no_regs}
 
 -- the shell's task: its stack begins where the pool does
 abbrev pub shell_record : NewTask
-shell_record = record { name = codes "tShell"; entry = 0; stack = pool_start; pri = 1; regs = no_regs }
+shell_record = record { name = codes "tShell"; entry = 0; stack = pool_start; stack_size = shell_stack_bytes; pri = 1; regs = no_regs }
 
 abbrev pub empty_kern : KernState
 empty_kern = record { tasks = []; tick = 0; slice = 0; next_id = 1; lent = false; next_since = 0; last = None }
@@ -27,14 +27,15 @@ empty_kern = record { tasks = []; tick = 0; slice = 0; next_id = 1; lent = false
 abbrev pub opening_kern : KernState
 opening_kern = spawn empty_kern shell_record
 
--- the interrupt stack is behind the stack of the shell's task
+-- the interrupt stack comes after the stack of the shell's task
 abbrev pub interrupt_stack : ℕ
 interrupt_stack = pool_start + shell_stack_bytes
 
+-- the block of a stack
 abbrev pub stack_block : ℕ → ℕ → Block
 stack_block at size = record { addr = at; size = size; class = Kernel }
 
--- the pool goes on to the end of RAM; the two stacks are its first blocks
+-- the pool goes to the end of RAM; the two stacks are its first blocks
 abbrev pub opening_part : PartState
 opening_part = record {
   start = pool_start;
@@ -43,7 +44,7 @@ opening_part = record {
   blocks = stack_block pool_start shell_stack_bytes ∷ stack_block interrupt_stack interrupt_stack_bytes ∷ [];
 }
 
--- the symbol of a call: a global one, whose value is its gate's address
+-- the symbol of a call: it is global, and its value is the address of the call's gate
 abbrev pub gate_symbol : Gate → List ℕ → Symbol
 gate_symbol g name = record { name = name; value = gate_address gates_start g; kind = TextSym; global = true; group = 0 }
 
@@ -63,7 +64,7 @@ gate_symbols (g ∷ gs) = symbols_of_gate g ++ gate_symbols gs
 abbrev pub no_watch : WatchState
 no_watch = record { watchdogs = []; level = None; listed = []; next_start = 0 }
 
--- so many zeros
+-- n zeros
 unfoldable pub zeros : ℕ → List ℕ
 zeros n = replicate n 0
 

@@ -1,4 +1,4 @@
--- How the caller of a call goes on behind its gate, and is answered.
+-- How the caller of a kernel call goes on after its gate, and how it is answered.
 use Rattle.std.specs.Prelude.{ℕ, slice_set, Option, None, Some}
 use Rattle.std.specs.Option.{option_map}
 use Rattle.wind_base.specs.Errno.{errno_number}
@@ -15,7 +15,7 @@ use Rattle.kernel_world.specs.declared.actor.Actor.TheVariants.{Task, Interrupt}
 use Rattle.kernel_world.specs.declared.reply.Reply.{Reply}
 use Rattle.kernel_world.specs.declared.reply.Reply.TheVariants.{Answer, Refusal, Later, Gone}
 
--- errnoGet and errnoSet: each task has a number of its last error, and the interrupt level has one
+-- errnoGet and errnoSet: each task has its last error number, and the interrupt level has one
 abbrev pub errno_in : Option TaskRecord → ℕ
 errno_in None = 0
 errno_in (Some t) = t.errno
@@ -28,11 +28,11 @@ abbrev pub with_errno : WorldState → Actor → ℕ → WorldState
 with_errno w (Task who) n = record w { kern = set_errno w.kern who n }
 with_errno w Interrupt n = record w { int_errno = n }
 
--- the caller goes on behind its gate: the program counter becomes the link register
+-- the caller goes on after its gate: its program counter becomes its link register
 abbrev pub past_gate : Regs → Regs
 past_gate r = record r { pc = r.lr }
 
--- the world in which f is made of the active routine's registers
+-- the watchdogs' state after f has changed the active routine's registers
 abbrev pub level_by : (Regs → Regs) → WatchState → WatchState
 level_by f s = record s { level = option_map f s.level }
 
@@ -43,7 +43,7 @@ abbrev pub left_gate : WorldState → Actor → WorldState
 left_gate w (Task who) = record w { kern = leave_gate w.kern who }
 left_gate w Interrupt = at_level w past_gate
 
--- the answer stands in r3
+-- the answer is in r3
 abbrev pub in_r3 : ℕ → Regs → Regs
 in_r3 value r = record r { gpr = slice_set r.gpr 3 value }
 
@@ -51,7 +51,7 @@ abbrev pub with_answer : WorldState → Actor → ℕ → WorldState
 with_answer w (Task who) value = record w { kern = answer w.kern who value }
 with_answer w Interrupt value = at_level w (in_r3 value)
 
--- the caller is answered; one that pends is answered later, and one that has ended is not
+-- the caller is answered; one that pends is answered later, and one that has ended isn't answered
 abbrev pub replied : Gate → WorldState → Actor → Reply → WorldState
 replied g w a (Answer value) = with_answer w a value
 replied g w a (Refusal e) = with_answer (with_errno w a (errno_number e)) a (refusal_word g)

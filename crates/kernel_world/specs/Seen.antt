@@ -8,7 +8,7 @@ use Rattle.wind_outside.specs.declared.device.DeviceKind.{DeviceKind}
 use Rattle.kernel_world.specs.State.{WorldState}
 use Rattle.kernel_world.specs.declared.world.World.{World}
 
--- a world, where these stand for its slots
+-- a world, with these as its slots
 abbrev pub world_with : {I : Type 0} {X : I → Type 0} → List (Option DeviceState) → World I X → WorldState
 world_with slots w = record {
   kern = w.kern;
@@ -16,7 +16,7 @@ world_with slots w = record {
   part = w.part;
   symbols = w.syms.list;
   modules = w.mods;
-  ram = w.bus.ram;
+  ram = w.bus.ram.bytes;
   slots = slots;
   output = w.out.bytes;
   names = w.names;
@@ -24,10 +24,10 @@ world_with slots w = record {
   int_errno = w.int_errno;
 }
 
--- a world, where a device is seen by these
+-- a world, with each device seen by these two functions
 abbrev pub world_by : {I : Type 0} {X : I → Type 0} → (DynBox I Global X → DeviceKind) → (DynBox I Global X → List ℕ) → World I X → WorldState
 world_by kind_of words_of w = world_with (slots_of kind_of words_of w.bus.slots.items) w
 
--- a world, where a device is seen as its kind and its words
+-- a world, with each device seen as its kind and its words
 abbrev pub world_seen : {I : Type 0} {X : I → Type 0} → ((i : I) → Ghosts (X i)) → World I X → WorldState
 world_seen devices w = world_by (λ d. (devices d.vtable).kind_of d.value) (λ d. (devices d.vtable).words_of d.value) w

@@ -8,7 +8,7 @@ use Rattle.wind_core.specs.State.{KernState}
 use Rattle.isr_watch.specs.State.{WatchState}
 use Rattle.kernel_world.specs.declared.objects.Objects.{Objects}
 
--- all that a call of the kernel may read or change
+-- all that a kernel call may read or change
 pub record WorldState : Type 0 where
   -- the kernel's tasks and counters
   pub kern : KernState
@@ -25,9 +25,9 @@ pub record WorldState : Type 0 where
   pub slots : List (Option DeviceState)
   -- the bytes that the step has written
   pub output : List ℕ
-  -- the number of the next task without a name
+  -- the number that the next task without a name takes
   pub names : ℕ
-  -- the watchdogs, and the interrupt routines that are active and listed
+  -- the watchdogs, the active interrupt routine and the listed ones
   pub watch : WatchState
-  -- the number of the last error at interrupt level
+  -- the last error number at interrupt level
   pub int_errno : ℕ

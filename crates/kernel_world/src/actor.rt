@@ -1,4 +1,4 @@
-//! Who makes a call of the kernel, and the words that it hands in.
+//! Who makes a kernel call, and the words that the caller hands in.
 
 ghost use Rattle.std.specs.Prelude.{◌≡◌, ◌<◌, IfSome, option_copied};
 ghost use Rattle.wind_core.specs.State.{Lives};
@@ -11,16 +11,16 @@ use isr_watch::Watch;
 use wind_base::Regs;
 use wind_core::Kern;
 
-/// Who makes a call of the kernel.
+/// Who makes a kernel call.
 #[derive(Clone, Copy, Debug, PartialEq, Eq)]
 pub enum Actor {
-    /// The task of this id.
+    /// The task with this id.
     Task(Ident),
-    /// The interrupt routine that is active.
+    /// The active interrupt routine.
     Interrupt,
 }
 
-/// Whether it is the shell's task.
+/// Whether the caller is the shell's task.
 pub fn is_shell(who: &Actor) -> bool
     ensures { result ≡ is_shell_lem who.now }
 {
@@ -30,7 +30,7 @@ pub fn is_shell(who: &Actor) -> bool
     }
 }
 
-// Its registers.
+// The caller's registers. `None` if there is no such caller.
 pub(crate) fn regs<'a>(kern: &'a Kern, watch: &'a Watch, who: &Actor) -> Option<&'a Regs>
     ensures { option_copied result ≡ regs_of kern.now watch.now.level who.now }
 {
@@ -43,7 +43,7 @@ pub(crate) fn regs<'a>(kern: &'a Kern, watch: &'a Watch, who: &Actor) -> Option<
     }
 }
 
-/// Its registers, where no register has a value if there is no such caller.
+/// The caller's registers. If there is no such caller, no register has a value.
 pub fn caller_regs(kern: &Kern, watch: &Watch, who: &Actor) -> Regs
     ensures { result ≡ caller_regs_lem kern.now watch.now.level who.now }
 {
@@ -53,11 +53,11 @@ pub fn caller_regs(kern: &Kern, watch: &Watch, who: &Actor) -> Regs
     }
 }
 
-/// The word of this number, below 8, behind those in registers, where r1 is `pointer`. None where a byte of it is
-/// outside RAM.
+/// Argument word `number` (below 8) after those in registers; `pointer` is r1. `None` if a byte of
+/// it is outside RAM.
 pub fn stack_word(ram: &Ram, pointer: u32, number: u32) -> Option<u32>
     requires { number < 8 }
-    ensures { result ≡ stack_word_lem ram.now pointer number }
+    ensures { result ≡ stack_word_lem ram.now.bytes pointer number }
 {
     let at = u64::from(pointer) + u64::from(8 + 4 * number);
     if at >= u64::from(ram.size()) {
@@ -66,7 +66,8 @@ pub fn stack_word(ram: &Ram, pointer: u32, number: u32) -> Option<u32>
     ram.read32(at as u32)
 }
 
-/// The task that an id of a call means: 0 is the caller, where that is a task. None where no such task lives.
+/// The task that an id in a call means: 0 is the caller, if the caller is a task. `None` if no such
+/// task lives.
 #[tactic(auto, using(crate::proofs::Living::live_found))]
 pub fn target(kern: &Kern, who: Actor, id: u32) -> Option<Ident>
     requires { Acts kern.now who }

@@ -1,4 +1,4 @@
-//! The caller of a call is answered, and has an error number.
+//! Answers the caller of a kernel call, and keeps its error number.
 
 ghost use Rattle.std.specs.Prelude.{◌≡◌, ◌≢◌};
 ghost use Rattle.kernel_world.specs.Actors.{Acts};
@@ -14,7 +14,7 @@ use isr_watch::Watch;
 use wind_base::Gate;
 use wind_outside::Device;
 
-/// The number of the caller's last error, as errnoGet answers it.
+/// The caller's last error number, as errnoGet answers it.
 pub fn errno_of(w: &World, who: Actor) -> u32
     ensures { result ≡ errno_of_lem (world_seen ⟦<dyn Device as Device>⟧ w.now) who }
 {
@@ -27,7 +27,7 @@ pub fn errno_of(w: &World, who: Actor) -> u32
     }
 }
 
-/// The number of the caller's last error is this one, as errnoSet sets it, and a refusal does.
+/// Sets the caller's last error number, as errnoSet and a refusal do.
 pub fn set_errno(w: &mut World, who: &Actor, number: u32)
     requires { Acts w.old.kern who.now }
     ensures world { world_seen ⟦<dyn Device as Device>⟧ w.new
@@ -40,7 +40,7 @@ pub fn set_errno(w: &mut World, who: &Actor, number: u32)
     }
 }
 
-// The answer stands in r3.
+// Puts the answer in r3 of the active routine.
 fn put_in_r3(watch: &mut Watch, value: u32)
     ensures { watch.new ≡ level_by (in_r3 value) watch.old }
 {
@@ -49,7 +49,7 @@ fn put_in_r3(watch: &mut Watch, value: u32)
     }
 }
 
-// The caller is answered in r3.
+// Puts the answer in the caller's r3.
 fn give_answer(w: &mut World, who: &Actor, value: u32)
     requires { Acts w.old.kern who.now }
     ensures world { world_seen ⟦<dyn Device as Device>⟧ w.new
@@ -62,7 +62,7 @@ fn give_answer(w: &mut World, who: &Actor, value: u32)
     }
 }
 
-/// The caller is answered; one that pends is answered later, and one that has ended is not.
+/// Answers the caller. A caller that pends is answered later; one that has ended isn't answered.
 pub fn reply_to(w: &mut World, gate: Gate, who: &Actor, reply: &Reply)
     requires { reply.now ≢ replies.Gone → Acts w.old.kern who.now }
     ensures world { world_seen ⟦<dyn Device as Device>⟧ w.new

@@ -26,8 +26,8 @@ use wind_base::{Gate, Name, NoMemory, OutBuf, Pri, ShortName, gate_name};
 use wind_core::Kern;
 use wind_outside::{Device, Slots};
 
-// The room for what one step writes: a byte of the console echoes three bytes at most, and an end may be supplied
-// behind a chunk.
+// The room, in bytes, for what one step writes. Each byte of the console echoes at most three
+// bytes, and a newline may be supplied after a chunk.
 const OUTPUT_BYTES: u32 = 3 * (CHUNK_BYTES as u32 + 1);
 
 // The priority of the shell's task.
@@ -40,7 +40,7 @@ fn shell_priority() -> Pri
     }
 }
 
-// What the shell's task begins with.
+// The record of the shell's task at its start.
 fn shell_record() -> NewTask
     ensures { result ≡ shell_record_lem }
 {
@@ -48,12 +48,13 @@ fn shell_record() -> NewTask
         name: ShortName::cut(b"tShell"),
         entry: 0,
         stack: POOL_START,
+        stack_size: SHELL_STACK_BYTES,
         pri: shell_priority(),
         regs: no_regs(),
     }
 }
 
-// The kernel, with the shell's task.
+// The kernel at the start: it holds the shell's task.
 fn opening_kern(alloc: Global) -> Result<Kern, NoMemory>
     ensures { IfOk result (λ k. k ≡ opening_kern_lem) }
 {
@@ -64,7 +65,7 @@ fn opening_kern(alloc: Global) -> Result<Kern, NoMemory>
     Ok(kern)
 }
 
-// The partition, with the stack of the shell's task and the interrupt stack.
+// The partition at the start: it holds the stack of the shell's task and the interrupt stack.
 fn opening_part(alloc: Global) -> Result<Part, NoMemory>
     ensures { IfOk result (λ p. p ≡ opening_part_lem) }
 {
@@ -100,15 +101,15 @@ fn add_gate(alloc: Global, syms: &mut Symbols, gate: Gate) -> Result<(), NoMemor
     Ok(())
 }
 
-// RAM of so many zeros.
+// RAM with the given number of zero bytes.
 #[tactic(auto, unfolding(crate::specs::Opening::zeros))]
 fn cleared_ram(alloc: Global, bytes: u32) -> Result<Ram, NoMemory>
-    ensures { IfOk result (λ ram. ram ≡ zeros bytes) }
+    ensures { IfOk result (λ ram. ram.bytes ≡ zeros bytes) }
 {
     Ram::new(alloc, bytes)
 }
 
-// The symbols of the calls.
+// The symbols of the kernel's calls.
 fn gate_symbols(alloc: Global) -> Result<Symbols, NoMemory>
     ensures { IfOk result (λ t. t.list ≡ gate_symbols_lem gates) }
 {
@@ -131,7 +132,7 @@ struct Started {
     kern: Kern,
 }
 
-// The kernel, with the shell's task and no object.
+// Makes the kernel with the shell's task and no objects.
 fn start(alloc: Global) -> Result<Started, NoMemory>
     ensures kern { IfOk result (λ s. s.kern ≡ opening_kern_lem) }
     ensures objects { IfOk result (λ s. s.objects ≡ no_objects) }
@@ -144,7 +145,7 @@ fn start(alloc: Global) -> Result<Started, NoMemory>
     })
 }
 
-// What modules are loaded into at the start.
+// What modules are loaded into: the partition, the symbols and the modules.
 #[derive(Drop)]
 struct Loadable {
     part: Part,
@@ -152,7 +153,7 @@ struct Loadable {
     mods: Modules,
 }
 
-// The partition and the symbols, with no module.
+// Makes the partition and the symbols, without modules.
 fn make_loadable(alloc: Global) -> Result<Loadable, NoMemory>
     ensures part { IfOk result (λ l. l.part ≡ opening_part_lem) }
     ensures symbols { IfOk result (λ l. l.syms.list ≡ gate_symbols_lem gates) }
@@ -166,7 +167,8 @@ fn make_loadable(alloc: Global) -> Result<Loadable, NoMemory>
 }
 
 impl World {
-    /// The world at the start, over these devices. For want of memory they come back as they were.
+    /// Makes the world at the start, over these devices. If memory runs out, the devices come back
+    /// unchanged.
     #[tactic(auto, unfolding(crate::specs::Opening::opening_world))]
     pub fn boot(alloc: Global, slots: Slots) -> Result<World, Slots>
         requires { length slots.items ≤ most_slots }
@@ -175,7 +177,8 @@ impl World {
         ensures room { IfOk result (λ w. 12291 ≤ w.out.room) }
         ensures err { IfErr result (λ back. back ≡ slots) }
     {
-        // what is least to let go comes first, as all of it goes where a later part lacks memory
+        // The smallest part comes first: if a later part runs out of memory, all earlier parts are
+        // freed.
         let Ok(out) = OutBuf::reserved(alloc, OUTPUT_BYTES) else {
             return Err(slots);
         };

@@ -10,11 +10,14 @@ use board_mem::Ram;
 use wind_base::Gate;
 use wind_outside::Device;
 
-/// A call of the kernel. Every field is the word that its caller hands in. The last arguments of `taskSpawn` and `sp` are on
-/// the caller's stack, and there are none if a byte of them is outside RAM.
+/// A kernel call. Every field is a word that the caller hands in. Times are in ticks, sizes in
+/// bytes, and names, texts and formats are given by their addresses. The last arguments of
+/// `taskSpawn` and `sp` are on the caller's stack; they are `None` if a byte of them is outside
+/// RAM.
 #[derive(Clone, Copy, Debug, PartialEq, Eq)]
 pub enum Call {
-    /// taskSpawn: a task with this name at an address, this priority, options that are not used, this many bytes of stack, and this entry with ten arguments
+    /// taskSpawn: makes a task of this name (at an address), priority, stack size in bytes, and
+    /// entry with ten arguments. The options aren't used.
     TaskSpawn {
         name: u32,
         priority: u32,
@@ -23,99 +26,99 @@ pub enum Call {
         entry: u32,
         arguments: Option<[u32; 10]>,
     },
-    /// sp: a task without a name, of this entry, with nine arguments; the tenth is 0
+    /// sp: makes a task without a name, of this entry, with nine arguments; the tenth is 0.
     Sp {
         entry: u32,
         arguments: Option<[u32; 10]>,
     },
-    /// taskDelete
+    /// taskDelete: deletes a task; 0 is the caller.
     TaskDelete {
         id: u32,
     },
-    /// taskSuspend
+    /// taskSuspend: suspends a task; 0 is the caller.
     TaskSuspend {
         id: u32,
     },
-    /// taskResume
+    /// taskResume: resumes a task; 0 is the caller.
     TaskResume {
         id: u32,
     },
-    /// taskPrioritySet
+    /// taskPrioritySet: sets the priority of a task; 0 is the caller.
     TaskPrioritySet {
         id: u32,
         priority: u32,
     },
-    /// taskPriorityGet: the priority goes to the word at an address
+    /// taskPriorityGet: puts the priority of a task in the word at an address; 0 is the caller.
     TaskPriorityGet {
         id: u32,
         address: u32,
     },
-    /// taskDelay
+    /// taskDelay: delays the caller for this many ticks.
     TaskDelay {
         ticks: u32,
     },
-    /// taskLock
+    /// taskLock: locks the scheduler once more.
     TaskLock,
-    /// taskUnlock
+    /// taskUnlock: unlocks the scheduler once.
     TaskUnlock,
-    /// taskSafe
+    /// taskSafe: makes the caller safe from deletion once more.
     TaskSafe,
-    /// taskUnsafe
+    /// taskUnsafe: ends one safe section of the caller.
     TaskUnsafe,
-    /// taskIdSelf
+    /// taskIdSelf: answers the caller's id.
     TaskIdSelf,
-    /// taskIdVerify
+    /// taskIdVerify: answers whether a task with this id lives.
     TaskIdVerify {
         id: u32,
     },
-    /// taskNameToId: the name stands at an address
+    /// taskNameToId: answers the id of the task with the name at an address.
     TaskNameToId {
         name: u32,
     },
-    /// kernelTimeSlice
+    /// kernelTimeSlice: sets the time slice in ticks; 0 means no time slicing.
     KernelTimeSlice {
         ticks: u32,
     },
-    /// tickGet
+    /// tickGet: answers the tick count.
     TickGet,
-    /// semBCreate
+    /// semBCreate: makes a binary semaphore with these options and this initial state.
     SemBCreate {
         options: u32,
         state: u32,
     },
-    /// semCCreate
+    /// semCCreate: makes a counting semaphore with these options and this initial count.
     SemCCreate {
         options: u32,
         count: u32,
     },
-    /// semMCreate
+    /// semMCreate: makes a mutex with these options.
     SemMCreate {
         options: u32,
     },
-    /// semTake: the timeout is in ticks
+    /// semTake: takes a semaphore or mutex; the timeout is in ticks.
     SemTake {
         id: u32,
         timeout: u32,
     },
-    /// semGive
+    /// semGive: gives a semaphore or mutex.
     SemGive {
         id: u32,
     },
-    /// semFlush
+    /// semFlush: releases all tasks that wait for a semaphore.
     SemFlush {
         id: u32,
     },
-    /// semDelete
+    /// semDelete: deletes a semaphore or mutex.
     SemDelete {
         id: u32,
     },
-    /// msgQCreate
+    /// msgQCreate: makes a message queue, with its capacity in messages and in bytes a message.
     MsgQCreate {
         max_msgs: u32,
         max_length: u32,
         options: u32,
     },
-    /// msgQSend: this many bytes at an address; the timeout is in ticks
+    /// msgQSend: sends this many bytes from an address; the timeout is in ticks.
     MsgQSend {
         id: u32,
         buffer: u32,
@@ -123,60 +126,62 @@ pub enum Call {
         timeout: u32,
         priority: u32,
     },
-    /// msgQReceive: at most this many bytes go to an address; the timeout is in ticks
+    /// msgQReceive: receives a message, and puts at most this many of its bytes at an address; the
+    /// timeout is in ticks.
     MsgQReceive {
         id: u32,
         buffer: u32,
         count: u32,
         timeout: u32,
     },
-    /// msgQDelete
+    /// msgQDelete: deletes a message queue.
     MsgQDelete {
         id: u32,
     },
-    /// msgQNumMsgs
+    /// msgQNumMsgs: answers how many messages the queue holds.
     MsgQNumMsgs {
         id: u32,
     },
-    /// wdCreate
+    /// wdCreate: makes a watchdog.
     WdCreate,
-    /// wdStart: the delay is in ticks; the routine is called with the parameter
+    /// wdStart: starts a watchdog, with its delay in ticks, its routine and the routine's
+    /// parameter.
     WdStart {
         id: u32,
         delay: u32,
         routine: u32,
         parameter: u32,
     },
-    /// wdCancel
+    /// wdCancel: cancels a watchdog.
     WdCancel {
         id: u32,
     },
-    /// wdDelete
+    /// wdDelete: deletes a watchdog.
     WdDelete {
         id: u32,
     },
-    /// intLock
+    /// intLock: holds interrupts back.
     IntLock,
-    /// intUnlock: the key is what intLock answered
+    /// intUnlock: holds interrupts back or not, as the key of intLock says.
     IntUnlock {
         key: u32,
     },
-    /// intContext
+    /// intContext: answers whether the caller is at interrupt level.
     IntContext,
-    /// malloc: this many bytes
+    /// malloc: allocates this many bytes.
     Malloc {
         size: u32,
     },
-    /// free
+    /// free: frees the block at an address.
     Free {
         address: u32,
     },
-    /// memalign: this many bytes at a multiple of the alignment
+    /// memalign: allocates this many bytes at a multiple of the alignment.
     Memalign {
         align: u32,
         size: u32,
     },
-    /// symAdd: the name stands at an address; the group isn't used
+    /// symAdd: adds a symbol, with its name at an address; the group isn't used.
     SymAdd {
         table: u32,
         name: u32,
@@ -184,38 +189,40 @@ pub enum Call {
         kind: u32,
         group: u32,
     },
-    /// printf: the format stands at an address; the values are the first seven, and the others stand from 8 bytes above the stack pointer on
+    /// printf: writes the format at an address. The first seven values are here; the others start 8
+    /// bytes above the stack pointer.
     Printf {
         format: u32,
         values: [u32; 7],
         stack: u32,
     },
-    /// errnoGet
+    /// errnoGet: answers the caller's last error number.
     ErrnoGet,
-    /// errnoSet
+    /// errnoSet: sets the caller's last error number.
     ErrnoSet {
         number: u32,
     },
-    /// ld: which symbols are added; whether a failure aborts isn't used; the file's name stands at an address
+    /// ld: loads the module whose file name is at an address. `symbols` says which symbols are
+    /// added; the word for aborting on failure isn't used.
     Ld {
         symbols: u32,
         no_abort: u32,
         name: u32,
     },
-    /// unld: a module by its id, or by the address of its name; the options aren't used
+    /// unld: unloads a module, given by its id or the address of its name; the options aren't used.
     Unld {
         which: u32,
         options: u32,
     },
-    /// i
+    /// i: writes the table of tasks.
     I,
-    /// lkup: the text stands at an address; 0 means every name
+    /// lkup: writes the symbols whose names contain the text at an address; 0 means every name.
     Lkup {
         text: u32,
     },
-    /// moduleShow
+    /// moduleShow: writes the table of modules.
     ModuleShow,
-    /// d: this many units of a width in bytes from an address on
+    /// d: writes this many units, of a width in bytes, from an address on.
     D {
         address: u32,
         units: u32,
@@ -225,7 +232,7 @@ pub enum Call {
 
 // The seven words after those in registers.
 fn seven_words(ram: &Ram, pointer: u32) -> Option<[u32; 7]>
-    ensures { result ≡ seven_words_lem ram.now pointer }
+    ensures { result ≡ seven_words_lem ram.now.bytes pointer }
 {
     let a = stack_word(ram, pointer, 0)?;
     let b = stack_word(ram, pointer, 1)?;
@@ -239,24 +246,25 @@ fn seven_words(ram: &Ram, pointer: u32) -> Option<[u32; 7]>
 
 // The two words after those in registers.
 fn two_words(ram: &Ram, pointer: u32) -> Option<[u32; 2]>
-    ensures { result ≡ two_words_lem ram.now pointer }
+    ensures { result ≡ two_words_lem ram.now.bytes pointer }
 {
     let a = stack_word(ram, pointer, 0)?;
     let b = stack_word(ram, pointer, 1)?;
     Some([a, b])
 }
 
-// The ten arguments of a task that taskSpawn makes: three in registers, and seven on the stack.
+// The ten arguments of a task that taskSpawn makes: three from registers and seven from the stack.
 fn ten_arguments(ram: &Ram, gpr: &[u32; 32]) -> Option<[u32; 10]>
-    ensures { result ≡ ten_arguments_lem ram.now gpr.now }
+    ensures { result ≡ ten_arguments_lem ram.now.bytes gpr.now }
 {
     let [d, e, f, g, h, i, j] = seven_words(ram, gpr[1])?;
     Some([gpr[8], gpr[9], gpr[10], d, e, f, g, h, i, j])
 }
 
-// The arguments of a task that sp makes: seven in registers, and two on the stack. The tenth is 0.
+// The arguments of a task that sp makes: seven from registers and two from the stack. The tenth is
+// 0.
 fn quick_arguments(ram: &Ram, gpr: &[u32; 32]) -> Option<[u32; 10]>
-    ensures { result ≡ quick_arguments_lem ram.now gpr.now }
+    ensures { result ≡ quick_arguments_lem ram.now.bytes gpr.now }
 {
     let [h, i] = two_words(ram, gpr[1])?;
     Some([
@@ -271,10 +279,11 @@ fn seven_values(gpr: &[u32; 32]) -> [u32; 7]
     [gpr[4], gpr[5], gpr[6], gpr[7], gpr[8], gpr[9], gpr[10]]
 }
 
-// The call of a gate, from its caller's registers and stack: one line for each gate. None at the gates of returns.
+// The call of a gate, read from its caller's registers and stack; one line for each gate. `None` at
+// the return gates.
 #[inline(always)]
 fn call_of(gate: Gate, ram: &Ram, gpr: &[u32; 32]) -> Option<Call>
-    ensures { result ≡ call_of_lem gate ram.now gpr.now }
+    ensures { result ≡ call_of_lem gate ram.now.bytes gpr.now }
 {
     let (a, b, c, d, e) = (gpr[3], gpr[4], gpr[5], gpr[6], gpr[7]);
     Some(match gate {
@@ -388,7 +397,7 @@ fn call_of(gate: Gate, ram: &Ram, gpr: &[u32; 32]) -> Option<Call>
     })
 }
 
-/// The call that a caller makes at a gate. None at the gates of returns.
+/// The call that a caller makes at a gate. `None` at the return gates.
 #[inline(always)]
 pub fn read_call(w: &World, gate: Gate, who: &Actor) -> Option<Call>
     ensures { result ≡ call_by gate (world_seen ⟦<dyn Device as Device>⟧ w.now) who.now }

@@ -1,11 +1,11 @@
-//! What each gate's call allows.
+//! What each gate's call permits: who may make it, and whether it may run out of memory.
 
 ghost use Rattle.std.specs.Prelude.{◌≡◌};
 ghost use Rattle.kernel_world.specs.Allowed.{is_call as is_call_lem, is_isr_callable as is_isr_callable_lem, is_shells_own as is_shells_own_lem, refusal_word as refusal_word_lem, may_lack_memory as may_lack_memory_lem};
 
 use wind_base::{Callers, Gate};
 
-/// Whether the gate is that of a call: all are but the three of returns.
+/// Whether the gate is that of a call: every gate is one, except the three return gates.
 pub fn is_call(gate: Gate) -> bool
     ensures { result ≡ is_call_lem gate }
 {
@@ -15,28 +15,28 @@ pub fn is_call(gate: Gate) -> bool
     )
 }
 
-/// Whether an interrupt routine may make the call of the gate.
+/// Whether an interrupt routine may make the gate's call.
 pub fn is_isr_callable(gate: Gate) -> bool
     ensures { result ≡ is_isr_callable_lem gate }
 {
     matches!(gate.rules().callers, Callers::All)
 }
 
-/// Whether the shell's task alone may make the call of the gate.
+/// Whether only the shell's task may make the gate's call.
 pub fn is_shells_own(gate: Gate) -> bool
     ensures { result ≡ is_shells_own_lem gate }
 {
     matches!(gate.rules().callers, Callers::Shell)
 }
 
-// What the call of the gate answers if it is refused.
+// The word that the gate's call answers when it is refused.
 pub(crate) fn refusal_word(gate: Gate) -> u32
     ensures { result ≡ refusal_word_lem gate }
 {
     gate.rules().refusal
 }
 
-/// Whether host memory may run out in the call of the gate.
+/// Whether host memory may run out in the gate's call.
 pub fn may_lack_memory(gate: Gate) -> bool
     ensures { result ≡ may_lack_memory_lem gate }
 {

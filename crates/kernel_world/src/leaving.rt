@@ -1,4 +1,4 @@
-//! The caller of a call goes on behind its gate.
+//! The caller of a kernel call goes on after its gate.
 
 ghost use Rattle.std.specs.Prelude.{◌≡◌};
 ghost use Rattle.kernel_world.specs.Actors.{Acts};
@@ -10,7 +10,7 @@ use crate::world::World;
 use isr_watch::Watch;
 use wind_outside::Device;
 
-// The program counter becomes the link register.
+// The program counter of the active routine becomes its link register.
 fn past_gate(watch: &mut Watch)
     ensures { watch.new ≡ level_by past_gate_lem watch.old }
 {
@@ -19,7 +19,7 @@ fn past_gate(watch: &mut Watch)
     }
 }
 
-/// The caller goes on behind its gate.
+/// The caller goes on after its gate.
 pub fn leave_gate(w: &mut World, who: &Actor)
     requires { Acts w.old.kern who.now }
     ensures world { world_seen ⟦<dyn Device as Device>⟧ w.new

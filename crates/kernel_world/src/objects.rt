@@ -1,4 +1,4 @@
-//! The objects of the kernel beside its tasks.
+//! The kernel's objects other than tasks and watchdogs.
 
 ghost use Rattle.std.specs.Prelude.{◌≡◌, IfOk};
 ghost use Rattle.kernel_world.specs.Objects.{no_objects};
@@ -9,7 +9,7 @@ use sem_plain::Plain;
 use std::alloc::Global;
 use wind_base::NoMemory;
 
-/// The objects of the kernel beside its tasks.
+/// The kernel's objects other than tasks and watchdogs.
 #[derive(Drop)]
 pub struct Objects {
     /// The binary and counting semaphores.
@@ -20,7 +20,7 @@ pub struct Objects {
     pub queues: Queues,
 }
 
-// No objects, with room for as many of each kind as may live.
+// No objects, with room reserved for the most of each kind.
 pub(crate) fn reserved(alloc: Global) -> Result<Objects, NoMemory>
     ensures { IfOk result (λ o. o ≡ no_objects) }
 {

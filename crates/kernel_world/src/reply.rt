@@ -6,15 +6,15 @@ use wind_base::words::OK;
 /// How the caller of a kernel call is answered.
 #[derive(Clone, Copy, Debug, PartialEq, Eq)]
 pub enum Reply {
-    /// In r3, at once.
+    /// At once, with this word in r3.
     Answer(u32),
-    /// As one that is refused, with an error number.
+    /// As a refusal, with an error number.
     Refusal(Errno),
     /// At the end of its wait.
     Later,
-    /// Not at all: the caller has ended.
+    /// Not at all, because the caller has ended.
     Gone,
 }
 
-/// A call that is done.
+/// The reply of a call that is done.
 pub const DONE: Reply = Reply::Answer(OK);

@@ -1,4 +1,4 @@
-//! How a task begins, and the shell's task at a call: its registers and its frame.
+//! The registers and the frame with which a task begins, or the shell's task at a call.
 
 ghost use Rattle.std.specs.Prelude.{◌≡◌, ◌+◌, ◌^◌, ◌<◌};
 ghost use Rattle.kernel_world.specs.Starting.{no_regs as no_regs_lem, starting_regs as starting_regs_lem, framed};
@@ -22,8 +22,9 @@ pub(crate) fn no_regs() -> Regs
     }
 }
 
-/// The registers with which a task begins, and the shell's task at a call: r1 points to a frame, r3 to r10 hold the
-/// first eight words, the link register where a return leads, and the program counter where it begins.
+/// The registers with which a task begins, or the shell's task at a call. r1 points to a frame and
+/// r3 to r10 hold the first eight words. The link register is the return address, and the program
+/// counter is the start.
 pub fn starting_regs(pointer: u32, link: u32, start: u32, words: &[u32; 10]) -> Regs
     ensures { result ≡ starting_regs_lem pointer link start words.now }
 {
@@ -45,11 +46,12 @@ pub fn starting_regs(pointer: u32, link: u32, start: u32, words: &[u32; 10]) -> 
     }
 }
 
-/// Writes the frame to which r1 points: 16 words of zeros, but for the ninth word at 8(r1) and the tenth at 12(r1).
+/// Writes the frame to which r1 points: 16 zero words, except the ninth argument at 8(r1) and the
+/// tenth at 12(r1).
 #[tactic(auto, unfolding(crate::specs::Starting::framed))]
 pub fn put_frame(ram: &mut Ram, pointer: u32, words: &[u32; 10])
     requires { pointer + 12 < 2 ^ 32 }
-    ensures { ram.new ≡ framed ram.old pointer words.now }
+    ensures { ram.new.bytes ≡ framed ram.old.bytes pointer words.now }
 {
     let _ = ram.fill(pointer, FRAME_BYTES, 0);
     let _ = ram.write32(pointer + 8, words[8]);

@@ -9,7 +9,7 @@ use symbol_table::Symbols;
 use wind_base::OutBuf;
 use wind_core::Kern;
 
-/// All that a call of the kernel may read or change.
+/// All that a kernel call may read or change.
 #[derive(Drop)]
 pub struct World {
     /// The kernel's tasks and counters.
@@ -26,10 +26,10 @@ pub struct World {
     pub bus: BoardBus,
     /// The bytes that the step has written.
     pub out: OutBuf,
-    /// The number of the next task without a name.
+    /// The number that the next task without a name takes.
     pub names: u64,
-    /// The watchdogs, and the interrupt routines that are active and listed.
+    /// The watchdogs, the active interrupt routine and the listed ones.
     pub watch: Watch,
-    /// The number of the last error at interrupt level.
+    /// The last error number at interrupt level.
     pub int_errno: u32,
 }

@@ -1,4 +1,4 @@
--- What lists in a slab keep, when a cell comes and when one goes.
+-- The invariant of lists in a slab holds after a cell is added and after one is removed.
 use Rattle.std.proofs.Common.{◌≡◌, ℕ, zero, suc, ◌+◌, ◌<◌, ◌≤◌, true, false, cond, eqb, List, [], ◌∷◌, ◌++◌, map, set, length, get_or, replicate, Option, None, Some, is_some, refl, sym, ap, ◌∙◌, subst, arith, ⊎_elim, inl, inr, ◌⊎◌}
 use Rattle.std.specs.Prelude.{IsSome, option_and_then}
 use Rattle.std.specs.Option.{option_map}
@@ -46,7 +46,7 @@ module _ {T : Type 0} where
   last_or-append o [] ys = refl
   last_or-append o (x ∷ xs) ys = last_or-append (Some x.0) xs ys
 
-  -- a list that is not empty keeps its first, whatever goes on
+  -- a list that isn't empty keeps its first cell, whatever follows
   abbrev pub or_end : List (ℕ × T) → Option ℕ → Option ℕ → Option ℕ
   or_end [] a b = a
   or_end (c ∷ cs) a b = b
@@ -99,7 +99,7 @@ module _ {T : Type 0} where
       backs [] = sym (last_or-append None xs [])
       backs (z ∷ zs) = last_or-append None xs (c ∷ z ∷ zs) ∙ sym (last_or-append None xs (z ∷ zs))
 
-  -- ---- the nodes after a change of one
+  -- ---- the nodes after one of them changes
   pub get_aimed : (nodes : Slab (Node T)) (key : Option ℕ) (f : Node T → Node T) (j : ℕ) → get (aimed nodes key f) j ≡ changed_at key f (get nodes) j
   get_aimed nodes None f j = refl
   get_aimed nodes (Some k) f j =
@@ -135,7 +135,7 @@ module _ {T : Type 0} where
   capacity_aimed nodes None f = refl
   capacity_aimed nodes (Some k) f = elim (get nodes k) as (λ o. (with_node nodes k f o).capacity ≡ nodes.capacity) [ None ↦ refl | Some n ↦ refl ]
 
-  -- ---- how many cells
+  -- ---- the number of cells
   pub length_cells-set : (cs : List (List (ℕ × T))) (p : ℕ) (c : List (ℕ × T)) → p < length cs → length (all_cells (set cs p c)) + length (chain_at cs p) ≡ length (all_cells cs) + length c
   length_cells-set [] p c hp = absurd (omega (arith, hp))
   length_cells-set (x ∷ xs) zero c hp = omega (arith, length-append x (all_cells xs), length-append c (all_cells xs))
@@ -150,14 +150,14 @@ module _ {T : Type 0} where
   pub chains_alike : (cs ds : List (List (ℕ × T))) (room : ℕ) → cs ≡ ds → ◌≡◌ {A = Chains T} (record { chains = cs; room = room }) (record { chains = ds; room = room })
   chains_alike cs ds room e = λ i. record { chains = e i; room = room }
 
-  -- ---- what is kept
+  -- ---- the invariant
   pub ended_at : (nodes : Slab (Node T)) (ends : List Ends) (cs : List (List (ℕ × T))) (room p : ℕ) (d : Ends) → IsKept nodes ends cs room → p < length cs → get_or ends p d ≡ ends_of (chain_at cs p)
   ended_at nodes ends cs room p d is hp = ap (λ es. get_or es p d) is.ended ∙ get_or-map ends_of cs p [] d hp
 
   pub ends_length : (nodes : Slab (Node T)) (ends : List Ends) (cs : List (List (ℕ × T))) (room : ℕ) → IsKept nodes ends cs room → length ends ≡ length cs
   ends_length nodes ends cs room is = ap length is.ended ∙ length-map cs ends_of
 
-  -- the view of nodes and ends is the lists that they keep
+  -- the nodes and ends spell the lists
   pub kept_view : (nodes : Slab (Node T)) (ends : List Ends) (cs : List (List (ℕ × T))) (room : ℕ) → IsKept nodes ends cs room → chains_in nodes ends ≡ cs
   kept_view nodes ends cs room is =
       let walk : Ends → List (ℕ × T) = λ e. walked (get nodes) (slab_len nodes) e.first in
@@ -170,7 +170,7 @@ module _ {T : Type 0} where
       ∙ ap walk (ended_at nodes ends cs room q no_ends is inside)
       ∙ walked_is (get nodes) q None (chain_at cs q) (slab_len nodes) (omega (arith, is.all, length_chain cs q inside)) (is.linked q inside))
 
-  -- one list is another now, and the nodes of the others are as they were
+  -- one list is replaced, and the nodes of the others stay
   pub kept_set : (nodes after : Slab (Node T)) (ends ends' : List Ends) (cs : List (List (ℕ × T))) (room p : ℕ) (c : List (ℕ × T)) → IsKept nodes ends cs room → p < length cs
       → ((k : ℕ) (node : Node T) → get nodes k ≡ Some node → (node.list ≡ p → ⊥) → get after k ≡ get nodes k)
       → Linked (get after) p None c None → Apart c → ends' ≡ set ends p (ends_of c)
@@ -200,8 +200,8 @@ module _ {T : Type 0} where
         space = space;
       }
 
-  -- ---- a cell comes
-  -- where a cell is put into a list
+  -- ---- a cell is added
+  -- the place at which a cell is inserted into a list
   pub record Split (cs : List (ℕ × T)) (next : Option ℕ) (cell : ℕ × T) : Type 0 where
     pub front : List (ℕ × T)
     pub back : List (ℕ × T)
@@ -248,7 +248,7 @@ module _ {T : Type 0} where
   split_next cs None cell h = split_end cs cell
   split_next cs (Some k) cell h = split_at cs k cell (h k refl)
 
-  -- the node before the place, as the node after it knows it, or the list's end
+  -- the node before the place, from the link of the node after it, or the list's last node
   pub behind_is : (nodes : Slab (Node T)) (ends : List Ends) (cs : List (List (ℕ × T))) (room p : ℕ) (next : Option ℕ) (cell : ℕ × T) → IsKept nodes ends cs room → p < length cs
       → (s : Split (chain_at cs p) next cell) → behind nodes ends p next ≡ last_or None s.front
   behind_is nodes ends cs room p None cell is hp s = ap (λ (e : Ends). e.last) (ended_at nodes ends cs room p no_ends is hp) ∙ ap (last_or None) s.whole ∙ no_back s.back s.next_is
@@ -262,7 +262,7 @@ module _ {T : Type 0} where
       back_to xs [] q l = absurd (cc)
       back_to xs (y ∷ ys) q l = ap (option_and_then (λ (n : Node T). n.before)) (ap (get nodes) (same_Some k y.0 q) ∙ linked_node (get nodes) p xs y ys l)
 
-  -- the last of linked cells has a node, and so has the first
+  -- the last of linked cells has a node, and so does the first
   pub last_there : (g : ℕ → Option (Node T)) (p : ℕ) (b : Option ℕ) (cs : List (ℕ × T)) (n : Option ℕ) (k : ℕ) → Linked g p b cs n → last_or None cs ≡ Some k → IsSome (g k)
   last_there g p b [] n k l e = absurd (cc)
   last_there g p b (c ∷ []) n k l e = subst (λ j. IsSome (g j)) (same_Some c.0 k e) (some_is (g c.0) (record { list = p; before = b; after = n; value = c.1 }) l.0)
@@ -285,7 +285,7 @@ module _ {T : Type 0} where
       (λ (ne : k ≡ key → ⊥). subst IsSome (sym (updates.others k ne)) h)
       (cases_eq k key)
 
-  -- the node that a list goes on from is there
+  -- the node before the place exists
   pub behind_there : (nodes : Slab (Node T)) (ends : List Ends) (cs : List (List (ℕ × T))) (room p : ℕ) (next : Option ℕ) (cell : ℕ × T) (k : ℕ) → IsKept nodes ends cs room → p < length cs
       → (s : Split (chain_at cs p) next cell) → behind nodes ends p next ≡ Some k → IsSome (get nodes k)
   behind_there nodes ends cs room p next cell k is hp s e =
@@ -293,7 +293,7 @@ module _ {T : Type 0} where
       (linked_front (get nodes) p None s.front s.back None (subst (λ c. Linked (get nodes) p None c None) s.whole (is.linked p hp)))
       (sym (behind_is nodes ends cs room p next cell is hp s) ∙ e)
 
-  -- a key that stands in a list has a node
+  -- a key that is in a list has a node
   pub value_node : (nodes : Slab (Node T)) (ends : List Ends) (cs : List (List (ℕ × T))) (room p k : ℕ) → IsKept nodes ends cs room → p < length cs → IsSome (value_in (chain_at cs p) k) → IsSome (get nodes k)
   value_node nodes ends cs room p k is hp h = there (chain_at cs p) None (is.linked p hp) h
     where
@@ -339,7 +339,7 @@ module _ {T : Type 0} where
       (omega (arith, len, few))
       (omega (arith, cap, is.space))
 
-  -- ---- a cell goes
+  -- ---- a cell is removed
   pub map_one : (f : List (ℕ × T) → List (ℕ × T)) (cs : List (List (ℕ × T))) (p : ℕ) → p < length cs
       → ((q : ℕ) → q < length cs → (q ≡ p → ⊥) → f (chain_at cs q) ≡ chain_at cs q) → map f cs ≡ set cs p (f (chain_at cs p))
   map_one f cs p hp others =
@@ -352,7 +352,7 @@ module _ {T : Type 0} where
       (λ (ne : q ≡ p → ⊥). others q inside ne ∙ sym (get_or-set_other cs p q (f (chain_at cs p)) [] ne))
       (cases_eq q p))
 
-  -- where the cell of a key stands
+  -- the place of the cell with a key
   pub record Spot (cs : List (ℕ × T)) (key : ℕ) (value : T) : Type 0 where
     pub front : List (ℕ × T)
     pub back : List (ℕ × T)
@@ -410,7 +410,7 @@ module _ {T : Type 0} where
         | false ↦ λ q. some_front xs ys k q
       ] h
 
-  -- a key with a value in one list has one in all
+  -- a key with a value in one list has one in the lists
   pub value_in_all : (cs : List (List (ℕ × T))) (p k : ℕ) → p < length cs → IsSome (value_in (chain_at cs p) k) → IsSome (value_of cs k)
   value_in_all [] p k hp h = absurd (omega (arith, hp))
   value_in_all (c ∷ cs) zero k hp h = some_front c (all_cells cs) k h
@@ -436,7 +436,7 @@ module _ {T : Type 0} where
       (linked_elsewhere (get nodes) q None (chain_at cs q) None k (node_in p (k, v) s.front s.back) (found_node nodes ends cs room p k v is hp s) (λ e. ne (sym e)) (is.linked q hq)))
       ∙ ap (set cs p) (ap (λ c. without cell_key c k) s.whole ∙ without_middle s.front (k, v) s.back (subst Apart s.whole (is.apart p hp)))
 
-  -- nodes and ends after a node is taken out, and its neighbours are joined
+  -- nodes and ends after a node is removed and its neighbours are linked
   abbrev pub closed_nodes : Slab (Node T) → Node T → Slab (Node T)
   closed_nodes fewer node = aimed (aimed fewer node.before (goes_on node.after)) node.after (goes_back node.before)
 
@@ -482,7 +482,7 @@ module _ {T : Type 0} where
       subst (λ n. IsKept (closed_nodes fewer n) (closed_ends ends n) (map (λ c. without cell_key c key) cs) room) (sym same)
       (kept_closed nodes fewer ends cs room p key value is hp s updates count capacity)
 
-  -- the neighbours of a node that is taken out are there
+  -- the neighbours of a removed node exist
   pub neighbours : (nodes fewer : Slab (Node T)) (ends : List Ends) (cs : List (List (ℕ × T))) (room p key : ℕ) (value : T) (node : Node T) → IsKept nodes ends cs room → (hp : p < length cs)
       → (s : Spot (chain_at cs p) key value) → get nodes key ≡ Some node → Updates nodes fewer key None
       → ((k : ℕ) → node.before ≡ Some k → IsSome (get fewer k)) × ((k : ℕ) → node.after ≡ Some k → IsSome (get fewer k))

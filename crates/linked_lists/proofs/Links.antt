@@ -1,4 +1,4 @@
--- Cells that are linked, and what a change of links leaves of them.
+-- Linked cells, and what a change of links leaves of them.
 use Rattle.std.proofs.Common.{◌≡◌, ℕ, zero, suc, ◌≤◌, true, false, cond, eqb, List, [], ◌∷◌, ◌++◌, length, Option, None, Some, refl, sym, ap, ◌∙◌, arith}
 use Rattle.std.specs.Bool.{⊤}
 use Rattle.std.specs.Option.{option_map}
@@ -12,7 +12,7 @@ use Rattle.linked_lists.specs.Inside.{first_or, last_or, goes_on, goes_back, hol
 unequal : (m n : ℕ) → eqb m n ≡ false → eqb n m ≡ false
 unequal m n e = ne_eqb n m (λ q. eqb-false m n e (sym q))
 
--- no cell has the key, if there is one
+-- no cell has the key, if there is a key
 abbrev pub Unnamed : {T : Type 0} → Option ℕ → List (ℕ × T) → Type 0
 Unnamed None cs = ⊤
 Unnamed (Some k) cs = of_id cell_key cs k ≡ None
@@ -21,7 +21,7 @@ module _ {T : Type 0} where
   abbrev pub Absent : ℕ → List (ℕ × T) → Type 0
   Absent k cs = of_id cell_key cs k ≡ None
 
-  -- the node of a key is changed, and the others are as they were
+  -- the node with a key changes, and the others stay
   abbrev pub changed_at : Option ℕ → (Node T → Node T) → (ℕ → Option (Node T)) → ℕ → Option (Node T)
   changed_at key f g j = cond (is_key key j) (option_map f (g j)) (g j)
 
@@ -56,7 +56,7 @@ module _ {T : Type 0} where
   not_last k (c ∷ []) none = (absent_cons k c [] none).0
   not_last k (c ∷ d ∷ cs) none = not_last k (d ∷ cs) (absent_cons k c (d ∷ cs) none).1
 
-  -- ---- cells of which no two have one key
+  -- ---- cells with different keys
   pub apart_front : (xs ys : List (ℕ × T)) → Apart (xs ++ ys) → Apart xs
   apart_front [] ys a = tt
   apart_front (x ∷ xs) ys a = ((absent_append x.0 xs ys a.0).0, apart_front xs ys a.1)
@@ -116,7 +116,7 @@ module _ {T : Type 0} where
   linked_join g p b (x ∷ xs) ys n f l =
       (f.0 ∙ ap (λ a. Some (record { list = p; before = b; after = a; value = x.1 })) (sym (first_or-append n xs ys)), linked_join g p (Some x.0) xs ys n f.1 l)
 
-  -- a key without a node is no cell's
+  -- a key without a node is no cell's key
   pub linked_absent : (g : ℕ → Option (Node T)) (p : ℕ) (b : Option ℕ) (cs : List (ℕ × T)) (n : Option ℕ) (k : ℕ) → g k ≡ None → Linked g p b cs n → Absent k cs
   linked_absent g p b [] n k none l = refl
   linked_absent g p b (c ∷ cs) n k none l =
@@ -124,7 +124,7 @@ module _ {T : Type 0} where
       (ne_eqb c.0 k (λ q. let here : g c.0 ≡ None = ap g q ∙ none in let there = l.0 in absurd (cc)))
       (linked_absent g p (Some c.0) cs n k none l.1)
 
-  -- a key whose node is in another list is no cell's
+  -- a key with a node in another list is no cell's key
   pub linked_elsewhere : (g : ℕ → Option (Node T)) (p : ℕ) (b : Option ℕ) (cs : List (ℕ × T)) (n : Option ℕ) (k : ℕ) (node : Node T)
       → g k ≡ Some node → (node.list ≡ p → ⊥) → Linked g p b cs n → Absent k cs
   linked_elsewhere g p b [] n k node is other l = refl
@@ -147,7 +147,7 @@ module _ {T : Type 0} where
   linked_same g h p b [] n s l = tt
   linked_same g h p b (c ∷ cs) n s l = (s.0 ∙ l.0, linked_same g h p (Some c.0) cs n s.1 l.1)
 
-  -- where one key at most changes, and no cell has it, the cells' nodes stay
+  -- if at most one key's node changes, and no cell has that key, the cells' nodes stay
   pub same_unnamed : (g h : ℕ → Option (Node T)) (key : Option ℕ) (cs : List (ℕ × T)) → ((j : ℕ) → is_key key j ≡ false → h j ≡ g j) → Unnamed key cs → Same g h cs
   same_unnamed g h key [] says u = tt
   same_unnamed g h None (c ∷ cs) says u = (says c.0 refl, same_unnamed g h None cs says tt)
@@ -177,7 +177,7 @@ module _ {T : Type 0} where
     linked_same g h p (Some y.0) ys n (same_unnamed g h (Some y.0) ys (kept_but g h (Some y.0) (goes_back to) says) a.0) l.1,
   )
 
-  -- two parts of a list are joined anew: the first goes on to a key, and the second goes back to another
+  -- two parts of a list are linked: the first part goes on to a key, and the second goes back to another
   pub relinked : (g h i : ℕ → Option (Node T)) (p : ℕ) (b after before : Option ℕ) (xs ys : List (ℕ × T)) (to back : Option ℕ) → Apart (xs ++ ys)
       → ((j : ℕ) → h j ≡ changed_at (last_or None xs) (goes_on to) g j) → ((j : ℕ) → i j ≡ changed_at (first_or None ys) (goes_back back) h j)
       → Linked g p b xs after → Linked g p before ys None → Linked i p b xs to × Linked i p back ys None
@@ -227,7 +227,7 @@ module _ {T : Type 0} where
   pub linked_node : (g : ℕ → Option (Node T)) (p : ℕ) (xs : List (ℕ × T)) (c : ℕ × T) (ys : List (ℕ × T)) → Linked g p None (xs ++ c ∷ ys) None → g c.0 ≡ Some (node_in p c xs ys)
   linked_node g p xs c ys l = (linked_back g p None xs (c ∷ ys) None l).0
 
-  -- another list, whose nodes stay
+  -- another list's nodes stay
   pub linked_other : (g h : ℕ → Option (Node T)) (p q : ℕ) (b : Option ℕ) (cs : List (ℕ × T)) (n : Option ℕ) → (q ≡ p → ⊥)
       → ((k : ℕ) (node : Node T) → g k ≡ Some node → (node.list ≡ p → ⊥) → h k ≡ g k) → Linked g q b cs n → Linked h q b cs n
   linked_other g h p q b [] n other says l = tt
@@ -236,7 +236,7 @@ module _ {T : Type 0} where
     linked_other g h p q (Some c.0) cs n other says l.1,
   )
 
-  -- to walk from the first cell on is to pass the cells
+  -- walking from the first cell on passes exactly the cells
   pub walked_is : (g : ℕ → Option (Node T)) (p : ℕ) (b : Option ℕ) (cs : List (ℕ × T)) (fuel : ℕ) → length cs ≤ fuel → Linked g p b cs None → walked g fuel (first_or None cs) ≡ cs
   walked_is g p b [] zero few l = refl
   walked_is g p b [] (suc fuel) few l = refl

@@ -1,4 +1,4 @@
--- Lists by id, over lists by key and an index.
+-- Lists by id, on top of lists by key and an index.
 use Rattle.std.proofs.Common.{◌≡◌, ℕ, zero, suc, ◌+◌, ◌<◌, ◌≤◌, Bool, true, false, cond, not, eqb, ltb, List, [], ◌∷◌, ◌++◌, map, set, length, get_or, replicate, Option, None, Some, refl, sym, ap, ◌∙◌, subst, arith, ⊎_elim, append_assoc}
 use Rattle.std.specs.Prelude.{IsSome}
 use Rattle.std.specs.Option.{option_map}
@@ -36,14 +36,14 @@ rank_place es e i rank within =
     (λ k h. ap not (rank.0 k e (omega arith) h))
     (λ h. ap not (rank.1 i e (omega arith) h))
 
--- what stands at a place is what a look-up finds
+-- a look-up finds the entry at a place
 pub entry_at : (es : List Entry) (who at : ℕ) (d : Entry) → StandsAt entry_id es who at → Rising entry_id es → of_id entry_id es who ≡ Some (get_or es at d)
 entry_at es who at d stands up = sym (ap (of_id entry_id es) (stands.same d)) ∙ found_place entry_id es at d up stands.within
 
 pub entry_found : (es : List Entry) (who at : ℕ) (e : Entry) → StandsAt entry_id es who at → Rising entry_id es → e ≡ get_or es at e → of_id entry_id es who ≡ Some e
 entry_found es who at e stands up here = entry_at es who at e stands up ∙ ap (λ (x : Entry). Some x) (sym here)
 
--- an entry that is put in at its rank
+-- an entry that is inserted at its rank
 pub entry_placed : (es after : List Entry) (e : Entry) (rank : ℕ) → IsRank entry_id es e.id rank → rank ≤ length es → after ≡ insert es rank e → after ≡ with_record entry_id es e
 entry_placed es after e rank is within put = put ∙ ap (λ k. insert es k e) (sym (rank_place es e rank is within)) ∙ insert_place entry_id e es
 
@@ -53,7 +53,7 @@ module _ {T : Type 0} where
   some_back [] ys k h = h
   some_back (x ∷ xs) ys k h = elim (eqb x.0 k) as (λ b. IsSome (option_map (λ (c : ℕ × T). c.1) (cond b (Some x) (of_id cell_key (xs ++ ys) k)))) [ true ↦ refl | false ↦ some_back xs ys k h ]
 
-  -- the first cell of a list, where it has a key
+  -- the first cell of a list, if it has a key
   pub first_cell : (cs : List (ℕ × T)) (k : ℕ) → first_key cs ≡ Some k → (v : T) × (rest : List (ℕ × T)) × (cs ≡ (k, v) ∷ rest)
   first_cell [] k e = absurd (cc)
   first_cell (c ∷ cs) k e = (c.1, cs, ap (λ n. (n, c.1) ∷ cs) (same_Some c.0 k e))
@@ -73,7 +73,7 @@ module _ {T : Type 0} where
   all_back P [] ys all = all
   all_back P (x ∷ xs) ys all = all_back P xs ys (All-tail P x (xs ++ ys) all)
 
-  -- what holds of all cells holds of those of each list
+  -- a property of all cells holds for those of each list
   pub all_chain : (P : ℕ × T → Type 0) (cs : List (List (ℕ × T))) (p : ℕ) → p < length cs → All P (all_cells cs) → All P (chain_at cs p)
   all_chain P [] p hp all = absurd (omega (arith, hp))
   all_chain P (c ∷ cs) zero hp all = all_front P c (all_cells cs) all
@@ -84,7 +84,7 @@ module _ {T : Type 0} where
   cells_without (c ∷ cs) key =
       ap (λ zs. without cell_key c key ++ zs) (cells_without cs key) ∙ sym (filter-append (λ (x : ℕ × T). not (eqb x.0 key)) c (all_cells cs))
 
-  -- all cells, where one comes between two parts of them
+  -- all cells, with one added between two parts of them
   pub record Parted (cs ds : List (List (ℕ × T))) (cell : ℕ × T) : Type 0 where
     pub front : List (ℕ × T)
     pub back : List (ℕ × T)
@@ -109,7 +109,7 @@ module _ {T : Type 0} where
         after = ap (λ zs. c ++ zs) rest.after ∙ sym (append_assoc c rest.front (cell ∷ rest.back));
       }
 
-  -- a look-up where a cell came in between
+  -- a look-up after a cell is added in between
   pub value_past : (xs : List (ℕ × T)) (cell : ℕ × T) (ys : List (ℕ × T)) (k : ℕ) → eqb cell.0 k ≡ false → value_in (xs ++ cell ∷ ys) k ≡ value_in (xs ++ ys) k
   value_past [] cell ys k e = ap (λ b. option_map (λ (c : ℕ × T). c.1) (cond b (Some cell) (of_id cell_key ys k))) e
   value_past (x ∷ xs) cell ys k e =
@@ -137,7 +137,7 @@ module _ {T : Type 0} where
       joined [] = refl
       joined (x ∷ xs) = ap (λ zs. named_cell x ∷ zs) (joined xs)
 
-  -- the cell has the key where it has the id
+  -- the cell has the key exactly if it has the id
   abbrev pub IsAlike : ℕ → ℕ → ℕ × Member T → Type 0
   IsAlike key who c = eqb c.0 key ≡ eqb c.1.who who
 
@@ -204,11 +204,11 @@ module _ {T : Type 0} where
         ∙ sym (ne_eqb c.1.who who (λ q. other (ap (λ (x : Entry). x.key) (same_Some (entry_of c) e (sym listed ∙ ap (of_id entry_id es) q ∙ at))))))
         (cases_eq c.0 e.key)
 
-    -- the entry of an id tells the cells of that id from the others
+    -- the entry of an id distinguishes the cells of that id from the others
     pub cells_alike : (who : ℕ) (e : Entry) → of_id entry_id es who ≡ Some e → All (IsAlike e.key who) (all_cells cs)
     cells_alike who e at = All-weaker Listed (IsAlike e.key who) (one_cell who e at) (all_cells cs) is.listed
 
-    -- what an entry's cell has
+    -- the cell of an entry
     pub entry_value : (who : ℕ) (e : Entry) → of_id entry_id es who ≡ Some e → (m : Member T) × (value_of cs e.key ≡ Some m) × (value_of (named_chains cs) who ≡ Some m.value)
     entry_value who e at =
         let m = named_is (value_of cs e.key) who (is.known who e at) in
@@ -218,7 +218,7 @@ module _ {T : Type 0} where
         named_is None n q = absurd (cc)
         named_is (Some m) n q = (m, refl)
 
-    -- without an entry of an id there is no cell of it
+    -- without an entry of an id, there is no cell of it
     pub no_cell : (who : ℕ) → of_id entry_id es who ≡ None → All (λ c. eqb c.1.who who ≡ false) (all_cells cs)
     no_cell who none =
         All-weaker Listed (λ c. eqb c.1.who who ≡ false)
@@ -234,7 +234,7 @@ module _ {T : Type 0} where
             ap (λ b. option_map (λ (c : ℕ × T). c.1) (cond b (Some (named_cell x)) (of_id cell_key (map named_cell xs) who))) (All-head (λ c. eqb c.1.who who ≡ false) x xs all)
             ∙ missing xs (All-tail (λ c. eqb c.1.who who ≡ false) x xs all)
 
-    -- where an id is in no list, it has no entry
+    -- if an id is in no list, it has no entry
     pub no_entry : (who : ℕ) → value_of (named_chains cs) who ≡ None → of_id entry_id es who ≡ None
     no_entry who none =
         elim (of_id entry_id es who) as (λ o. of_id entry_id es who ≡ o → o ≡ None) [
@@ -242,7 +242,7 @@ module _ {T : Type 0} where
           | Some x ↦ λ e. let v = entry_value who x e in let there : ◌≡◌ {A = Option T} None (Some v.0.value) = sym none ∙ v.2 in absurd (cc)
         ] refl
 
-    -- the lists without an id that is in none are as they were
+    -- removing an id that is in no list changes nothing
     pub chains_same : (who : ℕ) → of_id entry_id es who ≡ None → map (λ c. without cell_key c who) (named_chains cs) ≡ named_chains cs
     chains_same who none = all_same cs (no_cell who none)
       where
@@ -256,7 +256,7 @@ module _ {T : Type 0} where
         all_same [] all = refl
         all_same (d ∷ ds) all = λ i. one_same d (all_front (λ c. eqb c.1.who who ≡ false) d (all_cells ds) all) i ∷ all_same ds (all_back (λ c. eqb c.1.who who ≡ false) d (all_cells ds) all) i
 
-    -- ---- an id comes
+    -- ---- an id is added
     pub same_next : (next : Option ℕ) (p : ℕ) → p < length cs → ((id : ℕ) → next ≡ Some id → IsSome (value_in (chain_at (named_chains cs) p) id))
         → All (λ c. is_key (key_found es next) c.0 ≡ is_key next c.1.who) (chain_at cs p)
     same_next None p hp h = λ k d q. refl
@@ -273,7 +273,7 @@ module _ {T : Type 0} where
         turned : (a b m n : ℕ) → eqb b a ≡ eqb n m → eqb a b ≡ eqb m n
         turned a b m n e = eqb_comm a b ∙ e ∙ eqb_comm n m
 
-    -- the node of an id that stands in a list
+    -- the node of an id in a list
     pub node_of_next : (next : Option ℕ) (p : ℕ) → p < length cs → ((id : ℕ) → next ≡ Some id → IsSome (value_in (chain_at (named_chains cs) p) id))
         → (key : ℕ) → key_found es next ≡ Some key → IsSome (value_in (chain_at cs p) key)
     node_of_next None p hp h key q = absurd (cc)
@@ -343,7 +343,7 @@ module _ {T : Type 0} where
               );
         }
 
-    -- ---- an id goes
+    -- ---- an id is removed
     pub indexed_removed : (who : ℕ) (e : Entry) → of_id entry_id es who ≡ Some e → (rest : List Entry) → rest ≡ without entry_id es who → length rest + 1 ≡ length es
         → length (all_cells (map (λ c. without cell_key c e.key) cs)) + 1 ≡ length (all_cells cs) → IsIndexed (map (λ c. without cell_key c e.key) cs) rest
     indexed_removed who e at rest rest_is fewer count =
@@ -421,7 +421,7 @@ module _ {T : Type 0} where
   pub named_alike : (cs ds : List (List (ℕ × T))) (room : ℕ) → cs ≡ ds → ◌≡◌ {A = Chains T} (record { chains = cs; room = room }) (record { chains = ds; room = room })
   named_alike cs ds room e = λ i. record { chains = e i; room = room }
 
-  -- the lists after an id is put in
+  -- the lists after an id is inserted
   pub inserted_chains : (cs : List (List (ℕ × Member T))) (es : List Entry) (p key who : ℕ) (value : T) (nk next : Option ℕ) → IsIndexed cs es → p < length cs → nk ≡ key_found es next
       → ((id : ℕ) → next ≡ Some id → IsSome (value_in (chain_at (named_chains cs) p) id))
       → named_chains (set cs p (put_before nk (key, record { who = who; value = value }) (chain_at cs p))) ≡ set (named_chains cs) p (put_before next (who, value) (chain_at (named_chains cs) p))

@@ -1,4 +1,4 @@
--- What stands in one list by id: its first, the id after an id, another value.
+-- The contents of one list by id: its first id, the id after an id, another value.
 use Rattle.std.proofs.Common.{◌≡◌, ℕ, ◌<◌, ◌≤◌, true, false, cond, eqb, List, [], ◌∷◌, ◌++◌, map, length, Option, None, Some, refl, sym, ap, ◌∙◌, subst, arith, ⊎_elim}
 use Rattle.std.specs.Option.{option_map}
 use Rattle.std.specs.List.{All}
@@ -14,7 +14,7 @@ use Rattle.linked_lists.specs.Named.{entry_id, member_id, named_cell, named_chai
 use Rattle.linked_lists.proofs.Naming.{IsAlike, all_back, all_chain, all_front, cells_alike, first_cell, head_same, named_at, no_cell, one_cell, tail_same, value_alike}
 
 module _ {T : Type 0} where
-  -- ---- what stands in one list
+  -- ---- the contents of one list
   abbrev IsListed : List Entry → ℕ × Member T → Type 0
   IsListed es c = of_id entry_id es c.1.who ≡ Some (entry_of c)
 
@@ -64,7 +64,7 @@ module _ {T : Type 0} where
       let found = unnamed_at xs who value fs back (tail_same (named_cell x) f (map named_cell xs) (fs ++ (who, value) ∷ back) e) in
       record { front = x ∷ found.front; cell = found.cell; rest = found.rest; whole = ap (λ zs. x ∷ zs) found.whole; id_is = found.id_is; back_is = found.back_is }
 
-  -- the key after an entry's key is that of the id after its id
+  -- the key after an entry's key has the id after its id
   pub next_key : (cs : List (List (ℕ × Member T))) (es : List Entry) (who : ℕ) (e : Entry) (next : Option ℕ) → IsIndexed cs es → of_id entry_id es who ≡ Some e → NextIs cs e.key next
       → (list : ℕ) (front back : List (ℕ × T)) (value : T) → chain_at (named_chains cs) list ≡ front ++ (who, value) ∷ back
       → (rest : List (ℕ × Member T)) × (next ≡ first_key rest) × (map named_cell rest ≡ back) × All (IsListed es) rest
@@ -85,7 +85,7 @@ module _ {T : Type 0} where
       absurd (omega (arith, ap length (sym (get_or_past (named_chains cs) list [] (omega (arith, past, length-map cs (map named_cell)))) ∙ whole), length-append front ((who, value) ∷ back))))
       (cases_lt list (length cs))
 
-  -- an id without an entry stands nowhere
+  -- an id without an entry is in no list
   pub no_stand : (cs : List (List (ℕ × Member T))) (es : List Entry) (who : ℕ) → IsIndexed cs es → of_id entry_id es who ≡ None
       → (list : ℕ) (front back : List (ℕ × T)) (value : T) → chain_at (named_chains cs) list ≡ front ++ (who, value) ∷ back → ⊥
   no_stand cs es who is none list front back value whole =

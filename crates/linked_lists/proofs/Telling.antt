@@ -1,4 +1,4 @@
--- What a node tells of the lists, and another value in a node.
+-- What a node says about the lists, and another value in a node.
 use Rattle.std.proofs.Common.{◌≡◌, ℕ, zero, suc, ◌<◌, ◌≤◌, cond, eqb, List, [], ◌∷◌, ◌++◌, map, length, replicate, Option, None, Some, is_some, refl, sym, ap, ◌∙◌, subst, arith, ⊎_elim, append_assoc}
 use Rattle.std.specs.Prelude.{IsSome}
 use Rattle.std.specs.Option.{option_map}
@@ -15,7 +15,7 @@ use Rattle.linked_lists.proofs.Links.{linked_elsewhere, node_in, first_or-hold, 
 use Rattle.linked_lists.proofs.Keeping.{Found, Spot, alike_ends, capacity_aimed, found_list, found_node, get_aimed, is_some_of, len_aimed, no_ends_of, value_in_all, value_there}
 
 module _ {T : Type 0} where
-  -- ---- what a node tells
+  -- ---- what a node says
   pub found_at : (nodes : Slab (Node T)) (ends : List Ends) (cs : List (List (ℕ × T))) (room key : ℕ) → IsKept nodes ends cs room → IsSome (value_of cs key)
       → (v : T) × (value_of cs key ≡ Some v) × (f : Found cs key v) × (get nodes key ≡ Some (node_in f.list (key, v) f.spot.front f.spot.back))
   found_at nodes ends cs room key is h =
@@ -23,7 +23,7 @@ module _ {T : Type 0} where
       let f = found_list cs key v.0 v.1 in
       (v.0, v.1, f, found_node nodes ends cs room f.list key v.0 is f.within f.spot)
 
-  -- the key of a node stands in the node's list, and in no other
+  -- the key of a node is in the node's list, and in no other
   pub only_in : (nodes : Slab (Node T)) (ends : List Ends) (cs : List (List (ℕ × T))) (room key : ℕ) (node : Node T) → IsKept nodes ends cs room → IsSome (value_of cs key) → get nodes key ≡ Some node
       → IsOnlyIn cs key node.list
   only_in nodes ends cs room key node is h at =
@@ -120,7 +120,7 @@ module _ {T : Type 0} where
         space = omega (arith, is.space, capacity_aimed nodes (Some key) (holds value));
       }
 
-  -- the key of the cell after a key's has a value
+  -- the key of the cell after another has a value
   pub next_value : (cs : List (List (ℕ × T))) (key k : ℕ) (next : Option ℕ) → IsSome (value_of cs key) → NextIs cs key next → next ≡ Some k → IsSome (value_of cs k)
   next_value cs key k next h after e =
       let v = is_some_of (value_of cs key) h in

@@ -1,4 +1,4 @@
-//! Lists by id.
+//! Linked lists of ids.
 
 ghost use Rattle.std.specs.Prelude.{◌≡◌, ◌<◌, ◌+◌, [], None, length, replicate, IfOk, IsSome, is_some, option_copied, Some};
 ghost use Rattle.std.specs.Option.{ForSome};
@@ -12,14 +12,15 @@ use std::alloc::Global;
 use std::marker::Model;
 use wind_base::NoMemory;
 
-// What a node holds: whose it is, and a value.
+// What a node holds: its id, and a value.
 #[derive(Drop)]
 pub(crate) struct Member<T> {
     pub(crate) who: Ident,
     pub(crate) value: T,
 }
 
-/// Some number of linked lists of ids, each with a value. No id is in two of them, or in one of them twice.
+/// A fixed number of linked lists of ids, each id with a value. An id is in at most one list, and
+/// only once.
 #[derive(Drop)]
 pub struct IdLists<T> {
     lists: Lists<Member<T>>,
@@ -43,7 +44,7 @@ impl<T> Model for IdLists<T> {
 }
 
 impl<T> IdLists<T> {
-    /// So many empty lists, with room for `n` ids together. No other call takes memory.
+    /// The given number of empty lists, with room for `n` ids together. No other call takes memory.
     pub fn reserved(alloc: Global, lists: u32, n: u32) -> Result<IdLists<T>, NoMemory>
         ensures { IfOk result (λ t. t ≡ record { chains = replicate lists []; room = n }) }
     {
@@ -52,30 +53,30 @@ impl<T> IdLists<T> {
         Ok(IdLists { lists, index })
     }
 
-    /// Does nothing. Its contract tells the facts that the lists keep.
+    /// Does nothing. Its contract states the invariant of the lists.
     pub fn facts(&self)
         ensures { AreChains self.now }
     {
         self.lists.facts();
-        // to read the index is to know the rest
+        // reading the index makes the invariant known
         let _ = &self.index;
     }
 
-    /// How many ids there are in all lists.
+    /// The number of ids in all lists together.
     pub fn len(&self) -> usize
         ensures { result ≡ length (all_cells self.now.chains) }
     {
         self.index.len()
     }
 
-    /// For how many ids there is room.
+    /// The greatest number of ids in all lists together.
     pub fn room(&self) -> usize
         ensures { result ≡ self.now.room }
     {
         self.lists.room()
     }
 
-    /// The first id of a list. None where the list is empty.
+    /// The first id of a list. None if the list is empty.
     pub fn first(&self, list: usize) -> Option<Ident>
         requires { list < length self.now.chains }
         ensures { result ≡ first_key (chain_at self.now.chains list) }
@@ -84,8 +85,8 @@ impl<T> IdLists<T> {
         Some(self.lists.value(key).who)
     }
 
-    /// Puts an id, which is in no list, into one before another of its ids, or at its end. Fewer ids may be in all lists than
-    /// there is room for.
+    /// Inserts an id, which is in no list, into a list: before another id of the list, or at its
+    /// end if `next` is none. The lists must have room for one more id.
     pub fn insert_before(&mut self, list: usize, next: Option<Ident>, who: Ident, value: T)
         requires list { list < length self.old.chains }
         requires next { ForSome next (λ id. IsSome (value_in (chain_at self.old.chains list) id)) }
@@ -101,7 +102,7 @@ impl<T> IdLists<T> {
         };
     }
 
-    /// Takes an id out, and gives its value. None, and nothing changes, where it is in no list.
+    /// Removes an id and returns its value. None if it is in no list; then nothing changes.
     pub fn remove(&mut self, who: Ident) -> Option<T>
         ensures value { result ≡ value_of self.old.chains who }
         ensures chains { self.new ≡ without_cell self.old who }
@@ -112,7 +113,7 @@ impl<T> IdLists<T> {
         Some(value)
     }
 
-    /// The list that an id is in. None where it is in no list.
+    /// The list that an id is in. None if it is in no list.
     pub fn list_of(&self, who: Ident) -> Option<usize>
         ensures { list_found self.now.chains who result }
     {
@@ -120,7 +121,7 @@ impl<T> IdLists<T> {
         Some(self.lists.list_of(self.index[at].key))
     }
 
-    /// The value of an id.
+    /// The value of an id, which must be in a list.
     pub fn value(&self, who: Ident) -> &T
         requires { IsSome (value_of self.now.chains who) }
         ensures { value_of self.now.chains who ≡ Some result.now }
@@ -131,7 +132,7 @@ impl<T> IdLists<T> {
         }
     }
 
-    /// The value of the first id of a list. None where the list is empty.
+    /// The value of the first id of a list. None if the list is empty.
     pub fn first_value(&self, list: usize) -> Option<&T>
         requires { list < length self.now.chains }
         ensures { option_copied result ≡ first_value_lem (chain_at self.now.chains list) }
@@ -140,7 +141,7 @@ impl<T> IdLists<T> {
         Some(&self.lists.value(key).value)
     }
 
-    /// The id after an id in its list. None at the list's end, and if the id is in no list.
+    /// The id after `who` in its list. None if `who` is the last of its list or in no list.
     pub fn next(&self, who: Ident) -> Option<Ident>
         ensures after { NextIs self.now.chains who result }
         ensures absent { value_of self.now.chains who ≡ None → result ≡ None }
@@ -150,7 +151,7 @@ impl<T> IdLists<T> {
         Some(self.lists.value(next).who)
     }
 
-    /// Gives an id another value.
+    /// Gives an id, which must be in a list, another value.
     pub fn set(&mut self, who: Ident, value: T)
     where
         T: Drop,

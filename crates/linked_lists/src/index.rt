@@ -1,4 +1,4 @@
-//! Where the node of an id lies.
+//! The index: where the node of each id is.
 
 ghost use Rattle.std.specs.Prelude.{◌≡◌, ◌≤◌, None, length, MatchOption, nat_lt, true, false};
 ghost use Rattle.std.specs.List.Sorted.{IsPartitionPoint};
@@ -14,7 +14,7 @@ pub(crate) struct Entry {
     pub(crate) key: usize,
 }
 
-// How many entries have an id below this one.
+// The number of entries with an id below this one.
 pub(crate) fn rank_of(index: &[Entry], who: Ident) -> usize
     requires { Rising entry_id index.now }
     ensures within { result ≤ length index.now }
@@ -24,7 +24,7 @@ pub(crate) fn rank_of(index: &[Entry], who: Ident) -> usize
     index.partition_point(|entry| entry.id.get() < number)
 }
 
-// Where the entry of an id stands. None where there is none.
+// The place of the entry of an id. None if there is none.
 pub(crate) fn place_of(index: &[Entry], who: Ident) -> Option<usize>
     requires { Rising entry_id index.now }
     ensures { MatchOption result (of_id entry_id index.now who ≡ None) (λ place. StandsAt entry_id index.now who place) }
@@ -40,7 +40,7 @@ pub(crate) fn place_of(index: &[Entry], who: Ident) -> Option<usize>
     }
 }
 
-// The key of the node of an id. None where there is no id, or no node of it.
+// The key of the node of an id. None if `next` is none, or if the id has no node.
 pub(crate) fn key_of(index: &[Entry], next: Option<Ident>) -> Option<usize>
     requires { Rising entry_id index.now }
     ensures { result ≡ key_found index.now next }

@@ -1,4 +1,4 @@
-//! Linked lists whose nodes lie in one slab, and such lists by id.
+//! Linked lists whose nodes are in one slab, and such lists by id.
 #![tactic(auto)]
 
 mod id_lists;

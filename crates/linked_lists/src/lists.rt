@@ -1,4 +1,4 @@
-//! Lists in one slab.
+//! Linked lists in one slab.
 
 ghost use Rattle.std.specs.Option.{ForSome};
 ghost use Rattle.std.specs.Prelude.{◌≡◌, ◌<◌, ◌≤◌, ◌+◌, [], None, Some, length, map, replicate, IfOk, IsSome, slice_set};
@@ -10,7 +10,8 @@ use std::alloc::Global;
 use std::marker::Model;
 use wind_base::NoMemory;
 
-/// Some number of linked lists, whose nodes lie in one slab. A node has a key as long as it is in its list.
+/// A fixed number of linked lists, whose nodes are in one slab. A node keeps its key as long as it
+/// is in its list.
 #[derive(Drop)]
 pub struct Lists<T> {
     room: usize,
@@ -33,7 +34,8 @@ impl<T> Model for Lists<T> {
 }
 
 impl<T> Lists<T> {
-    /// So many empty lists, with room for `n` nodes together. No other call takes memory.
+    /// The given number of empty lists, with room for `n` nodes together. No other call takes
+    /// memory.
     pub fn reserved(alloc: Global, lists: u32, n: u32) -> Result<Lists<T>, NoMemory>
         ensures { IfOk result (λ t. t ≡ record { chains = replicate lists []; room = n }) }
     {
@@ -49,22 +51,22 @@ impl<T> Lists<T> {
         Ok(Lists { room, nodes, ends })
     }
 
-    /// Does nothing. Its contract tells the facts that the lists keep.
+    /// Does nothing. Its contract states the invariant of the lists.
     pub fn facts(&self)
         ensures { AreChains self.now }
     {
-        // to read the nodes is to know them
+        // reading the nodes makes the invariant known
         let _ = &self.nodes;
     }
 
-    /// For how many nodes there is room.
+    /// The greatest number of nodes in all lists together.
     pub fn room(&self) -> usize
         ensures { result ≡ self.now.room }
     {
         self.room
     }
 
-    /// The first node of a list. None where the list is empty.
+    /// The key of the first node of a list. None if the list is empty.
     pub fn first(&self, list: usize) -> Option<usize>
         requires { list < length self.now.chains }
         ensures { result ≡ first_key (chain_at self.now.chains list) }
@@ -72,7 +74,7 @@ impl<T> Lists<T> {
         self.ends[list].first
     }
 
-    /// What a node holds.
+    /// The value that a node holds.
     pub fn value(&self, key: usize) -> &T
         requires { IsSome (value_of self.now.chains key) }
         ensures value { value_of self.now.chains key ≡ Some result.now }
@@ -81,7 +83,7 @@ impl<T> Lists<T> {
         &self.nodes[key].value
     }
 
-    /// The node after a node in its list. None at the list's end.
+    /// The key of the node after this one in its list. None if this one is the last.
     pub fn next(&self, key: usize) -> Option<usize>
         requires { IsSome (value_of self.now.chains key) }
         ensures { NextIs self.now.chains key result }
@@ -89,7 +91,7 @@ impl<T> Lists<T> {
         self.nodes[key].after
     }
 
-    /// The list that a node is in.
+    /// The number of the list that a node is in.
     pub fn list_of(&self, key: usize) -> usize
         requires { IsSome (value_of self.now.chains key) }
         ensures { IsOnlyIn self.now.chains key result }
@@ -97,8 +99,9 @@ impl<T> Lists<T> {
         self.nodes[key].list
     }
 
-    /// Puts a node into a list before another of its nodes, or at its end. Fewer nodes may be in all lists than there
-    /// is room for. The key is no other node's.
+    /// Inserts a node into a list before another of its nodes, or at its end if `next` is none, and
+    /// returns the new node's key. No other node has this key. The lists must have room for one
+    /// more node.
     pub fn insert_before(&mut self, list: usize, next: Option<usize>, value: T) -> usize
         requires list { list < length self.old.chains }
         requires next { ForSome next (λ key. IsSome (value_in (chain_at self.old.chains list) key)) }
@@ -118,7 +121,7 @@ impl<T> Lists<T> {
         key
     }
 
-    /// Lets a node hold another value.
+    /// Replaces the value that a node holds.
     pub fn set(&mut self, key: usize, value: T)
     where
         T: Drop,
@@ -128,7 +131,7 @@ impl<T> Lists<T> {
         self.nodes[key].value = value;
     }
 
-    /// Takes a node out of its list, and gives what it held.
+    /// Removes a node from its list and returns the value that it held.
     pub fn remove(&mut self, key: usize) -> T
         requires { IsSome (value_of self.old.chains key) }
         ensures value { value_of self.old.chains key ≡ Some result }

@@ -1,4 +1,4 @@
-//! A node of a list, and the two ends of a list.
+//! The nodes of a list, and its two ends.
 
 ghost use Rattle.std.specs.Option.{ForSome};
 ghost use Rattle.std.specs.Prelude.{◌≡◌, ◌<◌, length};
@@ -7,7 +7,7 @@ ghost use Rattle.linked_lists.specs.Inside.{aimed, behind, goes_on, goes_back, a
 
 use slab::Slab;
 
-// A node: the list that it is in, its neighbours there, and what it holds.
+// A node: the list that it is in, the keys of its neighbours there, and its value.
 #[derive(Drop)]
 pub(crate) struct Node<T> {
     pub(crate) list: usize,
@@ -16,14 +16,15 @@ pub(crate) struct Node<T> {
     pub(crate) value: T,
 }
 
-// The nodes at which a list begins and ends.
+// The keys of a list's first and last node.
 #[derive(Clone, Copy, Drop)]
 pub(crate) struct Ends {
     pub(crate) first: Option<usize>,
     pub(crate) last: Option<usize>,
 }
 
-// The node before another of its list, or the last of the list.
+// The key of the node before `next` in its list. If `next` is none, the key of the last node of the
+// list.
 pub(crate) fn node_before<T>(
     nodes: &Slab<Node<T>>,
     ends: &[Ends],
@@ -40,7 +41,8 @@ pub(crate) fn node_before<T>(
     }
 }
 
-// Lets the list go on from a node to another, or begin there.
+// Sets the forward link of the node `before` to `to`. If `before` is none, `to` becomes the first
+// node of the list.
 pub(crate) fn link_after<T>(
     nodes: &mut Slab<Node<T>>,
     ends: &mut Vec<Ends>,
@@ -59,7 +61,8 @@ pub(crate) fn link_after<T>(
     }
 }
 
-// Lets the list go back from a node to another, or end there.
+// Sets the backward link of the node `after` to `to`. If `after` is none, `to` becomes the last
+// node of the list.
 pub(crate) fn link_before<T>(
     nodes: &mut Slab<Node<T>>,
     ends: &mut Vec<Ends>,

@@ -103,7 +103,7 @@ module _ (w : WorldState) (kept : IsWorld w) (name : List ℕ) (m : Module) (mod
   unfolding verdict count_refusal
   same_verdict = ok
 
-  -- a byte of a segment lies in a block that wasn't there
+  -- a byte of a segment is in a new block
   fresh_byte : (v : WorldState) (a : ℕ) (p : Piece) → v.part ≡ (loaded (loader_state w) name m mode at).part → IsPiece p (pieces_of at (image m w.symbols at)) → IsIn a p.0 (length p.1) → IsFresh w v a
   fresh_byte v a p part piece inside =
       elim (write_law.own (loader_state w) name m mode at p (is_loader w kept) known same_verdict piece) [

@@ -9,7 +9,7 @@ use Rattle.module_loader.specs.Loading.{count_by}
 use Rattle.kernel_world.specs.State.{WorldState}
 use Rattle.kernel_world.specs.Kept.{Within, HasCounts}
 
--- where no count refuses it, there is room for a module, an id is left, and the symbols have room
+-- if no count refuses it, there is room for a module, an id is left, and there is room for the symbols
 pub record Fits (modules next symbols : ℕ) : Type 0 where
   pub few : modules < most_modules
   pub left : next ≤ greatest_id
@@ -34,14 +34,14 @@ fits modules next symbols e =
           ] refl q
     ] refl e
 
--- a list has a bound of what stands in it
+-- the elements of a list have a bound
 bound : {A : Type 0} (f : A → ℕ) (xs : List A) → (n : ℕ) × All (λ x. f x ≤ n) xs
 bound f [] = (0, λ k d h. absurd (omega arith))
 bound f (x ∷ xs) =
     let (n, all) = bound f xs in
     (f x + n, All-cons (λ y. f y ≤ f x + n) x xs (omega arith) (All-weaker (λ y. f y ≤ n) (λ y. f y ≤ f x + n) (λ y h. omega (arith, h)) xs all))
 
--- and so the counts of a world have one
+-- and so have the counts of a world
 pub counts_bound : (w : WorldState) → (n : ℕ) × Within n w
 counts_bound w =
     let (n, tasks) = bound (λ t. t.locks + t.safe) w.kern.tasks in

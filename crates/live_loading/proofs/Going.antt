@@ -1,5 +1,5 @@
 -- What a load keeps.
-use Rattle.std.proofs.Common.{◌≡◌, ℕ, ◌+◌, ◌<◌, ◌≤◌, min, true, false, cond, eqb, List, [], ◌∷◌, ◌++◌, length, get_or, Result, Ok, Err, refl, sym, ◌∙◌, subst, arith}
+use Rattle.std.proofs.Common.{◌≡◌, ℕ, ◌+◌, ◌<◌, ◌≤◌, min, true, false, cond, eqb, List, [], ◌∷◌, ◌++◌, length, get_or, Result, Ok, Err, refl, sym, ap, ◌∙◌, is_some, subst, arith}
 use Rattle.std.specs.Prelude.{slice_index, codes, OnOk, OnErr}
 use Rattle.std.proofs.lemmas.List.{length-append}
 use Rattle.std.proofs.lemmas.List.Quantifiers.{all_pairs_push}
@@ -34,8 +34,8 @@ use Rattle.wind_core.proofs.Ids.{lives_by, ids-change}
 use Rattle.kernel_world.specs.State.{WorldState}
 use Rattle.kernel_world.specs.Actors.{MayCall, shell_id, caller_words}
 use Rattle.kernel_world.specs.Replies.{left_gate, with_answer, with_errno}
-use Rattle.kernel_world.specs.Kept.{KeepsPool, AreStacks, KeepsLoaded, task_stacks, IsWorld, Within, call_sinces}
-use Rattle.kernel_world.specs.Opening.{interrupt_stack}
+use Rattle.kernel_world.specs.Kept.{Stack, routine_stack, KeepsPool, AreStacks, KeepsLoaded, task_stacks, IsWorld, Within, call_sinces}
+use Rattle.kernel_world.proofs.WorldIds.{ids_load}
 use Rattle.kernel_world.proofs.Advancing.{Advances, advances_on, advances_more, beside, by_kern, errno_advances}
 use Rattle.kernel_world.proofs.Goes.{drawn, goes-draw, goes-move}
 use Rattle.kernel_world.proofs.ObjectMoves.{objects-move}
@@ -55,17 +55,20 @@ pool_seg p n k = elim (eqb n.size 0) as (λ b. KeepsPool (cond b p (after_alloc 
   | false ↦ pool-alloc p (min n.size greatest_word) n.align Kernel k
 ]
 
-stacks_seg : (p : PartState) (n : Need) (ats : List ℕ) → AreStacks p ats → AreStacks (with_seg p n) ats
-stacks_seg p n ats s = elim (eqb n.size 0) as (λ b. AreStacks (cond b p (after_alloc p (min n.size greatest_word) n.align Kernel)) ats) [
+stacks_seg : (p : PartState) (n : Need) (stacks : List Stack) → KeepsPool p → AreStacks p stacks → AreStacks (with_seg p n) stacks
+stacks_seg p n stacks k s = elim (eqb n.size 0) as (λ b. AreStacks (cond b p (after_alloc p (min n.size greatest_word) n.align Kernel)) stacks) [
   | true ↦ s
-  | false ↦ stacks-alloc p (min n.size greatest_word) n.align Kernel ats s
+  | false ↦ stacks-alloc p (min n.size greatest_word) n.align Kernel stacks k.blocks s
 ]
 
 pool_needs : (p : PartState) (z : Needs) → KeepsPool p → KeepsPool (with_needs p z)
 pool_needs p z k = pool_seg (with_data p z) z.bss (pool_seg (with_text p z) z.«data» (pool_seg p z.text k))
 
-stacks_needs : (p : PartState) (z : Needs) (ats : List ℕ) → AreStacks p ats → AreStacks (with_needs p z) ats
-stacks_needs p z ats s = stacks_seg (with_data p z) z.bss ats (stacks_seg (with_text p z) z.«data» ats (stacks_seg p z.text ats s))
+stacks_needs : (p : PartState) (z : Needs) (stacks : List Stack) → KeepsPool p → AreStacks p stacks → AreStacks (with_needs p z) stacks
+stacks_needs p z stacks k s =
+    let text = pool_seg p z.text k in
+    let «data» = pool_seg (with_text p z) z.«data» text in
+    stacks_seg (with_data p z) z.bss stacks «data» (stacks_seg (with_text p z) z.«data» stacks text (stacks_seg p z.text stacks k s))
 
 pub is_loader : (w : WorldState) → IsWorld w → IsLoader (loader_state w)
 is_loader w kept = record { part = kept.pool.blocks; pool = omega (arith, kept.pool.end, kept.ram) }
@@ -91,16 +94,16 @@ module _ (w : WorldState) (kept : IsWorld w) (name : List ℕ) (m : Module) (mod
   modules_loaded =
       let row : ℕ × LoadedModule = (w.kern.next_id, record_of name (needs_of m) at) in
       let holds = load_keeps (loader_state w) name m mode at kept.pool.blocks known (record { ids = kept.home; below = kept.modules.below; pool = (is_loader w kept).pool; held = kept.modules.held }) ok in
-      let stacks : List ℕ = interrupt_stack ∷ task_stacks w.kern in
+      let stacks : List Stack = routine_stack ∷ task_stacks w.kern in
       record {
         few = omega (arith, length-append w.modules (row ∷ []), counts.few);
         rising = all_pairs_push (λ r t. r.0 < t.0) w.modules row kept.modules.rising kept.modules.below;
         below = holds.below;
         held = holds.held;
         apart = λ i d within.
-            (let a = get_or stacks i d in
+            (let a = (get_or stacks i d).addr in
             let both = held_by-loaded (loader_state w) name m mode at a in
-            let new = none_before (loader_state w) m mode at a kept.pool.blocks ok (kept.stacks.kernels i d within) in
+            let new = none_before (loader_state w) m mode at a kept.pool.blocks ok (ap is_some (kept.stacks.kernels i d within)) in
             let old = kept.modules.apart i d within in
             omega (arith, both, new, old));
       }
@@ -115,11 +118,12 @@ module _ (w : WorldState) (kept : IsWorld w) (name : List ℕ) (m : Module) (mod
           home = g.kept.home;
           objects = g.kept.objects;
           pool = pool_needs w.part (needs_of m) kept.pool;
-          stacks = stacks_needs w.part (needs_of m) (interrupt_stack ∷ task_stacks w.kern) kept.stacks;
+          stacks = stacks_needs w.part (needs_of m) (routine_stack ∷ task_stacks w.kern) kept.pool kept.stacks;
           modules = modules_loaded;
           ram = write_law.size (loader_state w) name m mode at (is_loader w kept) known ok ∙ kept.ram;
           symbols = symbols_few;
           watch = g.kept.watch;
+          ids = ids_load w kept.ids (drawn w.kern) (record_of name (needs_of m) at) refl refl;
         };
         lives = g.lives;
         within = g.within;
@@ -180,8 +184,8 @@ load_law w name said n kept may within =
     passes_by w (load_call w name said) shell (n + 1) call_sinces 1
     (advances_more w (load_call w name said) n (n + 1) 0 call_sinces 0 1 (omega arith) (omega arith) (omega arith) (load_advances w name said n kept may within))
 
--- ---- who lives
--- the shell's task goes on behind its gate, and is answered
+-- ---- which tasks live
+-- the shell's task goes on after its gate, and is answered
 pub lives_changed : (k j : KernState) (who id : ℕ) (f : Task → Task) → ((t : Task) → (f t).id ≡ t.id) → j ≡ change_task k who f → Lives k id → Lives j id
 lives_changed k j who id f keeps is live = subst (λ (i : KernState). Lives i id) (sym is) (lives_by (change_task k who f).tasks k.tasks id (ids-change k.tasks who f keeps) live)
 
@@ -190,7 +194,7 @@ unfolding loaded
 lives_loaded (Err e) s name m mode t id to live = absurd to
 lives_loaded (Ok at) s name m mode t id to live = subst (λ (u : LoaderState). Lives u.kern id) (sym to) live
 
--- ---- the kept facts
+-- ---- the invariant
 pub kept_by : (w x : WorldState) (name : List ℕ) (said : FileSaid) → IsWorld w → MayCall w.kern shell → x ≡ load_call w name said → IsWorld x
 kept_by w x name said kept may is =
     let (n, within) = counts_bound w in

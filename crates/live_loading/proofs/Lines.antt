@@ -22,7 +22,7 @@ one_line tab y ys =
       | false ↦ omega arith
     ]
 
--- the line of a symbol has 19 bytes beside its name
+-- the line of a symbol has 19 bytes without its name
 pub line_fits : (tab : List Symbol) (y : Sym) → length (undefined_text (unbound tab (y ∷ []))) ≤ 19 + length y.name
 unfolding undefined_text
 line_fits tab y =

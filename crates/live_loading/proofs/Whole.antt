@@ -23,7 +23,7 @@ use Rattle.live_loading.specs.Said.{Held}
 use Rattle.live_loading.specs.Texts.{reason, undefined_text}
 use Rattle.live_loading.specs.Loading.{shell, loader_state, with_loader, writing, refused, by_verdict, load_call}
 
--- ---- a module that was read
+-- ---- a module that has been read
 -- it is loaded: this commutes with leaving the gate
 at_places : (w : WorldState) (name : List ℕ) (m : Module) (mode : ℕ) (at : Places)
     → with_answer (writing (left_gate (with_loader w (loaded (loader_state w) name m mode at)) shell) (undefined_text (told (loader_state w) m).undefined)) shell (told (loader_state w) m).id
@@ -31,7 +31,7 @@ at_places : (w : WorldState) (name : List ℕ) (m : Module) (mode : ℕ) (at : P
 unfolding loaded
 at_places w name m mode at = refl
 
--- under the same name
+-- with the same name
 pub named : (v : Result Places LoadErr) (s : LoaderState) (name other : List ℕ) (m : Module) (mode : ℕ) (t : LoaderState) → name ≡ other → IsLoaded v s name m mode t → IsLoaded v s other m mode t
 named v s name other m mode t same to = subst (λ n. IsLoaded v s n m mode t) same to
 
@@ -74,7 +74,7 @@ left_file : (w : WorldState) (file : List ℕ) (mode : ℕ) → file_verdict (lo
 unfolding file_verdict verdict count_refusal
 left_file w file mode = refl
 
--- the mode stands in r3 of the shell's task
+-- the mode is in r3 of the shell's task
 mode_is : (w : WorldState) (regs : Regs) (id : ℕ) → regs ≡ caller_regs w.kern w.watch.level (Task id) → id ≡ shell_id → slice_index regs.gpr 3 ≡ slice_index (caller_words w shell) 3
 mode_is w regs id is same = ap (λ (r : Regs). slice_index r.gpr 3) is ∙ ap (λ n. slice_index (caller_words w (Task n)) 3) same
 

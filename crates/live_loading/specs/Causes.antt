@@ -4,7 +4,7 @@ use Rattle.live_loading.specs.declared.text.Cause.{Cause}
 use Rattle.live_loading.specs.declared.text.Cause.TheVariants as causes
 use Rattle.live_loading.specs.Texts.{reason}
 
--- its words in the text of a refused load
+-- the words for it in the text of a refused load
 abbrev pub cause_text : Cause → List ℕ
 cause_text causes.NotFound = codes "not found"
 cause_text causes.LongFile = codes "too long"

@@ -1,4 +1,4 @@
--- What follows of the definitions of a load alone.
+-- What follows from the definitions of a load alone.
 use Rattle.std.specs.Prelude.{◌≡◌, ℕ, ◌+◌, ◌≤◌, List, slice_index}
 use Rattle.mem_partition.specs.Laws.{IsIn}
 use Rattle.mem_partition.specs.declared.block.Block.{Block}
@@ -11,16 +11,17 @@ use Rattle.kernel_calls.specs.Laws.{Passes}
 use Rattle.live_loading.specs.Said.{FileSaid}
 use Rattle.live_loading.specs.Loading.{shell, load_call}
 
--- a load keeps the facts of the world, whatever is said of its file
+-- a load keeps the invariant of the world, whatever is said of its file
 abbrev pub LoadLaw : Type 0
 LoadLaw = (w : WorldState) (name : List ℕ) (said : FileSaid) (n : ℕ) → IsWorld w → MayCall w.kern shell → Within n w
     → Passes w (load_call w name said) shell (n + 1) call_sinces 1
 
--- the address lies in a block that one partition has and the other hasn't
+-- the address is in a block that the partition has after the load and not before it
 abbrev pub IsFresh : WorldState → WorldState → ℕ → Type 0
 IsFresh w v a = (b : Block) × Contains v.part.blocks b × (Contains w.part.blocks b → ⊥) × IsIn a b.addr b.size
 
--- what a load leaves as it was: the objects, the devices, the watchdogs, the other tasks and the counters, and each byte of RAM outside the blocks that it took
+-- what a load leaves as it was: the objects, the devices, the watchdogs, the other tasks and the counters, and
+-- each byte of RAM outside the blocks that it takes
 pub record OnlyLoads (w v : WorldState) : Type 0 where
   pub objects : v.objects ≡ w.objects
   pub slots : v.slots ≡ w.slots

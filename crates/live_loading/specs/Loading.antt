@@ -1,4 +1,4 @@
--- The call that loads a module, with what is said of its file.
+-- The call that loads a module, given what is said of its file.
 use Rattle.std.specs.Prelude.{ℕ, List, ◌++◌, slice_index, Result, Ok, Err, codes}
 use Rattle.wind_base.specs.Limits.{ok_word}
 use Rattle.wind_base.specs.Errno.{errno_number}
@@ -20,18 +20,18 @@ use Rattle.live_loading.specs.Texts.{reason, refused_text, undefined_text}
 abbrev pub shell : Actor
 shell = Task shell_id
 
--- what of the world a load reads and changes, and the world with that
+-- the parts of the world that a load reads and changes, and the world with other ones
 abbrev pub loader_state : WorldState → LoaderState
 loader_state w = record { kern = w.kern; symbols = w.symbols; modules = w.modules; part = w.part; ram = w.ram }
 
 abbrev pub with_loader : WorldState → LoaderState → WorldState
 with_loader w s = record w { kern = s.kern; symbols = s.symbols; modules = s.modules; part = s.part; ram = s.ram }
 
--- the world that has written a text besides
+-- the world after it has also written a text
 abbrev pub writing : WorldState → List ℕ → WorldState
 writing w text = record w { output = w.output ++ text }
 
--- the module is loaded at these places: the names that nothing defines are written, and the answer is its id
+-- the module is loaded at these places: the undefined names are written, and the answer is the module's id
 abbrev pub accepted : WorldState → List ℕ → ℕ → Module → Places → WorldState
 accepted w name mode m at =
     with_answer (writing (with_loader w (loaded (loader_state w) name m mode at)) (undefined_text (told (loader_state w) m).undefined)) shell w.kern.next_id
@@ -44,12 +44,12 @@ abbrev pub by_verdict : WorldState → List ℕ → ℕ → Module → Result Pl
 by_verdict w name mode m (Ok at) = accepted w name mode m at
 by_verdict w name mode m (Err e) = refused w name (reason e)
 
--- the effect of the call under a name, in a mode
+-- the effect of the call with a name, in a mode
 abbrev pub effect : WorldState → List ℕ → ℕ → FileSaid → WorldState
 effect w name mode (Held file) = by_verdict w name mode (module_at file) (file_verdict (loader_state w) file mode)
 effect w name mode Missing = refused w name (codes "not found")
 effect w name mode TooLong = refused w name (codes "too long")
 
--- the call: the shell's task goes on behind its gate, and the effect is made, in the mode of r3; r4 is not used
+-- the call: the shell's task goes on after its gate, and the call has its effect, in the mode of r3; r4 isn't used
 unfoldable pub load_call : WorldState → List ℕ → FileSaid → WorldState
 load_call w name said = effect (left_gate w shell) name (slice_index (caller_words w shell) 3) said

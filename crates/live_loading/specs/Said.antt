@@ -1,10 +1,10 @@
--- What is said of the file that a load asks for.
+-- What is said of the file that a load needs.
 use Rattle.std.specs.Prelude.{ℕ, List, length, nat_lt, if◌then◌else◌, Option, None, Some}
 use Rattle.wind_base.specs.Limits.{longest_module_file}
 use Rattle.live_loading.specs.declared.answer.FileAnswer.{FileAnswer}
 use Rattle.live_loading.specs.declared.answer.FileAnswer.TheVariants as answers
 
--- the file holds these bytes; or there is none; or it has more bytes than a module file may have
+-- the file holds these bytes; or it doesn't exist; or it has more bytes than a module file may have
 pub data FileSaid : Type 0 where
   Held : List ℕ → FileSaid
   Missing : FileSaid

@@ -1,12 +1,12 @@
-//! What is said of the file that a load asks for.
+//! What is said of the file that a load needs.
 
-/// What is said of a file that a load asks for.
+/// What is said of the file that a load needs.
 #[derive(Debug, Drop)]
 pub enum FileAnswer {
     /// Its bytes.
     File(Vec<u8>),
-    /// There is no such file.
+    /// The file doesn't exist.
     NoFile,
-    /// It is longer than a module file may be: 4 MiB.
+    /// The file is longer than a module file may be: 4 MiB.
     LongFile,
 }

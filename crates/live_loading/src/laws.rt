@@ -1,10 +1,10 @@
-//! What follows of the definitions of a load alone.
+//! What follows from the definitions of a load alone.
 
 ghost use Rattle.live_loading.specs.Laws.{LoadLaw, AloneLaw};
 
-/// A load keeps the facts of the world, whatever is said of its file. It changes nothing but the symbols, the modules,
-/// the blocks that it takes with their bytes, the next id, and what its caller is answered; one that is refused, the
-/// answer alone.
+/// A load keeps the invariant of the world, whatever is said of its file. It leaves as they were
+/// the objects, the devices, the watchdogs, the other tasks, the counters other than the next id,
+/// and each byte of RAM outside the blocks that it takes.
 pub fn loading_law()
     ensures kept { LoadLaw }
     ensures alone { AloneLaw }

@@ -1,4 +1,4 @@
-//! Loading a module during a run: the call `ld`, with what is said of its file.
+//! Loads a module during a run: the call `ld`, given what is said of its file.
 #![tactic(auto)]
 
 mod answer;

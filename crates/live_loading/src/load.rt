@@ -1,4 +1,4 @@
-//! The call that loads a module, with what is said of its file.
+//! The call that loads a module, given what is said of its file.
 
 ghost use Rattle.std.specs.Prelude.{◌≡◌, ◌≤◌, [], Some, OnOk, OnErr};
 ghost use Rattle.wind_base.specs.declared.gate.Gate.TheVariants as gates;
@@ -25,8 +25,8 @@ use std::alloc::Global;
 use wind_base::{Name, NoMemory};
 use wind_outside::Device;
 
-// Loads a module that was read from its file. It first makes room for the lines of the undefined names. If memory runs
-// out, nothing changes.
+// Loads a module that was read from its file. It first reserves room for the lines that report
+// undefined names. If memory runs out, nothing changes.
 fn load_read(
     alloc: Global,
     w: &mut World,
@@ -88,8 +88,8 @@ fn load_outlined(
     load_read(alloc, w, name, &m, mode)
 }
 
-// Loads the module of a file, in the mode of r3. It copies the bytes of sections only after it has found places for the
-// segments. If memory runs out, nothing changes.
+// Loads the module of a file, in the mode of r3. It copies the bytes of sections only after it has
+// found places for the segments. If memory runs out, nothing changes.
 fn load_held(alloc: Global, w: &mut World, name: &Name, file: &[u8]) -> Result<(), NoMemory>
     requires live { Acts w.old.kern shell }
     requires kept { IsWorld (world_with [] w.old) }
@@ -116,7 +116,7 @@ fn load_held(alloc: Global, w: &mut World, name: &Name, file: &[u8]) -> Result<(
     }
 }
 
-// Makes the call with the answer about the file. If memory runs out, nothing changes.
+// Makes the call with the answer about its file. If memory runs out, nothing changes.
 #[tactic(auto, unfolding(crate::specs::Loading::load_call))]
 fn load_said(alloc: Global, w: &mut World, name: &Name, file: &FileAnswer) -> Result<(), NoMemory>
     requires live { Acts w.old.kern shell }
@@ -135,9 +135,10 @@ fn load_said(alloc: Global, w: &mut World, name: &Name, file: &FileAnswer) -> Re
     Ok(())
 }
 
-/// Makes the call of `ld` by the shell's task, which asks for the file of this name, with what is said of that file: the
-/// task goes on behind its gate, the module is loaded whole or not at all, the names that nothing defines or the reason of
-/// the refusal are written, and the task is answered. For want of memory nothing changes.
+/// Makes the call of `ld` by the shell's task, given what is said of the file with this name. The
+/// task goes on after its gate. The module is loaded whole or not at all. The undefined names, or
+/// the reason of the refusal, are written, and the task is answered. If memory runs out, nothing
+/// changes.
 pub fn kernel_load(
     alloc: Global,
     w: &mut World,

@@ -1,4 +1,4 @@
-//! How a load goes on for the shell's task.
+//! How the shell's task goes on after a load.
 
 ghost use Rattle.std.specs.Prelude.{◌≡◌, ◌≤◌, length};
 ghost use Rattle.wind_base.specs.OutBuf.{KeepsSpace};
@@ -28,7 +28,8 @@ pub(crate) fn shell_id() -> Ident
     }
 }
 
-/// Nothing is loaded: the shell's task goes on behind its gate, the reason is written, and the answer is 0.
+/// Nothing is loaded: the shell's task goes on after its gate, the reason is written, and the
+/// answer is 0.
 pub(crate) fn refuse(w: &mut World, name: &Name, cause: Cause)
     requires live { Lives w.old.kern shell_id_lem }
     requires room { 4096 ≤ w.old.out.room }
@@ -43,8 +44,8 @@ pub(crate) fn refuse(w: &mut World, name: &Name, cause: Cause)
     w.kern.answer(who, OK);
 }
 
-/// A module is loaded: the shell's task goes on behind its gate, the names that nothing defines are written, and the
-/// answer is the module's id.
+/// A module is loaded: the shell's task goes on after its gate, the undefined names are written,
+/// and the answer is the module's id.
 pub(crate) fn accept(w: &mut World, loaded: &Loaded)
     requires live { Lives w.old.kern shell_id_lem }
     requires room { length (undefined_text loaded.now.undefined) ≤ w.old.out.room }

@@ -16,21 +16,21 @@ use reloc_link::RelocErr;
 use wind_base::text::{add, add_decimal};
 use wind_base::{Name, OutBuf};
 
-// The bytes of the line of a name that nothing defines, beside those of the name.
+// The length in bytes of the line that reports an undefined name, without the name.
 const LINE_BYTES: u32 = 19;
 
 /// Why nothing is loaded.
 #[derive(Clone, Copy, Debug, PartialEq, Eq)]
 pub(crate) enum Cause {
-    /// There is no such file.
+    /// The file doesn't exist.
     NotFound,
-    /// It is longer than a module file may be.
+    /// The file is longer than a module file may be.
     LongFile,
     /// The load is refused.
     Refused(LoadErr),
 }
 
-// Adds words and a place in a file: 40 bytes at most.
+// Adds words and an offset in a file: at most 40 bytes.
 fn add_at(out: &mut OutBuf, words: &[u8], offset: u64)
     requires words { length words.now ≤ 16 }
     requires room { 40 ≤ out.old.room }
@@ -42,7 +42,7 @@ fn add_at(out: &mut OutBuf, words: &[u8], offset: u64)
     add(out, digits.format(offset).as_bytes());
 }
 
-// Adds why a file is refused: 40 bytes at most.
+// Adds why a file is refused: at most 40 bytes.
 fn add_file_reason(out: &mut OutBuf, e: ElfErr)
     requires { 40 ≤ out.old.room }
     ensures { Added 40 out.old out.new (file_reason e) }
@@ -60,7 +60,7 @@ fn add_file_reason(out: &mut OutBuf, e: ElfErr)
     }
 }
 
-// Adds the number of a relocation and words: 40 bytes at most.
+// Adds the number of a relocation and words: at most 40 bytes.
 fn add_numbered(out: &mut OutBuf, number: u32, words: &[u8])
     requires words { length words.now ≤ 19 }
     requires room { 40 ≤ out.old.room }
@@ -71,7 +71,7 @@ fn add_numbered(out: &mut OutBuf, number: u32, words: &[u8])
     add(out, words);
 }
 
-// Adds why a relocation can't be made: 40 bytes at most.
+// Adds why a relocation can't be made: at most 40 bytes.
 fn add_relocation_reason(out: &mut OutBuf, e: RelocErr)
     requires { 40 ≤ out.old.room }
     ensures { Added 40 out.old out.new (relocation_reason e) }
@@ -83,7 +83,7 @@ fn add_relocation_reason(out: &mut OutBuf, e: RelocErr)
     }
 }
 
-// Adds why a load is refused: 40 bytes at most.
+// Adds why a load is refused: at most 40 bytes.
 #[tactic(auto, unfolding(crate::specs::Texts::reason))]
 fn add_reason(out: &mut OutBuf, e: LoadErr)
     requires { 40 ≤ out.old.room }
@@ -100,7 +100,7 @@ fn add_reason(out: &mut OutBuf, e: LoadErr)
     }
 }
 
-// Adds why nothing is loaded: 40 bytes at most.
+// Adds why nothing is loaded: at most 40 bytes.
 fn add_cause(out: &mut OutBuf, cause: Cause)
     requires { 40 ≤ out.old.room }
     ensures { Added 40 out.old out.new (cause_text cause) }
@@ -112,7 +112,7 @@ fn add_cause(out: &mut OutBuf, cause: Cause)
     }
 }
 
-/// Adds the line that tells why the file of a name is not loaded: 302 bytes at most.
+/// Adds the line that reports why the file with this name isn't loaded: at most 302 bytes.
 #[tactic(auto, unfolding(crate::specs::Texts::refused_text))]
 pub(crate) fn add_refusal(out: &mut OutBuf, name: &Name, cause: Cause)
     requires { 302 ≤ out.old.room }
@@ -125,7 +125,7 @@ pub(crate) fn add_refusal(out: &mut OutBuf, name: &Name, cause: Cause)
     add(out, b"\n");
 }
 
-// Adds the line of a name that nothing defines.
+// Adds the line that reports an undefined name.
 fn add_undefined_line(out: &mut OutBuf, name: &Name)
     requires { length (undefined_line name.now) ≤ out.old.room }
     ensures { Added (length (undefined_line name.now)) out.old out.new (undefined_line name.now) }
@@ -135,7 +135,7 @@ fn add_undefined_line(out: &mut OutBuf, name: &Name)
     add(out, b"\n");
 }
 
-/// Adds a line for each name that nothing defines.
+/// Adds a line for each undefined name.
 #[tactic(auto, unfolding(crate::specs::Texts::undefined_text))]
 pub(crate) fn add_undefined(out: &mut OutBuf, names: &[Name])
     requires { length (undefined_text names.now) ≤ out.old.room }
@@ -147,7 +147,7 @@ pub(crate) fn add_undefined(out: &mut OutBuf, names: &[Name])
     }
 }
 
-// How many bytes the line of a symbol may take: none, where the module defines it.
+// The most bytes of a symbol's line: 0 if the module defines the symbol.
 fn line_room(symbol: &Sym) -> u32
     ensures enough { (tab : List Symbol) → length (undefined_text (unbound tab (symbol.now ∷ []))) ≤ result }
     ensures most { result ≤ 274 }
@@ -158,7 +158,7 @@ fn line_room(symbol: &Sym) -> u32
     }
 }
 
-/// A bound of the bytes of those lines, whatever the table of symbols defines.
+/// The most bytes of all these lines, whatever the symbol table defines.
 pub(crate) fn undefined_room(m: &Module) -> u32
     requires { IsModule m.now }
     ensures { (tab : List Symbol) → length (undefined_text (unbound tab m.now.symbols)) ≤ result }

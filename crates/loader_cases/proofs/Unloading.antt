@@ -1,4 +1,4 @@
--- What the modules keep is kept by an unload.
+-- An unload keeps the invariant of the modules.
 use Rattle.std.proofs.Common.{◌≡◌, ℕ, ◌≤◌, List, Option, Some, None, Result, Ok, Err, refl, sym, subst}
 use Rattle.std.specs.Prelude.{◌↔◌, length, IsOk, IsSome, OnOk, OnErr}
 use Rattle.wind_core.specs.State.{KernState}

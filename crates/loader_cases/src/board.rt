@@ -13,22 +13,22 @@ use symbol_table::Symbols;
 use wind_base::Name;
 use wind_core::Kern;
 
-/// What a board begins with.
+/// How a board begins.
 #[derive(Clone, Copy, Drop)]
 pub struct Opening {
-    /// Where the pool of the partition begins.
+    /// The first address of the partition's pool.
     pub start: u32,
-    /// Where it ends, and RAM too.
+    /// The first address after the pool, which is also the end of RAM.
     pub end: u32,
-    /// How many ids are given out.
+    /// How many ids have been handed out.
     pub ids: u32,
-    /// How many blocks of 16 bytes are taken.
+    /// How many blocks of 16 bytes are allocated.
     pub blocks: u32,
     /// How many symbols there are.
     pub symbols: u32,
 }
 
-/// Ids, partition, symbols, RAM and modules, as a load asks for them.
+/// Ids, partition, symbols, RAM and modules, as a load needs them.
 #[derive(Drop)]
 pub struct Board {
     kern: Kern,
@@ -45,13 +45,13 @@ impl Model for Board {
 
     ghost Value = { LoaderState };
 
-    ghost view = { λ b. state_of b.kern b.syms.list b.modules b.part b.ram };
+    ghost view = { λ b. state_of b.kern b.syms.list b.modules b.part b.ram.bytes };
 
-    ghost invariant = { λ b. KeepsModules (state_of b.kern b.syms.list b.modules b.part b.ram) };
+    ghost invariant = { λ b. KeepsModules (state_of b.kern b.syms.list b.modules b.part b.ram.bytes) };
 }
 
 impl Board {
-    /// A board without modules.
+    /// Makes a board without modules.
     pub fn new(alloc: Global, opening: Opening) -> Result<Board, Trouble> {
         let ram = filled(alloc, opening.end)?;
         let part = part_after(alloc, opening.start, opening.end, opening.blocks)?;
@@ -70,6 +70,7 @@ impl Board {
         })
     }
 
+    /// Loads a file under a name, in a mode.
     pub fn load(&mut self, name: Name, file: &[u8], mode: u32) -> Result<Loaded, LoadErr> {
         self.modules.load(
             &mut self.kern,
@@ -82,6 +83,7 @@ impl Board {
         )
     }
 
+    /// Unloads the module with this id.
     pub fn unload(&mut self, id: u32) -> Result<(), NoSuchModule> {
         self.modules.unload(&mut self.part, &mut self.syms, id)
     }
@@ -91,18 +93,22 @@ impl Board {
         ids_left(&mut self.kern)
     }
 
+    /// The partition.
     pub fn part(&self) -> &Part {
         &self.part
     }
 
+    /// The symbols.
     pub fn symbols(&self) -> &Symbols {
         &self.syms
     }
 
+    /// RAM.
     pub fn ram(&self) -> &Ram {
         &self.ram
     }
 
+    /// The modules.
     pub fn modules(&self) -> &Modules {
         &self.modules
     }

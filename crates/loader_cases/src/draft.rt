@@ -6,7 +6,7 @@ use elf_build::{build, is_buildable};
 use elf_read::{Body, Bytes, Module, Rel, RelList, Sect, SectList, Sym, SymList, SymPlace};
 use std::alloc::Global;
 
-/// A module so far.
+/// The module that lines have described so far.
 #[derive(Drop)]
 pub struct Draft {
     alloc: Global,
@@ -16,6 +16,7 @@ pub struct Draft {
 }
 
 impl Draft {
+    /// A module without parts.
     pub fn new(alloc: Global) -> Draft {
         Draft {
             alloc,
@@ -25,7 +26,7 @@ impl Draft {
         }
     }
 
-    /// Takes a section `NAME FLAGS ALIGN BYTES`.
+    /// Adds a section from the words `NAME FLAGS ALIGN BYTES`.
     pub fn section(&mut self, words: &[&str]) -> Result<(), Trouble> {
         let [label, flags, align, rest @ ..] = words else {
             return Err(Trouble::Unreadable);
@@ -35,7 +36,7 @@ impl Draft {
         self.put(label, flags, align, body)
     }
 
-    /// Takes a section without bytes, `NAME FLAGS ALIGN SIZE`.
+    /// Adds a section without bytes from the words `NAME FLAGS ALIGN SIZE`.
     pub fn zeros(&mut self, words: &[&str]) -> Result<(), Trouble> {
         let [label, flags, align, size] = words else {
             return Err(Trouble::Unreadable);
@@ -56,7 +57,7 @@ impl Draft {
         Ok(())
     }
 
-    /// Takes a symbol `NAME BINDING TYPE VALUE SIZE PLACE`.
+    /// Adds a symbol from the words `NAME BINDING TYPE VALUE SIZE PLACE`.
     pub fn symbol(&mut self, words: &[&str]) -> Result<(), Trouble> {
         let [label, binding, kind, value, size, place] = words else {
             return Err(Trouble::Unreadable);
@@ -76,7 +77,7 @@ impl Draft {
         Ok(())
     }
 
-    /// Takes a relocation `SECTION OFFSET TYPE SYMBOL ADDEND`.
+    /// Adds a relocation from the words `SECTION OFFSET TYPE SYMBOL ADDEND`.
     pub fn reloc(&mut self, words: &[&str]) -> Result<(), Trouble> {
         let [section, offset, kind, symbol, addend] = words else {
             return Err(Trouble::Unreadable);
@@ -92,7 +93,7 @@ impl Draft {
         Ok(())
     }
 
-    /// The file of the module; none where it has none.
+    /// The file of the module; `None` if the module has none.
     pub fn file(self) -> Result<Option<Vec<u8>>, Trouble> {
         let module = Module {
             sections: SectList::from_vec(self.sections),

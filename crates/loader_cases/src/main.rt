@@ -1,5 +1,5 @@
-//! Plays loads and unloads that files describe, over object files that they describe too, and compares what is answered
-//! with what the files say.
+//! Plays loads and unloads that files describe, of object files that they describe too, and
+//! compares the answers with those in the files.
 #![tactic(auto)]
 
 mod board;
@@ -14,7 +14,7 @@ use case_files::play_files;
 use session::Session;
 use std::io;
 
-/// Plays the session of each file that the words name.
+/// Plays the session of each file named on the command line.
 fn main(rt: HostRuntime) -> io::Result<()> {
     play_files::<Session, _>(&rt)
 }

@@ -1,4 +1,4 @@
-//! What stands at the beginning of a session.
+//! The state of the parts at the beginning of a session.
 
 ghost use Rattle.std.specs.Prelude.{◌≡◌, false, IfOk};
 
@@ -14,13 +14,13 @@ use wind_core::Kern;
 /// What each byte of RAM holds.
 const FILL: u8 = 0xee;
 
-/// How many bytes each block has that is taken.
+/// The size of each allocated block, in bytes.
 pub const BLOCK: u32 = 16;
 
 /// The group of symbols that belong to no module.
 const NO_MODULE: u32 = 0;
 
-/// A kernel that has given out so many ids, or all.
+/// A kernel that has handed out this many ids, or all.
 pub fn kern_after(alloc: Global, ids: u32) -> Result<Kern, NoMemory>
     ensures { IfOk result (λ kern. kern.lent ≡ false) }
 {
@@ -34,7 +34,7 @@ pub fn kern_after(alloc: Global, ids: u32) -> Result<Kern, NoMemory>
     }
 }
 
-// Draws so many ids, or all that are left.
+// Takes this many ids, or all that are left.
 fn spend(kern: &mut Kern, table: &mut Table<()>, ids: u32)
     requires { kern.old.lent ≡ false }
     ensures { kern.new.lent ≡ false }
@@ -50,7 +50,7 @@ fn spend(kern: &mut Kern, table: &mut Table<()>, ids: u32)
     }
 }
 
-/// A partition of this pool, with so many blocks taken.
+/// A partition of this pool, with this many blocks allocated.
 pub fn part_after(alloc: Global, start: u32, end: u32, blocks: u32) -> Result<Part, NoMemory> {
     let mut part = Part::new(alloc, start, end)?;
     for _ in 0..blocks {
@@ -59,7 +59,7 @@ pub fn part_after(alloc: Global, start: u32, end: u32, blocks: u32) -> Result<Pa
     Ok(part)
 }
 
-/// A table of so many symbols, all of one name.
+/// A table with this many symbols, all with the same name.
 pub fn symbols_after(alloc: Global, count: u32) -> Result<Symbols, Trouble> {
     let mut syms = Symbols::new(alloc)?;
     for _ in 0..count {
@@ -81,7 +81,7 @@ fn add(alloc: Global, syms: &mut Symbols) -> Result<(), Trouble> {
     Ok(())
 }
 
-/// RAM of so many bytes, none of which is zero.
+/// RAM of this many bytes, none of which is zero.
 pub fn filled(alloc: Global, size: u32) -> Result<Ram, NoMemory> {
     let mut ram = Ram::new(alloc, size)?;
     let _ = ram.fill(0, size, FILL);

@@ -20,7 +20,7 @@ pub fn picture(alloc: Global, board: &mut Board) -> Result<Vec<u64>, AllocError>
     Ok(list)
 }
 
-// How many bytes there are, and these.
+// Adds the size of RAM, and its bytes.
 fn put_ram(list: &mut Vec<u64>, ram: &Ram) -> Result<(), AllocError> {
     list.push(u64::from(ram.size()))?;
     for at in 0..ram.size() {
@@ -29,7 +29,7 @@ fn put_ram(list: &mut Vec<u64>, ram: &Ram) -> Result<(), AllocError> {
     Ok(())
 }
 
-// How many bytes there are, and these.
+// Adds how many bytes there are, and the bytes.
 fn put_bytes(list: &mut Vec<u64>, bytes: &[u8]) -> Result<(), AllocError> {
     list.push(bytes.len() as u64)?;
     for byte in bytes {
@@ -83,7 +83,7 @@ fn put_module(list: &mut Vec<u64>, module: &LoadedModule) -> Result<(), AllocErr
     Ok(())
 }
 
-// Each block with its address and its size: all begin at multiples of 16.
+// Adds the address and the size of each block; all blocks begin at multiples of 16.
 fn put_blocks(list: &mut Vec<u64>, part: &Part) -> Result<(), AllocError> {
     for n in 0..part.end() / BLOCK {
         let at = n * BLOCK;

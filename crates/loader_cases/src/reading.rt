@@ -3,12 +3,12 @@
 use case_files::Trouble;
 use std::alloc::Global;
 
-/// A number of one byte in hexadecimal digits.
+/// A byte in hexadecimal digits.
 pub fn byte(word: &str) -> Result<u8, Trouble> {
     u8::from_str_radix(word, 16).or(Err(Trouble::Unreadable))
 }
 
-/// The bytes of words of two digits a byte.
+/// Bytes in words of hexadecimal digits, two digits a byte.
 pub fn bytes(alloc: Global, words: &[&str]) -> Result<Vec<u8>, Trouble> {
     let mut all = Vec::new(alloc);
     for word in words {

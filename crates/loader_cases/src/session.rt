@@ -12,7 +12,7 @@ use std::mem;
 use text_show::module_rows;
 use wind_base::OutBuf;
 
-/// What stands before the first line that makes a board.
+/// The board before the first line that makes one.
 const NOTHING: Opening = Opening {
     start: 0,
     end: 0,
@@ -21,14 +21,14 @@ const NOTHING: Opening = Opening {
     symbols: 0,
 };
 
-// A file with its name.
+// A file and its name.
 #[derive(Drop)]
 struct File {
     name: String,
     bytes: Vec<u8>,
 }
 
-/// A board, the files made so far, and the module that lines describe.
+/// A board, the files made so far, and the module being described.
 #[derive(Drop)]
 pub struct Session {
     alloc: Global,
@@ -47,7 +47,8 @@ impl Player for Session {
         })
     }
 
-    /// Plays a line `COMMAND | ANSWER`, or `COMMAND` where nothing is answered. Gives the answer where it is another.
+    /// Plays a line `COMMAND | ANSWER`, or `COMMAND` if nothing is answered. Returns the answer if
+    /// it differs.
     fn play(&mut self, line: &str) -> Result<Option<String>, Trouble> {
         let (command, wanted) = match line.split_once('|') {
             Some((command, wanted)) => (command, wanted.trim()),
@@ -89,7 +90,7 @@ impl Session {
     }
 }
 
-// The answer of a command that answers nothing.
+// The answer of a command without one.
 fn silent(alloc: Global, done: Result<(), Trouble>) -> Result<String, Trouble> {
     done?;
     Ok(String::new(alloc))
@@ -97,7 +98,8 @@ fn silent(alloc: Global, done: Result<(), Trouble>) -> Result<String, Trouble> {
 
 // Files.
 impl Session {
-    // `file NAME`: the module that the lines before describe, as a file of this name. A new one begins.
+    // `file NAME`: makes a file with this name of the module described by the lines before, and
+    // begins a new module.
     fn file(&mut self, words: &[&str]) -> Result<String, Trouble> {
         let [label] = words else {
             return Err(Trouble::Unreadable);
@@ -113,7 +115,7 @@ impl Session {
         }
     }
 
-    // `cut NAME LENGTH`: only so many bytes of a file stay.
+    // `cut NAME LENGTH`: keeps only the first bytes of a file.
     fn cut(&mut self, words: &[&str]) -> Result<(), Trouble> {
         let [label, length] = words else {
             return Err(Trouble::Unreadable);
@@ -124,7 +126,7 @@ impl Session {
         Ok(())
     }
 
-    // `byte NAME AT VALUE`: another byte in a file.
+    // `byte NAME AT VALUE`: changes a byte of a file.
     fn change(&mut self, words: &[&str]) -> Result<(), Trouble> {
         let [label, at, value] = words else {
             return Err(Trouble::Unreadable);
@@ -140,7 +142,7 @@ impl Session {
     }
 }
 
-// The bytes of the newest file of a name.
+// The bytes of the newest file with a name.
 fn find<'a>(files: &'a mut [File], label: &str) -> Result<&'a mut Vec<u8>, Trouble> {
     for file in files.iter_mut().rev() {
         if file.name.as_str() == label {
@@ -152,7 +154,7 @@ fn find<'a>(files: &'a mut [File], label: &str) -> Result<&'a mut Vec<u8>, Troub
 
 // Loads and unloads.
 impl Session {
-    // `board START END IDS BLOCKS SYMBOLS`: a board without modules. The files stay.
+    // `board START END IDS BLOCKS SYMBOLS`: makes a board without modules. The files stay.
     fn open(&mut self, words: &[&str]) -> Result<(), Trouble> {
         let [start, end, ids, blocks, symbols] = words else {
             return Err(Trouble::Unreadable);
@@ -169,7 +171,7 @@ impl Session {
         Ok(())
     }
 
-    // `load NAME MODE`: a file is loaded under its name.
+    // `load NAME MODE`: loads a file under its name.
     fn load(&mut self, words: &[&str]) -> Result<String, Trouble> {
         let [label, mode] = words else {
             return Err(Trouble::Unreadable);
@@ -184,7 +186,7 @@ impl Session {
         }
     }
 
-    // `loads NAME MODE COUNT`: the same so many times. The answer is the last.
+    // `loads NAME MODE COUNT`: loads it this many times. The answer is the last one.
     fn load_often(&mut self, words: &[&str]) -> Result<String, Trouble> {
         let [label, mode, count] = words else {
             return Err(Trouble::Unreadable);
@@ -196,7 +198,7 @@ impl Session {
         Ok(answer)
     }
 
-    // `unload ID`.
+    // `unload ID`: unloads a module.
     fn unload(&mut self, words: &[&str]) -> Result<String, Trouble> {
         let [id] = words else {
             return Err(Trouble::Unreadable);
@@ -219,7 +221,7 @@ fn refused(
     showing::refused(alloc, reason, after.as_slice() == before)
 }
 
-// Questions.
+// Commands that only ask.
 impl Session {
     fn question(&self, command: &str, words: &[&str]) -> Result<String, Trouble> {
         match (command, words) {
@@ -246,7 +248,7 @@ impl Session {
         }
     }
 
-    // The bytes of RAM from an address on; none where one is outside.
+    // The bytes of RAM from an address on; `None` if one is outside RAM.
     fn bytes_at(&self, at: u32, count: u32) -> Result<Option<Vec<u8>>, Trouble> {
         let ram = self.board.ram();
         if !ram.has(at, count) {
@@ -257,7 +259,7 @@ impl Session {
         Ok(Some(bytes))
     }
 
-    // A line of the table of the modules.
+    // A line of the table of modules.
     fn table_line(&self, line: u32) -> Result<String, Trouble> {
         let mut out = OutBuf::reserved(self.alloc, 0)?;
         module_rows(self.alloc, self.board.modules(), &mut out)?;

@@ -6,7 +6,7 @@ use module_loader::{LoadErr, Loaded, LoadedModule, Segment};
 use std::alloc::{AllocError, Global};
 use symbol_table::{SymKind, Symbol};
 
-/// The id, and behind it the names that nothing defines.
+/// The id, followed by the undefined names.
 pub fn loaded(alloc: Global, answer: &Loaded) -> Result<String, Trouble> {
     let mut text = format!(in alloc; "id {:x}", answer.id.get())?;
     for name in answer.undefined.as_slice() {
@@ -16,13 +16,13 @@ pub fn loaded(alloc: Global, answer: &Loaded) -> Result<String, Trouble> {
     Ok(text)
 }
 
-/// Why a load was refused, and whether all stands as before.
+/// Why a load was refused, and whether everything is as before.
 pub fn refused(alloc: Global, reason: LoadErr, same: bool) -> Result<String, Trouble> {
     let before = if same { "" } else { ", and something changed" };
     Ok(format!(in alloc; "{reason}{before}")?)
 }
 
-/// The value, the kind, whether other modules see it, and its group.
+/// The value, the kind, whether other modules see the symbol, and its group.
 pub fn symbol(alloc: Global, found: Option<&Symbol>) -> Result<String, Trouble> {
     let Some(symbol) = found else {
         return none(alloc);
@@ -41,7 +41,7 @@ fn kind(kind: SymKind) -> &'static str {
     }
 }
 
-/// The name, and of each segment where it is and how many bytes it has.
+/// The name, and the address and size of each segment.
 pub fn module(alloc: Global, found: Option<&LoadedModule>) -> Result<String, Trouble> {
     let Some(module) = found else {
         return none(alloc);
@@ -64,6 +64,7 @@ pub fn id(alloc: Global, found: Option<Ident>) -> Result<String, Trouble> {
     }
 }
 
+/// A number in hexadecimal digits.
 pub fn hexadecimal(alloc: Global, n: u32) -> Result<String, Trouble> {
     Ok(format!(in alloc; "{n:x}")?)
 }
@@ -84,8 +85,8 @@ pub fn bytes(alloc: Global, found: Option<Vec<u8>>) -> Result<String, Trouble> {
     Ok(text)
 }
 
-/// The line of a number, counted from 0, in quotes; nothing between them where there is none. The text has characters
-/// of ASCII.
+/// The line with this number, counted from 0, in quotes, which are empty if there is no such line.
+/// The text is ASCII.
 pub fn line(alloc: Global, text: &[u8], number: u32) -> Result<String, Trouble> {
     let mut shown = format!(in alloc; "\"")?;
     let mut place = 0u32;
@@ -104,7 +105,7 @@ fn none(alloc: Global) -> Result<String, Trouble> {
     Ok(format!(in alloc; "none")?)
 }
 
-// Bytes of a name, which are characters of ASCII.
+// Adds the bytes of a name, which are ASCII.
 fn put_bytes(text: &mut String, bytes: &[u8]) -> Result<(), AllocError> {
     for byte in bytes {
         text.push(char::from(*byte))?;

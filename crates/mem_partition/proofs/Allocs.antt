@@ -1,4 +1,4 @@
--- What is given, and what is taken back at once.
+-- A block that is allocated, and one that is freed at once.
 use Rattle.std.proofs.Common.{◌≡◌, ℕ, ◌+◌, ◌<◌, ◌≤◌, max, Bool, true, false, cond, leb, ltb, eqb, not, ◌&&◌, List, [], ◌∷◌, length, Option, Some, None, Result, Ok, Err, refl, ap, ◌∙◌, inl, inr, arith}
 use Rattle.std.specs.List.{find}
 use Rattle.std.proofs.lemmas.Bool.{leb-false, eq-eqb, ne_eqb, and_parts, and_from, and_left}
@@ -85,7 +85,7 @@ pub alloc_kept : (s : PartState) (n align : ℕ) (class : Class) → IsPart s �
 unfolding after_alloc
 alloc_kept s n align class k = kept_by s n align class (alloc_of s n align) k refl
 
--- the block that is put in is found first by what no other passes
+-- the new block is found first by a test that no other block passes
 pub find_with : (p : Block → Bool) (b : Block) (lo hi : ℕ) (bs : List Block) → Laid lo hi bs → 0 < b.size → meets_none bs b.size b.addr ≡ true → p b ≡ true
     → ((c : Block) → (c.addr ≡ b.addr → ⊥) → p c ≡ false) → find p (with_block b bs) ≡ Some b
 find_with p b lo hi [] laid some free passes others = ap (λ t. cond t (Some b) None) passes

@@ -1,4 +1,4 @@
--- How many addresses of the pool lie in no block: the pool without the bytes in blocks.
+-- How many addresses of the pool are in no block: the size of the pool without the bytes in blocks.
 use Rattle.std.proofs.Common.{◌≡◌, ℕ, zero, suc, ◌+◌, ◌-◌, ◌<◌, ◌≤◌, Bool, true, false, cond, leb, ltb, not, ◌&&◌, ◌||◌, List, [], ◌∷◌, inl, inr, refl, sym, ap, ◌∙◌, arith, zero-add}
 use Rattle.std.specs.List.{count_by, list_any, range_with_len}
 use Rattle.std.proofs.lemmas.Bool.{le-leb, lt-ltb, le-ltb, lt-leb, and_from, and_left, and_right, cases_lt}
@@ -17,7 +17,7 @@ one_if t = cond t 1 0
 count-suc : (p : ℕ → Bool) (s n : ℕ) → count p s (suc n) ≡ one_if (p s) + count p (s + 1) n
 count-suc p s n = sum_by-cons (λ a. one_if (p a)) s (range_with_len (s + 1) n)
 
--- all of them, where each passes
+-- all of them, if each passes
 all_pass : (p : ℕ → Bool) (s n : ℕ) → ((a : ℕ) → s ≤ a → a < s + n → p a ≡ true) → count p s n ≡ n
 all_pass p s zero h = refl
 all_pass p s (suc n) h =
@@ -25,7 +25,7 @@ all_pass p s (suc n) h =
     let first : one_if (p s) ≡ 1 = ap one_if (h s (omega arith) (omega arith)) in
     let more = count-suc p s n in omega arith
 
--- none of them, where none passes
+-- none of them, if none passes
 none_pass : (p : ℕ → Bool) (s n : ℕ) → ((a : ℕ) → s ≤ a → a < s + n → p a ≡ false) → count p s n ≡ 0
 none_pass p s zero h = refl
 none_pass p s (suc n) h =
@@ -33,7 +33,7 @@ none_pass p s (suc n) h =
     let first : one_if (p s) ≡ 0 = ap one_if (h s (omega arith) (omega arith)) in
     let more = count-suc p s n in omega arith
 
--- as many, where the same pass
+-- equally many, if the same pass
 same_pass : (p q : ℕ → Bool) (s n : ℕ) → ((a : ℕ) → s ≤ a → p a ≡ q a) → count p s n ≡ count q s n
 same_pass p q s zero h = refl
 same_pass p q s (suc n) h =
@@ -55,11 +55,11 @@ in_parts p s (suc m) n k t e f =
     let more = count-suc p s (m + n) in
     let part = count-suc p s m in omega arith
 
--- the address is one of the block's
+-- the address is in the block
 abbrev in_block : Block → ℕ → Bool
 in_block b a = leb b.addr a && ltb a (b.addr + b.size)
 
--- an address before all blocks lies in none
+-- an address before all blocks is in none
 pub before_all : (lo hi a : ℕ) (bs : List Block) → Laid lo hi bs → a < lo → is_free bs a ≡ true
 before_all lo hi a [] laid h = refl
 before_all lo hi a (b ∷ bs) (low, some, high, laid) h =
@@ -72,7 +72,7 @@ in_first b bs a low high =
     ap (λ t. not (t || list_any (λ c. in_block c a) bs))
     (and_from (leb b.addr a) (ltb a (b.addr + b.size)) (le-leb b.addr a low) (lt-ltb a (b.addr + b.size) high))
 
--- behind the first block the others decide
+-- after the first block, the others decide
 pub behind_first : (b : Block) (bs : List Block) (a : ℕ) → b.addr + b.size ≤ a → is_free (b ∷ bs) a ≡ is_free bs a
 behind_first b bs a h =
     ap (λ t. not (t || list_any (λ c. in_block c a) bs))

@@ -1,4 +1,4 @@
--- Blocks stay in order: one that is put in, and one that is taken out.
+-- Blocks stay in order when one is added or removed.
 use Rattle.std.proofs.Common.{◌≡◌, ℕ, zero, suc, ◌+◌, ◌<◌, ◌≤◌, true, false, cond, leb, ltb, eqb, not, List, [], ◌∷◌, length, get_or, Option, Some, None, refl, sym, ap, ◌∙◌, subst, inl, inr, ◌⊎◌, arith}
 use Rattle.std.specs.List.{insert, remove, position_or_len}
 use Rattle.std.specs.List.Sorted.{IsPartitionPoint, IsNonDecreasingBy}
@@ -10,7 +10,7 @@ use Rattle.mem_partition.specs.Place.{is_apart, meets_none, Lies}
 use Rattle.mem_partition.specs.State.{PartState, IsPart, Laid, with_block, without_block, own_block, size_or, freed, after_free}
 use Rattle.mem_partition.specs.Gaps.{IsOwn}
 
--- where a block is put in
+-- the place at which a block is inserted
 abbrev place_of : Block → List Block → ℕ
 place_of b bs = position_or_len (λ c. ltb b.addr c.addr) bs
 
@@ -25,7 +25,7 @@ inserted b bs k e = subst (λ n. insert bs n b ≡ with_block b bs) (sym e) (at_
           ap (λ j. insert (c ∷ cs) j b) n ∙ ap (λ xs. c ∷ xs) (at_place b cs)
     ]
 
--- the first block that begins above an address stands where so many begin at it or before
+-- the place of the first block above an address is the number of blocks at or below it
 pub first_above : (bs : List Block) (at k : ℕ) → k ≤ length bs → IsPartitionPoint (λ b. leb b.addr at ≡ true) (λ b. leb b.addr at ≡ false) bs k
     → position_or_len (λ b. ltb at b.addr) bs ≡ k
 first_above [] at zero h split = refl
@@ -35,7 +35,7 @@ first_above (b ∷ bs) at k h split =
     (λ j less. le-ltb at (get_or (b ∷ bs) j b).addr (leb-true (get_or (b ∷ bs) j b).addr at (split.0 j b (omega (arith, less, h)) less)))
     (λ less. lt-ltb at (get_or (b ∷ bs) k b).addr (leb-false (get_or (b ∷ bs) k b).addr at (split.1 k b (omega arith) less)))
 
--- blocks that stand in order rise in address
+-- blocks in order rise in address
 laid_above : (lo hi : ℕ) (bs : List Block) → Laid lo hi bs → (k : ℕ) (d : Block) → k < length bs → lo ≤ (get_or bs k d).addr
 laid_above lo hi [] laid k d h = absurd (omega arith)
 laid_above lo hi (b ∷ bs) (low, some, high, rest) zero d h = low
@@ -83,7 +83,7 @@ length-with_block b (c ∷ cs) = elim (ltb b.addr c.addr) as (λ t. length (cond
   | false ↦ let rest = length-with_block b cs in omega arith
 ]
 
--- blocks that begin behind an address are not the one at it
+-- blocks that begin after an address are not the one at it
 pub none_behind : (lo hi at : ℕ) (bs : List Block) → Laid lo hi bs → at < lo → without_block at bs ≡ bs
 none_behind lo hi at [] laid h = refl
 none_behind lo hi at (b ∷ bs) (low, some, high, laid) h =
@@ -107,14 +107,14 @@ length-without at (b ∷ bs) =
       | false ↦ omega arith
     ]
 
--- the block at a place begins at lo or behind
+-- the block at a place begins at or after lo
 pub place_behind : (lo hi : ℕ) (bs : List Block) (k : ℕ) (d : Block) → Laid lo hi bs → k < length bs → lo ≤ (get_or bs k d).addr
 place_behind lo hi [] k d laid h = omega arith
 place_behind lo hi (b ∷ bs) zero d (low, some, high, laid) h = low
 place_behind lo hi (b ∷ bs) (suc k) d (low, some, high, laid) h =
     let rest = place_behind (b.addr + b.size) hi bs k d laid (omega arith) in omega arith
 
--- it is not empty, and ends in the pool
+-- it isn't empty, and ends in the pool
 pub place_full : (lo hi : ℕ) (bs : List Block) (k : ℕ) (d : Block) → Laid lo hi bs → k < length bs → 0 < (get_or bs k d).size
 place_full lo hi [] k d laid h = absurd (omega arith)
 place_full lo hi (b ∷ bs) zero d (low, some, high, laid) h = some
@@ -152,7 +152,7 @@ given_back lo hi (c ∷ cs) b (c_low, c_some, c_high, laid) some free =
           ∙ ap (λ xs. c ∷ xs) (given_back (c.addr + c.size) hi cs b laid some parts.1)
     ] refl
 
--- ---- what the partition keeps
+-- ---- the invariant of the partition
 
 pub part_with : (s : PartState) (b : Block) → IsPart s → Lies s.start s.end s.blocks b.size b.addr → 0 < b.size → length s.blocks < s.room
     → IsPart (record s { blocks = with_block b s.blocks })

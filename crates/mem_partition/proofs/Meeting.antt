@@ -1,4 +1,4 @@
--- Which ranges of bytes meet a block.
+-- Which ranges of bytes overlap a block.
 use Rattle.std.proofs.Common.{◌≡◌, ℕ, suc, ◌+◌, ◌<◌, ◌≤◌, ◌%◌, max, true, false, leb, eqb, ◌&&◌, List, [], ◌∷◌, Some, Ok, refl, subst, inl, inr, ◌⊎◌, arith}
 use Rattle.std.specs.List.{All, AllPairs, Any}
 use Rattle.std.proofs.lemmas.Bool.{leb-false, eq-eqb, eqb-true, or_parts, and_cases, and_from, and_parts}
@@ -12,11 +12,11 @@ use Rattle.mem_partition.proofs.Places.{aligned_multiple, aligned_above, aligned
 use Rattle.mem_partition.proofs.Keeping.{apart_cases}
 use Rattle.mem_partition.proofs.Allocs.{alloc_lies, rounded_some, place_is, place_of_alloc}
 
--- what is apart from a block has no byte in common with it
+-- what is apart from a block doesn't overlap it
 apart_meets_not : (size at : ℕ) (b : Block) → is_apart size at b ≡ true → Meets size at b → ⊥
 apart_meets_not size at b e (a, (low, high), (from, to)) = elim (apart_cases size at b e) [ inl h ↦ omega arith | inr h ↦ omega arith ]
 
--- what is not apart has one
+-- what isn't apart overlaps it
 not_apart_meets : (size at : ℕ) (b : Block) → 0 < size → 0 < b.size → is_apart size at b ≡ false → Meets size at b
 not_apart_meets size at b some full e =
     let two = or_parts (leb (at + size) b.addr) (leb (b.addr + b.size) at) e in
@@ -39,7 +39,7 @@ one_met size at lo hi (b ∷ bs) some (low, full, high, laid) e = elim (and_case
       (suc place, block, omega arith, is, meets)
 ]
 
--- a lesser multiple doesn't fit, so it leaves the pool or meets a block
+-- a lower multiple doesn't fit, so it exceeds the pool or overlaps a block
 pub lesser_meets : (start end : ℕ) (blocks : List Block) (n align at c : ℕ) → Laid start end blocks → place start end blocks n align ≡ Some at
     → start ≤ c → c < at → c % max align 16 ≡ 0 → (end < c + rounded n) ⊎ Any (Meets (rounded n) c) blocks
 lesser_meets start end blocks n align at c laid e low less m =
@@ -75,7 +75,7 @@ alloc_multiple s n align at e =
     eqb-true (at % max align 16) 0
     (and_parts (eqb (at % max align 16) 0) (leb (at + rounded n) s.end && meets_none s.blocks (rounded n) at) is.0.1).0
 
--- the blocks behind an address meet none that ends there
+-- the blocks after an address don't overlap one that ends there
 behind_apart : (b : Block) (lo hi : ℕ) (bs : List Block) → b.addr + b.size ≤ lo → Laid lo hi bs → All (λ c. Meets b.size b.addr c → ⊥) bs
 behind_apart b lo hi [] h laid = λ k d j. absurd (omega arith)
 behind_apart b lo hi (c ∷ cs) h (low, some, high, laid) =

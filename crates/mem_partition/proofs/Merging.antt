@@ -1,4 +1,4 @@
--- A part that comes back to the holes merges with those on both sides; and how many holes there are.
+-- Freed addresses merge with the holes on both sides; and how many holes there are.
 use Rattle.std.proofs.Common.{◌≡◌, ℕ, zero, suc, ◌+◌, ◌<◌, ◌≤◌, true, false, cond, ltb, eqb, not, ◌||◌, List, [], ◌∷◌, ◌++◌, length, get_or, Option, Some, None, refl, sym, ap, ◌∙◌, subst, arith, length-append}
 use Rattle.std.specs.List.{find}
 use Rattle.std.proofs.lemmas.Bool.{lt-ltb, le-ltb, ltb-true, ltb-false, eq-eqb, ne_eqb}
@@ -18,7 +18,7 @@ ending at hs = find (λ h. eqb h.end at) hs
 abbrev beginning : ℕ → List Hole → Option Hole
 beginning at hs = find (λ h. eqb h.start at) hs
 
--- the holes are far behind what ends at an address: each begins behind it
+-- the holes are after what ends at an address, and don't touch it
 record Far (lo hi from : ℕ) (hs : List Hole) : Type 0 where
   pub ends : ending lo hs ≡ None
   pub begins : beginning hi hs ≡ None
@@ -53,7 +53,7 @@ far_holes lo hi from x y (b ∷ bs) some behind below (low, full, high, laid) =
     far_gap lo hi from x b.addr (holes_of (b.addr + b.size) y bs) some behind below
     (far_holes lo hi from (b.addr + b.size) y bs some (omega arith) below laid)
 
--- ---- what lies between the gaps on its sides
+-- ---- addresses between the gaps on their sides
 
 left_reach : (lo at : ℕ) (hs : List Hole) → lo ≤ at → ending at hs ≡ None → reach_down at (ending at (gap lo at ++ hs)) ≡ lo
 left_reach lo at hs low none =
@@ -99,7 +99,7 @@ right_kept at end hi hs some high =
       | false ↦ refl
     ]
 
--- put in where it stands
+-- a hole inserted at its place
 abbrev put_over : ℕ → ℕ → List Hole → List Hole
 put_over from to hs = put_gap (rank from hs) from to hs
 
@@ -115,7 +115,7 @@ merged_here lo at end hi hs low some high far =
     ∙ ap (λ k. put_gap k lo hi hs) far.first
     ∙ put_first lo hi hs
 
--- ---- what lies behind a gap
+-- ---- addresses after a gap
 
 merged_behind : (x y at end : ℕ) (hs : List Hole) → y < at → at < end → x ≤ reach_down at (ending at hs) → merged at end (gap x y ++ hs) ≡ gap x y ++ merged at end hs
 merged_behind x y at end hs behind some reach =
@@ -140,7 +140,7 @@ merged_behind x y at end hs behind some reach =
           ∙ put_behind (rank from rest) from to (hole x y) rest
     ] refl
 
--- a hole begins no lower than where the holes begin
+-- a hole begins no lower than the first hole
 reach_gap : (lo x y at : ℕ) (hs : List Hole) → lo ≤ x → lo ≤ reach_down at (ending at hs) → lo ≤ reach_down at (ending at (gap x y ++ hs))
 reach_gap lo x y at hs low rest =
     elim (ltb x y) as (λ t. lo ≤ reach_down at (ending at (cond t (hole x y ∷ []) [] ++ hs))) [
@@ -206,7 +206,7 @@ length-apart_append at end (x ∷ xs) hs =
     let rest = length-apart_append at end xs hs in
     elim (touches at end x) as (λ t. length (cond (not t) (x ∷ apart_from at end (xs ++ hs)) (apart_from at end (xs ++ hs))) ≤ suc (length xs) + length (apart_from at end hs)) [ true ↦ omega arith | false ↦ omega arith ]
 
--- without those that touch a block there are no more holes than blocks
+-- without the holes that touch a block, there are no more holes than blocks
 pub length-apart_holes : (lo hi end : ℕ) (bs : List Block) (k : ℕ) (d : Block) → k < length bs → length (apart_from (get_or bs k d).addr end (holes_of lo hi bs)) ≤ length bs
 length-apart_holes lo hi end [] k d less = absurd (omega arith)
 length-apart_holes lo hi end (b ∷ bs) zero d less =

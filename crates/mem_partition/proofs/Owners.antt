@@ -1,6 +1,6 @@
--- Which blocks begin where after a block is given or taken back.
-use Rattle.std.proofs.Common.{◌≡◌, ℕ, ◌+◌, ◌<◌, ◌≤◌, Bool, true, false, cond, ltb, eqb, not, ◌&&◌, List, [], ◌∷◌, Some, None, IsSome, inl, inr, refl, sym, ap, ◌∙◌, subst, arith}
-use Rattle.std.specs.List.{find}
+-- Which blocks begin where after a block is allocated or freed.
+use Rattle.std.proofs.Common.{◌≡◌, ℕ, zero, suc, ◌+◌, ◌<◌, ◌≤◌, Bool, true, false, cond, ltb, eqb, not, ◌&&◌, List, [], ◌∷◌, Some, None, IsSome, inl, inr, refl, sym, ap, ◌∙◌, subst, arith}
+use Rattle.std.specs.List.{find, Contains}
 use Rattle.std.proofs.lemmas.Bool.{eqb-true, ne_eqb, and_parts}
 use Rattle.mem_partition.specs.declared.block.Block.{Block}
 use Rattle.mem_partition.specs.declared.block.Class.{Class}
@@ -39,7 +39,7 @@ kept-with_block p b bs h =
       | false ↦ λ e. subst IsSome (sym (find-with_block p b bs e)) h
     ] refl
 
--- no block begins where a range begins that meets none
+-- no block begins at the beginning of a range that overlaps none
 pub fresh_address : (lo hi : ℕ) (bs : List Block) (size at a : ℕ) (class : Class) → Laid lo hi bs → 0 < size → meets_none bs size at ≡ true → IsSome (own_block bs a class) → a ≡ at → ⊥
 fresh_address lo hi [] size at a class laid some free found same = absurd (cc)
 fresh_address lo hi (b ∷ bs) size at a class (low, b_some, high, laid) some free found same =
@@ -52,7 +52,7 @@ fresh_address lo hi (b ∷ bs) size at a class (low, b_some, high, laid) some fr
       | false ↦ λ e h. fresh_address (b.addr + b.size) hi bs size at a class laid some parts.1 h same
     ] refl found
 
--- without the block at another address, the same is found
+-- without the block at another address, the same block is found
 pub own-without : (x a : ℕ) (class : Class) (bs : List Block) → (a ≡ x → ⊥) → own_block (without_block x bs) a class ≡ own_block bs a class
 own-without x a class [] apart = refl
 own-without x a class (b ∷ bs) apart =
@@ -63,7 +63,7 @@ own-without x a class (b ∷ bs) apart =
       | false ↦ λ e. ap (λ o. cond (is_own a class b) (Some b) o) (own-without x a class bs apart)
     ] refl
 
--- a block that is found lies behind where the list begins
+-- a found block begins at or after the beginning of the list
 found_above : (lo hi : ℕ) (bs : List Block) (a : ℕ) (class : Class) → Laid lo hi bs → IsSome (own_block bs a class) → lo ≤ a
 found_above lo hi [] a class laid found = absurd (cc)
 found_above lo hi (b ∷ bs) a class (low, some, high, laid) found =
@@ -72,13 +72,28 @@ found_above lo hi (b ∷ bs) a class (low, some, high, laid) found =
       | false ↦ λ e h. omega (arith, found_above (b.addr + b.size) hi bs a class laid h)
     ] refl found
 
+-- a block of the list is the one that is found at its address
+pub only_block : (lo hi : ℕ) (bs : List Block) (b : Block) (a : ℕ) (class : Class) → Laid lo hi bs → Contains bs b → is_own a class b ≡ true → own_block bs a class ≡ Some b
+only_block lo hi [] b a class laid (k, within, e) own = absurd (omega arith)
+only_block lo hi (c ∷ cs) b a class (low, some, high, laid) (zero, within, e) own =
+    ap (λ t. cond t (Some c) (own_block cs a class)) (ap (is_own a class) e ∙ own) ∙ ap Some e
+only_block lo hi (c ∷ cs) b a class (low, some, high, laid) (suc k, within, e) own =
+    let rest = only_block (c.addr + c.size) hi cs b a class laid (k, omega arith, e) own in
+    elim (is_own a class c) as (λ t. is_own a class c ≡ t → cond t (Some c) (own_block cs a class) ≡ Some b) [
+      | true ↦ λ h.
+          let begins : c.addr ≡ a = eqb-true c.addr a (and_parts (eqb c.addr a) (same_class c.class class) h).0 in
+          let above = found_above (c.addr + c.size) hi cs a class laid (subst IsSome (sym rest) refl) in
+          absurd (omega arith)
+      | false ↦ λ h. rest
+    ] refl
+
 two_classes : (c d e : Class) → same_class c d ≡ true → same_class c e ≡ true → same_class d e ≡ true
 two_classes User User e h k = k
 two_classes Kernel Kernel e h k = k
 two_classes User Kernel e h k = cc
 two_classes Kernel User e h k = cc
 
--- blocks of two classes begin at two addresses
+-- blocks of different classes begin at different addresses
 pub classes_apart : (lo hi : ℕ) (bs : List Block) (x a : ℕ) (c d : Class) → Laid lo hi bs → same_class c d ≡ false → IsSome (own_block bs x c) → IsSome (own_block bs a d) → a ≡ x → ⊥
 classes_apart lo hi [] x a c d laid differ hx ha same = absurd (cc)
 classes_apart lo hi (b ∷ bs) x a c d (low, some, high, laid) differ hx ha same =

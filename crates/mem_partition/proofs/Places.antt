@@ -111,7 +111,7 @@ record Good (end : ℕ) (blocks : List Block) (size align lo at : ℕ) : Type 0 
   pub ends : at + size ≤ end
   pub apart : meets_none blocks size at ≡ true
 
--- what ends before the blocks meets none of them
+-- what ends before the blocks overlaps none of them
 pub ends_before : (size at lo hi : ℕ) (bs : List Block) → Laid lo hi bs → at + size ≤ lo → meets_none bs size at ≡ true
 ends_before size at lo hi [] laid h = refl
 ends_before size at lo hi (b ∷ bs) (low, some, high, laid) h =
@@ -202,7 +202,7 @@ gap_place start end blocks size align h some laid =
     (gap_least end size align (aligned start align) start blocks h (aligned_multiple start align h) laid))
     (first_is_least start end blocks size align some)
 
--- the place lies in the pool and meets no block
+-- the place is inside the pool and overlaps no block
 pub first_lies : (start end : ℕ) (blocks : List Block) (size align at : ℕ) → 0 < size → first_fit start end blocks size align ≡ Some at → Lies start end blocks size at
 first_lies start end blocks size align at h e =
     let f = (subst (λ o. Least (Fits start end blocks size align) o) e (first_is_least start end blocks size align h)).0 in

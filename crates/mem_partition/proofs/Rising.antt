@@ -1,4 +1,4 @@
--- The holes of blocks that stand in order: they rise, no two touch, and they are where no block is.
+-- The holes between blocks in order: they rise in address, no two touch, and they are where no block is.
 use Rattle.std.proofs.Common.{◌≡◌, ℕ, ◌+◌, ◌<◌, ◌≤◌, true, false, cond, leb, ltb, ◌&&◌, ◌||◌, List, [], ◌∷◌, ◌++◌, refl, sym, ap, ◌∙◌, subst, inl, inr, arith}
 use Rattle.std.specs.List.{All}
 use Rattle.std.proofs.lemmas.Bool.{le-leb, lt-leb, lt-ltb, le-ltb, ltb-true, cases_lt}
@@ -10,7 +10,7 @@ use Rattle.mem_partition.specs.Holes.{HolesState, AreHoles, gap, holes_of, Rise,
 use Rattle.mem_partition.proofs.Splitting.{nothing_more}
 use Rattle.mem_partition.proofs.Counting.{before_all, in_first, behind_first}
 
--- each lies between two addresses
+-- each is between two addresses
 abbrev Within : ℕ → ℕ → List Hole → Type 0
 Within lo hi hs = All (λ h. (lo ≤ h.start) × (h.end ≤ hi)) hs
 
@@ -29,7 +29,7 @@ within lo x hi [] low laid = subst (Within lo hi) (nothing_more (gap x hi)) (wit
 within lo x hi (b ∷ bs) low (b_low, full, high, laid) =
     within_gap lo hi x b.addr (holes_of (b.addr + b.size) hi bs) low (λ h. omega arith) (within lo (b.addr + b.size) hi bs (omega arith) laid)
 
--- all behind an address begin behind what ends there
+-- all holes after an address begin after what ends there
 begin_behind : (end lo hi : ℕ) (hs : List Hole) → end < lo → Within lo hi hs → All (λ g. end < g.start) hs
 begin_behind end lo hi hs less all = λ k d h. let low = (all k d h).0 in omega arith
 

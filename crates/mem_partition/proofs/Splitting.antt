@@ -13,7 +13,7 @@ use Rattle.mem_partition.proofs.Keeping.{apart_cases}
 
 -- ---- the first hole
 
--- the answer of a gap from lo to hi, or what is found behind it
+-- the answer of a gap from lo to hi, or what is found after it
 abbrev fit_or : ℕ → ℕ → ℕ → ℕ → Option ℕ → Option ℕ
 fit_or lo hi size align o = cond (leb (aligned lo align + size) hi) (Some (aligned lo align)) o
 
@@ -31,7 +31,7 @@ pub nothing_more : (hs : List Hole) → hs ++ [] ≡ hs
 nothing_more [] = refl
 nothing_more (h ∷ hs) = ap (λ x. h ∷ x) (nothing_more hs)
 
--- the greater of two multiples, where the second bound is above the first
+-- the greater of two multiples, if the second bound is above the first
 greater : (lo to align : ℕ) → 1 ≤ align → lo ≤ to → max (aligned lo align) (aligned to align) ≡ aligned to align
 greater lo to align h k =
     let up = aligned_above to align h in
@@ -49,7 +49,7 @@ holes_gaps lo hi (b ∷ bs) size align h some (low, b_some, high, laid) =
 pub hole_place : (lo hi : ℕ) (bs : List Block) (size align : ℕ) → 1 ≤ align → 0 < size → Laid lo hi bs → first_hole size align (holes_of lo hi bs) ≡ first_fit lo hi bs size align
 hole_place lo hi bs size align h some laid = holes_gaps lo hi bs size align h some laid ∙ gap_place lo hi bs size align h some laid
 
--- ---- a block cut out of a gap in which it lies, or of the holes behind it
+-- ---- a block cut out of the gap that contains it, or of the holes after it
 
 cut_here : (lo at end hi : ℕ) (hs : List Hole) → lo ≤ at → at < end → end ≤ hi → cut_out at end (gap lo hi ++ hs) ≡ gap lo at ++ (gap end hi ++ hs)
 cut_here lo at end hi hs low some high =
@@ -94,11 +94,11 @@ pub put_behind : (k lo hi : ℕ) (h : Hole) (hs : List Hole) → put_gap (suc k)
 put_behind k lo hi h hs =
     elim (ltb lo hi) as (λ t. cond t (insert (h ∷ hs) (suc k) (record { start = lo; end = hi })) (h ∷ hs) ≡ h ∷ cond t (insert hs k (record { start = lo; end = hi })) hs) [ true ↦ refl | false ↦ refl ]
 
--- the hole at a place left out, and what it has on both sides put in
+-- the hole at a place left out, and what remains of it on both sides put in
 abbrev cut_at : ℕ → ℕ → ℕ → Hole → List Hole → List Hole
 cut_at k lo hi h hs = put_gap k h.start lo (put_gap k hi h.end (remove hs k))
 
--- the place of the first hole that ends at an address or behind it
+-- the place of the first hole that ends at or after an address
 abbrev reaching : ℕ → List Hole → ℕ
 reaching hi hs = position_or_len (λ h. leb hi h.end) hs
 

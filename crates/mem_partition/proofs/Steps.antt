@@ -1,4 +1,4 @@
--- A partition with its holes, after a block is put in and after one is taken out.
+-- A partition with its holes, after a block is added and after one is removed.
 use Rattle.std.proofs.Common.{◌≡◌, ℕ, ◌+◌, ◌<◌, ◌≤◌, List, length, get_or, sym, ap, ◌∙◌, subst}
 use Rattle.std.specs.List.{remove}
 use Rattle.mem_partition.specs.declared.block.Block.{Block}
@@ -22,7 +22,7 @@ whole_is s k = ap (holding s.part s.part.blocks) k.exact
 pub holes_few : (s : HolesState) → AreHoles s → length s.holes ≤ length s.part.blocks + 1
 holes_few s k = subst (λ (hs : List Hole). length hs ≤ length s.part.blocks + 1) (sym k.exact) (length-holes s.part.start s.part.end s.part.blocks)
 
--- ---- a block that is put in
+-- ---- a block is added
 
 pub put_exact : (s : HolesState) (b : Block) (bs : List Block) (hs : List Hole) → AreHoles s → 0 < b.size → Lies s.part.start s.part.end s.part.blocks b.size b.addr
     → bs ≡ with_block b s.part.blocks → hs ≡ cut_out b.addr (b.addr + b.size) s.holes → hs ≡ holes_of s.part.start s.part.end bs

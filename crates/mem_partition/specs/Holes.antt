@@ -1,4 +1,4 @@
--- The holes of a pool: what its blocks leave of it, in order of address.
+-- The holes of a pool: what its blocks leave free, in order of address.
 use Rattle.std.specs.Prelude.{◌≡◌, ℕ, ◌+◌, ◌≤◌, ◌<◌, nat_le, nat_lt, ◌==◌, ◌&&◌, ◌||◌, Bool, not, if◌then◌else◌, List, [], ◌∷◌, ◌++◌, Option, Some, None}
 use Rattle.std.specs.List.{All, list_any, find, filter, insert, position_or_len}
 use Rattle.wind_base.specs.Limits.{most_blocks}
@@ -7,11 +7,11 @@ use Rattle.mem_partition.specs.declared.hole.Hole.{Hole}
 use Rattle.mem_partition.specs.Place.{aligned}
 use Rattle.mem_partition.specs.State.{PartState, IsPart, is_free}
 
--- what lies from lo to hi, where there is anything
+-- the hole from lo to hi, unless it is empty
 abbrev pub gap : ℕ → ℕ → List Hole
 gap lo hi = if nat_lt lo hi then record { start = lo; end = hi } ∷ [] else []
 
--- the holes from lo to hi between these blocks
+-- the holes between these blocks, from lo to hi
 abbrev pub holes_of : ℕ → ℕ → List Block → List Hole
 holes_of lo hi [] = gap lo hi
 holes_of lo hi (b ∷ bs) = gap lo b.addr ++ holes_of (b.addr + b.size) hi bs
@@ -21,17 +21,17 @@ pub record HolesState : Type 0 where
   pub part : PartState
   pub holes : List Hole
 
--- the partition with the parts of its pool that are in no block
+-- the partition with its holes, the parts of its pool that are in no block
 abbrev pub with_holes : PartState → HolesState
 with_holes s = record { part = s; holes = holes_of s.start s.end s.blocks }
 
--- the holes are those that the blocks leave, of what every partition keeps
+-- the holes are those that the blocks leave, in a partition with its invariant
 pub record AreHoles (s : HolesState) : Type 0 where
   pub part : IsPart s.part
   pub room : s.part.room ≤ most_blocks
   pub exact : s.holes ≡ holes_of s.part.start s.part.end s.part.blocks
 
--- no hole is empty, they rise in address, and no two of them touch
+-- no hole is empty, they are in order of address, and no two of them touch
 abbrev pub Rise : List Hole → Type 0
 Rise [] = Unit {0}
 Rise (h ∷ hs) = (h.start < h.end) × All (λ g. h.end < g.start) hs × Rise hs
@@ -40,36 +40,36 @@ Rise (h ∷ hs) = (h.start < h.end) × All (λ g. h.end < g.start) hs × Rise hs
 abbrev pub is_in_hole : List Hole → ℕ → Bool
 is_in_hole hs at = list_any (λ h. nat_le h.start at && nat_lt at h.end) hs
 
--- what holds of the holes at every moment
+-- what always holds for the holes
 pub record HolesLaw : Type 0 where
   pub rise : (s : HolesState) → AreHoles s → Rise s.holes
-  -- each lies in the pool, and with the blocks they make it up
+  -- each is inside the pool, and together with the blocks they make it up
   pub inside : (s : HolesState) → AreHoles s → All (λ h. (s.part.start ≤ h.start) × (h.end ≤ s.part.end)) s.holes
   pub exact : (s : HolesState) (at : ℕ) → AreHoles s → s.part.start ≤ at → at < s.part.end
       → is_in_hole s.holes at ≡ is_free s.part.blocks at
 
--- the first hole that has the room from a multiple of align on
+-- the address in the first hole that has room from a multiple of align on
 abbrev pub first_hole : ℕ → ℕ → List Hole → Option ℕ
 first_hole size align [] = None
 first_hole size align (h ∷ hs) =
     if nat_le (aligned h.start align + size) h.end then Some (aligned h.start align) else first_hole size align hs
 
--- with what lies from lo to hi put in at a place, where there is anything
+-- the holes with the one from lo to hi inserted at a place, unless it is empty
 abbrev pub put_gap : ℕ → ℕ → ℕ → List Hole → List Hole
 put_gap place lo hi hs = if nat_lt lo hi then insert hs place (record { start = lo; end = hi }) else hs
 
--- with what lies from lo to hi cut out of the hole in which it lies
+-- the holes with lo to hi cut out of the one that contains it
 abbrev pub cut_out : ℕ → ℕ → List Hole → List Hole
 cut_out lo hi [] = []
 cut_out lo hi (h ∷ hs) =
     if nat_le hi h.end then gap h.start lo ++ (gap hi h.end ++ hs) else h ∷ cut_out lo hi hs
 
--- where the hole that ends at lo begins, or lo where none does
+-- where the hole that ends at lo begins, or lo if there is none
 abbrev pub reach_down : ℕ → Option Hole → ℕ
 reach_down lo None = lo
 reach_down lo (Some h) = h.start
 
--- where the hole that begins at hi ends, or hi where none does
+-- where the hole that begins at hi ends, or hi if there is none
 abbrev pub reach_up : ℕ → Option Hole → ℕ
 reach_up hi None = hi
 reach_up hi (Some h) = h.end
@@ -78,15 +78,15 @@ reach_up hi (Some h) = h.end
 abbrev pub touches : ℕ → ℕ → Hole → Bool
 touches lo hi h = h.end == lo || h.start == hi
 
--- the holes that don't touch what lies from lo to hi
+-- the holes that don't touch lo to hi
 abbrev pub apart_from : ℕ → ℕ → List Hole → List Hole
 apart_from lo hi hs = filter (λ h. not (touches lo hi h)) hs
 
--- how many holes begin before an address, or at it
+-- how many holes begin at or before an address
 abbrev pub rank : ℕ → List Hole → ℕ
 rank at hs = position_or_len (λ h. nat_lt at h.start) hs
 
--- with what lies from lo to hi, in place of the holes that touch it one over them all
+-- the holes with lo to hi added: one hole replaces it and the holes that touch it
 abbrev pub merged : ℕ → ℕ → List Hole → List Hole
 merged lo hi hs =
     let from = reach_down lo (find (λ h. h.end == lo) hs) in

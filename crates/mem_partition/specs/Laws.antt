@@ -1,4 +1,4 @@
--- What follows of the definitions of places and of the calls alone.
+-- What follows from the definitions of places and of the calls alone.
 use Rattle.std.specs.Prelude.{◌≡◌, ℕ, ◌+◌, ◌<◌, ◌≤◌, ◌%◌, ◌⊎◌, max, List, Option, Some, Ok}
 use Rattle.std.specs.List.{All, AllPairs, Any}
 use Rattle.mem_partition.specs.declared.block.Block.{Block}
@@ -10,7 +10,7 @@ use Rattle.mem_partition.specs.State.{PartState, IsPart, Laid, alloc_of, after_a
 abbrev pub IsIn : ℕ → ℕ → ℕ → Type 0
 IsIn a at size = (at ≤ a) × (a < at + size)
 
--- size bytes from an address on have a byte in common with the block
+-- size bytes from an address on overlap the block
 abbrev pub Meets : ℕ → ℕ → Block → Type 0
 Meets size at b = (a : ℕ) × IsIn a at size × IsIn a b.addr b.size
 
@@ -22,37 +22,37 @@ pub record IsNextMultiple (n align m : ℕ) : Type 0 where
 
 -- the address that is answered is the least that fits
 pub record PlaceLaw : Type 0 where
-  -- it is the least address that fits, and there is none only where none fits
+  -- it is the least address that fits; there is none only if no address fits
   pub least : (start end : ℕ) (blocks : List Block) (n align : ℕ)
       → IsPlace start end blocks (rounded n) (max align grain) (place start end blocks n align)
-  -- there is one such answer
+  -- there is only one such answer
   pub only : (start end : ℕ) (blocks : List Block) (size align : ℕ) (o p : Option ℕ)
       → IsPlace start end blocks size align o → IsPlace start end blocks size align p → o ≡ p
-  -- each lesser multiple of the alignment in the pool leaves the pool, or meets a block
+  -- each lower multiple of the alignment in the pool exceeds the pool or overlaps a block
   pub lesser : (start end : ℕ) (blocks : List Block) (n align at c : ℕ)
       → Laid start end blocks → place start end blocks n align ≡ Some at → start ≤ c → c < at → c % max align grain ≡ 0
       → (end < c + rounded n) ⊎ Any (Meets (rounded n) c) blocks
-  -- sizes and places are rounded up, and no further than asked
+  -- sizes and places are rounded up no further than needed
   pub next : (n align : ℕ) → 1 ≤ align → IsNextMultiple n align (aligned n align)
 
 -- what an accepted `alloc` gives
 pub record AllocLaw : Type 0 where
-  -- the block lies in the pool and meets none of the blocks before
+  -- the block is inside the pool and overlaps none of the blocks before
   pub lies : (s : PartState) (n align at : ℕ) → alloc_of s n align ≡ Ok at → Lies s.start s.end s.blocks (rounded n) at
   pub apart : (s : PartState) (n align at : ℕ) → alloc_of s n align ≡ Ok at → All (λ b. Meets (rounded n) at b → ⊥) s.blocks
   -- it begins at a multiple of the alignment
   pub multiple : (s : PartState) (n align at : ℕ) → alloc_of s n align ≡ Ok at → at % max align grain ≡ 0
-  -- it has the bytes that were asked for
+  -- it has at least the requested bytes
   pub holds : (n : ℕ) → n ≤ rounded n
-  -- freed at once, it leaves the partition as it was
+  -- if it is freed at once, the partition is as before
   pub back : (s : PartState) (n align at : ℕ) (class : Class)
       → IsPart s → alloc_of s n align ≡ Ok at → after_free (after_alloc s n align class) at class ≡ s
 
--- what holds of the blocks at every moment
+-- what always holds for the blocks
 pub record BlocksLaw : Type 0 where
-  -- no two of them meet, and each lies in the pool
+  -- no two of them overlap, and each is inside the pool
   pub apart : (s : PartState) → IsPart s → AllPairs (λ b c. Meets b.size b.addr c → ⊥) s.blocks
   pub inside : (s : PartState) → IsPart s → All (λ b. (s.start ≤ b.addr) × (b.addr + b.size ≤ s.end)) s.blocks
-  -- each call keeps what the partition keeps
+  -- each call keeps the partition's invariant
   pub allocating : (s : PartState) (n align : ℕ) (class : Class) → IsPart s → IsPart (after_alloc s n align class)
   pub freeing : (s : PartState) (at : ℕ) (class : Class) → IsPart s → IsPart (after_free s at class)

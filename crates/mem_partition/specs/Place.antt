@@ -1,33 +1,33 @@
--- Where a block is put: the least address that fits.
+-- Where a block is allocated: at the least address that fits.
 use Rattle.std.specs.Prelude.{◌≡◌, ℕ, ◌+◌, ◌-◌, ◌*◌, ◌/◌, ◌%◌, ◌≤◌, max, Bool, true, ◌&&◌, ◌||◌, nat_le, ◌==◌, List, Option, Some, None}
 use Rattle.std.specs.List.{list_all, find, range_with_len}
 use Rattle.mem_partition.specs.declared.block.Block.{Block}
 
--- every block begins at a multiple of this many bytes, and has a multiple of them
+-- the address and the size of every block are multiples of this many bytes
 abbrev pub grain : ℕ
 grain = 16
 
--- the greatest alignment that may be asked for
+-- the greatest alignment, in bytes
 abbrev pub greatest_align : ℕ
 greatest_align = 65536
 
--- the next multiple of align from n on
+-- the least multiple of align that is at least n
 unfoldable pub aligned : ℕ → ℕ → ℕ
 aligned n align = (n + align - 1) / align * align
 
--- the bytes of a block that is asked for with n: at least 1, rounded up
+-- the size of a block for n bytes: at least 1, rounded up
 unfoldable pub rounded : ℕ → ℕ
 rounded n = aligned (max n 1) grain
 
--- size bytes from an address on end before the block, or begin behind it
+-- size bytes from an address on end before the block, or begin after it
 abbrev pub is_apart : ℕ → ℕ → Block → Bool
 is_apart size at b = nat_le (at + size) b.addr || nat_le (b.addr + b.size) at
 
--- size bytes from an address on meet no block
+-- size bytes from an address on overlap no block
 abbrev pub meets_none : List Block → ℕ → ℕ → Bool
 meets_none blocks size at = list_all (is_apart size at) blocks
 
--- the address is a multiple of align, and size bytes from there end in the pool and meet no block
+-- the address is a multiple of align, and size bytes from there end inside the pool and overlap no block
 abbrev pub fits : ℕ → List Block → ℕ → ℕ → ℕ → Bool
 fits end blocks size align at = (at % align == 0) && (nat_le (at + size) end && meets_none blocks size at)
 
@@ -35,7 +35,7 @@ fits end blocks size align at = (at % align == 0) && (nat_le (at + size) end && 
 unfoldable pub first_fit : ℕ → ℕ → List Block → ℕ → ℕ → Option ℕ
 first_fit start end blocks size align = find (fits end blocks size align) (range_with_len start (end - start))
 
--- the place of a block that is asked for with n bytes, for an alignment that is asked for
+-- the place of a block for n bytes with this alignment
 unfoldable pub place : ℕ → ℕ → List Block → ℕ → ℕ → Option ℕ
 place start end blocks n align = first_fit start end blocks (rounded n) (max align grain)
 
@@ -43,13 +43,13 @@ place start end blocks n align = first_fit start end blocks (rounded n) (max ali
 abbrev pub Fits : ℕ → ℕ → List Block → ℕ → ℕ → ℕ → Type 0
 Fits start end blocks size align at = (start ≤ at) × (fits end blocks size align at ≡ true)
 
--- the least address that fits, or none where none fits
+-- the least address that fits, or none if no address fits
 abbrev pub IsPlace : ℕ → ℕ → List Block → ℕ → ℕ → Option ℕ → Type 0
 IsPlace start end blocks size align None = (at : ℕ) → Fits start end blocks size align at → ⊥
 IsPlace start end blocks size align (Some a) =
     Fits start end blocks size align a × ((at : ℕ) → Fits start end blocks size align at → a ≤ at)
 
--- size bytes from an address on lie in the pool and meet no block
+-- size bytes from an address on are inside the pool and overlap no block
 pub record Lies (start end : ℕ) (blocks : List Block) (size at : ℕ) : Type 0 where
   pub low : start ≤ at
   pub high : at + size ≤ end

@@ -9,29 +9,29 @@ use Rattle.mem_partition.specs.declared.block.PartErr.{PartErr}
 use Rattle.mem_partition.specs.declared.block.PartErr.TheVariants as errors
 use Rattle.mem_partition.specs.Place.{greatest_align, rounded, place}
 
--- the pool from start to end, how many blocks there may be, and the blocks in order of address
+-- the pool from start to end, the most blocks that it may have, and the blocks in order of address
 pub record PartState : Type 0 where
   pub start : ℕ
   pub end : ℕ
   pub room : ℕ
   pub blocks : List Block
 
--- the blocks stand from lo to hi in order, none is empty, and none meets another
+-- the blocks are in order from lo to hi, none is empty, and no two overlap
 abbrev pub Laid : ℕ → ℕ → List Block → Type 0
 Laid lo hi [] = Unit {0}
 Laid lo hi (b ∷ bs) = (lo ≤ b.addr) × (0 < b.size) × (b.addr + b.size ≤ hi) × Laid (b.addr + b.size) hi bs
 
--- what every partition keeps
+-- the invariant of every partition
 pub record IsPart (s : PartState) : Type 0 where
   pub laid : Laid s.start s.end s.blocks
   pub few : length s.blocks ≤ s.room
   pub bound : s.end < 2 ^ 32
 
--- an alignment that may be asked for: a power of two from 1 to 65,536
+-- a valid alignment: a power of two from 1 to 65,536
 abbrev pub is_align : ℕ → Bool
 is_align n = is_power_of_two n && nat_le n greatest_align
 
--- the place, or this refusal where there is none
+-- the place, or this refusal if there is none
 abbrev pub found_or : PartErr → Option ℕ → Result ℕ PartErr
 found_or e None = Err e
 found_or e (Some at) = Ok at
@@ -43,7 +43,7 @@ alloc_of s n align =
     (if nat_le s.room (length s.blocks) then Err errors.BlocksFull else
     found_or errors.NoRoom (place s.start s.end s.blocks n align))
 
--- the blocks with one more, in its place in order of address
+-- the blocks with one more, at its place in the order of addresses
 abbrev pub with_block : Block → List Block → List Block
 with_block b [] = b ∷ []
 with_block b (c ∷ cs) = if nat_lt b.addr c.addr then b ∷ c ∷ cs else c ∷ with_block b cs
@@ -62,7 +62,7 @@ taken_at s n class (Ok at) =
 unfoldable pub after_alloc : PartState → ℕ → ℕ → Class → PartState
 after_alloc s n align class = taken_at s n class (alloc_of s n align)
 
--- the two classes are one
+-- the two classes are the same
 abbrev pub same_class : Class → Class → Bool
 same_class User User = true
 same_class Kernel Kernel = true
@@ -76,7 +76,7 @@ block_at bs at = find (λ b. b.addr == at) bs
 abbrev pub own_block : List Block → ℕ → Class → Option Block
 own_block bs at class = find (λ b. b.addr == at && same_class b.class class) bs
 
--- the size of the block, or the refusal where there is none
+-- the size of the block, or the refusal if there is none
 abbrev pub size_or : Option Block → Result ℕ PartErr
 size_or None = Err errors.NotABlock
 size_or (Some b) = Ok b.size
@@ -94,14 +94,14 @@ freed s at (Ok n) = record s { blocks = without_block at s.blocks }
 unfoldable pub after_free : PartState → ℕ → Class → PartState
 after_free s at class = freed s at (free_of s at class)
 
--- the bytes in blocks
+-- how many bytes are in blocks
 abbrev pub used : List Block → ℕ
 used bs = sum_by (λ b. b.size) bs
 
--- the address lies in no block
+-- the address is in no block
 abbrev pub is_free : List Block → ℕ → Bool
 is_free bs at = not (list_any (λ b. nat_le b.addr at && nat_lt at (b.addr + b.size)) bs)
 
--- how many addresses of the pool lie in no block
+-- how many addresses of the pool are in no block
 unfoldable pub free_bytes : PartState → ℕ
 free_bytes s = count_by (is_free s.blocks) (range_with_len s.start (s.end - s.start))

@@ -1,26 +1,27 @@
-//! The blocks of a partition, and the answers of its calls.
+//! The blocks of a partition, and the errors of its calls.
 
 use thiserror::Error;
 
 /// Who may free a block.
 #[derive(Clone, Copy, Debug, PartialEq, Eq)]
 pub enum Class {
-    /// What programs ask for, by `malloc` and `memalign`.
+    /// Blocks that programs ask for, by `malloc` and `memalign`.
     User,
-    /// What the kernel, the loader and the shell hold: stacks, segments of modules, words and strings of the shell.
+    /// Blocks that the kernel, the loader and the shell hold: stacks, segments of modules, words
+    /// and strings of the shell.
     Kernel,
 }
 
-/// Why the partition refuses. Nothing has changed then.
+/// Why the partition refuses a call. Nothing has changed.
 #[derive(Clone, Copy, Debug, PartialEq, Eq, Error)]
 pub enum PartErr {
-    /// No place of the pool has the room.
+    /// No place in the pool has enough room.
     #[error("no room for the block")]
     NoRoom,
-    /// There are as many blocks as there may be.
+    /// No more blocks may exist.
     #[error("too many blocks")]
     BlocksFull,
-    /// The alignment is no power of two from 1 to 65,536.
+    /// The alignment isn't a power of two from 1 to 65,536.
     #[error("the alignment is not allowed")]
     BadAlign,
     /// No block of this class begins there.
@@ -28,10 +29,14 @@ pub enum PartErr {
     NotABlock,
 }
 
-/// A block that was given: `size` bytes from the address `addr` on, a multiple of 16 and at least 16.
+/// An allocated block: `size` bytes from address `addr` on. The size is a multiple of 16 and at
+/// least 16.
 #[derive(Clone, Copy, Debug, PartialEq, Eq)]
 pub struct Block {
+    /// Its first address, a multiple of 16.
     pub addr: u32,
+    /// Its size in bytes.
     pub size: u32,
+    /// Who may free it.
     pub class: Class,
 }

@@ -4,20 +4,20 @@ ghost use Rattle.std.specs.Prelude.{◌≡◌, ◌+◌, ◌≤◌, ◌<◌, ◌^
 ghost use Rattle.mem_partition.specs.Place.{aligned, rounded};
 ghost use Rattle.mem_partition.specs.State.{is_align as is_align_lem};
 
-/// The greatest alignment that may be asked for.
+/// The greatest alignment, in bytes.
 const GREATEST_ALIGN: u32 = 65_536;
 
-/// Every block begins at a multiple of this, and its size is one.
+/// Every block's address and size are multiples of this many bytes.
 pub const GRAIN: u32 = 16;
 
-/// Whether it is a power of two from 1 to 65,536.
+/// Whether `align` is a power of two from 1 to 65,536.
 pub(crate) fn is_align(align: u32) -> bool
     ensures { result ≡ is_align_lem align }
 {
     align.is_power_of_two() && align <= GREATEST_ALIGN
 }
 
-/// The next multiple of `align` from `n` on.
+/// The least multiple of `align` that is at least `n`.
 #[tactic(auto, unfolding(crate::specs::Place::aligned))]
 pub(crate) fn align_up(n: u64, align: u64) -> u64
     requires some { 1 ≤ align }
@@ -30,7 +30,7 @@ pub(crate) fn align_up(n: u64, align: u64) -> u64
     (n + align - 1) / align * align
 }
 
-/// The bytes of a block that is asked for with `n`: at least 1, rounded up to a multiple of 16.
+/// The size of a block for `n` bytes: at least 1, rounded up to a multiple of 16.
 #[tactic(auto, unfolding(crate::specs::Place::rounded))]
 pub fn round_up(n: u32) -> u64
     ensures value { result ≡ rounded n }

@@ -1,4 +1,4 @@
-//! The blocks that are held, in order of address.
+//! The allocated blocks, in order of address.
 
 ghost use Rattle.std.specs.Prelude.{◌≡◌, ◌<◌, ◌≤◌, ◌^◌, None, length, option_copied, MatchOption, vec_len, vec_capacity, nat_lt};
 ghost use Rattle.std.specs.List.{position_or_len};
@@ -8,7 +8,7 @@ ghost use Rattle.mem_partition.specs.Gaps.{IsOwn};
 
 use crate::block::{Block, Class};
 
-/// How many blocks begin before an address, or at it.
+/// How many blocks begin at or before an address.
 fn rank_of(blocks: &[Block], at: u32) -> usize
     requires { IsNonDecreasingBy (λ b. b.addr) blocks.now }
     ensures value { result ≡ position_or_len (λ b. nat_lt at b.addr) blocks.now }
@@ -17,7 +17,7 @@ fn rank_of(blocks: &[Block], at: u32) -> usize
     blocks.partition_point(|block| block.addr <= at)
 }
 
-/// Puts the block in its place.
+/// Inserts the block at its place.
 pub(crate) fn put_block(blocks: &mut Vec<Block>, block: Block)
     requires room { vec_len blocks.old < vec_capacity blocks.old }
     requires order { IsNonDecreasingBy (λ b. b.addr) blocks.old.items }
@@ -39,7 +39,7 @@ fn is_same(a: Class, b: Class) -> bool
     }
 }
 
-/// Where the block of this class that begins at an address stands.
+/// The place of the block of this class that begins at an address.
 pub(crate) fn own_place(blocks: &[Block], at: u32, class: Class) -> Option<usize>
     ensures { MatchOption result (own_block blocks.now at class ≡ None) (λ k. IsOwn blocks.now at class k) }
 {
@@ -58,7 +58,7 @@ pub(crate) fn find_at(blocks: &[Block], at: u32) -> Option<&Block>
     blocks.iter().find(|block| block.addr == at)
 }
 
-/// The bytes in blocks.
+/// How many bytes are in blocks.
 pub(crate) fn count_used(blocks: &[Block]) -> u64
     requires { length blocks.now < 2 ^ 32 }
     ensures { result ≡ used blocks.now }

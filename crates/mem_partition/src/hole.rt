@@ -7,14 +7,17 @@ ghost use Rattle.mem_partition.specs.Holes.{first_hole, put_gap, cut_out, reach_
 
 use crate::gaps::align_up;
 
-/// A part of the pool that is in no block, from the address `start` to `end`, which is the first behind it.
+/// A part of the pool that is in no block: from address `start` up to `end`, the first address
+/// after it.
 #[derive(Clone, Copy, Debug, PartialEq, Eq)]
 pub struct Hole {
+    /// Its first address.
     pub start: u32,
+    /// The first address after it.
     pub end: u32,
 }
 
-/// The first multiple of `align` from which a hole has `size` bytes.
+/// The first multiple of `align` from which a hole has room for `size` bytes.
 pub(crate) fn first_with_room(list: &[Hole], size: u64, align: u64) -> Option<u64>
     requires some { 1 ≤ align }
     requires align { align ≤ greatest_align }
@@ -30,7 +33,7 @@ pub(crate) fn first_with_room(list: &[Hole], size: u64, align: u64) -> Option<u6
     None
 }
 
-/// Puts in at a place what lies from `lo` to `hi`, where there is anything.
+/// Inserts the hole from `lo` to `hi` at a place, unless it is empty.
 pub(crate) fn put_in(list: &mut Vec<Hole>, place: usize, lo: u32, hi: u32)
     requires place { place ≤ length list.old.items }
     requires room { vec_len list.old < vec_capacity list.old }
@@ -44,7 +47,7 @@ pub(crate) fn put_in(list: &mut Vec<Hole>, place: usize, lo: u32, hi: u32)
     }
 }
 
-/// The first hole that ends at an address, or behind it.
+/// The first hole that ends at or after an address.
 fn place_reaching(list: &[Hole], hi: u32) -> Option<usize>
     ensures is { result ≡ position (λ h. nat_le hi h.end) list.now }
     ensures within { MatchOption result (result ≡ None) (λ k. k < length list.now) }
@@ -52,7 +55,7 @@ fn place_reaching(list: &[Hole], hi: u32) -> Option<usize>
     list.iter().position(|hole| hi <= hole.end)
 }
 
-/// Cuts what lies from `lo` to `hi` out of the hole in which it lies.
+/// Cuts the addresses from `lo` to `hi` out of the hole that contains them.
 pub(crate) fn cut(list: &mut Vec<Hole>, lo: u32, hi: u32)
     requires room { vec_len list.old < vec_capacity list.old }
     ensures items { list.new.items ≡ cut_out lo hi list.old.items }
@@ -80,7 +83,7 @@ fn beginning_at(list: &[Hole], hi: u32) -> Option<&Hole>
     list.iter().find(|hole| hole.start == hi)
 }
 
-/// Where the hole that ends at an address begins; that address, where none does.
+/// Where the hole that ends at an address begins; the address itself if there is none.
 fn start_below(list: &[Hole], lo: u32) -> u32
     ensures { result ≡ reach_down lo (find (λ h. h.end == lo) list.now) }
 {
@@ -90,7 +93,7 @@ fn start_below(list: &[Hole], lo: u32) -> u32
     }
 }
 
-/// Where the hole that begins at an address ends; that address, where none does.
+/// Where the hole that begins at an address ends; the address itself if there is none.
 fn end_above(list: &[Hole], hi: u32) -> u32
     ensures { result ≡ reach_up hi (find (λ h. h.start == hi) list.now) }
 {
@@ -100,7 +103,7 @@ fn end_above(list: &[Hole], hi: u32) -> u32
     }
 }
 
-/// Leaves those that neither end at `lo` nor begin at `hi`.
+/// Drops the holes that end at `lo` or begin at `hi`.
 fn drop_touching(list: &mut Vec<Hole>, lo: u32, hi: u32)
     ensures items { list.new.items ≡ apart_from lo hi list.old.items }
     ensures capacity { vec_capacity list.new ≡ vec_capacity list.old }
@@ -108,7 +111,7 @@ fn drop_touching(list: &mut Vec<Hole>, lo: u32, hi: u32)
     list.retain(|hole| hole.end != lo && hole.start != hi);
 }
 
-/// How many holes begin before an address, or at it.
+/// How many holes begin at or before an address.
 fn rank_of(list: &[Hole], at: u32) -> usize
     ensures value { result ≡ rank at list.now }
     ensures within { result ≤ length list.now }
@@ -121,7 +124,7 @@ fn rank_of(list: &[Hole], at: u32) -> usize
     list.len()
 }
 
-/// Puts in what lies from `lo` to `hi`, merged with the holes on both sides.
+/// Inserts the hole from `lo` to `hi`, merged with the holes on both sides.
 pub(crate) fn merge(list: &mut Vec<Hole>, lo: u32, hi: u32)
     requires room { length (apart_from lo hi list.old.items) < vec_capacity list.old }
     ensures items { list.new.items ≡ merged lo hi list.old.items }

@@ -1,4 +1,4 @@
-//! The blocks of a partition beside the holes that they leave.
+//! The blocks of a partition together with the holes between them.
 
 ghost use Rattle.std.specs.Prelude.{◌≡◌, ◌≤◌, ◌<◌, ◌^◌, [], IfOk, IfSome, length, max};
 ghost use Rattle.std.specs.Option.{option_map};
@@ -16,8 +16,9 @@ use std::marker::Model;
 use wind_base::NoMemory;
 use wind_base::limits::BLOCKS;
 
-/// The blocks of a pool and its holes, both in order of address: no hole is empty, no two of them touch, and with
-/// the blocks they make up the pool. Contracts see a partition beside its holes.
+/// The blocks of a pool and its holes, both in order of address. No hole is empty, no two holes
+/// touch, and together with the blocks they make up the pool. Contracts see a partition and its
+/// holes.
 #[derive(Drop)]
 pub struct Holes {
     start: u32,
@@ -48,7 +49,8 @@ impl Model for Holes {
 }
 
 impl Holes {
-    /// A pool without blocks, with room for 16,384 blocks and 16,385 holes. No other call takes memory.
+    /// Makes a pool without blocks, with room for 16,384 blocks and 16,385 holes. No other call
+    /// allocates memory.
     pub(crate) fn new(alloc: Global, start: u32, end: u32) -> Result<Holes, NoMemory>
         ensures { IfOk result (λ h. h ≡ with_holes (record {
           start = start;
@@ -69,7 +71,7 @@ impl Holes {
         })
     }
 
-    /// The holes in order of address. It also says what they always are.
+    /// The holes in order of address. The contract also gives their invariant.
     pub fn list(&self) -> &[Hole]
         ensures value { result.now ≡ self.now.holes }
         ensures sound { AreHoles self.now }
@@ -77,7 +79,7 @@ impl Holes {
         &self.list
     }
 
-    /// The first address behind the pool.
+    /// The first address after the pool.
     pub(crate) fn end(&self) -> u32
         ensures value { result ≡ self.now.part.end }
         ensures sound { IsPart self.now.part }
@@ -85,7 +87,8 @@ impl Holes {
         self.end
     }
 
-    /// The place of a block of `size` bytes in the first hole that has the room, for an alignment as it is asked for.
+    /// The place of a block of `size` bytes in the first hole that has room for it, at a multiple
+    /// of `align`.
     fn first_place(&self, size: u64, align: u32) -> Option<u64>
         requires some { 1 ≤ align }
         requires align { align ≤ greatest_align }
@@ -97,7 +100,7 @@ impl Holes {
         first_with_room(&self.list, size, u64::from(align.max(GRAIN)))
     }
 
-    /// Puts in the block, cut out of the hole in which it lies.
+    /// Inserts the block, and cuts it out of the hole that contains it.
     fn put(&mut self, block: Block)
         requires some { 0 < block.size }
         requires lies { Lies self.old.part.start self.old.part.end self.old.part.blocks block.size block.addr }
@@ -108,7 +111,7 @@ impl Holes {
         put_block(&mut self.blocks, block);
     }
 
-    /// The address at which a block is given, or the first refusal.
+    /// The address for a new block, or the first refusal.
     #[tactic(auto, unfolding(crate::specs::State::alloc_of, crate::specs::Place::place))]
     fn find_place(&self, n: u32, align: u32) -> Result<u32, PartErr>
         ensures answer { result ≡ alloc_of self.now.part n align }

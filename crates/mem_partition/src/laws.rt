@@ -1,26 +1,27 @@
-//! What follows of the definitions alone.
+//! What follows from the definitions alone.
 
 ghost use Rattle.mem_partition.specs.Laws.{PlaceLaw, AllocLaw, BlocksLaw};
 ghost use Rattle.mem_partition.specs.Holes.{HolesLaw};
 
-/// The place of a block is the least that fits, and the only such answer; every lesser multiple of the alignment
-/// in the pool meets a block or leaves the pool.
+/// The place of a block is the least that fits, and the only such answer. Each lower multiple of
+/// the alignment in the pool overlaps a block or exceeds the pool.
 pub fn place_law()
     ensures { PlaceLaw }
 {}
 
-/// What an accepted `alloc` gives: a block of at least the bytes that were asked for, in the pool, that meets none
-/// of the blocks before. Freed at once, it leaves the partition as it was.
+/// What an accepted `alloc` gives: a block of at least the requested size, inside the pool, that
+/// overlaps none of the blocks before. If it is freed at once, the partition is as before.
 pub fn alloc_law()
     ensures { AllocLaw }
 {}
 
-/// No two blocks of a partition meet, and each call keeps that.
+/// No two blocks of a partition overlap, and each call keeps that.
 pub fn blocks_law()
     ensures { BlocksLaw }
 {}
 
-/// No hole is empty, the holes rise in address, no two of them touch, and with the blocks they make up the pool.
+/// No hole is empty, holes are in order of address, no two of them touch, and together with the
+/// blocks they make up the pool.
 pub fn holes_law()
     ensures { HolesLaw }
 {}

@@ -12,8 +12,8 @@ use std::alloc::Global;
 use std::marker::Model;
 use wind_base::NoMemory;
 
-/// Blocks of a pool of addresses. Contracts see the pool, how many blocks there may be, and the blocks
-/// in order of address.
+/// Blocks in a pool of addresses. Contracts see the pool, the most blocks that it may have, and the
+/// blocks in order of address.
 #[derive(Drop)]
 pub struct Part {
     held: Holes,
@@ -32,8 +32,8 @@ impl Model for Part {
 }
 
 impl Part {
-    /// A partition of the pool from the address `start` to `end`, which is the first behind it, with room for
-    /// 16,384 blocks. No other call takes memory.
+    /// Makes a partition of the pool from address `start` up to `end`, the first address after it,
+    /// with room for 16,384 blocks. No other call allocates memory.
     pub fn new(alloc: Global, start: u32, end: u32) -> Result<Part, NoMemory>
         ensures { IfOk result (λ p. p ≡ record { start = start; end = end; room = most_blocks; blocks = [] }) }
     {
@@ -43,7 +43,7 @@ impl Part {
         }
     }
 
-    /// The first address behind the pool. It also says what every partition keeps.
+    /// The first address after the pool. The contract also gives the invariant of every partition.
     pub fn end(&self) -> u32
         ensures value { result ≡ self.now.end }
         ensures sound { IsPart self.now }
@@ -51,8 +51,9 @@ impl Part {
         self.held.end()
     }
 
-    /// Gives a block of `n` bytes, at least 1, rounded up to a multiple of 16: the least address of the pool that
-    /// is a multiple of `align`, and of 16, and has the room.
+    /// Allocates a block of `n` bytes, at least 1, rounded up to a multiple of 16. It is at the
+    /// least address of the pool that has room and is a multiple of `align` and of 16. The errors
+    /// are checked in this order: `BadAlign`, `BlocksFull`, `NoRoom`.
     pub fn alloc(&mut self, n: u32, align: u32, class: Class) -> Result<u32, PartErr>
         ensures answer { result ≡ alloc_of self.old n align }
         ensures after { self.new ≡ after_alloc self.old n align class }
@@ -60,7 +61,8 @@ impl Part {
         self.held.alloc(n, align, class)
     }
 
-    /// Takes back the block of this class that begins at an address, and tells its size.
+    /// Frees the block of this class that begins at an address, and returns its size in bytes.
+    /// Error `NotABlock` if there is none.
     pub fn free(&mut self, addr: u32, class: Class) -> Result<u32, PartErr>
         ensures answer { result ≡ free_of self.old addr class }
         ensures after { self.new ≡ after_free self.old addr class }
@@ -68,7 +70,7 @@ impl Part {
         self.held.free(addr, class)
     }
 
-    /// The size of the block that begins at an address, of whatever class.
+    /// The size in bytes of the block of any class that begins at an address.
     pub fn size_of(&self, addr: u32) -> Option<u32>
         ensures { result ≡ option_map (λ b. b.size) (block_at self.now.blocks addr) }
     {
@@ -82,7 +84,7 @@ impl Part {
         self.held.free_total()
     }
 
-    /// The blocks beside the holes, which are exactly the parts of the pool that are in no block.
+    /// The blocks and the holes; the holes are exactly the parts of the pool that are in no block.
     pub fn holes(&self) -> &Holes
         ensures { result.now ≡ with_holes self.now }
     {

@@ -1,4 +1,4 @@
--- The sections' places lie in the bytes that are laid.
+-- The sections' places are inside the laid bytes.
 use Rattle.std.proofs.Common.{◌≡◌, ℕ, zero, suc, ◌+◌, ◌-◌, ◌^◌, ◌<◌, ◌≤◌, true, false, cond, List, [], ◌∷◌, ◌++◌, length, map, get_or, replicate, refl, sym, ap, ◌∙◌, subst, arith}
 use Rattle.std.specs.List.{All}
 use Rattle.std.proofs.lemmas.List.{length-append, length-replicate, length-map, get_or-map}
@@ -32,7 +32,7 @@ same_refl Text = refl
 same_refl Data = refl
 same_refl Bss = refl
 
--- the ends behind a section, by segment
+-- the ends after a section, by segment
 end_by : (e : Ends) (h g : SegmentKind) (align size : ℕ) → end_in (with_end e h (aligned (end_in e h) align + size)) g ≡ cond (same_segment g h) (aligned (end_in e g) align + size) (end_in e g)
 end_by e Text Text align size = refl
 end_by e Text Data align size = refl
@@ -91,7 +91,7 @@ length-laid e (s ∷ ss) g all =
       | false ↦ λ q. subst (λ n. length (laid g n ss) + n ≡ end_in (ends_from (after_section e s) ss) g) q rest
     ] (end_after e s g)
 
--- the address of a section, and that it lies before the end of its segment
+-- the address of a section, and that it is before the end of its segment
 pub record IsAt (place size end at : ℕ) : Type 0 where
   pub offset : ℕ
   pub is : at ≡ place + offset
@@ -142,7 +142,7 @@ reloc_lies m own means r k one total =
     let same = mod-eq_of_lt small in
     omega arith
 
--- all that relocating asks for
+-- all that relocation needs
 pub record AreReady (at_flat at_own at_means : List ℕ) (size : ℕ) (relocs : List Rel) : Type 0 where
   pub in_flat : All (λ r. r.section < length at_flat) relocs
   pub own : All (λ r. r.section < length at_own) relocs
@@ -182,7 +182,7 @@ ready m ends f ss at_flat own means size relocs k e total f_is ss_is p o count n
     (subst (λ x. AreReady (addresses_from (flat (ends_of m)) no_ends m.sections) own means ((ends_of m).text + (ends_of m).«data») x) (sym r)
     (ready_at m own means k total' o count)))
 
--- text and data laid one behind the other
+-- text followed by data
 pub length-flat : (m : Module) → IsModule m → length (laid Text 0 m.sections ++ laid Data 0 m.sections) ≡ (ends_of m).text + (ends_of m).«data»
 length-flat m k =
     let one = length-laid no_ends m.sections Text (sects_room m k) in

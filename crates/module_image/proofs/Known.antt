@@ -1,4 +1,4 @@
--- What a module of an object file is known to keep, in the words of its layout.
+-- What is known of an object file's module, in terms of its layout.
 use Rattle.std.proofs.Common.{◌≡◌, ℕ, ◌<◌, ◌≤◌, Bool, true, false, cond, List, [], map, length, get_or, ap, sym, ◌∙◌, subst, arith}
 use Rattle.std.proofs.lemmas.List.{length-map, get_or-map}
 use Rattle.wind_base.specs.Limits.{most_section_headers}
@@ -28,7 +28,7 @@ sects_room m k i d h = let s = k.sections i d h in room (get_or m.sections i d).
 abbrev no_sect : Sect
 no_sect = record { name = []; flags = 0; align = 1; body = body.Size 0 }
 
--- the same in the shapes of its sections
+-- the same for the shapes of its sections
 pub shapes_room : (m : Module) (ss : List Sect) (shapes : List Shape) → IsModule m → ss ≡ m.sections → shapes ≡ map shape_of ss → All IsShapeRoom shapes
 shapes_room m ss shapes k s e =
     subst (λ (x : List Shape). All IsShapeRoom x) (sym (e ∙ ap (map shape_of) s))
@@ -62,7 +62,7 @@ bytes_by : (b : Bool) → HasBytes (cond b Data Text)
 bytes_by true = tt
 bytes_by false = tt
 
--- a section that holds bytes lies in such a segment
+-- a section with bytes is in such a segment
 pub has_bytes : (b : Body) (flags n : ℕ) → HoldsBytes b n → HasBytes (segment_by b flags)
 has_bytes (body.Bytes xs) flags n h = bytes_by _
 has_bytes (body.Size k) flags n h = absurd h

@@ -1,4 +1,4 @@
--- Each section lies in its segment, in order.
+-- Each section is in its segment, in order.
 use Rattle.std.proofs.Common.{◌≡◌, ℕ, zero, suc, ◌+◌, ◌-◌, ◌%◌, ◌<◌, ◌≤◌, true, false, cond, List, [], ◌∷◌, ◌++◌, length, get_or, replicate, refl, sym, ap, ◌∙◌, subst, arith}
 use Rattle.std.specs.List.{All}
 use Rattle.std.proofs.lemmas.List.{places, length-replicate}
@@ -18,7 +18,7 @@ use Rattle.module_image.specs.LayoutLaw.{nowhere, offset_at, LiesIn, LayoutLaw}
 use Rattle.module_image.proofs.Known.{sects_room}
 use Rattle.module_image.proofs.Fitting.{same_refl, end_after, grows, small_tail, small_head, length-padded}
 
--- where section number k begins, where the segments are taken up to e
+-- where section number k begins, if the segments are used up to e
 abbrev off : Ends → List Sect → ℕ → ℕ
 off e ss k = get_or (addresses_from nowhere e ss) k 0
 
@@ -90,7 +90,7 @@ order e (s ∷ ss) zero (suc j) d all h low same =
     omega arith
 order e (s ∷ ss) (suc i) (suc j) d all h low same = order (after_section e s) ss i j d (small_tail s ss all) (omega arith) (omega arith) same
 
--- bytes behind others, and behind zeros
+-- bytes after others, and after zeros
 behind : (xs ys : List ℕ) (n k : ℕ) → n ≡ length xs + k → get_or (xs ++ ys) n 0 ≡ get_or ys k 0
 behind xs ys n k e = grind (arith, places)
 

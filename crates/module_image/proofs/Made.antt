@@ -1,4 +1,4 @@
--- What is made apart from memory is the image.
+-- What is prepared before anything is written is the image.
 use Rattle.std.proofs.Common.{◌≡◌, ℕ, ◌+◌, ◌<◌, ◌^◌, List, [], ◌∷◌, length, map, take, drop, replicate, Option, refl, sym, ap, ◌∙◌, arith}
 use Rattle.reloc_link.specs.Patched.{Patched}
 use Rattle.symbol_table.specs.declared.symbol.Symbol.{Symbol}

@@ -11,7 +11,7 @@ use Rattle.module_image.specs.Exports.{is_wanted, exported, export_of, exports_f
 use Rattle.module_image.specs.Binding.{value_or_zero, bind}
 use Rattle.module_image.specs.Link.{Load, told_by, value_else}
 
--- the value alone
+-- only the value
 abbrev valued : Option Symbol → Option ℕ
 valued None = None
 valued (Some s) = Some s.value
@@ -36,7 +36,7 @@ valued_choice : (b : Bool) (s t : Symbol) → s.value ≡ t.value → valued (co
 valued_choice true s t h = ap Some h
 valued_choice false s t h = refl
 
--- the same under two ids: of one symbol, and of all
+-- the same with two ids: for one symbol, and for all
 valued_one : (ss : List Sect) (mode id : ℕ) (name : List ℕ) (y : Sym) (v : Option ℕ)
     → valued (newest (is_global_named name) (export_of ss mode id y v)) ≡ valued (newest (is_global_named name) (export_of ss mode 0 y v))
 valued_one ss mode id name y None = refl

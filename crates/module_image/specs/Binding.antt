@@ -1,4 +1,4 @@
--- What a name means that a module doesn't define.
+-- The value of a name that a module doesn't define.
 use Rattle.std.specs.Prelude.{ℕ, Bool, false, ◌&&◌, not, ◌==◌, is_some, List, map, Option, Some, None}
 use Rattle.std.specs.List.{filter}
 use Rattle.symbol_table.specs.declared.symbol.Symbol.{Symbol}
@@ -12,11 +12,11 @@ abbrev pub value_or_zero : Option Symbol → ℕ
 value_or_zero None = 0
 value_or_zero (Some s) = s.value
 
--- the value of the newest global of the name, else 0
+-- the value of the newest global with the name, else 0
 unfoldable pub bind : List Symbol → List ℕ → ℕ
 bind tab name = value_or_zero (find_global tab name)
 
--- the symbol is of another module, is not weak, and the table has no global of its name
+-- the module doesn't define the symbol, the symbol isn't weak, and the table has no global with its name
 abbrev pub is_unbound_at : List Symbol → Sym → SymPlace → Bool
 is_unbound_at tab y Undefined = not (y.binding == stb_weak) && not (is_some (find_global tab y.name))
 is_unbound_at tab y _ = false

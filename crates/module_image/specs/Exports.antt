@@ -13,7 +13,7 @@ use Rattle.module_image.specs.declared.segments.SegmentKind.TheVariants.{Text, D
 use Rattle.module_image.specs.declared.segments.Places.{Places}
 use Rattle.module_image.specs.Layout.{segment_of, shf_execinstr, values}
 
--- the modes of a load that add local symbols too, and none; every other number adds global and weak ones
+-- the modes of a load that adds local symbols too, and no symbols; in every other mode it adds global and weak ones
 abbrev pub locals_too : ℕ
 locals_too = 1
 
@@ -28,12 +28,12 @@ is_global y = nat_le 1 y.binding
 abbrev pub is_plain : Sym → Bool
 is_plain y = nat_le y.kind 2
 
--- the mode adds a symbol like this one, where the module defines it; one without a name is never added
+-- the mode adds such a symbol, if the module defines it; a symbol without a name is never added
 abbrev pub is_wanted : ℕ → Sym → Bool
 is_wanted mode y =
     not (mode == no_symbols) && (not (length y.name == 0) && (is_global y || (mode == locals_too && is_plain y)))
 
--- the module defines a symbol of this place
+-- the module defines a symbol with this place
 abbrev pub is_defined : SymPlace → Bool
 is_defined Undefined = false
 is_defined Elsewhere = false
@@ -43,7 +43,7 @@ is_defined _ = true
 abbrev pub export_count : ℕ → List Sym → ℕ
 export_count mode ys = count_by (λ y. is_defined y.place && is_wanted mode y) ys
 
--- a symbol of a section with code is of the kind text; any other is of the kind of its segment
+-- a symbol in a section with code has kind text; any other has the kind of its segment
 abbrev pub kind_in : Bool → SegmentKind → SymKind
 kind_in true segment = TextSym
 kind_in false Text = DataSym
@@ -62,12 +62,12 @@ kind_of ss (Section n) = kind_at (slice_get ss n)
 kind_of ss Undefined = AbsSym
 kind_of ss Elsewhere = AbsSym
 
--- what the table gets of a symbol with this value
+-- the table entry for a symbol with this value
 abbrev pub exported : List Sect → ℕ → Sym → ℕ → Symbol
 exported ss id y value =
     record { name = y.name; value = value; kind = kind_of ss y.place; global = is_global y; group = id }
 
--- one symbol, where the module defines it and the mode adds it
+-- one symbol, if the module defines it and the mode adds it
 abbrev pub export_of : List Sect → ℕ → ℕ → Sym → Option ℕ → List Symbol
 export_of ss mode id y None = []
 export_of ss mode id y (Some value) = if is_wanted mode y then exported ss id y value ∷ [] else []
@@ -77,6 +77,6 @@ exports_from ss mode id [] vs = []
 exports_from ss mode id (y ∷ ys) [] = []
 exports_from ss mode id (y ∷ ys) (v ∷ vs) = export_of ss mode id y v ++ exports_from ss mode id ys vs
 
--- what a load with this mode at these places adds, in symbol order, each in the group of the module's id
+-- what a load in this mode at these places adds, in symbol order, all in the group of the module's id
 unfoldable pub exports : Module → ℕ → Places → ℕ → List Symbol
 exports m mode at id = exports_from m.sections mode id m.symbols (values m at)

@@ -21,7 +21,7 @@ use Rattle.module_image.specs.Needs.{same_segment}
 use Rattle.module_image.specs.Binding.{bind}
 
 -- ---- symbols
--- what a symbol means: its value, where the module defines it, else what f says of its name
+-- the value of a symbol: its own, if the module defines it, else what f says of its name
 abbrev pub meaning_by : (List ℕ → ℕ) → List ℕ → Option ℕ → ℕ
 meaning_by f name (Some value) = value
 meaning_by f name None = f name
@@ -31,7 +31,7 @@ meanings_from f [] vs = []
 meanings_from f (y ∷ ys) [] = []
 meanings_from f (y ∷ ys) (v ∷ vs) = meaning_by f y.name v ∷ meanings_from f ys vs
 
--- what the symbols mean, by number; number 0 stands for none, whose value is 0
+-- the values of the symbols, by number; number 0 stands for none and has value 0
 abbrev pub meanings : Module → (List ℕ → ℕ) → Places → List ℕ
 meanings m f at = 0 ∷ meanings_from f m.symbols (values m at)
 
@@ -45,7 +45,7 @@ body_bytes (body.Size n) = replicate n 0
 abbrev pub padded : ℕ → Sect → List ℕ
 padded from s = replicate (aligned from s.align - from) 0 ++ body_bytes s.body
 
--- the bytes of a segment from a place on
+-- the bytes of a segment from an offset on
 abbrev pub laid : SegmentKind → ℕ → List Sect → List ℕ
 laid kind from [] = []
 laid kind from (s ∷ ss) =
@@ -53,7 +53,7 @@ laid kind from (s ∷ ss) =
     then padded from s ++ laid kind (aligned from s.align + size_of s.body) ss
     else laid kind from ss
 
--- text, and data behind it
+-- text, followed by data
 abbrev pub laid_both : Module → List ℕ
 laid_both m = laid Text 0 m.sections ++ laid Data 0 m.sections
 
@@ -62,7 +62,7 @@ abbrev pub flat : Ends → Places
 flat ends = record { text = 0; «data» = ends.text; bss = ends.text + ends.«data» }
 
 -- ---- relocation
--- a relocation whose section begins there in the bytes, and at this address, and whose symbol has this meaning
+-- a relocation whose section begins here in the bytes and has this address, and whose symbol has this value
 abbrev pub binding_of : List ℕ → List ℕ → List ℕ → Rel → Binding
 binding_of places at means r = record {
   offset = (slice_index places r.section + r.offset) % 2 ^ 32;
@@ -72,25 +72,26 @@ binding_of places at means r = record {
   p = (slice_index at r.section + r.offset) % 2 ^ 32;
 }
 
--- the bytes with every relocation in order, where the sections have these addresses and the symbols these meanings
+-- the bytes after every relocation in order, if the sections have these addresses and the symbols these values
 unfoldable pub patched_of : Module → List ℕ → List ℕ → Patched
 patched_of m own means =
     patched 0 (laid_both m) (map (binding_of (addresses m (flat (ends_of m))) own means) m.relocs)
 
 -- ---- the image
--- the bytes of each segment, and the first relocation that is refused
+-- the bytes of each segment, and the first refused relocation
 pub record Images : Type 0 where
   pub text : List ℕ
   pub «data» : List ℕ
   pub bss : List ℕ
   pub fault : Option RelocErr
 
--- the bytes cut into text and data, beside those of bss
+-- the bytes cut into text and data, together with those of bss
 abbrev pub cut_at : ℕ → List ℕ → Patched → Images
 cut_at n bss done = record { text = take n done.image; «data» = drop n done.image; bss = bss; fault = done.fault }
 
--- what a load writes at these places, where f says what a name means that the module doesn't define: section bytes with
--- every relocation in order, and zero elsewhere
+-- what a load at these places writes, if f gives the values of the names that the module doesn't define: section
+-- bytes after
+-- every relocation in order, and zeros elsewhere
 unfoldable pub image_by : Module → (List ℕ → ℕ) → Places → Images
 image_by m f at =
     cut_at (ends_of m).text (replicate (commons_end (ends_of m).bss m.symbols) 0)

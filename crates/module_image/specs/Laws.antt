@@ -1,4 +1,4 @@
--- What follows of the definitions alone.
+-- What follows from the definitions alone.
 use Rattle.std.specs.Prelude.{◌≡◌, ℕ, ◌+◌, ◌<◌, ◌^◌, List, length}
 use Rattle.symbol_table.specs.declared.symbol.Symbol.{Symbol}
 use Rattle.elf_read.specs.declared.module.Module.{Module}
@@ -13,11 +13,11 @@ use Rattle.module_image.specs.Needs.{needs_of}
 use Rattle.module_image.specs.Exports.{exports, export_count}
 use Rattle.module_image.specs.Image.{Images, image}
 
--- what an object file may say is what relocation and the partition take
+-- relocation and the partition accept whatever an object file may say
 pub record AgreementLaw : Type 0 where
-  -- a type of relocation is as wide to the reader of files as to relocation
+  -- the reader of files and relocation agree on the width of each relocation type
   pub widths : (kind : ℕ) → width kind ≡ width_of kind
-  -- an alignment of a file is one that the partition gives
+  -- the alignments that a file may have are those that the partition permits
   pub alignments : (n : ℕ) → is_alignment n ≡ is_align n
 
 -- how many symbols a load adds doesn't depend on its places or its id
@@ -30,7 +30,7 @@ pub record HasSizes (i : Images) (z : Needs) : Type 0 where
   pub «data» : length i.«data» ≡ z.«data».size
   pub bss : length i.bss ≡ z.bss.size
 
--- the image of a module has the sizes that it needs, also where a relocation is refused
+-- the image of a module has the sizes that it needs, even if a relocation is refused
 abbrev pub SizeLaw : Type 0
 SizeLaw =
     (m : Module) (tab : List Symbol) (at : Places) → IsModule m

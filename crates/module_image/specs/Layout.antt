@@ -1,5 +1,5 @@
--- Where the parts of a module lie in its three segments. Sections, and behind them common symbols, are laid one behind
--- another, each at the next multiple of its alignment.
+-- Where the parts of a module are in its three segments. Sections come first, then common symbols, each at the next
+-- multiple of its alignment.
 use Rattle.std.specs.Prelude.{ℕ, ◌+◌, ◌%◌, ◌^◌, ◌≤◌, ◌==◌, if◌then◌else◌, bit_and, Bool, true, false, List, [], ◌∷◌, map, slice_index, Option, Some, None}
 use Rattle.wind_base.specs.Limits.{most_section_bytes}
 use Rattle.mem_partition.specs.Place.{aligned, greatest_align}
@@ -17,14 +17,14 @@ use Rattle.module_image.specs.declared.segments.Places.{Places}
 use Rattle.module_image.specs.declared.segments.Ends.{Ends}
 
 -- ---- segments
--- sh_flags: SHF_WRITE, a program writes the section; SHF_EXECINSTR, it holds code (System V ABI, edition 4.1)
+-- sh_flags: SHF_WRITE, the section is writable; SHF_EXECINSTR, it holds code (System V ABI, edition 4.1)
 abbrev pub shf_write : ℕ
 shf_write = 1
 
 abbrev pub shf_execinstr : ℕ
 shf_execinstr = 4
 
--- a section with bytes lies in text, or in data where it is writable; one without lies in bss
+-- a section with bytes is in text, or in data if it is writable; one without bytes is in bss
 abbrev pub segment_where : Bool → ℕ → SegmentKind
 segment_where true flags = if bit_and flags shf_write == shf_write then Data else Text
 segment_where false flags = Bss
@@ -32,7 +32,7 @@ segment_where false flags = Bss
 abbrev pub segment_by : Body → ℕ → SegmentKind
 segment_by b flags = segment_where (has_bytes b) flags
 
--- the segment of a shape, and of a section
+-- the segment of a section, by its shape and by itself
 abbrev pub segment_in : Shape → SegmentKind
 segment_in s = segment_where s.has_bytes s.flags
 
@@ -45,7 +45,7 @@ place_of at Text = at.text
 place_of at Data = at.«data»
 place_of at Bss = at.bss
 
--- how many bytes of a segment are taken
+-- how many bytes of a segment are used
 abbrev pub end_in : Ends → SegmentKind → ℕ
 end_in ends Text = ends.text
 end_in ends Data = ends.«data»
@@ -60,14 +60,14 @@ abbrev pub no_ends : Ends
 no_ends = record { text = 0; «data» = 0; bss = 0 }
 
 -- ---- sections
--- where a shape begins in its segment, and where a section does
+-- the offset of a section in its segment, by its shape and by itself
 abbrev pub offset_by : Ends → Shape → ℕ
 offset_by ends s = aligned (end_in ends (segment_in s)) s.align
 
 abbrev pub offset_in : Ends → Sect → ℕ
 offset_in ends s = offset_by ends (shape_of s)
 
--- how far each segment reaches after a shape, and after a section
+-- the ends of the segments after a section, by its shape and by itself
 abbrev pub after_shape : Ends → Shape → Ends
 after_shape ends s = with_end ends (segment_in s) (offset_by ends s + s.size)
 
@@ -95,17 +95,17 @@ unfoldable pub addresses : Module → Places → List ℕ
 addresses m at = addresses_from at no_ends m.sections
 
 -- ---- symbols
--- how far the bss is taken behind a symbol; the alignment of a common one is its value
+-- the end of bss after a symbol; the alignment of a common symbol is its value
 abbrev pub after_symbol : ℕ → Sym → SymPlace → ℕ
 after_symbol end y Common = aligned end y.value + y.size
 after_symbol end y _ = end
 
--- and behind all symbols
+-- and after all symbols
 abbrev pub commons_end : ℕ → List Sym → ℕ
 commons_end end [] = end
 commons_end end (y ∷ ys) = commons_end (after_symbol end y y.place) ys
 
--- the value of a symbol that the module defines, where its sections have these addresses
+-- the value of a symbol that the module defines, if its sections have these addresses
 abbrev pub value_by : List ℕ → Places → ℕ → Sym → SymPlace → Option ℕ
 value_by places at end y Undefined = None
 value_by places at end y Elsewhere = None
@@ -126,7 +126,7 @@ unfoldable pub values : Module → Places → List (Option ℕ)
 values m at = values_from (addresses m at) at (ends_of m).bss m.symbols
 
 -- ---- bounds
--- an alignment and a size such as a section or a common symbol has
+-- the alignment and size of a section or a common symbol are within their limits
 pub record IsRoom (align size : ℕ) : Type 0 where
   pub least : 1 ≤ align
   pub greatest : align ≤ greatest_align
@@ -145,11 +145,11 @@ IsCommonRoom _ y = Unit {0}
 abbrev pub IsSymRoom : Sym → Type 0
 IsSymRoom y = IsCommonRoom y.place y
 
--- how far one section or one common symbol takes a segment at most
+-- the most bytes that one section or common symbol adds to a segment
 abbrev pub longest_step : ℕ
 longest_step = most_section_bytes + greatest_align
 
--- no segment is taken further
+-- no segment ends after n
 pub record AreWithin (ends : Ends) (n : ℕ) : Type 0 where
   pub text : ends.text ≤ n
   pub «data» : ends.«data» ≤ n

@@ -15,7 +15,7 @@ pub record Load : Type 0 where
   pub at : Places
 
 -- ---- all at once
--- the last global of a name among what a load exports; the group plays no part
+-- the last global with a name among what a load exports; the group doesn't matter
 abbrev pub told_by : Load → List ℕ → Option Symbol
 told_by l name = find_global (exports l.body l.mode l.at 0) name
 
@@ -23,28 +23,29 @@ abbrev pub value_else : Option Symbol → ℕ → ℕ
 value_else (Some s) n = s.value
 value_else None n = n
 
--- what a name means after these loads, the latest of them first: what the latest says that exports the name, else what
--- the table says
+-- the value of a name after these loads, latest first: from the latest load that exports the name, else from
+-- the table
 abbrev pub meaning : List Symbol → List Load → List ℕ → ℕ
 meaning tab [] name = bind tab name
 meaning tab (l ∷ earlier) name = value_else (told_by l name) (meaning tab earlier name)
 
--- the images of loads that come after these, the latest of which stands first
+-- the images of loads that come after these, the latest of which is first
 abbrev pub link_after : List Symbol → List Load → List Load → List Images
 link_after tab earlier [] = []
 link_after tab earlier (l ∷ ls) = image_by l.body (meaning tab earlier) l.at ∷ link_after tab (l ∷ earlier) ls
 
--- the static link of these loads over a table: a name that a module doesn't define is what the latest module before it
--- says that exports the name, else what the table says
+-- the static link of these loads over a table: a name that a module doesn't define gets its value from the latest
+-- module before
+-- it that exports the name, else from the table
 unfoldable pub link : List Symbol → List Load → List Images
 link tab ls = link_after tab [] ls
 
 -- ---- one after the other
--- each load, with its id, finds the symbols that the ones before left
+-- each load, with its id, finds the symbols that those before it left
 abbrev pub images_of : List Symbol → List (ℕ × Load) → List Images
 images_of tab [] = []
 images_of tab ((id, l) ∷ ls) = image l.body tab l.at ∷ images_of (tab ++ exports l.body l.mode l.at id) ls
 
--- loads one after the other write the static link, whatever ids they get
+-- loads made one after the other write the static link, whatever ids they get
 abbrev pub LinkLaw : Type 0
 LinkLaw = (tab : List Symbol) (ls : List (ℕ × Load)) → images_of tab ls ≡ link tab (map (λ l. l.1) ls)

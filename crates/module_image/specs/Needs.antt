@@ -1,4 +1,4 @@
--- What a module needs of memory.
+-- The memory that a module needs.
 use Rattle.std.specs.Prelude.{ℕ, max, Bool, true, false, if◌then◌else◌, List, [], ◌∷◌, map}
 use Rattle.mem_partition.specs.Place.{grain}
 use Rattle.elf_read.specs.declared.module.Module.{Module}
@@ -12,14 +12,14 @@ use Rattle.module_image.specs.declared.segments.SegmentKind.TheVariants.{Text, D
 use Rattle.module_image.specs.declared.segments.Needs.{Needs}
 use Rattle.module_image.specs.Layout.{segment_in, ends_by, no_ends, commons_end}
 
--- the two segments are one
+-- the two segments are the same
 abbrev pub same_segment : SegmentKind → SegmentKind → Bool
 same_segment Text Text = true
 same_segment Data Data = true
 same_segment Bss Bss = true
 same_segment _ _ = false
 
--- the greatest of this alignment and those of a segment's shapes; shapes without bytes count too
+-- the greatest of this alignment and those of a segment's sections; sections without bytes count too
 abbrev pub align_by : SegmentKind → ℕ → List Shape → ℕ
 align_by kind align [] = align
 align_by kind align (s ∷ ss) =
@@ -34,7 +34,7 @@ abbrev pub common_align : ℕ → List Sym → ℕ
 common_align align [] = align
 common_align align (y ∷ ys) = common_align (align_after align y y.place) ys
 
--- the bytes and the alignment that each segment needs for sections of these shapes and for these symbols
+-- the size and alignment that each segment needs for sections of these shapes and these symbols
 abbrev pub needs_by : List Shape → List Sym → Needs
 needs_by shapes symbols = record {
   text = record { size = (ends_by no_ends shapes).text; align = align_by Text grain shapes };

@@ -16,7 +16,7 @@ use std::alloc::{AllocError, Global};
 /// Addresses are modulo this.
 const WORDS: u64 = 0x1_0000_0000;
 
-/// Zeros at the end.
+/// Adds `n` zeros at the end.
 fn push_zeros(out: &mut Vec<u8>, n: u64) -> Result<(), AllocError>
     ensures { OnOk result (out.new.items ≡ out.old.items ++ replicate n 0) }
 {
@@ -26,7 +26,7 @@ fn push_zeros(out: &mut Vec<u8>, n: u64) -> Result<(), AllocError>
     Ok(())
 }
 
-/// A section at the next multiple of its alignment.
+/// Adds a section at the next multiple of its alignment.
 fn push_section(out: &mut Vec<u8>, from: u64, s: &Sect) -> Result<(), AllocError>
     requires room { IsSectRoom s.now }
     requires within { from ≤ 2 ^ 60 }
@@ -94,8 +94,8 @@ fn bindings(
     Ok(list)
 }
 
-/// The bytes with every relocation in order, up to the first that is refused. The sections begin at these places
-/// in the bytes, and have these addresses.
+/// Writes every relocation into the bytes, in order, and stops at the first that is refused.
+/// `places` says where the sections begin in the bytes, and `at` gives their addresses.
 pub(crate) fn relocate(
     alloc: Global,
     bytes: &mut [u8],

@@ -12,7 +12,7 @@ use std::alloc::{AllocError, Global};
 use symbol_table::{SymKind, Symbol};
 use wind_base::Name;
 
-/// The mode of a load that adds local symbols too.
+/// The mode of a load that also adds local symbols.
 const LOCALS_TOO: u32 = 1;
 
 /// The mode of a load that adds no symbols.
@@ -34,7 +34,7 @@ fn is_global(y: &Sym) -> bool
     y.binding >= STB_GLOBAL
 }
 
-/// Whether the mode adds the symbol, where the module defines it.
+/// Whether the mode adds the symbol, if the module defines it.
 fn is_wanted(mode: u32, y: &Sym) -> bool
     ensures { result ≡ is_wanted_lem mode y.now }
 {
@@ -58,7 +58,7 @@ fn is_counted(mode: u32, y: &Sym) -> bool
     is_defined(y.place) && is_wanted(mode, y)
 }
 
-/// How many of the symbols a load with this mode adds.
+/// How many of the symbols a load in this mode adds.
 pub(crate) fn count_exports(mode: u32, symbols: &[Sym]) -> u32
     requires { length symbols.now ≤ most_symbol_entries }
     ensures value { result ≡ export_count mode symbols.now }
@@ -99,15 +99,15 @@ fn kind_of(sections: &[Sect], place: SymPlace) -> SymKind
     }
 }
 
-/// The same name again.
+/// A copy of a name.
 pub(crate) fn copied(alloc: Global, name: &Name) -> Result<Name, AllocError>
     ensures { IfOk result (λ n. n ≡ name.now) }
 {
-    // a name is never too long, so memory alone can lack here
+    // a name is never too long, so the only error is that memory runs out
     Name::new(alloc, name.bytes()).map_err(|_| AllocError)
 }
 
-/// What the table gets of a symbol with this value.
+/// The table entry for a symbol with this value.
 fn export(
     alloc: Global,
     sections: &[Sect],
@@ -127,7 +127,7 @@ fn export(
     })
 }
 
-/// What a load adds, in symbol order, where the symbols have these values.
+/// What a load adds to the table, in symbol order, if the symbols have these values.
 pub(crate) fn collect_exports(
     alloc: Global,
     sections: &[Sect],

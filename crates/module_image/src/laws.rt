@@ -1,15 +1,16 @@
-//! What follows of the definitions alone.
+//! What follows from the definitions alone.
 
 ghost use Rattle.module_image.specs.Laws.{AgreementLaw, CountLaw, SizeLaw};
 ghost use Rattle.module_image.specs.LayoutLaw.{LayoutLaw};
 ghost use Rattle.module_image.specs.Link.{LinkLaw};
 
-/// What an object file may say is what relocation and the partition take: widths of relocations, and alignments.
+/// Relocation and the partition accept whatever an object file may say about widths of relocations
+/// and alignments.
 pub fn agreement_law()
     ensures { AgreementLaw }
 {}
 
-/// A load adds as many symbols as are counted before, whatever its places and its id.
+/// A load adds as many symbols as were counted before, whatever its places and its id are.
 pub fn count_law()
     ensures { CountLaw }
 {}
@@ -19,14 +20,14 @@ pub fn size_law()
     ensures { SizeLaw }
 {}
 
-/// Each section lies in its segment at a multiple of its alignment, whose bytes before relocation are there those of
-/// the section; and the sections of a segment lie in order.
+/// Each section is in its segment, at a multiple of its alignment. Before relocation, the bytes
+/// there are those of the section. The sections of a segment are in order.
 pub fn layout_law()
     ensures { LayoutLaw }
 {}
 
-/// For any list of loads over a table, each of which finds the symbols that the ones before left, the images are
-/// those of one static link at the same places.
+/// For any list of loads over a table, each of which finds the symbols that those before it left,
+/// the images are those of one static link at the same places.
 pub fn link_law()
     ensures { LinkLaw }
 {}

@@ -1,4 +1,4 @@
-//! Where the sections and symbols of a module lie.
+//! Where the sections and symbols of a module are.
 
 ghost use Rattle.std.specs.Prelude.{◌≡◌, ◌+◌, ◌*◌, ◌≤◌, ◌<◌, ◌%◌, ◌^◌, length, map, All, IfOk};
 ghost use Rattle.wind_base.specs.Limits.{most_section_headers, most_symbol_entries};
@@ -10,23 +10,24 @@ use crate::segments::{Ends, Places, SegmentKind};
 use elf_read::{Sect, Shape, Sym, SymPlace, find_shape};
 use std::alloc::{AllocError, Global};
 
-/// The flag of a section that a program writes: `SHF_WRITE`.
+/// The flag of a writable section: `SHF_WRITE`.
 const SHF_WRITE: u32 = 1;
 
-/// How far one section or one common symbol takes a segment at most: its greatest size and alignment.
+/// The most bytes that one section or common symbol adds to a segment: its greatest size plus its
+/// greatest alignment.
 const LONGEST_STEP: u64 = 0x101_0000;
 
 /// Addresses are modulo this.
 const WORDS: u64 = 0x1_0000_0000;
 
-/// Nothing is taken of any segment.
+/// No bytes of any segment are used.
 pub(crate) const NO_ENDS: Ends = Ends {
     text: 0,
     data: 0,
     bss: 0,
 };
 
-/// The next multiple of `align` from `n` on.
+/// The least multiple of `align` that is at least `n`.
 #[tactic(auto, unfolding(mem_partition::specs::Place::aligned))]
 pub(crate) fn align_up(n: u64, align: u32) -> u64
     requires some { 1 ≤ align }
@@ -39,7 +40,7 @@ pub(crate) fn align_up(n: u64, align: u32) -> u64
     (n + align - 1) / align * align
 }
 
-/// The segment of a shape.
+/// The segment of a section with this shape.
 pub(crate) fn segment(s: Shape) -> SegmentKind
     ensures { result ≡ segment_in s }
 {
@@ -84,7 +85,7 @@ fn place_at(at: Places, kind: SegmentKind) -> u64
     }
 }
 
-/// Where the shape begins in its segment.
+/// The offset of a section with this shape in its segment.
 fn offset(ends: Ends, s: Shape) -> u64
     requires room { IsShapeRoom s }
     requires within { AreWithin ends (2 ^ 60) }
@@ -94,7 +95,7 @@ fn offset(ends: Ends, s: Shape) -> u64
     align_up(end_at(ends, segment(s)), s.align)
 }
 
-/// How far each segment reaches after the shape.
+/// The ends of the segments after a section with this shape.
 pub(crate) fn advance(ends: Ends, s: Shape, n: u64) -> Ends
     requires room { IsShapeRoom s }
     requires within { AreWithin ends n }
@@ -105,7 +106,7 @@ pub(crate) fn advance(ends: Ends, s: Shape, n: u64) -> Ends
     put_end(ends, segment(s), offset(ends, s) + s.size)
 }
 
-/// How far each segment reaches after all shapes.
+/// The ends of the segments after all sections.
 pub(crate) fn find_ends(shapes: &[Shape]) -> Ends
     requires room { All IsShapeRoom shapes.now }
     requires few { length shapes.now ≤ most_section_headers }
@@ -167,7 +168,7 @@ fn value(places: &[u64], at: Places, end: u64, y: &Sym) -> Option<u32>
     }
 }
 
-/// How far the bss is taken behind a symbol.
+/// The end of bss after a symbol.
 fn behind(end: u64, y: &Sym, n: u64) -> u64
     requires room { IsSymRoom y.now }
     requires within { end ≤ n }
@@ -183,7 +184,7 @@ fn behind(end: u64, y: &Sym, n: u64) -> u64
     }
 }
 
-/// How far the common symbols take the bss, which the sections take up to `start`.
+/// The end of bss after the common symbols, if the sections end at `start`.
 pub(crate) fn find_commons(start: u64, symbols: &[Sym]) -> u64
     requires room { All IsSymRoom symbols.now }
     requires few { length symbols.now ≤ most_symbol_entries }

@@ -1,5 +1,5 @@
-//! The image of a module: where its sections and symbols lie in its three segments, the bytes that are loaded,
-//! the symbols that it exports, and the static link of several modules.
+//! The image of a module: where its sections and symbols are in its three segments, the bytes that
+//! are loaded, the symbols that it exports, and the static link of several modules.
 #![tactic(auto)]
 
 mod bytes;

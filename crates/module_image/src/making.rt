@@ -1,4 +1,4 @@
-//! What a load writes and adds, made apart from memory and the symbol table.
+//! Makes what a load writes and adds, without touching RAM or the symbol table.
 
 ghost use Rattle.std.specs.Prelude.{◌≡◌, ◌<◌, ◌≤◌, ◌+◌, ◌^◌, ◌∷◌, IfOk, IfErr, length};
 ghost use Rattle.elf_read.specs.Modules.{IsModule};
@@ -23,17 +23,17 @@ use wind_base::{Name, NoMemory};
 /// The binding `STB_WEAK`.
 const STB_WEAK: u8 = 2;
 
-/// Names in order.
+/// A list of names.
 pub type NameList = Items<Name>;
 
 /// What a load writes and adds.
 #[derive(Drop)]
 pub struct Prepared {
-    /// The bytes of text, and behind them those of data.
+    /// The bytes of text, followed by those of data.
     pub bytes: Vec<u8>,
     /// The symbols that the table gets.
     pub exports: Vec<Symbol>,
-    /// The names that nothing defines.
+    /// The undefined names.
     pub undefined: NameList,
 }
 
@@ -48,7 +48,7 @@ pub enum PrepareErr {
     NoMemory,
 }
 
-/// What a name means that the module doesn't define.
+/// The value of a name that the module doesn't define.
 #[tactic(auto, unfolding(crate::specs::Binding::bind))]
 fn bound_value(syms: &Symbols, name: &[u8]) -> u32
     ensures { result ≡ bind syms.now.list name.now }
@@ -68,7 +68,7 @@ fn meaning(syms: &Symbols, y: &Sym, value: Option<u32>) -> u32
     }
 }
 
-/// What the symbols mean, by number; number 0 is none.
+/// The values of the symbols, by number; number 0 means none.
 fn meanings(
     alloc: Global,
     syms: &Symbols,
@@ -95,7 +95,7 @@ fn is_unbound(syms: &Symbols, y: &Sym) -> bool
     }
 }
 
-/// The names that nothing defines.
+/// The undefined names.
 fn unbound_names(alloc: Global, syms: &Symbols, symbols: &[Sym]) -> Result<NameList, AllocError>
     ensures { IfOk result (λ v. v ≡ unbound syms.now.list symbols.now) }
 {
@@ -132,7 +132,7 @@ fn flat_places(ends: Ends) -> Places
     }
 }
 
-/// Text and data with every relocation, or the first that is refused.
+/// Text and data after every relocation, or the first relocation that is refused.
 #[tactic(auto, unfolding(crate::specs::Image::patched_of, crate::specs::Layout::addresses), using(crate::proofs::Known::sects_room))]
 fn make_bytes(
     alloc: Global,
@@ -163,8 +163,8 @@ fn make_bytes(
     }
 }
 
-/// Makes what a load of the module writes and adds, whose segments go to these places and whose id is `id`, or
-/// finds the first relocation that is refused.
+/// Makes what a load of the module writes and adds, with its segments at these places and with this
+/// id. The error is the first relocation that is refused, or that memory ran out.
 #[tactic(auto, using(crate::proofs::Known::sects_room, crate::proofs::Known::shapes_room, crate::proofs::Known::few_shapes, crate::proofs::Known::syms_room, crate::proofs::Made::fault_is, crate::proofs::Made::length_means, crate::proofs::Fitting::length_values, crate::proofs::Fitting::length_addresses, crate::proofs::Made::ends_room), unfolding(crate::specs::Exports::exports, crate::specs::Layout::addresses, crate::specs::Layout::values))]
 pub fn prepare(
     alloc: Global,

@@ -1,45 +1,54 @@
-//! The three segments of a module, and how much memory each needs.
+//! The three segments of a module, and the memory that each needs.
 
 /// A segment of a module.
 #[derive(Clone, Copy, Debug, PartialEq, Eq)]
 pub enum SegmentKind {
-    /// Sections with bytes that programs don't write.
+    /// Sections with bytes that programs can't write.
     Text,
-    /// Sections with bytes that programs write.
+    /// Sections with bytes that programs can write.
     Data,
-    /// Sections that begin as zeros, and behind them the common symbols.
+    /// Sections that are initially zero, followed by the common symbols.
     Bss,
 }
 
-/// The addresses of the segments; 0 for one without a block.
+/// The addresses of the segments; 0 for a segment without a block.
 #[derive(Clone, Copy, Debug, PartialEq, Eq)]
 pub struct Places {
+    /// The address of text.
     pub text: u32,
+    /// The address of data.
     pub data: u32,
+    /// The address of bss.
     pub bss: u32,
 }
 
-/// How many bytes of each segment are taken so far.
+/// How many bytes of each segment are used so far.
 #[derive(Clone, Copy, Debug, PartialEq, Eq)]
 pub struct Ends {
+    /// The bytes of text.
     pub text: u64,
+    /// The bytes of data.
     pub data: u64,
+    /// The bytes of bss.
     pub bss: u64,
 }
 
-/// What a segment needs of memory.
+/// The memory that a segment needs.
 #[derive(Clone, Copy, Debug, PartialEq, Eq)]
 pub struct Need {
-    /// In bytes. It may be more than memory can have.
+    /// The size in bytes. It may exceed any memory.
     pub size: u64,
     /// The greatest alignment of its parts, at least 16.
     pub align: u32,
 }
 
-/// What the segments need of memory.
+/// The memory that the segments need.
 #[derive(Clone, Copy, Debug, PartialEq, Eq)]
 pub struct Needs {
+    /// What text needs.
     pub text: Need,
+    /// What data needs.
     pub data: Need,
+    /// What bss needs.
     pub bss: Need,
 }

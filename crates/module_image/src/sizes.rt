@@ -1,4 +1,4 @@
-//! What a module needs of memory.
+//! The memory that a module needs.
 
 ghost use Rattle.std.specs.Prelude.{◌≡◌, ◌≤◌, max, if◌then◌else◌, length, All, IfOk};
 ghost use Rattle.wind_base.specs.Limits.{most_section_headers, most_symbol_entries};
@@ -40,7 +40,7 @@ fn raise(align: u32, kind: SegmentKind, s: Shape) -> u32
     }
 }
 
-/// The greatest alignment of the shapes of a segment, at least 16.
+/// The greatest alignment of the sections of a segment, at least 16.
 fn find_align(kind: SegmentKind, shapes: &[Shape]) -> u32
     ensures { result ≡ align_by kind grain shapes.now }
 {
@@ -72,7 +72,7 @@ fn find_common_align(start: u32, symbols: &[Sym]) -> u32
     align
 }
 
-/// The memory that each segment needs for sections of these shapes and for these symbols.
+/// The memory that each segment needs for sections of these shapes and these symbols.
 pub fn measure(shapes: &[Shape], symbols: &[Sym]) -> Needs
     requires sections { All IsShapeRoom shapes.now }
     requires few { length shapes.now ≤ most_section_headers }
@@ -109,7 +109,7 @@ pub fn measure_module(alloc: Global, m: &Module) -> Result<Needs, NoMemory>
     Ok(measure(&shapes, symbols))
 }
 
-/// How many of these symbols a load with this mode adds.
+/// How many of these symbols a load in this mode adds.
 pub fn count_added(symbols: &[Sym], mode: u32) -> u32
     requires { length symbols.now ≤ most_symbol_entries }
     ensures { result ≡ export_count mode symbols.now }

@@ -1,4 +1,4 @@
--- The three segments of an accepted load: where they lie, and that they meet nothing.
+-- The three segments of an accepted load: where they are, and that they overlap nothing.
 use Rattle.std.proofs.Common.{◌≡◌, ℕ, ◌+◌, ◌≤◌, true, false, cond, ltb, List, [], ◌∷◌, length, map, Option, Some, None, Result, Ok, Err, refl, sym, ap, ◌∙◌, subst, inl, inr, ◌⊎◌, arith}
 use Rattle.std.proofs.lemmas.Bool.{and_parts}
 use Rattle.reloc_link.specs.declared.patching.RelocErr.{RelocErr}
@@ -53,7 +53,7 @@ is_accepted s m mode at h =
     let two = place_some m s.symbols (places_of s.part (needs_of m)) at one.1 in
     record { counts = one.0; places = two.0; fault = two.1 }
 
--- ---- where the pieces lie
+-- ---- where the pieces are
 
 abbrev pub pair_of : PartBlock → Block
 pair_of b = (b.addr, b.size)
@@ -72,7 +72,7 @@ shrink : (at size len : ℕ) (x : Block) → len ≤ size → Apart (at, size) x
 shrink at size len x k (inl h) = inl (omega arith)
 shrink at size len x k (inr h) = inr h
 
--- the bytes of a segment meet no block before it
+-- the bytes of a segment overlap no block before it
 seg_apart : (s : PartState) (n : Need) (at : ℕ) (bytes : List ℕ) → Stands s n at → length bytes ≡ block_size n.size → (x : Block) → IsAmong x (pairs s.blocks) → (length bytes ≡ 0) ⊎ Apart (at, length bytes) x
 seg_apart s n at bytes (inl h) e x among = let z = block_none n.size h.0 in inl (omega arith)
 seg_apart s n at bytes (inr (b, h)) e x among =

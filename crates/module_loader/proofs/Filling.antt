@@ -1,4 +1,4 @@
--- A segment's bytes in its block: zeros are written over all of it, and then the bytes over its front.
+-- A segment's bytes in its block: zeros are written over the whole block, and then the bytes over its beginning.
 use Rattle.std.proofs.Common.{◌≡◌, ℕ, ◌+◌, ◌-◌, ◌≤◌, eqb, cond, true, false, List, [], ◌++◌, length, take, drop, refl, sym, ap, ◌∙◌, arith, length-append}
 use Rattle.std.specs.Prelude.{replicate}
 use Rattle.std.proofs.lemmas.Bool.{eqb-true}
@@ -17,7 +17,7 @@ block_holds n = elim (eqb n 0) as (λ t. eqb n 0 ≡ t → n ≤ cond t 0 (round
   | false ↦ λ h. rounded_holds n
 ] refl
 
--- so many zeros
+-- n zeros
 abbrev zeros : ℕ → List ℕ
 zeros n = replicate n 0
 
@@ -41,7 +41,7 @@ zeros_in_block n =
     ap (λ k. zeros n ++ zeros (block_size k - k)) (length-zeros n)
     ∙ replicate-append-replicate n (block_size n - n) 0 ∙ ap zeros sum
 
--- zeros, and over their front the bytes, are the bytes and zeros behind them: in the parts of RAM
+-- bytes written over the first of the zeros are the bytes followed by zeros, in the parts of RAM
 over_parts : (ram front behind bytes rest : List ℕ) (at m : ℕ) → length front ≡ at → length bytes ≤ m → take at front ≡ front → rest ≡ zeros (m - length bytes)
     → take at (front ++ zeros m ++ behind) ++ bytes ++ drop (at + length bytes) (front ++ zeros m ++ behind) ≡ front ++ (bytes ++ rest) ++ behind
 over_parts ram front behind bytes rest at m lf few same re =

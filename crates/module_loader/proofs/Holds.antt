@@ -1,8 +1,8 @@
 -- A load and an unload keep the modules' blocks.
 use Rattle.std.proofs.Common.{◌≡◌, ℕ, ◌+◌, ◌<◌, ◌≤◌, Bool, true, false, cond, eqb, ltb, not, ◌&&◌, is_some, List, [], ◌∷◌, ◌++◌, Option, Some, None, Result, Ok, Err, refl, sym, ap, ◌∙◌, subst, inl, inr, arith}
-use Rattle.std.specs.List.{find}
+use Rattle.std.specs.List.{find, All}
 use Rattle.std.specs.Prelude.{OnOk, OnErr, IsSome}
-use Rattle.std.proofs.lemmas.List.Elements.{All-cons, All-head, All-tail}
+use Rattle.std.proofs.lemmas.List.Elements.{All-cons, All-head, All-tail, All-push}
 use Rattle.std.proofs.lemmas.Bool.{and_parts, and_from, and_left, eqb-true, eq-eqb, ne_eqb, cases_eq}
 use Rattle.std.specs.Option.{option_map}
 use Rattle.wind_lists.specs.Records.{of_id}
@@ -13,6 +13,7 @@ use Rattle.mem_partition.specs.Place.{is_apart, meets_none}
 use Rattle.mem_partition.specs.State.{PartState, IsPart, Laid, with_block, without_block, same_class, own_block, size_or, freed, after_free}
 use Rattle.mem_partition.proofs.Allocs.{find_with}
 use Rattle.mem_partition.proofs.Keeping.{apart_cases, with_blocks}
+use Rattle.mem_partition.proofs.Owners.{find-with_block}
 use Rattle.elf_read.specs.declared.module.Module.{Module}
 use Rattle.elf_read.specs.Contents.{module_at}
 use Rattle.elf_read.specs.Modules.{IsModule}
@@ -25,9 +26,9 @@ use Rattle.module_loader.specs.declared.module.Loaded.{Loaded}
 use Rattle.module_loader.specs.declared.module.LoadedModule.{LoadedModule}
 use Rattle.module_loader.specs.declared.module.Segment.{Segment}
 use Rattle.module_loader.specs.Placing.{with_seg, with_text, with_data, with_needs}
-use Rattle.module_loader.specs.Loading.{LoaderState, segment_at, segments_at, record_of, verdict, file_verdict, loaded, IsLoaded}
+use Rattle.module_loader.specs.Loading.{LoaderState, block_size, segment_at, segments_at, record_of, verdict, file_verdict, loaded, IsLoaded}
 use Rattle.module_loader.specs.Modules.{without_segment, without_segments, without_all}
-use Rattle.module_loader.specs.Holding.{addr_of, addrs_of, held_by, occurs, is_kernel_block, AreHeld, KeepsModules, unloaded, HoldLaw}
+use Rattle.module_loader.specs.Holding.{addr_of, addrs_of, held_by, occurs, is_kernel_block, HasItsBlock, AreHeld, KeepsModules, unloaded, HoldLaw}
 use Rattle.module_loader.proofs.Files.{is_file}
 use Rattle.module_loader.proofs.Taking.{seg_kept}
 use Rattle.module_loader.proofs.Standing.{Stands}
@@ -64,7 +65,7 @@ found_with p b (c ∷ cs) h =
       | false ↦ elim (p c) as (λ t. is_some (cond t (Some c) (find p cs)) ≡ true → is_some (cond t (Some c) (find p (with_block b cs))) ≡ true) [ true ↦ λ k. refl | false ↦ λ k. found_with p b cs k ] h
     ]
 
--- a block that is found doesn't begin where bytes meet none of the blocks
+-- a found block doesn't begin where bytes overlap no block
 found_apart : (bs : List Block) (lo hi a size at : ℕ) → Laid lo hi bs → is_some (own_block bs a Kernel) ≡ true → 0 < size → meets_none bs size at ≡ true → a ≡ at → ⊥
 found_apart [] lo hi a size at laid h some free e = cc
 found_apart (c ∷ cs) lo hi a size at (low, c_some, high, laid) h some free e =
@@ -100,12 +101,12 @@ gone_without (c ∷ cs) at =
 
 -- ---- freeing
 
-free_other : (s : PartState) (a at : ℕ) → (at ≡ a → ⊥) → is_kernel_block (after_free s at Kernel) a ≡ is_kernel_block s a
+free_other : (s : PartState) (a at : ℕ) → (at ≡ a → ⊥) → own_block (after_free s at Kernel).blocks a Kernel ≡ own_block s.blocks a Kernel
 unfolding after_free
 free_other s a at h =
-    elim (own_block s.blocks at Kernel) as (λ o. is_kernel_block (freed s at (size_or o)) a ≡ is_kernel_block s a) [
+    elim (own_block s.blocks at Kernel) as (λ o. own_block (freed s at (size_or o)).blocks a Kernel ≡ own_block s.blocks a Kernel) [
       | None ↦ refl
-      | Some b ↦ ap is_some (found_without s.blocks a at h)
+      | Some b ↦ found_without s.blocks a at h
     ]
 
 free_own : (s : PartState) (at : ℕ) → is_kernel_block (after_free s at Kernel) at ≡ false
@@ -116,16 +117,16 @@ free_own s at =
       | Some b ↦ λ q. ap is_some (gone_without s.blocks at)
     ] refl
 
--- a block of another address stays, and what is no block stays none
-segment_other : (s : PartState) (g : Segment) (a : ℕ) → occurs a (addr_of g) ≡ 0 → is_kernel_block (without_segment s g) a ≡ is_kernel_block s a
+-- a block at another address stays, and where there is none there still is none
+segment_other : (s : PartState) (g : Segment) (a : ℕ) → occurs a (addr_of g) ≡ 0 → own_block (without_segment s g).blocks a Kernel ≡ own_block s.blocks a Kernel
 segment_other s g a h =
-    elim (eqb g.size 0) as (λ t. occurs a (cond t [] (g.addr ∷ [])) ≡ 0 → is_kernel_block (cond t s (after_free s g.addr Kernel)) a ≡ is_kernel_block s a) [
+    elim (eqb g.size 0) as (λ t. occurs a (cond t [] (g.addr ∷ [])) ≡ 0 → own_block (cond t s (after_free s g.addr Kernel)).blocks a Kernel ≡ own_block s.blocks a Kernel) [
       | true ↦ λ k. refl
       | false ↦ λ k. free_other s a g.addr (λ e.
           let one : occurs a (g.addr ∷ []) ≡ 1 = occurs_one g.addr a e in omega arith)
     ] h
 
-pub others_stay : (gs : List Segment) (s : PartState) (a : ℕ) → occurs a (addrs_of gs) ≡ 0 → is_kernel_block (without_all s gs) a ≡ is_kernel_block s a
+pub others_stay : (gs : List Segment) (s : PartState) (a : ℕ) → occurs a (addrs_of gs) ≡ 0 → own_block (without_all s gs).blocks a Kernel ≡ own_block s.blocks a Kernel
 others_stay [] s a h = refl
 others_stay (g ∷ gs) s a h =
     let n = occurs-append a (addr_of g) (addrs_of gs) in
@@ -134,7 +135,7 @@ others_stay (g ∷ gs) s a h =
 free_none : (s : PartState) (a at : ℕ) → is_kernel_block s a ≡ false → is_kernel_block (after_free s at Kernel) a ≡ false
 free_none s a at h = elim (cases_eq at a) [
   | inl same ↦ subst (λ x. is_kernel_block (after_free s at Kernel) x ≡ false) same (free_own s at)
-  | inr other ↦ free_other s a at other ∙ h
+  | inr other ↦ ap is_some (free_other s a at other) ∙ h
 ]
 
 none_stay : (gs : List Segment) (s : PartState) (a : ℕ) → is_kernel_block s a ≡ false → is_kernel_block (without_all s gs) a ≡ false
@@ -159,6 +160,72 @@ all_gone (g ∷ gs) s a h =
     elim (cases_eq (occurs a (addr_of g)) 0) [
       | inl none ↦ all_gone gs (without_segment s g) a (omega arith)
       | inr some ↦ none_stay gs (without_segment s g) a (segment_gone s g a (omega arith))
+    ]
+
+-- ---- blocks with their sizes
+
+own_occurs : (g : Segment) → 0 < g.size → occurs g.addr (addr_of g) ≡ 1
+own_occurs g some = ap (λ t. occurs g.addr (cond t [] (g.addr ∷ []))) (ne_eqb g.size 0 (λ e. omega arith)) ∙ occurs_one g.addr g.addr refl
+
+-- the blocks of segments stay if what begins at their addresses does
+segments_stay : (gs : List Segment) (p q : PartState) → ((a : ℕ) → 0 < occurs a (addrs_of gs) → own_block q.blocks a Kernel ≡ own_block p.blocks a Kernel)
+    → All (HasItsBlock p) gs → All (HasItsBlock q) gs
+segments_stay [] p q stays all = λ i d within. absurd (omega arith)
+segments_stay (g ∷ gs) p q stays all =
+    All-cons (HasItsBlock q) g gs
+    (λ some. (let own = own_occurs g some in
+    let n = occurs-append g.addr (addr_of g) (addrs_of gs) in
+    stays g.addr (omega arith) ∙ All-head (HasItsBlock p) g gs all some))
+    (segments_stay gs p q (λ a some. (let n = occurs-append a (addr_of g) (addrs_of gs) in stays a (omega arith))) (All-tail (HasItsBlock p) g gs all))
+
+pub rows_stay : (rs : List (ℕ × LoadedModule)) (p q : PartState) → ((a : ℕ) → 0 < occurs a (held_by rs) → own_block q.blocks a Kernel ≡ own_block p.blocks a Kernel)
+    → All (λ r. All (HasItsBlock p) r.1.segments) rs → All (λ r. All (HasItsBlock q) r.1.segments) rs
+rows_stay [] p q stays all = λ i d within. absurd (omega arith)
+rows_stay (r ∷ rs) p q stays all =
+    All-cons (λ x. All (HasItsBlock q) x.1.segments) r rs
+    (segments_stay r.1.segments p q (λ a some. (let n = occurs-append a (addrs_of r.1.segments) (held_by rs) in stays a (omega arith)))
+    (All-head (λ x. All (HasItsBlock p) x.1.segments) r rs all))
+    (rows_stay rs p q (λ a some. (let n = occurs-append a (addrs_of r.1.segments) (held_by rs) in stays a (omega arith)))
+    (All-tail (λ x. All (HasItsBlock p) x.1.segments) r rs all))
+
+all_without : (P : ℕ × LoadedModule → Type 0) (rs : List (ℕ × LoadedModule)) (id : ℕ) → All P rs → All P (without rs id)
+all_without P [] id all = all
+all_without P (r ∷ rs) id all =
+    let rest = all_without P rs id (All-tail P r rs all) in
+    elim (eqb r.0 id) as (λ t. All P (cond (not t) (r ∷ without rs id) (without rs id))) [
+      | true ↦ rest
+      | false ↦ All-cons P r (without rs id) (All-head P r rs all) rest
+    ]
+
+-- an address of a segment's block is that of a Kernel block
+segment_held : (g : Segment) (s : PartState) (a : ℕ) → HasItsBlock s g → 0 < occurs a (addr_of g) → is_kernel_block s a ≡ true
+segment_held g s a has h =
+    elim (cases_eq g.size 0) [
+      | inl none ↦ let z : occurs a (addr_of g) ≡ 0 = ap (λ t. occurs a (cond t [] (g.addr ∷ []))) (eq-eqb g.size 0 none) in absurd (omega arith)
+      | inr some ↦ elim (cases_eq g.addr a) [
+        | inl same ↦ subst (λ x. is_kernel_block s x ≡ true) same (ap is_some (has (omega arith)))
+        | inr other ↦
+            let z : occurs a (addr_of g) ≡ 0 = ap (λ t. occurs a (cond t [] (g.addr ∷ []))) (ne_eqb g.size 0 some) ∙ occurs_none g.addr a other in
+            absurd (omega arith)
+      ]
+    ]
+
+segments_held : (gs : List Segment) (s : PartState) (a : ℕ) → All (HasItsBlock s) gs → 0 < occurs a (addrs_of gs) → is_kernel_block s a ≡ true
+segments_held [] s a all h = absurd (omega arith)
+segments_held (g ∷ gs) s a all h =
+    let n = occurs-append a (addr_of g) (addrs_of gs) in
+    elim (cases_eq (occurs a (addr_of g)) 0) [
+      | inl none ↦ segments_held gs s a (All-tail (HasItsBlock s) g gs all) (omega arith)
+      | inr some ↦ segment_held g s a (All-head (HasItsBlock s) g gs all) (omega arith)
+    ]
+
+pub rows_held : (rs : List (ℕ × LoadedModule)) (s : PartState) (a : ℕ) → All (λ r. All (HasItsBlock s) r.1.segments) rs → 0 < occurs a (held_by rs) → is_kernel_block s a ≡ true
+rows_held [] s a all h = absurd (omega arith)
+rows_held (r ∷ rs) s a all h =
+    let n = occurs-append a (addrs_of r.1.segments) (held_by rs) in
+    elim (cases_eq (occurs a (addrs_of r.1.segments)) 0) [
+      | inl none ↦ rows_held rs s a (All-tail (λ x. All (HasItsBlock s) x.1.segments) r rs all) (omega arith)
+      | inr some ↦ segments_held r.1.segments s a (All-head (λ x. All (HasItsBlock s) x.1.segments) r rs all) (omega arith)
     ]
 
 -- ---- an unload
@@ -193,10 +260,9 @@ parted (r ∷ rs) id a m e =
 
 pub unload_holds : (rows : List (ℕ × LoadedModule)) (s : PartState) (id : ℕ) (m : LoadedModule) → AreHeld rows s → object_of rows id ≡ Some m → AreHeld (without rows id) (without_all s m.segments)
 unload_holds rows s id m k e = record {
-  blocks = λ a h.
-      (let p = parted rows id a m e in
-      let d = k.distinct a in
-      others_stay m.segments s a (omega arith) ∙ k.blocks a (omega arith));
+  blocks = rows_stay (without rows id) s (without_all s m.segments)
+      (λ a some. (let p = parted rows id a m e in let d = k.distinct a in others_stay m.segments s a (omega arith)))
+      (all_without (λ r. All (HasItsBlock s) r.1.segments) rows id k.blocks);
   distinct = λ a. (let p = fewer rows id a in let d = k.distinct a in omega arith);
 }
 
@@ -283,25 +349,78 @@ needs_hold s z at count k st held =
     same_counts (with_needs s z) (λ a. count a + occurs a (addr_of (segment_at z.text at.text)) + occurs a (addr_of (segment_at z.«data» at.«data»)) + occurs a (addr_of (segment_at z.bss at.bss)))
     (λ a. count a + occurs a (addrs_of (segments_at z at))) (λ a. (let q = three z at a in omega arith)) last
 
+-- what begins at the address of a Kernel block stays when a segment's block is given
+seg_keeps : (s : PartState) (n : Need) (at a : ℕ) → IsPart s → Stands s n at → is_kernel_block s a ≡ true → own_block (with_seg s n).blocks a Kernel ≡ own_block s.blocks a Kernel
+seg_keeps s n at a k (inl h) there = ap (λ (t : PartState). own_block t.blocks a Kernel) h.1
+seg_keeps s n at a k (inr (b, h)) there =
+    ap (λ (t : PartState). own_block t.blocks a Kernel) h.after
+    ∙ find-with_block (λ c. eqb c.addr a && same_class c.class Kernel) b s.blocks
+    (and_left (eqb b.addr a) (same_class b.class Kernel)
+    (ne_eqb b.addr a (λ same. found_apart s.blocks s.start s.end a b.size b.addr k.laid there h.some h.lies.apart (sym same))))
+
+block_is : (b : Block) (at n : ℕ) → b.addr ≡ at → b.size ≡ n → b.class ≡ Kernel → b ≡ record { addr = at; size = n; class = Kernel }
+block_is b at n one two three =
+    ap (λ a. record b { addr = a }) one ∙ (ap (λ m. record b { addr = at; size = m }) two ∙ ap (λ c. record b { addr = at; size = n; class = c }) three)
+
+-- a segment with bytes gets its block
+seg_own : (s : PartState) (n : Need) (at : ℕ) → IsPart s → Stands s n at → HasItsBlock (with_seg s n) (segment_at n at)
+seg_own s n at k (inl h) some = absurd (omega (arith, h.0, some))
+seg_own s n at k (inr (b, h)) some =
+    ap (λ (t : PartState). own_block t.blocks at Kernel) h.after
+    ∙ (ap (λ x. own_block (with_block b s.blocks) x Kernel) (sym h.addr)
+    ∙ (find_with (λ c. eqb c.addr b.addr && same_class c.class Kernel) b s.start s.end s.blocks k.laid h.some h.lies.apart (own_passes b h.class)
+    (λ c q. and_left (eqb c.addr b.addr) (same_class c.class Kernel) (ne_eqb c.addr b.addr q))
+    ∙ ap Some (block_is b at (block_size n.size) h.addr h.full h.class)))
+
+-- and a segment keeps its block when another's is allocated
+own_keeps : (s : PartState) (g : Segment) (n : Need) (at : ℕ) → IsPart s → Stands s n at → HasItsBlock s g → HasItsBlock (with_seg s n) g
+own_keeps s g n at k st has some = seg_keeps s n at g.addr k st (ap is_some (has some)) ∙ has some
+
+needs_own : (s : PartState) (z : Needs) (at : Places) → IsPart s → AllStand s z at → All (HasItsBlock (with_needs s z)) (segments_at z at)
+needs_own s z at k st =
+    let kt = seg_kept s z.text k in
+    let kv = seg_kept (with_text s z) z.«data» kt in
+    let text = segment_at z.text at.text in
+    let «data» = segment_at z.«data» at.«data» in
+    let bss = segment_at z.bss at.bss in
+    let text_then = own_keeps (with_text s z) text z.«data» at.«data» kt st.«data» (seg_own s z.text at.text k st.text) in
+    let text_last = own_keeps (with_data s z) text z.bss at.bss kv st.bss text_then in
+    let data_last = own_keeps (with_data s z) «data» z.bss at.bss kv st.bss (seg_own (with_text s z) z.«data» at.«data» kt st.«data») in
+    let bss_last = seg_own (with_data s z) z.bss at.bss kv st.bss in
+    let P = HasItsBlock (with_needs s z) in
+    All-cons P text («data» ∷ bss ∷ []) text_last (All-cons P «data» (bss ∷ []) data_last (All-cons P bss [] bss_last (λ i d within. absurd (omega arith))))
+
+-- what begins at the address of a Kernel block stays in a load
+needs_keep : (s : PartState) (z : Needs) (at : Places) (a : ℕ) → IsPart s → AllStand s z at → is_kernel_block s a ≡ true
+    → own_block (with_needs s z).blocks a Kernel ≡ own_block s.blocks a Kernel
+needs_keep s z at a k st there =
+    let kt = seg_kept s z.text k in
+    let kv = seg_kept (with_text s z) z.«data» kt in
+    let one = seg_keeps s z.text at.text a k st.text there in
+    let two = seg_keeps (with_text s z) z.«data» at.«data» a kt st.«data» (ap is_some one ∙ there) in
+    let last = seg_keeps (with_data s z) z.bss at.bss a kv st.bss (ap is_some two ∙ (ap is_some one ∙ there)) in
+    last ∙ (two ∙ one)
+
 pub load_holds : (s : LoaderState) (name : List ℕ) (m : Module) (mode : ℕ) (at : Places) → IsPart s.part → AreHeld s.modules s.part → verdict s m mode ≡ Ok at
     → AreHeld (loaded s name m mode at).modules (loaded s name m mode at).part
 unfolding loaded
 load_holds s name m mode at k held h =
     let st = all_stand s.part (needs_of m) at k ((is_accepted s m mode at h).places) in
-    let all = needs_hold s.part (needs_of m) at (λ a. occurs a (held_by s.modules)) k st (record { blocks = held.blocks; distinct = held.distinct }) in
+    let all = needs_hold s.part (needs_of m) at (λ a. occurs a (held_by s.modules)) k st
+    (record { blocks = λ a some. rows_held s.modules s.part a held.blocks some; distinct = held.distinct }) in
     let row : ℕ × LoadedModule = (s.kern.next_id, record_of name (needs_of m) at) in
+    let after = with_needs s.part (needs_of m) in
     record {
-      blocks = λ a p.
-          (let n = held_by-append a s.modules (row ∷ []) in
-          let e = occurs-append a (addrs_of (segments_at (needs_of m) at)) [] in
-          all.blocks a (omega arith));
+      blocks = All-push (λ r. All (HasItsBlock after) r.1.segments) s.modules row
+          (rows_stay s.modules s.part after (λ a some. needs_keep s.part (needs_of m) at a k st (rows_held s.modules s.part a held.blocks some)) held.blocks)
+          (needs_own s.part (needs_of m) at k st);
       distinct = λ a.
           (let n = held_by-append a s.modules (row ∷ []) in
           let e = occurs-append a (addrs_of (segments_at (needs_of m) at)) [] in
           let d = all.distinct a in omega arith);
     }
 
--- the addresses of the modules' blocks behind a load
+-- the addresses of the modules' blocks after a load
 pub held_by-loaded : (s : LoaderState) (name : List ℕ) (m : Module) (mode : ℕ) (at : Places) (a : ℕ)
     → occurs a (held_by (loaded s name m mode at).modules) ≡ occurs a (held_by s.modules) + occurs a (addrs_of (segments_at (needs_of m) at))
 unfolding loaded
@@ -311,7 +430,7 @@ held_by-loaded s name m mode at a =
     let e = occurs-append a (addrs_of (segments_at (needs_of m) at)) [] in
     omega arith
 
--- none of the module's blocks begins where a Kernel block did before
+-- none of the module's blocks begins where there was a Kernel block before
 pub none_before : (s : LoaderState) (m : Module) (mode : ℕ) (at : Places) (a : ℕ) → IsPart s.part → verdict s m mode ≡ Ok at → is_kernel_block s.part a ≡ true
     → occurs a (addrs_of (segments_at (needs_of m) at)) ≡ 0
 none_before s m mode at a k h there =
@@ -347,7 +466,7 @@ load_keeps s name m mode at k km keeps h = record {
 }
 
 none_held : (s : PartState) → AreHeld [] s
-none_held s = record { blocks = λ a h. absurd (omega arith); distinct = λ a. omega arith }
+none_held s = record { blocks = λ i d within. absurd (omega arith); distinct = λ a. omega arith }
 
 -- an unload leaves the pool, and the ids below the next
 end_freed : (s : PartState) (at : ℕ) → (after_free s at Kernel).end ≡ s.end
@@ -386,7 +505,7 @@ hold_law = record {
   stays = λ s m a h. others_stay m.segments s a h;
 }
 
--- ---- the same of what the calls answer
+-- ---- the same for what the calls answer
 of_verdict : (s t : LoaderState) (name file : List ℕ) (mode : ℕ) (v : Result Places LoadErr) → IsPart s.part → KeepsModules s → file_verdict s file mode ≡ v
     → IsLoaded v s name (module_at file) mode t → KeepsModules t
 of_verdict s t name file mode (Ok at) k keeps e h =

@@ -29,7 +29,7 @@ idents_without (r ∷ rs) id all =
       | false ↦ All-cons HasIdent r (without rs id) (All-head HasIdent r rs all) rest
     ]
 
--- no module has a number that is no id
+-- no module has a number that isn't an id
 pub no_ident : (rows : List (ℕ × LoadedModule)) (id : ℕ) → All HasIdent rows → ((0 < id) × (id ≤ 1048576) → ⊥) → object_of rows id ≡ None
 no_ident [] id all h = refl
 no_ident (r ∷ rs) id all h =

@@ -23,7 +23,7 @@ use Rattle.module_loader.proofs.Filling.{block_holds}
 use Rattle.module_loader.proofs.Standing.{total_small}
 use Rattle.module_loader.proofs.Applying.{all_stand, all_fit}
 
--- text and data fit below 2^32 where they have places
+-- text and data fit below 2^32 if they have places
 pub text_and_data : (s : PartState) (m : Module) (z : Needs) (at : Places) → IsPart s → z ≡ needs_of m → places_of s z ≡ Ok at
     → (needs_of m).text.size + (needs_of m).«data».size < 2 ^ 32
 text_and_data s m z at k n h = subst (λ (x : Needs). x.text.size + x.«data».size < 2 ^ 32) n (total_small s z at k h)
@@ -91,7 +91,7 @@ is_loaded s name m mode at bytes added kern symbols modules part ram n p made ad
     subst (λ v. IsLoaded v s name m mode (state_of kern symbols modules part ram)) (sym (accepts s m mode at n p made.fault))
     (loaded_is s name m mode at bytes added kern symbols modules part ram made adds e a b c d)
 
--- where the segments fit, for the code that stores them
+-- the segments fit, for the code that stores them
 pub record Fitting (z : Needs) (at : Places) (size total : ℕ) : Type 0 where
   pub cut : z.text.size ≤ total
   pub text : at.text + block_size z.text.size ≤ size

@@ -66,7 +66,7 @@ newest_more name rows r =
 same_some : {a b : ℕ} → Some a ≡ Some b → a ≡ b
 same_some e = cc
 
--- all that the loop keeps
+-- the invariant of the loop
 pub record IsNewest (rows : List (ℕ × LoadedModule)) (name : List ℕ) (i last : ℕ) (newest : Option ℕ) : Type 0 where
   pub come : IsCome rows i last
   pub found : newest ≡ newest_named (take i rows) name

@@ -1,4 +1,4 @@
--- What is stored is held, and stays held under what is stored apart from it.
+-- What is stored is held, and stays held while other bytes apart from it are stored.
 use Rattle.std.proofs.Common.{◌≡◌, ℕ, ◌+◌, ◌≤◌, ◌<◌, ◌⊎◌, inl, inr, List, [], ◌∷◌, ◌++◌, length, get_or, refl, sym, ◌∙◌, subst, arith}
 use Rattle.std.proofs.lemmas.List.{places}
 use Rattle.module_image.specs.Image.{Images}
@@ -28,7 +28,7 @@ Covers b p = (b.0 ≤ p.0) × (p.0 + length p.1 ≤ b.0 + b.1)
 abbrev pub IsHeldBy : List Block → Piece → Type 0
 IsHeldBy blocks p = (length p.1 ≡ 0) ⊎ ((b : Block) × IsAmong b blocks × Covers b p)
 
--- the pieces lie in RAM, and meet neither a block nor each other; an empty one meets nothing
+-- the pieces are inside RAM, and overlap neither a block nor each other; an empty one overlaps nothing
 abbrev pub Clear : ℕ → List Block → List Piece → Type 0
 Clear size blocks [] = Unit {0}
 Clear size blocks (p ∷ ps) =
@@ -69,7 +69,7 @@ pub stored_is_held : (ram : List ℕ) (p : Piece) → p.0 + length p.1 ≤ lengt
 unfolding stored
 stored_is_held ram p fits k h = grind (arith, places)
 
--- two pieces of which one is empty, or that meet nowhere
+-- two pieces, one of which is empty, or that don't overlap
 abbrev pub Free : Piece → Piece → Type 0
 Free p q = (length p.1 ≡ 0) ⊎ ((length q.1 ≡ 0) ⊎ Apart (block_of p) (block_of q))
 

@@ -1,4 +1,4 @@
--- Accepted loads one after the other: the facts stay, RAM holds the images, and they are the static link.
+-- Accepted loads one after the other: the invariant stays, RAM holds the images, and they are the static link.
 use Rattle.std.proofs.Common.{◌≡◌, ℕ, List, [], ◌∷◌, ◌++◌, length, map, Ok, refl, ap, ◌∙◌, arith}
 use Rattle.elf_read.specs.declared.module.Module.{Module}
 use Rattle.elf_read.specs.Contents.{module_at}

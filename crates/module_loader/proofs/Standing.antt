@@ -1,4 +1,4 @@
--- Where the segments' blocks stand: in the pool, apart from the blocks before and from each other.
+-- Where the segments' blocks are: in the pool, apart from the blocks before and from each other.
 use Rattle.std.proofs.Common.{◌≡◌, ℕ, ◌+◌, ◌^◌, ◌<◌, ◌≤◌, min, true, false, cond, eqb, ltb, List, [], ◌∷◌, Result, Ok, refl, sym, ap, ◌∙◌, subst, inl, inr, ◌⊎◌, arith}
 use Rattle.std.proofs.lemmas.Bool.{cases_lt, and_parts, and_from, eqb-true}
 use Rattle.mem_partition.specs.declared.block.Block.{Block}
@@ -16,7 +16,7 @@ use Rattle.module_loader.specs.Placing.{place_seg, with_seg, with_text, places_o
 use Rattle.module_loader.specs.Loading.{block_size}
 use Rattle.module_loader.proofs.Taking.{seg_kept, are_places}
 
--- what meets none of the blocks with one more meets neither that one nor those
+-- what overlaps none of the blocks with one more overlaps neither that one nor the others
 pub meets_with : (b : Block) (bs : List Block) (size at : ℕ) → meets_none (with_block b bs) size at ≡ true → (is_apart size at b ≡ true) × (meets_none bs size at ≡ true)
 meets_with b [] size at h = ((and_parts (is_apart size at b) true h).0, refl)
 meets_with b (c ∷ cs) size at h =
@@ -28,7 +28,7 @@ meets_with b (c ∷ cs) size at h =
           (rest.0, and_from (is_apart size at c) (meets_none cs size at) parts.0 rest.1)
     ] h
 
--- a segment's block: it is empty, or its bytes lie in a block of the pool that meets none of the others
+-- a segment's block: it is empty, or its bytes are in a block of the pool that overlaps none of the others
 pub record HasBlock (s : PartState) (n : Need) (at : ℕ) (b : Block) : Type 0 where
   pub addr : b.addr ≡ at
   pub holds : n.size ≤ b.size
@@ -74,7 +74,7 @@ full_all size at end some h k = elim (cases_lt size 4294967296) [
       absurd (omega arith)
 ]
 
--- the same as a tuple, while its parts are looked at
+-- the same as a tuple, to look at its parts
 abbrev StandsBy : PartState → Need → ℕ → PartState → Type 0
 StandsBy s n at t =
     ((n.size ≡ 0) × (t ≡ s) × (at ≡ 0))
@@ -104,26 +104,26 @@ pub same_end : (s : PartState) (n : Need) (at : ℕ) → Stands s n at → (with
 same_end s n at (inl h) = ap (λ (x : PartState). x.end) h.1
 same_end s n at (inr h) = ap (λ (x : PartState). x.end) (h.1).after
 
--- a segment lies in the pool
+-- a segment is inside the pool
 pub in_pool : (s : PartState) (n : Need) (at : ℕ) → Stands s n at → at + n.size ≤ s.end
 in_pool s n at (inl h) = let a = h.0 in let b = h.2 in omega arith
 in_pool s n at (inr h) = let a = (h.1).addr in let b = (h.1).holds in let c = (h.1).lies.high in omega arith
 
--- and so does its block
+-- and so is its block
 pub block_in_pool : (s : PartState) (n : Need) (at : ℕ) → Stands s n at → at + block_size n.size ≤ s.end
 block_in_pool s n at (inl h) = let z = block_none n.size h.0 in let b = h.2 in omega arith
 block_in_pool s n at (inr h) = let a = (h.1).addr in let b = (h.1).full in let c = (h.1).lies.high in omega arith
 
--- size bytes at an address meet none of the blocks, or there are none
+-- size bytes at an address overlap none of the blocks, or there are no bytes
 abbrev pub Meets : List Block → ℕ → ℕ → Type 0
 Meets bs size at = (size ≡ 0) ⊎ (meets_none bs size at ≡ true)
 
--- a segment meets none of the blocks before
+-- a segment overlaps none of the blocks before
 pub stands_free : (s : PartState) (n : Need) (at : ℕ) → Stands s n at → (n.size ≡ 0) ⊎ ((z : ℕ) × (n.size ≤ z) × (meets_none s.blocks z at ≡ true))
 stands_free s n at (inl h) = inl h.0
 stands_free s n at (inr (b, h)) = inr (b.size, h.holds, subst (λ a. meets_none s.blocks b.size a ≡ true) h.addr h.lies.apart)
 
--- what meets none of the blocks behind a segment
+-- what overlaps none of the blocks after a segment
 pub behind_free : (s : PartState) (n : Need) (at size to : ℕ) → Stands s n at → meets_none (with_seg s n).blocks size to ≡ true
     → (meets_none s.blocks size to ≡ true) × ((n.size ≡ 0) ⊎ ((to + size ≤ at) ⊎ (at + n.size ≤ to)))
 behind_free s n at size to (inl h) free = (subst (λ (x : PartState). meets_none x.blocks size to ≡ true) h.1 free, inl h.0)

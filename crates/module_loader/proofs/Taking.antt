@@ -1,4 +1,4 @@
--- The blocks of segments: given back, they leave the partition as it was.
+-- The blocks of segments: freed again, they leave the partition as it was.
 use Rattle.std.proofs.Common.{◌≡◌, ℕ, min, true, false, cond, eqb, Result, Ok, Err, refl, sym, ap, ◌∙◌, subst}
 use Rattle.mem_partition.specs.declared.block.Class.TheVariants.{Kernel}
 use Rattle.mem_partition.specs.declared.block.PartErr.{PartErr}
@@ -36,7 +36,7 @@ seg_kept s n k =
       | false ↦ alloc_kept s (min n.size greatest_word) n.align Kernel k
     ]
 
--- what three places were
+-- what the three places were
 pub record ArePlaces (s : PartState) (z : Needs) (at : Places) : Type 0 where
   pub text : place_seg s z.text ≡ Ok at.text
   pub «data» : place_seg (with_text s z) z.«data» ≡ Ok at.«data»
@@ -65,7 +65,7 @@ needs_back s z at k h =
     ∙ (ap (λ t. without_seg t z.text at.text) (seg_back (with_text s z) z.«data» at.«data» kt p.«data»)
     ∙ seg_back s z.text at.text k p.text)
 
--- two blocks given back where the third was refused
+-- two blocks are freed if the third was refused
 pub two_back : (s : PartState) (z : Needs) (a b : ℕ) (e : PartErr) (p q r t u : PartState) → IsPart s
     → p ≡ with_seg s z.text → place_seg s z.text ≡ Ok a → q ≡ with_seg p z.«data» → place_seg p z.«data» ≡ Ok b → r ≡ with_seg q z.bss → place_seg q z.bss ≡ Err e
     → t ≡ without_seg r z.«data» b → u ≡ without_seg t z.text a → u ≡ s

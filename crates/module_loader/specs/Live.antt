@@ -7,21 +7,21 @@ use Rattle.module_image.specs.Image.{Images, image}
 use Rattle.module_image.specs.Link.{Load, link}
 use Rattle.module_loader.specs.Loading.{LoaderState, Piece, pieces_of, file_verdict, loaded}
 
--- a module's name and file, the mode of its load, and where it went
+-- a module's name and file, the mode of its load, and its places
 pub record Job : Type 0 where
   pub name : List ℕ
   pub file : List ℕ
   pub mode : ℕ
   pub at : Places
 
--- the load of the static link that it is
+-- the same load, as a part of the static link
 abbrev pub load_of : Job → Load
 load_of j = record { body = module_at j.file; mode = j.mode; at = j.at }
 
 abbrev pub after_job : LoaderState → Job → LoaderState
 after_job s j = loaded s j.name (module_at j.file) j.mode j.at
 
--- each is accepted where it is said, from what the one before left, and t is left in the end
+-- each load is accepted at its places, starting from what the load before it left, and t is what the last one leaves
 abbrev pub Runs : LoaderState → List Job → LoaderState → Type 0
 Runs s [] t = t ≡ s
 Runs s (j ∷ js) t = (file_verdict s j.file j.mode ≡ Ok j.at) × Runs (after_job s j) js t
@@ -31,13 +31,13 @@ abbrev pub written_by : LoaderState → List Job → List Images
 written_by s [] = []
 written_by s (j ∷ js) = image (module_at j.file) s.symbols j.at ∷ written_by (after_job s j) js
 
--- where these images go
+-- where these images are written
 abbrev pub all_pieces : List Load → List Images → List Piece
 all_pieces [] is = []
 all_pieces (l ∷ ls) [] = []
 all_pieces (l ∷ ls) (i ∷ is) = pieces_of l.at i ++ all_pieces ls is
 
--- each byte of the piece stands at its address
+-- each byte of the piece is at its address
 abbrev pub IsHeld : List ℕ → Piece → Type 0
 IsHeld ram p = (k : ℕ) → k < length p.1 → slice_index ram (p.0 + k) ≡ slice_index p.1 k
 
@@ -48,13 +48,14 @@ IsPiece p (q ∷ qs) = (p ≡ q) ⊎ IsPiece p qs
 abbrev pub AllHeld : List ℕ → List Piece → Type 0
 AllHeld ram ps = (p : Piece) → IsPiece p ps → IsHeld ram p
 
--- the partition is one, and its pool lies in RAM
+-- the partition keeps its invariant, and its pool is inside RAM
 pub record IsLoader (s : LoaderState) : Type 0 where
   pub part : IsPart s.part
   pub pool : s.part.end ≤ length s.ram
 
--- for any list of accepted loads with nothing else between: what they write one after the other is the static link at
--- the same places over the symbols before, and RAM holds it all at the end
+-- for any list of accepted loads with nothing else in between: what they write is the static link at the same
+-- places over
+-- the symbols before, and RAM holds it all at the end
 abbrev pub LiveLaw : Type 0
 LiveLaw = (s t : LoaderState) (js : List Job) → IsLoader s → Runs s js t
     → (written_by s js ≡ link s.symbols (map load_of js))

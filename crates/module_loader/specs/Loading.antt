@@ -1,4 +1,4 @@
--- When a load is refused, where it goes, and what it leaves.
+-- When a load is refused, where it places a module, and what it leaves.
 use Rattle.std.specs.Prelude.{◌≡◌, ℕ, ◌+◌, ◌-◌, nat_le, nat_lt, ◌==◌, if◌then◌else◌, List, [], ◌∷◌, ◌++◌, length, replicate, Option, Some, None, Result, Ok, Err}
 use Rattle.wind_base.specs.Limits.{most_modules, greatest_id, most_symbols}
 use Rattle.wind_core.specs.State.{KernState}
@@ -27,7 +27,7 @@ use Rattle.module_loader.specs.declared.module.Segment.{Segment}
 use Rattle.module_loader.specs.Placing.{places_of, with_needs}
 
 -- ---- the state
--- what a load reads and changes: the kernel, of which it takes an id, the symbols, the live modules by id, the
+-- what a load reads and changes: the kernel, from which it takes an id, the symbols, the live modules by id, the
 -- partition and RAM
 pub record LoaderState : Type 0 where
   pub kern : KernState
@@ -37,7 +37,7 @@ pub record LoaderState : Type 0 where
   pub ram : List ℕ
 
 -- ---- refusals
--- the first of the refusals by counts: so many modules, this next id, so many symbols afterwards
+-- the first refusal by counts: of the modules now, the next id, and the symbols afterwards
 abbrev pub count_by : ℕ → ℕ → ℕ → Option LoadErr
 count_by modules next symbols =
     if nat_le most_modules modules then Some refusal.ModulesFull else
@@ -47,7 +47,7 @@ count_by modules next symbols =
 unfoldable pub count_refusal : LoaderState → Module → ℕ → Option LoadErr
 count_refusal s m mode = count_by (length s.modules) s.kern.next_id (length s.symbols + export_count mode m.symbols)
 
--- the first relocation of the image that is refused
+-- the first refused relocation of the image
 abbrev pub reloc_verdict : Places → Option RelocErr → Result Places LoadErr
 reloc_verdict at None = Ok at
 reloc_verdict at (Some e) = Err (refusal.Reloc e)
@@ -61,16 +61,16 @@ abbrev pub verdict_by : Option LoadErr → Result Places LoadErr → Result Plac
 verdict_by (Some e) r = Err e
 verdict_by None r = r
 
--- where a load of the module goes, or its first refusal
+-- the places of a load of the module, or its first refusal
 unfoldable pub verdict : LoaderState → Module → ℕ → Result Places LoadErr
 verdict s m mode = verdict_by (count_refusal s m mode) (place_verdict m s.symbols (places_of s.part (needs_of m)))
 
--- the file is asked first: what refuses it refuses the load
+-- the file is checked first; a refused file refuses the load
 abbrev pub file_by : Result Unit ElfErr → Result Places LoadErr → Result Places LoadErr
 file_by (Err e) r = Err (refusal.Elf e)
 file_by (Ok _) r = r
 
--- where a load of the file goes, or its first refusal
+-- the places of a load of the file, or its first refusal
 unfoldable pub file_verdict : LoaderState → List ℕ → ℕ → Result Places LoadErr
 file_verdict s file mode = file_by (checked file) (verdict s (module_at file) mode)
 
@@ -87,7 +87,7 @@ abbrev pub stored_all : List ℕ → List Piece → List ℕ
 stored_all ram [] = ram
 stored_all ram (p ∷ ps) = stored_all (stored ram p) ps
 
--- how many bytes the block of a segment of n bytes has: one of size 0 has no block
+-- the size of the block of a segment of n bytes; a segment of size 0 has no block
 unfoldable pub block_size : ℕ → ℕ
 block_size n = if n == 0 then 0 else rounded n
 
@@ -95,7 +95,7 @@ block_size n = if n == 0 then 0 else rounded n
 unfoldable pub in_block : List ℕ → List ℕ
 in_block bytes = bytes ++ replicate (block_size (length bytes) - length bytes) 0
 
--- the segments of an image at their places, each with its block filled up
+-- the segments of an image, each with its block filled up
 abbrev pub in_blocks : Images → Images
 in_blocks i = record { text = in_block i.text; «data» = in_block i.«data»; bss = in_block i.bss; fault = i.fault }
 
@@ -112,7 +112,8 @@ segments_at z at = segment_at z.text at.text ∷ segment_at z.«data» at.«data
 abbrev pub record_of : List ℕ → Needs → Places → LoadedModule
 record_of name z at = record { name = name; segments = segments_at z at }
 
--- what an accepted load leaves: an id less, its exports behind the symbols, its record behind the modules, its blocks,
+-- what an accepted load leaves: the next id taken, its exports after the other symbols, its record after the other
+-- modules, its blocks,
 -- and in RAM its image, each segment with zeros to the end of its block
 unfoldable pub loaded : LoaderState → List ℕ → Module → ℕ → Places → LoaderState
 loaded s name m mode at = record {
@@ -123,12 +124,12 @@ loaded s name m mode at = record {
   ram = stored_all s.ram (pieces_of at (image m s.symbols at));
 }
 
--- what it answers: the module's id, and the names that nothing defines, in symbol order
+-- what it answers: the module's id, and the undefined names, in symbol order
 abbrev pub told : LoaderState → Module → Loaded
 told s m = record { id = s.kern.next_id; undefined = unbound s.symbols m.symbols }
 
 -- ---- a load of a file
--- it was accepted, this is what it answers, and this the state after it
+-- the load was accepted, and left this state
 abbrev pub IsLoaded : Result Places LoadErr → LoaderState → List ℕ → Module → ℕ → LoaderState → Type 0
 IsLoaded (Ok at) s name m mode t = t ≡ loaded s name m mode at
 IsLoaded (Err e) s name m mode t = ⊥
@@ -139,7 +140,7 @@ ReachesRelocations (Ok at) = Unit {0}
 ReachesRelocations (Err (refusal.Reloc e)) = Unit {0}
 ReachesRelocations (Err e) = ⊥
 
--- want of memory, or the first refusal
+-- memory ran out, or the first refusal
 abbrev pub IsVerdict : Result Places LoadErr → LoadErr → Type 0
 IsVerdict v refusal.NoMemory = Unit {0}
 IsVerdict v e = v ≡ Err e

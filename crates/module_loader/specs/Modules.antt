@@ -1,4 +1,4 @@
--- The live modules, and what an unload takes away.
+-- The live modules, and what an unload removes.
 use Rattle.std.specs.Prelude.{ℕ, ◌<◌, ◌≤◌, Bool, ◌==◌, if◌then◌else◌, List, [], ◌∷◌, reverse, Option, Some, None}
 use Rattle.std.specs.List.{find}
 use Rattle.std.specs.Option.{option_map}
@@ -9,7 +9,7 @@ use Rattle.mem_partition.specs.State.{PartState, after_free}
 use Rattle.module_loader.specs.declared.module.LoadedModule.{LoadedModule}
 use Rattle.module_loader.specs.declared.module.Segment.{Segment}
 
--- a row has an id that is one
+-- a row has a valid id
 abbrev pub HasIdent : ℕ × LoadedModule → Type 0
 HasIdent r = (0 < r.0) × (r.0 ≤ greatest_id)
 
@@ -17,7 +17,7 @@ HasIdent r = (0 < r.0) × (r.0 ≤ greatest_id)
 abbrev pub is_named : List ℕ → ℕ × LoadedModule → Bool
 is_named name r = bytes_eq r.1.name name
 
--- the id of the newest live module of a name: modules stand by rising id
+-- the id of the newest live module with a name; modules are by rising id
 abbrev pub newest_named : List (ℕ × LoadedModule) → List ℕ → Option ℕ
 newest_named rows name = option_map (λ r. r.0) (find (is_named name) (reverse rows))
 
@@ -26,7 +26,7 @@ newest_named rows name = option_map (λ r. r.0) (find (is_named name) (reverse r
 abbrev pub without_segment : PartState → Segment → PartState
 without_segment s g = if g.size == 0 then s else after_free s g.addr Kernel
 
--- and without those of several
+-- and without those of several segments
 abbrev pub without_all : PartState → List Segment → PartState
 without_all s [] = s
 without_all s (g ∷ gs) = without_all (without_segment s g) gs

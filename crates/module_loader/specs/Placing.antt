@@ -8,7 +8,7 @@ use Rattle.module_image.specs.declared.segments.Need.{Need}
 use Rattle.module_image.specs.declared.segments.Needs.{Needs}
 use Rattle.module_image.specs.declared.segments.Places.{Places}
 
--- where a segment goes: one of size 0 has no block; one that is larger than a word can say is refused as the greatest
+-- where a segment is placed: one of size 0 has no block; one whose size exceeds a word is refused as the greatest
 -- word would be
 abbrev pub place_seg : PartState → Need → Result ℕ PartErr
 place_seg s n = if n.size == 0 then Ok 0 else alloc_of s (min n.size greatest_word) n.align
@@ -31,7 +31,7 @@ with_data s z = with_seg (with_text s z) z.«data»
 abbrev pub with_needs : PartState → Needs → PartState
 with_needs s z = with_seg (with_data s z) z.bss
 
--- all three given back
+-- all three blocks freed
 abbrev pub without_needs : PartState → Needs → Places → PartState
 without_needs s z at = without_seg (without_seg (without_seg s z.bss at.bss) z.«data» at.«data») z.text at.text
 
@@ -41,11 +41,11 @@ places_by (Ok t) (Err e) b = Err e
 places_by (Ok t) (Ok v) (Err e) = Err e
 places_by (Ok t) (Ok v) (Ok b) = Ok (record { text = t; «data» = v; bss = b })
 
--- where the segments go, or the first refusal
+-- the places of the segments, or the first refusal
 unfoldable pub places_of : PartState → Needs → Result Places PartErr
 places_of s z = places_by (place_seg s z.text) (place_seg (with_text s z) z.«data») (place_seg (with_data s z) z.bss)
 
--- the partition after these places were asked for
+-- the partition after these places were allocated
 abbrev pub part_after : PartState → Needs → Result Places PartErr → PartState
 part_after s z (Ok at) = with_needs s z
 part_after s z (Err e) = s

@@ -10,12 +10,12 @@ use Rattle.module_loader.specs.declared.module.LoadErr.TheVariants as refusal
 use Rattle.module_loader.specs.declared.module.LoadedModule.{LoadedModule}
 use Rattle.module_loader.specs.Loading.{LoaderState, Piece, count_by}
 
--- the state of these parts
+-- the state with these parts
 abbrev pub state_of : KernState → List Symbol → List (ℕ × LoadedModule) → PartState → List ℕ → LoaderState
 state_of kern symbols modules part ram =
     record { kern = kern; symbols = symbols; modules = modules; part = part; ram = ram }
 
--- want of memory, or the refusal by counts that is there
+-- memory ran out, or the refusal by counts
 abbrev pub IsRefusedBy : ℕ → ℕ → ℕ → LoadErr → Type 0
 IsRefusedBy modules next symbols refusal.NoMemory = Unit {0}
 IsRefusedBy modules next symbols e = count_by modules next symbols ≡ Some e
@@ -24,7 +24,7 @@ IsRefusedBy modules next symbols e = count_by modules next symbols ≡ Some e
 abbrev pub three_pieces : Places → List ℕ → List ℕ → List ℕ → List Piece
 three_pieces at text vars bss = (at.text, text) ∷ (at.«data», vars) ∷ (at.bss, bss) ∷ []
 
--- want of memory, or the refusal of a file
+-- memory ran out, or the refusal of a file
 abbrev pub IsFileRefusal : Result Unit ElfErr → LoadErr → Type 0
 IsFileRefusal r refusal.NoMemory = Unit {0}
 IsFileRefusal r (refusal.Elf e) = r ≡ Err e

@@ -12,7 +12,7 @@ use Rattle.module_image.specs.Image.{image}
 use Rattle.module_loader.specs.Loading.{LoaderState, Piece, pieces_of, verdict, loaded}
 use Rattle.module_loader.specs.Live.{IsPiece, IsLoader}
 
--- a Kernel block of the partition begins where the piece does, and has as many bytes
+-- a Kernel block of the partition begins where the piece does, and has the same size
 abbrev pub HasBlock : PartState → Piece → Type 0
 HasBlock s p = (b : Block) × Contains s.blocks b × (b.class ≡ Kernel) × (b.addr ≡ p.0) × (b.size ≡ length p.1)
 
@@ -22,11 +22,11 @@ pub record WriteLaw : Type 0 where
   pub own : (s : LoaderState) (name : List ℕ) (m : Module) (mode : ℕ) (at : Places) (p : Piece)
       → IsLoader s → IsModule m → verdict s m mode ≡ Ok at → IsPiece p (pieces_of at (image m s.symbols at))
       → (length p.1 ≡ 0) ⊎ HasBlock (loaded s name m mode at).part p
-  -- it has no byte in common with a block that there was
+  -- it overlaps no block that was there before
   pub fresh : (s : LoaderState) (m : Module) (mode : ℕ) (at : Places) (p : Piece)
       → IsLoader s → IsModule m → verdict s m mode ≡ Ok at → IsPiece p (pieces_of at (image m s.symbols at))
       → All (λ b. Meets (length p.1) p.0 b → ⊥) s.part.blocks
-  -- a byte of RAM outside all segments stays, and there are as many
+  -- a byte of RAM outside all segments stays, and so does the size of RAM
   pub outside : (s : LoaderState) (name : List ℕ) (m : Module) (mode : ℕ) (at : Places) (a : ℕ)
       → IsLoader s → IsModule m → verdict s m mode ≡ Ok at
       → ((p : Piece) → IsPiece p (pieces_of at (image m s.symbols at)) → IsIn a p.0 (length p.1) → ⊥)

@@ -6,10 +6,10 @@ ghost use Rattle.module_loader.specs.Placing.{place_seg, with_seg, without_seg, 
 use mem_partition::{Class, Part, PartErr};
 use module_image::{Need, Needs, Places};
 
-/// The greatest size that a block can be asked for with.
+/// The greatest size of a block, in bytes.
 const GREATEST_SIZE: u64 = 0xffff_ffff;
 
-/// A block for a segment; none, at address 0, for one without bytes.
+/// Allocates the block of a segment. A segment without bytes has none, and address 0.
 fn take_segment(part: &mut Part, need: Need) -> Result<u32, PartErr>
     ensures answer { result ≡ place_seg part.old need }
     ensures after { part.new ≡ with_seg part.old need }
@@ -21,7 +21,7 @@ fn take_segment(part: &mut Part, need: Need) -> Result<u32, PartErr>
     part.alloc(n, need.align, Class::Kernel)
 }
 
-/// A segment's block given back.
+/// Frees the block of a segment.
 fn give_segment(part: &mut Part, need: Need, at: u32)
     ensures { part.new ≡ without_seg part.old need at }
 {
@@ -30,13 +30,13 @@ fn give_segment(part: &mut Part, need: Need, at: u32)
     }
 }
 
-/// Blocks for the three segments, or none at all.
+/// Allocates blocks for the three segments, or none at all.
 #[tactic(auto, unfolding(crate::specs::Placing::places_of), using(crate::proofs::Taking::seg_back, crate::proofs::Taking::seg_refused, crate::proofs::Taking::seg_kept))]
 pub(crate) fn take_blocks(part: &mut Part, needs: Needs) -> Result<Places, PartErr>
     ensures answer { result ≡ places_of part.old needs }
     ensures after { part.new ≡ part_after part.old needs result }
 {
-    // what every partition keeps
+    // gives the partition's invariant
     let _end = part.end();
     let text = match take_segment(part, needs.text) {
         Ok(at) => at,
@@ -60,7 +60,7 @@ pub(crate) fn take_blocks(part: &mut Part, needs: Needs) -> Result<Places, PartE
     Ok(Places { text, data, bss })
 }
 
-/// The three blocks given back.
+/// Frees the three blocks.
 pub(crate) fn give_blocks(part: &mut Part, needs: Needs, at: Places)
     ensures { part.new ≡ without_needs part.old needs at }
 {

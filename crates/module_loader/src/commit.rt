@@ -1,4 +1,4 @@
-//! All changes of a load, none of which fails.
+//! All changes of a load. None of them can fail.
 
 ghost use Rattle.std.specs.Prelude.{◌≡◌, ◌<◌, ◌≤◌, ◌+◌, ◌-◌, ◌^◌, ◌++◌, false, length, take, drop, replicate, All};
 ghost use Rattle.wind_base.specs.Limits.{greatest_id};
@@ -17,7 +17,7 @@ use symbol_table::{Symbol, Symbols};
 use wind_base::Name;
 use wind_core::Kern;
 
-/// How many bytes the block of a segment of `n` bytes has.
+/// The size in bytes of the block of a segment of `n` bytes.
 #[tactic(auto, unfolding(crate::specs::Loading::block_size))]
 fn block_size(n: u32) -> u32
     requires { block_size_lem n < 2 ^ 32 }
@@ -32,35 +32,35 @@ fn block_size(n: u32) -> u32
 /// Fills a segment's block with zeros.
 #[tactic(auto, unfolding(crate::specs::Loading::stored), using(crate::proofs::Filling::zeros_in_block))]
 fn write_zeros(ram: &mut Ram, at: u32, n: u32)
-    requires { at + block_size_lem n ≤ length ram.old }
-    ensures bytes { ram.new ≡ stored ram.old (at, in_block (replicate n 0)) }
-    ensures same { length ram.new ≡ length ram.old }
+    requires { at + block_size_lem n ≤ length ram.old.bytes }
+    ensures bytes { ram.new.bytes ≡ stored ram.old.bytes (at, in_block (replicate n 0)) }
+    ensures same { length ram.new.bytes ≡ length ram.old.bytes }
 {
-    // RAM has less than 2^32 bytes
+    // RAM has fewer than 2^32 bytes
     let _size = ram.size();
     let _ = ram.fill(at, block_size(n), 0);
 }
 
-/// Writes the bytes of a segment to the front of its block, and zeros behind them.
+/// Writes the bytes of a segment to the beginning of its block, and zeros after them.
 #[tactic(auto, using(crate::proofs::Filling::after_copy, crate::proofs::Filling::block_holds))]
 fn write(ram: &mut Ram, at: u32, src: &[u8])
-    requires { at + block_size_lem (length src.now) ≤ length ram.old }
-    ensures bytes { ram.new ≡ stored ram.old (at, in_block src.now) }
-    ensures same { length ram.new ≡ length ram.old }
+    requires { at + block_size_lem (length src.now) ≤ length ram.old.bytes }
+    ensures bytes { ram.new.bytes ≡ stored ram.old.bytes (at, in_block src.now) }
+    ensures same { length ram.new.bytes ≡ length ram.old.bytes }
 {
     let _size = ram.size();
     write_zeros(ram, at, src.len() as u32);
     let _ = ram.copy_in(at, src);
 }
 
-/// Writes the three segments, each with zeros to the end of its block; text is the front of the bytes, up to `cut`, and
-/// data the rest.
+/// Writes the three segments, each with zeros to the end of its block. Text is the bytes up to
+/// `cut`, and data the rest.
 fn store(ram: &mut Ram, bytes: &[u8], cut: usize, at: Places, bss: u32)
     requires cut { cut ≤ length bytes.now }
-    requires text { at.text + block_size_lem cut ≤ length ram.old }
-    requires data { at.«data» + block_size_lem (length bytes.now - cut) ≤ length ram.old }
-    requires bss { at.bss + block_size_lem bss ≤ length ram.old }
-    ensures { ram.new ≡ stored_all ram.old
+    requires text { at.text + block_size_lem cut ≤ length ram.old.bytes }
+    requires data { at.«data» + block_size_lem (length bytes.now - cut) ≤ length ram.old.bytes }
+    requires bss { at.bss + block_size_lem bss ≤ length ram.old.bytes }
+    ensures { ram.new.bytes ≡ stored_all ram.old.bytes
         (three_pieces at (in_block (take cut bytes.now)) (in_block (drop cut bytes.now)) (in_block (replicate bss 0))) }
 {
     let text = &bytes[..cut];
@@ -109,7 +109,7 @@ pub(crate) fn make_record(name: Name, needs: Needs, at: Places) -> LoadedModule
     }
 }
 
-/// Adds the record, for which there are room and an id.
+/// Adds the record; there must be room and an id for it.
 #[tactic(auto, using(crate::proofs::Kernel::idents_more))]
 fn add_record(table: &mut Table<LoadedModule>, kern: &mut Kern, row: LoadedModule) -> Ident
     requires room { length table.old.rows < table.old.room }
@@ -151,16 +151,16 @@ pub(crate) fn commit(
     requires symbols { length made.exports.items ≤ syms.old.spare }
     requires named { All HasName made.exports.items }
     requires cut { cut ≤ length made.bytes.items }
-    requires text { at.text + block_size_lem cut ≤ length ram.old }
-    requires data { at.«data» + block_size_lem (length made.bytes.items - cut) ≤ length ram.old }
-    requires bss { at.bss + block_size_lem bss ≤ length ram.old }
+    requires text { at.text + block_size_lem cut ≤ length ram.old.bytes }
+    requires data { at.«data» + block_size_lem (length made.bytes.items - cut) ≤ length ram.old.bytes }
+    requires bss { at.bss + block_size_lem bss ≤ length ram.old.bytes }
     ensures id { result.id ≡ kern.old.next_id }
     ensures undefined { result.undefined ≡ made.undefined }
     ensures next { kern.new ≡ record kern.old { next_id = kern.old.next_id + 1 } }
     ensures rows { table.new ≡ added table.old kern.old.next_id row }
     ensures idents { All HasIdent table.new.rows }
     ensures symbols { syms.new.list ≡ syms.old.list ++ made.exports.items }
-    ensures ram { ram.new ≡ stored_all ram.old (three_pieces at
+    ensures ram { ram.new.bytes ≡ stored_all ram.old.bytes (three_pieces at
         (in_block (take cut made.bytes.items)) (in_block (drop cut made.bytes.items)) (in_block (replicate bss 0))) }
 {
     let Prepared {

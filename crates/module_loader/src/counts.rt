@@ -1,4 +1,4 @@
-//! Ids and room for a module to come.
+//! The id and the room for a new module.
 
 ghost use Rattle.std.specs.Prelude.{◌≡◌, ◌≤◌, ◌+◌, None, false, IfOk, IfErr, OnOk, SomeIff, length};
 ghost use Rattle.wind_base.specs.Limits.{greatest_id};
@@ -11,7 +11,7 @@ use symbol_table::{SymErr, Symbols};
 use wind_base::limits::MODULES;
 use wind_core::Kern;
 
-/// The id that the kernel gives next. None where none is left.
+/// The id that the kernel hands out next. `None` if no id is left.
 #[tactic(auto, using(crate::proofs::Kernel::put_back))]
 fn next_id(kern: &mut Kern) -> Option<Ident>
     requires { kern.old.lent ≡ false }
@@ -24,7 +24,7 @@ fn next_id(kern: &mut Kern) -> Option<Ident>
     id
 }
 
-/// The id of a module to come, and room for its symbols.
+/// Checks that there is an id for a new module, and reserves room for its symbols.
 pub(crate) fn check_counts(
     table: &Table<LoadedModule>,
     kern: &mut Kern,

@@ -1,4 +1,4 @@
-//! The module loader: a module is loaded whole or not at all, and unloaded.
+//! The module loader: loads a module whole or not at all, and unloads it.
 #![tactic(auto)]
 
 mod blocks;

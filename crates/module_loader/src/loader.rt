@@ -1,4 +1,4 @@
-//! Loading a module.
+//! Loads a module.
 
 ghost use Rattle.std.specs.Prelude.{◌≡◌, ◌<◌, ◌≤◌, ◌+◌, ◌^◌, ℕ, List, Ok, Err, false, IfOk, IfErr, IsOk, OnOk, OnErr, length, All};
 ghost use Rattle.wind_base.specs.Limits.{most_modules};
@@ -34,7 +34,8 @@ use symbol_table::Symbols;
 use wind_base::Name;
 use wind_core::Kern;
 
-/// Blocks for a module, and what goes into them. Where it can't be made, the blocks are given back.
+/// Allocates the blocks of a module, and prepares what goes into them. If that fails, the blocks
+/// are freed.
 #[tactic(auto, using(crate::proofs::Loads::text_and_data, crate::proofs::Loads::placed_fault, crate::proofs::Taking::needs_back))]
 fn place(
     alloc: Global,
@@ -74,7 +75,7 @@ fn place(
     }
 }
 
-/// Loads a module that was read.
+/// Loads a module that has been read.
 pub(crate) fn load_module(
     alloc: Global,
     table: &mut Table<LoadedModule>,
@@ -91,17 +92,17 @@ pub(crate) fn load_module(
     requires ids { kern.old.lent ≡ false }
     requires below { IdsBelow kern.old.next_id table.old.rows }
     requires idents { All HasIdent table.old.rows }
-    requires pool { part.old.end ≤ length ram.old }
+    requires pool { part.old.end ≤ length ram.old.bytes }
     ensures answer { IfOk result
-        (λ l. l ≡ told (state_of kern.old syms.old.list table.old.rows part.old ram.old) m.now) }
+        (λ l. l ≡ told (state_of kern.old syms.old.list table.old.rows part.old ram.old.bytes) m.now) }
     ensures accepted { OnOk result (IsLoaded
-        (verdict (state_of kern.old syms.old.list table.old.rows part.old ram.old) m.now mode)
-        (state_of kern.old syms.old.list table.old.rows part.old ram.old) name m.now mode
-        (state_of kern.new syms.new.list table.new.rows part.new ram.new)) }
+        (verdict (state_of kern.old syms.old.list table.old.rows part.old ram.old.bytes) m.now mode)
+        (state_of kern.old syms.old.list table.old.rows part.old ram.old.bytes) name m.now mode
+        (state_of kern.new syms.new.list table.new.rows part.new ram.new.bytes)) }
     ensures refused { IfErr result
-        (IsVerdict (verdict (state_of kern.old syms.old.list table.old.rows part.old ram.old) m.now mode)) }
-    ensures unchanged { OnErr result (state_of kern.new syms.new.list table.new.rows part.new ram.new
-        ≡ state_of kern.old syms.old.list table.old.rows part.old ram.old) }
+        (IsVerdict (verdict (state_of kern.old syms.old.list table.old.rows part.old ram.old.bytes) m.now mode)) }
+    ensures unchanged { OnErr result (state_of kern.new syms.new.list table.new.rows part.new ram.new.bytes
+        ≡ state_of kern.old syms.old.list table.old.rows part.old ram.old.bytes) }
     ensures room { table.new.room ≡ most_modules }
     ensures idents { All HasIdent table.new.rows }
     ensures sound { OnOk result (IsPart part.old) }
@@ -138,7 +139,7 @@ fn outline_file(alloc: Global, file: &[u8]) -> Result<Outline, LoadErr>
     }
 }
 
-/// Whether the three segments have places. The partition stays as it is.
+/// Checks that the three segments have places. The partition stays as it is.
 #[tactic(auto, using(crate::proofs::Taking::needs_back))]
 fn check_blocks(part: &mut Part, needs: Needs) -> Result<(), PartErr>
     ensures placed { OnOk result (IsOk (places_of part.old needs)) }
@@ -155,8 +156,8 @@ fn check_blocks(part: &mut Part, needs: Needs) -> Result<(), PartErr>
     }
 }
 
-/// Reads the outline of a file, and checks that no rule, no count and no missing place refuses a load of it. Only the room
-/// for symbols may grow.
+/// Reads the outline of a file, and checks that no rule, no count and no missing place refuses to
+/// load it. Only the room for symbols may grow.
 #[tactic(auto, using(crate::proofs::Files::file_refused))]
 pub(crate) fn check_file(
     alloc: Global,
@@ -210,17 +211,18 @@ pub(crate) fn load_file(
     requires ids { kern.old.lent ≡ false }
     requires below { IdsBelow kern.old.next_id table.old.rows }
     requires idents { All HasIdent table.old.rows }
-    requires pool { part.old.end ≤ length ram.old }
+    requires pool { part.old.end ≤ length ram.old.bytes }
     ensures answer { IfOk result
-        (λ l. l ≡ told (state_of kern.old syms.old.list table.old.rows part.old ram.old) (module_at file.now)) }
+        (λ l. l ≡ told (state_of kern.old syms.old.list table.old.rows part.old ram.old.bytes) (module_at file.now)) }
     ensures accepted { OnOk result (IsLoaded
-        (file_verdict (state_of kern.old syms.old.list table.old.rows part.old ram.old) file.now mode)
-        (state_of kern.old syms.old.list table.old.rows part.old ram.old) name (module_at file.now) mode
-        (state_of kern.new syms.new.list table.new.rows part.new ram.new)) }
+        (file_verdict (state_of kern.old syms.old.list table.old.rows part.old ram.old.bytes) file.now mode)
+        (state_of kern.old syms.old.list table.old.rows part.old ram.old.bytes) name (module_at file.now) mode
+        (state_of kern.new syms.new.list table.new.rows part.new ram.new.bytes)) }
     ensures refused { IfErr result
-        (IsVerdict (file_verdict (state_of kern.old syms.old.list table.old.rows part.old ram.old) file.now mode)) }
-    ensures unchanged { OnErr result (state_of kern.new syms.new.list table.new.rows part.new ram.new
-        ≡ state_of kern.old syms.old.list table.old.rows part.old ram.old) }
+        (IsVerdict
+        (file_verdict (state_of kern.old syms.old.list table.old.rows part.old ram.old.bytes) file.now mode)) }
+    ensures unchanged { OnErr result (state_of kern.new syms.new.list table.new.rows part.new ram.new.bytes
+        ≡ state_of kern.old syms.old.list table.old.rows part.old ram.old.bytes) }
     ensures room { table.new.room ≡ most_modules }
     ensures idents { All HasIdent table.new.rows }
     ensures sound { OnOk result (IsPart part.old) }

@@ -26,7 +26,7 @@ use wind_base::limits::MODULES;
 use wind_base::{Name, NoMemory};
 use wind_core::Kern;
 
-/// The live modules, 256 at most. Contracts see them by rising id.
+/// The live modules, at most 256. Contracts see them by rising id.
 #[derive(Drop)]
 pub struct Modules {
     alloc: Global,
@@ -47,7 +47,7 @@ impl Model for Modules {
 }
 
 impl Modules {
-    /// No module, with room for 256.
+    /// Makes the table of modules, empty and with room for 256.
     pub fn new(alloc: Global) -> Result<Modules, NoMemory>
         ensures { IfOk result (λ m. m ≡ []) }
     {
@@ -57,10 +57,10 @@ impl Modules {
         })
     }
 
-    /// Loads the module of an object file under a name, with its segments text, data and bss in blocks of their own, or
-    /// changes nothing. The mode says which symbols are added: with 0xffffffff none, with 1 local ones too, and else
-    /// global and weak ones. A reference that the module doesn't define is bound to the newest global of its name, or
-    /// else counts as 0.
+    /// Loads the module of an object file under a name, or changes nothing. The segments text, data
+    /// and bss get blocks of their own. The mode says which symbols are added: 0xffffffff adds
+    /// none, 1 also adds local ones, and any other mode adds global and weak ones. A reference that
+    /// the module doesn't define is bound to the newest global with its name, or else to 0.
     pub fn load(
         &mut self,
         kern: &mut Kern,
@@ -71,18 +71,18 @@ impl Modules {
         file: &[u8],
         mode: u32,
     ) -> Result<Loaded, LoadErr>
-        requires { KeepsModules (state_of kern.old syms.old.list self.old part.old ram.old) }
+        requires { KeepsModules (state_of kern.old syms.old.list self.old part.old ram.old.bytes) }
         ensures answer { IfOk result
-            (λ l. l ≡ told (state_of kern.old syms.old.list self.old part.old ram.old) (module_at file.now)) }
+            (λ l. l ≡ told (state_of kern.old syms.old.list self.old part.old ram.old.bytes) (module_at file.now)) }
         ensures accepted { OnOk result (IsLoaded
-            (file_verdict (state_of kern.old syms.old.list self.old part.old ram.old) file.now mode)
-            (state_of kern.old syms.old.list self.old part.old ram.old) name (module_at file.now) mode
-            (state_of kern.new syms.new.list self.new part.new ram.new)) }
+            (file_verdict (state_of kern.old syms.old.list self.old part.old ram.old.bytes) file.now mode)
+            (state_of kern.old syms.old.list self.old part.old ram.old.bytes) name (module_at file.now) mode
+            (state_of kern.new syms.new.list self.new part.new ram.new.bytes)) }
         ensures refused { IfErr result
-            (IsVerdict (file_verdict (state_of kern.old syms.old.list self.old part.old ram.old) file.now mode)) }
-        ensures unchanged { OnErr result (state_of kern.new syms.new.list self.new part.new ram.new
-            ≡ state_of kern.old syms.old.list self.old part.old ram.old) }
-        ensures kept { KeepsModules (state_of kern.new syms.new.list self.new part.new ram.new) }
+            (IsVerdict (file_verdict (state_of kern.old syms.old.list self.old part.old ram.old.bytes) file.now mode)) }
+        ensures unchanged { OnErr result (state_of kern.new syms.new.list self.new part.new ram.new.bytes
+            ≡ state_of kern.old syms.old.list self.old part.old ram.old.bytes) }
+        ensures kept { KeepsModules (state_of kern.new syms.new.list self.new part.new ram.new.bytes) }
     {
         load_file(
             self.alloc,
@@ -97,9 +97,9 @@ impl Modules {
         )
     }
 
-    /// Reads the outline of an object file, and checks whether `load` would get as far as the file's relocations: the rules
-    /// of object files, the counts and the partition, in this order, may refuse the file. It copies no byte of a section
-    /// and changes nothing.
+    /// Reads the outline of an object file, and checks whether `load` would get as far as the
+    /// file's relocations. The rules of object files, the counts and the partition may refuse the
+    /// file, in this order. It copies no bytes of sections and changes nothing.
     pub fn check_file(
         &self,
         kern: &mut Kern,
@@ -122,7 +122,7 @@ impl Modules {
         check_file(self.alloc, &self.table, kern, part, syms, file, mode)
     }
 
-    /// The same of a module that was read from its file.
+    /// The same as `load`, for a module that has been read from its file.
     pub fn load_module(
         &mut self,
         kern: &mut Kern,
@@ -134,18 +134,18 @@ impl Modules {
         mode: u32,
     ) -> Result<Loaded, LoadErr>
         requires module { IsModule m.now }
-        requires kept { KeepsModules (state_of kern.old syms.old.list self.old part.old ram.old) }
+        requires kept { KeepsModules (state_of kern.old syms.old.list self.old part.old ram.old.bytes) }
         ensures answer { IfOk result
-            (λ l. l ≡ told (state_of kern.old syms.old.list self.old part.old ram.old) m.now) }
+            (λ l. l ≡ told (state_of kern.old syms.old.list self.old part.old ram.old.bytes) m.now) }
         ensures accepted { OnOk result (IsLoaded
-            (verdict (state_of kern.old syms.old.list self.old part.old ram.old) m.now mode)
-            (state_of kern.old syms.old.list self.old part.old ram.old) name m.now mode
-            (state_of kern.new syms.new.list self.new part.new ram.new)) }
+            (verdict (state_of kern.old syms.old.list self.old part.old ram.old.bytes) m.now mode)
+            (state_of kern.old syms.old.list self.old part.old ram.old.bytes) name m.now mode
+            (state_of kern.new syms.new.list self.new part.new ram.new.bytes)) }
         ensures refused { IfErr result
-            (IsVerdict (verdict (state_of kern.old syms.old.list self.old part.old ram.old) m.now mode)) }
-        ensures unchanged { OnErr result (state_of kern.new syms.new.list self.new part.new ram.new
-            ≡ state_of kern.old syms.old.list self.old part.old ram.old) }
-        ensures kept { KeepsModules (state_of kern.new syms.new.list self.new part.new ram.new) }
+            (IsVerdict (verdict (state_of kern.old syms.old.list self.old part.old ram.old.bytes) m.now mode)) }
+        ensures unchanged { OnErr result (state_of kern.new syms.new.list self.new part.new ram.new.bytes
+            ≡ state_of kern.old syms.old.list self.old part.old ram.old.bytes) }
+        ensures kept { KeepsModules (state_of kern.new syms.new.list self.new part.new ram.new.bytes) }
     {
         load_module(
             self.alloc,
@@ -160,8 +160,8 @@ impl Modules {
         )
     }
 
-    /// Unloads a module: its record, its symbols and its blocks go. No byte of RAM changes, and what other modules
-    /// bound to its symbols stays as it was.
+    /// Unloads a module: removes its record and its symbols, and frees its blocks. No byte of RAM
+    /// changes. What other modules bound to its symbols stays as it was.
     #[tactic(auto, using(crate::proofs::Kernel::no_live))]
     pub fn unload(
         &mut self,
@@ -178,7 +178,7 @@ impl Modules {
             ((self.new ≡ self.old) × (syms.new ≡ syms.old) × (part.new ≡ part.old)) }
         ensures held { AreHeld self.new part.new }
     {
-        // each id of the table is one, which is known once it is looked at
+        // a look at the table gives its invariant: each id in it is valid
         let _table = &self.table;
         let Some(id) = Ident::new(id) else {
             return Err(NoSuchModule);
@@ -186,7 +186,7 @@ impl Modules {
         unload_from(&mut self.table, part, syms, id)
     }
 
-    /// The live module of this id.
+    /// The live module with this id.
     #[tactic(auto, using(crate::proofs::Kernel::no_ident))]
     pub fn get(&self, id: u32) -> Option<&LoadedModule>
         ensures { option_copied result ≡ object_of self.now id }
@@ -197,7 +197,8 @@ impl Modules {
         }
     }
 
-    /// Does nothing. Its contract tells what the modules keep: their ids rise, and lie from 1 to 1,048,576.
+    /// Does nothing. Its contract gives the invariant of the modules: their ids rise, and are from
+    /// 1 to 1,048,576.
     pub fn facts(&self)
         ensures rising { Rising row_id self.now }
         ensures ranged { All HasIdent self.now }
@@ -205,7 +206,7 @@ impl Modules {
         self.table.facts();
     }
 
-    /// The newest live module of this name.
+    /// The newest live module with this name.
     pub fn newest_named(&self, name: &[u8]) -> Option<Ident>
         ensures { result ≡ newest_named self.now name.now }
     {

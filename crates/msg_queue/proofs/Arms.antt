@@ -1,4 +1,4 @@
--- What the code of a send does against what comes of it.
+-- The code of a send, compared with what a send will do.
 use Rattle.std.proofs.Common.{◌≡◌, ℕ, ◌+◌, ◌-◌, ◌<◌, ◌≤◌, Bool, true, false, not, eqb, leb, min, List, length, take, drop, None, Some, IsSome, Ok, Err, refl, sym, ap, ap₂, ◌∙◌, subst, arith, length-drop, ⊎_elim}
 use Rattle.std.specs.List.{filter}
 use Rattle.std.proofs.lemmas.Bool.{eqb-true, leb-true, le-leb, or_cases, or_left, or_right, eq-eqb}
@@ -42,7 +42,7 @@ module _ (id : ℕ) (x : Sending) where
   queued_arm (queued q) at h = (q, refl, cc)
   queued_arm (blocked who q) at h = absurd (cc)
 
-  -- who waits, and for which queue
+  -- the caller that waits, and its queue
   record Waits (d : SendDeed) (a : Ask) (b : Bool) : Type 0 where
     who : ℕ
     queue : QueueState

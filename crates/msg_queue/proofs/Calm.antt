@@ -82,7 +82,7 @@ module _ (rs : List (ℕ × QueueState)) (k : KernState) (n : ℕ) where
   pub still-tick : (l : KernState) → All still l.tasks → All still (tick l).tasks
   still-tick l all = stable.tick-stable still renews (λ answer errno t p. idle (answered answer errno t) refl) (λ m t p. p) l all
 
-  -- the same of what is done only at times
+  -- the same for what is done under a condition
   still-if : (b : Bool) (l m : KernState) → All still l.tasks → All still m.tasks → All still (cond b l m).tasks
   still-if true l m first second = first
   still-if false l m first second = second
@@ -94,7 +94,7 @@ next-if false k l m first second = second
 pub calm_at : (rs : List (ℕ × QueueState)) (k l : KernState) → IsKern l → l.next_id ≡ k.next_id → All (BeginsNone rs k k.next_id) l.tasks → IsCalm rs k l
 calm_at rs k l is same all = record { kern = is; ids = omega (arith, same); waits = subst (λ n. All (BeginsNone rs k n) l.tasks) (sym same) all }
 
--- a field is written that is no wait
+-- a field other than the wait is written
 pub calm_set : (rs : List (ℕ × QueueState)) (k : KernState) (who : ℕ) (f : Task → Task) → ((t : Task) → (f t).id ≡ t.id) → ((t : Task) → (f t).wait ≡ t.wait) → IsKern (change_task k who f)
     → IsCalm rs k (change_task k who f)
 calm_set rs k who f id wait is =
@@ -112,7 +112,7 @@ calm_release rs k who is =
     calm_at rs k (release k who) (move_keeps k (Release who) is tt) (next-move k who released)
     (still-move rs k k.next_id k who released (λ t p. idle rs k k.next_id (released t) refl) (at_first rs k k.next_id))
 
--- of two such moves, one after the other
+-- two such moves, one after the other
 elsewhere_later : (rs : List (ℕ × QueueState)) (n m : ℕ) (place : Place) → n ≤ m → IsElsewhere rs n place → IsElsewhere rs m place
 elsewhere_later rs n m place more other side = let is = other side in (is.0, omega (arith, is.1, more), is.2)
 

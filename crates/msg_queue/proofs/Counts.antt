@@ -74,7 +74,7 @@ counts = record {
   deleting = λ s id is. counts_deleted s id (queue_of s id) is;
 }
 
--- a call that makes a queue or changes nothing
+-- a call that makes a queue, or changes nothing
 pub made_counts : (k l : KernState) (qs us : QueuesState) (max_msgs max_len options : ℕ) (r : Result ℕ MakeErr)
     → IfOk r (IsMade k l qs us max_msgs max_len options) → IfErr r (IsNotMade k l qs us max_msgs max_len options)
     → CountsOn 0 k l

@@ -1,4 +1,4 @@
--- What is known of a call on a queue, by what comes of it.
+-- What is known of a call on a queue, by what it will do.
 use Rattle.std.proofs.Common.{◌≡◌, ℕ, ◌≤◌, Bool, true, false, not, ◌&&◌, cond, eqb, ltb, min, List, [], ◌∷◌, Option, None, Some, is_none, refl, ap, eq-eqb}
 use Rattle.std.proofs.lemmas.Bool.{ltb-false, eqb-true}
 use Rattle.wind_base.specs.declared.errno.Errno.{Errno}
@@ -9,7 +9,7 @@ use Rattle.msg_queue.specs.State.{QueueState, Scene, queue_of, lies_in, size_of,
 use Rattle.msg_queue.specs.Sends.{SendDeed, declined, passed_on, queued, blocked, send_refusal, queued_or_blocked, sends_unless, sends_at, send_deed}
 use Rattle.msg_queue.specs.Receives.{ReceiveDeed, denied, taken, starved, is_empty, receive_refusal, takes_from, receives_unless, receives_at, receive_deed}
 
--- a test of a chain that refuses nothing was not met
+-- if a chain of tests refuses nothing, its first test isn't met
 pub passed : (b : Bool) (e : Errno) (r : Option Errno) → cond b (Some e) r ≡ None → (b ≡ false) × (r ≡ None)
 passed true e r q = absurd (cc)
 passed false e r q = (refl, q)
@@ -18,7 +18,7 @@ pub not_false : (b : Bool) → not b ≡ false → b ≡ true
 not_false true e = refl
 not_false false e = absurd (cc)
 
--- what stands where nothing refuses a send
+-- what is known if nothing refuses a send
 pub record SendsWell (size : ℕ) (x : Sending) (stuck : Bool) (q : QueueState) : Type 0 where
   pub short : x.count ≤ q.max_len
   pub there : lies_in size x.buffer x.count ≡ true

@@ -1,4 +1,4 @@
--- The code of a deletion against what it does.
+-- The code of a deletion, compared with what a deletion does.
 use Rattle.std.proofs.Common.{◌≡◌, ℕ, List, Option, None, Some, IsSome, refl, sym, ap, ap₂, ◌∙◌}
 use Rattle.wind_base.specs.declared.errno.Errno.TheVariants as errors
 use Rattle.id_table.specs.Rows.{object_of, without}

@@ -1,4 +1,4 @@
--- Each step keeps the kept facts: a receive, a queue that comes or goes, and what is no call on queues.
+-- Each step keeps the invariant: a receive, the making or deletion of a queue, and everything that isn't a call on queues.
 use Rattle.std.proofs.Common.{◌≡◌, ℕ, ◌+◌, ◌*◌, ◌<◌, ◌≤◌, Bool, true, false, not, ◌&&◌, cond, eqb, leb, ltb, min, List, [], ◌∷◌, ◌++◌, length, take, Option, None, Some, IsSome, Result, Ok, Err, IfOk, IfErr, refl, sym, ap, ap₂, ◌∙◌, subst, arith}
 use Rattle.std.specs.List.{All, AllPairs, Contains}
 use Rattle.std.proofs.lemmas.Bool.{eqb-true, eqb-false, leb-true, ltb-false, and_parts}
@@ -93,7 +93,7 @@ receive_keeps s id x kept ready =
           (record { side = omega arith; here = is.0; receiver = λ h. (is.1, is.2); sender = λ h. absurd (omega (arith, h)) })
     ] (receive_is s id x)
 
--- ---- queues come and go
+-- ---- queues are made and deleted
 ids_below_at : (rs : List (ℕ × QueueState)) (next : ℕ) → IdsBelow next rs → All (λ n. n < next) (ids rs)
 ids_below_at rs next below = All-map (λ n. n < next) (λ (r : ℕ × QueueState). r.0) rs below
 
@@ -120,7 +120,7 @@ created_keeps s y kept good left =
       old_ids = each (WaitsForOld (n + 1)) s.kern.tasks (λ t at place wait side. let below : place.id < n = All-contains (WaitsForOld n) s.kern.tasks t kept.old_ids at place wait side in omega (arith, below));
     }
 
--- all that wait at a queue go on
+-- the waits at a queue end
 awakened_calm : (rs : List (ℕ × QueueState)) (k : KernState) (id : ℕ) → IsKern k → IsCalm rs k (awakened k id)
 awakened_calm rs k id is =
     let wakes : Place → Move = λ place. WakeAll place 4294967295 (Some errors.ObjDeleted) in
@@ -135,7 +135,7 @@ no_sender k id is t at wait =
     let waits = waits_itself (senders id) t.wait wait in
     absurd (cc)
 
--- and the queue is gone
+-- and the queue is removed
 gone_keeps : (s : Scene) (id : ℕ) (o : Option QueueState) → IsKept s → IsKept (deleted s id o)
 gone_keeps s id None kept = kept
 gone_keeps s id (Some q) kept =
@@ -173,7 +173,7 @@ keeps s (deletes id) kept may = gone_keeps s id (queue_of s id) kept
 keeps s ticks kept may = calm_keeps s (tick s.kern) s.ram kept (calms s.queues.queues s.kern Tick kept.kern tt tt) refl
 keeps s (others k ram) kept may = calm_keeps s k ram kept may.0 may.1
 
--- where there is no queue, and no task waits
+-- there are no queues, and no task waits
 pub starts : StartLaw
 starts k ram is none =
     let idle : (t : Task) (place : Place) → Contains k.tasks t → t.wait ≡ Some place → ⊥ =
@@ -205,7 +205,7 @@ creates_keep s max_msgs max_len options none kept =
     let left = ltb-false 1048576 next fourth.0 in
     created_keeps s (new_queue max_msgs max_len options) kept (record { some = omega (arith, some); fits = omega arith; short = All-nil (λ (m : List ℕ). length m ≤ max_len) }) (omega (arith, left))
 
--- a call that makes a queue or changes nothing keeps them
+-- a call that makes a queue, or changes nothing, keeps the invariant
 pub made_keeps : (k l : KernState) (qs us : QueuesState) (max_msgs max_len options : ℕ) (r : Result ℕ MakeErr)
     → IfOk r (IsMade k l qs us max_msgs max_len options) → IfErr r (IsNotMade k l qs us max_msgs max_len options)
     → (ram : List ℕ) → IsKept (scene k qs ram) → IsKept (scene l us ram)

@@ -1,4 +1,4 @@
--- What keeps the kept facts: a move of the kernel that is calm, and a queue that is written where nobody waits for it.
+-- What keeps the invariant: a calm move of the kernel, and a write of a queue that no task waits for.
 use Rattle.std.proofs.Common.{◌≡◌, ℕ, ◌<◌, true, false, eqb, List, length, Option, Some, IsSome, refl, sym, ap, ◌∙◌, subst, arith, ⊎_elim}
 use Rattle.std.specs.List.{Contains}
 use Rattle.std.proofs.lemmas.Bool.{eqb-true, eqb-false}
@@ -15,7 +15,7 @@ use Rattle.msg_queue.specs.Kept.{IsQueue, IsServable, WaitsWell, SendsToLive, Wa
 use Rattle.msg_queue.proofs.Tables.{written_same, written_other, rises-written}
 use Rattle.msg_queue.proofs.Members.{each}
 
--- ---- where the queues stay
+-- ---- the queues stay
 servable_as : (size : ℕ) (asks : List Ask) (u t : Task) (place : Place) (q : QueueState) → u.id ≡ t.id → IsServable size asks u place q → IsServable size asks t place q
 servable_as size asks u t place q id is = record { ask = is.ask; own = subst (λ n. ask_of asks n ≡ Some is.ask) id is.own; there = is.there; receiver = is.receiver; sender = is.sender }
 
@@ -45,7 +45,7 @@ calm_keeps s k ram kept calm size =
           (λ other. (other side).1) (still t at place here));
     }
 
--- ---- one queue is written
+-- ---- one queue is overwritten
 pub place_is : (p : Place) (side id : ℕ) → p.side ≡ side → id ≡ p.id → ◌≡◌ {A = Option Place} (Some p) (Some (record { side = side; id = id }))
 place_is p side id e f = ap {B = Option Place} (λ n. Some (record p { side = n })) e ∙ ap {B = Option Place} (λ n. Some (record { side = side; id = n })) (sym f)
 

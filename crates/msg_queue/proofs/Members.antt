@@ -1,4 +1,4 @@
--- What is in a list.
+-- The elements of a list.
 use Rattle.std.proofs.Common.{◌≡◌, ◌<◌, true, false, cond, List, [], ◌∷◌, ◌++◌, Bool, map, length, get_or, None, Some, refl, sym, ap, ◌∙◌, arith}
 use Rattle.std.specs.List.{All, Contains, filter, find}
 use Rattle.std.proofs.lemmas.List.{length-map, get_or-map}
@@ -6,7 +6,7 @@ use Rattle.std.proofs.lemmas.List.Elements.{All-contains_itself, All-head, All-t
 use Rattle.std.proofs.lemmas.Option.{same_Some}
 
 module _ {X : Type 0} where
-  -- what holds of each element of a list
+  -- a property of each element of a list
   pub each : (P : X → Type 0) (xs : List X) → ((x : X) → Contains xs x → P x) → All P xs
   each P xs h = λ k d within. h (get_or xs k d) (All-contains_itself xs k d within)
 
@@ -24,7 +24,7 @@ module _ {X : Type 0} where
         | false ↦ λ b q. find_passes p xs y q
       ] refl e
 
-  -- among those of a test that it meets, and others behind them
+  -- it stays the first if elements that fail another test, which it passes, are left out, and others are added after
   pub find_kept : (p c : X → Bool) (xs zs : List X) (y : X) → find p xs ≡ Some y → c y ≡ true → find p (filter c xs ++ zs) ≡ Some y
   find_kept p c [] zs y e h = absurd (cc)
   find_kept p c (x ∷ xs) zs y e h =
@@ -39,7 +39,7 @@ module _ {X : Type 0} where
             ]
       ] refl e
 
-  -- behind others that don't pass
+  -- after others that don't pass
   pub find_behind : (p : X → Bool) (xs : List X) (y : X) → All (λ x. p x ≡ false) xs → p y ≡ true → find p (xs ++ y ∷ []) ≡ Some y
   find_behind p [] y none e = ap (λ b. cond b (Some y) None) e
   find_behind p (x ∷ xs) y none e =

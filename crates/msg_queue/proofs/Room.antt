@@ -1,4 +1,4 @@
--- There is room for a new ask: those that count are of tasks that wait, and the caller does not.
+-- There is room for a new request: the valid ones are of tasks that wait, and the caller doesn't wait.
 use Rattle.std.proofs.Common.{◌≡◌, ◌≢◌, ℕ, ◌+◌, ◌<◌, ◌≤◌, true, false, ◌||◌, cond, eqb, List, [], ◌∷◌, map, length, get_or, Option, None, Some, refl, sym, ap, ◌∙◌, subst, arith}
 use Rattle.std.specs.List.{All, AllPairs, filter, list_any, IsDistinct}
 use Rattle.std.proofs.lemmas.Bool.{eqb-true, eqb-false, eq-eqb, ne_eqb}

@@ -1,4 +1,4 @@
--- A run of a machine that has queues: what its steps accept and take adds up, if each step's does.
+-- A run of a machine with queues: what its steps accept and take adds up, if each step's does.
 use Rattle.std.proofs.Common.{◌≡◌, ℕ, zero, suc, ◌≤◌, false, List, [], ◌∷◌, ◌++◌, None, Some, refl, sym, ap, ◌∙◌, subst, arith, append_assoc, length-append}
 use Rattle.std.proofs.lemmas.List.Elements.{All-tail}
 use Rattle.std.proofs.lemmas.List.{get_or_append_left}
@@ -44,7 +44,7 @@ module _ (old more : List Parcel) (gone out held rest : List (List ℕ)) where
 
 -- what was accepted and taken up to a state
 pub record IsTold (here : Stock) (accepted : ℕ → List Parcel) (taken : ℕ → List (List ℕ)) : Type 0 where
-  -- nothing is told of queues to come
+  -- nothing was accepted or taken for queues that are yet to be made
   pub unborn : (q : ℕ) → here.next_id ≤ q → (accepted q ≡ []) × (taken q ≡ [])
   pub live : (q : ℕ) (y : QueueState) → object_of here.queues q ≡ Some y → IsConserved (accepted q) (taken q) y.held
 
@@ -52,7 +52,7 @@ nothing_yet : (accepted accepts : List Parcel) (taken takes held : List (List �
 nothing_yet accepted accepts taken takes held a b c d e =
     rw (a, b, c, d, e) (record { same = IsPermutation-refl []; in_order = λ _. refl })
 
--- where there is no queue yet
+-- there is no queue yet
 pub told_nothing : (s : Stock) → s.queues ≡ [] → IsTold s (λ q. []) (λ q. [])
 told_nothing s none = record {
   unborn = λ q h. (refl, refl);

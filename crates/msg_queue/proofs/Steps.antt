@@ -1,4 +1,4 @@
--- A send keeps the kept facts.
+-- A send keeps the invariant.
 use Rattle.std.proofs.Common.{◌≡◌, ℕ, ◌+◌, ◌-◌, ◌<◌, ◌≤◌, Bool, true, false, not, cond, eqb, leb, min, List, [], ◌∷◌, ◌++◌, length, take, drop, Option, None, Some, refl, subst, arith, length-append, length-drop, ⊎_elim}
 use Rattle.std.specs.List.{All, Contains}
 use Rattle.std.proofs.lemmas.Bool.{eqb-true, leb-true, leb-false, or_cases}
@@ -46,12 +46,12 @@ served_keeps s who answer kept = calm_keeps s (end_wait s.kern who answer None) 
 pub good_of : (s : Scene) (id : ℕ) (q : QueueState) → IsKept s → queue_of s id ≡ Some q → IsQueue q
 good_of s id q kept here = found_has IsQueue s.queues.queues id q kept.sound here
 
--- ---- who waits at a queue
+-- ---- which tasks wait at a queue
 pub well_at : (s : Scene) (t : Task) (place : Place) (q : QueueState) → IsKept s → Contains s.kern.tasks t → t.wait ≡ Some place → AtObject place → queue_of s place.id ≡ Some q
     → IsServable (length s.ram) s.queues.asks t place q
 well_at s t place q kept at wait side here = All-contains (WaitsWell (length s.ram) s.queues) s.kern.tasks t kept.well at place q wait side here
 
--- the front of those that wait
+-- the first waiting task
 pub front_of : (s : Scene) (place : Place) (f : Task) → IsKern s.kern → first_waiter s.kern.tasks place ≡ Some f → Contains s.kern.tasks f × (f.wait ≡ Some place)
 front_of s place f is e = (
   found_at task_id s.kern.tasks f.id f (front_found task_id waits_before waits_before-order (waits_at place) s.kern.tasks f is.rising e),
@@ -61,7 +61,7 @@ front_of s place f is e = (
 pub positive : (n : ℕ) → (n ≡ 0 → ⊥) → 0 < n
 positive n h = omega arith
 
--- where no first one asks, nobody waits
+-- if there is no first request, no task waits
 not_none : (o : Option Ask) (a : Ask) → o ≡ Some a → o ≡ None → ⊥
 not_none None a e h = cc
 not_none (Some b) a e h = cc

@@ -1,4 +1,4 @@
--- Objects by id, after one of them was written, added or taken out.
+-- Objects by id, after one is overwritten, added or removed.
 use Rattle.std.proofs.Common.{◌≡◌, ◌<◌, ◌≤◌, ℕ, true, false, not, cond, eqb, is_some, List, [], ◌∷◌, ◌++◌, None, Some, refl, sym, ap, ◌∙◌, subst, arith}
 use Rattle.std.specs.List.{AllPairs, filter}
 use Rattle.std.specs.Option.{option_map}
@@ -31,7 +31,7 @@ module _ {T : Type 0} where
   added_same rs id y e =
       object_of-push rs id id y ∙ ap (λ o. cond (is_some o) o (cond (eqb id id) (Some y) None)) e ∙ ap (λ b. cond b (Some y) None) (eq-eqb id id refl)
 
-  -- an id from the next on is not live
+  -- an id that isn't below the next one isn't live
   pub not_live : (rs : List (ℕ × T)) (next q : ℕ) → IdsBelow next rs → next ≤ q → object_of rs q ≡ None
   not_live rs next q below h =
       elim (object_of rs q) as (λ o. object_of rs q ≡ o → o ≡ None) [
@@ -62,7 +62,7 @@ module _ {T : Type 0} where
   pub rises-without : (rs : List (ℕ × T)) (id : ℕ) → Rises rs → Rises (without rs id)
   rises-without rs id up = subst (λ ns. AllPairs (λ i j. i < j) ns) (sym (ids-without rs id)) (AllPairs-filter (λ i j. i < j) (λ n. not (eqb n id)) (ids rs) up)
 
-  -- ---- the last write stands
+  -- ---- the last write counts
   pub written_twice : (rs : List (ℕ × T)) (id : ℕ) (x y : T) → with_object (with_object rs id x) id y ≡ with_object rs id y
   written_twice [] id x y = refl
   written_twice (r ∷ rs) id x y =

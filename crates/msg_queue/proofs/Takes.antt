@@ -1,4 +1,4 @@
--- What the code of a receive does against what comes of it.
+-- The code of a receive, compared with what a receive will do.
 use Rattle.std.proofs.Common.{◌≡◌, ℕ, ◌+◌, ◌<◌, ◌≤◌, Bool, true, false, not, leb, min, List, [], ◌∷◌, length, take, drop, Option, None, Some, IsSome, IfSome, Ok, Err, refl, sym, ap, ap₂, ◌∙◌, subst, arith}
 use Rattle.std.specs.List.{All, filter}
 use Rattle.std.proofs.lemmas.Bool.{leb-true}
@@ -30,7 +30,7 @@ module _ (id : ℕ) (x : Receiving) where
   denied_arm (taken q m rest) e h = absurd (cc)
   denied_arm (starved q) e h = absurd (cc)
 
-  -- the front message, of the queue that has it
+  -- the first message, and its queue
   record Front (d : ReceiveDeed) (at : ℕ) : Type 0 where
     queue : QueueState
     message : List ℕ
@@ -43,7 +43,7 @@ module _ (id : ℕ) (x : Receiving) where
   taken_arm (taken q m rest) at h = record { queue = q; message = m; rest = rest; deed = refl; same = cc }
   taken_arm (starved q) at h = absurd (cc)
 
-  -- for which queue the caller waits
+  -- the queue for which the caller waits
   record Waits (d : ReceiveDeed) (a : Ask) (b : Bool) : Type 0 where
     queue : QueueState
     deed : d ≡ starved queue
@@ -108,11 +108,11 @@ module _ (s : Scene) (id : ℕ) (x : Receiving) where
     pub answer_starved : Ok got.Pended ≡ receive_answer x (receive_deed s id x)
     answer_starved = sym (ap (receive_answer x) at_wait.deed)
 
-  -- the code has the id as one
+  -- the id as the code has it
   pub at_id : (at : ℕ) → plan.Taken at ≡ receive_plan id x (receive_deed s id x) → at ≡ id
   at_id at h = (taken_arm id x (receive_deed s id x) at h).same
 
-  -- the front message is taken
+  -- the first message is taken
   module _ (h : plan.Taken id ≡ receive_plan id x (receive_deed s id x)) (kept : IsKept s) where
     front : Front id x (receive_deed s id x) id
     front = taken_arm id x (receive_deed s id x) id h
@@ -129,7 +129,7 @@ module _ (s : Scene) (id : ℕ) (x : Receiving) where
     pub front_short : (q : QueueState) → object_of s.queues.queues id ≡ Some q → All (λ m. length m ≤ q.max_len) q.held
     front_short q here = (good_of s id q kept here).short
 
-    -- the queue without it
+    -- the queue without that message
     abbrev less : QueueState
     less = record front.queue { held = front.rest }
 

@@ -1,4 +1,4 @@
--- What each step accepts and takes goes with what the queues hold before and after it.
+-- What each step accepts and takes agrees with what the queues hold before and after it.
 use Rattle.std.proofs.Common.{◌≡◌, ℕ, ◌≤◌, Bool, true, false, cond, eqb, List, [], ◌∷◌, ◌++◌, length, min, Option, None, Some, IsSome, refl, sym, ap, ◌∙◌, subst, arith}
 use Rattle.std.proofs.lemmas.Bool.{eqb-true, eqb-false, and_parts}
 use Rattle.std.specs.List.{Contains}
@@ -42,7 +42,7 @@ of_other id q ms e = ap (λ b. cond b ms []) e
 pub of_none : {X : Type 0} (id q : ℕ) → of_queue {X = X} id q [] ≡ []
 of_none {X} id q = elim (eqb id q) as (λ b. ◌≡◌ {A = List X} (cond b [] []) []) [ true ↦ refl | false ↦ refl ]
 
--- where only the queue of one id changes, and by what it was given and gave
+-- only the queue with one id changes, by what was added and taken
 pub balanced_at : (s t : Stock) (id : ℕ) (x y : QueueState) (ps : List Parcel) (ms : List (List ℕ)) → object_of s.queues id ≡ Some x → object_of t.queues id ≡ Some y
     → ((q : ℕ) → (id ≡ q → ⊥) → object_of t.queues q ≡ object_of s.queues q) → IsPermutation (contents ps ++ x.held) (ms ++ y.held) → (AllPlain ps → x.held ++ contents ps ≡ ms ++ y.held)
     → s.next_id ≤ t.next_id → IsBalanced s t (λ q. of_queue id q ps) (λ q. of_queue id q ms)
@@ -80,7 +80,7 @@ balanced_at s t id x y ps ms before behind other same order ids = record {
   ids = ids;
 }
 
--- where nothing goes in or out, and each queue that is there after was there, or is new and empty
+-- nothing is added or taken, and each queue afterwards existed before, or is new and empty
 pub balanced_quiet : (s t : Stock) (accepts : ℕ → List Parcel) (takes : ℕ → List (List ℕ)) → ((q : ℕ) → accepts q ≡ []) → ((q : ℕ) → takes q ≡ [])
     → ((q : ℕ) (y : QueueState) → object_of t.queues q ≡ Some y → object_of s.queues q ≡ None → (s.next_id ≤ q) × (y.held ≡ []))
     → ((q : ℕ) (x y : QueueState) → object_of s.queues q ≡ Some x → object_of t.queues q ≡ Some y → x ≡ y) → s.next_id ≤ t.next_id → IsBalanced s t accepts takes
@@ -103,7 +103,7 @@ balanced_still s t accepts takes no_in no_out same ids =
     (λ q x y first second. same_Some x y (sym first ∙ ap (λ rs. object_of rs q) (sym same) ∙ second))
     ids
 
--- ---- who waits
+-- ---- which tasks wait
 pub waits_is : (place : Place) (o : Option Place) → is_place place o ≡ true → o ≡ Some place
 waits_is place None e = absurd (cc)
 waits_is place (Some p) e =
@@ -112,7 +112,7 @@ waits_is place (Some p) e =
     let id = eqb-true p.id place.id both.1 in
     ap {B = Option Place} (λ n. Some (record p { side = n })) side ∙ ap {B = Option Place} (λ n. Some (record place { id = n })) id
 
--- the first that waits at a place, with what it asks for
+-- the first task that waits at a place, with its request
 pub record IsFirst (s : Scene) (place : Place) (a : Ask) : Type 0 where
   pub task : Task
   pub there : Contains s.kern.tasks task
@@ -135,17 +135,17 @@ is_first s place a kern e =
       same = eqb-true a.who is.0.id (find_passes (λ (b : Ask). eqb b.who is.0.id) s.queues.asks a is.2);
     }
 
--- its task lives
+-- its task is live
 pub first_lives : (s : Scene) (place : Place) (a : Ask) → IsKern s.kern → IsFirst s place a → Lives s.kern a.who
 first_lives s place a kern first =
     subst (Lives s.kern) (sym first.same) (subst (λ o. IsSome o) (sym (found_in task_id s.kern.tasks first.task kern.rising first.there)) refl)
 
--- a first one whose ask is this, at a queue that can't serve it
+-- a first task with this request, at a queue that can't serve it
 pub record IsStuck (s : Scene) (place : Place) (a : Ask) (q : QueueState) : Type 0 where
   pub receiver : place.side ≡ object_side → (q.held ≡ []) × (lies_in (length s.ram) a.buffer (min a.count q.max_len) ≡ true)
   pub sender : place.side ≡ senders_side → (length q.held ≡ q.max_msgs) × (a.count ≤ q.max_len) × (lies_in (length s.ram) a.buffer a.count ≡ true)
 
--- at what it waits for, it can't be served
+-- it can't be served by the queue that it waits for
 pub stuck : (s : Scene) (place : Place) (a : Ask) (q : QueueState) → IsKept s → IsFirst s place a → AtObject place → queue_of s place.id ≡ Some q → IsStuck s place a q
 stuck s place a q kept first side here =
     let is = All-contains (WaitsWell (length s.ram) s.queues) s.kern.tasks first.task kept.well first.there place q first.wait side here in
@@ -218,7 +218,7 @@ balanced_receive s id x kept =
       | starved q ↦ λ is. balanced_still (stock s) (stock (after_receive s id x (starved q))) (λ q. of_queue id q []) (λ q. of_queue id q []) (of_none id) (of_none id) refl (omega arith)
     ] (receive_is s id x)
 
--- ---- queues come and go
+-- ---- queues are made and deleted
 pub balanced_create : (s : Scene) (y : QueueState) → IsKept s → y.held ≡ [] → IsBalanced (stock s) (stock (created s y)) (λ q. []) (λ q. [])
 balanced_create s y kept none =
     let n = s.kern.next_id in

@@ -1,4 +1,4 @@
--- A task begins to wait at a queue, with its ask.
+-- A task begins to wait at a queue, with its request.
 use Rattle.std.proofs.Common.{◌≡◌, ℕ, ◌<◌, ◌≤◌, Bool, true, false, not, ◌&&◌, cond, eqb, min, List, [], ◌∷◌, length, get_or, Option, None, Some, IsSome, is_none, refl, sym, ap, ◌∙◌, subst}
 use Rattle.std.specs.List.{All, Contains, filter}
 use Rattle.std.proofs.lemmas.Bool.{eqb-true, eqb-false, eq-eqb, and_parts}
@@ -34,7 +34,7 @@ ready_waits t e = no_place t.wait (and_parts (is_none t.wait) (is_none t.wake &&
     no_place None e = refl
     no_place (Some p) e = absurd (cc)
 
--- no ask that counts is of a task that does not wait
+-- no valid request is of a task that doesn't wait
 pub other_asks : (k : KernState) (asks : List Ask) (who : ℕ) (t : Task) → task_of k.tasks who ≡ Some t → t.wait ≡ None → All (λ a. eqb a.who who ≡ false) (filter (counts k) asks)
 other_asks k asks who t here idle =
     All-weaker (λ a. counts k a ≡ true) (λ a. eqb a.who who ≡ false)
@@ -47,7 +47,7 @@ other_asks k asks who t here idle =
     ] refl)
     (filter (counts k) asks) (filter_passes (counts k) asks)
 
--- the ask of a task that waits counts
+-- the request of a waiting task is valid
 ask_counts : (k : KernState) (u : Task) (a : Ask) (place : Place) → IsKern k → Contains k.tasks u → u.wait ≡ Some place → a.who ≡ u.id → a.place ≡ place → counts k a ≡ true
 ask_counts k u a place is at wait own there =
     ap (waits_there a.place) (ap (task_of k.tasks) own ∙ found_in task_id k.tasks u is.rising at) ∙ waits_itself a.place u.wait (wait ∙ ap {B = Option Place} (λ p. Some p) (sym there))

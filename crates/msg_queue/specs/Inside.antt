@@ -1,4 +1,4 @@
--- How a queue is kept, and what the code reads of what comes of a call.
+-- What is inside a queue, and how the code represents what a call will do.
 use Rattle.std.specs.Prelude.{◌≡◌, ℕ, ◌+◌, ◌<◌, ◌≤◌, Bool, not, List, map, length}
 use Rattle.std.specs.List.{All}
 use Rattle.msg_queue.specs.declared.asks.Ask.{Ask}
@@ -12,15 +12,17 @@ use Rattle.msg_queue.specs.State.{QueueState, QueuesState}
 use Rattle.msg_queue.specs.Sends.{SendDeed, declined, passed_on, queued, blocked, send_ask}
 use Rattle.msg_queue.specs.Receives.{ReceiveDeed, denied, taken, starved, receive_ask}
 
--- ---- a queue's messages, and the empty ones in which the next are put
--- a message, and how many bytes it has room for
+-- ---- a queue's messages, and the empty ones for those that can still be added
+-- a message and its room in bytes
 pub record Slot : Type 0 where
   pub bytes : List ℕ
   pub room : ℕ
 
+-- the bytes of messages
 abbrev pub texts : List Slot → List (List ℕ)
 texts ms = map (λ m. m.bytes) ms
 
+-- what a contract sees of a queue, from its parts
 abbrev pub queue_in : Bool → ℕ → ℕ → List Slot → QueueState
 queue_in by_priority max_msgs max_len ms = record {
   by_priority = by_priority;
@@ -29,7 +31,7 @@ queue_in by_priority max_msgs max_len ms = record {
   held = texts ms;
 }
 
--- there is an empty message for each that may come
+-- there is an empty message for each that can still be added
 pub record IsStocked (max_msgs max_len : ℕ) (held spare : List Slot) : Type 0 where
   pub some : 0 < max_msgs
   pub all : length held + length spare ≡ max_msgs
@@ -37,16 +39,19 @@ pub record IsStocked (max_msgs max_len : ℕ) (held spare : List Slot) : Type 0 
   pub roomy_held : All (λ m. max_len ≤ m.room) held
   pub roomy_spare : All (λ m. max_len ≤ m.room) spare
 
+-- what a contract sees of the queues, from a table's rows and the requests
 abbrev pub queues_in : List (ℕ × QueueState) → List Ask → QueuesState
 queues_in rs asks = record { queues = rs; asks = asks }
 
--- ---- what comes of a call, as the code has it: with the queue's id, and what the caller waits for
+-- ---- what a call will do, as the code represents it: with the queue's id and the caller's request
+-- what a send will do, in the code
 abbrev pub send_plan : ℕ → Sending → SendDeed → SendPlan
 send_plan id x (declined e) = send.Declined e
 send_plan id x (passed_on a) = send.PassedOn a
 send_plan id x (queued q) = send.Queued id
 send_plan id x (blocked who q) = send.Blocked (send_ask id who x) (not q.by_priority)
 
+-- what a receive will do, in the code
 abbrev pub receive_plan : ℕ → Receiving → ReceiveDeed → ReceivePlan
 receive_plan id x (denied e) = receive.Denied e
 receive_plan id x (taken q m rest) = receive.Taken id

@@ -1,4 +1,4 @@
--- What every call keeps of the queues, of those that wait at them, and of what they ask for.
+-- The invariant of the queues, of the tasks that wait at them, and of their requests, which every call keeps.
 use Rattle.std.specs.Prelude.{◌≡◌, ℕ, ◌<◌, ◌≤◌, ◌⊎◌, true, List, [], length, min, Option, Some, None, IsSome}
 use Rattle.std.specs.List.{All, AllPairs, Contains}
 use Rattle.id_table.specs.Rows.{object_of, Rises, IdsBelow}
@@ -10,28 +10,28 @@ use Rattle.wind_core.specs.State.{KernState, IsKern, task_of}
 use Rattle.msg_queue.specs.declared.asks.Ask.{Ask}
 use Rattle.msg_queue.specs.State.{QueueState, QueuesState, Scene, ask_of, lies_in}
 
--- a queue holds no more messages than it may, and no longer ones
+-- a queue holds at most as many messages as it can, and none is too long
 pub record IsQueue (q : QueueState) : Type 0 where
   pub some : 0 < q.max_msgs
   pub fits : length q.held ≤ q.max_msgs
   pub short : All (λ m. length m ≤ q.max_len) q.held
 
--- a task that waits at a queue can't be served, has its ask there, and the bytes of that are in memory
+-- a task that waits at a queue has its request there, its bytes are in RAM, and it can't be served now
 pub record IsServable (size : ℕ) (asks : List Ask) (t : Task) (place : Place) (q : QueueState) : Type 0 where
   pub ask : Ask
   pub own : ask_of asks t.id ≡ Some ask
   pub there : ask.place ≡ place
-  -- a receiver waits where the queue holds nothing, and its buffer takes any message
+  -- if a receiver waits, the queue is empty, and the receiver's buffer is in RAM as far as a message can fill it
   pub receiver : place.side ≡ object_side → (q.held ≡ []) × (lies_in size ask.buffer (min ask.count q.max_len) ≡ true)
-  -- a sender waits where the queue is full, and its message is short enough
+  -- if a sender waits, the queue is full, and the sender's message is short enough
   pub sender : place.side ≡ senders_side
       → (length q.held ≡ q.max_msgs) × (ask.count ≤ q.max_len) × (lies_in size ask.buffer ask.count ≡ true)
 
--- a side of an object at which tasks wait, and not for a deletion or for the console
+-- a side of an object at which tasks wait, other than for a deletion or for the console
 abbrev pub AtObject : Place → Type 0
 AtObject place = place.side ≤ senders_side
 
--- that of each wait at a live queue
+-- that holds for each wait at a live queue
 abbrev pub WaitsWell : ℕ → QueuesState → Task → Type 0
 WaitsWell size qs t = (place : Place) (q : QueueState) → t.wait ≡ Some place → AtObject place
     → object_of qs.queues place.id ≡ Some q → IsServable size qs.asks t place q
@@ -41,43 +41,43 @@ abbrev pub SendsToLive : QueuesState → Task → Type 0
 SendsToLive qs t = (place : Place) → t.wait ≡ Some place → place.side ≡ senders_side
     → IsSome (object_of qs.queues place.id)
 
--- nobody waits at an object that has no id yet
+-- no task waits at an object that isn't made yet
 abbrev pub WaitsForOld : ℕ → Task → Type 0
 WaitsForOld next t = (place : Place) → t.wait ≡ Some place → AtObject place → place.id < next
 
--- what every call keeps
+-- the invariant
 pub record IsKept (s : Scene) : Type 0 where
   pub kern : IsKern s.kern
-  -- ids rise along the queues, and lie below the next
+  -- ids rise along the queues, and are below the next one
   pub rising : Rises s.queues.queues
   pub ids : IdsBelow s.kern.next_id s.queues.queues
   pub sound : All (λ r. IsQueue r.1) s.queues.queues
-  -- no task has two asks
+  -- no task has two requests
   pub single : AllPairs (λ a b. a.who ≡ b.who → ⊥) s.queues.asks
   pub well : All (WaitsWell (length s.ram) s.queues) s.kern.tasks
   pub live : All (SendsToLive s.queues) s.kern.tasks
   pub old_ids : All (WaitsForOld s.kern.next_id) s.kern.tasks
 
--- a caller that is a task is ready
+-- the caller, if it is a task, is ready
 abbrev pub IsCaller : KernState → Option ℕ → Type 0
 IsCaller k None = Unit {0}
 IsCaller k (Some who) = (t : Task) × (task_of k.tasks who ≡ Some t) × (is_ready t ≡ true)
 
--- ---- all else that the kernel does
--- the task of this id waited there, among these
+-- ---- everything else that the kernel does
+-- the task with this id is among these and waited there
 abbrev pub Waited : List Task → ℕ → Place → Type 0
 Waited ts who place = (u : Task) × Contains ts u × (u.id ≡ who) × (u.wait ≡ Some place)
 
--- a wait at an object that is no queue, but lives
+-- a wait at a live object that isn't a queue
 abbrev pub IsElsewhere : List (ℕ × QueueState) → ℕ → Place → Type 0
 IsElsewhere rs next place =
     AtObject place → (place.side ≡ object_side) × (place.id < next) × (object_of rs place.id ≡ None)
 
--- what the task waits for, it waited for before, or it is no queue
+-- the task waited at this place before, or the place isn't at a queue
 abbrev pub BeginsNone : List (ℕ × QueueState) → KernState → ℕ → Task → Type 0
 BeginsNone rs k next t = (place : Place) → t.wait ≡ Some place → Waited k.tasks t.id place ⊎ IsElsewhere rs next place
 
--- what may come between two calls on queues: anything by which no wait at a queue begins
+-- what can happen between two calls on queues: anything that begins no wait at a queue
 pub record IsCalm (rs : List (ℕ × QueueState)) (k l : KernState) : Type 0 where
   pub kern : IsKern l
   pub ids : k.next_id ≤ l.next_id

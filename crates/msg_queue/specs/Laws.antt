@@ -1,4 +1,4 @@
--- What follows of the definitions of message queues alone.
+-- What follows from the definitions of message queues alone.
 use Rattle.std.specs.Prelude.{◌≡◌, ℕ, zero, suc, ◌+◌, ◌≤◌, List, [], ◌++◌, length, Option, None, Some}
 use Rattle.std.specs.List.{All}
 use Rattle.std.specs.List.Sorted.{IsPermutation}
@@ -16,49 +16,49 @@ use Rattle.msg_queue.specs.Comings.{create_refusal, new_queue, created, delete}
 use Rattle.msg_queue.specs.Kept.{IsKept, IsCalm, IsElsewhere}
 use Rattle.msg_queue.specs.Machine.{Event, IsAllowed, after_event, Parcel, contents, AllPlain, after, accepted, taken_in}
 
--- ---- the kept facts
--- each step keeps them
+-- ---- the invariant
+-- each step keeps the invariant
 abbrev pub KeptLaw : Type 0
 KeptLaw = (s : Scene) (e : Event) → IsKept s → IsAllowed s e → IsKept (after_event s e)
 
--- they hold where there is no queue, and no task waits
+-- it holds if there are no queues and no task waits
 abbrev pub StartLaw : Type 0
 StartLaw = (k : KernState) (ram : List ℕ) → IsKern k → All (λ t. t.wait ≡ None) k.tasks
     → IsKept (scene k (record { queues = []; asks = [] }) ram)
 
--- a new queue keeps them
+-- a new queue keeps it
 abbrev pub CreateLaw : Type 0
 CreateLaw = (s : Scene) (max_msgs max_len options : ℕ)
     → create_refusal (length s.queues.queues) s.kern.next_id max_msgs max_len options ≡ None
     → IsKept s → IsKept (created s (new_queue max_msgs max_len options))
 
--- a move begins no wait at a queue: what a pend names is something else that lives
+-- a move begins no wait at a queue: a pend names another live object
 abbrev pub SparesQueues : List (ℕ × QueueState) → KernState → Move → Type 0
 SparesQueues rs k (Pend who place fifo n) = IsElsewhere rs k.next_id place
 SparesQueues rs k m = Unit {0}
 
--- such a move may come between two calls on queues
+-- such a move can happen between two calls on queues
 abbrev pub CalmLaw : Type 0
 CalmLaw = (rs : List (ℕ × QueueState)) (k : KernState) (m : Move) → IsKern k → MayMove k m → SparesQueues rs k m
     → IsCalm rs k (apply k m)
 
--- of two such moves, one after the other, also both together
+-- if two such changes can, one after the other, so can both together
 abbrev pub ThenLaw : Type 0
 ThenLaw = (rs : List (ℕ × QueueState)) (k l m : KernState) → IsCalm rs k l → IsCalm rs l m → IsCalm rs k m
 
--- so may any number of such moves, none included
+-- any list of such moves can, even an empty one
 abbrev pub SeriesLaw : Type 0
 SeriesLaw = (rs : List (ℕ × QueueState)) (k : KernState) (ms : List Move) → IsKern k
     → EachMove (λ j m. MayMove j m × SparesQueues rs j m) k ms → IsCalm rs k (after_moves k ms)
 
 -- ---- the counters
--- the tick stays, whether ids are lent too, and at most n order numbers are given
+-- the tick count stays, so does whether ids are lent, and at most n order numbers are given
 pub record CountsOn (n : ℕ) (k l : KernState) : Type 0 where
   pub tick : l.tick ≡ k.tick
   pub lent : l.lent ≡ k.lent
   pub sinces : l.next_since ≤ k.next_since + n
 
--- each call; a deletion ends at most two waits of each task that lives
+-- the bounds for each call; a deletion ends at most two waits for each possible task
 pub record CountLaw : Type 0 where
   pub sending : (s : Scene) (id : ℕ) (x : Sending) → CountsOn 1 s.kern (send s id x).kern
   pub receiving : (s : Scene) (id : ℕ) (x : Receiving) → CountsOn 1 s.kern (receive s id x).kern
@@ -66,14 +66,14 @@ pub record CountLaw : Type 0 where
   pub deleting : (s : Scene) (id : ℕ) → IsKern s.kern → CountsOn (most_tasks + most_tasks) s.kern (delete s id).kern
 
 -- ---- conservation
--- what comes next is allowed, at each state at which the kept facts hold
+-- the next event is allowed, in each state with the invariant
 abbrev pub IsPlan : (Scene → Option Event) → Type 0
 IsPlan next = (s : Scene) (e : Event) → IsKept s → next s ≡ Some e → IsAllowed s e
 
--- what was accepted was taken or is held: the same byte lists, each as often
+-- the accepted messages are those taken and those held: the same lists of bytes, each as often
 pub record IsConserved (accepted : List Parcel) (taken held : List (List ℕ)) : Type 0 where
   pub same : IsPermutation (contents accepted) (taken ++ held)
-  -- where none was urgent, in the same order
+  -- if none was urgent, in the same order
   pub in_order : AllPlain accepted → contents accepted ≡ taken ++ held
 
 -- from a state without queues on, for each queue that is live after k steps
@@ -82,17 +82,17 @@ ConservationLaw = (next : Scene → Option Event) (s : Scene) → IsPlan next �
     → (k q : ℕ) (y : QueueState) → queue_of (after next s k) q ≡ Some y
     → IsConserved (accepted next s q k) (taken_in next s q k) y.held
 
--- the queues of a state, and the id that comes next
+-- the queues of a state, and the next id
 pub record Stock : Type 0 where
   pub queues : List (ℕ × QueueState)
   pub next_id : ℕ
 
--- what a step accepts and takes of each queue goes with what the queues hold before and after it
+-- what a step accepts and takes for each queue agrees with what the queues hold before and after it
 pub record IsBalanced (s t : Stock) (accepts : ℕ → List Parcel) (takes : ℕ → List (List ℕ)) : Type 0 where
-  -- a queue that is there after the step and was not before is new and empty
+  -- a queue that exists after the step and not before is new and empty
   pub born : (q : ℕ) (y : QueueState) → object_of t.queues q ≡ Some y → object_of s.queues q ≡ None
       → (s.next_id ≤ q) × (y.held ≡ [])
-  -- nothing goes into a queue that is not there, or comes out of it
+  -- nothing is added to or taken from a queue that doesn't exist
   pub idle : (q : ℕ) → object_of s.queues q ≡ None → (accepts q ≡ []) × (takes q ≡ [])
   pub stays : (q : ℕ) (x y : QueueState) → object_of s.queues q ≡ Some x → object_of t.queues q ≡ Some y
       → IsPermutation (contents (accepts q) ++ x.held) (takes q ++ y.held)
@@ -100,7 +100,7 @@ pub record IsBalanced (s t : Stock) (accepts : ℕ → List Parcel) (takes : ℕ
       → AllPlain (accepts q) → x.held ++ contents (accepts q) ≡ takes q ++ y.held
   pub ids : s.next_id ≤ t.next_id
 
--- a run of any machine that has queues: its state after k steps, what each step accepts and takes of a queue
+-- a run of any machine with queues: its state after k steps, and what each step accepts and takes for a queue
 pub record IsRun (stock : ℕ → Stock) (accepts : ℕ → ℕ → List Parcel) (takes : ℕ → ℕ → List (List ℕ)) : Type 0 where
   pub none : (stock 0).queues ≡ []
   pub below : (k : ℕ) → IdsBelow (stock k).next_id (stock k).queues
@@ -111,7 +111,7 @@ abbrev pub gathered : {X : Type 0} → (ℕ → ℕ → List X) → ℕ → ℕ 
 gathered given q zero = []
 gathered given q (suc k) = gathered given q k ++ given k q
 
--- whatever the machine, where each step is balanced
+-- conservation for any machine, if each step is balanced
 abbrev pub RunLaw : Type 0
 RunLaw = (stock : ℕ → Stock) (accepts : ℕ → ℕ → List Parcel) (takes : ℕ → ℕ → List (List ℕ)) → IsRun stock accepts takes
     → (k q : ℕ) (y : QueueState) → object_of (stock k).queues q ≡ Some y

@@ -21,9 +21,9 @@ use wind_base::Errno;
 use wind_core::{Kern, Took};
 
 impl Queues {
-    // What comes of a send.
+    // What a send will do.
     fn plan_send(&self, kern: &Kern, ram: &Ram, id: u32, words: &Sending) -> SendPlan
-        ensures { result ≡ send_plan id words.now (send_deed (scene kern.now self.now ram.now) id words.now) }
+        ensures { result ≡ send_plan id words.now (send_deed (scene kern.now self.now ram.now.bytes) id words.now) }
     {
         let Some(at) = self.find(id) else {
             return SendPlan::Declined(Errno::ObjIdError);
@@ -38,10 +38,10 @@ impl Queues {
         plan_send(self.queue(at), ram, at, words, first)
     }
 
-    // What comes of a receive.
+    // What a receive will do.
     fn plan_receive(&self, ram: &Ram, id: u32, words: &Receiving) -> ReceivePlan
         ensures { (k : KernState) → result
-            ≡ receive_plan id words.now (receive_deed (scene k self.now ram.now) id words.now) }
+            ≡ receive_plan id words.now (receive_deed (scene k self.now ram.now.bytes) id words.now) }
     {
         let Some(at) = self.find(id) else {
             return ReceivePlan::Denied(Errno::ObjIdError);
@@ -49,15 +49,16 @@ impl Queues {
         plan_receive(self.queue(at), ram, at, words)
     }
 
-    /// Sends a message (VxWorks 5.4 Reference Manual, msgQSend). The bytes go to the first receiver that waits, as many
-    /// as it asked for; else they are added to the queue, an urgent message in front; else the caller waits for room.
+    /// Sends a message (VxWorks 5.4 Reference Manual, msgQSend). If a receiver waits, the first one
+    /// gets the bytes, as many as it has room for. Otherwise they are added to the queue: an urgent
+    /// message at the front, others at the back. If the queue is full, the caller waits for room.
     ///
     /// # Errors
     ///
-    /// `ObjIdError` where no queue of the id lives, `InvalidMsgLength` where the message is longer than the queue
-    /// allows, `NonZeroTimeout` where no task calls and the timeout isn't 0, `BadAddress` where a byte is outside RAM,
-    /// `ObjUnavailable` where no receiver waits, the queue is full and the timeout is 0; the first of these that holds.
-    /// Nothing changes then.
+    /// The first of these that applies; then nothing changes. `ObjIdError` if there is no such
+    /// queue. `InvalidMsgLength` if the message is longer than the queue allows. `NonZeroTimeout`
+    /// if an interrupt routine calls and the timeout isn't 0. `BadAddress` if a byte is outside
+    /// RAM. `ObjUnavailable` if no receiver waits, the queue is full and the timeout is 0.
     pub fn send(
         &mut self,
         kern: &mut Kern,
@@ -65,13 +66,14 @@ impl Queues {
         id: u32,
         words: Sending,
     ) -> Result<Took, Errno>
-        requires kept { IsKept (scene kern.old self.old ram.old) }
+        requires kept { IsKept (scene kern.old self.old ram.old.bytes) }
         requires caller { IsCaller kern.old words.caller }
         requires since { kern.old.next_since < 2 ^ 62 }
         requires tick { kern.old.tick < 2 ^ 62 }
-        ensures scene { scene kern.new self.new ram.new ≡ send_lem (scene kern.old self.old ram.old) id words }
-        ensures answer { result ≡ send_answer (send_deed (scene kern.old self.old ram.old) id words) }
-        ensures kept { IsKept (scene kern.new self.new ram.new) }
+        ensures scene { scene kern.new self.new ram.new.bytes
+            ≡ send_lem (scene kern.old self.old ram.old.bytes) id words }
+        ensures answer { result ≡ send_answer (send_deed (scene kern.old self.old ram.old.bytes) id words) }
+        ensures kept { IsKept (scene kern.new self.new ram.new.bytes) }
     {
         match self.plan_send(kern, ram, id, &words) {
             SendPlan::Declined(e) => Err(e),
@@ -90,15 +92,17 @@ impl Queues {
         }
     }
 
-    // The front message of a queue is taken, and the first sender that waits adds its own.
+    // Takes the first message of a queue, and then adds the message of the first waiting sender, if
+    // there is one. Returns the number of bytes copied.
     fn take_front(&mut self, kern: &mut Kern, ram: &mut Ram, id: Ident, words: &Receiving) -> u32
-        requires kept { IsKept (scene kern.old self.old ram.old) }
+        requires kept { IsKept (scene kern.old self.old ram.old.bytes) }
         requires since { kern.old.next_since < 2 ^ 62 }
         requires taken { Taken id
-            ≡ receive_plan id words.now (receive_deed (scene kern.old self.old ram.old) id words.now) }
-        ensures scene { scene kern.new self.new ram.new ≡ receive_lem (scene kern.old self.old ram.old) id words.now }
+            ≡ receive_plan id words.now (receive_deed (scene kern.old self.old ram.old.bytes) id words.now) }
+        ensures scene { scene kern.new self.new ram.new.bytes
+            ≡ receive_lem (scene kern.old self.old ram.old.bytes) id words.now }
         ensures answer { Ok (Count result)
-            ≡ receive_answer words.now (receive_deed (scene kern.old self.old ram.old) id words.now) }
+            ≡ receive_answer words.now (receive_deed (scene kern.old self.old ram.old.bytes) id words.now) }
     {
         let count = self.copy_front(ram, id, words.buffer, words.room);
         self.drop_front(id);
@@ -107,15 +111,17 @@ impl Queues {
         count
     }
 
-    /// Receives the front message (VxWorks 5.4 Reference Manual, msgQReceive). As many of its bytes are copied as
-    /// there is room for; their number is the answer. Then the first sender that waits has its bytes added, as they
-    /// lie in RAM by then, and goes on. Where the queue is empty the caller waits.
+    /// Receives the first message (VxWorks 5.4 Reference Manual, msgQReceive). Copies as many of
+    /// its bytes as there is room for, and returns their number. If a sender waits, the first one's
+    /// bytes are then added to the queue, as they are in RAM at that moment, and its wait ends. If
+    /// the queue is empty, the caller waits.
     ///
     /// # Errors
     ///
-    /// `ObjIdError` where no queue of the id lives, `BadAddress` where a byte of the room is outside RAM, of as much of
-    /// it as a message of the queue may fill, `ObjUnavailable` where the queue is empty and the timeout is 0; the first
-    /// of these that holds. Nothing changes then.
+    /// The first of these that applies; then nothing changes. `ObjIdError` if there is no such
+    /// queue. `BadAddress` if a byte of the room is outside RAM; only as much of the room counts as
+    /// a message of this queue can fill. `ObjUnavailable` if the queue is empty and the timeout is
+    /// 0.
     pub fn receive(
         &mut self,
         kern: &mut Kern,
@@ -123,13 +129,14 @@ impl Queues {
         id: u32,
         words: Receiving,
     ) -> Result<Got, Errno>
-        requires kept { IsKept (scene kern.old self.old ram.old) }
+        requires kept { IsKept (scene kern.old self.old ram.old.bytes) }
         requires caller { IsCaller kern.old (Some words.caller) }
         requires since { kern.old.next_since < 2 ^ 62 }
         requires tick { kern.old.tick < 2 ^ 62 }
-        ensures scene { scene kern.new self.new ram.new ≡ receive_lem (scene kern.old self.old ram.old) id words }
-        ensures answer { result ≡ receive_answer words (receive_deed (scene kern.old self.old ram.old) id words) }
-        ensures kept { IsKept (scene kern.new self.new ram.new) }
+        ensures scene { scene kern.new self.new ram.new.bytes
+            ≡ receive_lem (scene kern.old self.old ram.old.bytes) id words }
+        ensures answer { result ≡ receive_answer words (receive_deed (scene kern.old self.old ram.old.bytes) id words) }
+        ensures kept { IsKept (scene kern.new self.new ram.new.bytes) }
     {
         match self.plan_receive(ram, id, &words) {
             ReceivePlan::Denied(e) => Err(e),

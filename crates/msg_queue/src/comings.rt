@@ -1,4 +1,4 @@
-//! How many messages a queue holds, and its deletion.
+//! The number of messages of a queue, and its deletion.
 
 ghost use Rattle.std.specs.Prelude.{◌≡◌, ◌<◌, ◌^◌, IsSome, IsOk, IfErr, ◌↔◌, List, ℕ};
 ghost use Rattle.wind_base.specs.declared.errno.Errno.TheVariants.{ObjIdError};
@@ -15,11 +15,11 @@ use wind_base::words::ERROR;
 use wind_core::Kern;
 
 impl Queues {
-    /// How many messages a queue holds (VxWorks 5.4 Reference Manual, msgQNumMsgs).
+    /// The number of messages of a queue (VxWorks 5.4 Reference Manual, msgQNumMsgs).
     ///
     /// # Errors
     ///
-    /// `ObjIdError` where no queue of the id lives.
+    /// `ObjIdError` if there is no such queue.
     pub fn count(&self, id: u32) -> Result<u32, Errno>
         ensures { result ≡ count_of (object_of self.now.queues id) }
     {
@@ -29,12 +29,12 @@ impl Queues {
         Ok(self.queue(at).count())
     }
 
-    /// Deletes a queue with its messages (VxWorks 5.4 Reference Manual, msgQDelete). All that wait there go on with
-    /// ERROR and `ObjDeleted`: the receivers, then the senders, each in the order in which they stand.
+    /// Deletes a queue with its messages (VxWorks 5.4 Reference Manual, msgQDelete). The waits of
+    /// its receivers and then of its senders end, in their order, with ERROR and `ObjDeleted`.
     ///
     /// # Errors
     ///
-    /// `ObjIdError` where no queue of the id lives. Nothing changes then.
+    /// `ObjIdError` if there is no such queue. Then nothing changes.
     pub fn delete(&mut self, kern: &mut Kern, id: u32) -> Result<(), Errno>
         requires since { kern.old.next_since < 2 ^ 62 }
         ensures scene { (ram : List ℕ) → scene kern.new self.new ram ≡ delete_lem (scene kern.old self.old ram) id }

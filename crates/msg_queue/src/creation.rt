@@ -1,4 +1,4 @@
-//! New queues.
+//! The creation of queues.
 
 ghost use Rattle.std.specs.Prelude.{◌≡◌, ◌<◌, false, Some, IfOk, IfErr, IfSome, IfNone, List, ℕ};
 ghost use Rattle.id_table.specs.Rows.{IdsBelow};
@@ -16,7 +16,7 @@ use wind_base::Errno;
 use wind_base::limits::QUEUES;
 use wind_core::Kern;
 
-// Why no queue is made when `live` queues live, leaving aside that the ids may be spent.
+// Why no queue can be made while `live` queues are live. It doesn't consider whether an id is left.
 fn refusal(live: usize, max_msgs: u32, max_len: u32, options: u32) -> Option<Errno>
     ensures some { (next : ℕ) → IfSome result (λ e. create_refusal live next max_msgs max_len options ≡ Some e) }
     ensures none { (next : ℕ) → IfNone result (create_refusal live next max_msgs max_len options ≡ ids_refusal next) }
@@ -61,14 +61,16 @@ impl Queues {
         }
     }
 
-    /// Makes a queue, empty, with the room for all its messages (VxWorks 5.4 Reference Manual, msgQCreate). The tasks
-    /// that wait there stand by priority with the options `MSG_Q_PRIORITY`, and by arrival with `MSG_Q_FIFO`.
+    /// Makes an empty queue with room for all its messages (VxWorks 5.4 Reference Manual,
+    /// msgQCreate). Tasks wait there by priority with the option `MSG_Q_PRIORITY`, and in order of
+    /// arrival with `MSG_Q_FIFO`.
     ///
     /// # Errors
     ///
-    /// `Refused`: `InvalidOption` where the options are none of these, `BadSize` where the queue would have no message
-    /// or exceed a limit of its size, `TooMany` where 256 queues live, `IdsSpent` where no id is left; the first of
-    /// these that holds. `NoMemory` where host memory ran out. Nothing changes then.
+    /// `Refused` gives the first of these that applies: `InvalidOption` if the options are neither
+    /// of these; `BadSize` if the queue would have no message or exceed a size limit; `TooMany` if
+    /// 256 queues are live; `IdsSpent` if no id is left. `NoMemory` if host memory runs out. In
+    /// each case nothing changes.
     pub fn create(
         &mut self,
         alloc: Global,

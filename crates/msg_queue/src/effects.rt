@@ -1,4 +1,4 @@
-//! What a call changes.
+//! The changes that a call makes.
 
 ghost use Rattle.std.specs.Prelude.{◌≡◌, ◌<◌, ◌≤◌, ◌+◌, ◌^◌, Some, None, IsSome, IfSome, IsTrue, ℕ, List, ◌∷◌, Option, length, min, take, drop, false};
 ghost use Rattle.std.specs.List.{All, filter};
@@ -17,14 +17,16 @@ use id_table::Ident;
 use wind_base::words::OK;
 use wind_core::Kern;
 
-// The bytes of a send go to a receiver: as many as it asked for, which is its answer.
+// Copies the bytes of a send to a waiting receiver: as many as it has room for. Its wait ends with
+// their number as the result.
 pub(crate) fn hand_over(kern: &mut Kern, ram: &mut Ram, buffer: u32, count: u32, ask: Ask)
     requires live { Lives kern.old ask.who }
     requires since { kern.old.next_since + 1 < 2 ^ 64 }
-    requires source { IsTrue (has ram.old buffer count) }
-    requires place { IsTrue (has ram.old ask.buffer (min count ask.count)) }
+    requires source { IsTrue (has ram.old.bytes buffer count) }
+    requires place { IsTrue (has ram.old.bytes ask.buffer (min count ask.count)) }
     ensures kern { kern.new ≡ end_wait kern.old ask.who (min count ask.count) None }
-    ensures ram { ram.new ≡ with_bytes ram.old ask.buffer (take ask.count (bytes_at ram.old buffer count)) }
+    ensures ram { ram.new.bytes
+        ≡ with_bytes ram.old.bytes ask.buffer (take ask.count (bytes_at ram.old.bytes buffer count)) }
 {
     let n = count.min(ask.count);
     ram.move_bytes(buffer, ask.buffer, n);
@@ -32,7 +34,7 @@ pub(crate) fn hand_over(kern: &mut Kern, ram: &mut Ram, buffer: u32, count: u32,
 }
 
 impl Queues {
-    // The bytes from an address on are added to a queue.
+    // Adds the bytes from an address on to a queue.
     pub(crate) fn put_message(
         &mut self,
         ram: &Ram,
@@ -42,17 +44,17 @@ impl Queues {
         urgent: bool,
     )
         requires live { IsSome (object_of self.old.queues id) }
-        requires there { IsTrue (has ram.now buffer count) }
+        requires there { IsTrue (has ram.now.bytes buffer count) }
         requires room { (q : QueueState) → object_of self.old.queues id ≡ Some q → is_full q ≡ false }
         requires short { (q : QueueState) → object_of self.old.queues id ≡ Some q → count ≤ q.max_len }
         ensures { (q : QueueState) → object_of self.old.queues id ≡ Some q → self.new ≡ record self.old {
-          queues = with_object self.old.queues id (added urgent (bytes_at ram.now buffer count) q);
+          queues = with_object self.old.queues id (added urgent (bytes_at ram.now.bytes buffer count) q);
         } }
     {
         self.queues.object_mut(id).push(ram, buffer, count, urgent);
     }
 
-    // The front message of a queue is gone.
+    // Removes the first message of a queue.
     pub(crate) fn drop_front(&mut self, id: Ident)
         requires live { IsSome (object_of self.old.queues id) }
         ensures { (q : QueueState) → object_of self.old.queues id ≡ Some q → self.new ≡ record self.old {
@@ -62,7 +64,7 @@ impl Queues {
         self.queues.object_mut(id).drop_front();
     }
 
-    // The caller begins to wait for what it asks for.
+    // Begins the caller's wait, with this request.
     pub(crate) fn wait_for(&mut self, kern: &mut Kern, ask: Ask, fifo: bool, timeout: u32)
         requires live { Lives kern.old ask.who }
         requires room { length (filter (counts kern.old) self.old.asks) < most_tasks }
@@ -77,17 +79,18 @@ impl Queues {
         kern.pend(who, place, fifo, timeout);
     }
 
-    // As many of the front message's bytes as there is room for go to an address. Their number.
+    // Copies the first message's bytes to an address, as many as there is room for, and returns
+    // their number.
     pub(crate) fn copy_front(&self, ram: &mut Ram, id: Ident, buffer: u32, room: u32) -> u32
         requires live { IsSome (object_of self.now.queues id) }
         requires there { (q : QueueState) → object_of self.now.queues id ≡ Some q
-            → IsTrue (has ram.old buffer (min room q.max_len)) }
+            → IsTrue (has ram.old.bytes buffer (min room q.max_len)) }
         requires short { (q : QueueState) → object_of self.now.queues id ≡ Some q
             → All (λ m. length m ≤ q.max_len) q.held }
         ensures count { (q : QueueState) (m : List ℕ) (rest : List (List ℕ)) → object_of self.now.queues id ≡ Some q
             → q.held ≡ m ∷ rest → result ≡ min (length m) room }
         ensures ram { (q : QueueState) (m : List ℕ) (rest : List (List ℕ)) → object_of self.now.queues id ≡ Some q
-            → q.held ≡ m ∷ rest → ram.new ≡ with_bytes ram.old buffer (take room m) }
+            → q.held ≡ m ∷ rest → ram.new.bytes ≡ with_bytes ram.old.bytes buffer (take room m) }
     {
         let Some(bytes) = self.queue(id).front() else {
             return 0;
@@ -99,18 +102,18 @@ impl Queues {
         n as u32
     }
 
-    // The sender that waits, if there is one, has its bytes added, and goes on.
+    // Adds the bytes of the waiting sender to the queue, if there is a sender, and ends its wait.
     pub(crate) fn refill(&mut self, kern: &mut Kern, ram: &Ram, id: Ident, sender: Option<Ask>)
         requires live { IsSome (object_of self.old.queues id) }
         requires lives { IfSome sender (λ a. Lives kern.old a.who) }
         requires since { kern.old.next_since + 1 < 2 ^ 64 }
-        requires there { IfSome sender (λ a. IsTrue (has ram.now a.buffer a.count)) }
+        requires there { IfSome sender (λ a. IsTrue (has ram.now.bytes a.buffer a.count)) }
         requires room { IfSome sender (λ a. (q : QueueState) → object_of self.old.queues id ≡ Some q
             → is_full q ≡ false) }
         requires short { IfSome sender (λ a. (q : QueueState) → object_of self.old.queues id ≡ Some q
             → a.count ≤ q.max_len) }
         ensures { (q : QueueState) → object_of self.old.queues id ≡ Some q
-            → scene kern.new self.new ram.now ≡ refilled (scene kern.old self.old ram.now) id q sender }
+            → scene kern.new self.new ram.now.bytes ≡ refilled (scene kern.old self.old ram.now.bytes) id q sender }
     {
         let Some(ask) = sender else {
             return;

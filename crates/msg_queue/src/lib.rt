@@ -1,4 +1,5 @@
-//! Message queues: sends, receives, and the tasks that wait for them.
+//! Message queues (VxWorks 5.4 Reference Manual, msgQLib): sends, receives, and the tasks that wait
+//! for them.
 #![tactic(auto)]
 
 mod asks;

@@ -1,4 +1,4 @@
-//! What comes of a call.
+//! What a call will do.
 
 ghost use Rattle.std.specs.Prelude.{◌≡◌, length, Option, Some, option_copied};
 ghost use Rattle.msg_queue.specs.Sends.{send_refusal as send_refusal_lem, sends_at, queued_or_blocked as queued_or_blocked_lem, send_ask as send_ask_lem};
@@ -14,31 +14,31 @@ use id_table::{Ident, Place};
 use wind_base::Errno;
 use wind_base::words::NO_WAIT;
 
-// What comes of a send.
+// What a send will do.
 #[derive(Clone, Copy)]
 pub(crate) enum SendPlan {
     Declined(Errno),
-    // the first receiver that waits gets the bytes, which asked for this
+    // the first waiting receiver, whose request this is, gets the bytes
     PassedOn(Ask),
-    // they are added to this queue
+    // the bytes are added to this queue
     Queued(Ident),
-    // the caller waits for room with this ask, by arrival or not
+    // the caller waits for room with this request; if the flag is set, in order of arrival
     Blocked(Ask, bool),
 }
 
-// What comes of a receive.
+// What a receive will do.
 #[derive(Clone, Copy)]
 pub(crate) enum ReceivePlan {
     Denied(Errno),
-    // the front message is taken from this queue
+    // the first message is taken from this queue
     Taken(Ident),
-    // the caller waits for a message with this ask, by arrival or not
+    // the caller waits for a message with this request; if the flag is set, in order of arrival
     Starved(Ask, bool),
 }
 
-// Why a send to a queue is refused, where `stuck` says that it can't be done at once.
+// Why a send to a queue is refused. `stuck` says that it can't be done at once.
 fn send_refusal(queue: &Queue, ram: &Ram, words: &Sending, stuck: bool) -> Option<Errno>
-    ensures { result ≡ send_refusal_lem (length ram.now) words.now stuck queue.now }
+    ensures { result ≡ send_refusal_lem (length ram.now.bytes) words.now stuck queue.now }
 {
     if words.count > queue.max_len() {
         return Some(Errno::InvalidMsgLength);
@@ -55,7 +55,7 @@ fn send_refusal(queue: &Queue, ram: &Ram, words: &Sending, stuck: bool) -> Optio
     None
 }
 
-// What a sender asks for that waits.
+// The request of a sender that waits.
 fn send_ask(at: Ident, who: Ident, words: &Sending) -> Ask
     ensures { result ≡ send_ask_lem at who words.now }
 {
@@ -71,7 +71,7 @@ fn send_ask(at: Ident, who: Ident, words: &Sending) -> Ask
     }
 }
 
-// What a receiver asks for that waits.
+// The request of a receiver that waits.
 fn receive_ask(at: Ident, words: &Receiving) -> Ask
     ensures { result ≡ receive_ask_lem at words.now }
 {
@@ -87,7 +87,7 @@ fn receive_ask(at: Ident, words: &Receiving) -> Ask
     }
 }
 
-// No receiver waits: there is room, or the caller waits.
+// What a send will do if no receiver waits: the bytes are added, or the caller waits.
 fn queued_or_blocked(queue: &Queue, at: Ident, words: &Sending) -> SendPlan
     ensures { result ≡ send_plan at words.now (queued_or_blocked_lem queue.now words.now.caller) }
 {
@@ -99,7 +99,7 @@ fn queued_or_blocked(queue: &Queue, at: Ident, words: &Sending) -> SendPlan
     }
 }
 
-// What comes of a send to a queue whose first waiting receiver asks for this.
+// What a send to a queue will do; the request is that of the first waiting receiver.
 pub(crate) fn plan_send(
     queue: &Queue,
     ram: &Ram,
@@ -107,7 +107,7 @@ pub(crate) fn plan_send(
     words: &Sending,
     first: Option<Ask>,
 ) -> SendPlan
-    ensures { result ≡ send_plan at words.now (sends_at (length ram.now) words.now first (Some queue.now)) }
+    ensures { result ≡ send_plan at words.now (sends_at (length ram.now.bytes) words.now first (Some queue.now)) }
 {
     let stuck = first.is_none() && queue.is_full();
     if let Some(e) = send_refusal(queue, ram, words, stuck) {
@@ -121,7 +121,7 @@ pub(crate) fn plan_send(
 
 // Why a receive from a queue is refused.
 fn receive_refusal(queue: &Queue, ram: &Ram, words: &Receiving) -> Option<Errno>
-    ensures { result ≡ receive_refusal_lem (length ram.now) words.now queue.now }
+    ensures { result ≡ receive_refusal_lem (length ram.now.bytes) words.now queue.now }
 {
     if !ram.has(words.buffer, words.room.min(queue.max_len())) {
         return Some(Errno::BadAddress);
@@ -132,9 +132,9 @@ fn receive_refusal(queue: &Queue, ram: &Ram, words: &Receiving) -> Option<Errno>
     None
 }
 
-// What comes of a receive from a queue.
+// What a receive from a queue will do.
 pub(crate) fn plan_receive(queue: &Queue, ram: &Ram, at: Ident, words: &Receiving) -> ReceivePlan
-    ensures { result ≡ receive_plan at words.now (receives_at (length ram.now) words.now (Some queue.now)) }
+    ensures { result ≡ receive_plan at words.now (receives_at (length ram.now.bytes) words.now (Some queue.now)) }
 {
     if let Some(e) = receive_refusal(queue, ram, words) {
         return ReceivePlan::Denied(e);

@@ -21,7 +21,7 @@ pub(crate) struct Queue {
     max_msgs: u32,
     max_len: u32,
     held: VecDeque<Message>,
-    // empty messages
+    // empty messages, one for each that can still be added
     spare: Vec<Message>,
 }
 
@@ -39,7 +39,7 @@ impl Model for Queue {
         × (q.max_msgs ≤ deque_capacity q.held) × (q.max_msgs ≤ vec_capacity q.spare) };
 }
 
-// The message goes to the front where it is urgent, else to the back.
+// Adds the message: an urgent one at the front, others at the back.
 fn put_in(held: &mut VecDeque<Message>, message: Message, urgent: bool)
     requires { deque_len held.old < deque_capacity held.old }
     ensures items { held.new.items ≡ (if urgent then message ∷ held.old.items else held.old.items ++ message ∷ []) }
@@ -88,21 +88,21 @@ impl Queue {
         })
     }
 
-    // Whether it holds as many messages as it may.
+    // Whether it holds as many messages as it can.
     pub(crate) fn is_full(&self) -> bool
         ensures { result ≡ is_full_lem self.now }
     {
         self.held.len() >= self.max_msgs as usize
     }
 
-    // Whether it holds none.
+    // Whether it holds no messages.
     pub(crate) fn is_empty(&self) -> bool
         ensures { result ≡ (length self.now.held == 0) }
     {
         self.held.is_empty()
     }
 
-    // How many messages it holds.
+    // The number of its messages.
     pub(crate) fn count(&self) -> u32
         ensures { result ≡ length self.now.held }
     {
@@ -110,21 +110,21 @@ impl Queue {
         self.held.len() as u32
     }
 
-    // How long its messages may be.
+    // The greatest length of its messages, in bytes.
     pub(crate) fn max_len(&self) -> u32
         ensures { result ≡ self.now.max_len }
     {
         self.max_len
     }
 
-    // Whether the tasks that wait stand by priority.
+    // Whether tasks wait by priority. If not, they wait in order of arrival.
     pub(crate) fn by_priority(&self) -> bool
         ensures { result ≡ self.now.by_priority }
     {
         self.by_priority
     }
 
-    // The front message.
+    // The bytes of the first message. None if the queue is empty.
     pub(crate) fn front(&self) -> Option<&[u8]>
         ensures { option_copied result ≡ first self.now.held }
     {
@@ -134,12 +134,12 @@ impl Queue {
         }
     }
 
-    // A message is added, where there is room: the bytes from an address of RAM on.
+    // Adds a message, for which there must be room: the bytes in RAM from an address on.
     pub(crate) fn push(&mut self, ram: &Ram, addr: u32, n: u32, urgent: bool)
         requires room { is_full_lem self.old ≡ false }
-        requires there { IsTrue (has ram.now addr n) }
+        requires there { IsTrue (has ram.now.bytes addr n) }
         requires short { n ≤ self.old.max_len }
-        ensures { self.new ≡ added urgent (bytes_at ram.now addr n) self.old }
+        ensures { self.new ≡ added urgent (bytes_at ram.now.bytes addr n) self.old }
     {
         let Some(mut message) = self.spare.pop() else {
             unreachable!()
@@ -148,7 +148,7 @@ impl Queue {
         put_in(&mut self.held, message, urgent);
     }
 
-    // The front message is gone.
+    // Removes the first message.
     pub(crate) fn drop_front(&mut self)
         ensures { self.new ≡ record self.old { held = drop 1 self.old.held } }
     {

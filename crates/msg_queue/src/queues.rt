@@ -14,7 +14,7 @@ use wind_base::NoMemory;
 use wind_base::limits::{QUEUES, TASKS};
 use wind_core::Kern;
 
-/// The message queues, and what the calls that wait at them ask for.
+/// The message queues, and the requests of the calls that wait at them.
 #[derive(Drop)]
 pub struct Queues {
     pub(crate) queues: Table<Queue>,
@@ -35,7 +35,8 @@ impl Model for Queues {
 }
 
 impl Queues {
-    /// No queue, with room for 256 and for the asks of 256 tasks. No other call but `create` takes memory.
+    /// No queues, with room for 256, and for the requests of 256 tasks. No other call but `create`
+    /// takes memory.
     pub fn reserved(alloc: Global) -> Result<Queues, NoMemory>
         ensures { IfOk result (λ q. q ≡ record { queues = []; asks = [] }) }
     {
@@ -44,7 +45,7 @@ impl Queues {
         Ok(Queues { queues, asks })
     }
 
-    // The id of this number, where its queue is live.
+    // The id with this number, if its queue is live.
     pub(crate) fn find(&self, number: u32) -> Option<Ident>
         ensures { MatchOption result (object_of self.now.queues number ≡ None)
             (λ id. (id ≡ number) × IsSome (object_of self.now.queues id)) }
@@ -58,7 +59,7 @@ impl Queues {
         }
     }
 
-    // The queue of this id, which is live.
+    // The queue with this id, which must be live.
     pub(crate) fn queue(&self, id: Ident) -> &Queue
         requires { IsSome (object_of self.now.queues id) }
         ensures { object_of self.now.queues id ≡ Some result.now }
@@ -69,7 +70,7 @@ impl Queues {
         }
     }
 
-    // What the first that waits at a place asks for.
+    // The request of the first task that waits at a place.
     pub(crate) fn first_asking(&self, kern: &Kern, place: Place) -> Option<Ask>
         ensures { result ≡ asked_by self.now.asks (first_waiter kern.now.tasks place) }
     {

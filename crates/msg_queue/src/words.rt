@@ -1,50 +1,50 @@
-//! What the calls are asked for, and how they end.
+//! The arguments and outcomes of the calls.
 
 use id_table::Ident;
 use thiserror::Error;
 use wind_base::{Errno, NoMemory};
 
-/// What a send is asked for.
+/// The arguments of a send.
 #[derive(Clone, Copy)]
 pub struct Sending {
-    /// The task that calls; none at interrupt level.
+    /// The task that calls. None if an interrupt routine calls.
     pub caller: Option<Ident>,
-    /// The address of its bytes.
+    /// The address of the message's bytes.
     pub buffer: u32,
-    /// How many they are.
+    /// The number of bytes.
     pub count: u32,
-    /// For how many ticks the caller waits, or `WAIT_FOREVER`, or `NO_WAIT`.
+    /// How many ticks the caller waits at most, or `WAIT_FOREVER`, or `NO_WAIT`.
     pub timeout: u32,
-    /// Whether the message goes to the front.
+    /// Whether the message goes to the front of the queue.
     pub urgent: bool,
 }
 
-/// What a receive is asked for.
+/// The arguments of a receive.
 #[derive(Clone, Copy)]
 pub struct Receiving {
     /// The task that calls.
     pub caller: Ident,
-    /// The address at which the bytes are wanted.
+    /// The address to which the bytes are copied.
     pub buffer: u32,
-    /// For how many bytes there is room.
+    /// The number of bytes for which there is room.
     pub room: u32,
-    /// For how many ticks the caller waits, or `WAIT_FOREVER`, or `NO_WAIT`.
+    /// How many ticks the caller waits at most, or `WAIT_FOREVER`, or `NO_WAIT`.
     pub timeout: u32,
 }
 
-/// How a receive ended that was not refused.
+/// The outcome of a receive that wasn't refused.
 #[derive(Clone, Copy, Debug, PartialEq, Eq)]
 pub enum Got {
-    /// So many bytes were copied.
+    /// The given number of bytes was copied.
     Count(u32),
     /// The caller waits.
     Pended,
 }
 
-/// Why no queue was made. Nothing has changed.
+/// Why no queue was made. Nothing changed.
 #[derive(Clone, Copy, Debug, PartialEq, Eq, Error)]
 pub enum MakeErr {
-    /// The call is refused.
+    /// The call was refused.
     #[error("refused")]
     Refused(Errno),
     /// Host memory ran out.

@@ -1,4 +1,4 @@
-//! Tasks and mutexes, and the calls on them by the numbers of their ids.
+//! The calls on tasks and mutexes, by the numbers of their ids.
 
 ghost use Rattle.std.specs.Prelude.{◌≡◌, false};
 ghost use Rattle.inheritance.specs.Mutexes.{both};
@@ -11,38 +11,39 @@ use wind_base::words::{NO_WAIT, WAIT_FOREVER};
 use wind_base::{Errno, Pri, Regs, SemKind, SemOptions, ShortName};
 use wind_core::Kern;
 
-/// A call; tasks and mutexes go by the numbers of their ids.
+/// A call. Tasks and mutexes are named by the numbers of their ids.
 #[derive(Clone, Copy)]
 pub enum Act {
-    /// A task takes a mutex, or waits for it without end.
+    /// A task takes a mutex, or waits for it without a time limit.
     Take(u32, u32),
-    /// A task takes it only where it need not wait.
+    /// A task takes a mutex if it needn't wait.
     Try(u32, u32),
-    /// A task gives it.
+    /// A task gives a mutex.
     Give(u32, u32),
-    /// It is deleted.
+    /// A mutex is deleted.
     Delete(u32),
     /// A task's normal priority is set.
     Priority(u32, u32),
 }
 
-/// What a call is answered with.
+/// The outcome of a call.
 #[derive(Clone, Copy, PartialEq, Eq)]
 pub enum Told {
-    /// It is done.
+    /// The call is done.
     Done,
     /// The caller waits.
     Pended,
-    /// It is refused.
+    /// The call is refused.
     Refused(Errno),
 }
 
-/// What a task of this priority is made of. None where there is no such priority.
+/// What a new task of this priority begins with. None if the priority is above 255.
 pub fn new_task(pri: u32) -> Option<NewTask> {
     Some(NewTask {
         name: ShortName::cut(b"t"),
         entry: 0x1000,
         stack: 0x2000,
+        stack_size: 0x1000,
         pri: Pri::new(pri)?,
         regs: Regs {
             gpr: [5; 32],
@@ -56,7 +57,7 @@ pub fn new_task(pri: u32) -> Option<NewTask> {
     })
 }
 
-/// A new task of this priority. None where it can't be made.
+/// Makes a task of this priority. None if that fails.
 pub fn spawn(k: &mut Kern, mutexes: &Mutexes, pri: u32) -> Option<()>
     requires ids { k.old.lent ≡ false }
     requires kept { KeepsMutexes (both k.old mutexes.now) }
@@ -73,7 +74,8 @@ pub fn spawn(k: &mut Kern, mutexes: &Mutexes, pri: u32) -> Option<()>
     }
 }
 
-/// A new mutex with waiters by priority, a safe owner and inheritance. None where it can't be made.
+/// Makes a mutex with all options: waiters by priority, deletion safety and inheritance. None if
+/// that fails.
 pub fn create(k: &mut Kern, mutexes: &mut Mutexes) -> Option<()>
     requires ids { k.old.lent ≡ false }
     requires kept { KeepsMutexes (both k.old mutexes.old) }
@@ -90,7 +92,7 @@ pub fn create(k: &mut Kern, mutexes: &mut Mutexes) -> Option<()>
     }
 }
 
-// A task of this number takes a mutex.
+// The task with this number takes a mutex.
 fn take(k: &mut Kern, mutexes: &mut Mutexes, who: u32, id: u32, timeout: u32) -> Option<Told>
     requires { KeepsMutexes (both k.old mutexes.old) }
     ensures { KeepsMutexes (both k.new mutexes.new) }
@@ -106,7 +108,7 @@ fn take(k: &mut Kern, mutexes: &mut Mutexes, who: u32, id: u32, timeout: u32) ->
     }
 }
 
-// What a call without a value is answered with.
+// The outcome of a call that returns no value.
 fn outcome(done: Result<(), Errno>) -> Told {
     match done {
         Ok(()) => Told::Done,
@@ -114,7 +116,7 @@ fn outcome(done: Result<(), Errno>) -> Told {
     }
 }
 
-// A task of this number gives a mutex.
+// The task with this number gives a mutex.
 fn give(k: &mut Kern, mutexes: &mut Mutexes, who: u32, id: u32) -> Option<Told>
     requires { KeepsMutexes (both k.old mutexes.old) }
     ensures { KeepsMutexes (both k.new mutexes.new) }
@@ -126,7 +128,7 @@ fn give(k: &mut Kern, mutexes: &mut Mutexes, who: u32, id: u32) -> Option<Told>
     Some(outcome(mutexes.give(k, who, id)))
 }
 
-// A mutex is deleted.
+// Deletes a mutex.
 fn delete(k: &mut Kern, mutexes: &mut Mutexes, id: u32) -> Option<Told>
     requires { KeepsMutexes (both k.old mutexes.old) }
     ensures { KeepsMutexes (both k.new mutexes.new) }
@@ -137,7 +139,7 @@ fn delete(k: &mut Kern, mutexes: &mut Mutexes, id: u32) -> Option<Told>
     Some(outcome(mutexes.delete(k, id)))
 }
 
-// The normal priority of a task of this number is set.
+// Sets the normal priority of the task with this number.
 fn set_priority(k: &mut Kern, mutexes: &mut Mutexes, who: u32, pri: u32) -> Option<Told>
     requires { KeepsMutexes (both k.old mutexes.old) }
     ensures { KeepsMutexes (both k.new mutexes.new) }
@@ -150,7 +152,7 @@ fn set_priority(k: &mut Kern, mutexes: &mut Mutexes, who: u32, pri: u32) -> Opti
     Some(Told::Done)
 }
 
-/// Makes a call. None where it can't be made.
+/// Makes a call. None if its arguments are invalid.
 pub fn apply(k: &mut Kern, mutexes: &mut Mutexes, act: Act) -> Option<Told>
     requires { KeepsMutexes (both k.old mutexes.old) }
     ensures { KeepsMutexes (both k.new mutexes.new) }
@@ -164,7 +166,7 @@ pub fn apply(k: &mut Kern, mutexes: &mut Mutexes, act: Act) -> Option<Told>
     }
 }
 
-/// The priority of the task of this number. None where it does not live.
+/// The priority of the task with this number. None if it isn't live.
 pub fn pri(k: &Kern, number: u32) -> Option<u32> {
     Some(k.task(Ident::new(number)?)?.pri.get())
 }

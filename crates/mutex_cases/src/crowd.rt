@@ -1,4 +1,4 @@
-//! As many owners as there may be, each of which waits for the one before it.
+//! As many owners as possible, each waiting for the one before it.
 
 ghost use Rattle.std.specs.Prelude.{◌≡◌, false, []};
 ghost use Rattle.inheritance.specs.Mutexes.{both};
@@ -9,10 +9,10 @@ use crate::verdict::Verdict;
 use sem_mutex::Mutexes;
 use wind_core::Kern;
 
-/// How many owners there are; one more task may live.
+/// The number of owners. One more task can be live.
 const OWNERS: u32 = 255;
 
-// Tasks of the priorities 255 down to 1, with the ids 1 to 255, and behind them one of priority 0.
+// Makes tasks of priorities 255 down to 1, with ids 1 to 255, and then one of priority 0.
 fn spawn_all(k: &mut Kern, mutexes: &Mutexes) -> Option<()>
     requires ids { k.old.lent ≡ false }
     requires kept { KeepsMutexes (both k.old mutexes.now) }
@@ -25,7 +25,7 @@ fn spawn_all(k: &mut Kern, mutexes: &Mutexes) -> Option<()>
     spawn(k, mutexes, 0)
 }
 
-// A mutex for each owner, with the ids behind those of the tasks.
+// Makes a mutex for each owner, with the ids after those of the tasks.
 fn create_all(k: &mut Kern, mutexes: &mut Mutexes) -> Option<()>
     requires ids { k.old.lent ≡ false }
     requires kept { KeepsMutexes (both k.old mutexes.old) }
@@ -37,7 +37,7 @@ fn create_all(k: &mut Kern, mutexes: &mut Mutexes) -> Option<()>
     Some(())
 }
 
-// The id of the mutex that the task of this id owns.
+// The id of the mutex owned by the task with this id.
 fn mutex_of(owner: u32) -> u32 {
     owner.saturating_add(OWNERS + 1)
 }
@@ -56,7 +56,7 @@ fn own_all(k: &mut Kern, mutexes: &mut Mutexes) -> Option<()>
     Some(())
 }
 
-// Each but the first waits for the mutex of the one before it.
+// Each owner but the first waits for the mutex of the one before it.
 fn wait_all(k: &mut Kern, mutexes: &mut Mutexes) -> Option<()>
     requires { KeepsMutexes (both k.old mutexes.old) }
     ensures { KeepsMutexes (both k.new mutexes.new) }
@@ -69,7 +69,7 @@ fn wait_all(k: &mut Kern, mutexes: &mut Mutexes) -> Option<()>
     Some(())
 }
 
-// How many owners have this priority.
+// The number of owners with this priority.
 fn count_of(k: &Kern, wanted: u32) -> u32 {
     let mut count = 0u32;
     for place in 0..OWNERS {
@@ -80,7 +80,8 @@ fn count_of(k: &Kern, wanted: u32) -> u32 {
     count
 }
 
-// How many owners have priority 1 once all wait, and how many have 0 once the last task waits too.
+// The number of owners with priority 1 after all wait, and with priority 0 after the last task
+// waits too.
 fn counts(k: &mut Kern, mutexes: &mut Mutexes) -> Option<(u32, u32)>
     requires ids { k.old.lent ≡ false }
     requires fresh { (k.old.tasks ≡ []) × (mutexes.old ≡ []) }
@@ -97,8 +98,9 @@ fn counts(k: &mut Kern, mutexes: &mut Mutexes) -> Option<(u32, u32)>
     Some((before, count_of(k, 0)))
 }
 
-/// Whether all owners have priority 1 once all but the first wait for the one before them, the last of them with the
-/// priority 1; and whether all have 0 once a task of that priority waits for the last one.
+/// Checks the priorities of all owners. They must be 1 after each owner waits for the one before
+/// it, because the last has priority 1. They must be 0 after a task of priority 0 waits for the
+/// last one.
 pub fn play(k: &mut Kern, mutexes: &mut Mutexes) -> Verdict
     requires ids { k.old.lent ≡ false }
     requires fresh { (k.old.tasks ≡ []) × (mutexes.old ≡ []) }

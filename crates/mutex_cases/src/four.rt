@@ -1,4 +1,4 @@
-//! Four tasks and three mutexes: what each call answers, and the priorities that it leaves.
+//! Four tasks and three mutexes: the outcome of each call, and the priorities after it.
 
 ghost use Rattle.std.specs.Prelude.{◌≡◌, false, []};
 ghost use Rattle.inheritance.specs.Mutexes.{both};
@@ -10,10 +10,10 @@ use sem_mutex::Mutexes;
 use wind_base::Errno;
 use wind_core::Kern;
 
-/// A call, its answer, and the priorities of the four tasks after it.
+/// A call, its outcome, and the priorities of the four tasks after it.
 pub type Row = (Act, Told, [u32; 4]);
 
-// The ids of the tasks, and of the mutexes behind them.
+// The ids of the tasks, and then those of the mutexes.
 const A: u32 = 1;
 
 const B: u32 = 2;
@@ -38,7 +38,8 @@ pub const CHAIN: [Row; 6] = [
     (Act::Take(D, M3), Told::Pended, [10, 10, 10, 10]),
 ];
 
-/// A and B wait for each other. D waits for A, and its urgency goes on to B and ends at A.
+/// A and B wait for each other. D waits for A, so A and then B inherit its priority; the walk ends
+/// at A.
 pub const CYCLE: [Row; 5] = [
     (Act::Take(A, M1), Told::Done, [150, 160, 170, 10]),
     (Act::Take(B, M2), Told::Done, [150, 160, 170, 10]),
@@ -47,7 +48,8 @@ pub const CYCLE: [Row; 5] = [
     (Act::Take(D, M1), Told::Pended, [10, 10, 170, 10]),
 ];
 
-/// A owns two mutexes, D waits for the first and B for the second. A has its normal priority again after the last.
+/// A owns two mutexes; D waits for the first, B for the second. A gets its normal priority back
+/// after the last give.
 pub const TWO: [Row; 13] = [
     (Act::Take(A, M1), Told::Done, [150, 50, 170, 10]),
     (Act::Take(A, M2), Told::Done, [150, 50, 170, 10]),
@@ -72,7 +74,8 @@ pub const TWO: [Row; 13] = [
     (Act::Delete(M1), Told::Done, [150, 50, 170, 10]),
 ];
 
-/// C waits for B and B for A; A becomes more urgent and less, then C more urgent: whom it waits for inherits that.
+/// C waits for B, and B for A. A becomes more urgent, then less; then C becomes more urgent, and
+/// the owners that it waits for inherit that.
 pub const SET: [Row; 8] = [
     (Act::Take(A, M1), Told::Done, [150, 160, 170, 10]),
     (Act::Take(B, M2), Told::Done, [150, 160, 170, 10]),
@@ -84,7 +87,7 @@ pub const SET: [Row; 8] = [
     (Act::Priority(B, 90), Told::Done, [90, 90, 100, 10]),
 ];
 
-// Four tasks of these priorities, with the ids 1 to 4, and three mutexes behind them.
+// Makes four tasks of these priorities, with ids 1 to 4, and then three mutexes.
 fn begin(k: &mut Kern, mutexes: &mut Mutexes, pris: [u32; 4]) -> Option<()>
     requires ids { k.old.lent ≡ false }
     requires fresh { (k.old.tasks ≡ []) × (mutexes.old ≡ []) }
@@ -99,7 +102,7 @@ fn begin(k: &mut Kern, mutexes: &mut Mutexes, pris: [u32; 4]) -> Option<()>
     create(k, mutexes)
 }
 
-// Less urgent than any: no priority of a task that lives.
+// The priority shown for a task that isn't live. It is less urgent than any.
 const GONE: u32 = 256;
 
 // The priorities of the four tasks.
@@ -112,7 +115,7 @@ fn priorities(k: &Kern) -> [u32; 4] {
     ]
 }
 
-// Makes the calls of the rows, up to the first that goes otherwise.
+// Makes the calls of the rows, up to the first with another outcome.
 fn compare(k: &mut Kern, mutexes: &mut Mutexes, rows: &[Row]) -> Verdict
     requires { KeepsMutexes (both k.old mutexes.old) }
 {
@@ -131,7 +134,7 @@ fn compare(k: &mut Kern, mutexes: &mut Mutexes, rows: &[Row]) -> Verdict
     Verdict::AsWorkedOut
 }
 
-/// Makes the calls of the rows among four tasks of these priorities.
+/// Makes the calls of the rows, with four tasks of these priorities.
 pub fn play(k: &mut Kern, mutexes: &mut Mutexes, pris: [u32; 4], rows: &[Row]) -> Verdict
     requires ids { k.old.lent ≡ false }
     requires fresh { (k.old.tasks ≡ []) × (mutexes.old ≡ []) }

@@ -1,5 +1,5 @@
-//! Plays turns of tasks and calls on mutexes, and compares who runs, what the calls answer and the priorities that they
-//! leave with what was worked out by hand.
+//! Plays ticks, task changes and calls on mutexes, and compares the running task, the outcomes and
+//! the priorities with results worked out by hand.
 #![tactic(auto)]
 
 mod bench;
@@ -21,12 +21,12 @@ use wind_core::Kern;
 #[derive(Clone, Copy)]
 enum Case {
     Turns,
-    // calls among four tasks of these priorities
+    // calls of four tasks of these priorities
     Four([u32; 4], &'static [Row]),
     Crowd,
 }
 
-// The cases with their names.
+// The cases and their names.
 const CASES: [(&str, Case); 6] = [
     ("turns of two ticks", Case::Turns),
     (
@@ -48,7 +48,7 @@ const CASES: [(&str, Case); 6] = [
     ("255 owners", Case::Crowd),
 ];
 
-/// Plays each case, and tells how it went.
+/// Plays each case, and prints its verdict.
 fn main(rt: HostRuntime) -> io::Result<()> {
     for (name, case) in CASES {
         tell(&rt, name, play(rt.alloc(), case))?;
@@ -56,7 +56,7 @@ fn main(rt: HostRuntime) -> io::Result<()> {
     Ok(())
 }
 
-// Plays a case over a kernel of its own.
+// Plays a case with a kernel of its own.
 fn play(alloc: Global, case: Case) -> Verdict {
     match Kern::new(alloc) {
         Ok(mut k) => play_over(alloc, &mut k, case),
@@ -85,7 +85,7 @@ fn play_with(alloc: Global, k: &mut Kern, mutexes: &mut Mutexes, case: Case) -> 
     }
 }
 
-// Tells how a case went.
+// Prints the verdict of a case.
 fn tell<R: Print>(rt: &R, name: &str, verdict: Verdict) -> io::Result<()> {
     match verdict {
         Verdict::AsWorkedOut => println!(rt; "{name}: as worked out"),

@@ -1,4 +1,4 @@
-//! Turns of tasks: who runs after each call and each tick.
+//! Time slices: which task runs after each call and each tick.
 
 ghost use Rattle.std.specs.Prelude.{◌≡◌, ◌<◌, ◌^◌, true, false};
 
@@ -8,17 +8,17 @@ use id_table::{Ident, Table};
 use std::alloc::Global;
 use wind_core::Kern;
 
-// A call; tasks go by the numbers of their ids.
+// A call. Tasks are named by the numbers of their ids.
 #[derive(Clone, Copy)]
 enum Act {
     Suspend(u32),
     Resume(u32),
     Slice(u32),
-    // the runner ran, and a tick comes
+    // the running task runs, and then a tick comes
     Tick,
 }
 
-// Whether the counters are far from their ends.
+// Whether the counters are far from overflow.
 fn is_early(kern: &Kern) -> bool
     ensures since { result ≡ true → kern.now.next_since < 2 ^ 62 }
     ensures tick { result ≡ true → kern.now.tick < 2 ^ 62 }
@@ -26,7 +26,7 @@ fn is_early(kern: &Kern) -> bool
     kern.next_since() < 1 << 62 && kern.ticks() < 1 << 62
 }
 
-// An object of another kind draws an id.
+// Draws an id for an object of another kind.
 fn draw(alloc: Global, kern: &mut Kern) -> bool
     requires { kern.old.lent ≡ false }
     ensures { kern.new.lent ≡ false }
@@ -37,7 +37,7 @@ fn draw(alloc: Global, kern: &mut Kern) -> bool
     }
 }
 
-// A new task of this priority. False where it can't be made.
+// Makes a task of this priority. `false` if that fails.
 fn spawn(kern: &mut Kern, pri: u32) -> bool
     requires { kern.old.lent ≡ false }
     ensures { kern.new.lent ≡ false }
@@ -48,14 +48,15 @@ fn spawn(kern: &mut Kern, pri: u32) -> bool
     is_early(kern) && kern.spawn_record(task).is_ok()
 }
 
-// The shell's task of priority 1, A and B of priority 100 and C of 50, behind an object of another kind.
+// Makes an object of another kind, and then the shell's task of priority 1, A and B of priority
+// 100, and C of priority 50.
 fn begin(alloc: Global, kern: &mut Kern) -> bool
     requires { kern.old.lent ≡ false }
 {
     draw(alloc, kern) && spawn(kern, 1) && spawn(kern, 100) && spawn(kern, 100) && spawn(kern, 50)
 }
 
-// The runner ran, and a tick comes. False where none runs.
+// Lets the running task run, and then a tick come. `false` if that is impossible.
 fn tick(kern: &mut Kern) -> bool {
     let Some(who) = kern.runner() else {
         return false;
@@ -68,7 +69,7 @@ fn tick(kern: &mut Kern) -> bool {
     early
 }
 
-// The task of this number is suspended, or is so no longer.
+// Suspends the task with this number, or resumes it.
 fn suspend(kern: &mut Kern, number: u32, on: bool) -> bool {
     let Some(who) = Ident::new(number) else {
         return false;
@@ -82,7 +83,7 @@ fn suspend(kern: &mut Kern, number: u32, on: bool) -> bool {
     made
 }
 
-// Makes a call. False where it can't be made.
+// Makes a call. `false` if its arguments are invalid.
 fn apply(kern: &mut Kern, act: Act) -> bool {
     match act {
         Act::Suspend(number) => suspend(kern, number, true),
@@ -104,8 +105,8 @@ const B: u32 = 4;
 
 const C: u32 = 5;
 
-// Calls, each with the runner after it, 0 where none runs. A and B take turns of two ticks; B, which C preempts, keeps its
-// place and its turn.
+// Calls, each with the task that runs after it, or 0 if none runs. A and B have time slices of two
+// ticks. B, which C preempts, keeps its place and its used ticks.
 const TURNS: [(Act, u32); 15] = [
     (Act::Suspend(SHELL), C),
     (Act::Suspend(C), A),
@@ -124,7 +125,7 @@ const TURNS: [(Act, u32); 15] = [
     (Act::Tick, A),
 ];
 
-// Makes the calls, up to the first after which another runs.
+// Makes the calls, up to the first after which another task runs.
 fn compare(kern: &mut Kern, turns: &[(Act, u32)]) -> Verdict {
     let mut call = 0usize;
     for turn in turns {
@@ -136,7 +137,7 @@ fn compare(kern: &mut Kern, turns: &[(Act, u32)]) -> Verdict {
     Verdict::AsWorkedOut
 }
 
-/// Makes the calls among the tasks.
+/// Makes the calls.
 pub fn play(alloc: Global, kern: &mut Kern) -> Verdict
     requires { kern.old.lent ≡ false }
 {

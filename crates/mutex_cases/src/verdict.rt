@@ -1,18 +1,19 @@
-//! How a case goes.
+//! The verdict on a case.
 
-/// How the calls of some rows go.
+/// The verdict on a case: how its calls went.
 #[derive(Clone, Copy)]
 pub enum Verdict {
-    /// As the rows say.
+    /// As worked out by hand.
     AsWorkedOut,
-    /// The call of this number, counted from 1, has another answer.
+    /// The call with this number, counted from 1, has another outcome.
     Answers(usize),
-    /// The call of this number leaves these priorities.
+    /// After the call with this number, the priorities are these, and not as worked out.
     Leaves(usize, [u32; 4]),
-    /// So many owners have the priority of the last, and then so many that of the task that waits for it.
+    /// The number of owners with the last owner's priority, and then the number with the priority
+    /// of the task that waits for that owner.
     Counts(u32, u32),
-    /// A call can't be made.
+    /// A call could not be made.
     Stuck,
-    /// There is no room for the tasks and the mutexes.
+    /// There is no room for the tasks and mutexes.
     NoRoom,
 }

@@ -1,4 +1,5 @@
--- Whoever takes or gives a mutex, or calls on a queue, lives: one that doesn't has 0 in each register, and neither a mutex nor a queue has number 0.
+-- A caller that takes or gives a mutex, or calls on a queue, lives: one that doesn't has 0 in each register, and
+-- neither a mutex nor a queue has number 0.
 use Rattle.std.proofs.Common.{◌≡◌, ◌<◌, true, None, Some, IsSome, is_some, refl, arith}
 use Rattle.std.specs.Prelude.{slice_index, unwrap_or}
 use Rattle.std.specs.Option.{option_map}
@@ -15,7 +16,7 @@ use Rattle.kernel_world.specs.declared.actor.Actor.TheVariants.{Task, Interrupt}
 use Rattle.kernel_world.proofs.Apart.{by_id}
 use Rattle.object_calls.proofs.ObjectRows.{zero_none}
 
--- behind its gate, with the words that it had at it
+-- after its gate, with the words that it handed in there
 pub mutex_callers : (w : WorldState) (a : Actor) → IsKern w.kern → KeepsObjects w.kern w.objects → is_mutex (left_gate w a).objects (slice_index (caller_words w a) 3) ≡ true → Acts w.kern a
 mutex_callers w (Task who) is kept there =
     let none = zero_none w.kern w.objects is kept in
@@ -25,7 +26,7 @@ mutex_callers w (Task who) is kept there =
     ] there
 mutex_callers w Interrupt is kept there = tt
 
--- so is whoever calls on a queue that lives: no queue has number 0
+-- a caller that calls on a live queue lives too: no queue has number 0
 pub queue_callers : (w : WorldState) (a : Actor) → KeepsObjects w.kern w.objects → is_some (object_of (left_gate w a).objects.queues.queues (slice_index (caller_words w a) 3)) ≡ true → Acts w.kern a
 queue_callers w (Task who) kept there =
     elim (task_of w.kern.tasks who) as (λ o. is_some (object_of w.objects.queues.queues (slice_index (unwrap_or (option_map (λ t. t.regs) o) no_regs).gpr 3)) ≡ true → IsSome o) [

@@ -30,7 +30,7 @@ abbrev IsWithin : ℕ → ℕ × Mutex → Type 0
 IsWithin n r = r.1.depth ≤ n
 
 module _ (k : KernState) (o : Objects) (n : ℕ) (within : DepthsWithin n o) where
-  -- a bound that is one more
+  -- the bound is one higher
   abbrev Deeper : List (ℕ × Mutex) → Type 0
   Deeper ms = All (IsWithin (n + 1)) ms
 

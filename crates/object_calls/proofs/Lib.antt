@@ -3,6 +3,7 @@ pub mod MutexWaits
 pub mod ObjectRows
 pub mod SemGoes
 pub mod Depths
+pub mod RowIds
 pub mod QueueGoes
 pub mod QueueCalls
 pub mod QueueKept

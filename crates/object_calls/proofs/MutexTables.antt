@@ -107,11 +107,11 @@ waits-more k o ns more kept = record {
     each (Some p) h =
         monotone (eqb p.side 0 && is_some (object_of o.semaphores p.id)) (eqb p.side 0) (is_some (object_of o.mutexes p.id)) (is_some (object_of ns p.id)) (is_beyond o p) (more p.id) h
 
--- where the ids are the same
+-- if the ids are the same
 pub waits-ids : (k : KernState) (o : Objects) (ns : List (ℕ × Mutex)) → ids ns ≡ ids o.mutexes → KeepsWaits k o → KeepsWaits k (with_mutexes o ns)
 waits-ids k o ns same kept = waits-more k o ns (λ n lives. lives-ids o.mutexes ns same n ∙ lives) kept
 
--- one more
+-- one mutex is added
 pub waits-push : (k : KernState) (o : Objects) (id : ℕ) (m : Mutex) → KeepsWaits k o → KeepsWaits k (with_mutexes o (o.mutexes ++ (id, m) ∷ []))
 waits-push k o id m kept =
     waits-more k o (o.mutexes ++ (id, m) ∷ [])
@@ -123,7 +123,7 @@ elsewhere false false q d x away h = h
 elsewhere false true true d x away h = absurd (cc)
 elsewhere false true false d x away h = h
 
--- one that nobody waits for is gone
+-- a mutex that nobody waits for is gone
 pub waits-without : (k : KernState) (o : Objects) (id : ℕ) → All (λ t. is_place (mutex_place id) t.wait ≡ false) k.tasks → KeepsWaits k o → KeepsWaits k (with_mutexes o (without o.mutexes id))
 waits-without k o id away kept = record {
   semaphores = kept.semaphores;

@@ -1,4 +1,4 @@
--- What the calls on mutexes make of the kernel keeps its facts and those of waits.
+-- What the calls on mutexes do to the kernel keeps its invariant and that of waits.
 use Rattle.std.proofs.Common.{◌≡◌, ℕ, ◌+◌, ◌-◌, ◌<◌, true, false, cond, not, ◌&&◌, eqb, ltb, List, Option, None, Some, is_some, refl, arith}
 use Rattle.std.proofs.lemmas.Bool.{eqb-false}
 use Rattle.wind_base.specs.declared.errno.Errno.{Errno}
@@ -26,7 +26,7 @@ use Rattle.kernel_world.proofs.Calming.{KeepsQueues, queues-calm, calm-lessen, c
 use Rattle.kernel_world.proofs.Waiting.{SparesWaits, waits-move, waits-lessen, waits-raised}
 use Rattle.object_calls.proofs.MutexTables.{ids-write}
 
--- the kernel's facts hold, and those of waits and of queues
+-- the invariants of the kernel, of waits and of queues hold
 pub record Still (k : KernState) (o : Objects) : Type 0 where
   pub kern : IsKern k
   pub waits : KeepsWaits k o
@@ -95,7 +95,7 @@ module _ (o : Objects) where
   still-hand s who id m still = still-guarded (holding s.kern who m) who m (still-holding s.kern who m still)
 
   -- ---- take
-  -- a wait for a mutex that lives, and is no semaphore
+  -- a wait for a live mutex, which is no semaphore
   still-await : (s : MutexState) (who id n : ℕ) (m : Mutex) → 0 < n → MayAwait s.kern o id → Still s.kern o → Still (await s who id n m).kern o
   still-await s who id n m some may still =
       still-move s.kern still (Pend who (mutex_place id) (not m.by_priority) n) some

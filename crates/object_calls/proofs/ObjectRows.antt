@@ -1,4 +1,4 @@
--- What is kept of the objects is kept by each row of the calls on them.
+-- Each row of the calls on objects keeps the objects' invariant.
 use Rattle.std.proofs.Common.{◌≡◌, ℕ, ◌+◌, ◌<◌, ◌≤◌, Bool, true, false, cond, not, ◌&&◌, ◌||◌, eqb, leb, List, [], ◌∷◌, ◌++◌, length, get_or, Option, None, Some, IfSome, is_some, refl, sym, ap, ◌∙◌, subst, arith}
 use Rattle.std.specs.List.{All}
 use Rattle.std.proofs.lemmas.Bool.{eqb-true, eqb-false, leb-false, and_parts, or_left, or_right}
@@ -50,11 +50,11 @@ use Rattle.object_calls.proofs.MutexWaits.{Still, MayAwait, still-take, still-gi
 abbrev other_semaphores : Objects → List (ℕ × Semaphore) → Objects
 other_semaphores o ss = record o { semaphores = ss }
 
--- what is kept holds after the row
+-- the invariant holds after the row
 abbrev pub KeepsRow : ObjectRow → Type 0
 KeepsRow r = KeepsObjects r.kern r.objects
 
--- an object is made only where there is room and an id is left
+-- an object is made only if there is room and an id is left
 room_left : (n id : ℕ) (e f : Errno) → cond (leb 1024 n) (Some e) (cond (leb 1048577 id) (Some f) None) ≡ None → (n < 1024) × (id ≤ 1048576)
 room_left n id e f none =
     elim (leb 1024 n) as (λ b. leb 1024 n ≡ b → cond b (Some e) (cond (leb 1048577 id) (Some f) None) ≡ None → (n < 1024) × (id ≤ 1048576)) [
@@ -66,7 +66,7 @@ room_left n id e f none =
           ] refl q
     ] refl none
 
--- inheritance goes with waiters by priority alone
+-- only a mutex whose tasks wait by priority may be inversion-safe
 inherits : (a b c : Bool) → (a && (not b || c)) ≡ true → b ≡ true → c ≡ true
 inherits a true c h e = (and_parts a c h).1
 inherits a false c h e = absurd (cc)
@@ -100,7 +100,7 @@ module _ (k : KernState) (o : Objects) (is : IsKern k) (kept : KeepsObjects k o)
       other_kind o.queues.queues o.mutexes id
       (All-weaker (λ r. (object_of o.semaphores r.0 ≡ None) × (object_of o.mutexes r.0 ≡ None)) (λ r. object_of o.mutexes r.0 ≡ None) (λ r h. h.1) o.queues.queues kept.queues_apart) there
 
-  -- no id that was none of a semaphore becomes one of these
+  -- no id that was no semaphore's becomes one's
   abbrev StaysNone : List (ℕ × Semaphore) → Type 0
   StaysNone ss = (n : ℕ) → n < k.next_id → object_of o.semaphores n ≡ None → object_of ss n ≡ None
 
@@ -112,7 +112,7 @@ module _ (k : KernState) (o : Objects) (is : IsKern k) (kept : KeepsObjects k o)
       let each = kept.queues_apart i d within in
       (none (get_or o.queues.queues i d).0 (queue_below i d within) each.0, each.1)
 
-  -- other semaphores beside a kernel of which all is kept with these
+  -- other semaphores, with a kernel that keeps the invariant of these
   by_others : (j : KernState) (ss : List (ℕ × Semaphore)) → KeepsObjects j o → KeepsSemaphores (sems j (other_semaphores o ss)) → WaitsLiveIn (is_live_beside o) (sems j (other_semaphores o ss))
       → StaysNone ss → KeepsObjects j (other_semaphores o ss)
   by_others j ss there semaphores live none = record {
@@ -252,7 +252,7 @@ module _ (k : KernState) (o : Objects) (is : IsKern k) (kept : KeepsObjects k o)
   calls : laws.KeptByCalls m
   calls = calls_law m is kept.table kept.mutexes
 
-  -- other mutexes of the same ids
+  -- other mutexes with the same ids
   by_same : (j : KernState) (ms : List (ℕ × Mutex)) → Still j o → ids ms ≡ ids o.mutexes → KeepsMutexes (both j ms) → KeepsObjects j (with_mutexes o ms)
   by_same j ms there same mutexes = record {
     waits = waits-ids j o ms same there.waits;

@@ -15,7 +15,7 @@ use Rattle.kernel_world.specs.declared.reply.Reply.{Reply}
 use Rattle.kernel_world.specs.declared.reply.Reply.TheVariants.{Answer}
 
 -- ---- what they ask for
--- who may call is ready where it is a task
+-- a caller that is a task and may call is ready
 pub is_caller : (k : KernState) (a : Actor) → Acts k a → MayCall k a → IsCaller k (task_in a)
 is_caller k (Task who) live ready = go (task_of k.tasks who) refl live ready where
   go : (o : Option TaskRecord) → task_of k.tasks who ≡ o → IsSome o → IfSome o (λ t. is_ready t ≡ true) → (t : TaskRecord) × (task_of k.tasks who ≡ Some t) × (is_ready t ≡ true)
@@ -36,7 +36,7 @@ pub create_tasks : (s : Scene) (max_msgs max_len options : ℕ) → (create_row 
 create_tasks s max_msgs max_len options =
     elim (create_refusal (length s.queues.queues) s.kern.next_id max_msgs max_len options) as (λ o. (create_unless o s (new_queue max_msgs max_len options)).scene.kern.tasks ≡ s.kern.tasks) [ None ↦ refl | Some e ↦ refl ]
 
--- who acts goes on where the tasks are as they were
+-- the caller lives on if the tasks are as they were
 pub created_acts : (k l : KernState) (qs us : QueuesState) (ram : List ℕ) (reply : Reply) (r : List ℕ)
     → row_of (scene l us ram) reply ≡ create_row (scene k qs ram) (slice_index r 3) (slice_index r 4) (slice_index r 5) → (a : Actor) → Acts k a → Acts l a
 created_acts k l qs us ram reply r e (Task who) live =

@@ -1,4 +1,4 @@
--- How far the rows of message queues take the kernel's counters, and that RAM keeps its size.
+-- By how much the rows of message queues raise the kernel's counters, and that RAM keeps its size.
 use Rattle.std.proofs.Common.{◌≡◌, ℕ, ◌+◌, ◌-◌, ◌<◌, ◌≤◌, Bool, true, false, not, ◌&&◌, cond, eqb, leb, ltb, min, List, [], ◌∷◌, length, take, drop, Option, None, Some, is_none, refl, subst, arith, length-append, length-drop, ⊎_elim}
 use Rattle.std.specs.List.{All}
 use Rattle.std.proofs.lemmas.Bool.{eqb-true, eqb-false, leb-true, ltb-false, or_cases}
@@ -39,7 +39,7 @@ not_false false e = absurd (cc)
 some_ticks : (n : ℕ) → eqb n 0 ≡ false → 0 < n
 some_ticks n e = let some = eqb-false n 0 e in omega arith
 
--- what stands where nothing refuses a send: its message is short enough, and it may wait where it is stuck
+-- what holds if nothing refuses a send: its message is short enough, and the caller may wait if it must
 send_fits : (size : ℕ) (x : Sending) (halted : Bool) (q : QueueState) → send_refusal size x halted q ≡ None → (x.count ≤ q.max_len) × ((halted && eqb x.timeout 0) ≡ false)
 send_fits size x halted q e =
     let last : Option Errno = cond (halted && eqb x.timeout 0) (Some errors.ObjUnavailable) None in
@@ -50,14 +50,14 @@ send_fits size x halted q e =
     let most = passed (not (lies_in size x.buffer x.count)) errors.BadAddress last more.1 in
     (ltb-false q.max_len x.count first.0, (passed (halted && eqb x.timeout 0) errors.ObjUnavailable None most.1).0)
 
--- and a receive: its room is in memory, and it may wait where there is no message
+-- and for a receive: its room is in RAM, and the caller may wait if there is no message
 receive_fits : (size : ℕ) (x : Receiving) (q : QueueState) → receive_refusal size x q ≡ None → (lies_in size x.buffer (min x.room q.max_len) ≡ true) × ((is_empty q.held && eqb x.timeout 0) ≡ false)
 receive_fits size x q e =
     let last : Option Errno = cond (is_empty q.held && eqb x.timeout 0) (Some errors.ObjUnavailable) None in
     let first = passed (not (lies_in size x.buffer (min x.room q.max_len))) errors.BadAddress last e in
     (not_false (lies_in size x.buffer (min x.room q.max_len)) first.0, (passed (is_empty q.held && eqb x.timeout 0) errors.ObjUnavailable None first.1).0)
 
--- where making is not refused, an id is left
+-- if making a queue isn't refused, an id is left
 queue_id_left : (live next max_msgs max_len options : ℕ) → create_refusal live next max_msgs max_len options ≡ None → next ≤ 1048576
 queue_id_left live next max_msgs max_len options e =
     let three : Option Errno = cond (leb 256 live) (Some errors.TooMany) (ids_refusal next) in
@@ -66,7 +66,7 @@ queue_id_left live next max_msgs max_len options e =
     let third = passed (leb 256 live) errors.TooMany (ids_refusal next) second.1 in
     ltb-false 1048576 next (passed (ltb 1048576 next) errors.IdsSpent None third.1).0
 
--- bytes that are put where there is room for them
+-- writing bytes where there is room for them
 size_put : (ram : List ℕ) (at n : ℕ) (bytes : List ℕ) → lies_in (length ram) at n ≡ true → length bytes ≤ n → length (with_bytes ram at bytes) ≡ length ram
 size_put ram at n bytes there short =
     let front = length-take at ram in
@@ -76,7 +76,7 @@ size_put ram at n bytes there short =
 
 -- ---- the rows
 module _ (s : Scene) (n : ℕ) (is : IsKern s.kern) (within : CountsWithin n s.kern) where
-  -- from s, as far as one call goes
+  -- what one call leads to from s
   abbrev pub IsNear : Scene → Type 0
   IsNear t = Goes s.kern t.kern (n + 1) call_sinces × (length t.ram ≡ length s.ram)
 

@@ -1,4 +1,4 @@
--- What is kept of the objects is kept by each row of the calls on message queues.
+-- Each row of the calls on message queues keeps the objects' invariant.
 use Rattle.std.proofs.Common.{◌≡◌, ℕ, ◌+◌, ◌<◌, Bool, true, false, cond, not, ◌&&◌, ◌||◌, eqb, min, List, [], ◌∷◌, ◌++◌, length, get_or, Option, None, Some, IfSome, is_some, refl, sym, ap, ◌∙◌, subst, arith}
 use Rattle.std.specs.List.{All}
 use Rattle.std.proofs.lemmas.Bool.{or_left, or_right}
@@ -48,7 +48,7 @@ use Rattle.object_calls.proofs.MutexTables.{all-ids, lives-ids, ids-write}
 abbrev pub with_queues : Objects → QueuesState → Objects
 with_queues o qs = record o { queues = qs }
 
--- what is kept holds after the row of a call on queues
+-- the invariant holds after the row of a call on queues
 abbrev pub KeepsScene : Objects → Scene → Type 0
 KeepsScene o t = KeepsObjects t.kern (with_queues o t.queues)
 
@@ -106,7 +106,7 @@ waits_without k o id none_receives none_sends kept = record {
         (shrinks (eqb p.side 0 && is_some (object_of o.semaphores p.id)) (eqb p.side 0 && is_some (object_of o.mutexes p.id)) (eqb p.side 0) (eqb p.side 1) (eqb p.id id) (eqb p.side 2 || eqb p.side 3)
         (object_of o.queues.queues p.id) one two h)
 
--- ---- all that wait at a place go on
+-- ---- all tasks that wait at a place go on
 nobody-end_waits : (place : Place) (k : KernState) (ts : List TaskRecord) (a : ℕ) (e : Option Errno) → NobodyAt place k → NobodyAt place (end_waits k ts a e)
 nobody-end_waits place k [] a e none = none
 nobody-end_waits place k (t ∷ ts) a e none =
@@ -116,7 +116,7 @@ nobody-wake_all : (place : Place) (k : KernState) (a : ℕ) (e : Option Errno) �
 nobody-wake_all place k a e is = none_passes task_id waits_before waits_before-order (waits_at place) (wake_all k place a e).tasks (ap first (none_left k is place a e))
 
 -- ---- the queues
--- what is kept of them beside one RAM is kept beside any of the board's size
+-- their invariant with one RAM holds with any of the board's size
 any_ram : (t : Scene) → length t.ram ≡ ram_bytes → IsKept t → (ram : List ℕ) → length ram ≡ ram_bytes → IsKept (scene t.kern t.queues ram)
 any_ram t size good ram long = keeps t (others t.kern ram) good (calm_stays t.queues.queues t.kern good.kern, long ∙ sym size)
 
@@ -135,7 +135,7 @@ module _ (k : KernState) (o : Objects) (ram : List ℕ) (is : IsKern k) (kept : 
   abbrev IsAlone : ℕ → Type 0
   IsAlone n = (object_of o.semaphores n ≡ None) × (object_of o.mutexes n ≡ None)
 
-  -- queues of the same ids
+  -- queues with the same ids
   by_same : (t : Scene) → KeepsWaits t.kern o → KeepsMutexes (with_mutexes t.kern o.mutexes) → length t.ram ≡ ram_bytes → IsKept t → ids t.queues.queues ≡ ids o.queues.queues → KeepsScene o t
   by_same t waits mutexes long good same = record {
     waits = waits_among t.kern o t.queues (λ n lives. lives-ids o.queues.queues t.queues.queues same n ∙ lives) waits;
@@ -197,7 +197,7 @@ module _ (k : KernState) (o : Objects) (ram : List ℕ) (is : IsKern k) (kept : 
           console = λ q. absurd (omega (arith, q));
         })
 
-    -- ---- what comes of a send and of a receive
+    -- ---- the result of a send and of a receive
     sent : (x : Sending) (d : SendDeed) → length (after_send s id x d).ram ≡ ram_bytes → IsKept (after_send s id x d) → KeepsScene o (after_send s id x d)
     sent x (declined e) long good = kept
     sent x (passed_on a) long good = objects-move k o is kept (EndWait a.who (min (length (sent_bytes s x)) a.count) None) (tt, tt, tt, tt)
@@ -223,7 +223,7 @@ module _ (k : KernState) (o : Objects) (ram : List ℕ) (is : IsKern k) (kept : 
     received x (starved q) long good =
         by_same (after_receive s id x (starved q)) (waits_to_receive x.caller x.timeout (not q.by_priority)) (mutexes-move (Pend x.caller (receivers id) (not q.by_priority) x.timeout) (alone.1, below)) long good refl
 
-  -- ---- a message is sent, by a caller that is ready where the queue lives
+  -- ---- a message is sent, by a caller that is ready if the queue lives
   pub keeps-send : (id : ℕ) (x : Sending) → (is_some (object_of o.queues.queues id) ≡ true → IsCaller k x.caller) → length (send s id x).ram ≡ ram_bytes → KeepsScene o (send s id x)
   keeps-send id x callers long =
       elim (is_some (object_of o.queues.queues id)) as (λ b. is_some (object_of o.queues.queues id) ≡ b → KeepsScene o (send s id x)) [

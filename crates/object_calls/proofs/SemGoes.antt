@@ -78,7 +78,7 @@ module _ (k : KernState) (n : ℕ) (is : IsKern k) (within : CountsWithin n k) w
       goes_on k j (mutex.guarded j who m) n (n + 1) 0 0 one (goes-guarded j n one.kern one.counts who m)
 
 module _ (k : KernState) (n : ℕ) (is : IsKern k) (within : CountsWithin n k) where
-  -- the owner lets it go, with so many safe sections
+  -- the owner gives it up, and has this many safe sections
   goes-left : (who : ℕ) (m : Mutex) (count : ℕ) → Goes k (mutex.eased (mutex.letting_go k who m) who m count) n 257
   goes-left who m count =
       let one = goes-letting_go k n is within who m in
@@ -94,7 +94,7 @@ above m e none =
     ] refl none
 
 module _ (k : KernState) (o : Objects) (n : ℕ) (is : IsKern k) (within : CountsWithin n k) where
-  -- from k, as far as one call goes
+  -- what one call leads to from k
   abbrev GoesTo : KernState → Type 0
   GoesTo j = Goes k j (n + 1) call_sinces
 

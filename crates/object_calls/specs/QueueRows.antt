@@ -35,7 +35,7 @@ abbrev pub create_row : Scene → ℕ → ℕ → ℕ → QueueRow
 create_row s max_msgs max_len options =
     create_unless (create_refusal (length s.queues.queues) s.kern.next_id max_msgs max_len options) s (new_queue max_msgs max_len options)
 
--- ---- msgQSend: the caller, where it is a task; priority 1 is urgent, any other is not
+-- ---- msgQSend: the caller, if it is a task; priority 1 is urgent, any other is normal
 abbrev pub task_in : Actor → Option ℕ
 task_in (Task who) = Some who
 task_in Interrupt = None

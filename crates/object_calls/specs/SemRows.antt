@@ -1,4 +1,5 @@
--- The rows of the calls on semaphores and mutexes, and of the priority that a task is given, which its owners inherit.
+-- The rows of the calls on semaphores and mutexes, and of taskPrioritySet, whose priority the owners of mutexes
+-- inherit.
 use Rattle.std.specs.Prelude.{ℕ, Bool, nat_le, if◌then◌else◌, Option, None, Some, is_some}
 use Rattle.wind_base.specs.Limits.{least_urgent, ok_word}
 use Rattle.wind_base.specs.SemBits.{read_options}
@@ -34,7 +35,7 @@ row_of k o r = record { kern = k; objects = o; reply = r }
 abbrev pub refused : KernState → Objects → Errno → ObjectRow
 refused k o e = row_of k o (Refusal e)
 
--- the semaphores are changed, or the mutexes are
+-- only the semaphores change, or only the mutexes
 abbrev pub by_semaphores : Objects → SemState → Reply → ObjectRow
 by_semaphores o s reply = row_of s.kern (record o { semaphores = s.semaphores }) reply
 
@@ -51,7 +52,7 @@ mutexes k o = with_mutexes k o.mutexes
 abbrev pub is_mutex : Objects → ℕ → Bool
 is_mutex o id = is_some (object_of o.mutexes id)
 
--- a call of a task
+-- a call that only a task may make
 abbrev pub of_task : KernState → Objects → Actor → (ℕ → ObjectRow) → ObjectRow
 of_task k o (Task who) f = f who
 of_task k o Interrupt f = refused k o errors.NotIsrCallable
@@ -64,7 +65,7 @@ made_unless None k o v = by_semaphores o (plain.create (sems k o) v) (Answer k.n
 abbrev pub made : KernState → Objects → Semaphore → ObjectRow
 made k o v = made_unless (plain.create_refusal (sems k o)) k o v
 
--- semBCreate: empty or full
+-- semBCreate: initially empty or full
 abbrev pub binary_with : KernState → Objects → ℕ → Option SemOptions → ObjectRow
 binary_with k o state None = refused k o errors.InvalidOption
 binary_with k o state (Some options) =
@@ -117,7 +118,7 @@ mutex_take k o who id n = mutex_take_unless (mutex.take_refusal who n (object_of
 abbrev pub take_row : KernState → Objects → Actor → ℕ → ℕ → ObjectRow
 take_row k o a id n = of_task k o a (λ who. if is_mutex o id then mutex_take k o who id n else plain_take k o who id n)
 
--- ---- semGive: an interrupt routine gives no mutex
+-- ---- semGive: an interrupt routine may not give a mutex
 abbrev pub plain_give_unless : Option Errno → KernState → Objects → ℕ → ObjectRow
 plain_give_unless (Some e) k o id = refused k o e
 plain_give_unless None k o id = by_semaphores o (plain.give (sems k o) id) (Answer ok_word)
@@ -135,7 +136,7 @@ mutex_give k o who id = mutex_give_unless (mutex.give_refusal who (object_of o.m
 abbrev pub give_row : KernState → Objects → Actor → ℕ → ObjectRow
 give_row k o a id = if is_mutex o id then of_task k o a (λ who. mutex_give k o who id) else plain_give k o id
 
--- ---- semFlush: a mutex is not flushed
+-- ---- semFlush: a mutex can't be flushed
 abbrev pub flush_unless : Option Errno → KernState → Objects → ℕ → ObjectRow
 flush_unless (Some e) k o id = refused k o e
 flush_unless None k o id = by_semaphores o (plain.flush (sems k o) id) (Answer ok_word)

@@ -28,12 +28,12 @@ create_unless None k s = row_of (record k { next_id = k.next_id + 1 }) (created 
 abbrev pub create_row : KernState → WatchState → WatchRow
 create_row k s = create_unless (create_refusal (length s.watchdogs) k.next_id) k s
 
--- the others are refused where no watchdog of the id lives
+-- the other calls are refused if no watchdog with the id lives
 abbrev pub live_reply : Option Watchdog → Reply
 live_reply None = Refusal errors.ObjIdError
 live_reply (Some w) = Answer ok_word
 
--- wdStart: from this tick on
+-- wdStart: the delay counts from this tick
 abbrev pub routine_of : ℕ → ℕ → Routine
 routine_of entry param = record { entry = entry; param = param }
 

@@ -17,10 +17,12 @@ use std::alloc::Global;
 use wind_base::{Errno, NoMemory};
 use wind_core::{Kern, Took};
 
-// The message priority that goes in front (VxWorks 5.4 Reference Manual, msgQSend: MSG_PRI_URGENT).
+// The message priority that puts a message at the head of the queue (VxWorks 5.4 Reference Manual,
+// msgQSend: MSG_PRI_URGENT).
 const URGENT: u32 = 1;
 
-/// msgQCreate: a queue of at most `max_msgs` messages of at most `max_len` bytes. For want of memory nothing changes.
+/// msgQCreate: makes a queue of at most `max_msgs` messages of at most `max_len` bytes. If memory
+/// runs out, nothing changes.
 pub fn create(
     alloc: Global,
     kern: &mut Kern,
@@ -46,7 +48,7 @@ pub fn create(
     }
 }
 
-// The caller, where it is a task.
+// The caller, if it is a task.
 fn task_in(who: Actor) -> Option<Ident>
     ensures { result ≡ task_in_lem who }
 {
@@ -61,16 +63,16 @@ fn task_in(who: Actor) -> Option<Ident>
 pub struct SendWords {
     /// The address of the message.
     pub buffer: u32,
-    /// Its count of bytes.
+    /// The length of the message in bytes.
     pub count: u32,
-    /// How many ticks the sender waits for room.
+    /// How many ticks the sender waits for room in the queue.
     pub timeout: u32,
-    /// 1 puts the message in front.
+    /// 1 puts the message at the head of the queue.
     pub priority: u32,
 }
 
-/// msgQSend: a message of RAM goes to who waits for one, or into the queue, or its sender waits for room, so many
-/// ticks or without end.
+/// msgQSend: sends a message from RAM. A waiting receiver gets it, or it goes into the queue. If
+/// the queue is full, the sender waits for room, with or without a timeout in ticks.
 pub fn send(
     kern: &mut Kern,
     objects: &mut Objects,
@@ -82,11 +84,11 @@ pub fn send(
     requires live { Acts kern.old who }
     requires ready { MayCall kern.old who }
     requires kept { KeepsObjects kern.old objects.old }
-    requires ram { length ram.old ≡ ram_bytes }
+    requires ram { length ram.old.bytes ≡ ram_bytes }
     requires since { kern.old.next_since < 2 ^ 62 }
     requires tick { kern.old.tick < 2 ^ 62 }
-    ensures row { row_of (scene kern.new objects.new.queues ram.new) result
-        ≡ send_row (scene kern.old objects.old.queues ram.old) id
+    ensures row { row_of (scene kern.new objects.new.queues ram.new.bytes) result
+        ≡ send_row (scene kern.old objects.old.queues ram.old.bytes) id
         (sending who words.buffer words.count words.timeout words.priority) }
     ensures rest { objects.new ≡ record objects.old { queues = objects.new.queues } }
 {
@@ -104,8 +106,8 @@ pub fn send(
     }
 }
 
-/// msgQReceive, of a task: the first message is put into RAM, and its count of bytes answered, or the task waits for
-/// one. Refused at interrupt level.
+/// msgQReceive, from a task: puts the first message into RAM and answers its length in bytes, or
+/// waits for a message. Refused at interrupt level.
 pub fn receive(
     kern: &mut Kern,
     objects: &mut Objects,
@@ -117,11 +119,11 @@ pub fn receive(
     requires live { Acts kern.old who }
     requires ready { MayCall kern.old who }
     requires kept { KeepsObjects kern.old objects.old }
-    requires ram { length ram.old ≡ ram_bytes }
+    requires ram { length ram.old.bytes ≡ ram_bytes }
     requires since { kern.old.next_since < 2 ^ 62 }
     requires tick { kern.old.tick < 2 ^ 62 }
-    ensures row { row_of (scene kern.new objects.new.queues ram.new) result
-        ≡ receive_row (scene kern.old objects.old.queues ram.old) who id words.buffer words.count words.timeout }
+    ensures row { row_of (scene kern.new objects.new.queues ram.new.bytes) result
+        ≡ receive_row (scene kern.old objects.old.queues ram.old.bytes) who id words.buffer words.count words.timeout }
     ensures rest { objects.new ≡ record objects.old { queues = objects.new.queues } }
 {
     let Actor::Task(caller) = who else {
@@ -143,15 +145,15 @@ pub fn receive(
 /// What `msgQReceive` asks for.
 #[derive(Clone, Copy)]
 pub struct ReceiveWords {
-    /// The address at which the message is put.
+    /// The address where the message goes.
     pub buffer: u32,
-    /// How many bytes of it are put there at most.
+    /// The most bytes of it that go there.
     pub count: u32,
     /// How many ticks the task waits for a message.
     pub timeout: u32,
 }
 
-/// msgQDelete: all who wait at the queue go on, and it is gone. Refused where none lives.
+/// msgQDelete: deletes the queue; all tasks that wait for it go on. Refused if no such queue lives.
 pub fn delete(kern: &mut Kern, objects: &mut Objects, id: u32) -> Reply
     requires since { kern.old.next_since < 2 ^ 62 }
     ensures row { (ram : List ℕ) → row_of (scene kern.new objects.new.queues ram) result
@@ -164,7 +166,7 @@ pub fn delete(kern: &mut Kern, objects: &mut Objects, id: u32) -> Reply
     }
 }
 
-/// msgQNumMsgs: how many messages the queue holds. Refused where none lives.
+/// msgQNumMsgs: how many messages the queue holds. Refused if no such queue lives.
 pub fn count(objects: &Objects, id: u32) -> Reply
     ensures { result ≡ count_reply (count_of (object_of objects.now.queues.queues id)) }
 {

@@ -1,4 +1,4 @@
-//! The calls on semaphores and mutexes, and the priority that a task is given.
+//! The calls on semaphores and mutexes, and taskPrioritySet.
 
 ghost use Rattle.std.specs.Prelude.{◌≡◌, false};
 ghost use Rattle.wind_core.specs.State.{Lives};
@@ -13,8 +13,8 @@ use kernel_world::{Actor, DONE, Objects, Reply, target};
 use wind_base::{Errno, Pri, SemKind, SemOptions};
 use wind_core::{Kern, Took};
 
-/// semBCreate: a binary semaphore with these options, in state 0 or 1. Refused where an option isn't allowed, the
-/// state is another, as many semaphores live as may, or no id is left.
+/// semBCreate: makes a binary semaphore with these options, in state 0 or 1. Refused if an option
+/// isn't allowed, if the state is another, if no more semaphores may live, or if no id is left.
 pub fn create_binary(kern: &mut Kern, objects: &mut Objects, options: u32, state: u32) -> Reply
     requires home { kern.old.lent ≡ false }
     requires kept { KeepsObjects kern.old objects.old }
@@ -35,8 +35,8 @@ pub fn create_binary(kern: &mut Kern, objects: &mut Objects, options: u32, state
     }
 }
 
-/// semCCreate: a counting semaphore with these options and this count. Refused where an option isn't allowed, as many
-/// semaphores live as may, or no id is left.
+/// semCCreate: makes a counting semaphore with these options and this count. Refused if an option
+/// isn't allowed, if no more semaphores may live, or if no id is left.
 pub fn create_counting(kern: &mut Kern, objects: &mut Objects, options: u32, count: u32) -> Reply
     requires home { kern.old.lent ≡ false }
     requires kept { KeepsObjects kern.old objects.old }
@@ -54,8 +54,8 @@ pub fn create_counting(kern: &mut Kern, objects: &mut Objects, options: u32, cou
     }
 }
 
-/// semMCreate: a mutex with these options. Refused where an option isn't allowed, as many mutexes live as may, or no id
-/// is left.
+/// semMCreate: makes a mutex with these options. Refused if an option isn't allowed, if no more
+/// mutexes may live, or if no id is left.
 pub fn create_mutex(kern: &mut Kern, objects: &mut Objects, options: u32) -> Reply
     requires home { kern.old.lent ≡ false }
     requires kept { KeepsObjects kern.old objects.old }
@@ -97,8 +97,9 @@ fn take_mutex(kern: &mut Kern, objects: &mut Objects, who: Ident, id: u32, timeo
     }
 }
 
-/// semTake, of a task: it takes the semaphore or the mutex of an id, or waits for it, so many ticks or without end.
-/// Refused at interrupt level, where none lives, or where it has to wait and may not.
+/// semTake, from a task: takes the semaphore or mutex with this id, or waits for it, with or
+/// without a timeout in ticks. Refused at interrupt level, if no such object lives, or if the task
+/// would have to wait and may not.
 pub fn take(kern: &mut Kern, objects: &mut Objects, who: Actor, id: u32, timeout: u32) -> Reply
     requires live { Acts kern.old who }
     requires kept { KeepsObjects kern.old objects.old }
@@ -140,8 +141,9 @@ fn give_mutex(kern: &mut Kern, objects: &mut Objects, who: Ident, id: u32) -> Re
     }
 }
 
-/// semGive: the semaphore or the mutex of an id goes to the first who waits for it, or is free. Refused where none
-/// lives, and of a mutex at interrupt level or to one that doesn't own it.
+/// semGive: gives the semaphore or mutex with this id to the first task that waits for it; if none
+/// waits, it is free. Refused if no such object lives. A mutex is also refused at interrupt level
+/// and to a task that doesn't own it.
 pub fn give(kern: &mut Kern, objects: &mut Objects, who: Actor, id: u32) -> Reply
     requires live { Acts kern.old who }
     requires kept { KeepsObjects kern.old objects.old }
@@ -157,7 +159,8 @@ pub fn give(kern: &mut Kern, objects: &mut Objects, who: Actor, id: u32) -> Repl
     }
 }
 
-/// semFlush: all who wait for a semaphore go on. Refused where none lives, and of a mutex.
+/// semFlush: all tasks that wait for a semaphore go on. Refused for a mutex, and if no such
+/// semaphore lives.
 pub fn flush(kern: &mut Kern, objects: &mut Objects, id: u32) -> Reply
     requires early { PlainEarly kern.old }
     ensures row { row_of kern.new objects.new result ≡ flush_row kern.old objects.old id }
@@ -171,7 +174,8 @@ pub fn flush(kern: &mut Kern, objects: &mut Objects, id: u32) -> Reply
     }
 }
 
-/// semDelete: all who wait for the semaphore or the mutex of an id go on, and it is gone. Refused where none lives.
+/// semDelete: deletes the semaphore or mutex with this id; all tasks that wait for it go on.
+/// Refused if no such object lives.
 pub fn delete(kern: &mut Kern, objects: &mut Objects, id: u32) -> Reply
     requires kept { KeepsObjects kern.old objects.old }
     requires early { IsEarly (mutexes kern.old objects.old) }
@@ -188,8 +192,8 @@ pub fn delete(kern: &mut Kern, objects: &mut Objects, id: u32) -> Reply
     }
 }
 
-/// taskPrioritySet: the priority that a task is given, 0 to 255. Refused where no such task lives, then at another
-/// priority.
+/// taskPrioritySet: sets the priority of a task, 0 to 255. Refused if no such task lives, then if
+/// the priority is above 255.
 pub fn set_priority(kern: &mut Kern, objects: &mut Objects, who: Actor, id: u32, pri: u32) -> Reply
     requires live { Acts kern.old who }
     requires kept { KeepsObjects kern.old objects.old }

@@ -11,7 +11,7 @@ use kernel_world::{DONE, Reply};
 use wind_base::Errno;
 use wind_core::Kern;
 
-/// wdCreate: a watchdog. Refused where as many live as may, or no id is left.
+/// wdCreate: makes a watchdog. Refused if no more watchdogs may live, or if no id is left.
 pub fn create(kern: &mut Kern, watch: &mut Watch) -> Reply
     requires home { kern.old.lent ≡ false }
     requires below { AllBelow kern.old.next_id watch.old }
@@ -23,7 +23,8 @@ pub fn create(kern: &mut Kern, watch: &mut Watch) -> Reply
     }
 }
 
-/// wdStart: the routine is due so many ticks from now on. Refused where no watchdog of the id lives.
+/// wdStart: the watchdog's routine is due `delay` ticks from now. Refused if no such watchdog
+/// lives.
 pub fn start(kern: &Kern, watch: &mut Watch, id: u32, delay: u32, routine: Routine) -> Reply
     requires tick { kern.now.tick < 2 ^ 63 }
     requires next { watch.old.next_start < 2 ^ 63 }
@@ -35,7 +36,7 @@ pub fn start(kern: &Kern, watch: &mut Watch, id: u32, delay: u32, routine: Routi
     }
 }
 
-/// wdCancel: the watchdog runs no more. Refused where none lives.
+/// wdCancel: stops the watchdog. Refused if no such watchdog lives.
 pub fn cancel(watch: &mut Watch, id: u32) -> Reply
     ensures reply { result ≡ live_reply (watchdog_of watch.old.watchdogs id) }
     ensures watch { watch.new ≡ cancel watch.old id }
@@ -46,7 +47,7 @@ pub fn cancel(watch: &mut Watch, id: u32) -> Reply
     }
 }
 
-/// wdDelete: the watchdog is gone. Refused where none lives.
+/// wdDelete: deletes the watchdog. Refused if no such watchdog lives.
 pub fn delete(watch: &mut Watch, id: u32) -> Reply
     ensures reply { result ≡ live_reply (watchdog_of watch.old.watchdogs id) }
     ensures watch { watch.new ≡ delete watch.old id }

@@ -4,7 +4,7 @@ ghost use Rattle.std.specs.Prelude.{◌≡◌, [], ◌∷◌, ◌++◌, IfSome, 
 
 use std::alloc::AllocError;
 
-/// The log with one more entry. None, from then on, if memory ran out for an entry.
+/// The log with one more entry. None, from then on, if there is no memory for an entry.
 pub(crate) fn with_entry<T: Drop>(
     log: Option<Vec<T>>,
     entry: Result<T, AllocError>,

@@ -29,13 +29,14 @@ pub enum FetchOutcome {
 pub struct LoggedFetch {
     /// The name of the file.
     pub name: String,
-    /// The most bytes that the file may have.
+    /// The greatest length in bytes that was allowed.
     pub limit: u32,
     /// How it ended.
     pub outcome: FetchOutcome,
 }
 
-/// A folder that logs each fetch from another, in order, as long as there is memory for the log.
+/// A folder that passes each fetch on to another, and logs it, in order, as long as there is memory
+/// for the log.
 #[derive(Drop)]
 pub struct LoggedFolder<F: Folder + Drop> {
     folder: F,
@@ -43,7 +44,7 @@ pub struct LoggedFolder<F: Folder + Drop> {
 }
 
 impl<F: Folder + Drop> LoggedFolder<F> {
-    /// A log of this folder, without a fetch.
+    /// A log of this folder, without fetches.
     pub fn new(alloc: Global, folder: F) -> LoggedFolder<F>
         ensures folder { result.folder ≡ folder }
         ensures log { requests_told result.log ≡ Some [] }
@@ -62,7 +63,7 @@ impl<F: Folder + Drop> LoggedFolder<F> {
     }
 }
 
-// How a fetch that gave this answer ended.
+// How a fetch with this result ended.
 fn outcome_of(answer: &Fetched) -> FetchOutcome
     ensures { outcome_seen result ≡ outcome_of_lem answer.now }
 {
@@ -75,7 +76,7 @@ fn outcome_of(answer: &Fetched) -> FetchOutcome
     }
 }
 
-// The entry for a fetch.
+// The log entry of a fetch.
 fn entry_of(
     alloc: Global,
     name: &str,

@@ -14,7 +14,7 @@ mod tests {
     use std::test::Fail;
     use wind_outside::{Folder, MemFolder, MemSink, Put, Sink};
 
-    // With ample memory every fetch is logged, in order, also one that fails.
+    // With ample memory every fetch is logged, in order, even one that fails.
     #[test]
     fn logs_fetches(rt: HostRuntime) -> Result<(), Fail> {
         let alloc = rt.alloc();
@@ -39,7 +39,7 @@ mod tests {
         Ok(())
     }
 
-    // With ample memory every put is logged, in order, also one that fails.
+    // With ample memory every put is logged, in order, even one that fails.
     #[test]
     fn logs_puts(rt: HostRuntime) -> Result<(), Fail> {
         let alloc = rt.alloc();

@@ -18,7 +18,8 @@ pub struct LoggedPut {
     pub outcome: Put,
 }
 
-/// A sink that logs each put to another, in order, as long as there is memory for the log.
+/// A sink that passes each put on to another, and logs it, in order, as long as there is memory for
+/// the log.
 #[derive(Drop)]
 pub struct LoggedSink<S: Sink + Drop> {
     alloc: Global,
@@ -27,7 +28,7 @@ pub struct LoggedSink<S: Sink + Drop> {
 }
 
 impl<S: Sink + Drop> LoggedSink<S> {
-    /// A log of this sink, without a put.
+    /// A log of this sink, without puts.
     pub fn new(alloc: Global, sink: S) -> LoggedSink<S>
         ensures sink { result.sink ≡ sink }
         ensures log { pieces_told result.log ≡ Some [] }
@@ -47,7 +48,7 @@ impl<S: Sink + Drop> LoggedSink<S> {
     }
 }
 
-// The entry for a put.
+// The log entry of a put.
 fn entry_of(alloc: Global, piece: &[u8], outcome: Put) -> Result<LoggedPut, AllocError>
     ensures { IfOk result (λ entry. piece_seen entry ≡ piece_of piece.now outcome) }
 {

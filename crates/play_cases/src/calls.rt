@@ -1,10 +1,10 @@
-//! The calls that sessions make of the folder and of the sink.
+//! The calls that sessions make to the folder and the sink.
 
 use crate::session::{Failing, Logged, Session};
 use outside_log::{LoggedFetch, LoggedPut};
 use std::io;
 
-// Tells each fetch, in order.
+// Prints each fetch, in order.
 fn tell_fetches<R: Print + AllocGlobal>(
     rt: &R,
     name: &str,
@@ -20,7 +20,7 @@ fn tell_fetches<R: Print + AllocGlobal>(
     Ok(())
 }
 
-// Tells each put, in order.
+// Prints each put, in order.
 fn tell_puts<R: Print + AllocGlobal>(
     rt: &R,
     name: &str,
@@ -35,7 +35,7 @@ fn tell_puts<R: Print + AllocGlobal>(
     Ok(())
 }
 
-// Tells the calls of a session.
+// Prints the calls of a session.
 fn tell_calls<R: Print + AllocGlobal>(
     rt: &R,
     name: &str,
@@ -52,7 +52,7 @@ fn tell_calls<R: Print + AllocGlobal>(
     }
 }
 
-/// The calls that fail, one in each session.
+/// The calls that fail, one for each session.
 const FAILING: [Failing; 4] = [
     Failing::Nothing,
     Failing::Fetch(2),
@@ -60,7 +60,8 @@ const FAILING: [Failing; 4] = [
     Failing::Put(4),
 ];
 
-/// Plays a session in which nothing fails, and then those in which a call fails, and tells every fetch and every put.
+/// Plays a session in which nothing fails, and then those in which one call fails. Prints every
+/// fetch and every put.
 pub fn calls<R: Print + AllocGlobal>(rt: &R, session: &Session) -> io::Result<()> {
     for failing in FAILING {
         let logged = session.play_logged(rt.alloc(), failing)?;

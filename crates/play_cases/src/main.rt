@@ -1,5 +1,6 @@
-//! Plays sessions in each of which one call of the folder or of the sink fails, and tells how they ended, and which calls
-//! they made; and sessions of one line, and tells how many pages of RAM they made.
+//! Plays sessions in which one call of the folder or the sink fails, and prints how they ended and
+//! which calls they made. It also plays sessions of one line, and prints how many pages of RAM they
+//! make.
 #![tactic(auto)]
 
 mod calls;

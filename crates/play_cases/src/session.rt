@@ -1,4 +1,4 @@
-//! One session, of which one call may fail.
+//! One session, in which one call may fail.
 
 use outside_log::{LoggedFolder, LoggedSink};
 use std::alloc::{AllocError, Global};
@@ -9,7 +9,7 @@ use wind_session::{Ending, Stand, Status, play};
 /// The most bytes that a session writes.
 const ROOM: u32 = 4096;
 
-/// The most steps of a session, where nothing else is said.
+/// The most steps of a session, unless a limit is given.
 pub const STEPS: u64 = 1_000_000;
 
 /// Two object files.
@@ -24,8 +24,11 @@ pub struct Objects {
 /// The call that fails, by its number from 1.
 #[derive(Clone, Copy)]
 pub enum Failing {
+    /// No call fails.
     Nothing,
+    /// The fetch with this number fails.
     Fetch(u64),
+    /// The put with this number fails.
     Put(u64),
 }
 
@@ -57,20 +60,21 @@ impl Failing {
     }
 }
 
-/// What a session left.
+/// What a session leaves.
 #[derive(Clone, Copy)]
 pub struct Left {
-    /// Its status.
+    /// The session's status.
     pub status: Status,
-    /// How many steps the board made; None where none was booted.
+    /// How many steps the board made; `None` if no board was booted.
     pub steps: Option<u64>,
-    /// How many pages of its RAM are made.
+    /// How many pages of its RAM are made; `None` if no board was booted.
     pub pages: Option<u32>,
 }
 
-/// What a session left, with what it wrote.
+/// What a session leaves, and what it wrote.
 #[derive(Drop)]
 pub struct Outcome {
+    /// What the session leaves.
     pub left: Left,
     out: MemSink,
 }
@@ -82,21 +86,23 @@ impl Outcome {
     }
 }
 
-/// What a session left, with its calls of the folder and of the sink.
+/// The calls that a session made to the folder and the sink.
 #[derive(Drop)]
 pub struct Logged {
+    /// The folder, with its log of fetches.
     pub folder: LoggedFolder<MemFolder>,
+    /// The sink, with its log of puts.
     pub out: LoggedSink<MemSink>,
 }
 
 /// A session.
 #[derive(Clone, Copy)]
 pub struct Session<'a> {
-    /// Its name in the tables.
+    /// The session's name in the tables.
     pub name: &'a str,
-    /// What its console file holds.
+    /// The contents of its console file.
     pub console: &'a str,
-    /// Of what its modules are made.
+    /// The object files of its modules.
     pub objects: &'a Objects,
 }
 
@@ -130,13 +136,14 @@ fn played<F: Folder, O: Sink>(
     left_of(&ending)
 }
 
-// A sink of which these puts fail.
+// A sink in which these puts fail.
 fn sink(alloc: Global, failing: Vec<u64>) -> Result<MemSink, AllocError> {
     MemSink::reserved(alloc, ROOM, failing).or(Err(AllocError))
 }
 
 impl<'a> Session<'a> {
-    // A folder with the console file, a tick file without a line, and three modules, of which two are one file.
+    // A folder with the console file, a tick file without lines, and three modules, two of which
+    // are the same file.
     fn folder(&self, alloc: Global, failing: Failing) -> Result<MemFolder, AllocError> {
         let mut folder = MemFolder::new(alloc, failing.fetches(alloc)?);
         let files: [(&str, &[u8]); 5] = [
@@ -154,7 +161,7 @@ impl<'a> Session<'a> {
         Ok(folder)
     }
 
-    /// Plays it, with so many steps at most, where one call fails.
+    /// Plays the session with at most `limit` steps, in which one call fails.
     pub fn play(&self, alloc: Global, failing: Failing, limit: u64) -> Result<Outcome, AllocError> {
         let limit = limit.to_string(alloc)?;
         let mut out = sink(alloc, failing.puts(alloc)?)?;
@@ -164,7 +171,7 @@ impl<'a> Session<'a> {
         Ok(Outcome { left, out })
     }
 
-    /// Plays it where one call fails, with a log of the calls of the folder and of the sink.
+    /// Plays the session, in which one call fails, and logs the calls to the folder and the sink.
     pub fn play_logged(&self, alloc: Global, failing: Failing) -> Result<Logged, AllocError> {
         let limit = STEPS.to_string(alloc)?;
         let out = sink(alloc, failing.puts(alloc)?)?;

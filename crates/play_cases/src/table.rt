@@ -4,7 +4,7 @@ use crate::session::{Failing, Left, Objects, Outcome, STEPS, Session};
 use std::alloc::{AllocError, Global};
 use std::io;
 
-// How many steps were made.
+// The text for how many steps were made.
 fn steps_text(alloc: Global, left: &Left) -> Result<String, AllocError> {
     match left.steps {
         Some(1) => "1 step".to_string(alloc),
@@ -13,7 +13,7 @@ fn steps_text(alloc: Global, left: &Left) -> Result<String, AllocError> {
     }
 }
 
-// Tells how a session ended, with all that it wrote.
+// Prints how a session ended, and all that it wrote.
 fn tell_whole<R: Print + AllocGlobal>(
     rt: &R,
     session: &Session,
@@ -29,7 +29,7 @@ fn tell_whole<R: Print + AllocGlobal>(
     println!(rt; "{name}, {failing}: status {status}, {steps}, {count} bytes: {text:?}")
 }
 
-// Plays a session in which one call fails, and tells how it ended, with all that it wrote.
+// Plays a session in which one call fails, and prints how it ended and all that it wrote.
 fn whole_row<R: Print + AllocGlobal>(
     rt: &R,
     session: &Session,
@@ -39,8 +39,8 @@ fn whole_row<R: Print + AllocGlobal>(
     tell_whole(rt, session, failing, &outcome)
 }
 
-/// Plays a session in which nothing fails, and then those in which the first fetch, the second or the third fails. Each
-/// row has all that was written.
+/// Plays a session in which nothing fails, and then those in which the first, the second or the
+/// third fetch fails. Each row has all that was written.
 pub fn fetches<R: Print + AllocGlobal>(rt: &R, session: &Session) -> io::Result<()> {
     whole_row(rt, session, Failing::Nothing)?;
     for call in 1..=3 {
@@ -49,7 +49,8 @@ pub fn fetches<R: Print + AllocGlobal>(rt: &R, session: &Session) -> io::Result<
     Ok(())
 }
 
-// How what was written lies to what is written where nothing fails, by all steps and by those before the last.
+// How the output compares with that of the session in which nothing fails: with all of it, and with
+// that of the steps before the last.
 fn standing(outcome: &Outcome, whole: &Outcome, before: &Outcome) -> &'static str {
     if !whole.bytes().starts_with(outcome.bytes()) {
         return "not a front of the whole";
@@ -60,7 +61,7 @@ fn standing(outcome: &Outcome, whole: &Outcome, before: &Outcome) -> &'static st
     "a front of the whole, with all that the steps before the last wrote"
 }
 
-// Tells how a session ended in which a put fails.
+// Prints how a session ended in which a put fails.
 fn tell_put<R: Print + AllocGlobal>(
     rt: &R,
     session: &Session,
@@ -75,7 +76,7 @@ fn tell_put<R: Print + AllocGlobal>(
     println!(rt; "{name}, {failing}: status {status}, {steps}, {count} bytes: {told}")
 }
 
-// Plays a session in which a put fails, and tells how it ended.
+// Plays a session in which a put fails, and prints how it ended.
 fn put_row<R: Print + AllocGlobal>(
     rt: &R,
     session: &Session,
@@ -90,7 +91,7 @@ fn put_row<R: Print + AllocGlobal>(
     tell_put(rt, session, failing, &outcome, told)
 }
 
-// Plays those in which the first put fails, the second and so on.
+// Plays the sessions in which the first put fails, the second, and so on.
 fn put_rows<R: Print + AllocGlobal>(
     rt: &R,
     session: &Session,
@@ -104,14 +105,14 @@ fn put_rows<R: Print + AllocGlobal>(
     put_row(rt, session, most.saturating_add(1), whole)
 }
 
-/// Plays a session in which nothing fails, and then those in which the first put fails, the second and so on, up to one
-/// put more than the `most` that the session makes.
+/// Plays a session in which nothing fails, and then those in which the first put fails, the second,
+/// and so on. The last one fails at put `most` + 1, one more than the session makes.
 pub fn puts<R: Print + AllocGlobal>(rt: &R, session: &Session, most: u64) -> io::Result<()> {
     let whole = session.play(rt.alloc(), Failing::Nothing, STEPS)?;
     put_rows(rt, session, most, &whole)
 }
 
-// Plays a session of a line, and tells how many pages of RAM are made when it ends.
+// Plays a session of one line, and prints how many pages of RAM are made when it ends.
 fn pages_row<R: Print + AllocGlobal>(rt: &R, line: &str, objects: &Objects) -> io::Result<()> {
     let session = Session {
         name: line,
@@ -126,11 +127,12 @@ fn pages_row<R: Print + AllocGlobal>(rt: &R, line: &str, objects: &Objects) -> i
     }
 }
 
-/// Lines of a console, with nothing behind them.
+/// Lines of a console, each with nothing after it.
 const LINES: [&str; 4] = ["", "1+2", "x = 7; x = 7; &x", "*0x1ffe = 7"];
 
-/// Plays a session of each line, in which nothing fails, and tells how many pages of RAM are made when it ends: a variable
-/// is a block at the foot of the pool, which is in one page, and the last line writes a word of two pages.
+/// Plays a session of each line, in which nothing fails, and prints how many pages of RAM are made
+/// when it ends. A variable is a block at the beginning of the pool, in one page; the last line
+/// writes a word that spans two pages.
 pub fn pages<R: Print + AllocGlobal>(rt: &R, objects: &Objects) -> io::Result<()> {
     for line in LINES {
         pages_row(rt, line, objects)?;

@@ -1,14 +1,14 @@
-//! One case: instructions, what stands before them, and what has to stand after them.
+//! One case: instructions, the state before them, and the state that must follow.
 
 use crate::state::State;
 use case_files::{Player, Trouble, number};
 use ppc_core::exec;
 use std::alloc::Global;
 
-/// No case makes more steps.
+/// The greatest number of steps of a case.
 const MOST_STEPS: u32 = 64;
 
-/// Plays cases, each over a state of its own.
+/// Plays cases, each with a state of its own.
 #[derive(Drop)]
 pub struct Cases {
     alloc: Global,
@@ -19,8 +19,11 @@ impl Player for Cases {
         Ok(Cases { alloc })
     }
 
-    /// Plays a line `NAME | WORDS | BEFORE | AFTER`. What AFTER doesn't name is as before, but for the program
-    /// counter, which stands behind the last word.
+    /// Plays a line `NAME
+    /// WORDS
+    /// BEFORE
+    /// AFTER`. What AFTER doesn't name is as before, except the program counter, which is after the
+    /// last word.
     fn play(&mut self, line: &str) -> Result<Option<String>, Trouble> {
         let mut parts = line.split('|');
         let (Some(_name), Some(words), Some(before), Some(after), None) = (
@@ -43,7 +46,7 @@ impl Player for Cases {
     }
 }
 
-// Instructions in hexadecimal digits.
+// Instruction words in hexadecimal digits.
 fn code_of(alloc: Global, words: &str) -> Result<Vec<u32>, Trouble> {
     let mut code = Vec::new(alloc);
     for word in words.split_whitespace() {
@@ -52,7 +55,7 @@ fn code_of(alloc: Global, words: &str) -> Result<Vec<u32>, Trouble> {
     Ok(code)
 }
 
-// Makes the instructions of one state, and compares it with the other.
+// Executes the instructions on one state, and compares it with the other.
 fn are_equal(
     made: &mut State,
     wanted: &mut State,
@@ -72,7 +75,7 @@ fn are_equal(
     Ok(made.shows_as(wanted))
 }
 
-// Steps from word to word until a trap, or until the program counter leaves them.
+// Executes instructions until a trap, or until the program counter leaves the words.
 fn run(state: &mut State, code: &[u32])
     requires { Unit {0} }
 {

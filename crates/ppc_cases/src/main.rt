@@ -1,5 +1,5 @@
-//! Plays instructions over registers and memory that files describe, and compares what they leave with what
-//! the files say.
+//! Executes instructions on registers and memory described in files, and compares the results with
+//! those in the files.
 #![tactic(auto)]
 
 mod case;
@@ -9,7 +9,7 @@ use case::Cases;
 use case_files::play_files;
 use std::io;
 
-/// Plays the cases of each file that the words name.
+/// Plays the cases of each file named by the program's arguments.
 fn main(rt: HostRuntime) -> io::Result<()> {
     play_files::<Cases, _>(&rt)
 }

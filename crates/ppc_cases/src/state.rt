@@ -1,4 +1,4 @@
-//! What an instruction sees and changes, written as text.
+//! What an instruction reads and writes, as text.
 
 use board_bus::BoardBus;
 use board_mem::Ram;
@@ -8,23 +8,26 @@ use std::alloc::Global;
 use std::fmt::Write;
 use wind_base::{NoMemory, Regs};
 
-/// Where the instructions of a case stand, if it says nothing else.
+/// The address of the instructions of a case, unless the case sets it.
 const CODE: u32 = 0x10_0000;
 
-/// How many bytes of RAM there are.
+/// The size of RAM in bytes.
 const SIZE: u32 = 0x1000;
 
-/// Registers, memory, and the trap that came.
+/// Registers, memory, and the trap that occurred.
 #[derive(Drop)]
 pub struct State {
+    /// The registers.
     pub regs: Regs,
+    /// The bus, with RAM and no devices.
     pub bus: BoardBus,
+    /// The trap. None if there was none.
     pub trap: Option<Trap>,
 }
 
 impl State {
-    /// What a case begins with: in each general register four bytes of one more than its number, and in each
-    /// byte of RAM its address modulo 251.
+    /// The state before a case: each byte of a general register is the register's number plus one,
+    /// and each byte of RAM is its address modulo 251.
     pub fn opening(alloc: Global) -> Result<State, NoMemory> {
         let mut ram = Ram::new(alloc, SIZE)?;
         for at in 0..SIZE {
@@ -50,8 +53,8 @@ impl State {
         })
     }
 
-    /// Takes items as `r3=7fffffff`, `cr=90000000`, `@40=deadbeef` for the word at an address, and
-    /// `trap=align`.
+    /// Reads items such as `r3=7fffffff`, `cr=90000000`, `@40=deadbeef` for the word at an address,
+    /// and `trap=align`.
     pub fn take(&mut self, items: &str) -> Result<(), Trouble>
         requires { Unit {0} }
     {
@@ -83,13 +86,13 @@ impl State {
         Ok(())
     }
 
-    // The general register of a number.
+    // The general register with this number.
     fn general(&mut self, number: &str) -> Result<&mut u32, Trouble> {
         let number = number.parse::<usize>().or(Err(Trouble::Unreadable))?;
         self.regs.gpr.get_mut(number).ok_or(Trouble::Unreadable)
     }
 
-    // The register of a name.
+    // The register with this name.
     fn special(&mut self, name: &str) -> Result<&mut u32, Trouble> {
         match name {
             "cr" => Ok(&mut self.regs.cr),
@@ -101,14 +104,14 @@ impl State {
         }
     }
 
-    /// The registers and the trap.
+    /// The registers and the trap, as text.
     pub fn shown(&self, alloc: Global) -> Result<String, Trouble> {
         let mut text = String::new(alloc);
         write!(text, "{:?} {:?}", self.regs, self.trap).or(Err(Trouble::NoMemory))?;
         Ok(text)
     }
 
-    /// Whether all that an outside processor shows is equal: everything but the reservation.
+    /// Whether everything that a reference processor shows is equal: all but the reservation.
     pub fn shows_as(&self, other: &State) -> bool {
         self.regs.gpr == other.regs.gpr
             && self.regs.cr == other.regs.cr

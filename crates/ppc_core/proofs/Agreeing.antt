@@ -1,10 +1,10 @@
--- Words that are read alike have one effect.
+-- Words that are read alike have the same effect.
 use Rattle.std.proofs.Common.{◌≡◌, ℕ, ◌+◌, ◌<◌, List, [], ◌∷◌, sym, ◌∙◌}
 use Rattle.ppc_core.specs.Words.{bits}
 use Rattle.ppc_core.specs.Fields.{rt, ra, rb, ui, high_ui, si, mb, me, oe, rc, bf, bfa, spr, li, bd, aa, lk, bo, fxm}
 use Rattle.ppc_core.specs.Names.{FieldName, RT, RS, RA, RB, TO, BO, BI, BT, BA, BB, SH, MB, ME, BF, BFA, SI, UI, D, BD, LI, FXM, SPR, AA, LK, OE, Rc, place_of, IsRead, AreRead}
 
--- two words are read alike as the field of a name
+-- two words are read alike as the field with a name
 abbrev pub IsSame : FieldName → ℕ → ℕ → Type 0
 IsSame RT v w = rt v ≡ rt w
 IsSame RS v w = rt v ≡ rt w

@@ -24,7 +24,7 @@ pub field-bit : (w low width j : ℕ) → j < width → w / 2 ^ low % 2 ^ width 
 field-bit w low width j lt =
     low-bit (w / 2 ^ low) width j lt ∙ ap (λ k. k % 2) (shr-shr w low j)
 
--- bit j of two numbers, one above the other
+-- bit j of the lower of two numbers, one above the other
 lower-bit : (high width low j : ℕ) → j < width → (high * 2 ^ width + low) / 2 ^ j % 2 ≡ low / 2 ^ j % 2
 lower-bit high width low j lt =
     sym (low-bit (high * 2 ^ width + low) width j lt)
@@ -35,7 +35,7 @@ lower-bit high width low j lt =
 pub one-bit : (w n : ℕ) → bits w n n ≡ w / 2 ^ (31 - n) % 2
 one-bit w n = let e : n + 1 - n ≡ 1 = omega arith in ap (λ k. w / 2 ^ (31 - n) % 2 ^ k) e
 
--- a word with a number in some bits, from the number on as one
+-- a word with another number in some bits: the bits before it and that number are one number, above the bits after it
 joined : (w first last value low width high : ℕ) → 31 - last ≡ low → last + 1 - first ≡ width → 32 - first ≡ high → low + width ≡ high → with_bits w first last value ≡ (w / 2 ^ high * 2 ^ width + value) * 2 ^ low + w % 2 ^ low
 joined w first last value low width high a b c d =
     let p : 2 ^ high ≡ 2 ^ width * 2 ^ low = let e : high ≡ width + low = omega arith in ap (λ k. 2 ^ k) e ∙ pow-add 2 width low in
@@ -49,7 +49,7 @@ module _ (w first last value : ℕ) (order : first ≤ last) (end : last < 32) (
   above_low : with_bits w first last value / 2 ^ (31 - last) ≡ w / 2 ^ (32 - first) * 2 ^ (last + 1 - first) + value
   above_low = ap (λ n. n / 2 ^ (31 - last)) is ∙ div-mul-add (w / 2 ^ (32 - first) * 2 ^ (last + 1 - first) + value) (2 ^ (31 - last)) (w % 2 ^ (31 - last)) (mod_below w (2 ^ (31 - last)) (pow_pos (31 - last)))
 
-  -- the bits behind the number stay
+  -- the bits after the number stay
   pub bits-behind : (i : ℕ) → last < i → i < 32 → bits (with_bits w first last value) i i ≡ bits w i i
   bits-behind i h lt =
       one-bit (with_bits w first last value) i

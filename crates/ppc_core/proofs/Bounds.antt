@@ -25,6 +25,6 @@ joined-lt word at width k value w is p v =
 pub with_bits-lt : (word first last value : ℕ) → word < 2 ^ 32 → first ≤ last → last < 32 → value < 2 ^ (last + 1 - first) → with_bits word first last value < 2 ^ 32
 with_bits-lt word first last value w p q v = joined-lt word (31 - last) (last + 1 - first) (32 - first) value w (omega arith) (omega arith) v
 
--- of two bits
+-- the OR of two bits
 pub or_of_bits : (a b : ℕ) → a < 2 → b < 2 → bit_or a b < 2
 or_of_bits a b p q = or_lt 1 a b p q

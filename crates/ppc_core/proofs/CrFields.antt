@@ -22,7 +22,7 @@ bit-of_field s k i lt a b =
     ∙ ap (λ n. s / 2 ^ n % 2) e
     ∙ sym (one-bit s i)
 
--- a word with field k of another, or as it was
+-- a word with field k of another, or unchanged
 abbrev one_moved : Bool → ℕ → ℕ → ℕ → ℕ
 one_moved t before s k = if t then with_bits before (4 * k) (4 * k + 3) (bits s (4 * k) (4 * k + 3)) else before
 
@@ -38,7 +38,7 @@ here true before s k i lt a b =
     ∙ bit-of_field s k i lt a b
 
 module _ (cr s w : ℕ) where
-  -- the fields that aren't reached stay
+  -- the fields that aren't reached yet stay
   moved-after : (n i : ℕ) → n ≤ 8 → 4 * n ≤ i → i < 32 → bits (moved_fields cr s w n) i i ≡ bits cr i i
   moved-after zero i le h lt = refl
   moved-after (suc k) i le h lt =

@@ -1,4 +1,4 @@
--- The effect of a word, by the instruction that it is.
+-- The effect of a word, by its instruction.
 use Rattle.std.proofs.Common.{◌≡◌, ℕ, ◌^◌, ◌<◌, Option, Some, None, refl, ap}
 use Rattle.ppc_word.specs.declared.row.Row.{Row}
 use Rattle.ppc_word.specs.declared.insn.Insn.{Insn}

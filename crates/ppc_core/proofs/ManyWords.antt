@@ -1,4 +1,4 @@
--- Registers that take many words.
+-- Registers loaded with several words.
 use Rattle.std.proofs.Common.{◌≡◌, ◌≢◌, ℕ, zero, suc, ◌+◌, ◌*◌, ◌%◌, ◌<◌, ◌≤◌, true, eq-eqb, length, set, refl, sym, ap, ◌∙◌, ◌⊎◌, inl, inr, arith}
 use Rattle.std.proofs.lemmas.List.{length-set, get_or-set_same, get_or-set_other}
 use Rattle.wind_base.specs.declared.regs.Regs.{Regs}
@@ -55,7 +55,7 @@ module _ {B : Type 0} (m : Meaning B) (r : Regs) (b : B) (t at : ℕ) where
   gpr-kept (suc n) j lt =
       gpr-other (with_words m r b t at n) (t + n) (m.answer (words_loaded m b at n) 4 (at + 4 * n)) j (omega arith) ∙ gpr-kept n j lt
 
--- an access to words that are all in RAM, at a multiple of 4, is made
+-- an access to words that are all in RAM, at a multiple of 4, is executed
 pub in_ram-made : {B : Type 0} (m : Meaning B) (b : B) (at n : ℕ) (outcome : Outcome B) → at % 4 ≡ 0 → all_ram m b at n ≡ true → in_ram m b at n outcome ≡ outcome
 in_ram-made m b at n outcome aligned there = rw (eq-eqb (at % 4) 0 aligned, there) refl
 

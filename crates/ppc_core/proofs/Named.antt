@@ -1,4 +1,4 @@
--- Execution reads the fields of an instruction's word as those of the instruction.
+-- Execution reads the fields of an instruction's word as the instruction's fields.
 use Rattle.std.proofs.Common.{◌≡◌, ℕ, zero, suc, ◌+◌, ◌-◌, ◌*◌, ◌/◌, ◌%◌, ◌^◌, ◌<◌, ◌≤◌, Bool, true, false, cond, ◌&&◌, nat_eq, List, [], ◌∷◌, ◌++◌, replicate, refl, sym, ap, subst, ◌∙◌, arith, eqb-true}
 use Rattle.std.specs.Prelude.{map}
 use Rattle.std.proofs.lemmas.Bool.{and_parts}
@@ -63,7 +63,7 @@ read-at Rc w = refl
 abbrev names : List FieldName
 names = RT ∷ RA ∷ RB ∷ MB ∷ ME ∷ BF ∷ BFA ∷ SI ∷ BD ∷ LI ∷ FXM ∷ SPR ∷ AA ∷ LK ∷ OE ∷ []
 
--- a place is that of one of these names
+-- one of these names has this place
 abbrev is_named : List FieldName → ℕ × ℕ → Bool
 is_named [] p = false
 is_named (n ∷ ns) p = cond (nat_eq (place_of n).0 p.0 && nat_eq (place_of n).1 p.1) true (is_named ns p)

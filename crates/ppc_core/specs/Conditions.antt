@@ -5,15 +5,16 @@ use Rattle.ppc_core.specs.Words.{bits, with_bits, signed}
 use Rattle.ppc_core.specs.Fields.{rt, ra, rb, bf, fxm}
 use Rattle.ppc_core.specs.Registers.{so, order, with_cr_field}
 
--- the field BF takes how two words compare, as signed and as they are
+-- CR field BF becomes the result of a signed comparison of two words
 unfoldable pub with_signed_order : Regs → ℕ → ℕ → ℕ → Regs
 with_signed_order r w x y =
     with_cr_field r (bf w) (order (int_lt (signed x) (signed y)) (int_lt (signed y) (signed x)) (so r))
 
+-- CR field BF becomes the result of an unsigned comparison of two words
 unfoldable pub with_order : Regs → ℕ → ℕ → ℕ → Regs
 with_order r w x y = with_cr_field r (bf w) (order (nat_lt x y) (nat_lt y x) (so r))
 
--- whether a bit of TO is set whose relation holds: less, greater, equal, less and greater as unsigned
+-- whether a bit of TO is set and its relation holds: less and greater as signed, equal, less and greater as unsigned
 unfoldable pub traps : ℕ → ℕ → ℕ → Bool
 traps w x y =
     (bits w 6 6 == 1 && int_lt (signed x) (signed y))
@@ -22,18 +23,19 @@ traps w x y =
     || (bits w 9 9 == 1 && nat_lt x y)
     || (bits w 10 10 == 1 && nat_lt y x)
 
--- the bits BA and BB of the condition register
+-- CR bit BA
 abbrev pub in_ba : Regs → ℕ → ℕ
 in_ba r w = bits r.cr (ra w) (ra w)
 
+-- CR bit BB
 abbrev pub in_bb : Regs → ℕ → ℕ
 in_bb r w = bits r.cr (rb w) (rb w)
 
--- bit BT takes a bit
+-- CR bit BT is set to a bit
 unfoldable pub with_bt : Regs → ℕ → ℕ → Regs
 with_bt r w value = record r { cr = with_bits r.cr (rt w) (rt w) value }
 
--- a bit turned
+-- the other bit
 abbrev pub turned : ℕ → ℕ
 turned bit = 1 - bit
 
@@ -41,21 +43,22 @@ turned bit = 1 - bit
 abbrev pub cr_field : Regs → ℕ → ℕ
 cr_field r n = bits r.cr (4 * n) (4 * n + 3)
 
--- SO, OV and CA, which are all that XER holds
+-- SO, OV and CA, which are all that XER holds here
 abbrev pub flags : Regs → ℕ
 flags r = bits r.xer 0 2
 
--- the condition register with those of its first n fields taken from a word that FXM names
+-- the condition register with those of its first n fields that FXM names taken from a word
 abbrev pub moved_fields : ℕ → ℕ → ℕ → ℕ → ℕ
 moved_fields cr s w zero = cr
 moved_fields cr s w (suc k) =
     let before = moved_fields cr s w k in
     if fxm w k == 1 then with_bits before (4 * k) (4 * k + 3) (bits s (4 * k) (4 * k + 3)) else before
 
--- the special registers: 1 is XER, 8 LR, 9 CTR
+-- the content of a special register: 1 is XER, 8 is LR, 9 is CTR
 abbrev pub special : Regs → ℕ → ℕ
 special r n = if n == 1 then flags r * 2 ^ 29 else (if n == 8 then r.lr else r.ctr)
 
+-- a special register is set; XER takes only SO, OV and CA
 abbrev pub with_special : Regs → ℕ → ℕ → Regs
 with_special r n value =
     if n == 1

@@ -14,7 +14,7 @@ ra w = bits w 11 15
 unfoldable pub rb : ℕ → ℕ
 rb w = bits w 16 20
 
--- UI, an unsigned number
+-- UI, an unsigned 16-bit number
 unfoldable pub ui : ℕ → ℕ
 ui w = bits w 16 31
 
@@ -22,7 +22,7 @@ ui w = bits w 16 31
 unfoldable pub high_ui : ℕ → ℕ
 high_ui w = bits w 16 31 * 2 ^ 16
 
--- SI and D, a signed number, as a word
+-- SI or D, a signed 16-bit number, extended to a word
 unfoldable pub si : ℕ → ℕ
 si w = sign_extended 16 (bits w 16 31)
 
@@ -33,44 +33,46 @@ mb w = bits w 21 25
 unfoldable pub me : ℕ → ℕ
 me w = bits w 26 30
 
--- OE, whether XER records overflow
+-- OE: the instruction records overflow in XER
 unfoldable pub oe : ℕ → Bool
 oe w = bits w 21 21 == 1
 
--- Rc, whether CR0 records the result
+-- Rc: the instruction records the result in CR0
 unfoldable pub rc : ℕ → Bool
 rc w = bits w 31 31 == 1
 
--- BF and BFA, fields of the condition register
+-- BF, the number of a CR field
 unfoldable pub bf : ℕ → ℕ
 bf w = bits w 6 8
 
+-- BFA, the number of a CR field
 unfoldable pub bfa : ℕ → ℕ
 bfa w = bits w 11 13
 
--- SPR, the number of a special register, whose halves stand swapped in the word
+-- SPR, the number of a special register, whose halves are swapped in the word
 unfoldable pub spr : ℕ → ℕ
 spr w = bits w 16 20 * 2 ^ 5 + bits w 11 15
 
--- LI and BD, displacements of a branch: with two zero bits behind them, signed, as words
+-- LI, the displacement of a branch: two zero bits are appended, and it is sign-extended to a word
 unfoldable pub li : ℕ → ℕ
 li w = sign_extended 26 (bits w 6 29 * 4)
 
+-- BD, the displacement of a conditional branch, in the same way
 unfoldable pub bd : ℕ → ℕ
 bd w = sign_extended 16 (bits w 16 29 * 4)
 
--- AA, whether a branch goes to its displacement as an address
+-- AA: the displacement of a branch is an address
 unfoldable pub aa : ℕ → Bool
 aa w = bits w 30 30 == 1
 
--- LK, whether a branch writes LR
+-- LK: the branch sets LR
 unfoldable pub lk : ℕ → Bool
 lk w = bits w 31 31 == 1
 
--- a bit of BO, from 0 to 4
+-- bit k of BO, for k from 0 to 4
 abbrev pub bo : ℕ → ℕ → ℕ
 bo w k = bits w (6 + k) (6 + k)
 
--- a bit of FXM, from 0 to 7
+-- bit k of FXM, for k from 0 to 7
 abbrev pub fxm : ℕ → ℕ → ℕ
 fxm w k = bits w (12 + k) (12 + k)

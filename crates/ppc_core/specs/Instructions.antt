@@ -1,4 +1,4 @@
--- What each instruction does: one equation a row, in the order of the books.
+-- The effect of each instruction: one equation for each row, in the order of the books.
 use Rattle.std.specs.Prelude.{ℕ, ◌-◌, ◌*◌, ◌%◌, ◌^◌, Bool, true, if◌then◌else◌, Option, Some, None, bit_and, bit_or, bit_xor}
 use Rattle.std.specs.Int.{leading_zeros, w32}
 use Rattle.ppc_word.specs.declared.row.Row.{Row}
@@ -25,7 +25,7 @@ use Rattle.ppc_core.specs.Multiples.{load_multiple_of, store_multiple_of, load_a
 abbrev pub done : {B : Type 0} → Regs → B → Outcome B
 done r b = Done (next r) b
 
--- a trap, or nothing
+-- a trap if the condition holds, otherwise nothing but the next instruction
 abbrev pub trap_where : {B : Type 0} → Bool → Regs → B → Outcome B
 trap_where trapped r b = if trapped then Trapped trap.TrapInsn else done r b
 
@@ -37,7 +37,7 @@ module _ {B : Type 0} (m : Meaning B) where
   effect_of row.Bclr r w b = Done (with_test_and_branch r w r.lr) b
   effect_of row.Bcctr r w b = Done (with_test_and_branch r w r.ctr) b
   effect_of row.Sc r w b = Trapped trap.Sysc
-  -- the condition register (2.4.3, 2.4.4)
+  -- condition register (2.4.3, 2.4.4)
   effect_of row.Crand r w b = done (with_bt r w (bit_and (in_ba r w) (in_bb r w))) b
   effect_of row.Cror r w b = done (with_bt r w (bit_or (in_ba r w) (in_bb r w))) b
   effect_of row.Crxor r w b = done (with_bt r w (bit_xor (in_ba r w) (in_bb r w))) b
@@ -156,7 +156,7 @@ module _ {B : Type 0} (m : Meaning B) where
   effect_of row.Sync r w b = done r b
   effect_of row.Eieio r w b = done r b
 
-  -- one instruction: what its row says, and Illegal outside the table
+  -- the effect of an optional row: that of the row, or Illegal if there is none
   abbrev pub row_effect : Option Row → Regs → ℕ → B → Outcome B
   row_effect None r w b = Trapped trap.Illegal
   row_effect (Some row) r w b = effect_of row r w b

@@ -1,4 +1,4 @@
--- What follows of the equations of the instructions, in the book's words.
+-- What follows from the equations of the instructions, in the book's terms.
 use Rattle.std.specs.Prelude.{◌≡◌, ℕ, ◌/◌, ◌^◌, ◌<◌, ◌==◌, Some, if◌then◌else◌}
 use Rattle.ppc_word.specs.declared.row.Row.TheVariants as row
 use Rattle.ppc_word.specs.declared.insn.Insn.{Insn}
@@ -16,25 +16,25 @@ use Rattle.ppc_core.specs.Registers.{in_rs, next}
 use Rattle.ppc_core.specs.Names.{AreRead}
 use Rattle.ppc_core.specs.Instructions.{effect_of, exec_of}
 
--- a word has the fields of an instruction, where execution reads them
+-- a word has the fields of an instruction, as execution reads them
 abbrev pub HasFields : Insn → ℕ → Type 0
 HasFields i w = AreRead (field_places (form_of i.row).pieces) i.fields w
 
 module _ {B : Type 0} (m : Meaning B) where
-  -- each word does what its instruction does. The instruction that `decode` makes of a word is the only one with this word
+  -- each word does what its instruction does; the instruction that `decode` finds is the only one with this word
   pub record InstructionLaw : Type 0 where
-    -- execution reads each field of an instruction's word as the field of this name of the instruction
+    -- execution reads each field of an instruction's word as its name says
     pub fields : (i : Insn) → HasFields i (word_of i)
-    -- the word's effect is that of the instruction's row with the instruction's fields, whichever word has them
+    -- the word's effect is that of the instruction's row, with any word that has the instruction's fields
     pub effect :
         (i : Insn) (w : ℕ) → HasFields i w → (r : Regs) (b : B) →
         exec_of m r (word_of i) b ≡ effect_of m i.row r w b
-    -- a word of no instruction is illegal
+    -- a word without an instruction is illegal
     pub illegal :
         (w : ℕ) → w < 2 ^ 32 → ((i : Insn) → word_of i ≡ w → ⊥) → (r : Regs) (b : B) →
         exec_of m r w b ≡ Trapped trap.Illegal
 
-  -- mtcrf is done: bit i of CR is that of (RS) exactly if FXM names its field, and no other register changes but the next address
+  -- mtcrf doesn't trap: bit i of CR becomes that of (RS) exactly if FXM names its field, and nothing else changes but the program counter
   abbrev pub MoveToCrLaw : Type 0
   MoveToCrLaw =
       (r : Regs) (w : ℕ) (b : B) → row_of w ≡ Some row.Mtcrf → (s : Regs)

@@ -1,9 +1,10 @@
--- The fields of instructions by their names in the book (Book I 1.7): where each stands, and how execution reads it.
+-- The fields of instructions by their names in the book (Book I 1.7): the place of each, and how execution reads it.
 use Rattle.std.specs.Prelude.{◌≡◌, ℕ, ◌+◌, ◌-◌, ◌*◌, ◌/◌, ◌%◌, ◌^◌, ◌<◌, ◌==◌, IsTrue, List, [], ◌∷◌}
 use Rattle.ppc_word.specs.Words.{all_zero}
 use Rattle.ppc_core.specs.Words.{bits, sign_extended}
 use Rattle.ppc_core.specs.Fields.{rt, ra, rb, ui, high_ui, si, mb, me, oe, rc, bf, bfa, spr, li, bd, aa, lk, bo, fxm}
 
+-- the names of the fields
 pub data FieldName : Type 0 where
   RT : FieldName
   RS : FieldName
@@ -61,12 +62,12 @@ place_of LK = (31, 1)
 place_of OE = (21, 1)
 place_of Rc = (31, 1)
 
--- bit k of a field of some bits, counted from its most significant
+-- bit k of a field, counted from its most significant bit
 abbrev pub bit_of : ℕ → ℕ → ℕ → ℕ
 bit_of width f k = f / 2 ^ (width - 1 - k) % 2
 
--- execution reads this number as the field of this name in a word: an immediate with its sign or as the high half of a word, the
--- halves of SPR swapped, a displacement of a branch with two zero bits after it, TO, BO and FXM bit by bit, all others as they are
+-- execution reads this number as the field with this name: an immediate with its sign or as the high half of a word,
+-- SPR with its halves swapped, a displacement of a branch with two zero bits appended, TO, BO and FXM bit by bit, all others as they are
 abbrev pub IsRead : FieldName → ℕ → ℕ → Type 0
 IsRead RT f w = rt w ≡ f
 IsRead RS f w = rt w ≡ f
@@ -95,8 +96,8 @@ IsRead LK f w = lk w ≡ (f == 1)
 IsRead OE f w = oe w ≡ (f == 1)
 IsRead Rc f w = rc w ≡ (f == 1)
 
--- execution reads these numbers at these places of a word: each place has a name, and each of its names reads its number. The numbers
--- left over are 0
+-- execution reads these numbers at these places of a word: each place has a name, and each of its names reads its number;
+-- the numbers left over are 0
 abbrev pub AreRead : List (ℕ × ℕ) → List ℕ → ℕ → Type 0
 AreRead [] fs w = IsTrue (all_zero fs)
 AreRead (p ∷ ps) [] w = ⊥

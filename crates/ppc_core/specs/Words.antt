@@ -6,27 +6,27 @@ use Rattle.std.specs.Int.{cast_signed, w32}
 abbrev pub bits : ℕ → ℕ → ℕ → ℕ
 bits word first last = word / 2 ^ (31 - last) % 2 ^ (last + 1 - first)
 
--- the word with this number in bits `first` to `last`: what stands before them, the number, and what stands behind
+-- the word with another number in bits `first` to `last`; the bits before and after them stay
 abbrev pub with_bits : ℕ → ℕ → ℕ → ℕ → ℕ
 with_bits word first last value =
     word / 2 ^ (32 - first) * 2 ^ (32 - first) + value * 2 ^ (31 - last) + word % 2 ^ (31 - last)
 
--- a word with every bit turned
+-- a word with every bit inverted
 abbrev pub complement : ℕ → ℕ
 complement word = 2 ^ 32 - 1 - word
 
--- a number of so many bits, with its sign carried on to a word
+-- a number of the given number of bits, sign-extended to a word
 abbrev pub sign_extended : ℕ → ℕ → ℕ
 sign_extended width n = if nat_lt n (2 ^ (width - 1)) then n else n + (2 ^ 32 - 2 ^ width)
 
--- the signed reading of a word
+-- a word, read as signed
 abbrev pub signed : ℕ → ℤ
 signed word = cast_signed w32 word
 
--- whether a number is the signed reading of some word
+-- whether a number is a word, read as signed
 abbrev pub fits : ℤ → Bool
 fits z = int_le (negsuc (2 ^ 31 - 1)) z && int_lt z (pos (2 ^ 31))
 
--- 1 for true
+-- 1 for true, 0 for false
 abbrev pub bit : Bool → ℕ
 bit b = if b then 1 else 0

@@ -1,4 +1,4 @@
-//! Sums, products and quotients.
+//! Sums, products and quotients (Book I, 3.3.8).
 
 ghost use Rattle.std.specs.Prelude.{◌≡◌, ◌<◌, ◌*ℤ◌};
 ghost use Rattle.ppc_core.specs.Words.{signed};
@@ -8,7 +8,7 @@ use crate::words::{is_word, signed_of};
 use crate::{fields, registers};
 use wind_base::Regs;
 
-/// The sum of two words and a carry.
+/// The low 32 bits of the sum of two words and a carry.
 #[inline(always)]
 pub fn sum_of(x: u32, y: u32, c: u32) -> u32
     ensures { result ≡ arithmetic.sum x y c }
@@ -16,7 +16,7 @@ pub fn sum_of(x: u32, y: u32, c: u32) -> u32
     ((x as u64 + y as u64 + c as u64) % 0x1_0000_0000) as u32
 }
 
-/// The carry out of a sum.
+/// The carry out of that sum: 0 or 1.
 #[inline(always)]
 fn carry_of(x: u32, y: u32, c: u32) -> u32
     requires { c < 2 }
@@ -26,7 +26,7 @@ fn carry_of(x: u32, y: u32, c: u32) -> u32
     ((x as u64 + y as u64 + c as u64) / 0x1_0000_0000) as u32
 }
 
-/// Whether a sum, read as signed, doesn't fit a word.
+/// Whether that sum, read as signed, overflows a word.
 #[inline(always)]
 fn overflows(x: u32, y: u32, c: u32) -> bool
     requires { c < 2 }
@@ -35,7 +35,7 @@ fn overflows(x: u32, y: u32, c: u32) -> bool
     !is_word(signed_of(x) + signed_of(y) + i64::from(c))
 }
 
-/// RT takes a sum, and CA its carry.
+/// Sets RT to a sum, and CA to its carry.
 #[tactic(auto, unfolding(crate::specs::Arithmetic::with_carrying))]
 #[inline(always)]
 pub fn set_carrying(x: u32, y: u32, c: u32, regs: &mut Regs, word: u32)
@@ -46,7 +46,7 @@ pub fn set_carrying(x: u32, y: u32, c: u32, regs: &mut Regs, word: u32)
     registers::write(fields::rt(word), sum_of(x, y, c), regs);
 }
 
-/// RT takes a sum, with OE and Rc.
+/// Sets RT to a sum; OE and Rc are respected.
 #[tactic(auto, unfolding(crate::specs::Arithmetic::with_sum))]
 #[inline(always)]
 pub fn set_sum(x: u32, y: u32, c: u32, regs: &mut Regs, word: u32)
@@ -56,7 +56,7 @@ pub fn set_sum(x: u32, y: u32, c: u32, regs: &mut Regs, word: u32)
     registers::set_checked_result(sum_of(x, y, c), overflows(x, y, c), regs, word);
 }
 
-/// The same, and CA takes its carry.
+/// Sets RT to a sum and CA to its carry; OE and Rc are respected.
 #[tactic(auto, unfolding(crate::specs::Arithmetic::with_sum_carrying))]
 #[inline(always)]
 pub fn set_sum_carrying(x: u32, y: u32, c: u32, regs: &mut Regs, word: u32)
@@ -67,7 +67,7 @@ pub fn set_sum_carrying(x: u32, y: u32, c: u32, regs: &mut Regs, word: u32)
     set_sum(x, y, c, regs, word);
 }
 
-/// The product of two words read as signed.
+/// The product of two words, read as signed.
 #[inline(always)]
 fn multiply(x: u32, y: u32) -> i64
     ensures { result ≡ signed x *ℤ signed y }
@@ -75,7 +75,7 @@ fn multiply(x: u32, y: u32) -> i64
     signed_of(x) * signed_of(y)
 }
 
-/// The same, as a number of 64 bits.
+/// The same, as a 64-bit number.
 #[inline(always)]
 fn signed_bits(x: u32, y: u32) -> u64
     ensures { result ≡ arithmetic.signed_product x y }
@@ -83,7 +83,7 @@ fn signed_bits(x: u32, y: u32) -> u64
     multiply(x, y).cast_unsigned()
 }
 
-/// The low word of the product of two words read as signed.
+/// The low word of the product of two words, read as signed.
 #[inline(always)]
 pub fn low_signed(x: u32, y: u32) -> u32
     ensures { result ≡ arithmetic.low_signed x y }
@@ -91,7 +91,7 @@ pub fn low_signed(x: u32, y: u32) -> u32
     (signed_bits(x, y) % 0x1_0000_0000) as u32
 }
 
-/// The high word of the product of two words read as signed.
+/// The high word of the product of two words, read as signed.
 #[inline(always)]
 pub fn high_signed(x: u32, y: u32) -> u32
     ensures { result ≡ arithmetic.high_signed x y }
@@ -99,7 +99,7 @@ pub fn high_signed(x: u32, y: u32) -> u32
     (signed_bits(x, y) / 0x1_0000_0000) as u32
 }
 
-/// The high word of the product of two words.
+/// The high word of the product of two words, read as unsigned.
 #[inline(always)]
 pub fn high_unsigned(x: u32, y: u32) -> u32
     ensures { result ≡ arithmetic.high_unsigned x y }
@@ -107,7 +107,7 @@ pub fn high_unsigned(x: u32, y: u32) -> u32
     ((x as u64 * y as u64) / 0x1_0000_0000) as u32
 }
 
-/// Whether the product of two words read as signed doesn't fit a word.
+/// Whether the product of two words, read as signed, overflows a word.
 #[inline(always)]
 fn product_overflows(x: u32, y: u32) -> bool
     ensures { result ≡ arithmetic.product_overflows x y }
@@ -115,7 +115,7 @@ fn product_overflows(x: u32, y: u32) -> bool
     !is_word(multiply(x, y))
 }
 
-/// RT takes the low word of a product, with OE and Rc.
+/// Sets RT to the low word of a product; OE and Rc are respected.
 #[inline(always)]
 pub fn set_product(x: u32, y: u32, regs: &mut Regs, word: u32)
     ensures { regs.new ≡ arithmetic.with_product regs.old word x y }
@@ -123,7 +123,7 @@ pub fn set_product(x: u32, y: u32, regs: &mut Regs, word: u32)
     registers::set_checked_result(low_signed(x, y), product_overflows(x, y), regs, word);
 }
 
-/// RT takes a quotient, with OE and Rc. By 0 it is 0 and doesn't fit.
+/// Sets RT to an unsigned quotient; OE and Rc are respected. A quotient by 0 is 0, and overflows.
 #[inline(always)]
 pub fn set_quotient(x: u32, y: u32, regs: &mut Regs, word: u32)
     ensures { regs.new ≡ arithmetic.with_quotient regs.old word x y }
@@ -132,7 +132,7 @@ pub fn set_quotient(x: u32, y: u32, regs: &mut Regs, word: u32)
     registers::set_checked_result(value, y == 0, regs, word);
 }
 
-/// Whether two words read as signed have no quotient that fits.
+/// Whether two words, read as signed, have no quotient that fits a word.
 #[inline(always)]
 fn lacks_quotient(x: u32, y: u32) -> bool
     ensures { result ≡ arithmetic.lacks_quotient x y }
@@ -140,7 +140,7 @@ fn lacks_quotient(x: u32, y: u32) -> bool
     y == 0 || (x == 0x8000_0000 && y == 0xffff_ffff)
 }
 
-/// The quotient of two words read as signed, and 0 where there is none.
+/// The quotient of two words, read as signed. 0 if there is none.
 #[inline(always)]
 fn signed_quotient(x: u32, y: u32) -> u32
     ensures { result ≡ arithmetic.signed_quotient x y }
@@ -151,7 +151,7 @@ fn signed_quotient(x: u32, y: u32) -> u32
     (x.cast_signed() / y.cast_signed()).cast_unsigned()
 }
 
-/// RT takes the quotient of two words read as signed, with OE and Rc.
+/// Sets RT to the quotient of two words, read as signed; OE and Rc are respected.
 #[inline(always)]
 pub fn set_signed_quotient(x: u32, y: u32, regs: &mut Regs, word: u32)
     ensures { regs.new ≡ arithmetic.with_signed_quotient regs.old word x y }

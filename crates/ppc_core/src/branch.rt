@@ -1,4 +1,4 @@
-//! Branches.
+//! Branches (Book I, 2.4.1).
 
 ghost use Rattle.std.specs.Prelude.{◌≡◌};
 ghost use Rattle.ppc_core.specs.Branches as branch;
@@ -7,7 +7,7 @@ use crate::fields;
 use crate::words::bits_of;
 use wind_base::Regs;
 
-/// CTR, which falls by 1 where bit 2 of BO is 0.
+/// CTR, minus 1 if bit 2 of BO is 0.
 #[inline(always)]
 fn count(regs: &Regs, word: u32) -> u32
     ensures { result ≡ branch.counted regs.now word }
@@ -19,7 +19,7 @@ fn count(regs: &Regs, word: u32) -> u32
     }
 }
 
-/// Whether the counted CTR lets the branch go.
+/// Whether CTR after the decrement allows the branch.
 #[inline(always)]
 fn ctr_ok(regs: &Regs, word: u32) -> bool
     ensures { result ≡ branch.ctr_ok regs.now word }
@@ -28,7 +28,7 @@ fn ctr_ok(regs: &Regs, word: u32) -> bool
     fields::bo(word, 2) == 1 || fields::bo(word, 3) == zero
 }
 
-/// Whether the bit BI of the condition register lets the branch go.
+/// Whether CR bit BI allows the branch.
 #[inline(always)]
 fn cond_ok(regs: &Regs, word: u32) -> bool
     ensures { result ≡ branch.cond_ok regs.now word }
@@ -37,7 +37,7 @@ fn cond_ok(regs: &Regs, word: u32) -> bool
     fields::bo(word, 0) == 1 || bits_of(regs.cr, n, n) == fields::bo(word, 1)
 }
 
-/// A displacement from the branch, or with AA an address.
+/// The target of a branch: an address if AA is set, otherwise a displacement from the branch.
 #[inline(always)]
 pub fn from_here(displacement: u32, regs: &Regs, word: u32) -> u32
     ensures { result ≡ branch.from_here regs.now word displacement }
@@ -49,7 +49,8 @@ pub fn from_here(displacement: u32, regs: &Regs, word: u32) -> u32
     }
 }
 
-/// Goes to a target where taken, and else on; with LK the return goes to LR.
+/// Goes to the target if the branch is taken, and otherwise to the next instruction. With LK, sets
+/// LR to the address of the next instruction.
 #[tactic(auto, unfolding(crate::specs::Branches::with_branch))]
 #[inline(always)]
 pub fn go(taken: bool, target: u32, regs: &mut Regs, word: u32)
@@ -62,7 +63,7 @@ pub fn go(taken: bool, target: u32, regs: &mut Regs, word: u32)
     regs.pc = if taken { target / 4 * 4 } else { after };
 }
 
-/// A branch by BO and BI.
+/// A branch that tests BO and BI.
 #[tactic(auto, unfolding(crate::specs::Branches::with_test_and_branch))]
 #[inline(always)]
 pub fn test_and_go(target: u32, regs: &mut Regs, word: u32)

@@ -8,7 +8,7 @@ use crate::words::{bits_of, set_bits, signed_of};
 use crate::{fields, registers};
 use wind_base::Regs;
 
-/// The field BF takes how two words compare as signed.
+/// Sets CR field BF to the result of a signed comparison of two words.
 #[tactic(auto, unfolding(crate::specs::Conditions::with_signed_order))]
 #[inline(always)]
 pub fn compare_signed(x: u32, y: u32, regs: &mut Regs, word: u32)
@@ -19,7 +19,7 @@ pub fn compare_signed(x: u32, y: u32, regs: &mut Regs, word: u32)
     registers::set_cr_field(fields::bf(word), order, regs);
 }
 
-/// The field BF takes how two words compare.
+/// Sets CR field BF to the result of an unsigned comparison of two words.
 #[tactic(auto, unfolding(crate::specs::Conditions::with_order))]
 #[inline(always)]
 pub fn compare(x: u32, y: u32, regs: &mut Regs, word: u32)
@@ -38,7 +38,7 @@ fn holds(word: u32, at: u8, relation: bool) -> bool
     bits_of(word, at, at) == 1 && relation
 }
 
-/// Whether a bit of TO is set whose relation holds of two words.
+/// Whether a bit of TO is set and its relation holds for two words.
 #[tactic(auto, unfolding(crate::specs::Conditions::traps))]
 #[inline(always)]
 pub fn is_trapped(x: u32, y: u32, word: u32) -> bool
@@ -53,7 +53,7 @@ pub fn is_trapped(x: u32, y: u32, word: u32) -> bool
     less | greater | equal | below | above
 }
 
-/// The bit BA of the condition register.
+/// CR bit BA.
 #[inline(always)]
 pub fn in_ba(regs: &Regs, word: u32) -> u32
     ensures is { result ≡ condition.in_ba regs.now word }
@@ -63,7 +63,7 @@ pub fn in_ba(regs: &Regs, word: u32) -> u32
     bits_of(regs.cr, n, n)
 }
 
-/// The bit BB of the condition register.
+/// CR bit BB.
 #[inline(always)]
 pub fn in_bb(regs: &Regs, word: u32) -> u32
     ensures is { result ≡ condition.in_bb regs.now word }
@@ -73,7 +73,7 @@ pub fn in_bb(regs: &Regs, word: u32) -> u32
     bits_of(regs.cr, n, n)
 }
 
-/// A bit turned.
+/// The other bit: 1 for 0, 0 for 1.
 #[inline(always)]
 pub fn turn(bit: u32) -> u32
     requires { bit < 2 }
@@ -83,7 +83,7 @@ pub fn turn(bit: u32) -> u32
     1 - bit
 }
 
-/// The bit BT takes a bit.
+/// Sets CR bit BT.
 #[tactic(auto, unfolding(crate::specs::Conditions::with_bt))]
 #[inline(always)]
 pub fn set_bt(value: u32, regs: &mut Regs, word: u32)
@@ -94,7 +94,7 @@ pub fn set_bt(value: u32, regs: &mut Regs, word: u32)
     regs.cr = set_bits(regs.cr, n, n, value);
 }
 
-/// A field of the condition register.
+/// Field `n` of the condition register, from 0 to 7.
 #[inline(always)]
 pub fn cr_field(regs: &Regs, n: u32) -> u32
     requires { n < 8 }
@@ -104,7 +104,7 @@ pub fn cr_field(regs: &Regs, n: u32) -> u32
     bits_of(regs.cr, 4 * n as u8, 4 * n as u8 + 3)
 }
 
-/// SO, OV and CA of XER.
+/// SO, OV and CA of XER, as a 3-bit number.
 #[inline(always)]
 pub fn flags(regs: &Regs) -> u32
     ensures is { result ≡ condition.flags regs.now }
@@ -113,7 +113,7 @@ pub fn flags(regs: &Regs) -> u32
     bits_of(regs.xer, 0, 2)
 }
 
-/// The condition register with the fields that FXM names from a word.
+/// The condition register after the fields named by FXM are taken from a word.
 pub fn moved(cr: u32, s: u32, word: u32) -> u32
     ensures { result ≡ condition.moved_fields cr s word 8 }
 {
@@ -126,7 +126,7 @@ pub fn moved(cr: u32, s: u32, word: u32) -> u32
     made
 }
 
-/// A special register.
+/// The special register `n`: 1 is XER, 8 is LR, 9 is CTR.
 #[inline(always)]
 pub fn special(regs: &Regs, n: u32) -> u32
     ensures { result ≡ condition.special regs.now n }
@@ -138,7 +138,7 @@ pub fn special(regs: &Regs, n: u32) -> u32
     }
 }
 
-/// A special register takes a word.
+/// Sets the special register `n`.
 #[inline(always)]
 pub fn set_special(n: u32, value: u32, regs: &mut Regs)
     ensures { regs.new ≡ condition.with_special regs.old n value }

@@ -1,4 +1,4 @@
-//! One instruction.
+//! The execution of one instruction.
 
 ghost use Rattle.std.specs.Prelude.{◌≡◌};
 ghost use Rattle.ppc_core.specs.Instructions.{trap_where, effect_of, exec_of};
@@ -18,7 +18,7 @@ use crate::{arithmetic, branch, condition, logic, multiple, registers};
 use ppc_word::{Row, row_for};
 use wind_base::Regs;
 
-/// A trap, or the next instruction.
+/// Traps if `trapped` is set, and otherwise goes to the next instruction.
 #[inline(always)]
 fn trap_if<B: Bus>(trapped: bool, regs: &mut Regs, bus: &mut B) -> Result<(), Trap>
     ensures { Leaves (trap_where trapped regs.old (B.held bus.old))
@@ -31,8 +31,8 @@ fn trap_if<B: Bus>(trapped: bool, regs: &mut Regs, bus: &mut B) -> Result<(), Tr
     Ok(())
 }
 
-/// What the row of a word does. One arm a row: with the rest inlined into it, this is a single jump. It is too large for the
-/// toolchain to inline.
+/// Does what the row of a word says. It has one arm for each row; with everything else inlined into
+/// it, this is a single jump. It is too large for the toolchain to inline.
 #[tactic(auto, using(crate::proofs::Bounds::or_of_bits), unfolding(crate::specs::Instructions::effect_of))]
 #[inline(never)]
 fn run<B: Bus>(row: Row, regs: &mut Regs, word: u32, bus: &mut B) -> Result<(), Trap>
@@ -40,7 +40,7 @@ fn run<B: Bus>(row: Row, regs: &mut Regs, word: u32, bus: &mut B) -> Result<(), 
         regs.old (B.held bus.old) regs.new (B.held bus.new) result }
 {
     match row {
-        // Branches and the system call.
+        // Branches and system call.
         Row::B => {
             branch::go(true, from_here(li(word), regs, word), regs, word);
             return Ok(());
@@ -58,7 +58,7 @@ fn run<B: Bus>(row: Row, regs: &mut Regs, word: u32, bus: &mut B) -> Result<(), 
             return Ok(());
         }
         Row::Sc => return Err(Trap::Sysc),
-        // The condition register.
+        // Condition register.
         Row::Crand => condition::set_bt(in_ba(regs, word) & in_bb(regs, word), regs, word),
         Row::Cror => condition::set_bt(in_ba(regs, word) | in_bb(regs, word), regs, word),
         Row::Crxor => condition::set_bt(in_ba(regs, word) ^ in_bb(regs, word), regs, word),
@@ -227,7 +227,8 @@ fn run<B: Bus>(row: Row, regs: &mut Regs, word: u32, bus: &mut B) -> Result<(), 
     Ok(())
 }
 
-/// The same, inlined: the rows that programs use most have arms here, so a loop over instructions makes no call for them.
+/// The same, inlined. The rows that programs use most have arms here, so a loop over instructions
+/// makes no call for them.
 #[tactic(auto, using(crate::proofs::Bounds::or_of_bits), unfolding(crate::specs::Instructions::effect_of))]
 #[inline(always)]
 fn run_common<B: Bus>(row: Row, regs: &mut Regs, word: u32, bus: &mut B) -> Result<(), Trap>
@@ -326,8 +327,9 @@ fn run_common<B: Bus>(row: Row, regs: &mut Regs, word: u32, bus: &mut B) -> Resu
     Ok(())
 }
 
-/// One instruction, inlined into its caller: use it in a loop over instructions, and `exec` elsewhere. It does what the row of the
-/// word does, or answers Illegal if the word has none. A trap changes nothing.
+/// Executes one instruction, inlined into the caller. Use it in a loop over instructions, and
+/// `exec` elsewhere. It does what the row of the word says, and traps with `Illegal` if the word
+/// has no row. A trap changes nothing.
 #[tactic(auto, unfolding(crate::specs::Instructions::exec_of))]
 #[inline(always)]
 pub fn exec_inline<B: Bus>(regs: &mut Regs, word: u32, bus: &mut B) -> Result<(), Trap>
@@ -340,8 +342,9 @@ pub fn exec_inline<B: Bus>(regs: &mut Regs, word: u32, bus: &mut B) -> Result<()
     run_common(row, regs, word, bus)
 }
 
-/// One instruction: what the row of the word does, or Illegal if the word has none. A trap changes nothing. It calls `run` and not
-/// `run_common`, which the toolchain inlines only into a single caller.
+/// Executes one instruction: it does what the row of the word says, and traps with `Illegal` if the
+/// word has no row. A trap changes nothing. It calls `run` instead of `run_common`, because the
+/// toolchain inlines `run_common` only into a single caller.
 #[tactic(auto, unfolding(crate::specs::Instructions::exec_of))]
 pub fn exec<B: Bus>(regs: &mut Regs, word: u32, bus: &mut B) -> Result<(), Trap>
     ensures { Leaves (exec_of B.meaning regs.old word (B.held bus.old))

@@ -1,4 +1,4 @@
-//! The fields of an instruction word, by their names in the book.
+//! The fields of an instruction word, by their names in the book (Book I, 1.7).
 
 ghost use Rattle.std.specs.Prelude.{◌≡◌, ◌<◌, ◌^◌};
 ghost use Rattle.ppc_core.specs.Fields as field;
@@ -35,7 +35,7 @@ pub fn rb(word: u32) -> u32
     bits_of(word, 16, 20)
 }
 
-/// UI, an unsigned number.
+/// UI, an unsigned 16-bit number.
 #[tactic(auto, unfolding(crate::specs::Fields::ui))]
 #[inline(always)]
 pub fn ui(word: u32) -> u32
@@ -54,7 +54,7 @@ pub fn high_ui(word: u32) -> u32
     bits_of(word, 16, 31) << 16
 }
 
-/// SI and D, a signed number, as a word.
+/// SI or D, a signed 16-bit number, extended to a word.
 #[tactic(auto, unfolding(crate::specs::Fields::si))]
 #[inline(always)]
 pub fn si(word: u32) -> u32
@@ -83,7 +83,7 @@ pub fn me(word: u32) -> u32
     bits_of(word, 26, 30)
 }
 
-/// OE, whether XER records overflow.
+/// OE: the instruction records overflow in XER.
 #[tactic(auto, unfolding(crate::specs::Fields::oe))]
 #[inline(always)]
 pub fn oe(word: u32) -> bool
@@ -92,7 +92,7 @@ pub fn oe(word: u32) -> bool
     bits_of(word, 21, 21) == 1
 }
 
-/// Rc, whether CR0 records the result.
+/// Rc: the instruction records the result in CR0.
 #[tactic(auto, unfolding(crate::specs::Fields::rc))]
 #[inline(always)]
 pub fn rc(word: u32) -> bool
@@ -101,7 +101,7 @@ pub fn rc(word: u32) -> bool
     bits_of(word, 31, 31) == 1
 }
 
-/// BF, a field of the condition register.
+/// BF, the number of a CR field.
 #[tactic(auto, unfolding(crate::specs::Fields::bf))]
 #[inline(always)]
 pub fn bf(word: u32) -> u32
@@ -111,7 +111,7 @@ pub fn bf(word: u32) -> u32
     bits_of(word, 6, 8)
 }
 
-/// BFA, a field of the condition register.
+/// BFA, the number of a CR field.
 #[tactic(auto, unfolding(crate::specs::Fields::bfa))]
 #[inline(always)]
 pub fn bfa(word: u32) -> u32
@@ -121,7 +121,7 @@ pub fn bfa(word: u32) -> u32
     bits_of(word, 11, 13)
 }
 
-/// SPR, the number of a special register, whose halves stand swapped in the word.
+/// SPR, the number of a special register. Its halves are swapped in the word.
 #[tactic(auto, unfolding(crate::specs::Fields::spr))]
 #[inline(always)]
 pub fn spr(word: u32) -> u32
@@ -130,7 +130,7 @@ pub fn spr(word: u32) -> u32
     bits_of(word, 16, 20) * 0x20 + bits_of(word, 11, 15)
 }
 
-/// LI, the displacement of a branch, as a word.
+/// LI, the displacement of a branch in bytes, extended to a word.
 #[tactic(auto, unfolding(crate::specs::Fields::li))]
 #[inline(always)]
 pub fn li(word: u32) -> u32
@@ -139,7 +139,7 @@ pub fn li(word: u32) -> u32
     extend_sign(26, bits_of(word, 6, 29) * 4)
 }
 
-/// BD, the displacement of a conditional branch, as a word.
+/// BD, the displacement of a conditional branch in bytes, extended to a word.
 #[tactic(auto, unfolding(crate::specs::Fields::bd))]
 #[inline(always)]
 pub fn bd(word: u32) -> u32
@@ -148,7 +148,7 @@ pub fn bd(word: u32) -> u32
     extend_sign(16, bits_of(word, 16, 29) * 4)
 }
 
-/// AA, whether a branch goes to its displacement as an address.
+/// AA: the displacement of a branch is an address.
 #[tactic(auto, unfolding(crate::specs::Fields::aa))]
 #[inline(always)]
 pub fn aa(word: u32) -> bool
@@ -157,7 +157,7 @@ pub fn aa(word: u32) -> bool
     bits_of(word, 30, 30) == 1
 }
 
-/// LK, whether a branch writes LR.
+/// LK: the branch sets LR.
 #[tactic(auto, unfolding(crate::specs::Fields::lk))]
 #[inline(always)]
 pub fn lk(word: u32) -> bool
@@ -166,7 +166,7 @@ pub fn lk(word: u32) -> bool
     bits_of(word, 31, 31) == 1
 }
 
-/// A bit of BO.
+/// Bit `k` of BO.
 #[inline(always)]
 pub fn bo(word: u32, k: u8) -> u32
     requires { k < 5 }
@@ -175,7 +175,7 @@ pub fn bo(word: u32, k: u8) -> u32
     bits_of(word, 6 + k, 6 + k)
 }
 
-/// A bit of FXM.
+/// Bit `k` of FXM.
 #[inline(always)]
 pub fn fxm(word: u32, k: u8) -> u32
     requires { k < 8 }

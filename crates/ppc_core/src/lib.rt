@@ -1,4 +1,4 @@
-//! One PowerPC instruction over any bus.
+//! The execution of one PowerPC instruction, over any bus.
 #![tactic(auto)]
 
 mod arithmetic;

@@ -1,4 +1,4 @@
-//! Masks and shifts.
+//! Masks and shifts (Book I, 3.3.12).
 
 ghost use Rattle.std.specs.Prelude.{◌≡◌, ◌<◌, ◌≤◌};
 ghost use Rattle.ppc_core.specs.Logic as logic;
@@ -7,7 +7,8 @@ use crate::words::bits_of;
 use crate::{fields, registers};
 use wind_base::Regs;
 
-/// The word with ones in bits `first` to `last`, and zeros elsewhere; after bit 31 comes bit 0.
+/// The word with ones in bits `first` to `last`, and zeros elsewhere. The bits wrap around from 31
+/// to 0.
 #[inline(always)]
 fn ones_between(first: u32, last: u32) -> u32
     requires begin { first < 32 }
@@ -23,7 +24,7 @@ fn ones_between(first: u32, last: u32) -> u32
     }
 }
 
-/// The mask of MB and ME.
+/// The mask from MB to ME.
 #[inline(always)]
 pub fn mask_of(word: u32) -> u32
     ensures { result ≡ logic.mask_of word }
@@ -31,7 +32,7 @@ pub fn mask_of(word: u32) -> u32
     ones_between(fields::mb(word), fields::me(word))
 }
 
-/// (RS) rotated left.
+/// (RS) rotated left by `n` bits.
 #[inline(always)]
 pub fn rotate(n: u32, regs: &Regs, word: u32) -> u32
     ensures { result ≡ logic.rotated regs.now word n }
@@ -39,7 +40,7 @@ pub fn rotate(n: u32, regs: &Regs, word: u32) -> u32
     registers::in_rs(regs, word).rotate_left(n)
 }
 
-/// The bits of one word where the mask has ones, and those of another where it has zeros.
+/// The bits of `x` where the mask has ones, and those of `y` where it has zeros.
 #[inline(always)]
 pub fn merge(mask: u32, x: u32, y: u32) -> u32
     ensures { result ≡ logic.merged mask x y }
@@ -47,7 +48,7 @@ pub fn merge(mask: u32, x: u32, y: u32) -> u32
     (x & mask) | (y & !mask)
 }
 
-/// How far (RB) shifts: by its last six bits.
+/// The distance of a shift by (RB): its last six bits.
 #[inline(always)]
 pub fn distance_of(regs: &Regs, word: u32) -> u32
     ensures is { result ≡ logic.distance regs.now word }
@@ -56,7 +57,7 @@ pub fn distance_of(regs: &Regs, word: u32) -> u32
     bits_of(registers::in_rb(regs, word), 26, 31)
 }
 
-/// A word shifted left.
+/// A word shifted left by `n` bits.
 #[inline(always)]
 pub fn shift_left(s: u32, n: u32) -> u32
     ensures { result ≡ logic.shifted_left s n }
@@ -64,7 +65,7 @@ pub fn shift_left(s: u32, n: u32) -> u32
     if n < 32 { s << n } else { 0 }
 }
 
-/// A word shifted right.
+/// A word shifted right by `n` bits, with zeros shifted in.
 #[inline(always)]
 pub fn shift_right(s: u32, n: u32) -> u32
     ensures { result ≡ logic.shifted_right s n }
@@ -72,7 +73,7 @@ pub fn shift_right(s: u32, n: u32) -> u32
     if n < 32 { s >> n } else { 0 }
 }
 
-/// A word shifted right, with its sign in the places that come free.
+/// A word shifted right by `n` bits, with copies of the sign shifted in.
 #[inline(always)]
 fn shift_signed(s: u32, n: u32) -> u32
     ensures { result ≡ logic.shifted_signed s n }
@@ -86,7 +87,7 @@ fn shift_signed(s: u32, n: u32) -> u32
     ((s >> k) as u64 + sign) as u32
 }
 
-/// Whether a negative word loses a 1.
+/// Whether a negative word loses a 1 bit when it is shifted right by `n`.
 #[inline(always)]
 fn loses_one(s: u32, n: u32) -> bool
     requires { n < 64 }
@@ -95,7 +96,8 @@ fn loses_one(s: u32, n: u32) -> bool
     s >= 0x8000_0000 && s as u64 % (1 << n) != 0
 }
 
-/// RA takes (RS) shifted right by `n` with its sign, with Rc, and CA says whether a negative word lost a 1.
+/// Sets RA to (RS) shifted right by `n` with its sign; Rc is respected. CA says whether a negative
+/// word lost a 1 bit.
 #[tactic(auto, unfolding(crate::specs::Logic::with_signed_shift))]
 #[inline(always)]
 pub fn set_signed_shift(n: u32, regs: &mut Regs, word: u32)

@@ -1,4 +1,4 @@
-//! Many words at once, and reservations.
+//! Loads and stores of several words, and reservations.
 
 ghost use Rattle.std.specs.Prelude.{◌≡◌, ◌+◌, ◌*◌, ◌≤◌, ◌^◌, true};
 ghost use Rattle.ppc_core.specs.Buses.{all_ram};
@@ -10,7 +10,7 @@ use crate::trap::Trap;
 use crate::{fields, registers};
 use wind_base::Regs;
 
-/// The registers from `target` on take `count` words.
+/// Loads `count` words into the registers from `target` on.
 fn load_words<B: Bus>(target: u32, at: u32, count: u32, regs: &mut Regs, bus: &mut B)
     requires registers { target + count ≤ 32 }
     requires ram { all_ram B.meaning (B.held bus.old) at (4 * count) ≡ true }
@@ -26,7 +26,7 @@ fn load_words<B: Bus>(target: u32, at: u32, count: u32, regs: &mut Regs, bus: &m
     }
 }
 
-/// Memory takes `count` registers from `source` on.
+/// Stores `count` registers from `source` on.
 fn store_words<B: Bus>(source: u32, at: u32, count: u32, regs: &Regs, bus: &mut B)
     requires registers { source + count ≤ 32 }
     requires ram { all_ram B.meaning (B.held bus.old) at (4 * count) ≡ true }
@@ -41,7 +41,7 @@ fn store_words<B: Bus>(source: u32, at: u32, count: u32, regs: &Regs, bus: &mut 
     }
 }
 
-/// The registers RT to 31 take the words from an address on.
+/// Loads the registers RT to 31 from the words at `at` and after it.
 #[tactic(auto, unfolding(crate::specs::Multiples::load_multiple_of))]
 pub fn load_multiple<B: Bus>(at: u32, regs: &mut Regs, word: u32, bus: &mut B) -> Result<(), Trap>
     ensures { Leaves (multiple.load_multiple_of B.meaning regs.old word (B.held bus.old) at)
@@ -59,7 +59,7 @@ pub fn load_multiple<B: Bus>(at: u32, regs: &mut Regs, word: u32, bus: &mut B) -
     Ok(())
 }
 
-/// The registers RS to 31 go to the words from an address on.
+/// Stores the registers RS to 31 to the words at `at` and after it.
 #[tactic(auto, unfolding(crate::specs::Multiples::store_multiple_of))]
 pub fn store_multiple<B: Bus>(at: u32, regs: &mut Regs, word: u32, bus: &mut B) -> Result<(), Trap>
     ensures { Leaves (multiple.store_multiple_of B.meaning regs.old word (B.held bus.old) at)
@@ -77,7 +77,7 @@ pub fn store_multiple<B: Bus>(at: u32, regs: &mut Regs, word: u32, bus: &mut B) 
     Ok(())
 }
 
-/// RT takes the word at an address, which is reserved from then on.
+/// Loads the word at `at` into RT, and reserves its address.
 #[tactic(auto, unfolding(crate::specs::Multiples::load_and_reserve_of))]
 pub fn load_and_reserve<B: Bus>(
     at: u32,
@@ -113,7 +113,7 @@ fn reserves(reserve: Option<u32>, at: u32) -> bool
     }
 }
 
-/// (RS) goes to an address exactly where that is reserved, and nothing is reserved then.
+/// Stores (RS) at `at` if that address is reserved. Afterwards no address is reserved.
 #[tactic(auto, unfolding(crate::specs::Multiples::store_conditional_of))]
 pub fn store_conditional<B: Bus>(
     at: u32,

@@ -1,4 +1,4 @@
-//! The registers one at a time.
+//! The single registers (Book I, 2.3 and 3.2).
 
 ghost use Rattle.std.specs.Prelude.{◌≡◌, ◌<◌, ◌^◌};
 ghost use Rattle.ppc_core.specs.Fields.{rt, ra};
@@ -8,7 +8,7 @@ use crate::fields;
 use crate::words::{bits_of, set_bits, signed_of};
 use wind_base::Regs;
 
-/// A general register.
+/// General register `n`.
 #[tactic(auto, unfolding(crate::specs::Registers::gpr))]
 #[inline(always)]
 pub fn read(regs: &Regs, n: u32) -> u32
@@ -18,7 +18,7 @@ pub fn read(regs: &Regs, n: u32) -> u32
     regs.gpr[n as usize]
 }
 
-/// A general register takes a word.
+/// Sets general register `n`.
 #[tactic(auto, unfolding(crate::specs::Registers::with_gpr))]
 #[inline(always)]
 pub fn write(n: u32, value: u32, regs: &mut Regs)
@@ -28,7 +28,7 @@ pub fn write(n: u32, value: u32, regs: &mut Regs)
     regs.gpr[n as usize] = value;
 }
 
-/// (RS), what the register RS holds.
+/// (RS), the content of register RS.
 #[inline(always)]
 pub fn in_rs(regs: &Regs, word: u32) -> u32
     ensures { result ≡ register.in_rs regs.now word }
@@ -36,7 +36,7 @@ pub fn in_rs(regs: &Regs, word: u32) -> u32
     read(regs, fields::rt(word))
 }
 
-/// (RA), what the register RA holds.
+/// (RA), the content of register RA.
 #[inline(always)]
 pub fn in_ra(regs: &Regs, word: u32) -> u32
     ensures { result ≡ register.in_ra regs.now word }
@@ -44,7 +44,7 @@ pub fn in_ra(regs: &Regs, word: u32) -> u32
     read(regs, fields::ra(word))
 }
 
-/// (RB), what the register RB holds.
+/// (RB), the content of register RB.
 #[inline(always)]
 pub fn in_rb(regs: &Regs, word: u32) -> u32
     ensures { result ≡ register.in_rb regs.now word }
@@ -52,7 +52,7 @@ pub fn in_rb(regs: &Regs, word: u32) -> u32
     read(regs, fields::rb(word))
 }
 
-/// (RA|0), what the register RA holds, and 0 for register 0.
+/// (RA|0): the content of register RA, or 0 if RA is register 0.
 #[inline(always)]
 pub fn in_ra_or_0(regs: &Regs, word: u32) -> u32
     ensures { result ≡ register.in_ra_or_0 regs.now word }
@@ -64,7 +64,7 @@ pub fn in_ra_or_0(regs: &Regs, word: u32) -> u32
     }
 }
 
-/// SO of XER.
+/// SO of XER (Book I, 3.2.2).
 #[tactic(auto, unfolding(crate::specs::Registers::so))]
 #[inline(always)]
 pub fn so(regs: &Regs) -> u32
@@ -74,7 +74,7 @@ pub fn so(regs: &Regs) -> u32
     bits_of(regs.xer, 0, 0)
 }
 
-/// CA of XER.
+/// CA of XER (Book I, 3.2.2).
 #[tactic(auto, unfolding(crate::specs::Registers::ca))]
 #[inline(always)]
 pub fn ca(regs: &Regs) -> u32
@@ -84,7 +84,7 @@ pub fn ca(regs: &Regs) -> u32
     bits_of(regs.xer, 2, 2)
 }
 
-/// CA takes a carry.
+/// Sets CA.
 #[tactic(auto, unfolding(crate::specs::Registers::with_ca))]
 #[inline(always)]
 pub fn set_ca(carry: u32, regs: &mut Regs)
@@ -94,7 +94,7 @@ pub fn set_ca(carry: u32, regs: &mut Regs)
     regs.xer = set_bits(regs.xer, 2, 2, carry);
 }
 
-/// OV says whether a result doesn't fit, and SO keeps it.
+/// Sets OV to whether a result overflows, and SO if it does.
 #[tactic(auto, unfolding(crate::specs::Registers::with_ov))]
 #[inline(always)]
 pub fn set_ov(overflow: bool, regs: &mut Regs)
@@ -105,7 +105,7 @@ pub fn set_ov(overflow: bool, regs: &mut Regs)
     regs.xer = set_bits(set_bits(regs.xer, 1, 1, bit), 0, 0, summary);
 }
 
-/// How two things compare, as four bits: less, greater, equal, then SO.
+/// The result of a comparison as four bits: less, greater, equal, SO.
 #[inline(always)]
 pub fn order_of(less: bool, greater: bool, so: u32) -> u32
     requires { so < 2 }
@@ -122,7 +122,7 @@ pub fn order_of(less: bool, greater: bool, so: u32) -> u32
     relation + so
 }
 
-/// A field of the condition register takes four bits.
+/// Sets CR field `n`.
 #[tactic(auto, unfolding(crate::specs::Registers::with_cr_field))]
 #[inline(always)]
 pub fn set_cr_field(n: u32, value: u32, regs: &mut Regs)
@@ -133,7 +133,7 @@ pub fn set_cr_field(n: u32, value: u32, regs: &mut Regs)
     regs.cr = set_bits(regs.cr, 4 * n as u8, 4 * n as u8 + 3, value);
 }
 
-/// CR0 compares a result with 0.
+/// Sets CR0 to the result of comparing a number, read as signed, with 0.
 #[tactic(auto, unfolding(crate::specs::Registers::with_cr0))]
 #[inline(always)]
 pub fn set_cr0(value: u32, regs: &mut Regs)
@@ -143,7 +143,7 @@ pub fn set_cr0(value: u32, regs: &mut Regs)
     set_cr_field(0, order_of(signed < 0, 0 < signed, so(regs)), regs);
 }
 
-/// Register `n` takes a result, and CR0 compares it with 0.
+/// Sets register `n` to a result, and CR0 to its comparison with 0.
 #[tactic(auto, unfolding(crate::specs::Registers::with_recorded))]
 #[inline(always)]
 pub fn record(n: u32, value: u32, regs: &mut Regs)
@@ -154,7 +154,7 @@ pub fn record(n: u32, value: u32, regs: &mut Regs)
     set_cr0(value, regs);
 }
 
-/// The same, CR0 with Rc alone.
+/// Sets register `n` to a result, and with Rc, CR0 to its comparison with 0.
 #[tactic(auto, unfolding(crate::specs::Registers::with_result))]
 #[inline(always)]
 fn set_result(n: u32, value: u32, regs: &mut Regs, word: u32)
@@ -168,7 +168,7 @@ fn set_result(n: u32, value: u32, regs: &mut Regs, word: u32)
     }
 }
 
-/// RT takes a result, and CR0 compares it with 0 with Rc.
+/// Sets RT to a result, and with Rc, CR0 to its comparison with 0.
 #[inline(always)]
 pub fn set_rt(value: u32, regs: &mut Regs, word: u32)
     ensures { regs.new ≡ register.with_result regs.old word (rt word) value }
@@ -176,7 +176,7 @@ pub fn set_rt(value: u32, regs: &mut Regs, word: u32)
     set_result(fields::rt(word), value, regs, word);
 }
 
-/// RA takes a result, and CR0 compares it with 0 with Rc.
+/// Sets RA to a result, and with Rc, CR0 to its comparison with 0.
 #[inline(always)]
 pub fn set_ra(value: u32, regs: &mut Regs, word: u32)
     ensures { regs.new ≡ register.with_result regs.old word (ra word) value }
@@ -184,7 +184,8 @@ pub fn set_ra(value: u32, regs: &mut Regs, word: u32)
     set_result(fields::ra(word), value, regs, word);
 }
 
-/// The same for RT, after OV took with OE whether the result doesn't fit.
+/// Sets RT to a result, and with Rc, CR0 to its comparison with 0. With OE, first records in OV and
+/// SO whether the result overflows.
 #[tactic(auto, unfolding(crate::specs::Registers::with_checked_result))]
 #[inline(always)]
 pub fn set_checked_result(value: u32, overflow: bool, regs: &mut Regs, word: u32)
@@ -196,7 +197,7 @@ pub fn set_checked_result(value: u32, overflow: bool, regs: &mut Regs, word: u32
     set_rt(value, regs, word);
 }
 
-/// The next instruction follows.
+/// Sets the program counter to the next instruction.
 #[tactic(auto, unfolding(crate::specs::Registers::next))]
 #[inline(always)]
 pub fn step(regs: &mut Regs)

@@ -1,4 +1,4 @@
-//! Loads and stores of one datum.
+//! Loads and stores of one datum (Book I, 3.3.2 to 3.3.4).
 
 ghost use Rattle.std.specs.Prelude.{◌≡◌, ◌<◌, ◌*◌, ◌^◌};
 ghost use Rattle.ppc_core.specs.Buses.{Loads, Stores};
@@ -11,15 +11,18 @@ use crate::words::extend_half;
 use crate::{fields, registers};
 use wind_base::Regs;
 
-/// What a load reads, and how a register takes it.
+/// What a load reads, and how it becomes a register's content.
 #[derive(Clone, Copy, Debug)]
 pub enum Load {
+    /// A byte, with zeros before it.
     Byte,
+    /// A halfword, with zeros before it.
     Half,
-    /// A halfword with its sign.
+    /// A halfword, with its sign extended.
     HalfSigned,
-    /// A halfword with its bytes reversed.
+    /// A halfword with its bytes reversed, and zeros before it.
     HalfReversed,
+    /// A word.
     Word,
     /// A word with its bytes reversed.
     WordReversed,
@@ -28,26 +31,32 @@ pub enum Load {
 /// What a store writes.
 #[derive(Clone, Copy, Debug)]
 pub enum Store {
+    /// The low byte of the register.
     Byte,
+    /// The low halfword of the register.
     Half,
-    /// A halfword with its bytes reversed.
+    /// The low halfword of the register, with its bytes reversed.
     HalfReversed,
+    /// The register's word.
     Word,
-    /// A word with its bytes reversed.
+    /// The register's word, with its bytes reversed.
     WordReversed,
 }
 
-/// How an access makes its effective address, and whether the base register takes it.
+/// How an access computes its effective address, and whether it writes that to the base register.
 #[derive(Clone, Copy, Debug)]
 pub enum Address {
-    /// Of a displacement.
+    /// (RA|0) + D.
     Offset,
+    /// (RA|0) + D, with RA updated.
     OffsetUpdate,
+    /// (RA|0) + (RB).
     Indexed,
+    /// (RA|0) + (RB), with RA updated.
     IndexedUpdate,
 }
 
-/// The effective address of a displacement.
+/// The effective address (RA|0) + D.
 #[inline(always)]
 pub fn offset(regs: &Regs, word: u32) -> u32
     ensures { result ≡ storage.offset regs.now word }
@@ -55,7 +64,7 @@ pub fn offset(regs: &Regs, word: u32) -> u32
     registers::in_ra_or_0(regs, word).wrapping_add(fields::si(word))
 }
 
-/// The effective address of an indexed form.
+/// The effective address (RA|0) + (RB).
 #[inline(always)]
 pub fn indexed(regs: &Regs, word: u32) -> u32
     ensures { result ≡ storage.indexed regs.now word }
@@ -63,7 +72,7 @@ pub fn indexed(regs: &Regs, word: u32) -> u32
     registers::in_ra_or_0(regs, word).wrapping_add(registers::in_rb(regs, word))
 }
 
-/// The effective address of a form.
+/// The effective address for a form.
 #[inline(always)]
 fn address_for(address: Address, regs: &Regs, word: u32) -> u32
     ensures { result ≡ storage.address_of address regs.now word }
@@ -76,7 +85,7 @@ fn address_for(address: Address, regs: &Regs, word: u32) -> u32
     }
 }
 
-/// RA after an access.
+/// Updates RA after an access, if the form says so.
 #[inline(always)]
 fn set_base(address: Address, at: u32, regs: &mut Regs, word: u32)
     ensures { regs.new ≡ storage.with_base address regs.old word at }
@@ -132,7 +141,7 @@ fn reverse_word(word: u32) -> u32
     reverse_half(word % 0x1_0000) * 0x1_0000 + reverse_half(word / 0x1_0000)
 }
 
-/// What the register takes of what was read.
+/// The content of the register after a load of this datum.
 #[inline(always)]
 fn taken_of(load: Load, datum: u32) -> u32
     requires { datum < 2 ^ (8 * storage.load_width load) }
@@ -148,7 +157,7 @@ fn taken_of(load: Load, datum: u32) -> u32
     }
 }
 
-/// What is written of a register.
+/// The datum that a store writes from this register content.
 #[inline(always)]
 fn given_of(store: Store, value: u32) -> u32
     ensures { result ≡ storage.given store value }
@@ -162,7 +171,7 @@ fn given_of(store: Store, value: u32) -> u32
     }
 }
 
-/// RT takes the datum at the effective address.
+/// Loads the datum at the effective address into RT.
 #[tactic(auto, unfolding(crate::specs::Storage::load_of))]
 #[inline(always)]
 pub fn load_rt<B: Bus>(
@@ -185,7 +194,7 @@ pub fn load_rt<B: Bus>(
     Ok(())
 }
 
-/// (RS) goes to the effective address.
+/// Stores (RS) at the effective address.
 #[tactic(auto, unfolding(crate::specs::Storage::store_of))]
 #[inline(always)]
 pub fn store_rs<B: Bus>(

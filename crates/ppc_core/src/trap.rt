@@ -1,23 +1,23 @@
-//! Why an instruction isn't done.
+//! The traps of instructions.
 
 use thiserror::Error;
 
-/// Why an instruction isn't done. Registers and memory are as they were then.
+/// Why an instruction isn't executed. Registers and memory are unchanged.
 #[derive(Clone, Copy, Debug, PartialEq, Eq, Error)]
 pub enum Trap {
-    /// The word is no instruction.
+    /// The word isn't an instruction.
     #[error("the word is no instruction")]
     Illegal,
-    /// An access that has to stand at a multiple of 4 doesn't.
+    /// The access must be at a multiple of 4, and isn't.
     #[error("the access is not aligned")]
     Align,
-    /// A byte of an access can't be reached.
+    /// A byte of the access can't be reached.
     #[error("a byte of the access cannot be reached")]
     Access,
     /// The condition of a trap instruction holds.
     #[error("the condition of a trap instruction holds")]
     TrapInsn,
-    /// A system call.
+    /// A system call, which this processor doesn't execute.
     #[error("system call")]
     Sysc,
 }

@@ -1,4 +1,4 @@
-//! Words and their bits, which are numbered from the most significant.
+//! Words and their bits. Bit 0 is the most significant (Book I, 1.3.2).
 
 ghost use Rattle.std.specs.Prelude.{◌≡◌, ◌<◌, ◌≤◌, ◌+◌, ◌-◌, ◌^◌};
 ghost use Rattle.ppc_core.specs.Words.{bits, with_bits, sign_extended, signed, fits};
@@ -14,7 +14,7 @@ pub fn bits_of(word: u32, first: u8, last: u8) -> u32
     ((word as u64 >> (31 - last)) % (1 << (last + 1 - first))) as u32
 }
 
-/// The word with this number in bits `first` to `last`.
+/// The word with another number in bits `first` to `last`.
 #[inline(always)]
 pub fn set_bits(word: u32, first: u8, last: u8, value: u32) -> u32
     requires order { first ≤ last }
@@ -27,7 +27,7 @@ pub fn set_bits(word: u32, first: u8, last: u8, value: u32) -> u32
     (above + ((value as u64) << (31 - last)) + word % (1 << (31 - last))) as u32
 }
 
-/// A number of `width` bits, with its sign carried on to a word.
+/// A number of `width` bits, sign-extended to a word.
 #[inline(always)]
 pub fn extend_sign(width: u8, n: u32) -> u32
     requires some { 0 < width }
@@ -42,7 +42,8 @@ pub fn extend_sign(width: u8, n: u32) -> u32
     }
 }
 
-/// A half word, with its sign carried on to a word. It is `extend_sign` at 16 bits, in one instruction of the host.
+/// A halfword, sign-extended to a word. It equals `extend_sign` at 16 bits, but takes one
+/// instruction of the host.
 #[inline(always)]
 pub fn extend_half(n: u32) -> u32
     requires { n < 2 ^ 16 }
@@ -51,7 +52,7 @@ pub fn extend_half(n: u32) -> u32
     i32::from((n as u16).cast_signed()).cast_unsigned()
 }
 
-/// The signed reading of a word.
+/// A word, read as signed.
 #[inline(always)]
 pub fn signed_of(word: u32) -> i64
     ensures { result ≡ signed word }
@@ -59,7 +60,7 @@ pub fn signed_of(word: u32) -> i64
     i64::from(word.cast_signed())
 }
 
-/// Whether a number is the signed reading of some word.
+/// Whether a number is a word, read as signed.
 #[inline(always)]
 pub fn is_word(number: i64) -> bool
     ensures { result ≡ fits number }

@@ -1,4 +1,4 @@
--- A primary opcode that alone decides the instruction.
+-- Primary opcodes that alone decide the instruction.
 use Rattle.std.proofs.Common.{◌≡◌, ℕ, ◌/◌, ◌%◌, ◌^◌, true, ◌&&◌, nat_eq, List, [], ◌∷◌, Some, refl, sym, ap, ◌∙◌, eqb-true, eq-eqb}
 use Rattle.std.proofs.lemmas.Bool.{and_parts}
 use Rattle.ppc_word.specs.declared.piece.Piece.{Piece}
@@ -45,7 +45,7 @@ decided-word r w h =
     let a = and_parts (opcode_then_fields (form_of r).pieces (w / 2 ^ 26 % 2 ^ 6)) (allows_all (form_of r).rule) h in
     ap (λ t. t && allowed (form_of r).rule w) (opcode-meets (form_of r).pieces (w / 2 ^ 26 % 2 ^ 6) w a.0 refl) ∙ all-allowed (form_of r).rule w a.1
 
--- it is the instruction of each word with that opcode
+-- such an opcode decides the instruction of each word with it
 pub decided-row : (r : Row) (w : ℕ) → is_decided_by r (w / 2 ^ 26 % 2 ^ 6) ≡ true → row_of w ≡ Some r
 decided-row r w h =
     row_of-at (number r) w (number-below r) (decided-word r w h)

@@ -1,4 +1,4 @@
--- A word and its fields give each other back, whatever the form.
+-- A word and its fields determine each other, for every form.
 use Rattle.std.proofs.Common.{◌≡◌, ℕ, zero, suc, ◌+◌, ◌*◌, ◌/◌, ◌%◌, ◌^◌, ◌<◌, true, ◌&&◌, nat_eq, nat_lt, List, [], ◌∷◌, ◌++◌, length, replicate, refl, sym, ap, ◌∙◌, arith, eqb-true, lit<, add_assoc}
 use Rattle.std.proofs.lemmas.Bool.{and_parts, ltb-true, lt-ltb, eq-eqb}
 use Rattle.std.proofs.lemmas.Nat.{mod-pow-add, pow-add, shr_high, mod_low, pow_pos, mul-add-lt, mod_below, same_from_place}
@@ -26,7 +26,7 @@ all_zero-one (x ∷ fs) (y ∷ gs) f g l =
     let p : x ≡ 0 = eqb-true _ _ b.0 in
     let q : y ≡ 0 = eqb-true _ _ d.0 in cc
 
--- the fields of a word that meets the form make it again
+-- the fields of a word that matches the form give the word back
 pub joined-parts : (ps : List Piece) (n : ℕ) → meets ps n ≡ true → joined ps (parts ps n) ≡ n % 2 ^ bits ps
 joined-parts [] n h = omega arith
 joined-parts (Fixed w v ∷ ps) n h =
@@ -38,7 +38,7 @@ joined-parts (Field w ∷ ps) n h =
     let r = joined-parts ps n h in
     rw (mod-pow-add n w (bits ps)) (rw r refl)
 
--- the number that fields make is below a power of 2
+-- the number that fields form is below a power of 2
 pub joined-lt : (ps : List Piece) (fs : List ℕ) → sound ps ≡ true → fit ps fs ≡ true → joined ps fs < 2 ^ bits ps
 joined-lt [] fs s f = lit< tt
 joined-lt (Fixed w v ∷ ps) fs s f =
@@ -53,7 +53,7 @@ joined-lt (Field w ∷ ps) (x ∷ fs) s f =
     let r = joined-lt ps fs s b.1 in
     rw (pow-add 2 w (bits ps), mul_comm (2 ^ w) (2 ^ bits ps)) (mul-add-lt x (2 ^ bits ps) (joined ps fs) (2 ^ w) lt r)
 
--- a word made of fields holds the fixed numbers, whatever stands above it
+-- a word formed from fields has the fixed values, whatever is above it
 pub meets-joined : (ps : List Piece) (fs : List ℕ) (n h : ℕ) → sound ps ≡ true → fit ps fs ≡ true → n ≡ h * 2 ^ bits ps + joined ps fs → meets ps n ≡ true
 meets-joined [] fs n h s f e = refl
 meets-joined (Fixed w v ∷ ps) fs n h s f e =
@@ -76,7 +76,7 @@ fit-parts (Fixed w v ∷ ps) n k = fit-parts ps n k
 fit-parts (Field w ∷ ps) n k =
     ap (λ t. t && fit ps (parts ps n ++ replicate k 0)) (lt-ltb (n / 2 ^ bits ps % 2 ^ w) (2 ^ w) (mod_below (n / 2 ^ bits ps) (2 ^ w) (pow_pos w))) ∙ fit-parts ps n k
 
--- numbers behind the last field change nothing
+-- numbers after the last field change nothing
 pub joined-behind : (ps : List Piece) (n : ℕ) (fs : List ℕ) → joined ps (parts ps n ++ fs) ≡ joined ps (parts ps n)
 joined-behind [] n fs = refl
 joined-behind (Fixed w v ∷ ps) n fs = ap (λ m. v * 2 ^ bits ps + m) (joined-behind ps n fs)

@@ -1,4 +1,4 @@
--- The row that a word meets is that of its instruction.
+-- The row that a word matches is that of its instruction.
 use Rattle.std.proofs.Common.{◌≡◌, ℕ, zero, suc, ◌%◌, ◌^◌, ◌<◌, Bool, true, false, cond, ◌&&◌, nat_eq, List, [], ◌∷◌, length, get_or, Option, Some, None, IsTrue, refl, sym, ap, ◌∙◌, arith, eqb-true, eq-eqb, inl, inr, bit_and}
 use Rattle.std.proofs.lemmas.Bool.{and_parts, cases_order}
 use Rattle.ppc_word.specs.declared.row.Row.{Row}
@@ -34,7 +34,7 @@ pub word-meets : (f : Form) (w : ℕ) → is_word_of f w ≡ true → (meets f.p
 unfolding is_word_of
 word-meets f w h = and_parts (meets f.pieces w) (allowed f.rule w) h
 
--- two forms that a word meets stand at one place
+-- two forms that a word matches are at the same place
 pub meets_one : (j k w : ℕ) → j < ROWS → k < ROWS → meets (form_at j).pieces w ≡ true → meets (form_at k).pieces w ≡ true → j ≡ k
 meets_one i j w p q a b =
     elim (cases_order i j) [
@@ -43,11 +43,11 @@ meets_one i j w p q a b =
       | inr (inr lt) ↦ absurd (one_place j i w lt p b a)
     ]
 
--- a word is one of the form at one place
+-- a word belongs to the form at only one place
 same_place : (i j w : ℕ) → i < ROWS → j < ROWS → is_word_of (form_at i) w ≡ true → is_word_of (form_at j) w ≡ true → i ≡ j
 same_place i j w p q a b = meets_one i j w p q (word-meets (form_at i) w a).0 (word-meets (form_at j) w b).0
 
--- the row of a word of the form at a place
+-- the row of a word that belongs to the form at a place
 pub row_of-at : (k w : ℕ) → k < ROWS → is_word_of (form_at k) w ≡ true → row_of w ≡ Some (form_at k).row
 unfolding row_of
 row_of-at k w lt h = go (first_row table w) refl where
@@ -65,7 +65,7 @@ row_of-none w none = go (first_row table w) refl where
   go None e = refl
   go (Some r) e = let p = found-row table w r e in absurd (none p.0 (omega (arith, length-table, p.1)) p.3)
 
--- a word with a row is one of the row's form
+-- a word with a row belongs to the row's form
 pub row_of-word : (r : Row) (w : ℕ) → row_of w ≡ Some r → is_word_of (form_at (number r)) w ≡ true
 unfolding row_of
 row_of-word r w e =
@@ -77,7 +77,7 @@ pub row_of-insn : (i : Insn) (w : ℕ) → word_of i ≡ w → row_of w ≡ Some
 row_of-insn i w e =
     row_of-at (number i.row) w (number-below i.row) (insn-word i w e) ∙ ap Some (number-one (form_at (number i.row)).row i.row (number-row (number i.row) (number-below i.row)))
 
--- the test by columns
+-- the test by masks
 fits-meets : (k w : ℕ) → k < ROWS → w < 2 ^ 32 → nat_eq (bit_and w (mask (form_at k).pieces)) (held (form_at k).pieces) ≡ meets (form_at k).pieces w
 fits-meets k w h lt = go (nat_eq (bit_and w (mask (form_at k).pieces)) (held (form_at k).pieces)) (meets (form_at k).pieces w) refl refl where
   go : (s t : Bool) → nat_eq (bit_and w (mask (form_at k).pieces)) (held (form_at k).pieces) ≡ s → meets (form_at k).pieces w ≡ t → s ≡ t
@@ -93,7 +93,7 @@ pub fits-word : (k w : ℕ) → k < ROWS → w < 2 ^ 32 → (nat_eq (bit_and w (
 unfolding is_word_of
 fits-word k w h lt = ap (λ t. t && allowed (form_at k).rule w) (fits-meets k w h lt)
 
--- the fields of a word with a row make an instruction of this word
+-- the fields of a word with a row form an instruction with this word
 pub row-insn : (row : Row) (w : ℕ) (fs : List ℕ) → w < 2 ^ 32 → row_of w ≡ Some row → fs ≡ fields_of row w → IsTrue (are_fields row fs) × (word_with row fs ≡ w)
 row-insn row w fs lt e h =
     let m = word-meets (form_at (number row)) w (row_of-word row w e) in

@@ -1,4 +1,4 @@
--- The index leads to the only form that a word can have.
+-- The index leads to the only form that can match a word.
 use Rattle.std.proofs.Common.{◌≡◌, ℕ, zero, suc, ◌+◌, ◌/◌, ◌%◌, ◌^◌, ◌<◌, Bool, true, false, cond, ◌&&◌, ◌||◌, nat_eq, nat_lt, List, [], ◌∷◌, length, get_or, refl, ◌∙◌, arith, eqb-true, eq-eqb, zero-add}
 use Rattle.std.proofs.lemmas.Bool.{and_parts, ltb-true}
 use Rattle.ppc_word.specs.declared.row.TheConstants.{ROWS}
@@ -11,7 +11,7 @@ use Rattle.ppc_word.specs.Places.{by_opcode, by_19, by_31}
 use Rattle.ppc_word.proofs.Masks.{key, apart, not-apart, held-meets}
 use Rattle.ppc_word.proofs.Whole.{keys, length-keys, key-at, held-at}
 
--- the words with an entry, as a form; the entries of 19 and 31 by the opcode are not used
+-- the words for an entry, as a form; the entries for opcodes 19 and 31 aren't used
 abbrev pub words_of_opcode : ℕ → List Piece
 words_of_opcode n = Fixed 6 (cond (nat_eq n 19 || nat_eq n 31) 0 n) ∷ Field 26 ∷ []
 
@@ -33,7 +33,7 @@ length-31 : length by_31 ≡ 1024
 unfolding by_31
 length-31 = refl
 
--- each form but that at i differs at a bit that both fix
+-- each form but that at i differs from it in a bit that both fix
 unfoldable only : ℕ × ℕ → ℕ → ℕ → List (ℕ × ℕ) → Bool
 only s i k [] = true
 only s i k (l ∷ ls) = (nat_eq i k || apart s l) && only s i (suc k) ls
@@ -92,7 +92,7 @@ leads-below f n (i ∷ is) ks (suc m) h lt =
     let b = and_parts (nat_lt i ROWS) (only (key (f n)) i 0 ks && leads f (suc n) is ks) h in
     leads-below f (suc n) is ks m (and_parts (only (key (f n)) i 0 ks) (leads f (suc n) is ks) b.1).1 (omega arith)
 
--- no word has forms that are apart
+-- no word matches two forms that are apart
 both : (ps : List Piece) (k w : ℕ) → k < ROWS → bits ps ≡ 32 → meets ps w ≡ true → meets (form_at k).pieces w ≡ true → apart (key ps) (get_or keys k (0, 0)) ≡ true → ⊥
 both ps k w h b p q a =
     let e = held-meets ps w p in

@@ -1,4 +1,4 @@
--- Two forms whose fixed numbers differ at a shared bit have no word in common.
+-- Two forms with different fixed values in a shared bit have no word in common.
 use Rattle.std.proofs.Common.{◌≡◌, ℕ, zero, suc, ◌+◌, ◌-◌, ◌*◌, ◌/◌, ◌%◌, ◌^◌, ◌<◌, Bool, true, ◌&&◌, not, nat_eq, nat_lt, List, [], ◌∷◌, length, get_or, refl, sym, ap, ◌∙◌, arith, eqb-true, eq-eqb, bit_and, lit<}
 use Rattle.std.specs.List.{list_all}
 use Rattle.std.specs.Int.Bits.{and_zero_r}
@@ -55,7 +55,7 @@ held-lt (Field w ∷ ps) s =
 and-lt : (a b k : ℕ) → a < k → bit_and a b < k
 and-lt a b k h = omega (arith, and_le_l a b)
 
--- a word whose fixed bits hold the numbers meets the form
+-- a word with the fixed values matches the form
 pub meets-held : (ps : List Piece) (n : ℕ) → sound ps ≡ true → bit_and (n % 2 ^ bits ps) (mask ps) ≡ held ps → meets ps n ≡ true
 unfolding mask held
 meets-held [] n s h = refl
@@ -75,7 +75,7 @@ meets-held (Field w ∷ ps) n s h =
     let q = same_from_place _ _ _ _ (2 ^ bits ps) (and-lt (n % 2 ^ bits ps) (mask ps) (2 ^ bits ps) l) (held-lt ps s) h' in
     meets-held ps n s q.1
 
--- two forms differ at a bit that both fix
+-- two forms differ in a bit that both fix
 unfoldable pub apart : ℕ × ℕ → ℕ × ℕ → Bool
 apart k l = not (nat_eq (bit_and k.1 l.0) (bit_and l.1 k.0))
 
@@ -99,7 +99,7 @@ all_apart-at (k ∷ ks) i zero d h lt le = absurd (omega arith)
 all_apart-at (k ∷ ks) zero (suc j) d h lt le = list_all-at (apart k) ks j d (and_parts (list_all (apart k) ks) (all_apart ks) h).0 (omega arith)
 all_apart-at (k ∷ ks) (suc i) (suc j) d h lt le = all_apart-at ks i j d (and_parts (list_all (apart k) ks) (all_apart ks) h).1 (omega arith) (omega arith)
 
--- a number that holds what both fix
+-- no number has the values of both
 pub not-apart : (n m v m' v' : ℕ) → bit_and n m ≡ v → bit_and n m' ≡ v' → apart (m, v) (m', v') ≡ true → ⊥
 unfolding apart
 not-apart n m v m' v' p q h =

@@ -1,4 +1,4 @@
--- The fields of an instruction's word, by the places of its form.
+-- The fields of an instruction's word, by their places in its form.
 use Rattle.std.proofs.Common.{◌≡◌, ℕ, ◌+◌, ◌-◌, ◌/◌, ◌%◌, ◌^◌, ◌<◌, ◌≤◌, Bool, true, List, [], ◌∷◌, ◌++◌, replicate, Some, refl, sym, ap, ◌∙◌, arith}
 use Rattle.std.specs.Prelude.{map}
 use Rattle.std.specs.List.{list_all}
@@ -36,7 +36,7 @@ unfolding word_with
 word_of-lt i =
     written-lt (form_of i.row).pieces i.fields (whole-at (number i.row) (number-below i.row)) (fields-parts i.row i.fields i.in_table).1
 
--- an instruction has the fields of its word
+-- an instruction's fields are those of its word
 pub insn-fields : (i : Insn) → i.fields ≡ fields_of i.row (word_of i)
 insn-fields i =
     let e = row_of-insn i (word_of i) refl in
@@ -44,7 +44,7 @@ insn-fields i =
     let j : Insn = record { row = i.row; fields = fields_of i.row (word_of i); in_table = a.0 } in
     ap (λ (k : Insn). k.fields) (insn-word_one i j (sym a.1))
 
--- a word with a row is that of an instruction
+-- a word with a row is the word of an instruction
 pub row-word : (row : Row) (w : ℕ) → w < 2 ^ 32 → row_of w ≡ Some row → (i : Insn) × (word_of i ≡ w)
 row-word row w lt e =
     let a = row-insn row w (fields_of row w) lt e refl in
@@ -57,6 +57,6 @@ insn-placed i =
     let t = whole-parts ps (whole-at (number i.row) (number-below i.row)) in
     insn-fields i ∙ ap (λ fs. fs ++ replicate (6 - fields ps) 0) (parts-placed ps (word_of i) (omega (arith, t.0)))
 
--- what holds of each form of the table holds of that of each instruction
+-- a test that all forms of the table pass is passed by each instruction's form
 pub form-test : (test : Form → Bool) → list_all test table ≡ true → (row : Row) → test (form_of row) ≡ true
 form-test test all row = list_all-at test table (number row) no_form all (omega (arith, number-below row, length-table))

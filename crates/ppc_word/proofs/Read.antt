@@ -1,4 +1,4 @@
--- What the loops over a form's pieces keep.
+-- The invariants of the loops over a form's pieces.
 use Rattle.std.proofs.Common.{◌≡◌, ℕ, zero, suc, ◌+◌, ◌-◌, ◌*◌, ◌/◌, ◌%◌, ◌^◌, ◌<◌, ◌≤◌, true, ◌&&◌, nat_eq, nat_le, List, [], ◌∷◌, ◌++◌, length, get_or, take, drop, set, replicate, IsTrue, refl, sym, ap, ◌∙◌, arith, add-one, drop-cons, eqb-true, leb-true, append_assoc}
 use Rattle.std.proofs.lemmas.Bool.{and_parts}
 use Rattle.std.proofs.lemmas.Grind.{common_steps}
@@ -9,7 +9,7 @@ use Rattle.ppc_word.specs.declared.piece.Piece.TheVariants.{Fixed, Field}
 use Rattle.ppc_word.specs.Words.{bits, joined, parts, fields, whole, sound, fit}
 use Rattle.ppc_word.proofs.Digits.{joined-lt}
 
--- the first k pieces are read, and their fields stand in front
+-- the first k pieces are read, and their fields come first
 pub record IsReadTo (ps : List Piece) (word k rest count : ℕ) (found : List ℕ) : Type 0 where
   pub place : rest ≡ bits (drop k ps)
   pub counted : count + fields (drop k ps) ≡ fields ps
@@ -23,7 +23,7 @@ pub record IsWrittenTo (ps : List Piece) (values : List ℕ) (k rest count word 
   pub counted : count + fields (drop k ps) ≡ fields ps
   pub sum : word + joined (drop k ps) (drop count values) ≡ joined ps values
 
--- the piece at k stands in front of those after it
+-- the piece at k comes before those after it
 pub piece_at : (ps : List Piece) (k : ℕ) (d p : Piece) → k < length ps → get_or ps k d ≡ p → drop k ps ≡ p ∷ drop (k + 1) ps
 piece_at ps k d p lt e = rw (add-one, drop-cons ps k d lt, e) refl
 
@@ -75,7 +75,7 @@ field_step ps word k rest count found w e i le =
 pub piece_fits : (ps : List Piece) (k : ℕ) (p : Piece) → IsTrue (whole ps) → drop k ps ≡ p ∷ drop (k + 1) ps → bits (p ∷ drop (k + 1) ps) ≤ 32
 piece_fits ps k p h e = let b = ap bits e in omega (arith, bits-drop-le k ps, (whole-parts ps h).0)
 
--- the next step writes no number past the word, and keeps what the loop keeps
+-- the next step writes no number outside the word, and keeps the loop's invariant
 pub fixed_written : (ps : List Piece) (values : List ℕ) (k rest count word w v : ℕ) → IsTrue (whole ps) → IsTrue (fit ps values) → drop k ps ≡ Fixed w v ∷ drop (k + 1) ps → IsWrittenTo ps values k rest count word → (rest - w ≤ 32) × (word + v * 2 ^ (rest - w) < 2 ^ 32) × IsWrittenTo ps values (k + 1) (rest - w) count (word + v * 2 ^ (rest - w))
 fixed_written ps values k rest count word w v h f e i =
     let b = ap bits e in

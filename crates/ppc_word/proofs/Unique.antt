@@ -1,4 +1,4 @@
--- Two instructions of one word are one.
+-- Two instructions with the same word are the same.
 use Rattle.std.proofs.Common.{◌≡◌, ℕ, ◌^◌, ◌<◌, true, ◌&&◌, nat_eq, ◌-◌, ◌%◌, List, [], ◌∷◌, ◌++◌, length, replicate, length-append, eq-eqb, IsTrue, refl, sym, ap, ◌∙◌, subst, arith, eqb-true, ◌⊎◌, inl, inr}
 use Rattle.std.proofs.Props.{props}
 use Rattle.std.proofs.lemmas.Bool.{and_parts, cases_order}
@@ -30,7 +30,7 @@ fields-parts row fs h =
     let a = and_parts (nat_eq (length fs) 6 && fit (form_of row).pieces fs) (allowed (form_of row).rule (word_with row fs)) h in
     let b = and_parts (nat_eq (length fs) 6) (fit (form_of row).pieces fs) a.0 in (eqb-true _ _ b.0, b.1, a.1)
 
--- the word of an instruction meets its row's form
+-- the word of an instruction matches its row's form
 pub meets-word : (i : Insn) (n : ℕ) → word_of i ≡ n → meets (form_of i.row).pieces n ≡ true
 unfolding word_with
 meets-word i n e =
@@ -59,7 +59,7 @@ length-parts [] n = refl
 length-parts (Fixed w v ∷ ps) n = length-parts ps n
 length-parts (Field w ∷ ps) n = let r = length-parts ps n in omega arith
 
--- what reading a word by the form at k gives
+-- the word matches the form at k, and these are its fields by that form
 abbrev pub IsReading : ℕ → ℕ → List ℕ → Type 0
 IsReading k word fs = (meets (form_at k).pieces word ≡ true) × (fs ≡ parts (form_at k).pieces word ++ replicate (6 - fields (form_at k).pieces) 0)
 
@@ -81,13 +81,13 @@ pub reading-made : (k word : ℕ) (fs : List ℕ) (row : Row) → k < ROWS → w
 unfolding word_with
 reading-made k word fs row h lt e r = rw e (reading-word k word fs h lt r)
 
--- a reading that meets the rule is an instruction's
+-- if such a word meets the rule, they are an instruction's fields
 pub reading-fields : (k word : ℕ) (fs : List ℕ) (row : Row) → k < ROWS → word < 2 ^ 32 → number row ≡ k → IsReading k word fs → allowed (form_at k).rule word ≡ true → IsTrue (are_fields row fs)
 unfolding are_fields
 reading-fields k word fs row h lt e r a =
     rw (reading-made k word fs row h lt e r) (rw (e, eq-eqb _ _ (reading-six k word fs h r), reading-fit k word fs r, a) refl)
 
--- the word of an instruction is one of its form's
+-- the word of an instruction belongs to its form
 pub insn-word : (i : Insn) (w : ℕ) → word_of i ≡ w → is_word_of (form_at (number i.row)) w ≡ true
 unfolding is_word_of
 insn-word i w e =

@@ -1,4 +1,4 @@
--- The table's tests, which the checker computes, and what they say of each form.
+-- The tests of the table that the checker computes, and what they say about each form.
 use Rattle.std.proofs.Common.{◌≡◌, ℕ, zero, suc, ◌+◌, ◌%◌, ◌^◌, ◌<◌, ◌≤◌, Bool, true, ◌&&◌, nat_eq, nat_le, List, [], ◌∷◌, length, get_or, map, IsTrue, refl, sym, ap, ◌∙◌, arith, eqb-true, leb-true, zero-add, bit_and}
 use Rattle.std.specs.List.{list_all}
 use Rattle.std.proofs.lemmas.Bool.{and_parts}
@@ -17,7 +17,7 @@ use Rattle.ppc_word.specs.Patterns.{mask, held, pattern_of, pieces_of}
 use Rattle.ppc_word.proofs.Masks.{all_apart, all_apart-at, list_all-at, apart, key, not-apart, held-meets, meets-held}
 use Rattle.ppc_word.proofs.Read.{whole-parts}
 
--- each form stands at its instruction's number
+-- each form is at its instruction's number
 unfoldable numbered : ℕ → List Form → Bool
 numbered k [] = true
 numbered k (f ∷ fs) = nat_eq (tag_of the_type f.row) k && numbered (suc k) fs
@@ -101,7 +101,7 @@ pub key-at : (k : ℕ) (d : ℕ × ℕ) → k < ROWS → get_or keys k d ≡ key
 unfolding keys
 key-at k d h = get_or-map (λ f. key f.pieces) table k no_form d (omega (arith, length-table))
 
--- a word that meets the form at a place holds what is fixed there, and the other way round
+-- a word matches the form at a place exactly if it has the values fixed there
 pub held-at : (k n : ℕ) → k < ROWS → meets (form_at k).pieces n ≡ true → bit_and (n % 2 ^ 32) (mask (form_at k).pieces) ≡ held (form_at k).pieces
 held-at k n h m =
     let e = held-meets (form_at k).pieces n m in
@@ -113,7 +113,7 @@ meets-at k n h lt e =
     let m : n % 2 ^ bits (form_at k).pieces ≡ n = rw t.0 (omega arith) in
     meets-held (form_at k).pieces n t.2 (rw m e)
 
--- a word meets the form of one place
+-- a word matches the form of only one place
 pub one_place : (i j n : ℕ) → i < j → j < ROWS → meets (form_at i).pieces n ≡ true → meets (form_at j).pieces n ≡ true → ⊥
 one_place i j n lt below p q =
     let a = all_apart-at keys i j (0, 0) keys_apart lt (omega (arith, length-keys)) in

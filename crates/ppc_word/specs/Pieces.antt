@@ -3,16 +3,19 @@ use Rattle.std.specs.Prelude.{ℕ}
 use Rattle.ppc_word.specs.declared.piece.Piece.{Piece}
 use Rattle.ppc_word.specs.declared.piece.Piece.TheVariants.{Fixed, Field}
 
--- the opcode, the extended opcode of 9 and of 10 bits, and bits that have to be 0
+-- the opcode
 abbrev pub op : ℕ → Piece
 op n = Fixed 6 n
 
+-- the extended opcode of 9 bits
 abbrev pub xo9 : ℕ → Piece
 xo9 n = Fixed 9 n
 
+-- the extended opcode of 10 bits
 abbrev pub xo : ℕ → Piece
 xo n = Fixed 10 n
 
+-- bits that must be 0
 abbrev pub zeros : ℕ → Piece
 zeros w = Fixed w 0
 
@@ -29,7 +32,7 @@ ra = Field 5
 abbrev pub rb : Piece
 rb = Field 5
 
--- the conditions of a trap and of a branch, and the bit that a branch tests
+-- the conditions of a trap and of a branch, and the CR bit that a branch tests
 abbrev pub to : Piece
 to = Field 5
 
@@ -49,7 +52,7 @@ ba = Field 5
 abbrev pub bb : Piece
 bb = Field 5
 
--- a shift, and where a mask begins and ends
+-- the distance of a shift, and the first and last bit of a mask
 abbrev pub sh : Piece
 sh = Field 5
 
@@ -83,14 +86,14 @@ bd = Field 14
 abbrev pub li : Piece
 li = Field 24
 
--- the mask of fields of the condition register, and the number of a special register, its lower half first
+-- the mask of fields of the condition register, and the number of a special register, with its lower half first
 abbrev pub fxm : Piece
 fxm = Field 8
 
 abbrev pub spr : Piece
 spr = Field 10
 
--- single bits: an absolute address, a link, overflow enabled, and the result recorded
+-- single bits: the address is absolute, LR is set, overflow is recorded, and the result is recorded
 abbrev pub aa : Piece
 aa = Field 1
 

@@ -1,4 +1,4 @@
--- The numbers of the index: places of the table by the opcode, and by bits of the words of the opcodes 19 and 31.
+-- The numbers of the index: places of the table by opcode, and by bits of the words of opcodes 19 and 31.
 use Rattle.std.specs.Prelude.{ℕ, List}
 use Rattle.ppc_word.specs.declared.index.TheConstants.{BY_OPCODE, BY_19, BY_31}
 

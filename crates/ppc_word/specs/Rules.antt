@@ -1,4 +1,4 @@
--- What a word meets beside its pieces: registers that an update form can't have, the branches and the special registers that there are.
+-- What a word must meet besides its pieces: the registers that an update form allows, and the branches and special registers of the model.
 use Rattle.std.specs.Prelude.{ℕ, ◌+◌, ◌*◌, ◌/◌, ◌%◌, ◌^◌, Bool, true, not, ◌&&◌, ◌||◌, nat_eq, nat_lt}
 use Rattle.ppc_word.specs.declared.rule.Rule.{Rule}
 use Rattle.ppc_word.specs.declared.rule.Rule.TheVariants.{Any, LoadUpdate, StoreUpdate, LoadMultiple, SpecialRegister, NoCount}
@@ -15,12 +15,12 @@ ra_of w = w / 2 ^ 16 % 2 ^ 5
 abbrev pub spr_of : ℕ → ℕ
 spr_of w = w / 2 ^ 11 % 2 ^ 5 * 2 ^ 5 + w / 2 ^ 16 % 2 ^ 5
 
--- bit 2 of BO, bit 8 of the word: set where a branch leaves the count register alone
+-- bit 2 of BO, which is bit 8 of the word: the branch leaves CTR alone
 abbrev pub bo2_of : ℕ → ℕ
 bo2_of w = w / 2 ^ 23 % 2 ^ 1
 
--- a load with update has a base that is neither 0 nor its target, a store with update one that isn't 0, a load of
--- several words one below its target; the special registers are XER, LR and CTR; a branch to CTR doesn't count it down
+-- a load with update needs a base that is neither 0 nor the target, a store with update one that isn't 0, a load of several words one below the target;
+-- a special register is XER, LR or CTR; a branch to CTR doesn't decrement it
 abbrev pub allowed : Rule → ℕ → Bool
 allowed Any w = true
 allowed LoadUpdate w = not (nat_eq (ra_of w) 0) && not (nat_eq (ra_of w) (rt_of w))

@@ -1,4 +1,4 @@
--- The instruction words: one line an instruction, as the Power ISA, Book I, gives its form, from the most significant bit.
+-- The instruction words: one line for each instruction, with its form as in the Power ISA, Book I, from the most significant bit on.
 use Rattle.std.specs.Prelude.{ℕ, List, [], ◌∷◌, get_or}
 use denote.Enum.Declared.{tag_of}
 use Rattle.ppc_word.specs.declared.row.Row.{Row}
@@ -10,7 +10,7 @@ use Rattle.ppc_word.specs.declared.rule.Rule.{Rule}
 use Rattle.ppc_word.specs.declared.rule.Rule.TheVariants.{Any, LoadUpdate, StoreUpdate, LoadMultiple, SpecialRegister, NoCount}
 use Rattle.ppc_word.specs.Pieces.{op, xo9, xo, zeros, rt, rs, ra, rb, to, bo, bi, bt, ba, bb, sh, mb, me, bf, bfa, si, ui, d, bd, li, fxm, spr, aa, lk, oe, rc}
 
--- the words of an instruction: what they meet beside their pieces, and their pieces from the most significant bit
+-- the form of an instruction: what its words must meet besides the pieces, and the pieces from the most significant bit on
 pub record Form : Type 0 where
   pub row : Row
   pub rule : Rule
@@ -19,7 +19,7 @@ pub record Form : Type 0 where
 abbrev pub form : Row → Rule → List Piece → Form
 form row rule pieces = record { row = row; rule = rule; pieces = pieces }
 
--- the table: the instruction, what its words meet beside their pieces, and the pieces
+-- the table: each instruction, what its words must meet besides the pieces, and the pieces
 unfoldable pub table : List Form
 table =
     form Twi Any (op 3 ∷ to ∷ ra ∷ si ∷ []) ∷
@@ -134,7 +134,7 @@ table =
     form Eieio Any (op 31 ∷ zeros 15 ∷ xo 854 ∷ zeros 1 ∷ []) ∷
     []
 
--- what stands past the end of the table
+-- the form of places after the end of the table
 abbrev pub no_form : Form
 no_form = form Twi Any []
 

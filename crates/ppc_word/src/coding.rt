@@ -1,4 +1,4 @@
-//! Words to instructions and back.
+//! Decodes words to instructions, and encodes instructions to words.
 
 ghost use Rattle.std.specs.Prelude.{◌≡◌, ◌<◌, ℕ, true, Some, IfSome, option_map};
 ghost use Rattle.ppc_word.specs.Rows.{row_of, fields_of};
@@ -20,8 +20,8 @@ pub fn encode(insn: &Insn) -> u32
     word::write(table::pattern(table::place_of(insn.row)), &insn.fields)
 }
 
-// The instruction that a primary opcode alone decides. None if the opcode has several instructions, or its words have fixed bits
-// or a rule.
+// The instruction decided by the primary opcode alone. None if the opcode has several instructions,
+// or if its words have fixed bits or a rule.
 #[tactic(auto, unfolding(crate::specs::Opcodes::is_decided_by, crate::specs::Table::table, crate::specs::Table::number))]
 #[inline(always)]
 fn row_by_opcode(opcode: u32) -> Option<Row>
@@ -58,7 +58,7 @@ fn row_by_opcode(opcode: u32) -> Option<Row>
     }
 }
 
-// The instruction of a word that can meet only the form at this place.
+// The instruction of a word that can match only the form at this place.
 #[inline(always)]
 fn row_at(place: usize, word: u32) -> Option<Row>
     requires within { place < ROWS }
@@ -73,7 +73,7 @@ fn row_at(place: usize, word: u32) -> Option<Row>
     }
 }
 
-/// Which instruction a word is. None if the word is outside the table.
+/// The instruction of a word, without its fields. None if the word isn't in the table.
 #[inline(always)]
 pub fn row_for(word: u32) -> Option<Row>
     ensures { result ≡ row_of word }
@@ -82,7 +82,8 @@ pub fn row_for(word: u32) -> Option<Row>
     if let Some(row) = row_by_opcode(opcode) {
         return Some(row);
     }
-    // At a constant opcode the compiler knows the place, so it compares with constants and reads no index.
+    // If the opcode is constant, the compiler knows the place, so it compares with constants and
+    // reads no index.
     match opcode {
         10 => row_at(place_by_opcode(10, word), word),
         11 => row_at(place_by_opcode(11, word), word),
@@ -98,14 +99,14 @@ pub fn row_for(word: u32) -> Option<Row>
     }
 }
 
-// The fields of a word as one of this instruction.
+// The fields of a word, read as a word of this instruction.
 fn fields_for(row: Row, word: u32) -> [u32; 6]
     ensures { result ≡ fields_of row word }
 {
     word::read(table::pattern(table::place_of(row)), word)
 }
 
-/// The instruction of a word. None where the word is outside the table, so exactly where it is the word of no
+/// The instruction of a word. None if the word isn't in the table, that is, if it is the word of no
 /// instruction.
 pub fn decode(word: u32) -> Option<Insn>
     ensures row { option_map (λ i. i.row) result ≡ row_of word }

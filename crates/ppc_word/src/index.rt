@@ -1,6 +1,7 @@
-//! Where in the table a word's form can stand: by its opcode, and for the opcodes 19 and 31 by bits of the
-//! extended opcode. A place that no form has is 0: whether the word meets the form is seen afterwards. That each
-//! number below is right is proved, so a number that is out of date after a change of the table is refused.
+//! The index: the place in the table at which a word's form can be. The opcode decides it, and for
+//! opcodes 19 and 31 also bits of the extended opcode. Entries without a form are 0, because the
+//! word is compared with the form afterwards. All numbers below are proved, so after a change of
+//! the table the proof refuses a stale number.
 
 ghost use Rattle.std.specs.Prelude.{◌≡◌, ◌≢◌, ◌<◌, ◌/◌, ◌%◌, ◌^◌, ℕ, true, get_or};
 ghost use Rattle.ppc_word.specs.Words.{meets};
@@ -10,21 +11,21 @@ ghost use Rattle.ppc_word.specs.Places.{by_opcode, by_19, by_31};
 use crate::row::ROWS;
 use crate::word::part;
 
-// The place for each opcode; those of 19 and 31 are not used.
+// The place for each opcode. Those of 19 and 31 aren't used.
 pub(crate) static BY_OPCODE: [u8; 64] = [
     0, 0, 0, 0, 0, 0, 0, 1, 2, 0, 3, 4, 5, 6, 7, 8, 9, 10, 11, 0, 12, 13, 0, 14, 15, 16, 17, 18,
     19, 20, 0, 0, 21, 22, 23, 24, 25, 26, 27, 28, 29, 30, 31, 32, 33, 34, 35, 36, 0, 0, 0, 0, 0, 0,
     0, 0, 0, 0, 0, 0, 0, 0, 0, 0,
 ];
 
-// The place for opcode 19 by bits 21 to 26.
+// The place for opcode 19, by bits 21 to 26 of the word.
 pub(crate) static BY_19: [u8; 64] = [
     37, 38, 40, 0, 0, 0, 0, 0, 41, 48, 0, 0, 42, 0, 43, 0, 44, 0, 45, 0, 0, 0, 0, 0, 0, 0, 46, 0,
     47, 0, 0, 0, 0, 39, 0, 0, 0, 0, 0, 0, 0, 0, 0, 0, 0, 0, 0, 0, 0, 0, 0, 0, 0, 0, 0, 0, 0, 0, 0,
     0, 0, 0, 0, 0,
 ];
 
-// The place for opcode 31 by bits 21 to 30.
+// The place for opcode 31, by bits 21 to 30 of the word.
 pub(crate) static BY_31: [u8; 1024] = [
     49, 0, 0, 0, 51, 0, 0, 0, 52, 0, 54, 63, 0, 0, 0, 0, 0, 0, 0, 83, 106, 0, 0, 88, 76, 0, 80, 0,
     68, 0, 0, 0, 50, 0, 0, 0, 0, 0, 0, 0, 53, 0, 0, 0, 0, 0, 0, 0, 0, 0, 0, 0, 0, 0, 0, 92, 0, 0,
@@ -83,7 +84,7 @@ fn place_in_31(number: u32) -> u8
     BY_31[number as usize]
 }
 
-/// The only place whose form a word with this primary opcode can meet.
+/// The only place whose form can match a word with this primary opcode.
 #[inline(always)]
 pub(crate) fn place_by_opcode(opcode: u32, word: u32) -> usize
     requires is { opcode ≡ word / 2 ^ 26 % 2 ^ 6 }
@@ -96,7 +97,7 @@ pub(crate) fn place_by_opcode(opcode: u32, word: u32) -> usize
     place as usize
 }
 
-/// The only place whose form a word with primary opcode 31 can meet.
+/// The only place whose form can match a word with primary opcode 31.
 #[inline(always)]
 pub(crate) fn place_for_31(word: u32) -> usize
     requires { word / 2 ^ 26 % 2 ^ 6 ≡ 31 }
@@ -107,7 +108,7 @@ pub(crate) fn place_for_31(word: u32) -> usize
     place as usize
 }
 
-/// The only place whose form a word can meet.
+/// The only place whose form can match this word.
 pub(crate) fn place_for(word: u32) -> usize
     ensures within { result < ROWS }
     ensures only { (k : ℕ) → k < ROWS → meets (form_at k).pieces word ≡ true → result ≡ k }

@@ -5,13 +5,13 @@ ghost use Rattle.ppc_word.specs.Rows.{are_fields};
 
 use crate::row::Row;
 
-/// An instruction of the table, with its fields. Its type keeps that each field lies in its width, and that
-/// its word is in the table: no value of it is outside.
+/// An instruction of the table, with its fields. The type guarantees that each field fits its
+/// width, and that the instruction's word is in the table.
 #[derive(Clone, Copy, Debug, PartialEq, Eq)]
 pub struct Insn {
-    /// Which instruction it is.
+    /// The instruction's row in the table.
     pub row: Row,
-    /// The fields that its form names, in the order of their bits; the places left over hold 0.
+    /// The fields named by its form, in the order of their bits. The unused places are 0.
     pub fields: [u32; 6],
     pub ghost in_table: { IsTrue (are_fields row fields) },
 }

@@ -1,5 +1,6 @@
-//! Instruction words of the 32-bit PowerPC: one table of forms, read both ways. `decode` makes an
-//! instruction of a word, `encode` a word of an instruction, and `row_for` tells a word's instruction alone.
+//! The instruction words of the 32-bit PowerPC (Power ISA, Book I): one table of forms, used in
+//! both directions. `decode` turns a word into an instruction, `encode` an instruction into its
+//! word. `row_for` finds a word's instruction without its fields.
 #![tactic(auto)]
 
 ghost use Rattle.ppc_word.specs.Laws.{TableLaw};
@@ -20,7 +21,8 @@ pub use coding::{decode, encode, row_for};
 pub use insn::Insn;
 pub use row::Row;
 
-/// The law of the table: each form has 32 bits, each instruction has its form, and no word meets two forms.
+/// The law of the table: each form has 32 bits, each instruction has its form, and no word matches
+/// two forms.
 pub fn table_law()
     ensures { TableLaw }
 {}

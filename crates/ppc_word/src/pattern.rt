@@ -1,22 +1,23 @@
-//! The forms as the code keeps them.
+//! The forms, as the code stores them.
 
 use crate::piece::Piece;
 use crate::row::{ROWS, Row};
 use crate::rule::Rule;
 
-/// The words of an instruction.
+/// The pattern of an instruction's words.
 #[derive(Clone, Copy, Debug, Drop)]
 pub(crate) struct Pattern {
+    /// The instruction.
     pub row: Row,
-    /// What the words meet beside their pieces.
+    /// What the words must meet besides the pieces.
     pub rule: Rule,
-    /// The bits that are fixed.
+    /// A mask of the fixed bits.
     pub mask: u32,
-    /// What the fixed bits hold.
+    /// The values of the fixed bits.
     pub held: u32,
-    /// How many pieces there are.
+    /// The number of pieces.
     pub count: u8,
-    /// The pieces, from the most significant bit, and empty ones behind them.
+    /// The pieces, from the most significant bit on, then empty ones.
     pub p0: Piece,
     pub p1: Piece,
     pub p2: Piece,
@@ -27,8 +28,8 @@ pub(crate) struct Pattern {
     pub p7: Piece,
 }
 
-// A pattern by its pieces: `6 = 31` is 6 bits that hold 31, `5` a field of 5 bits. The mask and what it holds
-// are computed from the pieces.
+// A pattern from its pieces: `6 = 31` is 6 bits with the value 31, `5` is a field of 5 bits. The
+// mask and the values are computed from the pieces.
 macro_rules! pattern {
     ($row:ident, $rule:ident; $($piece:tt)*) => {
         pattern!(@ $row $rule (0) (0) (0) [] $($piece)*,)
@@ -61,7 +62,7 @@ macro_rules! pattern {
     };
 }
 
-// The patterns in the order of `Row`.
+// The patterns, in the order of `Row`.
 pub(crate) static PATTERNS: [Pattern; ROWS] = [
     pattern!(Twi, Any; 6 = 3, 5, 5, 16),
     pattern!(Mulli, Any; 6 = 7, 5, 5, 16),

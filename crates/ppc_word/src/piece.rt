@@ -1,10 +1,10 @@
-//! The pieces that a word is made of.
+//! The pieces of a word.
 
 /// A run of bits of a word.
 #[derive(Clone, Copy, Debug, Drop)]
 pub(crate) enum Piece {
-    /// This many bits, which hold this number.
+    /// The given number of bits, with this value.
     Fixed(u8, u32),
-    /// A field of this many bits.
+    /// A field of the given number of bits.
     Field(u8),
 }

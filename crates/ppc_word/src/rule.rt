@@ -1,31 +1,31 @@
-//! What the words of an instruction meet beside their pieces.
+//! What an instruction's words must meet besides the pieces.
 
 ghost use Rattle.std.specs.Prelude.{◌≡◌};
 ghost use Rattle.ppc_word.specs.Rules.{allowed, rt_of, ra_of, spr_of};
 
 use crate::word::part;
 
-// The special registers that there are, by their numbers.
+// The special registers of the model, by their numbers.
 const XER: u32 = 1;
 
 const LR: u32 = 8;
 
 const CTR: u32 = 9;
 
-/// What a word meets beside its pieces.
+/// What a word must meet besides its pieces.
 #[derive(Clone, Copy, Debug, Drop)]
 pub(crate) enum Rule {
     /// Nothing.
     Any,
-    /// The base register is neither 0 nor the target.
+    /// The base register RA is neither 0 nor the target RT.
     LoadUpdate,
-    /// The base register is not 0.
+    /// The base register RA isn't 0.
     StoreUpdate,
-    /// The base register is below the target.
+    /// The number of the base register RA is below that of the target RT.
     LoadMultiple,
-    /// There is a special register of this number.
+    /// The special register is XER, LR or CTR.
     SpecialRegister,
-    /// The branch doesn't count down.
+    /// The branch doesn't decrement CTR.
     NoCount,
 }
 
@@ -47,7 +47,7 @@ pub(crate) fn is_allowed(rule: Rule, word: u32) -> bool
     }
 }
 
-// Bits 6 to 10.
+// Bits 6 to 10: RT.
 #[inline(always)]
 fn target(word: u32) -> u32
     ensures { result ≡ rt_of word }
@@ -55,7 +55,7 @@ fn target(word: u32) -> u32
     part(word, 21, 5)
 }
 
-// Bits 11 to 15.
+// Bits 11 to 15: RA.
 #[inline(always)]
 fn base(word: u32) -> u32
     ensures { result ≡ ra_of word }
@@ -63,7 +63,7 @@ fn base(word: u32) -> u32
     part(word, 16, 5)
 }
 
-// The number in bits 11 to 20, whose lower half stands first.
+// Bits 11 to 20: SPR, with its lower half first.
 #[inline(always)]
 fn special_register(word: u32) -> u32
     ensures { result ≡ spr_of word }

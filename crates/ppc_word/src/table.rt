@@ -1,4 +1,4 @@
-//! The table of patterns behind two functions.
+//! The table of patterns, through two functions.
 
 ghost use Rattle.std.specs.Prelude.{◌≡◌, ◌<◌};
 ghost use Rattle.ppc_word.specs.Table.{form_at, number};

@@ -1,9 +1,9 @@
-//! A word that is no instruction, and one that is.
+//! Tests of a word that isn't an instruction, and of one that is.
 
 use crate::{Insn, Row, decode, encode};
 use std::test::Fail;
 
-// Power ISA, Book I: a word of 32 zeros is no instruction.
+// Power ISA, Book I: a word of 32 zeros isn't an instruction.
 #[test]
 fn zero_is_no_instruction(rt: HostRuntime) -> Result<(), Fail> {
     assert_eq!(rt; decode(0), None);

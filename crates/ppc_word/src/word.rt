@@ -1,4 +1,4 @@
-//! A word by the pieces of its form.
+//! A word and the pieces of its form.
 
 ghost use Rattle.std.specs.Prelude.{◌≡◌, ◌≤◌, ◌-◌, ◌/◌, ◌%◌, ◌^◌, ◌++◌, ◌&&◌, IsTrue, replicate, nat_eq, bit_and};
 ghost use Rattle.ppc_word.specs.Words.{whole, parts, fields, fit, joined};
@@ -9,7 +9,7 @@ use crate::pattern::Pattern;
 use crate::piece::Piece;
 use crate::rule::is_allowed;
 
-/// The number in the `width` bits of a word that stand above its lowest `at` bits.
+/// The number in `width` bits of a word, above its lowest `at` bits.
 #[inline(always)]
 pub(crate) fn part(word: u32, at: u8, width: u8) -> u32
     requires place { at ≤ 32 }
@@ -19,7 +19,7 @@ pub(crate) fn part(word: u32, at: u8, width: u8) -> u32
     ((word as u64 >> at) % (1 << width)) as u32
 }
 
-/// Whether a word holds the fixed bits of a pattern and meets its rule.
+/// Whether a word has the fixed bits of a pattern and meets its rule.
 #[inline(always)]
 pub(crate) fn fits(pattern: &Pattern, word: u32) -> bool
     ensures { result ≡ (nat_eq (bit_and word pattern.now.mask) pattern.now.held && allowed pattern.now.rule word) }
@@ -27,7 +27,7 @@ pub(crate) fn fits(pattern: &Pattern, word: u32) -> bool
     word & pattern.mask == pattern.held && is_allowed(pattern.rule, word)
 }
 
-// The pieces of a pattern, and empty ones behind them.
+// The pieces of a pattern, then empty ones.
 fn eight_pieces(pattern: &Pattern) -> [Piece; 8]
     ensures { result ≡ eight pattern.now }
 {
@@ -37,7 +37,7 @@ fn eight_pieces(pattern: &Pattern) -> [Piece; 8]
     ]
 }
 
-/// The fields of a word of a pattern in their order, with 0 in the places left over.
+/// The fields of a word of this pattern, in order. The unused places are 0.
 pub(crate) fn read(pattern: &Pattern, word: u32) -> [u32; 6]
     requires count { pattern.now.count ≤ 8 }
     requires form { IsTrue (whole (pieces_of pattern.now)) }
@@ -68,7 +68,7 @@ fn read_pieces(pieces: &[Piece], word: u32) -> [u32; 6]
     found
 }
 
-/// The word of a pattern that the fields make.
+/// The word of this pattern with these fields.
 pub(crate) fn write(pattern: &Pattern, values: &[u32; 6]) -> u32
     requires count { pattern.now.count ≤ 8 }
     requires form { IsTrue (whole (pieces_of pattern.now)) }

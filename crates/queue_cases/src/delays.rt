@@ -1,4 +1,4 @@
-//! The steps of tasks that wait for a tick, over both queues.
+//! The steps of tasks that wait for a tick, on both queues.
 
 use crate::numbers::Numbers;
 use crate::plain::{Entry, Plain};
@@ -8,15 +8,16 @@ use id_table::Ident;
 use std::alloc::Global;
 use wind_base::NoMemory;
 
-/// For how many tasks there is room.
+/// The greatest number of tasks in a queue.
 const ROOM: u32 = 256;
 
-/// How many steps are generated, and for how many tasks.
+/// The number of rounds in which steps are generated.
 const GENERATED: u32 = 300;
 
+/// The number of tasks in generated steps.
 const TASKS: u32 = 40;
 
-// A step; tasks go by the numbers of their ids.
+// A step. Tasks are named by the numbers of their ids.
 #[derive(Clone, Copy)]
 enum Step {
     Put { who: u32, wake: u64 },
@@ -24,7 +25,8 @@ enum Step {
     Due { tick: u64 },
 }
 
-// Nobody waits; due a tick before, at the very tick and after it; equals; the least and the greatest tick.
+// No task waits; a task is due one tick before, at and after a tick; equal wakes; the least and the
+// greatest tick.
 const EDGES: [Step; 25] = [
     Step::Due { tick: u64::MAX },
     Step::Take { who: 1 },
@@ -62,7 +64,7 @@ const EDGES: [Step; 25] = [
     Step::Due { tick: u64::MAX },
 ];
 
-// Both queues, and how many of their answers agree.
+// Both queues, and the tally of their answers.
 #[derive(Drop)]
 struct Bench {
     delays: Delays,
@@ -70,7 +72,7 @@ struct Bench {
     tally: Tally,
 }
 
-/// Plays all steps over both queues.
+/// Plays all steps on both queues.
 pub fn play(alloc: Global) -> Result<Tally, NoMemory> {
     let mut bench = Bench {
         delays: Delays::reserved(alloc, ROOM)?,
@@ -102,7 +104,7 @@ impl Bench {
         Ok(())
     }
 
-    // All that there is room for at one tick, and one more; then each is due.
+    // Fills the queue with tasks of one wake, adds one more, and then takes each as it is due.
     fn one_tick(&mut self) -> Result<(), NoMemory> {
         for who in 1..ROOM + 2 {
             self.step(Step::Put { who, wake: 1_000 })?;
@@ -132,7 +134,7 @@ impl Bench {
     }
 }
 
-// None where there is no such task.
+// The queue's answer to a step. None if the step's task is not a valid id.
 fn answer(delays: &mut Delays, step: Step) -> Option<Answer> {
     let answer = match step {
         Step::Put { who, wake } => put(delays, Ident::new(who)?, wake),
@@ -142,7 +144,7 @@ fn answer(delays: &mut Delays, step: Step) -> Option<Answer> {
     Some(answer)
 }
 
-// Puts a task in, which is taken out before where it is there.
+// Adds a task; removes it first if it is there.
 #[tactic(auto, using(delay_queue::proofs::Waiting::taken_absent))]
 fn put(delays: &mut Delays, who: Ident, wake: u64) -> Answer {
     let again = delays.take(who);
@@ -161,14 +163,14 @@ fn plain_answer(plain: &mut Plain<u64>, step: Step) -> Result<Answer, NoMemory> 
     }
 }
 
-// Takes the first of the tasks out where it is due at a tick.
+// Removes the first task that is due at a tick and returns its number.
 fn due(plain: &mut Plain<u64>, tick: u64) -> Option<u32> {
     let who = earliest(plain.entries(), tick)?;
     plain.take(who);
     Some(who)
 }
 
-// The earliest of the tasks that are due at a tick, and the first of these.
+// The first of the tasks with the least wake, if that wake is at most `tick`.
 fn earliest(entries: &[Entry<u64>], tick: u64) -> Option<u32> {
     let mut best: Option<Entry<u64>> = None;
     for entry in entries {
@@ -177,7 +179,7 @@ fn earliest(entries: &[Entry<u64>], tick: u64) -> Option<u32> {
     Some(best?.who)
 }
 
-// The task, where it is due at the tick and before the best so far, or else that one.
+// The task if it is due and has a lesser wake than the best so far; otherwise the best so far.
 fn earlier(best: Option<Entry<u64>>, entry: Entry<u64>, tick: u64) -> Option<Entry<u64>> {
     match best {
         _ if entry.key > tick => best,

@@ -1,4 +1,5 @@
-//! Plays operations on the queues of the kernel, and on a plain vector that is scanned, and compares what both answer.
+//! Plays operations on the kernel's queues and on a plain vector that is scanned, and compares the
+//! answers.
 #![tactic(auto)]
 
 mod delays;
@@ -12,14 +13,14 @@ use std::io;
 use tally::Tally;
 use wind_base::NoMemory;
 
-/// Plays the steps of each queue, and tells how many answers agree.
+/// Plays the steps of each queue, and prints how many answers agree.
 fn main(rt: HostRuntime) -> io::Result<()> {
     tell(&rt, "ready tasks", ready::play(rt.alloc()))?;
     tell(&rt, "tasks that wait for a tick", delays::play(rt.alloc()))?;
     tell(&rt, "waiters of places", waits::play(rt.alloc()))
 }
 
-// Writes the line of a queue.
+// Prints the line of a queue.
 fn tell<R: Print>(rt: &R, queue: &str, played: Result<Tally, NoMemory>) -> io::Result<()> {
     let Ok(
         Tally {

@@ -2,19 +2,19 @@
 
 ghost use Rattle.std.specs.Prelude.{◌<◌};
 
-/// A linear congruence modulo 2^64; the upper half of each number is used.
+/// A linear congruence modulo 2^64. The upper 32 bits of each number are used.
 #[derive(Drop)]
 pub struct Numbers {
     state: u64,
 }
 
 impl Numbers {
-    /// The numbers from a fixed beginning.
+    /// The sequence of numbers from a fixed seed.
     pub fn new() -> Numbers {
         Numbers { state: 5_400 }
     }
 
-    /// The next number, below a bound.
+    /// The next number. It is below `bound`.
     pub fn below(&mut self, bound: u32) -> u32
         requires { 0 < bound }
         ensures { result < bound }

@@ -1,17 +1,19 @@
-//! Tasks as a vector that is scanned.
+//! Tasks in a vector that is scanned.
 
 use crate::tally::Answer;
 use std::alloc::Global;
 use wind_base::NoMemory;
 
-/// A task with what decides when it is the first.
+/// A task with the key that decides when it is first.
 #[derive(Clone, Copy, Drop)]
 pub struct Entry<K> {
+    /// The number of the task's id.
     pub who: u32,
+    /// The key.
     pub key: K,
 }
 
-/// Tasks in the order in which they came; at most so many.
+/// Tasks in order of arrival, with a limit on their number.
 #[derive(Drop)]
 pub struct Plain<K> {
     room: usize,
@@ -19,7 +21,7 @@ pub struct Plain<K> {
 }
 
 impl<K: Copy + Drop> Plain<K> {
-    /// No task, and room for `n`.
+    /// An empty vector with room for `n` tasks.
     pub fn new(alloc: Global, n: u32) -> Plain<K> {
         Plain {
             room: n as usize,
@@ -27,7 +29,7 @@ impl<K: Copy + Drop> Plain<K> {
         }
     }
 
-    /// Puts a task in behind all others where there is room, and takes it out before where it is there.
+    /// Adds a task at the end if there is room; removes it first if it is there.
     pub fn put(&mut self, who: u32, key: K) -> Result<Answer, NoMemory> {
         let again = self.take(who);
         let room = self.entries.len() < self.room;
@@ -37,18 +39,18 @@ impl<K: Copy + Drop> Plain<K> {
         Ok(Answer::Put { again, room })
     }
 
-    // Takes a task out. None where it isn't there.
+    // Removes a task. None if it isn't there.
     fn remove(&mut self, who: u32) -> Option<Entry<K>> {
         let at = self.entries.iter().position(|entry| entry.who == who)?;
         Some(self.entries.remove(at))
     }
 
-    /// Takes a task out. False where it isn't there.
+    /// Removes a task. `false` if it isn't there.
     pub fn take(&mut self, who: u32) -> bool {
         self.remove(who).is_some()
     }
 
-    /// The task goes behind all others. False where it isn't there.
+    /// Moves a task to the end. `false` if it isn't there.
     pub fn rotate(&mut self, who: u32) -> Result<bool, NoMemory> {
         match self.remove(who) {
             Some(entry) => {
@@ -59,7 +61,7 @@ impl<K: Copy + Drop> Plain<K> {
         }
     }
 
-    /// The tasks.
+    /// The tasks, in order of arrival.
     pub fn entries(&self) -> &[Entry<K>] {
         &self.entries
     }

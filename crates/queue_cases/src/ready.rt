@@ -1,4 +1,4 @@
-//! The steps of ready tasks, over both queues.
+//! The steps of ready tasks, on both queues.
 
 use crate::numbers::Numbers;
 use crate::plain::{Entry, Plain};
@@ -8,15 +8,16 @@ use ready_queue::Ready;
 use std::alloc::Global;
 use wind_base::{NoMemory, Pri};
 
-/// For how many tasks there is room.
+/// The greatest number of tasks in a queue.
 const ROOM: u32 = 256;
 
-/// How many steps are generated, and for how many tasks.
+/// The number of rounds in which steps are generated.
 const GENERATED: u32 = 300;
 
+/// The number of tasks in generated steps.
 const TASKS: u32 = 40;
 
-// A step; tasks go by the numbers of their ids.
+// A step. Tasks are named by the numbers of their ids.
 #[derive(Clone, Copy)]
 enum Step {
     Put { pri: u32, who: u32 },
@@ -25,7 +26,8 @@ enum Step {
     First,
 }
 
-// Nobody is ready; one alone, who is rotated; equals; a list that is emptied and used again; the first and the last one.
+// No task is ready; one task is, and is rotated; equal priorities; a list is emptied and used
+// again; the first and the last priority.
 const EDGES: [Step; 28] = [
     Step::First,
     Step::Take { who: 1 },
@@ -57,7 +59,7 @@ const EDGES: [Step; 28] = [
     Step::First,
 ];
 
-// Both queues, and how many of their answers agree.
+// Both queues, and the tally of their answers.
 #[derive(Drop)]
 struct Bench {
     ready: Ready,
@@ -65,7 +67,7 @@ struct Bench {
     tally: Tally,
 }
 
-/// Plays all steps over both queues.
+/// Plays all steps on both queues.
 pub fn play(alloc: Global) -> Result<Tally, NoMemory> {
     let mut bench = Bench {
         ready: Ready::reserved(alloc, ROOM)?,
@@ -97,7 +99,7 @@ impl Bench {
         Ok(())
     }
 
-    // All that there is room for in one list, and one more; then each goes as the first.
+    // Fills one list, adds one more task, and then takes each task as the first.
     fn one_list(&mut self) -> Result<(), NoMemory> {
         for who in 1..ROOM + 2 {
             self.step(Step::Put { pri: 7, who })?;
@@ -128,7 +130,7 @@ impl Bench {
     }
 }
 
-// None where there is no such task or priority.
+// The queue's answer to a step. None if the step's task or priority is invalid.
 fn answer(ready: &mut Ready, step: Step) -> Option<Answer> {
     let answer = match step {
         Step::Put { pri, who } => put(ready, Pri::new(pri)?, Ident::new(who)?),
@@ -139,7 +141,7 @@ fn answer(ready: &mut Ready, step: Step) -> Option<Answer> {
     Some(answer)
 }
 
-// Puts a task in, which is taken out before where it is there.
+// Adds a task; removes it first if it is there.
 #[tactic(auto, using(ready_queue::proofs::Turns::taken_absent))]
 fn put(ready: &mut Ready, pri: Pri, who: Ident) -> Answer {
     let again = ready.take(who);
@@ -159,7 +161,7 @@ fn plain_answer(plain: &mut Plain<u32>, step: Step) -> Result<Answer, NoMemory> 
     }
 }
 
-// The most urgent task, and the first of these.
+// The first of the tasks with the least priority number.
 fn first(entries: &[Entry<u32>]) -> Option<u32> {
     let mut best: Option<Entry<u32>> = None;
     for entry in entries {
@@ -168,7 +170,7 @@ fn first(entries: &[Entry<u32>]) -> Option<u32> {
     Some(best?.who)
 }
 
-// The task, where it is more urgent than the best so far, or else that one.
+// The task if it is more urgent than the best so far; otherwise the best so far.
 fn more_urgent(best: Option<Entry<u32>>, entry: Entry<u32>) -> Option<Entry<u32>> {
     match best {
         Some(first) if entry.key >= first.key => best,

@@ -1,28 +1,31 @@
-//! How many answers agree.
+//! Counts the answers that agree.
 
 use id_table::Ident;
 
-/// The answers so far: how many, how many of them agree, and the number of the first step whose answers don't, from 1.
+/// The answers so far.
 #[derive(Clone, Copy)]
 pub struct Tally {
+    /// The number of pairs of answers.
     pub answers: u64,
+    /// The number of pairs that agree.
     pub agreeing: u64,
+    /// The number, from 1 on, of the first step whose answers differ.
     pub differing: Option<u64>,
 }
 
-/// What a queue answers to a step.
+/// The answer of a queue to a step.
 #[derive(Clone, Copy, PartialEq, Eq)]
 pub enum Answer {
-    /// A task was put in: whether it was there before, and whether there was room.
+    /// A task was added: whether it was there before, and whether there was room.
     Put { again: bool, room: bool },
-    /// Whether there was such a task.
+    /// Whether the task was there.
     Found(bool),
     /// The number of a task, or none.
     Task(Option<u32>),
 }
 
 impl Answer {
-    /// The task that a queue found, or none.
+    /// The task that a queue found, as an answer.
     pub fn task(found: Option<Ident>) -> Answer {
         match found {
             Some(who) => Answer::Task(Some(who.get())),
@@ -32,7 +35,7 @@ impl Answer {
 }
 
 impl Tally {
-    /// No answers.
+    /// A tally of no answers.
     pub fn new() -> Tally {
         Tally {
             answers: 0,
@@ -41,7 +44,7 @@ impl Tally {
         }
     }
 
-    /// Takes one more pair of answers in. There is none of the queue where it has no such task.
+    /// Counts one more pair of answers. The queue has none if its step was invalid.
     pub fn compare(&mut self, answer: Option<Answer>, plain: Answer) {
         self.answers = self.answers.wrapping_add(1);
         if answer == Some(plain) {

@@ -1,4 +1,4 @@
-//! The steps of the waiters of places, over both queues.
+//! The steps of waiters, on both queues.
 
 use crate::numbers::Numbers;
 use crate::plain::{Entry, Plain};
@@ -8,26 +8,29 @@ use std::alloc::Global;
 use wait_order::Waits;
 use wind_base::NoMemory;
 
-/// For how many tasks there is room.
+/// The greatest number of waiters in a queue.
 const ROOM: u32 = 256;
 
-/// How many steps are generated, for how many tasks, and at how many objects with three sides each.
+/// The number of rounds in which steps are generated.
 const GENERATED: u32 = 400;
 
+/// The number of tasks in generated steps.
 const TASKS: u32 = 40;
 
+/// The number of objects in generated steps, each with three sides.
 const OBJECTS: u32 = 4;
 
-// A step; tasks and objects go by the numbers of their ids.
+// A step. Tasks and objects are named by the numbers of their ids.
 #[derive(Clone, Copy)]
 enum Step {
-    // the side and the object where a task waits, the task, its priority and its order number
+    // the side and the object at which the task waits, the task, its priority and its order number
     Put(u8, u32, u32, u32, u64),
     Take { who: u32 },
     First { side: u8, object: u32 },
 }
 
-// Nobody waits at a place; equal keys, another order number, another priority; the last goes.
+// No task waits at a place; equal keys; another order number; another priority; the last waiter is
+// removed.
 const EDGES: [Step; 19] = [
     Step::First { side: 1, object: 8 },
     Step::Take { who: 1 },
@@ -50,7 +53,7 @@ const EDGES: [Step; 19] = [
     Step::First { side: 1, object: 8 },
 ];
 
-// The place once more, with one before it by its side and one behind it by its object.
+// The place again, with a place before it by side and one after it by object.
 const BESIDE: [Step; 18] = [
     Step::Put(0, 9, 1, 200, 1),
     Step::Put(1, 9, 2, 0, 2),
@@ -72,7 +75,7 @@ const BESIDE: [Step; 18] = [
     Step::First { side: 1, object: 8 },
 ];
 
-// What decides when a waiter is the first, and where.
+// The place of a waiter, and what decides when it is first there.
 #[derive(Clone, Copy, Drop)]
 struct Key {
     side: u8,
@@ -81,7 +84,7 @@ struct Key {
     since: u64,
 }
 
-// Both queues, and how many of their answers agree.
+// Both queues, and the tally of their answers.
 #[derive(Drop)]
 struct Bench {
     waits: Waits,
@@ -89,7 +92,7 @@ struct Bench {
     tally: Tally,
 }
 
-/// Plays all steps over both queues.
+/// Plays all steps on both queues.
 pub fn play(alloc: Global) -> Result<Tally, NoMemory> {
     let mut bench = Bench {
         waits: Waits::reserved(alloc, ROOM)?,
@@ -122,7 +125,7 @@ impl Bench {
         Ok(())
     }
 
-    // All that there is room for at one place, the last first, and one more; then each goes as the first.
+    // Fills one place, last waiter first, adds one more, and then takes each as the first.
     fn one_place(&mut self) -> Result<(), NoMemory> {
         let first = Step::First { side: 0, object: 7 };
         for number in 0..ROOM + 1 {
@@ -151,13 +154,13 @@ impl Bench {
     }
 }
 
-// The side of an object. None where there is no such object.
+// A side of an object, as a place. None if the object's id is invalid.
 fn at(side: u8, object: u32) -> Option<Place> {
     let id = Ident::new(object)?;
     Some(Place { side, id })
 }
 
-// None where there is no such task or object.
+// The queue's answer to a step. None if the step's task or object is invalid.
 fn answer(waits: &mut Waits, step: Step) -> Option<Answer> {
     let answer = match step {
         Step::Put(side, object, who, pri, since) => {
@@ -169,7 +172,7 @@ fn answer(waits: &mut Waits, step: Step) -> Option<Answer> {
     Some(answer)
 }
 
-// Puts a task in, which is taken out before where it is there.
+// Adds a task; removes it first if it is there.
 #[tactic(auto, using(wait_order::proofs::Turns::taken_absent))]
 fn put(waits: &mut Waits, place: Place, who: Ident, pri: u32, since: u64) -> Answer {
     let again = waits.take(who);
@@ -196,7 +199,7 @@ fn plain_answer(plain: &mut Plain<Key>, step: Step) -> Result<Answer, NoMemory> 
     }
 }
 
-// The first of those that wait at a side of an object.
+// The first task that waits at a side of an object.
 fn first(entries: &[Entry<Key>], side: u8, object: u32) -> Option<u32> {
     let mut best: Option<Entry<Key>> = None;
     for entry in entries {
@@ -207,7 +210,7 @@ fn first(entries: &[Entry<Key>], side: u8, object: u32) -> Option<u32> {
     Some(best?.who)
 }
 
-// The waiter, where it stands before the first so far, or else that one.
+// The waiter if it is before the best so far; otherwise the best so far.
 fn better(best: Option<Entry<Key>>, entry: Entry<Key>) -> Option<Entry<Key>> {
     match best {
         Some(first) if stands_before(first, entry) => best,
@@ -215,7 +218,7 @@ fn better(best: Option<Entry<Key>>, entry: Entry<Key>) -> Option<Entry<Key>> {
     }
 }
 
-// Whether the waiter `a` stands before the waiter `b`: by priority, order number and id.
+// Whether waiter `a` is before waiter `b`: by priority, then by order number, then by id.
 fn stands_before(a: Entry<Key>, b: Entry<Key>) -> bool {
     let (a, b) = (
         (a.key.pri, a.key.since, a.who),

@@ -1,4 +1,4 @@
--- The bits of a map, after one is changed, and the least that is set.
+-- The bits of a map after one changes, and the least one that is set.
 use Rattle.std.proofs.Common.{◌≡◌, ℕ, ◌+◌, ◌*◌, ◌<◌, ◌≤◌, ◌/◌, ◌%◌, List, set, length, get_or, Some, sym, ap, ◌∙◌, arith, ⊎_elim}
 use Rattle.std.specs.Int.{bit_at}
 use Rattle.std.proofs.lemmas.Bool.{cases_eq, cases_lt}
@@ -6,7 +6,7 @@ use Rattle.std.proofs.lemmas.List.{get_or-set_same, get_or-set_other}
 use Rattle.std.proofs.lemmas.Nat.Bits.{bit_at-zero}
 use Rattle.ready_queue.specs.Map.{priorities, marked, IsMarked, IsLowest}
 
--- a word of the map is written
+-- a word of the map is overwritten
 pub word_written : (words : List ℕ) (pri bit word : ℕ) → length words ≡ 8 → pri < priorities → bit_at word (pri % 32) ≡ bit
     → ((other : ℕ) → other < 32 → (other ≡ pri % 32 → ⊥) → bit_at word other ≡ bit_at (get_or words (pri / 32) 0) other)
     → IsMarked words (set words (pri / 32) word) pri bit
@@ -26,7 +26,7 @@ word_written words pri bit word len within here others =
           (cases_eq (other / 32) (pri / 32));
     }
 
--- a word of 0 has no bit
+-- a word of 0 has no bit set
 pub word_empty : (words : List ℕ) (pri : ℕ) → get_or words (pri / 32) 0 ≡ 0 → marked words pri ≡ 0
 word_empty words pri none = ap (λ n. bit_at n (pri % 32)) none ∙ bit_at-zero (pri % 32)
 

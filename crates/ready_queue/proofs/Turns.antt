@@ -1,4 +1,4 @@
--- Ready tasks in a list for each priority: what is seen of them, as one comes and one goes.
+-- Ready tasks in a list for each priority: what a contract sees of them, as one is added and one removed.
 use Rattle.std.proofs.Common.{◌≡◌, ℕ, zero, suc, ◌+◌, ◌/◌, ◌<◌, ◌≤◌, true, false, cond, not, eqb, List, [], ◌∷◌, ◌++◌, map, set, length, replicate, Option, None, Some, is_some, refl, sym, ap, ◌∙◌, subst, arith, ⊎_elim, append_assoc}
 use Rattle.std.specs.Prelude.{IsSome}
 use Rattle.std.specs.Option.{option_map}
@@ -37,7 +37,7 @@ value_or_rest (x ∷ xs) rest who =
       | false ↦ value_or_rest xs rest who
     ]
 
--- a task has a priority where it has a cell
+-- a task has a priority exactly if it has a cell
 pub has_pri : (p who : ℕ) (cs : List (List Cell)) → is_some (pri_of (tasks_from p cs) who) ≡ is_some (value_of cs who)
 has_pri p who [] = refl
 has_pri p who (c ∷ cs) =
@@ -58,7 +58,7 @@ no_value who cs none = no_option (value_of cs who) (sym (has_pri 0 who cs) ∙ a
 pub no_pri : (who : ℕ) (cs : List (List Cell)) → value_of cs who ≡ None → pri_of (tasks_from 0 cs) who ≡ None
 no_pri who cs none = no_option (pri_of (tasks_from 0 cs) who) (has_pri 0 who cs ∙ ap is_some none)
 
--- the priority of a task is the number of the list that it is in
+-- the priority of a task is the number of its list
 pub pri_is : (p who q : ℕ) (cs : List (List Cell)) → q < length cs → IsSome (value_in (chain_at cs q) who) → ((r : ℕ) → r < q → value_in (chain_at cs r) who ≡ None) → pri_of (tasks_from p cs) who ≡ Some (p + q)
 pri_is p who q [] hq here before = absurd (omega (arith, hq))
 pri_is p who zero (c ∷ cs) hq here before =
@@ -71,13 +71,13 @@ pri_is p who (suc q) (c ∷ cs) hq here before =
     ∙ pri_is (suc p) who q cs (omega (arith, hq)) here (λ r hr. before (suc r) (omega (arith, hr)))
     ∙ ap (λ n. Some n) same
 
--- ---- how many
+-- ---- the number of tasks
 pub length-tasks : (p : ℕ) (cs : List (List Cell)) → length (tasks_from p cs) ≡ length (all_cells cs)
 length-tasks p [] = refl
 length-tasks p (c ∷ cs) =
     omega (arith, length-append (map (task_in p) c) (tasks_from (suc p) cs), length-map c (task_in p), length-tasks (suc p) cs, length-append c (all_cells cs))
 
--- ---- a task goes
+-- ---- a task is removed
 one_without : (p who : ℕ) (c : List Cell) → map (task_in p) (without cell_key c who) ≡ without task_id (map (task_in p) c) who
 one_without p who [] = refl
 one_without p who (x ∷ xs) =
@@ -93,8 +93,8 @@ tasks_without p who (c ∷ cs) =
     ∙ ap (λ zs. without task_id (map (task_in p) c) who ++ zs) (tasks_without (suc p) who cs)
     ∙ sym (filter-append (λ (t : ℕ × ℕ). not (eqb t.1 who)) (map (task_in p) c) (tasks_from (suc p) cs))
 
--- ---- a task comes
--- it goes behind those that are as urgent as it, and before those that are less
+-- ---- a task is added
+-- it goes after those that are at least as urgent, and before the others
 behind : (p : ℕ) (t : ℕ × ℕ) (c : List Cell) (rest : List (ℕ × ℕ)) → p ≤ t.0 → put_in (map (task_in p) c ++ rest) t ≡ map (task_in p) c ++ put_in rest t
 behind p t [] rest h = refl
 behind p t (x ∷ xs) rest h = ap (λ b. cond b ((p, x.0) ∷ put_in (map (task_in p) xs ++ rest) t) (t ∷ (p, x.0) ∷ map (task_in p) xs ++ rest)) (le-leb p t.0 h) ∙ ap (λ zs. (p, x.0) ∷ zs) (behind p t xs rest h)
@@ -158,7 +158,7 @@ nobody_from p (c ∷ cs) none =
     ap (λ d. first_id (map (task_in p) d ++ tasks_from (suc p) cs)) (nothing c (none 0 (omega arith)))
     ∙ nobody_from (suc p) cs (λ r hr. none (suc r) (omega (arith, hr)))
 
--- ---- what is kept
+-- ---- the invariant
 pub order_alike : (ts us : List (ℕ × ℕ)) (room : ℕ) → ts ≡ us → ◌≡◌ {A = Order} (record { tasks = ts; room = room }) (record { tasks = us; room = room })
 order_alike ts us room e = λ i. record { tasks = e i; room = room }
 
@@ -230,7 +230,7 @@ mapped_rotated cs words q who cell is only =
           (cases_eq p q);
     }
 
--- ---- a task that is there, and one that is gone
+-- ---- a task that is there, and one that was removed
 pub pri_found : (cs : List (List Cell)) (who q : ℕ) → IsOnlyIn cs who q → pri_of (tasks_from 0 cs) who ≡ Some q
 pri_found cs who q only =
     let same : 0 + q ≡ q = omega arith in
@@ -248,7 +248,7 @@ fewer_cells cs who q only =
     cell_of None e = absurd (cc)
     cell_of (Some x) e = (x, refl)
 
--- without a task that isn't there, the tasks are as they were
+-- removing a task that isn't there changes nothing
 pub none_taken : (ts : List (ℕ × ℕ)) (who : ℕ) → pri_of ts who ≡ None → ts ≡ taken_out ts who
 none_taken ts who none = sym (none_without task_id ts who (unmapped (of_id task_id ts who) none))
   where
@@ -262,6 +262,6 @@ mapped_empty cs e = record {
   bits = λ p hp. word_empty (replicate 8 0) p (get_or-replicate 8 (p / 32) 0 0 (omega (arith, hp))) ∙ sym (ap (λ ds. filled (chain_at ds p)) e ∙ ap filled (get_or-replicate {A = List Cell} priorities p [] [] hp));
 }
 
--- who was taken out is not there
+-- a removed task isn't there
 pub taken_absent : (ts : List (ℕ × ℕ)) (who : ℕ) → pri_of (taken_out ts who) who ≡ None
 taken_absent ts who = ap (option_map task_pri) (gone task_id ts who)

@@ -3,7 +3,7 @@ use Rattle.std.specs.Prelude.{◌≡◌, ℕ, ◌+◌, ◌<◌, ◌/◌, ◌%◌
 use Rattle.std.specs.Int.{bit_at}
 use Rattle.wind_base.specs.Limits.{least_urgent}
 
--- how many priorities there are
+-- the number of priorities
 abbrev pub priorities : ℕ
 priorities = least_urgent + 1
 
@@ -11,16 +11,16 @@ priorities = least_urgent + 1
 abbrev pub marked : List ℕ → ℕ → ℕ
 marked words pri = bit_at (slice_index words (pri / 32)) (pri % 32)
 
--- one priority has this bit now, and the others have theirs
+-- one priority has this bit now, and the bits of the others stay
 pub record IsMarked (old new : List ℕ) (pri bit : ℕ) : Type 0 where
   pub same : marked new pri ≡ bit
   pub others : (other : ℕ) → other < priorities → (other ≡ pri → ⊥) → marked new other ≡ marked old other
 
--- the lowest bit of a word that is set, or none of a word that is 0
+-- the lowest set bit of a word, or none if the word is 0
 abbrev pub IsLowest : ℕ → Option ℕ → Type 0
 IsLowest word found = MatchOption found (word ≡ 0) (λ bit. (bit < 32) × (bit_at word bit ≡ 1) × ((less : ℕ) → less < bit → bit_at word less ≡ 0))
 
--- the least priority whose bit is set, or none where no bit is
+-- the least priority whose bit is set, or none if no bit is set
 abbrev pub IsFirstMarked : List ℕ → Option ℕ → Type 0
 IsFirstMarked words found =
     MatchOption found

@@ -1,4 +1,4 @@
-//! Which priorities have a ready task, a bit each.
+//! A bit map of the priorities that have a ready task.
 
 ghost use Rattle.std.specs.Prelude.{◌≡◌, ◌<◌, ℕ, MatchOption, if◌then◌else◌};
 ghost use Rattle.std.specs.Int.{bit_at};
@@ -6,16 +6,16 @@ ghost use Rattle.ready_queue.specs.Map.{priorities, marked, IsMarked, IsLowest, 
 
 use wind_base::limits::LEAST_URGENT;
 
-/// How many priorities there are.
+/// The number of priorities.
 pub(crate) const PRIORITIES: u32 = LEAST_URGENT + 1;
 
-/// How many bits a word has.
+/// The number of bits of a word.
 const BITS: u32 = 32;
 
-/// How many words there are.
+/// The number of words in the map.
 pub(crate) const WORDS: usize = 8;
 
-// A bit for each priority: bit 0 of the first word for priority 0.
+// A bit for each priority: bit 0 of the first word is that of priority 0.
 #[derive(Drop)]
 pub(crate) struct PriorityMap {
     pub(crate) words: [u32; WORDS],
@@ -40,7 +40,7 @@ pub(crate) fn mark(words: &mut [u32; WORDS], priority: u32, on: bool)
     words[place] = with_bit(words[place], priority % BITS, on);
 }
 
-// The lowest bit of a word that is set.
+// The lowest bit of a word that is set. None if the word is 0.
 fn lowest(word: u32) -> Option<u32>
     ensures { IsLowest word result }
 {
@@ -51,7 +51,7 @@ fn lowest(word: u32) -> Option<u32>
     }
 }
 
-// The least priority whose bit is set.
+// The least priority whose bit is set. None if no bit is set.
 pub(crate) fn first(words: &[u32; WORDS]) -> Option<u32>
     ensures { IsFirstMarked words.now result }
 {

@@ -1,4 +1,4 @@
-//! Who is ready.
+//! The queue of ready tasks.
 
 ghost use Rattle.std.specs.Prelude.{◌≡◌, ◌<◌, [], None, length, IfOk, is_some};
 ghost use Rattle.ready_queue.specs.Order.{Order, pri_of, with_task, without_task, rotated, first_id};
@@ -10,7 +10,8 @@ use std::alloc::Global;
 use std::marker::Model;
 use wind_base::{NoMemory, Pri};
 
-/// The ready tasks: a linked list for each priority, all in one slab, and a map of the priorities whose list is not empty.
+/// The ready tasks: a linked list for each priority, all in one slab, and a bit map of the
+/// priorities whose list isn't empty.
 #[derive(Drop)]
 pub struct Ready {
     tasks: IdLists<()>,
@@ -30,7 +31,7 @@ impl Model for Ready {
 }
 
 impl Ready {
-    /// Nobody is ready, and there is room for `n` tasks. No other call takes memory.
+    /// An empty queue with room for `n` tasks. No other call takes memory.
     pub fn reserved(alloc: Global, n: u32) -> Result<Ready, NoMemory>
         ensures { IfOk result (λ r. r ≡ record { tasks = []; room = n }) }
     {
@@ -41,22 +42,22 @@ impl Ready {
         })
     }
 
-    /// How many tasks are ready.
+    /// The number of ready tasks.
     pub fn len(&self) -> usize
         ensures { result ≡ length self.now.tasks }
     {
         self.tasks.len()
     }
 
-    /// For how many tasks there is room.
+    /// The greatest number of ready tasks.
     pub fn room(&self) -> usize
         ensures { result ≡ self.now.room }
     {
         self.tasks.room()
     }
 
-    /// The task is ready from now on, behind all of its priority. It must not be ready already, and fewer may be ready
-    /// than there is room for.
+    /// Adds a ready task after all others of its priority. It must not be in the queue yet, and the
+    /// queue must have room for it.
     pub fn put(&mut self, pri: Pri, who: Ident)
         requires absent { pri_of self.old.tasks who ≡ None }
         requires room { length self.old.tasks < self.old.room }
@@ -66,7 +67,7 @@ impl Ready {
         mark(&mut self.map.words, pri.get(), true);
     }
 
-    /// The task is ready no longer. False, and nothing changes, where it isn't.
+    /// Removes a task. `false` if it isn't in the queue; then nothing changes.
     pub fn take(&mut self, who: Ident) -> bool
         ensures value { result ≡ is_some (pri_of self.old.tasks who) }
         ensures tasks { self.new ≡ without_task self.old who }
@@ -80,7 +81,8 @@ impl Ready {
         true
     }
 
-    /// The task goes behind all of its priority. False, and nothing changes, where it isn't ready.
+    /// Moves a task after all others of its priority. `false` if it isn't in the queue; then
+    /// nothing changes.
     pub fn rotate(&mut self, who: Ident) -> bool
         ensures value { result ≡ is_some (pri_of self.old.tasks who) }
         ensures tasks { self.new ≡ rotated self.old who }
@@ -94,8 +96,8 @@ impl Ready {
         true
     }
 
-    /// The first of the ready tasks: of the least priority, and of those the one that was put in first. None where
-    /// nobody is ready.
+    /// The first ready task: of the least priority number, and of those the one added first. None
+    /// if no task is ready.
     pub fn first(&self) -> Option<Ident>
         ensures { result ≡ first_id self.now.tasks }
     {

@@ -1,11 +1,11 @@
-//! Ready tasks with ample memory.
+//! Tests of ready tasks, with ample memory.
 
 use crate::Ready;
 use id_table::Ident;
 use std::test::Fail;
 use wind_base::Pri;
 
-// Makes a task ready, where there is room for one more.
+// Adds a task if there is room for one more; removes it first if it is there.
 #[tactic(auto, using(crate::proofs::Turns::taken_absent))]
 fn put(ready: &mut Ready, pri: u32, who: u32) -> Option<()> {
     let pri = Pri::new(pri)?;
@@ -19,7 +19,7 @@ fn put(ready: &mut Ready, pri: u32, who: u32) -> Option<()> {
     }
 }
 
-// The number of the first, which is taken out.
+// Removes the first task and returns its number.
 fn next(ready: &mut Ready) -> Option<u32> {
     let who = ready.first()?;
     ready.take(who);

@@ -35,7 +35,7 @@ own_number Rel32 = refl
 abbrev step : ℕ → List ℕ → Binding → List Binding → Result ℕ FieldFault → Patched
 step i image b bs r = after_field r (λ v. patched (i + 1) (written image b v) bs) (λ f. record { image = image; fault = Some (numbered f i) })
 
--- the bindings behind the first lie in the image still
+-- the fields of the bindings after the first are still inside the image
 lies_again : (image : List ℕ) (b : Binding) (bs : List Binding) (v : ℕ) → All (LiesWithin (length image)) (b ∷ bs) → All (LiesWithin (length (written image b v))) bs
 lies_again image b bs v all =
     let e = length-written image b v (all 0 b (omega arith)) in λ k d h. subst (λ n. LiesWithin n (get_or bs k d)) (sym e) (all (suc k) d (omega arith))
@@ -51,7 +51,7 @@ stays_outside i image (b ∷ bs) at all out =
       | Err f ↦ refl
     ]
 
--- the first field holds its number to the end, where the others are apart from it
+-- the first field holds its number to the end, if the others are apart from it
 first_holds : (i : ℕ) (image : List ℕ) (b : Binding) (bs : List Binding) (v : ℕ) → All (LiesWithin (length image)) (b ∷ bs) → All (Apart b) bs
     → Holds (patched i (written image b v) bs).image b v
 first_holds i image b bs v all apart k low =
@@ -77,7 +77,7 @@ each_done i image (b ∷ bs) all apart e =
       | Err f ↦ λ asks q. absurd (cc)
     ] refl e
 
--- the first binding is written, and the refusal is one of those behind it
+-- the first binding is written, and the refusal is one of those after it
 later_refused : (i : ℕ) (image : List ℕ) (b : Binding) (bs : List Binding) (v : ℕ) (e : RelocErr) → asked image b ≡ Ok v
     → IsFirstRefused (i + 1) (written image b v) bs e → IsFirstRefused i image (b ∷ bs) e
 later_refused i image b bs v e asks h =

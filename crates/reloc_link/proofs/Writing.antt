@@ -34,7 +34,7 @@ pub written_outside : (image : List ℕ) (b : Binding) (v at : ℕ) → LiesWith
 written_outside image b v at h (inl low) = byte_before image b v at h low
 written_outside image b v at h (inr high) = byte_behind image b v at h high
 
--- a byte of a field lies outside a field that is apart
+-- a byte of a field is outside every field apart from it
 pub outside_of : (b c : Binding) (k : ℕ) → Apart b c → k < width_of c.kind → IsOutside (c.offset + k) b
 outside_of b c k (inl before) low = inr (omega arith)
 outside_of b c k (inr behind) low = inl (omega arith)
@@ -54,7 +54,7 @@ same_number xs ys i (suc n) h =
 byte_of_drop : (xs : List ℕ) (n k : ℕ) → get_or (drop n xs) k 0 ≡ get_or xs (n + k) 0
 byte_of_drop xs n k = grind (arith, places)
 
--- a field that is apart holds what it held
+-- a field apart from a written one holds what it held
 pub content_apart : (image : List ℕ) (b c : Binding) (v : ℕ) → LiesWithin (length image) b → Apart b c → content (written image b v) c ≡ content image c
 content_apart image b c v h apart =
     same_number (drop c.offset (written image b v)) (drop c.offset image) 0 (width_of c.kind) (λ k low high.

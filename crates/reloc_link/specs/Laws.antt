@@ -1,4 +1,4 @@
--- What follows of the types, and of writing fields in order, alone.
+-- What follows from the types, and from writing fields in order, alone.
 use Rattle.std.specs.Prelude.{◌≡◌, ◌⊎◌, ℕ, ◌+◌, ◌<◌, ◌≤◌, List, length, take, slice_index, slice_index_or, None, Some, Ok, Err}
 use Rattle.std.specs.List.{All, AllPairs}
 use Rattle.byteorder.specs.Endian.{big_bytes}
@@ -13,7 +13,7 @@ use Rattle.reloc_link.specs.Patched.{LiesWithin, asked, numbered, patched}
 abbrev pub TypesLaw : Type 0
 TypesLaw = (t : RelocType) → type_of (type_number t) ≡ Some t
 
--- the byte lies in no field of the binding
+-- the byte is outside the binding's field
 abbrev pub IsOutside : ℕ → Binding → Type 0
 IsOutside at b = (at < b.offset) ⊎ (b.offset + width_of b.kind ≤ at)
 
@@ -21,35 +21,35 @@ IsOutside at b = (at < b.offset) ⊎ (b.offset + width_of b.kind ≤ at)
 abbrev pub Apart : Binding → Binding → Type 0
 Apart b c = (b.offset + width_of b.kind ≤ c.offset) ⊎ (c.offset + width_of c.kind ≤ b.offset)
 
--- the field of the binding holds a number, the highest byte first
+-- the field of the binding holds a number, highest byte first
 abbrev pub Holds : List ℕ → Binding → ℕ → Type 0
 Holds image b v = (k : ℕ) → k < width_of b.kind → slice_index image (b.offset + k) ≡ slice_index (big_bytes (width_of b.kind) v) k
 
--- the field of the binding holds in the image after what it asked for in the image before
+-- in the new image, the field of the binding holds what the binding computes from the old image
 abbrev pub IsDone : List ℕ → List ℕ → Binding → Type 0
 IsDone old new b = (v : ℕ) × (asked old b ≡ Ok v) × Holds new b v
 
--- the refusal is that of the first binding that is refused, counted from a number on
+-- the refusal is that of the first refused binding, with numbers counted from `first`
 pub record IsFirstRefused (first : ℕ) (image : List ℕ) (list : List Binding) (e : RelocErr) : Type 0 where
   pub place : ℕ
   pub within : place < length list
-  -- those before it are all written
+  -- all bindings before it are written
   pub before : (patched first image (take place list)).fault ≡ None
-  -- it is refused over what they left, and that is what the image holds
+  -- it is refused over what they left, and the image stays like that
   pub fault : FieldFault
   pub refused : (d : Binding) → asked (patched first image (take place list)).image (slice_index_or list place d) ≡ Err fault
   pub held : (patched first image list).image ≡ (patched first image (take place list)).image
   pub named : e ≡ numbered fault (first + place)
 
--- what the image is, and what the refusal, in the end
+-- the final image, and the refusal
 pub record PatchLaw : Type 0 where
-  -- where one is refused, the refusal is that of the first such
+  -- if a binding is refused, the refusal is that of the first such binding
   pub first : (image : List ℕ) (list : List Binding) (e : RelocErr)
       → (patched 0 image list).fault ≡ Some e → IsFirstRefused 0 image list e
-  -- where none is refused and no two fields meet, each holds what it asked for
+  -- if none is refused and no two fields overlap, each field holds what its binding computes
   pub each : (image : List ℕ) (list : List Binding) → All (LiesWithin (length image)) list → AllPairs Apart list
       → (patched 0 image list).fault ≡ None → All (IsDone image (patched 0 image list).image) list
-  -- a byte outside all fields stays, and there are as many
+  -- a byte outside all fields stays, and the size stays
   pub outside : (image : List ℕ) (list : List Binding) (at : ℕ) → All (LiesWithin (length image)) list
       → All (IsOutside at) list → slice_index (patched 0 image list).image at ≡ slice_index image at
   pub size : (image : List ℕ) (list : List Binding) → All (LiesWithin (length image)) list

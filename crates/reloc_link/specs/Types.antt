@@ -27,12 +27,12 @@ type_number Uaddr32 = 24
 type_number Uaddr16 = 25
 type_number Rel32 = 26
 
--- the types that are built
+-- the supported types
 abbrev pub types : List RelocType
 types = Nothing ∷ Addr32 ∷ Addr24 ∷ Addr16 ∷ Addr16Lo ∷ Addr16Hi ∷ Addr16Ha ∷ Addr14 ∷ Addr14BrTaken ∷ Addr14BrNTaken
     ∷ Rel24 ∷ Rel14 ∷ Rel14BrTaken ∷ Rel14BrNTaken ∷ Uaddr32 ∷ Uaddr16 ∷ Rel32 ∷ []
 
--- the type of a number
+-- the type that has this number
 abbrev pub type_of : ℕ → Option RelocType
 type_of n = find (λ t. n == type_number t) types
 
@@ -56,7 +56,7 @@ form_of Uaddr32 = Word
 form_of Uaddr16 = Half
 form_of Rel32 = Word
 
--- it writes the distance from the field, and not an address
+-- the type writes the distance from the field instead of an address
 abbrev pub is_relative : RelocType → Bool
 is_relative Rel24 = true
 is_relative Rel14 = true
@@ -76,12 +76,12 @@ width_by Low = 2
 width_by High = 2
 width_by HighAdjusted = 2
 
--- how many bytes a type writes; none writes nothing
+-- how many bytes a type writes; no type writes none
 abbrev pub width_or : Option RelocType → ℕ
 width_or None = 0
 width_or (Some t) = width_by (form_of t)
 
--- how many bytes the type of a number writes
+-- how many bytes the type with this number writes
 unfoldable pub width_of : ℕ → ℕ
 width_of kind = width_or (type_of kind)
 

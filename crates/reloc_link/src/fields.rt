@@ -12,41 +12,41 @@ const BRANCH_24: u32 = 0x03ff_fffc;
 /// The bits of a word that hold the target of a conditional branch.
 const BRANCH_14: u32 = 0x0000_fffc;
 
-/// The bit that says which way a conditional branch will mostly go.
+/// The bit that predicts whether a conditional branch is taken.
 const HINT_BIT: u32 = 0x0020_0000;
 
-/// Words from here on count as negative.
+/// Words from here on are negative when read as signed.
 const NEGATIVE: u32 = 0x8000_0000;
 
-/// How many numbers a half word has.
+/// The number of values of a half word.
 const HALF: u32 = 0x1_0000;
 
 /// Why a field can't be written.
 #[derive(Clone, Copy, Debug, PartialEq, Eq)]
 pub enum FieldFault {
-    /// The number doesn't fit the field.
+    /// The value doesn't fit the field.
     Range,
-    /// It fits, and is no multiple of 4, as the target of a branch must be.
+    /// The value fits, but isn't a multiple of 4, as the target of a branch must be.
     Unaligned,
-    /// There is no such type, or it isn't built.
+    /// There is no such type, or it isn't supported.
     Unsupported,
 }
 
-/// Symbol and addend, modulo 2^32.
+/// The sum of symbol and addend, modulo 2^32.
 fn sum(s: u32, a: u32) -> u32
     ensures { result ≡ sum_of s a }
 {
     s.wrapping_add(a)
 }
 
-/// From the place to symbol and addend, modulo 2^32.
+/// The distance from the field to symbol plus addend, modulo 2^32.
 fn distance(s: u32, a: u32, p: u32) -> u32
     ensures { result ≡ distance_of s a p }
 {
     s.wrapping_add(a).wrapping_sub(p)
 }
 
-/// The number that a type writes.
+/// The value that a type writes.
 fn value(kind: RelocType, s: u32, a: u32, p: u32) -> u32
     ensures { result ≡ value_of kind s a p }
 {
@@ -57,7 +57,7 @@ fn value(kind: RelocType, s: u32, a: u32, p: u32) -> u32
     }
 }
 
-/// Whether a number, read as signed, is at least `-low` and below `high`.
+/// Whether the word, read as signed, is at least `-low` and below `high`.
 fn is_within(low: u32, high: u32, v: u32) -> bool
     requires { 0 < low }
     ensures { result ≡ lies_within low high v }
@@ -65,7 +65,7 @@ fn is_within(low: u32, high: u32, v: u32) -> bool
     v < high || v >= 0u32.wrapping_sub(low)
 }
 
-/// The target of a branch that reaches so far to both sides.
+/// Checks the target of a branch that reaches `reach` bytes in both directions.
 fn check_target(reach: u32, v: u32) -> Result<u32, FieldFault>
     requires { 0 < reach }
     ensures { result ≡ target reach v }
@@ -79,14 +79,14 @@ fn check_target(reach: u32, v: u32) -> Result<u32, FieldFault>
     Ok(v)
 }
 
-/// The word with the bits of the mask from `v`.
+/// The word `old` with the bits of the mask taken from `v`.
 fn put_bits(mask: u32, old: u32, v: u32) -> u32
     ensures { result ≡ with_bits mask old v }
 {
     (old & (0xffff_ffff - mask)) | (v & mask)
 }
 
-/// The word with its hint for a branch over this distance.
+/// The word with its prediction bit set for a branch over this distance.
 fn put_hint(hint: Hint, distance: u32, word: u32) -> u32
     ensures { result ≡ hinted hint distance word }
 {
@@ -126,7 +126,7 @@ fn put(form: Form, v: u32, distance: u32, old: u32) -> Result<u32, FieldFault>
     }
 }
 
-/// How many bytes a type of this number writes; 0 where there is no such type.
+/// How many bytes the type with this number writes; 0 if there is no such type.
 #[tactic(auto, unfolding(crate::specs::Types::width_of))]
 pub fn width(kind: u8) -> u32
     ensures value { result ≡ width_of kind }
@@ -138,8 +138,8 @@ pub fn width(kind: u8) -> u32
     }
 }
 
-/// What a field holds after a relocation of this type, with the symbol at `s`, the addend `a` and the field at
-/// `p`, where it held `old` before. All are modulo 2^32.
+/// The new content of a field after a relocation of this type: the symbol is at `s`, the addend is
+/// `a`, the field is at `p`, and it held `old` before. All are modulo 2^32.
 #[tactic(auto, unfolding(crate::specs::Formula::field, crate::specs::Types::width_of))]
 pub fn field(kind: u8, s: u32, a: u32, p: u32, old: u32) -> Result<u32, FieldFault>
     requires { old < 256 ^ width_of kind }

@@ -3,61 +3,82 @@
 ghost use Rattle.std.specs.Prelude.{◌≡◌};
 ghost use Rattle.reloc_link.specs.Types.{type_of, form_of, is_relative as is_relative_lem, width_by};
 
-/// A type of relocation: those of the System V ABI, PowerPC Processor Supplement, "Relocation Types", that need
-/// no table beside the symbols. Each has the name that it has there, without `R_PPC_`.
+/// A type of relocation. These are the types of the System V ABI, PowerPC Processor Supplement,
+/// "Relocation Types", that need no table other than the symbols. Each has its name there, without
+/// `R_PPC_`. S is the symbol, A the addend and P the address of the field.
 #[derive(Clone, Copy, Debug, PartialEq, Eq)]
 pub enum RelocType {
     /// `NONE`: nothing is written.
     Nothing,
+    /// `ADDR32`: a word, S + A.
     Addr32,
+    /// `ADDR24`: the target of a branch, S + A.
     Addr24,
+    /// `ADDR16`: a half word, S + A.
     Addr16,
+    /// `ADDR16_LO`: the lower half of S + A.
     Addr16Lo,
+    /// `ADDR16_HI`: the upper half of S + A.
     Addr16Hi,
+    /// `ADDR16_HA`: the adjusted upper half of S + A.
     Addr16Ha,
+    /// `ADDR14`: the target of a conditional branch, S + A.
     Addr14,
+    /// `ADDR14_BRTAKEN`: the same, with the branch predicted as taken.
     Addr14BrTaken,
+    /// `ADDR14_BRNTAKEN`: the same, with the branch predicted as not taken.
     Addr14BrNTaken,
+    /// `REL24`: the target of a branch, S + A - P.
     Rel24,
+    /// `REL14`: the target of a conditional branch, S + A - P.
     Rel14,
+    /// `REL14_BRTAKEN`: the same, with the branch predicted as taken.
     Rel14BrTaken,
+    /// `REL14_BRNTAKEN`: the same, with the branch predicted as not taken.
     Rel14BrNTaken,
+    /// `UADDR32`: as `ADDR32`, at any address.
     Uaddr32,
+    /// `UADDR16`: as `ADDR16`, at any address.
     Uaddr16,
+    /// `REL32`: a word, S + A - P.
     Rel32,
 }
 
-/// Which way a conditional branch says that it mostly goes.
+/// How the prediction bit of a conditional branch is set.
 #[derive(Clone, Copy, Debug, PartialEq, Eq)]
 pub enum Hint {
     /// The bit stays as it is.
     Kept,
+    /// The branch is predicted as taken.
     Taken,
+    /// The branch is predicted as not taken.
     NotTaken,
 }
 
 /// The form of a field.
 #[derive(Clone, Copy, Debug, PartialEq, Eq)]
 pub enum Form {
+    /// No bytes.
     Empty,
     /// A whole word.
     Word,
-    /// The 24 bits of a word that a branch has for its target.
+    /// The 24 bits of a word that hold the target of a branch.
     Branch24,
-    /// The 14 bits of a word that a conditional branch has for its target.
+    /// The 14 bits of a word that hold the target of a conditional branch.
     Branch14(Hint),
-    /// A half word that holds the whole number.
+    /// A half word that holds the whole value.
     Half,
-    /// A half word that holds the lower half.
+    /// A half word that holds the lower half of the value.
     Low,
-    /// A half word that holds the upper half.
+    /// A half word that holds the upper half of the value.
     High,
-    /// A half word that holds the upper half, one more where the lower half counts as negative.
+    /// A half word that holds the upper half of the value, plus 1 if the lower half is negative
+    /// when read as signed.
     HighAdjusted,
 }
 
 impl RelocType {
-    /// The type of a number. None where the number is none of a type above.
+    /// The type that has this number. `None` if there is none.
     pub fn of(number: u8) -> Option<RelocType>
         ensures { result ≡ type_of number }
     {
@@ -83,7 +104,7 @@ impl RelocType {
         })
     }
 
-    /// The form of the field that it writes.
+    /// The form of the field that the type writes.
     pub(crate) fn form(self) -> Form
         ensures { result ≡ form_of self }
     {
@@ -101,7 +122,7 @@ impl RelocType {
         }
     }
 
-    /// Whether it writes a distance from its place, and not an address.
+    /// Whether the type writes a distance from the field instead of an address.
     pub(crate) fn is_relative(self) -> bool
         ensures { result ≡ is_relative_lem self }
     {
@@ -117,7 +138,7 @@ impl RelocType {
 }
 
 impl Form {
-    /// How many bytes it has.
+    /// How many bytes the form has.
     pub(crate) fn width(self) -> u32
         ensures { result ≡ width_by self }
     {

@@ -1,4 +1,4 @@
-//! What follows of the definitions alone.
+//! What follows from the definitions alone.
 
 ghost use Rattle.reloc_link.specs.Laws.{TypesLaw, PatchLaw};
 
@@ -7,9 +7,10 @@ pub fn types_law()
     ensures { TypesLaw }
 {}
 
-/// Of bindings written in order: where one is refused, the answer is that of the first such, with its number, over
-/// what those before it left, and the image holds just that; where none is and no two fields meet, each field holds
-/// what its relocation makes of what stood there; the bytes outside all fields stay.
+/// What writing bindings in order leaves. If a binding is refused, the answer is the first refusal,
+/// with its number; the image holds what the bindings before it wrote. If none is refused and no
+/// two fields overlap, each field holds what its relocation makes of its previous content. The
+/// bytes outside all fields stay.
 pub fn patch_law()
     ensures { PatchLaw }
 {}

@@ -1,5 +1,5 @@
-//! Relocation of PowerPC code and data: what a field holds once its symbol has an address, and the fields of
-//! an image written in order.
+//! Relocation of PowerPC code and data: what a field holds once its symbol has an address, and
+//! writing the fields of an image in order.
 #![tactic(auto)]
 
 mod fields;

@@ -1,4 +1,4 @@
-//! The fields of an image, written in order.
+//! Writes the fields of an image in order.
 
 ghost use Rattle.std.specs.Prelude.{◌≡◌, ◌≤◌, ◌<◌, ◌^◌, ◌++◌, All, length, drop};
 ghost use Rattle.byteorder.specs.Endian.{big_number, big_bytes};
@@ -12,9 +12,9 @@ use thiserror::Error;
 /// A relocation whose symbol has an address.
 #[derive(Clone, Copy, Debug, PartialEq, Eq)]
 pub struct Binding {
-    /// Where the field begins in the image.
+    /// The field's offset in the image, in bytes.
     pub offset: u32,
-    /// The number of its type.
+    /// The number of the relocation type.
     pub kind: u8,
     /// The address of the symbol.
     pub s: u32,
@@ -24,21 +24,21 @@ pub struct Binding {
     pub p: u32,
 }
 
-/// The first binding that is refused, by its number from 0 on, with the reason.
+/// The first binding that is refused, by its number counted from 0, and why.
 #[derive(Clone, Copy, Debug, PartialEq, Eq, Error)]
 pub enum RelocErr {
-    /// The number doesn't fit the field.
+    /// The value doesn't fit the field.
     #[error("relocation {0} does not fit its field")]
     Range(u32),
-    /// It fits, and is no multiple of 4, as the target of a branch must be.
+    /// The value fits, but isn't a multiple of 4, as the target of a branch must be.
     #[error("relocation {0} is no multiple of 4")]
     Unaligned(u32),
-    /// There is no such type, or it isn't built.
+    /// There is no such type, or it isn't supported.
     #[error("relocation {0} is of no type that is known")]
     Unsupported(u32),
 }
 
-/// The number at the front of the bytes, the highest byte first.
+/// The number in the first `width` bytes, highest byte first.
 fn read_front(bytes: &[u8], width: u32) -> u32
     requires within { width ≤ length bytes.now }
     requires form { IsWidth width }
@@ -51,7 +51,7 @@ fn read_front(bytes: &[u8], width: u32) -> u32
     }
 }
 
-/// Writes a number over the front of the bytes, the highest byte first.
+/// Writes a number over the first `width` bytes, highest byte first.
 fn write_front(bytes: &mut [u8], width: u32, v: u32)
     requires within { width ≤ length bytes.old }
     requires form { IsWidth width }
@@ -81,7 +81,7 @@ fn patch_one(image: &mut [u8], binding: &Binding) -> Result<(), FieldFault>
     Ok(())
 }
 
-/// The fault of the binding of a number.
+/// The error for the binding with this number.
 fn number_fault(fault: FieldFault, i: u32) -> RelocErr
     ensures { result ≡ numbered fault i }
 {
@@ -92,8 +92,8 @@ fn number_fault(fault: FieldFault, i: u32) -> RelocErr
     }
 }
 
-/// Writes the fields of the bindings in order, up to the first that is refused: the image then holds those before.
-/// It takes no memory.
+/// Writes the fields of the bindings in order, and stops at the first that is refused; the image
+/// then holds what those before it wrote. It allocates no memory.
 pub fn patch(image: &mut [u8], list: &[Binding]) -> Result<(), RelocErr>
     requires lies { All (LiesWithin (length image.old)) list.now }
     requires few { length list.now ≤ 2 ^ 32 }

@@ -1,4 +1,4 @@
--- What the code of the calls on mutexes rests on.
+-- Lemmas for the code of the calls on mutexes.
 use Rattle.std.proofs.Common.{◌≡◌, ℕ, ◌+◌, ◌-◌, ◌<◌, ◌≤◌, ◌^◌, true, false, cond, not, ◌&&◌, eqb, List, [], ◌∷◌, length, Option, None, Some, IsSome, refl, sym, ap, ◌∙◌, subst, arith}
 use Rattle.id_table.specs.declared.ident.Place.{Place}
 use Rattle.std.specs.Option.{option_map}
@@ -45,7 +45,7 @@ no_mutex ms n are outside =
       | Some m ↦ λ e. absurd (outside (found_row (λ (r : ℕ × Mutex). IsId r.0) ms n m are.ranged e))
     ] refl
 
--- ---- one task holds one more
+-- ---- one task owns one more
 pub holding_lives : (k : KernState) (who : ℕ) (m : Mutex) → Lives k who → Lives (holding k who m) who
 holding_lives k who m lives =
     elim m.inversion_safe as (λ b. Lives (cond b (set_held k who (held_of (task_of k.tasks who) + 1)) k) who) [
@@ -66,7 +66,7 @@ holding_safe k who m =
       | false ↦ refl
     ]
 
--- ---- counts are far from their ends
+-- ---- counts are far from overflow
 pub few_safe : (k : KernState) (who : ℕ) → FewSafe k → safe_of (task_of k.tasks who) < 2 ^ 61
 few_safe k who few =
     elim (task_of k.tasks who) as (λ o. task_of k.tasks who ≡ o → safe_of o < 2 ^ 61) [
@@ -102,7 +102,7 @@ not_found ms n e = elim (object_of ms n) as (λ o. None ≡ option_map (λ _. n)
 
 -- ---- take
 module _ (s : MutexState) (who id n : ℕ) (is : IsKern s.kern) (are : AreMutexes s.mutexes) (lives : Lives s.kern who) (kept : KeepsMutexes s) where
-  -- what the contract says of a take that was made
+  -- what the contract says about a take that was made
   pub record Made (t : MutexState) (how : Took) : Type 0 where
     pub fine : take_refusal who n (object_of s.mutexes id) ≡ None
     pub how_is : how ≡ took who (object_of s.mutexes id)
@@ -155,7 +155,7 @@ module _ (s : MutexState) (who id n : ℕ) (is : IsKern s.kern) (are : AreMutexe
       ∙ ap (λ o. cond (is_others who o && eqb n 0) (Some errors.ObjUnavailable) None) theirs ∙ ap (λ b. cond (not b && eqb n 0) (Some errors.ObjUnavailable) None) (ne_eqb x who other) ∙ ap (λ b. cond b (Some errors.ObjUnavailable) None) (eq-eqb n 0 waits)
 
 -- ---- owners inherit
--- what the walk from owner to owner asks for
+-- what the walk from owner to owner requires
 pub record MayLend (s t : MutexState) (who : ℕ) : Type 0 where
   pub lives : Lives t.kern who
   pub urgent : OwnersUrgentBut who t.mutexes t.kern.tasks
@@ -223,7 +223,7 @@ passed_is s t id next k (Some m) is there e hands ends =
     ∙ ap (λ n. both (end_wait (hand s n id m).kern n 0 None) (hand s n id m).mutexes) x.1.same
     ∙ sym (ap (pass_on s id m) x.1.first)
 
--- ---- the giver lets go
+-- ---- the giver gives up its ownership
 pub record AfterPass (s t : MutexState) (who id : ℕ) (m : Mutex) : Type 0 where
   pub there : IsSome (object_of t.mutexes id)
   pub lends : (v : Mutex) → object_of t.mutexes id ≡ Some v → (v.inversion_safe ≡ m.inversion_safe) × (v.delete_safe ≡ m.delete_safe)
@@ -302,7 +302,7 @@ given_is s t who id m v w j n e state lends guards goes eases =
 
 -- ---- give
 module _ (s : MutexState) (who id : ℕ) (is : IsKern s.kern) (are : AreMutexes s.mutexes) (lives : Lives s.kern who) (kept : KeepsMutexes s) where
-  -- what the contract says of a give that was made
+  -- what the contract says about a give that was made
   pub record Given (t : MutexState) : Type 0 where
     pub fine : give_refusal who (object_of s.mutexes id) ≡ None
     pub state : t ≡ give s who id
@@ -331,7 +331,7 @@ since_waits k (t ∷ ts) a e = omega (arith, since_waits (end_wait k t.id a e) t
 pub since_woken : (k j : KernState) (place : Place) (a : ℕ) (e : Option Errno) → IsKern k → j ≡ wake_all k place a e → j.next_since ≤ k.next_since + 256
 since_woken k j place a e is same = omega (arith, ap (λ r. r.next_since) same, since_waits k (waiters k.tasks place) a e, length-waiters k.tasks place, is.few)
 
--- what the contract says of a deletion that was made
+-- what the contract says about a deletion that was made
 pub record Deleted (s t : MutexState) (id : ℕ) : Type 0 where
   pub fine : delete_refusal (object_of s.mutexes id) ≡ None
   pub state : t ≡ delete s id

@@ -1,4 +1,4 @@
--- Each call of the kernel that mutexes don't read keeps what is kept of mutexes.
+-- Each kernel call that doesn't concern mutexes keeps their invariant.
 use Rattle.std.proofs.Common.{◌≡◌, ℕ, ◌+◌, ◌-◌, ◌<◌, ◌≤◌, Bool, true, false, cond, ◌&&◌, not, eqb, ltb, leb, List, [], ◌∷◌, Option, None, Some, is_some, refl, ◌∙◌, arith, inr}
 use Rattle.std.specs.List.{All, fold}
 use Rattle.std.proofs.lemmas.List.Elements.{All-filter, All-push}
@@ -85,7 +85,7 @@ module _ (ms : List (ℕ × Mutex)) where
     pub follows-release_all : (place : Place) → Follows ms k (release_all k place)
     follows-release_all place = all_released k k (waiters k.tasks place) refl (themselves ms k)
 
-    -- ---- tasks come and go
+    -- ---- tasks are made and removed
     pub follows-remove : (who : ℕ) → Follows ms k (remove k who)
     follows-remove who = record { next = omega arith; tasks = All-filter (λ t. not (eqb t.id who)) (Comes ms k) k.tasks (themselves ms k) }
 

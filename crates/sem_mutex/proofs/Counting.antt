@@ -1,4 +1,4 @@
--- One mutex is written or taken out: what a look-up finds, who is lent to, and how many each task holds.
+-- One mutex is overwritten or removed: what a look-up finds, which owner inherits, and how many mutexes each task owns.
 use Rattle.std.proofs.Common.{◌≡◌, ℕ, suc, ◌+◌, ◌<◌, Bool, true, false, cond, not, ◌&&◌, eqb, List, [], ◌∷◌, length, get_or, Option, None, Some, refl, sym, ap, ◌∙◌, subst, arith}
 use Rattle.std.specs.List.{All}
 use Rattle.std.specs.Option.{option_map}
@@ -66,7 +66,7 @@ option_map_id : (o : Option Mutex) → option_map (λ m. m) o ≡ o
 option_map_id None = refl
 option_map_id (Some m) = refl
 
--- the mutex that is waited for, after one is written
+-- the mutex that a wait is for, after one is overwritten
 pub mutex_at-write : (ms : List (ℕ × Mutex)) (id : ℕ) (m v : Mutex) (w : Option Place) → object_of ms id ≡ Some m
     → mutex_at (with_object ms id v) w ≡ cond (is_place (mutex_place id) w) (Some v) (mutex_at ms w)
 mutex_at-write ms id m v None e = refl
@@ -125,7 +125,7 @@ without_none (r ∷ rs) id e =
 pub count-cons : (i : ℕ) (r : ℕ × Mutex) (rs : List (ℕ × Mutex)) → held_count (r ∷ rs) i ≡ one (holds i r.1) + held_count rs i
 count-cons i r rs = sum_by-cons (λ v. cond (holds i v.1) 1 0) r rs
 
--- what one mutex counts for is what another counts for in its place
+-- after v replaces m, a count of owned mutexes has what v counts instead of what m counted
 pub count_write : (ms : List (ℕ × Mutex)) (id : ℕ) (m v : Mutex) → Rising row_id ms → object_of ms id ≡ Some m → (i : ℕ) → held_count (with_object ms id v) i + one (holds i m) ≡ held_count ms i + one (holds i v)
 count_write [] id m v up e i = absurd (cc)
 count_write (r ∷ rs) id m v up e i =
@@ -161,7 +161,7 @@ count_without (r ∷ rs) id m up e i =
           omega arith
     ] refl (sym (object_of-cons r.0 r.1 rs id) ∙ e)
 
--- ---- who holds none is lent nothing
+-- ---- a task that owns none inherits nothing
 count_zero : (ms : List (ℕ × Mutex)) (i : ℕ) → held_count ms i ≡ 0 → All (λ r. holds i r.1 ≡ false) ms
 count_zero [] i z = All-nil (λ (r : ℕ × Mutex). holds i r.1 ≡ false)
 count_zero (r ∷ rs) i z =

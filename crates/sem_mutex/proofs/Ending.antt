@@ -1,4 +1,4 @@
--- A mutex is deleted, and a normal priority is set.
+-- A mutex is deleted, or a normal priority is set.
 use Rattle.std.proofs.Common.{◌≡◌, ℕ, ◌+◌, ◌<◌, ◌≤◌, min, true, false, cond, not, ◌&&◌, eqb, List, get_or, Option, None, Some, IsSome, IfSome, refl, sym, ap, ◌∙◌, subst, arith, ◌⊎◌, inl, inr, ⊎_elim}
 use Rattle.std.specs.List.{All, Contains}
 use Rattle.std.proofs.lemmas.Bool.{eq-eqb, ne_eqb, eqb-true}
@@ -31,7 +31,7 @@ use Rattle.inheritance.proofs.Same.{same_law}
 use Rattle.wind_lists.specs.Records.{Rising}
 use Rattle.wind_core.proofs.Becoming.{All-change_at, All-change_pri}
 
--- ---- a mutex is taken away
+-- ---- a mutex is removed
 gone : (count : ℕ → ℕ) (ms : List (ℕ × Mutex)) (k : KernState) (id : ℕ) → Holds count ms k → Holds count (without ms id) k
 gone count ms k id h = record {
   tasks = λ i d hi.
@@ -57,7 +57,7 @@ urgent_gone ms k id urgent i c hi j d hj e =
       | false ↦ λ q. urgent i c hi j d hj q
     ] (sym (ap lent_to (mutex_at-without ms id y.wait)) ∙ e)
 
--- who counts is a task that lives
+-- another count of owned mutexes will do, if it agrees on the live tasks
 recount : (count other : ℕ → ℕ) (ms : List (ℕ × Mutex)) (k : KernState) → ((t : Task) → Contains k.tasks t → count t.id ≡ other t.id) → Holds count ms k → Holds other ms k
 recount count other ms k same h = record {
   tasks = λ i d hi.
@@ -111,7 +111,7 @@ delete_same s id m is up e kept =
     (same, subst KeepsMutexes (sym same) row.1)
 
 -- ---- a normal priority is set
--- u is t with another normal priority, where it is who
+-- u is t, with another normal priority if it is `who`
 record Renormed (who p : ℕ) (t u : Task) : Type 0 where
   id : u.id ≡ t.id
   pri : u.pri ≡ t.pri
@@ -121,7 +121,7 @@ record Renormed (who p : ℕ) (t u : Task) : Type 0 where
   own : u.id ≡ who → u.normal ≡ p
   other : (u.id ≡ who → ⊥) → u.normal ≡ t.normal
 
--- and scheduled by it
+-- and it is scheduled by that
 record Repriced (who p q : ℕ) (t u : Task) : Type 0 where
   id : u.id ≡ t.id
   held : u.held ≡ t.held
@@ -133,7 +133,7 @@ after_le : (p : ℕ) (o : Option Task) → pri_after p o ≤ p
 after_le p None = omega arith
 after_le p (Some t) = elim (eqb t.held 0) as (λ b. cond b p (min t.pri p) ≤ p) [ true ↦ omega arith | false ↦ omega arith ]
 
--- what the call makes of each task, before owners inherit
+-- what the call does to each task, before owners inherit
 repriced : (k : KernState) (who p q : ℕ) → IsKern k → All (From (Repriced who p q) k.tasks) (change_pri (set_normal k who p) who q).tasks
 repriced k who p q is =
     let k1 : KernState = set_normal k who p in
@@ -146,7 +146,7 @@ repriced k who p q is =
     (λ t at other h. (t, at, record { id = refl; pri = refl; held = refl; wait = refl; fifo = refl; own = λ same. absurd (other same); other = λ _. refl }))
     (λ i d hi. refl))
 
--- a task whose normal priority is set is the only waiter that may be more urgent than its owner then
+-- after a task's normal priority is set, only that waiter can be more urgent than its owner
 pub priority_urgent : (s : MutexState) (who p : ℕ) → IsKern s.kern → KeepsMutexes s → OwnersUrgentBut who s.mutexes (priority_alone s who p).kern.tasks
 priority_urgent s who p is kept =
     let k = s.kern in

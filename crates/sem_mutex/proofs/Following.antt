@@ -1,4 +1,4 @@
--- Moves of the kernel that mutexes don't read: what is kept of mutexes stays.
+-- Kernel moves that don't concern mutexes keep their invariant.
 use Rattle.std.proofs.Common.{◌≡◌, ℕ, ◌<◌, ◌≤◌, true, false, cond, ◌&&◌, eqb, List, [], ◌∷◌, Option, None, Some, IsSome, IfSome, refl, sym, ap, ◌∙◌, subst, arith, ◌⊎◌, inl, inr, ⊎_elim}
 use Rattle.std.specs.List.{All, Contains}
 use Rattle.std.proofs.lemmas.Option.{same_Some}
@@ -17,13 +17,13 @@ use Rattle.inheritance.specs.Reach.{mutex_at, lent_to, owner_at}
 use Rattle.inheritance.specs.Laws.{OwnersUrgent}
 use Rattle.sem_mutex.specs.Kept.{MutexKept, TaskKept, Holds, KeepsMutexes}
 
--- ---- what follows a task
--- a wait for no mutex, of an object that was made
+-- ---- what can follow a task
+-- a wait for an object that was made and isn't a mutex
 pub record Elsewhere (ms : List (ℕ × Mutex)) (next : ℕ) (w : Option Place) : Type 0 where
   pub other : mutex_at ms w ≡ None
   pub made : IfSome w (λ p. p.id < next)
 
--- u is t, but for what mutexes don't read; it may have ceased to wait for a mutex
+-- u is t, except for what mutexes don't read; it can have stopped waiting for a mutex
 pub record Same (ms : List (ℕ × Mutex)) (next : ℕ) (t u : Task) : Type 0 where
   pub id : u.id ≡ t.id
   pub pri : u.pri ≡ t.pri
@@ -31,7 +31,7 @@ pub record Same (ms : List (ℕ × Mutex)) (next : ℕ) (t u : Task) : Type 0 wh
   pub held : u.held ≡ t.held
   pub wait : ((u.wait ≡ t.wait) × (u.fifo ≡ t.fifo)) ⊎ Elsewhere ms next u.wait
 
--- a task that is new
+-- a new task
 pub record Fresh (ms : List (ℕ × Mutex)) (next : ℕ) (u : Task) : Type 0 where
   pub held : u.held ≡ 0
   pub pri : u.pri ≡ u.normal
@@ -41,12 +41,12 @@ pub record Fresh (ms : List (ℕ × Mutex)) (next : ℕ) (u : Task) : Type 0 whe
 abbrev pub Comes : List (ℕ × Mutex) → KernState → Task → Type 0
 Comes ms k u = ((t : Task) × Contains k.tasks t × Same ms k.next_id t u) ⊎ Fresh ms k.next_id u
 
--- from k to n mutexes see nothing but waits that end, and tasks that come and go
+-- from k to n, all that concerns mutexes is that waits end, and that tasks are made and removed
 pub record Follows (ms : List (ℕ × Mutex)) (k n : KernState) : Type 0 where
   pub next : k.next_id ≤ n.next_id
   pub tasks : All (Comes ms k) n.tasks
 
--- ---- facts of the list of mutexes
+-- ---- properties of the list of mutexes
 module _ (Q : Mutex → Type 0) where
   pub found_mutex : (ms : List (ℕ × Mutex)) (id : ℕ) (m : Mutex) → All (λ r. Q r.1) ms → object_of ms id ≡ Some m → Q m
   found_mutex [] id m all e = absurd (cc)
@@ -61,7 +61,7 @@ module _ (Q : Mutex → Type 0) where
   mutex_at_has ms (Some p) m all e =
       elim (eqb p.side 0) as (λ b. cond b (object_of ms p.id) None ≡ Some m → Q m) [ true ↦ λ q. found_mutex ms p.id m all q | false ↦ λ q. absurd (cc) ] e
 
--- the mutex that lends
+-- the mutex whose owner inherits
 pub lender_is : (o : Option Mutex) (x : ℕ) → lent_to o ≡ Some x → (m : Mutex) × (o ≡ Some m) × (m.inversion_safe ≡ true) × (m.owner ≡ Some x)
 lender_is None x e = absurd (cc)
 lender_is (Some m) x e =
@@ -70,7 +70,7 @@ lender_is (Some m) x e =
       | false ↦ λ b q. absurd (cc)
     ] refl e
 
--- an owner is a task that was made
+-- an owner was made as a task
 pub owner_made : (ms : List (ℕ × Mutex)) (next : ℕ) (w : Option Place) (x : ℕ) → All (MutexKept next) ms → owner_at ms w ≡ Some x → x < next
 owner_made ms next w x all e =
     let m = lender_is (mutex_at ms w) x e in
@@ -81,7 +81,7 @@ not_own : (o : Option ℕ) (next i : ℕ) → IfSome o (λ v. v < next) → next
 not_own None next i h le = refl
 not_own (Some v) next i h le = grind (arith, h)
 
--- a task that was not made owns none
+-- a task that isn't made yet owns none
 pub none_above : (ms : List (ℕ × Mutex)) (next i : ℕ) → All (MutexKept next) ms → next ≤ i → held_count ms i ≡ 0
 none_above [] next i all le = refl
 none_above (r ∷ rs) next i all le =
@@ -92,7 +92,7 @@ none_above (r ∷ rs) next i all le =
     let zero_more = ap {B = ℕ} (λ b. cond b 1 0) none in
     omega (arith, ih, sum, zero_more)
 
--- ---- what is kept follows
+-- ---- the invariant follows
 module _ (ms : List (ℕ × Mutex)) (k n : KernState) (follows : Follows ms k n) where
   made_on : (w : Option Place) → IfSome w (λ p. p.id < k.next_id) → IfSome w (λ p. p.id < n.next_id)
   made_on None h = tt
@@ -176,7 +176,7 @@ module _ (ms : List (ℕ × Mutex)) (k n : KernState) (follows : Follows ms k n)
           (λ (f : Fresh ms k.next_id y). absurd (nobody y x f.wait e))
           comes_y
 
--- what is kept of mutexes stays, where the kernel makes such moves
+-- the mutexes' invariant stays if the kernel makes such moves
 pub follows_keeps : (s : MutexState) (n : KernState) → Follows s.mutexes s.kern n → KeepsMutexes s → KeepsMutexes (both n s.mutexes)
 follows_keeps s n follows kept = record {
   holds = holds_follows s.mutexes s.kern n follows (held_count s.mutexes) (λ i le. none_above s.mutexes s.kern.next_id i kept.holds.mutexes le) kept.holds;

@@ -35,7 +35,7 @@ use Rattle.sem_mutex.proofs.Handing.{IsOwned, switch, waits_owned, urgent_switch
 use Rattle.wind_lists.specs.Records.{Rising}
 
 -- ---- the first waiter is as urgent as the others
--- a list of numbers that is not before another does not begin lower
+-- a list of numbers that isn't before another doesn't begin with a lesser number
 first_low : (a b : ℕ) (us vs : List ℕ) → is_less (a ∷ us) (b ∷ vs) ≡ false → b ≤ a
 first_low a b us vs e =
     ⊎_elim
@@ -54,7 +54,7 @@ first_urgent k id x y e at waits fx fy =
     let py = ap {B = ℕ} (λ b. cond b 0 y.pri) fy in
     omega arith
 
--- ---- the kernel's facts
+-- ---- the kernel's invariant
 pub kern_hand : (k : KernState) (who : ℕ) (m : Mutex) → IsKern k → IsKern (guarded (holding k who m) who m)
 kern_hand k who m is = guards (holding k who m) (elim m.inversion_safe as (λ b. IsKern (cond b (set_held k who (held_of (task_of k.tasks who) + 1)) k)) [ true ↦ move_keeps k (SetHeld who (held_of (task_of k.tasks who) + 1)) is tt | false ↦ is ])
   where
@@ -73,7 +73,7 @@ next_hand k who m = guards (holding k who m) ∙ elim m.inversion_safe as (λ b.
     guards : (r : KernState) → (guarded r who m).next_id ≡ r.next_id
     guards r = elim m.delete_safe as (λ b. (cond b (make_safe r who) r).next_id ≡ r.next_id) [ true ↦ refl | false ↦ refl ]
 
--- ---- the mutex goes on, and is still counted for the giver
+-- ---- the mutex is passed on, and is still counted for the giver
 pub record IsPassed (s t : MutexState) (id : ℕ) (v : Mutex) : Type 0 where
   pub mutexes : t.mutexes ≡ with_object s.mutexes id v
   pub kern : IsKern t.kern
@@ -160,7 +160,7 @@ passed s id m is e kept =
       | Some x ↦ λ q. passed_to s id m x is e q kept
     ] refl
 
--- ---- the giver lets go
+-- ---- the giver gives up its ownership
 letting_by : (b : Bool) (count : ℕ → ℕ) (ms : List (ℕ × Mutex)) (k : KernState) (who : ℕ) → IsKern k → Lives k who → Holds count ms k
     → Holds (λ i. count i - one (b && eqb who i)) ms (cond b (dropped k who) k)
 letting_by true count ms k who is lives h = holds_less count ms k who is lives h
@@ -171,7 +171,7 @@ urgent_by : (b : Bool) (count : ℕ → ℕ) (ms : List (ℕ × Mutex)) (k : Ker
 urgent_by true count ms k who is lives h counted urgent = urgent_dropped count ms ms k who is lives h (λ z w e. no_lender ms who (sym (counted who) ∙ z) w e) urgent
 urgent_by false count ms k who is lives h counted urgent = urgent
 
--- t is s, but that the giver is still counted as an owner of the mutex
+-- t is s, but the giver is still counted as an owner of the mutex
 pub let_go_keeps : (count : ℕ → ℕ) (ns : List (ℕ × Mutex)) (k : KernState) (who n : ℕ) (m : Mutex) → m.owner ≡ Some who → IsKern k → Lives k who → Holds count ns k → OwnersUrgent ns k.tasks
     → ((i : ℕ) → count i - one (holds i m) ≡ held_count ns i) → KeepsMutexes (both (eased (letting_go k who m) who m n) ns)
 let_go_keeps count ns k who n m own is lives h urgent counted =

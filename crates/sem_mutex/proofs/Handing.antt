@@ -28,7 +28,7 @@ use Rattle.sem_mutex.proofs.Owning.{From, Slack, SlackBut, urgent_slack, urgent_
 use Rattle.wind_lists.specs.Records.{Rising}
 use Rattle.wind_core.proofs.Becoming.{All-change_at, found_all}
 
--- ---- one mutex is written
+-- ---- one mutex is overwritten
 abbrev pub IsOwned : Bool → Mutex → Type 0
 IsOwned fifo m = IsSome m.owner × (m.inversion_safe ≡ true → fifo ≡ false)
 
@@ -64,7 +64,7 @@ switch count ms k id m v e new ok h = record {
   mutexes = mutexes_written ms k.next_id id v h.mutexes new;
 }
 
--- what is known of who waits for the mutex
+-- what is known of the tasks that wait for the mutex
 pub waits_owned : (count : ℕ → ℕ) (ms : List (ℕ × Mutex)) (k : KernState) (id : ℕ) (m : Mutex) → object_of ms id ≡ Some m → Holds count ms k → (t : Task) → Contains k.tasks t
     → is_place (mutex_place id) t.wait ≡ true → IsOwned t.fifo m
 waits_owned count ms k id m e h t at b =
@@ -94,14 +94,14 @@ follows-guarded ms k who m =
 pub follows-eased : (ms : List (ℕ × Mutex)) (k : KernState) (who : ℕ) (m : Mutex) (n : ℕ) → Follows ms k (eased k who m n)
 follows-eased ms k who m n = elim m.delete_safe as (λ b. Follows ms k (cond b (lessen k who n) k)) [ true ↦ follows-lessen ms k who n | false ↦ follows_itself ms k ]
 
--- a task that lives was made
+-- a live task was made
 pub lives_below : (k : KernState) (who : ℕ) → IsKern k → Lives k who → who < k.next_id
 lives_below k who is lives =
     let x = live_task (task_of k.tasks who) lives in
     let below = found_all (λ t. t.id < k.next_id) k.tasks who x.0 is.ids x.1 in
     omega (arith, below, found_id task_id k.tasks who x.0 x.1)
 
--- who holds how many after the mutex v went to its owner
+-- how many mutexes each task owns after mutex v goes to its owner
 abbrev pub plus : (ℕ → ℕ) → Mutex → ℕ → ℕ
 plus count v i = count i + one (holds i v)
 
@@ -130,7 +130,7 @@ holds_hand count ms k who m is lives none h =
     holds_follows ms k1 (guarded k1 who m) (follows-guarded ms k1 who m) (plus count (owned who m))
     (λ i le. plus_above count who (owned who m) k.next_id refl (lives_below k who is lives) none i (omega arith)) held
 
--- ---- owners stay urgent where no priority and no wait changes
+-- ---- owners stay as urgent as their waiters if no priority and no wait changes
 slack_itself : (ms : List (ℕ × Mutex)) (k : KernState) (who n : ℕ) → All (From (Slack ms) k.tasks) (set_held k who n).tasks
 slack_itself ms k who n =
     All-change_at (λ t. t.id ≡ t.id) (From (Slack ms) k.tasks) k.tasks who (λ t. record t { held = n })
@@ -193,7 +193,7 @@ same_owner ms id m v up e own lends i =
     let also = ap {B = ℕ} (λ b. one (b && is_id i m.owner)) lends in
     omega arith
 
--- another depth, and whatever else mutexes don't read
+-- another count of takes, and a change that doesn't concern mutexes
 pub depth_keeps : (s : MutexState) (n : KernState) (id depth : ℕ) (m : Mutex) → Rising row_id s.mutexes → object_of s.mutexes id ≡ Some m → (IsSome m.owner → 0 < depth) → KeepsMutexes s
     → ((ns : List (ℕ × Mutex)) → Follows ns s.kern n) → KeepsMutexes (both n (with_object s.mutexes id (record m { depth = depth })))
 depth_keeps s n id depth m up e deep kept follows =
@@ -238,7 +238,7 @@ await_holds s who id n m e own kept =
       mutexes = kept.holds.mutexes;
     }
 
--- a task that begins to wait is the only waiter that may be more urgent than its owner then
+-- after a task begins to wait, only that waiter can be more urgent than its owner
 pub await_urgent : (s : MutexState) (who id n : ℕ) (m : Mutex) → KeepsMutexes s → OwnersUrgentBut who s.mutexes (await s who id n m).kern.tasks
 await_urgent s who id n m kept =
     let ms = s.mutexes in

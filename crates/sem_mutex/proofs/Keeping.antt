@@ -1,4 +1,4 @@
--- The rows of take and give: what is kept, and that raising changes nothing where nobody begins to wait.
+-- Take and give keep the invariant, and raising changes nothing if no task begins to wait.
 use Rattle.std.proofs.Common.{◌≡◌, ℕ, ◌+◌, ◌-◌, ◌<◌, true, false, cond, not, ◌&&◌, eqb, ltb, leb, Option, None, Some, IsSome, refl, sym, ap, subst, arith}
 use Rattle.std.proofs.lemmas.Bool.{eqb-true, eqb-false, ltb-true}
 use Rattle.id_table.specs.Rows.{object_of, row_id}
@@ -21,7 +21,7 @@ use Rattle.sem_mutex.proofs.Handing.{hand_keeps, deepen_keeps, shallow_keeps, aw
 use Rattle.sem_mutex.proofs.Giving.{kern_hand, passed, give_up_keeps}
 use Rattle.wind_lists.specs.Records.{Rising}
 
--- ---- the kernel's facts
+-- ---- the kernel's invariant
 pub kern_lessen : (k : KernState) (who n : ℕ) → IsKern k → IsKern (lessen k who n)
 kern_lessen k who n is =
     let count : ℕ = safe_of (task_of k.tasks who) in
@@ -72,7 +72,7 @@ take_alone_keeps s who id n is up lives kept fine =
     above : (i : ℕ) → cond (eqb i 0) (Some errors.ObjUnavailable) None ≡ None → 0 < i
     above i g = elim (eqb i 0) as (λ b. eqb i 0 ≡ b → cond b (Some errors.ObjUnavailable) None ≡ None → 0 < i) [ true ↦ λ b q. absurd (cc) | false ↦ λ b q. let ne = eqb-false i 0 b in omega arith ] refl g
 
--- a take that is not refused keeps what is kept of mutexes
+-- a take that isn't refused keeps the mutexes' invariant
 pub take_keeps : (s : MutexState) (who id n : ℕ) → IsKern s.kern → Rising row_id s.mutexes → Lives s.kern who → KeepsMutexes s → take_refusal who n (object_of s.mutexes id) ≡ None → KeepsMutexes (take s who id n)
 take_keeps s who id n is up lives kept fine =
     let row = take_alone_keeps s who id n is up lives kept fine in
@@ -101,7 +101,7 @@ give_alone_keeps s who id is up lives kept fine =
     owner : (m : Mutex) → give_refusal who (Some m) ≡ None → m.owner ≡ Some who
     owner m q = owner_is m.owner q
 
--- a give that is not refused keeps what is kept of mutexes, and nobody has to be raised
+-- a give that isn't refused keeps the mutexes' invariant, and no task needs to be raised
 pub give_same : (s : MutexState) (who id : ℕ) → IsKern s.kern → Rising row_id s.mutexes → Lives s.kern who → KeepsMutexes s → give_refusal who (object_of s.mutexes id) ≡ None
     → (give s who id ≡ give_alone s who id (object_of s.mutexes id)) × KeepsMutexes (give s who id)
 give_same s who id is up lives kept fine =

@@ -1,4 +1,4 @@
--- The laws of what is kept of mutexes.
+-- The laws of the mutexes' invariant.
 use Rattle.std.proofs.Common.{◌≡◌, ℕ, None, Some, refl, false, true, ◌+◌}
 use Rattle.id_table.specs.Rows.{object_of, row_id}
 use Rattle.wind_core.specs.State.{KernState, IsKern, task_of}
@@ -26,7 +26,7 @@ use Rattle.std.specs.List.{All}
 use Rattle.sem_mutex.proofs.Handing.{lives_below}
 use Rattle.sem_mutex.proofs.Steady.{nobody_left}
 
--- the deletion of a task, also of one that owns mutexes
+-- the deletion of a task, even one that owns mutexes
 task_deleted : (s : MutexState) (caller n : ℕ) (d : Deed) → IsKern s.kern → Says s.kern.tasks caller n d → KeepsMutexes s → Keeps s (after s.kern caller d)
 task_deleted s caller n (Refuses e) is said kept = follows_keeps s (asked s.kern caller) (follows-set_again s.mutexes s.kern caller false) kept
 task_deleted s caller n (EndsItself count) is said kept =

@@ -1,4 +1,4 @@
--- Raising keeps what is kept of mutexes.
+-- Raising keeps the mutexes' invariant.
 use Rattle.std.proofs.Common.{◌≡◌, ℕ, zero, suc, ◌<◌, ◌≤◌, true, false, cond, List, [], ◌∷◌, map, Option, None, Some, IsSome, IfSome, refl, sym, ap, ◌∙◌, subst, arith, ◌⊎◌, inl, inr, ⊎_elim}
 use Rattle.std.specs.List.{All, Contains, filter}
 use Rattle.std.proofs.lemmas.List.Elements.{All-contains, All-contains_itself, All-weaker}
@@ -19,7 +19,7 @@ use Rattle.sem_mutex.proofs.Counting.{no_lender}
 use Rattle.sem_mutex.proofs.Owning.{From}
 use Rattle.wind_core.proofs.Becoming.{All-change_pri}
 
--- u is t, but for its priority and order number
+-- u is t, except for its priority and order number
 pub record Drifts (goal : ℕ → ℕ) (t u : Task) : Type 0 where
   pub id : u.id ≡ t.id
   pub normal : u.normal ≡ t.normal
@@ -49,7 +49,7 @@ drift_all ts goal (u ∷ us) r is all =
     (λ since t f. (f.0, f.1, record { id = f.2.id; normal = f.2.normal; held = f.2.held; wait = f.2.wait; fifo = f.2.fifo; pri = f.2.pri }))
     all)
 
--- ---- whom nobody waits for
+-- ---- a task that no task waits for
 module _ (up : ℕ → Option ℕ) (pri : ℕ → ℕ) (x : ℕ) (nobody : (z : ℕ) → up z ≡ Some x → ⊥) where
   never_on : (n y : ℕ) → is_on (path up n y) x ≡ true → ⊥
   never_on zero y h = absurd (cc)
@@ -63,7 +63,7 @@ module _ (up : ℕ → Option ℕ) (pri : ℕ → ℕ) (x : ℕ) (nobody : (z : 
       let high = most_least pri (pri x) (pri x) (λ y. reaches up n y x) all (omega arith) (λ y r. absurd (never_on n y r)) in
       omega (arith, low, high)
 
--- ---- what is kept
+-- ---- the invariant
 module _ (count : ℕ → ℕ) (ms : List (ℕ × Mutex)) (k : KernState) (is : IsKern k) (free : (i : ℕ) → count i ≡ 0 → (w : Option Place) → owner_at ms w ≡ Some i → ⊥) (h : Holds count ms k) where
   lifted_kept : (u : Task) → From (Drifts (lifted k ms)) k.tasks u → TaskKept ms count k.next_id u
   lifted_kept u f =
@@ -96,7 +96,7 @@ module _ (count : ℕ → ℕ) (ms : List (ℕ × Mutex)) (k : KernState) (is : 
         mutexes = subst (λ n. All (MutexKept n) ms) (sym same) h.mutexes;
       }
 
--- after raising all is kept, owners' urgency too, whatever it was before
+-- after raising, the invariant holds, even if owners weren't as urgent as their waiters before
 pub raised_keeps : (s : MutexState) → IsKern s.kern → Holds (held_count s.mutexes) s.mutexes s.kern → KeepsMutexes (raised s)
 raised_keeps s is h = record {
   holds = holds_raised (held_count s.mutexes) s.mutexes s.kern is (λ i z w e. no_lender s.mutexes i z w e) h;

@@ -28,7 +28,7 @@ pub mutex_at-push : (ms : List (ℕ × Mutex)) (n : ℕ) (v : Mutex) (w : Option
 mutex_at-push ms n v None made = refl
 mutex_at-push ms n v (Some p) made = ap (λ o. cond (eqb p.side 0) o None) (object_of-push ms n p.id v (λ e. omega (arith, made)))
 
--- a mutex that nobody owns changes nothing
+-- a mutex without an owner changes nothing
 pub create_keeps : (s : MutexState) (options : SemOptions) → (is_inversion_safe options ≡ true → is_priority options ≡ true) → KeepsMutexes s → KeepsMutexes (create s (new_mutex options))
 create_keeps s options urgency kept =
     let n : ℕ = s.kern.next_id in

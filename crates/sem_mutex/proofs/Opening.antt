@@ -1,4 +1,4 @@
--- At first there is no task and no mutex.
+-- At the start there are no tasks and no mutexes.
 use Rattle.std.proofs.Common.{length, ap, arith}
 use Rattle.sem_mutex.specs.Laws.{OpeningLaw}
 

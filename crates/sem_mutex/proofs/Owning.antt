@@ -1,4 +1,4 @@
--- What the rows of mutexes do to one task, and to the facts that are kept.
+-- What the calls on mutexes do to one task and to the invariant.
 use Rattle.std.proofs.Common.{◌≡◌, ℕ, suc, ◌+◌, ◌-◌, ◌<◌, ◌≤◌, true, false, cond, not, eqb, List, get_or, Option, None, Some, IsSome, IfSome, refl, sym, ap, ◌∙◌, subst, arith, ◌⊎◌, inl, inr, ⊎_elim}
 use Rattle.std.specs.List.{All, Contains}
 use Rattle.std.proofs.lemmas.Bool.{eqb-true, eqb-false, eq-eqb, ne_eqb, cases_eq}
@@ -23,7 +23,7 @@ pub live_task : (o : Option Task) → IsSome o → (t : Task) × (o ≡ Some t)
 live_task None h = absurd (cc)
 live_task (Some t) h = (t, refl)
 
--- ---- one inversion-safe mutex more
+-- ---- one more inversion-safe mutex
 abbrev pub more : ℕ → (ℕ → ℕ) → ℕ → ℕ
 more who count i = count i + one (eqb who i)
 
@@ -55,8 +55,8 @@ holds_more count ms k who lives h =
       mutexes = h.mutexes;
     }
 
--- ---- one inversion-safe mutex less, and at none the normal priority
--- u is t, but for the count of mutexes that it holds
+-- ---- one inversion-safe mutex less, and after the last one the normal priority
+-- u is t, except for its count of owned mutexes
 record Lowered (count : ℕ → ℕ) (t u : Task) : Type 0 where
   id : u.id ≡ t.id
   pri : u.pri ≡ t.pri
@@ -65,7 +65,7 @@ record Lowered (count : ℕ → ℕ) (t u : Task) : Type 0 where
   fifo : u.fifo ≡ t.fifo
   held : u.held ≡ count u.id
 
--- u is t after who has dropped a mutex
+-- u is t after `who` has given up a mutex
 pub record Dropped (count : ℕ → ℕ) (who : ℕ) (t u : Task) : Type 0 where
   pub id : u.id ≡ t.id
   pub normal : u.normal ≡ t.normal
@@ -202,8 +202,8 @@ module _ (count : ℕ → ℕ) (ms : List (ℕ × Mutex)) (k : KernState) (who :
     mutexes = subst (λ n. All (MutexKept n) ms) (sym next-dropped) h.mutexes;
   }
 
--- ---- owners stay urgent where priorities only fall that nobody waits by
--- but for w, u waits as t and is no more urgent; and it is no less urgent where somebody may wait by it
+-- ---- owners stay as urgent as their waiters if priorities fall only where no task depends on them
+-- except for w, u waits as t does and is at most as urgent; and if a task can wait for it, it is at least as urgent
 pub record SlackBut (w : ℕ) (ms : List (ℕ × Mutex)) (t u : Task) : Type 0 where
   pub id : u.id ≡ t.id
   pub waiter : (u.id ≡ w → ⊥) → (u.wait ≡ t.wait) × (t.pri ≤ u.pri)
@@ -245,7 +245,7 @@ urgent_slack ms ts us all urgent = λ i d hi.
     let no_other : ℕ = suc (get_or us i d).id in
     urgent_slack_but no_other ms ts us (All-weaker (From (Slack ms) ts) (From (SlackBut no_other ms) ts) (slack_but no_other ms ts) us all) urgent i d hi (λ q. omega (arith, q))
 
--- a task that drops its last inversion-safe mutex is waited for by nobody that lends
+-- no task waits, with inheritance, for a task that gives up its last inversion-safe mutex
 pub urgent_dropped : (count : ℕ → ℕ) (ms ns : List (ℕ × Mutex)) (k : KernState) (who : ℕ) → IsKern k → Lives k who → Holds count ms k → (less who count who ≡ 0 → (w : Option Place) → owner_at ns w ≡ Some who → ⊥)
     → OwnersUrgent ns k.tasks → OwnersUrgent ns (dropped k who).tasks
 urgent_dropped count ms ns k who is lives h free urgent =

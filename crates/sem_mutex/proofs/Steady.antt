@@ -1,4 +1,4 @@
--- What holds of every task, whatever a call on mutexes makes of it, holds after the call.
+-- A property of every task, which a call on mutexes keeps for each task, holds after the call.
 use Rattle.std.proofs.Common.{◌≡◌, ℕ, ◌+◌, ◌-◌, Bool, true, false, cond, not, ◌&&◌, eqb, ltb, leb, List, [], ◌∷◌, Option, None, Some, refl, sym, ap, subst}
 use Rattle.std.specs.List.{All}
 use Rattle.wind_base.specs.declared.errno.Errno.{Errno}
@@ -105,7 +105,7 @@ module _ (P : Task → Type 0) (renews : (since : ℕ) (t : Task) → P t → P 
       row None = all
       row (Some m) = owner m m.owner
 
--- ---- nobody waits for a mutex that is gone
+-- ---- no task waits for a mutex that was deleted
 abbrev pub IsAway : ℕ → Task → Type 0
 IsAway id t = waits_at (mutex_place id) t ≡ false
 

@@ -1,4 +1,4 @@
--- What the calls on a mutex make of the tasks and of the mutexes (Reference Manual, semMLib).
+-- What the calls on a mutex do to the tasks and mutexes (Reference Manual, semMLib).
 use Rattle.std.specs.Prelude.{ℕ, ◌+◌, ◌-◌, Bool, false, not, ◌==◌, ◌&&◌, nat_lt, min, if◌then◌else◌, List, Option, None, Some}
 use Rattle.std.specs.Option.{option_map}
 use Rattle.wind_base.specs.Limits.{error_word, ok_word, no_wait}
@@ -16,33 +16,34 @@ use Rattle.wind_core.specs.declared.took.Took.TheVariants.{Taken, Pended}
 use Rattle.inheritance.specs.Mutexes.{MutexState, is_id, mutex_place, owner_in}
 use Rattle.inheritance.specs.Reach.{raised}
 
--- the live mutex of this id, by its id
+-- the number as an id, if a mutex with this id is live
 abbrev pub live_mutex : List (ℕ × Mutex) → ℕ → Option ℕ
 live_mutex ms id = option_map (λ _. id) (object_of ms id)
 
--- ---- what a mutex is for its owner
--- how many inversion-safe mutexes a task owns, as its record says
+-- ---- what owning a mutex means
+-- the number of inversion-safe mutexes that a task owns, as its record says
 abbrev pub held_of : Option Task → ℕ
 held_of None = 0
 held_of (Some t) = t.held
 
--- one more inversion-safe mutex, where it is one
+-- one more inversion-safe mutex, if the mutex is one
 abbrev pub holding : KernState → ℕ → Mutex → KernState
 holding k who m = if m.inversion_safe then set_held k who (held_of (task_of k.tasks who) + 1) else k
 
--- one more safe section, where it is delete-safe
+-- one more safe section, if the mutex is delete-safe
 abbrev pub guarded : KernState → ℕ → Mutex → KernState
 guarded k who m = if m.delete_safe then make_safe k who else k
 
--- n safe sections less, where it is delete-safe
+-- n safe sections end, if the mutex is delete-safe
 abbrev pub eased : KernState → ℕ → Mutex → ℕ → KernState
 eased k who m n = if m.delete_safe then lessen k who n else k
 
--- a task that owns no inversion-safe mutex has its normal priority
+-- the task gets its normal priority back if it owns no inversion-safe mutex
 abbrev pub restored : KernState → ℕ → Option Task → KernState
 restored k who None = k
 restored k who (Some t) = if t.held == 0 then change_pri k who t.normal else k
 
+-- the task owns one inversion-safe mutex less
 abbrev pub less_held : KernState → ℕ → KernState
 less_held k who = set_held k who (held_of (task_of k.tasks who) - 1)
 
@@ -50,10 +51,12 @@ less_held k who = set_held k who (held_of (task_of k.tasks who) - 1)
 abbrev pub dropped : KernState → ℕ → KernState
 dropped k who = restored (less_held k who) who (task_of (less_held k who).tasks who)
 
+-- the task gives up the ownership of the mutex
 abbrev pub letting_go : KernState → ℕ → Mutex → KernState
 letting_go k who m = if m.inversion_safe then dropped k who else k
 
 -- ---- take
+-- the mutex with this owner, taken once
 abbrev pub owned : ℕ → Mutex → Mutex
 owned who m = record m { owner = Some who; depth = 1 }
 
@@ -71,56 +74,64 @@ deepen s who id m = record {
   mutexes = with_object s.mutexes id (record m { depth = m.depth + 1 });
 }
 
--- the task waits for it, by urgency or by arrival
+-- the task begins to wait for it, by priority or in order of arrival
 abbrev pub await : MutexState → ℕ → ℕ → ℕ → Mutex → MutexState
 await s who id n m = record s { kern = pend s.kern who (mutex_place id) (not m.by_priority) n }
 
--- the same of a mutex that is live
+-- the same, if the mutex is live
 abbrev pub handed : MutexState → ℕ → ℕ → Option Mutex → MutexState
 handed s who id None = s
 handed s who id (Some m) = hand s who id m
 
+-- the same for another take, if the mutex is live
 abbrev pub deepened : MutexState → ℕ → ℕ → Option Mutex → MutexState
 deepened s who id None = s
 deepened s who id (Some m) = deepen s who id m
 
+-- the same for a wait, if the mutex is live
 abbrev pub awaited : MutexState → ℕ → ℕ → ℕ → Option Mutex → MutexState
 awaited s who id n None = s
 awaited s who id n (Some m) = await s who id n m
 
+-- what a take does, given the mutex's owner
 abbrev pub taken : MutexState → ℕ → ℕ → ℕ → Mutex → Option ℕ → MutexState
 taken s who id n m None = hand s who id m
 taken s who id n m (Some o) = if o == who then deepen s who id m else await s who id n m
 
+-- a take, before owners inherit
 abbrev pub take_alone : MutexState → ℕ → ℕ → ℕ → Option Mutex → MutexState
 take_alone s who id n None = s
 take_alone s who id n (Some m) = taken s who id n m m.owner
 
--- a mutex of another, live or ended
+-- the mutex is owned by another task, live or ended
 abbrev pub is_others : ℕ → Option ℕ → Bool
 is_others who None = false
 is_others who (Some o) = not (o == who)
 
+-- why a take with this timeout is refused
 abbrev pub take_refusal : ℕ → ℕ → Option Mutex → Option Errno
 take_refusal who n None = Some errors.ObjIdError
 take_refusal who n (Some m) = if is_others who m.owner && n == no_wait then Some errors.ObjUnavailable else None
 
+-- whether a take gets the mutex or waits
 abbrev pub took : ℕ → Option Mutex → Took
 took who o = if is_others who (owner_in o) then Pended else Taken
 
--- the state after a take that is not refused
+-- the state after a take that isn't refused
 abbrev pub take : MutexState → ℕ → ℕ → ℕ → MutexState
 take s who id n = raised (take_alone s who id n (object_of s.mutexes id))
 
 -- ---- give
+-- the mutex without an owner
 abbrev pub freed : Mutex → Mutex
 freed m = record m { owner = None; depth = 0 }
 
--- the first waiter becomes the owner and goes on, or the mutex is free
+-- the first waiting task becomes the owner and its wait ends, or the mutex becomes free
 abbrev pub pass_on : MutexState → ℕ → Mutex → Option Task → MutexState
 pass_on s id m None = record s { mutexes = with_object s.mutexes id (freed m) }
 pass_on s id m (Some w) = record (hand s w.id id m) { kern = end_wait (hand s w.id id m).kern w.id ok_word None }
 
+-- the owner's last give: the mutex is passed on, and the owner gives up its ownership
 abbrev pub give_up : MutexState → ℕ → ℕ → Mutex → MutexState
 give_up s who id m =
     let t = pass_on s id m (first_waiter s.kern.tasks (mutex_place id)) in
@@ -133,44 +144,52 @@ shallow s who id m = record {
   mutexes = with_object s.mutexes id (record m { depth = m.depth - 1 });
 }
 
--- the same of a mutex that is live
+-- the same, if the mutex is live
 abbrev pub passed_on : MutexState → ℕ → Option Mutex → MutexState
 passed_on s id None = s
 passed_on s id (Some m) = pass_on s id m (first_waiter s.kern.tasks (mutex_place id))
 
+-- the same for the last give, if the mutex is live
 abbrev pub given_up : MutexState → ℕ → ℕ → Option Mutex → MutexState
 given_up s who id None = s
 given_up s who id (Some m) = give_up s who id m
 
+-- the same for another give, if the mutex is live
 abbrev pub given_once : MutexState → ℕ → ℕ → Option Mutex → MutexState
 given_once s who id None = s
 given_once s who id (Some m) = shallow s who id m
 
+-- a give, before owners inherit
 abbrev pub give_alone : MutexState → ℕ → ℕ → Option Mutex → MutexState
 give_alone s who id None = s
 give_alone s who id (Some m) = if nat_lt 1 m.depth then shallow s who id m else give_up s who id m
 
+-- why a give is refused
 abbrev pub give_refusal : ℕ → Option Mutex → Option Errno
 give_refusal who None = Some errors.ObjIdError
 give_refusal who (Some m) = if is_id who m.owner then None else Some errors.InvalidOperation
 
+-- the state after a give that isn't refused
 abbrev pub give : MutexState → ℕ → ℕ → MutexState
 give s who id = raised (give_alone s who id (object_of s.mutexes id))
 
 -- ---- delete
--- a live owner gives it in full
+-- a live owner gives up all its takes
 abbrev pub ended : KernState → ℕ → Mutex → Option Task → KernState
 ended k who m None = k
 ended k who m (Some t) = eased (letting_go k who m) who m m.depth
 
+-- the owner, if it is live, gives up all its takes
 abbrev pub owner_ended : KernState → Mutex → Option ℕ → KernState
 owner_ended k m None = k
 owner_ended k m (Some o) = ended k o m (task_of k.tasks o)
 
+-- the same, if the mutex is live
 abbrev pub its_owner_ended : KernState → Option Mutex → KernState
 its_owner_ended k None = k
 its_owner_ended k (Some m) = owner_ended k m m.owner
 
+-- a deletion, before owners inherit
 abbrev pub delete_alone : MutexState → ℕ → Option Mutex → MutexState
 delete_alone s id None = s
 delete_alone s id (Some m) = record {
@@ -178,22 +197,27 @@ delete_alone s id (Some m) = record {
   mutexes = without s.mutexes id;
 }
 
+-- why a deletion is refused
 abbrev pub delete_refusal : Option Mutex → Option Errno
 delete_refusal None = Some errors.ObjIdError
 delete_refusal (Some m) = None
 
+-- the state after a deletion that isn't refused
 abbrev pub delete : MutexState → ℕ → MutexState
 delete s id = raised (delete_alone s id (object_of s.mutexes id))
 
--- ---- a task's normal priority is set
+-- ---- setting a task's normal priority
+-- the priority of a task after its normal priority is set
 abbrev pub pri_after : ℕ → Option Task → ℕ
 pri_after pri None = pri
 pri_after pri (Some t) = if t.held == 0 then pri else min t.pri pri
 
+-- the setting of a normal priority, before owners inherit
 abbrev pub priority_alone : MutexState → ℕ → ℕ → MutexState
 priority_alone s who pri = record s {
   kern = change_pri (set_normal s.kern who pri) who (pri_after pri (task_of s.kern.tasks who));
 }
 
+-- the state after a normal priority is set
 abbrev pub priority_set : MutexState → ℕ → ℕ → MutexState
 priority_set s who pri = raised (priority_alone s who pri)

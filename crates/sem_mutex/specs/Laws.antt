@@ -1,4 +1,4 @@
--- What follows of the definitions alone.
+-- What follows from the definitions alone.
 use Rattle.std.specs.Prelude.{◌≡◌, ℕ, ◌<◌, ◌≤◌, true, false, [], None, Some}
 use Rattle.std.specs.List.{All}
 use Rattle.wind_base.specs.SemBits.{is_priority, is_inversion_safe}
@@ -15,11 +15,12 @@ use Rattle.sem_mutex.specs.Calls.{take, take_refusal, give, give_refusal, delete
 use Rattle.sem_mutex.specs.Making.{create, new_mutex}
 use Rattle.sem_mutex.specs.Kept.{KeepsMutexes}
 
+-- the mutexes' invariant holds with this kernel
 abbrev pub Keeps : MutexState → KernState → Type 0
 Keeps s k = KeepsMutexes (both k s.mutexes)
 
--- a move leaves mutexes alone: no wait for a mutex begins, no id is taken back, and no priority and no count of mutexes is
--- written; those are written by the calls on mutexes
+-- a move leaves mutexes alone: it begins no wait for a mutex, doesn't lower the next id, and writes no priority and
+-- no count of mutexes; only the calls on mutexes write those
 abbrev pub SparesMutexes : MutexState → Move → Type 0
 SparesMutexes s (Pend who place fifo n) = (mutex_at s.mutexes (Some place) ≡ None) × (place.id < s.kern.next_id)
 SparesMutexes s (ChangePri who pri) = ⊥
@@ -28,20 +29,21 @@ SparesMutexes s (SetHeld who n) = ⊥
 SparesMutexes s (DrawIds next) = s.kern.next_id ≤ next
 SparesMutexes s m = Unit {0}
 
--- what is kept of mutexes holds again after such a move, whoever it names
+-- the mutexes' invariant holds again after such a move, whichever task it names
 abbrev pub BesideLaw : Type 0
 BesideLaw = (s : MutexState) (m : Move) → KeepsMutexes s → SparesMutexes s m → Keeps s (apply s.kern m)
 
--- and after the calls on safe sections, and deletions
+-- it holds again after the calls on safe sections, and after deletions
 pub record KeptBySafety (s : MutexState) : Type 0 where
   pub guarding : (who : ℕ) → Keeps s (make_safe s.kern who)
   pub lessening : (who n : ℕ) → Keeps s (lessen s.kern who n)
   pub deleting : (caller target : ℕ) → IsKern s.kern → Keeps s (delete_task s.kern caller target)
 
+-- these calls keep it
 abbrev pub SafetyLaw : Type 0
 SafetyLaw = (s : MutexState) → KeepsMutexes s → KeptBySafety s
 
--- where it holds, raising changes nothing, so that no other call owes it
+-- if the invariant holds, raising changes nothing, so no other call needs to raise
 abbrev pub IdleLaw : Type 0
 IdleLaw = (s : MutexState) → IsKern s.kern → KeepsMutexes s → raised s ≡ s
 
@@ -56,14 +58,15 @@ pub record KeptByCalls (s : MutexState) : Type 0 where
   pub creating : (options : SemOptions) → (is_inversion_safe options ≡ true → is_priority options ≡ true)
       → KeepsMutexes (create s (new_mutex options))
 
+-- all calls on mutexes keep it
 abbrev pub CallsLaw : Type 0
 CallsLaw = (s : MutexState) → IsKern s.kern → AreMutexes s.mutexes → KeepsMutexes s → KeptByCalls s
 
--- nobody waits for a mutex that was deleted
+-- no task waits for a deleted mutex
 abbrev pub GoneLaw : Type 0
 GoneLaw = (s : MutexState) (id : ℕ) → IsKern s.kern → delete_refusal (object_of s.mutexes id) ≡ None
     → All (λ t. waits_at (mutex_place id) t ≡ false) (delete s id).kern.tasks
 
--- it holds where there is no task and no mutex
+-- the invariant holds if there are no tasks and no mutexes
 abbrev pub OpeningLaw : Type 0
 OpeningLaw = (s : MutexState) → s.kern.tasks ≡ [] → s.mutexes ≡ [] → KeepsMutexes s

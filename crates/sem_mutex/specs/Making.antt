@@ -1,4 +1,4 @@
--- A mutex is made.
+-- The making of a mutex.
 use Rattle.std.specs.Prelude.{◌+◌, nat_le, nat_lt, if◌then◌else◌, [], ◌∷◌, ◌++◌, length, Option, None, Some}
 use Rattle.wind_base.specs.Limits.{most_mutexes, greatest_id}
 use Rattle.wind_base.specs.SemBits.{is_priority, is_delete_safe, is_inversion_safe}
@@ -8,7 +8,7 @@ use Rattle.wind_base.specs.declared.errno.Errno.TheVariants as errors
 use Rattle.inheritance.specs.declared.mutex.Mutex.{Mutex}
 use Rattle.inheritance.specs.Mutexes.{MutexState}
 
--- a mutex that nobody owns, with these options
+-- a mutex without an owner, with these options
 abbrev pub new_mutex : SemOptions → Mutex
 new_mutex options = record {
   by_priority = is_priority options;
@@ -18,14 +18,14 @@ new_mutex options = record {
   depth = 0;
 }
 
--- why no mutex is made: as many live as there may be; else no id is left
+-- why no mutex can be made: the limit of live mutexes is reached, otherwise no id is left
 abbrev pub create_refusal : MutexState → Option Errno
 create_refusal s =
     if nat_le most_mutexes (length s.mutexes) then Some errors.TooMany
     else if nat_lt greatest_id s.kern.next_id then Some errors.IdsSpent
     else None
 
--- it is the last, since ids rise
+-- the mutex gets the next id, and goes last, since ids rise
 abbrev pub create : MutexState → Mutex → MutexState
 create s v = record {
   kern = record s.kern { next_id = s.kern.next_id + 1 };

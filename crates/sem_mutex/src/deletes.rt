@@ -1,4 +1,4 @@
-//! A mutex is deleted.
+//! The deletion of mutexes.
 
 ghost use Rattle.std.specs.Prelude.{◌≡◌, ◌<◌, ◌+◌, ◌^◌, Some, None, IsSome, IfOk, IfErr};
 ghost use Rattle.id_table.specs.Rows.{object_of};
@@ -15,7 +15,7 @@ use wind_base::words::ERROR;
 use wind_core::Kern;
 
 impl Mutexes {
-    // A live owner gives it in full.
+    // Ends the ownership of a live owner: it gives up all its takes.
     fn end_owner(&self, k: &mut Kern, id: Ident)
         requires there { IsSome (object_of self.now id) }
         requires since { k.old.next_since + 1 < 2 ^ 63 }
@@ -33,12 +33,12 @@ impl Mutexes {
         ease(k, owner, m, depth);
     }
 
-    /// Takes the mutex away. All waits for it end with ERROR and `ObjDeleted`, in the order in which they stand,
-    /// and a live owner gives it in full.
+    /// Deletes the mutex (semDelete). The waits for it end, in their order, with ERROR and
+    /// `ObjDeleted`. A live owner gives up all its takes.
     ///
     /// # Errors
     ///
-    /// `ObjIdError` where there is no such mutex. Nothing changes then.
+    /// `ObjIdError` if there is no such mutex. Then nothing changes.
     pub fn delete(&mut self, k: &mut Kern, id: u32) -> Result<(), Errno>
         requires kept { KeepsMutexes (both k.old self.old) }
         requires since { FewSinces k.old }

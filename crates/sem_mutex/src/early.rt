@@ -1,4 +1,4 @@
-//! Whether all counters are far from their ends.
+//! Whether all counters are far from overflow.
 
 ghost use Rattle.std.specs.Prelude.{◌≡◌, ◌<◌, ◌^◌, true, false};
 ghost use Rattle.std.specs.List.{All};
@@ -10,10 +10,10 @@ use id_table::Table;
 use inheritance::Mutex;
 use wind_core::Kern;
 
-// A count below this is far from its end.
+// A count below this is far from overflow.
 const EARLY: u64 = 1 << 61;
 
-// Whether no task is safe too often.
+// Whether each task's count of safe sections is far from overflow.
 fn are_rarely_safe(k: &Kern) -> bool
     ensures yes { result ≡ true → All (λ t. t.safe < 2 ^ 61) k.now.tasks }
     ensures no { result ≡ false → All (λ t. t.safe < 2 ^ 61) k.now.tasks → ⊥ }
@@ -27,7 +27,7 @@ fn are_rarely_safe(k: &Kern) -> bool
     true
 }
 
-// Whether no mutex is owned too often.
+// Whether each mutex's count of takes is far from overflow.
 fn are_shallow(table: &Table<Mutex>) -> bool
     ensures yes { result ≡ true → All (λ r. r.1.depth < 2 ^ 61) table.now.rows }
     ensures no { result ≡ false → All (λ r. r.1.depth < 2 ^ 61) table.now.rows → ⊥ }
@@ -42,8 +42,9 @@ fn are_shallow(table: &Table<Mutex>) -> bool
 }
 
 impl Mutexes {
-    /// Whether the order numbers, the ticks, and the counts of safe sections and of takes are far from their
-    /// ends, as `take` requires. The other calls require it only of those that they raise.
+    /// Whether the order numbers, the ticks, and the counts of safe sections and of takes are all
+    /// far from overflow, as `take` requires. The other calls require it only of the counters that
+    /// they raise.
     pub fn is_early(&self, k: &Kern) -> bool
         ensures yes { result ≡ true → IsEarly (both k.now self.now) }
         ensures no { result ≡ false → IsEarly (both k.now self.now) → ⊥ }

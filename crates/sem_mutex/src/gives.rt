@@ -17,7 +17,7 @@ use wind_base::words::OK;
 use wind_core::Kern;
 
 impl Mutexes {
-    // How often its owner took it and did not give it back.
+    // How many times its owner has taken it and not given it back.
     fn depth(&self, id: Ident) -> u64
         requires { IsSome (object_of self.now id) }
         ensures { (m : Mutex_lem) → object_of self.now id ≡ Some m → result ≡ m.depth }
@@ -25,7 +25,7 @@ impl Mutexes {
         self.mutex(id).depth
     }
 
-    // The first waiter becomes the owner and goes on, or nobody owns it.
+    // Makes the first waiter the owner and ends its wait. If no task waits, the mutex becomes free.
     fn pass_on(&mut self, k: &mut Kern, id: Ident)
         requires there { IsSome (object_of self.old id) }
         requires kept { KeepsMutexes (both k.old self.old) }
@@ -43,7 +43,7 @@ impl Mutexes {
         k.end_wait(next, OK, None);
     }
 
-    // The owner gives it for the last time.
+    // The owner's last give.
     fn give_up(&mut self, k: &mut Kern, who: Ident, id: Ident)
         requires live { Lives k.old who }
         requires there { IsSome (object_of self.old id) }
@@ -58,7 +58,7 @@ impl Mutexes {
         ease(k, who, self.mutex(id), 1);
     }
 
-    // The owner gives it, and keeps it.
+    // A give after which the owner still owns it.
     fn give_once(&mut self, k: &mut Kern, who: Ident, id: Ident)
         requires live { Lives k.old who }
         requires there { IsSome (object_of self.old id) }
@@ -69,13 +69,15 @@ impl Mutexes {
         take_depth(self.table.object_mut(id));
     }
 
-    /// The owner gives the mutex. After the last give the first waiter has it, or it is free; then the giver
-    /// has its normal priority again where it owns no other that is inversion-safe; then it is safe once less.
+    /// Gives the mutex once, on behalf of its owner (semGive). After the last give the first
+    /// waiting task owns it, or it is free; and if it is inversion-safe and the caller owns no
+    /// other such mutex, the caller gets its normal priority back. Last of all, if the mutex is
+    /// delete-safe, a safe section of the caller ends.
     ///
     /// # Errors
     ///
-    /// `ObjIdError` where there is no such mutex; `InvalidOperation` where the caller is not its owner.
-    /// Nothing changes then.
+    /// `ObjIdError` if there is no such mutex; `InvalidOperation` if the caller isn't its owner.
+    /// Then nothing changes.
     pub fn give(&mut self, k: &mut Kern, caller: Ident, id: u32) -> Result<(), Errno>
         requires live { Lives k.old caller }
         requires kept { KeepsMutexes (both k.old self.old) }

@@ -1,10 +1,11 @@
-//! What follows of the definitions alone.
+//! What follows from the definitions alone.
 
 ghost use Rattle.sem_mutex.specs.Laws.{BesideLaw, SafetyLaw, OpeningLaw, IdleLaw, CallsLaw, GoneLaw};
 
-/// The laws of what is kept of mutexes: it holds at first; every move of the kernel that leaves mutexes alone keeps
-/// it, and so do the calls on safe sections and deletions; the calls on mutexes keep it; if it holds, raising changes
-/// nothing; and nobody waits for a mutex that was deleted.
+/// The laws of the mutexes' invariant. It holds if there are no tasks and no mutexes. Every kernel
+/// move that leaves mutexes alone keeps it. The calls on safe sections, deletions of tasks and the
+/// calls on mutexes keep it. If it holds, raising changes nothing. No task waits for a deleted
+/// mutex.
 pub fn kept_law()
     ensures opening { OpeningLaw }
     ensures beside { BesideLaw }

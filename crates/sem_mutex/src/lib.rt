@@ -1,4 +1,4 @@
-//! Mutexes, whose owners inherit the urgency of those that wait for them.
+//! Mutexes, whose owners inherit the priorities of the tasks that wait for them.
 #![tactic(auto)]
 
 mod deletes;

@@ -18,7 +18,7 @@ use wind_base::limits::MUTEXES;
 use wind_base::{Errno, NoMemory, Pri, SemOptions};
 use wind_core::Kern;
 
-/// The live mutexes, by their ids.
+/// The live mutexes, by id.
 #[derive(Drop)]
 pub struct Mutexes {
     pub(crate) table: Table<Mutex>,
@@ -37,7 +37,7 @@ impl Model for Mutexes {
 }
 
 impl Mutexes {
-    /// No mutex, with room for 1,024. No other call takes memory.
+    /// No mutexes, with room for 1,024. No other call takes memory.
     pub fn reserved(alloc: Global) -> Result<Mutexes, NoMemory>
         ensures { IfOk result (λ m. m ≡ []) }
     {
@@ -46,14 +46,14 @@ impl Mutexes {
         })
     }
 
-    /// Does nothing. Its contract tells the facts that the list of mutexes keeps.
+    /// Does nothing. Its contract states the invariant of the list of mutexes.
     pub fn facts(&self)
         ensures { AreMutexes self.now }
     {
         self.table.facts();
     }
 
-    // The mutex of this id, which there is.
+    // The mutex with this id, which must exist.
     pub(crate) fn mutex(&self, id: Ident) -> &Mutex
         requires { IsSome (object_of self.now id) }
         ensures { object_of self.now id ≡ Some result.now }
@@ -64,7 +64,7 @@ impl Mutexes {
         }
     }
 
-    // The id of this number, where its mutex is live.
+    // The id with this number, if its mutex is live.
     pub(crate) fn find(&self, id: u32) -> Option<Ident>
         ensures { result ≡ live_mutex self.now id }
     {
@@ -77,19 +77,19 @@ impl Mutexes {
         }
     }
 
-    // Its owner.
+    // The owner of the mutex with this id, live or ended. None if it is free.
     pub(crate) fn owner_by(&self, id: Ident) -> Option<Ident>
         ensures { result ≡ owner_in (object_of self.now id) }
     {
         self.table.get(id)?.owner
     }
 
-    /// Makes a mutex that nobody owns. Options with inheritance have waiters by priority too, as all that
-    /// `SemOptions::read` gives for a mutex.
+    /// Makes a mutex without an owner (semMCreate). Options with inheritance must also have waiters
+    /// by priority, as all options from `SemOptions::read` for a mutex do.
     ///
     /// # Errors
     ///
-    /// `TooMany` where 1,024 are live, else `IdsSpent` where no id is left. Nothing changes then.
+    /// `TooMany` if 1,024 are live; otherwise `IdsSpent` if no id is left. Then nothing changes.
     pub fn create(&mut self, k: &mut Kern, options: SemOptions) -> Result<Ident, Errno>
         requires options { is_inversion_safe options ≡ true → is_priority options ≡ true }
         requires ids { k.old.lent ≡ false }
@@ -116,14 +116,15 @@ impl Mutexes {
         Ok(id)
     }
 
-    /// Whether the number is the id of a live mutex.
+    /// Whether this number is the id of a live mutex.
     pub fn is_live(&self, id: u32) -> bool
         ensures { result ≡ is_some (object_of self.now id) }
     {
         self.find(id).is_some()
     }
 
-    /// The number of the task that owns it, live or ended. None where there is no such mutex or it is free.
+    /// The number of the task that owns the mutex, live or ended. None if there is no such mutex,
+    /// or if it is free.
     pub fn owner(&self, id: u32) -> Option<u32>
         ensures { result ≡ owner_in (object_of self.now id) }
     {
@@ -132,8 +133,9 @@ impl Mutexes {
         Some(owner.get())
     }
 
-    /// Sets the task's normal priority. It is scheduled by that where it owns no inversion-safe mutex, else
-    /// by the more urgent of that and the priority that it has; and whom it waits for inherits that.
+    /// Sets the task's normal priority. If the task owns no inversion-safe mutex, that becomes its
+    /// priority; otherwise it gets the more urgent of that and its current priority. The owner that
+    /// it waits for inherits the result.
     pub fn priority_set(&mut self, k: &mut Kern, who: Ident, pri: Pri)
         requires live { Lives k.old who }
         requires kept { KeepsMutexes (both k.old self.old) }

@@ -1,4 +1,4 @@
-//! What a mutex is for the task that owns it.
+//! What owning a mutex means for a task.
 
 ghost use Rattle.std.specs.Prelude.{◌≡◌, ◌<◌, ◌+◌, ◌^◌, ◌-◌, Some};
 ghost use Rattle.wind_core.specs.State.{Lives, task_of};
@@ -11,7 +11,7 @@ use task_safety::{lessen, safe};
 use wind_base::Pri;
 use wind_core::Kern;
 
-// The task owns the mutex.
+// Makes the task the owner, with one take.
 pub(crate) fn own(m: &mut Mutex, who: Ident)
     ensures { m.new ≡ owned who m.old }
 {
@@ -19,7 +19,7 @@ pub(crate) fn own(m: &mut Mutex, who: Ident)
     m.depth = 1;
 }
 
-// Nobody owns it.
+// Frees the mutex.
 pub(crate) fn free(m: &mut Mutex)
     ensures { m.new ≡ freed m.old }
 {
@@ -27,7 +27,7 @@ pub(crate) fn free(m: &mut Mutex)
     m.depth = 0;
 }
 
-// Its owner has taken it once more.
+// Counts one more take by the owner.
 pub(crate) fn add_depth(m: &mut Mutex)
     requires { m.old.depth + 1 < 2 ^ 64 }
     ensures { m.new ≡ record m.old { depth = m.old.depth + 1 } }
@@ -35,14 +35,14 @@ pub(crate) fn add_depth(m: &mut Mutex)
     m.depth += 1;
 }
 
-// Its owner has given it once.
+// Counts one give by the owner.
 pub(crate) fn take_depth(m: &mut Mutex)
     ensures { m.new ≡ record m.old { depth = m.old.depth - 1 } }
 {
     m.depth = m.depth.saturating_sub(1);
 }
 
-// How many inversion-safe mutexes the task owns.
+// The number of inversion-safe mutexes that the task owns.
 fn held(k: &Kern, who: Ident) -> u64
     ensures { result ≡ held_of (task_of k.now.tasks who) }
 {
@@ -52,7 +52,7 @@ fn held(k: &Kern, who: Ident) -> u64
     }
 }
 
-// One more inversion-safe mutex, where it is one.
+// Counts one more inversion-safe mutex of the task, if the mutex is one.
 fn hold(k: &mut Kern, who: Ident, m: &Mutex)
     requires live { Lives k.old who }
     requires held { held_of (task_of k.old.tasks who) + 1 < 2 ^ 64 }
@@ -65,7 +65,7 @@ fn hold(k: &mut Kern, who: Ident, m: &Mutex)
     k.set_held(who, n + 1);
 }
 
-// One more safe section, where it is delete-safe.
+// Begins one more safe section of the task, if the mutex is delete-safe.
 pub(crate) fn guard(k: &mut Kern, who: Ident, m: &Mutex)
     requires live { Lives k.old who }
     requires safe { safe_of (task_of k.old.tasks who) + 1 < 2 ^ 64 }
@@ -87,7 +87,7 @@ pub(crate) fn adopt(k: &mut Kern, who: Ident, m: &Mutex)
     guard(k, who, m);
 }
 
-// So many safe sections less, where it is delete-safe.
+// Ends `n` safe sections of the task, if the mutex is delete-safe.
 pub(crate) fn ease(k: &mut Kern, who: Ident, m: &Mutex, n: u64)
     requires live { Lives k.old who }
     requires since { k.old.next_since < 2 ^ 63 }
@@ -98,7 +98,7 @@ pub(crate) fn ease(k: &mut Kern, who: Ident, m: &Mutex, n: u64)
     }
 }
 
-// A task that owns no inversion-safe mutex has its normal priority.
+// Gives the task its normal priority back, if it owns no inversion-safe mutex.
 fn restore(k: &mut Kern, who: Ident)
     requires since { k.old.next_since < 2 ^ 63 }
     ensures { k.new ≡ restored k.old who (task_of k.old.tasks who) }
@@ -112,7 +112,7 @@ fn restore(k: &mut Kern, who: Ident)
     }
 }
 
-// One inversion-safe mutex less, where it is one.
+// Counts one inversion-safe mutex of the task less, if the mutex is one.
 pub(crate) fn let_go(k: &mut Kern, who: Ident, m: &Mutex)
     requires live { Lives k.old who }
     requires since { k.old.next_since < 2 ^ 63 }
@@ -125,7 +125,7 @@ pub(crate) fn let_go(k: &mut Kern, who: Ident, m: &Mutex)
     }
 }
 
-// The priority of a task whose normal priority becomes `pri`.
+// The priority of a task after its normal priority is set to `pri`.
 pub(crate) fn pri_after(k: &Kern, who: Ident, pri: Pri) -> Pri
     ensures { result ≡ pri_after_lem pri (task_of k.now.tasks who) }
 {

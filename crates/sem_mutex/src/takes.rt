@@ -18,7 +18,7 @@ use wind_base::words::NO_WAIT;
 use wind_core::{Kern, Took};
 
 impl Mutexes {
-    // The task becomes the owner.
+    // Makes the task the owner.
     pub(crate) fn hand(&mut self, k: &mut Kern, who: Ident, id: Ident)
         requires live { Lives k.old who }
         requires there { IsSome (object_of self.old id) }
@@ -30,7 +30,7 @@ impl Mutexes {
         own(self.table.object_mut(id), who);
     }
 
-    // The owner has it once more.
+    // The owner takes it once more.
     fn deepen(&mut self, k: &mut Kern, who: Ident, id: Ident)
         requires live { Lives k.old who }
         requires there { IsSome (object_of self.old id) }
@@ -41,7 +41,7 @@ impl Mutexes {
         add_depth(self.table.object_mut(id));
     }
 
-    // The task waits for it.
+    // Begins the task's wait for it.
     fn await_turn(&self, k: &mut Kern, who: Ident, id: Ident, timeout: u32)
         requires live { Lives k.old who }
         requires there { IsSome (object_of self.now id) }
@@ -53,13 +53,15 @@ impl Mutexes {
         k.pend(who, Place { side: OBJECT, id }, fifo, timeout);
     }
 
-    /// The caller takes the mutex, once more where it owns it; or it begins to wait for it, for `timeout` ticks
-    /// or without end where the timeout is `WAIT_FOREVER`, and the owner inherits its urgency.
+    /// Takes the mutex for the caller if it is free, or once more if the caller owns it (semTake).
+    /// Otherwise the caller begins to wait for it, for `timeout` ticks, or without a time limit if
+    /// `timeout` is `WAIT_FOREVER`; and the owner of an inversion-safe mutex inherits the caller's
+    /// priority.
     ///
     /// # Errors
     ///
-    /// `ObjIdError` where there is no such mutex; `ObjUnavailable` where another task owns it and the
-    /// timeout is 0. Nothing changes then.
+    /// `ObjIdError` if there is no such mutex; `ObjUnavailable` if another task owns it and
+    /// `timeout` is 0. Then nothing changes.
     pub fn take(
         &mut self,
         k: &mut Kern,

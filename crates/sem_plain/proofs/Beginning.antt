@@ -1,4 +1,4 @@
--- Which waits a move of the kernel begins, from what it makes of one task.
+-- Which waits a move of the kernel begins, from what it does to one task.
 use Rattle.std.proofs.Common.{◌≡◌, ℕ, ◌≤◌, Bool, true, List, get_or, Option, None, Some, refl, subst, arith, inl, inr, ⊎_elim}
 use Rattle.std.specs.List.{All, Contains}
 use Rattle.std.proofs.lemmas.List.Elements.{All-contains, All-contains_itself, All-weaker}
@@ -10,13 +10,13 @@ use Rattle.wind_core.proofs.Stable.{All-change, renew_task-stable, move_task-sta
 use Rattle.sem_plain.specs.Kept.{IsOldOr, BeginsOnly}
 use Rattle.sem_plain.specs.Laws.{ThenLaw}
 
--- what holds of the old waits, and of those at places where waits may begin, holds of a wait that is one of these
+-- a property of the old waits, and of those at places where waits may begin, holds for a wait that is one of these
 pub from_old : (Q : Option Place → Type 0) (begins : Place → Bool) (ts : List Task) (w : Option Place) → Q None → All (λ t. Q t.wait) ts → ((p : Place) → begins p ≡ true → Q (Some p)) → IsOldOr begins ts w → Q w
 from_old Q begins ts None none all new old = none
 from_old Q begins ts (Some p) none all new old =
     ⊎_elim (λ before. subst Q before.2 (All-contains (λ t. Q t.wait) ts before.0 all before.1)) (λ begun. new p begun) old
 
--- the same of all tasks after a move
+-- the same for all tasks after a move
 pub all_old : (Q : Option Place → Type 0) (begins : Place → Bool) (ts us : List Task) → Q None → All (λ t. Q t.wait) ts → ((p : Place) → begins p ≡ true → Q (Some p)) → All (λ u. IsOldOr begins ts u.wait) us
     → All (λ u. Q u.wait) us
 all_old Q begins ts us none all new old = All-weaker (λ u. IsOldOr begins ts u.wait) (λ u. Q u.wait) (λ u. from_old Q begins ts u.wait none all new) us old
@@ -50,11 +50,11 @@ module _ (begins : Place → Bool) (k : KernState) where
   pub by_move : (who : ℕ) (f : Task → Task) → ((t : Task) → IsOld t → IsOld (f t)) → BeginsOnly begins k (move_task k who f)
   by_move who f keeps = record { next = omega (arith, next-move who f); waits = move_task-stable IsOld (λ since t old. old) k who f keeps themselves }
 
-  -- other tasks alone, and more ids
+  -- only the tasks change, and the next id doesn't fall
   pub by_tasks : (n : KernState) → k.next_id ≤ n.next_id → All IsOld n.tasks → BeginsOnly begins k n
   by_tasks n more all = record { next = more; waits = all }
 
--- the same waits, where more places are named
+-- the same waits, with more places allowed
 pub begins_more : (few many : Place → Bool) (k n : KernState) → ((p : Place) → few p ≡ true → many p ≡ true) → BeginsOnly few k n → BeginsOnly many k n
 begins_more few many k n more old = record {
   next = old.next;

@@ -1,4 +1,4 @@
--- What the answers of the code cite.
+-- Lemmas that the answers of the code cite.
 use Rattle.std.proofs.Common.{◌≡◌, ℕ, ◌≤◌, false, ◌&&◌, cond, eqb, List, None, Some, sym, ap, ◌∙◌, subst, arith}
 use Rattle.std.specs.Option.{option_map}
 use Rattle.std.proofs.lemmas.Bool.{eq-eqb, ne_eqb}
@@ -14,7 +14,7 @@ use Rattle.sem_plain.specs.State.{SemState, both}
 use Rattle.sem_plain.specs.Calls.{create, live, written, emptied, awaited, take_refused, take_refusal, took_of, took, take_found, take}
 use Rattle.sem_plain.proofs.Keeping.{below_create}
 
--- who waits first, lives
+-- the first waiting task is live
 pub next_lives : (k : KernState) (place : Place) (who : ℕ) → IsKern k → Some who ≡ option_map task_id (first_waiter k.tasks place) → Lives k who
 next_lives k place who is e = (wake_turn k place 0 None who is.rising e).lives
 
@@ -31,7 +31,7 @@ pended_take s who id number n v k same e zero some waits =
           ∙ sym (ap (take_found s who number n) there ∙ ap (λ b. cond b (awaited s who number n v) (written s number (emptied v))) none),
     )
 
--- after a semaphore is made, the ids are there, and lie below the next
+-- after a semaphore is made, the ids are put back, and all are below the next
 pub record IsFit (k : KernState) (ss : List (ℕ × Semaphore)) : Type 0 where
   pub ids : k.lent ≡ false
   pub below : IdsBelow k.next_id ss

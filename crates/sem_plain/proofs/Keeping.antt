@@ -1,4 +1,4 @@
--- What is kept of semaphores is kept by the calls on them, and by all that begins no other waits.
+-- The semaphores' invariant is kept by the calls on them, and by everything that begins no other waits.
 use Rattle.std.proofs.Common.{◌≡◌, ℕ, ◌+◌, ◌-◌, ◌<◌, ◌≤◌, true, false, ◌&&◌, not, cond, eqb, List, [], ◌∷◌, ◌++◌, get_or, Option, None, Some, IfSome, is_some, refl, sym, ap, ◌∙◌, subst, arith}
 use Rattle.std.specs.List.{All}
 use Rattle.std.specs.Option.{option_map}
@@ -27,7 +27,7 @@ use Rattle.sem_plain.proofs.Beginning.{all_old}
 use Rattle.sem_plain.proofs.Moving.{begins-pend, begins-end_wait, begins-wake_all}
 
 -- ---- the kernel's other moves
--- what is made stays made
+-- an object that is made stays made
 made_later : (next more : ℕ) (ts : List Task) → next ≤ more → All (λ t. IsForMade next t.wait) ts → All (λ t. IsForMade more t.wait) ts
 made_later next more ts le all = All-weaker (λ t. IsForMade next t.wait) (λ t. IsForMade more t.wait) (λ t. later t.wait) ts all
   where
@@ -46,7 +46,7 @@ beside s begins n kept moves may =
       made = made_later s.kern.next_id n.next_id n.tasks moves.next (all_old (IsForMade s.kern.next_id) begins s.kern.tasks n.tasks tt kept.made may_made moves.waits);
     }
 
--- where waits begin nowhere
+-- no wait begins anywhere
 pub calmly : (s : SemState) (n : KernState) → KeepsSemaphores s → BeginsOnly nowhere s.kern n → KeepsSemaphores (both n s.semaphores)
 calmly s n kept moves = beside s nowhere n kept moves (λ p b. absurd (cc))
 
@@ -58,8 +58,8 @@ place_is place p e =
     let id = eqb-true place.id p.id parts.1 in
     λ i. record { side = side i; id = id i }
 
--- ---- a semaphore is written
--- where it could be taken, nobody waits for it
+-- ---- a semaphore is overwritten
+-- if its count is above 0, no task waits for it
 pub nobody_waits : (ss : List (ℕ × Semaphore)) (id : ℕ) (v : Semaphore) (w : Option Place) → object_of ss id ≡ Some v → (v.count ≡ 0 → ⊥) → IsForEmpty ss w → is_place (sem_place id) w ≡ false
 nobody_waits ss id v None e full empty = refl
 nobody_waits ss id v (Some p) e full empty =
@@ -70,7 +70,7 @@ nobody_waits ss id v (Some p) e full empty =
       | false ↦ λ b. refl
     ] refl
 
--- a wait elsewhere sees no write
+-- a wait elsewhere isn't affected by a write
 empty_write : (ss : List (ℕ × Semaphore)) (id : ℕ) (y : Semaphore) (w : Option Place) → IsForEmpty ss w → is_place (sem_place id) w ≡ false → IsForEmpty (with_object ss id y) w
 empty_write ss id y None empty away = tt
 empty_write ss id y (Some p) empty away =
@@ -104,7 +104,7 @@ filled_may kinds.Counting n h = refl
 filled_may kinds.Mutex n h = absurd (cc)
 
 -- ---- the calls
--- a new one is waited for by nobody
+-- no task waits for a new one
 empty_push : (ss : List (ℕ × Semaphore)) (next : ℕ) (v : Semaphore) (w : Option Place) → IsForEmpty ss w → IsForMade next w → IsForEmpty (ss ++ (next, v) ∷ []) w
 empty_push ss next v None empty made = tt
 empty_push ss next v (Some p) empty made =
@@ -129,7 +129,7 @@ create_keeps s v kept count =
       made = made_later next (next + 1) s.kern.tasks (omega arith) kept.made;
     }
 
--- a wait for an empty one may begin
+-- a wait for a semaphore with count 0 may begin
 pub may_pend : (s : SemState) (id : ℕ) (v : Semaphore) (p : Place) → KeepsSemaphores s → live s id ≡ Some v → v.count ≡ 0 → same_place (sem_place id) p ≡ true → MayBegin s p
 may_pend s id v p kept e zero here =
     subst (MayBegin s) (place_is (sem_place id) p here)
@@ -166,7 +166,7 @@ give_keeps s id kept =
           ] refl
     ] refl
 
--- a wait sees no more semaphores after one is gone
+-- a wait isn't for more semaphores after one is removed
 empty_without : (ss : List (ℕ × Semaphore)) (id : ℕ) (w : Option Place) → IsForEmpty ss w → IsForEmpty (without ss id) w
 empty_without ss id None empty = tt
 empty_without ss id (Some p) empty =

@@ -1,4 +1,4 @@
--- Each wait is for what lives, through the calls on semaphores and through the kernel's other moves; and who is handed one.
+-- Each wait is for a live object, through the calls on semaphores and the kernel's other moves; and which task gets a semaphore.
 use Rattle.std.proofs.Common.{◌≡◌, ℕ, Bool, true, false, ◌&&◌, ◌||◌, not, cond, eqb, List, [], ◌∷◌, ◌++◌, get_or, Option, None, Some, IfSome, is_some, refl, ap, ◌∙◌, subst}
 use Rattle.std.specs.List.{Contains, filter}
 use Rattle.std.specs.Option.{option_map}
@@ -34,7 +34,7 @@ module _ (others : Place → Bool) where
   live_calmly : (s : SemState) (n : KernState) → WaitsLiveIn others s → BeginsOnly nowhere s.kern n → WaitsLiveIn others (both n s.semaphores)
   live_calmly s n all moves = live_beside (live_with others s.semaphores) nowhere s.kern n all moves (λ p b. absurd (cc))
 
-  -- what lives among some semaphores lives among others that have at least their ids
+  -- a place that is live with some semaphores is live with others that have at least their ids
   grows : (ss us : List (ℕ × Semaphore)) → ((n : ℕ) → is_some (object_of ss n) ≡ true → is_some (object_of us n) ≡ true) → (p : Place) → live_with others ss p ≡ true → live_with others us p ≡ true
   grows ss us more p =
       elim (eqb p.side 0) as (λ b. ((b && is_some (object_of ss p.id)) || others p) ≡ true → ((b && is_some (object_of us p.id)) || others p) ≡ true) [
@@ -65,7 +65,7 @@ module _ (others : Place → Bool) where
   more_pushed : (ss : List (ℕ × Semaphore)) (id : ℕ) (v : Semaphore) (n : ℕ) → is_some (object_of ss n) ≡ true → is_some (object_of (ss ++ (id, v) ∷ []) n) ≡ true
   more_pushed ss id v n h = ap is_some (object_of-push ss id n v) ∙ ap (λ c. is_some (cond c (object_of ss n) (cond (eqb id n) (Some v) None))) h ∙ h
 
-  -- a semaphore is waited for at a live place
+  -- tasks wait for a semaphore at a live place
   lives_there : (s : SemState) (id : ℕ) (v : Semaphore) (p : Place) → live s id ≡ Some v → same_place (sem_place id) p ≡ true → live_with others s.semaphores p ≡ true
   lives_there s id v p e here = subst (λ q. live_with others s.semaphores q ≡ true) (place_is (sem_place id) p here) (ap (λ o. is_some o || others (sem_place id)) e)
 
@@ -96,7 +96,7 @@ module _ (others : Place → Bool) where
   wake_lives : (s : SemState) (id answer : ℕ) (errno : Option Errno) → WaitsLiveIn others s → WaitsLiveIn others (both (wake_all s.kern (sem_place id) answer errno) s.semaphores)
   wake_lives s id answer errno all = live_calmly s (wake_all s.kern (sem_place id) answer errno) all (begins-wake_all s.kern (sem_place id) answer errno)
 
-  -- where nobody waits for it, a semaphore can go
+  -- if no task waits for it, a semaphore can be removed
   goes : (ss : List (ℕ × Semaphore)) (id : ℕ) (w : Option Place) → IfSome w (λ p. live_with others ss p ≡ true) → is_place (sem_place id) w ≡ false → IfSome w (λ p. live_with others (without ss id) p ≡ true)
   goes ss id None lives away = tt
   goes ss id (Some p) lives away =
@@ -120,7 +120,7 @@ calls_live others s is all = record {
   deleting = λ id. delete_lives others s id 4294967295 (Some errors.ObjDeleted) is all;
 }
 
--- ---- who is handed it
+-- ---- which task gets it
 pub hands : HandLaw
 hands s id x e =
     let waits : Task → Bool = waits_at (sem_place id) in

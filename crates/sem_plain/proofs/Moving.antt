@@ -1,4 +1,4 @@
--- No move of the kernel begins a wait, but a pend.
+-- No move of the kernel begins a wait, except a pend.
 use Rattle.std.proofs.Common.{◌≡◌, ℕ, ◌+◌, Bool, true, false, not, cond, eqb, List, [], ◌∷◌, Option, None, Some, is_some, refl, ◌∙◌, arith, inr}
 use Rattle.std.specs.List.{fold}
 use Rattle.std.proofs.lemmas.Bool.{eq-eqb, and_from}
@@ -71,7 +71,7 @@ begins-tick k =
     by_tasks nowhere k (tick k) (omega (arith, next-tick k))
     (tick-stable (IsOld nowhere k) (λ since t old. old) (λ answer errno t old. tt) (λ n t old. old) k (themselves nowhere k))
 
--- ---- tasks come and go
+-- ---- tasks are made and removed
 begins-spawn : (k : KernState) (n : NewTask) → BeginsOnly nowhere k (spawn k n)
 begins-spawn k n =
     by_tasks nowhere k (spawn k n) (omega arith)

@@ -36,7 +36,7 @@ impl Model for Plain {
     ghost invariant = { λ p. p.table.room ≡ most_semaphores };
 }
 
-// Where tasks wait for the semaphore of this id.
+// The place at which tasks wait for the semaphore with this id.
 fn place_of(id: Ident) -> Place
     ensures { result ≡ sem_place id }
 {
@@ -46,7 +46,7 @@ fn place_of(id: Ident) -> Place
 impl Plain {
     ghost use Rattle.sem_plain.specs.declared.semaphore.Semaphore.{Semaphore as Semaphore_lem};
 
-    /// No semaphore, with room for 1,024. No other call takes memory.
+    /// No semaphores, with room for 1,024. No other call takes memory.
     pub fn reserved(alloc: Global) -> Result<Plain, NoMemory>
         ensures { IfOk result (λ p. p ≡ []) }
     {
@@ -55,7 +55,7 @@ impl Plain {
         })
     }
 
-    // The id of this number, where its semaphore is live.
+    // The id with this number, if its semaphore is live.
     fn find(&self, number: u32) -> Option<Ident>
         ensures { MatchOption result (object_of self.now number ≡ None)
             (λ id. (id ≡ number) × IsSome (object_of self.now id)) }
@@ -69,7 +69,7 @@ impl Plain {
         }
     }
 
-    // The semaphore of this id.
+    // The semaphore with this id.
     fn semaphore(&self, id: Ident) -> &Semaphore
         requires { IsSome (object_of self.now id) }
         ensures { object_of self.now id ≡ Some result.now }
@@ -80,7 +80,7 @@ impl Plain {
         }
     }
 
-    // The task begins to wait for the semaphore of this id, as its options say.
+    // Begins the task's wait for the semaphore with this id, in the order that the options say.
     fn wait(&self, kern: &mut Kern, who: Ident, id: Ident, timeout: u32)
         requires there { IsSome (object_of self.now id) }
         requires live { Lives kern.old who }
@@ -93,11 +93,12 @@ impl Plain {
         kern.pend(who, place_of(id), fifo, timeout);
     }
 
-    /// Makes a semaphore that can be taken `count` times.
+    /// Makes a semaphore with an initial count (VxWorks 5.4 Reference Manual, semBCreate and
+    /// semCCreate).
     ///
     /// # Errors
     ///
-    /// `TooMany` where 1,024 are live, else `IdsSpent` where no id is left. Nothing changes then.
+    /// `TooMany` if 1,024 are live; otherwise `IdsSpent` if no id is left. Then nothing changes.
     pub fn create(
         &mut self,
         kern: &mut Kern,
@@ -129,13 +130,14 @@ impl Plain {
         Ok(id)
     }
 
-    /// The caller takes the semaphore, or begins to wait for it for `timeout` ticks, or without end if
-    /// `timeout` is `WAIT_FOREVER`: by priority, or by arrival, as the semaphore's options say.
+    /// Takes the semaphore if its count is above 0. Otherwise the caller begins to wait for it, for
+    /// `timeout` ticks, or without a time limit if `timeout` is `WAIT_FOREVER` (semTake). It waits
+    /// by priority or in order of arrival, as the semaphore's options say.
     ///
     /// # Errors
     ///
-    /// `ObjIdError` where there is no such semaphore; `ObjUnavailable` where it is empty and the timeout is
-    /// 0. Nothing changes then.
+    /// `ObjIdError` if there is no such semaphore; `ObjUnavailable` if its count is 0 and `timeout`
+    /// is 0. Then nothing changes.
     pub fn take(
         &mut self,
         kern: &mut Kern,
@@ -165,13 +167,14 @@ impl Plain {
         Ok(Took::Pended)
     }
 
-    /// Gives the semaphore: the first that waits for it has it and goes on with 0. Where none waits, a
-    /// binary one is full, and a counting one can be taken once more.
+    /// Gives the semaphore (semGive). The first task that waits for it gets it, and its call ends
+    /// with the result 0. If no task waits, a binary semaphore becomes full, and a counting
+    /// semaphore's count rises by 1.
     ///
     /// # Errors
     ///
-    /// `ObjIdError` where there is no such semaphore; `CountOver` where none waits and its count is
-    /// 4,294,967,295. Nothing changes then.
+    /// `ObjIdError` if there is no such semaphore; `CountOver` if no task waits and the count is
+    /// 4,294,967,295. Then nothing changes.
     pub fn give(&mut self, kern: &mut Kern, id: u32) -> Result<(), Errno>
         requires early { IsEarly kern.old }
         ensures ok { IfOk result (λ _. give_refusal (both kern.old self.old) id ≡ None) }
@@ -194,11 +197,12 @@ impl Plain {
         Ok(())
     }
 
-    /// All that wait for the semaphore go on with 0, in waiting order. Its count stays.
+    /// Ends the waits of all tasks for the semaphore, in their order, with the result 0 (semFlush).
+    /// The count stays.
     ///
     /// # Errors
     ///
-    /// `ObjIdError` where there is no such semaphore. Nothing changes then.
+    /// `ObjIdError` if there is no such semaphore. Then nothing changes.
     pub fn flush(&mut self, kern: &mut Kern, id: u32) -> Result<(), Errno>
         requires early { IsEarly kern.old }
         ensures ok { IfOk result (λ _. flush_refusal (both kern.old self.old) id ≡ None) }
@@ -213,11 +217,12 @@ impl Plain {
         Ok(())
     }
 
-    /// Deletes the semaphore. All that wait for it go on with ERROR and `ObjDeleted`, in waiting order.
+    /// Deletes the semaphore (semDelete). The waits for it end, in their order, with ERROR and
+    /// `ObjDeleted`.
     ///
     /// # Errors
     ///
-    /// `ObjIdError` where there is no such semaphore. Nothing changes then.
+    /// `ObjIdError` if there is no such semaphore. Then nothing changes.
     pub fn delete(&mut self, kern: &mut Kern, id: u32) -> Result<(), Errno>
         requires early { IsEarly kern.old }
         ensures ok { IfOk result (λ _. delete_refusal (both kern.old self.old) id ≡ None) }

@@ -11,15 +11,15 @@ use wind_base::{SemKind, SemOptions};
 pub struct Semaphore {
     /// Binary or counting.
     pub kind: SemKind,
-    /// The options that it was made with.
+    /// The options given at its creation.
     pub options: SemOptions,
-    /// How often it can be taken without waiting: of a binary one 0 or 1, of a counting one up to
-    /// 4,294,967,295.
+    /// How many times it can be taken without waiting: 0 or 1 for a binary semaphore, 0 to
+    /// 4,294,967,295 for a counting one.
     pub count: u32,
 }
 
-/// Whether a semaphore of this kind may have this count: a binary one 0 or 1, a counting one any. A mutex
-/// has no count.
+/// Whether a semaphore of this kind can have this count: 0 or 1 for a binary semaphore, any for a
+/// counting one. A mutex has no count.
 pub fn may_hold(kind: SemKind, count: u32) -> bool
     ensures { result ≡ may_hold_lem kind count }
 {
@@ -30,14 +30,14 @@ pub fn may_hold(kind: SemKind, count: u32) -> bool
     }
 }
 
-// It can be taken once less.
+// Lowers the count by 1.
 pub(crate) fn empty(semaphore: &mut Semaphore)
     ensures { semaphore.new ≡ emptied semaphore.old }
 {
     semaphore.count = semaphore.count.saturating_sub(1);
 }
 
-// What a count becomes that is given one more: a binary semaphore is full.
+// The count after a give: 1 for a binary semaphore, one more for a counting one.
 fn more(kind: SemKind, count: u32) -> u32
     requires { count + 1 < 2 ^ 32 }
     ensures { result ≡ filled_count kind count }
@@ -48,7 +48,7 @@ fn more(kind: SemKind, count: u32) -> u32
     }
 }
 
-// A binary semaphore is full; a counting one can be taken once more.
+// Fills a binary semaphore, or raises the count of a counting one by 1.
 pub(crate) fn fill(semaphore: &mut Semaphore)
     requires { semaphore.old.count + 1 < 2 ^ 32 }
     ensures { semaphore.new ≡ filled semaphore.old }

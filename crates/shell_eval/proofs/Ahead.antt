@@ -1,4 +1,4 @@
--- The code of a tree lies ahead of what is behind it.
+-- The code of a tree comes before the code after it.
 use Rattle.std.proofs.Common.{◌≡◌, ◌-◌, List, [], ◌∷◌, ◌++◌, length, drop, Option, Some, None, refl, sym, ap, ◌∙◌, arith, append_assoc}
 use Rattle.std.proofs.lemmas.List.{length-append}
 use Rattle.std.proofs.Math.Seq.{drop-append_seam}
@@ -55,7 +55,7 @@ mutual
   ahead_all trees.End k = here k
   ahead_all (trees.Then e es) k = both (compiled e (compiled_all es k)) (compiled_all es k) k (ahead e (compiled_all es k)) (ahead_all es k)
 
--- so many of the last operations are what is behind
+-- this many of the last operations are the code after it
 drops_by : (xs k : List Op) → drop (length (xs ++ k) - length k) (xs ++ k) ≡ k
 drops_by xs k = let e : length (xs ++ k) - length k ≡ length xs = omega (arith, length-append xs k) in ap (λ n. drop n (xs ++ k)) e ∙ drop-append_seam xs k
 

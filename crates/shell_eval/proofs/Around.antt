@@ -1,4 +1,4 @@
--- What is due of a part is due of the tree round it.
+-- What is due in a part is due in the tree around it.
 use Rattle.std.proofs.Common.{◌≡◌, ℕ, List, [], ◌∷◌, None, refl, ap, ◌∙◌}
 use Rattle.shell_eval.specs.declared.fault.EvalFault.{EvalFault}
 use Rattle.shell_parse.specs.declared.tree.BinOp.{BinOp}
@@ -25,7 +25,7 @@ IsDue (Calls f vs t) = Unit {0}
 IsDue (Faults e) = Unit {0}
 IsDue Waits = Unit {0}
 
--- the same, of what is round it
+-- the same for what is around it
 abbrev pub mapped : {V W T U : Type 0} → W → (T → U) → Outcome V T → Outcome W U
 mapped w around (Is v) = Is w
 mapped w around (Steps s t) = Steps s (around t)
@@ -61,7 +61,7 @@ due_within w (Calls f vs t) around go h = refl
 due_within w (Faults e) around go h = refl
 due_within w Waits around go h = refl
 
--- the same where r is what is due of a part
+-- the same if r is what is due in a part
 part_within : {V T W U : Type 0} (w : W) (p r : Outcome V T) (around : T → U) (go : V → Outcome W U) → p ≡ r → IsDue r → within p around go ≡ mapped w around r
 part_within w p r around go e h = ap (λ q. within q around go) e ∙ due_within w r around go h
 
@@ -85,7 +85,7 @@ over_round (entries.Mixed o at w) s t r e h =
     ∙ mapped_twice 0 0 (Binary o (Number w)) (SetWord None (Number at)) r
 over_round (entries.Unknown x) s t r e h = part_within 0 (reduce s t) r (New x) (λ v. given (variable_made s x v)) e h
 
--- arguments behind values
+-- arguments after values
 before_round : (vs : List ℕ) (s : State) (es : Args) (r : Outcome (List ℕ) Args) → reduce_all s es ≡ r → IsDue r → reduce_all s (before vs es) ≡ mapped [] (before vs) r
 before_round [] s es r e h = e ∙ mapped_same [] r h
 before_round (v ∷ vs) s es r e h =
@@ -105,7 +105,7 @@ argument_round callee vs s t es r e h =
     ∙ (mapped_twice [] 0 (before vs) (Call (Number callee)) (mapped [] (λ u. Then u es) r)
     ∙ mapped_twice [] 0 (λ u. Then u es) (λ ds. Call (Number callee) (before vs ds)) r)
 
--- what is due of a part is due of the tree round it
+-- what is due in a part is due in the tree around it
 pub due_round : (fs : List Frame) (s : State) (t : Pending) (r : Outcome ℕ Pending) → reduce s t ≡ r → IsDue r → reduce s (plugged fs t) ≡ mapped 0 (plugged fs) r
 due_round [] s t r e h = e ∙ mapped_same 0 r h
 due_round (InWord ∷ fs) s t r e h =

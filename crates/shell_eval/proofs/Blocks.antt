@@ -13,7 +13,7 @@ pub ok_was : (r : Result ℕ PartErr) (at : ℕ) → result_ok r ≡ Some at →
 ok_was (Ok n) at e = cc
 ok_was (Err f) at e = absurd (cc)
 
--- a block that is given lies in the pool
+-- an allocated block is inside the pool
 pub block_lies : (s : PartState) (n at : ℕ) → block_of s n ≡ Some at → at + rounded n ≤ s.end
 block_lies s n at e = (alloc_lies s n 1 at (ok_was (alloc_of s n 1) at e)).high
 
@@ -38,7 +38,7 @@ pub block_stays : (s : PartState) (n : ℕ) → block_of s n ≡ None → with_b
 unfolding after_alloc
 block_stays s n e = same_of s n (alloc_of s n 1) e
 
--- no block is as long as what lies before the pool's end
+-- no block is longer than the addresses before the pool's end
 none_of : (s : PartState) (n : ℕ) (r : Option ℕ) → block_of s n ≡ r → s.end < n → block_of s n ≡ None
 none_of s n None e long = e
 none_of s n (Some at) e long = let high = block_holds s n at e in absurd (omega arith)

@@ -90,7 +90,7 @@ leaves_set : (s : State) (aop : Option BinOp) (at : ℕ) (e : Pending) (r : Outc
 leaves_set s None at e r h z = leaves_within holes holes r (SetWord None (Number at)) (λ v. given (word_stored s at v)) h (λ k t l. omega arith) (λ v. leaves_given (word_stored s at v))
 leaves_set s (Some op) at e r h z = leaves_old op at e (word_read s at) z
 
--- where no answer is awaited, of a tree and of arguments
+-- if no answer is awaited, for a tree and for arguments
 mutual
   leaves : (s : State) (p : Pending) → holes p ≡ 0 → Leaves holes (reduce s p)
   leaves s (Number n) z = tt

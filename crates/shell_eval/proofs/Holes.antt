@@ -1,4 +1,4 @@
--- A call's answer goes into the one hole.
+-- A call's answer fills the one hole.
 use Rattle.std.proofs.Common.{◌≡◌, ℕ, ◌+◌, List, [], ◌∷◌, Option, Some, None, refl, ap, ◌∙◌, arith}
 use Rattle.shell_parse.specs.declared.tree.BinOp.{BinOp}
 use Rattle.shell_eval.specs.declared.code.Turn.{Turn}
@@ -35,7 +35,7 @@ mutual
   no_holes trees.End = refl
   no_holes (trees.Then e es) = let q = no_hole e in let r = no_holes es in omega (arith, q, r)
 
--- round a part there is no other hole
+-- around a part there is no other hole
 holes_before : (vs : List ℕ) (es : Args) → holes_all (before vs es) ≡ holes_all es
 holes_before [] es = refl
 holes_before (v ∷ vs) es = holes_before vs (Then (Number v) es) ∙ (omega arith)
@@ -103,7 +103,7 @@ filled_turned v turns.All a b = refl
 filled_turned v turns.Any a b = refl
 filled_turned v (turns.Place aop) a b = refl
 
--- an answer fills the part, and what is round it stays
+-- an answer fills the part, and what is around it stays
 pub filled_round : (v : ℕ) (fs : List Frame) (t : Pending) → filled v (plugged fs t) ≡ plugged fs (filled v t)
 filled_round v [] t = refl
 filled_round v (InWord ∷ fs) t = filled_round v fs (Word t)

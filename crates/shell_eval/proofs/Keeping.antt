@@ -69,7 +69,7 @@ keeps_then s t u h k = record {
 pub pool_in_ram : (s t : State) → Keeps s t → IsPoolInRam s → IsPoolInRam t
 pool_in_ram s t k h = let e = k.end in let r = k.ram in omega arith
 
--- memory that is as long as it was
+-- memory of the same size
 keeps_memory : (s : State) (m : BusState) → length m.ram ≡ length s.memory.ram → Keeps s (record s { memory = m })
 keeps_memory s m e = record {
   ram = e;
@@ -86,7 +86,7 @@ keeps_memory s m e = record {
 
 -- ---- a block more
 
--- what is in a list is in another, and so behind one element more
+-- if what is in one list is in another, so it is with one element more
 one_on : (x : Block) (xs ys : List Block) (c : Block) → (Contains xs c → Contains ys c) → Contains (x ∷ xs) c → Contains (x ∷ ys) c
 one_on x xs ys c f (zero, h, e) = (0, omega arith, e)
 one_on x xs ys c f (suc k, h, e) = let (i, m, g) = f (k, omega arith, e) in (suc i, omega arith, g)
@@ -116,7 +116,7 @@ with_added b (x ∷ xs) c h = elim (ltb b.addr x.addr) as (λ t. Contains (cond 
   | false ↦ one_or x b xs (with_block b xs) c (with_added b xs c)
 ] h
 
--- the pool with a Kernel block more, which is where it is given
+-- the pool with one more Kernel block, at the address where it is allocated
 pool_is : (p : PartState) (n at : ℕ) → block_of p n ≡ Some at → with_block_of p n ≡ record p { blocks = with_block (given_block n at Kernel) p.blocks }
 pool_is p n at e = after_is p n 1 at Kernel (ok_was (alloc_of p n 1) at e)
 
@@ -174,7 +174,7 @@ loaded_length b at = go (has b.ram at 4) where
   go true = refl
   go false = refl
 
--- two numbers with the same numbers below them
+-- two numbers are equal if the same numbers are below them
 same_below : (m n : ℕ) → ((a : ℕ) → ltb a m ≡ ltb a n) → m ≡ n
 same_below m n f = let p = f m in let q = f n in grind (arith, nat_tests)
 
@@ -224,7 +224,7 @@ string_safe n s text inside = go (block_of s.pool (length text + 1)) refl where
       length-with_bytes s.memory.ram at (text ++ 0 ∷ []) (omega (arith, length-append text (0 ∷ []))) in
       (keeps_block s (length text + 1) at (with_ram s.memory at (text ++ 0 ∷ [])) e l, omega arith)
 
--- what is safe after a state that is kept
+-- what is safe after an operation that keeps the state
 safe_after : (n m : ℕ) (s t : State) (r : Tried) → Writes n s t → Safe m t r → Safe (n + m) s r
 safe_after n m s t (Err f) h k = tt
 safe_after n m s t (Ok a) (h, l) (k, g) = (keeps_then s t a.state h k, omega arith)

@@ -1,4 +1,4 @@
--- Code and entries show the tree round the part where they stand.
+-- Code and entries show the tree around the part where they are.
 use Rattle.std.proofs.Common.{◌≡◌, ℕ, suc, List, [], ◌∷◌, length, Option, Some, None, refl, ap, ◌∙◌}
 use Rattle.shell_parse.specs.declared.tree.BinOp.{BinOp}
 use Rattle.shell_eval.specs.declared.code.Turn.TheVariants as turns
@@ -30,7 +30,7 @@ gathers : (es : Arguments) (m : ℕ) (st : List Item) (ds : Args) → gathered (
 gathers trees.End m st ds = refl
 gathers (trees.Then e es) m st ds = gathers es (suc m) (Whole (begun e) ∷ st) ds
 
--- what stands behind the left operand makes the form of both
+-- the code after the left operand makes the form of both
 shows_two : (l : Option Logic) (o : BinOp) (right : List Op → List Op) (k : List Op) (a b : Pending) (st : List Item) →
     ((c : List Op) (ts : List Item) → shown (right c) ts ≡ shown c (Whole b ∷ ts)) → shown (behind_left l o right k) (Whole a ∷ st) ≡ shown k (Whole (two_sided l o a b) ∷ st)
 shows_two None o right k a b st h = h (op.Binary o ∷ k) (Whole a ∷ st)
@@ -93,7 +93,7 @@ shows_part (AsArgument callee vs es ∷ fs) t =
     ∙ gathers_values vs callee (stack_under fs) (Then t (begun_all es))))
     ∙ shows_part fs (Call (Number callee) (before vs (Then t (begun_all es)))))
 
--- where code and entries stand at a part
+-- code and entries at a part
 pub shows_at : (p : Part) (fs : List Frame) → shown (code_at p fs) (items_of (stack_at p fs)) ≡ plugged fs (part_tree p)
 shows_at (Source t) fs = shows t (code_after fs) (items_of (stack_under fs)) ∙ shows_part fs (begun t)
 shows_at (Alone x) fs = shows_part fs (Lone x)

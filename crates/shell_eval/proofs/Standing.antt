@@ -31,7 +31,7 @@ holes_part (Source t) = no_hole t
 holes_part (Alone x) = refl
 holes_part (Value n) = refl
 
--- no call's answer is awaited where there is no hole, and one is where there is
+-- no call's answer is awaited if there is no hole, and one is if there is a hole
 pub waits_not : (w : Bool) (c : List Op) (st : List Entry) → IsAt w c st → holes (tree_at w c st) ≡ 0 → w ≡ false
 waits_not true c st h e =
     let one : holes (tree_with_hole c st) ≡ 1 = ap holes (hole_tree c st h) ∙ holes_round h.frames Hole in absurd (omega (arith, one, e))
@@ -41,7 +41,7 @@ pub waits_so : (w : Bool) (c : List Op) (st : List Entry) → IsAt w c st → (h
 waits_so true c st h e = refl
 waits_so false c st h e = absurd (e (ap holes (part_shown c st h) ∙ (holes_round h.frames (part_tree h.part) ∙ holes_part h.part)))
 
--- an answer puts a value where the hole is
+-- an answer puts a value in the place of the hole
 pub answered : (v : ℕ) (c : List Op) (st : List Entry) → Awaits c st → Stands c (entries.Word v ∷ st)
 answered v c st h = record { part = Value v; frames = h.frames; code_is = h.code_is; stack_is = ap (λ ts. entries.Word v ∷ ts) h.stack_is }
 

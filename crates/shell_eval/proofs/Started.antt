@@ -1,4 +1,4 @@
--- The code of a statement stands at its beginning.
+-- The code of a statement is at its beginning.
 use Rattle.std.proofs.Common.{◌≡◌, ℕ, List, [], ◌∷◌, refl, ◌∙◌}
 use Rattle.std.specs.Prelude.{codes}
 use Rattle.shell_eval.specs.declared.code.Entry.{Entry}
@@ -76,7 +76,7 @@ first_tree (trees.Load file) = refl
 first_tree (trees.Command x es) = refl
 first_tree (trees.Expr t) = expr_tree t
 
--- the code of a statement stands at its beginning
+-- the code of a statement is at its beginning
 pub begins : (s : PlainStmt) → Stands (compiled_stmt s) []
 begins s = record { part = first_of s; frames = []; code_is = first_code s; stack_is = first_stack s }
 
@@ -84,6 +84,6 @@ begins s = record { part = first_of s; frames = []; code_is = first_code s; stac
 pub shows_begun : (s : PlainStmt) → tree_of (compiled_stmt s) [] ≡ begun_stmt s
 shows_begun s = (λ i. tree_of (first_code s i) (first_stack s i)) ∙ (tree_at (first_of s) [] ∙ first_tree s)
 
--- a value stands
+-- a value is at its place
 pub stands_value : (n : ℕ) → Stands [] (entries.Word n ∷ [])
 stands_value n = record { part = Value n; frames = []; code_is = refl; stack_is = refl }

@@ -36,7 +36,7 @@ use Rattle.shell_eval.proofs.Smaller.{repeats}
 use Rattle.shell_eval.proofs.Ahead.{Ahead, ahead, both, one, here, drops}
 use Rattle.shell_eval.proofs.Around.{stepped, called, faulted}
 
--- code and entries at a part show the tree round it
+-- code and entries at a part show the tree around it
 pub tree_at : (p : Part) (fs : List Frame) → tree_of (code_at p fs) (stack_at p fs) ≡ plugged fs (part_tree p)
 unfolding tree_of
 tree_at p fs = shows_at p fs
@@ -45,7 +45,7 @@ pub hole_at : (fs : List Frame) → tree_with_hole (code_after fs) (stack_under 
 unfolding tree_with_hole
 hole_at fs = shows_part fs Hole
 
--- it goes on at a part of the tree that is reached
+-- evaluation goes on at a part of the tree
 goes : (s : State) (p : Pending) (t : State) (at : Part) (fs : List Frame) → evaluate s p ≡ evaluate t (plugged fs (part_tree at)) → Goes_on s p t (code_at at fs) (stack_at at fs)
 goes s p t at fs e = record {
   stands = record { part = at; frames = fs; code_is = refl; stack_is = refl };
@@ -176,7 +176,7 @@ along (Goes u c st) s t p q e h = record { stands = h.stands; same = e ∙ h.sam
 along (Makes u f vs c st) s t p q e h = record { awaits = h.awaits; same = e ∙ h.same }
 along (Stops u f) s t p q e h = e ∙ h
 
--- what a left side that may decide comes to
+-- the effect of a left side that may decide
 decided : (d : Bool) (fs : List Frame) (s : State) (b : PlainTree) (n : ℕ) (t : Pending) → reduce s t ≡ Steps s (if d then Number n else Binary ops.Ne (begun b) (Number 0)) →
     (c : List Op) → c ≡ compiled b (op.Close ∷ code_after fs) →
     Follows s (plugged fs t) (if d then Goes s (drop (length c - length (code_after fs)) c) (entries.Word n ∷ stack_under fs) else Goes s c (entries.Truth ∷ stack_under fs))
@@ -238,7 +238,7 @@ part_follows (Source t) fs s = source_follows t fs s
 part_follows (Alone x) fs s = alone_follows (find s.symbols x) (kind_or_data (find s.symbols x)) fs s x (Lone x) refl
 part_follows (Value n) fs s = value_follows n fs s
 
--- what the next operation does to code and entries that stand in a tree
+-- what the next operation does to code and entries at a place in a tree
 pub moves_follow : (s : State) (c : List Op) (st : List Entry) → Stands c st → Follows s (tree_of c st) (move s c st)
 moves_follow s c st h =
     let at : Follows s (tree_of (code_at h.part h.frames) (stack_at h.part h.frames)) (move s (code_at h.part h.frames) (stack_at h.part h.frames)) =

@@ -12,7 +12,7 @@ use Rattle.shell_parse.specs.Trees as trees
 use Rattle.shell_parse.specs.Trees.{PlainTree, Arguments, PlainStmt}
 use Rattle.shell_eval.specs.Pending.{Pending, Number, Str, Name, Lone, Address, Word, Unary, Binary, Choice, SetName, SetWord, New, Call, Args, End, Then, Logic, All, Any, logic_of}
 
--- what becomes of the left side of `&&` or `||`
+-- how the left side of `&&` or `||` acts
 abbrev pub turn_of : Logic → Turn
 turn_of All = turns.All
 turn_of Any = turns.Any
@@ -22,12 +22,12 @@ abbrev pub count_onto : Arguments → ℕ → ℕ
 count_onto trees.End m = m
 count_onto (trees.Then e es) m = count_onto es (suc m)
 
--- the code behind the left operand
+-- the code after the left operand
 abbrev pub behind_left : Option Logic → BinOp → (List Op → List Op) → List Op → List Op
 behind_left None o right k = right (op.Binary o ∷ k)
 behind_left (Some w) o right k = op.Turn (turn_of w) (length k) ∷ right (op.Close ∷ k)
 
--- the code of a tree, with this code behind it
+-- the code of a tree, followed by this code
 abbrev mutual
   pub compiled : PlainTree → List Op → List Op
   compiled (trees.Number n) k = op.Push n ∷ k
@@ -45,19 +45,19 @@ abbrev mutual
   compiled_all trees.End k = k
   compiled_all (trees.Then e es) k = compiled e (compiled_all es k)
 
--- the code of a statement
+-- the code of an expression that is a statement
 abbrev pub compiled_expr : PlainTree → List Op
 compiled_expr (trees.Name x) = op.Lone x ∷ []
 compiled_expr t = compiled t []
 
--- the code of a statement, whatever it is
+-- the code of a statement
 abbrev pub compiled_stmt : PlainStmt → List Op
 compiled_stmt trees.Nothing = op.Push 0 ∷ []
 compiled_stmt (trees.Load file) = op.Name (codes "ld") ∷ op.Push 0 ∷ op.Push 0 ∷ op.Str file ∷ op.Call 3 ∷ []
 compiled_stmt (trees.Command x es) = op.Name x ∷ compiled_all es (op.Call (count_onto es 0) ∷ [])
 compiled_stmt (trees.Expr t) = compiled_expr t
 
--- what stands where code runs on trees: a tree, or a form that lacks its right side
+-- an entry, seen as a tree: a whole tree, or a form without its right side
 pub data Item : Type 0 where
   Whole : Pending → Item
   Left : (Pending → Pending) → Item
@@ -81,12 +81,12 @@ turned turns.All a b = Choice All a b
 turned turns.Any a b = Choice Any a b
 turned (turns.Place aop) a b = SetWord aop a b
 
--- a form round the tree on top
+-- the tree on top, put into a form
 abbrev pub on_one : (Pending → Pending) → List Item → List Item
 on_one f (Whole a ∷ st) = Whole (f a) ∷ st
 on_one f st = st
 
--- a form of the two trees on top
+-- the two trees on top, put into a form
 abbrev pub on_two : (Pending → Pending → Pending) → List Item → List Item
 on_two f (Whole b ∷ Whole a ∷ st) = Whole (f a b) ∷ st
 on_two f st = st
@@ -96,13 +96,13 @@ abbrev pub on_left : Turn → List Item → List Item
 on_left w (Whole a ∷ st) = Left (turned w a) ∷ st
 on_left w st = st
 
--- the tree on top is the right side of the form below, or stands for it
+-- the tree on top becomes the right side of the form below, or replaces the tree below
 abbrev pub on_right : List Item → List Item
 on_right (Whole e ∷ Left f ∷ st) = Whole (f e) ∷ st
 on_right (Whole e ∷ Whole n ∷ st) = Whole e ∷ st
 on_right st = st
 
--- a call of what lies below the n trees on top, with them before these arguments
+-- a call of the tree below the top n trees, with them before these arguments
 abbrev pub gathered : ℕ → List Item → Args → List Item
 gathered zero (Whole f ∷ st) es = Whole (Call f es) ∷ st
 gathered (suc n) (Whole e ∷ st) es = gathered n st (Then e es)

@@ -10,7 +10,7 @@ abbrev pub logic_number : Logic → ℕ
 logic_number All = 0
 logic_number Any = 1
 
--- the logic of a number
+-- the logic with this number
 abbrev pub logic_of_number : ℕ → Logic
 logic_of_number zero = All
 logic_of_number (suc n) = Any
@@ -41,7 +41,7 @@ abbrev mutual
   args_code End = gnil
   args_code (Then e es) = gcons (tree_code e) (args_code es)
 
--- the tree and the arguments of a ghost value
+-- the tree and the arguments that a ghost value stores
 abbrev mutual
   pub tree_of_code : Gv → Pending
   tree_of_code (gcons (gnum zero) (gnum n)) = Number n

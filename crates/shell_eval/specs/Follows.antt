@@ -1,4 +1,4 @@
--- What an operation comes to, in the words of evaluation.
+-- What an operation does, in terms of evaluation.
 use Rattle.std.specs.Prelude.{◌≡◌, ℕ, List, ◌∷◌}
 use Rattle.shell_eval.specs.declared.code.Op.{Op}
 use Rattle.shell_eval.specs.declared.code.Entry.{Entry}
@@ -13,21 +13,21 @@ use Rattle.shell_eval.specs.Frames.{Stands, Awaits}
 unfoldable pub tree_of : List Op → List Entry → Pending
 tree_of c st = shown c (items_of st)
 
--- the same with a hole on top, while a call's answer is awaited
+-- the same with a hole on top, for the answer of a call
 unfoldable pub tree_with_hole : List Op → List Entry → Pending
 tree_with_hole c st = shown c (Whole Hole ∷ items_of st)
 
--- the code and the entries still stand in a tree, whose evaluation is that of the tree before
+-- the code and the entries are still at a place in a tree, whose evaluation is that of the tree before
 pub record Goes_on (s : State) (p : Pending) (t : State) (c : List Op) (st : List Entry) : Type 0 where
   pub stands : Stands c st
   pub same : evaluate s p ≡ evaluate t (tree_of c st)
 
--- the call that is due, and what is left awaits its answer
+-- the due call, and what is left awaits its answer
 pub record Comes_to_call (s : State) (p : Pending) (t : State) (f : ℕ) (vs : List ℕ) (c : List Op) (st : List Entry) : Type 0 where
   pub awaits : Awaits c st
   pub same : evaluate s p ≡ ended t (Call f vs (tree_with_hole c st))
 
--- what an operation makes of code and entries is what evaluation makes of their tree
+-- what an operation does with code and entries is what evaluation does with their tree
 abbrev pub Follows : State → Pending → Moved → Type 0
 Follows s p (Ends t n) = evaluate s p ≡ ended t (Value n)
 Follows s p (Goes t c st) = Goes_on s p t c st

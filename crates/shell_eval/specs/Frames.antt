@@ -1,4 +1,4 @@
--- Where evaluation stands: what surrounds the part that is looked at.
+-- A place in the evaluation of a tree: what surrounds the current part.
 use Rattle.std.specs.Prelude.{◌≡◌, ℕ, suc, List, [], ◌∷◌, length, None}
 use Rattle.shell_parse.specs.declared.tree.BinOp.{BinOp}
 use Rattle.shell_parse.specs.declared.tree.BinOp.TheVariants as ops
@@ -12,9 +12,11 @@ use Rattle.shell_parse.specs.Trees.{PlainTree, Arguments}
 use Rattle.shell_eval.specs.Pending.{Pending, Number, Lone, Word, Unary, Binary, SetWord, New, Call, Args, Then, begun, begun_all}
 use Rattle.shell_eval.specs.Code.{compiled, compiled_all, count_onto, turned}
 
--- what is round the part: an operator before it; an operator with its right side to come, or with its left value;
--- a form with its right side to come; a form whose left side became an entry; a call of it with its arguments to come;
--- a call of this callee, with these arguments before it, the last first, and these to come
+-- what is around the part: an operator before it; an operator whose right side is still to come, or whose left
+-- value is known;
+-- a form whose right side is still to come; a form whose left side became an entry; a call of it whose arguments
+-- are to come;
+-- a call of this callee, with these arguments before the part, last one first, and these after it
 pub data Frame : Type 0 where
   InWord : Frame
   InUnary : UnOp → Frame
@@ -33,12 +35,12 @@ over (entries.Place at) e = SetWord None (Number at) e
 over (entries.Mixed o at w) e = SetWord None (Number at) (Binary o (Number w) e)
 over (entries.Unknown x) e = New x e
 
--- values before arguments, the last first
+-- values before arguments, last one first
 abbrev pub before : List ℕ → Args → Args
 before [] es = es
 before (v ∷ vs) es = before vs (Then (Number v) es)
 
--- the tree round a part
+-- the tree around a part
 abbrev pub plugged : List Frame → Pending → Pending
 plugged [] t = t
 plugged (InWord ∷ fs) t = plugged fs (Word t)
@@ -62,12 +64,12 @@ code_after (Over e ∷ fs) = op.Close ∷ code_after fs
 code_after (AsCallee es ∷ fs) = compiled_all es (op.Call (count_onto es 0) ∷ code_after fs)
 code_after (AsArgument callee vs es ∷ fs) = compiled_all es (op.Call (count_onto es (suc (length vs))) ∷ code_after fs)
 
--- values as entries, before other entries
+-- values as entries, put before other entries
 abbrev pub words_onto : List ℕ → List Entry → List Entry
 words_onto [] st = st
 words_onto (v ∷ vs) st = entries.Word v ∷ words_onto vs st
 
--- the entries that lie below the part
+-- the entries below the part
 abbrev pub stack_under : List Frame → List Entry
 stack_under [] = []
 stack_under (InWord ∷ fs) = stack_under fs
@@ -79,19 +81,19 @@ stack_under (Over e ∷ fs) = e ∷ stack_under fs
 stack_under (AsCallee es ∷ fs) = stack_under fs
 stack_under (AsArgument callee vs es ∷ fs) = words_onto vs (entries.Word callee ∷ stack_under fs)
 
--- the part: a tree whose code is to run, a name alone, or a value
+-- the part: a tree whose code is still to run, a name alone, or a value
 pub data Part : Type 0 where
   Source : PlainTree → Part
   Alone : List ℕ → Part
   Value : ℕ → Part
 
--- the code at a part
+-- the code at this part
 abbrev pub code_at : Part → List Frame → List Op
 code_at (Source t) fs = compiled t (code_after fs)
 code_at (Alone x) fs = op.Lone x ∷ code_after fs
 code_at (Value n) fs = code_after fs
 
--- the entries at a part
+-- the entries at this part
 abbrev pub stack_at : Part → List Frame → List Entry
 stack_at (Source t) fs = stack_under fs
 stack_at (Alone x) fs = stack_under fs
@@ -103,7 +105,7 @@ part_tree (Source t) = begun t
 part_tree (Alone x) = Lone x
 part_tree (Value n) = Number n
 
--- code and entries stand somewhere in a tree
+-- code and entries are at a place in some tree
 pub record Stands (code : List Op) (stack : List Entry) : Type 0 where
   pub part : Part
   pub frames : List Frame

@@ -1,4 +1,4 @@
--- What is inside an evaluation.
+-- The invariant of an evaluation.
 use Rattle.std.specs.Prelude.{ℕ, ◌+◌, ◌≤◌, Bool, true, false, List, length}
 use Rattle.shell_eval.specs.declared.code.Op.{Op}
 use Rattle.shell_eval.specs.declared.code.Entry.{Entry}
@@ -7,7 +7,7 @@ use Rattle.shell_eval.specs.Pending.{Pending}
 use Rattle.shell_eval.specs.Follows.{tree_of, tree_with_hole}
 use Rattle.shell_eval.specs.Frames.{Stands, Awaits}
 
--- code and entries await a call's answer, or stand in a tree
+-- code and entries await a call's answer, or are at a place in a tree
 abbrev pub IsAt : Bool → List Op → List Entry → Type 0
 IsAt true c st = Awaits c st
 IsAt false c st = Stands c st
@@ -17,16 +17,16 @@ abbrev pub tree_at : Bool → List Op → List Entry → Pending
 tree_at true c st = tree_with_hole c st
 tree_at false c st = tree_of c st
 
--- the room that a call's answer takes
+-- the room, in entries, for a call's answer
 abbrev pub room_of : Bool → ℕ
 room_of true = 1
 room_of false = 0
 
--- how many operations there are at most
+-- the most operations
 abbrev pub most_operations : ℕ
 most_operations = 65536
 
--- the entries have room for all that the code can put
+-- the entries have room for all that the code can push
 pub record IsEval (waits : Bool) (code : List Op) (stack : Entries) : Type 0 where
   pub at : IsAt waits code stack.list
   pub room : length code + room_of waits ≤ stack.room

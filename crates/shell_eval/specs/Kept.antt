@@ -10,16 +10,16 @@ use Rattle.shell_eval.specs.Words.{announcement}
 use Rattle.shell_eval.specs.Pending.{Pending, Number, Str, Name, Lone, Address, Word, Unary, Binary, Choice, SetName, SetWord, New, Call, Hole, Args, End, Then}
 use Rattle.shell_eval.specs.Evaluate.{evaluate}
 
--- a list goes on from another
+-- the second list continues the first
 abbrev pub GoesOn : {X : Type 0} → List X → List X → Type 0
 GoesOn {X} xs ys = (more : List X) × (ys ≡ xs ++ more)
 
--- the pool lies in RAM
+-- the pool is inside RAM
 abbrev pub IsPoolInRam : State → Type 0
 IsPoolInRam s = s.pool.end ≤ length s.memory.ram
 
--- RAM is as long as it was; the pool stays, and so does each block, while only Kernel blocks are added;
--- symbols and bytes written are added behind the others
+-- RAM has the same size; the pool stays, and so does each block, and only Kernel blocks are added;
+-- symbols and written bytes are added after the others
 pub record Keeps (old new : State) : Type 0 where
   pub ram : length new.memory.ram ≡ length old.memory.ram
   pub start : new.pool.start ≡ old.pool.start
@@ -32,7 +32,7 @@ pub record Keeps (old new : State) : Type 0 where
   pub few : length old.symbols ≤ most_symbols → length new.symbols ≤ most_symbols
   pub output : GoesOn old.output new.output
 
--- how many bytes the announcements of a tree's assignments have together
+-- the total length in bytes of the announcements of a tree's assignments
 abbrev mutual
   pub told : Pending → ℕ
   told (Number n) = 0
@@ -55,7 +55,7 @@ abbrev mutual
   told_all End = 0
   told_all (Then e es) = told e + told_all es
 
--- evaluation keeps this where the pool lies in RAM
+-- evaluation keeps this if the pool is inside RAM
 abbrev pub KeepsLaw : Type 0
 KeepsLaw = (s : State) (p : Pending) → IsPoolInRam s → Keeps s (evaluate s p).state
 

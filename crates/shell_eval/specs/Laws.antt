@@ -1,4 +1,4 @@
--- What follows of the definitions alone.
+-- What follows from the definitions alone.
 use Rattle.std.specs.Prelude.{◌≡◌, ℕ, ◌+◌, ◌<◌, List}
 use Rattle.shell_eval.specs.State.{State}
 use Rattle.shell_parse.specs.Trees.{PlainStmt}
@@ -10,7 +10,7 @@ use Rattle.shell_eval.specs.Evaluate.{Ending, Value, Call as CallEnd, Fault, Wai
 abbrev pub SmallerLaw : Type 0
 SmallerLaw = (s : State) (p : Pending) (t : State) (q : Pending) → reduce s p ≡ Steps t q → weight q < weight p
 
--- evaluation makes the reduction that is due, and goes on from what it leaves
+-- evaluation makes the due reduction, and goes on from what it leaves
 abbrev pub RepeatsLaw : Type 0
 RepeatsLaw = (s : State) (p : Pending) → evaluate s p ≡ goes_on (reduce s p) s evaluate
 
@@ -40,11 +40,11 @@ abbrev mutual
 abbrev pub BegunLaw : Type 0
 BegunLaw = (t : PlainStmt) → holes (begun_stmt t) ≡ 0
 
--- where no answer is awaited, none is after a reduction
+-- if no answer is awaited, none is after a reduction
 abbrev pub StepLaw : Type 0
 StepLaw = (s : State) (p : Pending) (t : State) (q : Pending) → reduce s p ≡ Steps t q → holes p ≡ 0 → holes q ≡ 0
 
--- where no answer is awaited, one is after a call that is due
+-- if no answer is awaited, one is after a due call
 abbrev pub CallLaw : Type 0
 CallLaw = (s : State) (p : Pending) (f : ℕ) (vs : List ℕ) (q : Pending) → reduce s p ≡ Calls f vs q → holes p ≡ 0 → holes q ≡ 1
 
@@ -52,13 +52,13 @@ CallLaw = (s : State) (p : Pending) (f : ℕ) (vs : List ℕ) (q : Pending) → 
 abbrev pub FillLaw : Type 0
 FillLaw = (p : Pending) (v : ℕ) → holes (filled v p) ≡ 0
 
--- it ends by a value, a fault, or a call whose answer alone is awaited
+-- evaluation ends at a value, at a fault, or at a call whose answer is the only one awaited
 abbrev pub IsEnd : Ending → Type 0
 IsEnd (Value n) = Unit {0}
 IsEnd (CallEnd f vs q) = holes q ≡ 1
 IsEnd (Fault e) = Unit {0}
 IsEnd Waiting = ⊥
 
--- where no answer is awaited, evaluation ends so
+-- if no answer is awaited, evaluation ends like this
 abbrev pub EndsLaw : Type 0
 EndsLaw = (s : State) (p : Pending) → holes p ≡ 0 → IsEnd (evaluate s p).ending

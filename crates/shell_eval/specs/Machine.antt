@@ -21,13 +21,14 @@ use Rattle.shell_eval.specs.Words.{Tried, combined, word_read, word_stored, is_v
 use Rattle.shell_eval.specs.Pending.{All, Any}
 use Rattle.shell_eval.specs.Reduce.{decides, kind_or_data, padded}
 
--- what an operation that leaves the code as it is makes of the state and the entries: it goes on; a call is due; or a fault
+-- what an operation that doesn't change the code does with the state and the entries: it goes on, a call is due,
+-- or a fault
 pub data Effect : Type 0 where
   Puts : State → List Entry → Effect
   Asks : State → ℕ → List ℕ → List Entry → Effect
   Fails : State → EvalFault → Effect
 
--- the same with the code: it is at its end, with a value; it goes on; a call is due; or a fault
+-- the same with the code: it has ended with a value, it goes on, a call is due, or a fault
 pub data Moved : Type 0 where
   Ends : State → ℕ → Moved
   Goes : State → List Op → List Entry → Moved
@@ -55,12 +56,12 @@ abbrev pub below : List Entry → List Entry
 below [] = []
 below (e ∷ st) = st
 
--- a word goes on top
+-- a word is pushed
 abbrev pub pushes : State → Tried → List Entry → Effect
 pushes s (Ok m) st = Puts m.state (entries.Word m.word ∷ st)
 pushes s (Err f) st = Fails s f
 
--- an argument, by its place, where n of them lie on top
+-- the argument at a place, if the top n entries are arguments
 abbrev pub argument : ℕ → List Entry → ℕ → ℕ
 argument n st place = if nat_lt place n then top_word (drop (n - 1 - place) st) else 0
 
@@ -72,7 +73,7 @@ arguments n st = map (argument n st) (range_with_len 0 10)
 abbrev pub asks : State → ℕ → List Entry → Effect
 asks s n st = Asks s (top_word (drop n st)) (arguments n st) (below (drop n st))
 
--- a name alone, by the symbol that it is and its kind
+-- a name alone, by its symbol and the symbol's kind
 abbrev pub alone_by : State → List ℕ → Option Symbol → SymKind → List Entry → Effect
 alone_by s x (Some y) TextSym st = Asks s y.value (padded []) st
 alone_by s x y _ st = pushes s (name_word s x) st
@@ -81,7 +82,7 @@ alone_by s x y _ st = pushes s (name_word s x) st
 abbrev pub alone : State → List ℕ → List Entry → Effect
 alone s x st = alone_by s x (find s.symbols x) (kind_or_data (find s.symbols x)) st
 
--- the left side of an assignment by an operator, with its old word
+-- the left side of an assignment by an operator, with the old word
 abbrev pub mixes : State → BinOp → ℕ → Tried → List Entry → Effect
 mixes s o at (Ok m) st = Puts m.state (entries.Mixed o at m.word ∷ st)
 mixes s o at (Err f) st = Fails s f
@@ -110,7 +111,7 @@ close_effect s v (Some (entries.Mixed o at w)) st = mixed_effect s at (combined 
 close_effect s v (Some (entries.Unknown x)) st = pushes s (variable_made s x v) st
 close_effect s v _ st = Puts s (entries.Word v ∷ st)
 
--- a left side that may decide; where it does, only the last operations stay
+-- a left side that may decide; if it does, only the last operations stay
 abbrev pub decides_step : State → Bool → ℕ → ℕ → List Op → List Entry → Moved
 decides_step s decided keep n c st =
     if decided then Goes s (drop (length c - keep) c) (entries.Word (bit (not (n == 0))) ∷ st) else Goes s c (entries.Truth ∷ st)
@@ -121,7 +122,7 @@ turn_step s turns.All keep n c st = decides_step s (decides All n) keep n c st
 turn_step s turns.Any keep n c st = decides_step s (decides Any n) keep n c st
 turn_step s (turns.Place aop) keep n c st = onward c (places s aop n st)
 
--- what one operation does
+-- what an operation does
 abbrev pub op_step : State → Op → List Op → List Entry → Moved
 op_step s (op.Push n) c st = Goes s c (entries.Word n ∷ st)
 op_step s (op.Str b) c st = onward c (pushes s (string_made s b) st)
@@ -136,7 +137,7 @@ op_step s (op.Left aop x) c st = onward c (left_effect s aop x (find s.symbols x
 op_step s op.Close c st = onward c (close_effect s (top_word st) (top_entry (below st)) (below (below st)))
 op_step s (op.Call n) c st = onward c (asks s n st)
 
--- what the next operation does, where the code isn't at its end
+-- what the next operation does, unless the code has ended
 abbrev pub move : State → List Op → List Entry → Moved
 move s [] st = Ends s (top_word st)
 move s (o ∷ c) st = op_step s o c st

@@ -13,12 +13,12 @@ use Rattle.shell_eval.specs.Pending.{Pending}
 use Rattle.shell_eval.specs.Evaluate.{Evaluated, Value, Call, Fault, ended}
 use Rattle.shell_eval.specs.Machine.{Effect, Puts, Asks, Fails, Moved, onward}
 
--- a word with the state that its making left, or a fault
+-- a word with the state left after it was made, or a fault
 abbrev pub attempt : Result ℕ EvalFault → State → Tried
 attempt (Ok n) s = made n s
 attempt (Err f) s = Err f
 
--- what an operation came to, with the state and the entries that it left
+-- what came of an operation, with the state and the entries that it left
 abbrev pub effect_of : Stepped → State → List Entry → Effect
 effect_of code.Goes s st = Puts s st
 effect_of (code.Calls callee words) s st = Asks s callee words st
@@ -28,13 +28,13 @@ effect_of (code.Faults f) s st = Fails s f
 abbrev pub moved : Stepped → State → List Op → List Entry → Moved
 moved stepped s c st = onward c (effect_of stepped s st)
 
--- the room for an entry that an operation leaves, where it doesn't go on
+-- the room for the entry that an operation leaves free if it doesn't go on
 abbrev pub held : Stepped → ℕ
 held code.Goes = 0
 held (code.Calls callee words) = 1
 held (code.Faults f) = 1
 
--- what an evaluation came to, with the state and the tree that it left
+-- what came of an evaluation, with the state and the tree that it left
 abbrev pub came : Went → State → Pending → Evaluated
 came (went.Value n) s p = ended s (Value n)
 came (went.Call callee words) s p = ended s (Call callee words p)

@@ -1,4 +1,4 @@
--- What the operators make of words, which are numbers below 2 ^ 32.
+-- The values of the operators on words, which are numbers below 2 ^ 32.
 use Rattle.std.specs.Prelude.{ℕ, ◌+◌, ◌-◌, ◌*◌, ◌%◌, ◌^◌, ◌==◌, ◌&&◌, ◌||◌, not, if◌then◌else◌, Option, Some, None, bit_and, bit_or, bit_xor, int_lt, int_le, int_div, int_rem}
 use Rattle.std.specs.Int.{cast_unsigned, w32, int_shr}
 use Rattle.ppc_core.specs.Words.{signed, complement, bit}
@@ -7,33 +7,33 @@ use Rattle.shell_parse.specs.declared.tree.BinOp.TheVariants.{OrElse, AndAlso, O
 use Rattle.shell_parse.specs.declared.tree.UnOp.{UnOp}
 use Rattle.shell_parse.specs.declared.tree.UnOp.TheVariants.{Neg, Not, Com}
 
--- the value of an operator before a word
+-- the value of an operator with one operand
 abbrev pub before_word : UnOp → ℕ → ℕ
 before_word Neg a = (2 ^ 32 - a) % 2 ^ 32
 before_word Not a = bit (a == 0)
 before_word Com a = complement a
 
--- the quotient of two words read as signed, toward 0
+-- the quotient of two words read as signed, rounded toward 0
 abbrev pub quotient : ℕ → ℕ → ℕ
 quotient a b = cast_unsigned w32 (int_div (signed a) (signed b))
 
--- what the quotient of two words read as signed leaves
+-- the remainder of two words read as signed
 abbrev pub remainder : ℕ → ℕ → ℕ
 remainder a b = cast_unsigned w32 (int_rem (signed a) (signed b))
 
--- a word moved to the left, by the last five bits of another
+-- a word shifted to the left by the last five bits of another
 abbrev pub moved_left : ℕ → ℕ → ℕ
 moved_left a b = (a * 2 ^ (b % 32)) % 2 ^ 32
 
--- a word, read as signed, moved to the right
+-- a word, read as signed, shifted to the right
 abbrev pub moved_right : ℕ → ℕ → ℕ
 moved_right a b = cast_unsigned w32 (int_shr (signed a) (b % 32))
 
--- a value, where the divisor is not 0
+-- a value, if the divisor isn't 0
 abbrev pub by_divisor : ℕ → ℕ → Option ℕ
 by_divisor b value = if b == 0 then None else Some value
 
--- the value of an operator between two words, or nothing for a zero divisor
+-- the value of an operator with two operands, or none for a divisor of 0
 abbrev pub between_words : BinOp → ℕ → ℕ → Option ℕ
 between_words OrElse a b = Some (bit (not (a == 0) || not (b == 0)))
 between_words AndAlso a b = Some (bit (not (a == 0) && not (b == 0)))

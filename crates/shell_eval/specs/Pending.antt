@@ -11,8 +11,8 @@ pub data Logic : Type 0 where
   All : Logic
   Any : Logic
 
--- A number is a value. `Choice` is `&&` or `||`. `Lone` is a name that stands alone as a statement.
--- `New` is an assignment to a name that was found unknown. `Hole` awaits the answer of a call.
+-- A number is a value. `Choice` is `&&` or `||`. `Lone` is a name that is a statement by itself.
+-- `New` is an assignment to a name that turned out to be unknown. `Hole` awaits the answer of a call.
 mutual
   pub data Pending : Type 0 where
     Number : ℕ → Pending
@@ -34,13 +34,13 @@ mutual
     End : Args
     Then : Pending → Args → Args
 
--- whether an operator leaves out its right side where the left decides
+-- whether an operator skips its right side if the left side decides
 abbrev pub logic_of : BinOp → Option Logic
 logic_of ops.OrElse = Some Any
 logic_of ops.AndAlso = Some All
 logic_of _ = None
 
--- an operator between two sides
+-- an operator with two operands
 abbrev pub two_sided : Option Logic → BinOp → Pending → Pending → Pending
 two_sided None op a b = Binary op a b
 two_sided (Some w) op a b = Choice w a b
@@ -68,14 +68,14 @@ abbrev pub begun_expr : PlainTree → Pending
 begun_expr (trees.Name x) = Lone x
 begun_expr t = begun t
 
--- a statement, before anything is evaluated: `ld < file` is the call `ld (0, 0, "file")`, and one without a token is 0
+-- a statement, before anything is evaluated: `ld < file` is the call `ld (0, 0, "file")`, and one without tokens is 0
 abbrev pub begun_stmt : PlainStmt → Pending
 begun_stmt trees.Nothing = Number 0
 begun_stmt (trees.Load file) = Call (Name (codes "ld")) (Then (Number 0) (Then (Number 0) (Then (Str file) End)))
 begun_stmt (trees.Command x es) = Call (Name x) (begun_all es)
 begun_stmt (trees.Expr t) = begun_expr t
 
--- the answer of a call in its place
+-- the tree with a call's answer in its place
 abbrev mutual
   pub filled : ℕ → Pending → Pending
   filled v (Number n) = Number n
@@ -97,7 +97,7 @@ abbrev mutual
   filled_all v End = End
   filled_all v (Then e es) = Then (filled v e) (filled_all v es)
 
--- how many reductions a tree can still take, at most
+-- the most reductions that a tree can still take
 abbrev mutual
   pub weight : Pending → ℕ
   weight (Number n) = 0

@@ -19,40 +19,40 @@ of_step steps.Goes = code.Goes
 of_step (steps.Calls callee words) = code.Calls callee words
 of_step (steps.Faults f) = code.Faults f
 
--- with the state, the code and the entries that it left
+-- the outcome, with the state, the code and the entries that it left
 abbrev pub advanced : Advanced → State → List Op → List Entry → Moved
 advanced (code.Ends n) s c st = Ends s n
 advanced code.Goes s c st = Goes s c st
 advanced (code.Calls callee words) s c st = Makes s callee words c st
 advanced (code.Faults f) s c st = Stops s f
 
--- the room that a value takes, where the code has stopped before its end
+-- the room for a value, if the code has stopped before its end
 abbrev pub left_room : Advanced → ℕ
 left_room (code.Ends n) = 0
 left_room code.Goes = 0
 left_room (code.Calls callee words) = 1
 left_room (code.Faults f) = 1
 
--- at the end of the code nothing has changed
+-- if the code has ended, nothing has changed
 abbrev pub IsEnd : Advanced → List Op → List Op → Entries → Entries → Type 0
 IsEnd (code.Ends n) c d st ts = (d ≡ c) × (ts ≡ st)
 IsEnd code.Goes c d st ts = Unit {0}
 IsEnd (code.Calls callee words) c d st ts = Unit {0}
 IsEnd (code.Faults f) c d st ts = Unit {0}
 
--- what code and entries are behind a run
+-- the code and the entries after a run
 abbrev pub IsAfter : Went → List Op → List Entry → Type 0
 IsAfter (went.Value n) c st = Stands c st
 IsAfter (went.Call callee words) c st = Awaits c st
 IsAfter (went.Fault f) c st = Unit {0}
 
--- the room that a call's answer takes, or the value behind a fault
+-- the room for a call's answer, or for the value after a fault
 abbrev pub room_after : Went → ℕ
 room_after (went.Value n) = 0
 room_after (went.Call callee words) = 1
 room_after (went.Fault f) = 1
 
--- whether it came to a call
+-- whether the run came to a call
 abbrev pub is_call : Went → Bool
 is_call (went.Value n) = false
 is_call (went.Call callee words) = true

@@ -1,4 +1,4 @@
--- The one reduction that is due: the leftmost innermost.
+-- The one due reduction: the leftmost innermost.
 use Rattle.std.specs.Prelude.{ℕ, Bool, ◌==◌, not, if◌then◌else◌, List, [], ◌∷◌, map, slice_index, Option, Some, None, Ok, Err}
 use Rattle.std.specs.List.{range_with_len}
 use Rattle.shell_parse.specs.declared.tree.BinOp.{BinOp}
@@ -16,7 +16,8 @@ use Rattle.shell_eval.specs.Words.{Tried, combined, word_read, word_stored, is_v
 use Rattle.shell_eval.specs.Pending.{Pending, Number, Str, Name, Lone, Address, Word, Unary, Binary, Choice, SetName, SetWord, New, Call, Hole, Args, End, Then, Logic, All, Any}
 
 -- of a tree or of arguments T, whose values are V: it is a value; one reduction is made;
--- a call is due, with its ten words, and what is left has a hole in its place; a fault; or a call's answer is awaited
+-- a call is due, with its ten words, and the tree left has a hole in the call's place; a fault; or a call's answer
+-- is awaited
 pub data Outcome (V T : Type 0) : Type 0 where
   Is : V → Outcome V T
   Steps : State → T → Outcome V T
@@ -24,7 +25,7 @@ pub data Outcome (V T : Type 0) : Type 0 where
   Faults : EvalFault → Outcome V T
   Waits : Outcome V T
 
--- what is due of a part is due of the whole; where the part is a value, the whole goes on
+-- what is due in a part is due in the whole; if the part is a value, the whole goes on
 abbrev pub within : {V T W U : Type 0} → Outcome V T → (T → U) → (V → Outcome W U) → Outcome W U
 within (Is v) around go = go v
 within (Steps s t) around go = Steps s (around t)
@@ -37,7 +38,7 @@ abbrev pub given : Tried → Outcome ℕ Pending
 given (Ok m) = Steps m.state (Number m.word)
 given (Err e) = Faults e
 
--- the ten words of a call; those that no argument gives are 0
+-- the ten words of a call; words without an argument are 0
 abbrev pub padded : List ℕ → List ℕ
 padded values = map (λ place. slice_index values place) (range_with_len 0 10)
 
@@ -46,21 +47,21 @@ abbrev pub decides : Logic → ℕ → Bool
 decides All n = n == 0
 decides Any n = not (n == 0)
 
--- the left side decides, or the value is whether the right side is not 0
+-- the left side decides, or the value says whether the right side is not 0
 abbrev pub chosen : Logic → ℕ → Pending → Pending
 chosen w n b = if decides w n then Number (bit (not (n == 0))) else Binary ops.Ne b (Number 0)
 
--- a name alone, by the symbol that it is and its kind
+-- a name alone, by its symbol and the symbol's kind
 abbrev pub lone_by : State → List ℕ → Option Symbol → SymKind → Outcome ℕ Pending
 lone_by s x (Some y) TextSym = Steps s (Call (Number y.value) End)
 lone_by s x y _ = given (name_word s x)
 
--- the kind of a symbol, where there is one
+-- the kind of a symbol, if there is one, else data
 abbrev pub kind_or_data : Option Symbol → SymKind
 kind_or_data None = DataSym
 kind_or_data (Some y) = y.kind
 
--- a name alone: the call of a text symbol, else the name's word
+-- a name alone: the call of a text symbol, otherwise the name's word
 abbrev pub lone : State → List ℕ → Outcome ℕ Pending
 lone s x = lone_by s x (find s.symbols x) (kind_or_data (find s.symbols x))
 
@@ -80,12 +81,12 @@ left_by s None x e None = Steps s (New x e)
 left_by s (Some op) x e None = Faults (Undefined x)
 left_by s aop x e (Some y) = if is_value y.kind then Faults (AccessAt y.value) else resolved s aop y.value e
 
--- an assignment at an address, with what is due of its right side
+-- an assignment at an address, with the due reduction of its right side
 abbrev pub set_at : State → Option BinOp → ℕ → Pending → Outcome ℕ Pending → Outcome ℕ Pending
 set_at s None at e due = within due (SetWord None (Number at)) (λ v. given (word_stored s at v))
 set_at s (Some op) at e due = resolved s (Some op) at e
 
--- the reduction that is due of a tree, and of arguments
+-- the due reduction of a tree, and of arguments
 abbrev mutual
   pub reduce : State → Pending → Outcome ℕ Pending
   reduce s (Number n) = Is n

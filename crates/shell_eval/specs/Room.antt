@@ -1,8 +1,8 @@
--- Room that was taken ahead.
+-- Room that was allocated ahead.
 use Rattle.std.specs.Prelude.{ℕ, List}
 use Rattle.shell_eval.specs.declared.code.Entry.{Entry}
 
--- entries, the last one first, and how many more fit
+-- entries, last one first, and how many more there is room for
 pub record Entries : Type 0 where
   pub list : List Entry
   pub room : ℕ

@@ -9,11 +9,11 @@ use Rattle.board_bus.specs.Seen.{bus_by}
 use Rattle.shell_eval.specs.declared.env.Env.{Env}
 use Rattle.shell_eval.specs.State.{State, state_of}
 
--- the state of an environment, where a device is seen by these
+-- the state of an environment, with each device seen by these two functions
 abbrev pub seen_by : {I : Type 0} {X : I → Type 0} → (DynBox I Global X → DeviceKind) → (DynBox I Global X → List ℕ) → Env I X → State
 seen_by kind_of words_of e = state_of e.syms.now e.part.now (bus_by kind_of words_of e.bus.now) e.out.now
 
--- the state of an environment, where a device is seen as its kind and its words
+-- the state of an environment, with each device seen as its kind and its words
 abbrev pub seen : {I : Type 0} {X : I → Type 0} → ((i : I) → Ghosts (X i)) → Env I X → State
 seen devices e = seen_by (λ d. (devices d.vtable).kind_of d.value) (λ d. (devices d.vtable).words_of d.value) e
 
@@ -24,30 +24,30 @@ pub record SameEnv {I : Type 0} {X : I → Type 0} (old new : Env I X) : Type 0 
   pub bus : new.bus.ghost_name ≡ old.bus.ghost_name
   pub out : new.out.ghost_name ≡ old.out.ghost_name
 
--- RAM is as long as it was, and the pool ends where it did
+-- RAM has the same size, and the pool ends where it did
 pub record SameSize {I : Type 0} {X : I → Type 0} (old new : Env I X) : Type 0 where
-  pub memory : length new.bus.now.ram ≡ length old.bus.now.ram
+  pub memory : length new.bus.now.ram.bytes ≡ length old.bus.now.ram.bytes
   pub pool : new.part.now.end ≡ old.part.now.end
 
--- what the output holds and what fits besides are together as many bytes as before, or more
+-- the bytes in the output and its free room together are at least as many as before
 abbrev pub SpaceGrows : {I : Type 0} {X : I → Type 0} → Env I X → Env I X → Type 0
 SpaceGrows old new = old.out.now.room + length old.out.now.bytes ≤ new.out.now.room + length new.out.now.bytes
 
--- how many bytes an operation writes at most
+-- the most bytes that an operation writes
 abbrev pub most_announced : ℕ
 most_announced = 300
 
--- how many bytes are kept free behind an evaluation
+-- the free room after an evaluation, in bytes
 abbrev pub kept_free : ℕ
 kept_free = 512
 
--- room for all that n operations can need, and for what is kept free; the pool lies in RAM
+-- there is room for all that n operations can need, and for the free room after them; the pool is inside RAM
 pub record Ready {I : Type 0} {X : I → Type 0} (n : ℕ) (e : Env I X) : Type 0 where
   pub symbols : min n (most_symbols - length e.syms.now.list) ≤ e.syms.now.spare
   pub output : n * most_announced + kept_free ≤ e.out.now.room
-  pub pool : e.part.now.end ≤ length e.bus.now.ram
+  pub pool : e.part.now.end ≤ length e.bus.now.ram.bytes
 
--- the symbols and the output stay, with the room that they have
+-- the symbols and the output stay, with their free room
 pub record KeptParts {I : Type 0} {X : I → Type 0} (old new : Env I X) : Type 0 where
   pub syms : new.syms.now ≡ old.syms.now
   pub out : new.out.now ≡ old.out.now

@@ -18,12 +18,12 @@ use Rattle.shell_eval.specs.declared.fault.EvalFault.TheVariants.{Undefined, Acc
 use Rattle.shell_eval.specs.Operators.{between_words}
 use Rattle.shell_eval.specs.State.{State}
 
--- a word, and the state that its making leaves
+-- a word, and the state left after it was made
 pub record Made : Type 0 where
   pub word : ℕ
   pub state : State
 
--- a word with the state left, or a fault; a fault changes nothing
+-- a word with the state left, or a fault, which changes nothing
 abbrev pub Tried : Type 0
 Tried = Result Made EvalFault
 
@@ -31,12 +31,12 @@ Tried = Result Made EvalFault
 abbrev pub made : ℕ → State → Tried
 made word s = Ok (record { word = word; state = s })
 
--- a value, or the fault of a zero divisor
+-- a value, or the fault of a divisor of 0
 abbrev pub combined_by : State → Option ℕ → Tried
 combined_by s None = Err DivideByZero
 combined_by s (Some n) = made n s
 
--- an operator between two words, as a step
+-- an operator with two operands, as a step
 abbrev pub combined : State → BinOp → ℕ → ℕ → Tried
 combined s op a b = combined_by s (between_words op a b)
 
@@ -51,14 +51,14 @@ unfoldable pub word_stored : State → ℕ → ℕ → Tried
 word_stored s at v =
     if faults_at s.memory 4 at then Err (AccessAt at) else made v (record s { memory = stored_at s.memory 4 at v })
 
--- whether a symbol of this kind stands for its value; the others stand for the word there
+-- whether a symbol of this kind stands for its value; other symbols stand for the word there
 abbrev pub is_value : SymKind → Bool
 is_value TextSym = true
 is_value AbsSym = true
 is_value DataSym = false
 is_value BssSym = false
 
--- the word of a name, by the symbol that it is
+-- the word of a name, by its symbol
 abbrev pub name_by : State → List ℕ → Option Symbol → Tried
 name_by s x None = Err (Undefined x)
 name_by s x (Some y) = if is_value y.kind then made y.value s else word_read s y.value
@@ -67,7 +67,7 @@ name_by s x (Some y) = if is_value y.kind then made y.value s else word_read s y
 unfoldable pub name_word : State → List ℕ → Tried
 name_word s x = name_by s x (find s.symbols x)
 
--- the value of a name, by the symbol that it is
+-- the value of a name, by its symbol
 abbrev pub address_by : State → List ℕ → Option Symbol → Tried
 address_by s x None = Err (Undefined x)
 address_by s x (Some y) = made y.value s
@@ -80,7 +80,7 @@ name_value s x = address_by s x (find s.symbols x)
 abbrev pub block_of : PartState → ℕ → Option ℕ
 block_of pool n = result_ok (alloc_of pool n 1)
 
--- the partition then
+-- the partition with that block
 abbrev pub with_block_of : PartState → ℕ → PartState
 with_block_of pool n = after_alloc pool n 1 Kernel
 
@@ -88,21 +88,21 @@ with_block_of pool n = after_alloc pool n 1 Kernel
 abbrev pub with_ram : BusState → ℕ → List ℕ → BusState
 with_ram memory at bytes = record memory { ram = with_bytes memory.ram at bytes }
 
--- a string in the block at this address, where there is one, with a zero behind it
+-- a string in the block at this address, if there is one, followed by a zero
 abbrev pub string_by : State → List ℕ → Option ℕ → Tried
 string_by s text None = Err NoRoom
 string_by s text (Some at) =
     made at (record s { pool = with_block_of s.pool (length text + 1); memory = with_ram s.memory at (text ++ 0 ∷ []) })
 
--- a string takes a block, whose address is its value
+-- a string takes a block; the block's address is the string's value
 unfoldable pub string_made : State → List ℕ → Tried
 string_made s text = string_by s text (block_of s.pool (length text + 1))
 
--- how many bytes a variable has
+-- the size of a variable in bytes
 abbrev pub variable_bytes : ℕ
 variable_bytes = 4
 
--- the line that tells of a new symbol
+-- the line that reports a new symbol
 unfoldable pub announcement : List ℕ → List ℕ
 announcement x = codes "new symbol \"" ++ x ++ codes "\" added to symbol table.\n"
 
@@ -110,7 +110,7 @@ announcement x = codes "new symbol \"" ++ x ++ codes "\" added to symbol table.\
 abbrev pub variable : List ℕ → ℕ → Symbol
 variable x at = record { name = x; value = at; kind = DataSym; global = true; group = 0 }
 
--- the state with a new variable at the address of its block, which is zeroed whole, and with the announcement
+-- the state with a new variable at the address of its block, which is all zeros, and with the announcement
 abbrev pub with_variable : State → List ℕ → ℕ → State
 with_variable s x at = record {
   symbols = s.symbols ++ variable x at ∷ [];
@@ -119,7 +119,7 @@ with_variable s x at = record {
   output = s.output ++ announcement x;
 }
 
--- a new variable in the block at this address, where there is one, takes its first word
+-- a new variable in the block at this address, if there is one, gets its first word
 abbrev pub variable_by : State → List ℕ → ℕ → Option ℕ → Tried
 variable_by s x v None = Err NoRoom
 variable_by s x v (Some at) = word_stored (with_variable s x at) at v

@@ -8,62 +8,64 @@ use std::alloc::Global;
 use std::marker::Model;
 use wind_base::{Name, NoMemory};
 
-/// What becomes of a left side before its right side runs.
+/// How a left side acts before its right side runs.
 #[derive(Clone, Copy, Debug, PartialEq, Eq)]
 pub enum Turn {
-    /// It decides by 0.
+    /// It decides if it is 0: `&&`.
     All,
-    /// It decides by any number but 0.
+    /// It decides if it isn't 0: `||`.
     Any,
-    /// It is the address of an assignment.
+    /// It is the address of an assignment, with the operator before the `=`, if there is one.
     Place(Option<BinOp>),
 }
 
 /// One operation.
 #[derive(Drop)]
 pub enum Op {
-    /// Puts a number.
+    /// Pushes a number.
     Push(u32),
-    /// Puts the address of a string's block.
+    /// Pushes the address of a string's block.
     Str(Text),
-    /// Puts the word of a name.
+    /// Pushes the word of a name.
     Name(Name),
-    /// Calls a text symbol, or puts the word of a name.
+    /// Calls a text symbol, or pushes the word of a name.
     Lone(Name),
-    /// Puts the value of a name.
+    /// Pushes the value of a name.
     Address(Name),
-    /// Puts the word at an address in place of the address.
+    /// Replaces an address by the word there.
     Word,
-    /// Puts an operator's value in place of its operand.
+    /// Replaces an operand by the value of the operator.
     Unary(UnOp),
-    /// Puts an operator's value in place of its operands.
+    /// Replaces two operands by the value of the operator.
     Binary(BinOp),
-    /// Uses up a left side; where it decides, only so many operations stay.
+    /// Takes a left side. If it decides, only this many of the last operations stay.
     Turn(Turn, usize),
     /// Looks up the name of an assignment.
     Left(Option<BinOp>, Name),
-    /// Puts the value of the form that a left side began, with its right side on top.
+    /// Pushes the value of the form that a left side began; its right side is on top.
     Close,
-    /// Calls with so many arguments.
+    /// Calls with this many arguments.
     Call(usize),
 }
 
-/// A value, or what a left side became.
+/// A value, or a left side that was taken.
 #[derive(Drop)]
 pub enum Entry {
     /// A value.
     Word(u32),
-    /// Whether the right side is not 0 is asked.
+    /// The form asks whether the right side is not 0.
     Truth,
     /// The right side goes to this address.
     Place(u32),
-    /// The operator between this word and the right side goes to this address.
+    /// The operator is applied to this word and the right side, and its value goes to this address:
+    /// operator, address, word.
     Mixed(BinOp, u32, u32),
     /// The right side goes to a new variable of this name.
     Unknown(Name),
 }
 
-/// The bytes of a string, which are kept with the zero that ends them in memory. Contracts see them without it.
+/// The bytes of a string, stored with the zero that ends them in memory. Contracts see them without
+/// it.
 #[derive(Drop)]
 pub struct Text {
     kept: Vec<u8>,
@@ -92,7 +94,7 @@ impl Text {
         Ok(Text { kept })
     }
 
-    /// The bytes, and a zero behind them.
+    /// The bytes, followed by a zero.
     pub fn with_zero(&self) -> &[u8]
         ensures { result.now ≡ self.now ++ 0 ∷ [] }
     {
@@ -100,7 +102,7 @@ impl Text {
     }
 }
 
-/// Operations, the next one first.
+/// Operations, next one first.
 #[derive(Drop)]
 pub struct Code {
     ops: Vec<Op>,
@@ -116,7 +118,7 @@ impl Model for Code {
 }
 
 impl Code {
-    /// No operation.
+    /// Makes code without operations.
     pub fn new(alloc: Global) -> Code
         ensures { result ≡ [] }
     {
@@ -125,7 +127,7 @@ impl Code {
         }
     }
 
-    /// How many there are.
+    /// How many operations there are.
     pub fn len(&self) -> usize
         ensures { result ≡ length self.now }
     {
@@ -142,7 +144,7 @@ impl Code {
         Ok(())
     }
 
-    /// Takes the next operation.
+    /// Takes the next operation, if there is one.
     pub fn pop(&mut self) -> Option<Op>
         ensures { MatchOption result ((self.old ≡ []) × (self.new ≡ [])) (λ op. self.old ≡ op ∷ self.new) }
     {
@@ -156,7 +158,7 @@ impl Code {
         self.ops.clear();
     }
 
-    /// Drops all but so many of the last operations.
+    /// Drops all operations except the last `n`.
     #[tactic(auto, using(crate::proofs::Reversed::drop_all_but))]
     pub fn keep(&mut self, n: usize)
         ensures { self.new ≡ drop (length self.old - n) self.old }
@@ -165,7 +167,7 @@ impl Code {
     }
 }
 
-/// Entries, the last one first, and room for more.
+/// Entries, last one first, and room for more.
 #[derive(Drop)]
 pub struct Stack {
     entries: Vec<Entry>,
@@ -184,7 +186,7 @@ impl Model for Stack {
 }
 
 impl Stack {
-    /// No entry, with room for this many.
+    /// Makes a stack without entries, with room for this many.
     pub fn with_room(alloc: Global, n: usize) -> Result<Stack, NoMemory>
         ensures { IfOk result (λ s. s ≡ record { list = []; room = n }) }
     {
@@ -192,7 +194,7 @@ impl Stack {
         Ok(Stack { entries, room: n })
     }
 
-    /// Puts an entry on top.
+    /// Pushes an entry.
     pub fn put(&mut self, entry: Entry)
         requires { 0 < self.old.room }
         ensures { self.new ≡ record { list = entry ∷ self.old.list; room = self.old.room - 1 } }
@@ -214,7 +216,7 @@ impl Stack {
         top
     }
 
-    /// The value on top, below n entries.
+    /// The value below the top `n` entries.
     #[tactic(auto, using(crate::proofs::Reversed::drop_reverse))]
     pub fn word_below(&self, n: usize) -> u32
         ensures { result ≡ top_word (drop n self.now.list) }
@@ -223,7 +225,7 @@ impl Stack {
         last_word(&self.entries[..left])
     }
 
-    /// Takes all entries away.
+    /// Removes all entries.
     pub fn clear(&mut self)
         ensures list { self.new.list ≡ [] }
         ensures room { self.old.room ≤ self.new.room }
@@ -232,7 +234,7 @@ impl Stack {
         self.entries.clear();
     }
 
-    /// Takes n entries away.
+    /// Removes the top `n` entries.
     #[tactic(auto, using(crate::proofs::Reversed::drop_reverse))]
     pub fn drop_top(&mut self, n: usize)
         ensures list { self.new.list ≡ drop n self.old.list }
@@ -264,7 +266,7 @@ fn word_of(entry: &Entry) -> u32
     }
 }
 
-/// Takes the value on top; 0 where there is none.
+/// Takes the value on top; 0 if there is none.
 pub(crate) fn take_word(stack: &mut Stack) -> u32
     ensures word { result ≡ top_word stack.old.list }
     ensures list { stack.new.list ≡ below stack.old.list }

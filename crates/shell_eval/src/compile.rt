@@ -20,7 +20,7 @@ fn copied(alloc: Global, name: &Name) -> Result<Name, NoMemory>
     }
 }
 
-// How an operator leaves out its right side.
+// How an operator that may skip its right side treats its left side.
 fn turn_of(op: BinOp) -> Option<Turn>
     ensures { result ≡ option_map turn_of_lem (logic_of op) }
 {
@@ -31,7 +31,7 @@ fn turn_of(op: BinOp) -> Option<Turn>
     }
 }
 
-// The code behind the left operand.
+// The code after the left operand.
 #[cycle(emit)]
 fn emit_behind(code: &mut Code, alloc: Global, op: BinOp, right: &Tree) -> Result<(), NoMemory>
     ensures { OnOk result (code.new ≡ behind_left (logic_of op) op (compiled (plain_tree right.now)) code.old) }
@@ -50,7 +50,7 @@ fn emit_behind(code: &mut Code, alloc: Global, op: BinOp, right: &Tree) -> Resul
     }
 }
 
-// The code behind the address of an assignment.
+// The code after the address of an assignment.
 #[cycle(emit)]
 fn emit_place(
     code: &mut Code,
@@ -67,7 +67,7 @@ fn emit_place(
     code.push(Op::Turn(Turn::Place(aop), keep))
 }
 
-// The code of a tree, before other code.
+// The code of a tree, put before other code.
 #[cycle(emit)]
 fn emit(code: &mut Code, alloc: Global, tree: &Tree) -> Result<(), NoMemory>
     ensures { OnOk result (code.new ≡ compiled (plain_tree tree.now) code.old) }
@@ -105,7 +105,7 @@ fn emit(code: &mut Code, alloc: Global, tree: &Tree) -> Result<(), NoMemory>
     }
 }
 
-// The code of a call behind its callee.
+// The code of a call, after its callee.
 #[cycle(emit)]
 #[tactic(auto, using(crate::proofs::Counted::counts))]
 fn emit_call(code: &mut Code, alloc: Global, arguments: &[Tree]) -> Result<(), NoMemory>
@@ -116,7 +116,7 @@ fn emit_call(code: &mut Code, alloc: Global, arguments: &[Tree]) -> Result<(), N
     emit_all(code, alloc, arguments)
 }
 
-// The code of arguments, before other code.
+// The code of arguments, put before other code.
 #[cycle(emit)]
 fn emit_all(code: &mut Code, alloc: Global, arguments: &[Tree]) -> Result<(), NoMemory>
     ensures { OnOk result (code.new ≡ compiled_all (plain_arguments arguments.now) code.old) }

@@ -10,10 +10,10 @@ use wind_base::OutBuf;
 pub struct Env<'a> {
     /// The symbols.
     pub syms: &'a mut Symbols,
-    /// The partition, whose Kernel blocks strings and variables take.
+    /// The partition, from which strings and variables take Kernel blocks.
     pub part: &'a mut Part,
     /// RAM and devices.
     pub bus: &'a mut BoardBus,
-    /// What is written on the console.
+    /// The output to the console.
     pub out: &'a mut OutBuf,
 }

@@ -21,7 +21,7 @@ use std::marker::Model;
 use wind_base::NoMemory;
 use wind_outside::Device;
 
-// How many operations a statement has at most. A line of 255 bytes comes nowhere near.
+// The most operations of a statement. A line of 255 bytes comes nowhere near it.
 const MOST_OPERATIONS: usize = 65_536;
 
 /// A statement under evaluation. Contracts see the tree that is left of it.
@@ -47,7 +47,7 @@ impl Model for Eval {
 }
 
 impl Eval {
-    /// The evaluation of a statement, from its beginning. A statement without a token has the value 0.
+    /// Begins the evaluation of a statement. A statement without tokens has the value 0.
     pub fn start(alloc: Global, s: &Stmt) -> Result<Eval, NoMemory>
         ensures { IfOk result (λ e. e ≡ begun_stmt (plain_stmt s.now)) }
     {
@@ -64,10 +64,11 @@ impl Eval {
         })
     }
 
-    /// Goes on to its value, to the next call or to a fault, and leaves room for 512 bytes in `out`. Where memory runs
-    /// out, nothing changes. The bytes that `out` holds and those that fit besides are together never fewer than before.
+    /// Goes on to the value, to the next call or to a fault, and leaves room for 512 bytes in
+    /// `out`. If memory runs out, nothing changes. The bytes in `out` and its free room together
+    /// never become fewer.
     pub fn go(&mut self, env: &mut Env<'_>) -> Result<Went, NoMemory>
-        requires pool { env.old.part.now.end ≤ length env.old.bus.now.ram }
+        requires pool { env.old.part.now.end ≤ length env.old.bus.now.ram.bytes }
         requires waits { holes self.old ≡ 0 }
         ensures went { IfOk result (λ went. came went (seen ⟦<dyn Device as Device>⟧ env.new) self.new
             ≡ evaluate (seen ⟦<dyn Device as Device>⟧ env.old) self.old) }
@@ -85,7 +86,7 @@ impl Eval {
         Ok(went)
     }
 
-    /// Puts the answer of the call that is waited for in its place.
+    /// Puts the answer of the awaited call in its place.
     pub fn fill(&mut self, v: u32)
         requires { holes self.old ≡ 0 → ⊥ }
         ensures { self.new ≡ filled v self.old }

@@ -1,10 +1,10 @@
-//! What follows of the definitions alone.
+//! What follows from the definitions alone.
 
 ghost use Rattle.shell_eval.specs.Laws.{SmallerLaw, RepeatsLaw, BegunLaw, StepLaw, CallLaw, FillLaw, EndsLaw};
 ghost use Rattle.shell_eval.specs.Kept.{KeepsLaw, OutputLaw};
 
-/// Evaluation makes one reduction after another, of which each makes the tree smaller, so it ends. One call's answer is
-/// awaited at most.
+/// Evaluation makes one reduction after another, each of which makes the tree smaller, so it ends.
+/// At most one call's answer is awaited.
 pub fn evaluation_law()
     ensures smaller { SmallerLaw }
     ensures repeats { RepeatsLaw }
@@ -15,7 +15,7 @@ pub fn evaluation_law()
     ensures ends { EndsLaw }
 {}
 
-/// What evaluation keeps, whatever is evaluated, and how much it writes.
+/// What evaluation keeps, whatever is evaluated, and the most that it writes.
 pub fn keeping_law()
     ensures keeps { KeepsLaw }
     ensures output { OutputLaw }

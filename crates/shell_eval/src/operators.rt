@@ -1,4 +1,4 @@
-//! What the operators make of words.
+//! The values of the operators.
 
 ghost use Rattle.std.specs.Prelude.{◌≡◌, ◌<◌};
 ghost use Rattle.shell_eval.specs.Operators.{before_word, quotient as quotient_lem, remainder as remainder_lem, moved_right as moved_right_lem, by_divisor, between_words};
@@ -9,7 +9,7 @@ ghost use Rattle.shell_eval.specs.Moved.{attempt};
 use crate::fault::EvalFault;
 use shell_parse::{BinOp, UnOp};
 
-/// The value of an operator before a word.
+/// The value of an operator with one operand.
 pub(crate) fn before(op: UnOp, a: u32) -> u32
     ensures { result ≡ before_word op a }
 {
@@ -20,7 +20,7 @@ pub(crate) fn before(op: UnOp, a: u32) -> u32
     }
 }
 
-// The quotient of signed numbers, toward 0.
+// The quotient of signed numbers, rounded toward 0.
 fn quotient(a: u32, b: u32) -> u32
     requires { 0 < b }
     ensures { result ≡ quotient_lem a b }
@@ -30,7 +30,7 @@ fn quotient(a: u32, b: u32) -> u32
         .cast_unsigned()
 }
 
-// What their quotient leaves.
+// The remainder of signed numbers.
 fn remainder(a: u32, b: u32) -> u32
     requires { 0 < b }
     ensures { result ≡ remainder_lem a b }
@@ -40,14 +40,14 @@ fn remainder(a: u32, b: u32) -> u32
         .cast_unsigned()
 }
 
-// A signed number moved to the right.
+// A signed number shifted to the right.
 fn moved_right(a: u32, b: u32) -> u32
     ensures { result ≡ moved_right_lem a b }
 {
     a.cast_signed().wrapping_shr(b).cast_unsigned()
 }
 
-// The quotient, where the divisor is not 0.
+// The quotient, if the divisor isn't 0.
 fn divided(a: u32, b: u32) -> Option<u32>
     ensures { result ≡ by_divisor b (quotient_lem a b) }
 {
@@ -57,7 +57,7 @@ fn divided(a: u32, b: u32) -> Option<u32>
     Some(quotient(a, b))
 }
 
-// The remainder, where the divisor is not 0.
+// The remainder, if the divisor isn't 0.
 fn left_over(a: u32, b: u32) -> Option<u32>
     ensures { result ≡ by_divisor b (remainder_lem a b) }
 {
@@ -67,7 +67,7 @@ fn left_over(a: u32, b: u32) -> Option<u32>
     Some(remainder(a, b))
 }
 
-// The value of an operator between two words; none for a zero divisor.
+// The value of an operator with two operands; `None` for a divisor of 0.
 fn between(op: BinOp, a: u32, b: u32) -> Option<u32>
     ensures { result ≡ between_words op a b }
 {
@@ -93,7 +93,7 @@ fn between(op: BinOp, a: u32, b: u32) -> Option<u32>
     }
 }
 
-/// The value of an operator between two words, or the fault of a zero divisor.
+/// The value of an operator with two operands, or the fault of a divisor of 0.
 pub(crate) fn combine(op: BinOp, a: u32, b: u32) -> Result<u32, EvalFault>
     ensures { (s : State) → attempt result s ≡ combined s op a b }
 {

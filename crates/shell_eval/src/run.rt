@@ -1,4 +1,4 @@
-//! Postfix code runs up to a value, a call or a fault.
+//! Runs postfix code up to a value, a call or a fault.
 
 ghost use Rattle.std.specs.Prelude.{◌≡◌, ◌+◌, ◌*◌, ◌<◌, ◌≤◌, length, false, OnOk, OnErr, IfOk};
 ghost use Rattle.shell_eval.specs.Seen.{seen, SameEnv, SameSize, SpaceGrows, Ready, most_announced, kept_free};
@@ -23,19 +23,19 @@ use wind_base::limits::SYMBOLS;
 use wind_base::{NoMemory, OutBuf};
 use wind_outside::Device;
 
-// How many bytes an operation writes at most, and how many are kept free behind an evaluation.
+// The most bytes that an operation writes, and the free room after an evaluation, in bytes.
 const MOST_ANNOUNCED: usize = 300;
 
 const KEPT_FREE: usize = 512;
 
-/// What the next operation came to.
+/// What came of the next operation.
 #[derive(Drop)]
 pub(crate) enum Advanced {
-    /// The code is at its end, with this value.
+    /// The code has ended, with this value.
     Ends(u32),
-    /// It goes on.
+    /// The code goes on.
     Goes,
-    /// A call.
+    /// A call: the callee and the words of its arguments.
     Calls(u32, [u32; 10]),
     /// A fault.
     Faults(EvalFault),
@@ -52,7 +52,7 @@ fn from_step(stepped: Stepped) -> Advanced
     }
 }
 
-// Does the next operation.
+// Makes the next operation.
 fn advance(code: &mut Code, stack: &mut Stack, env: &mut Env<'_>) -> Advanced
     requires room { length code.old ≤ stack.old.room }
     requires ready { Ready (length code.old) env.old }
@@ -73,7 +73,7 @@ fn advance(code: &mut Code, stack: &mut Stack, env: &mut Env<'_>) -> Advanced
     }
 }
 
-// The same, in the words of evaluation.
+// The same, with a contract in terms of evaluation.
 fn next(code: &mut Code, stack: &mut Stack, env: &mut Env<'_>) -> Advanced
     requires stands { Stands code.old stack.old.list }
     requires room { length code.old ≤ stack.old.room }
@@ -117,7 +117,7 @@ pub(crate) fn run(code: &mut Code, stack: &mut Stack, env: &mut Env<'_>) -> Went
     }
 }
 
-// Makes room for what n operations can write, and for what is kept free.
+// Makes room for what n operations can write, and for the free room after them.
 fn make_room(out: &mut OutBuf, n: usize) -> Result<(), NoMemory>
     requires { n ≤ most_operations }
     ensures room { OnOk result (n * most_announced + kept_free ≤ out.new.room) }
@@ -131,7 +131,7 @@ fn make_room(out: &mut OutBuf, n: usize) -> Result<(), NoMemory>
     out.grow((wanted - out.room()) as u32)
 }
 
-// Makes room for the symbols that n operations can add, as far as the table takes them.
+// Makes room for the symbols that n operations can add, as far as the table permits.
 fn make_spare(syms: &mut Symbols, n: usize) -> Result<(), NoMemory>
     ensures spare { OnOk result (min n (most_symbols - length syms.new.list) ≤ syms.new.spare) }
     ensures list { syms.new.list ≡ syms.old.list }
@@ -143,10 +143,10 @@ fn make_spare(syms: &mut Symbols, n: usize) -> Result<(), NoMemory>
     }
 }
 
-/// Takes what n operations can need. Nothing that contracts compare changes.
+/// Allocates what n operations can need. Nothing changes that contracts compare.
 pub(crate) fn prepare(n: usize, env: &mut Env<'_>) -> Result<(), NoMemory>
     requires few { n ≤ most_operations }
-    requires pool { env.old.part.now.end ≤ length env.old.bus.now.ram }
+    requires pool { env.old.part.now.end ≤ length env.old.bus.now.ram.bytes }
     ensures ready { OnOk result (Ready n env.new) }
     ensures kept { seen ⟦<dyn Device as Device>⟧ env.new ≡ seen ⟦<dyn Device as Device>⟧ env.old }
     ensures space { SpaceGrows env.old env.new }
@@ -157,10 +157,10 @@ pub(crate) fn prepare(n: usize, env: &mut Env<'_>) -> Result<(), NoMemory>
     make_room(env.out, n)
 }
 
-/// Takes the memory that may be needed, and runs. Behind a fault a value is left.
+/// Allocates the memory that may be needed, and runs the code. After a fault, a value is left.
 pub(crate) fn go_on(code: &mut Code, stack: &mut Stack, env: &mut Env<'_>) -> Result<Went, NoMemory>
     requires at { IsEval false code.old stack.old }
-    requires pool { env.old.part.now.end ≤ length env.old.bus.now.ram }
+    requires pool { env.old.part.now.end ≤ length env.old.bus.now.ram.bytes }
     ensures went { IfOk result (λ went.
         came went (seen ⟦<dyn Device as Device>⟧ env.new) (tree_with_hole code.new stack.new.list)
         ≡ evaluate (seen ⟦<dyn Device as Device>⟧ env.old) (tree_of code.old stack.old.list)) }
@@ -183,7 +183,7 @@ pub(crate) fn go_on(code: &mut Code, stack: &mut Stack, env: &mut Env<'_>) -> Re
     }
 }
 
-// A value is left.
+// Leaves a value.
 #[tactic(auto, using(crate::proofs::Started::stands_value))]
 fn settle(code: &mut Code, stack: &mut Stack)
     requires { 0 < stack.old.room }
@@ -194,7 +194,7 @@ fn settle(code: &mut Code, stack: &mut Stack)
     stack.put(Entry::Word(0));
 }
 
-/// Whether it came to a call.
+/// Whether the evaluation came to a call.
 pub(crate) fn is_call(went: &Went) -> bool
     ensures { result ≡ is_call_lem went.now }
 {

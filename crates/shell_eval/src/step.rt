@@ -1,4 +1,4 @@
-//! What one operation does.
+//! Makes one operation.
 
 ghost use Rattle.std.specs.Prelude.{◌≡◌, ◌+◌, ◌-◌, ◌<◌, ◌≤◌, not, ◌==◌, length, ◌∷◌, drop, if◌then◌else◌, None};
 ghost use Rattle.wind_base.specs.Limits.{most_symbols};
@@ -25,7 +25,7 @@ use wind_outside::Device;
 /// What came of an operation.
 #[derive(Drop)]
 pub(crate) enum Stepped {
-    /// It goes on.
+    /// The code goes on.
     Goes,
     /// This callee is called with these words.
     Calls(u32, [u32; 10]),
@@ -33,7 +33,7 @@ pub(crate) enum Stepped {
     Faults(EvalFault),
 }
 
-// A word goes on top, or the fault is answered.
+// Pushes a word, or returns the fault.
 fn put_word(stack: &mut Stack, word: Result<u32, EvalFault>) -> Stepped
     requires { 0 < stack.old.room }
     ensures effect { (s : State) → effect_of result s stack.new.list ≡ pushes s (attempt word s) stack.old.list }
@@ -48,7 +48,7 @@ fn put_word(stack: &mut Stack, word: Result<u32, EvalFault>) -> Stepped
     }
 }
 
-// The place of an assignment on top, with its old word where an operator is to combine it.
+// Pushes the address of an assignment, and the old word there if an operator combines it.
 fn place(env: &mut Env<'_>, stack: &mut Stack, aop: Option<BinOp>, at: u32) -> Stepped
     requires { 0 < stack.old.room }
     ensures effect { effect_of result (seen ⟦<dyn Device as Device>⟧ env.new) stack.new.list
@@ -71,7 +71,7 @@ fn place(env: &mut Env<'_>, stack: &mut Stack, aop: Option<BinOp>, at: u32) -> S
     }
 }
 
-// The left name of an assignment.
+// The name on the left side of an assignment.
 fn left(env: &mut Env<'_>, stack: &mut Stack, aop: Option<BinOp>, name: Name) -> Stepped
     requires { 0 < stack.old.room }
     ensures effect { effect_of result (seen ⟦<dyn Device as Device>⟧ env.new) stack.new.list
@@ -94,7 +94,7 @@ fn left(env: &mut Env<'_>, stack: &mut Stack, aop: Option<BinOp>, name: Name) ->
     }
 }
 
-// A left name that no symbol has.
+// A name on the left side that no symbol has.
 fn unknown(stack: &mut Stack, aop: Option<BinOp>, name: Name) -> Stepped
     requires { 0 < stack.old.room }
     ensures effect { (s : State) → effect_of result s stack.new.list ≡ left_effect s aop name None stack.old.list }
@@ -109,7 +109,7 @@ fn unknown(stack: &mut Stack, aop: Option<BinOp>, name: Name) -> Stepped
     }
 }
 
-// What a left side that may decide comes to.
+// The effect of a left side that may decide.
 fn decide(code: &mut Code, stack: &mut Stack, decides: bool, n: u32, keep: usize) -> Stepped
     requires { 0 < stack.old.room }
     ensures stepped { (s : State) → moved result s code.new stack.new.list
@@ -126,7 +126,7 @@ fn decide(code: &mut Code, stack: &mut Stack, decides: bool, n: u32, keep: usize
     Stepped::Goes
 }
 
-// A left side is used up.
+// Takes a left side.
 fn turned(env: &mut Env<'_>, code: &mut Code, stack: &mut Stack, turn: Turn, keep: usize) -> Stepped
     requires { 0 < stack.old.room }
     ensures stepped { moved result (seen ⟦<dyn Device as Device>⟧ env.new) code.new stack.new.list
@@ -146,7 +146,7 @@ fn turned(env: &mut Env<'_>, code: &mut Code, stack: &mut Stack, turn: Turn, kee
     }
 }
 
-// An assignment by an operator, with its right side.
+// Completes an assignment by an operator, with its right side.
 fn mixed(env: &mut Env<'_>, stack: &mut Stack, at: u32, word: Result<u32, EvalFault>) -> Stepped
     requires { 0 < stack.old.room }
     ensures effect { effect_of result (seen ⟦<dyn Device as Device>⟧ env.new) stack.new.list
@@ -166,12 +166,12 @@ fn mixed(env: &mut Env<'_>, stack: &mut Stack, at: u32, word: Result<u32, EvalFa
     }
 }
 
-// The form that a left side began, with its right side.
+// Completes the form that a left side began, with its right side.
 fn closed(env: &mut Env<'_>, stack: &mut Stack) -> Stepped
     requires entry { 0 < stack.old.room }
     requires spare { length env.old.syms.now.list < most_symbols → 0 < env.old.syms.now.spare }
     requires room { most_announced ≤ env.old.out.now.room }
-    requires pool { env.old.part.now.end ≤ length env.old.bus.now.ram }
+    requires pool { env.old.part.now.end ≤ length env.old.bus.now.ram.bytes }
     ensures effect { effect_of result (seen ⟦<dyn Device as Device>⟧ env.new) stack.new.list
         ≡ close_effect (seen ⟦<dyn Device as Device>⟧ env.old) (top_word stack.old.list)
         (top_entry (below stack.old.list)) (below (below stack.old.list)) }
@@ -200,7 +200,7 @@ fn closed(env: &mut Env<'_>, stack: &mut Stack) -> Stepped
     }
 }
 
-// An argument, by its place, where n of them lie on top.
+// The argument at a place, if the top n entries are arguments.
 fn argument(stack: &Stack, n: usize, place: usize) -> u32
     ensures { result ≡ argument_lem n stack.now.list place }
 {
@@ -211,7 +211,7 @@ fn argument(stack: &Stack, n: usize, place: usize) -> u32
     }
 }
 
-// The call that is due.
+// Makes the due call.
 fn called(stack: &mut Stack, n: usize) -> Stepped
     ensures effect { (s : State) → effect_of result s stack.new.list ≡ asks s n stack.old.list }
     ensures room { stack.old.room ≤ stack.new.room }
@@ -233,7 +233,7 @@ fn called(stack: &mut Stack, n: usize) -> Stepped
     Stepped::Calls(callee, words)
 }
 
-// A name alone.
+// A statement that is a name alone.
 fn alone(env: &mut Env<'_>, stack: &mut Stack, name: Name) -> Stepped
     requires { 0 < stack.old.room }
     ensures effect { effect_of result (seen ⟦<dyn Device as Device>⟧ env.new) stack.new.list
@@ -252,7 +252,7 @@ fn alone(env: &mut Env<'_>, stack: &mut Stack, name: Name) -> Stepped
     }
 }
 
-/// Does one operation.
+/// Makes one operation.
 pub(crate) fn step(op: Op, code: &mut Code, stack: &mut Stack, env: &mut Env<'_>) -> Stepped
     requires room { length code.old + 1 ≤ stack.old.room }
     requires ready { Ready (length code.old + 1) env.old }

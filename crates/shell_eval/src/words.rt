@@ -40,14 +40,14 @@ pub(crate) fn word_read(env: &mut Env<'_>, at: u32) -> Result<u32, EvalFault>
     }
 }
 
-/// Stores a word at an address, and gives it.
+/// Stores a word at an address, and returns it.
 #[tactic(auto, unfolding(crate::specs::Words::word_stored))]
 pub(crate) fn word_stored(env: &mut Env<'_>, at: u32, v: u32) -> Result<u32, EvalFault>
     requires { Unit {0} }
     ensures word { attempt result (seen ⟦<dyn Device as Device>⟧ env.new)
         ≡ word_stored_lem (seen ⟦<dyn Device as Device>⟧ env.old) at v }
     ensures kept { OnErr result (seen ⟦<dyn Device as Device>⟧ env.new ≡ seen ⟦<dyn Device as Device>⟧ env.old) }
-    ensures inside { at + 4 ≤ length env.old.bus.now.ram → IsOk result }
+    ensures inside { at + 4 ≤ length env.old.bus.now.ram.bytes → IsOk result }
     ensures parts { KeptParts env.old env.new }
     ensures same { SameEnv env.old env.new }
     ensures size { SameSize env.old env.new }
@@ -58,7 +58,7 @@ pub(crate) fn word_stored(env: &mut Env<'_>, at: u32, v: u32) -> Result<u32, Eva
     }
 }
 
-/// The word of a name, by its newest symbol.
+/// The word of a name, from its newest symbol.
 #[tactic(auto, unfolding(crate::specs::Words::name_word))]
 pub(crate) fn name_word(env: &mut Env<'_>, name: Name) -> Result<u32, EvalFault>
     requires { Unit {0} }
@@ -95,21 +95,21 @@ pub(crate) fn name_value(env: &mut Env<'_>, name: Name) -> Result<u32, EvalFault
     }
 }
 
-/// What the newest symbol of a name stands for, and its value.
+/// The kind and the value of a name's newest symbol.
 pub(crate) fn looked_up(syms: &Symbols, name: &[u8]) -> Option<(SymKind, u32)>
     ensures { result ≡ option_map (λ y. (y.kind, y.value)) (find syms.now.list name.now) }
 {
     syms.find(name).map(|symbol| (symbol.kind, symbol.value))
 }
 
-/// Whether a symbol of this kind stands for its value; the others stand for the word there.
+/// Whether a symbol of this kind stands for its value; other symbols stand for the word there.
 pub(crate) fn is_value(kind: SymKind) -> bool
     ensures { result ≡ is_value_lem kind }
 {
     matches!(kind, SymKind::TextSym | SymKind::AbsSym)
 }
 
-// A Kernel block of n bytes, where the partition gives one.
+// A Kernel block of n bytes, if the partition has room.
 #[tactic(auto, using(crate::proofs::Blocks::block_lies, crate::proofs::Blocks::block_holds, crate::proofs::Blocks::block_stays, crate::proofs::Blocks::block_end))]
 fn block_for(part: &mut Part, n: u32) -> Option<u32>
     ensures found { result ≡ block_of part.old n }
@@ -122,7 +122,7 @@ fn block_for(part: &mut Part, n: u32) -> Option<u32>
     part.alloc(n, 1, Class::Kernel).ok()
 }
 
-// A Kernel block for these bytes, where the partition gives one.
+// A Kernel block for these bytes, if the partition has room.
 #[tactic(auto, using(crate::proofs::Blocks::none_beyond))]
 fn block_with_room(part: &mut Part, bytes: &[u8]) -> Option<u32>
     ensures found { result ≡ block_of part.old (length bytes.now) }
@@ -137,19 +137,19 @@ fn block_with_room(part: &mut Part, bytes: &[u8]) -> Option<u32>
     block_for(part, bytes.len() as u32)
 }
 
-// Writes bytes that lie in RAM.
+// Writes bytes to RAM, at addresses inside it.
 fn put_bytes(ram: &mut Ram, at: u32, bytes: &[u8])
-    requires { at + length bytes.now ≤ length ram.old }
-    ensures bytes { ram.new ≡ with_bytes ram.old at bytes.now }
-    ensures size { length ram.new ≡ length ram.old }
+    requires { at + length bytes.now ≤ length ram.old.bytes }
+    ensures bytes { ram.new.bytes ≡ with_bytes ram.old.bytes at bytes.now }
+    ensures size { length ram.new.bytes ≡ length ram.old.bytes }
 {
     let _ = ram.copy_in(at, bytes);
 }
 
-/// A string in a block of its own, with a zero behind it.
+/// Puts a string, followed by a zero, into a block of its own.
 #[tactic(auto, unfolding(crate::specs::Words::string_made))]
 pub(crate) fn string_made(env: &mut Env<'_>, text: &Text) -> Result<u32, EvalFault>
-    requires pool { env.old.part.now.end ≤ length env.old.bus.now.ram }
+    requires pool { env.old.part.now.end ≤ length env.old.bus.now.ram.bytes }
     ensures word { attempt result (seen ⟦<dyn Device as Device>⟧ env.new)
         ≡ string_made_lem (seen ⟦<dyn Device as Device>⟧ env.old) text.now }
     ensures kept { OnErr result (seen ⟦<dyn Device as Device>⟧ env.new ≡ seen ⟦<dyn Device as Device>⟧ env.old) }
@@ -166,7 +166,7 @@ pub(crate) fn string_made(env: &mut Env<'_>, text: &Text) -> Result<u32, EvalFau
     Ok(at)
 }
 
-// The bytes of a variable, and those of its block.
+// The size of a variable, and that of its block, in bytes.
 const VARIABLE_BYTES: u32 = 4;
 
 const VARIABLE_BLOCK: u32 = 16;
@@ -174,14 +174,14 @@ const VARIABLE_BLOCK: u32 = 16;
 // Writes zeros to the block of a variable.
 #[tactic(auto, unfolding(mem_partition::specs::Place::rounded, mem_partition::specs::Place::aligned))]
 fn zero_block(ram: &mut Ram, at: u32)
-    requires { at + rounded variable_bytes ≤ length ram.old }
-    ensures bytes { ram.new ≡ with_bytes ram.old at (replicate (rounded variable_bytes) 0) }
-    ensures size { length ram.new ≡ length ram.old }
+    requires { at + rounded variable_bytes ≤ length ram.old.bytes }
+    ensures bytes { ram.new.bytes ≡ with_bytes ram.old.bytes at (replicate (rounded variable_bytes) 0) }
+    ensures size { length ram.new.bytes ≡ length ram.old.bytes }
 {
     let _ = ram.fill(at, VARIABLE_BLOCK, 0);
 }
 
-// Tells of a new symbol.
+// Writes the line that reports a new symbol.
 #[tactic(auto, using(std::proofs::Common::append_assoc), unfolding(crate::specs::Words::announcement))]
 fn announce(out: &mut OutBuf, name: &[u8])
     requires room { most_announced ≤ out.old.room }
@@ -193,12 +193,12 @@ fn announce(out: &mut OutBuf, name: &[u8])
     add(out, b"\" added to symbol table.\n");
 }
 
-/// A new variable with its first word.
+/// Makes a new variable with its first word.
 #[tactic(auto, unfolding(crate::specs::Words::variable_made))]
 pub(crate) fn variable_made(env: &mut Env<'_>, name: Name, v: u32) -> Result<u32, EvalFault>
     requires spare { length env.old.syms.now.list < most_symbols → 0 < env.old.syms.now.spare }
     requires room { most_announced ≤ env.old.out.now.room }
-    requires pool { env.old.part.now.end ≤ length env.old.bus.now.ram }
+    requires pool { env.old.part.now.end ≤ length env.old.bus.now.ram.bytes }
     ensures word { attempt result (seen ⟦<dyn Device as Device>⟧ env.new)
         ≡ variable_made_lem (seen ⟦<dyn Device as Device>⟧ env.old) name v }
     ensures kept { OnErr result (seen ⟦<dyn Device as Device>⟧ env.new ≡ seen ⟦<dyn Device as Device>⟧ env.old) }

@@ -1,5 +1,5 @@
--- Operators of all levels behind an operand: level by level, and without levels. Which tokens may follow an operand doesn't
--- depend on the levels: any chain of operators and operands is an expression.
+-- Operators of all levels after an operand: level by level, and without levels. Which tokens may follow an operand
+-- doesn't depend on the levels: any chain of operators and operands is an expression.
 use Rattle.std.proofs.Common.{ℕ, zero, suc, ◌<◌, inl, inr, List, ◌∷◌, arith, lit<}
 use Rattle.std.proofs.lemmas.Bool.{cases_eq}
 use Rattle.shell_parse.specs.declared.tree.BinOp.{BinOp}
@@ -33,7 +33,7 @@ climb_stop : (n : ℕ) (a : PlainTree) (ts : List Token) → Climb n a ts a ts
 climb_stop zero a ts = flat
 climb_stop (suc n) a ts = up (climb_stop n a ts) stop
 
--- one more operator and operand in front
+-- one more operator and operand at the beginning
 operator_in_front : {n : ℕ} {b e : PlainTree} {ts mid rest : List Token} (op : BinOp) → Unary ts b mid → Climb n b mid e rest → level_of op < n → (a : PlainTree)
     → (e' : PlainTree) × Climb n a (Operator op ∷ ts) e' rest
 operator_in_front op u flat h a = absurd (omega arith)

@@ -1,4 +1,4 @@
--- What the grammar says stands at the front is what is read there.
+-- What the grammar finds in the first tokens is what is read from them.
 use Rattle.std.proofs.Common.{◌≡◌, ℕ, zero, suc, ◌+◌, ◌*◌, ◌<◌, ◌≤◌, List, [], ◌∷◌, length, Option, Some, None, refl, sym, subst, ◌∙◌, ap, arith, ne_eqb, eq-eqb}
 use Rattle.std.specs.Prelude.{if◌then◌else◌}
 use Rattle.shell_parse.specs.declared.tree.BinOp.{BinOp}
@@ -7,23 +7,23 @@ use Rattle.shell_parse.specs.declared.tree.UnOp.TheVariants as before
 use Rattle.shell_parse.specs.declared.token.Token.{Token}
 use Rattle.shell_parse.specs.declared.token.Token.TheVariants.{Name, Operator, Set, Open, Close, Comma, Semi}
 use Rattle.shell_parse.specs.Levels.{level_of, levels}
-use Rattle.shell_parse.specs.Trees.{PlainTree, Arguments, End, Then}
+use Rattle.shell_parse.specs.Trees.{PlainTree, Arguments, Then}
 use Rattle.shell_parse.specs.Trees as trees
 use Rattle.shell_parse.specs.Grammar.{Expression, plain, set_name, set_word, Level, operand, level, More, stop, operator, Unary, negated, inverted, complement, word, address, number, string, name, group, Calls, no_call, call, Args, none, some, Listed, one, next}
 use Rattle.shell_parse.specs.Descent.{◌>>=◌, Reads, closed, opened, parted, assigned, mapped, operator_at, more_by, calls_by, star_by, listed_by, args_by, whole_at, climb_at, more_at, level_at, unary_at, calls_at, args_at, listed_at}
 use Rattle.shell_parse.proofs.Chains.{below_ten}
 
--- ---- what may stand behind what is read
+-- ---- what may come after what is read
 abbrev pub NotOpen : List Token → Type 0
 NotOpen (Open ∷ ts) = ⊥
 NotOpen _ = Unit {0}
 
--- behind the operators of the tightest n levels: no operator of these, and no call
+-- after the operators of the tightest n levels: none of these operators, and no call
 pub record Ends (n : ℕ) (ts : List Token) : Type 0 where
   pub no_call : NotOpen ts
   pub no_operator : (k : ℕ) → k < n → operator_at k ts ≡ None
 
--- behind an expression, and behind arguments
+-- after an expression, and after arguments
 abbrev pub EndsWhole : List Token → Type 0
 EndsWhole (Operator op ∷ ts) = ⊥
 EndsWhole (Set op ∷ ts) = ⊥
@@ -58,7 +58,7 @@ same_level n op ts h = ap (λ b. if b then Some (op, ts) else None) (eq-eqb (lev
 other_level : (k : ℕ) (op : BinOp) (ts : List Token) → (level_of op ≡ k → ⊥) → operator_at k (Operator op ∷ ts) ≡ None
 other_level k op ts h = ap (λ b. if b then Some (op, ts) else None) (ne_eqb (level_of op) k h)
 
--- what stands before the operators of a level ends the tighter ones
+-- what comes before the operators of a level ends the tighter ones
 more_head : {n : ℕ} {a e : PlainTree} {mid rest : List Token} → More n a mid e rest → Ends (suc n) rest → Ends n mid
 more_head stop h = record { no_call = h.no_call; no_operator = λ k l. h.no_operator k (omega arith) }
 more_head (operator {op = op} {ts = ts} i u m) h = record { no_call = tt; no_operator = λ k l. other_level k op ts (λ e. omega arith) }
@@ -74,7 +74,7 @@ not_parted [] h = refl
 not_parted (Comma ∷ ts) h = absurd h
 not_parted (t ∷ ts) h = refl
 
--- ---- nothing that is read is longer than what it is read from
+-- ---- nothing read is longer than its source
 mutual
   pub shorter_whole : {ts rest : List Token} {e : PlainTree} → Expression ts e rest → length rest ≤ length ts
   shorter_whole (plain l) = shorter_level l
@@ -112,7 +112,7 @@ mutual
   shorter_listed (one w) = shorter_whole w
   shorter_listed (next w l) = omega (arith, shorter_whole w, shorter_listed l)
 
--- ---- an expression begins with a token, and neither with a closing parenthesis nor with a semicolon
+-- ---- an expression begins with a token that is neither a closing parenthesis nor a semicolon
 abbrev pub Opens : List Token → Type 0
 Opens [] = ⊥
 Opens (Close ∷ ts) = ⊥
@@ -176,7 +176,7 @@ not_assigned op a e us rest k h =
     let same : ◌≡◌ {A = PlainTree × List Token} (a, Set op ∷ us) (e, rest) = cc in
     subst (λ (ts : List Token). EndsWhole ts) (sym (ap (λ (x : PlainTree × List Token). x.1) same)) k
 
--- an operand read behind a star, and what follows it
+-- an operand read after a star, and what follows it
 star_plain : (n : ℕ) (o : Reads PlainTree) (e : PlainTree) (rest : List Token) → 12 ≤ n → EndsWhole rest
     → (mapped trees.Word o >>= (λ a. climb_at n levels a.0 a.1)) ≡ Some (e, rest)
     → (o >>= (λ a. star_by (λ us. whole_at n us) (λ b us. climb_at n levels b us) a.0 a.1 (assigned a.1))) ≡ Some (e, rest)
@@ -186,7 +186,7 @@ star_plain n (Some (a, Set op ∷ us)) e rest l k h =
     absurd (not_assigned op (trees.Word a) e us rest k (sym (climb_stops n levels (trees.Word a) (Set op ∷ us) l (λ i. refl)) ∙ h))
 star_plain n (Some (a, t ∷ us)) e rest l k h = h
 
--- an expression that is no assignment
+-- an expression that isn't an assignment
 whole_plain : (n : ℕ) (ts : List Token) (e : PlainTree) (rest : List Token) → 20 * length ts + 13 ≤ n → EndsWhole rest
     → ((m i : ℕ) → 20 * length ts + 1 ≤ m → 20 * length ts + 12 ≤ i → (unary_at m ts >>= (λ a. climb_at i levels a.0 a.1)) ≡ Some (e, rest))
     → whole_at (suc n) ts ≡ Some (e, rest)
@@ -199,7 +199,7 @@ whole_plain (suc n) (Name x ∷ Set op ∷ us) e rest h k go =
 whole_plain (suc n) (Operator Times ∷ us) e rest h k go = star_plain n (unary_at n us) e rest (omega arith) k (go (suc n) n (omega arith) (omega arith))
 whole_plain (suc n) (t ∷ us) e rest h k go = go n n (omega arith) (omega arith)
 
--- ---- what stands is read
+-- ---- what the grammar finds is read
 mutual
   unfolding whole_at then_closed
 

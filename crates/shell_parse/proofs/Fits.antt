@@ -13,7 +13,7 @@ use Rattle.shell_parse.specs.Literals.{escaped, escaped_character, character_at,
 use Rattle.shell_parse.specs.Signs.{or_set, or_twice, shift_at, comparison_at, angle_at, comparing_at, sign_at}
 use Rattle.shell_parse.specs.Tokens.{any_at, token_at}
 
--- a token has at most so many bytes beside its first
+-- a token has at most n bytes after its first
 record Fits (n : ℕ) (x : Token × ℕ) : Type 0 where
   few : x.1 ≤ n
 
@@ -111,6 +111,6 @@ fits BehindLd b bs = record { few = (any_fits b bs).few }
 fits AtFile b bs = either (b == code ";") (alone _ _) (record { few = prefix_len-le-length is_file_byte bs })
 fits Within b bs = any_fits b bs
 
--- the bytes of a token lie within the line
+-- the bytes of a token are inside the line
 pub token_fits : (spot : Spot) (b : ℕ) (bs : List ℕ) → (token_at spot b bs).1 ≤ length bs
 token_fits spot b bs = (fits spot b bs).few

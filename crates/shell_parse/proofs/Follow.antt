@@ -1,4 +1,4 @@
--- What may follow each place of the automaton, in the grammar's words, and where a line may end.
+-- What may follow each place of the automaton, in terms of the grammar, and where a line may end.
 use Rattle.std.proofs.Common.{◌≡◌, ℕ, Bool, true, false, List, [], ◌∷◌, Option, Some, None, ◌⊎◌, inl, inr, refl}
 use Rattle.std.specs.Prelude.{IsTrue, codes}
 use Rattle.shell_parse.specs.declared.token.Token.{Token}
@@ -14,7 +14,7 @@ use Rattle.shell_parse.specs.Allowed.{Place}
 use Rattle.shell_parse.proofs.Chains.{Chain, ends, chain_level}
 use Rattle.shell_parse.proofs.Complete.{whole_opens}
 
--- ---- behind a statement: the end, or a semicolon and a line
+-- ---- after a statement: the end, or a semicolon and a line
 abbrev pub AfterStmt : List Token → Type 0
 AfterStmt [] = Unit {0}
 AfterStmt (Semi ∷ mid) = (ss : List PlainStmt) × IsLine mid ss
@@ -52,12 +52,12 @@ abbrev pub FileThen : List Token → Type 0
 FileThen (File file ∷ ts) = AfterStmt ts
 FileThen _ = ⊥
 
--- operators, or where the mark stands an assignment
+-- operators, or, with the mark, an assignment
 abbrev pub Tail : Bool → (List Token → Type 0) → List Token → Type 0
 Tail false B ts = ChainThen B ts
 Tail true B ts = ChainThen B ts ⊎ SetThen B ts
 
--- ---- behind an argument, with and without parentheses; n more may follow
+-- ---- after an argument, with and without parentheses; n more may follow
 abbrev pub CallGoesOn : ℕ → (List Token → Type 0) → List Token → Type 0
 CallGoesOn n B (Close ∷ ts) = B ts
 CallGoesOn n B (Comma ∷ ts) = ListedThen n (CloseThen B) ts
@@ -67,7 +67,7 @@ abbrev pub CommandGoesOn : ℕ → List Token → Type 0
 CommandGoesOn n (Comma ∷ ts) = ListedThen n AfterStmt ts
 CommandGoesOn n ts = AfterStmt ts
 
--- ---- behind a whole expression, by what is open
+-- ---- after a whole expression, by what is open
 abbrev pub Behind : List Frame → List Token → Type 0
 Behind [] ts = AfterStmt ts
 Behind (InCommand n ∷ fs) ts = CommandGoesOn n ts
@@ -78,18 +78,18 @@ abbrev pub IsClose : List Token → Type 0
 IsClose (Close ∷ ts) = Unit {0}
 IsClose _ = ⊥
 
--- behind an opening parenthesis: an argument, or the closing parenthesis
+-- after an opening parenthesis: an argument, or the closing parenthesis
 abbrev pub OpenedThen : List Frame → List Token → Type 0
 OpenedThen fs ts = WholeThen (Behind fs) ts ⊎ (IsClose ts × Behind fs ts)
 
--- behind a callee, and behind a name that begins an expression
+-- after a callee, and after a name that begins an expression
 abbrev pub CalleeThen : Bool → List Frame → List Token → Type 0
 CalleeThen mark fs ts = CallsThen (Tail mark (Behind fs)) ts
 
 abbrev pub VariableThen : List Frame → List Token → Type 0
 VariableThen fs ts = SetThen (Behind fs) ts ⊎ CalleeThen false fs ts
 
--- behind the name that begins a statement: arguments, a file, or what follows a name of an expression
+-- after the name that begins a statement: arguments, a file, or what follows a name in an expression
 abbrev pub CommandThen : List Token → Type 0
 CommandThen ts = IsTrue (begins_argument ts) × ListedThen 10 AfterStmt ts
 
@@ -178,7 +178,7 @@ completes AtFile fs = tt
 completes Loaded fs = tt
 
 -- ---- the end of the line
--- what is open does not keep a line from ending
+-- what is open permits the line to end
 abbrev pub is_bottom : List Frame → Bool
 is_bottom [] = true
 is_bottom (InCommand n ∷ fs) = true

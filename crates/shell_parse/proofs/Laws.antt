@@ -1,4 +1,4 @@
--- Reading a line and the grammar say the same.
+-- Reading a line agrees with the grammar.
 use Rattle.std.proofs.Common.{◌≡◌, ℕ, List, Option, Some, None, refl, ap}
 use Rattle.shell_parse.specs.Tokens.{tokens_of, bare}
 use Rattle.shell_parse.specs.Trees.{PlainStmt}
@@ -36,7 +36,8 @@ read_iff line ss = (
 pub read_trees : (line : List ℕ) (ss : List PlainStmt) → read_line line ≡ Statements ss → HasTrees line ss
 read_trees line ss h = let l = (read_iff line ss).0 h in record { are = l; only = λ others m. only_one (bare (tokens_of line)) ss others l m }
 
--- where a column is read, the line has no statements, and the column is that of the first token that no line goes on with
+-- if a column is read, the line has no statements, and the column is that of the first token with which no line
+-- continues
 pub read_none : (line : List ℕ) (column : ℕ) → read_line line ≡ Refused column → HasNone line column
 unfolding read_line
 read_none line column h =

@@ -19,7 +19,7 @@ blank_passed spot column b bs t =
     ap (λ blank. if blank then tokens_from spot (column + 1) 0 bs
     else record { token = (token_at spot b bs).0; column = column } ∷ tokens_from (spot_after spot (token_at spot b bs).0) (column + 1) (token_at spot b bs).1 bs) t
 
--- a token, and the tokens behind it
+-- a token, and the tokens after it
 pub token_taken : (spot : Spot) (column b : ℕ) (bs : List ℕ) (len : ℕ) → is_blank b ≡ false → len ≡ (token_at spot b bs).1
     → tokens_from spot column 0 (b ∷ bs)
     ≡ record { token = (token_at spot b bs).0; column = column } ∷ tokens_from (spot_after spot (token_at spot b bs).0) (column + (len + 1)) 0 (drop len bs)
@@ -34,7 +34,7 @@ token_taken spot column b bs len t h =
     ∙ ap (λ n. tokens_from after n 0 (drop rest bs)) next
     ∙ ap (λ n. tokens_from after (column + (len + 1)) 0 (drop n bs)) (sym h))
 
--- a word at the front is its bytes as far as they may stand in a word
+-- a word that comes first is its bytes as far as they may be in a word
 pub word_front : (b : ℕ) (bs bytes : List ℕ) (n : ℕ) → bytes ≡ b ∷ bs → n ≡ prefix_len is_word_byte bs → ◌≡◌ {A = Token × ℕ} (word_token b (take (n + 1) bytes), n) (word_at b bs)
 word_front b bs bytes n e h =
     ap (λ (xs : List ℕ). (word_token b (take (n + 1) xs), n)) e

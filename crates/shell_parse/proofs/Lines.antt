@@ -4,15 +4,15 @@ use Rattle.std.specs.Prelude.{IsTrue, if◌then◌else◌}
 use Rattle.shell_parse.specs.declared.token.Token.{Token}
 use Rattle.shell_parse.specs.declared.token.Token.TheVariants.{Number, Str, Name, Not, Com, Semi, Redirect, File}
 use Rattle.shell_parse.specs.Levels.{levels}
-use Rattle.shell_parse.specs.Trees.{PlainTree, Arguments, PlainStmt, Nothing, Load, Command, Expr}
+use Rattle.shell_parse.specs.Trees.{PlainTree, PlainStmt, Nothing, Load, Command, Expr}
 use Rattle.shell_parse.specs.Trees as trees
 use Rattle.shell_parse.specs.Grammar.{begins_argument, is_ld, IsStmt, nothing, load, command, value, IsLine, last, followed}
 use Rattle.shell_parse.specs.Descent.{opened, name_assigned, operator_at, mapped, whole_by, calls_by, whole_at, star_at, climb_at, level_at, args_at, calls_at, listed_at, file_by, named_by, stmt_at, line_by, line_at, stmts_of}
 use Rattle.shell_parse.proofs.Complete.{EndsWhole, EndsList, Opens, whole_opens, first, climb_stops, shorter_whole, shorter_listed, whole_complete, listed_complete}
 use Rattle.shell_parse.proofs.Sound.{bind_some, pair_is, whole_sound, listed_sound}
 
--- ---- what stands is read
--- behind a statement
+-- ---- what the grammar finds is read
+-- after a statement
 abbrev pub EndsStmt : List Token → Type 0
 EndsStmt [] = Unit {0}
 EndsStmt (Semi ∷ ts) = Unit {0}
@@ -28,7 +28,7 @@ list_from_stmt [] h = tt
 list_from_stmt (Semi ∷ ts) h = tt
 list_from_stmt (t ∷ ts) h = absurd h
 
--- a name that neither an assignment, a call nor an operator follows is an expression by itself
+-- a name followed by no assignment, call or operator is an expression by itself
 name_alone : (n : ℕ) (x : List ℕ) (ts : List Token) → 14 ≤ n → name_assigned (Name x ∷ ts) ≡ None → opened ts ≡ None → ((i : ℕ) → operator_at i ts ≡ None)
     → whole_at n (Name x ∷ ts) ≡ Some (trees.Name x, ts)
 unfolding whole_at
@@ -41,7 +41,7 @@ name_alone (suc (suc (suc (suc n)))) x ts h a o p =
     ∙ first (λ b. climb_at (suc (suc n)) levels b.0 b.1) (ap (calls_by (λ us. args_at n us) (λ b us. calls_at n b us) (trees.Name x) ts) o)
     (climb_stops (suc (suc n)) levels (trees.Name x) ts (omega arith) p)
 
--- so no such token stands behind a name that is a statement's expression
+-- so no such token comes after a name that is a statement's expression
 behind_name : (n : ℕ) (x : List ℕ) (t : Token) (ts : List Token) (e : PlainTree) (rest : List Token) → 14 ≤ n → EndsStmt rest → whole_at n (Name x ∷ t ∷ ts) ≡ Some (e, rest)
     → name_assigned (Name x ∷ t ∷ ts) ≡ None → opened (t ∷ ts) ≡ None → ((i : ℕ) → operator_at i (t ∷ ts) ≡ None) → EndsStmt (t ∷ ts)
 behind_name n x t ts e rest h k w a o p = pair_is (λ y us. EndsStmt us) (sym w ∙ name_alone n x (t ∷ ts) h a o p) k
@@ -70,7 +70,7 @@ read_load : (n : ℕ) (x file : List ℕ) (rest : List Token) → IsTrue (is_ld 
 unfolding stmt_at
 read_load n x file rest h = ap (λ b. if b then Some (Load file, rest) else None) h
 
--- arguments behind the name of a statement
+-- arguments after the name of a statement
 read_command : (callee : List ℕ) (ts : List Token) (n : ℕ) → IsTrue (begins_argument ts) → stmt_at n (Name callee ∷ ts) ≡ mapped (Command callee) (listed_at n 10 ts)
 unfolding stmt_at
 read_command callee [] n h = cc
@@ -106,7 +106,7 @@ line_complete (followed {s = s} p l) (suc k) n h g =
 pub stmts_complete : (ts : List Token) (ss : List PlainStmt) → IsLine ts ss → stmts_of ts ≡ Some ss
 stmts_complete ts ss l = line_complete l (length ts + 1) (20 * length ts + 20) (omega arith) (omega arith)
 
--- ---- what is read stands
+-- ---- what is read is what the grammar finds
 value_sound : (n : ℕ) (ts : List Token) (s : PlainStmt) (rest : List Token) → mapped Expr (whole_at n ts) ≡ Some (s, rest) → IsStmt ts s rest
 value_sound n ts s rest h =
     let b = bind_some (whole_at n ts) (λ y. Some (Expr y.0, y.1)) h in

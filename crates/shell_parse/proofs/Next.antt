@@ -9,7 +9,7 @@ use Rattle.shell_parse.specs.declared.allowed.Mode.{Mode}
 use Rattle.shell_parse.specs.declared.allowed.Mode.TheVariants.{Start, Named, Whole, Variable, Want, Target, Done, Callee, Opened, AtFile, Loaded}
 use Rattle.shell_parse.specs.declared.frames.Frame.{Frame}
 use Rattle.shell_parse.specs.declared.frames.Frame.TheVariants.{InGroup, InCall, InCommand}
-use Rattle.shell_parse.specs.Trees.{PlainTree, Arguments, End, Then, PlainStmt}
+use Rattle.shell_parse.specs.Trees.{PlainTree, Arguments, PlainStmt}
 use Rattle.shell_parse.specs.Trees as trees
 use Rattle.shell_parse.specs.Grammar.{Expression, plain, set_name, set_word, Unary, negated, inverted, complement, word, address, number, string, name, group, Calls, no_call, call, Args, none, some, Listed, one, next, begins_argument, is_ld, IsStmt, nothing, load, command, value, IsLine, last, followed}
 use Rattle.shell_parse.specs.Allowed.{on_operand, on_whole, on_target, on_close, on_comma, on_semi, on_done, on_callee, on_variable, on_opened, on_named, on_start, on_file, on_loaded, step}
@@ -21,7 +21,7 @@ calls_any : {a e : PlainTree} {ts rest : List Token} → Calls a ts e rest → (
 calls_any no_call b = (b, no_call)
 calls_any (call {es = es} args c) b = let h = calls_any c (trees.Call b es) in (h.0, call args h.1)
 
--- ---- arguments are an expression that goes on
+-- ---- arguments are an expression that continues
 command_from_stmt : (n : ℕ) (ts : List Token) → AfterStmt ts → CommandGoesOn n ts
 command_from_stmt n [] k = k
 command_from_stmt n (Comma ∷ ts) k = absurd k
@@ -160,7 +160,7 @@ forth_expression fs (set_word u w) k = (_, (_, (u, inr (_, (_, (w, k))))))
 forth_whole : (fs : List Frame) (t : Token) (ts : List Token) → WholeThen (Behind fs) (t ∷ ts) → LangOf (on_whole fs t) ts
 forth_whole fs t ts (e, (rest, (w, k))) = forth_expression fs w k
 
--- ---- behind an operand
+-- ---- after an operand
 back_close : (fs : List Frame) (ts : List Token) → LangOf (on_close fs) ts → Behind fs (Close ∷ ts)
 back_close [] ts h = absurd h
 back_close (InCommand n ∷ fs) ts h = absurd h
@@ -220,7 +220,7 @@ forth_done false fs t ts (rest, (c, k)) = forth_chain false fs c k
 forth_done true fs t ts (inl (rest, (c, k))) = forth_chain true fs c k
 forth_done true fs t ts (inr s) = forth_set fs t ts s
 
--- ---- behind a callee
+-- ---- after a callee
 args_back : (B : List Token → Type 0) {ts : List Token} {es : Arguments} (rest : List Token) → Args ts es rest → CloseThen (CallsThen B) rest → CallsThen B (Open ∷ ts)
 args_back B [] args k = absurd k
 args_back B {es = es} (Close ∷ r) args (a, (e, (rest, (c, k)))) = let h = calls_any c (trees.Call (trees.Number 0) es) in (trees.Number 0, (h.0, (rest, (call args h.1, k))))
@@ -254,7 +254,7 @@ forth_calls mark fs (call args c) k = forth_args mark fs args (_, (_, (_, (c, k)
 forth_callee : (mark : Bool) (fs : List Frame) (t : Token) (ts : List Token) → CalleeThen mark fs (t ∷ ts) → LangOf (on_callee mark fs t) ts
 forth_callee mark fs t ts (a, (e, (rest, (c, k)))) = forth_calls mark fs c k
 
--- ---- behind a name that begins an expression
+-- ---- after a name that begins an expression
 back_variable : (fs : List Frame) (t : Token) (ts : List Token) → LangOf (on_variable fs t) ts → VariableThen fs (t ∷ ts)
 back_variable fs (Set op) ts h = inl h
 back_variable fs t ts h = inr (back_callee false fs t ts h)
@@ -271,7 +271,7 @@ forth_variable : (fs : List Frame) (t : Token) (ts : List Token) → VariableThe
 forth_variable fs t ts (inl s) = variable_from_set fs t ts s
 forth_variable fs t ts (inr c) = variable_from_callee fs t ts (forth_callee false fs t ts c)
 
--- ---- behind the parenthesis of a call
+-- ---- after the opening parenthesis of a call
 back_opened : (fs : List Frame) (t : Token) (ts : List Token) → LangOf (on_opened fs t) ts → OpenedThen fs (t ∷ ts)
 back_opened fs Close ts h = inr (tt, back_close fs ts h)
 back_opened fs t ts h = inl (back_whole fs t ts h)
@@ -288,7 +288,7 @@ forth_opened : (fs : List Frame) (t : Token) (ts : List Token) → OpenedThen fs
 forth_opened fs t ts (inl w) = opened_from_whole fs t ts (forth_whole fs t ts w)
 forth_opened fs t ts (inr (c, k)) = opened_from_close fs t ts c k
 
--- ---- behind the name that begins a statement
+-- ---- after the name that begins a statement
 back_command : (t : Token) (ts : List Token) → IsTrue (begins_argument (t ∷ ts)) → LangOf (on_whole (InCommand 9 ∷ []) t) ts → CommandThen (t ∷ ts)
 back_command t ts b h = (b, command_listed 9 (t ∷ ts) (back_whole (InCommand 9 ∷ []) t ts h))
 
@@ -338,7 +338,7 @@ forth_named ld t ts (inl (b, l)) = named_from_command ld t ts b l
 forth_named ld t ts (inr (inl l)) = named_from_load ld t ts l
 forth_named ld t ts (inr (inr v)) = named_from_variable ld t ts (forth_variable [] t ts v)
 
--- ---- where a statement begins
+-- ---- at the beginning of a statement
 line_of : {ts : List Token} {s : PlainStmt} (rest : List Token) → IsStmt ts s rest → AfterStmt rest → (ss : List PlainStmt) × IsLine ts ss
 line_of [] p k = (_, last p)
 line_of (Semi ∷ mid) p (ss, l) = (_, followed p l)

@@ -1,4 +1,4 @@
--- The first token that the automaton does not allow is the first that no line goes on with.
+-- The first token that the automaton doesn't allow is the first with which no line continues.
 use Rattle.std.proofs.Common.{◌≡◌, ℕ, suc, Bool, true, false, List, [], ◌∷◌, ◌++◌, take, Option, Some, None, ◌⊎◌, inl, inr, refl, sym, subst}
 use Rattle.std.specs.Prelude.{slice_get}
 use Rattle.shell_parse.specs.declared.token.Token.{Token}
@@ -17,12 +17,12 @@ abbrev pub GoesOn : Mode → List Frame → List Token → Option Token → Type
 GoesOn mode fs front (Some t) = (more : List Token) × Lang mode fs (front ++ t ∷ more)
 GoesOn mode fs front None = Lang mode fs front
 
--- token number i behind this place is the first that is refused
+-- token number i after this place is the first that is refused
 pub record Stops (mode : Mode) (fs : List Frame) (ts : List Token) (i : ℕ) : Type 0 where
   pub begins : (more : List Token) × Lang mode fs (take i ts ++ more)
   pub refused : GoesOn mode fs (take i ts) (slice_get ts i) → ⊥
 
--- these tokens may follow to the end, or the one behind those that are allowed is refused
+-- these tokens may follow to the end, or the one after those that are allowed is refused
 abbrev pub Outcome : Mode → List Frame → List Token → ℕ → Type 0
 Outcome mode fs ts i = Lang mode fs ts ⊎ Stops mode fs ts i
 
@@ -70,7 +70,7 @@ no_line : (ts : List Token) → stmts_of ts ≡ None → Outcome Start [] ts (be
 no_line ts h (inl (ss, line)) = let found : stmts_of ts ≡ Some ss = stmts_complete ts ss line in cc
 no_line ts h (inr stops) = at_start ts (begun_from ts Start []) stops
 
--- where tokens have no statements, the one behind those that begin some line is refused
+-- if tokens have no statements, the one after those that begin some line is refused
 pub begun_refused : (ts : List Token) → stmts_of ts ≡ None → IsRefusedAt ts (begun ts)
 unfolding begun
 begun_refused ts h = no_line ts h (outcome ts Start [])

@@ -1,4 +1,4 @@
--- What is read at the front is what the grammar says stands there.
+-- What is read from the first tokens is what the grammar finds in them.
 use Rattle.std.proofs.Common.{◌≡◌, ℕ, zero, suc, Bool, true, false, List, [], ◌∷◌, Option, Some, None, refl, subst, sym, ap}
 use Rattle.std.specs.Prelude.{if◌then◌else◌, ◌==◌}
 use Rattle.std.proofs.lemmas.Bool.{eqb-true}
@@ -8,7 +8,7 @@ use Rattle.shell_parse.specs.declared.tree.UnOp.TheVariants as before
 use Rattle.shell_parse.specs.declared.token.Token.{Token}
 use Rattle.shell_parse.specs.declared.token.Token.TheVariants.{Number, Str, Name, Operator, Set, Not, Com, Open, Close, Comma}
 use Rattle.shell_parse.specs.Levels.{level_of, levels}
-use Rattle.shell_parse.specs.Trees.{PlainTree, Arguments, End, Then}
+use Rattle.shell_parse.specs.Trees.{PlainTree, Arguments, Then}
 use Rattle.shell_parse.specs.Trees as trees
 use Rattle.shell_parse.specs.Grammar.{Expression, plain, set_name, set_word, Level, More, stop, operator, Unary, negated, inverted, complement, word, address, number, string, name, group, Calls, no_call, call, Args, none, some, Listed, one, next}
 use Rattle.shell_parse.specs.Descent.{◌>>=◌, Reads, closed, opened, parted, starred, named, assigned, name_assigned, operator_at, more_by, calls_by, star_by, whole_by, listed_by, args_by, whole_at, star_at, climb_at, more_at, level_at, unary_at, calls_at, args_at, listed_at}
@@ -24,7 +24,7 @@ pair_is {X = X} {Y = Y} P {a = a} {x = x} {b = b} {y = y} h p =
     let e : ◌≡◌ {A = X × Y} (a, b) (x, y) = cc in
     subst (λ (q : X × Y). P q.0 q.1) e p
 
--- ---- what stands at the front
+-- ---- what the tokens begin with
 closed_is : (ts mid : List Token) → closed ts ≡ Some mid → ts ≡ Close ∷ mid
 closed_is [] mid h = cc
 closed_is (Close ∷ ts) mid h = cc

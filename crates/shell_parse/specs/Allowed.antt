@@ -1,4 +1,4 @@
--- Which token may come next, by what came before: a mode, and what is open. The levels of the operators play no part.
+-- Which token may come next, by what came before: a mode, and what is open. The levels of the operators don't matter.
 use Rattle.std.specs.Prelude.{ℕ, suc, ◌-◌, Bool, true, false, List, [], ◌∷◌, Option, Some, None, if◌then◌else◌}
 use Rattle.shell_parse.specs.declared.tree.BinOp.TheVariants.{Minus, Times, And}
 use Rattle.shell_parse.specs.declared.token.Token.{Token}
@@ -9,7 +9,7 @@ use Rattle.shell_parse.specs.declared.frames.Frame.{Frame}
 use Rattle.shell_parse.specs.declared.frames.Frame.TheVariants.{InGroup, InCall, InCommand}
 use Rattle.shell_parse.specs.Grammar.{most_arguments, is_ld}
 
--- a mode, and what is open, the innermost first
+-- a mode, and what is open, innermost first
 pub record Place : Type 0 where
   pub mode : Mode
   pub frames : List Frame
@@ -18,13 +18,13 @@ pub record Place : Type 0 where
 abbrev pub more_arguments : ℕ
 more_arguments = most_arguments - 1
 
--- a token is allowed, and leads to this mode with these frames
+-- the token is allowed, and leads to this mode with these frames
 abbrev pub at : Mode → List Frame → Option Place
 at mode frames = Some (record { mode = mode; frames = frames })
 
--- In what follows, the mark says that an assignment may come behind the operand: it is a star's.
+-- In what follows, the mark says that an assignment may come after the operand, because it is a star's.
 
--- where an operand has to come
+-- where an operand must come
 abbrev pub on_operand : Bool → List Frame → Token → Option Place
 on_operand mark fs (Number n) = at (Done mark) fs
 on_operand mark fs (Str text) = at (Done mark) fs
@@ -37,36 +37,36 @@ on_operand mark fs Com = at (Want mark) fs
 on_operand mark fs Open = at Whole (InGroup mark ∷ fs)
 on_operand mark fs _ = None
 
--- where an expression has to come: a name and a star begin the left sides of assignments
+-- where an expression must come: a name and a star may begin the left side of an assignment
 abbrev pub on_whole : List Frame → Token → Option Place
 on_whole fs (Name x) = at Variable fs
 on_whole fs (Operator Times) = at (Want true) fs
 on_whole fs t = on_operand false fs t
 
--- behind the `&` before a name
+-- after `&`, before a name
 abbrev pub on_target : Bool → List Frame → Token → Option Place
 on_target mark fs (Name x) = at (Done mark) fs
 on_target mark fs _ = None
 
--- a closing parenthesis behind an expression ends the innermost group or call
+-- a closing parenthesis after an expression ends the innermost group or call
 abbrev pub on_close : List Frame → Option Place
 on_close (InGroup mark ∷ fs) = at (Callee mark) fs
 on_close (InCall n mark ∷ fs) = at (Callee mark) fs
 on_close _ = None
 
--- a comma behind an expression comes before a further argument, while some may follow
+-- a comma after an expression comes before another argument, while more may follow
 abbrev pub on_comma : List Frame → Option Place
 on_comma (InCall (suc n) mark ∷ fs) = at Whole (InCall n mark ∷ fs)
 on_comma (InCommand (suc n) ∷ fs) = at Whole (InCommand n ∷ fs)
 on_comma _ = None
 
--- a semicolon behind an expression comes where no parenthesis is open
+-- a semicolon after an expression comes if no parenthesis is open
 abbrev pub on_semi : List Frame → Option Place
 on_semi [] = at Start []
 on_semi (InCommand n ∷ fs) = at Start []
 on_semi _ = None
 
--- behind an operand that is no callee
+-- after an operand that can't be called
 abbrev pub on_done : Bool → List Frame → Token → Option Place
 on_done mark fs (Operator op) = at (Want false) fs
 on_done mark fs (Set op) = if mark then at Whole fs else None
@@ -75,22 +75,23 @@ on_done mark fs Comma = on_comma fs
 on_done mark fs Semi = on_semi fs
 on_done mark fs _ = None
 
--- behind a callee: a call, or what follows an operand
+-- after a callee: a call, or what follows an operand
 abbrev pub on_callee : Bool → List Frame → Token → Option Place
 on_callee mark fs Open = at Opened (InCall more_arguments mark ∷ fs)
 on_callee mark fs t = on_done mark fs t
 
--- behind a name that begins an expression: an assignment, or what follows a callee
+-- after a name that begins an expression: an assignment, or what follows a callee
 abbrev pub on_variable : List Frame → Token → Option Place
 on_variable fs (Set op) = at Whole fs
 on_variable fs t = on_callee false fs t
 
--- behind the opening parenthesis of a call
+-- after the opening parenthesis of a call
 abbrev pub on_opened : List Frame → Token → Option Place
 on_opened fs Close = on_close fs
 on_opened fs t = on_whole fs t
 
--- behind the name that begins a statement, which is `ld` or not: arguments, a file, or what follows a name of an expression
+-- after the name that begins a statement, which is `ld` or not: arguments, a file, or what follows a name in an
+-- expression
 abbrev pub on_named : Bool → Token → Option Place
 on_named ld (Number n) = on_whole (InCommand more_arguments ∷ []) (Number n)
 on_named ld (Str text) = on_whole (InCommand more_arguments ∷ []) (Str text)
@@ -100,23 +101,23 @@ on_named ld Com = on_whole (InCommand more_arguments ∷ []) Com
 on_named ld Redirect = if ld then at AtFile [] else None
 on_named ld t = on_variable [] t
 
--- where a statement begins
+-- at the beginning of a statement
 abbrev pub on_start : Token → Option Place
 on_start Semi = at Start []
 on_start (Name x) = at (Named (is_ld x)) []
 on_start t = on_whole [] t
 
--- behind `ld <`
+-- after `ld <`
 abbrev pub on_file : Token → Option Place
 on_file (File file) = at Loaded []
 on_file _ = None
 
--- behind the file
+-- after the file
 abbrev pub on_loaded : Token → Option Place
 on_loaded Semi = at Start []
 on_loaded _ = None
 
--- what comes after the token, or none where it is not allowed
+-- the place after the token, or none if the token isn't allowed
 abbrev pub step : Mode → List Frame → Token → Option Place
 step Start fs t = on_start t
 step (Named ld) fs t = on_named ld t
@@ -130,7 +131,7 @@ step Opened fs t = on_opened fs t
 step AtFile fs t = on_file t
 step Loaded fs t = on_loaded t
 
--- how many tokens are allowed, from a token on that leads to this place
+-- how many tokens are allowed, from a token that leads to this place on
 abbrev pub begun_after : Option Place → (Mode → List Frame → ℕ) → ℕ
 begun_after None go = 0
 begun_after (Some p) go = suc (go p.mode p.frames)
@@ -140,6 +141,6 @@ abbrev pub begun_from : List Token → Mode → List Frame → ℕ
 begun_from [] mode fs = 0
 begun_from (t ∷ ts) mode fs = begun_after (step mode fs t) (λ m gs. begun_from ts m gs)
 
--- how many tokens at the front of these begin some line
+-- how many of the first tokens some line begins with
 unfoldable pub begun : List Token → ℕ
 begun ts = begun_from ts Start []

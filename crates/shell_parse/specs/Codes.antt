@@ -9,7 +9,7 @@ use Rattle.shell_parse.specs.declared.tree.UnOp.TheVariants.{Neg, Not, Com}
 use Rattle.shell_parse.specs.Trees.{PlainTree, Number, Str, Name, Address, Word, Unary, Binary, SetName, SetWord, Call, Arguments, End, Then, PlainStmt, Nothing, Load, Command, Expr}
 use base.Stored.{Gv, gnil, gnum, gcons, Coded}
 
--- the operators in an order of their own
+-- the operators, in the order of their numbers
 abbrev pub operators : List BinOp
 operators = OrElse ∷ AndAlso ∷ Or ∷ Xor ∷ And ∷ Eq ∷ Ne ∷ Lt ∷ Le ∷ Gt ∷ Ge ∷ Shl ∷ Shr ∷ Plus ∷ Minus ∷ Times ∷ Over ∷ Rest ∷ []
 
@@ -34,7 +34,7 @@ op_number Times = 15
 op_number Over = 16
 op_number Rest = 17
 
--- the operator of a number
+-- the operator with this number
 abbrev pub op_of_number : ℕ → BinOp
 op_of_number n = slice_index_or operators n Plus
 
@@ -63,7 +63,7 @@ abbrev pub bytes_code : List ℕ → Gv
 bytes_code [] = gnil
 bytes_code (b ∷ bs) = gcons (gnum b) (bytes_code bs)
 
--- the bytes of a ghost value
+-- the bytes that a ghost value stores
 abbrev pub bytes_of_code : Gv → List ℕ
 bytes_of_code (gcons (gnum b) bs) = b ∷ bytes_of_code bs
 bytes_of_code _ = []
@@ -86,7 +86,7 @@ abbrev mutual
   arguments_code End = gnil
   arguments_code (Then e es) = gcons (tree_code e) (arguments_code es)
 
--- the tree and the arguments of a ghost value
+-- the tree and the arguments that a ghost value stores
 abbrev mutual
   pub tree_of_code : Gv → PlainTree
   tree_of_code (gcons (gnum zero) (gnum n)) = Number n
@@ -167,7 +167,7 @@ stmt_code (Command callee es) = gcons (gnum 0) (gcons (bytes_code callee) (argum
 stmt_code (Load file) = gcons (gnum 1) (bytes_code file)
 stmt_code (Expr t) = gcons (gnum 2) (tree_code t)
 
--- the statement of a ghost value
+-- the statement that a ghost value stores
 abbrev pub stmt_of_code : Gv → PlainStmt
 stmt_of_code (gcons (gnum zero) (gcons callee es)) = Command (bytes_of_code callee) (arguments_of_code es)
 stmt_of_code (gcons (gnum (suc zero)) file) = Load (bytes_of_code file)

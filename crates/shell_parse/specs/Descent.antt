@@ -1,4 +1,4 @@
--- Reading trees from the front of a list of tokens, as far as they go, at most so many calls deep.
+-- Reading trees from the first tokens of a list, as far as they go, at most n calls deep.
 use Rattle.std.specs.Prelude.{ℕ, zero, suc, ◌+◌, ◌*◌, List, [], ◌∷◌, length, Option, Some, None, ◌==◌, if◌then◌else◌}
 use Rattle.shell_parse.specs.declared.tree.BinOp.{BinOp}
 use Rattle.shell_parse.specs.declared.tree.BinOp.TheVariants.{Minus, Times, And}
@@ -10,13 +10,13 @@ use Rattle.shell_parse.specs.Grammar.{most_arguments, is_ld}
 use Rattle.shell_parse.specs.Trees.{PlainTree, Arguments, End, Then, PlainStmt, Nothing, Load, Command, Expr}
 use Rattle.shell_parse.specs.Trees as trees
 
--- what a second reader makes of what the first read
+-- what a second reader makes of the rest that the first one leaves
 infixl 10 ◌>>=◌
 abbrev pub ◌>>=◌ : {A B : Type 0} → Option A → (A → Option B) → Option B
 (Some x) >>= f = f x
 None >>= f = None
 
--- what is read at the front, and the tokens behind it
+-- what is read from the first tokens, and the tokens after it
 abbrev pub Reads : Type 0 → Type 0
 Reads X = Option (X × List Token)
 
@@ -26,44 +26,44 @@ mapped f read = do
   x ← read
   Some (f x.0, x.1)
 
--- the tokens behind a closing parenthesis
+-- the tokens after a closing parenthesis
 abbrev pub closed : List Token → Option (List Token)
 closed (Close ∷ ts) = Some ts
 closed _ = None
 
--- the tokens behind an opening parenthesis
+-- the tokens after an opening parenthesis
 abbrev pub opened : List Token → Option (List Token)
 opened (Open ∷ ts) = Some ts
 opened _ = None
 
--- the tokens behind a comma
+-- the tokens after a comma
 abbrev pub parted : List Token → Option (List Token)
 parted (Comma ∷ ts) = Some ts
 parted _ = None
 
--- the tokens behind a star
+-- the tokens after a star
 abbrev pub starred : List Token → Option (List Token)
 starred (Operator Times ∷ ts) = Some ts
 starred _ = None
 
--- the name at the front
+-- the name that comes first
 abbrev pub named : List Token → Reads (List ℕ)
 named (Name x ∷ ts) = Some (x, ts)
 named _ = None
 
--- the assignment at the front
+-- the assignment that comes first
 abbrev pub assigned : List Token → Reads (Option BinOp)
 assigned (Set op ∷ ts) = Some (op, ts)
 assigned _ = None
 
--- the name and the assignment at the front
+-- the name and the assignment that come first
 abbrev pub name_assigned : List Token → Option (List ℕ × Option BinOp × List Token)
 name_assigned ts = do
   x ← named ts
   op ← assigned x.1
   Some (x.0, op.0, op.1)
 
--- an operator of this level at the front
+-- the operator of this level that comes first
 abbrev pub operator_at : ℕ → List Token → Reads BinOp
 operator_at n (Operator op ∷ ts) = if level_of op == n then Some (op, ts) else None
 operator_at n _ = None
@@ -75,19 +75,19 @@ more_by right go a ts (Some x) = do
   go (trees.Binary x.0 a b.0) b.1
 more_by right go a ts None = Some (a, ts)
 
--- behind an operand, the operators of the tightest n levels, one level after the other
+-- after an operand, the operators of the tightest n levels, one level after another
 abbrev pub climb_by : (ℕ → PlainTree → List Token → Reads PlainTree) → (ℕ → PlainTree → List Token → Reads PlainTree) → ℕ → PlainTree → List Token → Reads PlainTree
 climb_by climb more zero a ts = Some (a, ts)
 climb_by climb more (suc n) a ts = do
   b ← climb n a ts
   more n b.0 b.1
 
--- behind a star and its operand: an assignment, or operators
+-- after a star and its operand: an assignment, or operators
 abbrev pub star_by : (List Token → Reads PlainTree) → (PlainTree → List Token → Reads PlainTree) → PlainTree → List Token → Reads (Option BinOp) → Reads PlainTree
 star_by whole climb a ts (Some op) = mapped (trees.SetWord op.0 a) (whole op.1)
 star_by whole climb a ts None = climb (trees.Word a) ts
 
--- an expression: an assignment to a name, what begins with a star, or else operands
+-- an expression: an assignment to a name, something that begins with a star, or else operands
 abbrev pub whole_by : (List Token → Reads PlainTree) → (List Token → Reads PlainTree) → (List Token → Reads PlainTree) → List Token
     → Option (List ℕ × Option BinOp × List Token) → Option (List Token) → Reads PlainTree
 whole_by whole star operands ts (Some left) us = mapped (trees.SetName left.1 left.0) (whole left.2)
@@ -110,14 +110,14 @@ unary_by operand whole calls (Open ∷ ts) = do
   calls e.0 rest
 unary_by operand whole calls _ = None
 
--- the calls behind a callee
+-- the calls after a callee
 abbrev pub calls_by : (List Token → Reads Arguments) → (PlainTree → List Token → Reads PlainTree) → PlainTree → List Token → Option (List Token) → Reads PlainTree
 calls_by arguments go callee ts (Some us) = do
   es ← arguments us
   go (trees.Call callee es.0) es.1
 calls_by arguments go callee ts None = Some (callee, ts)
 
--- the arguments behind this one, if a comma follows it
+-- the arguments after this one, if a comma follows it
 abbrev pub listed_by : (List Token → Reads Arguments) → PlainTree → List Token → Option (List Token) → Reads Arguments
 listed_by go e ts (Some us) = mapped (Then e) (go us)
 listed_by go e ts None = Some (Then e End, ts)
@@ -130,7 +130,7 @@ args_by listed ts None = do
   rest ← closed es.1
   Some (es.0, rest)
 
--- the first number says how many calls deep; listed_at reads at most k arguments
+-- the first number says how many calls deep to read; listed_at reads at most k arguments
 unfoldable mutual
   pub whole_at : ℕ → List Token → Reads PlainTree
   whole_at zero ts = None
@@ -175,12 +175,12 @@ unfoldable mutual
     e ← whole_at n ts
     listed_by (λ us. listed_at n k us) e.0 e.1 (parted e.1)
 
--- behind `ld <`, the file
+-- after `ld <`, the file
 abbrev pub file_by : List Token → Reads PlainStmt
 file_by (File file ∷ ts) = Some (Load file, ts)
 file_by _ = None
 
--- the statement that begins with this name: by the token behind it a command, a load or an expression
+-- the statement that begins with this name: a command, a load or an expression, by the token after it
 abbrev pub named_by : (List Token → Reads PlainTree) → (List Token → Reads Arguments) → List ℕ → List Token → Reads PlainStmt
 named_by whole listed callee (Number n ∷ ts) = mapped (Command callee) (listed (Number n ∷ ts))
 named_by whole listed callee (Str text ∷ ts) = mapped (Command callee) (listed (Str text ∷ ts))
@@ -190,18 +190,18 @@ named_by whole listed callee (Com ∷ ts) = mapped (Command callee) (listed (Com
 named_by whole listed callee (Redirect ∷ ts) = if is_ld callee then file_by ts else None
 named_by whole listed callee ts = mapped Expr (whole (Name callee ∷ ts))
 
--- a statement at the front
+-- the statement that comes first
 abbrev pub stmt_by : (List Token → Reads PlainTree) → (List Token → Reads Arguments) → List Token → Reads PlainStmt
 stmt_by whole listed [] = Some (Nothing, [])
 stmt_by whole listed (Semi ∷ ts) = Some (Nothing, Semi ∷ ts)
 stmt_by whole listed (Name callee ∷ ts) = named_by whole listed callee ts
 stmt_by whole listed ts = mapped Expr (whole ts)
 
--- a statement at the front, whose expressions are read at most n calls deep
+-- the statement that comes first, with its expressions read at most n calls deep
 unfoldable pub stmt_at : ℕ → List Token → Reads PlainStmt
 stmt_at n ts = stmt_by (λ us. whole_at n us) (λ us. listed_at n most_arguments us) ts
 
--- the statements from this one on, which has these tokens behind it
+-- the statements from this one on, with these tokens after it
 abbrev pub line_by : (List Token → Option (List PlainStmt)) → PlainStmt → List Token → Option (List PlainStmt)
 line_by go s [] = Some (s ∷ [])
 line_by go s (Semi ∷ ts) = do
@@ -216,6 +216,6 @@ line_at (suc k) n ts = do
   s ← stmt_at n ts
   line_by (λ us. line_at k n us) s.0 s.1
 
--- the statements of a line, whose number and whose depth its length bounds; none where it has no tree
+-- the statements of a line, whose length bounds their number and depth; none if the line has no tree
 abbrev pub stmts_of : List Token → Option (List PlainStmt)
 stmts_of ts = line_at (length ts + 1) (20 * length ts + 20) ts

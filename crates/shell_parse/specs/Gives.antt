@@ -1,9 +1,9 @@
--- What a reader of the code answers, by what is read in the definitions.
+-- What a reader of the code answers, compared with what the definitions read.
 use Rattle.std.specs.Prelude.{◌≡◌, Option, Some, None, Result, Ok, Err}
 use Rattle.shell_parse.specs.declared.descent.ReadErr.{ReadErr}
 use Rattle.shell_parse.specs.declared.descent.ReadErr.TheVariants.{NoTree, NoMemory}
 
--- nothing is read; want of memory says nothing
+-- nothing is read; an answer that memory ran out says nothing
 abbrev pub Fails : {Y : Type 0} → ReadErr → Option Y → Type 0
 Fails NoTree read = read ≡ None
 Fails NoMemory read = Unit {0}

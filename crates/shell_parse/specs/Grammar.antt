@@ -1,5 +1,6 @@
--- The grammar of a line, over its tokens: the project's own narrowing of the shell's language, as the shell chapter of the
--- VxWorks 5.4 Programmer's Guide has it. `Unary ts e rest` says that the operand e stands at the front of ts, and rest is behind it.
+-- The grammar of a line, over its tokens: the project's own narrowing of the shell's language, as the shell
+-- chapter of the
+-- VxWorks 5.4 Programmer's Guide has it. `Unary ts e rest` says that ts begins with the operand e, followed by rest.
 use Rattle.std.specs.Prelude.{◌≡◌, ℕ, zero, suc, Bool, true, false, IsTrue, List, [], ◌∷◌, Option, bytes_eq, codes}
 use Rattle.shell_parse.specs.declared.tree.BinOp.{BinOp}
 use Rattle.shell_parse.specs.declared.tree.BinOp.TheVariants.{Minus, Times, And}
@@ -10,12 +11,13 @@ use Rattle.shell_parse.specs.Levels.{level_of, levels}
 use Rattle.shell_parse.specs.Trees.{PlainTree, Arguments, End, Then, PlainStmt, Nothing, Load, Command, Expr}
 use Rattle.shell_parse.specs.Trees as trees
 
--- how many arguments a call has at most
+-- the most arguments of a call
 abbrev pub most_arguments : ℕ
 most_arguments = 10
 
 mutual
-  -- an expression: operands with operators between, or an assignment, whose left side is a name, or a star and an operand
+  -- an expression: operands with operators in between, or an assignment, whose left side is a name, or a star and
+  -- an operand
   pub data Expression : List Token → PlainTree → List Token → Type 0 where
     plain : {ts rest : List Token} {e : PlainTree} → Level levels ts e rest → Expression ts e rest
     set_name : {x : List ℕ} {op : Option BinOp} {ts rest : List Token} {e : PlainTree} → Expression ts e rest
@@ -23,18 +25,19 @@ mutual
     set_word : {op : Option BinOp} {ts mid rest : List Token} {a e : PlainTree} → Unary ts a (Set op ∷ mid) → Expression mid e rest
         → Expression (Operator Times ∷ ts) (trees.SetWord op a e) rest
 
-  -- operands with operators of the tightest n levels between
+  -- operands with operators of the tightest n levels in between
   pub data Level : ℕ → List Token → PlainTree → List Token → Type 0 where
     operand : {ts rest : List Token} {e : PlainTree} → Unary ts e rest → Level zero ts e rest
     level : {n : ℕ} {ts mid rest : List Token} {a e : PlainTree} → Level n ts a mid → More n a mid e rest → Level (suc n) ts e rest
 
-  -- e is a, and what operators of level n and their right sides follow it, from left to right
+  -- e is a, followed by operators of level n and their right sides, from left to right
   pub data More : ℕ → PlainTree → List Token → PlainTree → List Token → Type 0 where
     stop : {n : ℕ} {a : PlainTree} {ts : List Token} → More n a ts a ts
     operator : {n : ℕ} {op : BinOp} {a b e : PlainTree} {ts mid rest : List Token} → level_of op ≡ n → Level n ts b mid
         → More n (trees.Binary op a b) mid e rest → More n a (Operator op ∷ ts) e rest
 
-  -- an operand: an operator before another, the address of a name, a literal, or a callee and the calls behind it
+  -- an operand: an operator before another operand, the address of a name, a literal, or a callee and the calls
+  -- after it
   pub data Unary : List Token → PlainTree → List Token → Type 0 where
     negated : {ts rest : List Token} {e : PlainTree} → Unary ts e rest → Unary (Operator Minus ∷ ts) (trees.Unary before.Neg e) rest
     inverted : {ts rest : List Token} {e : PlainTree} → Unary ts e rest → Unary (Not ∷ ts) (trees.Unary before.Not e) rest
@@ -46,7 +49,7 @@ mutual
     name : {x : List ℕ} {ts rest : List Token} {e : PlainTree} → Calls (trees.Name x) ts e rest → Unary (Name x ∷ ts) e rest
     group : {ts mid rest : List Token} {callee e : PlainTree} → Expression ts callee (Close ∷ mid) → Calls callee mid e rest → Unary (Open ∷ ts) e rest
 
-  -- e is the callee, and what calls follow it, each of which calls what stands before it
+  -- e is the callee and the calls that follow it, each of which calls what comes before it
   pub data Calls : PlainTree → List Token → PlainTree → List Token → Type 0 where
     no_call : {callee : PlainTree} {ts : List Token} → Calls callee ts callee ts
     call : {callee e : PlainTree} {es : Arguments} {ts mid rest : List Token} → Args ts es (Close ∷ mid) → Calls (trees.Call callee es) mid e rest
@@ -57,13 +60,13 @@ mutual
     none : {ts : List Token} → Args ts End ts
     some : {ts rest : List Token} {es : Arguments} → Listed most_arguments ts es rest → Args ts es rest
 
-  -- one argument or several, at most so many, with commas between
+  -- one argument or several, at most n, with commas in between
   pub data Listed : ℕ → List Token → Arguments → List Token → Type 0 where
     one : {n : ℕ} {ts rest : List Token} {e : PlainTree} → Expression ts e rest → Listed (suc n) ts (Then e End) rest
     next : {n : ℕ} {ts mid rest : List Token} {e : PlainTree} {es : Arguments} → Expression ts e (Comma ∷ mid) → Listed n mid es rest
         → Listed (suc n) ts (Then e es) rest
 
--- whether a name before these tokens, where a statement begins, is called without parentheses
+-- whether a name that begins a statement and is followed by these tokens is called without parentheses
 abbrev pub begins_argument : List Token → Bool
 begins_argument (Number n ∷ ts) = true
 begins_argument (Str text ∷ ts) = true
@@ -72,7 +75,7 @@ begins_argument (Not ∷ ts) = true
 begins_argument (Com ∷ ts) = true
 begins_argument _ = false
 
--- whether a name is that of the statement which loads a file
+-- whether a name is `ld`, which begins the statement that loads a file
 abbrev pub is_ld : List ℕ → Bool
 is_ld x = bytes_eq x (codes "ld")
 

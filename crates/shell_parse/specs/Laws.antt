@@ -1,4 +1,4 @@
--- What follows of the definitions alone.
+-- What follows from the definitions alone.
 use Rattle.std.specs.Prelude.{◌≡◌, ◌↔◌, ℕ, List}
 use Rattle.shell_parse.specs.declared.token.Token.{Token}
 use Rattle.shell_parse.specs.Tokens.{tokens_of, bare}
@@ -11,7 +11,8 @@ use Rattle.shell_parse.specs.Parsed.{HasNone}
 abbrev pub ReadLaw : Type 0
 ReadLaw = (line : List ℕ) (stmts : List PlainStmt) → (read_line line ≡ Statements stmts) ↔ IsLine (bare (tokens_of line)) stmts
 
--- where a column is read, the line has no statements, and the column is that of the first token that no line goes on with
+-- if a column is read, the line has no statements, and the column is that of the first token with which no line
+-- continues
 abbrev pub RefusedLaw : Type 0
 RefusedLaw = (line : List ℕ) (column : ℕ) → read_line line ≡ Refused column → HasNone line column
 

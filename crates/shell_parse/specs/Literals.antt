@@ -9,29 +9,29 @@ use Rattle.shell_parse.specs.declared.token.Token.{Token}
 use Rattle.shell_parse.specs.declared.token.Token.TheVariants.{Number, Str, Unknown}
 use Rattle.shell_parse.specs.Ascii.{next_is}
 
--- whether these are digits of the radix, one at least
+-- whether these are digits of the radix, at least one
 abbrev pub are_digits : ℕ → List ℕ → Bool
 are_digits radix digits = not (length digits == 0) && list_all (λ b. is_digit b radix) digits
 
--- a number, if it has 32 bits
+-- a number, if it fits in 32 bits
 abbrev pub value_within : ℕ → Option ℕ
 value_within value = if nat_le value greatest_word then Some value else None
 
--- the number that these write as digits of the radix, if they are such and it has 32 bits
+-- the number that these digits of the radix spell, if they are such and it fits in 32 bits
 abbrev pub number_in : ℕ → List ℕ → Option ℕ
 number_in radix digits = if are_digits radix digits then value_within (digits_value radix digits) else None
 
--- the number that a word writes: hexadecimal behind `0x`, octal behind `0`, else decimal
+-- the number that a word spells: hexadecimal after `0x`, octal after `0`, else decimal
 abbrev pub number_of : List ℕ → Option ℕ
 number_of (b ∷ c ∷ bs) = if b == code "0" && c == code "x" then number_in 16 bs else (if b == code "0" then number_in 8 (b ∷ c ∷ bs) else number_in 10 (b ∷ c ∷ bs))
 number_of word = number_in 10 word
 
--- the byte that an escape stands for, by the byte behind its backslash
+-- the byte that an escape stands for, given the byte after its backslash
 abbrev pub escaped : ℕ → Option ℕ
 escaped b = if b == code "n" then Some 10 else (if b == code "t" then Some 9 else (if b == code "r" then Some 13 else (if b == code "0" then Some 0
     else (if b == code "\\" || (b == code "'" || b == code "\"") then Some b else None))))
 
--- a literal that isn't finished, or isn't one
+-- a literal that isn't finished or isn't valid
 abbrev pub unfinished : Token × ℕ
 unfinished = (Unknown, 0)
 
@@ -40,7 +40,8 @@ abbrev pub escaped_character : Option ℕ → List ℕ → Token × ℕ
 escaped_character (Some v) bs = if next_is (code "'") bs then (Number v, 3) else unfinished
 escaped_character None bs = unfinished
 
--- the character behind whose opening quote these bytes stand, and how many of them belong to it: one byte or one escape, and the closing quote
+-- the character whose opening quote these bytes follow, and how many of them belong to it: one byte or one escape,
+-- and the closing quote
 abbrev pub character_at : List ℕ → Token × ℕ
 character_at (b ∷ c ∷ bs) =
     if b == code "\\" then escaped_character (escaped c) bs else (if not (b == code "'") && c == code "'" then (Number b, 2) else unfinished)
@@ -51,7 +52,8 @@ abbrev pub behind_escape : Option ℕ → (ℕ → Token × ℕ) → Token × �
 behind_escape (Some v) go = go v
 behind_escape None go = unfinished
 
--- the string of which n bytes are read behind its opening quote, which stand for this text; the mark says that the last of them is a backslash
+-- a string of which n bytes have been read after its opening quote, which stand for this text; the mark says that the
+-- last of them is a backslash
 abbrev pub string_from : Bool → List ℕ → ℕ → List ℕ → Token × ℕ
 string_from mark text n [] = unfinished
 string_from true text n (b ∷ bs) = behind_escape (escaped b) (λ v. string_from false (text ++ v ∷ []) (n + 1) bs)
@@ -59,6 +61,6 @@ string_from false text n (b ∷ bs) = if b == code "\"" then (Str text, n + 1) e
     then string_from true text (n + 1) bs
     else string_from false (text ++ b ∷ []) (n + 1) bs)
 
--- the string behind whose opening quote these bytes stand, and how many of them belong to it
+-- the string whose opening quote these bytes follow, and how many of them belong to it
 unfoldable pub string_at : List ℕ → Token × ℕ
 string_at bs = string_from false [] 0 bs

@@ -1,4 +1,4 @@
--- What reading a line gives: its statements, or the column of the first token that is refused.
+-- What reading a line gives: its statements, or the column of the first refused token.
 use Rattle.std.specs.Prelude.{ℕ, ◌+◌, List, ◌∷◌, ◌++◌, Option, Some, None, unwrap_or, slice_get, take, length}
 use Rattle.shell_parse.specs.declared.token.Token.{Token}
 use Rattle.shell_parse.specs.Tokens.{Placed, tokens_of, bare, columns}
@@ -11,12 +11,12 @@ use Rattle.shell_parse.specs.Allowed.{begun}
 abbrev pub Begins : List Token → Type 0
 Begins front = (more : List Token) × ((ss : List PlainStmt) × IsLine (front ++ more) ss)
 
--- some line goes on behind these with this token; the end, which is none, goes on where they are a line
+-- some line continues after these tokens with this one; the end, given as none, may come if they are a whole line
 abbrev pub MayCome : List Token → Option Token → Type 0
 MayCome front (Some t) = (more : List Token) × ((ss : List PlainStmt) × IsLine (front ++ t ∷ more) ss)
 MayCome front None = (ss : List PlainStmt) × IsLine front ss
 
--- token number k is the first that no line goes on with
+-- token number k is the first with which no line continues
 pub record IsRefusedAt (ts : List Token) (k : ℕ) : Type 0 where
   pub begins : Begins (take k ts)
   pub refused : MayCome (take k ts) (slice_get ts k) → ⊥
@@ -25,12 +25,12 @@ pub record IsRefusedAt (ts : List Token) (k : ℕ) : Type 0 where
 abbrev pub column_of : List ℕ → List Placed → ℕ → ℕ
 column_of line tokens k = unwrap_or (slice_get (columns tokens) k) (length line + 1)
 
--- a reading: the statements of a line, or the column of the first token that is refused
+-- a reading: the statements of a line, or the column of the first refused token
 pub data Reading : Type 0 where
   Statements : List PlainStmt → Reading
   Refused : ℕ → Reading
 
--- the statements that are read, or else the column of the refused token
+-- the statements that are read, or otherwise the column of the refused token
 abbrev pub reading_of : Option (List PlainStmt) → ℕ → Reading
 reading_of (Some stmts) column = Statements stmts
 reading_of None column = Refused column

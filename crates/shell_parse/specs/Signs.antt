@@ -1,4 +1,4 @@
--- Operators and marks: the longest one that begins the bytes is taken, as in C (ISO/IEC 9899, 6.4).
+-- Operators and punctuation: the longest one that the bytes begin with is taken, as in C (ISO/IEC 9899, 6.4).
 use Rattle.std.specs.Prelude.{ℕ, List, Option, Some, None, ◌==◌, if◌then◌else◌, drop}
 use Prim.Native.Char.{code}
 use Rattle.shell_parse.specs.declared.tree.BinOp.{BinOp}
@@ -11,32 +11,32 @@ use Rattle.shell_parse.specs.Ascii.{next_is}
 abbrev pub or_set : BinOp → List ℕ → Token × ℕ
 or_set op bs = if next_is (code "=") bs then (Set (Some op), 1) else (Operator op, 0)
 
--- an operator, or a token of no tree
+-- an operator, or a token that no tree has
 abbrev pub token_of : Option BinOp → Token
 token_of (Some op) = Operator op
 token_of None = Unknown
 
--- `op` or `op=`, or where the byte b stands twice a token of its own
+-- `op` or `op=`, or, if the byte b comes twice, a token of its own
 abbrev pub or_twice : ℕ → Option BinOp → BinOp → List ℕ → Token × ℕ
 or_twice b twice op bs = if next_is b bs then (token_of twice, 1) else or_set op bs
 
--- a shift or its assignment, before whose second byte these bytes stand
+-- a shift or its assignment; these bytes follow its first byte
 abbrev pub shift_at : BinOp → List ℕ → Token × ℕ
 shift_at op bs = if next_is (code "=") (drop 1 bs) then (Set (Some op), 2) else (Operator op, 1)
 
--- a comparison with an equals sign behind it, or alone
+-- a comparison followed by an equals sign, or one without
 abbrev pub comparison_at : BinOp → BinOp → List ℕ → Token × ℕ
 comparison_at with_equals alone bs = if next_is (code "=") bs then (Operator with_equals, 1) else (Operator alone, 0)
 
--- a shift where the byte b stands twice, else a comparison
+-- a shift if the byte b comes twice, else a comparison
 abbrev pub angle_at : ℕ → BinOp → BinOp → BinOp → List ℕ → Token × ℕ
 angle_at b shift with_equals alone bs = if next_is b bs then shift_at shift bs else comparison_at with_equals alone bs
 
--- the mark of this byte
+-- the punctuation of this byte
 abbrev pub mark_of : ℕ → Token
 mark_of b = if b == code "~" then Com else (if b == code "(" then Open else (if b == code ")" then Close else (if b == code "," then Comma else (if b == code ";" then Semi else Unknown))))
 
--- the comparison, the negation or the assignment that begins with the byte b, or else the mark
+-- the comparison, negation or assignment that begins with the byte b, or else the punctuation
 abbrev pub comparing_at : ℕ → List ℕ → Token × ℕ
 comparing_at b bs =
     if b == code "<" then angle_at b Shl Le Lt bs
@@ -45,7 +45,7 @@ comparing_at b bs =
     else (if b == code "!" then (if next_is (code "=") bs then (Operator Ne, 1) else (Not, 0))
     else (mark_of b, 0))))
 
--- the operator or the mark that begins with the byte b, before these bytes, and how many of them belong to it
+-- the operator or punctuation that begins with the byte b, followed by these bytes, and how many of them belong to it
 unfoldable pub sign_at : ℕ → List ℕ → Token × ℕ
 sign_at b bs =
     if b == code "+" then or_twice b None Plus bs

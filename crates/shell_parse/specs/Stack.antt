@@ -1,7 +1,7 @@
 -- The first of a list, and the others.
 use Rattle.std.specs.Prelude.{List, [], ◌∷◌, Option, Some, None}
 
--- the first, where there is one
+-- the first, if there is one
 abbrev pub top_of : {X : Type 0} → List X → Option X
 top_of [] = None
 top_of (x ∷ xs) = Some x

@@ -17,19 +17,20 @@ abbrev pub number_token : Option ℕ → Token
 number_token (Some n) = Number n
 number_token None = Unknown
 
--- a word is a number where its first byte is a digit, else a name
+-- a word is a number if its first byte is a digit, else a name
 abbrev pub word_token : ℕ → List ℕ → Token
 word_token b word = if is_ascii_digit b then number_token (number_of word) else Name word
 
--- the byte b and those behind it as far as they may stand in a word
+-- the byte b, and the bytes after it that may be in a word
 abbrev pub word_at : ℕ → List ℕ → Token × ℕ
 word_at b bs = (word_token b (b ∷ take (prefix_len is_word_byte bs) bs), prefix_len is_word_byte bs)
 
--- the byte b and those behind it up to a blank or a semicolon: a file; a semicolon is no file
+-- the byte b, and the bytes after it up to a blank or a semicolon, are a file; a semicolon begins no file
 abbrev pub file_at : ℕ → List ℕ → Token × ℕ
 file_at b bs = if b == code ";" then (Semi, 0) else (File (b ∷ take (prefix_len is_file_byte bs) bs), prefix_len is_file_byte bs)
 
--- a token that begins with the byte b, which is no blank, before the bytes bs, and how many of these belong to it
+-- the token that begins with the byte b, which isn't a blank, followed by the bytes bs, and how many of these
+-- belong to it
 abbrev pub any_at : ℕ → List ℕ → Token × ℕ
 any_at b bs =
     if is_word_byte b then word_at b bs
@@ -37,7 +38,7 @@ any_at b bs =
     else (if b == code "\"" then string_at bs
     else sign_at b bs))
 
--- behind `ld`, `<` is no comparison
+-- after `ld`, `<` isn't a comparison
 abbrev pub redirected : Token → Token
 redirected (Operator Lt) = Redirect
 redirected t = t
@@ -49,11 +50,11 @@ token_at BehindLd b bs = (redirected (any_at b bs).0, (any_at b bs).1)
 token_at AtFile b bs = file_at b bs
 token_at Within b bs = any_at b bs
 
--- the spot behind a name that begins a statement
+-- the spot after a name that begins a statement
 abbrev pub behind_name : List ℕ → Spot
 behind_name name = if bytes_eq name (codes "ld") then BehindLd else Within
 
--- the spot behind a token
+-- the spot after a token
 abbrev pub spot_after : Spot → Token → Spot
 spot_after spot Semi = AtStart
 spot_after AtStart (Name x) = behind_name x
@@ -65,7 +66,8 @@ pub record Placed : Type 0 where
   pub token : Token
   pub column : ℕ
 
--- the tokens of these bytes, of which the first stands at this spot and column, and the first `passed` belong to the token before
+-- the tokens of these bytes; the first byte is at this spot and column, and the first `passed` bytes belong to the
+-- token before
 abbrev pub tokens_from : Spot → ℕ → ℕ → List ℕ → List Placed
 tokens_from spot column passed [] = []
 tokens_from spot column (suc passed) (b ∷ bs) = tokens_from spot (column + 1) passed bs

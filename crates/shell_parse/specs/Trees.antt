@@ -1,4 +1,4 @@
--- Trees and statements as plain data, without where they lie in memory.
+-- Trees and statements as plain data, independent of where they are in memory.
 use Rattle.std.specs.Prelude.{ℕ, List, [], ◌∷◌, Option, map}
 use Rattle.shell_parse.specs.declared.tree.BinOp.{BinOp}
 use Rattle.shell_parse.specs.declared.tree.UnOp.{UnOp}
@@ -30,7 +30,7 @@ abbrev pub arguments_of : List PlainTree → Arguments
 arguments_of [] = End
 arguments_of (e ∷ es) = Then e (arguments_of es)
 
--- one level of a tree, with each part of it already seen so
+-- one level of a tree, with each of its parts already as plain data
 abbrev pub plain_level : Tree-F PlainTree → PlainTree
 plain_level (Tree-F.Number n) = Number n
 plain_level (Tree-F.Str text) = Str text.items

@@ -10,40 +10,40 @@ use crate::token::Token;
 use crate::tree::BinOp;
 use std::alloc::{AllocError, Global};
 
-// The most arguments behind the first one of a call.
+// The most arguments after the first one of a call.
 const MORE_ARGUMENTS: u32 = 9;
 
-/// Where in a line a token may come. The mark of an operand says that an assignment may come behind it.
+/// Where in a line a token comes. The mark of an operand says that an assignment may follow it.
 #[derive(Clone, Copy, Debug, PartialEq, Eq)]
 pub(crate) enum Mode {
-    /// Where a statement begins.
+    /// At the beginning of a statement.
     Start,
-    /// Behind the name that begins a statement; whether it is `ld`.
+    /// After the name that begins a statement; the mark says whether the name is `ld`.
     Named(bool),
-    /// Where an expression has to come.
+    /// Where an expression must come.
     Whole,
-    /// Behind a name that begins an expression.
+    /// After a name that begins an expression.
     Variable,
-    /// Where an operand has to come.
+    /// Where an operand must come.
     Want(bool),
-    /// Behind the `&` before a name.
+    /// After `&`, before a name.
     Target(bool),
-    /// Behind an operand that is no callee.
+    /// After an operand that can't be called.
     Done(bool),
-    /// Behind a callee.
+    /// After a callee.
     Callee(bool),
-    /// Behind the opening parenthesis of a call.
+    /// After the opening parenthesis of a call.
     Opened,
-    /// Behind `ld <`.
+    /// After `ld <`.
     AtFile,
-    /// Behind the file of a load.
+    /// After the file of a load.
     Loaded,
 }
 
-// Each of these functions takes the token that comes, and answers the mode behind it; None where the
-// token is not allowed.
+// Each of these functions takes the next token, and returns the mode after it, or `None` if the
+// token isn't allowed.
 
-// Where an operand has to come.
+// Where an operand must come.
 fn operand(mark: bool, frames: &mut Frames, token: &Token) -> Result<Option<Mode>, AllocError>
     ensures { IfOk result (λ m. Steps m frames.new (on_operand mark frames.old token.now)) }
 {
@@ -62,7 +62,7 @@ fn operand(mark: bool, frames: &mut Frames, token: &Token) -> Result<Option<Mode
     }
 }
 
-// Where an expression has to come.
+// Where an expression must come.
 fn whole(frames: &mut Frames, token: &Token) -> Result<Option<Mode>, AllocError>
     ensures { IfOk result (λ m. Steps m frames.new (on_whole frames.old token.now)) }
 {
@@ -73,7 +73,7 @@ fn whole(frames: &mut Frames, token: &Token) -> Result<Option<Mode>, AllocError>
     }
 }
 
-// Behind the `&` before a name.
+// After `&`, before a name.
 fn target(mark: bool, frames: &Frames, token: &Token) -> Option<Mode>
     ensures { Steps result frames.now (on_target mark frames.now token.now) }
 {
@@ -83,7 +83,7 @@ fn target(mark: bool, frames: &Frames, token: &Token) -> Option<Mode>
     }
 }
 
-// A closing parenthesis behind an expression.
+// A closing parenthesis after an expression.
 fn close(frames: &mut Frames) -> Option<Mode>
     ensures { Steps result frames.new (on_close frames.old) }
 {
@@ -96,7 +96,7 @@ fn close(frames: &mut Frames) -> Option<Mode>
     }
 }
 
-// A comma behind an expression.
+// A comma after an expression.
 fn comma(frames: &mut Frames) -> Result<Option<Mode>, AllocError>
     ensures { IfOk result (λ m. Steps m frames.new (on_comma frames.old)) }
 {
@@ -110,7 +110,7 @@ fn comma(frames: &mut Frames) -> Result<Option<Mode>, AllocError>
     Ok(Some(Mode::Whole))
 }
 
-// A semicolon behind an expression.
+// A semicolon after an expression.
 fn semi(frames: &mut Frames) -> Option<Mode>
     ensures { Steps result frames.new (on_semi frames.old) }
 {
@@ -124,7 +124,7 @@ fn semi(frames: &mut Frames) -> Option<Mode>
     }
 }
 
-// Behind an operand that is no callee.
+// After an operand that can't be called.
 fn done(mark: bool, frames: &mut Frames, token: &Token) -> Result<Option<Mode>, AllocError>
     ensures { IfOk result (λ m. Steps m frames.new (on_done mark frames.old token.now)) }
 {
@@ -138,7 +138,7 @@ fn done(mark: bool, frames: &mut Frames, token: &Token) -> Result<Option<Mode>, 
     }
 }
 
-// Behind a callee.
+// After a callee.
 fn callee(mark: bool, frames: &mut Frames, token: &Token) -> Result<Option<Mode>, AllocError>
     ensures { IfOk result (λ m. Steps m frames.new (on_callee mark frames.old token.now)) }
 {
@@ -151,7 +151,7 @@ fn callee(mark: bool, frames: &mut Frames, token: &Token) -> Result<Option<Mode>
     }
 }
 
-// Behind a name that begins an expression.
+// After a name that begins an expression.
 fn variable(frames: &mut Frames, token: &Token) -> Result<Option<Mode>, AllocError>
     ensures { IfOk result (λ m. Steps m frames.new (on_variable frames.old token.now)) }
 {
@@ -161,7 +161,7 @@ fn variable(frames: &mut Frames, token: &Token) -> Result<Option<Mode>, AllocErr
     }
 }
 
-// Behind the opening parenthesis of a call.
+// After the opening parenthesis of a call.
 fn opened(frames: &mut Frames, token: &Token) -> Result<Option<Mode>, AllocError>
     ensures { IfOk result (λ m. Steps m frames.new (on_opened frames.old token.now)) }
 {
@@ -171,7 +171,7 @@ fn opened(frames: &mut Frames, token: &Token) -> Result<Option<Mode>, AllocError
     }
 }
 
-// Behind the name that begins a statement.
+// After the name that begins a statement.
 fn named(ld: bool, frames: &mut Frames, token: &Token) -> Result<Option<Mode>, AllocError>
     ensures { IfOk result (λ m. Steps m frames.new (on_named ld token.now)) }
 {
@@ -186,7 +186,7 @@ fn named(ld: bool, frames: &mut Frames, token: &Token) -> Result<Option<Mode>, A
     }
 }
 
-// Where a statement begins.
+// At the beginning of a statement.
 fn start(frames: &mut Frames, token: &Token) -> Result<Option<Mode>, AllocError>
     ensures { IfOk result (λ m. Steps m frames.new (on_start token.now)) }
 {
@@ -198,7 +198,7 @@ fn start(frames: &mut Frames, token: &Token) -> Result<Option<Mode>, AllocError>
     }
 }
 
-// Behind `ld <`.
+// After `ld <`.
 fn file(frames: &mut Frames, token: &Token) -> Option<Mode>
     ensures { Steps result frames.new (on_file token.now) }
 {
@@ -209,7 +209,7 @@ fn file(frames: &mut Frames, token: &Token) -> Option<Mode>
     }
 }
 
-// Behind the file of a load.
+// After the file of a load.
 fn loaded(frames: &mut Frames, token: &Token) -> Option<Mode>
     ensures { Steps result frames.new (on_loaded token.now) }
 {
@@ -238,7 +238,7 @@ fn next_mode(mode: Mode, frames: &mut Frames, token: &Token) -> Result<Option<Mo
     }
 }
 
-/// How many tokens at the front begin some line.
+/// How many of the first tokens some line begins with.
 #[tactic(auto, unfolding(crate::specs::Allowed::begun))]
 pub(crate) fn begun_len(alloc: Global, tokens: &[Token]) -> Result<usize, AllocError>
     ensures { IfOk result (λ n. n ≡ begun tokens.now) }

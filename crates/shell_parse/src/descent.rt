@@ -15,7 +15,7 @@ use wind_base::{Name, NameErr};
 // The most arguments of a call.
 pub(crate) const ARGUMENTS: u32 = 10;
 
-// How many levels of operators there are.
+// The number of operator levels.
 const LEVELS: u32 = 10;
 
 /// Why nothing was read.
@@ -47,7 +47,7 @@ impl<T: Drop> From<AllocFailed<T>> for ReadErr {
     }
 }
 
-// What is read at the front of some tokens, and the tokens behind it.
+// What is read from the first tokens, and the tokens after it.
 pub(crate) type Reads<'a, X> = Result<(X, &'a [Token<'a>]), ReadErr>;
 
 pub(crate) fn name_of(alloc: Global, word: &Word) -> Result<Name, ReadErr>
@@ -128,7 +128,7 @@ fn in_front(first: Tree, mut rest: Vec<Tree>) -> Result<Vec<Tree>, ReadErr>
     Ok(rest)
 }
 
-// How tightly an operator binds: the tightest level is 0.
+// The level of an operator: 0 binds most tightly.
 fn level(op: BinOp) -> u32
     ensures { result ≡ level_of op }
 {
@@ -146,7 +146,7 @@ fn level(op: BinOp) -> u32
     }
 }
 
-// Behind a parenthesis, a comma or a star at the front, if it stands there.
+// The tokens after a parenthesis, a comma or a star, if the first token is one.
 
 fn closed<'a>(tokens: &'a [Token<'a>]) -> Option<&'a [Token<'a>]>
     ensures { option_map (λ rest. rest.now) result ≡ closed_lem tokens.now }
@@ -184,7 +184,7 @@ fn starred<'a>(tokens: &'a [Token<'a>]) -> Option<&'a [Token<'a>]>
     }
 }
 
-// A name, an assignment, or both, and the tokens behind.
+// A name, an assignment, or both, and the tokens after them.
 
 fn named<'a>(tokens: &'a [Token<'a>]) -> Option<(&'a Word<'a>, &'a [Token<'a>])>
     ensures { option_map (λ x. (x.0.now, x.1.now)) result ≡ named_lem tokens.now }
@@ -220,7 +220,7 @@ fn name_assigned<'a>(
     Some((word, op, rest))
 }
 
-// An operator of this level at the front.
+// The first token, if it is an operator of this level.
 fn front_operator<'a>(at: u32, tokens: &'a [Token<'a>]) -> Option<(BinOp, &'a [Token<'a>])>
     ensures { option_map (λ x. (x.0, x.1.now)) result ≡ operator_at at tokens.now }
 {
@@ -233,7 +233,7 @@ fn front_operator<'a>(at: u32, tokens: &'a [Token<'a>]) -> Option<(BinOp, &'a [T
     }
 }
 
-// The address of the name at the front.
+// The address of the name that comes first.
 fn address<'a>(alloc: Global, tokens: &'a [Token<'a>]) -> Reads<'a, Tree>
     ensures { Gives (λ x. (plain_tree x.0, x.1.now)) result (mapped trees.Address (named_lem tokens.now)) }
 {
@@ -243,7 +243,7 @@ fn address<'a>(alloc: Global, tokens: &'a [Token<'a>]) -> Reads<'a, Tree>
     }
 }
 
-// The tokens behind a closing parenthesis, which has to stand there.
+// The tokens after a closing parenthesis, which must come first.
 fn behind_close<'a>(tokens: &'a [Token<'a>]) -> Result<&'a [Token<'a>], ReadErr>
     ensures { Gives (λ rest. rest.now) result (closed_lem tokens.now) }
 {
@@ -272,7 +272,7 @@ pub(crate) fn whole<'a>(alloc: Global, depth: u32, tokens: &'a [Token<'a>]) -> R
     }
 }
 
-// Behind a star.
+// After a star.
 #[cycle(trees)]
 #[tactic(auto, unfolding(crate::specs::Descent::star_at))]
 fn star<'a>(alloc: Global, depth: u32, tokens: &'a [Token<'a>]) -> Reads<'a, Tree>

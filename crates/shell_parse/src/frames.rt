@@ -1,4 +1,4 @@
-//! What is open at a place of a line.
+//! What is open at a place in a line.
 
 ghost use Rattle.std.specs.Prelude.{◌≡◌, [], ◌∷◌, OnOk};
 ghost use Rattle.shell_parse.specs.Stack.{top_of, rest_of};
@@ -6,8 +6,8 @@ ghost use Rattle.shell_parse.specs.Stack.{top_of, rest_of};
 use std::alloc::{AllocError, Global};
 use std::marker::Model;
 
-/// What is open. The number says how many arguments may follow behind the one that is read now, and the
-/// mark whether an assignment may come behind the closing parenthesis.
+/// An open construct. The number says how many arguments may follow the one being read. The mark
+/// says whether an assignment may follow the closing parenthesis.
 #[derive(Clone, Copy, Debug, PartialEq, Eq)]
 pub(crate) enum Frame {
     /// Parentheses around an expression.
@@ -18,7 +18,7 @@ pub(crate) enum Frame {
     InCommand(u32),
 }
 
-/// What is open, one inside the other. The innermost is the first.
+/// What is open, innermost first.
 #[derive(Drop)]
 pub(crate) struct Frames {
     items: Vec<Frame>,
@@ -34,7 +34,7 @@ impl Model for Frames {
 }
 
 impl Frames {
-    /// Nothing is open.
+    /// Makes a stack on which nothing is open.
     pub fn new(alloc: Global) -> Self
         ensures { result ≡ [] }
     {

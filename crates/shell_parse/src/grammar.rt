@@ -17,8 +17,8 @@ use thiserror::Error;
 /// Why a line has no statements.
 #[derive(Clone, Copy, Debug, PartialEq, Eq, Error)]
 pub enum ParseErr {
-    /// The column, counted from 1, of the first token that no line of the grammar goes on with. The
-    /// end of the line is a token too, one column behind the last byte.
+    /// The column, counted from 1, of the first token with which no line of the grammar continues.
+    /// The end of the line is a token too, one column after the last byte.
     #[error("syntax error at column {0}")]
     Syntax(u32),
     /// Host memory ran out.
@@ -36,7 +36,8 @@ impl From<AllocError> for ParseErr {
     }
 }
 
-// The column of a token by its number, counted from 0; the end of the line stands behind the last.
+// The column of the token with this number, counted from 0; the end of the line comes after the
+// last.
 fn column(line: &[u8], columns: &[u32], number: usize) -> u32
     requires { length line.now ≤ longest_line }
     ensures { result ≡ unwrap_or (slice_get columns.now number) (length line.now + 1) }
@@ -47,7 +48,7 @@ fn column(line: &[u8], columns: &[u32], number: usize) -> u32
     }
 }
 
-// What reading a line gives.
+// The statements of a line, or why there are none.
 #[tactic(auto, unfolding(crate::specs::Reading::read_line))]
 fn read(alloc: Global, line: &[u8]) -> Result<Vec<Stmt>, ParseErr>
     requires { length line.now ≤ longest_line }
@@ -64,11 +65,11 @@ fn read(alloc: Global, line: &[u8]) -> Result<Vec<Stmt>, ParseErr>
     }
 }
 
-/// The statements of a line, which has at most 255 bytes. A line without a token has one statement, which
-/// is nothing.
+/// The statements of a line of at most 255 bytes. A line without tokens has one statement,
+/// `Nothing`.
 ///
-/// `Syntax` comes exactly where the grammar gives the line no statements; its column is that of the first
-/// token which no line goes on with.
+/// `Syntax` is returned exactly if the grammar gives the line no statements. Its column is that of
+/// the first token with which no line continues.
 #[tactic(auto, using(crate::proofs::Laws::read_trees, crate::proofs::Laws::read_none))]
 pub fn parse(alloc: Global, line: &[u8]) -> Result<Vec<Stmt>, ParseErr>
     requires { length line.now ≤ longest_line }
@@ -78,9 +79,9 @@ pub fn parse(alloc: Global, line: &[u8]) -> Result<Vec<Stmt>, ParseErr>
     read(alloc, line)
 }
 
-/// The law of reading: what `read_line` computes is what the grammar says. A line has the statements that
-/// are read, and no others; and where none are read it has none, and the column is that of the first token
-/// that no line of the grammar goes on with.
+/// The law of reading: what `read_line` computes is what the grammar says. A line has exactly the
+/// statements that are read. If none are read, it has none, and the column is that of the first
+/// token with which no line of the grammar continues.
 pub fn grammar_law()
     ensures read { ReadLaw }
     ensures refused { RefusedLaw }

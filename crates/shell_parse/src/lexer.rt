@@ -27,21 +27,21 @@ fn is_blank(byte: u8) -> bool
     byte == b' ' || byte == b'\t'
 }
 
-// Whether a byte may stand in a name or a number.
+// Whether a byte may be in a name or a number.
 fn is_word_byte(byte: u8) -> bool
     ensures { result ≡ is_word_byte_lem byte }
 {
     byte.is_ascii_alphanumeric() || byte == b'_'
 }
 
-// Whether a byte may stand in the name of a file.
+// Whether a byte may be in the name of a file.
 fn is_file_byte(byte: u8) -> bool
     ensures { result ≡ is_file_byte_lem byte }
 {
     !is_blank(byte) && byte != b';'
 }
 
-// How many bytes at the front may stand in a name or a number.
+// How many of the first bytes may be in a name or a number.
 fn word_len(bytes: &[u8]) -> usize
     ensures exact { result ≡ prefix_len is_word_byte_lem bytes.now }
     ensures inside { result ≤ length bytes.now }
@@ -49,7 +49,7 @@ fn word_len(bytes: &[u8]) -> usize
     bytes.iter().take_while(|byte| is_word_byte(**byte)).count()
 }
 
-// How many bytes at the front may stand in the name of a file.
+// How many of the first bytes may be in the name of a file.
 fn file_len(bytes: &[u8]) -> usize
     ensures exact { result ≡ prefix_len is_file_byte_lem bytes.now }
     ensures inside { result ≤ length bytes.now }
@@ -124,7 +124,7 @@ fn any<'a>(
     }
 }
 
-// Behind `ld`, `<` is no comparison.
+// After `ld`, `<` isn't a comparison.
 fn redirected(token: Token) -> Token
     ensures { result ≡ redirected_lem token.entry }
 {
@@ -134,8 +134,8 @@ fn redirected(token: Token) -> Token
     }
 }
 
-// The token at this spot that these bytes begin with, and how many bytes it has beside its first. They
-// begin with no blank.
+// The token at this spot that these bytes begin with, and how many bytes it has after its first.
+// The first byte isn't a blank.
 #[tactic(auto, unfolding(crate::specs::Tokens::token_at))]
 fn front<'a>(
     alloc: Global,

@@ -10,7 +10,7 @@ ghost use Rattle.shell_parse.specs.Literals.{are_digits as are_digits_lem, value
 use crate::token::{Text, Token};
 use std::alloc::{AllocError, Global};
 
-/// Whether this byte comes next.
+/// Whether the first byte is this one.
 pub(crate) fn next_is(byte: u8, bytes: &[u8]) -> bool
     ensures { result ≡ next_is_lem byte bytes.now }
 {
@@ -36,7 +36,7 @@ fn are_digits(radix: u32, digits: &[u8]) -> bool
     !digits.is_empty() && all_digits(radix, digits)
 }
 
-// The value of a digit: at most 35, or 36 where it is no digit of any radix.
+// The value of a digit: at most 35, or 36 if it is a digit in no radix.
 #[tactic(auto, using(crate::proofs::Digits::digit_most))]
 fn digit(byte: u8) -> u64
     ensures value { result ≡ digit_value byte }
@@ -48,7 +48,7 @@ fn digit(byte: u8) -> u64
     }
 }
 
-// The number of digits, where it has 32 bits.
+// The number with these digits, if it fits in 32 bits.
 fn value_within(radix: u32, digits: &[u8]) -> Option<u32>
     requires low { 2 ≤ radix }
     requires high { radix ≤ 16 }
@@ -76,7 +76,7 @@ fn number_in(radix: u32, digits: &[u8]) -> Option<u32>
     }
 }
 
-/// The number that a word writes: hexadecimal behind `0x`, octal behind `0`, else decimal.
+/// The number that a word spells: hexadecimal after `0x`, octal after `0`, else decimal.
 pub(crate) fn number_of(word: &[u8]) -> Option<u32>
     ensures { result ≡ number_of_lem word.now }
 {
@@ -87,7 +87,7 @@ pub(crate) fn number_of(word: &[u8]) -> Option<u32>
     }
 }
 
-// The byte that an escape stands for, by the byte behind its backslash.
+// The byte that an escape stands for, given the byte after its backslash.
 fn escaped(byte: u8) -> Option<u8>
     ensures { result ≡ escaped_lem byte }
 {
@@ -110,7 +110,7 @@ fn escaped_character<'a>(value: Option<u8>, bytes: &[u8]) -> (Token<'a>, usize)
     }
 }
 
-/// The character behind whose opening quote these bytes stand, and how many of them belong to it.
+/// The character whose opening quote these bytes follow, and how many of them belong to it.
 pub(crate) fn character<'a>(bytes: &[u8]) -> (Token<'a>, usize)
     ensures { result ≡ character_at bytes.now }
 {
@@ -128,7 +128,7 @@ pub(crate) fn character<'a>(bytes: &[u8]) -> (Token<'a>, usize)
     }
 }
 
-/// The string behind whose opening quote these bytes stand, and how many of them belong to it.
+/// The string whose opening quote these bytes follow, and how many of them belong to it.
 #[tactic(auto, unfolding(crate::specs::Literals::string_at))]
 pub(crate) fn string<'a>(alloc: Global, bytes: &[u8]) -> Result<(Token<'a>, usize), AllocError>
     ensures { IfOk result (λ x. x ≡ string_at bytes.now) }

@@ -1,4 +1,4 @@
-//! Operators and marks.
+//! Operators and punctuation.
 
 ghost use Rattle.std.specs.Prelude.{◌≡◌};
 ghost use Rattle.shell_parse.specs.Signs.{or_set as or_set_lem, token_of as token_of_lem, or_twice as or_twice_lem, shift_at, angle_at, mark_of, comparison_at, comparing_at, sign_at};
@@ -36,7 +36,7 @@ fn or_twice<'a>(byte: u8, twice: Option<BinOp>, op: BinOp, bytes: &[u8]) -> (Tok
     }
 }
 
-// A shift or its assignment, before whose second byte these bytes stand.
+// A shift or its assignment; these bytes follow its first byte.
 fn shift<'a>(op: BinOp, bytes: &[u8]) -> (Token<'a>, usize)
     ensures { result ≡ shift_at op bytes.now }
 {
@@ -46,7 +46,7 @@ fn shift<'a>(op: BinOp, bytes: &[u8]) -> (Token<'a>, usize)
     }
 }
 
-// A comparison with an equals sign behind it, or alone.
+// A comparison followed by an equals sign, or one without.
 fn comparison<'a>(with_equals: BinOp, alone: BinOp, bytes: &[u8]) -> (Token<'a>, usize)
     ensures { result ≡ comparison_at with_equals alone bytes.now }
 {
@@ -57,7 +57,7 @@ fn comparison<'a>(with_equals: BinOp, alone: BinOp, bytes: &[u8]) -> (Token<'a>,
     }
 }
 
-// A shift where the byte stands twice, else a comparison.
+// A shift if the byte comes twice, else a comparison.
 fn angle<'a>(
     byte: u8,
     shifted: BinOp,
@@ -101,7 +101,8 @@ fn comparing<'a>(byte: u8, bytes: &[u8]) -> (Token<'a>, usize)
     }
 }
 
-/// The operator or the mark that begins with this byte, and how many of the bytes behind it belong to it.
+/// The operator or punctuation that begins with this byte, and how many of the bytes after it
+/// belong to it.
 #[tactic(auto, unfolding(crate::specs::Signs::sign_at))]
 pub(crate) fn sign<'a>(byte: u8, bytes: &[u8]) -> (Token<'a>, usize)
     ensures { result ≡ sign_at byte bytes.now }

@@ -1,4 +1,4 @@
-//! The statements of the tokens of a line.
+//! The statements made of the tokens of a line.
 
 ghost use Rattle.std.specs.Prelude.{◌≡◌, ◌<◌, ◌≤◌, ◌∷◌, Some, None, length, if◌then◌else◌};
 ghost use Rattle.wind_base.specs.Limits.{longest_line};
@@ -13,7 +13,7 @@ use crate::token::{Token, Word};
 use crate::tree::Stmt;
 use std::alloc::Global;
 
-/// Whether a name is that of the statement that loads a file.
+/// Whether a name is `ld`, which begins the statement that loads a file.
 pub(crate) fn is_ld(name: &Word) -> bool
     ensures { result ≡ is_ld_lem name.now }
 {
@@ -36,7 +36,7 @@ fn command<'a>(alloc: Global, depth: u32, callee: &Word, tokens: &'a [Token<'a>]
     Ok((Stmt::Call(name_of(alloc, callee)?, arguments), rest))
 }
 
-// The file of a load, behind `ld <`.
+// The file of a load, after `ld <`.
 fn file<'a>(alloc: Global, tokens: &'a [Token<'a>]) -> Reads<'a, Stmt>
     ensures { Gives (λ x. (plain_stmt x.0, x.1.now)) result (file_by tokens.now) }
 {
@@ -80,7 +80,7 @@ fn statement<'a>(alloc: Global, depth: u32, tokens: &'a [Token<'a>]) -> Reads<'a
     }
 }
 
-// At most so many statements.
+// At most `most` statements.
 #[tactic(auto, unfolding(crate::specs::Descent::line_at))]
 fn line<'a>(
     alloc: Global,

@@ -1,4 +1,4 @@
-//! What a line is made of.
+//! The tokens of a line.
 
 use crate::tree::BinOp;
 use std::marker::Model;
@@ -65,9 +65,9 @@ pub(crate) enum Token<'a> {
     Number(u32),
     /// A string.
     Str(Text),
-    /// A name: a letter or an underscore, and what letters, digits and underscores follow it.
+    /// A name: a letter or an underscore, and the letters, digits and underscores after it.
     Name(Word<'a>),
-    /// An operator between two operands; `-`, `*` and `&` also stand before one.
+    /// An operator between two operands; `-`, `*` and `&` also come before one.
     Operator(BinOp),
     /// An assignment: `=`, or an operator and `=`.
     Set(Option<BinOp>),
@@ -83,22 +83,22 @@ pub(crate) enum Token<'a> {
     Comma,
     /// A semicolon.
     Semi,
-    /// `<` between `ld`, where it begins a statement, and its file.
+    /// `<` after an `ld` that begins a statement.
     Redirect,
-    /// The file behind `ld <`.
+    /// The file after `ld <`.
     File(Word<'a>),
-    /// What no line may hold: `++`, `--`, a literal that isn't finished, any other byte.
+    /// What no line may contain: `++`, `--`, an unfinished literal, any other byte.
     Unknown,
 }
 
-/// Where in a statement a token stands, as far as its spelling goes.
+/// Where in a statement a token is, as far as its spelling depends on that.
 #[derive(Clone, Copy, Debug, PartialEq, Eq)]
 pub(crate) enum Spot {
-    /// Where a statement begins.
+    /// At the beginning of a statement.
     AtStart,
-    /// Behind the name `ld` that begins a statement.
+    /// After the name `ld` that begins a statement.
     BehindLd,
-    /// Behind `ld <`.
+    /// After `ld <`.
     AtFile,
     /// Everywhere else.
     Within,

@@ -5,31 +5,31 @@ use wind_base::Name;
 /// The operators between two operands.
 #[derive(Clone, Copy, Debug, PartialEq, Eq)]
 pub enum BinOp {
-    /// `||`: 1 where the left or the right is not 0, else 0.
+    /// `||`: 1 if the left or the right is not 0, else 0.
     OrElse,
-    /// `&&`: 1 where the left and the right are not 0, else 0.
+    /// `&&`: 1 if the left and the right are not 0, else 0.
     AndAlso,
-    /// `|`: the bits that one of the two has.
+    /// `|`: the bits that either has.
     Or,
     /// `^`: the bits that exactly one of the two has.
     Xor,
     /// `&`: the bits that both have.
     And,
-    /// `==`: 1 where they are equal, else 0.
+    /// `==`: 1 if they are equal, else 0.
     Eq,
-    /// `!=`: 1 where they differ, else 0.
+    /// `!=`: 1 if they differ, else 0.
     Ne,
-    /// `<`: 1 where the left is less as a signed number, else 0.
+    /// `<`: 1 if the left is less as a signed number, else 0.
     Lt,
-    /// `<=`: 1 where the left is at most the right as signed numbers, else 0.
+    /// `<=`: 1 if the left is less or equal as a signed number, else 0.
     Le,
-    /// `>`: 1 where the left is greater as a signed number, else 0.
+    /// `>`: 1 if the left is greater as a signed number, else 0.
     Gt,
-    /// `>=`: 1 where the left is at least the right as signed numbers, else 0.
+    /// `>=`: 1 if the left is greater or equal as a signed number, else 0.
     Ge,
-    /// `<<`: the left moved to the left by the right, modulo 32.
+    /// `<<`: the left shifted to the left by the right modulo 32.
     Shl,
-    /// `>>`: the left as a signed number moved to the right by the right, modulo 32.
+    /// `>>`: the left, as a signed number, shifted to the right by the right modulo 32.
     Shr,
     /// `+`: the sum, modulo 2^32.
     Plus,
@@ -37,31 +37,31 @@ pub enum BinOp {
     Minus,
     /// `*`: the product, modulo 2^32.
     Times,
-    /// `/`: the quotient of signed numbers, toward 0.
+    /// `/`: the quotient of signed numbers, rounded toward 0.
     Over,
-    /// `%`: the remainder of signed numbers, toward 0.
+    /// `%`: the remainder of signed numbers, with the quotient rounded toward 0.
     Rest,
 }
 
 /// The operators before one operand.
 #[derive(Clone, Copy, Debug, PartialEq, Eq)]
 pub enum UnOp {
-    /// `-`: the number that the operand lacks to 2^32, modulo 2^32.
+    /// `-`: the negative of the operand, modulo 2^32.
     Neg,
     /// `!`: 1 for 0, else 0.
     Not,
-    /// `~`: the bits that the operand lacks.
+    /// `~`: the complement of the operand's bits.
     Com,
 }
 
-/// An expression. Its value is a word of 32 bits. Parentheses leave no mark in it.
+/// An expression. Its value is a word of 32 bits. Parentheses aren't recorded.
 #[derive(Drop)]
 pub enum Tree {
     /// A number, or the byte of a character.
     Number(u32),
     /// A string, by its bytes.
     Str(Vec<u8>),
-    /// What a name means.
+    /// The value that a name means.
     Name(Name),
     /// `&name`: the value of a name.
     Address(Name),
@@ -71,20 +71,21 @@ pub enum Tree {
     Unary(UnOp, Box<Tree>),
     /// An operator between its left and its right operand.
     Binary(BinOp, Box<Tree>, Box<Tree>),
-    /// An assignment to a name: with `=` no operator, else that before the `=`.
+    /// An assignment to a name: for `=` without an operator, else with the operator before the `=`.
     SetName(Option<BinOp>, Name, Box<Tree>),
-    /// An assignment to the word at an address: with `=` no operator, else that before the `=`.
+    /// An assignment to the word at an address: for `=` without an operator, else with the operator
+    /// before the `=`.
     SetWord(Option<BinOp>, Box<Tree>, Box<Tree>),
-    /// A call of a callee with at most ten arguments.
+    /// A call of a callee, with at most ten arguments.
     Call(Box<Tree>, Vec<Tree>),
 }
 
 /// A statement of a line.
 #[derive(Drop)]
 pub enum Stmt {
-    /// A statement without a token.
+    /// A statement without tokens.
     Nothing,
-    /// `ld < file`, by the bytes of the file's name.
+    /// `ld < file`, with the bytes of the file's name.
     Ld(Vec<u8>),
     /// A call without parentheses: a name, and one to ten arguments.
     Call(Name, Vec<Tree>),

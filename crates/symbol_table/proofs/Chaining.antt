@@ -19,7 +19,7 @@ link_below hs (suc n) h =
     let rest = link_below hs n h in
     elim (eqb (get_or hs n 0) h) as (λ t. cond t (suc n) (newest_link hs n h) ≤ suc n) [ true ↦ omega arith | false ↦ omega arith ]
 
--- what is added behind changes no link before it
+-- what is added at the end changes no link before it
 link_append : (hs more : List ℕ) (n h : ℕ) → n ≤ length hs → newest_link (hs ++ more) n h ≡ newest_link hs n h
 link_append hs more zero h le = refl
 link_append hs more (suc n) h le =
@@ -28,7 +28,7 @@ link_append hs more (suc n) h le =
 
 -- ---- one entry more
 
--- the link at the end of a list with one more
+-- the link at the end of a list with one more entry
 link_push : (hs : List ℕ) (g h : ℕ) → newest_link (hs ++ g ∷ []) (suc (length hs)) h ≡ cond (eqb g h) (suc (length hs)) (newest_link hs (length hs) h)
 link_push hs g h =
     ap (λ x. cond (eqb x h) (suc (length hs)) (newest_link (hs ++ g ∷ []) (length hs) h)) (get_or_push hs g 0 (length hs) refl)
@@ -85,7 +85,7 @@ chained_push hash list more x s new g k is below longer before heads =
     links_with : List ℕ → List ℕ → LinksState
     links_with b h = record { before = b; heads = h }
 
--- the same where the chains are by n, which stays
+-- the same with chains by n, which stays the same
 pub pushed : (of : ℕ → Symbol → ℕ) (list more : List Symbol) (x : Symbol) (s new : LinksState) (g : ℕ) → AreChained (map (of (length s.heads)) list) s → g ≡ of (length s.heads) x
     → g < length s.heads → more ≡ list ++ x ∷ [] → new.before ≡ s.before ++ get_or s.heads g 0 ∷ [] → new.heads ≡ set s.heads g (length s.before + 1)
     → AreChained (map (of (length new.heads)) more) new
@@ -112,13 +112,13 @@ links_count hash list i s le k = k.links ∙ length-map (take i list) hash ∙ l
 
 -- ---- a look-up
 
--- where a look-up has come: all from there on don't pass, and the entry there has the hash
+-- a look-up has come to this entry: no later entry passes, and this one has the hash
 pub record HasCome (p : Symbol → Bool) (hash : Symbol → ℕ) (h : ℕ) (list : List Symbol) (at : ℕ) : Type 0 where
   pub within : at ≤ length list
   pub rest : newest p (take at list) ≡ newest p list
   pub same : (d : Symbol) → 0 < at → hash (get_or list (at - 1) d) ≡ h
 
--- of entries of which only those of the hash pass
+-- only entries with this hash pass
 abbrev pub Only : (Symbol → Bool) → (Symbol → ℕ) → ℕ → Type 0
 Only p hash h = (s : Symbol) → p s ≡ true → hash s ≡ h
 
@@ -137,7 +137,7 @@ newest_here p list n d less e =
     ∙ newest-added p (take n list) (get_or list n d)
     ∙ ap (λ t. cond t (Some (get_or list n d)) (newest p (take n list))) e
 
--- a link leads to the newest of its hash: what lies between doesn't pass
+-- a link leads to the newest entry with its hash: the entries in between don't pass
 come_link : (p : Symbol → Bool) (hash : Symbol → ℕ) (h : ℕ) (list : List Symbol) (d : Symbol) (n : ℕ) → Only p hash h → n ≤ length list
     → newest p (take n list) ≡ newest p list → HasCome p hash h list (newest_link (map hash list) n h)
 come_link p hash h list d zero only le rest = record { within = omega arith; rest = rest; same = λ x k. absurd (omega arith) }
@@ -179,7 +179,7 @@ begins p hash x v at list s only k is e =
     let to : at ≡ get_or s.heads (v % length s.heads) 0 = e ∙ ap (λ y. get_or s.heads (y % length s.heads) 0) is in
     subst (HasCome p hash (v % length s.heads) list) (sym to) (first_link p hash (v % length s.heads) list s only k (mod_below v (length s.heads) k.some))
 
--- and goes on along the links
+-- and it goes on along the links
 pub goes_on : (p : Symbol → Bool) (hash : Symbol → ℕ) (h : ℕ) (list : List Symbol) (s : LinksState) (at next : ℕ) (x : Symbol) → Only p hash h → AreChained (map hash list) s
     → (at ≡ 0 → ⊥) → x ≡ get_or list (at - 1) x → p x ≡ false → next ≡ get_or s.before (at - 1) next → HasCome p hash h list at → HasCome p hash h list next × (next < at)
 goes_on p hash h list s at next x only k some stands fails e come =

@@ -1,4 +1,4 @@
--- The newest entry of lists that are joined, and what it is.
+-- The newest entry of joined lists, and what it is.
 use Rattle.std.proofs.Common.{◌≡◌, Bool, true, false, cond, List, [], ◌∷◌, ◌++◌, Option, Some, None, refl, sym, ap, ◌∙◌, subst, arith}
 use Rattle.std.specs.Prelude.{reverse}
 use Rattle.std.specs.Option.{option_or}
@@ -24,7 +24,7 @@ pub newest-added : (p : Symbol → Bool) (tab : List Symbol) (s : Symbol) → ne
 newest-added p tab s = newest-append p tab (s ∷ [])
     ∙ elim (p s) as (λ t. option_or (cond t (Some s) None) (newest p tab) ≡ cond t (Some s) (newest p tab)) [ true ↦ refl | false ↦ refl ]
 
--- of two of which neither is there
+-- if neither of two is there
 neither : (o q : Option Symbol) → option_or o q ≡ None → (o ≡ None) × (q ≡ None)
 neither None q e = (refl, e)
 neither (Some s) q e = absurd (cc)

@@ -11,7 +11,7 @@ use Rattle.symbol_table.specs.Newest.{newest}
 use Rattle.symbol_table.specs.State.{without_group, count_of}
 use Rattle.symbol_table.proofs.Finding.{newest-cons}
 
--- the entries behind the first are kept or not, as the first is
+-- the other entries, with the first one or without it
 abbrev kept : ℕ → Symbol → Bool → List Symbol → List Symbol
 kept group s t ss = cond (not t) (s ∷ without_group group ss) (without_group group ss)
 

@@ -1,11 +1,11 @@
--- What follows of look-up and removal alone.
+-- What follows from look-up and removal alone.
 use Rattle.std.specs.Prelude.{◌≡◌, ℕ, Bool, true, false, List, [], ◌∷◌, ◌++◌, if◌then◌else◌, None, Some}
 use Rattle.std.specs.List.{All, Contains}
 use Rattle.symbol_table.specs.declared.symbol.Symbol.{Symbol}
 use Rattle.symbol_table.specs.Newest.{newest}
 use Rattle.symbol_table.specs.State.{without_group}
 
--- the entry stands in the table and passes, and none after it passes
+-- the entry is in the table and passes, and none after it passes
 pub record IsNewest (p : Symbol → Bool) (tab : List Symbol) (s : Symbol) : Type 0 where
   pub older : List Symbol
   pub newer : List Symbol

@@ -8,26 +8,26 @@ use Rattle.symbol_table.specs.declared.symbol.Symbol.{Symbol}
 abbrev pub newest : (Symbol → Bool) → List Symbol → Option Symbol
 newest p tab = first p (reverse tab)
 
--- it has this name
+-- the entry has this name
 abbrev pub is_named : List ℕ → Symbol → Bool
 is_named name s = bytes_eq s.name name
 
--- it is global and has this name
+-- the entry is global and has this name
 abbrev pub is_global_named : List ℕ → Symbol → Bool
 is_global_named name s = s.global && is_named name s
 
--- it has this value
+-- the entry has this value
 abbrev pub has_value : ℕ → Symbol → Bool
 has_value value s = s.value == value
 
--- the newest entry of a name
+-- the newest entry with a name
 abbrev pub find : List Symbol → List ℕ → Option Symbol
 find tab name = newest (is_named name) tab
 
--- the newest global entry of a name
+-- the newest global entry with a name
 abbrev pub find_global : List Symbol → List ℕ → Option Symbol
 find_global tab name = newest (is_global_named name) tab
 
--- the newest entry of a value
+-- the newest entry with a value
 abbrev pub find_by_value : List Symbol → ℕ → Option Symbol
 find_by_value tab value = newest (has_value value) tab

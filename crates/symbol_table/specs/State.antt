@@ -18,9 +18,9 @@ pub record IsNamed (s : Symbol) : Type 0 where
   pub some : HasName s
   pub within : length s.name ≤ longest_name
 
--- the invariants of every table
+-- the invariant of every table
 pub record IsTable (s : TableState) : Type 0 where
-  -- there are at most 65,536 entries, also once the room is used up
+  -- there are at most 65,536 entries, even once the room is used up
   pub few : length s.list + s.spare ≤ most_symbols
   -- every entry has a name of 1 to 255 bytes
   pub named : All IsNamed s.list

@@ -1,4 +1,4 @@
-//! The symbols in order of adding, with their chains.
+//! The symbols in order of adding, and their chains.
 
 ghost use Rattle.std.specs.Prelude.{◌≡◌, ◌<◌, ◌≤◌, ◌-◌, ◌+◌, ◌↔◌, [], length, count_by, ◌==◌, IfOk, OnOk, Err, slice_get, option_copied, vec_capacity};
 ghost use Rattle.wind_base.specs.Limits.{most_symbols};
@@ -18,8 +18,9 @@ use std::marker::Model;
 use wind_base::NoMemory;
 use wind_base::limits::SYMBOLS;
 
-/// Symbols in order of adding, with chains by name and by value, of each kind at least as many as there are symbols and
-/// room for more: each holds exactly the entries of some hashes, from the newest to the oldest.
+/// Symbols in order of adding, with chains by name and by value. Each chain holds exactly the
+/// entries of its hashes, from the newest to the oldest. There are at least as many chains of each
+/// kind as there are symbols and room for more.
 #[derive(Drop)]
 pub struct Chains {
     list: Vec<Symbol>,
@@ -67,7 +68,7 @@ impl Chains {
         })
     }
 
-    /// The symbols in order of adding. It also says what the chains always are.
+    /// The symbols in order of adding. The contract also gives the invariant of the chains.
     pub fn entries(&self) -> &[Symbol]
         ensures value { result.now ≡ self.now.list }
         ensures sound { AreChains self.now }
@@ -122,14 +123,14 @@ impl Chains {
         self.spare -= 1;
     }
 
-    /// The newest symbol of the name, or the newest global one.
+    /// The newest symbol with the name, or the newest global one.
     pub(crate) fn find_named(&self, name: &[u8], global_only: bool) -> Option<&Symbol>
         ensures { option_copied result ≡ newest (is_sought global_only name.now) self.now.list }
     {
         newest_named(&self.list, &self.names, name, global_only)
     }
 
-    /// The newest symbol of the value.
+    /// The newest symbol with the value.
     pub(crate) fn find_valued(&self, value: u32) -> Option<&Symbol>
         ensures { option_copied result ≡ find_by_value self.now.list value }
     {

@@ -1,4 +1,4 @@
-//! The symbol table: symbols in order of adding, of which a look-up answers the newest.
+//! The symbol table: symbols in order of adding. A look-up answers the newest.
 #![tactic(auto)]
 
 mod chains;

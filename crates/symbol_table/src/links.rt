@@ -1,4 +1,4 @@
-//! Links between entries of one hash.
+//! Links between entries with the same hash.
 
 ghost use Rattle.std.specs.Prelude.{◌≡◌, ◌<◌, ◌≤◌, ◌+◌, ◌%◌, ◌++◌, ◌∷◌, [], length, replicate, IfOk, IsOk, OnOk, OnErr, slice_index, slice_set, vec_len, vec_capacity};
 ghost use Rattle.wind_base.specs.Limits.{most_symbols};
@@ -7,17 +7,18 @@ ghost use Rattle.symbol_table.specs.Chains.{most_hashes, fewest_heads, name_hash
 use std::alloc::Global;
 use wind_base::NoMemory;
 
-/// How many hashes there are, and chains of each kind at most.
+/// The number of hashes, and the most chains of each kind.
 const HASHES: u32 = 65_536;
 
-/// How many chains there are at first.
+/// The least number of chains.
 const FEWEST_HEADS: usize = 64;
 
 /// The hash of the empty name.
 const SEED: u32 = 5_381;
 
-/// For each entry the newest before it in its own chain, and for each chain the newest of all: an entry's number
-/// counted from 1, or 0 for none. An entry's chain is its hash modulo the number of chains.
+/// For each entry, the newest entry before it in its own chain; for each chain, its newest entry.
+/// An entry is given by its number, counted from 1, or 0 for none. An entry's chain is its hash
+/// modulo the number of chains.
 #[derive(Drop)]
 pub(crate) struct Links {
     pub(crate) before: Vec<u32>,
@@ -47,7 +48,7 @@ pub(crate) fn hash_value(value: u32) -> u32
     (product / u64::from(HASHES)) as u32
 }
 
-/// The number of chains when there must be at least `n` and there were `many`.
+/// The number of chains when at least `n` are needed and there were `many`.
 fn wider(many: usize, n: usize) -> usize
     requires { n ≤ most_hashes }
     ensures enough { n ≤ result }
@@ -60,7 +61,7 @@ fn wider(many: usize, n: usize) -> usize
 }
 
 impl Links {
-    /// The fewest chains, without entries.
+    /// Makes the fewest chains, without entries.
     pub(crate) fn new(alloc: Global) -> Result<Links, NoMemory>
         ensures before { IfOk result (λ l. l.before.items ≡ []) }
         ensures heads { IfOk result (λ l. l.heads.items ≡ replicate fewest_heads 0) }
@@ -74,7 +75,7 @@ impl Links {
         })
     }
 
-    /// Makes room for `n` entries more.
+    /// Reserves room for `n` more entries.
     pub(crate) fn reserve(&mut self, n: u32) -> Result<(), NoMemory>
         ensures before { self.new.before.items ≡ self.old.before.items }
         ensures heads { self.new.heads.items ≡ self.old.heads.items }
@@ -87,8 +88,8 @@ impl Links {
         }
     }
 
-    /// Makes at least `n` chains, at least twice as many as there were where these are fewer. Their entries are then
-    /// not where they belong. If memory runs out, all stays.
+    /// Makes at least `n` chains, and at least twice as many as there were if these are fewer.
+    /// Afterwards the entries are not in their proper chains. If memory runs out, nothing changes.
     pub(crate) fn widen(&mut self, n: u32) -> Result<(), NoMemory>
         requires { n ≤ most_hashes }
         ensures before { self.new.before.items ≡ self.old.before.items }
@@ -104,7 +105,7 @@ impl Links {
         }
     }
 
-    /// The newest entry of the chain of a hash.
+    /// The newest entry in the chain of a hash.
     pub(crate) fn newest(&self, hash: u32) -> u32
         requires { 0 < length self.now.heads.items }
         ensures { result ≡ slice_index self.now.heads.items (hash % length self.now.heads.items) }
@@ -112,7 +113,7 @@ impl Links {
         self.heads[hash as usize % self.heads.len()]
     }
 
-    /// Puts one entry more in front of the chain of its hash.
+    /// Adds one entry at the head of its hash's chain.
     pub(crate) fn add(&mut self, hash: u32)
         requires some { 0 < length self.old.heads.items }
         requires few { length self.old.before.items < most_symbols }
@@ -128,7 +129,7 @@ impl Links {
         self.heads[chain] = self.before.len() as u32;
     }
 
-    /// Takes all entries out.
+    /// Removes all entries.
     pub(crate) fn clear(&mut self)
         ensures before { self.new.before.items ≡ [] }
         ensures heads { self.new.heads.items ≡ replicate (length self.old.heads.items) 0 }

@@ -15,7 +15,7 @@ fn is_sought_for(symbol: &Symbol, global_only: bool, name: &[u8]) -> bool
     (!global_only || symbol.global) && symbol.name.bytes() == name
 }
 
-/// The newest symbol of a name, or the newest global one.
+/// The newest symbol with the name, or the newest global one.
 pub(crate) fn newest_named<'a>(
     list: &'a [Symbol],
     links: &Links,
@@ -36,7 +36,7 @@ pub(crate) fn newest_named<'a>(
     None
 }
 
-/// The newest symbol of a value.
+/// The newest symbol with the value.
 pub(crate) fn newest_valued<'a>(list: &'a [Symbol], links: &Links, value: u32) -> Option<&'a Symbol>
     requires { AreValued list.now (state_of links.now) }
     ensures { option_copied result ≡ newest (has_value value) list.now }
@@ -52,7 +52,7 @@ pub(crate) fn newest_valued<'a>(list: &'a [Symbol], links: &Links, value: u32) -
     None
 }
 
-/// Puts the symbols into chains by name.
+/// Links the symbols into chains by name.
 pub(crate) fn link_by_name(list: &[Symbol], links: &mut Links)
     requires some { 0 < length links.old.heads.items }
     requires few { length list.now ≤ most_symbols }
@@ -67,7 +67,7 @@ pub(crate) fn link_by_name(list: &[Symbol], links: &mut Links)
     }
 }
 
-/// Puts the symbols into chains by value.
+/// Links the symbols into chains by value.
 pub(crate) fn link_by_value(list: &[Symbol], links: &mut Links)
     requires some { 0 < length links.old.heads.items }
     requires few { length list.now ≤ most_symbols }
@@ -82,7 +82,8 @@ pub(crate) fn link_by_value(list: &[Symbol], links: &mut Links)
     }
 }
 
-/// Makes at least `n` chains by name, with the symbols in them. If memory runs out, they stay.
+/// Makes at least `n` chains by name, with the symbols in them. If memory runs out, the chains stay
+/// as they were.
 pub(crate) fn widen_by_name(list: &[Symbol], links: &mut Links, n: u32) -> Result<(), NoMemory>
     requires wide { n ≤ most_hashes }
     requires some { 0 < length links.old.heads.items }
@@ -102,7 +103,8 @@ pub(crate) fn widen_by_name(list: &[Symbol], links: &mut Links, n: u32) -> Resul
     Ok(())
 }
 
-/// Makes at least `n` chains by value, with the symbols in them. If memory runs out, they stay.
+/// Makes at least `n` chains by value, with the symbols in them. If memory runs out, the chains
+/// stay as they were.
 pub(crate) fn widen_by_value(list: &[Symbol], links: &mut Links, n: u32) -> Result<(), NoMemory>
     requires wide { n ≤ most_hashes }
     requires some { 0 < length links.old.heads.items }

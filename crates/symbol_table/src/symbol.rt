@@ -8,27 +8,31 @@ use wind_base::{Name, NoMemory};
 pub enum SymKind {
     /// A place in code.
     TextSym,
-    /// A place in data that a file holds.
+    /// A place in initialized data.
     DataSym,
-    /// A place in data that begins as zeros.
+    /// A place in data that is initially zero.
     BssSym,
     /// A number.
     AbsSym,
 }
 
-/// An entry of the table: a name of 1 to 255 bytes with what it stands for.
+/// An entry of the table: a name of 1 to 255 bytes, and what it stands for.
 #[derive(Drop)]
 pub struct Symbol {
+    /// Its name.
     pub name: Name,
+    /// Its value: an address or a number.
     pub value: u32,
+    /// What it stands for.
     pub kind: SymKind,
-    /// Whether modules that are loaded later bind to it.
+    /// Whether modules that are loaded later can bind to it.
     pub global: bool,
-    /// The id of the module that it belongs to; 0 for the kernel, the shell and what is added by a call.
+    /// The id of the module that it belongs to; 0 for the symbols of the kernel, of the shell, and
+    /// those added by a call.
     pub group: u32,
 }
 
-/// Why no room was made. The symbols are as they were.
+/// Why no room was reserved. The symbols are as they were.
 #[derive(Clone, Copy, Debug, PartialEq, Eq, Error)]
 pub enum SymErr {
     /// There would be more than 65,536 symbols.

@@ -13,8 +13,8 @@ use std::alloc::Global;
 use std::marker::Model;
 use wind_base::NoMemory;
 
-/// Symbols in order of adding, 65,536 at most. Contracts see them as a list, beside how many more there is
-/// room for.
+/// Symbols in order of adding, at most 65,536. Contracts see them as a list, together with the
+/// number of further symbols that there is room for.
 #[derive(Drop)]
 pub struct Symbols {
     chains: Chains,
@@ -30,7 +30,7 @@ impl Model for Symbols {
 }
 
 impl Symbols {
-    /// A table without symbols and without room.
+    /// Makes a table without symbols and without room.
     pub fn new(alloc: Global) -> Result<Symbols, NoMemory>
         ensures { IfOk result (λ t. t ≡ record { list = []; spare = 0 }) }
     {
@@ -40,8 +40,8 @@ impl Symbols {
         }
     }
 
-    /// Makes room for `n` symbols more than there are. Refused exactly where these would be more than 65,536
-    /// together, or host memory ran out; the symbols stay in every case.
+    /// Reserves room for `n` more symbols. It is refused exactly if the total would exceed 65,536
+    /// or host memory runs out. The symbols stay as they were in every case.
     pub fn reserve(&mut self, n: u32) -> Result<(), SymErr>
         ensures full { (result ≡ Err errors.TableFull) ↔ (most_symbols < length self.old.list + n) }
         ensures list { self.new.list ≡ self.old.list }
@@ -51,8 +51,8 @@ impl Symbols {
         self.chains.reserve(n)
     }
 
-    /// The number of symbols. It also gives the invariants of the table: there are never more than 65,536 symbols, and
-    /// each has a name of 1 to 255 bytes.
+    /// The number of symbols. The contract also gives the invariant of the table: there are never
+    /// more than 65,536 symbols, and each has a name of 1 to 255 bytes.
     pub fn len(&self) -> u32
         ensures count { result ≡ length self.now.list }
         ensures sound { IsTable self.now }
@@ -60,7 +60,7 @@ impl Symbols {
         self.chains.entries().len() as u32
     }
 
-    /// The symbol of this number, counted from 0 in order of adding.
+    /// The symbol with this number, counted from 0 in order of adding.
     pub fn at(&self, i: u32) -> Option<&Symbol>
         ensures { option_copied result ≡ slice_get self.now.list i }
     {
@@ -76,28 +76,29 @@ impl Symbols {
         self.chains.add(symbol);
     }
 
-    /// The newest symbol of the name.
+    /// The newest symbol with the name.
     pub fn find(&self, name: &[u8]) -> Option<&Symbol>
         ensures { option_copied result ≡ find self.now.list name.now }
     {
         self.chains.find_named(name, false)
     }
 
-    /// The newest global symbol of the name.
+    /// The newest global symbol with the name.
     pub fn find_global(&self, name: &[u8]) -> Option<&Symbol>
         ensures { option_copied result ≡ find_global self.now.list name.now }
     {
         self.chains.find_named(name, true)
     }
 
-    /// The newest symbol of the value.
+    /// The newest symbol with the value.
     pub fn find_by_value(&self, value: u32) -> Option<&Symbol>
         ensures { option_copied result ≡ find_by_value self.now.list value }
     {
         self.chains.find_valued(value)
     }
 
-    /// Removes the symbols of a module's group, and answers how many they were. The others stay in order.
+    /// Removes the symbols of a module's group, and returns how many there were. The others stay in
+    /// order.
     pub fn remove_group(&mut self, group: u32) -> u32
         requires { 0 < group }
         ensures count { result ≡ count_of group self.old.list }
@@ -107,7 +108,7 @@ impl Symbols {
         self.chains.remove_group(group)
     }
 
-    /// The symbols in their chains, which are over exactly the entries of the table.
+    /// The symbols in their chains, which hold exactly the entries of the table.
     pub fn chains(&self) -> &Chains
         ensures { table_of result.now ≡ self.now }
     {

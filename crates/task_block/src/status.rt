@@ -1,11 +1,11 @@
-//! The word that tells how a task stands.
+//! The word that describes the state of a task.
 
 ghost use Rattle.std.specs.Prelude.{◌≡◌, ◌≤◌, length};
 ghost use Rattle.task_block.specs.Standing.{word_of};
 
 use std::marker::Model;
 
-/// A word of at most 10 bytes, seen as its bytes.
+/// A word of at most 10 bytes.
 #[derive(Drop)]
 pub struct Status10 {
     word: &'static str,
@@ -22,7 +22,7 @@ impl Model for Status10 {
 }
 
 impl Status10 {
-    /// Its bytes, 10 at most.
+    /// The word's bytes, at most 10.
     pub fn bytes(&self) -> &[u8]
         ensures value { result.now ≡ self.now }
         ensures short { length result.now ≤ 10 }
@@ -31,7 +31,8 @@ impl Status10 {
     }
 }
 
-// The word of a task, by whether it waits, has a tick to wake at, and is suspended.
+// The word for a task, by whether it waits for an object, has a tick at which it wakes, and is
+// suspended.
 pub(crate) fn word(waits: bool, wakes: bool, suspended: bool) -> Status10
     ensures { result ≡ word_of waits wakes suspended }
 {

@@ -7,58 +7,63 @@ use crate::status::{Status10, word};
 use id_table::{Ident, Place};
 use wind_base::{Pri, Regs, ShortName};
 
-/// All that the kernel knows of a task.
+/// The kernel's record of a task.
 #[derive(Drop)]
 pub struct Task {
-    /// The number by which it is named in calls.
+    /// The id by which calls name the task.
     pub id: Ident,
     /// Its name.
     pub name: ShortName,
-    /// The address at which it began.
+    /// The address of its entry function.
     pub entry: u32,
     /// The address of its stack.
     pub stack: u32,
-    /// The priority by which it is scheduled.
+    /// The size of its stack in bytes.
+    pub stack_size: u32,
+    /// Its current priority, by which it is scheduled.
     pub pri: Pri,
-    /// The priority that it was given, apart from what it inherits.
+    /// Its normal priority, without inheritance.
     pub normal: Pri,
-    /// Its number in the order of arrival: the lower came earlier.
+    /// Its order number: of two tasks with the same priority, the one with the lower number is
+    /// before.
     pub since: u64,
-    /// What it waits for.
+    /// The place at which it waits, if it waits.
     pub wait: Option<Place>,
-    /// Whether it waits in order of arrival alone.
+    /// Whether it waits in order of arrival. If not, it waits by priority.
     pub fifo: bool,
-    /// The tick at which its delay or its wait ends.
+    /// The tick at which its delay or the timeout of its wait ends, if there is one.
     pub wake: Option<u64>,
     /// Whether it is suspended.
     pub suspended: bool,
-    /// How often it has locked the scheduler and not unlocked it.
+    /// How many calls of `taskLock` it has yet to undo with `taskUnlock`.
     pub locks: u64,
-    /// How often it has been made safe from deletion and not unsafe again.
+    /// The number of safe sections that it is in. In one, other tasks can't delete it.
     pub safe: u64,
     /// How many inversion-safe mutexes it owns.
     pub held: u64,
-    /// Whether it holds interrupts back.
+    /// Whether it has locked out interrupts.
     pub int_locked: bool,
-    /// How many ticks of its time slice are over.
+    /// How many ticks of its time slice it has used.
     pub turns: u32,
     /// Its registers.
     pub regs: Regs,
-    /// The number of its last error.
+    /// Its last error number.
     pub errno: u32,
-    /// Whether its next call repeats one that pended.
+    /// Whether its next call is a repetition of a call that pended.
     pub again: bool,
 }
 
-/// What a task begins with.
+/// What a new task begins with.
 #[derive(Drop)]
 pub struct NewTask {
     /// Its name.
     pub name: ShortName,
-    /// The address at which it begins.
+    /// The address of its entry function.
     pub entry: u32,
     /// The address of its stack.
     pub stack: u32,
+    /// The size of its stack in bytes.
+    pub stack_size: u32,
     /// Its priority.
     pub pri: Pri,
     /// Its registers.
@@ -66,14 +71,14 @@ pub struct NewTask {
 }
 
 impl Task {
-    /// Whether it may run: it waits for nothing, is not delayed and not suspended.
+    /// Whether the task is ready: it waits for nothing, isn't delayed and isn't suspended.
     pub fn ready(&self) -> bool
         ensures { result ≡ is_ready self.now }
     {
         self.wait.is_none() && self.wake.is_none() && !self.suspended
     }
 
-    /// The word that tells how it stands, for the task table of the shell.
+    /// The word that describes its state in the shell's task table.
     pub fn status(&self) -> Status10
         ensures { result ≡ status_word self.now }
     {

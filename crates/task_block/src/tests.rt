@@ -1,11 +1,11 @@
-//! A task that stands in each way.
+//! Tests of a task in each of its states.
 
 use crate::Task;
 use id_table::{Ident, Place};
 use std::test::Fail;
 use wind_base::{Pri, Regs, ShortName};
 
-// A task that waits, wakes and is suspended as told.
+// A task with the given state.
 fn task(waits: bool, wakes: bool, suspended: bool) -> Option<Task> {
     let id = Ident::new(1)?;
     let pri = Pri::new(100)?;
@@ -14,6 +14,7 @@ fn task(waits: bool, wakes: bool, suspended: bool) -> Option<Task> {
         name: ShortName::cut(b"t1"),
         entry: 0x1000,
         stack: 0x2000,
+        stack_size: 0x1000,
         pri,
         normal: pri,
         since: 1,
@@ -44,7 +45,8 @@ fn task(waits: bool, wakes: bool, suspended: bool) -> Option<Task> {
     })
 }
 
-// Whether a task waits, wakes and is suspended, and its word.
+// Whether a task waits, whether it has a tick at which it wakes, whether it is suspended, and its
+// word.
 const ROWS: [(bool, bool, bool, &str); 8] = [
     (false, false, false, "READY"),
     (true, false, false, "PEND"),

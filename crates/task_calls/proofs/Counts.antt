@@ -1,4 +1,4 @@
--- Counts of tasks that lie below a bound.
+-- Counts of tasks below a bound.
 use Rattle.std.proofs.Common.{◌≡◌, ℕ, ◌<◌, ◌^◌, None, Some, refl, arith}
 use Rattle.std.specs.List.{All}
 use Rattle.std.proofs.lemmas.List.Elements.{All-contains}

@@ -1,4 +1,4 @@
--- What is kept of the objects is kept by safe sections, by the deletion of a task and by its end.
+-- Safe sections, the deletion of a task and its end keep the objects' invariant.
 use Rattle.std.proofs.Common.{◌≡◌, ℕ, Bool, true, false, cond, eqb, [], ◌∷◌, None, Some, IfSome, IsSome, refl, subst, arith}
 use Rattle.std.specs.List.{All}
 use Rattle.wind_base.specs.Limits.{wait_forever}
@@ -48,8 +48,8 @@ use Rattle.kernel_world.proofs.Living.{ready_free}
 use Rattle.kernel_world.proofs.Waiting.{waits_keep}
 use Rattle.kernel_world.proofs.ObjectMoves.{by_kern, objects-move, objects-make_safe, objects-lessen}
 
--- ---- a task waits to delete another, and stands at the gate of its call
--- the caller stands anywhere as yet
+-- ---- a task waits to delete another, and is at the gate of its call
+-- the caller may still be anywhere
 abbrev RightBut : ℕ → TaskRecord → Type 0
 RightBut who t = IfSome t.wait (λ p. p.side ≡ console_side → t.id ≡ 1) × ((t.id ≡ who → ⊥) → WaitsRight t)
 

@@ -1,4 +1,4 @@
--- What is kept of the objects is kept by each row of the calls that touch the kernel's tasks and counters alone.
+-- Each row of the calls that touch only the kernel's tasks and counters keeps the objects' invariant.
 use Rattle.std.proofs.Common.{ℕ, ◌+◌, ◌-◌, true, List, Option, None, Some}
 use Rattle.wind_core.specs.State.{KernState, IsKern, task_named}
 use Rattle.wind_core.specs.Move.{Delay, Suspend, Resume, SetLocks, SetIntLocked, SetSlice}

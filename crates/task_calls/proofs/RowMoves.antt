@@ -19,7 +19,7 @@ use Rattle.symbol_table.specs.declared.symbol.SymKind.{SymKind}
 use Rattle.mem_partition.specs.State.{PartState, alloc_of, after_alloc, free_of, after_free}
 use Rattle.mem_partition.specs.declared.block.PartErr.{PartErr}
 use Rattle.mem_partition.specs.declared.block.Class.TheVariants.{User, Kernel}
-use Rattle.wind_core.specs.State.{Lives, task_of}
+use Rattle.wind_core.specs.State.{Lives, task_id, task_of}
 use Rattle.wind_core.specs.Moves.{new_task, spawn, spawn_refusal}
 use Rattle.wind_core.specs.Move.{Spawn}
 use Rattle.wind_core.proofs.Moving.{move_keeps}
@@ -28,12 +28,12 @@ use Rattle.kernel_world.specs.Starting.{cleared, framed}
 use Rattle.task_calls.specs.MemoryRows.{PartRow, align_row, free_row, free_reply}
 use Rattle.task_calls.specs.SymbolRows.{refused_symbol, with_kind, with_name, symbol_row, kind_of_number}
 use Rattle.task_calls.specs.Spawning.{after_spawn, spawn_state, stack_bytes, first_pointer, started, names_after, spawned_on, spawned_at, spawned_unless, spawned_if}
-use Rattle.kernel_world.specs.Opening.{interrupt_stack}
-use Rattle.kernel_world.specs.Kept.{task_stacks, AreStacks, IsWorld, HasCounts, Within, call_sinces}
+use Rattle.kernel_world.specs.Kept.{stack_of, routine_stack, task_stacks, AreStacks, IsWorld, HasCounts, Within, call_sinces}
 use Rattle.kernel_world.specs.declared.reply.Reply.{Reply}
 use Rattle.kernel_world.specs.declared.reply.Reply.TheVariants.{Answer}
 use Rattle.task_calls.specs.declared.spawning.Wanted.{Wanted}
 use Rattle.kernel_world.proofs.Advancing.{Advances, within_more, watch_on, nowhere, of_blocks}
+use Rattle.kernel_world.proofs.WorldIds.{ids_spawn}
 use Rattle.kernel_world.proofs.ObjectMoves.{objects-move}
 use Rattle.kernel_world.proofs.Stacks.{pool-alloc, pool-free, kernels-alloc, kernels-free, stacks-alloc, stacks-free, stacks-more}
 use Rattle.kernel_world.proofs.Holding.{loaded_with, loaded_more}
@@ -45,15 +45,15 @@ module _ (w : WorldState) (kept : IsWorld w) (n : ℕ) (within : Within n w) whe
   -- ---- blocks
   pub align_advances : (align m : ℕ) → Advances w (record w { part = (align_row w.part align m).part }) (n + 1) call_sinces 1
   align_advances align m =
-      of_blocks w kept n within (after_alloc w.part m align User) (pool-alloc w.part m align User kept.pool) (stacks-alloc w.part m align User (interrupt_stack ∷ task_stacks w.kern) kept.stacks)
-      (loaded_with w.kern w.part w.modules kept.modules (after_alloc w.part m align User) (kernels-alloc w.part m align User))
+      of_blocks w kept n within (after_alloc w.part m align User) (pool-alloc w.part m align User kept.pool) (stacks-alloc w.part m align User (routine_stack ∷ task_stacks w.kern) kept.pool.blocks kept.stacks)
+      (loaded_with w.kern w.part w.modules kept.modules (after_alloc w.part m align User) (λ a h. kernels-alloc w.part m align User a kept.pool.blocks h))
 
   pub free_advances : (at : ℕ) → Advances w (record w { part = (free_row w.part at).part }) (n + 1) call_sinces 1
   free_advances at =
       elim (eqb at 0) as (λ b. Advances w (record w { part = (cond b (part_row w.part (Answer 0)) (part_row (after_free w.part at User) (free_reply (free_of w.part at User)))).part }) (n + 1) call_sinces 1) [
         | true ↦ nowhere w kept n within
         | false ↦
-            of_blocks w kept n within (after_free w.part at User) (pool-free w.part at User kept.pool) (stacks-free w.part at (interrupt_stack ∷ task_stacks w.kern) kept.pool.blocks kept.stacks)
+            of_blocks w kept n within (after_free w.part at User) (pool-free w.part at User kept.pool) (stacks-free w.part at (routine_stack ∷ task_stacks w.kern) kept.pool.blocks kept.stacks)
             (loaded_with w.kern w.part w.modules kept.modules (after_free w.part at User) (λ a h. kernels-free w.part at a kept.pool.blocks h))
       ]
 
@@ -111,19 +111,20 @@ module _ (w : WorldState) (kept : IsWorld w) (n : ℕ) (within : Within n w) whe
   spawned_advances s at room ok =
       let task : NewTask = started s w.names at in
       let t : TaskRecord = new_task w.kern.next_id w.kern.next_since task in
-      let stacks : task_stacks (spawn w.kern task) ≡ task_stacks w.kern ++ at ∷ [] = map-append (λ (u : TaskRecord). u.stack) w.kern.tasks (t ∷ []) in
+      let stacks : task_stacks (spawn w.kern task) ≡ task_stacks w.kern ++ record { addr = at; size = stack_bytes s.stack } ∷ [] = map-append stack_of w.kern.tasks (t ∷ []) in
       record {
         kept = record {
           kern = move_keeps w.kern (Spawn task) kept.kern room;
           home = kept.home;
           objects = objects-move w.kern w.objects kept.kern kept.objects (Spawn task) (room, tt, tt, tt);
           pool = pool-alloc w.part (stack_bytes s.stack) 16 Kernel kept.pool;
-          stacks = subst (λ ss. AreStacks (after_alloc w.part (stack_bytes s.stack) 16 Kernel) (interrupt_stack ∷ ss)) (sym stacks)
-              (stacks-more w.part (stack_bytes s.stack) 16 at (interrupt_stack ∷ task_stacks w.kern) kept.pool.blocks ok kept.stacks);
+          stacks = subst (λ ss. AreStacks (after_alloc w.part (stack_bytes s.stack) 16 Kernel) (routine_stack ∷ ss)) (sym stacks)
+              (stacks-more w.part (stack_bytes s.stack) 16 at (routine_stack ∷ task_stacks w.kern) kept.pool.blocks ok kept.stacks);
           modules = loaded_more w.kern w.part w.modules kept.modules (spawn w.kern task) (stack_bytes s.stack) 16 at kept.pool.blocks ok (omega arith) stacks;
           ram = framed_size (first_pointer at (stack_bytes s.stack)) s.words ∙ kept.ram;
           symbols = kept.symbols;
           watch = watch_on w.kern.next_id (w.kern.next_id + 1) w.watch (omega arith) kept.watch;
+          ids = ids_spawn w kept.ids (spawn w.kern task) (map-append task_id w.kern.tasks (t ∷ [])) refl;
         };
         lives = lives_more t;
         within = (All-push (HasCounts (n + 1)) w.kern.tasks t (within_more w n (n + 1) (omega arith) within).0 (omega arith, omega arith), (within_more w n (n + 1) (omega arith) within).1);

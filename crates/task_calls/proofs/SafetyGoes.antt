@@ -1,4 +1,4 @@
--- What the deletion of a task, and its end, make of the kernel's tasks and counters.
+-- What the deletion of a task, and its end, do to the kernel's tasks and counters.
 use Rattle.std.proofs.Common.{◌≡◌, ℕ, ◌+◌, ◌≤◌, true, false, not, cond, eqb, List, [], ◌∷◌, map, Option, Some, IsSome, refl, ap, ◌∙◌, arith}
 use Rattle.std.proofs.lemmas.List.Elements.{All-filter}
 use Rattle.wind_base.specs.Limits.{wait_forever}
@@ -16,7 +16,7 @@ use Rattle.task_safety.specs.Deletion.{asked, awaiting, after}
 use Rattle.task_safety.specs.Deletion.{unguarded as unguarded_caller}
 use Rattle.task_safety.specs.declared.deleting.Deed.TheVariants.{Refuses, EndsItself, Removes, Awaits}
 use Rattle.task_calls.specs.Ending.{unguarded}
-use Rattle.kernel_world.specs.Kept.{HasCounts, CountsWithin, ReservedBy, task_stacks}
+use Rattle.kernel_world.specs.Kept.{stack_of, HasCounts, CountsWithin, ReservedBy, task_stacks}
 use Rattle.task_calls.specs.SafetyRows.{at_deletion, back_at_gate}
 use Rattle.kernel_world.proofs.Goes.{Goes, goes_on, more_counts, by_change, goes-move, goes-lessen, reserved_by}
 
@@ -30,7 +30,7 @@ module _ (k : KernState) (n : ℕ) (is : IsKern k) (within : CountsWithin n k) w
   refuses_goes who e = goes-move k n is within (SetAgain who false) tt
 
 module _ (k : KernState) (n : ℕ) (is : IsKern k) (within : CountsWithin n k) where
-  -- the caller waits, and stands at the gate of its call
+  -- the caller waits, and is at the gate of its call
   pub awaits_goes : (who id : ℕ) → Goes k (back_at_gate (after k who (Awaits id)) who) n 1
   awaits_goes who id =
       let marked : KernState = set_again k who true in
@@ -39,8 +39,10 @@ module _ (k : KernState) (n : ℕ) (is : IsKern k) (within : CountsWithin n k) w
       let two = goes-move marked n one.kern one.counts (Pend who (deletion id) false wait_forever) (omega arith) in
       goes_on k waits (back_at_gate waits who) n n 1 0 (goes_on k marked waits n n 0 1 one two) (goes-back_at_gate waits n two.kern two.counts who)
 
--- ---- a task goes
--- from k to j: the kept facts hold, all live on but this one, on the same stacks, the ids are where they were, counts stay within n, no task has a reservation that had none, at most d order numbers were given out, ids rose, and the tick count stood
+-- ---- a task ends
+-- from k to j: the invariant holds, all tasks but this one live on, on the same stacks, counts stay within n, and
+-- ids rose;
+-- no task has a reservation that had none, at most d order numbers were handed out, and the tick count is the same
 pub record Leaves (k j : KernState) (who n d : ℕ) : Type 0 where
   pub kern : IsKern j
   pub alone : ids j.tasks ≡ ids (without task_id k.tasks who)
@@ -67,7 +69,7 @@ leaves_further k j who m n d e more longer g = record {
   count = g.count;
 }
 
--- a field of those that are left, where two lists have the same ids with the same of it
+-- a field of the tasks that are left, if two lists have the same ids with the same values of it
 same_without : {A : Type 0} (field : Task → A) (ts us : List Task) (who : ℕ) → ids ts ≡ ids us → map field ts ≡ map field us → map field (without task_id ts who) ≡ map field (without task_id us who)
 same_without field [] [] who i f = refl
 same_without field [] (u ∷ us) who i f = absurd (cc)
@@ -88,12 +90,12 @@ same_without field (t ∷ ts) (u ∷ us) who i f =
     tails : {B : Type 0} (a b : B) (xs ys : List B) → a ∷ xs ≡ b ∷ ys → xs ≡ ys
     tails a b xs ys e = cc
 
--- a task goes after a move
+-- a task is removed after a move
 pub goes_leaves : (k j : KernState) (who n d : ℕ) → Goes k j n d → Leaves k (remove j who) who n d
 goes_leaves k j who n d g = record {
   kern = move_keeps j (Remove who) g.kern tt;
   alone = same_without task_id j.tasks k.tasks who g.alone g.alone;
-  stacks = same_without (λ t. t.stack) j.tasks k.tasks who g.alone g.stacks;
+  stacks = same_without stack_of j.tasks k.tasks who g.alone g.stacks;
   lent = g.lent;
   last = g.last;
   reserves = λ o h. All-filter (λ t. not (eqb t.id who)) (λ t. IsSome t.regs.reserve → o ≡ Some t.id) j.tasks (reserved_by k.tasks j.tasks o g.alone g.reserves h);

@@ -17,7 +17,7 @@ pub refused_part : (p : PartState) (n align : ℕ) (class : Class) (e : PartErr)
 unfolding after_alloc
 refused_part p n align class e h = ap (taken_at p n class) (sym h)
 
--- a block of the board's pool lies in RAM
+-- a block of the board's pool is inside RAM
 pub block_within : (p : PartState) (n align at : ℕ) → p.end ≡ ram_bytes → Ok at ≡ alloc_of p n align → at + rounded n ≤ ram_bytes
 block_within p n align at e h = omega (arith, (alloc_lies p n align at (sym h)).high, e)
 

@@ -1,4 +1,4 @@
--- The stack of a task that is taken out is that of the task as it was.
+-- The stack of a removed task is that of the task as it was.
 use Rattle.std.proofs.Common.{◌≡◌, ℕ, true, false, cond, eqb, List, [], ◌∷◌, map, Option, None, Some, Result, Ok, refl, sym, ap, ◌∙◌}
 use Rattle.std.specs.Option.{option_map}
 use Rattle.wind_base.specs.declared.errno.Errno.{Errno}
@@ -19,6 +19,7 @@ use Rattle.task_safety.specs.declared.deleting.Deleted.TheVariants.{Removed, Sel
 use Rattle.task_safety.specs.Deletion.{deed_of, asked, unguarded as unguarded_by, after, delete, answer_of, delete_answer}
 use Rattle.task_safety.specs.Safety.{safe_of, lessen}
 use Rattle.task_safety.proofs.Targets.{map-lessen, ids-lessen}
+use Rattle.kernel_world.specs.Kept.{Stack, stack_of}
 use Rattle.kernel_world.specs.State.{WorldState}
 use Rattle.kernel_world.specs.Objects.{deletion_gate}
 use Rattle.task_calls.specs.Ending.{without_stack, unguarded, ended}
@@ -28,8 +29,8 @@ use Rattle.kernel_world.specs.declared.actor.Actor.TheVariants.{Task as ATask}
 use Rattle.kernel_world.specs.declared.reply.Reply.{Reply}
 use Rattle.kernel_world.specs.declared.reply.Reply.TheVariants.{Answer, Gone}
 
-abbrev pub stacks : List Task → List ℕ
-stacks ts = map (λ t. t.stack) ts
+abbrev pub stacks : List Task → List Stack
+stacks ts = map stack_of ts
 
 -- tasks with the same ids on the same stacks
 pub without_same : (p : PartState) (ts us : List Task) (who : ℕ) → ids ts ≡ ids us → stacks ts ≡ stacks us → without_stack p (task_of ts who) ≡ without_stack p (task_of us who)
@@ -40,21 +41,21 @@ without_same p (t ∷ ts) (u ∷ us) who i s =
     let same : t.id ≡ u.id = heads t.id u.id (ids ts) (ids us) i in
     ap (λ n. without_stack p (cond (eqb n who) (Some t) (task_of ts who))) same
     ∙ elim (eqb u.id who) as (λ b. without_stack p (cond b (Some t) (task_of ts who)) ≡ without_stack p (cond b (Some u) (task_of us who))) [
-      | true ↦ ap (λ n. after_free p n Kernel) (heads t.stack u.stack (stacks ts) (stacks us) s)
-      | false ↦ without_same p ts us who (tails t.id u.id (ids ts) (ids us) i) (tails t.stack u.stack (stacks ts) (stacks us) s)
+      | true ↦ ap (λ (x : Stack). after_free p x.addr Kernel) (heads (stack_of t) (stack_of u) (stacks ts) (stacks us) s)
+      | false ↦ without_same p ts us who (tails t.id u.id (ids ts) (ids us) i) (tails (stack_of t) (stack_of u) (stacks ts) (stacks us) s)
     ]
   where
-    heads : (a b : ℕ) (xs ys : List ℕ) → a ∷ xs ≡ b ∷ ys → a ≡ b
+    heads : {X : Type 0} (a b : X) (xs ys : List X) → a ∷ xs ≡ b ∷ ys → a ≡ b
     heads a b xs ys e = cc
 
-    tails : (a b : ℕ) (xs ys : List ℕ) → a ∷ xs ≡ b ∷ ys → xs ≡ ys
+    tails : {X : Type 0} (a b : X) (xs ys : List X) → a ∷ xs ≡ b ∷ ys → xs ≡ ys
     tails a b xs ys e = cc
 
 stacks-lessen : (k : KernState) (who n : ℕ) → stacks (lessen k who n).tasks ≡ stacks k.tasks
-stacks-lessen = map-lessen (λ t. t.stack) (λ n t. refl) (λ t. refl) (λ n t. refl)
+stacks-lessen = map-lessen stack_of (λ n t. refl) (λ t. refl) (λ n t. refl)
 
 stacks-asked : (k : KernState) (who : ℕ) → stacks (asked k who).tasks ≡ stacks k.tasks
-stacks-asked k who = map-change (λ t. t.stack) k.tasks who (λ t. record t { again = false }) (λ t. refl)
+stacks-asked k who = map-change stack_of k.tasks who (λ t. record t { again = false }) (λ t. refl)
 
 ids-asked : (k : KernState) (who : ℕ) → ids (asked k who).tasks ≡ ids k.tasks
 ids-asked k who = ids-change k.tasks who (λ t. record t { again = false }) (λ t. refl)
@@ -83,7 +84,7 @@ handed_ended (Some u) t e = one u t e
     one : (a b : Task) → Some (told_by SelfEnded a) ≡ Some (told_by SelfEnded b) → Some a ≡ Some b
     one a b h = cc
 
--- one that is handed on so is not told otherwise
+-- an answer of one kind is none of the other
 never_removed : (o : Option Task) (t : Task) → option_map (told_by SelfEnded) o ≡ Some (told_by Removed t) → ⊥
 never_removed None t e = cc
 never_removed (Some u) t e = cc
@@ -130,7 +131,7 @@ end_is w k j p t who eased gone found freed =
     freed ∙ ap (without_stack w.part) (found ∙ ap (λ s. task_of s.tasks who) eased) ∙ stack-lessen w.part w.kern who (safe_of (task_of w.kern.tasks who)) in
     ap (λ s. record w { kern = s; part = p }) kern ∙ ap (λ x. record w { kern = remove (unguarded w.kern who) who; part = x }) part
 
--- whoever stands at the gate of a deletion has other registers
+-- registers at the gate of a deletion put the task back there
 pub at_gate : (k : KernState) (who : ℕ) (t : Task) (regs : Regs) → IsKern k → task_of k.tasks who ≡ Some t → regs ≡ record t.regs { pc = deletion_gate } → set_regs k who regs ≡ back_at_gate k who
 at_gate k who t regs is found e =
     ap (λ ts. record k { tasks = ts }) (change_alike task_id k.tasks who t (λ u. record u { regs = regs }) at_deletion is.rising found (ap (λ r. record t { regs = r }) e))

@@ -8,12 +8,12 @@ use Rattle.wind_core.specs.Moves.{remove}
 use Rattle.task_safety.specs.Safety.{safe_of, lessen}
 use Rattle.kernel_world.specs.State.{WorldState}
 
--- the partition without the stack of a task
+-- the partition after the stack of a task is freed
 abbrev pub without_stack : PartState → Option Task → PartState
 without_stack p None = p
 without_stack p (Some t) = after_free p t.stack Kernel
 
--- the task is safe no more, so that all who wait to delete it go on
+-- the task's safe sections have ended, so all who wait to delete it go on
 abbrev pub unguarded : KernState → ℕ → KernState
 unguarded k who = lessen k who (safe_of (task_of k.tasks who))
 

@@ -16,7 +16,7 @@ pub record PartRow : Type 0 where
   pub part : PartState
   pub reply : Reply
 
--- the error of a block that the partition refuses to give
+-- the error number of an allocation that the partition refuses
 abbrev pub block_error : PartErr → Errno
 block_error refusals.BadAlign = errors.BadAlign
 block_error e = errors.NotEnoughMemory
@@ -37,7 +37,7 @@ abbrev pub free_reply : Result ℕ PartErr → Reply
 free_reply (Ok size) = Answer ok_word
 free_reply (Err e) = Refusal errors.NotABlock
 
--- free: nothing is at address 0, which may be freed at any time
+-- free: address 0 may be freed at any time, which does nothing
 abbrev pub free_row : PartState → ℕ → PartRow
 free_row p at =
     if at == 0 then record { part = p; reply = Answer ok_word }

@@ -41,21 +41,21 @@ pub record DeleteRow : Type 0 where
 abbrev pub deletion : KernState → PartState → Reply → DeleteRow
 deletion k p r = record { kern = k; part = p; reply = r }
 
--- a task stands at the gate of a deletion, and so makes its call again when it goes on
+-- the task is at the gate of taskDelete, so it makes its call again when it goes on
 abbrev pub at_deletion : TaskRecord → TaskRecord
 at_deletion t = record t { regs = record t.regs { pc = deletion_gate } }
 
 abbrev pub back_at_gate : KernState → ℕ → KernState
 back_at_gate k who = change_task k who at_deletion
 
--- the stack of a task that is gone goes back to the partition; a caller that ended itself is answered nothing
+-- the stack of a deleted task goes back to the partition; a caller that deleted itself isn't answered
 abbrev pub deletes : KernState → PartState → ℕ → Deed → DeleteRow
 deletes k p who (Refuses e) = deletion (after k who (Refuses e)) p (Refusal e)
 deletes k p who (EndsItself count) = deletion (after k who (EndsItself count)) (without_stack p (task_of k.tasks who)) Gone
 deletes k p who (Removes id) = deletion (after k who (Removes id)) (without_stack p (task_of k.tasks id)) (Answer ok_word)
 deletes k p who (Awaits id) = deletion (back_at_gate (after k who (Awaits id)) who) p Later
 
--- 0 is the caller
+-- the id of the task to delete: 0 is the caller
 abbrev pub meant : ℕ → ℕ → ℕ
 meant who id = if id == 0 then who else id
 

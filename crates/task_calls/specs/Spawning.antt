@@ -28,30 +28,31 @@ least_stack = 512
 abbrev pub stack_bytes : ℕ → ℕ
 stack_bytes n = max n least_stack
 
--- r1 at the start of a stack of a block: a frame below the block's end
+-- r1 at the start of a task: one frame below the end of its stack's block
 abbrev pub first_pointer : ℕ → ℕ → ℕ
 first_pointer at n = at + rounded n - frame_bytes
 
--- the name of a task: the one that it is given, or a number behind a `t`
+-- the name of a task: the one that it is given, or a `t` followed by a number
 abbrev pub task_name : Option (List ℕ) → ℕ → List ℕ
 task_name None n = codes "t" ++ decimal n
 task_name (Some name) n = name
 
--- the number of the next task without a name
+-- the number that the next task without a name takes
 abbrev pub names_after : Option (List ℕ) → ℕ → ℕ
 names_after None n = n + 1
 names_after (Some name) n = n
 
--- where a task returns to from its start
+-- where a task returns to when its entry returns
 abbrev pub task_return : ℕ
 task_return = gate_address gates_start gates.TaskReturn
 
--- the task that is made, with its stack at an address
+-- the task, with its stack at an address
 abbrev pub started : Wanted → ℕ → ℕ → NewTask
 started s names at = record {
   name = task_name s.name names;
   entry = s.start;
   stack = at;
+  stack_size = stack_bytes s.stack;
   pri = s.pri;
   regs = starting_regs (first_pointer at (stack_bytes s.stack)) task_return s.start s.words;
 }
@@ -66,19 +67,19 @@ pub record SpawnState : Type 0 where
 abbrev pub spawn_parts : KernState → PartState → List ℕ → ℕ → SpawnState
 spawn_parts kern part ram names = record { kern = kern; part = part; ram = ram; names = names }
 
--- these of a world, and the world with others in their place
+-- these parts of a world, and the world with other ones in their place
 abbrev pub spawn_state : WorldState → SpawnState
 spawn_state w = spawn_parts w.kern w.part w.ram w.names
 
 abbrev pub after_spawn : WorldState → SpawnState → WorldState
 after_spawn w s = record w { kern = s.kern; part = s.part; ram = s.ram; names = s.names }
 
--- these after a spawn, and how its caller is answered
+-- these parts after a spawn, and how its caller is answered
 pub record SpawnRow : Type 0 where
   pub after : SpawnState
   pub reply : Reply
 
--- nothing changes where it is refused
+-- if the spawn is refused, nothing changes
 abbrev pub no_spawn : SpawnState → Errno → SpawnRow
 no_spawn w e = record { after = w; reply = Refusal e }
 
@@ -99,11 +100,11 @@ abbrev pub spawned_unless : SpawnState → Wanted → Option Errno → SpawnRow
 spawned_unless w s (Some e) = no_spawn w e
 spawned_unless w s None = spawned_at w s (alloc_of w.part (stack_bytes s.stack) grain)
 
--- refused where too many tasks live or no id is left; then where the partition has no such block
+-- refused if no more tasks may live or no id is left, then if the partition has no room for the stack
 abbrev pub spawned : SpawnState → Wanted → SpawnRow
 spawned w s = spawned_unless w s (spawn_refusal w.kern)
 
--- or where what is asked for is no task
+-- or refused because the request was
 abbrev pub spawned_if : SpawnState → Result Wanted Errno → SpawnRow
 spawned_if w (Err e) = no_spawn w e
 spawned_if w (Ok s) = spawned w s
@@ -136,11 +137,11 @@ abbrev pub quick_wanted : ℕ → Option (List ℕ) → Result Wanted Errno
 quick_wanted start None = Err errors.BadAddress
 quick_wanted start (Some words) = Ok (record { name = None; pri = quick_priority; stack = quick_stack; start = start; words = words })
 
--- the line that tells a spawn
+-- the line that reports a spawn
 unfoldable pub spawn_text : ℕ → List ℕ → List ℕ
 spawn_text id name = codes "task spawned: id = 0x" ++ digits 16 false id ++ codes ", name = " ++ name ++ codes "\n"
 
--- what sp writes: nothing, where it is refused
+-- what sp writes: nothing, if it is refused
 abbrev pub quick_text : ℕ → Reply → List ℕ
 quick_text names (Answer id) = spawn_text id (task_name None names)
 quick_text names r = []

@@ -15,7 +15,7 @@ pub record SymbolRow : Type 0 where
   pub symbols : List Symbol
   pub reply : Reply
 
--- the kind of a number: this project's own table
+-- the kind that has this number: this project's own table
 abbrev pub kind_of_number : ℕ → Option SymKind
 kind_of_number n =
     if n == 1 then Some kinds.TextSym
@@ -27,7 +27,7 @@ kind_of_number n =
 abbrev pub refused_symbol : List Symbol → Errno → SymbolRow
 refused_symbol ss e = record { symbols = ss; reply = Refusal e }
 
--- a global symbol of group 0 behind the others
+-- a global symbol of group 0, added after the others
 abbrev pub with_kind : List Symbol → List ℕ → ℕ → Option SymKind → SymbolRow
 with_kind ss name value None = refused_symbol ss errors.BadKind
 with_kind ss name value (Some kind) =
@@ -44,7 +44,7 @@ with_name ss value kind (Some name) =
     if length name == 0 || nat_lt longest_name (length name) then refused_symbol ss errors.BadAddress
     else with_kind ss name value (kind_of_number kind)
 
--- symAdd: the table is named by 0, and the group is not used
+-- symAdd: the table must be 0, and the group isn't used
 abbrev pub symbol_row : List Symbol → List ℕ → ℕ → ℕ → ℕ → ℕ → SymbolRow
 symbol_row ss ram table name value kind =
     if table == 0 then with_name ss value kind (string_at ram name)

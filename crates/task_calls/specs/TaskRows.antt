@@ -1,4 +1,4 @@
--- The rows of the calls that touch the kernel's tasks and counters alone.
+-- The rows of the calls that touch only the kernel's tasks and counters.
 use Rattle.std.specs.Prelude.{ℕ, Bool, true, false, ◌+◌, ◌-◌, ◌%◌, ◌^◌, List, Option, None, Some, ◌==◌, if◌then◌else◌}
 use Rattle.wind_base.specs.Limits.{ok_word}
 use Rattle.wind_base.specs.declared.errno.Errno.{Errno}
@@ -35,7 +35,7 @@ abbrev pub resume_row : KernState → Option ℕ → KernRow
 resume_row k None = refused k errors.ObjIdError
 resume_row k (Some id) = done (resume k id)
 
--- a call that a task alone makes
+-- a call that only a task may make
 abbrev pub by_task : KernState → Actor → (ℕ → KernRow) → KernRow
 by_task k (Task who) f = f who
 by_task k Interrupt f = refused k errors.NotIsrCallable
@@ -68,7 +68,7 @@ abbrev pub verify_row : KernState → Option ℕ → KernRow
 verify_row k None = refused k errors.ObjIdError
 verify_row k (Some id) = done k
 
--- taskNameToId: of the name that the string holds
+-- taskNameToId: the task with the name that the string holds
 abbrev pub found_row : KernState → Option TaskRecord → KernRow
 found_row k None = refused k errors.TaskNotFound
 found_row k (Some t) = told k t.id
@@ -85,7 +85,7 @@ slice_row k n = done (record k { slice = n })
 abbrev pub tick_row : KernState → KernRow
 tick_row k = told k (k.tick % 2 ^ 32)
 
--- ---- interrupts held back: a mark of the task, which counts while it runs; an interrupt routine holds them back by itself
+-- ---- interrupts held back: a mark of the task, in force while it runs; an interrupt routine always holds them back
 abbrev pub mark_of : Option TaskRecord → Bool
 mark_of None = false
 mark_of (Some t) = t.int_locked
@@ -93,7 +93,7 @@ mark_of (Some t) = t.int_locked
 abbrev pub mark_word : Bool → ℕ
 mark_word on = if on then 1 else 0
 
--- intLock: the mark as it was is the answer
+-- intLock: answers the mark as it was
 abbrev pub int_lock_row : KernState → Actor → KernRow
 int_lock_row k (Task who) = told (set_int_locked k who true) (mark_word (mark_of (task_of k.tasks who)))
 int_lock_row k Interrupt = told k 1

@@ -13,7 +13,7 @@ use task_safety::lessen;
 use wind_core::Kern;
 use wind_outside::Device;
 
-// Takes the stack of a task back.
+// Frees the stack of a task.
 pub(crate) fn take_stack(part: &mut Part, task: Option<Task>)
     ensures { part.new ≡ without_stack part.old task }
 {
@@ -22,7 +22,7 @@ pub(crate) fn take_stack(part: &mut Part, task: Option<Task>)
     }
 }
 
-// The task is safe no more: all who wait to delete it go on.
+// Ends the task's safe sections, so that all who wait to delete it go on.
 fn end_safety(kern: &mut Kern, who: Ident)
     requires live { Lives kern.old who }
     requires since { kern.old.next_since < 2 ^ 63 }
@@ -35,8 +35,8 @@ fn end_safety(kern: &mut Kern, who: Ident)
     lessen(kern, who, count);
 }
 
-/// Ends a task: its safe sections end, so that all who wait to delete it go on; it is gone, and its stack goes back to
-/// the partition.
+/// Ends a task. Its safe sections end, so that all who wait to delete it go on. The task is then
+/// gone, and its stack goes back to the partition.
 pub fn end_task(w: &mut World, who: Ident)
     requires live { Lives w.old.kern who }
     requires since { w.old.kern.next_since < 2 ^ 63 }

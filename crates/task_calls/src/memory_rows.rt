@@ -7,7 +7,7 @@ use kernel_world::{DONE, Reply};
 use mem_partition::{Class, GRAIN, Part, PartErr};
 use wind_base::Errno;
 
-// The error of a block that the partition refuses to give.
+// The error number of an allocation that the partition refuses.
 fn block_error(refusal: PartErr) -> Errno
     ensures { result ≡ block_error_lem refusal }
 {
@@ -17,7 +17,8 @@ fn block_error(refusal: PartErr) -> Errno
     }
 }
 
-/// memalign: a block of `n` bytes at a multiple of `align`. Refused where that is no alignment, then for want of room.
+/// memalign: allocates `n` bytes at a multiple of `align`. Refused if `align` is invalid, then if
+/// the partition has no room.
 pub fn memalign(part: &mut Part, align: u32, n: u32) -> Reply
     ensures part { part.new ≡ (align_row part.old align n).part }
     ensures reply { result ≡ (align_row part.old align n).reply }
@@ -28,7 +29,7 @@ pub fn memalign(part: &mut Part, align: u32, n: u32) -> Reply
     }
 }
 
-/// malloc: a block of `n` bytes. Refused for want of room.
+/// malloc: allocates `n` bytes. Refused if the partition has no room.
 pub fn malloc(part: &mut Part, n: u32) -> Reply
     ensures part { part.new ≡ (malloc_row part.old n).part }
     ensures reply { result ≡ (malloc_row part.old n).reply }
@@ -36,7 +37,8 @@ pub fn malloc(part: &mut Part, n: u32) -> Reply
     memalign(part, GRAIN, n)
 }
 
-/// free: the block at an address goes back; nothing is at address 0. Refused where no block of a caller begins there.
+/// free: frees the block at an address; at address 0 it does nothing. Refused if no block of a
+/// caller begins there.
 pub fn free(part: &mut Part, address: u32) -> Reply
     ensures part { part.new ≡ (free_row part.old address).part }
     ensures reply { result ≡ (free_row part.old address).reply }

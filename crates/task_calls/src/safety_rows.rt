@@ -15,7 +15,8 @@ use wind_base::limits::GATES_START;
 use wind_base::{Errno, Gate, Regs};
 use wind_core::Kern;
 
-/// taskSafe, of a task: it is safe from deletion once more. Refused at interrupt level.
+/// taskSafe, from a task: makes the caller safe from deletion once more. Refused at interrupt
+/// level.
 #[tactic(auto, using(crate::proofs::Counts::safes_below))]
 pub fn make_safe(kern: &mut Kern, who: Actor) -> Reply
     requires live { Acts kern.old who }
@@ -30,8 +31,8 @@ pub fn make_safe(kern: &mut Kern, who: Actor) -> Reply
     DONE
 }
 
-/// taskUnsafe, of a task: it is safe once less, and at the last time all who wait to delete it go on. Refused at
-/// interrupt level, and where it isn't safe.
+/// taskUnsafe, from a task: ends one safe section of the caller. When the last one ends, all who
+/// wait to delete it go on. Refused at interrupt level, and if the caller isn't safe.
 pub fn make_unsafe(kern: &mut Kern, who: Actor) -> Reply
     requires live { Acts kern.old who }
     requires since { kern.old.next_since < 2 ^ 63 }
@@ -47,14 +48,14 @@ pub fn make_unsafe(kern: &mut Kern, who: Actor) -> Reply
     }
 }
 
-// The number of the task that is to be deleted: 0 is the caller.
+// The id of the task to delete: 0 is the caller.
 fn meant(caller: Ident, id: u32) -> u32
     ensures { result ≡ meant_lem caller id }
 {
     if id == 0 { caller.get() } else { id }
 }
 
-// Registers that stand at the gate of a deletion.
+// The registers, with the program counter at the gate of taskDelete.
 fn at_deletion(regs: &Regs) -> Regs
     ensures { result ≡ record regs.now { pc = deletion_gate } }
 {
@@ -64,7 +65,7 @@ fn at_deletion(regs: &Regs) -> Regs
     }
 }
 
-// The task stands at the gate of a deletion.
+// Puts the task at the gate of taskDelete.
 fn stand_at_gate(kern: &mut Kern, who: Ident)
     ensures { kern.new ≡ back_at_gate kern.old who }
 {
@@ -76,8 +77,9 @@ fn stand_at_gate(kern: &mut Kern, who: Ident)
     kern.set_regs(who, regs);
 }
 
-/// taskDelete, of a task: the task of an id ends, 0 being the caller, or the caller waits at its gate until that is
-/// safe no more. Refused at interrupt level, where no such task lives, and of the shell's task.
+/// taskDelete, from a task: deletes the task with this id; 0 is the caller. While that task is
+/// safe, the caller waits at its gate. Refused at interrupt level, if no such task lives, and for
+/// the shell's task.
 pub fn delete(kern: &mut Kern, part: &mut Part, who: Actor, id: u32) -> Reply
     requires live { Acts kern.old who }
     requires since { kern.old.next_since < 2 ^ 63 }

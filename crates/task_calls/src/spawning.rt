@@ -17,32 +17,33 @@ use wind_base::text::{add, add_hex};
 use wind_base::{Errno, Gate, OutBuf, Pri, ShortName};
 use wind_core::Kern;
 
-// A stack has at least so many bytes.
+// The least stack, in bytes.
 const LEAST_STACK: u32 = 512;
 
-// The priority and the stack of a task that `sp` makes.
+// The priority of a task that `sp` makes, and its stack in bytes.
 const QUICK_PRIORITY: u32 = 100;
 
 const QUICK_STACK: u32 = 20_000;
 
-/// A task that is asked for.
+/// A task to be made.
 #[derive(Drop)]
 pub struct Wanted {
     /// Its name, if it has one.
     pub name: Option<ShortName>,
-    /// The priority that it is given.
+    /// Its priority.
     pub pri: Pri,
-    /// The bytes of its stack.
+    /// The size of its stack, in bytes.
     pub stack: u32,
     /// The address at which it begins.
     pub start: u32,
-    /// The words for it.
+    /// Its arguments.
     pub words: [u32; 10],
 }
 
-// The name that an address means: none at 0, else the first bytes of the string there. None where it can't be read.
+// The name that an address means: none at 0, else the first bytes of the string there. `None` if it
+// can't be read.
 fn name_at(ram: &Ram, address: u32) -> Option<Option<ShortName>>
-    ensures { result ≡ name_at_lem ram.now address }
+    ensures { result ≡ name_at_lem ram.now.bytes address }
 {
     if address == 0 {
         return Some(None);
@@ -53,8 +54,8 @@ fn name_at(ram: &Ram, address: u32) -> Option<Option<ShortName>>
     }
 }
 
-/// The task that taskSpawn is asked for: the name stands at an address. Refused at a priority above 255, and then if the name or
-/// an argument can't be read.
+/// The task that taskSpawn asks for; its name is at an address. Refused if the priority is above
+/// 255, then if the name or an argument can't be read.
 pub fn task_wanted(
     ram: &Ram,
     name: u32,
@@ -63,7 +64,7 @@ pub fn task_wanted(
     start: u32,
     arguments: Option<[u32; 10]>,
 ) -> Result<Wanted, Errno>
-    ensures { result ≡ task_wanted_lem ram.now name priority stack start arguments }
+    ensures { result ≡ task_wanted_lem ram.now.bytes name priority stack start arguments }
 {
     let Some(pri) = Pri::new(priority) else {
         return Err(Errno::IllegalPriority);
@@ -93,7 +94,7 @@ fn quick_priority() -> Pri
     }
 }
 
-/// The task that sp is asked for. Refused if an argument can't be read.
+/// The task that sp asks for. Refused if an argument can't be read.
 pub fn quick_wanted(start: u32, arguments: Option<[u32; 10]>) -> Result<Wanted, Errno>
     ensures { result ≡ quick_wanted_lem start arguments }
 {
@@ -109,7 +110,7 @@ pub fn quick_wanted(start: u32, arguments: Option<[u32; 10]>) -> Result<Wanted, 
     })
 }
 
-// A number behind a `t`.
+// A `t` followed by a number.
 fn numbered(number: u64) -> ShortName
     ensures { result ≡ task_name_lem None number }
 {
@@ -120,7 +121,7 @@ fn numbered(number: u64) -> ShortName
     ShortName::cut(name.as_slice())
 }
 
-// The name that a task is given, or its number behind a `t`.
+// The name given to a task; without one, a `t` followed by the next number.
 fn take_name(name: Option<ShortName>, names: &mut u64) -> ShortName
     requires { names.old + 1 < 2 ^ 64 }
     ensures name { result ≡ task_name_lem name names.old }
@@ -136,14 +137,14 @@ fn take_name(name: Option<ShortName>, names: &mut u64) -> ShortName
     }
 }
 
-// The bytes of a stack that is asked for with so many.
+// The size of a stack, in bytes, if a task asks for `bytes`.
 fn stack_bytes(bytes: u32) -> u32
     ensures { result ≡ stack_bytes_lem bytes }
 {
     bytes.max(LEAST_STACK)
 }
 
-// r1 at the start of a stack: a frame below the end of its block.
+// r1 at the start of a task: one frame below the end of its stack's block.
 #[tactic(auto, using(mem_partition::proofs::Allocs::rounded_holds))]
 fn first_pointer(address: u32, bytes: u32) -> u32
     requires least { 64 ≤ bytes }
@@ -154,7 +155,7 @@ fn first_pointer(address: u32, bytes: u32) -> u32
     (end - u64::from(FRAME_BYTES)) as u32
 }
 
-// The task with its stack at an address.
+// The task, with its stack at an address.
 fn started(wanted: Wanted, names: &mut u64, address: u32, pointer: u32) -> NewTask
     requires names { names.old + 1 < 2 ^ 64 }
     requires pointer { pointer ≡ first_pointer_lem address (stack_bytes_lem wanted.stack) }
@@ -164,7 +165,7 @@ fn started(wanted: Wanted, names: &mut u64, address: u32, pointer: u32) -> NewTa
     let Wanted {
         name,
         pri,
-        stack: _,
+        stack,
         start,
         words,
     } = wanted;
@@ -173,22 +174,25 @@ fn started(wanted: Wanted, names: &mut u64, address: u32, pointer: u32) -> NewTa
         name: take_name(name, names),
         entry: start,
         stack: address,
+        stack_size: stack_bytes(stack),
         pri,
         regs: starting_regs(pointer, link, start, &words),
     }
 }
 
-// Makes the task that is asked for. Where it is refused, nothing changes.
+// Makes the task. If that is refused, nothing changes.
 fn spawn(kern: &mut Kern, part: &mut Part, ram: &mut Ram, names: &mut u64, wanted: Wanted) -> Reply
     requires home { kern.old.lent ≡ false }
     requires since { kern.old.next_since + 1 < 2 ^ 64 }
     requires names { names.old + 1 < 2 ^ 64 }
     requires end { part.old.end ≡ ram_bytes }
-    ensures kern { kern.new ≡ (spawned_lem (spawn_parts kern.old part.old ram.old names.old) wanted).after.kern }
-    ensures part { part.new ≡ (spawned_lem (spawn_parts kern.old part.old ram.old names.old) wanted).after.part }
-    ensures ram { ram.new ≡ (spawned_lem (spawn_parts kern.old part.old ram.old names.old) wanted).after.ram }
-    ensures names { names.new ≡ (spawned_lem (spawn_parts kern.old part.old ram.old names.old) wanted).after.names }
-    ensures reply { result ≡ (spawned_lem (spawn_parts kern.old part.old ram.old names.old) wanted).reply }
+    ensures kern { kern.new ≡ (spawned_lem (spawn_parts kern.old part.old ram.old.bytes names.old) wanted).after.kern }
+    ensures part { part.new ≡ (spawned_lem (spawn_parts kern.old part.old ram.old.bytes names.old) wanted).after.part }
+    ensures ram { ram.new.bytes
+        ≡ (spawned_lem (spawn_parts kern.old part.old ram.old.bytes names.old) wanted).after.ram }
+    ensures names { names.new
+        ≡ (spawned_lem (spawn_parts kern.old part.old ram.old.bytes names.old) wanted).after.names }
+    ensures reply { result ≡ (spawned_lem (spawn_parts kern.old part.old ram.old.bytes names.old) wanted).reply }
 {
     if let Some(refusal) = kern.spawn_refusal() {
         return Reply::Refusal(refusal);
@@ -205,7 +209,7 @@ fn spawn(kern: &mut Kern, part: &mut Part, ram: &mut Ram, names: &mut u64, wante
     Reply::Answer(id.get())
 }
 
-//// Makes the task, where what is asked for is one.
+/// Makes the task, unless the request was refused.
 pub fn spawn_if(
     kern: &mut Kern,
     part: &mut Part,
@@ -217,11 +221,15 @@ pub fn spawn_if(
     requires since { kern.old.next_since + 1 < 2 ^ 64 }
     requires names { names.old + 1 < 2 ^ 64 }
     requires end { part.old.end ≡ ram_bytes }
-    ensures kern { kern.new ≡ (spawned_if_lem (spawn_parts kern.old part.old ram.old names.old) wanted).after.kern }
-    ensures part { part.new ≡ (spawned_if_lem (spawn_parts kern.old part.old ram.old names.old) wanted).after.part }
-    ensures ram { ram.new ≡ (spawned_if_lem (spawn_parts kern.old part.old ram.old names.old) wanted).after.ram }
-    ensures names { names.new ≡ (spawned_if_lem (spawn_parts kern.old part.old ram.old names.old) wanted).after.names }
-    ensures reply { result ≡ (spawned_if_lem (spawn_parts kern.old part.old ram.old names.old) wanted).reply }
+    ensures kern { kern.new
+        ≡ (spawned_if_lem (spawn_parts kern.old part.old ram.old.bytes names.old) wanted).after.kern }
+    ensures part { part.new
+        ≡ (spawned_if_lem (spawn_parts kern.old part.old ram.old.bytes names.old) wanted).after.part }
+    ensures ram { ram.new.bytes
+        ≡ (spawned_if_lem (spawn_parts kern.old part.old ram.old.bytes names.old) wanted).after.ram }
+    ensures names { names.new
+        ≡ (spawned_if_lem (spawn_parts kern.old part.old ram.old.bytes names.old) wanted).after.names }
+    ensures reply { result ≡ (spawned_if_lem (spawn_parts kern.old part.old ram.old.bytes names.old) wanted).reply }
 {
     match wanted {
         Ok(wanted) => spawn(kern, part, ram, names, wanted),
@@ -229,7 +237,7 @@ pub fn spawn_if(
     }
 }
 
-// Adds the line that tells a spawn.
+// Adds the line that reports a spawn.
 #[tactic(auto, unfolding(crate::specs::Spawning::spawn_text))]
 fn add_spawn(out: &mut OutBuf, id: u32, name: &[u8])
     requires name { length name.now ≤ longest_short_name }
@@ -243,7 +251,8 @@ fn add_spawn(out: &mut OutBuf, id: u32, name: &[u8])
     add(out, b"\n");
 }
 
-//// Tells a task without a name that was made, with the number that it took; nothing where it was refused.
+/// Reports the task that sp made, named with the number that it took. If sp was refused, it writes
+/// nothing.
 pub fn tell_spawn(out: &mut OutBuf, number: u64, reply: Reply)
     requires { 128 ≤ out.old.room }
     ensures { Added 128 out.old out.new (quick_text number reply) }

@@ -11,18 +11,18 @@ use symbol_table::{SymKind, Symbol, Symbols};
 use wind_base::limits::{NAME_BYTES, SYMBOLS};
 use wind_base::{Errno, Name, NoMemory};
 
-/// The words of the call behind the name of the table.
+/// The arguments of symAdd after the table.
 #[derive(Clone, Copy)]
 pub struct NewSymbol {
-    /// The address of its name.
+    /// The address of the symbol's name.
     pub name: u32,
-    /// Its value.
+    /// The symbol's value.
     pub value: u32,
-    /// The number of its kind: 1 text, 2 data, 3 bss, 4 absolute.
+    /// The number of the symbol's kind: 1 text, 2 data, 3 bss, 4 absolute.
     pub kind: u32,
 }
 
-// The kind of a number.
+// The kind that has this number.
 fn kind_of_number(number: u32) -> Option<SymKind>
     ensures { result ≡ kind_of_number_lem number }
 {
@@ -35,7 +35,8 @@ fn kind_of_number(number: u32) -> Option<SymKind>
     }
 }
 
-// Adds a global symbol of group 0, where its kind is one. For want of memory the symbols stay.
+// Adds a global symbol of group 0, if its kind is valid. If memory runs out, the symbols stay as
+// they were.
 fn add_kind(
     alloc: Global,
     syms: &mut Symbols,
@@ -71,8 +72,9 @@ fn add_kind(
     Ok(DONE)
 }
 
-/// symAdd: a global symbol of group 0, with a name of 1 to 255 bytes. Refused at a table other than 0, a name that
-/// can't be read, a kind that there isn't, and as many symbols as there may be. For want of memory the symbols stay.
+/// symAdd: adds a global symbol of group 0, with a name of 1 to 255 bytes. Refused if the table
+/// isn't 0, if the name can't be read, if there is no such kind, and if no more symbols may exist.
+/// If memory runs out, the symbols stay as they were.
 pub fn add_symbol(
     alloc: Global,
     syms: &mut Symbols,
@@ -81,8 +83,9 @@ pub fn add_symbol(
     symbol: NewSymbol,
 ) -> Result<Reply, NoMemory>
     ensures ok { IfOk result (λ r.
-        (r ≡ (symbol_row syms.old.list ram.now table symbol.name symbol.value symbol.kind).reply)
-        × (syms.new.list ≡ (symbol_row syms.old.list ram.now table symbol.name symbol.value symbol.kind).symbols)) }
+        (r ≡ (symbol_row syms.old.list ram.now.bytes table symbol.name symbol.value symbol.kind).reply)
+        × (syms.new.list
+        ≡ (symbol_row syms.old.list ram.now.bytes table symbol.name symbol.value symbol.kind).symbols)) }
     ensures err { OnErr result (syms.new.list ≡ syms.old.list) }
 {
     if table != 0 {

@@ -1,4 +1,4 @@
-//! The calls that touch the kernel's tasks and counters alone.
+//! The calls that touch only the kernel's tasks and counters.
 
 ghost use Rattle.std.specs.Prelude.{◌≡◌, ◌+◌, ◌^◌, ◌<◌};
 ghost use Rattle.std.specs.List.{All};
@@ -14,7 +14,7 @@ use kernel_world::{Actor, DONE, Reply, target};
 use wind_base::Errno;
 use wind_core::Kern;
 
-/// taskSuspend: the task of an id is suspended. Refused where none lives.
+/// taskSuspend: suspends the task with this id. Refused if no such task lives.
 pub fn suspend(kern: &mut Kern, who: Actor, id: u32) -> Reply
     requires { Acts kern.old who }
     ensures kern { kern.new ≡ (suspend_row kern.old (target_lem kern.old who id)).kern }
@@ -27,7 +27,7 @@ pub fn suspend(kern: &mut Kern, who: Actor, id: u32) -> Reply
     DONE
 }
 
-/// taskResume: the task of an id is suspended no more. Refused where none lives.
+/// taskResume: resumes the task with this id. Refused if no such task lives.
 pub fn resume(kern: &mut Kern, who: Actor, id: u32) -> Reply
     requires live { Acts kern.old who }
     requires since { kern.old.next_since + 1 < 2 ^ 64 }
@@ -41,8 +41,8 @@ pub fn resume(kern: &mut Kern, who: Actor, id: u32) -> Reply
     DONE
 }
 
-/// taskDelay, of a task: it is delayed for so many ticks, and answered at the end of that, or at once at 0. Refused at
-/// interrupt level.
+/// taskDelay, from a task: delays the caller for `ticks` ticks. It is answered when the delay ends,
+/// or at once at 0. Refused at interrupt level.
 pub fn delay(kern: &mut Kern, who: Actor, ticks: u32) -> Reply
     requires live { Acts kern.old who }
     requires since { kern.old.next_since + 1 < 2 ^ 64 }
@@ -67,7 +67,7 @@ fn locks(kern: &Kern, who: Ident) -> u64
     }
 }
 
-/// taskLock, of a task: it has locked the scheduler once more. Refused at interrupt level.
+/// taskLock, from a task: locks the scheduler once more. Refused at interrupt level.
 #[tactic(auto, using(crate::proofs::Counts::locks_below))]
 pub fn lock(kern: &mut Kern, who: Actor) -> Reply
     requires live { Acts kern.old who }
@@ -83,7 +83,8 @@ pub fn lock(kern: &mut Kern, who: Actor) -> Reply
     DONE
 }
 
-/// taskUnlock, of a task: it has locked the scheduler once less, if it has. Refused at interrupt level.
+/// taskUnlock, from a task: unlocks the scheduler once, if it is locked. Refused at interrupt
+/// level.
 pub fn unlock(kern: &mut Kern, who: Actor) -> Reply
     requires { Acts kern.old who }
     ensures kern { kern.new ≡ (unlock_row kern.old who).kern }
@@ -97,7 +98,7 @@ pub fn unlock(kern: &mut Kern, who: Actor) -> Reply
     DONE
 }
 
-/// taskIdSelf, of a task: its id. Refused at interrupt level.
+/// taskIdSelf, from a task: answers its id. Refused at interrupt level.
 pub fn own_id(who: Actor) -> Reply
     ensures { (k : KernState) → result ≡ (self_row k who).reply }
 {
@@ -107,7 +108,7 @@ pub fn own_id(who: Actor) -> Reply
     }
 }
 
-/// taskIdVerify: a task of the id lives. Refused where none does.
+/// taskIdVerify: answers OK if a task with this id lives. Refused if none does.
 pub fn verify(kern: &Kern, id: u32) -> Reply
     ensures { result ≡ (verify_row kern.now (live_id kern.now.tasks id)).reply }
 {
@@ -117,7 +118,7 @@ pub fn verify(kern: &Kern, id: u32) -> Reply
     }
 }
 
-/// kernelTimeSlice: so many ticks are the turn of a task, and 0 is without end.
+/// kernelTimeSlice: sets the time slice of a task in ticks; 0 means no time slicing.
 pub fn slice(kern: &mut Kern, ticks: u32) -> Reply
     ensures kern { kern.new ≡ (slice_row kern.old ticks).kern }
     ensures reply { result ≡ (slice_row kern.old ticks).reply }
@@ -126,17 +127,17 @@ pub fn slice(kern: &mut Kern, ticks: u32) -> Reply
     DONE
 }
 
-/// tickGet: the low word of the count of ticks.
+/// tickGet: answers the low word of the tick count.
 pub fn ticks(kern: &Kern) -> Reply
     ensures { result ≡ (tick_row kern.now).reply }
 {
     Reply::Answer((kern.ticks() % 0x1_0000_0000) as u32)
 }
 
-/// taskNameToId: the least id of a task that has the name at an address. Refused where no string is there, then where
-/// no task has it.
+/// taskNameToId: answers the least id of a task with the name at an address. Refused if no string
+/// is there, then if no task has that name.
 pub fn task_of_name(kern: &Kern, ram: &Ram, address: u32) -> Reply
-    ensures { result ≡ (name_row kern.now (string_at ram.now address)).reply }
+    ensures { result ≡ (name_row kern.now (string_at ram.now.bytes address)).reply }
 {
     let Some(name) = ram.string(address) else {
         return Reply::Refusal(Errno::BadAddress);
@@ -157,7 +158,8 @@ fn mark(kern: &Kern, who: Ident) -> bool
     }
 }
 
-/// intLock: the task holds interrupts back; the answer is 1 where it did before, as a routine always does, else 0.
+/// intLock: holds interrupts back. It answers 1 if they were held back before, as they always are
+/// in a routine, else 0.
 pub fn lock_interrupts(kern: &mut Kern, who: Actor) -> Reply
     requires { Acts kern.old who }
     ensures kern { kern.new ≡ (int_lock_row kern.old who).kern }
@@ -171,7 +173,7 @@ pub fn lock_interrupts(kern: &mut Kern, who: Actor) -> Reply
     Reply::Answer(if mark { 1 } else { 0 })
 }
 
-/// intUnlock: the task holds interrupts back where the lowest bit of the key is 1.
+/// intUnlock: the task holds interrupts back if the lowest bit of the key is 1, else not.
 pub fn unlock_interrupts(kern: &mut Kern, who: Actor, key: u32) -> Reply
     requires { Acts kern.old who }
     ensures kern { kern.new ≡ (int_unlock_row kern.old who key).kern }
@@ -183,7 +185,7 @@ pub fn unlock_interrupts(kern: &mut Kern, who: Actor, key: u32) -> Reply
     DONE
 }
 
-/// intContext: 1 at interrupt level, else 0.
+/// intContext: answers 1 at interrupt level, else 0.
 pub fn context(who: Actor) -> Reply
     ensures { (k : KernState) → result ≡ (int_context_row k who).reply }
 {

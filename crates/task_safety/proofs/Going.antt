@@ -1,4 +1,4 @@
--- Who goes by a call.
+-- Which tasks a call removes.
 use Rattle.std.proofs.Common.{◌≡◌, ℕ, ◌+◌, true, false, IsSome, refl, sym, ap, ◌∙◌, subst, inl, inr, ⊎_elim}
 use Rattle.std.proofs.lemmas.Bool.{cases_eq}
 use Rattle.wind_base.specs.Limits.{wait_forever}
@@ -14,7 +14,7 @@ use Rattle.task_safety.specs.Deletion.{deed_of, asked, unguarded, awaiting, afte
 use Rattle.task_safety.specs.Laws.{GoesUnsafe, GoneLaw}
 use Rattle.task_safety.proofs.Targets.{again_lives, lessen_lives, deed_says, Says}
 
--- whoever lived before another was taken out lives
+-- a live task is still live after another is removed
 removed_lives : (s : KernState) (who id : ℕ) → (id ≡ who → ⊥) → Lives s id → Lives (remove s who) id
 removed_lives s who id other lives = subst (λ o. IsSome o) (sym (task_of-without s.tasks who id other)) lives
 

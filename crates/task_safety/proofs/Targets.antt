@@ -1,4 +1,4 @@
--- Whom a call names, and that it lives.
+-- The task that a call names, and that it is live.
 use Rattle.std.proofs.Common.{◌≡◌, ℕ, ◌-◌, ◌<◌, Bool, true, false, cond, ◌&&◌, eqb, ltb, leb, List, map, None, Some, IsSome, refl, sym, ap, ◌∙◌, subst, arith}
 use Rattle.std.specs.Option.{option_map}
 use Rattle.std.proofs.lemmas.Bool.{eqb-true, eqb-false}
@@ -17,8 +17,8 @@ use Rattle.task_safety.specs.declared.deleting.Deed.TheVariants.{Refuses, EndsIt
 use Rattle.task_safety.specs.Safety.{safe_of, deletion, lessen}
 use Rattle.task_safety.specs.Deletion.{again_of, target_of, deed_on, deed_at, deed_of}
 
--- ---- whoever lives goes on living
--- a safe section's end leaves each task what it doesn't write
+-- ---- live tasks stay live
+-- the end of a safe section leaves each field of a task that it doesn't write
 pub map-lessen : {A : Type 0} (field : Task → A) → ((n : ℕ) (t : Task) → field (record t { since = n }) ≡ field t) → ((t : Task) → field (record t { wait = None; wake = None }) ≡ field t)
     → ((n : ℕ) (t : Task) → field (record t { safe = n }) ≡ field t) → (s : KernState) (who n : ℕ)
     → map field (lessen s who n).tasks ≡ map field s.tasks
@@ -59,7 +59,7 @@ not_named ts n e =
       | false ↦ λ q. elim (task_of ts n) as (λ o. None ≡ option_map task_id o → None ≡ o) [ None ↦ λ r. refl | Some t ↦ λ r. absurd (cc) ] q
     ] e
 
--- the target of a deed is the live task of its number
+-- the target of a deed is the live task with its number
 record IsTarget (ts : List Task) (n : ℕ) (t : Task) : Type 0 where
   found : task_of ts n ≡ Some t
   id : t.id ≡ n
@@ -71,7 +71,7 @@ target_is ts n t e =
       | false ↦ λ q. record { found = q; id = found_id task_id ts n t q }
     ] e
 
--- what a deed says of the task that it names
+-- what a deed says about the task that it names
 abbrev pub Says : List Task → ℕ → ℕ → Deed → Type 0
 Says ts caller n (Refuses e) = Unit {0}
 Says ts caller n (EndsItself count) = (n ≡ caller) × (count ≡ safe_of (task_of ts caller))

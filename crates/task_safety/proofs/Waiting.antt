@@ -1,4 +1,4 @@
--- What is kept of waits for a deletion.
+-- The invariant of waits for a deletion.
 use Rattle.std.proofs.Common.{◌≡◌, ℕ, ◌+◌, ◌-◌, ◌<◌, Bool, true, false, cond, not, ◌&&◌, eqb, ltb, leb, List, [], ◌∷◌, ◌++◌, map, get_or, Option, None, Some, IfSome, refl, sym, ap, ◌∙◌, subst, arith, ⊎_elim}
 use Rattle.std.specs.List.{All, Contains}
 use Rattle.std.specs.Option.{option_map}
@@ -34,8 +34,8 @@ use Rattle.task_safety.specs.Kept.{Deletes, IsSafe, KeepsDeleters, WaitsForNothi
 use Rattle.task_safety.specs.Laws.{KeptLaw, CallsLaw}
 use Rattle.task_safety.proofs.Targets.{Says, deed_says}
 
--- ---- safe counts
--- what is read of a task for the safe count of an id
+-- ---- counts of safe sections
+-- what is read of a task for the count of safe sections of an id
 abbrev seen : Task → ℕ × ℕ
 seen t = with_id (λ u. u.safe) t
 
@@ -46,7 +46,7 @@ safe_is (Some t) = refl
 same_safe : (ts us : List Task) (id : ℕ) → map seen ts ≡ map seen us → safe_of (task_of ts id) ≡ safe_of (task_of us id)
 same_safe ts us id e = safe_is (task_of ts id) ∙ ap (λ o. unwrap_or o 0) (found_by (λ u. u.safe) ts us id e) ∙ sym (safe_is (task_of us id))
 
--- the safe count of one task is written
+-- the count of safe sections of one task is written
 abbrev written : ℕ → Task → Task
 written m t = record t { safe = m }
 
@@ -95,7 +95,7 @@ module _ (s : KernState) (kept : KeepsDeleters s) where
   recovered : (n : KernState) → ((id : ℕ) → IsSafe s id → IsSafe n id) → All Fine n.tasks → KeepsDeleters n
   recovered n more all = All-weaker Fine (Deletes (IsSafe n)) (λ t. deletes_weaker (IsSafe s) (IsSafe n) t more) n.tasks all
 
-  -- the safe counts are the same
+  -- the counts of safe sections stay
   as_safe : (n : KernState) → map seen n.tasks ≡ map seen s.tasks → All Fine n.tasks → KeepsDeleters n
   as_safe n e all = recovered n (λ id h. subst (λ m. 0 < m) (sym (same_safe n.tasks s.tasks id e)) h) all
 
@@ -126,7 +126,7 @@ module _ (s : KernState) (kept : KeepsDeleters s) where
       (cases_eq id who))
       (written_fine who m)
 
-  -- a count that falls to 0: all who wait for the deletion go on
+  -- a count that falls to 0: the waits for the deletion end
   frees : IsKern s → (who m : ℕ) → KeepsDeleters (release_all (set_safe s who m) (deletion who))
   frees is who m =
       let less : KernState = set_safe s who m in
@@ -156,7 +156,7 @@ module _ (s : KernState) (kept : KeepsDeleters s) where
         | false ↦ λ b. writes who (count - n) (λ some. let more : n < count = leb-false count n (sym (ap (λ c. c && leb count n) (lt-ltb 0 count some)) ∙ b) in omega arith)
       ] refl
 
-  -- ---- the mark of a repeated call, of a task that waits for nothing
+  -- ---- the mark of a repeated call, for a task that waits for nothing
   module _ (is : IsKern s) (who : ℕ) (idle : WaitsForNothing s who) where
     idle_fine : (f : Task → Task) → ((t : Task) → (f t).wait ≡ t.wait) → (t : Task) → Contains s.tasks t → t.id ≡ who → Fine (f t)
     idle_fine f keeps t at same =
@@ -174,14 +174,14 @@ module _ (s : KernState) (kept : KeepsDeleters s) where
         as_safe (reset s who) (map-change seen s.tasks who (λ t. renewed s.next_since (unmarked t)) (λ t. refl))
         (All-change_at Fine Fine s.tasks who (λ t. renewed s.next_since (unmarked t)) (λ t at same h. idle_fine (λ u. renewed s.next_since (unmarked u)) (λ u. refl) t at same) (λ t at other h. h) kept)
 
-  -- ---- tasks go
+  -- ---- a task is removed
   removes : (who : ℕ) → safe_of (task_of s.tasks who) ≡ 0 → KeepsDeleters (remove s who)
   removes who none =
       recovered (remove s who)
       (λ id h. subst (λ o. 0 < safe_of o) (sym (task_of-without s.tasks who id (λ same. let own = ap (λ i. safe_of (task_of s.tasks i)) same in absurd (omega arith)))) h)
       (All-filter (λ t. not (eqb t.id who)) Fine s.tasks kept)
 
-  -- and of this task, that it repeats its call
+  -- and this task will repeat its call
   abbrev Ready : ℕ → Task → Type 0
   Ready caller t = Fine t × (t.id ≡ caller → t.again ≡ true)
 
@@ -192,7 +192,7 @@ module _ (s : KernState) (kept : KeepsDeleters s) where
         | Some p ↦ λ q side. ((q side).0, refl)
       ] h
 
-  -- a task begins to wait for the deletion of one that is safe
+  -- a task begins to wait for the deletion of one in a safe section
   awaits : (caller who : ℕ) → IsSafe s who → KeepsDeleters (awaiting s caller who)
   awaits caller who safe =
       let again : Task → Task = λ t. record t { again = true } in
@@ -212,7 +212,7 @@ releases_keep s [] kept = kept
 releases_keep s (t ∷ ts) kept = releases_keep (release s t.id) ts (moves s kept t.id released (λ u. refl) (λ u h. tt))
 
 -- ---- a deletion
--- after so many fewer safe sections as there are, none is left
+-- after as many safe sections as there are have ended, none is left
 none_left : (s : KernState) (who n : ℕ) → n ≡ safe_of (task_of s.tasks who) → safe_of (task_of (lessen s who n).tasks who) ≡ 0
 none_left s who n e =
     let count : ℕ = safe_of (task_of s.tasks who) in

@@ -1,4 +1,4 @@
-//! The deletion of tasks.
+//! The deletion of tasks (VxWorks 5.4 Reference Manual, taskDelete).
 
 ghost use Rattle.std.specs.Prelude.{◌≡◌, ◌<◌, ◌^◌, Some, option_copied};
 ghost use Rattle.wind_core.specs.State.{Lives, task_of};
@@ -13,26 +13,26 @@ use wind_base::Errno;
 use wind_base::words::WAIT_FOREVER;
 use wind_core::Kern;
 
-/// The number of the shell's task.
+/// The id of the shell's task.
 const SHELL: u32 = 1;
 
-/// What a deletion did.
+/// The outcome of a deletion that isn't refused.
 #[derive(Drop)]
 pub enum Deleted {
-    /// The target is gone.
+    /// The target was removed.
     Removed(Task),
-    /// The caller waits until the target is safe no more, and then makes its call again.
+    /// The caller waits until the target leaves its last safe section. Then it repeats its call.
     Pended,
     /// The caller deleted itself.
     SelfEnded(Task),
 }
 
-/// What a call to delete does, as it is decided before anything changes.
+/// What a call to delete a task will do. It is decided before anything changes.
 #[derive(Drop)]
 pub enum Deed {
     /// Nothing: the call is refused.
     Refuses(Errno),
-    /// The caller, which is safe so often, ends.
+    /// The caller, which is in the given number of safe sections, deletes itself.
     EndsItself(u64),
     /// This task is removed.
     Removes(Ident),
@@ -40,7 +40,7 @@ pub enum Deed {
     Awaits(Ident),
 }
 
-// Whether the task repeats a call that pended.
+// Whether the task's call is a repetition of a call that pended.
 fn is_again(k: &Kern, who: Ident) -> bool
     ensures { result ≡ again_of (task_of k.now.tasks who) }
 {
@@ -50,7 +50,7 @@ fn is_again(k: &Kern, who: Ident) -> bool
     }
 }
 
-// The task of this number.
+// The task with this number, if it is live.
 fn target_task(k: &Kern, number: u32) -> Option<&Task>
     ensures { option_copied result ≡ target_of k.now.tasks number }
 {
@@ -58,7 +58,7 @@ fn target_task(k: &Kern, number: u32) -> Option<&Task>
     k.task(id)
 }
 
-// Why a task that is not there is not deleted.
+// The error if the target isn't live.
 fn missing(again: bool) -> Errno
     ensures { result ≡ missing_lem again }
 {
@@ -69,7 +69,7 @@ fn missing(again: bool) -> Errno
     }
 }
 
-// What a call on a task does that is not the shell's.
+// What a call does to a task that isn't the shell's.
 fn deed_for(task: &Task, caller: Ident) -> Deed
     ensures { result ≡ deed_on caller task.now }
 {
@@ -82,7 +82,7 @@ fn deed_for(task: &Task, caller: Ident) -> Deed
     }
 }
 
-// What a call on the task of a number does.
+// What a call does to the task with this number.
 fn deed_of(k: &Kern, caller: Ident, target: u32) -> Deed
     ensures { result ≡ deed_of_lem k.now.tasks caller target }
 {
@@ -95,7 +95,7 @@ fn deed_of(k: &Kern, caller: Ident, target: u32) -> Deed
     }
 }
 
-// Marks the caller where it is to repeat its call, and in no other case.
+// Marks the caller if it will repeat its call; otherwise clears the mark.
 fn mark(k: &mut Kern, caller: Ident, deed: &Deed)
     requires { Lives k.old caller }
     ensures { k.new ≡ set_again k.old caller (is_repeated deed.now) }
@@ -107,7 +107,7 @@ fn mark(k: &mut Kern, caller: Ident, deed: &Deed)
     k.set_again(caller, again);
 }
 
-// Takes a task out that lives.
+// Removes a live task.
 fn take_out(k: &mut Kern, who: Ident) -> Task
     requires { Lives k.old who }
     ensures task { task_of k.old.tasks who ≡ Some result }
@@ -119,13 +119,15 @@ fn take_out(k: &mut Kern, who: Ident) -> Task
     }
 }
 
-/// The caller deletes the task of a number. Whoever is safe is waited for, but for the caller itself, which
-/// ends at once. The caller repeats its call where it pends, and so is marked then and in no other case.
+/// Deletes the task with this number, on behalf of the caller. If the target is the caller, its
+/// safe sections end at once. If it is another task in a safe section, the caller waits for the end
+/// of that task's safe sections, and will then repeat its call. The caller is marked if it waits;
+/// otherwise its mark is cleared.
 ///
 /// # Errors
 ///
-/// `InvalidOperation` for the shell's task. Where no such task lives, `ObjDeleted` for a caller that repeats
-/// its call, else `ObjIdError`.
+/// `InvalidOperation` if the target is the shell's task. If there is no such task, `ObjDeleted` if
+/// the call is a repetition, otherwise `ObjIdError`.
 pub fn delete(k: &mut Kern, caller: Ident, target: u32) -> Result<Deleted, Errno>
     requires live { Lives k.old caller }
     requires since { k.old.next_since < 2 ^ 63 }

@@ -1,4 +1,4 @@
-//! Safe sections, and the deletion of tasks, which waits for their end.
+//! Safe sections, and the deletion of tasks, which waits for the end of the target's safe sections.
 #![tactic(auto)]
 
 mod deleting;

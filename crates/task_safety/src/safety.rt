@@ -1,4 +1,5 @@
-//! Safe sections: a task that is in one is not deleted by others.
+//! Safe sections: other tasks can't delete a task that is in one (VxWorks 5.4 Reference Manual,
+//! taskSafe and taskUnsafe).
 
 ghost use Rattle.std.specs.Prelude.{◌≡◌, ◌<◌, ◌+◌, ◌^◌, Some, None, IfOk, IfErr};
 ghost use Rattle.wind_core.specs.State.{Lives, task_of};
@@ -9,7 +10,7 @@ use id_table::{Ident, Place};
 use wind_base::Errno;
 use wind_core::Kern;
 
-// How often the task has been made safe and not unsafe again.
+// The number of safe sections that the task is in. 0 if it isn't live.
 fn safe_count(k: &Kern, who: Ident) -> u64
     ensures { result ≡ safe_of (task_of k.now.tasks who) }
 {
@@ -19,7 +20,7 @@ fn safe_count(k: &Kern, who: Ident) -> u64
     }
 }
 
-/// The task is safe from deletion once more.
+/// Begins one more safe section of the task.
 pub fn safe(k: &mut Kern, who: Ident)
     requires live { Lives k.old who }
     requires count { safe_of (task_of k.old.tasks who) + 1 < 2 ^ 64 }
@@ -29,8 +30,8 @@ pub fn safe(k: &mut Kern, who: Ident)
     k.set_safe(who, count + 1);
 }
 
-/// The task is safe so many times less often, and not below 0 times. Where it was safe and is so no more, all
-/// who wait to delete it go on, in the order in which they stand there.
+/// Ends `n` safe sections of the task, or all of them if it is in fewer. If that ends its last one,
+/// the tasks that wait to delete it go on, in their order.
 pub fn lessen(k: &mut Kern, who: Ident, n: u64)
     requires live { Lives k.old who }
     requires since { k.old.next_since < 2 ^ 63 }
@@ -47,11 +48,11 @@ pub fn lessen(k: &mut Kern, who: Ident, n: u64)
     }
 }
 
-/// The same for a call of the task.
+/// The same, at the task's own request.
 ///
 /// # Errors
 ///
-/// `NotSafe` where the task is not safe. Nothing changes then.
+/// `NotSafe` if the task isn't in a safe section. Then nothing changes.
 pub fn unsafe_by(k: &mut Kern, who: Ident, n: u64) -> Result<(), Errno>
     requires live { Lives k.old who }
     requires since { k.old.next_since < 2 ^ 63 }

@@ -1,5 +1,5 @@
-//! Plays formats of `printf` and look-ups of symbols that files describe, and compares what is written with what the
-//! files say.
+//! Plays formats of `printf` and look-ups of symbols that files describe, and compares what is
+//! written with what the files say.
 #![tactic(auto)]
 
 mod reading;
@@ -10,7 +10,7 @@ use case_files::play_files;
 use session::Session;
 use std::io;
 
-/// Plays the lines of each file that the words name.
+/// Plays the lines of each file named on the command line.
 fn main(rt: HostRuntime) -> io::Result<()> {
     play_files::<Session, _>(&rt)
 }

@@ -1,4 +1,4 @@
-//! Bytes as they are written, and as they are shown.
+//! Bytes as the files spell them.
 
 use case_files::Trouble;
 use std::alloc::Global;
@@ -11,7 +11,7 @@ fn digit(byte: u8) -> Result<u8, Trouble> {
     }
 }
 
-// Adds the byte that two digits write, and what stands behind them.
+// Adds the byte of two digits, and what follows them.
 fn push_escaped(all: &mut Vec<u8>, piece: &[u8]) -> Result<(), Trouble> {
     let [high, low, rest @ ..] = piece else {
         return Err(Trouble::Unreadable);
@@ -22,7 +22,7 @@ fn push_escaped(all: &mut Vec<u8>, piece: &[u8]) -> Result<(), Trouble> {
     Ok(())
 }
 
-/// The bytes of a text, in which `\` and two digits stand for any byte.
+/// The bytes of a text in which `\` and two digits stand for any byte.
 pub fn bytes(alloc: Global, text: &str) -> Result<Vec<u8>, Trouble> {
     let mut all = Vec::new(alloc);
     let mut pieces = text.split('\\');
@@ -35,7 +35,7 @@ pub fn bytes(alloc: Global, text: &str) -> Result<Vec<u8>, Trouble> {
     Ok(all)
 }
 
-// Adds a byte as it is shown.
+// Adds a byte as the files spell it.
 fn push_shown(text: &mut String, byte: u8) -> Result<(), Trouble> {
     if 32 <= byte && byte <= 126 && byte != b'"' && byte != b'\\' {
         text.push(char::from(byte))?;
@@ -45,7 +45,7 @@ fn push_shown(text: &mut String, byte: u8) -> Result<(), Trouble> {
     Ok(())
 }
 
-/// Bytes as they are written, in quotes.
+/// Bytes as the files spell them, in quotes.
 pub fn shown(alloc: Global, bytes: &[u8]) -> Result<String, Trouble> {
     let mut text = String::new(alloc);
     text.push('"')?;

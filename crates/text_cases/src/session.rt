@@ -10,13 +10,13 @@ use text_show::{printf_text, symbol_rows};
 use wind_base::OutBuf;
 use wind_base::limits::PRINTF_BYTES;
 
-/// How many bytes of RAM there are.
+/// The size of RAM in bytes.
 const SIZE: u32 = 0x1_0000;
 
-/// Where the format of a line stands.
+/// The address of the format of a line.
 const FORMAT: u32 = 0x1000;
 
-/// Where its strings stand, one behind the other, each with a zero behind it.
+/// The address of its strings, one after another, each followed by a zero byte.
 const STRINGS: u32 = 0x3000;
 
 /// The stack pointer, before a line sets it.
@@ -39,7 +39,8 @@ impl Player for Session {
         })
     }
 
-    /// Plays a line `COMMAND -> ANSWER`, or `COMMAND` where nothing is answered. Gives the answer where it is another.
+    /// Plays a line `COMMAND -> ANSWER`, or `COMMAND` if nothing is answered. Returns the answer if
+    /// it differs.
     fn play(&mut self, line: &str) -> Result<Option<String>, Trouble> {
         let (command, wanted) = match line.split_once(" -> ") {
             Some((command, wanted)) => (command, wanted),
@@ -75,7 +76,7 @@ impl Session {
         Ok(String::new(self.alloc))
     }
 
-    // `symbol NAME VALUE KIND`: a symbol behind the others.
+    // `symbol NAME VALUE KIND`: adds a symbol after the others.
     fn add(&mut self, label: &str, value: &str, kind: &str) -> Result<(), Trouble> {
         let symbol = Symbol {
             name: name(self.alloc, label)?,
@@ -94,7 +95,7 @@ impl Session {
         Ok(())
     }
 
-    // `lkup "PART"`: the rows of the symbols whose names have the part.
+    // `lkup "PART"`: the rows of the symbols whose names contain the part.
     fn look_up(&self, part: &str) -> Result<String, Trouble> {
         let part = bytes(self.alloc, part)?;
         let mut out = OutBuf::reserved(self.alloc, 0)?;
@@ -102,7 +103,8 @@ impl Session {
         shown(self.alloc, out.bytes())
     }
 
-    // `printf "FORMAT" VALUE..`: what is written, and how many bytes it is where the answer is another; or `none`.
+    // `printf "FORMAT" VALUE..`: what is written, and the answer of the call if it isn't the number
+    // of bytes; or `none`.
     fn printf(&self, format: &str, values: &[Word]) -> Result<String, Trouble> {
         let mut memory = Memory::new(self.alloc)?;
         let first = memory.laid(format, self.stack, values)?;
@@ -119,7 +121,7 @@ fn written(alloc: Global, first: &[u32; 7], stack: u32, ram: &Ram) -> Result<Str
     }
 }
 
-// The bytes that are written, and their count where it is another.
+// The bytes that are written, and the answer of the call if it isn't their number.
 fn counted(alloc: Global, bytes: &[u8], count: u32) -> Result<String, Trouble> {
     let mut text = shown(alloc, bytes)?;
     if count as usize != bytes.len() {
@@ -128,7 +130,7 @@ fn counted(alloc: Global, bytes: &[u8], count: u32) -> Result<String, Trouble> {
     Ok(text)
 }
 
-// What a symbol stands for.
+// The symbol kind that a word names.
 fn kind_of(word: &str) -> Result<SymKind, Trouble> {
     match word {
         "text" => Ok(SymKind::TextSym),
@@ -139,7 +141,7 @@ fn kind_of(word: &str) -> Result<SymKind, Trouble> {
     }
 }
 
-// RAM of zeros, with the strings so far.
+// RAM that begins as zeros, and how far strings fill it.
 #[derive(Drop)]
 struct Memory {
     alloc: Global,
@@ -156,7 +158,7 @@ impl Memory {
         })
     }
 
-    // Puts bytes at an address.
+    // Writes bytes at an address.
     fn put(&mut self, at: u32, piece: &[u8]) {
         let _ = self.ram.copy_in(at, piece);
     }
@@ -176,13 +178,14 @@ impl Memory {
         }
     }
 
-    // Puts the format and the values, and gives the first seven values.
+    // Writes the format and the values, and returns the first seven values.
     fn laid(&mut self, format: &str, stack: u32, values: &[Word]) -> Result<[u32; 7], Trouble> {
         self.put(FORMAT, &bytes(self.alloc, format)?);
         self.take(stack, values)
     }
 
-    // The first seven values; the others go to the words from 8 above the stack pointer on.
+    // Returns the first seven values; the others go to the words from 8 bytes above the stack
+    // pointer on.
     fn take(&mut self, stack: u32, values: &[Word]) -> Result<[u32; 7], Trouble> {
         let mut first = [0; 7];
         let mut place = 0;

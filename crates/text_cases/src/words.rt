@@ -8,11 +8,11 @@ use std::alloc::Global;
 pub enum Word<'a> {
     /// A name or a number.
     Plain(&'a str),
-    /// A text that stood in quotes.
+    /// A text in quotes.
     Quoted(&'a str),
 }
 
-// Adds the words of a piece that stands outside quotes.
+// Adds the words of a piece that is outside quotes.
 fn push_plain<'a>(all: &mut Vec<Word<'a>>, piece: &'a str) -> Result<(), Trouble> {
     for word in piece.split_whitespace() {
         all.push(Word::Plain(word))?;

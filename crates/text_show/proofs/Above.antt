@@ -80,7 +80,7 @@ not_first r rs id less = ap (λ t. option_map row_object (cond t (Some r) (of_id
 not_above : (r : Row) (rs : List Row) (id : ℕ) → r.0 ≤ id → above id (r ∷ rs) ≡ above id rs
 not_above r rs id le = ap (λ b. cond b (r ∷ above id rs) (above id rs)) (le-ltb id r.0 le)
 
--- the module of the next id stands before those above it
+-- the module with the next id comes before those above it
 split : (n : ℕ) (rs : List Row) (id : ℕ) (m : LoadedModule) → Rise rs → next_above rs n ≡ Some id → object_of rs id ≡ Some m → above n rs ≡ (id, m) ∷ above id rs
 split n [] id m up e o = absurd (cc)
 split n (r ∷ rs) id m up e o =

@@ -8,7 +8,7 @@ take_replicate_min zero n b = simp unary_clauses
 take_replicate_min (suc m) zero b = simp unary_clauses
 take_replicate_min (suc m) (suc n) b = simp unary_clauses (ap (λ t. b ∷ t) (take_replicate_min m n b))
 
--- what fits of b behind a
+-- the part of b that fits after a
 pub cut_add : (n : ℕ) (a b : List ℕ) → length a ≤ n → a ++ take (n - length a) b ≡ take n (a ++ b)
 cut_add n a b le =
     let e : length a + (n - length a) ≡ n = omega arith in
@@ -20,7 +20,7 @@ cut_more zero a b = refl
 cut_more (suc n) [] b = refl
 cut_more (suc n) (x ∷ a) b = ap (λ t. x ∷ t) (cut_more n a b)
 
--- three texts, one behind another
+-- three texts, one after another
 pub cut_three : (n : ℕ) (old a b c x y z : List ℕ) → x ≡ take n (old ++ a) → y ≡ take n (x ++ b) → z ≡ take n (y ++ c) → z ≡ take n (old ++ (a ++ b ++ c))
 cut_three n old a b c x y z p q r =
     r ∙ ap (λ t. take n (t ++ c)) (q ∙ ap (λ t. take n (t ++ b)) p)
@@ -29,7 +29,7 @@ cut_three n old a b c x y z p q r =
     ∙ cut_more n (old ++ a) (b ++ c)
     ∙ ap (take n) (append_assoc old a (b ++ c) ∙ ap (λ t. old ++ t) (sym (append_assoc a b c)))
 
--- a byte so many times
+-- a byte k times
 pub cut_times : (n k : ℕ) (b : ℕ) (a : List ℕ) → length a ≤ n → a ++ replicate (min k (n - length a)) b ≡ take n (a ++ replicate k b)
 cut_times n k b a le =
     let room = n - length a in

@@ -33,13 +33,13 @@ lines_more width at bytes lines number all page new below e w =
     ∙ ap (λ xs. this ++ dump_lines width (lines - (number + 1)) (at + (number + 1) * 16) xs) (drop_more 16 (number * 16) bytes ∙ ap (λ k. drop k bytes) place) in
     ap (λ xs. xs ++ later) w ∙ append_assoc page this later ∙ ap (λ xs. page ++ xs) (sym split) ∙ e
 
--- a front is no longer than is asked for
+-- a prefix is no longer than its bound
 take_within : (n : ℕ) (xs : List ℕ) → length (take n xs) ≤ n
 take_within zero xs = omega arith
 take_within (suc n) [] = omega arith
 take_within (suc n) (x ∷ xs) = let e = take_within n xs in omega arith
 
--- a range that is there has as many bytes as are asked for
+-- a range inside RAM has as many bytes as it should
 pub range_length : (ram : List ℕ) (at n : ℕ) → IsTrue (has ram at n) → length (bytes_at ram at n) ≡ n
 range_length ram at zero there = refl
 range_length ram at (suc n) there =

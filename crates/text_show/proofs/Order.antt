@@ -26,7 +26,7 @@ take_one_more zero (x ∷ ts) t below e = ap (λ u. u ∷ []) (sym e)
 take_one_more (suc i) [] t below e = absurd (omega arith)
 take_one_more (suc i) (x ∷ ts) t below e = ap (λ xs. x ∷ xs) (take_one_more i ts t (omega arith) e)
 
--- one more task is looked at
+-- one more task has been looked at
 pub place_more : (show : Task → List ℕ) (p : Task → Bool) (ts : List Task) (i : ℕ) (t : Task) (old page new : List ℕ)
     → i < length ts → t ≡ slice_index_or ts i t
     → page ≡ old ++ flat_map show (filter p (take i ts)) → new ≡ page ++ flat_map show (filter p (t ∷ []))

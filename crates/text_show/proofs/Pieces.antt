@@ -10,13 +10,13 @@ use Rattle.text_show.specs.Format.{converted_or, conversion_of, more_of, pieces}
 use Rattle.text_show.specs.Printf.{Source, Prints, conversion_text, values_of, piece_text, piece_values, text_of}
 use Rattle.text_show.proofs.Cut.{cut_more}
 
--- the pieces behind some bytes
+-- the pieces after some bytes
 pieces_behind : (k : ℕ) (bytes : List ℕ) → pieces k bytes ≡ pieces 0 (drop k bytes)
 pieces_behind zero bytes = refl
 pieces_behind (suc k) [] = refl
 pieces_behind (suc k) (b ∷ bytes) = pieces_behind k bytes
 
--- a text behind two others
+-- a text after two others
 behind_two : (a b : List ℕ) (o : Option (List ℕ)) → Some a ++? (Some b ++? o) ≡ Some (a ++ b) ++? o
 behind_two a b None = refl
 behind_two a b (Some c) = ap Some (sym (append_assoc a b c))

@@ -17,7 +17,7 @@ drop_one (y ∷ ys) (suc n) x e = drop_one ys n x e
 filter_one : {X : Type 0} (p : X → Bool) (x : X) (xs : List X) → filter p (x ∷ xs) ≡ filter p (x ∷ []) ++ filter p xs
 filter_one p x xs = elim (p x) as (λ b. cond b (x ∷ filter p xs) (filter p xs) ≡ cond b (x ∷ []) [] ++ filter p xs) [ true ↦ refl | false ↦ refl ]
 
--- one more is looked at
+-- one more symbol has been looked at
 pub one_more : {X : Type 0} (p : X → Bool) (xs : List X) (n : ℕ) (x : X) (all found new : List X) → slice_get xs n ≡ Some x
     → found ++ filter p (drop n xs) ≡ all → new ≡ found ++ filter p (x ∷ []) → new ++ filter p (drop (n + 1) xs) ≡ all
 one_more p xs n x all found new at e w =

@@ -88,7 +88,7 @@ by_priority_of : (ts : List Task) → AreLow ts → AllOf (λ t. t.pri < 256) ts
 by_priority_of [] a = tt
 by_priority_of (t ∷ ts) a = (a.0, by_priority_of ts a.1)
 
--- the rows of the task table stand by priority, then by id
+-- the rows of the task table are by priority, then by id
 pub by_priority : (ts : List Task) → Rises ts → AllOf (λ t. t.pri < 256) ts → sorted stands_before ts ≡ from_priority 256 0 ts
 by_priority [] r a = sym (none_from 256 0)
 by_priority (t ∷ ts) r a = ap (insert_sorted stands_before t) (by_priority ts r.1 a.1) ∙ inserts t ts 256 0 (omega arith) (omega arith) r.0
@@ -97,7 +97,7 @@ low_append : (xs ys : List Task) → AreLow xs → AreLow ys → AreLow (xs ++ y
 low_append [] ys a b = b
 low_append (x ∷ xs) ys a b = (a.0, low_append xs ys a.1 b)
 
--- one more task is looked at
+-- one more task has been looked at
 pub low_more : (ts : List Task) (i : ℕ) (t : Task) → i < length ts → t ≡ slice_index_or ts i t
     → AreLow (take i ts) → t.pri < 256 → AreLow (take (i + 1) ts)
 low_more ts i t below at a b =

@@ -1,6 +1,6 @@
 -- What a stable sort leaves is the list in order.
 use Rattle.std.proofs.Common.{◌≡◌, ℕ, suc, ◌<◌, ◌≤◌, Bool, true, false, cond, List, [], ◌∷◌, get_or, length, refl, sym, ap, ◌∙◌, arith}
-use Rattle.std.specs.Prelude.{map, not, ◌&&◌}
+use Rattle.std.specs.Prelude.{not, ◌&&◌}
 use Rattle.std.specs.Cmp.{IsStrictWeakOrder}
 use Rattle.std.specs.List.{filter, AllByRecursion}
 use Rattle.std.specs.List.Sorted.{ties, IsSortedBy, IsStableBy}
@@ -9,7 +9,7 @@ use Rattle.wind_lists.specs.Sorting.{insert_sorted, sorted}
 use Rattle.wind_lists.proofs.Sorting.{InOrder, in_order_sorted, filter-sorted}
 
 -- ---- the tests
--- neither of two
+-- neither of two holds
 both_false : (a b : Bool) → (not a && not b) ≡ true → (a ≡ false) × (b ≡ false)
 both_false true b e = absurd (cc)
 both_false false true e = absurd (cc)
@@ -48,7 +48,7 @@ module _ {X : Type 0} (lt : X → X → Bool) (w : IsStrictWeakOrder lt) where
   tie : (x y : X) → lt x y ≡ false → lt y x ≡ false → ties lt x y ≡ true
   tie x y a b = ap (λ s. not s && not (lt y x)) a ∙ ap (λ s. not s) b
 
-  -- what stands in order behind y ties with nothing that is before y
+  -- in an ordered list, what comes after y ties with nothing that is before y
   no_tie : (z y e : X) → lt z y ≡ true → lt e y ≡ false → ties lt z e ≡ false
   no_tie z y e before after =
       elim (lt z e) as (λ b. lt z e ≡ b → ties lt z e ≡ false) [
@@ -56,7 +56,7 @@ module _ {X : Type 0} (lt : X → X → Bool) (w : IsStrictWeakOrder lt) where
         | false ↦ λ q. (let no : lt z y ≡ false = w.chain z e y q after in absurd (cc))
       ] refl
 
-  -- one that is before the first of a list in order ties with none of it
+  -- an element before the first of an ordered list ties with none of the list
   none_tie : (z y : X) (ys : List X) → lt z y ≡ true → InOrder lt (y ∷ ys) → filter (ties lt z) (y ∷ ys) ≡ []
   none_tie z y ys before o = none_kept (ties lt z) (y ∷ ys)
       (no_tie z y y before (itself y), all_more (λ e. lt e y ≡ false) (λ e. ties lt z e ≡ false) (λ e after. no_tie z y e before after) ys o.0)
@@ -84,7 +84,7 @@ module _ {X : Type 0} (lt : X → X → Bool) (w : IsStrictWeakOrder lt) where
       let heads : y ∷ filter (ties lt y) ys ≡ z ∷ filter (ties lt y) zs = sym (first_kept y ys) ∙ h y ∙ both in
       cc
 
-  -- two lists in order, of which each group of ties is the same
+  -- two ordered lists, in which each group of ties is the same
   same : (ys zs : List X) → InOrder lt ys → InOrder lt zs → Alike ys zs → ys ≡ zs
   same [] [] a b h = refl
   same [] (z ∷ zs) a b h = let empty : [] ≡ z ∷ filter (ties lt z) zs = h z ∙ first_kept z zs in absurd (cc)
@@ -94,7 +94,7 @@ module _ {X : Type 0} (lt : X → X → Bool) (w : IsStrictWeakOrder lt) where
       let back : Alike (y ∷ ys) (y ∷ zs) = λ x. h x ∙ ap (λ v. filter (ties lt x) (v ∷ zs)) (sym e) in
       ap (λ v. v ∷ ys) e ∙ ap (λ vs. z ∷ vs) (same ys zs a.1 b.1 (λ x. rest_same (ties lt x y) y (filter (ties lt x) ys) (filter (ties lt x) zs) (back x)))
 
-  -- none is before one that stands ahead of it, by their places
+  -- no element is before one at an earlier place
   abbrev Far : List X → Type 0
   Far ys = (i j : ℕ) (d : X) → i ≤ j → j < length ys → lt (get_or ys j d) (get_or ys i d) ≡ false
 
@@ -120,7 +120,7 @@ module _ {X : Type 0} (lt : X → X → Bool) (w : IsStrictWeakOrder lt) where
   ties_stay : (x : X) (xs : List X) → filter (ties lt x) (sorted lt xs) ≡ filter (ties lt x) xs
   ties_stay x xs = filter-sorted lt w (ties lt x) xs ∙ all_tie x (filter (ties lt x) xs) (all_kept (ties lt x) xs)
 
-  -- a list that is sorted by the test, with ties as they stood, is the list in order
+  -- a list sorted by the test, in which ties keep their order, is the ordered list
   pub stable_sorted : (xs ys : List X) → IsSortedBy lt ys → IsStableBy lt xs ys → ys ≡ sorted lt xs
   stable_sorted xs ys up stable =
       same ys (sorted lt xs) (in_order_of ys (sorted_far lt w ys up)) (in_order_sorted lt w xs) (λ x. stable x ∙ sym (ties_stay x xs))

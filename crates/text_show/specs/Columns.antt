@@ -11,33 +11,33 @@ blanks n = replicate n 32
 abbrev pub zeros : ℕ → List ℕ
 zeros n = replicate n 48
 
--- a text at the left of a place of this width, or at its right; a longer text stands whole
+-- a text left-justified in this width, or right-justified; a longer text isn't cut
 abbrev pub left_in : ℕ → List ℕ → List ℕ
 left_in width text = text ++ blanks (width - length text)
 
 abbrev pub right_in : ℕ → List ℕ → List ℕ
 right_in width text = blanks (width - length text) ++ text
 
--- what stands in a cell
+-- the text of a cell
 abbrev pub cell_text : Cell → List ℕ
 cell_text (Left width text) = left_in width text.now
 cell_text (Right width text) = right_in width text.now
 
--- what follows the first cell of a row: each other behind a blank, and the end of the line
+-- what follows the first cell of a row: a blank before each other cell, and the end of the line
 abbrev pub row_rest : List (List ℕ) → List ℕ
 row_rest [] = 10 ∷ []
 row_rest (c ∷ cells) = 32 ∷ c ++ row_rest cells
 
--- a row: its cells, one blank between each two, and the end of the line
+-- a row: its cells, with one blank between each two, and the end of the line
 abbrev pub row : List (List ℕ) → List ℕ
 row [] = 10 ∷ []
 row (c ∷ cells) = c ++ row_rest cells
 
--- so many of the lowest hexadecimal digits of a number, in lower case, with leading zeros
+-- the given number of lowest hexadecimal digits of a number, in lower case, with leading zeros
 abbrev pub hex_places : ℕ → ℕ → List ℕ
 hex_places zero v = []
 hex_places (suc places) v = hex_places places (v / 16) ++ digit_glyph false (v % 16) ∷ []
 
--- the buffer with a text at its end, for which room was made
+-- the buffer with a text added, for which room was made
 abbrev pub with_text : Output → List ℕ → Output
 with_text out text = record out { bytes = out.bytes ++ text }

@@ -1,4 +1,5 @@
--- The format of `printf`: a list of pieces, each a byte or a conversion (ISO C, `fprintf`; which flags and letters are known is
+-- The format of `printf`: a list of pieces, each a byte or a conversion (ISO C, `fprintf`; the supported flags and
+-- letters are
 -- this project's own).
 use Rattle.std.specs.Prelude.{ℕ, zero, suc, ◌+◌, ◌||◌, ◌==◌, Bool, List, [], ◌∷◌, Option, None, Some, take, drop, if◌then◌else◌}
 use Rattle.std.specs.List.{list_any, prefix_len}
@@ -27,7 +28,7 @@ is_flag b = is_minus b || is_zero b
 abbrev pub is_size : ℕ → Bool
 is_size b = b == 108 || b == 104
 
--- what a letter asks for: `d` `i`, `u`, `x`, `X`, `o`, `c`, `s`, `p`, `%`
+-- the kind of a letter: `d` `i`, `u`, `x`, `X`, `o`, `c`, `s`, `p`, `%`
 abbrev pub letter_of : ℕ → Option Letter
 letter_of b =
     if b == 100 || b == 105 then Some Signed else
@@ -40,7 +41,7 @@ letter_of b =
     if b == 112 then Some Pointer else
     if b == 37 then Some Percent else None
 
--- how many bytes at the front pass the test
+-- how many of the first bytes pass the test
 abbrev pub run_of : (ℕ → Bool) → List ℕ → ℕ
 run_of test bytes = prefix_len test bytes
 
@@ -48,12 +49,12 @@ run_of test bytes = prefix_len test bytes
 abbrev pub widest : ℕ
 widest = 999
 
--- the width that digits write, 0 where there are none
+-- the width in decimal digits, 0 if there are none
 abbrev pub width_of : List ℕ → Option ℕ
 width_of [] = Some 0
 width_of (d ∷ ds) = decimal_value widest (d ∷ ds)
 
--- one `l` or `h` may stand before the letter
+-- one `l` or `h` may come before the letter
 abbrev pub size_of : List ℕ → ℕ
 size_of [] = 0
 size_of (b ∷ bs) = if is_size b then 1 else 0
@@ -70,7 +71,7 @@ with_letter flags None letter taken = None
 with_letter flags (Some width) None taken = None
 with_letter flags (Some width) (Some letter) taken = Some record { style = style_of flags width; letter = letter; taken = taken }
 
--- the conversion whose bytes behind `%` begin so: flags, a width, `l` or `h`, a letter
+-- the conversion that these bytes, after `%`, begin with: flags, a width, `l` or `h`, a letter
 unfoldable pub conversion_at : List ℕ → Option Conversion
 conversion_at bytes =
     let flags = run_of is_flag bytes in
@@ -89,20 +90,20 @@ abbrev pub converted_or : ℕ → Option Conversion → Piece
 converted_or b None = Byte b
 converted_or b (Some c) = Converted c
 
--- the conversion that begins with a byte, before others
+-- the conversion that begins with byte b, before other bytes
 abbrev pub conversion_of : ℕ → List ℕ → Option Conversion
 conversion_of b bytes = if is_percent b then conversion_at bytes else None
 
--- the piece that begins with a byte, before others
+-- the piece that begins with byte b, before other bytes
 abbrev pub piece_at : ℕ → List ℕ → Piece
 piece_at b bytes = converted_or b (conversion_of b bytes)
 
--- how many bytes behind its first a piece takes
+-- how many bytes after its first a piece takes
 abbrev pub more_of : Piece → ℕ
 more_of (Byte b) = 0
 more_of (Converted c) = c.taken
 
--- the pieces of a format behind so many of its bytes
+-- the pieces of a format after its first `skip` bytes
 abbrev pub pieces : ℕ → List ℕ → List Piece
 pieces skip [] = []
 pieces zero (b ∷ bytes) = piece_at b bytes ∷ pieces (more_of (piece_at b bytes)) bytes

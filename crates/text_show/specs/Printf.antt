@@ -1,4 +1,4 @@
--- What `printf` writes: the conversions of the C language (ISO C, `fprintf`) that this project knows.
+-- What `printf` writes: the conversions of the C language (ISO C, `fprintf`) that this project supports.
 use Rattle.std.specs.Prelude.{◌≡◌, ℕ, ◌+◌, ◌-◌, ◌*◌, ◌^◌, ◌%◌, ◌&&◌, Bool, true, false, nat_lt, nat_le, if◌then◌else◌, List, [], ◌∷◌, ◌++◌, length, take, codes, Option, None, Some, slice_get}
 use Rattle.std.specs.Option.{option_map}
 use Rattle.std.specs.Fmt.{decimal, digits, ◌++?◌}
@@ -12,16 +12,16 @@ use Rattle.text_show.specs.declared.values.Values.{Values}
 use Rattle.text_show.specs.Format.{Piece, Byte, Converted, pieces}
 use Rattle.text_show.specs.Columns.{blanks, zeros}
 
--- where the values come from: the first seven, the words on the stack behind them, and memory
+-- where the values come from: the first seven, then words on the stack, and RAM
 pub record Source : Type 0 where
   pub first : List ℕ
   pub stack : ℕ
   pub ram : List ℕ
 
 abbrev pub source_of : Values → Source
-source_of v = record { first = v.first.now; stack = v.stack; ram = v.ram.now }
+source_of v = record { first = v.first.now; stack = v.stack; ram = v.ram.now.bytes }
 
--- the value of a number, from 0 on; behind the first seven come the words from 8 above the stack pointer on
+-- value number n, counted from 0; after the first seven come the words from 8 bytes above the stack pointer on
 abbrev pub value_at : Source → ℕ → Option ℕ
 value_at s n = if nat_lt n 7 then slice_get s.first n else read 4 s.ram (s.stack + 8 + 4 * (n - 7))
 
@@ -29,17 +29,17 @@ value_at s n = if nat_lt n 7 then slice_get s.first n else read 4 s.ram (s.stack
 abbrev pub is_minus_word : ℕ → Bool
 is_minus_word v = nat_le (2 ^ 31) v
 
--- the size of the signed number
+-- the absolute value of the signed number
 abbrev pub magnitude : ℕ → ℕ
 magnitude v = if is_minus_word v then 2 ^ 32 - v else v
 
--- what stands before the digits of a number
+-- what comes before the digits of a number
 abbrev pub sign_of : Letter → ℕ → List ℕ
 sign_of Signed v = if is_minus_word v then codes "-" else []
 sign_of Pointer v = codes "0x"
 sign_of _ v = []
 
--- its digits
+-- the digits of a number
 abbrev pub digits_of : Letter → ℕ → List ℕ
 digits_of Signed v = decimal (magnitude v)
 digits_of Unsigned v = decimal v
@@ -49,7 +49,7 @@ digits_of Octal v = digits 8 false v
 digits_of Pointer v = digits 16 false v
 digits_of _ v = []
 
--- a text in its place: blanks behind it, or before it, or zeros behind the sign of a number
+-- a padded text: with blanks after it or before it, or with zeros after the sign of a number
 abbrev pub filled : Style → Bool → List ℕ → List ℕ → List ℕ
 filled style number sign body =
     let more = style.width - length sign - length body in
@@ -60,16 +60,16 @@ filled style number sign body =
 abbrev pub number_text : Style → Letter → ℕ → List ℕ
 number_text style letter v = filled style true (sign_of letter v) (digits_of letter v)
 
--- a text that is no number
+-- a text that isn't a number
 abbrev pub plain_text : Style → List ℕ → List ℕ
 plain_text style body = filled style false [] body
 
--- the string at an address, where there is an address
+-- the string at an address, if there is an address
 abbrev pub string_of : List ℕ → Option ℕ → Option (List ℕ)
 string_of ram None = None
 string_of ram (Some at) = string_at ram at
 
--- the text of a conversion, from the value of a number on
+-- the text of a conversion whose first value has number n
 abbrev pub conversion_text : Source → ℕ → Style → Letter → Option (List ℕ)
 conversion_text s n style Percent = Some (plain_text style (codes "%"))
 conversion_text s n style Character = option_map (λ v. plain_text style (v % 256 ∷ [])) (value_at s n)
@@ -89,7 +89,7 @@ abbrev pub piece_values : Piece → ℕ
 piece_values (Byte b) = 0
 piece_values (Converted c) = values_of c.letter
 
--- the text of pieces, where all that they take can be read; the values are taken in order
+-- the text of pieces, if all values that they take can be read; the values are taken in order
 abbrev pub text_of : Source → ℕ → List Piece → Option (List ℕ)
 text_of s n [] = Some []
 text_of s n (p ∷ ps) = piece_text s n p ++? text_of s (n + piece_values p) ps
@@ -98,17 +98,18 @@ abbrev pub format_text : Source → Option (List ℕ) → Option (List ℕ)
 format_text s None = None
 format_text s (Some format) = text_of s 0 (pieces 0 format)
 
--- what a call writes: the text of the format at an address, cut behind as many bytes as one call writes; None where a string
--- or a word that is needed can't be read
+-- what a call writes: the text of the format at an address, cut to the longest that one call writes; none if a
+-- string or a word
+-- that it needs can't be read
 unfoldable pub printf_of : Source → ℕ → Option (List ℕ)
 printf_of s format = option_map (take longest_print) (format_text s (string_at s.ram format))
 
--- the output with what a call writes
+-- the output after a call has written
 abbrev pub written : Output → Option (List ℕ) → Output
 written out None = out
 written out (Some text) = appended out text
 
--- what is known of a text of at most 4,096 bytes behind a step that adds to it
+-- what a step that adds to a text of at most 4,096 bytes leaves
 abbrev pub Prints : Option (List ℕ) → Bool → List ℕ → List ℕ → Type 0
 Prints None done old new = done ≡ false
 Prints (Some text) done old new = (done ≡ true) × (new ≡ take longest_print (old ++ text))

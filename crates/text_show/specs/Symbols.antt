@@ -1,4 +1,4 @@
--- The symbols of the symbol table, as the shell's `lkup` shows them. The columns are this project's own.
+-- Symbols, as the shell's `lkup` shows them. The columns are this project's own.
 use Rattle.std.specs.Prelude.{ℕ, ◌==◌, ◌||◌, Bool, List, [], ◌∷◌, ◌++◌, codes}
 use Rattle.std.specs.Cmp.Lexicographic.{slice_cmp}
 use Rattle.std.specs.List.{filter, flat_map, starts_with}
@@ -9,20 +9,20 @@ use Rattle.symbol_table.specs.declared.symbol.Symbol.{Symbol}
 use Rattle.wind_lists.specs.Sorting.{sorted}
 use Rattle.text_show.specs.Columns.{left_in, row, hex_places}
 
--- a text begins with this part
+-- the text begins with this part
 abbrev pub begins_with : List ℕ → List ℕ → Bool
 begins_with part text = starts_with (λ a b. a == b) text part
 
--- a text has this part: at its front, or behind its first byte; each text has the empty part
+-- the text contains this part: at its beginning, or after its first byte; each text contains the empty part
 abbrev pub has_part : List ℕ → List ℕ → Bool
 has_part part [] = begins_with part []
 has_part part (b ∷ bytes) = begins_with part (b ∷ bytes) || has_part part bytes
 
--- its name has this part
+-- the symbol's name contains this part
 abbrev pub is_shown : List ℕ → Symbol → Bool
 is_shown part s = has_part part s.name
 
--- its name stands before that of the other, byte by byte
+-- the name of s comes before that of t, byte by byte
 abbrev pub name_before : Symbol → Symbol → Bool
 name_before s t = is_lt (slice_cmp nat_cmp s.name t.name)
 
@@ -33,10 +33,10 @@ kind_word DataSym = codes "data"
 kind_word BssSym = codes "bss"
 kind_word AbsSym = codes "abs"
 
--- the row of a symbol: its name, its value in 8 hexadecimal digits behind `0x`, the word of its kind
+-- the row of a symbol: its name, its value as `0x` and 8 hexadecimal digits, the word of its kind
 unfoldable pub symbol_row : Symbol → List ℕ
 symbol_row s = row (left_in 25 s.name ∷ (codes "0x" ++ hex_places 8 s.value) ∷ kind_word s.kind ∷ [])
 
--- the rows of the symbols whose names have the part, sorted by name, equal names in order of adding
+-- the rows of the symbols whose names contain the part, sorted by name, equal names in order of adding
 unfoldable pub symbol_rows_of : List Symbol → List ℕ → List ℕ
 symbol_rows_of symbols part = flat_map symbol_row (sorted name_before (filter (is_shown part) symbols))

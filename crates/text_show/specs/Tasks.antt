@@ -1,4 +1,4 @@
--- The table of the tasks, as the shell's `i` shows it. Its columns are this project's own.
+-- The table of tasks, as the shell's `i` shows it. Its columns are this project's own.
 use Rattle.std.specs.Prelude.{ℕ, zero, suc, ◌-◌, ◌<◌, ◌==◌, nat_lt, ◌&&◌, ◌||◌, Bool, false, List, [], ◌∷◌, ◌++◌, codes, Option, None, Some}
 use Rattle.std.specs.List.{filter, flat_map}
 use Rattle.std.specs.Fmt.{decimal, digits}
@@ -8,7 +8,7 @@ use Rattle.wind_core.specs.State.{KernState}
 use Rattle.wind_lists.specs.Sorting.{sorted}
 use Rattle.text_show.specs.Columns.{left_in, right_in, row, hex_places}
 
--- the ticks to a wake, 0 for none
+-- the ticks until a wake, or 0 if there is none
 abbrev pub ticks_to : ℕ → Option ℕ → ℕ
 ticks_to tick None = 0
 ticks_to tick (Some wake) = wake - tick
@@ -46,11 +46,11 @@ stands_before t u = nat_lt t.pri u.pri || (t.pri == u.pri && nat_lt t.id u.id)
 unfoldable pub task_table_of : KernState → List ℕ
 task_table_of s = task_header ++ flat_map (task_row s.tick) (sorted stands_before s.tasks)
 
--- ---- the rows as they are computed: one priority after the other
+-- ---- the rows as they are computed: one priority after another
 abbrev pub has_priority : ℕ → Task → Bool
 has_priority pri t = t.pri == pri
 
--- the tasks of so many priorities from one on
+-- the tasks of k priorities, from one priority on
 abbrev pub from_priority : ℕ → ℕ → List Task → List Task
 from_priority zero pri ts = []
 from_priority (suc k) pri ts = filter (has_priority pri) ts ++ from_priority k (suc pri) ts

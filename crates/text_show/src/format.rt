@@ -10,7 +10,7 @@ use wind_base::{behind, decimal};
 // The greatest width.
 const WIDEST: u64 = 999;
 
-/// What a conversion's letter asks for.
+/// The kind of a conversion, by its letter.
 #[derive(Clone, Copy, Debug, PartialEq, Eq)]
 pub enum Letter {
     /// `d` and `i`: a signed number in decimal digits.
@@ -29,29 +29,29 @@ pub enum Letter {
     Text,
     /// `p`: an address.
     Pointer,
-    /// `%`: the sign itself, which takes no value.
+    /// `%`: the percent sign, which takes no value.
     Percent,
 }
 
-/// How a conversion's text stands in its place.
+/// How a conversion's text is padded.
 #[derive(Clone, Copy, Debug, PartialEq, Eq)]
 pub struct Style {
-    /// At the left of its place.
+    /// Left-justified.
     pub left: bool,
-    /// Filled by zeros, where it is a number.
+    /// Padded with zeros, if the text is a number.
     pub zero: bool,
-    /// How many bytes it fills at least.
+    /// The least number of bytes.
     pub width: u32,
 }
 
 /// A conversion of a format.
 #[derive(Clone, Copy, Debug, PartialEq, Eq)]
 pub struct Conversion {
-    /// How its text stands.
+    /// How its text is padded.
     pub style: Style,
-    /// What it asks for.
+    /// Its kind.
     pub letter: Letter,
-    /// How many bytes it takes behind its `%`.
+    /// How many bytes it takes after its `%`.
     pub taken: usize,
 }
 
@@ -78,7 +78,7 @@ fn digit_run(bytes: &[u8]) -> usize
         .count()
 }
 
-// The width that digits write.
+// The width in decimal digits.
 fn width_of(digits: &[u8]) -> Option<u32>
     ensures value { result ≡ width_of_lem digits.now }
     ensures within { IfSome result (λ n. n ≤ widest) }
@@ -151,7 +151,7 @@ fn style_of(flags: &[u8], width: u32) -> Style
     }
 }
 
-/// The conversion whose bytes behind its `%` are the first of these.
+/// The conversion that these bytes begin with; they come after its `%`.
 #[tactic(auto, unfolding(crate::specs::Format::conversion_at))]
 pub(crate) fn conversion_at(bytes: &[u8]) -> Option<Conversion>
     ensures value { result ≡ conversion_at_lem bytes.now }

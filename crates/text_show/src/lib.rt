@@ -1,4 +1,4 @@
-//! The texts that calls of the kernel write: `printf`, and the shell's tables.
+//! The texts that kernel calls write: `printf`, and the shell's tables.
 #![tactic(auto)]
 
 mod format;

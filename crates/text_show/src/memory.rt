@@ -1,4 +1,4 @@
-//! The dump of memory.
+//! Dumps of memory.
 
 ghost use Rattle.std.specs.Prelude.{◌≡◌, ◌+◌, ◌*◌, ◌++◌, ◌<◌, ◌≤◌, map, length, IsTrue, IfOk, OnOk, OnErr};
 ghost use Rattle.board_mem.specs.Memory.{has, bytes_at};
@@ -11,7 +11,7 @@ use board_mem::Ram;
 use std::alloc::Global;
 use wind_base::{NoMemory, OutBuf};
 
-// Adds a byte of a line at its place there.
+// Adds a byte of a line at its place in the line.
 fn add_byte(page: &mut Vec<u8>, width: u32, place: u32, byte: u8) -> Result<(), NoMemory>
     requires { 0 < width }
     ensures { OnOk result (page.new.items ≡ page.old.items ++ unit_byte width place byte) }
@@ -36,7 +36,7 @@ fn add_units(page: &mut Vec<u8>, width: u32, bytes: &[u8]) -> Result<(), NoMemor
     Ok(())
 }
 
-// A printable byte of ASCII, or a point.
+// The byte itself if it is printable ASCII, or a point.
 fn shown_byte(byte: u8) -> u8
     ensures { result ≡ shown_byte_lem byte }
 {
@@ -82,8 +82,8 @@ fn add_line_at(
 ) -> Result<(), NoMemory>
     requires some { 0 < width }
     requires short { count ≤ 16 }
-    requires ram { IsTrue (has ram.now at count) }
-    ensures { OnOk result (page.new.items ≡ page.old.items ++ dump_line width at (bytes_at ram.now at count)) }
+    requires ram { IsTrue (has ram.now.bytes at count) }
+    ensures { OnOk result (page.new.items ≡ page.old.items ++ dump_line width at (bytes_at ram.now.bytes at count)) }
 {
     let mut line = [0; 16];
     let line = &mut line[..count];
@@ -96,9 +96,9 @@ fn add_line_at(
 // Adds all lines of the `n` bytes from an address on.
 fn add_lines(page: &mut Vec<u8>, width: u32, ram: &Ram, at: u32, n: u32) -> Result<(), NoMemory>
     requires some { 0 < width }
-    requires ram { IsTrue (has ram.now at n) }
-    ensures { OnOk result (page.new.items
-        ≡ page.old.items ++ dump_lines width (lines_of_lem (bytes_at ram.now at n)) at (bytes_at ram.now at n)) }
+    requires ram { IsTrue (has ram.now.bytes at n) }
+    ensures { OnOk result (page.new.items ≡ page.old.items
+        ++ dump_lines width (lines_of_lem (bytes_at ram.now.bytes at n)) at (bytes_at ram.now.bytes at n)) }
 {
     let _size = ram.size();
     for number in 0..n.div_ceil(16) {
@@ -108,13 +108,13 @@ fn add_lines(page: &mut Vec<u8>, width: u32, ram: &Ram, at: u32, n: u32) -> Resu
     Ok(())
 }
 
-// The dump, made aside.
+// Makes the dump.
 #[tactic(auto, unfolding(crate::specs::Dump::dump_of))]
 fn dump_page(alloc: Global, ram: &Ram, addr: u32, n: u32, width: u32) -> Result<Vec<u8>, NoMemory>
     requires some { 0 < width }
     requires wide { width ≤ 4 }
-    requires ram { IsTrue (has ram.now addr (n * width)) }
-    ensures { IfOk result (λ p. p.items ≡ dump_of ram.now addr n width) }
+    requires ram { IsTrue (has ram.now.bytes addr (n * width)) }
+    ensures { IfOk result (λ p. p.items ≡ dump_of ram.now.bytes addr n width) }
 {
     let _size = ram.size();
     let mut page = Vec::new(alloc);
@@ -122,12 +122,13 @@ fn dump_page(alloc: Global, ram: &Ram, addr: u32, n: u32, width: u32) -> Result<
     Ok(page)
 }
 
-/// Writes the dump of `n` units of `width` bytes each, from an address on, as the shell's `d` shows it: a line for each
-/// 16 bytes, of which the last may be shorter. The room that `out` has stays as it is.
+/// Writes the dump of `n` units of `width` bytes each, from an address on, as the shell's `d` shows
+/// it: a line for each 16 bytes, of which the last may be shorter. The free room of `out` stays the
+/// same.
 ///
 /// # Errors
 ///
-/// Nothing is written where host memory runs out.
+/// If host memory runs out, nothing is written.
 pub fn dump(
     alloc: Global,
     ram: &Ram,
@@ -138,8 +139,8 @@ pub fn dump(
 ) -> Result<(), NoMemory>
     requires some { 0 < width }
     requires wide { width ≤ 4 }
-    requires ram { IsTrue (has ram.now addr (n * width)) }
-    ensures ok { OnOk result (out.new ≡ with_text out.old (dump_of ram.now addr n width)) }
+    requires ram { IsTrue (has ram.now.bytes addr (n * width)) }
+    ensures ok { OnOk result (out.new ≡ with_text out.old (dump_of ram.now.bytes addr n width)) }
     ensures err { OnErr result (out.new ≡ out.old) }
 {
     let page = dump_page(alloc, ram, addr, n, width)?;

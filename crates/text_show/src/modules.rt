@@ -1,4 +1,4 @@
-//! The table of the modules.
+//! The table of modules.
 
 ghost use Rattle.std.specs.Prelude.{◌≡◌, ◌++◌, ◌∷◌, map, OnOk, OnErr, IfOk};
 ghost use Rattle.std.specs.List.{flat_map};
@@ -29,7 +29,7 @@ fn add_header(page: &mut Vec<u8>) -> Result<(), NoMemory>
     )
 }
 
-// Adds the address of a segment behind another cell.
+// Adds the address of a segment after another cell.
 fn add_address(page: &mut Vec<u8>, segment: &Segment) -> Result<(), NoMemory>
     ensures { OnOk result (page.new.items ≡ page.old.items ++ 32 ∷ segment_cell segment.now) }
 {
@@ -75,7 +75,7 @@ fn add_modules(page: &mut Vec<u8>, modules: &Modules) -> Result<(), NoMemory>
     Ok(())
 }
 
-// The table of the modules, made aside.
+// Makes the table of modules.
 #[tactic(auto, unfolding(crate::specs::Modules::module_table_of))]
 fn module_page(alloc: Global, modules: &Modules) -> Result<Vec<u8>, NoMemory>
     ensures { IfOk result (λ p. p.items ≡ module_table_of modules.now) }
@@ -86,12 +86,12 @@ fn module_page(alloc: Global, modules: &Modules) -> Result<Vec<u8>, NoMemory>
     Ok(page)
 }
 
-/// Writes the table of the modules, as the shell's `moduleShow` shows it: a header, and a row for each module by id.
-/// The room that `out` has stays as it is.
+/// Writes the table of modules, as the shell's `moduleShow` shows it: a header, and a row for each
+/// module by id. The free room of `out` stays the same.
 ///
 /// # Errors
 ///
-/// Nothing is written where host memory runs out.
+/// If host memory runs out, nothing is written.
 pub fn module_rows(alloc: Global, modules: &Modules, out: &mut OutBuf) -> Result<(), NoMemory>
     ensures ok { OnOk result (out.new ≡ with_text out.old (module_table_of modules.now)) }
     ensures err { OnErr result (out.new ≡ out.old) }

@@ -1,4 +1,4 @@
-//! Texts in columns, made aside: what is written waits until the whole text is there.
+//! Texts in columns. A text is made as a whole before any of it is written.
 
 ghost use Rattle.std.specs.Prelude.{◌≡◌, ◌+◌, ◌≤◌, take, ◌-◌, ◌++◌, ◌∷◌, [], map, length, replicate, OnOk, OnErr};
 ghost use Rattle.text_show.specs.Columns.{blanks, cell_text, row, row_rest, with_text};
@@ -9,13 +9,13 @@ use wind_base::{NoMemory, OutBuf};
 /// A text in a column.
 #[derive(Clone, Copy)]
 pub(crate) enum Cell<'a> {
-    /// At the left of a place of this width.
+    /// Left-justified in this width.
     Left(usize, &'a [u8]),
-    /// At its right.
+    /// Right-justified in this width.
     Right(usize, &'a [u8]),
 }
 
-/// So many of the first bytes; all of them, where there are fewer.
+/// The first `most` bytes, or all if there are fewer.
 pub(crate) fn front(bytes: &[u8], most: usize) -> &[u8]
     ensures value { result.now ≡ take most bytes.now }
     ensures within { length result.now ≤ most }
@@ -37,7 +37,7 @@ pub(crate) fn add(page: &mut Vec<u8>, piece: &[u8]) -> Result<(), NoMemory>
     Ok(())
 }
 
-// Adds so many blanks.
+// Adds this many blanks.
 fn add_blanks(page: &mut Vec<u8>, n: usize) -> Result<(), NoMemory>
     ensures { OnOk result (page.new.items ≡ page.old.items ++ blanks n) }
 {
@@ -63,7 +63,7 @@ pub(crate) fn add_cell(page: &mut Vec<u8>, cell: &Cell) -> Result<(), NoMemory>
     }
 }
 
-// Adds what follows the first cell of a row.
+// Adds the cells after the first one of a row.
 fn add_rest(page: &mut Vec<u8>, cells: &[Cell]) -> Result<(), NoMemory>
     ensures { OnOk result (page.new.items ≡ page.old.items ++ row_rest (map cell_text cells.now)) }
 {
@@ -87,7 +87,7 @@ pub(crate) fn add_row(page: &mut Vec<u8>, cells: &[Cell]) -> Result<(), NoMemory
     }
 }
 
-/// Adds a cell behind another one.
+/// Adds a cell after another one.
 pub(crate) fn add_next(page: &mut Vec<u8>, cell: &Cell) -> Result<(), NoMemory>
     ensures { OnOk result (page.new.items ≡ page.old.items ++ 32 ∷ cell_text cell.now) }
 {
@@ -95,7 +95,7 @@ pub(crate) fn add_next(page: &mut Vec<u8>, cell: &Cell) -> Result<(), NoMemory>
     add_cell(page, cell)
 }
 
-/// Writes a text that was made aside, with room made for it. Nothing is written where memory runs out.
+/// Writes a finished text, for which it makes room. If memory runs out, nothing is written.
 pub(crate) fn write(out: &mut OutBuf, page: &[u8]) -> Result<(), NoMemory>
     ensures ok { OnOk result (out.new ≡ with_text out.old page.now) }
     ensures err { OnErr result (out.new ≡ out.old) }

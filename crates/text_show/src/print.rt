@@ -20,7 +20,7 @@ fn is_minus_word(v: u32) -> bool
     v >= 0x8000_0000
 }
 
-// Its size as a signed number.
+// The absolute value of a word as a signed number.
 fn magnitude(v: u32) -> u32
     ensures { result ≡ magnitude_lem v }
 {
@@ -31,7 +31,7 @@ fn magnitude(v: u32) -> u32
     }
 }
 
-// What stands before the digits.
+// What comes before the digits.
 fn sign_of(letter: Letter, v: u32) -> &'static [u8]
     ensures { result.now ≡ sign_of_lem letter v }
 {
@@ -64,7 +64,7 @@ fn add_number(text: &mut Text, style: Style, letter: Letter, v: u32)
     text::add_filled(text, style, true, sign_of(letter, v), digits.as_slice());
 }
 
-// Adds a text that is no number.
+// Adds a text that isn't a number.
 fn add_plain(text: &mut Text, style: Style, body: &[u8])
     ensures { text.new.items ≡ take longest_print (text.old.items ++ plain_text style body.now) }
 {
@@ -72,9 +72,9 @@ fn add_plain(text: &mut Text, style: Style, body: &[u8])
 }
 
 impl Values<'_> {
-    // The string at the address that a value is.
+    // The string at the address that a value gives.
     fn string(&self, n: u32) -> Option<RamString>
-        ensures { result ≡ string_of_lem self.now.ram.now (value_at (source_of self.now) n) }
+        ensures { result ≡ string_of_lem self.now.ram.now.bytes (value_at (source_of self.now) n) }
     {
         let ram = self.ram;
         match self.get(n) {
@@ -84,7 +84,8 @@ impl Values<'_> {
     }
 }
 
-// Adds the text of a conversion, from the value of a number on. False where what it takes can't be read.
+// Adds the text of a conversion, whose first value has number `n`. Returns false if what it takes
+// can't be read.
 fn add_conversion(text: &mut Text, values: &Values, n: u32, style: Style, letter: Letter) -> bool
     ensures { Prints (conversion_text (source_of values.now) n style letter) result text.old.items text.new.items }
 {
@@ -117,7 +118,7 @@ fn values_of(letter: Letter) -> u32
     }
 }
 
-// The conversion that begins with a byte, before others.
+// The conversion of `byte` and `rest`, if `byte` is `%` and `rest` begins with a conversion.
 fn conversion_of(byte: u8, rest: &[u8]) -> Option<Conversion>
     ensures value { result ≡ conversion_of_lem byte rest.now }
     ensures inside { IfSome result (λ c. c.taken ≤ length rest.now) }
@@ -129,7 +130,7 @@ fn conversion_of(byte: u8, rest: &[u8]) -> Option<Conversion>
     }
 }
 
-// The text of a format, cut. None where a value that it takes can't be read.
+// The text of a format, cut to the longest. `None` if a value that it takes can't be read.
 fn format_text(values: &Values, format: &[u8]) -> Option<Text>
     requires { length format.now < 2 ^ 32 }
     ensures { option_map (λ t. t.items) result
@@ -168,10 +169,10 @@ fn text_at(values: &Values, format: u32) -> Option<Text>
     }
 }
 
-/// Writes what a format asks for, at most 4,096 bytes: what exceeds them is dropped. The values are the
-/// seven at hand, and then the words from 8 above the stack pointer on. The answer is the count of bytes
-/// written; None where the format, or a string or a word that it needs, can't be read, and then nothing
-/// is written.
+/// Writes what a format asks for, at most 4,096 bytes; the rest is dropped. The values are the
+/// seven given ones, and then the words from 8 bytes above the stack pointer on. Returns the number
+/// of bytes written. If the format, or a string or a word that it needs, can't be read, it returns
+/// `None` and writes nothing.
 pub fn printf_text(
     format: u32,
     first: &[u32; 7],
@@ -181,9 +182,9 @@ pub fn printf_text(
 ) -> Option<u32>
     requires { longest_print ≤ out.old.room }
     ensures count { result
-        ≡ option_map length (printf_of (record { first = first.now; stack = stack; ram = ram.now }) format) }
+        ≡ option_map length (printf_of (record { first = first.now; stack = stack; ram = ram.now.bytes }) format) }
     ensures text { out.new
-        ≡ written out.old (printf_of (record { first = first.now; stack = stack; ram = ram.now }) format) }
+        ≡ written out.old (printf_of (record { first = first.now; stack = stack; ram = ram.now.bytes }) format) }
 {
     let values = Values { first, stack, ram };
     let text = text_at(&values, format)?;

@@ -1,4 +1,4 @@
-//! The rows of symbols.
+//! The rows of symbols, as `lkup` shows them.
 
 ghost use Rattle.std.specs.Prelude.{◌≡◌, ◌++◌, ◌∷◌, [], map, OnOk, OnErr, IfOk};
 ghost use Rattle.std.specs.List.{filter, flat_map};
@@ -12,7 +12,7 @@ use std::alloc::Global;
 use symbol_table::{SymKind, Symbol, Symbols};
 use wind_base::{NoMemory, OutBuf};
 
-// Whether a text has a part.
+// Whether a text contains a part.
 fn has_part(text: &[u8], part: &[u8]) -> bool
     ensures { result ≡ has_part_lem part.now text.now }
 {
@@ -52,7 +52,7 @@ fn add_symbol(page: &mut Vec<u8>, symbol: &Symbol) -> Result<(), NoMemory>
     Ok(())
 }
 
-// Puts a symbol behind others, where its name has the part.
+// Appends a symbol to others, if its name contains the part.
 fn take_shown<'a>(
     found: &mut Vec<&'a Symbol>,
     symbol: &'a Symbol,
@@ -69,7 +69,7 @@ fn take_shown<'a>(
     Ok(())
 }
 
-// The symbols whose names have the part, in order of adding.
+// The symbols whose names contain the part, in order of adding.
 fn shown<'a>(alloc: Global, symbols: &'a Symbols, part: &[u8]) -> Result<Vec<&'a Symbol>, NoMemory>
     ensures { IfOk result (λ found. map (λ s. s.now) found.items ≡ filter (is_shown part.now) symbols.now.list) }
 {
@@ -82,7 +82,7 @@ fn shown<'a>(alloc: Global, symbols: &'a Symbols, part: &[u8]) -> Result<Vec<&'a
     Ok(found)
 }
 
-// Puts symbols in order of name; those of one name stay as they stood.
+// Sorts symbols by name; those with the same name keep their order.
 fn sort_by_name(symbols: &mut Vec<&Symbol>) -> Result<(), NoMemory>
     ensures { OnOk result (map (λ s. s.now) symbols.new.items
         ≡ sorted name_before (map (λ s. s.now) symbols.old.items)) }
@@ -102,7 +102,7 @@ fn add_symbols(page: &mut Vec<u8>, symbols: &[&Symbol]) -> Result<(), NoMemory>
     Ok(())
 }
 
-// The rows, made aside.
+// Makes the rows.
 #[tactic(auto, unfolding(crate::specs::Symbols::symbol_rows_of))]
 fn symbol_page(alloc: Global, symbols: &Symbols, part: &[u8]) -> Result<Vec<u8>, NoMemory>
     ensures { IfOk result (λ p. p.items ≡ symbol_rows_of symbols.now.list part.now) }
@@ -114,12 +114,13 @@ fn symbol_page(alloc: Global, symbols: &Symbols, part: &[u8]) -> Result<Vec<u8>,
     Ok(page)
 }
 
-/// Writes a row for each symbol whose name has the part, as the shell's `lkup` shows them: by name, byte by byte, and
-/// those of one name in order of adding. The empty part shows every symbol. The room that `out` has stays as it is.
+/// Writes a row for each symbol whose name contains the part, as the shell's `lkup` shows them: by
+/// name, byte by byte, and those with the same name in order of adding. The empty part shows every
+/// symbol. The free room of `out` stays the same.
 ///
 /// # Errors
 ///
-/// Nothing is written where host memory runs out.
+/// If host memory runs out, nothing is written.
 pub fn symbol_rows(
     alloc: Global,
     symbols: &Symbols,

@@ -1,4 +1,4 @@
-//! The table of the tasks.
+//! The table of tasks.
 
 ghost use Rattle.std.specs.Prelude.{◌≡◌, ◌<◌, ◌++◌, ◌∷◌, [], OnOk, OnErr, IfOk};
 ghost use Rattle.std.specs.List.{filter, flat_map};
@@ -15,7 +15,7 @@ use wind_base::limits::LEAST_URGENT;
 use wind_base::{NoMemory, OutBuf};
 use wind_core::Kern;
 
-// The ticks to a wake, 0 for none.
+// The ticks until a wake, or 0 if there is none.
 fn ticks_to(tick: u64, wake: Option<u64>) -> u64
     ensures { result ≡ ticks_to_lem tick wake }
 {
@@ -67,7 +67,7 @@ fn add_task(page: &mut Vec<u8>, tick: u64, task: &Task) -> Result<(), NoMemory>
     Ok(())
 }
 
-// Adds the row of a task, where it has this priority.
+// Adds the row of a task, if it has this priority.
 fn add_at(page: &mut Vec<u8>, tick: u64, pri: u32, task: &Task) -> Result<(), NoMemory>
     ensures rows { OnOk result (page.new.items
         ≡ page.old.items ++ flat_map (task_row tick) (filter (has_priority pri) (task.now ∷ []))) }
@@ -80,7 +80,7 @@ fn add_at(page: &mut Vec<u8>, tick: u64, pri: u32, task: &Task) -> Result<(), No
     }
 }
 
-// Adds the rows of the tasks of one priority.
+// Adds the rows of the tasks with one priority.
 fn add_of_priority(page: &mut Vec<u8>, kern: &Kern, pri: u32) -> Result<(), NoMemory>
     ensures rows { OnOk result (page.new.items
         ≡ page.old.items ++ flat_map (task_row kern.now.tick) (filter (has_priority pri) kern.now.tasks)) }
@@ -104,7 +104,7 @@ fn add_tasks(page: &mut Vec<u8>, kern: &Kern) -> Result<(), NoMemory>
     Ok(())
 }
 
-// The table of the tasks, made aside.
+// Makes the table of tasks.
 #[tactic(auto, unfolding(crate::specs::Tasks::task_table_of))]
 fn task_page(alloc: Global, kern: &Kern) -> Result<Vec<u8>, NoMemory>
     ensures { IfOk result (λ p. p.items ≡ task_table_of kern.now) }
@@ -115,12 +115,12 @@ fn task_page(alloc: Global, kern: &Kern) -> Result<Vec<u8>, NoMemory>
     Ok(page)
 }
 
-/// Writes the table of the tasks, as the shell's `i` shows it: a header, and a row for each task by priority and then by
-/// id. The room that `out` has stays as it is.
+/// Writes the table of tasks, as the shell's `i` shows it: a header, and a row for each task by
+/// priority and then by id. The free room of `out` stays the same.
 ///
 /// # Errors
 ///
-/// Nothing is written where host memory runs out.
+/// If host memory runs out, nothing is written.
 pub fn task_table(alloc: Global, kern: &Kern, out: &mut OutBuf) -> Result<(), NoMemory>
     ensures ok { OnOk result (out.new ≡ with_text out.old (task_table_of kern.now)) }
     ensures err { OnErr result (out.new ≡ out.old) }

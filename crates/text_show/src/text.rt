@@ -1,4 +1,4 @@
-//! A text of at most as many bytes as one `printf` writes: what exceeds them is dropped.
+//! A text that is at most as long as one `printf` may write; the rest is dropped.
 
 ghost use Rattle.std.specs.Prelude.{◌≡◌, ◌+◌, ◌≤◌, ◌++◌, take, replicate, length};
 ghost use Rattle.wind_base.specs.Limits.{longest_print};
@@ -13,7 +13,7 @@ use wind_base::limits::PRINTF_BYTES;
 /// The text of one `printf`.
 pub(crate) type Text = ArrayVec<u8, TEXT_ROOM>;
 
-// How many bytes such a text has at most.
+// The greatest length of such a text, in bytes.
 const TEXT_ROOM: usize = PRINTF_BYTES as usize;
 
 // Adds bytes for which there is room.
@@ -32,7 +32,7 @@ pub(crate) fn add(text: &mut Text, piece: &[u8])
     push_all(text, front(piece, room));
 }
 
-// Adds a byte so many times.
+// Adds a byte `times` times.
 fn add_times(text: &mut Text, byte: u8, times: usize)
     ensures { text.new.items ≡ take longest_print (text.old.items ++ replicate times byte) }
 {
@@ -42,7 +42,7 @@ fn add_times(text: &mut Text, byte: u8, times: usize)
     }
 }
 
-// Adds a text, and blanks behind it.
+// Adds a text, and then blanks.
 fn add_left(text: &mut Text, sign: &[u8], body: &[u8], more: usize)
     ensures { text.new.items ≡ take longest_print (text.old.items ++ (sign.now ++ body.now ++ blanks more)) }
 {
@@ -51,7 +51,7 @@ fn add_left(text: &mut Text, sign: &[u8], body: &[u8], more: usize)
     add_times(text, b' ', more);
 }
 
-// Adds a text with zeros behind its sign.
+// Adds a text with zeros after its sign.
 fn add_zeros(text: &mut Text, sign: &[u8], body: &[u8], more: usize)
     ensures { text.new.items ≡ take longest_print (text.old.items ++ (sign.now ++ zeros more ++ body.now)) }
 {
@@ -60,7 +60,7 @@ fn add_zeros(text: &mut Text, sign: &[u8], body: &[u8], more: usize)
     add(text, body);
 }
 
-// Adds blanks, and a text behind them.
+// Adds blanks, and then a text.
 fn add_right(text: &mut Text, sign: &[u8], body: &[u8], more: usize)
     ensures { text.new.items ≡ take longest_print (text.old.items ++ (blanks more ++ sign.now ++ body.now)) }
 {
@@ -69,7 +69,7 @@ fn add_right(text: &mut Text, sign: &[u8], body: &[u8], more: usize)
     add(text, body);
 }
 
-/// Adds a text in its place, of which the sign is the front.
+/// Adds a sign and a body, padded as the style says.
 pub(crate) fn add_filled(text: &mut Text, style: Style, number: bool, sign: &[u8], body: &[u8])
     ensures { text.new.items ≡ take longest_print (text.old.items ++ filled style number sign.now body.now) }
 {

@@ -1,4 +1,4 @@
-//! The line that tells a value.
+//! The line that shows a value.
 
 ghost use Rattle.std.specs.Prelude.{◌≤◌};
 ghost use Rattle.wind_base.specs.OutBuf.{Added};
@@ -7,7 +7,7 @@ ghost use Rattle.text_show.specs.Value.{character_text, value_text};
 use wind_base::OutBuf;
 use wind_base::text::{add, add_hex, add_signed};
 
-// Adds the character of a word that is a printable one of ASCII.
+// Adds the character of a word, if it is a printable ASCII character.
 fn add_character(out: &mut OutBuf, v: u32)
     requires { 6 ≤ out.old.room }
     ensures { Added 6 out.old out.new (character_text v) }
@@ -17,7 +17,7 @@ fn add_character(out: &mut OutBuf, v: u32)
     }
 }
 
-/// Adds the line that tells a value: 64 bytes at most.
+/// Adds the line that shows a value: at most 64 bytes.
 pub fn value_line(v: u32, out: &mut OutBuf)
     requires { 64 ≤ out.old.room }
     ensures { Added 64 out.old out.new (value_text v) }

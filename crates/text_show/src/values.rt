@@ -13,10 +13,10 @@ fn first_at(first: &[u32], n: u32) -> Option<u32>
     first.get(n as usize).copied()
 }
 
-// The word at a place, which may be past every address.
+// The word at an address, which may be outside RAM.
 fn stack_word(ram: &Ram, at: u64) -> Option<u32>
     requires { at < 2 ^ 40 }
-    ensures { result ≡ read 4 ram.now at }
+    ensures { result ≡ read 4 ram.now.bytes at }
 {
     if at + 4 > u64::from(ram.size()) {
         return None;
@@ -24,19 +24,19 @@ fn stack_word(ram: &Ram, at: u64) -> Option<u32>
     ram.read32(at as u32)
 }
 
-/// The first seven values, and where the others lie.
+/// The first seven values, and where the others are.
 #[derive(Clone, Copy)]
 pub(crate) struct Values<'a> {
     /// The first values.
     pub(crate) first: &'a [u32; 7],
-    /// The stack pointer: the next values are the words from 8 above it on.
+    /// The stack pointer: the other values are the words from 8 bytes above it on.
     pub(crate) stack: u32,
-    /// Memory.
+    /// RAM.
     pub(crate) ram: &'a Ram,
 }
 
 impl Values<'_> {
-    /// A value by its number.
+    /// The value with this number.
     pub(crate) fn get(&self, n: u32) -> Option<u32>
         ensures { result ≡ value_at (source_of self.now) n }
     {

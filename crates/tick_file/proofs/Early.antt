@@ -1,12 +1,11 @@
--- The events of a timetable come before 2 ^ 64.
-use Rattle.std.proofs.Common.{◌≡◌, ℕ, ◌-◌, ◌*◌, ◌^◌, ◌<◌, ◌≤◌, List, length, get_or, refl, ap, subst, sym, arith}
+-- The events of a timetable occur before 2 ^ 64.
+use Rattle.std.proofs.Common.{◌≡◌, ℕ, ◌-◌, ◌*◌, ◌^◌, ◌<◌, ◌≤◌, get_or, ap, arith}
 use Rattle.std.proofs.lemmas.Nat.{mul-le}
 use Rattle.std.proofs.lemmas.List.{get_or_default}
 use Rattle.std.proofs.lemmas.List.Elements.{All-contains}
-use Rattle.std.specs.List.{All, Contains}
 use Rattle.tick_file.specs.declared.event.Rule.{Rule}
 use Rattle.tick_file.specs.declared.event.Rule.TheVariants.{At, Every}
-use Rattle.tick_file.specs.Lines.{Numbered, rules_of}
+use Rattle.tick_file.specs.Lines.{rules_of}
 use Rattle.tick_file.specs.Schedule.{Timed, timetable_of}
 use Rattle.tick_file.specs.Laws.{AsksAt, EarlyLaw, IsEarly}
 use Rattle.tick_file.proofs.RuleLemmas.{IsBounded, rules_bounded}

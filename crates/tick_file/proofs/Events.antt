@@ -29,7 +29,7 @@ pub order : IsStrictWeakOrder before
 unfolding before
 order = ranks_by nat_list_cmp_total place_of
 
--- neither of two orderings is `Less`, and each is the other reversed
+-- neither of two orderings is `Less`, and each is the reverse of the other
 tied_places : (xs ys : List ℕ) → is_lt (slice_cmp nat_cmp xs ys) ≡ false → is_lt (slice_cmp nat_cmp ys xs) ≡ false → xs ≡ ys
 tied_places xs ys p q = slice_cmp-IsAntisymmetric nat_cmp-IsAntisymmetric xs ys (neither (slice_cmp nat_cmp xs ys) (slice_cmp nat_cmp ys xs) p q (nat_list_cmp_total.antisymm xs ys))
   where
@@ -40,7 +40,7 @@ tied_places xs ys p q = slice_cmp-IsAntisymmetric nat_cmp-IsAntisymmetric xs ys 
     neither Greater Equal p q e = absurd (cc)
     neither Greater Greater p q e = absurd (cc)
 
--- events of which neither is before the other stand at one place
+-- two events, neither of which is before the other, are at the same place
 pub one_place : (a b : Timed) → before a b ≡ false → before b a ≡ false → place_of a ≡ place_of b
 unfolding before
 one_place a b p q = tied_places (place_of a) (place_of b) p q
@@ -70,7 +70,7 @@ pub coming_alike : (period : ℕ) (t : Timed) (left : ℕ) → AllByRecursion (I
 coming_alike period t zero = tt
 coming_alike period t (suc left) = ((refl, refl), coming_alike period (record t { time = t.time + period; number = suc t.number }) left)
 
--- the ticks from number k on are those that come, one period after another
+-- the ticks from number k on are one period apart
 pub ticks_coming : (n period k count : ℕ) → ticks_from n period k count ≡ coming period (record { time = k * period; line = n; number = k; event = Tick }) count
 ticks_coming n period k zero = refl
 ticks_coming n period k (suc count) =
@@ -78,7 +78,7 @@ ticks_coming n period k (suc count) =
     ap (λ es. record { time = k * period; line = n; number = k; event = Tick } ∷ es)
     (ticks_coming n period (suc k) count ∙ ap (λ t. coming period (record { time = t; line = n; number = suc k; event = Tick }) count) e)
 
--- a rule before its first event has all its events to come
+-- before its first event, a rule has all its events left
 pub all_to_come : (r : Numbered) → upcoming (pending_of r) ≡ events_of r
 all_to_come r = by r.line r.rule
   where
@@ -93,7 +93,7 @@ pub events_waiting : (rs : List Numbered) → events_in (map waiting_of rs) ≡ 
 events_waiting [] = refl
 events_waiting (r ∷ rs) = ap (λ es. es ++ events_in (map waiting_of rs)) (all_to_come r) ∙ ap (λ es. events_of r ++ es) (events_waiting rs)
 
--- where no rule's next event is before an event, none of theirs is
+-- if no rule's next event is before an event, none of their events is
 pub all_late : (t : Timed) (ps : List (Reverse Pending)) → AllByRecursion (λ p. before (next_of p.0) t ≡ false) ps → AllByRecursion (λ e. before e t ≡ false) (events_in ps)
 all_late t [] h = tt
 all_late t (p ∷ ps) h =
@@ -112,7 +112,7 @@ of_some all (p ∷ ps) h =
     (all_weaker (IsLike p.0.line p.0.event) (IsOfOne all) (λ e k. (p, h p (0, omega arith, refl), k.0, k.1)) (upcoming p.0) (coming_alike p.0.period (next_of p.0) p.0.left))
     (of_some all ps (λ q k. h q (suc k.0, omega (arith, k.1), k.2)))
 
--- two events of rules that agree, of which neither is before the other, are the same
+-- two events of rules that agree, neither of which is before the other, are the same
 same_event : (ps : List (Reverse Pending)) → All (λ p. All (λ q. Agree p.0 q.0) ps) ps → (a b : Timed) → IsOfOne ps a → IsOfOne ps b → before a b ≡ false → before b a ≡ false → a ≡ b
 same_event ps agree a b p q h k =
     let place = one_place a b h k in
@@ -123,7 +123,7 @@ same_event ps agree a b p q h k =
     let number : a.number ≡ b.number = cc in
     λ i. record { time = time i; line = line i; number = number i; event = event i }
 
--- rules that agree have the same events in order, however they stand
+-- rules that agree have the same events in order, in whatever order the rules are
 pub same_events : (ps qs : List (Reverse Pending)) → All (λ p. All (λ q. Agree p.0 q.0) ps) ps → IsPermutation ps qs → sorted before (events_in ps) ≡ sorted before (events_in qs)
 same_events ps qs agree moved =
     sorted_alike before order (IsOfOne ps) (same_event ps agree) (events_in ps) (events_in qs)

@@ -62,7 +62,7 @@ both_hold false b e = absurd (cc)
 one_more : (n : ℕ) → 1 + n ≡ suc n
 one_more n = omega arith
 
--- ---- the front of a list, so far as it passes a test
+-- ---- the elements at the beginning of a list that pass a test
 module _ {X : Type 0} (p : X → Bool) where
   -- the list ends here, or its first does not pass
   abbrev Stops : List X → Type 0
@@ -92,7 +92,7 @@ module _ {X : Type 0} (p : X → Bool) where
       let k = both_hold (p x) (list_all p xs) h in
       ap (λ b. cond b (1 + prefix_len p (xs ++ ys)) 0) k.0 ∙ ap (λ n. 1 + n) (prefix_at xs ys k.1 s) ∙ one_more (length xs)
 
-  -- so the front is the first of two lists, and the second is behind it
+  -- so these are the first of two lists, and the second comes after them
   front_at : (xs ys : List X) → list_all p xs ≡ true → Stops ys → take (prefix_len p (xs ++ ys)) (xs ++ ys) ≡ xs
   front_at xs ys h s = ap (λ n. take n (xs ++ ys)) (prefix_at xs ys h s) ∙ take-append_seam xs ys
 
@@ -100,7 +100,7 @@ module _ {X : Type 0} (p : X → Bool) where
   behind_at xs ys h s = ap (λ n. drop n (xs ++ ys)) (prefix_at xs ys h s) ∙ drop-append_seam xs ys
 
 -- ---- words
--- a byte that is no blank, as a word has
+-- a byte that isn't a blank, as in a word
 abbrev other : ℕ → Bool
 other b = not (is_blank b)
 
@@ -112,7 +112,7 @@ not_false : (b : Bool) → not b ≡ false → b ≡ true
 not_false true e = refl
 not_false false e = absurd (cc)
 
--- a digit is no blank
+-- a digit isn't a blank
 digit_other : (b : ℕ) → is_ascii_digit b ≡ true → is_blank b ≡ false
 digit_other b e = grind (arith, nat_tests)
 
@@ -139,7 +139,7 @@ first_is word gap rest w g = front_at other word (gap ++ rest) w (gap_stops gap 
 behind_is : (word gap rest : List ℕ) → list_all other word ≡ true → IsGap gap → Stops is_blank rest → behind_word (word ++ (gap ++ rest)) ≡ rest
 behind_is word gap rest w g s = ap behind_gap (behind_at other word (gap ++ rest) w (gap_stops gap rest g)) ∙ behind_at is_blank gap rest g.blank s
 
--- a line is its first word, some blanks and what is behind them
+-- a line is its first word, some blanks and what comes after them
 abbrev gap_of : List ℕ → List ℕ
 gap_of line = take (gap_length (drop (word_length line) line)) (drop (word_length line) line)
 

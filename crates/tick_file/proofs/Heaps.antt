@@ -16,7 +16,7 @@ use Rattle.tick_file.specs.Inside.{coming, next_of, upcoming, moved_on, IsSound,
 use Rattle.tick_file.proofs.Merging.{sorted_front}
 use Rattle.tick_file.proofs.Events.{all_late, same_events}
 
--- ---- the first of the events to come
+-- ---- the first of the future events
 coming_next : (period : ℕ) (t : Timed) (left : ℕ) → 0 < left → coming period t left ≡ t ∷ coming period (record t { time = t.time + period; number = t.number + 1 }) (left - 1)
 coming_next period t zero h = absurd (omega arith)
 coming_next period t (suc left) h =
@@ -82,7 +82,7 @@ module _ (ps rest : List (Reverse Pending)) (top : Reverse Pending) (kept : IsKe
       (All-permutation (λ p. before (next_of p.0) (next_of top.0) ≡ false) ps (top ∷ rest) moved (All-from_recursion (λ p. before (next_of p.0) (next_of top.0) ≡ false) ps (late_rules top ps least))) in
       (subst (λ es. AllByRecursion (λ e. before e (next_of top.0) ≡ false) (es ++ events_in rest)) (upcoming_next top.0 own_sound.some) (all_late (next_of top.0) (top ∷ rest) rules)).1
 
-  -- its event is the first in order, and the others are those that come once it has moved on
+  -- its event is the first in order, and the others are the future events once it has moved on
   pub front : waiting ps ≡ next_of top.0 ∷ sorted before (upcoming (moved_on top.0) ++ events_in rest)
   front =
       same_events ps (top ∷ rest) kept.agree moved

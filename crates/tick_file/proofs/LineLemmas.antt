@@ -1,4 +1,4 @@
--- The lines of a text, taken from its front one after another.
+-- The lines of a text, taken from its beginning one after another.
 use Rattle.std.proofs.Common.{◌≡◌, ◌≢◌, ℕ, suc, ◌+◌, ◌<◌, ◌≤◌, true, false, cond, List, [], ◌∷◌, ◌++◌, length, take, drop, map, Option, None, refl, sym, ap, ◌∙◌, subst, arith, nat_lt}
 use Rattle.std.specs.Prelude.{◌==◌}
 use Rattle.std.proofs.lemmas.List.{append_assoc, map-append, drop_all}
@@ -45,7 +45,7 @@ one_piece (b ∷ bs) h =
     (λ e. pieces_on b bs e ∙ ap (onto_first b) (one_piece bs (omega (arith, length_more b bs e))))
     (cases_eq b 10)
 
--- else the first piece stands before the first end
+-- otherwise the first piece is before the first end
 more_pieces : (bs : List ℕ) → line_length bs < length bs → pieces bs ≡ take (line_length bs) bs ∷ pieces (drop (suc (line_length bs)) bs)
 more_pieces [] h = absurd (omega arith)
 more_pieces (b ∷ bs) h =
@@ -61,7 +61,7 @@ lines_more : (piece : List ℕ) (bs : List ℕ) → lines_of (piece ∷ pieces b
 lines_more piece bs =
     let k = first_piece bs in ap (λ ps. lines_of (piece ∷ ps)) k.2 ∙ ap (λ ps. without_return piece ∷ lines_of ps) (sym k.2)
 
--- where the first line has an end, the other lines stand behind it
+-- if the first line has an end, the other lines come after it
 first_line : (bs : List ℕ) → line_length bs < length bs → tick_lines bs ≡ front_line bs ∷ tick_lines (behind_line bs)
 unfolding tick_lines
 first_line bs h =
@@ -72,7 +72,7 @@ first_line bs h =
     ∙ ap (λ b. cond b (without_return (take (line_length bs) bs)) bs ∷ lines_of (pieces (drop (suc (line_length bs)) bs))) (sym t)
     ∙ ap (λ n. front_line bs ∷ lines_of (pieces (drop n bs))) e
 
--- else it is the only one, and nothing stands behind it
+-- otherwise it is the only line, and nothing comes after it
 last_line : (bs : List ℕ) → length bs ≤ line_length bs → (tick_lines bs ≡ front_line bs ∷ []) × (tick_lines (behind_line bs) ≡ [] ∷ [])
 unfolding tick_lines
 last_line bs h =
@@ -97,7 +97,7 @@ pub bad_done : (n : ℕ) → bad_from n (tick_lines []) ≡ None
 unfolding tick_lines
 bad_done n = bad_blank n
 
--- the rules of a text are that of its first line and those behind it
+-- the rules of a text are that of its first line and those of the lines after it
 pub rules_step : (n : ℕ) (bs : List ℕ) → rules_from n (tick_lines bs) ≡ rule_at n (said (front_line bs)) ++ rules_from (n + 1) (tick_lines (behind_line bs))
 rules_step n bs =
     ⊎_elim
@@ -107,7 +107,7 @@ rules_step n bs =
     ∙ ap (λ rs. rule_at n (said (front_line bs)) ++ rs) (sym (rules_blank (n + 1)) ∙ ap (rules_from (n + 1)) (sym (last_line bs h).1)))
     (cases_lt (line_length bs) (length bs))
 
--- and its first bad line is its first one, or the first behind that
+-- and its first bad line is its first line, or the first bad line after it
 pub bad_step : (n : ℕ) (bs : List ℕ) → bad_from n (tick_lines bs) ≡ bad_or n (bad_from (n + 1) (tick_lines (behind_line bs))) (said (front_line bs))
 bad_step n bs =
     ⊎_elim
@@ -121,7 +121,7 @@ module _ (n : ℕ) (bs front after : List ℕ) (s : Said) (says : s ≡ said fro
   front_says : s ≡ said (front_line bs)
   front_says = says ∙ ap said first
 
-  -- once the rule of line n is kept, what is kept and what is to come are the same rules together
+  -- after the rule of line n is added, the rules so far and those to come are the same rules together
   pub kept_step : (ks more : List (Reverse Pending)) → after ≡ behind_line bs → more ≡ ks ++ map waiting_of (rule_at n s)
       → more ++ map waiting_of (rules_from (n + 1) (tick_lines after)) ≡ ks ++ map waiting_of (rules_from n (tick_lines bs))
   kept_step ks more rest e =
@@ -132,7 +132,7 @@ module _ (n : ℕ) (bs front after : List ℕ) (s : Said) (says : s ≡ said fro
       ∙ ap (λ (b : List ℕ). ks ++ map waiting_of (rule_at n (said (front_line bs)) ++ rules_from (n + 1) (tick_lines b))) rest
       ∙ ap (λ rs. ks ++ map waiting_of rs) (sym (rules_step n bs))
 
-  -- where line n is not bad, the first bad line is behind it
+  -- if line n isn't bad, the first bad line comes after it
   pub good_step : after ≡ behind_line bs → ((o : Option ℕ) → bad_or n o s ≡ o) → bad_from (n + 1) (tick_lines after) ≡ bad_from n (tick_lines bs)
   good_step rest good =
       sym (good (bad_from (n + 1) (tick_lines after)))

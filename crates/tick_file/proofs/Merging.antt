@@ -1,4 +1,4 @@
--- Lists in order: that elements which tie are equal is asked of the list's own elements alone.
+-- Lists in order; that tied elements are equal is required only of the list's own elements.
 use Rattle.std.proofs.Common.{◌≡◌, ℕ, ◌+◌, ◌<◌, Bool, true, false, cond, List, [], ◌∷◌, ◌++◌, refl, sym, ap, ◌∙◌, subst, arith}
 use Rattle.std.specs.Cmp.{IsStrictWeakOrder}
 use Rattle.std.specs.List.{AllByRecursion, count_by, sum_by, flat_map}
@@ -26,7 +26,7 @@ module _ {X : Type 0} where
   at_front lt x [] h = refl
   at_front lt x (y ∷ ys) h = rw h.0 refl
 
-  -- where no other element is before the first, it is the first in order too
+  -- if no other element is before the first, it is also the first in order
   pub sorted_front : (lt : X → X → Bool) (x : X) (xs : List X) → AllByRecursion (λ y. lt y x ≡ false) xs → sorted lt (x ∷ xs) ≡ x ∷ sorted lt xs
   sorted_front lt x xs h = at_front lt x (sorted lt xs) (all_sorted lt (λ y. lt y x ≡ false) xs h)
 

@@ -1,4 +1,4 @@
--- The rules of a text: their numbers are bounded, and those of one line have one event.
+-- The rules of a text: their numbers are bounded, and those of one line have the same event.
 use Rattle.std.proofs.Common.{◌≡◌, ℕ, ◌+◌, ◌-◌, ◌^◌, ◌≤◌, Bool, true, false, cond, List, [], ◌∷◌, ◌++◌, map, Option, None, Some, length, refl, sym, ap, ◌∙◌, arith}
 use Rattle.std.specs.Prelude.{nat_le, ◌&&◌, ◌||◌, codes}
 use Rattle.std.specs.Str.{bytes_eq}
@@ -119,7 +119,7 @@ rules_bounded text =
     let rs = rules_from 1 (tick_lines text) in
     All-from_recursion (λ r. IsBounded r.rule) rs (all_weaker (IsFrom 1) (λ r. IsBounded r.rule) (λ r h. h.0) rs (all_from 1 (tick_lines text)))
 
--- ---- as they are kept
+-- ---- the rules as they are stored
 sound_at : (n : ℕ) (rule : Rule) → IsBounded rule → IsSound (pending_at n rule)
 sound_at n (At time event) h = let t : time ≤ 2 ^ 32 - 1 = h in record { some = omega arith; numbers = omega arith; apart = omega arith; times = omega arith }
 sound_at n (Every period count) h = record { some = omega (arith, h.1); numbers = omega (arith, h.0.1); apart = h.0.0; times = omega (arith, h.0.0) }
@@ -134,7 +134,7 @@ rules_sound text =
     let rs = rules_from 1 (tick_lines text) in
     All-from_recursion (λ p. IsSound p.0) (map waiting_of rs) (all_sound rs (all_weaker (IsFrom 1) (λ r. IsBounded r.rule) (λ r h. h.0) rs (all_from 1 (tick_lines text))))
 
--- two rules of one line have one event
+-- two rules of the same line have the same event
 abbrev AreAlike : Numbered → Numbered → Type 0
 AreAlike r s = Agree (pending_of r) (pending_of s)
 
@@ -183,7 +183,7 @@ rules_agree text =
     (λ r h. All-from_recursion (λ q. Agree (pending_of r) q.0) ps (all_map waiting_of (λ q. Agree (pending_of r) q.0) rs h))
     rs (all_alike 1 (tick_lines text))))
 
--- input comes on demand where each kept rule is for ticks
+-- input comes on demand if each stored rule is for ticks
 pub on_demand_kept : (rs : List Numbered) → list_all (λ (p : Reverse Pending). is_tick p.0.event) (map waiting_of rs) ≡ list_all (λ r. asks_ticks r.rule) rs
 on_demand_kept [] = refl
 on_demand_kept (r ∷ rs) = ap (λ b. b && list_all (λ (p : Reverse Pending). is_tick p.0.event) (map waiting_of rs)) (by r.line r.rule) ∙ ap (λ b. asks_ticks r.rule && b) (on_demand_kept rs)

@@ -38,7 +38,7 @@ said_rule n (line ∷ lines) r zero at l e =
 said_rule n (line ∷ lines) r (suc k) at l e =
     Contains-append_right (rule_at n (said line)) (rules_from (n + 1) lines) r (said_rule (n + 1) lines r k (omega arith) (omega arith) e)
 
--- a line is outside the grammar, or the first bad line is behind it
+-- this line is invalid, or the first bad line comes after it
 here_or_later : (n m : ℕ) (o : Option ℕ) (s : Said) → bad_or n o s ≡ Some m → ((s ≡ Outside) × (n ≡ m)) ⊎ ((s ≡ Outside → ⊥) × (o ≡ Some m))
 here_or_later n m o Nothing e = inr ((λ q. absurd (cc)), e)
 here_or_later n m o (Says rule) e = inr ((λ q. absurd (cc)), e)
@@ -49,7 +49,7 @@ later_bad n o Nothing h = refl
 later_bad n o (Says rule) h = refl
 later_bad n o Outside h = absurd (h refl)
 
--- the line at k is outside the grammar, and none ahead of it is
+-- line k is invalid, and none before it is
 abbrev IsFirstBad : List (List ℕ) → ℕ → Type 0
 IsFirstBad lines k = (said (get_or lines k []) ≡ Outside) × ((j : ℕ) → j < k → said (get_or lines j []) ≡ Outside → ⊥)
 

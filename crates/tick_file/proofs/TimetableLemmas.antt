@@ -158,7 +158,7 @@ one_event z n (At time event) =
     let x : Timed = record { time = time; line = n; number = 1; event = event } in omega (arith, count-cons z x [], at_most_one (ties before z x))
 one_event z n (Every period count) = one_tick z n period 1 count
 
--- how many events of line n stand at a place
+-- how many events of line n are at a place
 abbrev in_line : Timed → ℕ → Said → ℕ
 in_line z n s = count_by (ties before z) (flat_map events_of (rule_at n s))
 

@@ -1,4 +1,4 @@
--- The grammar of a line in its own words, apart from how a line is read.
+-- The grammar of a line on its own, apart from how a line is read.
 use Rattle.std.specs.Prelude.{◌≡◌, ℕ, ◌<◌, ◌≤◌, ◌⊎◌, ◌↔◌, true, List, ◌∷◌, ◌++◌, length, codes}
 use Rattle.std.specs.Char.{is_ascii_digit}
 use Rattle.std.specs.List.{list_all}
@@ -10,12 +10,12 @@ use Rattle.tick_file.specs.declared.event.Said.TheVariants.{Nothing, Says}
 use Rattle.wind_base.specs.Limits.{greatest_word, longest_chunk}
 use Rattle.tick_file.specs.Grammar.{is_blank, most_digits, said}
 
--- blanks and tabs, one at least
+-- blanks and tabs, at least one
 pub record IsGap (gap : List ℕ) : Type 0 where
   pub some : 0 < length gap
   pub blank : list_all is_blank gap ≡ true
 
--- 1 to 10 decimal digits that write n, which is at most 4,294,967,295
+-- 1 to 10 decimal digits that spell n, which is at most 4,294,967,295
 pub record IsNumber (n : ℕ) (digits : List ℕ) : Type 0 where
   pub some : 1 ≤ length digits
   pub few : length digits ≤ most_digits
@@ -43,16 +43,16 @@ pub record HasTwo (word : List ℕ) (n m : ℕ) (line : List ℕ) : Type 0 where
   pub next_number : IsNumber m next_digits
   pub is : line ≡ word ++ (gap ++ (digits ++ (next_gap ++ next_digits)))
 
--- the lines that have a rule
+-- the lines that spell a rule
 abbrev pub IsLineOf : Rule → List ℕ → Type 0
 IsLineOf (At time Tick) line = HasOne (codes "tick") time line
 IsLineOf (At time (Rx bytes)) line = HasTwo (codes "rx") time bytes line × (1 ≤ bytes) × (bytes ≤ longest_chunk)
 IsLineOf (Every period count) line = HasTwo (codes "every") period count line × (1 ≤ period) × (1 ≤ count)
 
--- a line of blanks and tabs alone, or one that begins with `#`
+-- a line of only blanks and tabs, or one that begins with `#`
 abbrev pub IsSilent : List ℕ → Type 0
 IsSilent line = (list_all is_blank line ≡ true) ⊎ ((more : List ℕ) × (line ≡ 35 ∷ more))
 
--- a line says a rule where it is a line of that rule, and nothing where it is silent
+-- a line says a rule exactly if it spells that rule, and nothing exactly if it is blank or a comment
 abbrev pub GrammarLaw : Type 0
 GrammarLaw = (line : List ℕ) → ((rule : Rule) → (said line ≡ Says rule) ↔ IsLineOf rule line) × ((said line ≡ Nothing) ↔ IsSilent line)

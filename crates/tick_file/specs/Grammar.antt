@@ -10,42 +10,42 @@ use Rattle.tick_file.specs.declared.event.Rule.TheVariants.{At, Every}
 use Rattle.tick_file.specs.declared.event.Said.{Said}
 use Rattle.tick_file.specs.declared.event.Said.TheVariants.{Nothing, Says, Outside}
 
--- a byte that parts words: a blank or a tab
+-- a byte that separates words: a blank or a tab
 abbrev pub is_blank : ℕ → Bool
 is_blank b = b == 32 || b == 9
 
--- how many bytes the word at the front has, and how many blanks stand there
+-- the length of the first word, and how many blanks and tabs the text begins with
 abbrev pub word_length : List ℕ → ℕ
 word_length text = position_or_len is_blank text
 
 abbrev pub gap_length : List ℕ → ℕ
 gap_length text = prefix_len is_blank text
 
--- the word at the front
+-- the first word
 abbrev pub first_word : List ℕ → List ℕ
 first_word text = take (word_length text) text
 
--- what stands behind the blanks at the front
+-- what comes after the blanks at the beginning
 abbrev pub behind_gap : List ℕ → List ℕ
 behind_gap text = drop (gap_length text) text
 
--- what stands behind the word at the front and the blanks after it
+-- what comes after the first word and the blanks after it
 abbrev pub behind_word : List ℕ → List ℕ
 behind_word text = behind_gap (drop (word_length text) text)
 
--- the most digits of a number, and the number of 32 bits that a text writes in 1 to that many digits
+-- the most digits of a number, and the 32-bit number that a text spells in 1 to that many digits
 abbrev pub most_digits : ℕ
 most_digits = 10
 
 abbrev pub word_number : List ℕ → Option ℕ
 word_number text = if nat_le (length text) most_digits then decimal_value greatest_word text else None
 
--- what is made of two numbers, where there are both
+-- what is made of two numbers, if there are both
 abbrev pub of_both : (ℕ → ℕ → Option Rule) → Option ℕ → Option ℕ → Option Rule
 of_both f (Some a) (Some b) = f a b
 of_both f _ _ = None
 
--- behind `tick`: the time
+-- after `tick`: the time
 abbrev pub tick_at : Option ℕ → Option Rule
 tick_at (Some time) = Some (At time Tick)
 tick_at None = None
@@ -53,14 +53,14 @@ tick_at None = None
 abbrev pub tick_rule : List ℕ → Option Rule
 tick_rule text = tick_at (word_number text)
 
--- behind `rx`: the time, and how many bytes, 1 to those of a chunk
+-- after `rx`: the time, and how many bytes, from 1 to the most of a chunk
 abbrev pub rx_at : ℕ → ℕ → Option Rule
 rx_at time bytes = if nat_le 1 bytes && nat_le bytes longest_chunk then Some (At time (Rx bytes)) else None
 
 abbrev pub rx_rule : List ℕ → Option Rule
 rx_rule text = of_both rx_at (word_number (first_word text)) (word_number (behind_word text))
 
--- behind `every`: the period and how many ticks, 1 at least of each
+-- after `every`: the period and the number of ticks, each at least 1
 abbrev pub every_at : ℕ → ℕ → Option Rule
 every_at period count = if nat_le 1 period && nat_le 1 count then Some (Every period count) else None
 
@@ -80,7 +80,7 @@ abbrev pub is_comment : List ℕ → Bool
 is_comment [] = false
 is_comment (b ∷ bs) = b == 35
 
--- what a line says that has such a rule, or none
+-- what a line says that has such a rule or none
 abbrev pub by_rule : Option Rule → Said
 by_rule (Some rule) = Says rule
 by_rule None = Outside

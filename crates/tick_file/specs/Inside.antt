@@ -1,4 +1,4 @@
--- How a schedule is kept: for each rule with events to come, the next one and how many are left.
+-- The state of a schedule: for each rule with future events, the next one and how many are left.
 use Rattle.std.specs.Prelude.{ℕ, zero, suc, ◌+◌, ◌-◌, ◌*◌, ◌^◌, ◌<◌, ◌≤◌, ◌≡◌, List, [], ◌∷◌}
 use Rattle.std.specs.List.{All, flat_map}
 use Rattle.std.specs.BinaryHeap.{IsHeap}
@@ -13,7 +13,7 @@ use Rattle.tick_file.specs.declared.pending.Pending.{Pending}
 use Rattle.tick_file.specs.Lines.{Numbered}
 use Rattle.tick_file.specs.Schedule.{Timed, before}
 
--- so many events: this one, and each further one a period later
+-- the given number of events: this one, and each further one a period later
 abbrev pub coming : ℕ → Timed → ℕ → List Timed
 coming period t zero = []
 coming period t (suc left) = t ∷ coming period (record t { time = t.time + period; number = suc t.number }) left
@@ -22,7 +22,7 @@ coming period t (suc left) = t ∷ coming period (record t { time = t.time + per
 abbrev pub next_of : Pending → Timed
 next_of p = record { time = p.time; line = p.line; number = p.number; event = p.event }
 
--- the events of a rule that are to come
+-- the future events of a rule
 abbrev pub upcoming : Pending → List Timed
 upcoming p = coming p.period (next_of p) p.left
 
@@ -34,7 +34,7 @@ pending_at n (Every period count) = record { time = period; line = n; number = 1
 abbrev pub pending_of : Numbered → Pending
 pending_of r = pending_at r.line r.rule
 
--- a rule as the heap has it, whose greatest is the one that comes first
+-- a rule as an entry of the heap, whose greatest entry comes first
 abbrev pub waiting_of : Numbered → Reverse Pending
 waiting_of r = record { 0 = pending_of r }
 
@@ -53,7 +53,7 @@ pub record IsSound (p : Pending) : Type 0 where
 abbrev pub Agree : Pending → Pending → Type 0
 Agree p q = p.line ≡ q.line → p.event ≡ q.event
 
--- the order of the heap, whose greatest is the rule whose event comes next
+-- the order of the heap: the greatest entry is the rule whose event comes next
 abbrev pub by_next : Reverse Pending → Reverse Pending → Ordering
 by_next p q = ordering_then (nat_cmp q.0.time p.0.time) (ordering_then (nat_cmp q.0.line p.0.line) (nat_cmp q.0.number p.0.number))
 
@@ -63,7 +63,7 @@ pub record IsKept (ps : List (Reverse Pending)) : Type 0 where
   pub sound : All (λ p. IsSound p.0) ps
   pub agree : All (λ p. All (λ q. Agree p.0 q.0) ps) ps
 
--- all events of some rules that are to come
+-- all future events of these rules
 abbrev pub events_in : List (Reverse Pending) → List Timed
 events_in ps = flat_map (λ p. upcoming p.0) ps
 

@@ -10,17 +10,17 @@ use Rattle.tick_file.specs.Grammar.{said}
 use Rattle.tick_file.specs.Lines.{pieces, tick_lines, Numbered, rules_of, first_bad_line}
 use Rattle.tick_file.specs.Schedule.{Timed, before, timetable_of}
 
--- some pieces with an 0x0A between each two
+-- the pieces, with an 0x0A between each two
 abbrev pub joined : List (List ℕ) → List ℕ
 joined [] = []
 joined (piece ∷ []) = piece
 joined (piece ∷ next ∷ more) = piece ++ 10 ∷ joined (next ∷ more)
 
--- a piece has no 0x0A
+-- the piece contains no 0x0A
 abbrev pub HasNoEnd : List ℕ → Type 0
 HasNoEnd piece = list_all (λ b. not (b == 10)) piece ≡ true
 
--- the pieces of a text are the text, and none has an 0x0A
+-- joined, the pieces of a text are the text, and none contains an 0x0A
 abbrev pub PiecesLaw : Type 0
 PiecesLaw = (text : List ℕ) → (joined (pieces text) ≡ text) × All HasNoEnd (pieces text)
 
@@ -28,12 +28,12 @@ PiecesLaw = (text : List ℕ) → (joined (pieces text) ≡ text) × All HasNoEn
 abbrev pub SaysAt : List ℕ → ℕ → Said → Type 0
 SaysAt text n s = (k : ℕ) × (n ≡ 1 + k) × (k < length (tick_lines text)) × (said (slice_index_or (tick_lines text) k []) ≡ s)
 
--- the rules of a text are those that its lines say, and its first bad line is the first that is outside the grammar
+-- the rules of a text are those that its lines say, and its first bad line is the first invalid one
 abbrev pub LinesLaw : Type 0
 LinesLaw = (text : List ℕ) → ((r : Numbered) → Contains (rules_of text) r ↔ SaysAt text r.line (Says r.rule))
     × ((n : ℕ) → (first_bad_line text ≡ Some n) ↔ (SaysAt text n Outside × ((m : ℕ) → m < n → SaysAt text m Outside → ⊥)))
 
--- line n, where it has this rule, asks for an event
+-- line n asks for an event, if it has this rule
 abbrev pub AsksAt : ℕ → Rule → Timed → Type 0
 AsksAt n (At time event) e = e ≡ record { time = time; line = n; number = 1; event = event }
 AsksAt n (Every period count) e = (k : ℕ) × (1 ≤ k) × (k ≤ count) × (e ≡ record { time = k * period; line = n; number = k; event = Tick })
@@ -42,7 +42,7 @@ AsksAt n (Every period count) e = (k : ℕ) × (1 ≤ k) × (k ≤ count) × (e 
 abbrev pub IsAsked : List ℕ → Timed → Type 0
 IsAsked text e = (r : Numbered) × Contains (rules_of text) r × AsksAt r.line r.rule e
 
--- in a timetable each event is before all that follow, and its events are those that the text asks for
+-- in a timetable each event is before all that follow it, and its events are those that the text asks for
 abbrev pub TimetableLaw : Type 0
 TimetableLaw = (text : List ℕ) → AllPairs (λ a b. before a b ≡ true) (timetable_of text).events × ((e : Timed) → Contains (timetable_of text).events e ↔ IsAsked text e)
 

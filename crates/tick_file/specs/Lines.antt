@@ -8,21 +8,21 @@ use Rattle.tick_file.specs.declared.reading.TickErr.{TickErr}
 use Rattle.tick_file.specs.declared.reading.TickErr.TheVariants.{BadLine, NoMemory}
 use Rattle.tick_file.specs.Grammar.{said}
 
--- a byte before the first piece
+-- byte b put before the first piece
 abbrev pub onto_first : ℕ → List (List ℕ) → List (List ℕ)
 onto_first b [] = (b ∷ []) ∷ []
 onto_first b (piece ∷ pieces) = (b ∷ piece) ∷ pieces
 
--- a text in pieces: cut at each 0x0A, which is in none of them
+-- a text in pieces: it is cut at each 0x0A, which belongs to no piece
 abbrev pub pieces : List ℕ → List (List ℕ)
 pieces [] = [] ∷ []
 pieces (b ∷ bs) = if b == 10 then [] ∷ pieces bs else onto_first b (pieces bs)
 
--- a piece without the 0x0D that stands last in it
+-- a piece without an 0x0D at its end
 abbrev pub without_return : List ℕ → List ℕ
 without_return piece = if slice_index piece (length piece - 1) == 13 then take (length piece - 1) piece else piece
 
--- the lines of such pieces: an 0x0D before an 0x0A belongs to the end of the line
+-- the lines of these pieces: an 0x0D before an 0x0A belongs to the end of the line
 abbrev pub lines_of : List (List ℕ) → List (List ℕ)
 lines_of [] = []
 lines_of (last ∷ []) = last ∷ []
@@ -32,7 +32,7 @@ lines_of (piece ∷ next ∷ more) = without_return piece ∷ lines_of (next ∷
 unfoldable pub tick_lines : List ℕ → List (List ℕ)
 tick_lines text = lines_of (pieces text)
 
--- the line at the front of a text, and what stands behind the end of that line
+-- the first line of a text, and what comes after its end
 abbrev pub front_line : List ℕ → List ℕ
 front_line text = if nat_lt (line_length text) (length text) then without_return (take (line_length text) text) else text
 
@@ -50,18 +50,18 @@ rule_at n (Says rule) = record { line = n; rule = rule } ∷ []
 rule_at n Nothing = []
 rule_at n Outside = []
 
--- the rules of lines, of which the first has number n
+-- the rules of lines, the first of which has number n
 abbrev pub rules_from : ℕ → List (List ℕ) → List Numbered
 rules_from n [] = []
 rules_from n (line ∷ lines) = rule_at n (said line) ++ rules_from (n + 1) lines
 
--- line n, where it is outside the grammar, and else the first after it
+-- line n, if it is invalid, otherwise the first invalid one after it
 abbrev pub bad_or : ℕ → Option ℕ → Said → Option ℕ
 bad_or n after Outside = Some n
 bad_or n after Nothing = after
 bad_or n after (Says rule) = after
 
--- the first of lines that is outside the grammar, where the first of all has number n
+-- the first invalid line, if the first line of all has number n
 abbrev pub bad_from : ℕ → List (List ℕ) → Option ℕ
 bad_from n [] = None
 bad_from n (line ∷ lines) = bad_or n (bad_from (n + 1) lines) (said line)
@@ -70,11 +70,11 @@ bad_from n (line ∷ lines) = bad_or n (bad_from (n + 1) lines) (said line)
 unfoldable pub rules_of : List ℕ → List Numbered
 rules_of text = rules_from 1 (tick_lines text)
 
--- the first line of a text that is outside the grammar, counted from 1
+-- the first invalid line of a text, counted from 1
 unfoldable pub first_bad_line : List ℕ → Option ℕ
 first_bad_line text = bad_from 1 (tick_lines text)
 
--- what an error tells of the first bad line: its number, and for want of memory nothing
+-- what an error says of the first bad line: its number, or nothing if memory ran out
 abbrev pub Tells : Option ℕ → TickErr → Type 0
 Tells bad (BadLine n) = bad ≡ Some n
 Tells bad NoMemory = Unit {0}

@@ -10,19 +10,19 @@ use Rattle.tick_file.specs.declared.event.Rule.{Rule}
 use Rattle.tick_file.specs.declared.event.Rule.TheVariants.{At, Every}
 use Rattle.tick_file.specs.Lines.{Numbered, rules_of}
 
--- an event: when it comes, the line that asks for it, and which of that line's it is, from 1
+-- an event: its time, the line that asks for it, and its number among that line's events, counted from 1
 pub record Timed : Type 0 where
   pub time : ℕ
   pub line : ℕ
   pub number : ℕ
   pub event : Event
 
--- the ticks of line n from number k on, so many: the k-th comes at k periods
+-- `count` ticks of line n from number k on: tick number k comes at k periods
 abbrev pub ticks_from : ℕ → ℕ → ℕ → ℕ → List Timed
 ticks_from n period k zero = []
 ticks_from n period k (suc count) = record { time = k * period; line = n; number = k; event = Tick } ∷ ticks_from n period (suc k) count
 
--- the events of line n, where it has this rule
+-- the events of line n, if it has this rule
 abbrev pub events_at : ℕ → Rule → List Timed
 events_at n (At time event) = record { time = time; line = n; number = 1; event = event } ∷ []
 events_at n (Every period count) = ticks_from n period 1 count
@@ -30,7 +30,7 @@ events_at n (Every period count) = ticks_from n period 1 count
 abbrev pub events_of : Numbered → List Timed
 events_of r = events_at r.line r.rule
 
--- what events are ordered by
+-- the key by which events are ordered
 abbrev pub place_of : Timed → List ℕ
 place_of t = t.time ∷ t.line ∷ t.number ∷ []
 
@@ -38,7 +38,7 @@ place_of t = t.time ∷ t.line ∷ t.number ∷ []
 unfoldable pub before : Timed → Timed → Bool
 before a b = is_lt (slice_cmp nat_cmp (place_of a) (place_of b))
 
--- all events of some rules, in order
+-- all events of these rules, in order
 abbrev pub in_order : List Numbered → List Timed
 in_order rules = sorted before (flat_map events_of rules)
 
@@ -47,20 +47,20 @@ abbrev pub is_tick : Event → Bool
 is_tick Tick = true
 is_tick (Rx bytes) = false
 
--- a rule for ticks
+-- a rule that asks for ticks
 abbrev pub asks_ticks : Rule → Bool
 asks_ticks (At time event) = is_tick event
 asks_ticks (Every period count) = true
 
--- what a contract sees of a schedule: the events to come, and whether input comes on demand
+-- what a contract sees of a schedule: the future events, and whether input comes on demand
 pub record Timetable : Type 0 where
   pub events : List Timed
   pub on_demand : Bool
 
--- when an event comes, with the event
+-- an event with its time
 abbrev pub at : Timed → ℕ × Event
 at t = (t.time, t.event)
 
--- what a text asks for; input comes on demand where no line is one of `rx`
+-- the timetable that a text asks for; input comes on demand if no line is an `rx` line
 unfoldable pub timetable_of : List ℕ → Timetable
 timetable_of text = record { events = in_order (rules_of text); on_demand = list_all (λ r. asks_ticks r.rule) (rules_of text) }

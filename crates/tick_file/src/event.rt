@@ -1,20 +1,20 @@
 //! What the lines of a tick file ask for.
 
-/// What comes at one time.
+/// What occurs at one time.
 #[derive(Clone, Copy, Debug, PartialEq, Eq)]
 pub enum Event {
     /// A tick interrupt.
     Tick,
-    /// So many further bytes arrive at the console.
+    /// This many further bytes arrive at the console.
     Rx(u32),
 }
 
-/// The rule of one line. Times and periods are of board time.
+/// The rule of one line. Times and periods are in units of board time.
 #[derive(Clone, Copy)]
 pub enum Rule {
     /// One event, at this time.
     At(u64, Event),
-    /// Ticks a period apart, the first one period from 0: the period, and how many there are.
+    /// Ticks one period apart, the first after one period: the period, and the number of ticks.
     Every(u64, u64),
 }
 
@@ -25,6 +25,6 @@ pub enum Said {
     Nothing,
     /// The line has this rule.
     Says(Rule),
-    /// The line is outside the grammar.
+    /// The line is invalid.
     Outside,
 }

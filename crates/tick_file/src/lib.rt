@@ -1,5 +1,5 @@
-//! The tick file: a text that says when tick interrupts come and when console bytes arrive. `read_ticks`
-//! reads it, and a `Schedule` tells its events, one after another.
+//! The tick file: a text that says when tick interrupts occur and when console bytes arrive.
+//! `read_ticks` reads it, and a `Schedule` gives its events, one after another.
 #![tactic(auto)]
 
 ghost use Rattle.tick_file.specs.Forms.{GrammarLaw};
@@ -16,26 +16,26 @@ pub use event::{Event, Rule, Said};
 pub use reading::{TickErr, read_ticks};
 pub use schedule::Schedule;
 
-/// The law of the grammar: a line says a rule exactly where it is a word, gaps and numbers as that rule is
-/// written, and it says nothing exactly where it is blank or a comment.
+/// The law of the grammar: a line says a rule exactly if it is the words, gaps and numbers of that
+/// rule. It says nothing exactly if it is blank or a comment.
 pub fn grammar_law()
     ensures { GrammarLaw }
 {}
 
-/// The law of the pieces that a text's lines are made of: with an 0x0A between each two they are the text,
-/// and none has an 0x0A.
+/// The law of the pieces from which a text's lines are made: joined with an 0x0A between each two
+/// they are the text, and none contains an 0x0A.
 pub fn pieces_law()
     ensures { PiecesLaw }
 {}
 
-/// The law of a text's lines: its rules are those that its lines say, each with the number of its line from
-/// 1 on, and its first bad line is the first one that is outside the grammar.
+/// The law of a text's lines: its rules are those that its lines say, each with the number of its
+/// line, counted from 1. Its first bad line is the first invalid one.
 pub fn lines_law()
     ensures { LinesLaw }
 {}
 
-/// The law of a text's timetable: each event is before all that follow, by time, line and number in the
-/// line, and its events are exactly those that a rule of the text asks for.
+/// The law of a text's timetable: each event is before all that follow it, by time, line and number
+/// in the line. Its events are exactly those that the rules of the text ask for.
 pub fn timetable_law()
     ensures { TimetableLaw }
 {}

@@ -16,14 +16,14 @@ const BYTES_MOST: u64 = 4_096;
 // The most digits of a number.
 const DIGITS: usize = 10;
 
-// Whether a byte parts words: a blank or a tab.
+// Whether a byte separates words: a blank or a tab.
 fn is_blank(byte: u8) -> bool
     ensures { result ≡ is_blank_lem byte }
 {
     byte == b' ' || byte == b'\t'
 }
 
-// How many bytes the word at the front has.
+// The length in bytes of the first word.
 fn word_len(text: &[u8]) -> usize
     ensures exact { result ≡ word_length text.now }
     ensures inside { result ≤ length text.now }
@@ -31,7 +31,7 @@ fn word_len(text: &[u8]) -> usize
     text.iter().take_while(|byte| !is_blank(**byte)).count()
 }
 
-// How many blanks stand at the front.
+// How many blanks and tabs the text begins with.
 fn gap_len(text: &[u8]) -> usize
     ensures exact { result ≡ gap_length text.now }
     ensures inside { result ≤ length text.now }
@@ -39,14 +39,14 @@ fn gap_len(text: &[u8]) -> usize
     text.iter().take_while(|byte| is_blank(**byte)).count()
 }
 
-// The word at the front.
+// The first word.
 fn first_word(text: &[u8]) -> &[u8]
     ensures { result.now ≡ first_word_lem text.now }
 {
     &text[..word_len(text)]
 }
 
-// What stands behind the word at the front and the blanks after it.
+// What comes after the first word and the blanks after it.
 fn behind_word(text: &[u8]) -> &[u8]
     ensures { result.now ≡ behind_word_lem text.now }
 {
@@ -54,7 +54,7 @@ fn behind_word(text: &[u8]) -> &[u8]
     behind(rest, gap_len(rest))
 }
 
-// The number that a text writes.
+// The number that a text spells.
 fn number(text: &[u8]) -> Option<u64>
     ensures { result ≡ word_number text.now }
 {
@@ -64,7 +64,7 @@ fn number(text: &[u8]) -> Option<u64>
     decimal(text, MOST)
 }
 
-// The rule that stands behind `tick`.
+// The rule of what comes after `tick`.
 fn tick_rule(text: &[u8]) -> Option<Rule>
     ensures { result ≡ tick_rule_lem text.now }
 {
@@ -72,7 +72,7 @@ fn tick_rule(text: &[u8]) -> Option<Rule>
     Some(Rule::At(time, Event::Tick))
 }
 
-// The rule that stands behind `rx`.
+// The rule of what comes after `rx`.
 fn rx_rule(text: &[u8]) -> Option<Rule>
     ensures { result ≡ rx_rule_lem text.now }
 {
@@ -84,7 +84,7 @@ fn rx_rule(text: &[u8]) -> Option<Rule>
     Some(Rule::At(time, Event::Rx(bytes as u32)))
 }
 
-// The rule that stands behind `every`.
+// The rule of what comes after `every`.
 fn every_rule(text: &[u8]) -> Option<Rule>
     ensures { result ≡ every_rule_lem text.now }
 {
@@ -114,7 +114,7 @@ fn rule_of(line: &[u8]) -> Option<Rule>
     None
 }
 
-// Whether a line has no other bytes than blanks and tabs.
+// Whether a line consists of blanks and tabs.
 fn is_empty(line: &[u8]) -> bool
     ensures { result ≡ list_all is_blank_lem line.now }
 {

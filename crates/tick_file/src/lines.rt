@@ -5,7 +5,7 @@ ghost use Rattle.tick_file.specs.Lines.{without_return as without_return_lem, fr
 
 use wind_base::{behind, line_len};
 
-// A piece without the 0x0D that stands last in it.
+// A piece without an 0x0D at its end.
 fn without_return(piece: &[u8]) -> &[u8]
     ensures { result.now ≡ without_return_lem piece.now }
 {
@@ -15,7 +15,7 @@ fn without_return(piece: &[u8]) -> &[u8]
     }
 }
 
-/// The line at the front of a text, without its end.
+/// The first line of a text, without its end.
 pub(crate) fn front_line(text: &[u8]) -> &[u8]
     ensures { result.now ≡ front_line_lem text.now }
 {
@@ -27,7 +27,7 @@ pub(crate) fn front_line(text: &[u8]) -> &[u8]
     }
 }
 
-/// What stands behind the first line and its end; nothing, where no line stands there.
+/// What comes after the first line and its end; empty, if no line comes after it.
 pub(crate) fn behind_line(text: &[u8]) -> &[u8]
     requires { 0 < length text.now }
     ensures value { result.now ≡ behind_line_lem text.now }

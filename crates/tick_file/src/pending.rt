@@ -1,27 +1,27 @@
-//! The rules of a tick file that have events to come.
+//! The rules of a tick file that have future events.
 
 ghost use Rattle.std.specs.Prelude.{◌≡◌, ◌<◌};
 ghost use Rattle.tick_file.specs.Inside.{pending_at, moved_on as moved_on_lem, IsSound};
 
 use crate::event::{Event, Rule};
 
-/// A rule with events to come. It is ordered by its next event.
+/// A rule with future events. Rules are ordered by their next events.
 #[derive(Clone, Copy)]
 #[derive_where(PartialEq, Eq, PartialOrd, Ord)]
 pub(crate) struct Pending {
-    /// When the next event comes.
+    /// The board time of the next event.
     pub time: u64,
     /// The number of the line.
     pub line: u64,
-    /// Which of the line's events is the next one, from 1.
+    /// Which of the line's events is the next one, counted from 1.
     pub number: u64,
     /// The next event.
     #[derive_where(skip(EqHashOrd))]
     pub event: Event,
-    /// How many events are to come.
+    /// How many events are left, with the next one.
     #[derive_where(skip(EqHashOrd))]
     pub left: u64,
-    /// How far apart they are.
+    /// The board time between two events.
     #[derive_where(skip(EqHashOrd))]
     pub period: u64,
 }
@@ -50,7 +50,7 @@ pub(crate) fn at_start(line: u64, rule: Rule) -> Pending
     }
 }
 
-/// The rule after its next event, where it is not the last one.
+/// The rule after its next event, if that isn't the last one.
 pub(crate) fn moved_on(rule: Pending) -> Pending
     requires sound { IsSound rule }
     requires more { 1 < rule.left }

@@ -1,4 +1,4 @@
-//! Reading a tick file.
+//! Reads a tick file.
 
 ghost use Rattle.std.specs.Prelude.{◌≡◌, ℕ, ◌++◌, None, Option, map, OnOk, IfOk, IfErr};
 ghost use Rattle.std.specs.List.{list_all};
@@ -19,7 +19,7 @@ use wind_base::NoMemory;
 /// Why a tick file was not read.
 #[derive(Clone, Copy, Debug, PartialEq, Eq, Error)]
 pub enum TickErr {
-    /// The number of the first line that is outside the grammar, counted from 1.
+    /// The number of the first invalid line, counted from 1.
     #[error("line {0} is not understood")]
     BadLine(u64),
     /// Host memory ran out.
@@ -27,7 +27,7 @@ pub enum TickErr {
     NoMemory,
 }
 
-// Keeps the rule of a line, if it has one.
+// Adds the rule of a line, if it has one.
 fn keep(kept: &mut Vec<Reverse<Pending>>, line: u64, said: Said) -> Result<(), TickErr>
     ensures rule { OnOk result (kept.new.items ≡ kept.old.items ++ map waiting_of (rule_at line said)) }
     ensures good { OnOk result ((after : Option ℕ) → bad_or line after said ≡ after) }
@@ -78,8 +78,8 @@ fn all_ticks(rules: &[Reverse<Pending>]) -> bool
     rules.iter().all(|rule| is_tick(rule.0.event))
 }
 
-/// Reads a tick file: the schedule of all events that its lines ask for. Only this call takes memory, so
-/// much for each line, however many events the line asks for.
+/// Reads a tick file, and makes the schedule of all events that its lines ask for. Only this call
+/// allocates memory: a fixed amount for each line, however many events the line asks for.
 pub fn read_ticks(alloc: Global, text: &[u8]) -> Result<Schedule, TickErr>
     ensures value { IfOk result (λ schedule. schedule ≡ timetable_of text.now) }
     ensures good { OnOk result (first_bad_line text.now ≡ None) }

@@ -15,11 +15,11 @@ use std::collections::BinaryHeap;
 use std::collections::binary_heap::PeekMut;
 use std::marker::Model;
 
-/// The events that a tick file asks for and that are to come: by time, then by line, then by their order
-/// in the line.
+/// The future events that a tick file asks for: by time, then by line, then by their order in the
+/// line.
 #[derive(Drop)]
 pub struct Schedule {
-    // the rules with events to come
+    // the rules with future events
     heap: BinaryHeap<Reverse<Pending>>,
     on_demand: bool,
 }
@@ -36,7 +36,7 @@ impl Model for Schedule {
     ghost invariant = { λ s. IsKept (heap_items s.heap) };
 }
 
-// Takes the next event off. Nothing changes where there is none.
+// Removes the next event. If there is none, nothing changes.
 fn drop_next(heap: &mut BinaryHeap<Reverse<Pending>>)
     requires { IsKept (heap_items heap.old) }
     ensures kept { IsKept (heap_items heap.new) }
@@ -54,7 +54,7 @@ fn drop_next(heap: &mut BinaryHeap<Reverse<Pending>>)
 }
 
 impl Schedule {
-    // The events of these rules.
+    // Makes the schedule of these rules.
     pub(crate) fn of_rules(rules: Vec<Reverse<Pending>>, on_demand: bool) -> Schedule
         requires sound { All (λ p. IsSound p.0) rules.items }
         requires agree { All (λ p. All (λ q. Agree p.0 q.0) rules.items) rules.items }
@@ -66,8 +66,8 @@ impl Schedule {
         }
     }
 
-    /// When the next event comes, in board time, and the event, which stays the next one. None where no
-    /// event is to come.
+    /// The board time of the next event, and the event; it stays the next one. `None` if there are
+    /// no more events.
     pub fn next(&self) -> Option<(u64, Event)>
         ensures { result ≡ option_map at (first self.now.events) }
     {
@@ -77,14 +77,14 @@ impl Schedule {
         }
     }
 
-    /// Takes the next event off. Nothing changes where there is none.
+    /// Removes the next event. If there is none, nothing changes.
     pub fn advance(&mut self)
         ensures { self.new ≡ record self.old { events = drop 1 self.old.events } }
     {
         drop_next(&mut self.heap);
     }
 
-    /// Whether the file has no line `rx`.
+    /// Whether input comes on demand, because the file has no line `rx`.
     pub fn on_demand(&self) -> bool
         ensures { result ≡ self.now.on_demand }
     {

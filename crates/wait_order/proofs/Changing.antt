@@ -1,4 +1,4 @@
--- The whole, as a waiter comes and as one goes.
+-- The whole line, as a waiter is added and one removed.
 use Rattle.std.proofs.Common.{◌≡◌, ℕ, ◌+◌, ◌<◌, ◌≤◌, true, false, not, cond, eqb, List, [], ◌∷◌, ◌++◌, map, set, get_or, length, Option, None, Some, refl, sym, ap, ◌∙◌, subst, arith}
 use Rattle.std.specs.Prelude.{IsSome}
 use Rattle.std.specs.Option.{option_map}
@@ -29,7 +29,7 @@ all_both : {X : Type 0} (P Q R : X → Type 0) → ((x : X) → P x → Q x → 
 all_both P Q R f [] ps qs = tt
 all_both P Q R f (x ∷ xs) ps qs = (f x ps.0 qs.0, all_both P Q R f xs ps.1 qs.1)
 
--- each entry is the one of its place
+-- each entry is found by its place
 own_entries : (fs : List Front) → Rises fs → AllByRecursion (λ f. front_of fs f.place ≡ Some f.first) fs
 own_entries [] up = tt
 own_entries (f ∷ fs) up = (
@@ -37,7 +37,7 @@ own_entries (f ∷ fs) up = (
   all_both (λ g. place_before f.place g.place ≡ true) (λ g. front_of fs g.place ≡ Some g.first) (λ g. front_of (f ∷ fs) g.place ≡ Some g.first) (λ g before e. passed f fs g.place (before_apart f.place g.place before) ∙ e) fs up.0 (own_entries fs up.1),
 )
 
--- those of other places, where all of one are left out
+-- the waiters of another place, after all of one place are left out
 run_apart : (p q : Place) (ws : List Waiter) → same_place p q ≡ false → run (filter (λ w. not (stands_at p w)) ws) q ≡ run ws q
 run_apart p q [] e = refl
 run_apart p q (w ∷ ws) e =
@@ -54,7 +54,7 @@ length_apart p (w ∷ ws) =
       | false ↦ omega (arith, length_apart p ws)
     ]
 
--- no more places are in use than tasks wait
+-- at most as many places are in use as tasks wait
 few_places : (fs : List Front) (ws : List Waiter) → Rises fs → AllByRecursion (λ f. 0 < length (run ws f.place)) fs → length fs ≤ length ws
 few_places [] ws up used = omega arith
 few_places (f ∷ fs) ws up used =
@@ -71,8 +71,8 @@ few_fronts ws fs are =
     some [] n e = absurd (cc)
     some (v ∷ vs) n e = omega arith
 
--- ---- where a walk begins
--- a place that is not before another is not before the first such entry either
+-- ---- the beginning of a walk
+-- a place in use that isn't before p isn't before the first entry of such a place
 from_least : (fs : List Front) (p q : Place) (f : Front) → Rises fs → find (λ g. not (place_before g.place p)) fs ≡ Some f → IsSome (front_of fs q) → place_before q p ≡ false → place_before q f.place ≡ false
 from_least [] p q f up e some later = absurd (cc)
 from_least (g ∷ gs) p q f up e some later =
@@ -102,7 +102,7 @@ from_least (g ∷ gs) p q f up e some later =
           | false ↦ λ c t. behind hs all.1 t
         ] refl s
 
--- where no entry is of such a place, all places in use are before it
+-- if no entry is of such a place, all places in use are before it
 all_before : (fs : List Front) (p q : Place) → find (λ g. not (place_before g.place p)) fs ≡ None → IsSome (front_of fs q) → place_before q p ≡ true
 all_before [] p q e some = absurd (cc)
 all_before (g ∷ gs) p q e some =
@@ -115,7 +115,7 @@ all_before (g ∷ gs) p q e some =
       | false ↦ λ b r. absurd (cc)
     ] refl e
 
--- what a look-up finds is kept as the first of its place
+-- the found entry has the first waiter of its place
 entry_found : (fs : List Front) (p : Place) (f : Front) → Rises fs → find (λ g. not (place_before g.place p)) fs ≡ Some f → front_of fs f.place ≡ Some f.first
 entry_found [] p f up e = absurd (cc)
 entry_found (g ∷ gs) p f up e =
@@ -157,7 +157,7 @@ ahead_of (x ∷ xs) z ys o = (middle xs o.0, ahead_of xs z ys o.1)
     middle [] all = all.0
     middle (u ∷ us) all = middle us all.1
 
--- all waiters ahead of the first of a place, or of the next place in use, precede a waiter of that place
+-- all waiters before the first of a place, or of the next place in use, precede each waiter of that place
 pub start_behind : (ws : List Waiter) (fs : List Front) (w : Waiter) → ws ≡ sorted precedes ws → AreFronts ws fs → IsBehind ws (first_from fs w.place) w
 start_behind ws fs w order are =
     elim (find (λ g. not (place_before g.place w.place)) fs) as (λ o. find (λ g. not (place_before g.place w.place)) fs ≡ o → IsBehind ws (option_map first_id o) w) [
@@ -195,7 +195,7 @@ start_behind ws fs w order are =
           }
     ] refl
 
--- ---- a waiter comes
+-- ---- a waiter is added
 pub record Comes (t : Chains Waiter) (next : Option ℕ) (w : Waiter) : Type 0 where
   pub waiters : waiters_in (with_cell t 0 next (w.who, w)).chains ≡ insert_sorted precedes w (waiters_in t.chains)
   pub own : IsOwn (with_cell t 0 next (w.who, w)).chains
@@ -215,7 +215,7 @@ comes t next w own order a place =
     let o = owned (with_cell t 0 next (w.who, w)).chains (insert_sorted precedes w ws) made in
     record { waiters = o.0; own = o.1; order = o.0 ∙ more_in_order ws w order ∙ ap (sorted precedes) (sym o.0) }
 
--- who comes next stands in the list
+-- the next waiter is in the list
 pub place_there : (cs : List (List (ℕ × Waiter))) (next : Option ℕ) (w : Waiter) → IsOwn cs → Apart (chain_at cs 0) → IsPlace (waiters_in cs) next w → (id : ℕ) → next ≡ Some id → IsSome (value_in (chain_at cs 0) id)
 place_there cs next w own a place id e =
     let b = place.behind in
@@ -227,8 +227,8 @@ place_there cs next w own a place id e =
         subst (λ k. IsSome (value_in (map cell_of (place.behind.front ++ y ∷ ys)) k)) (same_Some y.who id q)
         (subst IsSome (sym (value_cell (place.behind.front ++ y ∷ ys) y.who ∙ found_behind place.behind.front y ys (none_ahead place.behind.front y ys b))) refl)
 
--- ---- a waiter goes
--- a waiter in the list, with those before it and behind it
+-- ---- a waiter is removed
+-- a waiter in the list, with those before and after it
 record Spot (ws : List Waiter) (who : ℕ) (w : Waiter) : Type 0 where
   front : List Waiter
   back : List Waiter
@@ -297,7 +297,7 @@ goes t fs who next w k a value follows =
           | false ↦ λ q. ap (λ zs. x ∷ zs) (without_here xs v ys q gone)
         ] none
 
--- without one who is not there the list is as it was
+-- removing a task that doesn't wait changes nothing
 pub none_goes : (t : Chains Waiter) (who : ℕ) → IsOwn t.chains → value_of t.chains who ≡ None → without_cell t who ≡ t
 none_goes t who own none =
     let ws = waiters_in t.chains in

@@ -1,4 +1,4 @@
--- The first of each place, as waiters come and go.
+-- The first waiter of each place, as waiters are added and removed.
 use Rattle.std.proofs.Common.{◌≡◌, ℕ, true, false, cond, eqb, List, [], ◌∷◌, ◌++◌, map, Option, None, Some, refl, sym, ap, ◌∙◌, subst}
 use Rattle.std.specs.Prelude.{IsSome}
 use Rattle.std.specs.Option.{option_map}
@@ -20,8 +20,8 @@ use Rattle.wait_order.proofs.Places.{one_place, apart_places}
 use Rattle.wait_order.proofs.Standing.{list_order, earlier_place, run_more, own_chain, own_value, owned}
 use Rattle.wait_order.proofs.Walking.{joined_cells, found_behind, none_ahead}
 
--- ---- who is first at a place
--- the first of a place, with those before it, of whom none stands there
+-- ---- which waiter is first at a place
+-- the first waiter of a place, with those before it, none of which waits there
 pub record Foremost (ws : List Waiter) (p : Place) (w : Waiter) : Type 0 where
   pub front : List Waiter
   pub back : List Waiter
@@ -46,7 +46,7 @@ pub record IsFoundFirst (cs : List (List (ℕ × Waiter))) (p : Place) (id : ℕ
   pub leads : first (run (waiters_in cs) p) ≡ Some waiter
   pub found : value_of cs id ≡ Some waiter
 
--- who is kept as the first of a place is in the list
+-- the first waiter in the index is in the list
 pub first_found : (cs : List (List (ℕ × Waiter))) (fs : List Front) (p : Place) (id : ℕ) → IsKept cs fs → Apart (chain_at cs 0) → front_of fs p ≡ Some id → IsFoundFirst cs p id
 first_found cs fs p id k a e =
     let ws = waiters_in cs in
@@ -59,7 +59,7 @@ first_found cs fs p id k a e =
       found = own_value cs k.own id ∙ (λ i. waiter_of (f.whole i) (sym n.2 i)) ∙ found_behind f.front n.0 f.back (none_ahead f.front n.0 f.back apart);
     }
 
--- ---- a waiter comes
+-- ---- a waiter is added
 stays_first : (vs : List Waiter) (w : Waiter) → is_behind (first vs) w ≡ true → first (insert_sorted precedes w vs) ≡ first vs
 stays_first [] w e = absurd (true≢false (sym e))
 stays_first (v ∷ vs) w e = ap (λ b. first (cond b (v ∷ insert_sorted precedes w vs) (w ∷ v ∷ vs))) e
@@ -92,13 +92,13 @@ firsts_change ws fs gs w order are e put = record {
       ] refl);
 }
 
--- ---- a waiter goes
--- those of another place are as they were
+-- ---- a waiter is removed
+-- the waiters of another place stay
 run_other : (xs : List Waiter) (w : Waiter) (ys : List Waiter) (p : Place) → stands_at p w ≡ false → run (xs ++ w ∷ ys) p ≡ run (xs ++ ys) p
 run_other [] w ys p e = ap (λ b. cond b (w ∷ run ys p) (run ys p)) e
 run_other (x ∷ xs) w ys p e = ap (λ zs. cond (stands_at p x) (x ∷ zs) zs) (run_other xs w ys p e)
 
--- where another is first, it stays the first
+-- if another waiter is first, it stays first
 first_other : (xs : List Waiter) (w : Waiter) (ys : List Waiter) (p : Place) → (first_who (run (xs ++ w ∷ ys) p) ≡ Some w.who → ⊥) → first_who (run (xs ++ w ∷ ys) p) ≡ first_who (run (xs ++ ys) p)
 first_other [] w ys p other =
     elim (stands_at p w) as (λ b. (first_who (cond b (w ∷ run ys p) (run ys p)) ≡ Some w.who → ⊥) → first_who (cond b (w ∷ run ys p) (run ys p)) ≡ first_who (run ys p)) [ true ↦ λ o. absurd (o refl) | false ↦ λ o. refl ] other
@@ -108,7 +108,7 @@ first_other (x ∷ xs) w ys p other =
       | false ↦ λ o. first_other xs w ys p o
     ] other
 
--- where it was the first, those behind it follow
+-- if it was the first, those after it follow
 first_behind : (xs : List Waiter) (w : Waiter) (ys : List Waiter) (p : Place) → waiter_of xs w.who ≡ None → first_who (run (xs ++ w ∷ ys) p) ≡ Some w.who → first_who (run (xs ++ ys) p) ≡ first_who (run ys p)
 first_behind [] w ys p none e = refl
 first_behind (x ∷ xs) w ys p none e =
@@ -129,7 +129,7 @@ pub not_earlier : (v w : Waiter) → precedes v w ≡ false → place_before v.p
 not_earlier v w e =
     elim (place_before v.place w.place) as (λ b. place_before v.place w.place ≡ b → place_before v.place w.place ≡ false) [ true ↦ λ q. absurd (true≢false (sym (earlier_place v w q) ∙ e)) | false ↦ λ q. q ] refl
 
--- behind one of another place none stands at the place of a waiter before it
+-- after a waiter of another place, none is at the place of a waiter before it
 none_later : (w y : Waiter) (zs : List Waiter) → precedes y w ≡ false → same_place y.place w.place ≡ false → AllByRecursion (λ z. precedes z y ≡ false) zs → run zs w.place ≡ []
 none_later w y [] e other all = refl
 none_later w y (z ∷ zs) e other all =
@@ -157,7 +157,7 @@ module _ (cs : List (List (ℕ × Waiter))) (fs : List Front) (w : Waiter) (next
   abbrev left : List Waiter
   left = g.front ++ g.back
 
-  -- the first of the waiter's place, where it was the first itself
+  -- the new first waiter of its place, if it was the first itself
   follows : front_of fs w.place ≡ Some w.who → first_who (run left w.place) ≡ next_there (waiters_in cs) next w.place
   follows e =
       first_behind g.front w g.back w.place (none_ahead g.front w g.back g.apart) (sym (g.ahead.firsts w.place) ∙ e)

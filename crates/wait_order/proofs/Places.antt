@@ -1,4 +1,4 @@
--- The order of places, and the entries of places as they come and go.
+-- The order of places, and the entries of places as they are added and removed.
 use Rattle.std.proofs.Common.{◌≡◌, ℕ, zero, suc, ◌<◌, ◌≤◌, Bool, true, false, not, cond, List, [], ◌∷◌, get_or, set, length, None, Some, refl, sym, ap, ◌∙◌, subst, arith}
 use Rattle.std.specs.Option.{option_map}
 use Rattle.std.specs.List.{AllByRecursion, find, insert, remove}
@@ -25,7 +25,7 @@ one_place p q e =
 pub same_itself : (p : Place) → same_place p p ≡ true
 same_itself p = rw (eq-eqb p.side p.side refl, eq-eqb p.id p.id refl) refl
 
--- of two places that are not one, one comes before the other
+-- of two different places, one comes before the other
 pub apart_places : (p q : Place) → same_place p q ≡ false → place_before p q ≡ false → place_before q p ≡ true
 apart_places p q e f = grind (arith, e, f)
 
@@ -62,8 +62,8 @@ all_remove P [] (suc k) ps = tt
 all_remove P (y ∷ ys) zero ps = ps.1
 all_remove P (y ∷ ys) (suc k) ps = (ps.0, all_remove P ys k ps.1)
 
--- ---- where a place stands
--- so many entries are of places before this one, and the others are not
+-- ---- the index of a place
+-- the first entries, as many as given, are of places before this one, and the others are not
 abbrev Ranked : List Front → Place → ℕ → Type 0
 Ranked fs p zero = AllByRecursion (λ f. place_before f.place p ≡ false) fs
 Ranked [] p (suc i) = ⊥
@@ -76,7 +76,7 @@ ranked [] p (suc i) h at = absurd (omega (arith, h))
 ranked (f ∷ fs) p (suc i) h at =
     (at.0 0 f (omega arith) (omega arith), ranked fs p i (omega (arith, h)) (λ k d lo hi. at.0 (suc k) d (omega arith) (omega (arith, hi)), λ k d lo hi. at.1 (suc k) d (omega (arith, lo)) (omega (arith, hi))))
 
--- the places before one stand ahead of the others
+-- the places before one come first
 pub parted : (fs : List Front) (p : Place) → Rises fs → IsPartitionedBy (λ f. place_before f.place p) fs
 parted [] p up i j d hij hj e = absurd (omega (arith, hj))
 parted (f ∷ fs) p up zero zero d hij hj e = e
@@ -109,7 +109,7 @@ goes_within fs p zero at = omega arith
 goes_within [] p (suc i) at = absurd at
 goes_within (f ∷ fs) p (suc i) at = omega (arith, goes_within fs p i at.1)
 
--- ---- what a look-up finds
+-- ---- the result of a look-up
 -- an entry of another place is passed
 pub passed : (f : Front) (fs : List Front) (p : Place) → same_place f.place p ≡ false → front_of (f ∷ fs) p ≡ front_of fs p
 passed f fs p e = ap (λ b. option_map first_id (cond b (Some f) (find (λ g. same_place g.place p) fs))) e
@@ -135,7 +135,7 @@ from_end [] p i at h = refl
 from_end (f ∷ fs) p zero at h = absurd (omega (arith, h))
 from_end (f ∷ fs) p (suc i) at h = ap (λ b. option_map first_id (cond (not b) (Some f) (find (λ g. not (place_before g.place p)) fs))) at.0 ∙ from_end fs p i at.1 (omega (arith, h))
 
--- ---- a place has another first
+-- ---- a place gets another first waiter
 abbrev entry : Place → ℕ → Front
 entry p n = record { place = p; first = n }
 

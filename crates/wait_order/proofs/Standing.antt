@@ -1,4 +1,4 @@
--- Waiters in one list by place and key, and the same waiters by rising id.
+-- The waiters in one list by place and key, and the same waiters by rising id.
 use Rattle.std.proofs.Common.{◌≡◌, ℕ, Bool, true, false, not, cond, eqb, ltb, List, [], ◌∷◌, ◌++◌, map, get_or, length, Option, None, Some, Less, Equal, Greater, is_some, refl, sym, ap, ◌∙◌, subst, arith}
 use Rattle.std.specs.Option.{option_map}
 use Rattle.std.specs.List.{AllByRecursion, filter}
@@ -40,12 +40,12 @@ same_place_keys : (p : Place) (xs ys : List ℕ) → is_lt (slice_cmp nat_cmp (p
 same_place_keys p xs ys =
     ap (λ o. is_lt (ordering_then o (ordering_then (nat_cmp p.id p.id) (slice_cmp nat_cmp xs ys)))) (own_number p.side) ∙ ap (λ o. is_lt (ordering_then o (slice_cmp nat_cmp xs ys))) (own_number p.id)
 
--- two waiters of one place stand by key
+-- two waiters of one place are in order of their keys
 pub one_run : (p : Place) (v w : Waiter) → stands_at p v ≡ true → stands_at p w ≡ true → precedes v w ≡ stands_before v w
 one_run p v w e f =
     (λ i. is_lt (slice_cmp nat_cmp (place_key (one_place v.place p e i) ++ key v) (place_key (one_place w.place p f i) ++ key w))) ∙ same_place_keys p (key v) (key w)
 
--- two lists of numbers of which none is less are one
+-- two lists of numbers are equal if neither is less
 neither_less : (xs ys : List ℕ) → is_lt (slice_cmp nat_cmp xs ys) ≡ false → is_lt (slice_cmp nat_cmp ys xs) ≡ false → xs ≡ ys
 neither_less xs ys e f =
     elim (slice_cmp nat_cmp ys xs) as (λ o. slice_cmp nat_cmp ys xs ≡ o → xs ≡ ys) [
@@ -54,14 +54,14 @@ neither_less xs ys e f =
       | Greater ↦ λ q. absurd (true≢false (sym (ap is_lt (nat_list_cmp_total.antisymm xs ys ∙ ap ordering_reverse q)) ∙ e))
     ] refl
 
--- two waiters of which none precedes the other are one
+-- two waiters are equal if neither precedes the other
 pub one_waiter : (v w : Waiter) → precedes v w ≡ false → precedes w v ≡ false → v ≡ w
 one_waiter v w e f =
     let same = neither_less (place_key v.place ++ key v) (place_key w.place ++ key w) e f in
     let at : (k : ℕ) → get_or (place_key v.place ++ key v) k 0 ≡ get_or (place_key w.place ++ key w) k 0 = λ k. ap (λ ns. get_or ns k 0) same in
     λ i. record { place = record { side = at 0 i; id = at 1 i }; who = at 4 i; pri = at 2 i; since = at 3 i }
 
--- ---- lists in order
+-- ---- sorted lists
 module _ {X : Type 0} (lt : X → X → Bool) where
   pub sorted_stays : (xs : List X) → InOrder lt xs → sorted lt xs ≡ xs
   sorted_stays [] o = refl
@@ -72,7 +72,7 @@ module _ {X : Type 0} (lt : X → X → Bool) where
   all_sorted P [] ps = tt
   all_sorted P (x ∷ xs) ps = all_insert lt P x (sorted lt xs) ps.0 (all_sorted P xs ps.1)
 
--- two orders that agree on those that pass a test sort them alike
+-- two orders that agree on the elements that pass a test sort them alike
 module _ {X : Type 0} (lt gt : X → X → Bool) (p : X → Bool) (agree : (x y : X) → p x ≡ true → p y ≡ true → lt x y ≡ gt x y) where
   inserted_alike : (x : X) (ys : List X) → p x ≡ true → AllByRecursion (λ y. p y ≡ true) ys → insert_sorted lt x ys ≡ insert_sorted gt x ys
   inserted_alike x [] px ps = refl
@@ -90,7 +90,7 @@ filter_passed p (x ∷ xs) =
     elim (p x) as (λ b. p x ≡ b → AllByRecursion (λ y. p y ≡ true) (cond b (x ∷ filter p xs) (filter p xs))) [ true ↦ λ e. (e, filter_passed p xs) | false ↦ λ e. filter_passed p xs ] refl
 
 -- ---- the run of a place
--- those of a place stand in the list as the line of that place says
+-- the waiters of a place, in the list's order, are the line of that place
 pub run_is_line : (ws : List Waiter) (p : Place) → ws ≡ sorted precedes ws → line_at (by_id ws) p ≡ run ws p
 run_is_line ws p order =
     sym (sorted_alike precedes stands_before (stands_at p) (one_run p) (filter (stands_at p) (by_id ws)) (filter_passed (stands_at p) (by_id ws)))
@@ -100,7 +100,7 @@ run_is_line ws p order =
 pub run_first : (ws : List Waiter) (p : Place) → ws ≡ sorted precedes ws → first_at (by_id ws) p ≡ first_who (run ws p)
 run_first ws p order = ap first_who (run_is_line ws p order)
 
--- one waiter more in the list, and one fewer
+-- the list with one more waiter, and with one fewer
 pub more_in_order : (ws : List Waiter) (w : Waiter) → ws ≡ sorted precedes ws → insert_sorted precedes w ws ≡ sorted precedes (insert_sorted precedes w ws)
 more_in_order ws w order =
     let made : insert_sorted precedes w ws ≡ sorted precedes (w ∷ ws) = ap (insert_sorted precedes w) order in
@@ -122,7 +122,7 @@ run_more ws w p order =
     in_place vs q o = sym (filter-sorted precedes list_order (stands_at q) vs) ∙ ap (filter (stands_at q)) (sym o)
 
 -- ---- by rising id
--- two waiters of two ids may change places
+-- two waiters with different ids can be added in either order
 change_places : (v w : Waiter) (ws : List Waiter) → eqb v.who w.who ≡ false → with_record waiter_id (with_record waiter_id ws w) v ≡ with_record waiter_id (with_record waiter_id ws v) w
 change_places v w [] e = grind (arith, e)
 change_places v w (u ∷ us) e = grind (arith, e, change_places v w us e)
@@ -142,7 +142,7 @@ by_id_more (v ∷ vs) w none =
 pub by_id_fewer : (ws : List Waiter) (who : ℕ) → by_id (without waiter_id ws who) ≡ without waiter_id (by_id ws) who
 by_id_fewer ws who = sym (filter-sorted (λ (v w : Waiter). ltb v.who w.who) id_order (λ w. not (eqb w.who who)) ws)
 
--- who is in the list is there by rising id, and the other way round
+-- a waiter is in the list exactly if it is in the list by rising id
 there_with : (ws : List Waiter) (w : Waiter) (who : ℕ) → is_some (waiter_of (with_record waiter_id ws w) who) ≡ is_some (waiter_of (w ∷ ws) who)
 there_with [] w who = refl
 there_with (v ∷ vs) w who =
@@ -200,7 +200,7 @@ pub rising_by_id : (ws : List Waiter) → Apart (map cell_of ws) → Rising wait
 rising_by_id [] apart = λ i j d hij hj. absurd (omega (arith, hj))
 rising_by_id (w ∷ ws) apart = Rising-with_record waiter_id (by_id ws) w (rising_by_id ws apart.1) (absent_by_id ws w.who (no_cell ws w.who apart.0))
 
--- ---- the one list
+-- ---- the only list
 module _ (cs : List (List (ℕ × Waiter))) (own : IsOwn cs) where
   pub own_cells : all_cells cs ≡ map cell_of (waiters_in cs)
   own_cells = ap all_cells own ∙ append-nil (map cell_of (waiters_in cs))
@@ -220,7 +220,7 @@ module _ (cs : List (List (ℕ × Waiter))) (own : IsOwn cs) where
   pub own_apart : Apart (chain_at cs 0) → Apart (map cell_of (waiters_in cs))
   own_apart a = subst Apart own_chain a
 
--- such a list, made of these waiters
+-- such a list, from these waiters
 pub owned : (cs : List (List (ℕ × Waiter))) (ws : List Waiter) → cs ≡ map cell_of ws ∷ [] → (waiters_in cs ≡ ws) × IsOwn cs
 owned cs ws e =
     let here : waiters_in cs ≡ ws = ap waiters_in e ∙ held_waiters ws in

@@ -1,4 +1,4 @@
--- The order of waiters, and what follows of it.
+-- The order of waiters, and what follows from it.
 use Rattle.std.proofs.Common.{◌≡◌, ℕ, true, List, Option, None, Some, refl}
 use Rattle.std.specs.List.{filter, Contains}
 use Rattle.std.specs.Option.{option_map}
@@ -45,7 +45,7 @@ first_is_least ws place who e =
 pub nobody_waits : NobodyLaw
 nobody_waits ws place e = none_passes waiter_id stands_before stands_before-order (stands_at place) ws (unnamed (first (line_at ws place)) e)
 
--- ---- who comes and goes
+-- ---- waiters are added and removed
 pub put_in : PutLaw
 put_in l w id none = of_id-with_record waiter_id l.waiters w id none
 
@@ -56,6 +56,6 @@ taken_out l who id = of_id-without waiter_id l.waiters who id
 pub line_alike : (ws us : List Waiter) (n : ℕ) → ws ≡ us → ◌≡◌ {A = Line} (record { waiters = ws; room = n }) (record { waiters = us; room = n })
 line_alike ws us n e = λ i. record { waiters = e i; room = n }
 
--- who was taken out is not there
+-- a removed task doesn't wait
 pub taken_absent : (l : Line) (who : ℕ) → waiter_of (without_waiter l who).waiters who ≡ None
 taken_absent l who = gone waiter_id l.waiters who

@@ -1,4 +1,4 @@
--- The place of a waiter in the list, and the waiters passed on the way to it.
+-- The place of a waiter in the list, and the waiters passed on the way there.
 use Rattle.std.proofs.Common.{◌≡◌, ℕ, ◌+◌, ◌≤◌, true, false, cond, eqb, List, [], ◌∷◌, ◌++◌, map, length, Option, None, Some, refl, sym, ap, ◌∙◌, subst, arith, append_assoc}
 use Rattle.std.specs.List.{AllByRecursion}
 use Rattle.std.proofs.lemmas.Bool.{eq-eqb}
@@ -22,7 +22,7 @@ pub first_cell : (ws : List Waiter) → first_key (map cell_of ws) ≡ first_who
 first_cell [] = refl
 first_cell (w ∷ ws) = refl
 
--- the waiter behind some others is the one of its id
+-- the waiter after some others is found by its id
 pub found_behind : (xs : List Waiter) (w : Waiter) (ys : List Waiter) → waiter_of xs w.who ≡ None → waiter_of (xs ++ w ∷ ys) w.who ≡ Some w
 found_behind [] w ys none = ap (λ b. cond b (Some w) (waiter_of ys w.who)) (eq-eqb w.who w.who refl)
 found_behind (x ∷ xs) w ys none =
@@ -62,7 +62,7 @@ ahead ws w next id a b e = seen b.back (sym b.next_is ∙ e) b.whole
           found = (λ i. waiter_of (r i) (sym own i)) ∙ found_behind b.front y ys (none_ahead b.front y ys (subst (λ vs. Apart (map cell_of vs)) r a));
         }
 
--- a waiter further on
+-- one waiter further
 pub further : (cs : List (List (ℕ × Waiter))) (w v : Waiter) (next after : Option ℕ) (id : ℕ) → IsOwn cs → Apart (chain_at cs 0) → (b : IsBehind (waiters_in cs) next w) → next ≡ Some id
     → value_of cs id ≡ Some v → precedes v w ≡ true → NextIs cs id after → (c : IsBehind (waiters_in cs) after w) × (length c.front ≡ length b.front + 1)
 further cs w v next after id own a b e value before follows =
@@ -82,7 +82,7 @@ further cs w v next after id own a b e value before follows =
       omega (arith, length-append b.front (f.here ∷ [])),
     )
 
--- the way ends at a waiter that does not precede this one, or at the end of the list
+-- the walk ends at a waiter that doesn't precede this one, or at the end of the list
 pub place_here : (cs : List (List (ℕ × Waiter))) (w v : Waiter) (next : Option ℕ) (id : ℕ) → IsOwn cs → Apart (chain_at cs 0) → IsBehind (waiters_in cs) next w → next ≡ Some id
     → value_of cs id ≡ Some v → precedes v w ≡ false → IsPlace (waiters_in cs) next w
 place_here cs w v next id own a b e value later =

@@ -1,4 +1,4 @@
--- What a contract sees of waiters: who waits where, by which key, and who is first at a place.
+-- What a contract sees of waiters: which task waits where and by which key, and which is first at a place.
 use Rattle.std.specs.Prelude.{ℕ, ◌≤◌, Bool, ◌&&◌, ◌==◌, List, [], ◌∷◌, length, Option}
 use Rattle.std.specs.Cmp.Lexicographic.{slice_cmp}
 use Rattle.std.specs.Ordering.{is_lt, nat_cmp}
@@ -8,23 +8,24 @@ use Rattle.wind_lists.specs.Records.{of_id, with_record, without, Rising}
 use Rattle.wind_lists.specs.Sorting.{first, in_line}
 use Rattle.wait_order.specs.declared.waits.Waiter.{Waiter}
 
--- the waiters by rising id, and for how many there is room
+-- the waiters by rising id, and the greatest number of them
 pub record Line : Type 0 where
   pub waiters : List Waiter
   pub room : ℕ
 
+-- the id of a waiter
 abbrev pub waiter_id : Waiter → ℕ
 waiter_id w = w.who
 
--- the waiter of this id
+-- the waiter with this id
 abbrev pub waiter_of : List Waiter → ℕ → Option Waiter
 waiter_of ws id = of_id waiter_id ws id
 
--- one waiter more
+-- one more waiter
 abbrev pub with_waiter : Line → Waiter → Line
 with_waiter l w = record l { waiters = with_record waiter_id l.waiters w }
 
--- the waiters without that of this id
+-- the waiters without the one with this id
 abbrev pub without_waiter : Line → ℕ → Line
 without_waiter l id = record l { waiters = without waiter_id l.waiters id }
 
@@ -32,22 +33,23 @@ without_waiter l id = record l { waiters = without waiter_id l.waiters id }
 abbrev pub key : Waiter → List ℕ
 key w = w.pri ∷ w.since ∷ w.who ∷ []
 
--- whose key is less stands before: of the numbers that differ the first decides
+-- the waiter with the lesser key is before: the first differing number decides
 abbrev pub stands_before : Waiter → Waiter → Bool
 stands_before v w = is_lt (slice_cmp nat_cmp (key v) (key w))
 
+-- the waiter waits at this place
 abbrev pub stands_at : Place → Waiter → Bool
 stands_at place w = w.place.side == place.side && w.place.id == place.id
 
--- those that wait at a place, in order
+-- the waiters at a place, in order
 abbrev pub line_at : List Waiter → Place → List Waiter
 line_at ws place = in_line stands_before (stands_at place) ws
 
--- the id of the first of them
+-- the id of the first waiter at a place
 abbrev pub first_at : List Waiter → Place → Option ℕ
 first_at ws place = option_map waiter_id (first (line_at ws place))
 
--- what a line keeps: no more wait than there is room for, and their ids rise
+-- the invariant of a line: there are at most as many waiters as room, and their ids rise
 pub record IsLine (l : Line) : Type 0 where
   pub few : length l.waiters ≤ l.room
   pub rising : Rising waiter_id l.waiters

@@ -1,4 +1,4 @@
-//! The first waiter of each place that is in use, by place.
+//! The first waiter of each place in use, by place.
 
 ghost use Rattle.std.specs.Prelude.{◌≡◌, ◌≤◌, ◌<◌, None, Some, length, MatchResult, vec_capacity};
 ghost use Rattle.wait_order.specs.Fronts.{Rises, front_of, first_from as first_from_lem, IsRank, StandsHere, GoesHere, IsPut};
@@ -6,14 +6,14 @@ ghost use Rattle.wait_order.specs.Fronts.{Rises, front_of, first_from as first_f
 use crate::order::{place_before, same_place};
 use id_table::{Ident, Place};
 
-// A place, and the first of those that wait there.
+// A place, and the first task that waits there.
 #[derive(Clone, Copy, Drop)]
 pub(crate) struct Front {
     pub(crate) place: Place,
     pub(crate) first: Ident,
 }
 
-// How many of the places in use come before this one.
+// The number of places in use that come before this one.
 fn rank_of(fronts: &[Front], place: &Place) -> usize
     requires { Rises fronts.now }
     ensures within { result ≤ length fronts.now }
@@ -22,7 +22,7 @@ fn rank_of(fronts: &[Front], place: &Place) -> usize
     fronts.partition_point(|front| place_before(&front.place, place))
 }
 
-// Where a place stands among those in use, or where it goes in.
+// The index of a place in use, or the index at which to insert it.
 fn search(fronts: &[Front], place: &Place) -> Result<usize, usize>
     requires { Rises fronts.now }
     ensures within { MatchResult result (λ at. at < length fronts.now) (λ at. at ≤ length fronts.now) }
@@ -39,7 +39,7 @@ fn search(fronts: &[Front], place: &Place) -> Result<usize, usize>
     }
 }
 
-// The first of those that wait at a place. None where nobody waits there.
+// The first task that waits at a place. None if no task waits there.
 pub(crate) fn first_at(fronts: &[Front], place: &Place) -> Option<Ident>
     requires { Rises fronts.now }
     ensures { result ≡ front_of fronts.now place.now }
@@ -50,7 +50,8 @@ pub(crate) fn first_at(fronts: &[Front], place: &Place) -> Option<Ident>
     }
 }
 
-// The first of the waiters of a place, or of the next place in use. None where there is none.
+// The first waiter of a place, or of the next place in use if no task waits there. None if there is
+// neither.
 pub(crate) fn first_from(fronts: &[Front], place: &Place) -> Option<Ident>
     requires { Rises fronts.now }
     ensures { result ≡ first_from_lem fronts.now place.now }
@@ -62,7 +63,7 @@ pub(crate) fn first_from(fronts: &[Front], place: &Place) -> Option<Ident>
     Some(fronts[rank].first)
 }
 
-// The place has this first waiter from now on.
+// Sets the first waiter of a place.
 pub(crate) fn put(fronts: &mut Vec<Front>, place: Place, first: Ident)
     requires rising { Rises fronts.old.items }
     requires room { front_of fronts.old.items place ≡ None → length fronts.old.items < vec_capacity fronts.old }
@@ -79,7 +80,7 @@ pub(crate) fn put(fronts: &mut Vec<Front>, place: Place, first: Ident)
     }
 }
 
-// The place is in use no longer.
+// Removes the entry of a place, if there is one.
 pub(crate) fn remove(fronts: &mut Vec<Front>, place: &Place)
     requires rising { Rises fronts.old.items }
     ensures put { IsPut fronts.old.items place.now None fronts.new.items }

@@ -8,28 +8,28 @@ ghost use Rattle.wait_order.specs.Inside.{precedes as precedes_lem};
 use crate::waits::Waiter;
 use id_table::Place;
 
-// Whether two places are one.
+// Whether two places are the same.
 pub(crate) fn same_place(a: &Place, b: &Place) -> bool
     ensures { result ≡ same_place_lem a.now b.now }
 {
     a.side == b.side && a.id == b.id
 }
 
-// Whether the place `a` comes before the place `b`: by its side, and of one side by its object.
+// Whether place `a` comes before place `b`: by side, then by object.
 pub(crate) fn place_before(a: &Place, b: &Place) -> bool
     ensures { result ≡ place_before_lem a.now b.now }
 {
     a.side < b.side || a.side == b.side && a.id.get() < b.id.get()
 }
 
-// Whether the waiter stands at this place.
+// Whether the waiter waits at this place.
 pub(crate) fn stands_at(waiter: &Waiter, place: &Place) -> bool
     ensures { result ≡ stands_at_lem place.now waiter.now }
 {
     same_place(&waiter.place, place)
 }
 
-// Whether the waiter `a` precedes the waiter `b`: by place, and at one place by key.
+// Whether waiter `a` precedes waiter `b`: by place, then by key.
 pub(crate) fn precedes(a: &Waiter, b: &Waiter) -> bool
     ensures { result ≡ precedes_lem a.now b.now }
 {

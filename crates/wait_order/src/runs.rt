@@ -1,4 +1,4 @@
-//! The waiters of a place: a run of the one list.
+//! The waiters of a place: a run of the only list.
 
 ghost use Rattle.std.specs.Option.{ForSome};
 ghost use Rattle.std.specs.Prelude.{◌≡◌, ◌≤◌, ◌<◌, IsSome, length, vec_capacity};
@@ -11,10 +11,10 @@ use crate::waits::Waiter;
 use id_table::{Ident, Place};
 use linked_lists::IdLists;
 
-/// The one list.
+/// The number of the only list.
 pub(crate) const LIST: usize = 0;
 
-// The first waiter, from this one on, that the waiter goes before. None where it goes to the end.
+// The waiter, from `start` on, before which the new waiter is inserted. None if it goes to the end.
 pub(crate) fn place_of(
     waiters: &IdLists<Waiter>,
     start: Option<Ident>,
@@ -38,7 +38,7 @@ pub(crate) fn place_of(
     next
 }
 
-// Whether the first of a waiter's place stays the first, as the waiter comes.
+// Whether the first waiter of the new waiter's place stays the first.
 fn first_stays(fronts: &[Front], waiters: &IdLists<Waiter>, waiter: &Waiter) -> bool
     requires { IsKept waiters.now.chains fronts.now }
     ensures { result ≡ stays (waiters_in waiters.now.chains) waiter.now }
@@ -50,7 +50,7 @@ fn first_stays(fronts: &[Front], waiters: &IdLists<Waiter>, waiter: &Waiter) -> 
     }
 }
 
-// The firsts, as a waiter comes.
+// Updates the first waiters before a waiter is inserted.
 pub(crate) fn come(fronts: &mut Vec<Front>, waiters: &IdLists<Waiter>, waiter: &Waiter)
     requires kept { IsKept waiters.now.chains fronts.old.items }
     requires room { length fronts.old.items < vec_capacity fronts.old }
@@ -63,7 +63,7 @@ pub(crate) fn come(fronts: &mut Vec<Front>, waiters: &IdLists<Waiter>, waiter: &
     put(fronts, waiter.place, waiter.who);
 }
 
-// The waiter after one that has gone, where it stands at the same place.
+// The waiter after the removed one, if it waits at the same place.
 fn next_at(waiters: &IdLists<Waiter>, next: Option<Ident>, place: &Place) -> Option<Ident>
     requires own { IsOwn waiters.now.chains }
     requires next { ForSome next (λ id. IsSome (value_of waiters.now.chains id)) }
@@ -77,7 +77,7 @@ fn next_at(waiters: &IdLists<Waiter>, next: Option<Ident>, place: &Place) -> Opt
     }
 }
 
-// The firsts, when a waiter has gone that stood before this one.
+// Updates the first waiters after the waiter before `next` was removed.
 pub(crate) fn go(
     fronts: &mut Vec<Front>,
     waiters: &IdLists<Waiter>,

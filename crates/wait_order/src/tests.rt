@@ -1,16 +1,16 @@
-//! Waits with ample memory.
+//! Tests of waits, with ample memory.
 
 use crate::Waits;
 use id_table::{Ident, Place};
 use std::test::Fail;
 
-// A place of object 9.
+// A side of object 9, as a place.
 fn place(side: u8) -> Option<Place> {
     let id = Ident::new(9)?;
     Some(Place { side, id })
 }
 
-// Puts a task in, where it does not wait yet and there is room for one more.
+// Adds a task if there is room for one more; removes it first if it is there.
 #[tactic(auto, using(crate::proofs::Turns::taken_absent))]
 fn put(waits: &mut Waits, side: u8, who: u32, pri: u32, since: u64) -> Option<()> {
     let place = place(side)?;
@@ -24,7 +24,7 @@ fn put(waits: &mut Waits, side: u8, who: u32, pri: u32, since: u64) -> Option<()
     }
 }
 
-// Takes the first of a place out, as long as there is one, and tells the numbers.
+// Removes the waiters of a place in order, at most 4, and returns their numbers. The rest are 0.
 fn drain(waits: &mut Waits, side: u8) -> Option<[u32; 4]> {
     let mut order = [0; 4];
     for seat in &mut order {

@@ -1,4 +1,4 @@
-//! Who waits.
+//! The tasks that wait.
 
 ghost use Rattle.std.specs.Prelude.{◌≡◌, ◌<◌, [], None, length, IfOk, is_some};
 ghost use Rattle.wait_order.specs.Line.{IsLine, waiter_of, with_waiter, without_waiter, first_at};
@@ -11,21 +11,22 @@ use std::alloc::Global;
 use std::marker::Model;
 use wind_base::NoMemory;
 
-/// A task that waits, with the key by which it stands at its place.
+/// A task that waits, with the key that decides its position at its place.
 #[derive(Clone, Copy, Debug, PartialEq, Eq)]
 pub struct Waiter {
-    /// Where it waits.
+    /// The place at which it waits.
     pub place: Place,
     /// The task.
     pub who: Ident,
-    /// The priority by which it stands there. Those that wait in order of arrival have 0.
+    /// Its priority there, from 0 to 255. It is 0 if the task waits in order of arrival.
     pub pri: u32,
-    /// Its order number: of those of one priority, the lower stands before.
+    /// Its order number: of waiters with the same priority, the one with the lower order number is
+    /// before.
     pub since: u64,
 }
 
-/// The tasks that wait, each at one place; at most so many. They stand in one linked list, by place and at each
-/// place in order, and the first of each place where somebody waits is kept beside it.
+/// The tasks that wait, each at one place, with a limit on their number. They are in one linked
+/// list, by place and then by key. An index has the first waiter of each place in use.
 #[derive(Drop)]
 pub struct Waits {
     waiters: IdLists<Waiter>,
@@ -47,7 +48,7 @@ impl Model for Waits {
 }
 
 impl Waits {
-    /// Nobody waits, and there is room for `n` tasks. No other call takes memory.
+    /// An empty line with room for `n` tasks. No other call takes memory.
     pub fn reserved(alloc: Global, n: u32) -> Result<Waits, NoMemory>
         ensures { IfOk result (λ w. w ≡ record { waiters = []; room = n }) }
     {
@@ -58,31 +59,31 @@ impl Waits {
         }
     }
 
-    /// Does nothing. Its contract tells the facts that the line keeps.
+    /// Does nothing. Its contract states the invariant of the line.
     pub fn facts(&self)
         ensures { IsLine self.now }
     {
         self.waiters.facts();
-        // to read the firsts is to know the rest
+        // reading the index makes the invariant known
         let _ = &self.fronts;
     }
 
-    /// How many tasks wait.
+    /// The number of tasks that wait.
     pub fn len(&self) -> usize
         ensures { result ≡ length self.now.waiters }
     {
         self.waiters.len()
     }
 
-    /// For how many tasks there is room.
+    /// The greatest number of tasks that wait.
     pub fn room(&self) -> usize
         ensures { result ≡ self.now.room }
     {
         self.waiters.room()
     }
 
-    /// The task waits at a place from now on, by its priority, or by 0 where it waits in order of arrival,
-    /// and by its order number. It must not wait already, and fewer may wait than there is room for.
+    /// Adds a task that waits at a place, with its order number and its priority, or 0 if it waits
+    /// in order of arrival. It must not wait yet, and there must be room for it.
     pub fn put(&mut self, place: Place, who: Ident, pri: u32, since: u64)
         requires absent { waiter_of self.old.waiters who ≡ None }
         requires room { length self.old.waiters < self.old.room }
@@ -101,7 +102,7 @@ impl Waits {
         self.waiters.insert_before(LIST, next, who, waiter);
     }
 
-    /// The task waits no longer. False, and nothing changes, where it doesn't wait.
+    /// Removes a task. `false` if it doesn't wait; then nothing changes.
     pub fn take(&mut self, who: Ident) -> bool
         ensures value { result ≡ is_some (waiter_of self.old.waiters who) }
         ensures waiters { self.new ≡ without_waiter self.old who }
@@ -115,8 +116,8 @@ impl Waits {
         true
     }
 
-    /// The first of the tasks that wait at a place: the least priority, of those the least order number,
-    /// of those the least id. None where nobody waits there.
+    /// The first task that waits at a place: by priority, then by order number, then by id. None if
+    /// no task waits there.
     pub fn first(&self, place: Place) -> Option<Ident>
         ensures { result ≡ first_at self.now.waiters place }
     {

@@ -1,5 +1,5 @@
--- Each gate stands at the place of its number.
-use Rattle.std.proofs.Common.{◌≡◌, ℕ, zero, suc, ◌+◌, ◌-◌, ◌*◌, ◌/◌, ◌%◌, ◌≤◌, List, [], ◌∷◌, Option, Some, None, Bool, true, false, ◌&&◌, cond, leb, eqb, refl, sym, ap, ◌∙◌, subst, arith}
+-- Each gate is at the place of its number.
+use Rattle.std.proofs.Common.{◌≡◌, ℕ, zero, suc, ◌+◌, ◌-◌, ◌*◌, ◌/◌, ◌%◌, ◌≤◌, List, [], ◌∷◌, Some, None, Bool, true, false, ◌&&◌, cond, leb, eqb, refl, ap, ◌∙◌, arith}
 use Rattle.std.proofs.lemmas.Bool.Decides.{nat_tests}
 use Rattle.std.specs.Prelude.{slice_get, ◌==◌}
 use Rattle.wind_base.specs.Gates.{gates, gate_of, gate_number, gate_at, gate_address}

@@ -8,7 +8,7 @@ use Rattle.std.proofs.lemmas.Nat.{div_below}
 use Rattle.std.proofs.lemmas.Bool.Decides.{nat_tests}
 use Rattle.wind_base.specs.Texts.{hex_within}
 
--- the digits before others are those before none
+-- the digits written before others are those written before none, followed by the others
 onto_append : (k n : ℕ) (acc : List ℕ) → digits_onto k 16 false n acc ≡ digits_onto k 16 false n [] ++ acc
 onto_append zero n acc = refl
 onto_append (suc k) n acc =
@@ -45,7 +45,7 @@ pub hex_more : (k n : ℕ) → 0 < k → 16 ≤ n → hex_within k n ≡ hex_wit
 hex_more zero n some big = absurd (omega arith)
 hex_more (suc k) n some big = let e : suc k - 1 ≡ k = omega arith in rw e (more_digits k n big)
 
--- a number above 0 has places
+-- a number above 0 has at least one digit
 places_left : (k q : ℕ) → q < 16 ^ k → (q ≡ 0 → ⊥) → 0 < k
 places_left zero q below some = absurd (some (omega arith))
 places_left (suc k) q below some = omega arith

@@ -1,9 +1,6 @@
--- The tables of gates and of errors have no name and no number twice.
-use Rattle.std.proofs.Common.{◌≡◌, ℕ, zero, suc, ◌-◌, ◌≤◌, List, [], ◌∷◌, Option, Some, None, Bool, true, false, ◌&&◌, cond, leb, refl, sym, ap, ◌∙◌, subst, arith}
+-- No name and no number occurs twice in the tables of gates and errors.
+use Rattle.std.proofs.Common.{◌≡◌, ℕ, ◌-◌, ◌≤◌, List, [], ◌∷◌, Option, Some, None, Bool, false, ◌&&◌, refl, sym, ap, ◌∙◌, subst}
 use Rattle.std.proofs.lemmas.Bool.{false≢true}
-use Rattle.std.proofs.lemmas.Bool.Decides.{nat_tests}
-use Rattle.std.specs.Bool.{Decides}
-use Rattle.std.proofs.lemmas.Slice.Eq.{bytes_eq-Decides}
 use Rattle.std.specs.Prelude.{bytes_eq, ◌==◌, ⊤, option_and_then}
 use Rattle.std.specs.List.{find}
 use Rattle.wind_base.specs.Gates.{gates, gate_of, gate_name, gate_number, rules_of}
@@ -87,7 +84,7 @@ found variants.D = refl
 entry : {A : Type 0} (a b : A) → Some a ≡ Some b → a ≡ b
 entry a b e = cc
 
--- a number with a name is that of the gate that is found by it
+-- a number with a name is the number of the gate found by that name
 by_name : (n : ℕ) (name : List ℕ) (g : Option Gate) → gate_of n ≡ g → option_and_then (λ x. (rules_of x).name) g ≡ Some name → (x : Gate) × (gate_named name ≡ Some x) × (gate_number x ≡ n)
 unfolding Found
 by_name n name None at e = cc

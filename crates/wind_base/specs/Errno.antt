@@ -32,7 +32,7 @@ errno_number errnos.BadKind = 0x1c0002
 errno_number errnos.LoadFailed = 0x1d0001
 errno_number errnos.NoSuchModule = 0x1d0002
 
--- its name
+-- the name of an error
 abbrev pub errno_name : Errno → List ℕ
 errno_name errnos.ObjIdError = codes "OBJ_ID_ERROR"
 errno_name errnos.ObjUnavailable = codes "OBJ_UNAVAILABLE"

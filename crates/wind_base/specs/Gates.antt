@@ -1,4 +1,4 @@
--- The gates of the kernel's calls, with all that is said of each: this project's own table.
+-- The gates of the kernel's calls, with their table: this project's own.
 use Rattle.std.specs.Prelude.{ℕ, ◌+◌, ◌-◌, ◌*◌, ◌/◌, ◌%◌, ◌==◌, ◌&&◌, Bool, true, false, List, [], ◌∷◌, Option, None, Some, nat_le, if◌then◌else◌, codes, option_and_then}
 use Rattle.std.specs.List.{slice_get}
 use Rattle.wind_base.specs.Limits.{gate_bytes, error_word, ok_word}
@@ -7,7 +7,7 @@ use Rattle.wind_base.specs.declared.gate_rules.Callers.TheVariants.{Tasks, All, 
 use Rattle.wind_base.specs.declared.gate.Gate.{Gate}
 use Rattle.wind_base.specs.declared.gate.Gate.TheVariants as variants
 
--- all gates, in the order in which they stand
+-- all gates, by rising number
 unfoldable pub gates : List Gate
 gates = variants.TaskReturn
     ∷ variants.ShellReturn
@@ -63,11 +63,12 @@ gates = variants.TaskReturn
     ∷ variants.D
     ∷ []
 
--- the gate of a number
+-- the gate with a number
 unfoldable pub gate_of : ℕ → Option Gate
 gate_of n = slice_get gates n
 
--- what is said of a gate: its number; the name of its call, where it is that of a call; who may make the call; what the call answers if it is refused, 0 for an object or an address and else ERROR; whether host memory may run out in it
+-- a gate's entry: its number; the name of its call, if it is a call; who may make the call;
+-- the result of a refused call, 0 for an object or an address and otherwise ERROR; whether the call can run out of host memory
 pub record Rules : Type 0 where
   pub number : ℕ
   pub name : Option (List ℕ)
@@ -75,11 +76,11 @@ pub record Rules : Type 0 where
   pub refusal : ℕ
   pub memory : Bool
 
--- the rules of a call's gate
+-- the entry of a call's gate
 abbrev call : ℕ → List ℕ → Callers → ℕ → Bool → Rules
 call number name callers refusal memory = record { number = number; name = Some name; callers = callers; refusal = refusal; memory = memory }
 
--- the rules of a return's gate, of which the number alone has a use
+-- the entry of a return's gate; only its number is used
 abbrev back : ℕ → Rules
 back number = record { number = number; name = None; callers = Tasks; refusal = error_word; memory = false }
 
@@ -142,7 +143,7 @@ rules_of variants.D = call 51 (codes "d") Shell error_word true
 abbrev pub gate_number : Gate → ℕ
 gate_number g = (rules_of g).number
 
--- the address of a gate, where they stand from a base on
+-- the address of a gate, if the first gate is at the base
 abbrev pub gate_address : ℕ → Gate → ℕ
 gate_address base g = base + gate_bytes * gate_number g
 
@@ -150,6 +151,6 @@ gate_address base g = base + gate_bytes * gate_number g
 abbrev pub gate_at : ℕ → ℕ → Option Gate
 gate_at base at = if nat_le base at && ((at - base) % gate_bytes == 0) then gate_of ((at - base) / gate_bytes) else None
 
--- the name of the call of the gate of a number; gates 0 to 2 and those above 51 have none
+-- the name of the call of the gate with a number; gates 0 to 2 and those above 51 have none
 unfoldable pub gate_name : ℕ → Option (List ℕ)
 gate_name n = option_and_then (λ g. (rules_of g).name) (gate_of n)

@@ -1,22 +1,22 @@
--- What follows of the tables alone.
+-- What follows from the tables alone.
 use Rattle.std.specs.Prelude.{◌≡◌, ℕ, List, Some}
 use Rattle.wind_base.specs.Gates.{gate_name, gate_of, gate_number, gate_at, gate_address}
 use Rattle.wind_base.specs.declared.gate.Gate.{Gate}
 use Rattle.wind_base.specs.Errno.{errno_number}
 use Rattle.wind_base.specs.declared.errno.Errno.{Errno}
 
--- no two gates have one name
+-- no two gates have the same name
 abbrev pub NamesLaw : Type 0
 NamesLaw = (a b : ℕ) (name : List ℕ) → gate_name a ≡ Some name → gate_name b ≡ Some name → a ≡ b
 
--- no two errors have one number
+-- no two errors have the same number
 abbrev pub NumbersLaw : Type 0
 NumbersLaw = (e f : Errno) → errno_number e ≡ errno_number f → e ≡ f
 
--- the gates stand in the order of their numbers, each at its address
+-- the gates are in the order of their numbers, each at its address
 pub record GatesLaw : Type 0 where
   pub own : (g : Gate) → gate_of (gate_number g) ≡ Some g
   pub only : (n : ℕ) (g : Gate) → gate_of n ≡ Some g → gate_number g ≡ n
-  -- at a gate's address stands that gate, and nowhere else
+  -- a gate is at its address, and at no other
   pub stands : (base : ℕ) (g : Gate) → gate_at base (gate_address base g) ≡ Some g
   pub place : (base at : ℕ) (g : Gate) → gate_at base at ≡ Some g → at ≡ gate_address base g

@@ -6,6 +6,6 @@ use Rattle.std.specs.List.{position_or_len}
 abbrev pub is_newline : ℕ → Bool
 is_newline b = b == 10
 
--- how many bytes stand before the first end of a line; all of them, where there is none
+-- the number of bytes before the first end of a line, or of all bytes if there is none
 abbrev pub line_length : List ℕ → ℕ
 line_length bytes = position_or_len is_newline bytes

@@ -1,4 +1,4 @@
--- What an output buffer shows, and how a piece is added to it.
+-- What a contract sees of an output buffer, and how a piece is added to it.
 use Rattle.std.specs.Prelude.{◌≡◌, ℕ, ◌+◌, ◌-◌, ◌≤◌, List, ◌++◌, length}
 
 -- the bytes held, and how many more fit
@@ -10,11 +10,11 @@ pub record Output : Type 0 where
 abbrev pub appended : Output → List ℕ → Output
 appended out piece = record { bytes = out.bytes ++ piece; room = out.room - length piece }
 
--- what is held and what fits besides are together as many bytes as before
+-- the bytes held and the bytes that still fit are together as many as before
 abbrev pub KeepsSpace : Output → Output → Type 0
 KeepsSpace old new = new.room + length new.bytes ≡ old.room + length old.bytes
 
--- the piece, which has at most so many bytes, is added at the end
+-- the piece, which has at most the given number of bytes, is added at the end
 pub record Added (most : ℕ) (old new : Output) (piece : List ℕ) : Type 0 where
   pub bytes : new.bytes ≡ old.bytes ++ piece
   pub room : old.room ≤ new.room + most

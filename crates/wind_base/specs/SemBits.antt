@@ -25,22 +25,22 @@ allowed_bits kinds.Binary = 1
 allowed_bits kinds.Counting = 1
 allowed_bits kinds.Mutex = 13
 
--- it has no other bits than the kind allows, and inheritance only with waiters by priority
+-- it has only bits that the kind allows, and inheritance only with waiters in order of priority
 abbrev pub are_options : SemKind → ℕ → Bool
 are_options kind n = has_bits (allowed_bits kind) n && (not (has_bits n inversion_safe_bit) || has_bits n priority_bit)
 
--- the options of a number
+-- the options with a number
 abbrev pub read_options : ℕ → SemKind → Option SemOptions
 read_options n kind = if are_options kind n then Some (record { 0 = n }) else None
 
--- those that wait stand by priority, and else by arrival
+-- tasks wait in order of priority, otherwise in order of arrival
 abbrev pub is_priority : SemOptions → Bool
 is_priority o = has_bits o.0 priority_bit
 
--- each take of the mutex makes its owner safe from deletion
+-- each take of the mutex protects its owner from deletion
 abbrev pub is_delete_safe : SemOptions → Bool
 is_delete_safe o = has_bits o.0 delete_safe_bit
 
--- the owner of the mutex inherits the priorities of those that wait for it
+-- the owner of the mutex inherits the priorities of the tasks that wait for it
 abbrev pub is_inversion_safe : SemOptions → Bool
 is_inversion_safe o = has_bits o.0 inversion_safe_bit

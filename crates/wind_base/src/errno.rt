@@ -4,44 +4,44 @@ ghost use Rattle.std.specs.Prelude.{◌≡◌};
 
 use std::fmt::{self, Display, Formatter};
 
-/// Why a call of the kernel is refused, or what a wait ended with. The numbers are this project's own
-/// table.
+/// Why a kernel call is refused, or how a wait ended. The numbers are this project's own table.
 #[derive(Clone, Copy, Debug, PartialEq, Eq)]
 pub enum Errno {
     /// No live object of the wanted kind has this id.
     ObjIdError,
-    /// The object can't be had now, and the caller doesn't wait.
+    /// The object isn't available now, and the caller doesn't wait.
     ObjUnavailable,
     /// The object was deleted while the caller waited for it.
     ObjDeleted,
-    /// The time of the wait ran out.
+    /// The wait timed out.
     ObjTimeout,
     /// The memory partition has no room for a block of this size.
     NotEnoughMemory,
     /// No block of the memory partition begins at this address.
     NotABlock,
-    /// The wanted alignment of a block is none that the memory partition allows.
+    /// The memory partition doesn't allow the requested alignment of a block.
     BadAlign,
-    /// A range of bytes, a word or a string that the call names is not wholly in memory, or a name is
-    /// empty or above 255 bytes.
+    /// A byte range, word or string named by the call isn't wholly in memory, or a name is empty or
+    /// longer than 255 bytes.
     BadAddress,
     /// The priority is above 255.
     IllegalPriority,
-    /// The caller ends a protection from deletion and has none.
+    /// The caller ends its deletion protection and has none.
     NotSafe,
-    /// As many objects of this kind live as the board allows.
+    /// The board's limit of live objects of this kind is reached.
     TooMany,
     /// No id is left for a new object.
     IdsSpent,
     /// No live task has this name.
     TaskNotFound,
-    /// The first state of a binary semaphore is above 1.
+    /// The initial state of a binary semaphore is above 1.
     InvalidState,
-    /// The options of a new object are none that its kind allows.
+    /// The options aren't valid for this kind of object.
     InvalidOption,
-    /// This kind of semaphore allows no such call, or not by this caller.
+    /// The kind of semaphore doesn't allow this call, the caller isn't the mutex's owner, or the call
+    /// would delete the shell's task.
     InvalidOperation,
-    /// The count of a semaphore would exceed the largest count.
+    /// The count of a semaphore would exceed the greatest count.
     CountOver,
     /// The message is longer than the queue takes.
     InvalidMsgLength,
@@ -49,15 +49,15 @@ pub enum Errno {
     NonZeroTimeout,
     /// A count, a size or a width is outside its limits.
     BadSize,
-    /// The call is not allowed to an interrupt routine.
+    /// An interrupt routine isn't allowed to make this call.
     NotIsrCallable,
-    /// The call is allowed to the shell's task alone.
+    /// Only the shell's task is allowed to make this call.
     NotShell,
     /// The symbol table is full.
     SymbolsFull,
-    /// The kind of a symbol is outside 1 to 4.
+    /// The kind of a symbol isn't 1 to 4.
     BadKind,
-    /// A module was not loaded.
+    /// A module could not be loaded.
     LoadFailed,
     /// No live module has this id or this name.
     NoSuchModule,
@@ -100,7 +100,7 @@ impl Errno {
         }
     }
 
-    /// Its name, by which it is shown.
+    /// The name of the error, as it is displayed.
     pub fn name(self) -> &'static str
         ensures { result.now ≡ errno_name self }
     {

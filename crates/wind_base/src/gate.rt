@@ -5,117 +5,118 @@ ghost use Rattle.wind_base.specs.Gates.{gate_number, gate_of, gate_at, gate_addr
 
 use crate::limits::GATE_BYTES;
 
-/// The gate of a call of the kernel, or of a return, by this project's own table. The gates stand in this order, 16
-/// bytes each.
+/// A gate: the address of a kernel call, or of a return. The numbers are this project's own table;
+/// each gate takes 16 bytes. The libraries named below are sections of the VxWorks 5.4 Reference
+/// Manual.
 #[derive(Clone, Copy, Debug, PartialEq, Eq)]
 pub enum Gate {
-    /// A task returns from its entry.
+    /// A task returns from its entry function.
     TaskReturn,
-    /// A call of the shell returns.
+    /// A function called by the shell returns.
     ShellReturn,
     /// An interrupt routine returns.
     InterruptReturn,
-    /// taskSpawn
+    /// `taskSpawn` (taskLib).
     TaskSpawn,
-    /// sp
+    /// `sp` (usrLib).
     Sp,
-    /// taskDelete
+    /// `taskDelete` (taskLib).
     TaskDelete,
-    /// taskSuspend
+    /// `taskSuspend` (taskLib).
     TaskSuspend,
-    /// taskResume
+    /// `taskResume` (taskLib).
     TaskResume,
-    /// taskPrioritySet
+    /// `taskPrioritySet` (taskLib).
     TaskPrioritySet,
-    /// taskPriorityGet
+    /// `taskPriorityGet` (taskLib).
     TaskPriorityGet,
-    /// taskDelay
+    /// `taskDelay` (taskLib).
     TaskDelay,
-    /// taskLock
+    /// `taskLock` (taskLib).
     TaskLock,
-    /// taskUnlock
+    /// `taskUnlock` (taskLib).
     TaskUnlock,
-    /// taskSafe
+    /// `taskSafe` (taskLib).
     TaskSafe,
-    /// taskUnsafe
+    /// `taskUnsafe` (taskLib).
     TaskUnsafe,
-    /// taskIdSelf
+    /// `taskIdSelf` (taskLib).
     TaskIdSelf,
-    /// taskIdVerify
+    /// `taskIdVerify` (taskLib).
     TaskIdVerify,
-    /// taskNameToId
+    /// `taskNameToId` (taskInfo).
     TaskNameToId,
-    /// kernelTimeSlice
+    /// `kernelTimeSlice` (kernelLib).
     KernelTimeSlice,
-    /// tickGet
+    /// `tickGet` (tickLib).
     TickGet,
-    /// semBCreate
+    /// `semBCreate` (semBLib).
     SemBCreate,
-    /// semCCreate
+    /// `semCCreate` (semCLib).
     SemCCreate,
-    /// semMCreate
+    /// `semMCreate` (semMLib).
     SemMCreate,
-    /// semTake
+    /// `semTake` (semLib).
     SemTake,
-    /// semGive
+    /// `semGive` (semLib).
     SemGive,
-    /// semFlush
+    /// `semFlush` (semLib).
     SemFlush,
-    /// semDelete
+    /// `semDelete` (semLib).
     SemDelete,
-    /// msgQCreate
+    /// `msgQCreate` (msgQLib).
     MsgQCreate,
-    /// msgQSend
+    /// `msgQSend` (msgQLib).
     MsgQSend,
-    /// msgQReceive
+    /// `msgQReceive` (msgQLib).
     MsgQReceive,
-    /// msgQDelete
+    /// `msgQDelete` (msgQLib).
     MsgQDelete,
-    /// msgQNumMsgs
+    /// `msgQNumMsgs` (msgQLib).
     MsgQNumMsgs,
-    /// wdCreate
+    /// `wdCreate` (wdLib).
     WdCreate,
-    /// wdStart
+    /// `wdStart` (wdLib).
     WdStart,
-    /// wdCancel
+    /// `wdCancel` (wdLib).
     WdCancel,
-    /// wdDelete
+    /// `wdDelete` (wdLib).
     WdDelete,
-    /// intLock
+    /// `intLock` (intArchLib).
     IntLock,
-    /// intUnlock
+    /// `intUnlock` (intArchLib).
     IntUnlock,
-    /// intContext
+    /// `intContext` (intLib).
     IntContext,
-    /// malloc
+    /// `malloc` (memPartLib).
     Malloc,
-    /// free
+    /// `free` (memPartLib).
     Free,
-    /// memalign
+    /// `memalign` (memLib).
     Memalign,
-    /// symAdd
+    /// `symAdd` (symLib).
     SymAdd,
-    /// printf
+    /// `printf` (fioLib).
     Printf,
-    /// errnoGet
+    /// `errnoGet` (errnoLib).
     ErrnoGet,
-    /// errnoSet
+    /// `errnoSet` (errnoLib).
     ErrnoSet,
-    /// ld
+    /// `ld` (usrLib).
     Ld,
-    /// unld
+    /// `unld` (unldLib).
     Unld,
-    /// i
+    /// `i` (usrLib).
     I,
-    /// lkup
+    /// `lkup` (usrLib).
     Lkup,
-    /// moduleShow
+    /// `moduleShow` (moduleLib).
     ModuleShow,
-    /// d
+    /// `d` (usrLib).
     D,
 }
 
-// All gates, in their order.
+// All gates, by rising number.
 const GATES: [Gate; 52] = [
     Gate::TaskReturn,
     Gate::ShellReturn,
@@ -171,7 +172,7 @@ const GATES: [Gate; 52] = [
     Gate::D,
 ];
 
-// The gate at a place of a list, where the list has that place.
+// The gate at an index of a list. None if the index is beyond its end.
 fn gate_in(list: &[Gate], place: usize) -> Option<Gate>
     ensures { result ≡ slice_get list.now place }
 {
@@ -179,7 +180,7 @@ fn gate_in(list: &[Gate], place: usize) -> Option<Gate>
 }
 
 impl Gate {
-    /// All gates, in their order.
+    /// All gates, by rising number.
     #[tactic(auto, unfolding(crate::specs::Gates::gates))]
     pub fn all() -> &'static [Gate]
         ensures { result.now ≡ gates }
@@ -195,7 +196,7 @@ impl Gate {
         gate_in(&GATES, number as usize)
     }
 
-    /// Its number, from 0 on.
+    /// Its number, from 0 to 51.
     pub fn number(self) -> u32
         ensures value { result ≡ gate_number self }
         ensures few { result < 52 }
@@ -203,7 +204,8 @@ impl Gate {
         self as u32
     }
 
-    /// The gate at an address, where the gates stand from `base` on. None where none begins there.
+    /// The gate that begins at `address`, if the first gate is at `base`. None if no gate begins
+    /// there.
     pub fn at(address: u32, base: u32) -> Option<Gate>
         ensures { result ≡ gate_at base address }
     {
@@ -214,7 +216,7 @@ impl Gate {
         Gate::new(offset / GATE_BYTES)
     }
 
-    /// Its address, where the gates stand from `base` on.
+    /// Its address, if the first gate is at `base`.
     pub fn address(self, base: u32) -> u32
         requires { base < 2 ^ 31 }
         ensures { result ≡ gate_address base self }

@@ -1,4 +1,4 @@
-//! What is said of each gate: one table, one line for each.
+//! The table of gates: one line for each.
 
 ghost use Rattle.std.specs.Prelude.{◌≡◌, None, Some, false, option_map};
 ghost use Rattle.wind_base.specs.Gates.{gate_name as gate_name_lem, rules_of};
@@ -8,33 +8,35 @@ ghost use Rattle.wind_base.specs.declared.gate_rules.Callers.TheVariants.{Tasks}
 use crate::gate::Gate;
 use crate::words::{ERROR, OK};
 
-/// Who may make a call of the kernel.
+/// Who may make a kernel call.
 #[derive(Clone, Copy, Debug, PartialEq, Eq)]
 pub enum Callers {
-    /// Every task.
+    /// Any task.
     Tasks,
-    /// Every task, and an interrupt routine.
+    /// Any task or interrupt routine.
     All,
-    /// The shell's task alone.
+    /// The shell's task only.
     Shell,
 }
 
-/// What is said of a gate, by this project's own table.
+/// The table's entry for a gate. The table is this project's own.
 #[derive(Clone, Copy, Debug, PartialEq, Eq)]
 pub struct GateRules {
-    /// Its number, from 0 on.
+    /// Its number, from 0 to 51.
     pub number: u32,
-    /// The name of its call. A return has none.
+    /// The name of its call. None if the gate is a return.
     pub name: Option<&'static str>,
     /// Who may make its call.
     pub callers: Callers,
-    /// What its call answers if it is refused: 0 if it answers an object or an address, and else ERROR.
+    /// The result of a refused call: 0 if the call returns an object or an address, otherwise
+    /// ERROR.
     pub refusal: u32,
-    /// Whether host memory may run out in its call.
+    /// Whether the call can run out of host memory.
     pub memory: bool,
 }
 
-// The rules of a call's gate.
+// The entry of a call's gate.
+#[inline(always)]
 const fn call(
     number: u32,
     name: &'static str,
@@ -57,7 +59,8 @@ const fn call(
     }
 }
 
-// The rules of a return's gate, of which the number alone has a use.
+// The entry of a return's gate. Only its number is used.
+#[inline(always)]
 const fn back(number: u32) -> GateRules
     ensures number { result.number ≡ number }
     ensures name { result.name ≡ None }
@@ -75,7 +78,8 @@ const fn back(number: u32) -> GateRules
 }
 
 impl Gate {
-    /// What is said of the gate.
+    /// The table's entry for this gate.
+    #[inline(always)]
     pub fn rules(self) -> GateRules
         ensures number { result.number ≡ (rules_of self).number }
         ensures name { option_map (λ n. n.now) result.name ≡ (rules_of self).name }
@@ -140,7 +144,8 @@ impl Gate {
         }
     }
 
-    /// The name of its call. A return has none.
+    /// The name of its call. None if the gate is a return.
+    #[inline(always)]
     pub fn name(self) -> Option<&'static str>
         ensures { option_map (λ n. n.now) result ≡ (rules_of self).name }
     {
@@ -148,7 +153,7 @@ impl Gate {
     }
 }
 
-/// The name of the kernel's call of the gate of this number. Gates 0, 1 and 2, and those above 51, have none.
+/// The name of the call of the gate with this number. None for gates 0, 1 and 2, and above 51.
 #[tactic(auto, unfolding(crate::specs::Gates::gate_name))]
 pub fn gate_name(gate: u32) -> Option<&'static str>
     ensures { option_map (λ n. n.now) result ≡ gate_name_lem gate }

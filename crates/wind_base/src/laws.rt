@@ -1,8 +1,9 @@
-//! What follows of the tables alone.
+//! What follows from the tables alone.
 
 ghost use Rattle.wind_base.specs.Laws.{NamesLaw, NumbersLaw, GatesLaw};
 
-/// A name belongs to one gate, and a number to one error; a gate has one number, and stands at its address alone.
+/// No two gates have the same name, and no two errors the same number. Each gate has one number,
+/// and only that gate is at its address.
 pub fn tables_law()
     ensures names { NamesLaw }
     ensures numbers { NumbersLaw }

@@ -1,7 +1,6 @@
-//! What every crate of windplay shares: the limits of the board, a buffer of bytes whose room is taken
-//! ahead, lines and decimal numbers, priorities, names, error numbers, the names of the kernel's calls,
-//! the registers of the processor, kinds and options of semaphores, and the answers for want of memory and
-//! of room.
+//! What every crate of windplay shares: the board's limits, a byte buffer with reserved room,
+//! lines, numbers as text, priorities, names, error numbers, gates, the processor's registers,
+//! semaphore kinds and options, and the errors "out of memory" and "no room left".
 #![tactic(auto)]
 
 mod errno;
@@ -33,7 +32,7 @@ pub use semaphore::{SemKind, SemOptions};
 use std::alloc::AllocError;
 use thiserror::Error;
 
-/// Host memory ran out. What the call was made on is as it was before.
+/// Host memory ran out. The object of the call is unchanged.
 #[derive(Clone, Copy, Debug, PartialEq, Eq, Error)]
 #[error("out of memory")]
 pub struct NoMemory;
@@ -44,7 +43,7 @@ impl From<AllocError> for NoMemory {
     }
 }
 
-/// A piece exceeds the room that is left.
+/// A piece is longer than the room left.
 #[derive(Clone, Copy, Debug, PartialEq, Eq, Error)]
 #[error("no room left")]
 pub struct Full;

@@ -3,7 +3,7 @@
 ghost use Rattle.std.specs.Prelude.{◌≡◌, ◌≤◌, ◌+◌, length, drop};
 ghost use Rattle.wind_base.specs.Lines.{line_length};
 
-/// How many bytes come before the first 0x0A; all of them, where there is none.
+/// The number of bytes before the first 0x0A, or the length of `bytes` if there is no 0x0A.
 pub fn line_len(bytes: &[u8]) -> usize
     ensures exact { result ≡ line_length bytes.now }
     ensures inside { result ≤ length bytes.now }
@@ -11,7 +11,7 @@ pub fn line_len(bytes: &[u8]) -> usize
     bytes.iter().take_while(|byte| **byte != b'\n').count()
 }
 
-/// The bytes behind the first n, of which there are as many at least.
+/// The bytes after the first `n`. `bytes` has at least `n` of them.
 pub fn behind(bytes: &[u8], n: usize) -> &[u8]
     requires { n ≤ length bytes.now }
     ensures value { result.now ≡ drop n bytes.now }

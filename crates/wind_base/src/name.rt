@@ -11,7 +11,7 @@ use std::alloc::Global;
 use std::marker::Model;
 use thiserror::Error;
 
-/// A name of at most 31 bytes. It takes no memory.
+/// A name of at most 31 bytes. It needs no host memory.
 #[derive(Drop)]
 pub struct ShortName {
     kept: ArrayVec<u8, SHORT_NAME_BYTES>,
@@ -28,7 +28,7 @@ impl Model for ShortName {
     ghost invariant = { λ n. length n.kept.items ≤ longest_short_name };
 }
 
-// So many of the first bytes; all of them, where there are fewer.
+// The first `most` bytes, or all of them if there are fewer.
 fn first_bytes(bytes: &[u8], most: usize) -> &[u8]
     ensures value { result.now ≡ take most bytes.now }
     ensures within { length result.now ≤ most }
@@ -51,7 +51,7 @@ fn copied(bytes: &[u8]) -> ArrayVec<u8, SHORT_NAME_BYTES>
 }
 
 impl ShortName {
-    /// The name of these bytes, cut after the first 31.
+    /// The first 31 of these bytes, as a name.
     pub fn cut(bytes: &[u8]) -> ShortName
         ensures value { result ≡ take longest_short_name bytes.now }
         ensures within { length result ≤ longest_short_name }
@@ -70,10 +70,10 @@ impl ShortName {
     }
 }
 
-/// Why no name was made.
+/// Why a name could not be made.
 #[derive(Clone, Copy, Debug, PartialEq, Eq, Error)]
 pub enum NameErr {
-    /// There are more than 255 bytes.
+    /// The name is longer than 255 bytes.
     #[error("the name has more than {NAME_BYTES} bytes")]
     TooLong,
     /// Host memory ran out.
@@ -81,7 +81,7 @@ pub enum NameErr {
     NoMemory,
 }
 
-/// A name of at most 255 bytes.
+/// A name of at most 255 bytes, in host memory.
 #[derive(Drop)]
 pub struct Name {
     kept: Vec<u8>,

@@ -13,14 +13,14 @@ fn all_digits(text: &[u8]) -> bool
     text.iter().all(|byte| byte.is_ascii_digit())
 }
 
-// Whether a text is of digits, of which there is one at least.
+// Whether a text is one or more decimal digits.
 fn is_numeral(text: &[u8]) -> bool
     ensures { result ≡ is_numeral_lem text.now }
 {
     !text.is_empty() && all_digits(text)
 }
 
-// The number of a numeral, where it is one of 64 bits.
+// The number of a numeral. None if it needs more than 64 bits.
 fn numeral_value(numeral: &[u8]) -> Option<u64>
     requires { IsTrue (is_numeral_lem numeral.now) }
     ensures { result ≡ number_within (2 ^ 64 - 1) numeral.now }
@@ -31,8 +31,8 @@ fn numeral_value(numeral: &[u8]) -> Option<u64>
     }
 }
 
-/// The number that a text writes in decimal digits. None where it has another byte or none at all, or
-/// where the number is above `most`. Leading zeros are allowed.
+/// The number that a text writes in decimal digits; leading zeros are allowed. None if the text is
+/// empty, if it has a byte other than a digit, or if the number is above `most`.
 #[tactic(auto, unfolding(crate::specs::Decimal::decimal_value))]
 pub fn decimal(text: &[u8], most: u64) -> Option<u64>
     ensures value { result ≡ decimal_value most text.now }

@@ -1,4 +1,4 @@
-//! A buffer of bytes whose room is taken ahead.
+//! A byte buffer with reserved room.
 
 ghost use Rattle.std.specs.Prelude.{◌≡◌, ◌+◌, ◌<◌, ◌↔◌, [], length, IfOk, OnOk, OnErr, IsErr};
 ghost use Rattle.wind_base.specs.OutBuf.{appended};
@@ -7,7 +7,7 @@ use crate::{Full, NoMemory};
 use std::alloc::Global;
 use std::marker::Model;
 
-/// Bytes, and room for more. What fits the room is added without taking memory.
+/// Bytes, and room for more. Adding bytes that fit the room takes no memory.
 #[derive(Drop)]
 pub struct OutBuf {
     bytes: Vec<u8>,
@@ -26,7 +26,7 @@ impl Model for OutBuf {
 }
 
 impl OutBuf {
-    /// An empty buffer with room for this many bytes.
+    /// An empty buffer with room for `room` bytes.
     pub fn reserved(alloc: Global, room: u32) -> Result<OutBuf, NoMemory>
         ensures { IfOk result (λ out. out ≡ record { bytes = []; room = room }) }
     {
@@ -37,7 +37,7 @@ impl OutBuf {
         })
     }
 
-    /// Adds the piece. Nothing changes where it exceeds the room left.
+    /// Adds the piece at the end. `Full` if it is longer than the room left; then nothing changes.
     pub fn put(&mut self, piece: &[u8]) -> Result<(), Full>
         ensures full { IsErr result ↔ (self.old.room < length piece.now) }
         ensures ok { OnOk result (self.new ≡ appended self.old piece.now) }
@@ -53,7 +53,7 @@ impl OutBuf {
         Ok(())
     }
 
-    /// Makes room for this many more bytes.
+    /// Adds room for `more` bytes.
     pub fn grow(&mut self, more: u32) -> Result<(), NoMemory>
         ensures ok { OnOk result (self.new ≡ record self.old { room = self.old.room + more }) }
         ensures err { OnErr result (self.new ≡ self.old) }
@@ -68,7 +68,7 @@ impl OutBuf {
         Ok(())
     }
 
-    /// Drops the bytes, whose room is free again.
+    /// Removes all bytes. Their space becomes room again.
     pub fn clear(&mut self)
         ensures { self.new ≡ record { bytes = []; room = self.old.room + length self.old.bytes } }
     {

@@ -6,7 +6,7 @@ ghost use Rattle.wind_base.specs.Limits.{least_urgent};
 use crate::limits::LEAST_URGENT;
 use std::marker::Model;
 
-/// A priority from 0, the most urgent, to 255.
+/// A priority, from 0 (the most urgent) to 255.
 #[derive(Clone, Copy, Debug, PartialEq, Eq)]
 pub struct Pri {
     number: u32,
@@ -26,7 +26,7 @@ impl Model for Pri {
 }
 
 impl Pri {
-    /// The priority of this number. None exactly where it is above 255.
+    /// The priority with this number. None if it is above 255.
     pub fn new(n: u32) -> Option<Pri>
         ensures { SomeIff result (n ≤ least_urgent) n }
     {
@@ -37,7 +37,7 @@ impl Pri {
         }
     }
 
-    /// The number of the priority.
+    /// The priority's number, from 0 to 255.
     pub fn get(self) -> u32
         ensures same { result ≡ self }
         ensures greatest { result ≤ least_urgent }

@@ -1,13 +1,13 @@
 //! The registers of the processor.
 
-/// The register file of the PowerPC processor.
+/// The register file of the PowerPC processor (Power ISA, Book I).
 #[derive(Clone, Copy, Debug, PartialEq, Eq)]
 pub struct Regs {
     /// The general registers r0 to r31.
     pub gpr: [u32; 32],
     /// The condition register.
     pub cr: u32,
-    /// The register of carry and overflow.
+    /// XER: the carry and overflow bits, and the byte count of string instructions.
     pub xer: u32,
     /// The link register.
     pub lr: u32,
@@ -15,6 +15,6 @@ pub struct Regs {
     pub ctr: u32,
     /// The address of the next instruction.
     pub pc: u32,
-    /// The address of the reservation that `lwarx` makes and `stwcx.` needs, if there is one.
+    /// The address that `lwarx` reserved for `stwcx.`, if there is a reservation.
     pub reserve: Option<u32>,
 }

@@ -8,11 +8,11 @@ use bitflags::{Flag, Flags, bitflag_items};
 /// The kinds of semaphores.
 #[derive(Clone, Copy, Debug, PartialEq, Eq)]
 pub enum SemKind {
-    /// Full or empty.
+    /// It is full or empty.
     Binary,
-    /// With a count.
+    /// It has a count.
     Counting,
-    /// For mutual exclusion: whoever takes it owns it.
+    /// For mutual exclusion: the task that takes it owns it.
     Mutex,
 }
 
@@ -22,11 +22,11 @@ pub struct SemOptions(u32);
 
 bitflag_items! {
     impl SemOptions: u32 {
-        // SEM_Q_PRIORITY: those that wait stand by priority, and without it by arrival
+        // SEM_Q_PRIORITY: tasks wait in order of priority; without it, in order of arrival
         const PRIORITY = 1;
-        // SEM_DELETE_SAFE: whoever owns the mutex can't be deleted
+        // SEM_DELETE_SAFE: the mutex's owner can't be deleted
         const DELETE_SAFE = 4;
-        // SEM_INVERSION_SAFE: whoever owns the mutex is at least as urgent as those that wait for it
+        // SEM_INVERSION_SAFE: the mutex's owner is at least as urgent as the tasks that wait for it
         const INVERSION_SAFE = 8;
     }
 }
@@ -55,7 +55,7 @@ impl Flags for SemOptions {
     }
 }
 
-// The options that a kind of semaphore may have.
+// The options that a kind of semaphore allows.
 fn allowed(kind: SemKind) -> SemOptions
     ensures { result.0 ≡ allowed_bits kind }
 {
@@ -69,8 +69,8 @@ fn allowed(kind: SemKind) -> SemOptions
 }
 
 impl SemOptions {
-    /// The options of this number. None exactly where it has a bit that the kind doesn't allow (a binary or
-    /// counting semaphore allows 1 alone, a mutex 1, 4 and 8), or has 8 without 1.
+    /// The options with this number. None if it has a bit that the kind doesn't allow, or has 8
+    /// without 1. A binary or counting semaphore allows only 1; a mutex allows 1, 4 and 8.
     pub fn read(n: u32, kind: SemKind) -> Option<SemOptions>
         ensures { result ≡ read_options n kind }
     {
@@ -84,21 +84,21 @@ impl SemOptions {
         }
     }
 
-    /// Whether those that wait stand by priority. Else they stand by arrival.
+    /// Whether tasks wait in order of priority. If not, they wait in order of arrival.
     pub fn is_priority(&self) -> bool
         ensures { result ≡ is_priority self.now }
     {
         self.contains(SemOptions::PRIORITY)
     }
 
-    /// Whether each take of the mutex makes its owner safe from deletion.
+    /// Whether each take of the mutex protects its owner from deletion.
     pub fn is_delete_safe(&self) -> bool
         ensures { result ≡ is_delete_safe self.now }
     {
         self.contains(SemOptions::DELETE_SAFE)
     }
 
-    /// Whether the mutex's owner inherits the priorities of those that wait for it.
+    /// Whether the mutex's owner inherits the priorities of the tasks that wait for it.
     pub fn is_inversion_safe(&self) -> bool
         ensures { result ≡ is_inversion_safe self.now }
     {

@@ -1,4 +1,5 @@
-//! Pieces of text, and numbers in decimal and hexadecimal digits, added to a buffer with room for them.
+//! Adds pieces of text, and numbers in decimal and hexadecimal digits, to a buffer with room for
+//! them.
 
 ghost use Rattle.std.specs.Prelude.{◌≡◌, ◌^◌, ◌<◌, ◌≤◌, false, length};
 ghost use Rattle.std.specs.Fmt.{decimal, signed_decimal, digit_glyph, digits};
@@ -9,7 +10,7 @@ ghost use Rattle.wind_base.specs.Texts.{hex_within};
 use crate::OutBuf;
 use itoa::Buffer;
 
-/// Adds a piece for which there is room.
+/// Adds a piece that fits the room.
 pub fn add(out: &mut OutBuf, piece: &[u8])
     requires { length piece.now ≤ out.old.room }
     ensures { Added (length piece.now) out.old out.new piece.now }
@@ -29,7 +30,7 @@ fn glyph(digit: u32) -> u8
     }
 }
 
-// Adds a number below 16^places in hexadecimal digits.
+// Adds a number below 16^places in hexadecimal digits, without leading zeros.
 fn add_digits(out: &mut OutBuf, n: u32, places: u32)
     requires some { 0 < places }
     requires wide { n < 16 ^ places }
@@ -44,7 +45,7 @@ fn add_digits(out: &mut OutBuf, n: u32, places: u32)
     }
 }
 
-/// Adds a word in hexadecimal digits, in lower case and without leading zeros: 8 digits at most.
+/// Adds a word in lowercase hexadecimal digits without leading zeros: at most 8 bytes.
 pub fn add_hex(out: &mut OutBuf, v: u32)
     requires { 8 ≤ out.old.room }
     ensures { Added 8 out.old out.new (digits 16 false v) }
@@ -52,7 +53,7 @@ pub fn add_hex(out: &mut OutBuf, v: u32)
     add_digits(out, v, 8);
 }
 
-/// Adds a word in decimal digits, as a signed number of 32 bits: 11 bytes at most.
+/// Adds a word in decimal digits, as a signed 32-bit number: at most 11 bytes.
 pub fn add_signed(out: &mut OutBuf, v: u32)
     requires { 11 ≤ out.old.room }
     ensures { Added 11 out.old out.new (signed_decimal (cast_signed w32 v)) }
@@ -61,7 +62,7 @@ pub fn add_signed(out: &mut OutBuf, v: u32)
     add(out, digits.format(v.cast_signed()).as_bytes());
 }
 
-/// Adds a number in decimal digits: 10 bytes at most.
+/// Adds a number in decimal digits: at most 10 bytes.
 pub fn add_decimal(out: &mut OutBuf, n: u32)
     requires { 10 ≤ out.old.room }
     ensures { Added 10 out.old out.new (decimal n) }

@@ -1,13 +1,13 @@
-//! Words of 32 bits that the kernel's calls know by name (VxWorks 5.4 Reference Manual).
+//! 32-bit words that the kernel's calls know by name (VxWorks 5.4 Reference Manual).
 
-/// The answer of a call that is refused.
+/// The result of a refused call.
 pub const ERROR: u32 = u32::MAX;
 
-/// The answer of a call that has nothing else to say.
+/// The result of a successful call that returns nothing else.
 pub const OK: u32 = 0;
 
-/// The timeout of a wait that has no end.
+/// The timeout, in ticks, of a wait without a time limit.
 pub const WAIT_FOREVER: u32 = u32::MAX;
 
-/// The timeout of a wait that is refused in place of waiting.
+/// The timeout, in ticks, of a call that is refused instead of waiting.
 pub const NO_WAIT: u32 = 0;

@@ -1,4 +1,4 @@
--- One task is changed, and what held of each task becomes another fact.
+-- One task is changed, and a property of each task becomes another property.
 use Rattle.std.proofs.Common.{◌≡◌, ℕ, ◌<◌, true, false, cond, eqb, List, length, get_or, None, Some, refl, sym, ap, ◌∙◌, subst, arith, ⊎_elim}
 use Rattle.std.specs.List.{All, Contains}
 use Rattle.std.proofs.lemmas.Bool.{eqb-true, eqb-false, cases_eq}
@@ -12,12 +12,12 @@ use Rattle.wind_lists.proofs.Records.{found_at, found_in}
 use Rattle.wind_core.specs.State.{KernState, task_id, task_of}
 use Rattle.wind_core.specs.Moves.{renewed, settled, move_found, with_pri, has_pri, change_pri}
 
--- what holds of each task, by its id
+-- a property of each task, for the task with an id
 pub found_all : (P : Task → Type 0) (ts : List Task) (who : ℕ) (t : Task) → All P ts → task_of ts who ≡ Some t → P t
 found_all P ts who t all e = All-contains P ts t all (found_at task_id ts who t e)
 
 module _ (P Q : Task → Type 0) where
-  -- f makes Q of P of the task of this id, and of the others Q follows
+  -- f turns P of the task with this id into Q, and Q follows for the others
   pub All-change_at : (ts : List Task) (who : ℕ) (f : Task → Task) → ((t : Task) → Contains ts t → t.id ≡ who → P t → Q (f t)) → ((t : Task) → Contains ts t → (t.id ≡ who → ⊥) → P t → Q t)
       → All P ts → All Q (change task_id ts who f)
   All-change_at ts who f here there all k d h =
@@ -30,7 +30,7 @@ module _ (P Q : Task → Type 0) where
         | false ↦ λ e. there t (Contains-get_or ts k d within) (eqb-false t.id who e) (all k d within)
       ] refl)
 
-  -- its priority changes, and with it its order number where it is ready
+  -- its priority changes, and its order number too if it is ready
   pub All-change_pri : (k : KernState) (who p : ℕ) → Rising task_id k.tasks → ((t : Task) → Contains k.tasks t → t.id ≡ who → P t → Q (with_pri p t)) → ((t : Task) → Contains k.tasks t → (t.id ≡ who → ⊥) → P t → Q t)
       → ((since : ℕ) (t : Task) → Q t → Q (renewed since t)) → All P k.tasks → All Q (change_pri k who p).tasks
   All-change_pri k who p up here there renews all =

@@ -1,4 +1,4 @@
--- Tasks come and go.
+-- Tasks are made and removed.
 use Rattle.std.proofs.Common.{◌≡◌, ℕ, ◌+◌, ◌<◌, ◌≤◌, Bool, true, not, cond, eqb, List, [], ◌∷◌, ◌++◌, length, None, Some, IfSome, refl, sym, ap, ◌∙◌, subst, arith}
 use Rattle.std.specs.List.{All}
 use Rattle.std.proofs.lemmas.Bool.{ne_eqb}
@@ -30,7 +30,7 @@ use Rattle.wind_core.specs.declared.kern.Kern.TheInside.{Inside}
 use Rattle.wind_core.specs.contracts.kern.Kern.{the_view}
 use Rattle.wind_core.proofs.Writes.{Kept}
 
--- ---- a task goes
+-- ---- a task is removed
 pub without_keeps : (s : KernState) (who : ℕ) → IsKern s → IsKern (remove s who)
 without_keeps s who is =
     let stays : Task → Bool = λ t. not (eqb t.id who) in
@@ -67,7 +67,7 @@ removed_keeps k who l r d kept waits ready delays = (
       }),
 )
 
--- ---- a task comes
+-- ---- a task is made
 pub ids_below : (k : Inside) → Kept k → IdsBelow k.ids.next k.tasks.rows
 ids_below k kept i d within =
     let id : Task → ℕ = task_id in
@@ -87,7 +87,7 @@ push_keeps s t is few left id since ahead = record {
   ahead = All-push (WakesAhead s.tick) s.tasks t is.ahead ahead;
 }
 
--- the queues, where the last of all comes and is ready
+-- the queues after a last task is added, which is ready
 added_queues : (k : Inside) (t : Task) (r : urgent.Order) → Kept k → t.since ≡ k.next_since → t.wake ≡ None → t.wait ≡ None → is_ready t ≡ true → r ≡ urgent.with_task k.ready (as_ready t)
     → AreQueued k.waits r k.delays (objects k.tasks.rows ++ t ∷ [])
 added_queues k t r kept since awake free ready e =
@@ -109,7 +109,7 @@ added_keeps k t r kept few left id since awake free ready e = (
   subst (AreQueued k.waits r k.delays) (sym (map-append (λ (r : ℕ × Task). r.1) k.tasks.rows ((k.ids.next, t) ∷ []))) (added_queues k t r kept since awake free ready e),
 )
 
--- a new task comes, made of n
+-- a new task is made from n
 pub spawned_keeps : (k : Inside) (n : NewTask) (t : Task) (i j : ℕ) (ids' : Ids) (tasks' : table.Rows Task) (r : urgent.Order) → Kept k → length k.tasks.rows < 256 → k.ids.next ≤ 1048576
     → t ≡ new_task i k.next_since n → i ≡ k.ids.next → tasks' ≡ added k.tasks j t → j ≡ k.ids.next → ids' ≡ one_given k.ids → r ≡ urgent.with_task k.ready (n.pri, j)
     → Kept (record k { tasks = tasks'; ids = ids'; next_since = k.next_since + 1; ready = r })
@@ -121,7 +121,7 @@ spawned_keeps k n t i j ids' tasks' r kept few left made here rows own next put 
     (ap (λ (t : Task). t.since) made) (ap (λ (t : Task). t.wake) made) (ap (λ (t : Task). t.wait) made) (ap is_ready made)
     (put ∙ ap (λ n. urgent.with_task k.ready (n, j)) (sym (ap (λ (t : Task). t.pri) made)) ∙ ap (λ m. urgent.with_task k.ready (t.pri, m)) (own ∙ sym id))))
 
--- its id is new to the queue of ready tasks, where there is room
+-- its id is new to the queue of ready tasks, which has room
 below_none : (ts : List Task) (n : ℕ) → All (λ t. t.id < n) ts → task_of ts n ≡ None
 below_none [] n below = refl
 below_none (t ∷ ts) n below =

@@ -1,4 +1,4 @@
--- Who is first in each queue is whom the definitions name.
+-- The first task of each queue is the one that the definitions name.
 use Rattle.std.proofs.Common.{◌≡◌, ℕ, ◌+◌, ◌<◌, ◌≤◌, Bool, true, false, cond, leb, ltb, eqb, List, [], ◌∷◌, map, Option, None, Some, IfSome, is_some, refl, sym, ap, ◌∙◌, arith}
 use Rattle.std.specs.Prelude.{unwrap_or}
 use Rattle.std.specs.List.{All, AllByRecursion, filter}
@@ -34,7 +34,7 @@ module _ {X : Type 0} (P : X → Type 0) (lt other : X → X → Bool) (agree : 
   sorted_agrees (x ∷ xs) ps = ap (insert_sorted lt x) (sorted_agrees xs ps.1) ∙ insert_agrees x (sorted other xs) ps.0 (all_in_order xs ps.1)
 
 -- ---- keys
--- a key that is not before another has no lesser first number
+-- if a key isn't before another, its first number isn't less
 not_less : (a b : ℕ) (xs ys : List ℕ) → is_less (a ∷ xs) (b ∷ ys) ≡ false → b ≤ a
 not_less a b xs ys e =
     elim (ltb a b) as (λ t. ltb a b ≡ t → is_lt (ordering_then (cond t Less (cond (eqb a b) Equal Greater)) (slice_cmp nat_cmp xs ys)) ≡ false → b ≤ a) [
@@ -42,13 +42,13 @@ not_less a b xs ys e =
       | false ↦ λ t q. ltb-false a b t
     ] refl e
 
--- where the first numbers are the same, the others decide
+-- if the first numbers are equal, the others decide
 same_first : (a : ℕ) (xs ys : List ℕ) → is_less (a ∷ xs) (a ∷ ys) ≡ is_less xs ys
 same_first a xs ys =
     ap (λ t. is_lt (ordering_then (cond t Less (cond (eqb a a) Equal Greater)) (slice_cmp nat_cmp xs ys))) (le-ltb a a (omega arith))
     ∙ ap (λ t. is_lt (ordering_then (cond t Equal Greater) (slice_cmp nat_cmp xs ys))) (eq-eqb a a refl)
 
--- ---- those that are due at the next tick
+-- ---- the tasks that are due at the next tick
 -- a task that is due wakes at a tick
 due_sleeps : (m : ℕ) (o : Option ℕ) → has_come m o ≡ true → is_some o ≡ true
 due_sleeps m None e = absurd (cc)
@@ -64,7 +64,7 @@ due_asleep m (t ∷ ts) =
           ∙ ap (λ o. cond (has_come m o) (t ∷ filter (is_due m) ts) (filter (is_due m) ts)) e
     ] refl
 
--- it wakes at that tick, where no wake was left behind
+-- if every wake is in the future, it wakes at exactly that tick
 exactly : (n : ℕ) (o : Option ℕ) → IfSome o (λ w. n < w) → has_come (n + 1) o ≡ true → o ≡ Some (n + 1)
 exactly n None ahead e = absurd (cc)
 exactly n (Some w) ahead e = ap Some (let least = leb-true w (n + 1) e in omega (arith, least, ahead))
@@ -78,7 +78,7 @@ all_due n (t ∷ ts) all =
       | false ↦ λ b. rest
     ] refl
 
--- of two that wake at one tick the first to arrive is before the other
+-- of two tasks that wake at one tick, the one with the lower order number is before
 by_arrival : (m : ℕ) (t u : Task) → t.wake ≡ Some m → u.wake ≡ Some m → wakes_before t u ≡ arrives_before t u
 by_arrival m t u left right =
     ap (λ o. is_less (unwrap_or o 0 ∷ arrival t) (waking_tick u ∷ arrival u)) left
@@ -91,12 +91,12 @@ due_in_line n ts all =
     ∙ ap (sorted wakes_before) (due_asleep (n + 1) ts)
     ∙ sorted_agrees (λ t. t.wake ≡ Some (n + 1)) wakes_before arrives_before (by_arrival (n + 1)) (filter (is_due (n + 1)) ts) (all_due n ts all)
 
--- ---- the first of those that sleep
+-- ---- the first of the tasks that have a wake
 come_by : (m : ℕ) (o : Option ℕ) → is_some o ≡ true → has_come m o ≡ leb (unwrap_or o 0) m
 come_by m None e = absurd (cc)
 come_by m (Some w) e = refl
 
--- where the first is not due, none is
+-- if the first isn't due, none is
 none_due : (m : ℕ) (d : Task) (ts : List Task) → leb (waking_tick d) m ≡ false → AllByRecursion (λ t. sleeps t ≡ true) ts → AllByRecursion (λ t. wakes_before t d ≡ false) ts → filter (is_due m) ts ≡ []
 none_due m d [] later asleep after = refl
 none_due m d (t ∷ ts) later asleep after =
@@ -129,7 +129,7 @@ asleep_in_line : (ts : List Task) → AllByRecursion (λ t. sleeps t ≡ true) t
 asleep_in_line [] all = tt
 asleep_in_line (t ∷ ts) all = all_insert wakes_before (λ u. sleeps u ≡ true) t (sorted wakes_before ts) all.0 (asleep_in_line ts all.1)
 
--- where no wake was left behind, the head of the queue is the first to arrive of those that wake at the next tick
+-- if every wake is in the future, the head of the queue is the first, by arrival, of the tasks that wake at the next tick
 pub due_first : (n : ℕ) (ts : List Task) → All (WakesAhead n) ts → timed.due_at (delayed_of ts) (n + 1) ≡ option_map task_id (first_due ts (n + 1))
 due_first n ts all =
     first_shown (n + 1) (in_line wakes_before sleeps ts) (asleep_in_line (filter sleeps ts) (all_asleep ts)) (in_order_sorted wakes_before wakes_before-order (filter sleeps ts))

@@ -7,7 +7,7 @@ use Rattle.wind_lists.proofs.Records.{found_id, found_at}
 use Rattle.wind_core.specs.State.{KernState, IsKern, task_id, task_of}
 use Rattle.wind_core.specs.Moves.{live_id}
 
--- no task has a number that is no id
+-- no task has a number that isn't an id
 pub no_id : (s : KernState) → IsKern s → (n : ℕ) → ((0 < n) × (n ≤ 1048576) → ⊥) → None ≡ live_id s.tasks n
 no_id s is n outside =
     elim (eqb n 0) as (λ b. eqb n 0 ≡ b → None ≡ cond b None (option_map task_id (task_of s.tasks n))) [

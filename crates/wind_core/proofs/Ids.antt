@@ -36,7 +36,7 @@ abbrev tail_of : List ℕ → List ℕ
 tail_of [] = []
 tail_of (x ∷ xs) = xs
 
--- a task that lives in one list lives in another with the same ids
+-- a task that is live in one list is live in another with the same ids
 pub lives_by : (ts us : List Task) (who : ℕ) → ids ts ≡ ids us → IsSome (task_of us who) → IsSome (task_of ts who)
 lives_by [] [] who e h = h
 lives_by [] (u ∷ us) who e h = absurd (cc)
@@ -49,13 +49,13 @@ lives_by (t ∷ ts) (u ∷ us) who e h =
       | false ↦ λ b. lives_by ts us who rest (subst (λ c. IsSome (cond c (Some u) (task_of us who))) (ap (λ n. eqb n who) heads ∙ b) h)
     ] refl
 
--- how many order numbers a tick gives out
+-- the number of order numbers that a tick gives
 since-time_outs : (s : KernState) (ts : List Task) → (fold time_out s ts).next_since ≤ s.next_since + length ts
 since-time_outs s [] = omega arith
 since-time_outs s (t ∷ ts) =
     omega (arith, since-time_outs (time_out s t) ts, since-end_wait s t.id (late_answer (is_some t.wait)) (late_errno (is_some t.wait)))
 
--- as many tasks as there are ids
+-- lists with the same ids have the same length
 length_by : (ts us : List Task) → ids ts ≡ ids us → length ts ≡ length us
 length_by ts us e = sym (length-map ts task_id) ∙ ap length e ∙ length-map us task_id
 

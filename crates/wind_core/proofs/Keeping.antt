@@ -1,4 +1,4 @@
--- Moves of the kernel keep the kept facts, whether the task that they name lives or not.
+-- Moves of the kernel keep its invariant, whether the task that they name is live or not.
 use Rattle.std.proofs.Common.{◌≡◌, ℕ, ◌+◌, ◌<◌, ◌≤◌, Bool, true, false, cond, leb, List, [], ◌∷◌, length, Option, None, Some, IfSome, refl, sym, ◌∙◌, subst, arith, inl, inr}
 use Rattle.std.proofs.lemmas.Bool.{leb-false}
 use Rattle.std.proofs.lemmas.List.Elements.{All-weaker}
@@ -17,7 +17,7 @@ use Rattle.wind_core.proofs.Writes.{MayFollow, IsKern-replace, settled_follows}
 use Rattle.wind_core.proofs.Comings.{push_keeps}
 
 -- ---- one task is changed
--- the next order number may rise
+-- the next order number can rise
 more_sinces : (s : KernState) (n : ℕ) → s.next_since ≤ n → IsKern s → IsKern (record s { next_since = n })
 more_sinces s n more is = record {
   few = is.few;
@@ -30,7 +30,7 @@ more_sinces s n more is = record {
   ahead = is.ahead;
 }
 
--- the task of an id becomes what may follow it
+-- the task with an id is replaced by one that can follow it
 pub change_keeps : (s : KernState) (who n : ℕ) (f : Task → Task) → IsKern s → s.next_since ≤ n → ((x : Task) → task_of s.tasks who ≡ Some x → MayFollow s x (f x) n)
     → IsKern (record s { tasks = change task_id s.tasks who f; next_since = n })
 change_keeps s who n f is more may =
@@ -39,7 +39,7 @@ change_keeps s who n f is more may =
       | Some x ↦ λ e. subst (λ ts. IsKern (record s { tasks = ts; next_since = n })) (replace-change task_id s.tasks who x f is.rising e) (IsKern-replace s who n x (f x) is e (may x e))
     ] refl
 
--- f keeps the id and the order number, and lets no task sleep past its tick
+-- f keeps the id and the order number, and a wake stays in the future
 pub record IsMild (tick : ℕ) (f : Task → Task) : Type 0 where
   pub id : (t : Task) → (f t).id ≡ t.id
   pub since : (t : Task) → (f t).since ≡ t.since
@@ -66,7 +66,7 @@ move_task_keeps s who f is mild =
     ] refl
 
 -- ---- the calls
--- at most a field that is no part of the kept facts is written
+-- only a field that the invariant doesn't mention is written
 plain : (tick : ℕ) (f : Task → Task) → ((t : Task) → (f t).id ≡ t.id) → ((t : Task) → (f t).since ≡ t.since) → ((t : Task) → (f t).wake ≡ t.wake) → IsMild tick f
 plain tick f id since wake = record { id = id; since = since; ahead = λ t h. subst (λ w. IfSome w (λ v. tick < v)) (sym (wake t)) h }
 
@@ -94,7 +94,7 @@ change_pri_keeps s who pri is =
       | false ↦ move_task_keeps s who (with_pri pri) is (plain s.tick (with_pri pri) (λ t. refl) (λ t. refl) (λ t. refl))
     ]
 
--- a task is made only where there is room and an id is left
+-- a task is made only if there is room and an id is left
 below_limit : (n id : ℕ) (e f : Errno) → cond (leb 256 n) (Some e) (cond (leb 1048577 id) (Some f) None) ≡ None → (n < 256) × (id ≤ 1048576)
 below_limit n id e f none =
     elim (leb 256 n) as (λ b. leb 256 n ≡ b → cond b (Some e) (cond (leb 1048577 id) (Some f) None) ≡ None → (n < 256) × (id ≤ 1048576)) [
@@ -118,7 +118,7 @@ pub writes : (s : KernState) (who : ℕ) (f : Task → Task) → IsKern s → ((
     → IsKern (change_task s who f)
 writes s who f is id since wake = change_task_keeps s who f is (plain s.tick f id since wake)
 
--- counters and notes that tell nothing of the tasks
+-- counters and notes that say nothing about the tasks
 pub counters_keep : (k : KernState) (next slice : ℕ) (lent : Bool) (last : Option ℕ) → IsKern k → k.next_id ≤ next → next ≤ 1048577
     → IsKern (record k { next_id = next; slice = slice; lent = lent; last = last })
 counters_keep k next slice lent last is more most = record {

@@ -1,4 +1,4 @@
--- The laws of who runs, of the orders in which tasks stand, and of waking all.
+-- The laws of the running task, of the orders of tasks, and of waking all.
 use Rattle.std.proofs.Common.{◌≡◌, ℕ, ◌<◌, true, false, cond, ltb, List, [], ◌∷◌, Option, None, Some, refl, sym, ap, ◌∙◌, subst, inl, inr}
 use Rattle.std.specs.List.{Contains, filter}
 use Rattle.std.proofs.lemmas.Bool.{and_parts, and_from, ltb-true, lt-ltb}
@@ -30,7 +30,7 @@ pub none_left : WakeAllLaw
 none_left s is place answer errno = woken_each place answer errno (waiters s.tasks place) s is refl
 
 -- ---- the orders
--- two tasks of one id are one task
+-- two tasks with the same id are the same task
 one_task : (s : KernState) → IsKern s → (x y : Task) → Contains s.tasks x → Contains s.tasks y → x.id ≡ y.id → x ≡ y
 one_task s is x y at_x at_y same =
     same_Some x y (sym (found_in task_id s.tasks x is.rising at_x) ∙ ap (task_of s.tasks) same ∙ found_in task_id s.tasks y is.rising at_y)
@@ -42,8 +42,8 @@ total_orders = (
   record { order = arrives_before-order; one = λ s is x y at_x at_y left right. one_task s is x y at_x at_y (let e = neither (arrival x) (arrival y) left right in cc) },
 )
 
--- ---- who runs
--- a task that is kept on is the one that ran last, is ready and holds the lock
+-- ---- which task runs
+-- a task that goes on ran last, is ready and holds the scheduler lock
 record IsKept (s : KernState) (x : Task) : Type 0 where
   found : task_of s.tasks x.id ≡ Some x
   last : s.last ≡ Some x.id

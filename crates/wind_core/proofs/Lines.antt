@@ -1,4 +1,4 @@
--- Elements in line by a key, each shown by its id and its rank: the line after one of them has changed, come or gone.
+-- Elements in line by a key, each shown by its id and rank: the line after one of them is changed, added or removed.
 use Rattle.std.proofs.Common.{◌≡◌, ℕ, zero, suc, ◌<◌, ◌≤◌, Bool, true, false, not, cond, eqb, leb, List, [], ◌∷◌, ◌++◌, map, length, get_or, None, Some, refl, sym, ap, ◌∙◌, subst, arith}
 use Rattle.std.specs.List.{All, AllByRecursion, filter}
 use Rattle.std.specs.Cmp.{IsStrictWeakOrder}
@@ -18,7 +18,7 @@ get_or_middle : {X : Type 0} (us : List X) (x : X) (vs : List X) (d : X) → get
 get_or_middle [] x vs d = refl
 get_or_middle (u ∷ us) x vs d = get_or_middle us x vs d
 
--- ---- a record of an id splits its list
+-- ---- a record with an id splits its list
 module _ {X : Type 0} (id : X → ℕ) where
   pub record Split (xs : List X) (n : ℕ) (x : X) : Type 0 where
     pub front : List X
@@ -54,12 +54,12 @@ module _ {X : Type 0} (id : X → ℕ) where
 
 -- ---- insertions
 module _ {X : Type 0} (lt : X → X → Bool) (w : IsStrictWeakOrder lt) (p : X → Bool) where
-  -- of two elements one is before the other: either may go in first
+  -- if one of two elements is before the other, they can be inserted in either order
   swap_less : (x y : X) (zs : List X) → lt x y ≡ true → insert_sorted lt x (insert_sorted lt y zs) ≡ insert_sorted lt y (insert_sorted lt x zs)
   swap_less x y [] less = grind (arith, w.one_way)
   swap_less x y (z ∷ zs) less = grind (arith, w.one_way, w.chain, swap_less x y zs)
 
-  -- one that passes is put in where it stands in line
+  -- one that passes the test is inserted at its place in the line
   pub passes_in : (front back : List X) (y : X) → p y ≡ true → All (λ x. lt x y ≡ not (lt y x)) front
       → sorted lt (filter p (front ++ y ∷ back)) ≡ insert_sorted lt y (sorted lt (filter p (front ++ back)))
   passes_in [] back y py apart = ap (λ b. sorted lt (cond b (y ∷ filter p back) (filter p back))) py
@@ -76,7 +76,7 @@ module _ {X : Type 0} (lt : X → X → Bool) (w : IsStrictWeakOrder lt) (p : X 
         | false ↦ rest
       ]
 
-  -- one that doesn't pass is of no account
+  -- one that doesn't pass makes no difference
   pub skips : (front back : List X) (y : X) → p y ≡ false → filter p (front ++ y ∷ back) ≡ filter p (front ++ back)
   skips front back y py =
       filter-append p front (y ∷ back)
@@ -93,11 +93,11 @@ module _ {X : Type 0} (lt : X → X → Bool) (w : IsStrictWeakOrder lt) (p : X 
 
 -- ---- the line
 module _ {X Y : Type 0} (id : X → ℕ) (own rank : Y → ℕ) (show : X → Y) (same_id : (x : X) → own (show x) ≡ id x) (lt : X → X → Bool) (w : IsStrictWeakOrder lt) (p : X → Bool) where
-  -- those that pass the test, in line, as they are shown
+  -- the elements that pass the test, in line, as they are shown
   abbrev pub line : List X → List Y
   line xs = map show (in_line lt p xs)
 
-  -- x is before y exactly where its rank is no greater, and else y is before x
+  -- x is before y exactly if its rank is at most that of y; otherwise y is before x
   pub record Behind (y x : X) : Type 0 where
     pub ahead : lt x y ≡ leb (rank (show x)) (rank (show y))
     pub behind : lt y x ≡ not (leb (rank (show x)) (rank (show y)))
@@ -114,7 +114,7 @@ module _ {X Y : Type 0} (id : X → ℕ) (own rank : Y → ℕ) (show : X → Y)
       ]
       ∙ ap (λ i. cond (not (eqb i n)) (show x ∷ without own (map show xs) n) (without own (map show xs) n)) (sym (same_id x))
 
-  -- the line without one
+  -- the line without one element
   pub line_without : (xs : List X) (n : ℕ) → line (without id xs n) ≡ without own (line xs) n
   line_without xs n =
       let other : X → Bool = λ x. not (eqb (id x) n) in
@@ -134,14 +134,14 @@ module _ {X Y : Type 0} (id : X → ℕ) (own rank : Y → ℕ) (show : X → Y)
   in_line_all : (P : X → Type 0) (xs : List X) → All P xs → AllByRecursion P (in_line lt p xs)
   in_line_all P xs all = all_sorted lt w p P (filter p xs) (recursion_from_All P (filter p xs) (All-filter p P xs all))
 
-  -- one that stands behind all of its rank is put in, wherever it stood
+  -- an element that comes after all of its rank, wherever it was, is inserted there
   put_in : (front back : List X) (y : X) → p y ≡ true → All (Behind y) front → All (Behind y) back → line (front ++ y ∷ back) ≡ put_behind own rank (line (front ++ back)) (show y)
   put_in front back y py first last =
       ap (map show) (passes_in lt w p front back y py (λ k d h. apart y (get_or front k d) (first k d h)))
       ∙ shown_insert y (in_line lt p (front ++ back)) (in_line_all (Behind y) (front ++ back) (All-append (Behind y) front back first last))
 
-  -- ---- one changes
-  -- to one that passes, and stands behind all of its rank
+  -- ---- one element changes
+  -- it then passes, and comes after all of its rank
   pub line_renewed : (xs : List X) (n : ℕ) (x y : X) → Rising id xs → of_id id xs n ≡ Some x → p y ≡ true → All (Behind y) xs → line (replace id xs n y) ≡ put_behind own rank (without own (line xs) n) (show y)
   line_renewed xs n x y up e py all =
       let s = split id xs n x up e in
@@ -159,7 +159,7 @@ module _ {X Y : Type 0} (id : X → ℕ) (own rank : Y → ℕ) (show : X → Y)
       back_all P [] vs h = h
       back_all P (u ∷ us) vs h = back_all P us vs (All-tail P u (us ++ vs) h)
 
-  -- to one that doesn't pass
+  -- it then doesn't pass
   pub line_gone : (xs : List X) (n : ℕ) (x y : X) → Rising id xs → of_id id xs n ≡ Some x → p y ≡ false → line (replace id xs n y) ≡ without own (line xs) n
   line_gone xs n x y up e py =
       let s = split id xs n x up e in
@@ -168,7 +168,7 @@ module _ {X Y : Type 0} (id : X → ℕ) (own rank : Y → ℕ) (show : X → Y)
       ∙ ap line (sym s.left)
       ∙ line_without xs n
 
-  -- and did not before
+  -- it didn't pass before, and doesn't pass then
   pub line_unmoved : (xs : List X) (n : ℕ) (x y : X) → Rising id xs → of_id id xs n ≡ Some x → p x ≡ false → p y ≡ false → line (replace id xs n y) ≡ line xs
   line_unmoved xs n x y up e px py =
       let s = split id xs n x up e in
@@ -176,17 +176,17 @@ module _ {X Y : Type 0} (id : X → ℕ) (own rank : Y → ℕ) (show : X → Y)
       ∙ ap (λ us. map show (sorted lt us)) (skips lt w p s.front s.back y py ∙ sym (skips lt w p s.front s.back x px))
       ∙ ap line (sym s.whole)
 
-  -- ---- one comes, and stands behind all of its rank
+  -- ---- one element is added, and comes after all of its rank
   pub line_push : (xs : List X) (y : X) → p y ≡ true → All (Behind y) xs → line (xs ++ y ∷ []) ≡ put_behind own rank (line xs) (show y)
   line_push xs y py all =
       put_in xs [] y py all (λ k d h. absurd (omega arith))
       ∙ ap (λ us. put_behind own rank (line us) (show y)) (append-nil xs)
 
-  -- or doesn't pass
+  -- one is added that doesn't pass
   pub line_pushed : (xs : List X) (y : X) → p y ≡ false → line (xs ++ y ∷ []) ≡ line xs
   line_pushed xs y py = ap (λ us. map show (sorted lt us)) (skips lt w p xs [] y py) ∙ ap line (append-nil xs)
 
-  -- ---- what a look-up finds, and room
+  -- ---- the result of a look-up, and room
   pub line_absent : (xs : List X) (n : ℕ) → of_id id xs n ≡ None → of_id own (line xs) n ≡ None
   line_absent xs n none =
       ap (λ us. of_id own us n) (ap line (sym (none_without id xs n none)) ∙ line_without xs n)
@@ -199,7 +199,7 @@ module _ {X Y : Type 0} (id : X → ℕ) (own rank : Y → ℕ) (show : X → Y)
   pub length-line : (xs : List X) → length (line xs) ≤ length xs
   length-line xs = omega (arith, length-map (in_line lt p xs) show, length-in_line id lt w p xs)
 
-  -- a record of an id that passes is found as it is shown, where elements of which neither is before the other have one id
+  -- a record with an id that passes is found as it is shown, if elements have the same id when neither is before the other
   pub line_found : ((u v : X) → lt u v ≡ false → lt v u ≡ false → id u ≡ id v) → (xs : List X) (n : ℕ) (x : X) → Rising id xs → of_id id xs n ≡ Some x → p x ≡ true
       → of_id own (line xs) n ≡ Some (show x)
   line_found total xs n x up e px =
@@ -240,7 +240,7 @@ module _ {X Y : Type 0} (id : X → ℕ) (own rank : Y → ℕ) (show : X → Y)
             | false ↦ ap (λ b. cond b (Some (show x)) (of_id own (map show (z ∷ zs)) n)) (eq-eqb (own (show x)) n same)
           ]
 
--- ---- one keeps all that the line reads of it
+-- ---- one element changes, but nothing that the line reads of it
 module _ {X Y E : Type 0} (see : X → E) (show : E → Y) (lt : E → E → Bool) (p : E → Bool) where
   seen_filter : (xs : List X) → map see (filter (λ x. p (see x)) xs) ≡ filter p (map see xs)
   seen_filter [] = refl

@@ -1,4 +1,4 @@
--- The queues after one task is written: each tells its tasks again, mended or as it was.
+-- The queues after one task is written: each agrees with the tasks again, whether it was updated or not.
 use Rattle.std.proofs.Common.{◌≡◌, ℕ, ◌+◌, ◌<◌, Bool, true, false, not, cond, leb, [], ◌∷◌, length, Option, None, Some, IfSome, is_some, inl, inr, refl, sym, ap, ◌∙◌, subst, arith}
 use Rattle.std.specs.Prelude.{is_none, ◌&&◌, unwrap_or}
 use Rattle.std.specs.Option.{option_map}
@@ -29,7 +29,7 @@ use Rattle.wind_core.proofs.Queued.{IsLast, ready_mended_is, ready_same, ready_f
 use Rattle.wind_core.proofs.Writes.{Kept, requeued, written, tasks_with, found, MayFollow, written_keeps, settled_id, settled_wake, settled_follows}
 
 -- ---- a task that is ready
--- it waits for nothing and doesn't sleep
+-- it waits for nothing and has no wake
 pub free_ready : (t : Task) → is_ready t ≡ true → (t.wait ≡ None) × (t.wake ≡ None)
 free_ready t b =
     let parts = and_parts (is_none t.wait) (is_none t.wake && not t.suspended) b in
@@ -39,7 +39,7 @@ free_ready t b =
     nothing None e = refl
     nothing (Some x) e = absurd (cc)
 
--- a task that is settled has the key that it had: it waits for nothing where it gets a new order number
+-- a settled task keeps its key: if it gets a new order number, it waits for nothing
 settled_key : (n : ℕ) (u : Task) → as_waiter (settled n u) ≡ as_waiter u
 settled_key n u =
     elim (is_ready u) as (λ b. is_ready u ≡ b → as_waiter (cond b (renewed n u) u) ≡ as_waiter u) [
@@ -49,7 +49,7 @@ settled_key n u =
       | false ↦ λ b. refl
     ] refl
 
--- where it is ready, it has the new order number
+-- if it is ready, it has the new order number
 settled_fresh : (n : ℕ) (u : Task) → is_ready (settled n u) ≡ true → (settled n u).since ≡ n
 settled_fresh n u =
     elim (is_ready u) as (λ b. is_ready u ≡ b → is_ready (cond b (renewed n u) u) ≡ true → (cond b (renewed n u) u).since ≡ n) [
@@ -59,7 +59,7 @@ settled_fresh n u =
 
 -- ---- one queue
 module _ (k : Inside) (who : ℕ) (x y : Task) (kept : Kept k) (value : object_of k.tasks.rows who ≡ Some x) where
-  -- a task with the next order number is the last of all
+  -- a task with the next order number comes after all others
   last_of_all : y.since ≡ k.next_since → IsLast y (objects k.tasks.rows)
   last_of_all fresh = All-weaker (λ t. t.since < k.next_since) (λ t. t.since < y.since) (λ t h. omega (arith, fresh, h)) (objects k.tasks.rows) kept.2.sinces
 
@@ -75,7 +75,7 @@ module _ (k : Inside) (who : ℕ) (x y : Task) (kept : Kept k) (value : object_o
   pub waits_mend : (l : Line) → y.id ≡ x.id → l ≡ mended k.waits y → l ≡ task_waits (tasks_with k who y)
   waits_mend l id e = e ∙ ap (λ m. mended m y) kept.3.waits_held ∙ mended_is (objects k.tasks.rows) who x y kept.2.rising (found k who x kept value) (own id)
 
-  -- y stands among the ready tasks as x did
+  -- y is among the ready tasks as x was
   pub ready_stays : y.id ≡ x.id → y.pri ≡ x.pri → y.since ≡ x.since → is_ready y ≡ is_ready x → k.ready ≡ ready_tasks (tasks_with k who y)
   ready_stays id pri since same =
       kept.3.ready_held
@@ -87,7 +87,7 @@ module _ (k : Inside) (who : ℕ) (x y : Task) (kept : Kept k) (value : object_o
       e ∙ ap (λ o. ready_mended o y) kept.3.ready_held
       ∙ ready_mended_is (objects k.tasks.rows) who x y kept.2.rising (found k who x kept value) (own id) (λ b. last_of_all (fresh b))
 
-  -- y is not ready
+  -- y isn't ready
   pub ready_goes : (r : urgent.Order) → y.id ≡ x.id → is_ready y ≡ false → r ≡ urgent.without_task k.ready who → r ≡ ready_tasks (tasks_with k who y)
   ready_goes r id out e =
       ready_mends r id (λ b. absurd (let both : false ≡ true = sym out ∙ b in cc))
@@ -95,7 +95,7 @@ module _ (k : Inside) (who : ℕ) (x y : Task) (kept : Kept k) (value : object_o
       ∙ ap (urgent.without_task k.ready) (sym (own id))
       ∙ ap (λ b. cond b (urgent.with_task (urgent.without_task k.ready y.id) (as_ready y)) (urgent.without_task k.ready y.id)) (sym out))
 
-  -- y is ready with the next order number, as x was, and goes behind all of its priority
+  -- y is ready with the next order number, as x was, and goes after all of its priority
   pub ready_turns : (r : urgent.Order) → y.id ≡ x.id → y.pri ≡ x.pri → is_ready x ≡ true → is_ready y ≡ true → y.since ≡ k.next_since → r ≡ urgent.rotated k.ready who → r ≡ ready_tasks (tasks_with k who y)
   ready_turns r id pri before after fresh e =
       let there = ready_found (objects k.tasks.rows) who x kept.2.rising (found k who x kept value) before in
@@ -106,23 +106,23 @@ module _ (k : Inside) (who : ℕ) (x y : Task) (kept : Kept k) (value : object_o
       ∙ ap (λ p. urgent.with_task (urgent.without_task k.ready y.id) (p, y.id)) (sym pri)
       ∙ ap (λ b. cond b (urgent.with_task (urgent.without_task k.ready y.id) (as_ready y)) (urgent.without_task k.ready y.id)) (sym after))
 
-  -- y sleeps as x does
+  -- y has the wake that x has
   pub delays_stay : y.id ≡ x.id → y.since ≡ x.since → y.wake ≡ x.wake → k.delays ≡ delayed_tasks (tasks_with k who y)
   delays_stay id since wake =
       kept.3.delays_held
       ∙ sym (delayed_same (objects k.tasks.rows) who x y kept.2.rising (found k who x kept value) (λ i. (is_some (wake i), (id i, unwrap_or (wake i) 0), unwrap_or (wake i) 0 ∷ since i ∷ id i ∷ [])))
 
-  -- neither sleeps
+  -- neither has a wake
   pub delays_apart : x.wake ≡ None → y.wake ≡ None → k.delays ≡ delayed_tasks (tasks_with k who y)
   delays_apart before after = kept.3.delays_held ∙ sym (delayed_unmoved (objects k.tasks.rows) who x y kept.2.rising (found k who x kept value) before after)
 
-  -- y sleeps only with the next order number
+  -- y has a wake only with the next order number
   pub delays_mend : (d : timed.Order) → y.id ≡ x.id → (sleeps y ≡ true → y.since ≡ k.next_since) → d ≡ delays_mended k.delays y → d ≡ delayed_tasks (tasks_with k who y)
   delays_mend d id fresh e =
       e ∙ ap (λ o. delays_mended o y) kept.3.delays_held
       ∙ delays_mended_is (objects k.tasks.rows) who x y kept.2.rising (found k who x kept value) (own id) (λ b. last_of_all (fresh b))
 
-  -- ---- there is room to mend each
+  -- ---- there is room for each update
   pub waits_fit : y.id ≡ x.id → length (without_waiter k.waits y.id).waiters < k.waits.room
   waits_fit id =
       let ts = objects k.tasks.rows in
@@ -142,14 +142,14 @@ module _ (k : Inside) (who : ℕ) (x y : Task) (kept : Kept k) (value : object_o
       (subst (λ n. length (timed.taken_out (delayed_of ts) n) < most_tasks) (sym (own id)) (omega (arith, fewer_asleep ts who x (found k who x kept value), kept.2.few)))
 
 -- ---- a setter
--- all that the queues and the kept facts read of a task
+-- everything that the queues and the invariant read of a task
 abbrev pub standing : Task → ℕ × ℕ × ℕ × Option Place × Bool × Option ℕ × Bool
 standing t = (t.id, t.pri, t.since, t.wait, t.fifo, t.wake, t.suspended)
 
 abbrev waiter_by : ℕ × ℕ × ℕ × Option Place × Bool × Option ℕ × Bool → Option Waiter
 waiter_by s = option_map (λ (place : Place). record { place = place; who = s.0; pri = cond s.4 0 s.1; since = s.2 }) s.3
 
--- y stands as x did
+-- y agrees with x in that
 pub same_keeps : (k : Inside) (who : ℕ) (x y : Task) → Kept k → object_of k.tasks.rows who ≡ Some x → standing y ≡ standing x → Kept (written k who y k.next_since)
 same_keeps k who x y kept value same =
     let id : y.id ≡ x.id = ap (λ s. s.0) same in
@@ -162,15 +162,15 @@ same_keeps k who x y kept value same =
       delays_held = delays_stay k who x y kept value id since wake;
     })
 
--- what f makes of a task stands as the task did
+-- the result of f agrees with the task in that
 abbrev pub Stays : (Task → Task) → Type 0
 Stays f = (t : Task) → standing (f t) ≡ standing t
 
--- y is made of x by such an f: the kept facts hold
+-- y is f of x for such an f, so the invariant holds
 pub set_keeps : (k : Inside) (who : ℕ) (x y : Task) (f : Task → Task) → Kept k → object_of k.tasks.rows who ≡ Some x → y ≡ f x → Stays f → Kept (written k who y k.next_since)
 set_keeps k who x y f kept value e stays = same_keeps k who x y kept value (ap standing e ∙ stays x)
 
--- y is suspended, and taken from the ready tasks
+-- y is suspended, and removed from the ready tasks
 pub suspended_keeps : (k : Inside) (who : ℕ) (x y : Task) (r : urgent.Order) → Kept k → object_of k.tasks.rows who ≡ Some x → y ≡ suspended x → r ≡ urgent.without_task k.ready who
     → Kept (requeued k who y k.next_since k.waits r k.delays)
 suspended_keeps k who x y r kept value e out =
@@ -190,7 +190,7 @@ suspended_keeps k who x y r kept value e out =
     never false q = refl
 
 -- ---- a new order number
--- y is u, made of x, with a new order number
+-- y is u, which is made from x, with a new order number
 pub renewed_keeps : (k : Inside) (who n : ℕ) (x u y : Task) (l : Line) (r : urgent.Order) (d : timed.Order) → Kept k → object_of k.tasks.rows who ≡ Some x → u.id ≡ x.id
     → (WakesAhead k.tick x → WakesAhead k.tick u) → y ≡ renewed k.next_since u → n ≡ k.next_since + 1
     → l ≡ mended k.waits y → r ≡ ready_mended k.ready y → d ≡ delays_mended k.delays y → Kept (requeued k who y n l r d)
@@ -205,7 +205,7 @@ renewed_keeps k who n x u y l r d kept value id ahead e next waits ready delays 
       delays_held = delays_mend k who x y kept value d own_id (λ _. fresh) delays;
     })
 
--- y is u, made of x, with a new order number where it is ready
+-- y is u, which is made from x, with a new order number if it is ready
 module _ (k : Inside) (who n : ℕ) (x u y : Task) (kept : Kept k) (value : object_of k.tasks.rows who ≡ Some x) (id : u.id ≡ x.id) (since : u.since ≡ x.since)
     (ahead : WakesAhead k.tick x → WakesAhead k.tick u) (e : y ≡ settled k.next_since u) (next : n ≡ k.next_since + cond (is_ready u) 1 0) where
   settled_own : y.id ≡ x.id
@@ -217,7 +217,7 @@ module _ (k : Inside) (who n : ℕ) (x u y : Task) (kept : Kept k) (value : obje
   settled_may : MayFollow (the_view k) x y n
   settled_may = subst (λ t. MayFollow (the_view k) x t n) (sym e) (subst (MayFollow (the_view k) x (settled k.next_since u)) (sym next) (settled_follows (the_view k) x u id since ahead))
 
-  -- where u sleeps as x does, the task stays as it was in the queue of those that sleep: it sleeps, or it is ready
+  -- if u has the wake of x, the task stays in the queue of wakes as it was: it has a wake, or it is ready
   settled_delays : u.wake ≡ x.wake → k.delays ≡ delayed_tasks (tasks_with k who y)
   settled_delays wake =
       elim (is_ready u) as (λ b. is_ready u ≡ b → k.delays ≡ delayed_tasks (tasks_with k who y)) [
@@ -229,7 +229,7 @@ module _ (k : Inside) (who n : ℕ) (x u y : Task) (kept : Kept k) (value : obje
             delays_stay k who x y kept value (ap task_id same ∙ id) (ap (λ (t : Task). t.since) same ∙ since) (ap (λ (t : Task). t.wake) same ∙ wake)
       ] refl
 
-  -- its wait ends, and it is mended in every queue
+  -- its wait ends, and it is updated in every queue
   pub ended_keeps : (l : Line) (r : urgent.Order) (d : timed.Order) → u.wake ≡ None → l ≡ mended k.waits y → r ≡ ready_mended k.ready y → d ≡ delays_mended k.delays y → Kept (requeued k who y n l r d)
   ended_keeps l r d awake waits ready delays =
       written_keeps k who n x y l r d kept value settled_may
@@ -239,7 +239,7 @@ module _ (k : Inside) (who n : ℕ) (x u y : Task) (kept : Kept k) (value : obje
         delays_held = delays_mend k who x y kept value d settled_own (λ b. absurd (let no : false ≡ true = sym (ap (λ (t : Task). is_some t.wake) e ∙ ap is_some (settled_wake k.next_since u ∙ awake)) ∙ b in cc)) delays;
       })
 
-  -- it waits by another key, and sleeps as before
+  -- it waits with another key, and has the same wake
   pub rekeyed_keeps : (l : Line) (r : urgent.Order) → u.wake ≡ x.wake → l ≡ mended k.waits y → r ≡ ready_mended k.ready y → Kept (requeued k who y n l r k.delays)
   rekeyed_keeps l r wake waits ready =
       written_keeps k who n x y l r k.delays kept value settled_may
@@ -249,7 +249,7 @@ module _ (k : Inside) (who n : ℕ) (x u y : Task) (kept : Kept k) (value : obje
         delays_held = settled_delays wake;
       })
 
-  -- it waits and sleeps as before
+  -- its wait and its wake stay
   pub resumed_keeps : (r : urgent.Order) → as_waiter u ≡ as_waiter x → u.wake ≡ x.wake → r ≡ ready_mended k.ready y → Kept (requeued k who y n k.waits r k.delays)
   resumed_keeps r key wake ready =
       written_keeps k who n x y k.waits r k.delays kept value settled_may
@@ -259,7 +259,7 @@ module _ (k : Inside) (who n : ℕ) (x u y : Task) (kept : Kept k) (value : obje
         delays_held = settled_delays wake;
       })
 
--- ---- a turn
+-- ---- a time slice
 abbrev turn_by : Bool → ℕ → Task → Task
 turn_by over since t = cond over (renewed since (record t { turns = 0 })) (record t { turns = t.turns + 1 })
 
@@ -285,13 +285,13 @@ turned_by k who n x y r false kept value ready e next out =
       delays_held = delays_stay k who x y kept value id since wake;
     })
 
--- the turn of a ready task is one tick longer, and where it is over, the task goes behind its equals
+-- the time slice of a ready task is one tick longer, and if it ends, the task goes after its equals
 pub turned_keeps : (k : Inside) (who n : ℕ) (x y : Task) (r : urgent.Order) (over : Bool) → Kept k → object_of k.tasks.rows who ≡ Some x → is_ready x ≡ true → y ≡ turn_task k.slice k.next_since x
     → n ≡ k.next_since + cond (leb k.slice (x.turns + 1)) 1 0 → over ≡ leb k.slice (x.turns + 1) → r ≡ cond over (urgent.rotated k.ready who) k.ready → Kept (requeued k who y n k.waits r k.delays)
 turned_keeps k who n x y r over kept value ready e next is out =
     turned_by k who n x y r (leb k.slice (x.turns + 1)) kept value ready e next (out ∙ ap (λ b. cond b (urgent.rotated k.ready who) k.ready) is)
 
--- ---- who is first at a place, as the line has it and as the tasks say
+-- ---- the first waiter of a place, in the line and from the tasks
 pub first_kept : (k : Inside) (s : KernState) (place : Place) → Kept k → the_view k ≡ s → first_at k.waits.waiters place ≡ option_map task_id (first_waiter s.tasks place)
 first_kept k s place kept is =
     ap (λ l. first_at l.waiters place) kept.3.waits_held ∙ first_waits (objects k.tasks.rows) place ∙ ap (λ r. option_map task_id (first_waiter r.tasks place)) is

@@ -1,4 +1,4 @@
--- Every move of the kernel keeps the kept facts, and so do moves one after the other.
+-- Every move of the kernel keeps its invariant, and so does every list of moves.
 use Rattle.std.proofs.Common.{List, [], ◌∷◌, refl, arith}
 use Rattle.wind_core.specs.State.{KernState, IsKern}
 use Rattle.wind_core.specs.Moves.{wake_at, pended, delayed, suspended, unmarked, past_gate, with_answer, with_refusal, unreserved}
@@ -43,7 +43,7 @@ move_keeps k (DrawIds next) is may = counters_keep k next k.slice k.lent k.last 
 move_keeps k (Lend on) is may = counters_keep k k.next_id k.slice on k.last is (omega arith) is.last_id
 
 -- ---- several moves
--- what each move keeps that has a property, moves keep that have it where they are made
+-- what each move with a property keeps, a list of such moves keeps
 module _ (K : KernState → Type 0) (P : KernState → Move → Type 0) (keeps : (k : KernState) (m : Move) → K k → P k m → K (apply k m)) where
   pub series_keeps : (k : KernState) (ms : List Move) → K k → EachMove P k ms → K (after k ms)
   series_keeps k [] kept each = kept

@@ -1,4 +1,4 @@
--- The orders in which tasks stand.
+-- The orders of tasks.
 use Rattle.std.proofs.Common.{◌≡◌, ℕ, false, List, sym, ap, ◌∙◌}
 use Rattle.std.specs.Cmp.{IsStrictWeakOrder}
 use Rattle.std.specs.Cmp.Lexicographic.{slice_cmp, nat_list_cmp_total}
@@ -8,7 +8,7 @@ use Rattle.std.proofs.lemmas.List.MinMax.{ranks_by}
 use Rattle.std.proofs.lemmas.Map.Lookups.{exact_bytes}
 use Rattle.wind_core.specs.Orders.{is_less, urgency, arrival, wait_key, wake_key, is_before, waits_before, arrives_before, wakes_before}
 
--- lists of numbers of which neither is before the other are equal
+-- two lists of numbers are equal if neither is before the other
 pub neither : (a b : List ℕ) → is_less a b ≡ false → is_less b a ≡ false → a ≡ b
 neither a b left right =
     elim (slice_cmp nat_cmp b a) as (λ r. slice_cmp nat_cmp a b ≡ ordering_reverse r → is_lt r ≡ false → a ≡ b) [

@@ -1,4 +1,4 @@
--- Who is ready and who sleeps, after one task has changed, come or gone; and who is first in each queue.
+-- Which tasks are ready and which have a wake, after one is changed, made or removed; and the first of each queue.
 use Rattle.std.proofs.Common.{◌≡◌, ℕ, ◌<◌, ◌≤◌, Bool, true, false, not, cond, leb, eqb, List, [], ◌∷◌, ◌++◌, map, length, None, Some, is_some, refl, sym, ap, ◌∙◌, arith}
 use Rattle.std.specs.Prelude.{unwrap_or}
 use Rattle.std.specs.List.{All}
@@ -21,8 +21,8 @@ use Rattle.wind_core.specs.Queues.{as_ready, ready_of, ready_tasks, as_sleeper, 
 use Rattle.wind_core.proofs.Passes.{neither, is_before-order, wakes_before-order}
 use Rattle.wind_core.proofs.Lines.{Behind, line_without, line_renewed, line_gone, line_unmoved, line_push, line_pushed, line_absent, fewer_in_line, line_found, length-line, line_same}
 
--- ---- two keys whose second numbers differ
--- the first decides, or else the second
+-- ---- two keys with different second numbers
+-- the first numbers decide; if they are equal, the second ones
 pub less_first : (a b c d : ℕ) (xs ys : List ℕ) → c < d → is_less (a ∷ c ∷ xs) (b ∷ d ∷ ys) ≡ leb a b
 less_first a b c d xs ys h = ap (λ r. is_lt (ordering_then (nat_cmp a b) (ordering_then (cond r Less (cond (eqb c d) Equal Greater)) (slice_cmp nat_cmp xs ys)))) (lt-ltb c d h) ∙ decided
   where
@@ -32,7 +32,7 @@ less_first a b c d xs ys h = ap (λ r. is_lt (ordering_then (nat_cmp a b) (order
 pub more_first : (a b c d : ℕ) (xs ys : List ℕ) → c < d → is_less (b ∷ d ∷ ys) (a ∷ c ∷ xs) ≡ not (leb a b)
 more_first a b c d xs ys h = grind (arith, lt-ltb c d h, le-ltb d c (omega arith))
 
--- a later task stands behind
+-- a later task comes after
 behind_ready : (y x : Task) → x.since < y.since → Behind task_id urgent.task_id urgent.task_pri as_ready (λ _. refl) is_before is_before-order is_ready y x
 behind_ready y x h = record {
   ahead = less_first x.pri y.pri x.since y.since (x.id ∷ []) (y.id ∷ []) h;
@@ -56,7 +56,7 @@ ready_as ts = record { tasks = ts; room = most_tasks }
 pub ready_without : (ts : List Task) (who : ℕ) → urgent.without_task (ready_tasks ts) who ≡ ready_tasks (without task_id ts who)
 ready_without ts who = ap ready_as (sym (line_without task_id urgent.task_id urgent.task_pri as_ready (λ _. refl) is_before is_before-order is_ready ts who))
 
--- a task that is ready only as the last of all, or not at all
+-- the task becomes ready as the last of all, or isn't ready
 pub ready_mended_is : (ts : List Task) (who : ℕ) (x y : Task) → Rising task_id ts → task_of ts who ≡ Some x → y.id ≡ who → (is_ready y ≡ true → IsLast y ts)
     → ready_mended (ready_tasks ts) y ≡ ready_tasks (replace task_id ts who y)
 ready_mended_is ts who x y up e own last =
@@ -78,7 +78,7 @@ seen_ready t = (is_ready t, as_ready t, urgency t)
 pub ready_same : (ts : List Task) (who : ℕ) (x y : Task) → Rising task_id ts → task_of ts who ≡ Some x → seen_ready y ≡ seen_ready x → ready_tasks (replace task_id ts who y) ≡ ready_tasks ts
 ready_same ts who x y up e same = ap ready_as (line_same seen_ready (λ s. s.1) (λ s r. is_less s.2 r.2) (λ s. s.0) task_id ts who x y up e same)
 
--- the last of all comes
+-- a task is added as the last of all
 pub ready_push : (ts : List Task) (y : Task) → is_ready y ≡ true → IsLast y ts → ready_tasks (ts ++ y ∷ []) ≡ urgent.with_task (ready_tasks ts) (as_ready y)
 ready_push ts y ready last =
     ap ready_as (line_push task_id urgent.task_id urgent.task_pri as_ready (λ _. refl) is_before is_before-order is_ready ts y ready
@@ -93,14 +93,14 @@ ready_absent ts who none = ap (option_map urgent.task_pri) (line_absent task_id 
 pub fewer_ready : (ts : List Task) (who : ℕ) (x : Task) → task_of ts who ≡ Some x → length (urgent.taken_out (ready_of ts) who) < length ts
 fewer_ready ts who x e = fewer_in_line task_id urgent.task_id urgent.task_pri as_ready (λ _. refl) is_before is_before-order is_ready ts who x e
 
--- a ready task has its priority there
+-- a ready task is found with its priority
 pub ready_found : (ts : List Task) (who : ℕ) (x : Task) → Rising task_id ts → task_of ts who ≡ Some x → is_ready x ≡ true → urgent.pri_of (ready_of ts) who ≡ Some x.pri
 ready_found ts who x up e ready =
     ap (option_map urgent.task_pri)
     (line_found task_id urgent.task_id urgent.task_pri as_ready (λ _. refl) is_before is_before-order is_ready
     (λ t u left right. let same = neither (urgency t) (urgency u) left right in cc) ts who x up e ready)
 
--- who is first of them
+-- the first of the ready tasks
 first_shown : (ts : List Task) → urgent.first_id (map as_ready ts) ≡ option_map task_id (first ts)
 first_shown [] = refl
 first_shown (t ∷ ts) = refl
@@ -108,14 +108,14 @@ first_shown (t ∷ ts) = refl
 pub first_ready : (ts : List Task) → urgent.first_id (ready_of ts) ≡ option_map task_id (most_urgent ts)
 first_ready ts = first_shown (in_line is_before is_ready ts)
 
--- ---- the tasks that sleep
+-- ---- the tasks that have a wake
 abbrev delayed_as : List (ℕ × ℕ) → timed.Order
 delayed_as ts = record { tasks = ts; room = most_tasks }
 
 pub delayed_without : (ts : List Task) (who : ℕ) → timed.without_task (delayed_tasks ts) who ≡ delayed_tasks (without task_id ts who)
 delayed_without ts who = ap delayed_as (sym (line_without task_id timed.task_id timed.task_wake as_sleeper (λ _. refl) wakes_before wakes_before-order sleeps ts who))
 
--- a task that sleeps only as the last of all, or not at all
+-- the task gets a wake as the last of all, or has none
 pub delays_mended_is : (ts : List Task) (who : ℕ) (x y : Task) → Rising task_id ts → task_of ts who ≡ Some x → y.id ≡ who → (sleeps y ≡ true → IsLast y ts)
     → delays_mended (delayed_tasks ts) y ≡ delayed_tasks (replace task_id ts who y)
 delays_mended_is ts who x y up e own last =
@@ -137,7 +137,7 @@ seen_asleep t = (sleeps t, as_sleeper t, wake_key t)
 pub delayed_same : (ts : List Task) (who : ℕ) (x y : Task) → Rising task_id ts → task_of ts who ≡ Some x → seen_asleep y ≡ seen_asleep x → delayed_tasks (replace task_id ts who y) ≡ delayed_tasks ts
 delayed_same ts who x y up e same = ap delayed_as (line_same seen_asleep (λ s. s.1) (λ s r. is_less s.2 r.2) (λ s. s.0) task_id ts who x y up e same)
 
--- a task that sleeps neither before nor after
+-- a task that has no wake before or after
 pub delayed_unmoved : (ts : List Task) (who : ℕ) (x y : Task) → Rising task_id ts → task_of ts who ≡ Some x → x.wake ≡ None → y.wake ≡ None → delayed_tasks (replace task_id ts who y) ≡ delayed_tasks ts
 delayed_unmoved ts who x y up e before after =
     ap delayed_as (line_unmoved task_id timed.task_id timed.task_wake as_sleeper (λ _. refl) wakes_before wakes_before-order sleeps ts who x y up e (ap is_some before) (ap is_some after))

@@ -1,4 +1,4 @@
--- Waits end without an answer, one after the other.
+-- Waits end without a result, one after the other.
 use Rattle.std.proofs.Common.{◌≡◌, ℕ, ◌+◌, ◌≤◌, true, false, cond, not, List, [], ◌∷◌, length, None, Some, IsSome, refl, sym, ap, ◌∙◌, subst, arith}
 use Rattle.std.specs.Option.{option_map}
 use Rattle.id_table.specs.declared.ident.Place.{Place}
@@ -28,7 +28,7 @@ since-release s who =
 pub waiters-release : (s : KernState) (place : Place) (x : Task) (rest : List Task) → Rising task_id s.tasks → waiters s.tasks place ≡ x ∷ rest → waiters (release s x.id).tasks place ≡ rest
 waiters-release s place x rest up e = in_line-move waits_before waits_before-order (waits_at place) s released x rest (settled_waits place s.next_since) up e
 
--- one turn of the loop
+-- one iteration of the loop
 pub record Freed (s : KernState) (place : Place) (who : ℕ) : Type 0 where
   pub lives : Lives s who
   pub same : release_all (release s who) place ≡ release_all s place
@@ -54,12 +54,12 @@ free_turn s place who up e =
 pub all_free : (s : KernState) (place : Place) → None ≡ option_map task_id (first_waiter s.tasks place) → release_all s place ≡ s
 all_free s place e = ap (λ ws. releases s ws) (no_first waits_before (waiters s.tasks place) (no_id (first_waiter s.tasks place) e))
 
--- the kept facts hold again
+-- the invariant holds again
 pub releases_keep : (s : KernState) (ts : List Task) → IsKern s → IsKern (releases s ts)
 releases_keep s [] is = is
 releases_keep s (t ∷ ts) is = releases_keep (release s t.id) ts (release_keeps s t.id is)
 
--- nobody waits there any more
+-- no task waits there any more
 pub releases-clear : (s : KernState) (place : Place) (ts : List Task) → IsKern s → waiters s.tasks place ≡ ts → waiters (releases s ts).tasks place ≡ []
 releases-clear s place [] is e = e
 releases-clear s place (x ∷ rest) is e = releases-clear (release s x.id) place rest (release_keeps s x.id is) (waiters-release s place x rest is.rising e)

@@ -1,4 +1,4 @@
--- What holds of every task, and of a task whatever a move makes of it, holds after the move.
+-- A property of every task, which each move keeps for the task that it changes, holds after the move.
 use Rattle.std.proofs.Common.{ℕ, ◌+◌, ◌<◌, true, false, cond, eqb, leb, List, [], ◌∷◌, length, get_or, Option, None, Some, is_some, sym, subst, arith}
 use Rattle.std.specs.List.{All, fold}
 use Rattle.std.proofs.lemmas.List.{length-map, get_or-map}
@@ -37,7 +37,7 @@ module _ (P : Task → Type 0) where
           | Some t ↦ All-change s.tasks who (λ u. settled s.next_since (f u)) (λ u p. settles s.next_since (f u) (keeps u p)) all
         ]
 
-    -- a tick: whatever answer a wait ends with, and however long a turn is
+    -- a tick: whatever the result of a wait, and however many ticks of a slice are used
     module _ (answers : (answer : ℕ) (errno : Option Errno) (t : Task) → P t → P (answered answer errno t)) (turns : (n : ℕ) (t : Task) → P t → P (record t { turns = n })) where
       turn_task-stable : (slice since : ℕ) (t : Task) → P t → P (turn_task slice since t)
       turn_task-stable slice since t p =

@@ -1,4 +1,4 @@
--- A tick keeps the kept facts, and leaves no wake behind.
+-- A tick keeps the invariant, and every wake is in the future again.
 use Rattle.std.proofs.Common.{◌≡◌, ℕ, ◌+◌, true, false, cond, eqb, leb, List, [], ◌∷◌, Option, None, Some, is_some, refl, sym, ap, ◌∙◌, subst, arith}
 use Rattle.std.specs.List.{All, fold}
 use Rattle.std.proofs.lemmas.Option.{same_Some}
@@ -14,7 +14,7 @@ use Rattle.wind_core.proofs.Waking.{due-end_wait}
 use Rattle.wind_core.proofs.Ticks.{running_found, at_tick, turn_follows, tick-take_turn, none_due}
 use Rattle.wind_core.proofs.Keeping.{change_keeps, end_wait_keeps}
 
--- ---- the runner's turn
+-- ---- the running task's time slice
 turn_found_keeps : (n : ℕ) (s : KernState) (t : Task) → IsKern (at_tick n s) → running s ≡ Some t → IsKern (at_tick n (turn_found s t))
 turn_found_keeps n s t is runs =
     change_keeps (at_tick n s) t.id (s.next_since + cond (leb s.slice (t.turns + 1)) 1 0) (turn_task s.slice s.next_since) is (omega arith)
@@ -34,7 +34,7 @@ turn_keeps n s is =
           ] refl
     ]
 
--- ---- whose tick has come goes on
+-- ---- the tasks whose wake has come go on
 move_at_tick : (n : ℕ) (s : KernState) (who : ℕ) (f : Task → Task) (o : Option Task) → move_found (at_tick n s) who f o ≡ at_tick n (move_found s who f o)
 move_at_tick n s who f None = refl
 move_at_tick n s who f (Some t) = refl
@@ -48,7 +48,7 @@ time_out_keeps n s x is =
     let f : Task → Task = answered (late_answer (is_some x.wait)) (late_errno (is_some x.wait)) in
     subst IsKern (move_at_tick n s x.id f (task_of s.tasks x.id)) (end_wait_keeps (at_tick n s) x.id (late_answer (is_some x.wait)) (late_errno (is_some x.wait)) is)
 
--- what is left, after whose tick had come has gone on
+-- the state after those tasks have gone on
 record IsPast (n now : ℕ) (s : KernState) : Type 0 where
   kept : IsKern (at_tick n s)
   none : due s.tasks now ≡ []

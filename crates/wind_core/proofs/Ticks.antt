@@ -1,4 +1,4 @@
--- A tick: the runner's turn, and the count.
+-- A tick: the running task's time slice, and the tick count.
 use Rattle.std.proofs.Common.{◌≡◌, ℕ, ◌+◌, ◌<◌, ◌≤◌, true, false, cond, eqb, leb, ltb, List, [], ◌∷◌, length, Option, None, Some, IsSome, IfSome, is_some, inl, inr, refl, sym, ap, ◌∙◌, subst, arith}
 use Rattle.std.specs.List.{fold, All}
 use Rattle.std.specs.Option.{option_map}
@@ -29,7 +29,7 @@ use Rattle.wind_core.proofs.Writes.{MayFollow, Kept, written, written_is, found}
 use Rattle.wind_core.proofs.Queued.{first_ready}
 use Rattle.wind_core.proofs.Due.{due_first}
 
--- ---- who runs lives
+-- ---- the running task is live
 kept_by : (o : Option Task) (x : Task) → keeper o ≡ Some x → o ≡ Some x
 kept_by None x e = absurd (cc)
 kept_by (Some t) x e = elim (keeps_running t) as (λ b. cond b (Some t) None ≡ Some x → Some t ≡ Some x) [ true ↦ λ q. q | false ↦ λ q. absurd (cc) ] e
@@ -64,18 +64,18 @@ by_id ts o who found e =
     let x = named o who e in
     x.1 ∙ sym (ap (task_of ts) x.2 ∙ found x.0 x.1)
 
--- who runs, by its id
+-- the running task, by its id
 pub runs : (s : KernState) (who : ℕ) → Rising task_id s.tasks → Some who ≡ option_map task_id (running s) → running s ≡ task_of s.tasks who
 runs s who up e = by_id s.tasks (running s) who (λ x q. running_found s x up q) e
 
--- who is most urgent, as the queue has it, and by its id
+-- the most urgent task, from the queue, and by its id
 pub urgent_kept : (k : Inside) (s : KernState) → Kept k → the_view k ≡ s → urgent.first_id k.ready.tasks ≡ option_map task_id (most_urgent s.tasks)
 urgent_kept k s kept is = ap (λ o. urgent.first_id o.tasks) kept.3.ready_held ∙ first_ready (objects k.tasks.rows) ∙ ap (λ r. option_map task_id (most_urgent r.tasks)) is
 
 pub urgent_read : (s : KernState) (who : ℕ) → Rising task_id s.tasks → Some who ≡ option_map task_id (most_urgent s.tasks) → most_urgent s.tasks ≡ task_of s.tasks who
 urgent_read s who up e = by_id s.tasks (most_urgent s.tasks) who (λ y q. front_found task_id is_before is_before-order is_ready s.tasks y up q) e
 
--- whoever runs is ready
+-- the running task is ready
 kept_ready : (o : Option Task) (x : Task) → keeper o ≡ Some x → is_ready x ≡ true
 kept_ready None x e = absurd (cc)
 kept_ready (Some t) x e =
@@ -95,13 +95,13 @@ running_ready s x e =
     (λ y q. front_passes task_id is_before is_before-order is_ready s.tasks y q)
     e
 
--- so whoever is named as the runner lives, and is ready
+-- so the task named as the runner is live and ready
 pub runner_ready : (s : KernState) (who : ℕ) → Rising task_id s.tasks → Some who ≡ option_map task_id (running s) → IsSomeAnd (task_of s.tasks who) (λ t. is_ready t ≡ true)
 runner_ready s who up e =
     let x = named (running s) who e in
     subst (λ o. IsSomeAnd o (λ t. is_ready t ≡ true)) (sym x.1 ∙ runs s who up e) (running_ready s x.0 x.1)
 
--- what is said of the object of an id
+-- a property of the object with an id
 pub object_ready : (k : Inside) (s : KernState) (who : ℕ) (x : Task) → Kept k → the_view k ≡ s → IsSomeAnd (task_of s.tasks who) (λ t. is_ready t ≡ true) → object_of k.tasks.rows who ≡ Some x → is_ready x ≡ true
 object_ready k s who x kept is ready value = subst (λ o. IsSomeAnd o (λ t. is_ready t ≡ true)) (ap (λ r. task_of r.tasks who) (sym is) ∙ found k who x kept value) ready
 
@@ -117,7 +117,7 @@ runner_lives s who up e =
 pub nobody_runs : (s : KernState) → None ≡ option_map task_id (running s) → turn_of s (running s) ≡ s
 nobody_runs s e = ap (turn_of s) (none_named (running s) e)
 
--- ---- a turn
+-- ---- a time slice
 pub locked_turn : (s : KernState) (o : Option Task) → false ≡ is_free o → s ≡ turn_of s o
 locked_turn s None e = refl
 locked_turn s (Some t) e = ap (λ b. cond b (turn_found s t) s) e
@@ -125,7 +125,7 @@ locked_turn s (Some t) e = ap (λ b. cond b (turn_found s t) s) e
 free_turn : (s : KernState) (x : Task) → true ≡ eqb x.locks 0 → turn_found s x ≡ turn_of s (Some x)
 free_turn s x e = ap (λ b. cond b (turn_found s x) s) e
 
--- a task whose turn is one tick longer may follow it
+-- a task with one more tick of its slice can follow it
 pub turn_follows : (s : KernState) (slice : ℕ) (t : Task) → MayFollow s t (turn_task slice s.next_since t) (s.next_since + cond (leb slice (t.turns + 1)) 1 0)
 turn_follows s slice t =
     elim (leb slice (t.turns + 1)) as (λ b. MayFollow s t (cond b (renewed s.next_since (record t { turns = 0 })) (record t { turns = t.turns + 1 })) (s.next_since + cond b 1 0)) [
@@ -133,7 +133,7 @@ turn_follows s slice t =
       | false ↦ record { id = refl; since = inl (refl, omega arith); ahead = λ h. h }
     ]
 
--- the task's turn is one tick longer
+-- the task's slice is one tick longer
 pub turned_is : (k : Inside) (s : KernState) (who n : ℕ) (x y : Task) → Kept k → the_view k ≡ s → object_of k.tasks.rows who ≡ Some x → true ≡ is_free (task_of s.tasks who)
     → y ≡ turn_task k.slice k.next_since x → n ≡ k.next_since + cond (leb k.slice (x.turns + 1)) 1 0
     → the_view (written k who y n) ≡ turn_of s (task_of s.tasks who)
@@ -183,7 +183,7 @@ time_outs-at_tick : (s : KernState) (n : ℕ) (ts : List Task) → fold time_out
 time_outs-at_tick s n [] = refl
 time_outs-at_tick s n (t ∷ ts) = ap (λ r. fold time_out r ts) (time_out-at_tick s n t) ∙ time_outs-at_tick (time_out s t) n ts
 
--- it is of no account whether the count rises first or last
+-- the tick count can rise first or last
 pub tick_is : (s : KernState) → at_tick (s.tick + 1) (wake_due (take_turn s) (s.tick + 1)) ≡ tick s
 tick_is s =
     sym (ap (λ r. wake_due r (s.tick + 1)) (take_turn-at_tick s (s.tick + 1)) ∙ time_outs-at_tick (take_turn s) (s.tick + 1) (due (take_turn s).tasks (s.tick + 1)))
@@ -192,7 +192,7 @@ not_come : (n : ℕ) (wake : Option ℕ) → has_come n wake ≡ false → IfSom
 not_come n None e = tt
 not_come n (Some w) e = leb-false w n e
 
--- where no task is due, all wakes lie ahead
+-- if no task is due, all wakes are in the future
 pub none_due : (ts : List Task) (n : ℕ) → first_due ts n ≡ None → All (WakesAhead n) ts
 none_due ts n e =
     All-weaker (λ t. is_due n t ≡ false) (WakesAhead n) (λ t q. not_come n t.wake q) ts (none_passes task_id arrives_before arrives_before-order (is_due n) ts e)
@@ -214,7 +214,7 @@ counted_keeps k n kept e = (
   kept.3,
 )
 
--- the count stands still in the runner's turn
+-- counting a slice doesn't change the tick count
 tick-turn_of : (s : KernState) (o : Option Task) → (turn_of s o).tick ≡ s.tick
 tick-turn_of s None = refl
 tick-turn_of s (Some t) = elim (eqb t.locks 0) as (λ b. (cond b (turn_found s t) s).tick ≡ s.tick) [ true ↦ refl | false ↦ refl ]
@@ -222,7 +222,7 @@ tick-turn_of s (Some t) = elim (eqb t.locks 0) as (λ b. (cond b (turn_found s t
 pub tick-take_turn : (s : KernState) → (take_turn s).tick ≡ s.tick
 tick-take_turn s = elim (eqb s.slice 0) as (λ b. (cond b s (turn_of s (running s))).tick ≡ s.tick) [ true ↦ refl | false ↦ tick-turn_of s (running s) ]
 
--- ---- who is late, as the code reads it
+-- ---- the late tasks, as the code reads them
 late_found : (o : Option Task) (late : Late) → Some late ≡ option_map late_of o → (x : Task) × (o ≡ Some x) × (late ≡ late_of x)
 late_found None late e = absurd (cc)
 late_found (Some x) late e = (x, refl, same_Some late (late_of x) e)
@@ -231,11 +231,11 @@ not_late : (o : Option Task) → None ≡ option_map late_of o → o ≡ None
 not_late None e = refl
 not_late (Some x) e = absurd (cc)
 
--- the count stands still where a wait ends
+-- the end of a wait doesn't change the tick count
 tick-end_wait : (s : KernState) (who answer : ℕ) (errno : Option Errno) → (end_wait s who answer errno).tick ≡ s.tick
 tick-end_wait s who answer errno = elim (task_of s.tasks who) as (λ o. (move_found s who (answered answer errno) o).tick ≡ s.tick) [ None ↦ refl | Some t ↦ refl ]
 
--- one turn of the loop that wakes what is due
+-- one iteration of the loop that wakes the tasks that are due
 pub record LateTurn (s : KernState) (n : ℕ) (late : Late) : Type 0 where
   pub lives : Lives s late.who
   pub same : wake_due (end_wait s late.who (late_answer late.waits) (late_errno late.waits)) n ≡ wake_due s n

@@ -1,4 +1,4 @@
--- What a move leaves of every task: a field that it doesn't write, or several.
+-- A field of every task that a move doesn't write, or several such fields, stay.
 use Rattle.std.proofs.Common.{◌≡◌, ℕ, ◌+◌, true, false, cond, not, eqb, leb, List, [], ◌∷◌, map, Option, None, Some, is_some, refl, sym, ap, ◌∙◌}
 use Rattle.std.specs.List.{fold}
 use Rattle.std.specs.Option.{option_map}
@@ -38,12 +38,12 @@ module _ {A : Type 0} (field : Task → A) where
           | Some t ↦ map-change s.tasks who (λ u. settled s.next_since (f u)) (λ u. settles s.next_since (f u) ∙ keeps u)
         ]
 
-    -- waits that end without an answer
+    -- waits that end without a result
     pub map-releases : ((t : Task) → field (released t) ≡ field t) → (s : KernState) (ts : List Task) → map field (releases s ts).tasks ≡ map field s.tasks
     map-releases ends s [] = refl
     map-releases ends s (t ∷ ts) = map-releases ends (move_task s t.id released) ts ∙ map-move s t.id released ends
 
-    -- a tick: whatever answer a wait ends with, and however long a turn is
+    -- a tick: whatever the result of a wait, and however many ticks of a slice are used
     module _ (answers : (answer : ℕ) (errno : Option Errno) (t : Task) → field (answered answer errno t) ≡ field t) (turns : (n : ℕ) (t : Task) → field (record t { turns = n }) ≡ field t) where
       turn_task-same : (slice since : ℕ) (t : Task) → field (turn_task slice since t) ≡ field t
       turn_task-same slice since t =
@@ -73,7 +73,7 @@ module _ {A : Type 0} (field : Task → A) where
       pub map-tick : (s : KernState) → map field (tick s).tasks ≡ map field s.tasks
       map-tick s = map-time_outs (take_turn (tick_counted s)) (due (take_turn (tick_counted s)).tasks (s.tick + 1)) ∙ map-take_turn (tick_counted s)
 
--- a field of the task of an id, where two lists have the same ids with the same of it
+-- a field of the task with an id, if two lists have the same ids with the same field
 module _ {A : Type 0} (field : Task → A) where
   abbrev pub with_id : Task → ℕ × A
   with_id t = (t.id, field t)
@@ -103,7 +103,7 @@ task_of-change (t ∷ ts) who y f keeps =
     ∙ ap (cond (eqb t.id y) (Some (cond (eqb t.id who) (f t) t))) (task_of-change ts who y f keeps)
     ∙ elim (eqb t.id y) as (λ b. cond b (Some (cond (eqb t.id who) (f t) t)) (option_map (λ u. cond (eqb u.id who) (f u) u) (task_of ts y)) ≡ option_map (λ u. cond (eqb u.id who) (f u) u) (cond b (Some t) (task_of ts y))) [ true ↦ refl | false ↦ refl ]
 
--- after another is taken out
+-- after another is removed
 pub task_of-without : (ts : List Task) (who y : ℕ) → (y ≡ who → ⊥) → task_of (without task_id ts who) y ≡ task_of ts y
 task_of-without [] who y other = refl
 task_of-without (t ∷ ts) who y other =

@@ -1,4 +1,4 @@
--- Who waits, after one task has changed, come or gone; and who is first at a place.
+-- Which tasks wait, after one is changed, made or removed; and the first waiter of a place.
 use Rattle.std.proofs.Common.{◌≡◌, ℕ, ◌+◌, ◌<◌, ◌≤◌, true, false, not, cond, eqb, List, [], ◌∷◌, ◌++◌, map, length, Option, None, Some, refl, sym, ap, ◌∙◌, subst, arith}
 use Rattle.std.specs.List.{All, filter, cons_option}
 use Rattle.std.specs.Option.{option_map}
@@ -20,15 +20,15 @@ use Rattle.wind_core.specs.State.{task_id, task_of}
 use Rattle.wind_core.specs.Orders.{waits_at, same_place, is_place, waiters, first_waiter}
 use Rattle.wind_core.specs.Waiting.{waiter_at, as_waiter, waits_of, task_waits, with_found, mended}
 
--- who was taken out is not there
+-- a removed task doesn't wait
 pub taken_absent : (l : Line) (who : ℕ) → waiter_of (without_waiter l who).waiters who ≡ None
 taken_absent l who = gone waiter_id l.waiters who
 
--- one waiter more in front, or none
+-- one more waiter at the beginning, or none
 abbrev pub keyed : Option Place → Task → List Waiter → List Waiter
 keyed p t ws = cons_option (option_map (waiter_at t) p) ws
 
--- ---- a task goes
+-- ---- a task is removed
 keyed_without : (t : Task) (p : Option Place) (ws : List Waiter) (who : ℕ) → without waiter_id (keyed p t ws) who ≡ cond (not (eqb t.id who)) (keyed p t (without waiter_id ws who)) (without waiter_id ws who)
 keyed_without t None ws who = elim (eqb t.id who) as (λ b. without waiter_id ws who ≡ cond (not b) (without waiter_id ws who) (without waiter_id ws who)) [ true ↦ refl | false ↦ refl ]
 keyed_without t (Some p) ws who = refl
@@ -42,7 +42,7 @@ waits_without (t ∷ ts) who =
     ]
     ∙ sym (keyed_without t t.wait (waits_of ts) who)
 
--- ---- a task comes, and waits for nothing
+-- ---- a task is made, and waits for nothing
 pub waits_push : (ts : List Task) (t : Task) → t.wait ≡ None → waits_of (ts ++ t ∷ []) ≡ waits_of ts
 waits_push ts t none =
     filter_map-append as_waiter ts (t ∷ [])
@@ -50,7 +50,7 @@ waits_push ts t none =
     ∙ append-nil (waits_of ts)
 
 -- ---- a task changes
--- those above an id wait above it
+-- the waiters of tasks with ids above a number have ids above it
 keyed_above : (n : ℕ) (t : Task) (p : Option Place) (ws : List Waiter) → n < t.id → All (λ w. n < w.who) ws → All (λ w. n < w.who) (keyed p t ws)
 keyed_above n t None ws here above = above
 keyed_above n t (Some p) ws here above = All-cons (λ (w : Waiter). n < w.who) (waiter_at t p) ws here above
@@ -62,14 +62,14 @@ waits_above n (t ∷ ts) above = keyed_above n t t.wait (waits_of ts) (All-head 
 tasks_above : (t : Task) (ts : List Task) → Rising task_id (t ∷ ts) → All (λ u. t.id < u.id) ts
 tasks_above t ts up k d hk = rising_head task_id t ts up k d hk
 
--- where all wait above its id, a waiter goes to the front
+-- if all waiters have ids above its own, a waiter goes to the beginning
 in_front : (w : Waiter) (ws : List Waiter) → All (λ v. w.who < v.who) ws → with_record waiter_id ws w ≡ w ∷ ws
 in_front w [] above = refl
 in_front w (v ∷ vs) above =
     let here : w.who < v.who = All-head (λ (u : Waiter). w.who < u.who) v vs above in
     ap (λ b. cond b (v ∷ with_record waiter_id vs w) (w ∷ v ∷ vs)) (le-ltb v.who w.who (omega arith))
 
--- a waiter found, put in
+-- an optional waiter is inserted
 abbrev pub put_into : List Waiter → Option Waiter → List Waiter
 put_into ws None = ws
 put_into ws (Some w) = with_record waiter_id ws w
@@ -78,13 +78,13 @@ front_found : (y : Task) (p : Option Place) (ws : List Waiter) → All (λ v. y.
 front_found y None ws above = refl
 front_found y (Some p) ws above = sym (in_front (waiter_at y p) ws above)
 
--- it goes behind one of a lesser id
+-- it goes after one with a lesser id
 behind : (t y : Task) (p q : Option Place) (ws : List Waiter) → t.id < y.id → keyed p t (put_into ws (option_map (waiter_at y) q)) ≡ put_into (keyed p t ws) (option_map (waiter_at y) q)
 behind t y None q ws less = refl
 behind t y (Some p) None ws less = refl
 behind t y (Some p) (Some q) ws less = ap (λ b. cond b (waiter_at t p ∷ with_record waiter_id ws (waiter_at y q)) (waiter_at y q ∷ waiter_at t p ∷ ws)) (sym (lt-ltb t.id y.id less))
 
--- the line in which the task of an id stands as it waits now
+-- the line after the task with an id changed: it is there as it waits now, or not at all
 pub waits_replace : (ts : List Task) (who : ℕ) (x y : Task) → Rising task_id ts → task_of ts who ≡ Some x → y.id ≡ who
     → waits_of (replace task_id ts who y) ≡ put_into (without waiter_id (waits_of ts) who) (as_waiter y)
 waits_replace [] who x y up e own = absurd (cc)
@@ -110,7 +110,7 @@ waits_replace (t ∷ ts) who x y up e own =
           ∙ sym (keyed_without t t.wait (waits_of ts) who))
     ] refl e
 
--- a change that leaves a task's key leaves the line
+-- a change that keeps a task's key keeps the line
 pub waits_same : (ts : List Task) (who : ℕ) (x y : Task) → Rising task_id ts → task_of ts who ≡ Some x → as_waiter y ≡ as_waiter x → waits_of (replace task_id ts who y) ≡ waits_of ts
 waits_same [] who x y up e same = absurd (cc)
 waits_same (t ∷ ts) who x y up e same =
@@ -132,12 +132,12 @@ length-waits : (ts : List Task) → length (waits_of ts) ≤ length ts
 length-waits [] = omega arith
 length-waits (t ∷ ts) = omega (arith, keyed_long t t.wait (waits_of ts), length-waits ts)
 
--- without one of the tasks fewer wait than there are tasks
+-- without one of the tasks, fewer wait than there are tasks
 pub fewer_wait : (ts : List Task) (who : ℕ) (x : Task) → task_of ts who ≡ Some x → length (without waiter_id (waits_of ts) who) < length ts
 fewer_wait ts who x e =
     omega (arith, ap length (waits_without ts who), length-waits (without task_id ts who), fewer_without task_id ts who x e)
 
--- ---- the line, as the kernel keeps it
+-- ---- the line, as the kernel has it
 with_put : (ws : List Waiter) (n : ℕ) (o : Option Waiter) → with_found (record { waiters = ws; room = n }) o ≡ record { waiters = put_into ws o; room = n }
 with_put ws n None = refl
 with_put ws n (Some w) = refl
@@ -148,7 +148,7 @@ mended_is ts who x y up e own =
     ∙ with_put (without waiter_id (waits_of ts) who) 256 (as_waiter y)
     ∙ line_alike (put_into (without waiter_id (waits_of ts) who) (as_waiter y)) (waits_of (replace task_id ts who y)) 256 (sym (waits_replace ts who x y up e own))
 
--- ---- who is first at a place
+-- ---- the first waiter of a place
 one_place : (p q : Place) → p.side ≡ q.side → p.id ≡ q.id → p ≡ q
 one_place p q side id = λ i. record { side = side i; id = id i }
 
@@ -176,7 +176,7 @@ first-map : (place : Place) (ts : List Task) → option_map waiter_id (first (ma
 first-map place [] = refl
 first-map place (t ∷ ts) = refl
 
--- the first of those that wait at a place, as they are kept and as the tasks say
+-- the first waiter of a place, in the line and from the tasks
 pub first_waits : (ts : List Task) (place : Place) → first_at (waits_of ts) place ≡ option_map task_id (first_waiter ts place)
 first_waits ts place =
     ap (λ ws. option_map waiter_id (first (sorted stands_before ws))) (standing_waits place ts)

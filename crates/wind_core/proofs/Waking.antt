@@ -1,4 +1,4 @@
--- Waits end one after the other: the front of those that pass a test goes on, and the others stand as they did.
+-- Waits end one after the other: the first task that passes a test goes on, and the others keep their order.
 use Rattle.std.proofs.Common.{◌≡◌, ℕ, ◌+◌, ◌≤◌, Bool, true, false, cond, not, List, ◌∷◌, length, Option, None, Some, IsSome, is_some, refl, sym, ap, ◌∙◌, subst, arith}
 use Rattle.std.specs.List.{fold}
 use Rattle.std.specs.Option.{option_map}
@@ -17,7 +17,7 @@ use Rattle.wind_core.specs.Tick.{late_answer, late_errno, time_out, wake_due}
 use Rattle.wind_core.proofs.Passes.{waits_before-order, arrives_before-order}
 
 -- ---- one task goes on
--- after the front has gone on and passes no more, the others stand in line as before
+-- after the first one has gone on and doesn't pass any more, the others keep their order
 pub in_line-move : (lt : Task → Task → Bool) → IsStrictWeakOrder lt → (p : Task → Bool) (s : KernState) (f : Task → Task) (x : Task) (rest : List Task)
     → ((t : Task) → p (settled s.next_since (f t)) ≡ false) → Rising task_id s.tasks → in_line lt p s.tasks ≡ x ∷ rest
     → in_line lt p (move_task s x.id f).tasks ≡ rest
@@ -41,7 +41,7 @@ since-end_wait s who answer errno =
       | Some t ↦ elim t.suspended as (λ b. s.next_since + cond (not b) 1 0 ≤ s.next_since + 1) [ true ↦ omega arith | false ↦ omega arith ]
     ]
 
--- what is read of the front
+-- what is read of the first one
 pub id_found : (o : Option Task) (who : ℕ) → Some who ≡ option_map task_id o → (x : Task) × (o ≡ Some x) × (who ≡ x.id)
 id_found None who e = absurd (cc)
 id_found (Some x) who e = (x, refl, cc)
@@ -59,7 +59,7 @@ pub waiters-end_wait : (s : KernState) (place : Place) (answer : ℕ) (errno : O
 waiters-end_wait s place answer errno x rest up e =
     in_line-move waits_before waits_before-order (waits_at place) s (answered answer errno) x rest (settled_waits place s.next_since answer errno) up e
 
--- one turn of the loop that wakes all
+-- one iteration of the loop that wakes all
 pub record Woken (s : KernState) (place : Place) (answer : ℕ) (errno : Option Errno) (who : ℕ) : Type 0 where
   pub lives : Lives s who
   pub same : wake_all (end_wait s who answer errno) place answer errno ≡ wake_all s place answer errno
@@ -87,7 +87,7 @@ pub wake_all-done : (s : KernState) (place : Place) (answer : ℕ) (errno : Opti
 wake_all-done s place answer errno e =
     ap (λ ws. end_waits s ws answer errno) (no_first waits_before (waiters s.tasks place) (no_id (first_waiter s.tasks place) e))
 
--- ---- all whose tick has come
+-- ---- all tasks whose wake has come
 pub length-due : (ts : List Task) (tick : ℕ) → length (due ts tick) ≤ length ts
 length-due ts tick = length-in_line task_id arrives_before arrives_before-order (is_due tick) ts
 
@@ -96,7 +96,7 @@ pub due-end_wait : (s : KernState) (tick answer : ℕ) (errno : Option Errno) (x
 due-end_wait s tick answer errno x rest up e =
     in_line-move arrives_before arrives_before-order (is_due tick) s (answered answer errno) x rest (settled_due tick s.next_since answer errno) up e
 
--- one turn of the loop that wakes what is due
+-- one iteration of the loop that wakes the tasks that are due
 pub record TimedOut (s : KernState) (tick : ℕ) (x : Task) : Type 0 where
   pub lives : Lives s x.id
   pub same : wake_due (time_out s x) tick ≡ wake_due s tick

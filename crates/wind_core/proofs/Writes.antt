@@ -1,4 +1,4 @@
--- One task is written in the kernel's table: what the state becomes, and that the kept facts hold where the queues are told.
+-- One task is written in the kernel's table: the state after it, and that the invariant holds if the queues agree.
 use Rattle.std.proofs.Common.{◌≡◌, ℕ, ◌+◌, ◌<◌, true, false, ◌||◌, cond, eqb, List, None, Some, IsSome, IfSome, refl, sym, ap, ◌∙◌, subst, arith, ◌⊎◌, inl, inr, ⊎_elim}
 use Rattle.std.proofs.lemmas.Bool.{eqb-false}
 use Rattle.std.proofs.lemmas.List.{length-map}
@@ -20,7 +20,7 @@ use Rattle.wind_core.specs.Moves.{renewed, settled, change_task, renew_task, mov
 use Rattle.wind_core.specs.declared.kern.Kern.TheInside.{Inside}
 use Rattle.wind_core.specs.contracts.kern.Kern.{the_view}
 
--- what a kernel keeps by its type
+-- the invariant of the kernel's type
 abbrev pub Kept : Inside → Type 0
 Kept k = (k.tasks.room ≡ most_tasks) × SameIds k.tasks.rows × IsKern (the_view k) × AreQueued k.waits k.ready k.delays (objects k.tasks.rows)
 
@@ -28,15 +28,15 @@ Kept k = (k.tasks.room ≡ most_tasks) × SameIds k.tasks.rows × IsKern (the_vi
 abbrev pub requeued : Inside → ℕ → Task → ℕ → Line → urgent.Order → timed.Order → Inside
 requeued k who y n l r d = record k { tasks = rewritten k.tasks who y; next_since = n; waits = l; ready = r; delays = d }
 
--- the same with the queues as they were
+-- the same with the queues unchanged
 abbrev pub written : Inside → ℕ → Task → ℕ → Inside
 written k who y n = record k { tasks = rewritten k.tasks who y; next_since = n }
 
--- the tasks, where y is the object of an id
+-- the tasks, with y as the object with an id
 abbrev pub tasks_with : Inside → ℕ → Task → List Task
 tasks_with k who y = replace task_id (objects k.tasks.rows) who y
 
--- a task that lives is in the table
+-- a live task is in the table
 pub object_lives : (k : Inside) (s : KernState) (who : ℕ) → Kept k → the_view k ≡ s → Lives s who → IsSome (object_of k.tasks.rows who)
 object_lives k s who kept is lives = subst (λ o. IsSome o) (sym (object-record task_id k.tasks.rows who kept.1 ∙ ap (λ r. task_of r.tasks who) is)) lives
 
@@ -69,8 +69,8 @@ moves k who n x y f kept value e next =
     ∙ ap {B = KernState} (λ m. record (the_view k) { tasks = change task_id (the_view k).tasks who (λ t. settled k.next_since (f t)); next_since = m }) next
     ∙ ap (move_found (the_view k) who f) (sym (found k who x kept value))
 
--- ---- the kept facts
--- y may stand in the place of x, where n is the next order number after that
+-- ---- the invariant
+-- y can replace x, with n as the next order number after that
 pub record MayFollow (s : KernState) (x y : Task) (n : ℕ) : Type 0 where
   pub id : y.id ≡ x.id
   pub since : ((y.since ≡ x.since) × (n ≡ s.next_since)) ⊎ ((y.since ≡ s.next_since) × (n ≡ s.next_since + 1))
@@ -97,7 +97,7 @@ IsKern-replace s who n x y is here may =
       ahead = All-replace task_id (WakesAhead s.tick) s.tasks who y is.ahead (may.ahead (All-contains (WakesAhead s.tick) s.tasks x is.ahead there));
     }
 
--- where the task of an id is written and the queues tell it, all that the kernel's type keeps holds again
+-- if the task with an id is written and the queues agree with it, the invariant of the kernel's type holds again
 pub written_keeps : (k : Inside) (who n : ℕ) (x y : Task) (l : Line) (r : urgent.Order) (d : timed.Order) → Kept k → object_of k.tasks.rows who ≡ Some x → MayFollow (the_view k) x y n
     → AreQueued l r d (tasks_with k who y) → Kept (requeued k who y n l r d)
 written_keeps k who n x y l r d kept value may told =
@@ -108,7 +108,7 @@ written_keeps k who n x y l r d kept value may told =
       subst (AreQueued l r d) (sym (objects-replace task_id k.tasks.rows who y kept.1)) told,
     )
 
--- and the state is that in which the task is changed by f
+-- and the state is the one in which f changes the task
 pub sets : (k : Inside) (s : KernState) (who : ℕ) (x y : Task) (f : Task → Task) → Kept k → the_view k ≡ s → object_of k.tasks.rows who ≡ Some x → y ≡ f x
     → the_view (written k who y k.next_since) ≡ change_task s who f
 sets k s who x y f kept is value e = changed k who x y f kept value e ∙ ap (λ r. change_task r who f) is
@@ -128,7 +128,7 @@ settled_id n u = elim (is_ready u) as (λ b. (cond b (renewed n u) u).id ≡ u.i
 pub settled_wake : (n : ℕ) (u : Task) → (settled n u).wake ≡ u.wake
 settled_wake n u = elim (is_ready u) as (λ b. (cond b (renewed n u) u).wake ≡ u.wake) [ true ↦ refl | false ↦ refl ]
 
--- u, made of x with its id and order number, may follow it with a new order number where it is ready
+-- u, which is made from x with its id and order number, can follow it with a new order number if it is ready
 pub settled_follows : (s : KernState) (x u : Task) → u.id ≡ x.id → u.since ≡ x.since → (WakesAhead s.tick x → WakesAhead s.tick u)
     → MayFollow s x (settled s.next_since u) (s.next_since + cond (is_ready u) 1 0)
 settled_follows s x u id since ahead = record {

@@ -1,4 +1,4 @@
--- How the kernel's tasks are kept: a table by id, of records that have their ids too.
+-- What is inside the kernel: a table of task records by id, where each record also has its id.
 use Rattle.std.specs.Prelude.{◌≡◌, ℕ, List, Option}
 use Rattle.std.specs.List.{All}
 use Rattle.id_table.specs.Rows.{objects}
@@ -6,7 +6,7 @@ use Rattle.id_table.specs.Source.{Ids}
 use Rattle.task_block.specs.declared.task.Task.{Task}
 use Rattle.wind_core.specs.State.{KernState}
 
--- each record has the id under which it is kept
+-- each record has the id under which the table has it
 abbrev pub SameIds : List (ℕ × Task) → Type 0
 SameIds rs = All (λ r. r.1.id ≡ r.0) rs
 

@@ -1,4 +1,4 @@
--- What follows of the kernel's definitions alone.
+-- What follows from the kernel's definitions alone.
 use Rattle.std.specs.Prelude.{◌≡◌, ℕ, ◌+◌, ◌<◌, ◌⊎◌, Bool, true, false, List, [], Option, None, Some}
 use Rattle.std.specs.Cmp.{IsStrictWeakOrder}
 use Rattle.std.specs.List.{All, Contains}
@@ -12,49 +12,49 @@ use Rattle.wind_core.specs.Moves.{wake_all}
 use Rattle.wind_core.specs.Tick.{tick}
 use Rattle.wind_core.specs.Move.{Move, apply, IsAllowed, after, EachMove}
 
--- a task that may run: it lives and is ready, and no ready task is before it, unless it ran last and holds the lock
+-- a task that may run: it is live and ready, and no ready task is before it, unless it ran last and holds the scheduler lock
 pub record MayRun (s : KernState) (x : Task) : Type 0 where
   pub lives : Contains s.tasks x
   pub ready : is_ready x ≡ true
   pub urgent : (u : Task) → Contains s.tasks u → is_ready u ≡ true → (is_before u x ≡ false) ⊎ ((s.last ≡ Some x.id) × (0 < x.locks))
 
--- whoever runs may run
+-- the running task may run
 abbrev pub RunnerLaw : Type 0
 RunnerLaw = (s : KernState) → IsKern s → (x : Task) → running s ≡ Some x → MayRun s x
 
--- the task that ran last goes on, where it is ready and holds the lock
+-- the task that ran last goes on, if it is ready and holds the scheduler lock
 abbrev pub LockLaw : Type 0
 LockLaw = (s : KernState) → IsKern s → (x : Task) → Contains s.tasks x → s.last ≡ Some x.id → is_ready x ≡ true → 0 < x.locks → running s ≡ Some x
 
--- nobody runs only where no task is ready
+-- if no task runs, no task is ready
 abbrev pub IdleLaw : Type 0
 IdleLaw = (s : KernState) → running s ≡ None → All (λ u. is_ready u ≡ false) s.tasks
 
--- a total order: tasks of the kernel of which neither is before the other are one task
+-- a total order: two tasks of the kernel are the same if neither is before the other
 pub record IsTotal (lt : Task → Task → Bool) : Type 0 where
   pub order : IsStrictWeakOrder lt
   pub one : (s : KernState) → IsKern s → (x y : Task) → Contains s.tasks x → Contains s.tasks y → lt x y ≡ false → lt y x ≡ false → x ≡ y
 
--- the order of the waiters is total, and so are those by urgency and by arrival
+-- the orders by wait, by urgency and by arrival are total
 abbrev pub WaitersLaw : Type 0
 WaitersLaw = IsTotal waits_before × IsTotal is_before × IsTotal arrives_before
 
--- waking all leaves no waiter at the place
+-- after waking all, no task waits at the place
 abbrev pub WakeAllLaw : Type 0
 WakeAllLaw = (s : KernState) → IsKern s → (place : Place) (answer : ℕ) (errno : Option Errno) → waiters (wake_all s place answer errno).tasks place ≡ []
 
--- a tick keeps the kept facts
+-- a tick keeps the invariant
 abbrev pub TickLaw : Type 0
 TickLaw = (s : KernState) → IsKern s → IsKern (tick s)
 
--- the count rises by one, and every wake then lies ahead
+-- the tick count rises by one, and every wake is then in the future
 abbrev pub AheadLaw : Type 0
 AheadLaw = (s : KernState) → IsKern s → ((tick s).tick ≡ s.tick + 1) × All (WakesAhead (s.tick + 1)) (tick s).tasks
 
--- each move keeps the kept facts, whoever it names
+-- each allowed move keeps the invariant, whichever task it names
 abbrev pub KeptLaw : Type 0
 KeptLaw = (k : KernState) (m : Move) → IsKern k → IsAllowed k m → IsKern (apply k m)
 
--- so do moves one after the other
+-- so does every list of allowed moves
 abbrev pub SeriesLaw : Type 0
 SeriesLaw = (k : KernState) (ms : List Move) → IsKern k → EachMove IsAllowed k ms → IsKern (after k ms)

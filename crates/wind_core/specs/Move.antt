@@ -1,4 +1,4 @@
--- The moves of the kernel as one type, and the state after each.
+-- The kernel's moves as one type, and the state after each.
 use Rattle.std.specs.Prelude.{◌≡◌, ℕ, ◌+◌, ◌<◌, ◌≤◌, Bool, List, [], ◌∷◌, Option, None}
 use Rattle.std.specs.List.{fold}
 use Rattle.wind_base.specs.Limits.{greatest_id}
@@ -11,23 +11,23 @@ use Rattle.wind_core.specs.Moves.{spawn, spawn_refusal, remove, pend, delay, rel
 use Rattle.wind_core.specs.Releases.{release_all}
 use Rattle.wind_core.specs.Tick.{tick}
 
--- a move of the kernel, with what it names
+-- a move of the kernel, with its arguments
 pub data Move : Type 0 where
   -- a task is made
   Spawn : (n : NewTask) → Move
-  -- a task goes
+  -- a task is removed
   Remove : (who : ℕ) → Move
-  -- a task begins to wait at a place, for n ticks
+  -- a task begins to wait at a place, for at most n ticks
   Pend : (who : ℕ) → (place : Place) → (fifo : Bool) → (n : ℕ) → Move
-  -- a task sleeps for n ticks
+  -- a task is delayed for n ticks
   Delay : (who : ℕ) → (n : ℕ) → Move
-  -- a task's wait or delay ends without an answer
+  -- a task's wait or delay ends without a result
   Release : (who : ℕ) → Move
-  -- all waits at a place end without an answer
+  -- all waits at a place end without a result
   ReleaseAll : (place : Place) → Move
-  -- a task's wait or delay ends with an answer
+  -- a task's wait or delay ends with a result
   EndWait : (who : ℕ) → (value : ℕ) → (errno : Option Errno) → Move
-  -- all waits at a place end with an answer
+  -- all waits at a place end with a result
   WakeAll : (place : Place) → (value : ℕ) → (errno : Option Errno) → Move
   -- a tick of the clock
   Tick : Move
@@ -37,21 +37,21 @@ pub data Move : Type 0 where
   Resume : (who : ℕ) → Move
   -- a task's priority changes
   ChangePri : (who : ℕ) → (pri : ℕ) → Move
-  -- a task loses its marks: suspension, locks, held-back interrupts, a repeated call
+  -- a task's suspension, scheduler locks, interrupt lock and mark of a repeated call are cleared
   Reset : (who : ℕ) → Move
-  -- a task has locked the scheduler n times
+  -- a task holds n scheduler locks
   SetLocks : (who : ℕ) → (n : ℕ) → Move
   -- a task's normal priority changes
   SetNormal : (who : ℕ) → (pri : ℕ) → Move
-  -- a task is safe from deletion n times
+  -- a task is in n safe sections
   SetSafe : (who : ℕ) → (n : ℕ) → Move
-  -- a task holds n inversion-safe mutexes
+  -- a task owns n inversion-safe mutexes
   SetHeld : (who : ℕ) → (n : ℕ) → Move
   -- a task's error number changes
   SetErrno : (who : ℕ) → (n : ℕ) → Move
-  -- a task holds back interrupts, or no longer
+  -- a task locks out interrupts, or no longer
   SetIntLocked : (who : ℕ) → (on : Bool) → Move
-  -- a task repeats its call when it goes on, or no longer
+  -- a task's next call is a repetition, or no longer
   SetAgain : (who : ℕ) → (on : Bool) → Move
   -- a task's registers change
   SetRegs : (who : ℕ) → (regs : Regs) → Move
@@ -59,17 +59,17 @@ pub data Move : Type 0 where
   Unreserve : (who : ℕ) → Move
   -- a task returns from its call
   LeaveGate : (who : ℕ) → Move
-  -- a task's call is answered
+  -- a task's call gets its result
   Answer : (who : ℕ) → (value : ℕ) → Move
   -- a task's call is refused
   Refuse : (who : ℕ) → (e : Errno) → Move
-  -- the task that ran last is noted
+  -- the task that ran last is recorded
   SetLast : (last : Option ℕ) → Move
   -- a time slice lasts n ticks
   SetSlice : (n : ℕ) → Move
-  -- other objects take ids, and this one comes next
+  -- other objects take ids, and this id is next
   DrawIds : (next : ℕ) → Move
-  -- the ids are lent to other objects, or given back
+  -- the ids are lent to other objects, or put back
   Lend : (on : Bool) → Move
 
 -- the state after a move
@@ -104,7 +104,7 @@ apply k (SetSlice n) = record k { slice = n }
 apply k (DrawIds next) = record k { next_id = next }
 apply k (Lend on) = record k { lent = on }
 
--- a move requires this: a spawn that isn't refused, a wait that lasts, ids that rise within their range
+-- what a move requires: a spawn isn't refused, a wait has a timeout above 0, and the next id rises within its range
 abbrev pub IsAllowed : KernState → Move → Type 0
 IsAllowed k (Spawn n) = spawn_refusal k ≡ None
 IsAllowed k (Pend who place fifo n) = 0 < n
@@ -117,11 +117,11 @@ IsRising k (DrawIds next) = k.next_id ≤ next
 IsRising k m = Unit {0}
 
 -- ---- several moves
--- the state after these moves, one after the other
+-- the state after these moves, in their order
 abbrev pub after : KernState → List Move → KernState
 after k ms = fold apply k ms
 
--- each of these moves has a property at the state in which it is made
+-- each of these moves has a property in the state in which it is made
 abbrev pub EachMove : (KernState → Move → Type 0) → KernState → List Move → Type 0
 EachMove P k [] = Unit {0}
 EachMove P k (m ∷ ms) = P k m × EachMove P (apply k m) ms

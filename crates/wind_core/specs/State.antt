@@ -11,29 +11,30 @@ use Rattle.wind_lists.specs.Records.{of_id, Rising}
 pub record KernState : Type 0 where
   -- the live tasks, by rising id
   pub tasks : List Task
-  -- how many ticks have come
+  -- the number of ticks so far
   pub tick : ℕ
-  -- how many ticks a turn lasts; with 0 it has no end
+  -- the length of a time slice in ticks; 0 means that time slices don't end
   pub slice : ℕ
-  -- the id that comes next, whether the ids are lent to whoever makes other objects, and the order number that comes next
+  -- the next id, whether the ids are lent to the maker of other objects, and the next order number
   pub next_id : ℕ
   pub lent : Bool
   pub next_since : ℕ
   -- the task that ran last
   pub last : Option ℕ
 
+-- the id of a task
 abbrev pub task_id : Task → ℕ
 task_id t = t.id
 
--- the live task of this id
+-- the live task with this id
 abbrev pub task_of : List Task → ℕ → Option Task
 task_of ts id = of_id task_id ts id
 
--- the task of this name that has the least id
+-- the task with this name that has the least id
 abbrev pub task_named : List Task → List ℕ → Option Task
 task_named ts name = find (λ t. bytes_eq t.name name) ts
 
--- the task of this id lives
+-- the task with this id is live
 abbrev pub Lives : KernState → ℕ → Type 0
 Lives s who = IsSome (task_of s.tasks who)
 
@@ -41,20 +42,20 @@ Lives s who = IsSome (task_of s.tasks who)
 abbrev pub task_above : List Task → ℕ → Option ℕ
 task_above ts n = option_map task_id (find (λ t. nat_lt n t.id) ts)
 
--- the tick at which the task wakes, if there is one, lies ahead
+-- the task's wake, if it has one, is in the future
 abbrev pub WakesAhead : ℕ → Task → Type 0
 WakesAhead tick t = IfSome t.wake (λ wake. tick < wake)
 
--- what every call of the kernel keeps
+-- the kernel's invariant, which every call keeps
 pub record IsKern (s : KernState) : Type 0 where
   pub few : length s.tasks ≤ most_tasks
-  -- ids rise along the list, and lie below the next
+  -- ids rise along the list, and are below the next one
   pub rising : Rising task_id s.tasks
   pub ids : All (λ t. t.id < s.next_id) s.tasks
   pub first_id : 0 < s.next_id
   pub last_id : s.next_id ≤ greatest_id + 1
-  -- no two tasks have one order number, and each lies below the next
+  -- no two tasks have the same order number, and each is below the next one
   pub distinct : AllPairs (λ t u. t.since ≡ u.since → ⊥) s.tasks
   pub sinces : All (λ t. t.since < s.next_since) s.tasks
-  -- no task sleeps past its tick
+  -- no task is delayed past its wake
   pub ahead : All (WakesAhead s.tick) s.tasks

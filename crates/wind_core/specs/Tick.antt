@@ -1,4 +1,4 @@
--- A tick of the clock: the count, the runner's turn, the tasks whose time is up.
+-- A tick of the clock: the tick count, the running task's time slice, and the tasks whose wake has come.
 use Rattle.std.specs.Prelude.{ℕ, ◌+◌, Bool, false, ◌==◌, nat_le, if◌then◌else◌, Option, None, Some, is_some}
 use Rattle.std.specs.List.{fold}
 use Rattle.wind_base.specs.Limits.{error_word, ok_word}
@@ -11,12 +11,13 @@ use Rattle.wind_core.specs.State.{KernState, task_id}
 use Rattle.wind_core.specs.Orders.{running, due}
 use Rattle.wind_core.specs.Moves.{renewed, end_wait}
 
--- one more tick of a turn; one that is over begins anew, and the task goes after its equals
+-- one more tick of a time slice; if that ends it, a new one begins, and the task gets a new order number
 abbrev pub turn_task : ℕ → ℕ → Task → Task
 turn_task slice since t =
     if nat_le slice (t.turns + 1) then renewed since (record t { turns = 0 })
     else record t { turns = t.turns + 1 }
 
+-- one more tick of the time slice of this task
 abbrev pub turn_found : KernState → Task → KernState
 turn_found s t = record s {
   tasks = change task_id s.tasks t.id (turn_task s.slice s.next_since);
@@ -28,36 +29,39 @@ abbrev pub is_free : Option Task → Bool
 is_free None = false
 is_free (Some t) = t.locks == 0
 
--- the turn of a task that holds the lock is not counted
+-- the time slice of a task that holds the scheduler lock isn't counted
 abbrev pub turn_of : KernState → Option Task → KernState
 turn_of s None = s
 turn_of s (Some t) = if t.locks == 0 then turn_found s t else s
 
--- the turn of whoever runs; with a slice of 0, turns are not counted (reference manual, kernelTimeSlice)
+-- one more tick of the running task's time slice; with a slice of 0, time slices aren't counted (Reference Manual, kernelTimeSlice)
 abbrev pub take_turn : KernState → KernState
 take_turn s = if s.slice == 0 then s else turn_of s (running s)
 
--- a wait that ends by time is answered with ERROR and OBJ_TIMEOUT, a delay with 0
+-- a wait that times out has the result ERROR and the error OBJ_TIMEOUT, a delay has the result 0
 abbrev pub late_answer : Bool → ℕ
 late_answer waits = if waits then error_word else ok_word
 
+-- the error number of a wait that times out; a delay has none
 abbrev pub late_errno : Bool → Option Errno
 late_errno waits = if waits then Some errors.ObjTimeout else None
 
+-- the wait or delay of a task whose wake has come ends
 abbrev pub time_out : KernState → Task → KernState
 time_out s t = end_wait s t.id (late_answer (is_some t.wait)) (late_errno (is_some t.wait))
 
--- who a late task is, and whether it waits for something
+-- a task whose wake has come, and whether it waits for something
 abbrev pub late_of : Task → Late
 late_of t = record { who = t.id; waits = is_some t.wait }
 
--- the tasks whose tick has come go on, by arrival
+-- the tasks whose wake has come go on, in order of arrival
 abbrev pub wake_due : KernState → ℕ → KernState
 wake_due s tick = fold time_out s (due s.tasks tick)
 
+-- the tick count rises by 1
 abbrev pub tick_counted : KernState → KernState
 tick_counted s = record s { tick = s.tick + 1 }
 
--- a tick: the count rises, the runner's turn is one tick longer, and whose tick has come goes on
+-- a tick: the count rises, the running task's time slice is one tick longer, and the tasks whose wake has come go on
 abbrev pub tick : KernState → KernState
 tick s = wake_due (take_turn (tick_counted s)) (s.tick + 1)

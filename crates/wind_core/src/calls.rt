@@ -1,4 +1,4 @@
-//! What every call of the kernel does to its caller.
+//! What every kernel call does to its caller.
 
 ghost use Rattle.std.specs.Prelude.{◌≡◌};
 ghost use Rattle.wind_core.specs.State.{Lives};
@@ -10,7 +10,7 @@ use id_table::Ident;
 use wind_base::{Errno, Regs};
 
 impl Kern {
-    /// The id of this number, where its task lives.
+    /// The id with this number, if its task is live.
     pub fn find(&self, number: u32) -> Option<Ident>
         ensures { result ≡ live_id self.now.tasks number }
     {
@@ -24,7 +24,7 @@ impl Kern {
         }
     }
 
-    /// The task goes on after its call: the program counter becomes the link register.
+    /// Returns the task from its call: the program counter becomes the link register.
     pub fn leave_gate(&mut self, who: Ident)
         requires { Lives self.old who }
         ensures { self.new ≡ leave_gate self.old who }
@@ -32,7 +32,7 @@ impl Kern {
         pass_gate(self.tasks.object_mut(who));
     }
 
-    /// The task's call is answered in r3.
+    /// Sets the result of the task's call, in r3.
     pub fn answer(&mut self, who: Ident, value: u32)
         requires { Lives self.old who }
         ensures { self.new ≡ answer self.old who value }
@@ -40,7 +40,7 @@ impl Kern {
         put_answer(self.tasks.object_mut(who), value);
     }
 
-    /// The task's call is refused: answered with ERROR, and its error number is set.
+    /// Refuses the task's call: its result is ERROR, and the task's error number is set.
     pub fn refuse(&mut self, who: Ident, errno: Errno)
         requires { Lives self.old who }
         ensures { self.new ≡ refuse self.old who errno }
@@ -48,7 +48,7 @@ impl Kern {
         put_refusal(self.tasks.object_mut(who), errno);
     }
 
-    /// The task has no reservation any more.
+    /// Drops the task's reservation.
     pub fn unreserve(&mut self, who: Ident)
         requires { Lives self.old who }
         ensures { self.new ≡ unreserve self.old who }
@@ -56,7 +56,7 @@ impl Kern {
         drop_reservation(self.tasks.object_mut(who));
     }
 
-    /// The task's registers are these.
+    /// Sets the task's registers.
     pub fn set_regs(&mut self, who: Ident, regs: Regs)
         requires { Lives self.old who }
         ensures { self.new ≡ set_regs self.old who regs }

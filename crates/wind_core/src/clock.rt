@@ -1,4 +1,4 @@
-//! Who runs, and what a tick does.
+//! Which task runs, and what a tick does.
 
 ghost use Rattle.std.specs.Prelude.{◌≡◌, ◌<◌, ◌+◌, ◌^◌, true, Some, None, IsSomeAnd, option_copied};
 ghost use Rattle.std.specs.Option.{option_map};
@@ -16,16 +16,16 @@ use task_block::Task;
 use wind_base::Errno;
 use wind_base::words::{ERROR, OK};
 
-// A task whose tick has come.
+// A task whose wake has come.
 #[derive(Drop)]
 pub(crate) struct Late {
     pub(crate) who: Ident,
-    // whether it waits for something, and is not only delayed
+    // whether it waits for something; if not, it is only delayed
     pub(crate) waits: bool,
 }
 
 impl Kern {
-    // The task that ran last, where it is ready and holds the lock.
+    // The task that ran last, if it is ready and holds the scheduler lock.
     fn keeper(&self) -> Option<&Task>
         ensures { option_copied result ≡ keeper_lem (last_task self.now.tasks self.now.last) }
     {
@@ -37,7 +37,7 @@ impl Kern {
         }
     }
 
-    // The ready task that is before all others.
+    // The most urgent ready task.
     fn most_urgent(&self) -> Option<&Task>
         ensures { option_copied result ≡ most_urgent_lem self.now.tasks }
     {
@@ -47,8 +47,9 @@ impl Kern {
         }
     }
 
-    /// The task that runs next, interrupts aside: the one that ran last, where it is ready and holds the
-    /// lock; else the ready task before all others. None where no task is ready.
+    /// The task that runs next, apart from interrupts. It is the task that ran last, if that is
+    /// ready and holds the scheduler lock; otherwise it is the most urgent ready task. None if no
+    /// task is ready.
     pub fn running(&self) -> Option<&Task>
         ensures { option_copied result ≡ running self.now }
     {
@@ -58,28 +59,29 @@ impl Kern {
         }
     }
 
-    /// The id of the task that runs next.
+    /// The id of the task that runs next. None if no task is ready.
     pub fn runner(&self) -> Option<Ident>
         ensures { result ≡ runner self.now }
     {
         self.running().map(|task| task.id)
     }
 
-    /// Notes that the task ran.
+    /// Records that the task ran last.
     pub fn ran(&mut self, who: Ident)
         ensures { self.new ≡ record self.old { last = Some who } }
     {
         self.last = Some(who);
     }
 
-    /// Sets how many ticks a turn lasts. With 0 it has no end.
+    /// Sets the length of a time slice in ticks. 0 means that time slices don't end (VxWorks 5.4
+    /// Reference Manual, kernelTimeSlice).
     pub fn time_slice(&mut self, n: u32)
         ensures { self.new ≡ record self.old { slice = n } }
     {
         self.slice = n;
     }
 
-    // Whether the task of this id lives and holds no lock.
+    // Whether the task with this id is live and holds no scheduler lock.
     fn is_free(&self, who: Ident) -> bool
         ensures { result ≡ is_free_lem (task_of self.now.tasks who) }
     {
@@ -89,7 +91,7 @@ impl Kern {
         }
     }
 
-    // One more tick of the turn of this task, which is ready, where it holds no lock.
+    // Counts one more tick of the time slice of this ready task, if it holds no scheduler lock.
     fn turn(&mut self, who: Ident)
         requires ready { IsSomeAnd (task_of self.old.tasks who) (λ t. is_ready t ≡ true) }
         requires since { self.old.next_since + 1 < 2 ^ 64 }
@@ -104,7 +106,7 @@ impl Kern {
         rotate_over(&mut self.ready, who, over);
     }
 
-    // One more tick of the runner's turn, where turns are counted.
+    // Counts one more tick of the running task's time slice, if time slices are counted.
     fn take_turn(&mut self)
         requires { self.old.next_since + 1 < 2 ^ 64 }
         ensures turn { self.new ≡ take_turn self.old }
@@ -118,7 +120,7 @@ impl Kern {
         self.turn(who);
     }
 
-    // The task of this id, where it lives, as one whose tick has come.
+    // The task with this id as one whose wake has come, if it is live.
     fn late(&self, who: Ident) -> Option<Late>
         ensures { result ≡ option_map late_of (task_of self.now.tasks who) }
     {
@@ -128,7 +130,7 @@ impl Kern {
         })
     }
 
-    // The first to arrive of the tasks that wake at the next tick.
+    // The first task, by order number, whose wake is the next tick.
     fn front_due(&self, tick: u64) -> Option<Late>
         requires { tick ≡ self.now.tick + 1 }
         ensures first { result ≡ option_map late_of (first_due self.now.tasks tick) }
@@ -140,7 +142,7 @@ impl Kern {
         }
     }
 
-    // The wait or the delay of a task whose tick has come ends.
+    // Ends the wait or delay of a task whose wake has come.
     fn time_out(&mut self, late: Late)
         requires live { Lives self.old late.who }
         requires since { self.old.next_since + 1 < 2 ^ 64 }
@@ -153,7 +155,8 @@ impl Kern {
         }
     }
 
-    // The waits and delays of all tasks that wake at the next tick end, by arrival.
+    // Ends the waits and delays of all tasks whose wake is the next tick, in order of their order
+    // numbers.
     fn wake_due(&mut self, tick: u64)
         requires since { self.old.next_since + 257 < 2 ^ 64 }
         requires next { tick ≡ self.old.tick + 1 }
@@ -166,10 +169,11 @@ impl Kern {
         }
     }
 
-    /// A tick of the clock. The count rises by 1; where turns are counted and the runner holds no lock, its
-    /// turn is one tick longer, and if it is over, the runner goes after its equals; and the tasks
-    /// whose tick has come go on, in order of arrival: one that waited with ERROR and `ObjTimeout`, one
-    /// that was delayed with 0.
+    /// A tick of the clock. The tick count rises by 1. If time slices are counted and the running
+    /// task holds no scheduler lock, its time slice is one tick longer; if that ends the slice, the
+    /// task goes after all others of its priority. Then the waits and delays whose wake has come
+    /// end, in order of the tasks' order numbers: a wait with ERROR and `ObjTimeout`, a delay with
+    /// 0.
     pub fn tick(&mut self)
         requires since { self.old.next_since < 2 ^ 63 }
         requires tick { self.old.tick < 2 ^ 63 }

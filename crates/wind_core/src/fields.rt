@@ -11,7 +11,7 @@ use id_table::Ident;
 use wind_base::Pri;
 
 impl Kern {
-    /// Suspends the task, whatever else it waits for. Its turn is over.
+    /// Suspends the task, whatever else it waits for, and ends its time slice.
     pub fn suspend(&mut self, who: Ident)
         requires { Lives self.old who }
         ensures { self.new ≡ suspend self.old who }
@@ -20,7 +20,7 @@ impl Kern {
         self.ready.take(who);
     }
 
-    // Whether the task of this id is suspended.
+    // Whether the task with this id is suspended.
     fn is_suspended(&self, who: Ident) -> bool
         ensures { result ≡ is_suspended_lem (task_of self.now.tasks who) }
     {
@@ -30,8 +30,8 @@ impl Kern {
         }
     }
 
-    /// Ends the task's suspension. If it is then ready, it stands after its equals. Nothing changes
-    /// where it is not suspended.
+    /// Ends the task's suspension. If the task is then ready, it goes after all others of its
+    /// priority. If the task isn't suspended, nothing changes.
     pub fn resume(&mut self, who: Ident)
         requires live { Lives self.old who }
         requires since { self.old.next_since + 1 < 2 ^ 64 }
@@ -46,8 +46,9 @@ impl Kern {
         mend_ready(&mut self.ready, task);
     }
 
-    /// Takes suspension, locks, held-back interrupts and the mark of a repeated call from the task, which
-    /// goes after its equals.
+    /// Clears the task's suspension, scheduler locks, interrupt lock and mark of a repeated call.
+    /// The task gets a new order number, and if it is ready, it goes after all others of its
+    /// priority.
     pub fn reset(&mut self, who: Ident)
         requires live { Lives self.old who }
         requires since { self.old.next_since + 1 < 2 ^ 64 }
@@ -59,7 +60,7 @@ impl Kern {
         mend(&mut self.waits, &mut self.ready, &mut self.delays, task);
     }
 
-    // Whether the task of this id has this priority.
+    // Whether the task with this id has this priority.
     fn has_pri(&self, who: Ident, pri: Pri) -> bool
         ensures { result ≡ has_pri_lem pri (task_of self.now.tasks who) }
     {
@@ -69,7 +70,8 @@ impl Kern {
         }
     }
 
-    /// Gives the task a priority. A ready task whose priority changes stands after its new equals.
+    /// Sets the task's priority. If that changes it and the task is ready, the task goes after all
+    /// others of its new priority.
     pub fn change_pri(&mut self, who: Ident, pri: Pri)
         requires live { Lives self.old who }
         requires since { self.old.next_since + 1 < 2 ^ 64 }
@@ -85,7 +87,7 @@ impl Kern {
         mend_ready(&mut self.ready, task);
     }
 
-    /// Sets how often the task has locked the scheduler and not unlocked it.
+    /// Sets the number of the task's scheduler locks.
     pub fn set_locks(&mut self, who: Ident, n: u64)
         requires { Lives self.old who }
         ensures { self.new ≡ set_locks self.old who n }
@@ -93,7 +95,7 @@ impl Kern {
         self.tasks.object_mut(who).locks = n;
     }
 
-    /// Sets the priority that the task was given, apart from what it inherits.
+    /// Sets the task's normal priority, without inheritance.
     pub fn set_normal(&mut self, who: Ident, pri: Pri)
         requires { Lives self.old who }
         ensures { self.new ≡ set_normal self.old who pri }
@@ -101,7 +103,7 @@ impl Kern {
         self.tasks.object_mut(who).normal = pri;
     }
 
-    /// Sets how often the task has been made safe from deletion and not unsafe again.
+    /// Sets the number of safe sections that the task is in.
     pub fn set_safe(&mut self, who: Ident, n: u64)
         requires { Lives self.old who }
         ensures { self.new ≡ set_safe self.old who n }
@@ -109,7 +111,7 @@ impl Kern {
         self.tasks.object_mut(who).safe = n;
     }
 
-    /// Sets how many inversion-safe mutexes the task owns.
+    /// Sets the number of inversion-safe mutexes that the task owns.
     pub fn set_held(&mut self, who: Ident, n: u64)
         requires { Lives self.old who }
         ensures { self.new ≡ set_held self.old who n }
@@ -117,7 +119,7 @@ impl Kern {
         self.tasks.object_mut(who).held = n;
     }
 
-    /// Sets the number of the task's last error.
+    /// Sets the task's last error number.
     pub fn set_errno(&mut self, who: Ident, n: u32)
         requires { Lives self.old who }
         ensures { self.new ≡ set_errno self.old who n }
@@ -125,7 +127,7 @@ impl Kern {
         self.tasks.object_mut(who).errno = n;
     }
 
-    /// Sets whether the task holds interrupts back.
+    /// Sets whether the task has locked out interrupts.
     pub fn set_int_locked(&mut self, who: Ident, on: bool)
         requires { Lives self.old who }
         ensures { self.new ≡ set_int_locked self.old who on }
@@ -133,7 +135,7 @@ impl Kern {
         self.tasks.object_mut(who).int_locked = on;
     }
 
-    /// Sets whether the task's next call repeats one that pended.
+    /// Sets whether the task's next call is a repetition of a call that pended.
     pub fn set_again(&mut self, who: Ident, on: bool)
         requires { Lives self.old who }
         ensures { self.new ≡ set_again self.old who on }

@@ -25,11 +25,11 @@ use wind_base::{Errno, NoMemory, Regs};
 #[derive(Drop)]
 pub struct Kern {
     pub(crate) tasks: Table<Task>,
-    // the tasks that wait, each by its key
+    // the waiting tasks, each by its key
     pub(crate) waits: Waits,
-    // the tasks that are ready, in the order of urgency
+    // the ready tasks, in order of urgency
     pub(crate) ready: Ready,
-    // the tasks that sleep, in the order in which they wake
+    // the tasks that have a wake, in the order in which they wake
     pub(crate) delays: Delays,
     pub(crate) ids: IdSource,
     pub(crate) next_since: u64,
@@ -73,71 +73,71 @@ impl Kern {
         })
     }
 
-    /// How many ticks have come.
+    /// The number of ticks so far.
     pub fn ticks(&self) -> u64
         ensures { result ≡ self.now.tick }
     {
         self.tick
     }
 
-    /// The order number that comes next: how many were given out so far.
+    /// The next order number: the count of order numbers given so far.
     pub fn next_since(&self) -> u64
         ensures { result ≡ self.now.next_since }
     {
         self.next_since
     }
 
-    /// How many tasks live, 256 at most.
+    /// The number of live tasks, at most 256.
     pub fn live(&self) -> u32
         ensures { result ≡ length self.now.tasks }
     {
         self.tasks.len() as u32
     }
 
-    /// Does nothing. Its contract tells the facts that the kernel keeps.
+    /// Does nothing. Its contract states the kernel's invariant.
     pub fn facts(&self)
         ensures { IsKern self.now }
     {
-        // to read the table is to know them
+        // reading the table makes the invariant known
         let _ = &self.tasks;
     }
 
-    /// The tasks that wait, each with its place and the key by which it stands there.
+    /// The waiting tasks, each with its place and the key that decides its position there.
     pub fn waits(&self) -> &Waits
         ensures { result.now ≡ task_waits self.now.tasks }
     {
         &self.waits
     }
 
-    /// The tasks that are ready, each with its priority, in the order of urgency.
+    /// The ready tasks, each with its priority, in order of urgency.
     pub fn ready(&self) -> &Ready
         ensures { result.now ≡ ready_tasks self.now.tasks }
     {
         &self.ready
     }
 
-    /// The tasks that have a tick at which they wake, each with that tick, in the order in which they wake.
+    /// The tasks that have a wake, each with its wake, in the order in which they wake.
     pub fn delays(&self) -> &Delays
         ensures { result.now ≡ delayed_tasks self.now.tasks }
     {
         &self.delays
     }
 
-    /// The least live id above a number. None where there is none.
+    /// The least live id above `id`. None if there is none.
     pub fn next_task(&self, id: u32) -> Option<Ident>
         ensures { result ≡ task_above self.now.tasks id }
     {
         self.tasks.next_after(id)
     }
 
-    /// The task of this id. None where it doesn't live.
+    /// The task with this id. None if it isn't live.
     pub fn task(&self, id: Ident) -> Option<&Task>
         ensures { option_copied result ≡ task_of self.now.tasks id }
     {
         self.tasks.get(id)
     }
 
-    /// The task at this place, counted from 0 by rising id.
+    /// The task at this place; places count from 0 by rising id.
     pub fn task_at(&self, place: u32) -> &Task
         requires { place < length self.now.tasks }
         ensures { result.now ≡ slice_index_or self.now.tasks place result.now }
@@ -145,7 +145,7 @@ impl Kern {
         self.tasks.value_at(place as usize)
     }
 
-    /// The registers of a task that lives, to be written.
+    /// A mutable reference to the registers of a live task.
     pub fn regs_of(&mut self, who: Ident) -> &mut Regs
         requires { Lives self.old who }
         ensures* writes_back { sem 𝓛 (lends_regs self.entry who result) }
@@ -154,7 +154,7 @@ impl Kern {
         &mut self.tasks.object_mut(who).regs
     }
 
-    /// The registers of the task of this id, to be written. None where it doesn't live.
+    /// A mutable reference to the registers of the task with this id. None if it isn't live.
     pub fn regs_mut(&mut self, who: Ident) -> Option<&mut Regs>
         ensures* writes_back { sem 𝓛 (lends_found self.entry who result) }
         ensures value { option_copied_mut result ≡ option_map (λ t. t.regs) (task_of self.old.tasks who) }
@@ -166,11 +166,12 @@ impl Kern {
         }
     }
 
-    /// Makes a new task, which is ready and stands after its equals.
+    /// Makes a new task. It is ready, and goes after all others of its priority.
     ///
     /// # Errors
     ///
-    /// `TooMany` where 256 tasks live, else `IdsSpent` where no id is left. Nothing changes then.
+    /// `TooMany` if 256 tasks are live; otherwise `IdsSpent` if no id is left. Then nothing
+    /// changes.
     pub fn spawn_record(&mut self, task: NewTask) -> Result<Ident, Errno>
         requires ids { self.old.lent ≡ false }
         requires since { self.old.next_since + 1 < 2 ^ 64 }
@@ -195,7 +196,7 @@ impl Kern {
         Ok(id)
     }
 
-    /// Takes the task of this id out. None where it doesn't live.
+    /// Removes the task with this id. None if it isn't live.
     pub fn remove(&mut self, who: Ident) -> Option<Task>
         ensures value { result ≡ task_of self.old.tasks who }
         ensures tasks { self.new ≡ remove self.old who }
@@ -206,8 +207,8 @@ impl Kern {
         self.tasks.remove(who)
     }
 
-    /// Adds an object of another kind to its table, under the next id. Gives the object back, and changes
-    /// nothing, where the table is full or no id is left.
+    /// Adds an object of another kind to its table, under the next id. If the table is full or no
+    /// id is left, nothing changes and the object is returned.
     pub fn add_to<T>(&mut self, table: &mut Table<T>, value: T) -> Result<Ident, T>
         requires ids { self.old.lent ≡ false }
         requires below { IdsBelow self.old.next_id table.old.rows }
@@ -218,7 +219,8 @@ impl Kern {
         table.add(&mut self.ids, value)
     }
 
-    /// Lends the ids to whoever makes objects of another kind. Until they are back, no object is made here.
+    /// Lends the ids to the maker of other kinds of objects. Until they are put back, this kernel
+    /// gives no id.
     pub fn lend_ids(&mut self) -> IdSource
         requires { self.old.lent ≡ false }
         ensures value { result ≡ record { next = self.old.next_id; lent = false } }
@@ -227,7 +229,7 @@ impl Kern {
         self.ids.lend()
     }
 
-    /// Takes lent ids back. None of them may be one that was given before.
+    /// Takes lent ids back. None of them may have been given before.
     pub fn put_ids(&mut self, ids: IdSource)
         requires lent { self.old.lent ≡ true }
         requires whole { ids.lent ≡ false }

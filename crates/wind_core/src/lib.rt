@@ -1,4 +1,4 @@
-//! The kernel's tasks: who runs, who waits, and what its calls and a tick make of them.
+//! The kernel's tasks: which runs, which wait, and what calls and ticks do to them.
 #![tactic(auto)]
 
 mod calls;

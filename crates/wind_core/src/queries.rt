@@ -1,4 +1,4 @@
-//! What is asked of the tasks before a call is made.
+//! Queries about the tasks, to be made before a call.
 
 ghost use Rattle.std.specs.Prelude.{◌≡◌, option_copied};
 ghost use Rattle.std.specs.Option.{option_map};
@@ -12,7 +12,7 @@ use task_block::Task;
 use wind_base::Errno;
 use wind_base::limits::TASKS;
 
-// The task of this name that has the least id.
+// The task with this name that has the least id.
 fn first_named<'a>(tasks: &'a Table<Task>, name: &[u8]) -> Option<&'a Task>
     ensures { option_copied result ≡ task_named (objects tasks.now.rows) name.now }
 {
@@ -26,7 +26,8 @@ fn first_named<'a>(tasks: &'a Table<Task>, name: &[u8]) -> Option<&'a Task>
 }
 
 impl Kern {
-    /// Why no task can be made now, if none can: `TooMany` where 256 tasks live, else `IdsSpent` where no id is left.
+    /// Why no task can be made now: `TooMany` if 256 tasks are live; otherwise `IdsSpent` if no id
+    /// is left. None if a task can be made.
     pub fn spawn_refusal(&self) -> Option<Errno>
         ensures { result ≡ spawn_refusal_lem self.now }
     {
@@ -46,7 +47,7 @@ impl Kern {
         self.last
     }
 
-    /// The id of the task of this name; the least, where several have it.
+    /// The id of the task with this name: the least one, if several tasks have the name.
     pub fn named(&self, name: &[u8]) -> Option<Ident>
         ensures { result ≡ option_map task_id (task_named self.now.tasks name.now) }
     {

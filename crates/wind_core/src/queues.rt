@@ -1,4 +1,4 @@
-//! The queues of tasks, mended after a task has changed.
+//! Updates the queues after a task has changed.
 
 ghost use Rattle.std.specs.Prelude.{◌≡◌, ◌<◌, length, if◌then◌else◌};
 ghost use Rattle.wait_order.specs.Line.{without_waiter};
@@ -14,14 +14,14 @@ use ready_queue::Ready;
 use task_block::Task;
 use wait_order::Waits;
 
-// The priority by which a task waits: one that waits in order of arrival counts as most urgent.
+// The priority by which a task waits: 0, the most urgent, if it waits in order of arrival.
 fn wait_pri(task: &Task) -> u32
     ensures { result ≡ wait_pri_lem task.now }
 {
     if task.fifo { 0 } else { task.pri.get() }
 }
 
-// Puts the task among those that wait as it waits now, or takes it out where it waits no longer.
+// Updates the task in the line of waiting tasks: as it waits now, or not at all.
 #[tactic(auto, using(crate::proofs::Waiting::taken_absent))]
 pub(crate) fn mend_waits(waits: &mut Waits, task: &Task)
     requires { length (without_waiter waits.old task.now.id).waiters < waits.old.room }
@@ -33,7 +33,7 @@ pub(crate) fn mend_waits(waits: &mut Waits, task: &Task)
     }
 }
 
-// Puts the task after its equals among those that are ready, or takes it out if it isn't ready.
+// Updates the task in the queue of ready tasks: after all others of its priority, or not at all.
 #[tactic(auto, using(ready_queue::proofs::Turns::taken_absent))]
 pub(crate) fn mend_ready(ready: &mut Ready, task: &Task)
     requires { length (ready_without ready.old.tasks task.now.id) < ready.old.room }
@@ -45,7 +45,8 @@ pub(crate) fn mend_ready(ready: &mut Ready, task: &Task)
     }
 }
 
-// Puts the task among those that sleep, after all that wake when it does, or takes it out if it doesn't sleep.
+// Updates the task in the queue of wakes: after all tasks with the same wake or an earlier one, or
+// not at all.
 #[tactic(auto, using(delay_queue::proofs::Waiting::taken_absent))]
 pub(crate) fn mend_delays(delays: &mut Delays, task: &Task)
     requires { length (delays_without delays.old.tasks task.now.id) < delays.old.room }
@@ -57,7 +58,7 @@ pub(crate) fn mend_delays(delays: &mut Delays, task: &Task)
     }
 }
 
-// Puts the task into each queue as it stands now. If it is ready or sleeps, it stands after its equals.
+// Updates the task in all queues. If it is ready or has a wake, it goes after its equals.
 pub(crate) fn mend(waits: &mut Waits, ready: &mut Ready, delays: &mut Delays, task: &Task)
     requires waits { length (without_waiter waits.old task.now.id).waiters < waits.old.room }
     requires ready { length (ready_without ready.old.tasks task.now.id) < ready.old.room }
@@ -71,7 +72,7 @@ pub(crate) fn mend(waits: &mut Waits, ready: &mut Ready, delays: &mut Delays, ta
     mend_delays(delays, task);
 }
 
-// The task goes after its equals, if its turn is over.
+// Moves the task after all others of its priority, if its time slice is over.
 pub(crate) fn rotate_over(ready: &mut Ready, who: Ident, over: bool)
     ensures { ready.new ≡ (if over then rotated ready.old who else ready.old) }
 {

@@ -1,4 +1,4 @@
-//! What is done to one task.
+//! Changes of one task.
 
 ghost use Rattle.std.specs.Prelude.{◌≡◌, ◌<◌, ◌+◌, ◌^◌, nat_le, if◌then◌else◌};
 ghost use Rattle.task_block.specs.Standing.{is_ready};
@@ -19,6 +19,7 @@ pub(crate) fn made(new: NewTask, id: Ident, since: u64) -> Task
         name,
         entry,
         stack,
+        stack_size,
         pri,
         regs,
     } = new;
@@ -27,6 +28,7 @@ pub(crate) fn made(new: NewTask, id: Ident, since: u64) -> Task
         name,
         entry,
         stack,
+        stack_size,
         pri,
         normal: pri,
         since,
@@ -45,14 +47,15 @@ pub(crate) fn made(new: NewTask, id: Ident, since: u64) -> Task
     }
 }
 
-// Whether a wait at this side of an object has no end by time, and goes by urgency.
+// Whether a wait at this side of an object has no timeout, and is in order of priority.
 pub(crate) fn is_endless(side: u8) -> bool
     ensures { result ≡ is_endless_lem side }
 {
     side == DELETION || side == CONSOLE
 }
 
-// The tick at which a wait at this side ends, by its timeout in ticks. None if it has no end.
+// The tick at which a wait at this side times out; `timeout` is in ticks. None if it doesn't time
+// out.
 pub(crate) fn wake_tick(side: u8, tick: u64, timeout: u32) -> Option<u64>
     requires { tick < 2 ^ 63 }
     ensures { result ≡ wake_at side tick timeout }
@@ -64,7 +67,7 @@ pub(crate) fn wake_tick(side: u8, tick: u64, timeout: u32) -> Option<u64>
     }
 }
 
-// The task begins to wait.
+// Begins the task's wait.
 pub(crate) fn begin_wait(task: &mut Task, place: Place, fifo: bool, wake: Option<u64>)
     ensures { task.new ≡ pended place fifo wake task.old }
 {
@@ -75,7 +78,7 @@ pub(crate) fn begin_wait(task: &mut Task, place: Place, fifo: bool, wake: Option
     task.turns = 0;
 }
 
-// The task begins to sleep for `ticks` ticks.
+// Begins the task's delay of `ticks` ticks. With 0, nothing changes.
 pub(crate) fn begin_delay(task: &mut Task, tick: u64, ticks: u32)
     requires { tick < 2 ^ 63 }
     ensures { task.new ≡ delayed tick ticks task.old }
@@ -86,7 +89,7 @@ pub(crate) fn begin_delay(task: &mut Task, tick: u64, ticks: u32)
     }
 }
 
-// The task's wait or delay ends.
+// Ends the task's wait or delay.
 pub(crate) fn end(task: &mut Task)
     ensures { task.new ≡ released task.old }
 {
@@ -94,7 +97,7 @@ pub(crate) fn end(task: &mut Task)
     task.wake = None;
 }
 
-// The task's wait or delay ends with an answer.
+// Ends the task's wait or delay, with a result for its call.
 pub(crate) fn answer_wait(task: &mut Task, answer: u32, errno: Option<Errno>)
     ensures { task.new ≡ answered answer errno task.old }
 {
@@ -105,7 +108,7 @@ pub(crate) fn answer_wait(task: &mut Task, answer: u32, errno: Option<Errno>)
     }
 }
 
-// The task gets a new order number, where it is ready.
+// Gives the task a new order number if it is ready.
 pub(crate) fn settle(task: &mut Task, next_since: &mut u64)
     requires { next_since.old + 1 < 2 ^ 64 }
     ensures task { task.new ≡ settled next_since.old task.old }
@@ -117,7 +120,7 @@ pub(crate) fn settle(task: &mut Task, next_since: &mut u64)
     }
 }
 
-// The task is suspended, and its turn is over.
+// Suspends the task and ends its time slice.
 pub(crate) fn suspend_task(task: &mut Task)
     ensures { task.new ≡ suspended task.old }
 {
@@ -125,14 +128,14 @@ pub(crate) fn suspend_task(task: &mut Task)
     task.turns = 0;
 }
 
-// The task's suspension ends.
+// Ends the task's suspension.
 pub(crate) fn take_suspension(task: &mut Task)
     ensures { task.new ≡ resumed task.old }
 {
     task.suspended = false;
 }
 
-// The task is not suspended, has no lock, holds no interrupt back and repeats no call.
+// Clears the task's suspension, scheduler locks, interrupt lock and mark of a repeated call.
 pub(crate) fn take_marks(task: &mut Task)
     ensures { task.new ≡ unmarked task.old }
 {
@@ -142,14 +145,14 @@ pub(crate) fn take_marks(task: &mut Task)
     task.again = false;
 }
 
-// The task's priority is this one.
+// Sets the task's priority.
 pub(crate) fn set_pri(task: &mut Task, pri: Pri)
     ensures { task.new ≡ with_pri pri task.old }
 {
     task.pri = pri;
 }
 
-// The task gets a new order number.
+// Gives the task a new order number.
 pub(crate) fn renew(task: &mut Task, next_since: &mut u64)
     requires { next_since.old + 1 < 2 ^ 64 }
     ensures task { task.new ≡ renewed next_since.old task.old }
@@ -159,7 +162,8 @@ pub(crate) fn renew(task: &mut Task, next_since: &mut u64)
     *next_since += 1;
 }
 
-// One more tick of the task's turn. A turn that is over begins anew, after the task's equals: whether it is.
+// Counts one more tick of the task's time slice. If that ends the slice, a new one begins, the task
+// gets a new order number, and the result is `true`.
 pub(crate) fn count_turn(task: &mut Task, next_since: &mut u64, slice: u32) -> bool
     requires { next_since.old + 1 < 2 ^ 64 }
     ensures over { result ≡ nat_le slice (task.old.turns + 1) }
@@ -176,14 +180,14 @@ pub(crate) fn count_turn(task: &mut Task, next_since: &mut u64, slice: u32) -> b
     }
 }
 
-// The task has no reservation.
+// Drops the task's reservation.
 pub(crate) fn drop_reservation(task: &mut Task)
     ensures { task.new ≡ unreserved task.old }
 {
     task.regs.reserve = None;
 }
 
-// The task goes on after its call.
+// Returns the task from its call.
 pub(crate) fn pass_gate(task: &mut Task)
     ensures { task.new ≡ past_gate task.old }
 {
@@ -191,14 +195,14 @@ pub(crate) fn pass_gate(task: &mut Task)
     task.regs.pc = link;
 }
 
-// An answer stands in r3.
+// Sets the result of the task's call, in r3.
 pub(crate) fn put_answer(task: &mut Task, value: u32)
     ensures { task.new ≡ with_answer value task.old }
 {
     task.regs.gpr[3] = value;
 }
 
-// A refusal is answered.
+// Refuses the task's call.
 pub(crate) fn put_refusal(task: &mut Task, errno: Errno)
     ensures { task.new ≡ with_refusal errno task.old }
 {

@@ -5,6 +5,6 @@
 pub enum Took {
     /// The call is done.
     Taken,
-    /// The caller waits.
+    /// The caller waits: the call pended.
     Pended,
 }

@@ -14,9 +14,10 @@ use id_table::{Ident, Place};
 use wind_base::Errno;
 
 impl Kern {
-    /// The task begins to wait at a place, after its equals, for `timeout` ticks, or without end if
-    /// `timeout` is `WAIT_FOREVER`. It waits in order of arrival where `fifo` is set, else by priority. For
-    /// the deletion of a task and for the console it waits by priority and without end.
+    /// Begins the task's wait at a place. It ends after `timeout` ticks at the latest, unless
+    /// `timeout` is `WAIT_FOREVER`. With `fifo`, the task waits in order of arrival, otherwise by
+    /// priority, after its equals. A wait for the deletion of a task or for the console has no
+    /// timeout, and is by priority.
     pub fn pend(&mut self, who: Ident, place: Place, fifo: bool, timeout: u32)
         requires live { Lives self.old who }
         requires timeout { 0 < timeout }
@@ -31,7 +32,7 @@ impl Kern {
         mend(&mut self.waits, &mut self.ready, &mut self.delays, task);
     }
 
-    /// The task sleeps for `ticks` ticks. With 0 it only goes after its equals.
+    /// Delays the task for `ticks` ticks. With 0, it only goes after all others of its priority.
     pub fn delay(&mut self, who: Ident, ticks: u32)
         requires live { Lives self.old who }
         requires since { self.old.next_since + 1 < 2 ^ 64 }
@@ -45,7 +46,8 @@ impl Kern {
         mend(&mut self.waits, &mut self.ready, &mut self.delays, task);
     }
 
-    /// The task's wait or delay ends. If it is then ready, it stands after its equals.
+    /// Ends the task's wait or delay. If the task is then ready, it goes after all others of its
+    /// priority.
     pub fn release(&mut self, who: Ident)
         requires live { Lives self.old who }
         requires since { self.old.next_since + 1 < 2 ^ 64 }
@@ -57,8 +59,9 @@ impl Kern {
         mend(&mut self.waits, &mut self.ready, &mut self.delays, task);
     }
 
-    /// The task's wait or delay ends, and its call is answered: by `answer` in r3, and by an error number
-    /// where one is named. If it is then ready, it stands after its equals.
+    /// Ends the task's wait or delay, and sets the result of its call in r3 and, if `errno` is
+    /// given, its error number. If the task is then ready, it goes after all others of its
+    /// priority.
     pub fn end_wait(&mut self, who: Ident, answer: u32, errno: Option<Errno>)
         requires live { Lives self.old who }
         requires since { self.old.next_since + 1 < 2 ^ 64 }
@@ -70,24 +73,24 @@ impl Kern {
         mend(&mut self.waits, &mut self.ready, &mut self.delays, task);
     }
 
-    /// The first of the tasks that wait at a place. None where none waits there.
+    /// The first task that waits at a place. None if no task waits there.
     pub fn first_waiter(&self, place: Place) -> Option<Ident>
         ensures { result ≡ option_map task_id (first_waiter_lem self.now.tasks place) }
     {
         self.waits.first(place)
     }
 
-    // The same, with the kept facts.
+    // The same, with the kernel's invariant.
     fn front_waiter(&self, place: &Place) -> Option<Ident>
         ensures first { result ≡ option_map task_id (first_waiter_lem self.now.tasks place.now) }
         ensures sound { IsKern self.now }
     {
-        // to read the table is to know the kept facts
+        // reading the table makes the invariant known
         let _ = &self.tasks;
         self.waits.first(*place)
     }
 
-    /// The waits of all tasks at a place end with the same answer, in the order in which they stand there.
+    /// Ends the waits of all tasks at a place, in their order there, with the same result.
     pub fn wake_all(&mut self, place: Place, answer: u32, errno: Option<Errno>)
         requires { self.old.next_since < 2 ^ 63 }
         ensures { self.new ≡ wake_all self.old place answer errno }
@@ -98,7 +101,7 @@ impl Kern {
         }
     }
 
-    /// The waits of all tasks at a place end without an answer, in the order in which they stand there.
+    /// Ends the waits of all tasks at a place, in their order there, without a result.
     pub fn release_all(&mut self, place: Place)
         requires { self.old.next_since < 2 ^ 63 }
         ensures { self.new ≡ release_all self.old place }

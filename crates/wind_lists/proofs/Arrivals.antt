@@ -1,4 +1,4 @@
--- Elements as they come and go: they stand by rank, and those of one rank as they came.
+-- Elements that come and go: they are in order of rank, and those of one rank in order of arrival.
 use Rattle.std.proofs.Common.{◌≡◌, ℕ, ◌<◌, ◌≤◌, true, false, cond, not, eqb, ltb, List, [], ◌∷◌, ◌++◌, Option, None, Some, refl, sym, ap, ◌∙◌, subst, arith}
 use Rattle.std.specs.List.{All}
 use Rattle.std.specs.Cmp.{IsStrictWeakOrder}
@@ -17,12 +17,12 @@ module _ {X : Type 0} (id rank : X → ℕ) where
     chain = λ x y z e f. grind arith;
   }
 
-  -- to put an element in front of those of its rank, and another behind, may change places
+  -- putting one element before those of its rank, and another after those of its rank, can be done in either order
   change_places : (x t : X) (ts : List X) → insert_sorted (ranks_below id rank) x (put_behind id rank ts t) ≡ put_behind id rank (insert_sorted (ranks_below id rank) x ts) t
   change_places x t [] = grind arith
   change_places x t (u ∷ us) = grind (arith, change_places x t us)
 
-  -- the last to come goes behind all of its rank
+  -- the last to come goes after all of its rank
   sorted_push : (ts : List X) (t : X) → put_behind id rank (sorted (ranks_below id rank) ts) t ≡ sorted (ranks_below id rank) (ts ++ t ∷ [])
   sorted_push [] t = refl
   sorted_push (x ∷ xs) t = sym (change_places x t (sorted (ranks_below id rank) xs)) ∙ ap (insert_sorted (ranks_below id rank) x) (sorted_push xs t)
@@ -33,7 +33,7 @@ module _ {X : Type 0} (id rank : X → ℕ) where
   arrivals_sorted (goes n ∷ earlier) = ap (λ ts. without id ts n) (arrivals_sorted earlier) ∙ filter-sorted (ranks_below id rank) by_rank (λ t. not (eqb (id t) n)) (arrivals id rank earlier)
 
   -- ---- the first
-  -- an element, or one of lesser rank
+  -- the element, or another of lesser rank
   abbrev better : X → Option X → Option X
   better x None = Some x
   better x (Some t) = cond (ltb (rank t) (rank x)) (Some t) (Some x)
@@ -88,10 +88,10 @@ module _ {X : Type 0} (id rank : X → ℕ) where
             ] refl q
       ] refl (sym (first_of_insert x (sorted (ranks_below id rank) xs)) ∙ e)
 
-  -- the first is the earliest of the least rank
+  -- the first element came earliest of those with the least rank
   pub first_earliest : (changes : List (Change X)) (x : X) → first (after_changes id rank changes) ≡ Some x → IsEarliest id rank (arrivals id rank changes) x
   first_earliest changes x e = earliest (arrivals id rank changes) x (ap first (sym (arrivals_sorted changes)) ∙ e)
 
-  -- nobody is first only where nobody is left
+  -- if there is no first element, none is left
   pub none_after : (changes : List (Change X)) → first (after_changes id rank changes) ≡ None → arrivals id rank changes ≡ []
   none_after changes e = none_first (arrivals id rank changes) (ap first (sym (arrivals_sorted changes)) ∙ e)

@@ -5,7 +5,7 @@ use Rattle.std.specs.List.Sorted.{IsPartitionPoint, IsNonDecreasingBy}
 use Rattle.std.proofs.lemmas.Bool.{cases_eq, cases_lt, ne_eqb, ltb-true, ltb-false}
 use Rattle.wind_lists.specs.Records.{of_id, Rising}
 
--- so many records have an id below this one, and the others have not
+-- the first i records have an id below this one, and the others don't
 abbrev pub IsRank : {X : Type 0} → (X → ℕ) → List X → ℕ → ℕ → Type 0
 IsRank id xs n i = IsPartitionPoint (λ x. nat_lt (id x) n ≡ true) (λ x. nat_lt (id x) n ≡ false) xs i
 
@@ -16,7 +16,7 @@ rising_ids id xs up i j d hij hj =
     (λ (ne : i ≡ j → ⊥). let rise = up i j d (omega (arith, hij, ne)) hj in omega (arith, rise))
     (cases_eq i j)
 
--- where the record at the rank is another, there is none
+-- if the record at the rank has another id, no record has this id
 pub rank_absent : {X : Type 0} (id : X → ℕ) (xs : List X) (n i : ℕ) → Rising id xs → IsRank id xs n i → ((d : X) → i < length xs → id (get_or xs i d) ≡ n → ⊥)
     → (k : ℕ) (d : X) → k < length xs → id (get_or xs k d) ≡ n → ⊥
 rank_absent id xs n i up rank other k d h same =
@@ -33,7 +33,7 @@ rank_absent id xs n i up rank other k d h same =
     (cases_eq i k))
     (cases_lt k i)
 
--- a record that stands nowhere is not found
+-- a record that is at no place isn't found
 pub none_of : {X : Type 0} (id : X → ℕ) (xs : List X) (n : ℕ) → ((k : ℕ) (d : X) → k < length xs → id (get_or xs k d) ≡ n → ⊥) → of_id id xs n ≡ None
 none_of id [] n none = refl
 none_of id (x ∷ xs) n none =

@@ -1,4 +1,4 @@
--- The laws of lists in order.
+-- The laws of sorted lists.
 use Rattle.std.proofs.Common.{◌≡◌, ℕ, ◌+◌, ◌<◌, Bool, true, false, cond, List, [], ◌∷◌, Some, refl, sym, ap, ◌∙◌, subst, arith}
 use Rattle.std.specs.Cmp.{IsStrictWeakOrder}
 use Rattle.std.specs.List.{AllByRecursion, AllPairs, All, Contains, count_by}
@@ -50,9 +50,9 @@ module _ {X : Type 0} (lt : X → X → Bool) where
         λ y at. All-contains (λ z. lt z x ≡ false) (x ∷ split.0) y (head_least w x split.0 ordered) (Contains-permutation xs (x ∷ split.0) y moved at),
       )
 
-  -- ---- two lists in order with the same elements
+  -- ---- two sorted lists with the same elements
   module _ (w : IsStrictWeakOrder lt) (equals : (x y : X) → lt x y ≡ false → lt y x ≡ false → x ≡ y) where
-    -- what ties with x is x
+    -- an element that ties with x is x
     tied : (x y : X) → ties lt x y ≡ true → x ≡ y
     tied x y e = equals x y (grind arith) (grind arith)
 

@@ -1,4 +1,4 @@
--- Those that pass a test, in order, after one of them has changed so that it passes no more.
+-- The elements that pass a test, in order, after one of them changed and no longer passes.
 use Rattle.std.proofs.Common.{◌≡◌, ℕ, suc, ◌+◌, ◌<◌, ◌≤◌, Bool, false, cond, not, eqb, List, [], ◌∷◌, length, get_or, refl, sym, ap, ◌∙◌, subst, arith, None, Some, true}
 use Rattle.std.specs.List.{filter, All, Contains}
 use Rattle.std.specs.Cmp.{IsStrictWeakOrder}
@@ -88,7 +88,7 @@ module _ {X : Type 0} (id : X → ℕ) where
         ∙ ap (λ b. cond (not b) (x ∷ filter (is_other (id x)) rest) (filter (is_other (id x)) rest)) (eq-eqb (id x) (id x) refl)
         ∙ filter_keeps (is_id (id x)) rest none
 
-    -- after the front has changed so that it passes no more, the others stand in line as before
+    -- after the first one changed and no longer passes, the others keep their order
     pub in_line-change : (xs : List X) (f : X → X) (x : X) (rest : List X) → ((y : X) → p (f y) ≡ false) → Rising id xs → in_line lt p xs ≡ x ∷ rest
         → in_line lt p (change id xs (id x) f) ≡ rest
     in_line-change xs f x rest gone up e =
@@ -99,7 +99,7 @@ module _ {X : Type 0} (id : X → ℕ) where
     pub length-in_line : (xs : List X) → length (in_line lt p xs) ≤ length xs
     length-in_line xs = rw (length-sorted lt (filter p xs)) (length-filter p xs)
 
-    -- the front is one of the list, and passes
+    -- the first one is in the list, and passes
     pub front_found : (xs : List X) (x : X) → Rising id xs → first (in_line lt p xs) ≡ Some x → of_id id xs (id x) ≡ Some x
     front_found xs x up e =
         found_in id xs x up (All-contains (Contains xs) (filter p xs) x (All-filter p (Contains xs) xs (All-contains_itself xs)) (first_least lt order (filter p xs) x e).0)
@@ -107,6 +107,6 @@ module _ {X : Type 0} (id : X → ℕ) where
     pub front_passes : (xs : List X) (x : X) → first (in_line lt p xs) ≡ Some x → p x ≡ true
     front_passes xs x e = All-contains (λ y. p y ≡ true) (filter p xs) x (filter_passes p xs) (first_least lt order (filter p xs) x e).0
 
-    -- where none is in front, none passes
+    -- if there is no first one, none passes
     pub none_passes : (xs : List X) → first (in_line lt p xs) ≡ None → All (λ y. p y ≡ false) xs
     none_passes xs e = none_kept p xs (nil_from_length (filter p xs) (omega (arith, length-sorted lt (filter p xs), ap length (no_first lt (in_line lt p xs) e))))

@@ -1,4 +1,4 @@
--- A record's place in a list where the ids rise: a look-up of it, one record more, and one fewer.
+-- A record's place in a list of rising ids: looking it up, adding one, removing one.
 use Rattle.std.proofs.Common.{◌≡◌, ℕ, zero, suc, ◌+◌, ◌<◌, ◌≤◌, Bool, true, false, not, cond, eqb, ltb, List, [], ◌∷◌, length, get_or, Option, None, Some, refl, sym, ap, ◌∙◌, arith}
 use Rattle.std.specs.List.{All, position, position_or_len, insert, remove}
 use Rattle.std.specs.Option.{MatchOption}
@@ -12,7 +12,7 @@ use Rattle.wind_lists.proofs.Passing.{length-filter}
 use Rattle.wind_lists.proofs.Records.{rising_tail, rising_head, found_place}
 
 module _ {X : Type 0} (id : X → ℕ) where
-  -- ---- where a record stands
+  -- ---- the place of a record
   abbrev pub place_of : List X → X → ℕ
   place_of xs x = position_or_len (λ y. not (ltb (id y) (id x))) xs
 
@@ -45,7 +45,7 @@ module _ {X : Type 0} (id : X → ℕ) where
       let y : X = get_or (x ∷ xs) k x in
       (y, ap (of_id id (x ∷ xs)) (sym (at.same x)) ∙ found_place id (x ∷ xs) k x up at.within)
 
-  -- ---- one fewer
+  -- ---- removing one
   pub none_without : (xs : List X) (n : ℕ) → of_id id xs n ≡ None → without id xs n ≡ xs
   none_without [] n e = refl
   none_without (x ∷ xs) n e =
@@ -54,14 +54,14 @@ module _ {X : Type 0} (id : X → ℕ) where
         | false ↦ λ q. ap (λ ys. x ∷ ys) (none_without xs n q)
       ] e
 
-  -- where all ids lie above, there is none
+  -- if all ids are above this one, no record has it
   pub above_none : (xs : List X) (n : ℕ) → All (λ x. n < id x) xs → of_id id xs n ≡ None
   above_none [] n up = refl
   above_none (x ∷ xs) n up =
       let here : n < id x = All-head (λ y. n < id y) x xs up in
       ap (λ b. cond b (Some x) (of_id id xs n)) (ne_eqb (id x) n (λ q. omega arith)) ∙ above_none xs n (All-tail (λ y. n < id y) x xs up)
 
-  -- where no record has the id, none changes
+  -- if no record has the id, none changes
   pub not_there : (xs : List X) (n : ℕ) (f : X → X) → of_id id xs n ≡ None → change id xs n f ≡ xs
   not_there [] n f e = refl
   not_there (x ∷ xs) n f e =
@@ -117,7 +117,7 @@ module _ {X : Type 0} (id : X → ℕ) where
   pub Rising-without : (xs : List X) (n : ℕ) → Rising id xs → Rising id (without id xs n)
   Rising-without xs n up = AllPairs-filter (λ x y. id x < id y) (λ x. not (eqb (id x) n)) xs up
 
-  -- ---- one more
+  -- ---- adding one
   pub insert_place : (x : X) (xs : List X) → insert xs (place_of xs x) x ≡ with_record id xs x
   insert_place x [] = refl
   insert_place x (y ∷ ys) =
@@ -156,7 +156,7 @@ module _ {X : Type 0} (id : X → ℕ) where
             ] refl
       ] refl none
 
-  -- a look-up after one record more
+  -- a look-up after one record is added
   pub of_id-with_record : (xs : List X) (x : X) (m : ℕ) → of_id id xs (id x) ≡ None → of_id id (with_record id xs x) m ≡ cond (eqb (id x) m) (Some x) (of_id id xs m)
   of_id-with_record [] x m none = refl
   of_id-with_record (y ∷ ys) x m none =

@@ -1,4 +1,4 @@
--- Records by id: what a look-up finds, and what a write leaves of the others.
+-- Records by id: what a look-up finds, and that a write leaves the other records.
 use Rattle.std.proofs.Common.{◌≡◌, ℕ, zero, suc, ◌<◌, true, false, cond, eqb, List, [], ◌∷◌, map, length, get_or, Some, refl, sym, ap, ◌∙◌, subst, arith}
 use Rattle.std.specs.List.{AllPairs, All, Contains}
 use Rattle.std.proofs.lemmas.Bool.{eqb-true, eq-eqb, ne_eqb}
@@ -13,7 +13,7 @@ module _ {X : Type 0} (id : X → ℕ) where
   pub rising_head : (x : X) (xs : List X) → Rising id (x ∷ xs) → (k : ℕ) (d : X) → k < length xs → id x < id (get_or xs k d)
   rising_head x xs up k d hk = up 0 (suc k) d (omega arith) (omega arith)
 
-  -- what a look-up finds has that id
+  -- a found record has that id
   pub found_id : (xs : List X) (n : ℕ) (x : X) → of_id id xs n ≡ Some x → id x ≡ n
   found_id [] n x e = absurd (cc)
   found_id (y ∷ ys) n x e =
@@ -22,7 +22,7 @@ module _ {X : Type 0} (id : X → ℕ) where
         | false ↦ λ b q. found_id ys n x q
       ] refl e
 
-  -- it stands in the list
+  -- it is in the list
   pub found_at : (xs : List X) (n : ℕ) (x : X) → of_id id xs n ≡ Some x → Contains xs x
   found_at [] n x e = absurd (cc)
   found_at (y ∷ ys) n x e =
@@ -31,7 +31,7 @@ module _ {X : Type 0} (id : X → ℕ) where
         | false ↦ λ q. let at = found_at ys n x q in (suc at.0, omega (arith, at.1), at.2)
       ] e
 
-  -- where the ids rise, each record is the one of its id
+  -- if the ids rise, each record is found by its id
   pub found_place : (xs : List X) (k : ℕ) (d : X) → Rising id xs → k < length xs → of_id id xs (id (get_or xs k d)) ≡ Some (get_or xs k d)
   found_place [] k d up h = absurd (omega arith)
   found_place (y ∷ ys) zero d up h = ap (λ b. cond b (Some y) (of_id id ys (id y))) (eq-eqb (id y) (id y) refl)
@@ -43,7 +43,7 @@ module _ {X : Type 0} (id : X → ℕ) where
   pub found_in : (xs : List X) (x : X) → Rising id xs → Contains xs x → of_id id xs (id x) ≡ Some x
   found_in xs x up at = subst (λ y. of_id id xs (id y) ≡ Some y) at.2 (found_place xs at.0 x up at.1)
 
-  -- the record at a place, where it has the id of x
+  -- the record at a place, if it has the id of x, is x
   pub one_of_id : (xs : List X) (n : ℕ) (x : X) (k : ℕ) (d : X) → Rising id xs → of_id id xs n ≡ Some x → k < length xs → id (get_or xs k d) ≡ n → get_or xs k d ≡ x
   one_of_id xs n x k d up e h same =
       same_Some (get_or xs k d) x (sym (found_place xs k d up h) ∙ ap (of_id id xs) same ∙ e)
@@ -55,7 +55,7 @@ module _ {X : Type 0} (id : X → ℕ) where
       ∙ ap (λ zs. y ∷ zs) (none_changed n f g ys (λ k d h. none (suc k) d (omega arith)))
       ∙ ap (λ b. cond b (g y) y ∷ change id ys n g) (sym (ne_eqb (id y) n (none 0 y (omega arith))))
 
-  -- to make f of the record of an id is to put what f makes of it in its place
+  -- applying f to the record with an id puts f's result in its place
   pub replace-change : (xs : List X) (n : ℕ) (x : X) (f : X → X) → Rising id xs → of_id id xs n ≡ Some x → replace id xs n (f x) ≡ change id xs n f
   replace-change [] n x f up e = refl
   replace-change (y ∷ ys) n x f up e =
@@ -66,7 +66,7 @@ module _ {X : Type 0} (id : X → ℕ) where
         | false ↦ λ b q. ap (λ zs. y ∷ zs) (replace-change ys n x f (rising_tail y ys up) q)
       ] refl e
 
-  -- two ways to change the record of an id that give the same at that record
+  -- two changes of the record with an id are equal if they agree at that record
   pub change_alike : (xs : List X) (n : ℕ) (x : X) (f g : X → X) → Rising id xs → of_id id xs n ≡ Some x → f x ≡ g x → change id xs n f ≡ change id xs n g
   change_alike xs n x f g up e same = sym (replace-change xs n x f up e) ∙ ap (replace id xs n) same ∙ replace-change xs n x g up e
 
@@ -76,7 +76,7 @@ module _ {X : Type 0} (id : X → ℕ) where
       subst P (sym (get_or-map (λ x. cond (eqb (id x) n) y x) xs k d d within))
       (elim (eqb (id (get_or xs k d)) n) as (λ b. P (cond b y (get_or xs k d))) [ true ↦ new | false ↦ all k d within ])
 
-  -- what holds between each two, and between x and each other, holds between y and each other
+  -- a relation between each two still holds after y replaces x, if it passes on from x to y
   pub AllPairs-replace : (P : X → Type 0) (R : X → X → Type 0) (xs : List X) (n : ℕ) (x y : X) → Rising id xs → of_id id xs n ≡ Some x → All P xs → AllPairs R xs
       → ((u : X) → P u → R u x → R u y) → ((u : X) → P u → R x u → R y u) → AllPairs R (replace id xs n y)
   AllPairs-replace P R xs n x y up e all pairs before after i j d hij hj =

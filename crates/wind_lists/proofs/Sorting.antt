@@ -1,4 +1,4 @@
--- Lists in order: what a scan from the front finds, and that leaving out and sorting may change places.
+-- Sorted lists: what a scan from the beginning finds, and that filtering and sorting can be done in either order.
 use Rattle.std.proofs.Common.{◌≡◌, ℕ, suc, ◌+◌, ◌<◌, Bool, true, false, cond, List, [], ◌∷◌, ◌++◌, map, take, get_or, length, Option, None, Some, refl, sym, ap, ◌∙◌, arith}
 use Rattle.std.specs.Cmp.{IsStrictWeakOrder}
 use Rattle.std.specs.Bool.{⊤}
@@ -37,7 +37,7 @@ module _ {X : Type 0} (lt : X → X → Bool) where
   picks p None x = refl
   picks p (Some b) x = grind arith
 
-  -- a scan from the front, one element on
+  -- a scan from the beginning, one element further
   pub first-sorted_more : IsStrictWeakOrder lt → (p : X → Bool) (xs : List X) (i : ℕ) (d : X) → i < length xs
       → first (sorted lt (filter p (take (i + 1) xs))) ≡ pick lt p (first (sorted lt (filter p (take i xs)))) (get_or xs i d)
   first-sorted_more w p xs i d h =
@@ -48,8 +48,8 @@ module _ {X : Type 0} (lt : X → X → Bool) where
       ])
       ∙ picks p (first (sorted lt (filter p (take i xs)))) (get_or xs i d)
 
--- ---- in order
--- no element is before one that stands ahead of it
+-- ---- sorted lists
+-- no element is before an earlier one in the order
 abbrev pub InOrder : {X : Type 0} → (X → X → Bool) → List X → Type 0
 InOrder lt [] = ⊤
 InOrder lt (x ∷ xs) = AllByRecursion (λ z. lt z x ≡ false) xs × InOrder lt xs
@@ -75,7 +75,7 @@ module _ {X : Type 0} (lt : X → X → Bool) where
   in_order_sorted w [] = tt
   in_order_sorted w (x ∷ xs) = in_order_insert w x (sorted lt xs) (in_order_sorted w xs)
 
-  -- x goes to the front where no element is before it
+  -- x goes to the beginning if no element is before it
   at_front : (x : X) (ys : List X) → AllByRecursion (λ z. lt z x ≡ false) ys → insert_sorted lt x ys ≡ x ∷ ys
   at_front x [] h = refl
   at_front x (y ∷ ys) h = rw h.0 refl
@@ -84,7 +84,7 @@ module _ {X : Type 0} (lt : X → X → Bool) where
   all_filter P q [] ps = tt
   all_filter P q (y ∷ ys) ps = elim (q y) as (λ b. AllByRecursion P (cond b (y ∷ filter q ys) (filter q ys))) [ true ↦ (ps.0, all_filter P q ys ps.1) | false ↦ all_filter P q ys ps.1 ]
 
-  -- y stands before x, and stays or goes
+  -- y is before x; y stays or is filtered out
   later : (q : X → Bool) (x y : X) (ys : List X) → lt y x ≡ true → filter q (insert_sorted lt x ys) ≡ cond (q x) (insert_sorted lt x (filter q ys)) (filter q ys)
       → filter q (y ∷ insert_sorted lt x ys) ≡ cond (q x) (insert_sorted lt x (filter q (y ∷ ys))) (filter q (y ∷ ys))
   later q x y ys e ih = rw ih (
@@ -101,7 +101,7 @@ module _ {X : Type 0} (lt : X → X → Bool) where
         | false ↦ λ e. ap (λ zs. cond (q x) zs (filter q (y ∷ ys))) (sym (at_front x (filter q (y ∷ ys)) (all_filter (λ z. lt z x ≡ false) q (y ∷ ys) (e, all_weaker (λ z. lt z y ≡ false) (λ z. lt z x ≡ false) (λ z r. w.chain z y x r e) ys o.0))))
       ] refl
 
-  -- to leave elements out before or after a sort is the same
+  -- filtering before a sort and after it gives the same
   pub filter-sorted : IsStrictWeakOrder lt → (q : X → Bool) (xs : List X) → filter q (sorted lt xs) ≡ sorted lt (filter q xs)
   filter-sorted w q [] = refl
   filter-sorted w q (x ∷ xs) =
@@ -125,7 +125,7 @@ module _ {X : Type 0} (lt : X → X → Bool) where
   no_first [] e = refl
   no_first (y ∷ ys) e = absurd (cc)
 
--- ---- elements that are seen by a function
+-- ---- elements seen through a function
 module _ {X Y : Type 0} (f : X → Y) (lt : Y → Y → Bool) where
   abbrev pub seen_by : X → X → Bool
   seen_by a b = lt (f a) (f b)
@@ -138,7 +138,7 @@ module _ {X Y : Type 0} (f : X → Y) (lt : Y → Y → Bool) where
         | false ↦ refl
       ]
 
-  -- to sort elements is to sort what is seen of them
+  -- sorting the elements sorts what is seen of them
   pub seen_sorted : (xs : List X) → map f (sorted seen_by xs) ≡ sorted lt (map f xs)
   seen_sorted [] = refl
   seen_sorted (x ∷ xs) = seen_insert x (sorted seen_by xs) ∙ ap (insert_sorted lt (f x)) (seen_sorted xs)

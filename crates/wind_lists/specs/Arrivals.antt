@@ -4,40 +4,41 @@ use Rattle.std.specs.List.{All}
 use Rattle.wind_lists.specs.Records.{without}
 use Rattle.wind_lists.specs.Sorting.{insert_sorted, sorted}
 
--- an element comes, or that of an id goes
+-- an element comes, or the element with an id goes
 pub data Change (X : Type 0) : Type 0 where
   comes : X → Change X
   goes : ℕ → Change X
 
 module _ {X : Type 0} (id rank : X → ℕ) where
-  -- an element stays ahead of one that comes later, unless its rank is greater
+  -- an element stays ahead of a later one, unless its rank is greater
   abbrev pub stays_ahead : X → X → Bool
   stays_ahead x later = nat_le (rank x) (rank later)
 
-  -- a list in order of rank with one element more, behind all of its rank
+  -- a list in order of rank with one more element, after all of its rank
   abbrev pub put_behind : List X → X → List X
   put_behind xs x = insert_sorted stays_ahead x xs
 
+  -- x has a lesser rank than y
   abbrev pub ranks_below : X → X → Bool
   ranks_below x y = nat_lt (rank x) (rank y)
 
-  -- the elements after changes of which the last stands first
+  -- the elements after changes; the list of changes begins with the last one
   abbrev pub after_changes : List (Change X) → List X
   after_changes [] = []
   after_changes (comes x ∷ earlier) = put_behind (after_changes earlier) x
   after_changes (goes n ∷ earlier) = without id (after_changes earlier) n
 
-  -- the same elements in the order in which they came, whatever their ranks
+  -- the same elements in order of arrival, whatever their ranks
   abbrev pub arrivals : List (Change X) → List X
   arrivals [] = []
   arrivals (comes x ∷ earlier) = arrivals earlier ++ x ∷ []
   arrivals (goes n ∷ earlier) = without id (arrivals earlier) n
 
-  -- the elements are always those that came, by rank, and those of one rank as they came
+  -- the elements are always those that came and didn't go, by rank, and those of one rank in order of arrival
   abbrev pub ArrivalLaw : Type 0
   ArrivalLaw = (changes : List (Change X)) → after_changes changes ≡ sorted ranks_below (arrivals changes)
 
-  -- among those that came, all before x have a greater rank, and none after it has a lesser one
+  -- among those in order of arrival, all before x have a greater rank, and none after it has a lesser one
   pub record IsEarliest (xs : List X) (x : X) : Type 0 where
     pub earlier : List X
     pub later : List X

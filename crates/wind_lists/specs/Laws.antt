@@ -1,4 +1,4 @@
--- What a list in order is, apart from how it is made.
+-- What a sorted list is, apart from how it is made.
 use Rattle.std.specs.Prelude.{◌≡◌, Bool, false, List, Some}
 use Rattle.std.specs.Cmp.{IsStrictWeakOrder}
 use Rattle.std.specs.List.{AllPairs, Contains}
@@ -6,16 +6,16 @@ use Rattle.std.specs.List.Sorted.{IsPermutation}
 use Rattle.wind_lists.specs.Sorting.{sorted, first}
 
 module _ (X : Type 0) where
-  -- it has the same elements, and none is before one that stands ahead of it
+  -- the sorted list has the same elements, and no element is before an earlier one in the order
   abbrev pub SortedLaw : Type 0
   SortedLaw = (lt : X → X → Bool) → IsStrictWeakOrder lt → (xs : List X) → AllPairs (λ x y. lt y x ≡ false) (sorted lt xs) × IsPermutation xs (sorted lt xs)
 
-  -- its first is one of them, and none is before it
+  -- the first element of the sorted list is in the list, and no element is before it
   abbrev pub FirstLaw : Type 0
   FirstLaw = (lt : X → X → Bool) → IsStrictWeakOrder lt → (xs : List X) (x : X) → first (sorted lt xs) ≡ Some x
       → Contains xs x × ((y : X) → Contains xs y → lt y x ≡ false)
 
-  -- where only equals tie, it is of no account how they stood before
+  -- if only equal elements tie, the sorted list doesn't depend on the order of the elements before
   abbrev pub SameLaw : Type 0
   SameLaw = (lt : X → X → Bool) → IsStrictWeakOrder lt → ((x y : X) → lt x y ≡ false → lt y x ≡ false → x ≡ y)
       → (xs ys : List X) → IsPermutation xs ys → sorted lt xs ≡ sorted lt ys

@@ -1,4 +1,4 @@
--- Who makes the step that asks for a file.
+-- Who makes the step that needs a file.
 use Rattle.std.proofs.Common.{◌≡◌, ℕ, true, List, Option, None, Some, IsSome, refl, ap, ◌∙◌, subst}
 use Rattle.std.specs.Prelude.{unwrap_or}
 use Rattle.std.specs.Option.{option_map}
@@ -43,7 +43,7 @@ shells s name = by_next s (λ n. file_of n ≡ Some name → IsShells s (actor_o
   over = λ left nobody none q. absurd (cc);
 })
 
--- it stands at the gate of ld, in a call
+-- the task is at the gate of ld, in a call
 pub record IsAtLoad (p : Phase) (o : Option Gate) (w : WorldState) (name : List ℕ) : Type 0 where
   pub phase : p ≡ phases.Call
   pub gate : o ≡ Some gates.Ld
@@ -75,11 +75,11 @@ shell_ready s g = by_next s (λ n. actor_of n ≡ Some shell → IsReady s.world
   over = λ left nobody none q. absurd (cc);
 })
 
--- ---- its gate, told by the world at its step
+-- ---- its gate, seen in the world at its step
 pub same_gate : (s : State) → gate_under (shell_world s) shell_id ≡ gate_under s.world shell_id
 same_gate s = ap (λ o. gate_at gates_start (unwrap_or (option_map (λ t. t.regs) o) no_regs).pc) (own_found s.world.kern.tasks shell_id)
 
--- ---- a step that asks for a file may lack memory
+-- ---- a step that needs a file may run out of memory
 pub asked_may : (s : State) (name : List ℕ) → file_asked s ≡ Some name → may_lack_memory s ≡ true
 unfolding file_asked
 asked_may s name e = may (next s) e where

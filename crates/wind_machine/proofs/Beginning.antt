@@ -1,4 +1,4 @@
--- The opening state has the kept facts.
+-- The opening state has the invariant.
 use Rattle.std.proofs.Common.{◌≡◌, ◌≤◌, [], Some, IsSome, refl, arith}
 use Rattle.std.proofs.lemmas.List.Elements.{All-cons, All-nil}
 use Rattle.task_block.specs.declared.task.Task.{Task}

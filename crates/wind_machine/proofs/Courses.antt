@@ -1,4 +1,4 @@
--- Every state of every run keeps the facts.
+-- Every state of every run keeps the invariant.
 use Rattle.std.proofs.Common.{◌≡◌, ℕ, zero, suc, true, false, cond, eqb, List, [], ◌∷◌, Option, None, Some, IfSome, add-one, refl, sym, subst}
 use Rattle.std.specs.Prelude.{unwrap_or}
 use Rattle.std.specs.List.{All}
@@ -28,7 +28,7 @@ next_early : (es : List Timed) → All IsEarly es → IfSome (first es) IsEarly
 next_early [] h = tt
 next_early (e ∷ es) h = All-head IsEarly e es h
 
--- the events to come of a state are early
+-- the future events of a state are early
 abbrev pub IsOnTime : State → Type 0
 IsOnTime s = All IsEarly s.schedule.events
 

@@ -1,4 +1,4 @@
--- What goes on where reservations are dropped.
+-- What holds when reservations are dropped.
 use Rattle.std.proofs.Common.{◌≡◌, ℕ, Bool, true, false, cond, eqb, List, [], ◌∷◌, get_or, map, Option, Some, IsSome, refl, sym, ap, ◌∙◌, subst, arith}
 use Rattle.std.specs.List.{All}
 use Rattle.std.proofs.lemmas.Bool.{eqb-true}
@@ -10,9 +10,9 @@ use Rattle.wind_core.specs.Moves.{unreserved, unreserve}
 use Rattle.wind_core.specs.Move.{Unreserve}
 use Rattle.wind_core.proofs.Ids.{lives_by}
 use Rattle.kernel_world.specs.State.{WorldState}
-use Rattle.kernel_world.specs.Opening.{interrupt_stack}
-use Rattle.kernel_world.specs.Kept.{AreStacks, IsWorld, HasCounts, Within, ReservedBy}
+use Rattle.kernel_world.specs.Kept.{Stack, stack_of, routine_stack, AreStacks, IsWorld, HasCounts, Within, ReservedBy}
 use Rattle.kernel_world.specs.Objects.{KeepsObjects}
+use Rattle.kernel_world.proofs.WorldIds.{ids_kern}
 use Rattle.kernel_world.proofs.ObjectMoves.{objects-move, objects-drop}
 use Rattle.kernel_world.proofs.Holding.{loaded_on}
 use Rattle.kernel_world.proofs.Calming.{Spares, kern-map}
@@ -20,13 +20,13 @@ use Rattle.kernel_world.proofs.Advancing.{Advances}
 use Rattle.wind_machine.specs.Part.{with_kern}
 use Rattle.wind_machine.specs.Reserving.{unless_own, drop_others, drop_all}
 
--- f leaves a task all of which the kept facts speak, and gives it no reservation
+-- f leaves all of a task that the invariant mentions, and gives it no reservation
 pub record Drops (f : Task → Task) : Type 0 where
   pub id : (t : Task) → (f t).id ≡ t.id
   pub since : (t : Task) → (f t).since ≡ t.since
   pub wake : (t : Task) → (f t).wake ≡ t.wake
   pub wait : (t : Task) → (f t).wait ≡ t.wait
-  pub stack : (t : Task) → (f t).stack ≡ t.stack
+  pub stack : (t : Task) → stack_of (f t) ≡ stack_of t
   pub locks : (t : Task) → (f t).locks ≡ t.locks
   pub safe : (t : Task) → (f t).safe ≡ t.safe
   pub reserve : (t : Task) → IsSome (f t).regs.reserve → IsSome t.regs.reserve
@@ -37,9 +37,9 @@ mapped f k = record k { tasks = map f k.tasks }
 all_map : (P : Task → Type 0) (f : Task → Task) (ts : List Task) → ((t : Task) → P t → P (f t)) → All P ts → All P (map f ts)
 all_map P f ts keeps all = All-map P f ts (All-weaker P (λ t. P (f t)) keeps ts all)
 
-same_field : (field : Task → ℕ) (f : Task → Task) (ts : List Task) → ((t : Task) → field (f t) ≡ field t) → map field (map f ts) ≡ map field ts
+same_field : {X : Type 0} (field : Task → X) (f : Task → Task) (ts : List Task) → ((t : Task) → field (f t) ≡ field t) → map field (map f ts) ≡ map field ts
 same_field field f [] same = refl
-same_field field f (t ∷ ts) same = ap (λ n. n ∷ map field (map f ts)) (same t) ∙ ap (λ ns. field t ∷ ns) (same_field field f ts same)
+same_field field f (t ∷ ts) same = ap (λ x. x ∷ map field (map f ts)) (same t) ∙ ap (λ xs. field t ∷ xs) (same_field field f ts same)
 
 module _ (f : Task → Task) (drops : Drops f) where
   spares : Spares f
@@ -55,11 +55,12 @@ module _ (f : Task → Task) (drops : Drops f) where
       home = kept.home;
       objects = objects;
       pool = kept.pool;
-      stacks = subst (λ s. AreStacks w.part (interrupt_stack ∷ s)) (sym (same_field (λ t. t.stack) f w.kern.tasks drops.stack)) kept.stacks;
-      modules = loaded_on w.kern w.part w.modules kept.modules (mapped f w.kern) (omega arith) (same_field (λ t. t.stack) f w.kern.tasks drops.stack);
+      stacks = subst (λ s. AreStacks w.part (routine_stack ∷ s)) (sym (same_field stack_of f w.kern.tasks drops.stack)) kept.stacks;
+      modules = loaded_on w.kern w.part w.modules kept.modules (mapped f w.kern) (omega arith) (same_field stack_of f w.kern.tasks drops.stack);
       ram = kept.ram;
       symbols = kept.symbols;
       watch = kept.watch;
+      ids = ids_kern w kept.ids (mapped f w.kern) (same_field task_id f w.kern.tasks drops.id) (omega arith);
     };
     lives = λ who h. lives_by (map f w.kern.tasks) w.kern.tasks who (same_field task_id f w.kern.tasks drops.id) h;
     within = (all_map (HasCounts n) f w.kern.tasks (λ t h. (omega (arith, h.0, drops.locks t), omega (arith, h.1, drops.safe t))) within.0, within.1);
@@ -75,14 +76,14 @@ module _ (f : Task → Task) (drops : Drops f) where
 unreserved_drops : Drops unreserved
 unreserved_drops = record { id = λ t. refl; since = λ t. refl; wake = λ t. refl; wait = λ t. refl; stack = λ t. refl; locks = λ t. refl; safe = λ t. refl; reserve = λ t some. absurd (cc) }
 
--- where a test says whether a task's goes
+-- if a test says whether a task's reservation is dropped
 by_test : (f : Task → Task) → ((t : Task) → (b : Bool) × (f t ≡ cond b (unreserved t) t)) → Drops f
 by_test f tests = record {
   id = λ t. one ℕ (λ u. u.id) t refl;
   since = λ t. one ℕ (λ u. u.since) t refl;
   wake = λ t. one (Option ℕ) (λ u. u.wake) t refl;
   wait = λ t. one (Option Place) (λ u. u.wait) t refl;
-  stack = λ t. one ℕ (λ u. u.stack) t refl;
+  stack = λ t. one Stack stack_of t refl;
   locks = λ t. one ℕ (λ u. u.locks) t refl;
   safe = λ t. one ℕ (λ u. u.safe) t refl;
   reserve = λ t some. reserve t (tests t).0 (tests t).1 some;
@@ -114,7 +115,7 @@ module _ (w : WorldState) (n : ℕ) (kept : IsWorld w) (within : Within n w) whe
   pub all_advance : Advances w (with_kern w (drop_all w.kern)) n 0 0
   all_advance = drop_advances unreserved unreserved_drops w n kept within (objects-drop w.kern w.objects kept.objects (λ t. false))
 
--- whoever has a reservation is this task, where the others' are dropped
+-- if the others' reservations are dropped, only this task may have one
 pub others_reserved : (k : KernState) (who : ℕ) → ReservedBy (Some who) (drop_others k who)
 others_reserved k who =
     All-map (λ t. IsSome t.regs.reserve → Some who ≡ Some t.id) (unless_own who) k.tasks (λ i d within. own (get_or k.tasks i d))
@@ -126,6 +127,6 @@ others_reserved k who =
           | false ↦ λ e some. absurd (cc)
         ] refl
 
--- nobody has one, where all are dropped
+-- if all are dropped, nobody has one
 pub all_reserved : (k : KernState) (who : Option ℕ) → ReservedBy who (drop_all k)
 all_reserved k who = All-map (λ t. IsSome t.regs.reserve → who ≡ Some t.id) unreserved k.tasks (λ i d within some. absurd (cc))

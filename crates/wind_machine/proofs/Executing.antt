@@ -31,7 +31,7 @@ pub record Lasts {B : Type 0} (m : Meaning B) (P : B → Type 0) : Type 0 where
   pub loads : (b : B) (n at : ℕ) → P b → P (m.loaded b n at)
   pub stores : (b : B) (n at v : ℕ) → P b → P (m.stored b n at v)
 
--- the bus that an instruction leaves has P, where it does not trap
+-- the bus that an instruction leaves has P, unless the instruction traps
 abbrev pub IfDone : {B : Type 0} → (B → Type 0) → Outcome B → Type 0
 IfDone P (Done r b) = P b
 IfDone P (Trapped t) = Unit {0}

@@ -22,7 +22,7 @@ runner_ready k is x e =
 pub runner_there : (k : KernState) → IsKern k → (x : Task) → running k ≡ Some x → Lives k x.id
 runner_there k is x e = subst (λ o. IsSome o) (sym (found_in task_id k.tasks x is.rising (runner_may k is x e).lives)) refl
 
--- the task whose turn it is stays as it is
+-- the task that makes the step stays as it is
 pub own_found : (ts : List Task) (who : ℕ) → task_of (map (unless_own who) ts) who ≡ task_of ts who
 own_found [] who = refl
 own_found (t ∷ ts) who =

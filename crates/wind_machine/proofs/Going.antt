@@ -1,4 +1,4 @@
--- Nobody who is safe from deletion goes in a step, unless it is its own.
+-- No task that is safe from deletion ends in a step, unless the step is its own.
 use Rattle.std.proofs.Common.{◌≡◌, ℕ, ◌+◌, true, false, cond, eqb, List, [], ◌∷◌, map, Option, None, Some, IfSome, refl, sym, ap, ◌∙◌, subst, ◌⊎◌, ⊎_elim, inl, inr}
 use Rattle.std.specs.Prelude.{take, drop}
 use Rattle.std.proofs.lemmas.Bool.{eqb-true}
@@ -40,7 +40,7 @@ use Rattle.wind_machine.proofs.Dropping.{all_advance}
 use Rattle.wind_machine.proofs.Parts.{PartKeeps}
 use Rattle.wind_machine.proofs.Steps.{at_turn_advances, routine_turns, prompts, reads, evaluates, loads, acts, unreserved_keeps}
 
--- a task is as safe at a turn as before it
+-- a task is as safe at the beginning of a step as before it
 same_safe : (ts : List Task) (who id : ℕ) → safe_of (task_of (map (unless_own who) ts) id) ≡ safe_of (task_of ts id)
 same_safe [] who id = refl
 same_safe (t ∷ ts) who id =
@@ -54,7 +54,7 @@ all_safe [] id = refl
 all_safe (t ∷ ts) id =
     elim (eqb t.id id) as (λ c. safe_of (cond c (Some (unreserved t)) (task_of (map unreserved ts) id)) ≡ safe_of (cond c (Some t) (task_of ts id))) [ true ↦ refl | false ↦ all_safe ts id ]
 
--- who goes in a step that this task or routine makes, if one does
+-- which tasks end in a step that this task or routine makes, if one does
 abbrev GoBy : State → Option Actor → KernState → Type 0
 GoBy s o k = (id : ℕ) → Lives s.world.kern id → (Lives k id → ⊥) → (safe_of (task_of s.world.kern.tasks id) ≡ 0) ⊎ (o ≡ Some (by_task id))
 
@@ -91,18 +91,18 @@ module _ (s : State) (g : Good s) where
       let part = part_of s.shell (without_own (load_call (shell_world s) name said) shell_id) in
       of_part shell_id (s.steps + 1) s.console.finished part (loads s g law ready name said)
 
-  -- ---- whoever lives lives on where bytes arrive
+  -- ---- all tasks live on when bytes arrive
   arrived_stay : (left bytes : List ℕ) (h : Heard) → h ≡ heard_by s bytes → (id : ℕ) → Lives s.world.kern id → Lives (arrived s left h).world.kern id
   arrived_stay left bytes h e id live =
       let heard = heard_keeps s.console s.shell s.world.kern [] bytes s.steps g.console g.read g.world.kern g.within.0 h e in
       lives_by h.kern.tasks s.world.kern.tasks id heard.2.alone live
 
-  -- and where an event comes
+  -- and when an event occurs
   comes_stay : (e : Event) (id : ℕ) → Lives s.world.kern id → Lives (event_comes s e).world.kern id
   comes_stay Tick id live = lives_by (tick s.world.kern).tasks s.world.kern.tasks id (ids-tick s.world.kern) live
   comes_stay (Rx n) id live = let bytes = take (brought n) s.left in arrived_stay (drop (brought n) s.left) bytes (heard_by s bytes) refl id live
 
-  -- nobody safe goes in a step of an interrupt routine
+  -- no safe task ends in a step of an interrupt routine
   routine_goes : is_active s.world ≡ true → GoBy s (Some Interrupt) (routine_step s).world.kern
   routine_goes active id live dead =
       ⊎_elim

@@ -1,4 +1,4 @@
--- What bytes of the console keep of the kernel, and how many order numbers they give out.
+-- What bytes of the console keep of the kernel, and how many order numbers they hand out.
 use Rattle.std.proofs.Common.{◌≡◌, ℕ, suc, ◌+◌, ◌*◌, ◌≤◌, ◌<◌, Bool, true, false, ◌||◌, cond, eqb, List, [], ◌∷◌, length, take, drop, Option, None, Some, IfSome, is_some, get_or, drop-cons, add-one, refl, sym, ap, ◌∙◌, subst, arith, length-append}
 use Rattle.std.specs.Option.{option_map}
 use Rattle.std.specs.List.{fold}
@@ -48,7 +48,7 @@ settled_free since t = elim (is_ready (released t)) as (λ b. is_held (Some (con
 settled_id : (since : ℕ) (t : Task) → (settled since (released t)).id ≡ t.id
 settled_id since t = elim (is_ready (released t)) as (λ b. (cond b (renewed since (released t)) (released t)).id ≡ t.id) [ true ↦ refl | false ↦ refl ]
 
--- where its wait or delay has ended, it has none
+-- if its wait or delay has ended, it has none
 free_after_release : (k : KernState) → is_held (shell_task (release k shell_id)) ≡ false
 free_after_release k =
     elim (shell_task k) as (λ o. shell_task k ≡ o → is_held (shell_task (move_found k shell_id released o)) ≡ false) [
@@ -81,7 +81,7 @@ listener_held : (o : Option Task) → is_at_console o ≡ true → is_held o ≡
 listener_held None e = absurd (cc)
 listener_held (Some t) e = elim t.wait as (λ w. is_at_console (Some (record t { wait = w })) ≡ true → (is_some w || is_some t.wake) ≡ true) [ None ↦ λ q. absurd (cc) | Some p ↦ λ q. refl ] e
 
--- ---- order numbers: one for each byte, and one more where the task is held before
+-- ---- order numbers: one for each byte, and one more if the task waits or is delayed before
 abbrev pub owed : KernState → ℕ
 owed k = cond (is_held (shell_task k)) 1 0
 
@@ -112,8 +112,9 @@ hear_more h new bytes i within e =
     let cons : drop i bytes ≡ get_or bytes i 0 ∷ drop (i + 1) bytes = drop-cons bytes i 0 within ∙ ap (λ n. get_or bytes i 0 ∷ drop n bytes) (sym (add-one i)) in
     ap (λ g. fold hear g (drop (i + 1) bytes)) e ∙ sym (ap (fold hear h) cons)
 
--- ---- the kept facts
--- after some bytes: the facts on lines hold, the kernel has gone on, and at most so many order numbers are spent
+-- ---- the invariant
+-- after some bytes: the lines keep their invariant, the kernel has gone on, and at most `spent` order numbers were
+-- handed out
 pub record HeardWell (from : KernState) (h : Heard) (n d spent : ℕ) : Type 0 where
   pub lines : KeepsLines h.console.edited h.console.finished
   pub read : HasItsLine h.shell.phase h.console.finished
@@ -172,7 +173,7 @@ heard_well from h (b ∷ bs) n d spent w =
       spends = omega (arith, rest.spends);
     }
 
--- bytes that come to a console and a kernel with the kept facts
+-- bytes that arrive at a console and a kernel with the invariant
 pub heard_keeps : (console : ConsoleState) (shell : ShellState) (k : KernState) (echo bytes : List ℕ) (n : ℕ) → KeepsLines console.edited console.finished → HasItsLine shell.phase console.finished → IsKern k → CountsWithin n k
     → (h : Heard) → h ≡ heard_all (heard_from console shell k echo) bytes
     → KeepsLines h.console.edited h.console.finished × HasItsLine h.shell.phase h.console.finished × Goes k h.kern n (length bytes + 1) × ((o : Objects) → KeepsObjects k o → KeepsObjects h.kern o)

@@ -1,4 +1,4 @@
--- What the kept facts say of each instant.
+-- What the invariant says of each instant.
 use Rattle.std.proofs.Common.{◌≡◌, ℕ, zero, suc, ◌≤◌, true, Option, Some, ◌∙◌, subst, arith, ⊎_elim}
 use Rattle.std.proofs.lemmas.List.Elements.{All-weaker}
 use Rattle.wind_core.specs.State.{KernState}
@@ -14,7 +14,7 @@ use Rattle.wind_machine.specs.Good.{Good}
 use Rattle.wind_machine.specs.Instants.{OwnersInherit, OthersAreNormal}
 use Rattle.wind_machine.specs.Laws.{InstantLaw}
 
--- where each is at least as urgent as those that wait for it, it is so along any walk
+-- if each is at least as urgent as those that wait for it, this holds along any walk
 reach_urgent : (up : ℕ → Option ℕ) (pri : ℕ → ℕ) → ((y x : ℕ) → up y ≡ Some x → pri x ≤ pri y) → (n y x : ℕ) → is_on (path up n y) x ≡ true → pri x ≤ pri y
 reach_urgent up pri each zero y x h = absurd (cc)
 reach_urgent up pri each (suc n) y x h =

@@ -17,13 +17,13 @@ use Rattle.wind_machine.specs.Events.{shell_after}
 use Rattle.wind_machine.specs.declared.phase.Phase.{Phase}
 use Rattle.wind_machine.specs.declared.phase.Phase.TheVariants as phases
 
--- a further line behind the finished ones
+-- another line after the finished ones
 some_line : (finished line : List ℕ) → finished ++ (line ++ 10 ∷ []) ≢ []
 some_line finished line empty =
     let none : length finished + length (line ++ 10 ∷ []) ≡ 0 = sym (length-append finished (line ++ 10 ∷ [])) ∙ ap length empty in
     omega (arith, none, length-append line (10 ∷ []))
 
--- a byte comes, with what it does to the finished lines and to the shell
+-- a byte arrives: what it does to the finished lines and to the shell
 answer_keeps : (d : ByteDone) (waits : Bool) (old new : ConsoleState) (shell : ShellState) → Leaves d old new → HasItsLine shell.phase old.finished → HasItsLine (shell_after d waits shell).phase new.finished
 answer_keeps done.Abort waits old new shell leaves h = λ e. absurd (cc)
 answer_keeps done.Line waits old new shell leaves h = λ _ empty. some_line old.finished old.edited (sym leaves ∙ empty)
@@ -46,6 +46,6 @@ pub read_phase : (r : Reading) → (shell_read r).phase ≢ phases.Read
 read_phase (Refused column) = λ e. cc
 read_phase (Statements stmts) = by_test (λ t. (if t then at_prompt else record { phase = phases.Eval; trees = map begun_tree stmts }).phase ≢ phases.Read) (is_nothing stmts) (λ _ e. cc) (λ _ e. cc)
 
--- nor does one in any other phase need a line
+-- a shell in any other phase needs no line
 pub needs_none : (phase : Phase) (finished : List ℕ) → phase ≢ phases.Read → HasItsLine phase finished
 needs_none phase finished other = λ e. absurd (other e)

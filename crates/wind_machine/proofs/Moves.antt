@@ -12,7 +12,7 @@ use Rattle.wind_core.proofs.Moving.{move_keeps}
 use Rattle.wind_core.proofs.Stable.{renew_task-stable, tick-stable}
 use Rattle.wind_core.proofs.Unwritten.{map-renew, map-tick}
 use Rattle.kernel_world.specs.Actors.{shell_id}
-use Rattle.kernel_world.specs.Kept.{HasCounts, CountsWithin, ReservedBy, task_stacks}
+use Rattle.kernel_world.specs.Kept.{stack_of, HasCounts, CountsWithin, ReservedBy, task_stacks}
 use Rattle.kernel_world.proofs.Goes.{Goes, goes_nowhere, goes_on, goes_further, goes-move, reserved_by}
 use Rattle.wind_machine.specs.Task.{shell_task, console_place, is_held, listening, let_go, aborted}
 
@@ -23,7 +23,7 @@ goes-listening k n is within =
     record {
       kern = move_keeps k (Pend shell_id console_place false 4294967295) is (omega arith);
       alone = ids-change k.tasks shell_id (λ t. renewed k.next_since (f t)) (λ t. refl);
-      stacks = map-renew (λ (t : Task). t.stack) (λ since t. refl) k shell_id f (λ t. refl);
+      stacks = map-renew stack_of (λ since t. refl) k shell_id f (λ t. refl);
       lent = refl;
       last = refl;
       reserves = map-renew (λ (t : Task). t.regs.reserve) (λ since t. refl) k shell_id f (λ t. refl);
@@ -45,7 +45,7 @@ goes-aborted k n is within =
     let a = goes-let_go k n is within in
     goes_on k (let_go k) (aborted k) n n 1 1 a (goes-move (let_go k) n a.kern a.counts (Reset shell_id) tt)
 
--- ---- a tick: what it leaves that is no task, order number or count
+-- ---- a tick: the parts that it leaves, other than tasks, order numbers and the tick count
 module _ {A : Type 0} (part : KernState → A) (apart : (k : KernState) (ts : List Task) (n : ℕ) → part (record k { tasks = ts; next_since = n }) ≡ part k) where
   apart-move : (k : KernState) (who : ℕ) (f : Task → Task) → part (move_task k who f) ≡ part k
   apart-move k who f = elim (task_of k.tasks who) as (λ o. part (move_found k who f o) ≡ part k) [ None ↦ refl | Some t ↦ apart k _ _ ]
@@ -74,7 +74,7 @@ pub last-tick : (k : KernState) → (tick k).last ≡ k.last
 last-tick k = apart-tick (λ j. j.last) (λ j ts n. refl) k refl
 
 pub stacks-tick : (k : KernState) → task_stacks (tick k) ≡ task_stacks k
-stacks-tick k = map-tick (λ (t : Task). t.stack) (λ n t. refl) (λ answer errno t. refl) (λ n t. refl) k
+stacks-tick k = map-tick stack_of (λ n t. refl) (λ answer errno t. refl) (λ n t. refl) k
 
 pub reserved-tick : (k : KernState) (who : Option ℕ) → ReservedBy who k → ReservedBy who (tick k)
 reserved-tick k who h = reserved_by k.tasks (tick k).tasks who (ids-tick k) (map-tick (λ (t : Task). t.regs.reserve) (λ n t. refl) (λ answer errno t. refl) (λ n t. refl) k) h

@@ -1,4 +1,4 @@
--- What comes next, by cases: each with what is so if it comes.
+-- What comes next, by cases, each with what holds if it comes.
 use Rattle.std.proofs.Common.{◌≡◌, ℕ, Bool, true, false, cond, eqb, List, [], ◌∷◌, Option, None, Some, refl, sym, ap, ◌∙◌, subst}
 use Rattle.std.specs.Option.{option_map}
 use Rattle.std.proofs.lemmas.Bool.{eqb-true}
@@ -18,7 +18,7 @@ use Rattle.wind_machine.specs.Laws.{OrderLaw, OverLaw}
 use Rattle.wind_machine.specs.declared.next.Next.{Next}
 use Rattle.wind_machine.specs.declared.next.Next.TheVariants.{Come, Arrive, Routine, Act, Load, Jump, Over}
 
--- what is to be shown of what comes next, by what is so if it comes
+-- what is to be shown of what comes next, from what holds if it comes
 pub record Cases (s : State) (P : Next → Type 0) : Type 0 where
   pub come : (e : Timed) → due_event s ≡ Some e → P (Come e.event)
   pub arrive : due_event s ≡ None → console_is_due s ≡ true → P Arrive

@@ -71,7 +71,7 @@ module _ (w : WorldState) (n : ℕ) (kept : IsWorld w) (within : Within n w) whe
   read_turns reading = wrote w w shell_id (n + 1) (here shell_id) (w.output ++ read_text reading)
 
   module _ (finished : List ℕ) where
-    -- a shell behind a statement does not read
+    -- a shell after a statement doesn't read
     behind_phase : (behind : List (Option Pending)) → (shell_with behind).phase ≢ phases.Read
     behind_phase [] = λ e. cc
     behind_phase (p ∷ ps) = λ e. cc

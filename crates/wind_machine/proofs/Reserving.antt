@@ -1,4 +1,4 @@
--- Whoever has a reservation ran last, so at most one has to go.
+-- Only the task that ran last may have a reservation, so at most one is dropped.
 use Rattle.std.proofs.Common.{◌≡◌, ℕ, Bool, true, false, cond, eqb, List, [], ◌∷◌, map, Option, None, Some, IsSome, refl, sym, ap, ◌∙◌, subst, arith}
 use Rattle.std.specs.List.{All}
 use Rattle.std.proofs.lemmas.List.Elements.{All-head, All-tail}
@@ -10,7 +10,7 @@ use Rattle.wind_core.specs.State.{KernState, IsKern, task_id, task_of}
 use Rattle.wind_core.specs.Moves.{unreserved, unreserve, set_regs}
 use Rattle.wind_machine.specs.Reserving.{unless_own}
 
--- whoever has a reservation is this task
+-- a task with a reservation is this one
 abbrev Own : Option ℕ → Task → Type 0
 Own who t = IsSome t.regs.reserve → who ≡ Some t.id
 
@@ -22,7 +22,7 @@ none_stays t none =
       | Some at ↦ λ e. absurd (none (subst (λ o. IsSome o) (sym e) refl))
     ] refl
 
--- a test that holds, of the same number
+-- a test that holds for equal numbers
 same_test : (a b : ℕ) → Some a ≡ Some b → eqb b a ≡ true
 same_test a b e = let same : a ≡ b = cc in grind (arith, nat_tests, same)
 
@@ -35,7 +35,7 @@ two_tests a b c e d = grind (arith, nat_tests, e, d)
 other_stays : (last : Option ℕ) (t : Task) → Own last t → (last ≡ Some t.id → ⊥) → unreserved t ≡ t
 other_stays last t own other = none_stays t (λ some. other (own some))
 
--- the task itself alone had one
+-- only the task itself had a reservation
 own_kept : (who : ℕ) (t : Task) → Own (Some who) t → unless_own who t ≡ t
 own_kept who t own =
     elim (eqb t.id who) as (λ b. eqb t.id who ≡ b → cond b t (unreserved t) ≡ t) [
@@ -47,7 +47,7 @@ pub last_own : (ts : List Task) (who : ℕ) → All (Own (Some who)) ts → map 
 last_own [] who h = refl
 last_own (t ∷ ts) who h = ap (λ u. u ∷ map (unless_own who) ts) (own_kept who t (All-head (Own (Some who)) t ts h)) ∙ ap (λ us. t ∷ us) (last_own ts who (All-tail (Own (Some who)) t ts h))
 
--- another task alone had one
+-- only another task had one
 other_dropped : (who last : ℕ) (t : Task) → eqb last who ≡ false → Own (Some last) t → unless_own who t ≡ cond (eqb t.id last) (unreserved t) t
 other_dropped who last t apart own =
     elim (eqb t.id last) as (λ b. eqb t.id last ≡ b → unless_own who t ≡ cond b (unreserved t) t) [
@@ -71,7 +71,7 @@ last_none (t ∷ ts) who h =
     ap (λ u. u ∷ map (unless_own who) ts) (elim (eqb t.id who) as (λ b. cond b t (unreserved t) ≡ t) [ true ↦ refl | false ↦ none ])
     ∙ ap (λ us. t ∷ us) (last_none ts who (All-tail (Own None) t ts h))
 
--- all go
+-- all reservations are dropped
 pub all_none : (ts : List Task) → All (Own None) ts → map unreserved ts ≡ ts
 all_none [] h = refl
 all_none (t ∷ ts) h =
@@ -91,7 +91,7 @@ all_last (t ∷ ts) last h =
     ap (λ u. u ∷ map unreserved ts) (all_dropped last t (All-head (Own (Some last)) t ts h))
     ∙ ap (λ us. cond (eqb t.id last) (unreserved t) t ∷ us) (all_last ts last (All-tail (Own (Some last)) t ts h))
 
--- ---- a task's registers as they were
+-- ---- a task gets its registers back
 change_identity : (ts : List Task) (who : ℕ) → change task_id ts who (λ t. t) ≡ ts
 change_identity [] who = refl
 change_identity (t ∷ ts) who = ap (λ u. u ∷ change task_id ts who (λ v. v)) (elim (eqb t.id who) as (λ b. cond b t t ≡ t) [ true ↦ refl | false ↦ refl ]) ∙ ap (λ us. t ∷ us) (change_identity ts who)
@@ -112,7 +112,7 @@ pub own_regs : (k : KernState) (who : ℕ) (t : Task) → IsKern k → task_of k
 own_regs k who t is found =
     ap (λ ts. record k { tasks = ts }) (change_alike task_id k.tasks who t (λ u. record u { regs = t.regs }) (λ u. u) is.rising found refl ∙ change_identity k.tasks who)
 
--- nor does it after its reservation went
+-- writing them back after the reservation was dropped restores the kernel
 pub regs_again : (k : KernState) (who : ℕ) (t : Task) → IsKern k → task_of k.tasks who ≡ Some t → set_regs (unreserve k who) who t.regs ≡ k
 regs_again k who t is found =
     ap (λ ts. record k { tasks = ts }) (change_twice k.tasks who unreserved (λ u. record u { regs = t.regs }) (λ u. refl)) ∙ own_regs k who t is found

@@ -1,5 +1,5 @@
 -- What a step of an interrupt routine keeps.
-use Rattle.std.proofs.Common.{◌≡◌, ℕ, ◌+◌, true, false, cond, eqb, List, ◌++◌, length, Option, None, Some, IsSome, is_some, refl, arith}
+use Rattle.std.proofs.Common.{◌≡◌, ℕ, ◌+◌, true, false, cond, eqb, List, ◌++◌, length, map, Option, None, Some, IsSome, is_some, refl, arith}
 use Rattle.wind_base.specs.Gates.{gate_number}
 use Rattle.wind_base.specs.declared.gate.Gate.{Gate}
 use Rattle.wind_base.specs.declared.gate.Gate.TheVariants as gates
@@ -10,6 +10,8 @@ use Rattle.ppc_core.specs.declared.trap.Trap.{Trap}
 use Rattle.ppc_core.specs.declared.trap.Trap.TheVariants as traps
 use Rattle.board_bus.specs.BusState.{BusState}
 use Rattle.board_bus.specs.Access.{board_meaning, fetched}
+use Rattle.id_table.specs.Rows as table
+use Rattle.isr_watch.specs.State.{watchdog_id}
 use Rattle.isr_watch.specs.Calls.{finish, with_level}
 use Rattle.isr_watch.proofs.Keeping.{watch_stays}
 use Rattle.kernel_world.specs.State.{WorldState}
@@ -19,6 +21,7 @@ use Rattle.kernel_calls.specs.Calls.{call}
 use Rattle.kernel_world.specs.Allowed.{is_call}
 use Rattle.kernel_world.specs.declared.actor.Actor.TheVariants.{Interrupt}
 use Rattle.kernel_world.proofs.Goes.{goes_nowhere}
+use Rattle.kernel_world.proofs.LiveIds.{fewer_same, given_none}
 use Rattle.kernel_world.proofs.Advancing.{Advances, advances_on, of_parts, as_call, beside, of_watches, at_routine}
 use Rattle.kernel_calls.proofs.Passing.{call_passes}
 use Rattle.kernel_calls.proofs.Serves.{passes_by, passes_before}
@@ -32,22 +35,23 @@ use Rattle.wind_machine.proofs.Executing.{IfDone, executing_lasts, sizes_last}
 abbrev pub RoutinePasses : WorldState → WorldState → ℕ → Type 0
 RoutinePasses w v n = Passes w v Interrupt (n + 1) call_sinces 1
 
--- RAM is as long as it was
+-- RAM has the same size
 resized : (w : WorldState) (n : ℕ) → IsWorld w → Within n w → (ram : List ℕ) (slots : List (Option DeviceState)) → length ram ≡ length w.ram → Advances w (record w { ram = ram; slots = slots }) n 0 0
-resized w n kept within ram slots same = of_parts w kept n within w.part w.symbols w.modules ram slots w.output w.int_errno kept.pool kept.stacks kept.modules kept.symbols same
+resized w n kept within ram slots same = of_parts w kept n within w.part w.symbols w.modules ram slots w.output w.int_errno kept.pool kept.stacks kept.modules kept.symbols same (fewer_same (table.ids w.modules) (table.ids w.modules) refl)
 
 -- the next routine is active, or none
 done_advances : (w : WorldState) (n : ℕ) → IsWorld w → Within n w → Advances w (next_routine w) n 0 0
 done_advances w n kept within =
     of_watches w kept n within w.kern (finish w.watch interrupt_top) 0 (goes_nowhere w.kern n kept.kern within.0) kept.objects
     (record { watch = (watch_stays w.kern.next_id w.watch kept.watch.watch kept.watch.ids).finishing interrupt_top; ids = kept.watch.ids }) (omega arith)
+    (given_none w.kern.next_id w.kern.next_id (map watchdog_id w.watch.watchdogs) (omega arith))
 
 active_some : {A : Type 0} (o : Option A) → is_some o ≡ true → IsSome o
 active_some None e = absurd (cc)
 active_some (Some x) e = refl
 
 module _ (w : WorldState) (n : ℕ) (kept : IsWorld w) (within : Within n w) where
-  -- a move that gives out nothing
+  -- a move that hands out no numbers
   by_move : (v : WorldState) → Advances w v n 0 0 → RoutinePasses w v n
   by_move v a = passes_by w v Interrupt (n + 1) call_sinces 1 (as_call w kept n within v a)
 
@@ -75,6 +79,7 @@ module _ (w : WorldState) (n : ℕ) (kept : IsWorld w) (within : Within n w) whe
         let s = with_level w.watch regs in
         let moved = of_watches w kept n within w.kern s 0 (goes_nowhere w.kern n kept.kern within.0) kept.objects
         (record { watch = (watch_stays w.kern.next_id w.watch kept.watch.watch kept.watch.ids).going_on regs (active_some w.watch.level active); ids = kept.watch.ids }) (omega arith)
+        (given_none w.kern.next_id w.kern.next_id (map watchdog_id w.watch.watchdogs) (omega arith))
         in
         let v = with_watch w s in
         by_move (with_bus v bus) (advances_on w v (with_bus v bus) n n 0 0 0 0 moved (resized v n moved.kept moved.within bus.ram bus.slots same))

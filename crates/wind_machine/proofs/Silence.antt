@@ -1,5 +1,5 @@
 -- Silent steps are steps of a run.
-use Rattle.std.proofs.Common.{◌≡◌, ℕ, zero, suc, ◌+◌, ◌<◌, ◌≤◌, ◌++◌, Some, None, IsSome, refl, sym, ap, ◌∙◌, subst, arith, append-nil, below_more, add-one}
+use Rattle.std.proofs.Common.{◌≡◌, ℕ, zero, suc, ◌+◌, ◌<◌, ◌≤◌, ◌++◌, Some, None, IsSome, refl, sym, ap, ◌∙◌, subst, arith, append-nil, below_more}
 use Rattle.std.specs.Prelude.{unwrap_or}
 use Rattle.wind_machine.specs.State.{State}
 use Rattle.wind_machine.specs.Machine.{file_asked, machine_step}
@@ -20,7 +20,7 @@ module _ (said : Answers) (s u : State) (i : ℕ) where
         unasked = λ j least below. absurd (omega (arith, least, below));
       }
 
-  -- one more
+  -- one more step
   one_more : (m t : State) (k : ℕ) → GoesOn said s i k u m → IsSilentStep m t → GoesOn said s i (suc k) u t
   one_more m t k on step =
       let n = i + k in

@@ -1,5 +1,5 @@
--- Every step keeps the facts.
-use Rattle.std.proofs.Common.{◌≡◌, ℕ, ◌+◌, ◌≤◌, true, false, cond, eqb, List, [], ◌∷◌, length, take, drop, Some, IfSome, refl, sym, ◌∙◌, subst, arith}
+-- Every step keeps the invariant.
+use Rattle.std.proofs.Common.{◌≡◌, ℕ, ◌+◌, ◌≤◌, true, false, cond, eqb, List, [], ◌∷◌, length, map, take, drop, Some, IfSome, refl, sym, ◌∙◌, subst, arith}
 use Rattle.std.proofs.lemmas.Bool.{eqb-true}
 use Rattle.std.proofs.lemmas.List.{length-take}
 use Rattle.tick_file.specs.Schedule.{Timed, Timetable}
@@ -17,14 +17,17 @@ use Rattle.con_line.specs.State.{ConsoleState}
 use Rattle.con_line.specs.Lines.{KeepsLines, has_line, front_line, line_dropped}
 use Rattle.con_line.proofs.Kept.{drop_keeps}
 use Rattle.kernel_world.specs.Actors.{shell_id}
-use Rattle.kernel_world.specs.Opening.{interrupt_stack}
-use Rattle.isr_watch.specs.Calls.{due}
+use Rattle.isr_watch.specs.declared.watchdog.Watchdog.{Watchdog}
+use Rattle.isr_watch.specs.State.{watchdog_id, is_due}
+use Rattle.isr_watch.specs.Calls.{stopped, due}
 use Rattle.isr_watch.proofs.Ids.{ids_stay}
 use Rattle.isr_watch.proofs.Keeping.{watch_stays}
-use Rattle.kernel_world.specs.Kept.{AreStacks, KeepsWatch, IsWorld, ReservedBy, Within}
+use Rattle.kernel_world.specs.Kept.{routine_stack, AreStacks, KeepsWatch, IsWorld, ReservedBy, Within}
 use Rattle.kernel_world.specs.Objects.{IsReady}
 use Rattle.kernel_world.proofs.ObjectMoves.{objects-move}
 use Rattle.kernel_world.proofs.Holding.{loaded_on}
+use Rattle.kernel_world.proofs.LiveIds.{Nothing, fewer_same, ids_map}
+use Rattle.kernel_world.proofs.WorldIds.{ids_watch}
 use Rattle.kernel_world.proofs.Advancing.{Advances, watch_on, by_kern, within_more}
 use Rattle.live_loading.specs.Said.{FileSaid}
 use Rattle.live_loading.specs.Loading.{load_call}
@@ -57,12 +60,12 @@ module _ (s : State) (g : Good s) where
   more_counts = within_more s.world s.steps (s.steps + 1) (omega arith) g.within
 
   -- ---- a task makes a step
-  -- the world at its turn
+  -- the world at the beginning of the step
   pub at_turn_advances : (who : ℕ) → Advances s.world (at_turn s.world who) s.steps 0 0
   at_turn_advances who =
       let a = others_advance s.world s.steps g.world g.within who in
       record {
-        kept = record { kern = a.kept.kern; home = a.kept.home; objects = a.kept.objects; pool = a.kept.pool; stacks = a.kept.stacks; modules = a.kept.modules; ram = a.kept.ram; symbols = a.kept.symbols; watch = a.kept.watch };
+        kept = record { kern = a.kept.kern; home = a.kept.home; objects = a.kept.objects; pool = a.kept.pool; stacks = a.kept.stacks; modules = a.kept.modules; ram = a.kept.ram; symbols = a.kept.symbols; watch = a.kept.watch; ids = a.kept.ids };
         lives = a.lives;
         within = a.within;
         last = a.last;
@@ -81,7 +84,7 @@ module _ (s : State) (g : Good s) where
       record {
         console = lines;
         read = part.read;
-        world = record { kern = move_keeps p.world.kern (SetLast (Some who)) kept.kern tt; home = kept.home; objects = objects-move p.world.kern p.world.objects kept.kern kept.objects (SetLast (Some who)) (tt, tt, tt, tt); pool = kept.pool; stacks = kept.stacks; modules = kept.modules; ram = kept.ram; symbols = kept.symbols; watch = kept.watch };
+        world = record { kern = move_keeps p.world.kern (SetLast (Some who)) kept.kern tt; home = kept.home; objects = objects-move p.world.kern p.world.objects kept.kern kept.objects (SetLast (Some who)) (tt, tt, tt, tt); pool = kept.pool; stacks = kept.stacks; modules = kept.modules; ram = kept.ram; symbols = kept.symbols; watch = kept.watch; ids = kept.ids };
         shell = turns.shell ((at_turn_advances who).lives shell_id g.shell);
         reserved = turns.reserves (others_reserved s.world.kern who);
         sinces = omega (arith, turns.sinces, g.sinces);
@@ -150,7 +153,7 @@ module _ (s : State) (g : Good s) where
   routine_turns active =
       let a = all_advance s.world s.steps g.world g.within in
       let w = cleared (unreserved_world s.world) in
-      let kept : IsWorld w = record { kern = a.kept.kern; home = a.kept.home; objects = a.kept.objects; pool = a.kept.pool; stacks = a.kept.stacks; modules = a.kept.modules; ram = a.kept.ram; symbols = a.kept.symbols; watch = a.kept.watch } in
+      let kept : IsWorld w = record { kern = a.kept.kern; home = a.kept.home; objects = a.kept.objects; pool = a.kept.pool; stacks = a.kept.stacks; modules = a.kept.modules; ram = a.kept.ram; symbols = a.kept.symbols; watch = a.kept.watch; ids = a.kept.ids } in
       routine_passes w s.steps kept a.within active
 
   routine_keeps : is_active s.world ≡ true → Good (routine_step s)
@@ -180,7 +183,7 @@ module _ (s : State) (g : Good s) where
       record {
         console = heard.0;
         read = heard.1;
-        world = record { kern = a.kept.kern; home = a.kept.home; objects = a.kept.objects; pool = a.kept.pool; stacks = a.kept.stacks; modules = a.kept.modules; ram = a.kept.ram; symbols = a.kept.symbols; watch = a.kept.watch };
+        world = record { kern = a.kept.kern; home = a.kept.home; objects = a.kept.objects; pool = a.kept.pool; stacks = a.kept.stacks; modules = a.kept.modules; ram = a.kept.ram; symbols = a.kept.symbols; watch = a.kept.watch; ids = a.kept.ids };
         shell = a.lives shell_id g.shell;
         reserved = subst (λ who. ReservedBy who h.kern) (sym a.last) (a.reserves s.world.kern.last g.reserved);
         sinces = omega (arith, a.sinces, g.sinces, short);
@@ -199,7 +202,7 @@ module _ (s : State) (g : Good s) where
       let bytes = take (brought n) s.left in
       arrived_keeps (drop (brought n) s.left) bytes (heard_by s bytes) (omega (arith, length-take (brought n) s.left)) refl
 
-  -- ---- a tick comes
+  -- ---- a tick occurs
   ticks_watch : (n : ℕ) → KeepsWatch s.world.kern.next_id (due s.world.watch n interrupt_top)
   ticks_watch n =
       let w = g.world.watch in
@@ -207,6 +210,9 @@ module _ (s : State) (g : Good s) where
         watch = (watch_stays s.world.kern.next_id s.world.watch w.watch w.ids).ticking n interrupt_top;
         ids = (ids_stay s.world.kern.next_id s.world.watch w.ids).ticking n interrupt_top;
       }
+
+  stops_alike : (n : ℕ) (v : Watchdog) → (cond (is_due n v) (stopped v) v).id ≡ v.id
+  stops_alike n v = elim (is_due n v) as (λ b. (cond b (stopped v) v).id ≡ v.id) [ true ↦ refl | false ↦ refl ]
 
   ticked_keeps : Good (ticked s)
   ticked_keeps =
@@ -219,11 +225,13 @@ module _ (s : State) (g : Good s) where
           home = lent-tick k ∙ g.world.home;
           objects = objects-move k s.world.objects g.world.kern g.world.objects Tick (tt, tt, tt, tt);
           pool = g.world.pool;
-          stacks = subst (λ ats. AreStacks s.world.part (interrupt_stack ∷ ats)) (sym (stacks-tick k)) g.world.stacks;
+          stacks = subst (λ ats. AreStacks s.world.part (routine_stack ∷ ats)) (sym (stacks-tick k)) g.world.stacks;
           modules = loaded_on k s.world.part s.world.modules g.world.modules (tick k) (omega (arith, next-tick k)) (stacks-tick k);
           ram = g.world.ram;
           symbols = g.world.symbols;
           watch = watch_on k.next_id (tick k).next_id _ (omega (arith, next-tick k)) (ticks_watch (tick k).tick);
+          ids = ids_watch s.world g.world.ids (tick k) (due s.world.watch (tick k).tick interrupt_top) (ids-tick k)
+              (Nothing (omega (arith, next-tick k)) (fewer_same (map watchdog_id s.world.watch.watchdogs) _ (ids_map watchdog_id (λ v. cond (is_due (tick k).tick v) (stopped v) v) s.world.watch.watchdogs (stops_alike (tick k).tick))));
         };
         shell = lives_by (tick k).tasks k.tasks shell_id (ids-tick k) g.shell;
         reserved = subst (λ who. ReservedBy who (tick k)) (sym (last-tick k)) (reserved-tick k k.last g.reserved);
@@ -239,7 +247,7 @@ module _ (s : State) (g : Good s) where
   comes_keeps Tick = ticked_keeps
   comes_keeps (Rx n) = received_keeps n
 
-  -- nobody has a reservation when it comes; the events to come have no part in the facts
+  -- nobody has a reservation when an event occurs; the invariant doesn't mention the future events
   pub unreserved_keeps : (t : Timetable) → Good (record s { schedule = t; world = unreserved_world s.world })
   unreserved_keeps t =
       let a = all_advance s.world s.steps g.world g.within in
@@ -257,12 +265,12 @@ module _ (s : State) (g : Good s) where
         time = g.time;
       }
 
-  -- ---- time goes on
+  -- ---- board time jumps
   jump_keeps : (e : Timed) → IsEarly e → Good (jump s e.time)
   jump_keeps e early = record {
     console = g.console;
     read = g.read;
-    world = record { kern = g.world.kern; home = g.world.home; objects = g.world.objects; pool = g.world.pool; stacks = g.world.stacks; modules = g.world.modules; ram = g.world.ram; symbols = g.world.symbols; watch = g.world.watch };
+    world = record { kern = g.world.kern; home = g.world.home; objects = g.world.objects; pool = g.world.pool; stacks = g.world.stacks; modules = g.world.modules; ram = g.world.ram; symbols = g.world.symbols; watch = g.world.watch; ids = g.world.ids };
     shell = g.shell;
     reserved = g.reserved;
     sinces = omega (arith, g.sinces);

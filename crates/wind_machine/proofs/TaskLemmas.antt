@@ -1,4 +1,4 @@
--- The shell's task lives on, and how many order numbers its steps give out.
+-- The shell's task lives on, and its steps hand out few order numbers.
 use Rattle.std.proofs.Common.{◌≡◌, ℕ, ◌+◌, ◌≤◌, Bool, true, false, cond, None, Some, refl, ◌∙◌, arith}
 use Rattle.task_block.specs.declared.task.Task.{Task}
 use Rattle.task_block.specs.Standing.{is_ready}
@@ -11,7 +11,7 @@ use Rattle.con_line.specs.declared.console.ByteDone.{ByteDone}
 use Rattle.con_line.specs.declared.console.ByteDone.TheVariants as done
 use Rattle.wind_machine.specs.Events.{kern_after}
 
--- at most one order number is given out where one task is moved
+-- at most one order number is handed out if one task is moved
 pub since-move : (s : KernState) (who : ℕ) (f : Task → Task) → (move_task s who f).next_since ≤ s.next_since + 1
 since-move s who f =
     elim (task_of s.tasks who) as (λ o. (move_found s who f o).next_since ≤ s.next_since + 1) [

@@ -1,6 +1,6 @@
 -- What a step of a task keeps of the world.
-use Rattle.std.proofs.Common.{◌≡◌, ℕ, zero, suc, ◌+◌, ◌<◌, ◌≤◌, Bool, true, false, cond, eqb, List, [], ◌∷◌, length, replicate, Option, Some, IsSome, refl, sym, ap, ◌∙◌, subst, arith, ◌⊎◌, inl, inr}
-use Rattle.std.specs.Prelude.{slice_index, slice_index_or}
+use Rattle.std.proofs.Common.{◌≡◌, ℕ, suc, ◌+◌, ◌<◌, ◌≤◌, Bool, true, false, cond, eqb, List, [], ◌∷◌, length, replicate, Option, Some, IsSome, refl, sym, ap, ◌∙◌, subst, arith, ◌⊎◌, inl, inr}
+use Rattle.std.specs.Prelude.{slice_index}
 use Rattle.std.specs.List.{Contains, find}
 use Rattle.std.proofs.lemmas.Bool.{eqb-true, eq-eqb}
 use Rattle.std.proofs.lemmas.List.Elements.{All-map, All-weaker}
@@ -10,10 +10,10 @@ use Rattle.wind_outside.specs.Devices.{DeviceState}
 use Rattle.task_block.specs.declared.task.Task.{Task}
 use Rattle.board_mem.specs.Memory.{has, with_bytes, written}
 use Rattle.board_mem.proofs.Sizes.{length-with_range, length-written}
-use Rattle.mem_partition.specs.State.{PartState}
+use Rattle.mem_partition.specs.State.{PartState, IsPart, own_block}
 use Rattle.mem_partition.specs.declared.block.Block.{Block}
 use Rattle.mem_partition.specs.declared.block.Class.TheVariants.{Kernel}
-use Rattle.mem_partition.proofs.Owners.{is_own}
+use Rattle.mem_partition.proofs.Owners.{is_own, only_block}
 use Rattle.wind_core.specs.State.{Lives, task_of}
 use Rattle.task_safety.specs.Safety.{safe_of}
 use Rattle.wind_core.specs.Moves.{set_regs}
@@ -26,12 +26,13 @@ use Rattle.kernel_world.specs.State.{WorldState}
 use Rattle.kernel_world.specs.Actors.{shell_id}
 use Rattle.kernel_world.specs.Starting.{cleared, framed}
 use Rattle.task_calls.specs.Ending.{ended}
-use Rattle.kernel_world.specs.Opening.{interrupt_stack}
-use Rattle.kernel_world.specs.Kept.{IsKernels, AreStacks, task_stacks, IsWorld, HasCounts, Within, ReservedBy, call_sinces}
+use Rattle.kernel_world.specs.Kept.{stack_of, routine_stack, IsStack, AreStacks, task_stacks, IsWorld, HasCounts, Within, ReservedBy, call_sinces}
 use Rattle.kernel_calls.specs.Laws.{Passes}
 use Rattle.kernel_world.specs.Objects.{IsFree}
 use Rattle.kernel_world.specs.declared.actor.Actor.TheVariants.{Task as by_task}
+use Rattle.kernel_world.proofs.WorldIds.{ids_kern}
 use Rattle.kernel_world.proofs.Holding.{loaded_on, loaded_with}
+use Rattle.kernel_world.proofs.Stacks.{is_there}
 use Rattle.kernel_world.proofs.Advancing.{Advances, within_more}
 use Rattle.kernel_world.proofs.ObjectMoves.{objects-move}
 use Rattle.kernel_calls.proofs.Departing.{ends}
@@ -40,7 +41,10 @@ use Rattle.shell_eval.specs.Kept.{IsPoolInRam, Keeps}
 use Rattle.wind_machine.specs.Part.{with_kern}
 use Rattle.wind_machine.specs.Shell.{eval_state, with_eval}
 
--- from a world to another within a step of a task: the kept facts hold, the shell's task lives on, nobody safe from deletion goes but the task itself, counts stay within n, nobody else has a reservation that had none, few numbers were given out, one of a watchdog's start at most, and the tick count stood
+-- from a world to another within a step of a task: the invariant holds, the shell's task lives on, no safe task
+-- except the task itself ends, and counts stay within n;
+-- no other task has a reservation that had none; few numbers, and at most one for a watchdog's start, were handed
+-- out; the tick count is the same
 pub record Turns (w v : WorldState) (who n : ℕ) : Type 0 where
   pub kept : IsWorld v
   pub shell : Lives w.kern shell_id → Lives v.kern shell_id
@@ -83,7 +87,7 @@ turns_passed w v who n d m few one p = record {
     by_itself id (inl safe) = inl safe
     by_itself id (inr same) = inr (let one : who ≡ id = cc in one)
 
--- and then a move that gives out nothing
+-- and then a move that hands out no numbers
 pub turns_then : (w v u : WorldState) (who n : ℕ) → Turns w v who n → Advances v u n 0 0 → Turns w u who n
 turns_then w v u who n t a = record {
   kept = a.kept;
@@ -114,10 +118,10 @@ more_counts w v who n t = record {
 }
 
 module _ (w v : WorldState) (who n : ℕ) (t : Turns w v who n) where
-  -- RAM, devices and what is written, where RAM is as long as it was
+  -- RAM, devices and the output change, and RAM keeps its size
   pub touched : (ram : List ℕ) (slots : List (Option DeviceState)) (output : List ℕ) → length ram ≡ length v.ram → Turns w (record v { ram = ram; slots = slots; output = output }) who n
   touched ram slots output same = record {
-    kept = record { kern = t.kept.kern; home = t.kept.home; objects = t.kept.objects; pool = t.kept.pool; stacks = t.kept.stacks; modules = t.kept.modules; ram = same ∙ t.kept.ram; symbols = t.kept.symbols; watch = t.kept.watch };
+    kept = record { kern = t.kept.kern; home = t.kept.home; objects = t.kept.objects; pool = t.kept.pool; stacks = t.kept.stacks; modules = t.kept.modules; ram = same ∙ t.kept.ram; symbols = t.kept.symbols; watch = t.kept.watch; ids = t.kept.ids };
     shell = t.shell;
     gone = t.gone;
     within = t.within;
@@ -155,11 +159,12 @@ module _ (w v : WorldState) (who n : ℕ) (t : Turns w v who n) where
           home = t.kept.home;
           objects = objects-move v.kern v.objects t.kept.kern t.kept.objects (SetRegs who regs) (tt, free, tt, tt);
           pool = t.kept.pool;
-          stacks = subst (λ s. AreStacks v.part (interrupt_stack ∷ s)) (sym (map-change (λ (u : Task). u.stack) v.kern.tasks who f (λ u. refl))) t.kept.stacks;
-          modules = loaded_on v.kern v.part v.modules t.kept.modules (set_regs v.kern who regs) (omega arith) (map-change (λ (u : Task). u.stack) v.kern.tasks who f (λ u. refl));
+          stacks = subst (λ s. AreStacks v.part (routine_stack ∷ s)) (sym (map-change stack_of v.kern.tasks who f (λ u. refl))) t.kept.stacks;
+          modules = loaded_on v.kern v.part v.modules t.kept.modules (set_regs v.kern who regs) (omega arith) (map-change stack_of v.kern.tasks who f (λ u. refl));
           ram = t.kept.ram;
           symbols = t.kept.symbols;
           watch = t.kept.watch;
+          ids = ids_kern v t.kept.ids (set_regs v.kern who regs) (ids-change v.kern.tasks who f (λ u. refl)) (omega arith);
         };
         shell = λ h. lives_on shell_id (t.shell h);
         gone = λ id live dead. t.gone id live (λ h. dead (lives_on id h));
@@ -219,17 +224,13 @@ found_one {X} p (x ∷ xs) h =
       | false ↦ λ e some. let rest = found_one p xs some in (rest.0, (suc rest.1.0, omega (arith, rest.1.1), rest.1.2), rest.2)
     ] refl h
 
-at_found : {X : Type 0} (p : X → Bool) (xs : List X) (y : X) (k : ℕ) → k < length xs → slice_index_or xs k y ≡ y → p y ≡ true → IsSome (find p xs)
-at_found p [] y k within e passes = absurd (omega arith)
-at_found p (x ∷ xs) y zero within e passes = subst (λ b. IsSome (cond b (Some x) (find p xs))) (sym (ap p e ∙ passes)) refl
-at_found p (x ∷ xs) y (suc k) within e passes = elim (p x) as (λ b. IsSome (cond b (Some x) (find p xs))) [ true ↦ refl | false ↦ at_found p xs y k (omega arith) e passes ]
-
--- a Kernel block stays one where all blocks stay
-kernels_stay : (p q : PartState) → ((b : Block) → Contains p.blocks b → Contains q.blocks b) → (at : ℕ) → IsKernels p at → IsKernels q at
-kernels_stay p q stays at h =
-    let one = found_one (is_own at Kernel) p.blocks h in
-    let there = stays one.0 one.1 in
-    at_found (is_own at Kernel) q.blocks one.0 there.0 there.1 there.2 one.2
+-- a Kernel block stays as it is when all blocks stay
+kernels_stay : (p q : PartState) → IsPart p → IsPart q → ((b : Block) → Contains p.blocks b → Contains q.blocks b) → (at : ℕ) → IsSome (own_block p.blocks at Kernel)
+    → own_block q.blocks at Kernel ≡ own_block p.blocks at Kernel
+kernels_stay p q old new stays at there =
+    let one = found_one (is_own at Kernel) p.blocks there in
+    only_block q.start q.end q.blocks one.0 at Kernel new.laid (stays one.0 one.1) one.2
+    ∙ sym (only_block p.start p.end p.blocks one.0 at Kernel old.laid one.1 one.2)
 
 pool_lies : (w : WorldState) → IsWorld w → IsPoolInRam (eval_state w)
 pool_lies w kept = omega (arith, kept.pool.end, kept.ram)
@@ -237,6 +238,7 @@ pool_lies w kept = omega (arith, kept.pool.end, kept.ram)
 pub evaluated_turns : (w : WorldState) (who n : ℕ) (e : EvalState) → IsWorld w → Within n w → (IsPoolInRam (eval_state w) → Keeps (eval_state w) e) → Turns w (with_eval w e) who n
 evaluated_turns w who n e kept within keeps =
     let k = keeps (pool_lies w kept) in
+    let stay = kernels_stay w.part e.pool kept.pool.blocks (k.sound kept.pool.blocks) k.stays in
     record {
       kept = record {
         kern = kept.kern;
@@ -244,13 +246,14 @@ evaluated_turns w who n e kept within keeps =
         objects = kept.objects;
         pool = record { blocks = k.sound kept.pool.blocks; start = k.start ∙ kept.pool.start; end = k.end ∙ kept.pool.end; room = k.room ∙ kept.pool.room };
         stacks = record {
-          kernels = All-weaker (IsKernels w.part) (IsKernels e.pool) (kernels_stay w.part e.pool k.stays) (interrupt_stack ∷ task_stacks w.kern) kept.stacks.kernels;
+          kernels = All-weaker (IsStack w.part) (IsStack e.pool) (λ s h. stay s.addr (is_there w.part s h) ∙ h) (routine_stack ∷ task_stacks w.kern) kept.stacks.kernels;
           apart = kept.stacks.apart;
         };
-        modules = loaded_with w.kern w.part w.modules kept.modules e.pool (kernels_stay w.part e.pool k.stays);
+        modules = loaded_with w.kern w.part w.modules kept.modules e.pool stay;
         ram = k.ram ∙ kept.ram;
         symbols = k.few kept.symbols;
         watch = kept.watch;
+        ids = kept.ids;
       };
       shell = λ h. h;
       gone = λ id live dead. absurd (dead live);

@@ -1,4 +1,4 @@
--- The step of a task, and that of an interrupt routine. Each adds 1 to board time.
+-- The step of a task, and that of an interrupt routine. Each takes one unit of board time.
 use Rattle.std.specs.Prelude.{ℕ, ◌+◌, List, Option, Some, None, ◌==◌, if◌then◌else◌}
 use Rattle.wind_base.specs.declared.gate.Gate.{Gate}
 use Rattle.shell_parse.specs.Reading.{read_line}
@@ -19,7 +19,7 @@ use Rattle.wind_machine.specs.declared.phase.Phase.{Phase}
 use Rattle.wind_machine.specs.declared.phase.Phase.TheVariants as phases
 
 -- ---- a task makes a step
--- nothing is written yet, and no other task has a reservation
+-- the world at the beginning of the step: the output is empty, and no other task has a reservation
 abbrev pub at_turn : WorldState → ℕ → WorldState
 at_turn w who = cleared (with_kern w (drop_others w.kern who))
 
@@ -27,7 +27,7 @@ at_turn w who = cleared (with_kern w (drop_others w.kern who))
 abbrev pub noted : WorldState → ℕ → WorldState
 noted w who = with_kern w (record w.kern { last = Some who })
 
--- the step adds 1 to board time, and the task is noted as the one that ran last
+-- the step takes one unit of board time, and the task is noted as the one that ran last
 abbrev pub stepped : State → ℕ → Part → State
 stepped s who p = record s { shell = p.shell; world = noted p.world who; time = s.time + 1; steps = s.steps + 1 }
 
@@ -37,48 +37,48 @@ shell_world s = at_turn s.world shell_id
 abbrev pub prompt_step : State → State
 prompt_step s = stepped s shell_id (prompt_part (has_line s.console) s.shell (shell_world s))
 
--- the line that it reads goes
+-- the line that the shell reads is dropped from the console
 abbrev pub read_step : State → State
 read_step s = stepped (record s { console = line_dropped s.console }) shell_id (read_part (read_line (front_line s.console)) (shell_world s))
 
 abbrev pub eval_step : State → State
 eval_step s = stepped s shell_id (eval_part s.shell.trees (shell_world s))
 
--- at a gate, or by an instruction
+-- what the task does at a gate, or an instruction
 abbrev pub task_step : State → ℕ → State
 task_step s who = stepped s who (task_part s.shell (at_turn s.world who) who)
 
--- the shell's step, by its phase
+-- the step of the shell's task, by the shell's phase
 abbrev pub shell_step : Phase → State → State
 shell_step phases.Prompt s = prompt_step s
 shell_step phases.Read s = read_step s
 shell_step phases.Eval s = eval_step s
 shell_step phases.Call s = task_step s shell_id
 
--- the step of the task of this id
+-- the step of the task with this id
 abbrev pub step_of : State → ℕ → State
 step_of s who = if who == shell_id then shell_step s.shell.phase s else task_step s who
 
 -- ---- the load of a file, which is a step of the shell's task
--- the file that the shell's task asks for where it stands: at the gate of ld, the file of the name that it hands in
+-- the file that the shell's task needs: at the gate of ld, the file with the name that it hands in
 abbrev pub file_at : Option Gate → WorldState → Option (List ℕ)
 file_at None w = None
 file_at (Some g) w = file_wanted g w shell
 
--- it asks for one in a call alone
+-- the shell's task needs a file only during a call
 abbrev pub file_in : Phase → WorldState → Option (List ℕ)
 file_in phases.Call w = file_at (gate_under w shell_id) w
 file_in phase w = None
 
--- the file that the step of the task of this id asks for; that of the shell's task alone does
+-- the file that the step of the task with this id needs; only the shell's task ever needs one
 abbrev pub file_for : State → ℕ → Option (List ℕ)
 file_for s who = if who == shell_id then file_in s.shell.phase s.world else None
 
--- the load, with what is said of its file
+-- the load, given what is said of its file
 abbrev pub load_step : FileSaid → State → List ℕ → State
 load_step said s name = stepped s shell_id (part_of s.shell (without_own (load_call (shell_world s) name said) shell_id))
 
 -- ---- an interrupt routine makes a step
--- no task keeps a reservation
+-- all tasks' reservations are dropped
 abbrev pub routine_step : State → State
 routine_step s = record s { world = routine_part (cleared (unreserved_world s.world)); time = s.time + 1; steps = s.steps + 1 }

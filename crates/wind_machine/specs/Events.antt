@@ -1,4 +1,5 @@
--- What comes from outside: bytes of the console and events of the tick file. None of it takes board time; a jump brings board time to the next event.
+-- What comes from outside: bytes of the console and events of the tick file. They take no board time; a jump moves
+-- board time to the next event.
 use Rattle.std.specs.Prelude.{ℕ, ◌+◌, List, [], ◌++◌, Option, Bool, if◌then◌else◌, fold, take, drop}
 use Rattle.wind_lists.specs.Sorting.{first}
 use Rattle.tick_file.specs.Schedule.{Timed, Timetable}
@@ -23,7 +24,7 @@ use Rattle.wind_machine.specs.Shell.{at_prompt}
 use Rattle.wind_machine.specs.Routine.{interrupt_top}
 use Rattle.wind_machine.specs.declared.phase.Phase.TheVariants as phases
 
--- ---- bytes of the console come
+-- ---- bytes of the console arrive
 -- what they change, and what they have written
 pub record Heard : Type 0 where
   pub console : ConsoleState
@@ -31,7 +32,8 @@ pub record Heard : Type 0 where
   pub kern : KernState
   pub echo : List ℕ
 
--- what a byte did to the shell and its task: an interrupt aborts it; a kept line wakes a shell that waits, which then reads it
+-- what a byte does to the shell and its task: an interrupt aborts them; a finished line wakes a shell that waits,
+-- and it reads the line next
 abbrev pub shell_after : ByteDone → Bool → ShellState → ShellState
 shell_after done.Abort waits s = at_prompt
 shell_after done.Line waits s = if waits then record s { phase = phases.Read } else s
@@ -42,7 +44,7 @@ kern_after done.Abort waits k = aborted k
 kern_after done.Line waits k = if waits then release k shell_id else k
 kern_after done.Kept waits k = k
 
--- one byte comes
+-- one byte arrives
 abbrev pub hear : Heard → ℕ → Heard
 hear h b = record {
   console = after_byte h.console b;
@@ -51,21 +53,21 @@ hear h b = record {
   echo = h.echo ++ byte_echo h.console b;
 }
 
--- bytes come, each in turn
+-- bytes arrive, one after the other
 unfoldable pub heard_all : Heard → List ℕ → Heard
 heard_all h bytes = fold hear h bytes
 
 abbrev pub heard_from : ConsoleState → ShellState → KernState → List ℕ → Heard
 heard_from console shell kern echo = record { console = console; shell = shell; kern = kern; echo = echo }
 
--- what a step has to begin with: nothing is written yet
+-- the world at the beginning of a step: the output is empty
 abbrev pub cleared : WorldState → WorldState
 cleared w = record w { output = [] }
 
 abbrev pub after_hearing : WorldState → Heard → WorldState
 after_hearing w h = record w { kern = h.kern; output = h.echo }
 
--- bytes arrive, which leaves board time, and others are left
+-- bytes arrive, which takes no board time, and others are left
 abbrev pub arrived : State → List ℕ → Heard → State
 arrived s left h = record s { left = left; console = h.console; shell = h.shell; world = after_hearing s.world h; steps = s.steps + 1 }
 
@@ -87,14 +89,14 @@ without_next t = record t { events = drop 1 t.events }
 abbrev pub unreserved_world : WorldState → WorldState
 unreserved_world w = with_kern w (drop_all w.kern)
 
--- the kernel's tick, and then the watchdogs that are due at it
+-- the kernel's tick, and then the watchdogs due at it
 abbrev pub tick_world : WorldState → WorldState
 tick_world w = record w { kern = tick w.kern; watch = due w.watch (tick w.kern).tick interrupt_top }
 
 abbrev pub ticked : State → State
 ticked s = record s { world = cleared (tick_world s.world); steps = s.steps + 1 }
 
--- so many bytes arrive, as the tick file asks
+-- n bytes arrive, as the tick file asks
 abbrev pub received : State → ℕ → State
 received s n = arrived s (drop (brought n) s.left) (heard_by s (take (brought n) s.left))
 
@@ -102,10 +104,10 @@ abbrev pub event_comes : State → Event → State
 event_comes s Tick = ticked s
 event_comes s (Rx n) = received s n
 
--- the next event of the tick file comes, which leaves board time
+-- the next event of the tick file occurs, which takes no board time
 abbrev pub event_step : State → Event → State
 event_step s e = event_comes (record s { schedule = without_next s.schedule; world = unreserved_world s.world }) e
 
--- board time becomes this, that of the next event
+-- board time becomes this: the time of the next event
 abbrev pub jump : State → ℕ → State
 jump s time = record s { world = cleared s.world; time = time; steps = s.steps + 1 }

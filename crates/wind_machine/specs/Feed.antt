@@ -1,4 +1,4 @@
--- How the console file comes in chunks.
+-- How the console file arrives in chunks.
 use Rattle.std.specs.Prelude.{ℕ, min, ◌+◌, List, [], ◌∷◌, ◌++◌, Option, Some, None, Bool, true, false, ◌==◌, ◌||◌, nat_lt, if◌then◌else◌, take, drop, length}
 use Rattle.std.specs.List.{position}
 use Rattle.wind_base.specs.Limits.{longest_chunk}
@@ -7,11 +7,12 @@ use Rattle.wind_base.specs.Limits.{longest_chunk}
 abbrev pub is_end : ℕ → Bool
 is_end b = b == 10 || b == 13
 
--- the first end of a line among the next bytes of a chunk
+-- the first end of a line among the bytes that may arrive at once
 abbrev pub first_end : List ℕ → Option ℕ
 first_end left = position is_end (take longest_chunk left)
 
--- how many bytes of the file a chunk takes: through the first end of a line, else as many as may come at once
+-- how many bytes of the file a chunk takes: up to and including the first end of a line, else as many as may
+-- arrive at once
 abbrev pub taken_by : Option ℕ → ℕ
 taken_by (Some k) = k + 1
 taken_by None = longest_chunk
@@ -21,18 +22,18 @@ abbrev pub is_unended : Option ℕ → List ℕ → Bool
 is_unended (Some k) left = false
 is_unended None left = if nat_lt longest_chunk (length left) then false else true
 
--- the end that is supplied then
+-- the newline that is supplied then
 abbrev pub supplied : Bool → List ℕ
 supplied true = 10 ∷ []
 supplied false = []
 
--- the next chunk of these bytes, and the bytes left behind it
+-- the next chunk of these bytes, and the bytes left after it
 abbrev pub chunk : List ℕ → List ℕ
 chunk left = take (taken_by (first_end left)) left ++ supplied (is_unended (first_end left) left)
 
 abbrev pub after_chunk : List ℕ → List ℕ
 after_chunk left = drop (taken_by (first_end left)) left
 
--- how many bytes an event of the tick file brings: so many, at most a chunk, and fewer where fewer are left
+-- how many bytes an event of the tick file brings: n, but at most a chunk
 abbrev pub brought : ℕ → ℕ
 brought n = min n longest_chunk

@@ -1,4 +1,4 @@
--- The facts that the opening state has and every step keeps.
+-- The machine's invariant: it holds in the opening state, and every step keeps it.
 use Rattle.std.specs.Prelude.{◌≡◌, ◌≢◌, ℕ, ◌+◌, ◌*◌, ◌^◌, ◌≤◌, List, []}
 use Rattle.con_line.specs.Lines.{KeepsLines}
 use Rattle.wind_core.specs.State.{Lives}
@@ -13,11 +13,12 @@ abbrev pub HasItsLine : Phase → List ℕ → Type 0
 HasItsLine phase finished = phase ≡ phases.Read → finished ≢ []
 
 pub record Keeps (s : State) : Type 0 where
-  -- the edited line and the finished lines are as a console keeps them
+  -- the edited line and the finished lines keep the console's invariant
   pub console : KeepsLines s.console.edited s.console.finished
-  -- in phase Read a finished line is kept
+  -- in phase Read there is a finished line
   pub read : HasItsLine s.shell.phase s.console.finished
-  -- the kernel's tasks and objects, the partition, the stacks, RAM, the symbols and the watchdogs are as a world keeps them
+  -- the kernel's tasks and objects, the partition, the stacks, RAM, the symbols and the watchdogs keep the world's
+  -- invariant
   pub world : IsWorld s.world
   -- the shell's task lives
   pub shell : Lives s.world.kern shell_id
@@ -29,9 +30,9 @@ pub record Keeps (s : State) : Type 0 where
   pub within : Within s.steps s.world
   pub names : s.world.names ≤ s.steps + 1
   pub starts : s.world.watch.next_start ≤ s.steps
-  -- board time goes beyond the steps made only by the time of an event
+  -- board time exceeds the number of steps by at most the time of an event
   pub time : s.time ≤ 2 ^ 64 + s.steps
 
--- the same, whatever stands in the slots
+-- the invariant of a state, whatever devices are in its slots
 abbrev pub Good : State → Type 0
 Good s = Keeps (record s { world = record s.world { slots = [] } })

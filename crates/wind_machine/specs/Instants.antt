@@ -1,4 +1,4 @@
--- What is so at each instant of a run.
+-- What holds at each instant of a run.
 use Rattle.std.specs.Prelude.{◌≡◌, ℕ, ◌≤◌, true, Some}
 use Rattle.std.specs.List.{All}
 use Rattle.task_block.specs.declared.task.Task.{Task}
@@ -8,11 +8,13 @@ use Rattle.inheritance.specs.Mutexes.{both, held_count}
 use Rattle.inheritance.specs.Reach.{boss, reaches, pri_of, raised}
 use Rattle.kernel_world.specs.State.{WorldState}
 
--- whoever runs where no interrupt routine is active lives and is ready, and no ready task is before it, unless it ran last and holds the lock
+-- if no interrupt routine is active, whoever runs lives and is ready, and no ready task comes before it, unless it
+-- ran last and holds the lock
 abbrev pub MostUrgentRuns : WorldState → Type 0
 MostUrgentRuns w = (x : Task) → running w.kern ≡ Some x → MayRun w.kern x
 
--- each live owner of an inversion-safe mutex is at least as urgent as whoever waits for it, itself or along further owners, in cycles too
+-- each live owner of an inversion-safe mutex is at least as urgent as whoever waits for it, directly or through
+-- further owners, in cycles too
 abbrev pub OwnersInherit : WorldState → Type 0
 OwnersInherit w = (n y x : ℕ) → reaches (boss w.kern.tasks w.objects.mutexes) n y x ≡ true → pri_of w.kern.tasks x ≤ pri_of w.kern.tasks y
 

@@ -1,4 +1,4 @@
--- What follows of the machine's definitions alone.
+-- What follows from the machine's definitions alone.
 use Rattle.std.specs.Prelude.{◌≡◌, ℕ, ◌+◌, List, Option, Some, None, IfSome, ◌⊎◌, ◌↔◌}
 use Rattle.wind_outside.specs.Devices.{DeviceState}
 use Rattle.live_loading.specs.Said.{FileSaid}
@@ -24,11 +24,11 @@ OrderLaw = (s : State) (n : Next) → ComesNext s n ↔ (n ≡ next s)
 abbrev pub OverLaw : Type 0
 OverLaw = (said : FileSaid) (s : State) → (machine_step said s ≡ None) ↔ IsOver s
 
--- the opening state has the kept facts
+-- the opening state has the invariant
 abbrev pub StartLaw : Type 0
 StartLaw = (console : List ℕ) (schedule : Timetable) (slots : List (Option DeviceState)) → Good (opening console schedule slots)
 
--- every step keeps them, whatever is said of a file, where the next event comes before 2^64
+-- every step keeps the invariant, whatever is said of a file, if the next event comes before 2^64
 abbrev pub StepLaw : Type 0
 StepLaw = (said : FileSaid) (s t : State) → IfSome (next_event s) IsEarly → Good s → machine_step said s ≡ Some t → Good t
 
@@ -36,7 +36,7 @@ StepLaw = (said : FileSaid) (s t : State) → IfSome (next_event s) IsEarly → 
 abbrev pub CountLaw : Type 0
 CountLaw = (said : FileSaid) (s t : State) → machine_step said s ≡ Some t → t.steps ≡ s.steps + 1
 
--- with the kept facts, whoever runs may run, owners inherit, and the others have their normal priority
+-- in a state with the invariant, whoever runs may run, owners inherit, and the others have their normal priority
 abbrev pub InstantLaw : Type 0
 InstantLaw = (s : State) → Good s → IsInstant s.world
 
@@ -45,20 +45,20 @@ abbrev pub OnlyUnsafeGo : State → State → Type 0
 OnlyUnsafeGo s t = (id : ℕ) → Lives s.world.kern id → (Lives t.world.kern id → ⊥)
     → (safe_of (task_of s.world.kern.tasks id) ≡ 0) ⊎ (stepping s ≡ Some (by_task id))
 
--- so it is of every step from a state with the kept facts
+-- this holds for every step from a state with the invariant
 abbrev pub SafetyLaw : Type 0
 SafetyLaw = (said : FileSaid) (s t : State) → Good s → machine_step said s ≡ Some t → OnlyUnsafeGo s t
 
--- the state after k steps with this console file and these events, and with what is said of the files that are asked for
+-- the state after k steps with this console file and these events, given what is said of the files that they need
 abbrev pub at_step : Answers → List ℕ → Timetable → List (Option DeviceState) → ℕ → State
 at_step said console schedule slots k = after said (opening console schedule slots) k
 
--- what holds there: the kept facts, what is so at each instant, and that nobody safe goes in the step that follows
+-- what holds there: the invariant, what holds at each instant, and that no safe task ends in the step that follows
 pub record HoldsAfter (said : Answers) (console : List ℕ) (schedule : Timetable) (slots : List (Option DeviceState)) (k : ℕ) : Type 0 where
   pub kept : Good (at_step said console schedule slots k)
   pub instant : IsInstant (at_step said console schedule slots k).world
   pub safety : OnlyUnsafeGo (at_step said console schedule slots k) (at_step said console schedule slots (k + 1))
 
--- so it is at every state of every run, whatever the console file, the tick file, the files of modules and the devices are
+-- it holds at every state of every run, whatever the console file, the tick file, the module files and the devices are
 abbrev pub RunLaw : Type 0
 RunLaw = (said : Answers) (console ticks : List ℕ) (slots : List (Option DeviceState)) (k : ℕ) → HoldsAfter said console (timetable_of ticks) slots k

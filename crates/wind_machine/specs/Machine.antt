@@ -35,7 +35,7 @@ opening console schedule slots = record {
 }
 
 -- ---- the next step
--- the state after it, with what is said of the file that it asks for; if it asks for none, that counts for nothing
+-- the state after it, given what is said of the file that it needs; if it needs none, that is not used
 abbrev pub state_after : FileSaid → State → Next → Option State
 state_after said s (Come e) = Some (event_step s e)
 state_after said s Arrive = Some (arrival s)
@@ -62,20 +62,20 @@ actor_of (Act who) = Some (by_task who)
 actor_of (Load name) = Some shell
 actor_of _ = None
 
--- the task or routine that makes the next step, if one does
+-- the task or routine that makes the next step, if any
 abbrev pub stepping : State → Option Actor
 stepping s = actor_of (next s)
 
--- ---- the file that it asks for
+-- ---- the file that the next step needs
 abbrev pub file_of : Next → Option (List ℕ)
 file_of (Load name) = Some name
 file_of _ = None
 
--- the file that the next step asks for, if it is a load
+-- the file that the next step needs, if it is a load
 unfoldable pub file_asked : State → Option (List ℕ)
 file_asked s = file_of (next s)
 
--- ---- where a step may lack host memory
+-- ---- when a step may run out of host memory
 -- in phases Read and Eval of the shell, and at a gate whose call may
 abbrev pub phase_may : Phase → Bool → Bool
 phase_may phases.Prompt call = false
@@ -87,11 +87,11 @@ abbrev pub gate_may : Option Gate → Bool
 gate_may None = false
 gate_may (Some g) = call_may_lack_memory g
 
--- so it is at the step of the task of this id
+-- whether the step of the task with this id may
 abbrev pub who_may : State → ℕ → Bool
 who_may s who = if who == shell_id then phase_may s.shell.phase (gate_may (gate_under s.world who)) else gate_may (gate_under s.world who)
 
--- the step of a task may where the task stands, and a load may; no other step does
+-- the step of a task may, by where the task is, and so may a load; no other step may
 abbrev pub next_may : State → Next → Bool
 next_may s (Act who) = who_may s who
 next_may s (Load name) = true

@@ -43,12 +43,13 @@ due_at time (Some e) = if nat_le e.time time then Some e else None
 abbrev pub due_event : State → Option Timed
 due_event s = if is_open s then due_at s.time (next_event s) else None
 
--- the console is due: input comes on demand, bytes are left, the shell waits for them, no finished line is kept, and interrupts may come
+-- the console is due: input comes on demand, bytes are left, the shell waits for them, there is no finished line,
+-- and interrupts may come
 abbrev pub console_is_due : State → Bool
 console_is_due s = is_open s && (s.schedule.on_demand && (not (length s.left == 0) && (waits_for_console s.world.kern && not (has_line s.console))))
 
 -- ---- the order
--- the first of these that there is; where there is none, the run is over
+-- the first of these that there is; if there is none, the run is over
 abbrev pub first_or_over : List (Option Next) → Next
 first_or_over [] = Over
 first_or_over (None ∷ others) = first_or_over others
@@ -57,7 +58,7 @@ first_or_over (Some n ∷ others) = n
 abbrev pub when : Bool → Next → Option Next
 when is n = if is then Some n else None
 
--- the step of the task of this id, which is a load if it asks for a file
+-- the step of the task with this id; it is a load if it needs a file
 abbrev pub act_or_load : ℕ → Option (List ℕ) → Next
 act_or_load who None = Act who
 act_or_load who (Some name) = Load name
@@ -65,7 +66,8 @@ act_or_load who (Some name) = Load name
 abbrev pub task_next : State → ℕ → Next
 task_next s who = act_or_load who (file_for s who)
 
--- an event that is due comes; else a chunk of the console arrives; else the interrupt routine that is active makes a step; else the task that runs does; else time jumps to the next event; else the run is over
+-- a due event occurs; else a chunk of the console arrives; else the active interrupt routine makes a step; else
+-- the running task does; else time jumps to the next event; else the run is over
 unfoldable pub next : State → Next
 next s = first_or_over (
     option_map (λ e. Come e.event) (due_event s)
@@ -86,7 +88,7 @@ pub record IsLeftToTasks (s : State) : Type 0 where
   pub nothing_due : NothingIsDue s
   pub idle : is_active s.world ≡ false
 
--- what is so in the state if this comes next
+-- what holds in the state if this comes next
 abbrev pub ComesNext : State → Next → Type 0
 ComesNext s (Come e) = option_map event_of (due_event s) ≡ Some e
 ComesNext s Arrive = (due_event s ≡ None) × (console_is_due s ≡ true)

@@ -16,6 +16,6 @@ part_of shell w = record { shell = shell; world = w }
 abbrev pub with_kern : WorldState → KernState → WorldState
 with_kern w k = record w { kern = k }
 
--- the world that has written a text besides
+-- the world after it has also written a text
 abbrev pub writing : WorldState → List ℕ → WorldState
 writing w text = record w { output = w.output ++ text }

@@ -1,4 +1,4 @@
--- A step of a task: at a gate, or an instruction.
+-- A step of a task: what it does at a gate, or one instruction.
 use Rattle.std.specs.Prelude.{ℕ, List, [], Bool, ◌==◌, Option, None, Some, if◌then◌else◌, slice_index}
 use Rattle.wind_base.specs.Limits.{gates_start}
 use Rattle.wind_base.specs.Gates.{gate_at, gate_number}
@@ -26,14 +26,14 @@ use Rattle.wind_machine.specs.Task.{aborted}
 use Rattle.wind_machine.specs.Shell.{at_prompt, returned}
 use Rattle.wind_machine.specs.Text.{exception_text}
 
--- RAM and devices of a world, and the world with others
+-- the RAM and devices of a world, and the world with other ones
 abbrev pub bus_of : WorldState → BusState
 bus_of w = record { ram = w.ram; slots = w.slots }
 
 abbrev pub with_bus : WorldState → BusState → WorldState
 with_bus w b = record w { ram = b.ram; slots = b.slots }
 
--- the registers of a task; none has a value where no such task lives
+-- the registers of a task; if no such task lives, no register has a value
 abbrev pub regs_of : WorldState → ℕ → Regs
 regs_of w who = caller_regs w.kern w.watch.level (by_task who)
 
@@ -43,14 +43,15 @@ abbrev pub told_of : Trap → Option Task → List ℕ
 told_of trap None = []
 told_of trap (Some t) = exception_text trap t.name t.id t.regs.pc
 
--- a task that causes an exception is suspended, with its registers as they are; in a call of the shell, the shell aborts
+-- a task that causes an exception is suspended, and keeps its registers; if it was in a call of the shell, the
+-- shell aborts the line
 abbrev pub trapped : Trap → ShellState → WorldState → ℕ → Part
 trapped trap shell w who =
     if who == shell_id then part_of at_prompt (writing (with_kern w (aborted w.kern)) (told_of trap (task_of w.kern.tasks who)))
     else part_of shell (writing (with_kern w (suspend w.kern who)) (told_of trap (task_of w.kern.tasks who)))
 
 -- ---- at a gate
--- the gate by which a task ends, or a call of the shell returns
+-- the gate at which a task ends, or at which a call of the shell returns
 abbrev pub own_return : ℕ → Gate
 own_return who = if who == shell_id then gates.ShellReturn else gates.TaskReturn
 
@@ -61,7 +62,7 @@ is_return g who = gate_number g == gate_number (own_return who)
 abbrev pub without_own : WorldState → ℕ → WorldState
 without_own w who = with_kern w (unreserve w.kern who)
 
--- a call of the shell returns with r3, and any other task ends
+-- a call of the shell returns with r3 as its value; any other task ends
 abbrev pub return_part : ShellState → WorldState → ℕ → Part
 return_part shell w who =
     if who == shell_id then part_of (returned (slice_index (regs_of w who).gpr 3) shell) (without_own w who)
@@ -74,7 +75,7 @@ called g w who = without_own (call g w (by_task who)) who
 abbrev pub call_part : Gate → ShellState → WorldState → ℕ → Part
 call_part g shell w who = part_of shell (called g w who)
 
--- the gate is the task's return, or that of a call; any other is an access to nothing
+-- the gate is the task's return, or that of a call; any other gate is an access to nothing
 abbrev pub gate_part : Gate → ShellState → WorldState → ℕ → Part
 gate_part g shell w who =
     if is_return g who then return_part shell w who
@@ -85,17 +86,17 @@ abbrev pub executed : Outcome BusState → ShellState → WorldState → ℕ →
 executed (Done regs bus) shell w who = part_of shell (with_bus (with_kern w (set_regs w.kern who regs)) bus)
 executed (Trapped trap) shell w who = trapped trap shell w who
 
--- the word there is executed; where none can be fetched it is an access to nothing (Power ISA, instruction fetch)
+-- the word there is executed; if none can be fetched, that is an access to nothing (Power ISA, instruction fetch)
 abbrev pub word_part : Option ℕ → ShellState → WorldState → ℕ → Part
 word_part None shell w who = trapped traps.Access shell w who
 word_part (Some word) shell w who = executed (exec_of board_meaning (regs_of w who) word (bus_of w)) shell w who
 
--- ---- a step of a task, by where its program counter stands
+-- ---- a step of a task, by its program counter
 abbrev pub part_at : Option Gate → ShellState → WorldState → ℕ → Part
 part_at (Some g) shell w who = gate_part g shell w who
 part_at None shell w who = word_part (fetched (bus_of w) (regs_of w who).pc) shell w who
 
--- the gate at which a task stands
+-- the gate at which a task is
 abbrev pub gate_under : WorldState → ℕ → Option Gate
 gate_under w who = gate_at gates_start (regs_of w who).pc
 

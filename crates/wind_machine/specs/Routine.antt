@@ -1,4 +1,4 @@
--- A step of the interrupt routine that is active: at a gate, or an instruction.
+-- A step of the active interrupt routine: what it does at a gate, or one instruction.
 use Rattle.std.specs.Prelude.{ℕ, ◌+◌, Option, None, Some, ◌==◌, if◌then◌else◌}
 use Rattle.wind_base.specs.Limits.{gates_start, interrupt_stack_bytes}
 use Rattle.wind_base.specs.Gates.{gate_at, gate_number}
@@ -24,7 +24,7 @@ use Rattle.wind_machine.specs.Part.{writing}
 use Rattle.wind_machine.specs.Processor.{bus_of, with_bus}
 use Rattle.wind_machine.specs.Text.{routine_text}
 
--- where the interrupt stack ends
+-- the end of the interrupt stack
 abbrev pub interrupt_top : ℕ
 interrupt_top = interrupt_stack + interrupt_stack_bytes
 
@@ -32,20 +32,20 @@ interrupt_top = interrupt_stack + interrupt_stack_bytes
 abbrev pub with_watch : WorldState → WatchState → WorldState
 with_watch w s = record w { watch = s }
 
--- the routine's registers; none has a value where no routine is active
+-- the active routine's registers; if no routine is active, no register has a value
 abbrev pub routine_regs : WorldState → Regs
 routine_regs w = caller_regs w.kern w.watch.level Interrupt
 
--- the routine is done: the next listed one is active, or none
+-- the routine is done: the next listed one becomes active, if there is one
 abbrev pub next_routine : WorldState → WorldState
 next_routine w = with_watch w (finish w.watch interrupt_top)
 
--- a routine that causes an exception is told, and given up, and it alone
+-- a routine that causes an exception is reported, and only this routine is given up
 abbrev pub given_up : Trap → WorldState → WorldState
 given_up trap w = next_routine (writing w (routine_text trap (routine_regs w).pc))
 
 -- ---- at a gate
--- the routine keeps no reservation
+-- the routine's reservation is dropped
 abbrev pub without_reserve : Regs → Regs
 without_reserve r = record r { reserve = None }
 
@@ -53,7 +53,7 @@ without_reserve r = record r { reserve = None }
 abbrev pub routine_call : Gate → WorldState → WorldState
 routine_call g w = at_level (call g w Interrupt) without_reserve
 
--- the gate is the routine's return, or that of a call; any other is an access to nothing
+-- the gate is the routine's return, or that of a call; any other gate is an access to nothing
 abbrev pub routine_gate : Gate → WorldState → WorldState
 routine_gate g w =
     if gate_number g == gate_number gates.InterruptReturn then next_routine w
@@ -64,12 +64,12 @@ abbrev pub routine_executed : Outcome BusState → WorldState → WorldState
 routine_executed (Done regs bus) w = with_bus (with_watch w (with_level w.watch regs)) bus
 routine_executed (Trapped trap) w = given_up trap w
 
--- the word there is executed; where none can be fetched it is an access to nothing (Power ISA, instruction fetch)
+-- the word there is executed; if none can be fetched, that is an access to nothing (Power ISA, instruction fetch)
 abbrev pub routine_word : Option ℕ → WorldState → WorldState
 routine_word None w = given_up traps.Access w
 routine_word (Some word) w = routine_executed (exec_of board_meaning (routine_regs w) word (bus_of w)) w
 
--- ---- a step of the routine, by where its program counter stands
+-- ---- a step of the routine, by its program counter
 abbrev pub routine_at : Option Gate → WorldState → WorldState
 routine_at (Some g) w = routine_gate g w
 routine_at None w = routine_word (fetched (bus_of w) (routine_regs w).pc) w

@@ -4,11 +4,11 @@ use Rattle.live_loading.specs.Said.{FileSaid}
 use Rattle.wind_machine.specs.State.{State}
 use Rattle.wind_machine.specs.Machine.{machine_step}
 
--- what is said at each step of the file that it asks for; a step that asks for none does not read it
+-- what is said at each step of the file that it needs; a step that needs none doesn't use it
 abbrev pub Answers : Type 0
 Answers = ℕ → FileSaid
 
--- the state after k steps, or where there is no further step
+-- the state after k steps, or the last state if there are fewer
 abbrev pub after : Answers → State → ℕ → State
 after said s zero = s
 after said s (suc k) = unwrap_or (machine_step (said k) (after said s k)) (after said s k)

@@ -21,7 +21,7 @@ use Rattle.wind_machine.specs.declared.phase.Phase.TheVariants as phases
 abbrev pub at_prompt : ShellState
 at_prompt = record { phase = phases.Prompt; trees = [] }
 
--- the shell behind its prompt: it reads a line where one is kept
+-- the shell after its prompt: it reads a line if there is a finished one
 abbrev pub prompted : Bool → ShellState → ShellState
 prompted has_line s = if has_line then record s { phase = phases.Read } else s
 
@@ -31,7 +31,7 @@ is_nothing [] = true
 is_nothing (Nothing ∷ []) = true
 is_nothing _ = false
 
--- the tree of a statement, where it has a token
+-- the tree of a statement, if it has a token
 abbrev pub begun_tree : PlainStmt → Option Pending
 begun_tree Nothing = None
 begun_tree s = Some (begun_stmt s)
@@ -40,7 +40,7 @@ begun_tree s = Some (begun_stmt s)
 abbrev pub begun : List PlainStmt → ShellState
 begun stmts = if is_nothing stmts then at_prompt else record { phase = phases.Eval; trees = map begun_tree stmts }
 
--- the shell behind the reading of a line, and what that writes
+-- the shell after the reading of a line, and what that writes
 abbrev pub shell_read : Reading → ShellState
 shell_read (Statements stmts) = begun stmts
 shell_read (Refused column) = at_prompt
@@ -49,12 +49,12 @@ abbrev pub read_text : Reading → List ℕ
 read_text (Statements stmts) = []
 read_text (Refused column) = syntax_text column
 
--- the shell with these trees left, behind a statement
+-- the shell after a statement, with these trees left
 abbrev pub shell_with : List (Option Pending) → ShellState
 shell_with [] = at_prompt
 shell_with (p ∷ ps) = record { phase = phases.Eval; trees = p ∷ ps }
 
--- a value in the place of the answer that the first tree awaits
+-- a value replaces the answer that the first tree awaits
 abbrev pub fill_first : ℕ → List (Option Pending) → List (Option Pending)
 fill_first value [] = []
 fill_first value (p ∷ ps) = option_map (filled value) p ∷ ps
@@ -63,26 +63,29 @@ fill_first value (p ∷ ps) = option_map (filled value) p ∷ ps
 abbrev pub returned : ℕ → ShellState → ShellState
 returned value s = record { phase = phases.Eval; trees = fill_first value s.trees }
 
--- it writes the prompt, and waits for the console where no line is kept
+-- the shell writes the prompt, and waits for the console if there is no finished line
 abbrev pub prompt_part : Bool → ShellState → WorldState → Part
 prompt_part has_line shell w = part_of (prompted has_line shell) (writing (with_kern w (if has_line then w.kern else listening w.kern)) prompt_text)
 
--- it reads a line
+-- the shell reads a line
 abbrev pub read_part : Reading → WorldState → Part
 read_part reading w = part_of (shell_read reading) (writing w (read_text reading))
 
--- what of the world evaluation reads and changes, and the world with that
+-- the parts of the world that evaluation reads and changes, and the world with other ones
 abbrev pub eval_state : WorldState → EvalState
 eval_state w = record { symbols = w.symbols; pool = w.part; memory = record { ram = w.ram; slots = w.slots }; output = w.output }
 
 abbrev pub with_eval : WorldState → EvalState → WorldState
 with_eval w e = record w { symbols = e.symbols; part = e.pool; ram = e.memory.ram; slots = e.memory.slots; output = e.output }
 
--- its task begins a call: its registers are those of a call, and the frame is in RAM (System V ABI, PowerPC supplement, function calls)
+-- the shell's task begins a call: its registers are those of a call, and the frame is in RAM (System V ABI,
+-- PowerPC supplement, function calls)
 abbrev pub calling : WorldState → ℕ → List ℕ → WorldState
 calling w callee words = record w { kern = set_regs w.kern shell_id (call_regs callee words); ram = framed w.ram stack_pointer words }
 
--- its first statement has come so far, and these trees are left behind it: to its value, which is written; to a call; to a fault, whose text is written, and the rest of the line goes
+-- the first statement has come to this point, and these trees are left after it;
+-- at its value, the value is written; at a call, the call begins; at a fault, its text is written, and the rest of
+-- the line is dropped
 abbrev pub came_to : Ending → List (Option Pending) → WorldState → Part
 came_to (Value v) behind w = part_of (shell_with behind) (writing w (value_text v))
 came_to (Call callee words p) behind w = part_of (record { phase = phases.Call; trees = Some p ∷ behind }) (calling w callee words)
@@ -92,7 +95,7 @@ came_to Waiting behind w = part_of at_prompt w
 abbrev pub evaluated_part : Evaluated → List (Option Pending) → WorldState → Part
 evaluated_part e behind w = came_to e.ending behind (with_eval w e.state)
 
--- it goes on with its first statement; one without a token writes nothing
+-- the shell goes on with its first statement; one without a token writes nothing
 abbrev pub eval_part : List (Option Pending) → WorldState → Part
 eval_part [] w = part_of at_prompt w
 eval_part (None ∷ behind) w = part_of (shell_with behind) w

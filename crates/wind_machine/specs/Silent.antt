@@ -1,10 +1,10 @@
--- Steps that ask for no file and write nothing.
-use Rattle.std.specs.Prelude.{◌≡◌, ℕ, zero, suc, ◌+◌, ◌<◌, ◌≤◌, List, [], Option, None, IsSome}
+-- Steps that need no file and write nothing.
+use Rattle.std.specs.Prelude.{◌≡◌, ℕ, zero, suc, ◌+◌, ◌<◌, ◌≤◌, [], None, IsSome}
 use Rattle.wind_machine.specs.State.{State}
 use Rattle.wind_machine.specs.Machine.{file_asked, machine_step, Steps}
 use Rattle.wind_machine.specs.Run.{Answers, after, text}
 
--- one step leads from a state to another; it asks for no file, writes nothing, and takes no event
+-- one step leads from one state to the next; it needs no file, writes nothing, and takes no event
 pub record IsSilentStep (s t : State) : Type 0 where
   pub unasked : file_asked s ≡ None
   pub steps : Steps s t
@@ -17,7 +17,8 @@ abbrev pub SilentSteps : ℕ → State → State → Type 0
 SilentSteps zero s t = t ≡ s
 SilentSteps (suc k) s t = (u : State) × SilentSteps k s u × IsSilentStep u t
 
--- a run from s goes on by k silent steps after its first i, whatever is said of files: it comes to t, has written no more, and has asked for no file meanwhile
+-- after its first i steps, a run from s goes on by k silent steps, whatever is said of files: it comes to t, has
+-- written nothing more, and has needed no file meanwhile
 pub record GoesOn (said : Answers) (s : State) (i k : ℕ) (u t : State) : Type 0 where
   pub state : t ≡ after said s (i + k)
   pub text_is : text said s (i + k) ≡ text said s i

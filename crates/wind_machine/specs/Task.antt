@@ -16,7 +16,7 @@ use Rattle.kernel_world.specs.Starting.{starting_regs}
 abbrev pub shell_task : KernState → Option Task
 shell_task k = task_of k.tasks shell_id
 
--- where it waits for the console
+-- the place at which it waits for the console
 abbrev pub console_place : Place
 console_place = record { side = console_side; id = shell_id }
 
@@ -27,24 +27,24 @@ is_at_console (Some t) = waits_at console_place t
 abbrev pub waits_for_console : KernState → Bool
 waits_for_console k = is_at_console (shell_task k)
 
--- it waits for something, or is delayed
+-- the shell's task waits for something, or is delayed
 abbrev pub is_held : Option Task → Bool
 is_held None = false
 is_held (Some t) = is_some t.wait || is_some t.wake
 
--- it begins to wait for the console
+-- the shell's task begins to wait for the console
 abbrev pub listening : KernState → KernState
 listening k = pend k shell_id console_place false wait_forever
 
--- its wait or delay ends, where it has one
+-- its wait or delay ends, if it has one
 abbrev pub let_go : KernState → KernState
 let_go k = if is_held (shell_task k) then release k shell_id else k
 
--- it is aborted: no wait, no delay, and none of its marks is left
+-- the shell's task is aborted: it has no wait, no delay, and none of its marks afterwards
 abbrev pub aborted : KernState → KernState
 aborted k = reset (let_go k) shell_id
 
--- where r1 stands at the start of a call of the shell: a frame below its stack's end
+-- r1 at the start of a call of the shell: one frame below the end of its task's stack
 abbrev pub stack_pointer : ℕ
 stack_pointer = pool_start + shell_stack_bytes - frame_bytes
 

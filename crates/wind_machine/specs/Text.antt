@@ -1,4 +1,4 @@
--- The texts that the board writes. All but the prompt are this project's own.
+-- The texts that the board writes. All except the prompt are this project's own.
 use Rattle.std.specs.Prelude.{ℕ, zero, suc, ◌/◌, ◌%◌, List, [], ◌++◌, false, codes}
 use Rattle.std.specs.Fmt.{decimal, digits}
 use Rattle.ppc_core.specs.declared.trap.Trap.{Trap}
@@ -10,11 +10,11 @@ use Rattle.shell_eval.specs.declared.fault.EvalFault.TheVariants as faults
 abbrev pub prompt_text : List ℕ
 prompt_text = codes "-> "
 
--- the line that tells the column of the first token that is refused
+-- the line that reports the column of the first refused token
 unfoldable pub syntax_text : ℕ → List ℕ
 syntax_text column = codes "syntax error at column " ++ decimal column ++ codes "\n"
 
--- the lowest hexadecimal digits of a number, so many of them
+-- the lowest n hexadecimal digits of a number
 abbrev pub last_digits : ℕ → ℕ → List ℕ
 last_digits zero v = []
 last_digits (suc n) v = last_digits n (v / 16) ++ digits 16 false (v % 16)
@@ -23,7 +23,7 @@ last_digits (suc n) v = last_digits n (v / 16) ++ digits 16 false (v % 16)
 unfoldable pub eight_digits : ℕ → List ℕ
 eight_digits v = last_digits 8 v
 
--- the line that tells a fault of evaluation
+-- the line that reports a fault of evaluation
 unfoldable pub fault_text : EvalFault → List ℕ
 fault_text (faults.Undefined name) = codes "undefined symbol: " ++ name ++ codes "\n"
 fault_text (faults.AccessAt at) = codes "access fault at 0x" ++ eight_digits at ++ codes "\n"
@@ -39,22 +39,22 @@ kind_text traps.Access = codes "access"
 kind_text traps.TrapInsn = codes "trap"
 kind_text traps.Sysc = codes "sysc"
 
--- the kind of an exception and the name of its task, behind an end of line
+-- a newline, the kind of an exception, and the name of its task
 unfoldable pub cause_text : Trap → List ℕ → List ℕ
 cause_text trap name = codes "\nexception " ++ kind_text trap ++ codes " in " ++ name
 
--- the task's id and an address, to the end of the line
+-- the task's id and an address, and the end of the line
 unfoldable pub place_text : ℕ → ℕ → List ℕ
 place_text id at = codes " (0x" ++ digits 16 false id ++ codes ") at 0x" ++ eight_digits at ++ codes "\n"
 
--- where a routine is, to the end of the line
+-- a routine's address, and the end of the line
 unfoldable pub level_text : ℕ → List ℕ
 level_text at = codes " at 0x" ++ eight_digits at ++ codes "\n"
 
--- the line that tells an exception of an interrupt routine
+-- the line that reports an exception of an interrupt routine
 unfoldable pub routine_text : Trap → ℕ → List ℕ
 routine_text trap at = cause_text trap (codes "interrupt") ++ level_text at
 
--- the line that tells an exception of the task of this name and id
+-- the line that reports an exception of the task with this name and id
 unfoldable pub exception_text : Trap → List ℕ → ℕ → ℕ → List ℕ
 exception_text trap name id at = cause_text trap name ++ place_text id at

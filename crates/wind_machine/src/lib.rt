@@ -1,4 +1,4 @@
-//! The wind machine, written down: its states, its step, its runs, and the facts that every run keeps.
+//! The wind machine, written down: its states, its step, its runs, and the invariant of every run.
 #![tactic(auto)]
 
 mod laws;

@@ -3,7 +3,7 @@
 /// What the shell does at its next step.
 #[derive(Clone, Copy, Debug, PartialEq, Eq)]
 pub enum Phase {
-    /// It writes its prompt, or waits for the console.
+    /// It writes its prompt, or its task waits for the console.
     Prompt,
     /// It takes a line and reads it.
     Read,

@@ -1,4 +1,4 @@
--- A kernel call by a task goes with what the queues hold.
+-- A kernel call by a task agrees with what the queues hold.
 use Rattle.std.proofs.Common.{◌≡◌, ℕ, Bool, true, false, not, ◌&&◌, cond, eqb, List, Option, None, Some, refl, sym, subst, arith}
 use Rattle.wind_base.specs.declared.errno.Errno.{Errno}
 use Rattle.wind_base.specs.declared.errno.Errno.TheVariants as errors

@@ -17,12 +17,12 @@ use Rattle.wind_messages.specs.Laws.{ConservationLaw}
 use Rattle.wind_messages.proofs.Rows.{stock_in}
 use Rattle.wind_messages.proofs.Steps.{step_goes}
 
--- at the opening there is no queue
+-- in the opening state there is no queue
 none_yet : (console ticks : List ℕ) (slots : List (Option DeviceState)) → (stock_in (opening console (timetable_of ticks) slots).world).queues ≡ []
 unfolding opening opening_world
 none_yet console ticks slots = refl
 
--- a run from a state without queues on, with the kept facts at each state
+-- a run that begins without queues, with the invariant at each state
 runs : AloneLaw → (said : Answers) (s : State) → (stock_in s.world).queues ≡ [] → ((k : ℕ) → Good (after said s k))
     → IsRun (λ k. stock_in (after said s k).world) (λ k. step_accepts (after said s k)) (λ k. step_takes (after said s k))
 runs law said s none good = record {

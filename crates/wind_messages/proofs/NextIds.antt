@@ -1,4 +1,4 @@
--- The id that comes next, after the kernel's moves and the calls on semaphores and mutexes: it is never lower.
+-- The next id after the kernel's moves and the calls on semaphores and mutexes: it never falls.
 use Rattle.std.proofs.Common.{◌≡◌, ℕ, ◌-◌, Bool, true, false, ◌&&◌, cond, eqb, ltb, leb, List, [], ◌∷◌, Option, None, Some, refl, ◌∙◌}
 use Rattle.wind_base.specs.declared.errno.Errno.TheVariants as errors
 use Rattle.id_table.specs.Rows.{object_of}
@@ -19,7 +19,7 @@ use Rattle.sem_plain.specs.State.{SemState}
 use Rattle.sem_plain.specs.Calls as plain
 use Rattle.msg_queue.proofs.Calm.{next-move, next-end_waits}
 
--- the same id comes next
+-- the next id is the same
 abbrev pub NextSame : KernState → KernState → Type 0
 NextSame k l = l.next_id ≡ k.next_id
 

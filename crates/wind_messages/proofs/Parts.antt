@@ -1,4 +1,4 @@
--- What a step of a task makes of the world goes with what the queues hold.
+-- What a step of a task does to the world agrees with what the queues hold.
 use Rattle.std.proofs.Common.{◌≡◌, ℕ, Bool, true, false, cond, eqb, List, [], ◌∷◌, Option, None, Some, refl, sym, subst, arith}
 use Rattle.std.specs.Prelude.{slice_index}
 use Rattle.wind_base.specs.declared.gate.Gate.{Gate}
@@ -39,7 +39,7 @@ next-aborted k = next-if (is_held (shell_task k)) k (release k shell_id) k (next
 
 -- ---- no call on a queue
 module _ (w : WorldState) (s : Scene) where
-  -- the world v has the queues of w, and the id that comes next is not lower
+  -- the world v has the queues of w, and its next id isn't lower
   left_alone : (v : WorldState) → v.objects.queues.queues ≡ w.objects.queues.queues → NextSame w.kern v.kern → Balances w v s None
   left_alone v same ids = leaves w v s same (omega (arith, ids))
 
@@ -86,7 +86,7 @@ module _ (w : WorldState) (s : Scene) where
     words_balance None = traps_balance traps.Access
     words_balance (Some word) = executes (exec_of board_meaning (regs_of w who) word (bus_of w))
 
--- ---- a step of a task, with the call on a queue that it is, if it is one
+-- ---- a step of a task, with the queue call that it is, if it is one
 module _ (w : WorldState) (shell : ShellState) (who : ℕ) (kept : IsKept (scene_of (left_gate w (by_task who)))) where
   abbrev here : Scene
   here = scene_of (left_gate w (by_task who))

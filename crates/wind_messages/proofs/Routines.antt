@@ -1,4 +1,4 @@
--- A step of an interrupt routine goes with what the queues hold.
+-- A step of an interrupt routine agrees with what the queues hold.
 use Rattle.std.proofs.Common.{◌≡◌, ℕ, true, false, not, ◌&&◌, cond, eqb, List, Option, None, Some, refl, sym, subst, arith}
 use Rattle.std.specs.Prelude.{slice_index}
 use Rattle.wind_base.specs.declared.errno.Errno.{Errno}

@@ -1,4 +1,5 @@
--- Each row of the kernel's calls goes with what the queues hold: those on queues by what they move, and all others leave the queues alone.
+-- Each row of the kernel's calls agrees with what the queues hold: the rows of queues by what they move; all
+-- others don't touch the queues.
 use Rattle.std.proofs.Common.{◌≡◌, ℕ, ◌≤◌, true, false, cond, leb, List, [], length, Option, None, Some, Result, Ok, Err, refl, arith}
 use Rattle.std.specs.Prelude.{slice_index}
 use Rattle.wind_base.specs.SemBits.{read_options}
@@ -45,19 +46,19 @@ use Rattle.kernel_world.specs.declared.actor.Actor.TheVariants.{Task as by_task}
 use Rattle.wind_messages.specs.Messages.{event_in}
 use Rattle.wind_messages.proofs.NextIds.{NextSame, next-resume, next-lessen, next-sem_take, next-sem_give, next-sem_flush, next-sem_delete, next-mutex_take, next-mutex_give, next-mutex_delete, next-priority_set}
 
--- the queues of a world, and the id that comes next
+-- the queues of a world, and the next id
 abbrev pub stock_in : WorldState → Stock
 stock_in w = stock (scene_of w)
 
--- from a world to another, where this call on a queue is made in a scene, or none
+-- from a world to another, if this queue call is made in a scene, or none
 abbrev pub Balances : WorldState → WorldState → Scene → Option Event → Type 0
 Balances w v s e = IsBalanced (stock_in w) (stock_in v) (accepted_next s e) (taken_next s e)
 
--- where none is made, and the queues are the same
+-- if no queue call is made, and the queues are the same
 pub leaves : (w v : WorldState) (s : Scene) → v.objects.queues.queues ≡ w.objects.queues.queues → w.kern.next_id ≤ v.kern.next_id → Balances w v s None
 leaves w v s same ids = balanced_still (stock_in w) (stock_in v) (λ q. []) (λ q. []) (λ q. refl) (λ q. refl) same ids
 
--- ---- rows that touch tasks alone
+-- ---- rows that touch only tasks
 pub suspends : (k : KernState) (o : Option ℕ) → NextSame k (suspend_row k o).kern
 suspends k None = refl
 suspends k (Some id) = refl

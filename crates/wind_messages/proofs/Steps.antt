@@ -1,4 +1,4 @@
--- Each step of the machine goes with what the queues hold before and after it.
+-- Each step of the machine agrees with what the queues hold before and after it.
 use Rattle.std.proofs.Common.{◌≡◌, ℕ, Bool, true, false, cond, eqb, List, [], ◌∷◌, Option, None, Some, refl, sym, ap, ◌∙◌, subst, arith}
 use Rattle.std.specs.Prelude.{unwrap_or, take, drop}
 use Rattle.std.specs.List.{fold}
@@ -18,7 +18,7 @@ use Rattle.msg_queue.specs.Machine.{Event as Call}
 use Rattle.msg_queue.proofs.Calm.{next-tick, calms}
 use Rattle.kernel_world.specs.State.{WorldState}
 use Rattle.kernel_world.specs.Objects.{IsReady}
-use Rattle.kernel_world.specs.Actors.{shell_id, caller_words}
+use Rattle.kernel_world.specs.Actors.{shell_id}
 use Rattle.kernel_calls.specs.Calls.{scene_of}
 use Rattle.kernel_world.specs.Replies.{left_gate}
 use Rattle.kernel_world.specs.declared.actor.Actor.{Actor}
@@ -63,11 +63,11 @@ next-heard : (s : State) (bytes : List ℕ) → NextSame s.world.kern (heard_by 
 unfolding heard_all
 next-heard s bytes = next-bytes (heard_from s.console s.shell s.world.kern []) bytes
 
--- from a state to another, where whoever runs makes a step, or nobody does
+-- from a state to another, if this task or routine makes a step, or none
 abbrev pub Goes : State → State → Option Actor → Type 0
 Goes s t o = Balances s.world t.world (scene_by s o) (call_of s o)
 
--- ---- the queues are left alone
+-- ---- the queues aren't touched
 left_alone : (s t : State) → t.world.objects.queues.queues ≡ s.world.objects.queues.queues → NextSame s.world.kern t.world.kern → Goes s t None
 left_alone s t same ids = leaves s.world t.world (scene_of s.world) same (omega (arith, ids))
 
@@ -83,7 +83,7 @@ due_events s e = events (record s { schedule = without_next s.schedule; world = 
 
 -- ---- a task makes a step
 module _ (s : State) (g : Good s) where
-  -- what a call of it sees is kept
+  -- what its call sees keeps the queues' invariant
   scene_kept : (who : ℕ) → IsKept (task_scene s who)
   scene_kept who =
       let w : WorldState = turn_world s who in
@@ -112,7 +112,7 @@ module _ (s : State) (g : Good s) where
         | false ↦ λ e. tasks_go who
       ] refl
 
-  -- what a call of an interrupt routine sees is kept
+  -- what a call of an interrupt routine sees keeps the queues' invariant
   routine_kept : IsKept (routine_scene s)
   routine_kept =
       let kept = (all_advance s.world s.steps g.world g.within).kept in

@@ -1,4 +1,4 @@
--- What follows of the machine's definitions for its messages.
+-- What follows from the machine's definitions for its messages.
 use Rattle.std.specs.Prelude.{◌≡◌, ℕ, List, Option, Some}
 use Rattle.id_table.specs.Rows.{object_of}
 use Rattle.tick_file.specs.Schedule.{timetable_of}
@@ -9,7 +9,9 @@ use Rattle.wind_machine.specs.Machine.{opening}
 use Rattle.wind_machine.specs.Run.{Answers, after}
 use Rattle.wind_messages.specs.Messages.{accepted, taken}
 
--- for every console file, tick file and list of devices, and whatever is said of the files of modules, of each queue that is live after k steps: what was accepted is, each as often, what was taken followed by what the queue holds; and where none was urgent the two are equal, order included
+-- for every console file, tick file and list of devices, whatever is said of module files, and for each queue that
+-- is live after k steps: what was accepted is, each as often, what was taken followed by what the queue holds; if
+-- none was urgent, the two are equal, order included
 abbrev pub ConservationLaw : Type 0
 ConservationLaw = (said : Answers) (console ticks : List ℕ) (slots : List (Option DeviceState)) (k q : ℕ) (y : QueueState)
     → object_of (after said (opening console (timetable_of ticks) slots) k).world.objects.queues.queues q ≡ Some y

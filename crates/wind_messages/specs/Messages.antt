@@ -1,4 +1,4 @@
--- Which messages each step of the wind machine moves into a queue and out of it.
+-- Which messages each step of the wind machine puts into a queue and takes out of it.
 use Rattle.std.specs.Prelude.{ℕ, ◌==◌, Bool, true, false, if◌then◌else◌, List, Option, None, Some}
 use Rattle.wind_base.specs.declared.gate.Gate.{Gate}
 use Rattle.msg_queue.specs.State.{Scene}
@@ -24,7 +24,7 @@ use Rattle.wind_machine.specs.Routine.{routine_under}
 use Rattle.wind_machine.specs.declared.phase.Phase.{Phase}
 use Rattle.wind_machine.specs.declared.phase.Phase.TheVariants as phases
 
--- what a task's call is to the queues, if it is a send or a receive
+-- what a task's call does with the queues, if it is a send or a receive
 abbrev pub event_of : ℕ → Call → Option Event
 event_of who (calls.MsgQSend id buffer count timeout priority) = Some (sends id (sending (by_task who) buffer count timeout priority))
 event_of who (calls.MsgQReceive id buffer count timeout) = Some (receives id (record { caller = who; buffer = buffer; room = count; timeout = timeout }))
@@ -34,7 +34,7 @@ abbrev pub event_in : ℕ → Option Call → Option Event
 event_in who None = None
 event_in who (Some c) = event_of who c
 
--- what the call that a task makes at a gate is to them
+-- what the call that a task makes at a gate does with the queues
 abbrev pub call_at : Gate → WorldState → ℕ → Option Event
 call_at g w who = event_in who (call_by g w (by_task who))
 
@@ -42,7 +42,7 @@ abbrev pub call_under : Option Gate → WorldState → ℕ → Option Event
 call_under None w who = None
 call_under (Some g) w who = call_at g w who
 
--- the shell's task is at a gate in a call alone; every other task may be at one
+-- the shell's task is at a gate only during a call; every other task may be at one
 abbrev pub is_call : Phase → Bool
 is_call phases.Call = true
 is_call p = false
@@ -50,11 +50,11 @@ is_call p = false
 abbrev pub is_at_work : State → ℕ → Bool
 is_at_work s who = if who == shell_id then is_call s.shell.phase else true
 
--- the world at the turn of a task
+-- the world at the beginning of a task's step
 abbrev pub turn_world : State → ℕ → WorldState
 turn_world s who = at_turn s.world who
 
--- the call on a queue that its step is, if it is one
+-- the queue call that the task's step is, if it is one
 abbrev pub task_call : State → ℕ → Option Event
 task_call s who =
     if is_at_work s who then call_under (gate_under (turn_world s who) who) (turn_world s who) who else None
@@ -63,7 +63,7 @@ task_call s who =
 abbrev pub task_scene : State → ℕ → Scene
 task_scene s who = scene_of (left_gate (turn_world s who) (by_task who))
 
--- ---- an interrupt routine, which may send, and never receives
+-- ---- an interrupt routine, which may send but never receives
 abbrev pub sent_of : Call → Option Event
 sent_of (calls.MsgQSend id buffer count timeout priority) = Some (sends id (sending Interrupt buffer count timeout priority))
 sent_of c = None
@@ -79,11 +79,11 @@ abbrev pub sent_under : Option Gate → WorldState → Option Event
 sent_under None w = None
 sent_under (Some g) w = sent_at g w
 
--- the world at its turn
+-- the world at the beginning of the routine's step
 abbrev pub routine_world : State → WorldState
 routine_world s = cleared (unreserved_world s.world)
 
--- the send that its step is, if it is one, and what that sees
+-- the send that the routine's step is, if it is one, and what that call sees
 abbrev pub routine_send : State → Option Event
 routine_send s = sent_under (routine_under (routine_world s)) (routine_world s)
 
@@ -101,7 +101,8 @@ scene_by s None = scene_of s.world
 scene_by s (Some (by_task who)) = task_scene s who
 scene_by s (Some Interrupt) = routine_scene s
 
--- what the next step adds to the queue q or hands to a receiver of it, and what it hands to one or takes from the front
+-- what the next step adds to the queue q or hands to a receiver, and what it hands to a receiver or takes from the
+-- head of q
 abbrev pub step_accepts : State → ℕ → List Parcel
 step_accepts s q = accepted_next (scene_by s (stepping s)) (call_of s (stepping s)) q
 
@@ -109,10 +110,10 @@ abbrev pub step_takes : State → ℕ → List (List ℕ)
 step_takes s q = taken_next (scene_by s (stepping s)) (call_of s (stepping s)) q
 
 -- ---- a run
--- what the first k steps from a state on added to the queue q or handed to a receiver of it, in order of the steps
+-- what the first k steps from a state on added to the queue q or handed to a receiver, in the order of the steps
 abbrev pub accepted : Answers → State → ℕ → ℕ → List Parcel
 accepted said s q k = gathered (λ j. step_accepts (after said s j)) q k
 
--- what they handed to a receiver of q or took from the front of q, each whole
+-- what they handed to a receiver of q or took from the head of q, each message whole
 abbrev pub taken : Answers → State → ℕ → ℕ → List (List ℕ)
 taken said s q k = gathered (λ j. step_takes (after said s j)) q k

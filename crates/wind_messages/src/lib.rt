@@ -1,4 +1,5 @@
-//! What the runs of the wind machine do with messages: no queue loses one, makes one up, or changes one.
+//! What the runs of the wind machine do with messages: no queue loses, invents or changes a
+//! message.
 #![tactic(auto)]
 
 mod laws;

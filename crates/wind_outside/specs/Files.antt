@@ -1,10 +1,10 @@
--- The files of a folder, and what a fetch answers.
+-- The files of a folder, and the results of fetches.
 use Rattle.std.specs.Prelude.{◌≡◌, ℕ, ◌<◌, ◌≤◌, List, Option, Some, None, IsSomeAnd, length, Bool, true, false, if◌then◌else◌}
 use Rattle.std.specs.Str.{bytes_eq}
 use Rattle.wind_outside.specs.declared.folder.Fetched.{Fetched}
 use Rattle.wind_outside.specs.declared.folder.Fetched.TheVariants as fetched
 
--- the bytes of each file, by the bytes of its name; nothing where there is no such file
+-- the bytes of each file, by the bytes of its name; none if there is no such file
 abbrev pub Files : Type 0
 Files = List ℕ → Option (List ℕ)
 
@@ -12,7 +12,7 @@ Files = List ℕ → Option (List ℕ)
 abbrev pub with_file : Files → List ℕ → List ℕ → Files
 with_file files name bytes other = if bytes_eq other name then Some bytes else files other
 
--- a fetch that neither failed nor lacked memory answers as the file of that name says
+-- a fetch that doesn't fail or run out of memory gives what the file with that name says
 abbrev pub IsFetchOf : Option (List ℕ) → ℕ → Fetched → Type 0
 IsFetchOf file limit (fetched.Found bytes) = (file ≡ Some bytes.items) × (length bytes.items ≤ limit)
 IsFetchOf file limit fetched.Missing = file ≡ None
@@ -20,7 +20,7 @@ IsFetchOf file limit fetched.TooLong = IsSomeAnd file (λ bytes. limit < length 
 IsFetchOf file limit fetched.Failed = Unit {0}
 IsFetchOf file limit fetched.NoMemory = Unit {0}
 
--- a file that is found has at most so many bytes, also where the files are untold
+-- a found file has at most the given number of bytes, even if the files are untold
 abbrev pub IsWithin : ℕ → Fetched → Type 0
 IsWithin limit (fetched.Found bytes) = length bytes.items ≤ limit
 IsWithin limit _ = Unit {0}

@@ -1,4 +1,4 @@
--- What a folder in memory shows.
+-- What a contract sees of a folder in memory.
 use Rattle.std.specs.Option.{option_map}
 use Rattle.std.specs.BTreeMap.{get_by_text}
 use Rattle.wind_outside.specs.Calls.{CallLog}

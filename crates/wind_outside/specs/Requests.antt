@@ -1,10 +1,10 @@
--- The fetches from a folder and the pieces put to a sink, in order, if they tell them. What is untold stays untold.
+-- The fetches from a folder and the pieces put to a sink, in order, if they are told. What is untold stays untold.
 use Rattle.std.specs.Prelude.{◌≡◌, ℕ, List, ◌++◌, Option, IfSome, IsSomeAnd}
 use Rattle.wind_outside.specs.declared.folder.Fetched.{Fetched}
 use Rattle.wind_outside.specs.declared.folder.Fetched.TheVariants as fetched
 use Rattle.wind_outside.specs.declared.sink.Put.{Put}
 
--- how a fetch ended, whatever the file holds
+-- how a fetch ended, without the file's content
 pub data Outcome : Type 0 where
   Found : Outcome
   Missing : Outcome
@@ -12,6 +12,7 @@ pub data Outcome : Type 0 where
   Failed : Outcome
   NoMemory : Outcome
 
+-- how a fetch with this result ended
 abbrev pub outcome_of : Fetched → Outcome
 outcome_of (fetched.Found bytes) = Found
 outcome_of fetched.Missing = Missing
@@ -25,6 +26,7 @@ pub record Request : Type 0 where
   pub limit : ℕ
   pub outcome : Outcome
 
+-- a fetch as a request
 abbrev pub request_of : List ℕ → ℕ → Fetched → Request
 request_of name limit answer = record { name = name; limit = limit; outcome = outcome_of answer }
 
@@ -33,9 +35,10 @@ pub record Piece : Type 0 where
   pub bytes : List ℕ
   pub outcome : Put
 
+-- a put as a piece
 abbrev pub piece_of : List ℕ → Put → Piece
 piece_of bytes outcome = record { bytes = bytes; outcome = outcome }
 
--- what is told now, if anything, is what was told before with these more at its end; so one that tells may stop, for good
+-- if anything is told now, it is what was told before with these more at its end; so a log can stop, for good
 abbrev pub GrowsBy : {X : Type 0} → Option (List X) → Option (List X) → List X → Type 0
 GrowsBy old new more = IfSome new (λ told. IsSomeAnd old (λ before. told ≡ before ++ more))

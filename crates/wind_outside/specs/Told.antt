@@ -1,4 +1,4 @@
--- What a sink has gained, where it tells its bytes; what is untold stays untold.
+-- What is added to a sink, if it tells its bytes; what is untold stays untold.
 use Rattle.std.specs.Prelude.{◌≡◌, ℕ, List, ◌++◌, Option, take}
 use Rattle.std.specs.Option.{option_map}
 
@@ -6,6 +6,6 @@ use Rattle.std.specs.Option.{option_map}
 abbrev pub Appended : Option (List ℕ) → Option (List ℕ) → List ℕ → Type 0
 Appended old new piece = new ≡ option_map (λ bytes. bytes ++ piece) old
 
--- a front of the piece was added at the end
+-- a prefix of the piece was added at the end
 abbrev pub AppendedFront : Option (List ℕ) → Option (List ℕ) → List ℕ → Type 0
 AppendedFront old new piece = (n : ℕ) × Appended old new (take n piece)

@@ -1,4 +1,4 @@
-//! A queue of bytes.
+//! A first-in, first-out queue of bytes.
 
 ghost use Rattle.std.specs.Prelude.{◌≡◌, [], slice_index, drop};
 
@@ -6,11 +6,11 @@ use crate::{Device, DeviceKind};
 use arrayvec::ArrayVec;
 use std::marker::Model;
 
-// How many bytes a queue holds at most.
+// The greatest number of bytes in a queue.
 const FIFO_BYTES: usize = 64;
 
-/// A queue of up to 64 byte values, of which the first to come is the first to go. A byte that comes to a full
-/// queue is dropped. Contracts see it as the list of its bytes, the front first.
+/// A first-in, first-out queue of up to 64 bytes. A byte stored into a full queue is dropped. A
+/// contract sees the list of its bytes, the first one first.
 #[derive(Drop)]
 pub struct ByteFifo {
     bytes: ArrayVec<u8, FIFO_BYTES>,
@@ -63,7 +63,7 @@ impl Device for ByteFifo {
     }
 }
 
-// The front, which is taken out. 0 where the queue is empty.
+// Removes the first byte and returns it. 0 if the queue is empty.
 fn taken(bytes: &mut ArrayVec<u8, FIFO_BYTES>) -> u32
     ensures front { result ≡ slice_index bytes.old.items 0 }
     ensures rest { bytes.new.items ≡ drop 1 bytes.old.items }

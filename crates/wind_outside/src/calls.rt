@@ -6,8 +6,8 @@ ghost use Rattle.wind_outside.specs.Counts.{Rose};
 
 use std::marker::Model;
 
-/// Which calls of an object fail, by their numbers from 1; how many were made, and how many failed.
-/// Both counts stand still at 2^64 - 1.
+/// The numbers, from 1 on, of the calls that fail; the number of calls made; and the number of
+/// failed ones. Both counts stop at 2^64 - 1.
 #[derive(Drop)]
 pub(crate) struct Calls {
     failing: Vec<u64>,
@@ -24,7 +24,7 @@ impl Model for Calls {
 }
 
 impl Calls {
-    /// No call was made.
+    /// A log without calls.
     pub(crate) fn new(failing: Vec<u64>) -> Calls
         ensures { result ≡ record { failing = failing.items; made = 0; faults = 0 } }
     {
@@ -35,7 +35,8 @@ impl Calls {
         }
     }
 
-    /// Counts a call, and says whether it fails: where its number is listed, or it is refused.
+    /// Counts a call, and returns whether it fails: if its number is listed, or if `refused` is
+    /// set.
     pub(crate) fn count(&mut self, refused: bool) -> bool
         ensures fails { IsTrue result ↔ (Contains self.old.failing (one_more self.old.made) ⊎ IsTrue refused) }
         ensures after { self.new ≡ call_counted self.old result }

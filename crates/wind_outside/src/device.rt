@@ -1,33 +1,33 @@
-//! Devices, seen as a kind and a list of words.
+//! Devices, each with a kind and a list of words.
 
 ghost use Rattle.std.specs.Prelude.{◌≡◌, ℕ, ◌<◌, ◌%◌, List};
 ghost use Rattle.wind_outside.specs.declared.device.DeviceKind.{DeviceKind};
 ghost use Rattle.wind_outside.specs.Devices.{load_answer, after_load, after_store};
 
-/// The kinds of device. `docs/devices.md` says what a load and a store do to each.
+/// The kinds of devices. `docs/devices.md` says what a load and a store do to each.
 #[derive(Clone, Copy, Debug, PartialEq, Eq)]
 pub enum DeviceKind {
     /// Four words that hold what was stored.
     Latch,
-    /// A queue of up to 64 byte values.
+    /// A queue of up to 64 bytes.
     ByteFifo,
-    /// One word that a store adds to.
+    /// One word, to which a store adds.
     EventCounter,
 }
 
 /// A device in a slot of the board. No call fails or takes memory.
 ///
-/// A contract sees it as its kind and its list of words.
+/// A contract sees its kind and its list of words.
 pub trait Device: Drop {
     ghost kind_of: { Self → DeviceKind };
 
     ghost words_of: { Self → List ℕ };
 
-    /// Its kind, which stays.
+    /// Its kind, which never changes.
     fn kind(&self) -> DeviceKind
         ensures { result ≡ kind_of self.now };
 
-    /// Loads the word at this offset, in bytes, from the slot's start.
+    /// Loads the word at this offset, in bytes from the slot's start.
     fn load(&mut self, off: u32) -> u32
         requires aligned { off % 4 ≡ 0 }
         requires inside { off < 4096 }
@@ -35,7 +35,7 @@ pub trait Device: Drop {
         ensures answer { result ≡ load_answer (kind_of self.old) (words_of self.old) off }
         ensures words { words_of self.new ≡ after_load (kind_of self.old) (words_of self.old) off };
 
-    /// Stores a word at this offset, in bytes, from the slot's start.
+    /// Stores a word at this offset, in bytes from the slot's start.
     fn store(&mut self, off: u32, v: u32)
         requires aligned { off % 4 ≡ 0 }
         requires inside { off < 4096 }

@@ -5,7 +5,7 @@ ghost use Rattle.std.specs.Prelude.{◌≡◌, [], ◌∷◌};
 use crate::{Device, DeviceKind};
 use std::marker::Model;
 
-/// One word that a store adds to, modulo 2^32. Contracts see it as the list of this word.
+/// One word, to which a store adds modulo 2^32. A contract sees the list of this word.
 #[derive(Drop)]
 pub struct EventCounter {
     count: u32,

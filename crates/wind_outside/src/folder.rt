@@ -8,7 +8,7 @@ ghost use Rattle.wind_outside.specs.declared.folder.Fetched.TheVariants as fetch
 
 use std::alloc::Global;
 
-/// What a fetch answers.
+/// The result of a fetch.
 #[derive(Debug, Drop)]
 pub enum Fetched {
     /// The file's bytes.
@@ -17,7 +17,7 @@ pub enum Fetched {
     Missing,
     /// The file is longer than the limit.
     TooLong,
-    /// Reading failed, and was counted as a fault.
+    /// Reading failed, and counts as a fault.
     Failed,
     /// Host memory ran out.
     NoMemory,
@@ -25,9 +25,9 @@ pub enum Fetched {
 
 /// A folder of files.
 ///
-/// A contract sees its files and the fetches so far, each of which it may leave untold, and a count of its
-/// faults. The count never falls, and stands still at 2^64 - 1. A folder that tells its fetches may stop: it
-/// may have no memory for one more.
+/// A contract can see its files, its fetches so far and its count of faults. A folder can leave the
+/// files and the fetches untold. The count never falls, and stops at 2^64 - 1. A folder that tells
+/// its fetches can stop telling them, since it can run out of memory for one more.
 pub trait Folder {
     ghost files: { Self → Option Files };
 
@@ -35,7 +35,8 @@ pub trait Folder {
 
     ghost faults: { Self → ℕ };
 
-    /// Fetches a whole file of at most `limit` bytes. Every fetch is one more request, however it ends.
+    /// Fetches a whole file of at most `limit` bytes. Every fetch is one more request, however it
+    /// ends.
     fn fetch(&mut self, alloc: Global, name: &str, limit: u32) -> Fetched
         ensures kept { files self.new ≡ files self.old }
         ensures told { IfSome (files self.old) (λ held. IsFetchOf (held name.now) limit result) }

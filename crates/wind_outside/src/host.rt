@@ -1,5 +1,5 @@
-//! The real outside: the files of a directory, and a standard stream. Nothing is told of their
-//! content. This is the trusted edge of the program.
+//! The real outside: the files of a directory, and a standard stream. Contracts tell nothing of
+//! their content. This is the trusted edge of the program.
 
 ghost use Rattle.std.specs.Prelude.{◌≡◌, ◌≤◌, vec_len, IfOk, IfSome};
 ghost use Rattle.wind_outside.specs.Host.{IsWhole, answer_of as answer_of_lem};
@@ -10,7 +10,7 @@ use std::io::{ErrorKind, Print, Read};
 use std::rt::Files;
 use std::{fs, io};
 
-/// The directory that the program runs in, and what lies below it.
+/// The program's current directory, and the files below it.
 #[derive(Drop)]
 pub struct HostFolder<R: Files + Drop> {
     rt: R,
@@ -18,7 +18,7 @@ pub struct HostFolder<R: Files + Drop> {
 }
 
 impl<R: Files + Drop> HostFolder<R> {
-    /// The directory, of which no reading has failed yet.
+    /// The directory, before any read failed.
     pub fn new(rt: R) -> HostFolder<R>
         ensures { result.faults ≡ 0 }
     {
@@ -26,8 +26,8 @@ impl<R: Files + Drop> HostFolder<R> {
     }
 }
 
-// The whole of what is left of a file, or None where that is longer than the limit. Room is taken as the bytes
-// come, and no more than one byte above the limit is read.
+// All that is left of a file, or None if that is longer than the limit. Memory is taken as the
+// bytes are read, and at most one byte above the limit is read.
 fn read_within<F: Read + Drop>(alloc: Global, file: F, limit: u32) -> io::Result<Option<Vec<u8>>>
     ensures within { IfOk result (λ found. IfSome found (λ bytes. vec_len bytes ≤ limit)) }
     ensures whole { IfOk result (λ found. IfSome (F.remaining file) (λ left. IsWhole limit left found)) }
@@ -41,7 +41,7 @@ fn read_within<F: Read + Drop>(alloc: Global, file: F, limit: u32) -> io::Result
     Ok(Some(bytes))
 }
 
-// What a folder answers for a read of a real file.
+// The folder's result for a read of a real file.
 fn answer_of(read: io::Result<Option<Vec<u8>>>) -> Fetched
     ensures { result ≡ answer_of_lem read }
 {
@@ -86,7 +86,7 @@ pub struct HostSink<P: Print + Drop> {
 }
 
 impl<P: Print + Drop> HostSink<P> {
-    /// The stream, of which no writing has failed yet.
+    /// The stream, before any write failed.
     pub fn new(to: P) -> HostSink<P>
         ensures { result.faults ≡ 0 }
     {
@@ -122,7 +122,8 @@ mod tests {
     use std::io::Write;
     use std::test::Fail;
 
-    // The answers of a real directory: a file at its limit and above it, none, and a directory.
+    // The results for a real directory: a file at its limit and one above it, a missing file, and a
+    // directory.
     #[test]
     fn fetches_real_files(rt: HostRuntime) -> Result<(), Fail> {
         let alloc = rt.alloc();
@@ -142,7 +143,7 @@ mod tests {
         Ok(())
     }
 
-    // Files that are there, and that nobody may read.
+    // Files that exist and can't be opened.
     #[derive(Clone, Copy, Drop)]
     struct Locked<R: Files + Copy> {
         rt: R,
@@ -198,7 +199,7 @@ mod tests {
         }
     }
 
-    // A file that may not be read is a fault, and no file that is not there.
+    // A file that can't be opened is a fault, not a missing file.
     #[test]
     fn fails_at_files_that_may_not_be_read(rt: HostRuntime) -> Result<(), Fail> {
         let mut folder = HostFolder::new(Locked { rt });
@@ -207,7 +208,7 @@ mod tests {
         Ok(())
     }
 
-    // A stream that a file keeps.
+    // A stream that is stored in a file.
     #[derive(Drop)]
     struct Kept<'a> {
         rt: HostRuntime,
@@ -232,7 +233,7 @@ mod tests {
         }
     }
 
-    // The bytes of a stream: all pieces in order. A stream that can't be written is a fault.
+    // The stream's bytes are all pieces in order. A stream that can't be written is a fault.
     #[test]
     fn puts_pieces_into_a_real_stream(rt: HostRuntime) -> Result<(), Fail> {
         let alloc = rt.alloc();

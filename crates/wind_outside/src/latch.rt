@@ -5,7 +5,8 @@ ghost use Rattle.std.specs.Prelude.{◌≡◌, replicate};
 use crate::{Device, DeviceKind};
 use std::marker::Model;
 
-/// A latch: four words, each of which holds what was stored there last. Contracts see it as these words.
+/// A latch: four words, each of which holds what was last stored there. A contract sees these
+/// words.
 #[derive(Drop)]
 pub struct Latch {
     words: [u32; 4],
@@ -20,7 +21,7 @@ impl Model for Latch {
 }
 
 impl Latch {
-    /// A latch of zeros.
+    /// A latch with four zeros.
     pub fn new() -> Latch
         ensures { result ≡ replicate 4 0 }
     {

@@ -1,5 +1,5 @@
-//! What is outside of the board: folders of files, sinks of bytes and devices, each with what may
-//! be known of it, in memory and for real.
+//! The outside of the board: folders of files, sinks of bytes and devices as traits, with folders
+//! and sinks in memory and real ones.
 #![tactic(auto)]
 
 mod byte_fifo;

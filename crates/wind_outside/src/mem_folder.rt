@@ -13,7 +13,7 @@ use std::alloc::Global;
 use std::collections::BTreeMap;
 use wind_base::NoMemory;
 
-/// A folder in memory, which tells its files. The calls whose numbers are listed fail.
+/// A folder in memory, which tells its files. The fetches with the listed numbers fail.
 #[derive(Drop)]
 pub struct MemFolder {
     alloc: Global,
@@ -24,7 +24,8 @@ pub struct MemFolder {
 impl MemFolder {
     ghost use Rattle.wind_outside.specs.MemFolder.{files_of, calls_of};
 
-    /// A folder without files. `failing` lists the calls of `fetch`, counted from 1, that fail.
+    /// A folder without files. `failing` lists the numbers, from 1 on, of the calls of `fetch` that
+    /// fail.
     pub fn new(alloc: Global, failing: Vec<u64>) -> MemFolder
         ensures files { (name : List ℕ) → files_of result name ≡ None }
         ensures calls { calls_of result ≡ record { failing = failing.items; made = 0; faults = 0 } }
@@ -36,7 +37,7 @@ impl MemFolder {
         }
     }
 
-    /// Adds a file, or replaces the one of that name.
+    /// Adds a file, or replaces the file with that name.
     pub fn add(&mut self, name: &str, bytes: Vec<u8>) -> Result<(), NoMemory>
         ensures ok { OnOk result ((other : List ℕ) → files_of self.new other ≡ with_file (files_of self.old) name.now bytes.items other) }
         ensures err { OnErr result ((other : List ℕ) → files_of self.new other ≡ files_of self.old other) }

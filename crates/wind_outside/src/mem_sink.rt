@@ -13,8 +13,8 @@ use std::alloc::Global;
 use std::marker::Model;
 use wind_base::{NoMemory, OutBuf};
 
-/// A sink in memory, which tells its bytes. The calls whose numbers are listed fail, and so do those
-/// whose piece exceeds the room left; a call that fails adds nothing.
+/// A sink in memory, which tells its bytes. A put fails if its number is listed, or if its piece is
+/// longer than the room left. A put that fails adds nothing.
 #[derive(Drop)]
 pub struct MemSink {
     out: OutBuf,
@@ -30,8 +30,8 @@ impl Model for MemSink {
 }
 
 impl MemSink {
-    /// An empty sink with room for this many bytes. `failing` lists the calls of `put`, counted from
-    /// 1, that fail.
+    /// An empty sink with room for `room` bytes. `failing` lists the numbers, from 1 on, of the
+    /// calls of `put` that fail.
     pub fn reserved(alloc: Global, room: u32, failing: Vec<u64>) -> Result<MemSink, NoMemory>
         ensures { IfOk result (λ s. s ≡ record {
           out = record { bytes = []; room = room };

@@ -6,20 +6,20 @@ ghost use Rattle.wind_outside.specs.Told.{Appended, AppendedFront};
 ghost use Rattle.wind_outside.specs.Requests.{GrowsBy, Piece, piece_of};
 ghost use Rattle.wind_outside.specs.declared.sink.Put.TheVariants as puts;
 
-/// What a put answers.
+/// The result of a put.
 #[derive(Clone, Copy, Debug, PartialEq, Eq)]
 pub enum Put {
-    /// The whole piece is in the sink.
+    /// The whole piece was added.
     Done,
-    /// Writing failed, and was counted as a fault. A front of the piece may be in the sink.
+    /// Writing failed, and counts as a fault. A prefix of the piece may have been added.
     Failed,
 }
 
-/// A sink of bytes. No call fails because memory ran out.
+/// A sink of bytes. No call runs out of memory.
 ///
-/// A contract sees its bytes and the pieces that were put so far, each of which it may leave untold, and a
-/// count of its faults. The count never falls, and stands still at 2^64 - 1. A sink that tells its pieces may
-/// stop: it may have no memory for one more.
+/// A contract can see its bytes, the pieces put so far and its count of faults. A sink can leave
+/// the bytes and the pieces untold. The count never falls, and stops at 2^64 - 1. A sink that tells
+/// its pieces can stop telling them, since it can run out of memory for one more.
 pub trait Sink {
     ghost bytes: { Self → Option (List ℕ) };
 

@@ -1,14 +1,14 @@
 -- Silent steps in the run of a board.
-use Rattle.std.proofs.Common.{◌≡◌, ℕ, zero, suc, ◌+◌, ◌++◌, List, Option, ◌≤◌, ◌<◌, Bool, true, false, ◌⊎◌, inl, inr, None, Some, IsSome, refl, sym, ap, subst, ◌∙◌, arith}
+use Rattle.std.proofs.Common.{◌≡◌, ℕ, zero, suc, ◌+◌, ◌++◌, List, Option, ◌≤◌, ◌<◌, true, false, ◌⊎◌, inl, inr, None, Some, IsSome, refl, sym, ap, subst, ◌∙◌, arith}
 use Rattle.std.specs.Prelude.{nat_lt}
 use Rattle.std.proofs.lemmas.Bool.Decides.{nat_tests}
 use Rattle.std.proofs.lemmas.List.{append-nil}
 use Rattle.wind_outside.specs.Requests.{GrowsBy, Request}
 use Rattle.wind_outside.specs.declared.sink.Put.TheVariants as puts
 use Rattle.wind_machine.specs.State.{State}
-use Rattle.wind_machine.specs.Machine.{file_asked, machine_step}
+use Rattle.wind_machine.specs.Machine.{machine_step}
 use Rattle.wind_machine.specs.Run.{Answers, after, text}
-use Rattle.wind_machine.specs.Silent.{SilentSteps, SilentLaw, GoesOn}
+use Rattle.wind_machine.specs.Silent.{SilentSteps, SilentLaw}
 use Rattle.wind_session.specs.Modules.{Shelf, IsSaid}
 use Rattle.wind_session.specs.Pieces.{output_piece, pieces_of}
 use Rattle.wind_session.proofs.FetchLemmas.{unasked_requests}
@@ -22,7 +22,7 @@ either_part i j =
       | false ↦ λ e. let more : i ≤ j = grind (arith, nat_tests, e) in inr more
     ] refl
 
--- silent steps go on with a run of at most n steps, whatever was said of files
+-- silent steps continue a run of at most n steps, whatever was said of files
 pub runs_on : SilentLaw → (shelf : Shelf) (said : Answers) (s : State) (n i : ℕ) (u : State) (old mid : Option (List Request)) → Behind shelf said s n i u old mid → (k : ℕ) → i + k ≤ n → (t : State) → SilentSteps k u t → Behind shelf said s n (i + k) t old mid
 runs_on law shelf said s n i u old mid run k h t steps =
     let on = law said s u t i k run.state steps in

@@ -11,7 +11,7 @@ use Rattle.wind_base.specs.Limits.{most_steps}
 use Rattle.generated_session.specs.Session.{most_rounds}
 use Rattle.wind_session.specs.Command.{CommandState, app, command_of, command_of_rows, number_value, of_numbers, unless_fault, value_of, with_numbers}
 
--- the command line is one of which clap says each match and each error
+-- clap specifies each match and each error of this command line
 app_is_free : is_simple_and_free app ≡ true
 unfolding app clap_on_literals
 app_is_free = refl
@@ -39,7 +39,7 @@ taken_words a words m same passes has =
     let found = subst (λ (x : App). rows_of (found_of m) ≡ matches_of x words) same (has (ap is_simple same ∙ app_is_simple)).0 in
     ap (λ (k : Kinds). unless_fault k (matches_of app words)) none ∙ ap command_of_rows (sym found)
 
--- without one of the numbers there is no command
+-- if one of the numbers is missing, there is no command
 no_second : (f : ℕ → ℕ → CommandState) (limit : Option ℕ) → of_numbers f limit None ≡ None
 no_second f None = refl
 no_second f (Some n) = refl
@@ -53,7 +53,7 @@ module _ (rows : List Row) where
       ap (of_numbers (with_numbers rows) (number_value most_steps (value_of (codes "limit") rows))) none
       ∙ no_second (with_numbers rows) (number_value most_steps (value_of (codes "limit") rows))
 
-  -- and with both there is one
+  -- and if there are both, there is one
   pub both_numbers : (limit generate : ℕ) → number_value most_steps (value_of (codes "limit") rows) ≡ Some limit
       → number_value most_rounds (value_of (codes "generate") rows) ≡ Some generate → command_of_rows rows ≡ Some (with_numbers rows limit generate)
   both_numbers limit generate one two =

@@ -1,5 +1,5 @@
 -- Only the last fetch of a session may have failed.
-use Rattle.std.proofs.Common.{◌≡◌, ◌≢◌, ℕ, zero, suc, List, [], ◌∷◌, ◌++◌, Option, Some, None, true, false, cond, inl, inr, refl, sym, ap, subst, ◌∙◌, append_assoc}
+use Rattle.std.proofs.Common.{◌≡◌, ◌≢◌, ℕ, zero, suc, List, [], ◌∷◌, ◌++◌, Option, Some, None, true, false, cond, inl, inr, refl, sym, subst, ◌∙◌, append_assoc}
 use Rattle.std.specs.Prelude.{◌⊎◌}
 use Rattle.std.specs.List.{All}
 use Rattle.std.specs.Str.{is_utf8}
@@ -11,7 +11,7 @@ use Rattle.wind_machine.specs.State.{State}
 use Rattle.wind_machine.specs.Machine.{file_asked}
 use Rattle.wind_machine.specs.Run.{Answers, after}
 use Rattle.wind_session.specs.Command.{CommandState}
-use Rattle.wind_session.specs.Fetches.{LeadsTo, IsAfterFiles, EndsWithFiles, EndsWithRounds, Requests, IsLastRequest, IsFine, IsFailure, FailsLast, file_requests, module_request, outcome_said, requests_of, rounds_requests, step_request, text_request}
+use Rattle.wind_session.specs.Fetches.{LeadsTo, IsAfterFiles, EndsWithRounds, Requests, IsLastRequest, IsFine, IsFailure, FailsLast, file_requests, module_request, outcome_said, requests_of, rounds_requests, step_request, text_request}
 use Rattle.wind_session.specs.Headline.{IsLeft, IsSummed, status_of}
 use Rattle.wind_session.specs.Modules.{Shelf}
 use Rattle.wind_session.specs.Outside.{Outside}
@@ -20,7 +20,7 @@ use Rattle.wind_session.specs.declared.run.RunEnd.TheVariants as ends
 use Rattle.wind_session.specs.declared.ending.Status.{Status}
 use Rattle.wind_session.specs.declared.ending.Status.TheVariants as status
 use Rattle.wind_session.specs.declared.ending.Which.TheVariants as which
-use Rattle.wind_session.proofs.FetchLemmas.{grows_both, grows_none, grows_same, path_request, said_fine}
+use Rattle.wind_session.proofs.FetchLemmas.{grows_both, grows_same, path_request, said_fine}
 use Rattle.wind_session.specs.Modules.{module_path}
 
 one_fine : (r : Request) → IsFine r → All IsFine (r ∷ [])
@@ -152,7 +152,7 @@ module _ (folder : List ℕ) (said : Answers) (start : State) (k : ℕ) (old new
   run_fails ends.NoMemory h = run_fine status.NoMemory h.last (λ e. cc) (memory_fine (file_asked (after said start k)) h.last h.last_is) h.requests
   run_fails ends.ReadFault h = run_unread (file_asked (after said start k)) h.last h.last_is h.requests
 
-  -- and of a generated session, whose line may not be put
+  -- and for a generated session, whose line may fail to be put
   summed_or : (end : RunEnd) (s : Status) (line : List ℕ) (old_bytes new_bytes : Option (List ℕ)) → IsSummed end s line old_bytes new_bytes → (s ≡ status_of end) ⊎ ((s ≡ status.WriteFault) × (end ≢ ends.ReadFault) × (end ≢ ends.NoMemory))
   summed_or ends.ReadFault s line old_bytes new_bytes h = inl h.0
   summed_or ends.NoMemory s line old_bytes new_bytes h = inl h.0

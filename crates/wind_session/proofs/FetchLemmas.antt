@@ -1,4 +1,4 @@
--- Lists that are told, and the requests of files.
+-- Logged lists, and the requests for files.
 use Rattle.std.proofs.Common.{◌≡◌, ◌≢◌, ℕ, zero, suc, ◌+◌, ◌<◌, ◌≤◌, List, [], ◌∷◌, ◌++◌, Option, Some, None, true, false, cond, inl, inr, refl, sym, ap, subst, ◌∙◌, arith, append_assoc}
 use Rattle.std.specs.Option.{option_map}
 use Rattle.std.specs.Str.{IsUtf8, is_utf8}
@@ -28,7 +28,7 @@ module _ {X : Type 0} where
   grows_both None (Some y) (Some z) a b p q = absurd p
   grows_both (Some x) (Some y) (Some z) a b p q = q ∙ ap (λ xs. xs ++ b) p ∙ append_assoc x a b
 
-  -- it grows by nothing if it stays as it is
+  -- a list that stays as it is grows by nothing
   pub grows_none : (old : Option (List X)) → GrowsBy old old []
   grows_none None = tt
   grows_none (Some x) = sym (append-nil x)
@@ -36,7 +36,7 @@ module _ {X : Type 0} where
   pub grows_same : (old new : Option (List X)) → new ≡ old → GrowsBy old new []
   grows_same old new same = subst (λ told. GrowsBy old told []) (sym same) (grows_none old)
 
-  -- what grew twice grew from where the first growth would have led a list that is told to its end
+  -- if a list grew by a and then by b, it grew by b from the list that the first growth gives
   pub grows_from : (old mid new : Option (List X)) (a b : List X) → GrowsBy old mid a → GrowsBy mid new b → GrowsBy (option_map (λ xs. xs ++ a) old) new b
   grows_from old mid None a b p q = tt
   grows_from old None (Some z) a b p q = absurd q
@@ -85,11 +85,11 @@ stops_before folder asked old new same = record { last = []; last_is = (outcomes
 pub stops_after : (folder : List ℕ) (asked : Option (List ℕ)) (o : Outcome) (old new : Option (List Request)) → o ≢ outcomes.Failed → GrowsBy old new (step_request folder asked o) → Stops ends.NoMemory folder asked old new
 stops_after folder asked o old new fine grown = record { last = step_request folder asked o; last_is = (o, fine, inr refl); requests = grown }
 
--- there is no further step
+-- no step is left
 pub stops_quiet : (folder : List ℕ) (asked : Option (List ℕ)) (old new : Option (List Request)) → new ≡ old → Stops ends.Quiet folder asked old new
 stops_quiet folder asked old new same = record { last = []; last_is = refl; requests = grows_same old new same }
 
--- steps that ask for no file add no request
+-- steps that need no file add no request
 pub unasked_requests : (folder : List ℕ) (said : Answers) (s : State) (i k : ℕ) → ((j : ℕ) → i ≤ j → j < i + k → file_asked (after said s j) ≡ None) → requests_of folder said s (i + k) ≡ requests_of folder said s i
 unasked_requests folder said s i zero unasked = let here : i + 0 ≡ i = omega arith in ap (requests_of folder said s) here
 unasked_requests folder said s i (suc k) unasked =

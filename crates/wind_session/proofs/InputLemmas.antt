@@ -5,7 +5,7 @@ use Rattle.wind_outside.specs.Files.{Files}
 use Rattle.wind_outside.specs.Requests.{GrowsBy, Request}
 use Rattle.wind_machine.specs.State.{State}
 use Rattle.wind_machine.specs.Run.{Answers}
-use Rattle.wind_session.specs.Fetches.{Requests, requests_of}
+use Rattle.wind_session.specs.Fetches.{requests_of}
 use Rattle.wind_session.specs.Headline.{IsLeft}
 use Rattle.wind_session.specs.Modules.{Shelf}
 use Rattle.wind_session.specs.Outside.{Outside}
@@ -15,7 +15,7 @@ use Rattle.wind_session.specs.declared.run.RunEnd.TheVariants as ends
 use Rattle.wind_session.specs.declared.ending.Status.{Status}
 use Rattle.wind_session.proofs.FetchLemmas.{grows_from}
 
--- what a folder tells after requests grew to `mid`, and what it would tell if it told them all
+-- what a folder tells after its requests grew to `mid`, and what it would tell if it told them all
 module _ (first : List Request) (told : Outside) (mid : Option (List Request)) (grown : GrowsBy told.requests mid first) where
   abbrev pub here : Outside
   here = record told { requests = mid }
@@ -65,7 +65,7 @@ module _ (first : List Request) (told : Outside) (mid : Option (List Request)) (
     all_put = sums.all_put;
   }
 
-  -- the folder keeps its files, and the board opened as the plan says
+  -- the folder keeps its files, and the board begins as the plan says
   pub left_after : (n : ℕ) (s : Status) (end : RunEnd) (held files : Option Files) (name : List ℕ) (opened start : State) (limit : ℕ) (board : State) (new : Outside) → held ≡ files → opened ≡ start
       → IsLeft n s end (record { files = held; name = name }) opened limit board here new → IsLeft n s end (record { files = files; name = name }) start limit board there new
   left_after n s end held files name opened start limit board new same_files same_start left =

@@ -1,5 +1,5 @@
 -- What a run leaves, and with which status.
-use Rattle.std.proofs.Common.{◌≡◌, ◌≢◌, ℕ, zero, suc, true, false, List, Option, refl, sym, ap, subst, ◌∙◌, inl, inr, length}
+use Rattle.std.proofs.Common.{◌≡◌, ◌≢◌, ℕ, zero, suc, true, false, List, Option, refl, ap, subst, ◌∙◌, inl, inr, length}
 use Rattle.std.specs.Prelude.{◌⊎◌}
 use Rattle.wind_outside.specs.Requests.{Request, Piece}
 use Rattle.wind_outside.specs.Told.{Appended, AppendedFront}
@@ -17,7 +17,7 @@ use Rattle.wind_session.specs.declared.run.RunEnd.TheVariants as ends
 use Rattle.wind_session.specs.declared.ending.Status.{Status}
 use Rattle.wind_session.specs.declared.ending.Status.TheVariants as status
 
--- a line was put, or a front of it, behind a run that was not given up
+-- a line was put, or a prefix of it, after a run that wasn't given up
 summed : (end : RunEnd) (s : Status) (line : List ℕ) (old new : Option (List ℕ)) → is_given_up end ≡ false
     → ((s ≡ status_of end) × Appended old new line) ⊎ ((s ≡ status.WriteFault) × AppendedFront old new line) → IsSummed end s line old new
 summed ends.Quiet s line old new some h = h
@@ -26,7 +26,7 @@ summed ends.WriteFault s line old new some h = h
 summed ends.ReadFault s line old new some h = absurd (cc)
 summed ends.NoMemory s line old new some h = absurd (cc)
 
--- nothing was put behind one that was
+-- nothing was put after a run that was given up
 pub summed_none : (end : RunEnd) (s : Status) (line : List ℕ) (old new : Option (List ℕ)) → is_given_up end ≡ true → s ≡ status_of end → new ≡ old → IsSummed end s line old new
 summed_none ends.ReadFault s line old new up own same = (own, same)
 summed_none ends.NoMemory s line old new up own same = (own, same)
@@ -57,7 +57,7 @@ line_of n bytes k x said s board told counted same =
     ∙ ap (λ (u : State). summary_line n (length (text said s k)) k u.world.kern.tick x) same
 
 module _ (limit bytes : ℕ) (shelf : Shelf) (s board : State) (end : RunEnd) (first last : Option (List Request)) (counted : Counted end shelf s limit bytes board first last) (x : Status) (old new : Option (List ℕ)) (old_pieces new_pieces : Option (List Piece)) where
-  -- it is summed up by its line
+  -- the run is summed up by its line
   sums : (n : ℕ) → IsSummed end x (summary_line n bytes board.steps board.world.kern.tick (status_number (status_of end))) old new → SumsUp n x end shelf s limit board (outside first old old_pieces) (outside last new new_pieces)
   sums n h = record {
     said = counted.said;

@@ -1,4 +1,4 @@
--- What a fetch tells of the file of a module.
+-- What a fetch tells about the file of a module.
 use Rattle.std.proofs.Common.{◌≡◌, ℕ, ◌<◌, ◌≤◌, true, false, cond, List, Option, Some, None, refl, sym, ap, subst, arith, length}
 use Rattle.std.specs.Prelude.{IfSome, IsSomeAnd, nat_lt}
 use Rattle.std.specs.Str.{IsUtf8, is_utf8}
@@ -21,7 +21,7 @@ of_no_text files name path none =
       | false ↦ λ e. refl
     ] refl
 
--- it was found, it isn't there, it is too long
+-- the file was found, doesn't exist, or is too long
 pub found_said : (files : Option Files) (path bytes : List ℕ) → IfSome files (λ held. (held path ≡ Some bytes) × (length bytes ≤ longest_module_file)) → length bytes ≤ longest_module_file → IsSaidBy true files path (Held bytes)
 found_said files path bytes h within =
     let short : nat_lt longest_module_file (length bytes) ≡ false = grind (arith, nat_tests, within) in

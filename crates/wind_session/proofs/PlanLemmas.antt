@@ -1,4 +1,4 @@
--- What the words and the two files ask for.
+-- What the arguments and the two files ask for.
 use Rattle.std.proofs.Common.{◌≡◌, ℕ, zero, suc, ◌+◌, ◌<◌, ◌≤◌, List, [], ◌∷◌, Option, Some, None, true, false, cond, refl, sym, ap, subst, ◌≢◌, ◌∙◌, arith, length}
 use Rattle.std.specs.Prelude.{IfSome, IsSomeAnd, nat_lt}
 use Rattle.std.proofs.lemmas.Bool.Decides.{nat_tests}
@@ -20,7 +20,7 @@ some_entry : (files : Option Files) (name : List ℕ) → (file : Option (List �
 some_entry None name = (None, tt)
 some_entry (Some held) name = (held name, refl)
 
--- the file that a fetch found is the folder's, where it tells
+-- the file that a fetch found is the folder's, if the folder tells its files
 pub found_entry : (limit : ℕ) (files : Option Files) (name bytes : List ℕ) → IfSome files (λ held. (held name ≡ Some bytes) × (length bytes ≤ limit)) → IsEntry files name (Some bytes)
 found_entry limit None name bytes h = tt
 found_entry limit (Some held) name bytes h = sym h.0
@@ -47,7 +47,7 @@ long_file file next (Some b) h = let long : nat_lt longest_text_file (length b) 
 short_file : (file : Which) (next : List ℕ → Plan) (bytes : List ℕ) → length bytes ≤ longest_text_file → plan_file file next (Some bytes) ≡ next bytes
 short_file file next bytes h = let short : nat_lt longest_text_file (length bytes) ≡ false = grind (arith, nat_tests) in ap (λ t. cond t (Refuse (status.TooLong file)) (next bytes)) short
 
--- a refusal whose fault was counted is one where the count rose by more
+-- a refusal with one count of faults is a refusal if the count rose by more
 refusal_up : (s : Status) (plan : Plan) (rose later : Type 0) → (rose → later) → IsRefusal s plan rose → IsRefusal s plan later
 refusal_up status.NoMemory plan rose later up h = tt
 refusal_up status.ReadFault plan rose later up h = up h
@@ -72,14 +72,14 @@ module _ (files : Option Files) (name : List ℕ) where
     pub unread_long : IfSome files (λ held. IsFetchOf (held name) longest_text_file fetched.TooLong) → IsUnread (status.TooLong file) file files name rose
     unread_long h = let long = long_entry longest_text_file files name h in record { file = long.0; told = long.1; refused = λ next. long_file file next long.0 long.2 }
 
-    -- a fault of reading, and want of memory
+    -- a read fault, and memory that ran out
     pub unread_fault : rose → IsUnread status.ReadFault file files name rose
     unread_fault h = let some = some_entry files name in record { file = some.0; told = some.1; refused = λ next. h }
 
     pub unread_memory : IsUnread status.NoMemory file files name rose
     unread_memory = let some = some_entry files name in record { file = some.0; told = some.1; refused = λ next. tt }
 
--- words ask for some plan, also where it is not known which
+-- the arguments ask for some plan, even if it isn't known which
 some_plan_of : (n : ℕ) (files : Option Files) (c : CommandState) → (plan : Plan) × IsPlanOf n files c plan
 some_plan_of zero files c =
     let console = some_entry files c.console in
@@ -133,7 +133,7 @@ module _ (files : Option Files) (command : CommandState) where
     pub refuses_both : (s : Status) (ticks : List ℕ) (plan : Plan) (rose : Type 0) → IsHeld files command.ticks ticks → plan ≡ plan_ticks console ticks → IsRefusal s plan ⊥ → RefusesFiles s files command rose
     refuses_both s ticks plan rose second e h = (plan, both_held ticks plan second e, refusal_up s plan ⊥ rose (λ never. absurd never) h)
 
--- a refusal of a plan to start comes of a fault, or for want of memory
+-- a refusal although the plan is to start comes from a fault, or because memory ran out
 refusal_played : (s : Status) (plan : Plan) (console : List ℕ) (schedule : Timetable) (rose : Type 0) → plan ≡ Start console schedule → (rose → ⊥) → IsRefusal s plan rose → IsPlayed s
 refusal_played status.NoMemory plan console schedule rose e fine h = tt
 refusal_played status.ReadFault plan console schedule rose e fine h = fine h

@@ -21,7 +21,8 @@ use Rattle.wind_session.proofs.ToldLemmas.{appended_both}
 use Rattle.wind_session.specs.declared.run.RunEnd.{RunEnd}
 use Rattle.wind_session.specs.declared.run.RunEnd.TheVariants as ends
 
--- behind i steps of a run of at most n, this is the board, and the files that they asked for were as the folder of modules says
+-- after i steps of a run of at most n, this is the board, and the files that the steps needed were as the folder
+-- of modules says
 pub record Behind (shelf : Shelf) (said : Answers) (s : State) (n i : ℕ) (board : State) (old mid : Option (List Request)) : Type 0 where
   pub counted : board.steps ≡ i
   pub answers : AreSaid shelf said s i
@@ -48,7 +49,7 @@ Makes files name u t old new =
     (said : FileSaid) × IsSaid (record { files = files; name = name }) u said × (machine_step said u ≡ Some t) × GrowsBy old new (step_request name (file_asked u) (outcome_said said))
 
 module _ (shelf : Shelf) (said : Answers) (s u : State) (n i : ℕ) (first mid : Option (List Request)) (run : Behind shelf said s n i u first mid) where
-  -- ---- behind i steps a further one was made, and the folder keeps its files
+  -- ---- after i steps another one was made, and the folder keeps its files
   module _ (files : Option Files) (same : files ≡ shelf.files) (t : State) (last : Option (List Request)) (made : Makes files shelf.name u t mid last) where
     abbrev pub said_on : Answers
     said_on = saying said i made.0
@@ -80,7 +81,7 @@ module _ (shelf : Shelf) (said : Answers) (s u : State) (n i : ℕ) (first mid :
         subst (λ k. GrowsBy old new (pieces_of said_on s k)) (sym (add-one i))
         (subst (GrowsBy old new) (sym (pieces_now shelf said s u t i made.0 run.state made.2)) (grows_both old now new (pieces_of said s i) (output_piece t.world.output puts.Done) told more))
 
-    -- what the steps wrote has so many bytes more
+    -- the steps wrote this many more bytes
     pub bytes_on : (bytes : ℕ) → bytes ≡ length (text said s i) → bytes + length t.world.output ≡ length (text said_on s (i + 1))
     bytes_on bytes told =
         ap (λ m. m + length t.world.output) told
@@ -88,7 +89,7 @@ module _ (shelf : Shelf) (said : Answers) (s u : State) (n i : ℕ) (first mid :
         ∙ ap length (sym (text_now shelf said s u t i made.0 run.state made.2))
         ∙ ap (λ k. length (text said_on s k)) (sym (add-one i))
 
-    -- a put that failed behind it cut the run off
+    -- a put that failed after it cut the run off
     pub cut_off : i < n → t.steps ≡ u.steps + 1 → (old now new : Option (List ℕ)) (old_pieces now_pieces new_pieces : Option (List Piece))
         → Appended old now (text said s i) → AppendedFront now new t.world.output → t.world.output ≢ []
         → GrowsBy old_pieces now_pieces (pieces_of said s i) → GrowsBy now_pieces new_pieces (output_piece t.world.output puts.Failed)
@@ -119,7 +120,7 @@ module _ (shelf : Shelf) (said : Answers) (s u : State) (n i : ℕ) (first mid :
           };
         }
 
-  -- ---- behind i steps the run ended, and nothing changed
+  -- ---- after i steps the run ended, and nothing changed
   module _ (t : State) (last : Option (List Request)) (same : t ≡ u) where
     ended : (end : RunEnd) → IsEnd end said s n i → Stops end shelf.name (file_asked u) mid last → Made end shelf said s n i t first last
     ended end h stops = record {

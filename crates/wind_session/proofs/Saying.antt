@@ -54,7 +54,7 @@ as_before said i x j below = sym (ap (λ b. cond b x (said j)) (ne_eqb j i (λ e
 pub said_now : (said : Answers) (i : ℕ) (x : FileSaid) → saying said i x i ≡ x
 said_now said i x = ap (λ b. cond b x (said i)) (eq-eqb i i refl)
 
--- ---- behind i steps, a further one was made, with what was said of its file
+-- ---- after i steps another one was made, given what was said of its file
 module _ (shelf : Shelf) (said : Answers) (s u t : State) (i : ℕ) (x : FileSaid) (here : u ≡ after said s i) (step : machine_step x u ≡ Some t) where
   abbrev pub now : Answers
   now = saying said i x

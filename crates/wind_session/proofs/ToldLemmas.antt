@@ -1,4 +1,4 @@
--- Texts that are put in pieces.
+-- Texts put piece by piece.
 use Rattle.std.proofs.Common.{ℕ, ◌≤◌, List, [], ◌++◌, Option, Some, None, refl, ap, sym, ◌∙◌, subst, arith, append_assoc, take, drop, ◌^◌, ◌-◌, inl, inr}
 use Rattle.std.proofs.lemmas.Bool.{cases_eq}
 use Rattle.std.proofs.lemmas.List.{append-nil, take-append-drop}
@@ -22,7 +22,7 @@ rose_earlier a b c h k (inr most) =
       | inr below ↦ inl (omega arith)
     ]
 
--- behind what was put, a put failed inside a piece, before the rest of the text
+-- after what was put, a put failed inside a piece, before the rest of the text
 pub cut_short : (old mid new : Option (List ℕ)) (before piece behind : List ℕ) (rose : Type 0) → Appended old mid before → AppendedFront mid new piece → rose → IsCutShort old new ((before ++ piece) ++ behind) rose
 cut_short old mid new before piece behind rose p q fault = record {
   front = before ++ take q.0 piece;
@@ -44,7 +44,7 @@ pub cut_first : (old new : Option (List ℕ)) (first second third : List ℕ) (r
 cut_first old new first second third rose q fault =
     subst (λ text. IsCutShort old new text rose) (sym (append_assoc first second third)) (cut_short old old new [] first (second ++ third) rose (appended_none old) q fault)
 
--- a text that was cut short is so also with more behind it
+-- a text that was cut short is also cut short with more text after it
 pub cut_more : (old new : Option (List ℕ)) (text more : List ℕ) (rose : Type 0) → IsCutShort old new text rose → IsTold old new (text ++ more) rose
 cut_more old new text more rose cut =
     inr (record {
@@ -55,7 +55,7 @@ cut_more old new text more rose cut =
       fault = cut.fault;
     })
 
--- a text is told behind one that was put whole
+-- a text is told after one that was put whole
 pub told_both : (old mid new : Option (List ℕ)) (text more : List ℕ) (rose later : Type 0) → (rose → later) → Appended old mid text → IsTold mid new more rose → IsTold old new (text ++ more) later
 told_both old mid new text more rose later up p (inl q) = inl (appended_both old mid new text more p q)
 told_both old mid new text more rose later up p (inr cut) =
@@ -67,7 +67,7 @@ told_both old mid new text more rose later up p (inr cut) =
       fault = up cut.fault;
     })
 
--- the text for want of memory is one whatever the words are
+-- the text for memory that ran out is the same for all arguments
 pub memory_is_text : (command : Option CommandState) → IsText command status.NoMemory memory_text
 unfolding status_text
 memory_is_text None = refl

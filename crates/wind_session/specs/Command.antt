@@ -1,4 +1,4 @@
--- What the words of the command line ask for, by the definition of a simple command of `clap`.
+-- What the arguments of the command line ask for, by the definition of a simple command of `clap`.
 use Rattle.std.specs.Prelude.{ℕ, List, [], ◌∷◌, Option, Some, None, unwrap_or, nat_le, if◌then◌else◌, length, codes}
 use Rattle.wind_base.specs.Limits.{most_steps}
 use Rattle.wind_base.specs.Decimal.{decimal_value}
@@ -6,7 +6,8 @@ use Rattle.generated_session.specs.Session.{most_rounds}
 use Rattle.clap.specs.Kinds.{Kinds}
 use Rattle.clap.specs.Words.{App, Row, Rule, Text, fault_of, first_of, matches_of, new_app, new_rule, with_rule}
 
--- a command: the names of the console file, of the tick file and of the folder of modules, how many steps the run makes at most, and how many rounds the session is to be generated with, or 0
+-- a command: the names of the console file, of the tick file and of the folder of modules; the most steps that the
+-- run makes; and the rounds of the generated session, or 0
 pub record CommandState : Type 0 where
   pub console : List ℕ
   pub ticks : List ℕ
@@ -14,7 +15,7 @@ pub record CommandState : Type 0 where
   pub limit : ℕ
   pub generate : ℕ
 
--- an option with one value: its name and its default
+-- an option that takes one value: its name and its default
 abbrev pub option_rule : Text → Text → Rule
 option_rule name default = record (new_rule name) { long = Some name; value_names = 1; defaults = default ∷ [] }
 
@@ -31,15 +32,15 @@ app =
     (with_option (codes "console") (codes "console.txt")
     (new_app (codes "windplay"))))))
 
--- the most digits of a number
+-- the most digits that a number may have
 abbrev pub most_number_digits : ℕ
 most_number_digits = 13
 
--- a number: 1 to so many decimal digits, and at most the most
+-- a number: 1 to 13 decimal digits, with a value of at most `most`
 abbrev pub number_value : ℕ → Text → Option ℕ
 number_value most text = if nat_le (length text) most_number_digits then decimal_value most text else None
 
--- the value that clap gives for an option; it gives each option one, since each has a default
+-- the value that clap gives for an option; there always is one, because each option has a default
 abbrev pub value_of : Text → List Row → Text
 value_of name rows = unwrap_or (first_of name rows) []
 
@@ -53,22 +54,23 @@ with_numbers rows limit generate = record {
   generate = generate;
 }
 
--- what is made of two numbers, where both are in form
+-- what is made of two numbers, if both are valid
 abbrev pub of_numbers : (ℕ → ℕ → CommandState) → Option ℕ → Option ℕ → Option CommandState
 of_numbers f None generate = None
 of_numbers f (Some limit) None = None
 of_numbers f (Some limit) (Some generate) = Some (f limit generate)
 
--- the command of clap's matches: none where a number is out of form
+-- the command of clap's matches; none if a number is invalid
 abbrev pub command_of_rows : List Row → Option CommandState
 command_of_rows rows =
     of_numbers (with_numbers rows) (number_value most_steps (value_of (codes "limit") rows)) (number_value most_rounds (value_of (codes "generate") rows))
 
--- the command of a list of words in which clap finds no fault; a call for help is such a fault
+-- the command of arguments in which clap finds no fault; a call for help is such a fault
 abbrev pub unless_fault : Kinds → List Row → Option CommandState
 unless_fault [] rows = command_of_rows rows
 unless_fault (kind ∷ kinds) rows = None
 
--- the command of these words, of which the first is the program's name: none where clap finds a fault, and none where a number is out of form
+-- the command of these words, the first of which is the program's name; none if clap finds a fault or a number is
+-- invalid
 unfoldable pub command_of : List Text → Option CommandState
 command_of words = unless_fault (fault_of app words) (matches_of app words)

@@ -1,4 +1,5 @@
--- Which files a session fetches, in which order, and how each fetch ends. A folder that doesn't tell its requests leaves all of this open.
+-- Which files a session fetches, in which order, and how each fetch ends. A folder that doesn't log its requests
+-- leaves all of this open.
 use Rattle.std.specs.Prelude.{◌≡◌, ◌≢◌, ◌⊎◌, ℕ, zero, suc, List, [], ◌∷◌, ◌++◌, Option, None, Some, if◌then◌else◌}
 use Rattle.std.specs.List.{All}
 use Rattle.std.specs.Str.{is_utf8}
@@ -31,7 +32,7 @@ file_requests c outcomes.TooLong ticks = text_request c.console outcomes.TooLong
 file_requests c outcomes.Failed ticks = text_request c.console outcomes.Failed ∷ []
 file_requests c outcomes.NoMemory ticks = text_request c.console outcomes.NoMemory ∷ []
 
--- with no rounds the two files are fetched, and both are found; for a generated session no file is fetched
+-- with no rounds, the two files are fetched, and both are found; for a generated session, no file is fetched
 abbrev pub rounds_requests : ℕ → CommandState → List Request
 rounds_requests zero c = file_requests c outcomes.Found outcomes.Found
 rounds_requests (suc n) c = []
@@ -41,7 +42,7 @@ abbrev pub inputs_requests : Option CommandState → List Request
 inputs_requests None = []
 inputs_requests (Some c) = rounds_requests c.generate c
 
--- the status to which the fetch of a file leads; if it found the file, what follows decides
+-- the status that the fetch of a file leads to; if it found the file, what follows decides
 abbrev pub LeadsTo : Which → Outcome → Status → Type 0 → Type 0
 LeadsTo file outcomes.Found s follows = follows
 LeadsTo file outcomes.Missing s follows = s ≡ status.Absent file
@@ -49,7 +50,7 @@ LeadsTo file outcomes.TooLong s follows = s ≡ status.TooLong file
 LeadsTo file outcomes.Failed s follows = s ≡ status.ReadFault
 LeadsTo file outcomes.NoMemory s follows = s ≡ status.NoMemory
 
--- a status without a run though both files were found: a line of the tick file is outside its grammar, or memory ran out
+-- a status without a run although both files were found: a line of the tick file is invalid, or memory ran out
 abbrev pub IsAfterFiles : Status → Type 0
 IsAfterFiles (status.BadTicks line) = Unit {0}
 IsAfterFiles status.NoMemory = Unit {0}
@@ -62,29 +63,30 @@ pub record EndsWithFiles (c : CommandState) (s : Status) (old new : Option (List
   pub requests : GrowsBy old new (file_requests c console ticks)
   pub status_is : LeadsTo which.Console console s (LeadsTo which.Ticks ticks s (IsAfterFiles s))
 
--- the requests of a session without a run; if memory runs out before the first, and for a generated session, there is none
+-- the requests of a session without a run; there are none if memory runs out before the first, or if the session
+-- is generated
 abbrev pub EndsWithRounds : ℕ → CommandState → Status → Option (List Request) → Option (List Request) → Type 0
 EndsWithRounds zero c s old new = EndsWithFiles c s old new ⊎ ((s ≡ status.NoMemory) × (new ≡ old))
 EndsWithRounds (suc n) c s old new = (s ≡ status.NoMemory) × (new ≡ old)
 
--- for words that are no command there is none
+-- if the arguments are invalid, there are none
 abbrev pub EndsWithInputs : Option CommandState → Status → Option (List Request) → Option (List Request) → Type 0
 EndsWithInputs None s old new = new ≡ old
 EndsWithInputs (Some c) s old new = EndsWithRounds c.generate c s old new
 
 -- ---- the modules of a run
--- how the fetch of a file ended, of which the machine is told this
+-- how the fetch ended, given what the machine is told of the file
 abbrev pub outcome_said : FileSaid → Outcome
 outcome_said (Held bytes) = outcomes.Found
 outcome_said Missing = outcomes.Missing
 outcome_said TooLong = outcomes.TooLong
 
--- the request for a module, at its path in the folder of modules; for a name that is not UTF-8 there is none
+-- the request for a module, at its path in the folder of modules; there is none for a name that is not UTF-8
 abbrev pub module_request : List ℕ → List ℕ → Outcome → List Request
 module_request folder name outcome =
     if is_utf8 name then record { name = module_path folder name; limit = longest_module_file; outcome = outcome } ∷ [] else []
 
--- the request of a step that asks for this file; if it asks for none, there is none
+-- the request of a step that needs this file; if it needs none, there is no request
 abbrev pub step_request : List ℕ → Option (List ℕ) → Outcome → List Request
 step_request folder None outcome = []
 step_request folder (Some name) outcome = module_request folder name outcome
@@ -94,7 +96,9 @@ abbrev pub requests_of : List ℕ → Answers → State → ℕ → List Request
 requests_of folder said s zero = []
 requests_of folder said s (suc k) = requests_of folder said s k ++ step_request folder (file_asked (after said s k)) (outcome_said (said k))
 
--- the request at which a run ends, if its next step asks for this file: one that failed; or, if memory ran out, none or one that didn't fail; otherwise none
+-- the request at which a run ends, if its next step needs this file:
+-- after a failed read it is one that failed; if memory ran out, it is none or one that didn't fail; otherwise it
+-- is none
 abbrev pub IsLastRequest : RunEnd → List ℕ → Option (List ℕ) → List Request → Type 0
 IsLastRequest ends.ReadFault folder asked last = (last ≡ step_request folder asked outcomes.Failed) × (last ≢ [])
 IsLastRequest ends.NoMemory folder asked last = (outcome : Outcome) × (outcome ≢ outcomes.Failed) × ((last ≡ []) ⊎ (last ≡ step_request folder asked outcome))
@@ -108,7 +112,7 @@ pub record Stops (end : RunEnd) (folder : List ℕ) (asked : Option (List ℕ)) 
   pub last_is : IsLastRequest end folder asked last
   pub requests : GrowsBy old new last
 
--- the requests of a run that ended so after k steps: those of its steps, and the one at which it ended
+-- the requests of a run that ended like this after k steps: those of its steps, and the one at which it ended
 pub record Requests (end : RunEnd) (folder : List ℕ) (said : Answers) (s : State) (k : ℕ) (old new : Option (List Request)) : Type 0 where
   pub last : List Request
   pub last_is : IsLastRequest end folder (file_asked (after said s k)) last
@@ -119,12 +123,12 @@ pub record Requests (end : RunEnd) (folder : List ℕ) (said : Answers) (s : Sta
 abbrev pub IsFine : Request → Type 0
 IsFine r = r.outcome ≢ outcomes.Failed
 
--- the failure with which a session of this status ends: one fetch that failed if the status is ReadFault, otherwise none
+-- the failure with which a session of this status ends: one failed fetch if the status is ReadFault, otherwise none
 abbrev pub IsFailure : Status → List Request → Type 0
 IsFailure status.ReadFault last = (r : Request) × (last ≡ r ∷ []) × (r.outcome ≡ outcomes.Failed)
 IsFailure s last = last ≡ []
 
--- of the requests of a session none failed but the last, and that one exactly if the status is ReadFault
+-- none of a session's requests failed except the last, and that one failed exactly if the status is ReadFault
 pub record FailsLast (s : Status) (old new : Option (List Request)) : Type 0 where
   pub front : List Request
   pub last : List Request

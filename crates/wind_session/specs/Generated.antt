@@ -1,9 +1,9 @@
--- What is told of the run of a generated session.
+-- What is reported of the run of a generated session.
 use Rattle.std.specs.Prelude.{ℕ, List, length}
 use Rattle.generated_session.specs.Session.{summary_line}
 use Rattle.wind_machine.specs.State.{State}
 use Rattle.wind_machine.specs.Run.{Answers, after, text}
 
--- the line for the first k steps from s, which ended with the status of that number
+-- the line for the first k steps from s, which ended with this status number
 unfoldable pub summary : ℕ → Answers → State → ℕ → ℕ → List ℕ
 summary n said s k status = summary_line n (length (text said s k)) k (after said s k).world.kern.tick status

@@ -29,7 +29,8 @@ use Rattle.wind_session.specs.declared.ending.Stand.{Stand}
 use Rattle.wind_session.specs.declared.ending.Stand.TheVariants as stands
 use Rattle.wind_session.specs.declared.ending.Ending.{Ending}
 
--- a status without a board: want of memory is free, a fault of reading needs the folder's count to have risen, and every other is as planned
+-- a status without a board: memory may run out at any time, a read fault requires that the folder's count of
+-- faults rose, and every other status is as planned
 abbrev pub IsRefusal : Status → Plan → Type 0 → Type 0
 IsRefusal status.NoMemory plan rose = Unit {0}
 IsRefusal status.ReadFault plan rose = rose
@@ -38,13 +39,13 @@ IsRefusal status.Limit plan rose = ⊥
 IsRefusal status.WriteFault plan rose = ⊥
 IsRefusal s plan rose = plan ≡ Refuse s
 
--- the status refuses a file of that name, whatever would follow it
+-- the status refuses the file with this name, whatever would follow it
 pub record IsUnread (s : Status) (which : Which) (files : Option Files) (name : List ℕ) (rose : Type 0) : Type 0 where
   pub file : Option (List ℕ)
   pub told : IsEntry files name file
   pub refused : (next : List ℕ → Plan) → IsRefusal s (plan_file which next file) rose
 
--- that a fetch failed: the folder's count rose; of a generated session nothing is fetched
+-- whether a fetch can have failed: the folder's count of faults rose; for a generated session nothing is fetched
 abbrev pub fetch_fault : ℕ → Type 0 → Type 0
 fetch_fault zero rose = rose
 fetch_fault (suc n) rose = ⊥
@@ -65,7 +66,7 @@ status_of ends.ReadFault = status.ReadFault
 status_of ends.WriteFault = status.WriteFault
 status_of ends.NoMemory = status.NoMemory
 
--- how many steps a session makes at most, and with how many rounds it is generated
+-- the most steps of a session, and the number of rounds if it is generated
 abbrev pub limit_of : Option CommandState → ℕ
 limit_of None = 0
 limit_of (Some command) = command.limit
@@ -74,7 +75,7 @@ abbrev pub rounds_of : Option CommandState → ℕ
 rounds_of None = 0
 rounds_of (Some command) = command.generate
 
--- and where its modules are
+-- and the folder of its modules
 abbrev pub modules_of : Option CommandState → List ℕ
 modules_of None = []
 modules_of (Some command) = command.modules
@@ -82,13 +83,14 @@ modules_of (Some command) = command.modules
 abbrev pub shelf_of : Option Files → Option CommandState → Shelf
 shelf_of files command = record { files = files; name = modules_of command }
 
--- the sink gained the line that sums a run up, or a front of it where a put failed; of a run that was given up it gained nothing
+-- the sink gained the line that sums a run up, or a prefix of it if a put failed; if the run was given up, it
+-- gained nothing
 abbrev pub IsSummed : RunEnd → Status → List ℕ → Option (List ℕ) → Option (List ℕ) → Type 0
 IsSummed ends.ReadFault s line old new = (s ≡ status.ReadFault) × (new ≡ old)
 IsSummed ends.NoMemory s line old new = (s ≡ status.NoMemory) × (new ≡ old)
 IsSummed end s line old new = ((s ≡ status_of end) × Appended old new line) ⊎ ((s ≡ status.WriteFault) × AppendedFront old new line)
 
--- a run of a generated session of so many rounds, of which one line is put
+-- a run of a session generated with n rounds, after which one line is put
 pub record SumsUp (n : ℕ) (s : Status) (end : RunEnd) (shelf : Shelf) (start : State) (limit : ℕ) (board : State) (old new : Outside) : Type 0 where
   pub said : Answers
   pub k : ℕ
@@ -101,7 +103,8 @@ abbrev pub IsLeft : ℕ → Status → RunEnd → Shelf → State → ℕ → St
 IsLeft zero s end shelf start limit board old new = (s ≡ status_of end) × Ran end shelf start limit board old new
 IsLeft (suc n) s end shelf start limit board old new = SumsUp (suc n) s end shelf start limit board old new
 
--- a board was played: it is that of the wind machine, started with the console, the events of the tick file and these devices, and with the files of modules that it asked for
+-- a board was played: the wind machine's, started with the console, the events of the tick file and these devices,
+-- and given the files of modules that it needed
 pub record Played (s : Status) (plan : Plan) (rounds limit : ℕ) (shelf : Shelf) (devices : List (Option DeviceState)) (board : State) (old new : Outside) : Type 0 where
   pub end : RunEnd
   pub console : List ℕ
@@ -109,14 +112,14 @@ pub record Played (s : Status) (plan : Plan) (rounds limit : ℕ) (shelf : Shelf
   pub planned : plan ≡ Start console schedule
   pub left : IsLeft rounds s end shelf (opening console schedule devices) limit board old new
 
--- a session without a run: nothing was put, and no file was fetched but those of the command
+-- a session without a run: nothing was put, and only the files of the command were fetched
 pub record NotPlayed (s : Status) (plan : Plan) (command : Option CommandState) (fault : Type 0) (old new : Outside) : Type 0 where
   pub bytes : new.bytes ≡ old.bytes
   pub pieces : new.pieces ≡ old.pieces
   pub refusal : IsRefusal s plan fault
   pub fetches : EndsWithInputs command s old.requests new.requests
 
--- what is left: the slots as they were, or the board of a run, before which the files of the command were fetched
+-- what is left: the slots as they were, or the board of a run, after the files of the command were fetched
 abbrev pub Leaves : {I : Type 0} {X : I → Type 0} → (Board I X → State) → Status → Stand I X → Plan → Option CommandState → Shelf → Type 0 → Vec (Option (DynBox I Global X)) Global → List (Option DeviceState) → Outside → Outside → Type 0
 Leaves state s (stands.NotBooted back) plan command shelf fault slots devices old new = (back ≡ slots) × NotPlayed s plan command fault old new
 Leaves state s (stands.Booted board) plan command shelf fault slots devices old new =
@@ -128,25 +131,25 @@ pub record Plays {I : Type 0} {X : I → Type 0} (state : Board I X → State) (
   pub planned : IsPlan files command plan
   pub leaves : Leaves state ending.status ending.stand plan command (shelf_of files command) (fetch_fault (rounds_of command) rose) slots devices old new
 
--- the board that is left has the kept facts, and what is so at each instant
+-- the board that is left keeps the invariant, and what holds at each instant
 abbrev pub IsKept : {I : Type 0} {X : I → Type 0} → (Board I X → State) → Stand I X → Type 0
 IsKept state (stands.NotBooted back) = Unit {0}
 IsKept state (stands.Booted board) = Good (state board) × IsInstant (state board).world
 
--- a status of a session that was played, or for which memory was short
+-- a status of a session that was played, or of one that ran out of memory
 abbrev pub IsPlayed : Status → Type 0
 IsPlayed status.Quiet = Unit {0}
 IsPlayed status.Limit = Unit {0}
 IsPlayed status.NoMemory = Unit {0}
 IsPlayed s = ⊥
 
--- a session is there to play: the two files of a told folder, or a generated one
+-- there is a session to play: the two files of a folder that tells its files, or a generated one
 abbrev pub IsThere : ℕ → CommandState → Option Files → Type 0
 IsThere zero command None = ⊥
 IsThere zero command (Some held) = (console : List ℕ) × (schedule : Timetable) × (plan_of (held command.console) (held command.ticks) ≡ Start console schedule)
 IsThere (suc n) command files = Unit {0}
 
--- with a command, a session that is there and no fault, it is played
+-- with a command, a session to play and no fault, the session is played
 abbrev pub IsComplete : Status → Option CommandState → Option Files → Type 0 → Type 0 → Type 0
 IsComplete s None files folder_rose out_rose = Unit {0}
 IsComplete s (Some command) files folder_rose out_rose = IsThere command.generate command files → (folder_rose → ⊥) → (out_rose → ⊥) → IsPlayed s

@@ -1,17 +1,17 @@
--- What the words of the command line come to, in right forms and in wrong ones. The first word is the program's name.
+-- The commands of some valid and invalid command lines. The first word is the program's name.
 use Rattle.std.specs.Prelude.{◌≡◌, List, [], ◌∷◌, Option, Some, None, codes}
 use Rattle.clap.specs.Words.{Text}
 use Rattle.wind_session.specs.Command.{CommandState, command_of}
 
--- the command of words behind the program's name
+-- the command of words after the program's name
 abbrev pub command_behind : List Text → Option CommandState
 command_behind words = command_of (codes "windplay" ∷ words)
 
--- the command where no option is given
+-- the command if no option is given
 abbrev pub defaults : CommandState
 defaults = record { console = codes "console.txt"; ticks = codes "ticks.txt"; modules = codes "."; limit = 1000000; generate = 0 }
 
--- words that are a command: options in any order, each at most once, with the value as the next word or behind `=`
+-- words that are a command: options in any order, each at most once, with the value as the next word or after `=`
 pub record RightWords : Type 0 where
   pub no_words : command_of [] ≡ Some defaults
   pub name_alone : command_behind [] ≡ Some defaults
@@ -52,5 +52,5 @@ pub record WrongWords : Type 0 where
   pub limit_above_the_most : command_behind (codes "--limit" ∷ codes "1000000000001" ∷ []) ≡ None
   pub generate_above_the_most : command_behind (codes "--generate" ∷ codes "10001" ∷ []) ≡ None
   pub signed_generate : command_behind (codes "--generate" ∷ codes "+1" ∷ []) ≡ None
-  -- what the program plays where its words are no text
+  -- what the program plays if its arguments are not UTF-8
   pub no_text : command_behind (codes "(arguments that are no text)" ∷ []) ≡ None

@@ -1,4 +1,4 @@
--- What a folder says of the files that a run asks for.
+-- What a folder says of the files that a run needs.
 use Rattle.std.specs.Prelude.{◌≡◌, ℕ, ◌<◌, Bool, true, false, List, ◌∷◌, ◌++◌, Option, Some}
 use Rattle.std.specs.Str.{is_utf8}
 use Rattle.wind_outside.specs.Files.{Files}
@@ -8,7 +8,7 @@ use Rattle.wind_machine.specs.Machine.{file_asked}
 use Rattle.wind_machine.specs.Run.{Answers, after}
 use Rattle.wind_session.specs.Plan.{IsEntry}
 
--- where modules are: the files of a folder, which it may leave untold, and the name that the words give for the modules in it
+-- the folder of modules: its files, which it may leave untold, and the name that the arguments give it
 pub record Shelf : Type 0 where
   pub files : Option Files
   pub name : List ℕ
@@ -17,7 +17,7 @@ pub record Shelf : Type 0 where
 abbrev pub module_path : List ℕ → List ℕ → List ℕ
 module_path folder name = folder ++ 47 ∷ name
 
--- what is said of a module is what the file at its path is; of a name that is no text in UTF-8 there is no file
+-- what is said of a module is what the file at its path is; for a name that is not UTF-8 there is no file
 abbrev pub IsSaidBy : Bool → Option Files → List ℕ → FileSaid → Type 0
 IsSaidBy true files path said = (file : Option (List ℕ)) × IsEntry files path file × (said ≡ said_by file)
 IsSaidBy false files path said = said ≡ Missing
@@ -25,10 +25,10 @@ IsSaidBy false files path said = said ≡ Missing
 abbrev pub IsSaidOf : Shelf → List ℕ → FileSaid → Type 0
 IsSaidOf shelf name said = IsSaidBy (is_utf8 name) shelf.files (module_path shelf.name name) said
 
--- so it is of the file that the next step asks for, if it does
+-- the same of the file that the next step needs, if it needs one
 abbrev pub IsSaid : Shelf → State → FileSaid → Type 0
 IsSaid shelf s said = (name : List ℕ) → file_asked s ≡ Some name → IsSaidOf shelf name said
 
--- and of the files that the first k steps ask for
+-- and of the files that the first k steps need
 abbrev pub AreSaid : Shelf → Answers → State → ℕ → Type 0
 AreSaid shelf said s k = (j : ℕ) → j < k → IsSaid shelf (after said s j) (said j)

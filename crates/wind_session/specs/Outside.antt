@@ -1,4 +1,4 @@
--- What the folder and the sink of a session tell.
+-- What the folder and the sink of a session log.
 use Rattle.std.specs.Prelude.{ℕ, List, ◌++◌, Option}
 use Rattle.std.specs.Option.{option_map}
 use Rattle.wind_outside.specs.Requests.{Request, Piece}

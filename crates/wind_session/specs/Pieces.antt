@@ -1,4 +1,4 @@
--- What a run puts: one piece for each step that writes something, in the order of the steps.
+-- What a run puts: one piece for each step that writes anything, in the order of the steps.
 use Rattle.std.specs.Prelude.{ℕ, zero, suc, List, [], ◌∷◌, ◌++◌}
 use Rattle.wind_outside.specs.Requests.{Piece, piece_of}
 use Rattle.wind_outside.specs.declared.sink.Put.{Put}

@@ -11,21 +11,21 @@ use Rattle.wind_session.specs.declared.ending.Status.TheVariants as status
 use Rattle.wind_session.specs.declared.ending.Which.{Which}
 use Rattle.wind_session.specs.declared.ending.Which.TheVariants as which
 
--- a refusal, or a console to play with the events of a tick file
+-- a refusal, or a console to play with the timetable of a tick file
 pub data Plan : Type 0 where
   Refuse : Status → Plan
   Start : List ℕ → Timetable → Plan
 
--- a console is played with the events of a tick file, unless a line of that is outside its grammar
+-- a console is played with the events of a tick file, unless a line of the tick file is invalid
 abbrev pub plan_lines : List ℕ → List ℕ → Option ℕ → Plan
 plan_lines console ticks None = Start console (timetable_of ticks)
 plan_lines console ticks (Some n) = Refuse (status.BadTicks n)
 
--- a tick file, by its first line outside the grammar
+-- the plan for a tick file, by its first invalid line
 abbrev pub plan_ticks : List ℕ → List ℕ → Plan
 plan_ticks console ticks = plan_lines console ticks (first_bad_line ticks)
 
--- a file goes on to the next plan, unless it is not there or has more than 1 MiB
+-- a file goes on to the next plan, unless it doesn't exist or is longer than 1 MiB
 abbrev pub plan_file : Which → (List ℕ → Plan) → Option (List ℕ) → Plan
 plan_file file next None = Refuse (status.Absent file)
 plan_file file next (Some bytes) = if nat_lt longest_text_file (length bytes) then Refuse (status.TooLong file) else next bytes
@@ -34,17 +34,17 @@ plan_file file next (Some bytes) = if nat_lt longest_text_file (length bytes) th
 abbrev pub plan_of : Option (List ℕ) → Option (List ℕ) → Plan
 plan_of console ticks = plan_file which.Console (λ bytes. plan_file which.Ticks (plan_ticks bytes) ticks) console
 
--- the file of that name, in a folder that may leave its files untold
+-- the file with this name, in a folder that may leave its files untold
 abbrev pub IsEntry : Option Files → List ℕ → Option (List ℕ) → Type 0
 IsEntry None name file = Unit {0}
 IsEntry (Some held) name file = file ≡ held name
 
--- the file of that name has these bytes, at most 1 MiB of them
+-- the file with this name has these bytes, and at most 1 MiB of them
 pub record IsHeld (files : Option Files) (name bytes : List ℕ) : Type 0 where
   pub told : IsEntry files name (Some bytes)
   pub within : length bytes ≤ longest_text_file
 
--- what a command asks for, with the two files of the folder
+-- the plan of a command, given the folder's two files
 pub record IsFilePlan (files : Option Files) (command : CommandState) (plan : Plan) : Type 0 where
   pub console : Option (List ℕ)
   pub ticks : Option (List ℕ)
@@ -52,16 +52,16 @@ pub record IsFilePlan (files : Option Files) (command : CommandState) (plan : Pl
   pub ticks_told : IsEntry files command.ticks ticks
   pub plan_is : plan ≡ plan_of console ticks
 
--- what a session of so many rounds plays, for which no file is read
+-- the plan of a session generated with n rounds, for which no file is read
 abbrev pub generated_plan : ℕ → Plan
 generated_plan n = Start (generated_console n) (timetable_of (generated_ticks n))
 
--- with no rounds the two files are played, and else the generated session
+-- with no rounds the two files are played, otherwise the generated session
 abbrev pub IsPlanOf : ℕ → Option Files → CommandState → Plan → Type 0
 IsPlanOf zero files command plan = IsFilePlan files command plan
 IsPlanOf (suc n) files command plan = plan ≡ generated_plan (suc n)
 
--- words that are no command are refused before any file
+-- invalid arguments are refused before any file
 abbrev pub IsPlan : Option Files → Option CommandState → Plan → Type 0
 IsPlan files None plan = plan ≡ Refuse status.Usage
 IsPlan files (Some command) plan = IsPlanOf command.generate files command plan

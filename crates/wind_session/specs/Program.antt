@@ -1,4 +1,4 @@
--- What the program does with the words of its command line.
+-- What the program does with the arguments of its command line.
 use Rattle.std.specs.Prelude.{◌≡◌, ◌≢◌, ◌⊎◌, ◌↔◌, ℕ, List, [], ◌∷◌, Option, Some, None}
 use Rattle.wind_outside.specs.Devices.{DeviceState}
 use Rattle.wind_outside.specs.Files.{Files}
@@ -32,7 +32,7 @@ pub record PlayedOn (s : Status) (plan : Plan) (command : Option CommandState) (
   pub good : Good board
   pub instant : IsInstant board.world
 
--- a session of these words, on the program's board
+-- a session of these arguments, on the program's board
 pub record Session (s : Status) (command : Option CommandState) (files : Option Files) (rose out_rose : Type 0) (old new : Outside) : Type 0 where
   pub plan : Plan
   pub planned : IsPlan files command plan
@@ -43,7 +43,7 @@ pub record Session (s : Status) (command : Option CommandState) (files : Option 
   pub read_fault : s ≡ status.ReadFault → rose
   pub write_fault : s ≡ status.WriteFault → out_rose
 
--- the program plays the session of these words, tells how it ended, and ends with the number of its status
+-- the program plays the session of these arguments, reports how it ended, and ends with the number of its status
 pub record Ends (number : ℕ) (command : Option CommandState) (files : Option Files) (rose out_rose : Type 0) (old new : Outside) (err_old err_new : Option (List ℕ)) (err_rose : Type 0) : Type 0 where
   pub ended : Status
   pub number_is : number ≡ status_number ended

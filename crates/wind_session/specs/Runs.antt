@@ -13,7 +13,8 @@ use Rattle.wind_session.specs.Pieces.{output_piece, pieces_of}
 use Rattle.wind_session.specs.declared.run.RunEnd.{RunEnd}
 use Rattle.wind_session.specs.declared.run.RunEnd.TheVariants as ends
 
--- how a run of at most n steps from s ends behind k steps: with no further step, with n, where the file that the next step asks for can't be read, or for want of memory where the next step may lack it
+-- how a run of at most n steps from s ends after k steps: with no step left, with n steps made, because the next
+-- step's file can't be read, or because memory runs out and the next step permits it
 abbrev pub IsEnd : RunEnd → Answers → State → ℕ → ℕ → Type 0
 IsEnd ends.Quiet said s n k = (k < n) × IsOver (after said s k)
 IsEnd ends.Limit said s n k = k ≡ n
@@ -21,7 +22,8 @@ IsEnd ends.ReadFault said s n k = (k < n) × IsSome (file_asked (after said s k)
 IsEnd ends.WriteFault said s n k = Unit {0}
 IsEnd ends.NoMemory said s n k = (k < n) × (may_lack_memory (after said s k) ≡ true)
 
--- the last of k steps wrote something, of which the sink gained a part, behind all that the steps before wrote; its piece is the one that failed
+-- the last of k steps wrote something; the sink gained a part of it, after all that the steps before wrote, and the
+-- put of its piece failed
 pub record IsCutOff (said : Answers) (s : State) (k : ℕ) (old new : Outside) : Type 0 where
   pub before : ℕ
   pub last : k ≡ suc before
@@ -30,12 +32,12 @@ pub record IsCutOff (said : Answers) (s : State) (k : ℕ) (old new : Outside) :
   pub gained : Appended old.bytes new.bytes (text said s before ++ take part (after said s k).world.output)
   pub pieces : GrowsBy old.pieces new.pieces (pieces_of said s before ++ output_piece (after said s k).world.output puts.Failed)
 
--- all that k steps wrote was put, one piece for each step that wrote something
+-- all that k steps wrote was put, one piece for each step that wrote anything
 pub record IsPut (said : Answers) (s : State) (k : ℕ) (old new : Outside) : Type 0 where
   pub gained : Appended old.bytes new.bytes (text said s k)
   pub pieces : GrowsBy old.pieces new.pieces (pieces_of said s k)
 
--- what the sink has gained behind k steps: all that they wrote, unless a put failed
+-- what the sink has gained after k steps: all that they wrote, unless a put failed
 abbrev pub IsWritten : RunEnd → Answers → State → ℕ → Outside → Outside → Type 0
 IsWritten ends.WriteFault said s k old new = IsCutOff said s k old new
 IsWritten ends.Quiet said s k old new = IsPut said s k old new
@@ -49,7 +51,8 @@ is_given_up ends.ReadFault = true
 is_given_up ends.NoMemory = true
 is_given_up end = false
 
--- a run of at most n steps from s ended so behind k steps, and left this board; the files that it asked for were as the folder of modules says, and each was fetched once
+-- a run of at most n steps from s ended like this after k steps, and left this board;
+-- the files that it needed were as the folder of modules says, and each was fetched once
 pub record Made (end : RunEnd) (shelf : Shelf) (said : Answers) (s : State) (n k : ℕ) (board : State) (old new : Option (List Request)) : Type 0 where
   pub counted : board.steps ≡ k
   pub answers : AreSaid shelf said s k
@@ -58,7 +61,7 @@ pub record Made (end : RunEnd) (shelf : Shelf) (said : Answers) (s : State) (n k
   pub ended : IsEnd end said s n k
   pub fetches : Requests end shelf.name said s k old new
 
--- it left these bytes too
+-- the run left these bytes too
 pub record Ran (end : RunEnd) (shelf : Shelf) (s : State) (n : ℕ) (board : State) (old new : Outside) : Type 0 where
   -- what was said of the files, and how many steps were made
   pub said : Answers
@@ -66,7 +69,7 @@ pub record Ran (end : RunEnd) (shelf : Shelf) (s : State) (n : ℕ) (board : Sta
   pub made : Made end shelf said s n k board old.requests new.requests
   pub written : IsWritten end said s k old new
 
--- or it was made without a word, and what its steps wrote has so many bytes in all
+-- or the run put nothing, and its steps wrote this many bytes in total
 pub record Counted (end : RunEnd) (shelf : Shelf) (s : State) (n bytes : ℕ) (board : State) (old new : Option (List Request)) : Type 0 where
   pub said : Answers
   pub k : ℕ

@@ -1,4 +1,4 @@
--- The texts on the second sink, one for each status. They are this project's own, but for that of words that are no command.
+-- The texts on the second sink, one for each status. They are this project's own, except the one for invalid arguments.
 use Rattle.std.specs.Prelude.{◌≡◌, ℕ, List, [], ◌++◌, Option, Some, None, ◌⊎◌, codes}
 use Rattle.std.specs.Fmt.{decimal}
 use Rattle.wind_outside.specs.Told.{Appended}
@@ -8,7 +8,7 @@ use Rattle.wind_session.specs.declared.ending.Status.TheVariants as status
 use Rattle.wind_session.specs.declared.ending.Which.{Which}
 use Rattle.wind_session.specs.declared.ending.Which.TheVariants as which
 
--- the name that the words give for a file
+-- the name that the arguments give for a file
 abbrev pub name_of : CommandState → Which → List ℕ
 name_of c which.Console = c.console
 name_of c which.Ticks = c.ticks
@@ -17,11 +17,11 @@ name_of c which.Ticks = c.ticks
 abbrev pub line_text : List ℕ → List ℕ → List ℕ
 line_text middle rest = codes "windplay: " ++ middle ++ rest
 
--- the text where memory ran out
+-- the text if memory ran out
 abbrev pub memory_text : List ℕ
 memory_text = line_text (codes "out of memory") (codes "\n")
 
--- the text for a status of a command; with a command, no status is that of usage
+-- the text for a status of a command; with a command, the status is never Usage
 unfoldable pub status_text : CommandState → Status → List ℕ
 status_text c status.Quiet = []
 status_text c status.Usage = []
@@ -33,13 +33,13 @@ status_text c status.NoMemory = memory_text
 status_text c (status.BadTicks line) = line_text c.ticks (codes ": line " ++ decimal line ++ codes " is not understood\n")
 status_text c (status.TooLong file) = line_text (name_of c file) (codes ": too long\n")
 
--- the text for a status of the words; for words that are no command it is `clap`'s own, of which nothing is said here
+-- the text for a status; for invalid arguments it is `clap`'s own, which this doesn't specify
 abbrev pub IsText : Option CommandState → Status → List ℕ → Type 0
 IsText (Some c) s text = text ≡ status_text c s
 IsText None status.NoMemory text = text ≡ memory_text
 IsText None s text = Unit {0}
 
--- a front of the text was added, at which the count of faults rose
+-- a prefix of the text was added, and the count of faults rose
 pub record IsCutShort (old new : Option (List ℕ)) (text : List ℕ) (rose : Type 0) : Type 0 where
   pub front : List ℕ
   pub rest : List ℕ
@@ -47,11 +47,11 @@ pub record IsCutShort (old new : Option (List ℕ)) (text : List ℕ) (rose : Ty
   pub gained : Appended old new front
   pub fault : rose
 
--- the text was added, or a front of it where the count of faults rose
+-- the text was added, or a prefix of it and the count of faults rose
 abbrev pub IsTold : Option (List ℕ) → Option (List ℕ) → List ℕ → Type 0 → Type 0
 IsTold old new text rose = Appended old new text ⊎ IsCutShort old new text rose
 
--- the text for a status was told
+-- the text for the status was reported
 pub record Tells (s : Status) (command : Option CommandState) (old new : Option (List ℕ)) (rose : Type 0) : Type 0 where
   pub text : List ℕ
   pub text_is : IsText command s text

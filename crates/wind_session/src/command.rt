@@ -1,4 +1,4 @@
-//! The words of the command line.
+//! The arguments of the command line.
 
 ghost use Rattle.std.specs.Prelude.{◌≡◌, ◌≢◌, ◌≤◌, IfOk, IfErr, IfSome, Some, None, false, map};
 ghost use Rattle.clap.specs.Words.{app_of, found_of, rows_of, rule_of};
@@ -14,7 +14,7 @@ use std::alloc::{AllocError, Global};
 use wind_base::decimal;
 use wind_base::limits::STEPS;
 
-/// What the words ask for.
+/// What the arguments ask for.
 #[derive(Clone, Copy)]
 pub struct Command<'a> {
     /// The name of the console file.
@@ -23,16 +23,16 @@ pub struct Command<'a> {
     pub ticks: &'a str,
     /// The name of the folder of modules.
     pub modules: &'a str,
-    /// How many steps the run makes at most.
+    /// The most steps that the run makes.
     pub limit: u64,
-    /// With how many rounds the session is generated, or 0 where its files are read.
+    /// The number of rounds of the generated session, or 0 if the files are read.
     pub generate: u32,
 }
 
-/// Why there is no command.
+/// Why the arguments give no command.
 #[derive(Debug, Drop)]
 pub enum CommandErr {
-    /// The words are not the command's, or ask for help; the text for the user.
+    /// The arguments are invalid, or `--help` was given. Holds the text for the user.
     Usage(String),
     /// Host memory ran out.
     NoMemory,
@@ -49,18 +49,18 @@ impl From<AllocError> for CommandErr {
     }
 }
 
-// The most digits of a number.
+// The most digits that a number may have.
 const NUMBER_DIGITS: usize = 13;
 
-// The most rounds that a session is generated with.
+// The most rounds of a generated session.
 const ROUNDS: u64 = 10_000;
 
-// What is told of a number out of form.
+// The message for an invalid limit.
 const BAD_LIMIT: &str = "'--limit <N>' takes 1 to 13 digits, and at most 1000000000000";
 
 const BAD_ROUNDS: &str = "'--generate <N>' takes 1 to 13 digits, and at most 10000";
 
-// A number of at most `most`, in decimal digits.
+// The value of decimal digits, at most `most`.
 fn number(text: &str, most: u64) -> Option<u64>
     ensures value { result ≡ number_value most text.now }
     ensures within { IfSome result (λ n. n ≤ most) }
@@ -71,7 +71,7 @@ fn number(text: &str, most: u64) -> Option<u64>
     decimal(text.as_bytes(), most)
 }
 
-// An option with one value.
+// An option that takes one value.
 fn option<'a>(
     alloc: Global,
     name: &'a str,
@@ -122,7 +122,7 @@ fn value_of<'a>(matches: &ArgMatches<'a>, name: &str) -> &'a str
     matches.get_str(name).unwrap_or("")
 }
 
-// What clap tells of the words.
+// The message of clap for these arguments.
 fn usage(alloc: Global, error: &Error) -> CommandErr {
     match format!(in alloc; "{error}") {
         Ok(text) => CommandErr::Usage(text),
@@ -130,7 +130,7 @@ fn usage(alloc: Global, error: &Error) -> CommandErr {
     }
 }
 
-// What is told of a number out of form, as clap tells it.
+// The message for an invalid number, as clap prints it.
 fn bad_number(alloc: Global, app: &mut clap::Command<'_>, text: &str) -> CommandErr {
     match app.error(ErrorKind::ValueValidation, text) {
         Ok(error) => usage(alloc, &error),
@@ -138,7 +138,7 @@ fn bad_number(alloc: Global, app: &mut clap::Command<'_>, text: &str) -> Command
     }
 }
 
-/// The command of these words, of which the first is the program's name.
+/// The command of these words; the first word is the program's name.
 pub fn command_of<'a>(alloc: Global, words: &'a [&'a str]) -> Result<Command<'a>, CommandErr>
     ensures value { IfOk result (λ c. command_of_lem (map (λ w. w.now) words.now) ≡ Some (command_state c)) }
     ensures usage { IfErr result (λ e. e ≢ errors.NoMemory → command_of_lem (map (λ w. w.now) words.now) ≡ None) }

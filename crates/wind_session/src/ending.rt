@@ -14,14 +14,14 @@ pub enum Which {
     Ticks,
 }
 
-/// The status of a session.
+/// The status of a session: how it ended.
 #[derive(Clone, Copy, Debug, PartialEq, Eq)]
 pub enum Status {
-    /// The run ended with no step left.
+    /// The run ended because no step was left.
     Quiet,
-    /// The words are not the command's.
+    /// The arguments are invalid, or `--help` was given.
     Usage,
-    /// A file is not there.
+    /// A file doesn't exist.
     Absent(Which),
     /// The limit of steps was reached.
     Limit,
@@ -31,7 +31,7 @@ pub enum Status {
     WriteFault,
     /// Host memory ran out.
     NoMemory,
-    /// A line of the tick file is outside its grammar; the first one, counted from 1.
+    /// A line of the tick file is invalid; this is the number of the first one, counted from 1.
     BadTicks(u64),
     /// A file is too long.
     TooLong(Which),
@@ -40,7 +40,7 @@ pub enum Status {
 impl Status {
     ghost use Rattle.wind_session.specs.Status.{status_number};
 
-    /// The number with which the program ends.
+    /// The exit status of the program.
     pub fn number(self) -> u8
         ensures { result ≡ status_number self }
     {
@@ -67,9 +67,11 @@ pub enum Stand {
     Booted(Board),
 }
 
-/// How a session ended.
+/// How a session ended, and what is left of the board.
 #[derive(Drop)]
 pub struct Ending {
+    /// The status.
     pub status: Status,
+    /// The devices or the board.
     pub stand: Stand,
 }

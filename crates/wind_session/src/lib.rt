@@ -1,5 +1,5 @@
-//! A session of the wind kernel's shell: what the words of a command ask for, the run of a board, and how it
-//! ended.
+//! A session of the wind kernel's shell: what the arguments ask for, the run of a board, and how
+//! the run ended.
 #![tactic(auto)]
 
 mod command;

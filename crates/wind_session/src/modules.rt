@@ -1,4 +1,4 @@
-//! The steps of a run, with the files of modules that they ask for.
+//! The steps of a run, with the module files that they need.
 
 ghost use Rattle.std.specs.Prelude.{◌≡◌, ◌≢◌, ◌+◌, ◌<◌, ◌≤◌, true, Err, Some, IfOk, IsSome, string_bytes};
 ghost use Rattle.wind_base.specs.Limits.{most_steps};
@@ -29,14 +29,14 @@ enum Unread {
     NoMemory,
 }
 
-/// What became of a step.
+/// What came of a step.
 #[derive(Clone, Copy, Debug, PartialEq, Eq)]
 pub(crate) enum Move {
-    /// It was made.
+    /// The step was made.
     Made,
     /// There is no further step.
     Quiet,
-    /// Reading the file that it asks for failed.
+    /// The step's file could not be read.
     ReadFault,
     /// Host memory ran out.
     NoMemory,
@@ -55,7 +55,7 @@ fn module_path(alloc: Global, modules: &str, name: &str) -> Result<String, NoMem
     Ok(path)
 }
 
-// What the folder says of the module of a name.
+// What the folder says of the module with this name.
 fn fetched_module<F: Folder>(
     alloc: Global,
     folder: &mut F,
@@ -89,7 +89,7 @@ fn fetched_module<F: Folder>(
     }
 }
 
-// Makes the step that loads the module of a name, with what the folder says of its file.
+// Makes the step that loads the module with this name, given what the folder says of its file.
 #[inline(never)]
 fn load_step<F: Folder>(
     alloc: Global,
@@ -129,8 +129,8 @@ fn load_step<F: Folder>(
     }
 }
 
-/// Makes the next step, if there is one. The module that it asks for, if it does, is fetched from the folder: the file
-/// at the name of the folder of modules, `/` and its own name.
+/// Makes the next step, if there is one. If the step needs a module, it is fetched from the folder.
+/// Its path is the name of the folder of modules, `/` and its own name.
 #[inline(always)]
 pub(crate) fn step<F: Folder>(
     alloc: Global,

@@ -35,7 +35,7 @@ use wind_base::limits::TEXT_FILE_BYTES;
 use wind_machine::instant_law;
 use wind_outside::{Device, Fetched, Folder, Put, Sink, Slots};
 
-// A session without a board.
+// The ending of a session without a board.
 fn refused(status: Status, devices: Slots) -> Ending
     ensures { result ≡ record { status = status; stand = stands.NotBooted devices } }
 {
@@ -58,14 +58,14 @@ fn status_of(end: RunEnd) -> Status
     }
 }
 
-// Whether a run was given up.
+// Whether the run was given up, because a read failed or memory ran out.
 fn is_given_up(end: RunEnd) -> bool
     ensures { result ≡ is_given_up_lem end }
 {
     matches!(end, RunEnd::ReadFault | RunEnd::NoMemory)
 }
 
-// The file of this name, or why it is not read.
+// Fetches the file with this name; the error says why it can't be played.
 fn fetched<F: Folder>(
     alloc: Global,
     folder: &mut F,
@@ -91,7 +91,7 @@ fn fetched<F: Folder>(
     }
 }
 
-// The schedule of a tick file, or why it is not played.
+// The schedule of a tick file; the error says why it can't be played.
 fn schedule_of(alloc: Global, ticks: &[u8]) -> Result<Schedule, Status>
     ensures read { IfOk result (λ schedule. (console : List ℕ) → plan_ticks console ticks.now
         ≡ Start console schedule) }
@@ -106,14 +106,14 @@ fn schedule_of(alloc: Global, ticks: &[u8]) -> Result<Schedule, Status>
     }
 }
 
-// What a session plays.
+// What a session plays: its console and its schedule.
 #[derive(Drop)]
 struct Inputs {
     console: Vec<u8>,
     schedule: Schedule,
 }
 
-// The two files of a command, or why they are not played.
+// Reads the two files of a command; the error says why they can't be played.
 fn files_of<F: Folder>(alloc: Global, command: &Command, folder: &mut F) -> Result<Inputs, Status>
     ensures start { IfOk result (λ inputs. IsFilePlan (F.files folder.old) (command_state command.now) (Start inputs.console.items inputs.schedule)) }
     ensures refused { IfErr result (λ s. RefusesFiles s (F.files folder.old) (command_state command.now) (Rose (F.faults folder.old) (F.faults folder.new))) }
@@ -130,7 +130,7 @@ fn files_of<F: Folder>(alloc: Global, command: &Command, folder: &mut F) -> Resu
     Ok(Inputs { console, schedule })
 }
 
-// The session of so many rounds. Only memory can lack.
+// The session generated with this many rounds. The only error is that memory runs out.
 fn generated(alloc: Global, rounds: u32) -> Result<Inputs, NoMemory>
     requires { rounds ≤ most_rounds }
     ensures { IfOk result (λ inputs. Start inputs.console.items inputs.schedule ≡ generated_plan rounds) }
@@ -140,7 +140,7 @@ fn generated(alloc: Global, rounds: u32) -> Result<Inputs, NoMemory>
     Ok(Inputs { console, schedule })
 }
 
-// What to play, or why nothing is played.
+// What to play; the error says why nothing is played.
 fn inputs_of<F: Folder>(alloc: Global, command: &Command, folder: &mut F) -> Result<Inputs, Status>
     requires { command.now.generate ≤ most_rounds }
     ensures start { IfOk result (λ inputs. IsPlanOf command.now.generate (F.files folder.old) (command_state command.now) (Start inputs.console.items inputs.schedule)) }
@@ -163,8 +163,8 @@ fn inputs_of<F: Folder>(alloc: Global, command: &Command, folder: &mut F) -> Res
     Ok(inputs)
 }
 
-// Puts the line that sums up the run of a generated session; of a run that was given up, nothing. The number of its status
-// stands in the line.
+// Puts the line that sums up the run of a generated session, with the number of the run's status.
+// If the run was given up, it puts nothing.
 fn sum_up<O: Sink>(rounds: u32, board: &Board, tally: Tally, out: &mut O) -> Status
     requires rounds { rounds ≤ most_rounds }
     requires all_put { tally.end ≢ ends.WriteFault }
@@ -192,7 +192,8 @@ fn sum_up<O: Sink>(rounds: u32, board: &Board, tally: Tally, out: &mut O) -> Sta
     }
 }
 
-// Plays the board of a session: what its steps write is put, or the line that sums a generated one up.
+// Plays the board of a session. It puts what the steps write or, for a generated session, one line
+// that sums them up.
 fn played<F: Folder, O: Sink>(
     alloc: Global,
     command: &Command,
@@ -263,9 +264,10 @@ fn session<F: Folder, O: Sink>(
     }
 }
 
-/// Plays the session that the words ask for: fetches the console file and the tick file from the folder,
-/// boots a board with the devices, and runs it until there is no further step, the limit is reached or
-/// a put fails. What the steps write goes to `out`, or of a generated session one line, and a text that tells how the session ended to `err`.
+/// Plays the session that the arguments ask for. It fetches the console file and the tick file from
+/// the folder, and boots a board with the devices. The board runs until no step is left, the limit
+/// is reached, a put or a read fails, or memory runs out. What the steps write goes to `out`; for a
+/// generated session, that is one line. The message for the status goes to `err`.
 pub fn play<'a, F: Folder, O: Sink, E: Sink>(
     alloc: Global,
     words: &'a [&'a str],

@@ -1,4 +1,4 @@
-//! The program: a session on a board with devices of its own.
+//! The program: a session on a board with the program's devices.
 
 ghost use Rattle.std.specs.Prelude.{◌≡◌, IfErr, IfOk, map};
 ghost use Rattle.wind_outside.specs.Counts.{Rose};
@@ -34,7 +34,8 @@ fn play_on<F: Folder, O: Sink, E: Sink>(
     play(alloc, words, folder, out, err, devices).status
 }
 
-// Makes the program's devices and plays a session with them. If memory runs out for them, nothing is played.
+// Makes the program's devices, and plays a session with them. If memory runs out for the devices,
+// nothing is played.
 fn play_with_devices<F: Folder, O: Sink, E: Sink>(
     alloc: Global,
     words: &[&str],
@@ -63,8 +64,8 @@ fn play_with_devices<F: Folder, O: Sink, E: Sink>(
     Ok(play_on(alloc, words, folder, out, err, devices))
 }
 
-/// Plays the session that the words ask for, on a board with a latch, a queue of bytes and a counter of events in slots 0, 1
-/// and 2. Returns the number with which the program ends.
+/// Plays the session that the arguments ask for. The board has a latch, a queue of bytes and a
+/// counter of events in slots 0, 1 and 2. Returns the exit status.
 pub fn play_program<F: Folder, O: Sink, E: Sink>(
     alloc: Global,
     words: &[&str],

@@ -1,4 +1,4 @@
-//! The texts that tell how a session ended.
+//! The messages for the statuses of a session.
 
 ghost use Rattle.std.specs.Prelude.{◌≡◌, ◌≤◌, ◌++◌, Some, codes};
 ghost use Rattle.std.specs.Fmt.{decimal};
@@ -13,7 +13,7 @@ use crate::ending::{Status, Which};
 use itoa::Buffer;
 use wind_outside::{Put, Sink};
 
-// Puts three pieces, up to the first that fails.
+// Puts three pieces, and stops at the first that fails.
 fn put_three<E: Sink>(err: &mut E, first: &[u8], second: &[u8], third: &[u8]) -> Put
     ensures done { result ≡ puts.Done → Appended (E.bytes err.old) (E.bytes err.new) (first.now ++ second.now ++ third.now) }
     ensures failed { result ≡ puts.Failed → IsCutShort (E.bytes err.old) (E.bytes err.new) (first.now ++ second.now ++ third.now) (Rose (E.faults err.old) (E.faults err.new)) }
@@ -33,7 +33,7 @@ fn put_three<E: Sink>(err: &mut E, first: &[u8], second: &[u8], third: &[u8]) ->
     }
 }
 
-// Puts a text of three pieces, or a front of it.
+// Puts a text of three pieces, or a prefix of it.
 fn put_pieces<E: Sink>(err: &mut E, first: &[u8], second: &[u8], third: &[u8])
     ensures told { IsTold (E.bytes err.old) (E.bytes err.new) (first.now ++ second.now ++ third.now) (Rose (E.faults err.old) (E.faults err.new)) }
     ensures faults { E.faults err.old ≤ E.faults err.new }
@@ -44,7 +44,7 @@ fn put_pieces<E: Sink>(err: &mut E, first: &[u8], second: &[u8], third: &[u8])
     }
 }
 
-/// Tells why the words are no command.
+/// Reports why the arguments give no command.
 pub fn tell_usage<E: Sink>(err: &mut E, text: &str)
     ensures told { IsTold (E.bytes err.old) (E.bytes err.new) text.now (Rose (E.faults err.old) (E.faults err.new)) }
     ensures faults { E.faults err.old ≤ E.faults err.new }
@@ -52,7 +52,7 @@ pub fn tell_usage<E: Sink>(err: &mut E, text: &str)
     put_pieces(err, text.as_bytes(), b"", b"");
 }
 
-/// Tells that host memory ran out.
+/// Reports that host memory ran out.
 pub fn tell_no_memory<E: Sink>(err: &mut E)
     ensures told { IsTold (E.bytes err.old) (E.bytes err.new) memory_text (Rose (E.faults err.old) (E.faults err.new)) }
     ensures faults { E.faults err.old ≤ E.faults err.new }
@@ -60,7 +60,7 @@ pub fn tell_no_memory<E: Sink>(err: &mut E)
     put_pieces(err, b"windplay: ", b"out of memory", b"\n");
 }
 
-// Tells that a line of the tick file of this name is outside its grammar.
+// Reports that a line of the tick file with this name is invalid.
 fn tell_bad_line<E: Sink>(err: &mut E, name: &[u8], line: u64)
     ensures told { IsTold (E.bytes err.old) (E.bytes err.new) (line_text name.now (codes ": line " ++ decimal line ++ codes " is not understood\n")) (Rose (E.faults err.old) (E.faults err.new)) }
     ensures faults { E.faults err.old ≤ E.faults err.new }
@@ -74,7 +74,7 @@ fn tell_bad_line<E: Sink>(err: &mut E, name: &[u8], line: u64)
     put_pieces(err, number, b" is not understood", b"\n");
 }
 
-// The name that the words give for a file.
+// The name that the arguments give for a file.
 fn name_of<'a>(command: &Command<'a>, file: Which) -> &'a [u8]
     ensures { result.now ≡ name_of_lem (command_state command.now) file }
 {
@@ -84,8 +84,8 @@ fn name_of<'a>(command: &Command<'a>, file: Which) -> &'a [u8]
     }
 }
 
-/// Tells how a command's session ended; a quiet end is told by nothing, and with a command there is no
-/// end by its usage.
+/// Reports how a command's session ended. A quiet end is not reported. With a command, the status
+/// is never `Usage`.
 #[tactic(auto, unfolding(crate::specs::Texts::status_text))]
 pub fn tell<E: Sink>(err: &mut E, command: &Command, status: Status)
     ensures told { IsTold (E.bytes err.old) (E.bytes err.new) (status_text (command_state command.now) status) (Rose (E.faults err.old) (E.faults err.new)) }

@@ -33,7 +33,7 @@ pub enum RunEnd {
     NoMemory,
 }
 
-// Puts what a step wrote, where it wrote something.
+// Puts what a step wrote, if it wrote anything.
 fn put_some<O: Sink>(out: &mut O, bytes: &[u8]) -> Put
     ensures done { result ≡ puts.Done → Appended (O.bytes out.old) (O.bytes out.new) bytes.now }
     ensures part { result ≡ puts.Failed → AppendedFront (O.bytes out.old) (O.bytes out.new) bytes.now }
@@ -48,8 +48,8 @@ fn put_some<O: Sink>(out: &mut O, bytes: &[u8]) -> Put
     out.put(bytes)
 }
 
-/// Makes steps, at most as many as the limit, and puts what each of them writes. The modules that they ask for are fetched
-/// from the folder.
+/// Makes steps, at most `limit`, and puts what each of them writes. The modules that the steps need
+/// are fetched from the folder.
 #[tactic(auto, using(crate::proofs::RunLemmas::quiet, crate::proofs::RunLemmas::at_limit))]
 pub fn run_board<F: Folder, O: Sink>(
     alloc: Global,
@@ -92,17 +92,17 @@ pub fn run_board<F: Folder, O: Sink>(
     RunEnd::Limit
 }
 
-/// A run that was counted, and not put.
+/// A run whose output was counted instead of put.
 #[derive(Clone, Copy)]
 pub struct Tally {
-    /// How it ended.
+    /// How the run ended.
     pub end: RunEnd,
-    /// How many bytes its steps wrote in all.
+    /// How many bytes its steps wrote in total.
     pub bytes: u128,
 }
 
-/// Makes steps, at most as many as the limit, and counts what each of them writes. The modules that they ask for are
-/// fetched from the folder.
+/// Makes steps, at most `limit`, and counts what each of them writes. The modules that the steps
+/// need are fetched from the folder.
 #[tactic(auto, using(crate::proofs::RunLemmas::quiet, crate::proofs::RunLemmas::at_limit))]
 pub fn count_board<F: Folder>(
     alloc: Global,

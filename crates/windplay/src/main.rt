@@ -1,5 +1,5 @@
-//! windplay plays a session of a wind kernel's shell on a modelled board: a console file goes in, the
-//! bytes of the console come out.
+//! windplay plays a session of a wind kernel's shell on a modelled board. It reads a console file
+//! and writes the bytes of the console.
 #![tactic(auto)]
 
 use std::alloc::{AllocError, Global};
@@ -10,7 +10,7 @@ use wind_base::NoMemory;
 use wind_outside::{HostFolder, HostSink, Sink};
 use wind_session::{Status, play_program, tell_no_memory};
 
-// Words that are no command, for arguments that are no text.
+// Words that are no command; they replace arguments that are not UTF-8.
 fn no_text(alloc: Global) -> Result<Vec<String>, AllocError> {
     let mut words = Vec::new(alloc);
     words.push("windplay".to_string(alloc)?)?;
@@ -18,7 +18,7 @@ fn no_text(alloc: Global) -> Result<Vec<String>, AllocError> {
     Ok(words)
 }
 
-// The words of the command line; some that are no command, where they are no text.
+// The arguments of the command line; if they are not UTF-8, words that are no command.
 fn words(rt: &HostRuntime) -> Result<Vec<String>, NoMemory> {
     match env::args(rt) {
         Ok(args) => args.collect(rt.alloc()).or(Err(NoMemory)),
@@ -27,7 +27,7 @@ fn words(rt: &HostRuntime) -> Result<Vec<String>, NoMemory> {
     }
 }
 
-// The same words, lent.
+// The same words, as borrowed texts.
 fn lent<'a>(alloc: Global, words: &'a [String]) -> Result<Vec<&'a str>, NoMemory> {
     words
         .iter()
@@ -36,8 +36,8 @@ fn lent<'a>(alloc: Global, words: &'a [String]) -> Result<Vec<&'a str>, NoMemory
         .or(Err(NoMemory))
 }
 
-// Plays the session that the words of the command line ask for, in the directory that the program runs in and with the
-// standard streams. Returns the number with which the program ends.
+// Plays the session that the arguments ask for, in the working directory and with the standard
+// streams. Returns the exit status.
 fn session<E: Sink>(rt: HostRuntime, err: &mut E) -> Result<u8, NoMemory> {
     let alloc = rt.alloc();
     let args = words(&rt)?;

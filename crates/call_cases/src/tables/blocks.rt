@@ -39,7 +39,7 @@ const GIVEN: [Step; 9] = [
         FIRST + 16,
         NOT_ENOUGH_MEMORY,
     ),
-    // a byte more than is left, and what is left
+    // one byte more than is left, and exactly what is left
     Step::Call(
         SHELL,
         Gate::Malloc,
@@ -59,7 +59,7 @@ const GIVEN: [Step; 9] = [
 const FREED: [Step; 10] = [
     Step::Call(SHELL, Gate::Malloc, [32, 0, 0, 0], FIRST, 0),
     Step::Call(SHELL, Gate::Free, [0; 4], OK, 0),
-    // within a block, and the block twice
+    // inside a block, and the same block twice
     Step::Call(SHELL, Gate::Free, [FIRST + 16, 0, 0, 0], ERROR, NOT_A_BLOCK),
     Step::Call(SHELL, Gate::Free, [FIRST, 0, 0, 0], OK, NOT_A_BLOCK),
     Step::Call(SHELL, Gate::ErrnoSet, [0; 4], OK, 0),
@@ -77,7 +77,7 @@ const FREED: [Step; 10] = [
     ),
 ];
 
-// The alignment is looked at first.
+// The alignment is checked first.
 const ALIGNED: [Step; 8] = [
     Step::Call(SHELL, Gate::Memalign, [3, 16, 0, 0], 0, BAD_ALIGN),
     Step::Call(
@@ -104,7 +104,7 @@ const ALIGNED: [Step; 8] = [
         0x2_0000,
         BAD_ALIGN,
     ),
-    // behind the first block
+    // after the first block
     Step::Call(SHELL, Gate::Memalign, [64, 16, 0, 0], FIRST + 32, BAD_ALIGN),
 ];
 

@@ -1,4 +1,4 @@
-//! The file that ld asks for, and the names that it refuses.
+//! The file that ld needs, and the names that it refuses.
 
 use super::{BAD_ADDRESS, NOT_ISR_CALLABLE, RAM_END};
 use crate::bench::{ROUTINE, SHELL};
@@ -8,14 +8,14 @@ use wind_base::words::ERROR;
 
 const NOT_SHELL: u32 = 0x43_0002;
 
-// Where the names are put: one of six bytes, one of none, and one of 256 bytes.
+// Where the names are: one of six bytes, an empty one, and one of 256 bytes.
 const PUMP: u32 = 0x1000;
 
 const NO_NAME: u32 = 0x1020;
 
 const TOO_LONG: u32 = 0x1200;
 
-// The mark, noAbort, the name. A name that is asked for changes nothing.
+// The words are the mark, noAbort and the name. A call that needs a file changes nothing.
 const ASKED: [Step; 9] = [
     Step::Write(PUMP, b"pump.o\0"),
     Step::Fill(TOO_LONG, 256, b'n'),

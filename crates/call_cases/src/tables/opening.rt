@@ -5,7 +5,8 @@ use crate::looks::{Look, TaskLook};
 use crate::steps::{Step, Table};
 use symbol_table::SymKind;
 
-// The pool begins with stacks of 20,000 and of 4,096 bytes. taskSpawn is gate 3 and d gate 51, 16 bytes a gate.
+// The pool begins with stacks of 20,000 and 4,096 bytes. taskSpawn is gate 3 and d is gate 51; each
+// gate has 16 bytes.
 const STANDING: [Step; 7] = [
     Step::See(Look::Block(0x1_0000, 20_000)),
     Step::See(Look::Block(0x1_4e20, 4096)),

@@ -1,4 +1,4 @@
-//! Calls of an interrupt routine.
+//! Calls from an interrupt routine.
 
 use super::{BAD_ADDRESS, ILLEGAL_PRIORITY, NOT_ISR_CALLABLE, OBJ_ID_ERROR, RAM_END};
 use crate::bench::{ROUTINE, SHELL};
@@ -7,7 +7,7 @@ use crate::steps::{Step, Table};
 use wind_base::Gate;
 use wind_base::words::{ERROR, OK};
 
-// At interrupt level 0 is no task.
+// At interrupt level, id 0 means no task.
 const ALLOWED: [Step; 17] = [
     Step::Call(ROUTINE, Gate::TaskSuspend, [SHELL, 0, 0, 0], OK, 0),
     Step::Call(ROUTINE, Gate::TaskSuspend, [0; 4], ERROR, OBJ_ID_ERROR),
@@ -77,7 +77,7 @@ const ALLOWED: [Step; 17] = [
     Step::Call(SHELL, Gate::ErrnoGet, [5, 0, 0, 0], 0, 0),
 ];
 
-// The other calls are refused, whatever they are given.
+// The other calls are refused, whatever their arguments are.
 const REFUSED: [Step; 13] = [
     Step::Call(
         ROUTINE,

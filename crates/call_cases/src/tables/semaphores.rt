@@ -1,4 +1,4 @@
-//! Semaphores, mutexes, safe sections and deletions, called by two tasks and the shell's.
+//! Semaphores, mutexes, safe sections and deletions, with two tasks and the shell's.
 
 use super::{INVALID_OPERATION, NOT_ISR_CALLABLE, NOT_SAFE, OBJ_ID_ERROR, OBJ_UNAVAILABLE};
 use crate::bench::{FRAME, ROUTINE, SHELL};
@@ -7,19 +7,20 @@ use crate::steps::{Step, Table};
 use wind_base::Gate;
 use wind_base::words::{ERROR, OK, WAIT_FOREVER};
 
-// The task of priority 100, the one of priority 50, and the object that is made after them.
+// The ids of the task with priority 100, the task with priority 50, and the object that is made
+// after them.
 const A: u32 = 2;
 
 const B: u32 = 3;
 
 const OBJECT: u32 = 4;
 
-// SEM_Q_PRIORITY, and with SEM_INVERSION_SAFE.
+// SEM_Q_PRIORITY, and the same with SEM_INVERSION_SAFE.
 const BY_PRIORITY: u32 = 1;
 
 const INHERITED: u32 = 9;
 
-// A begins to wait before B, which is handed the semaphore first.
+// A begins to wait before B, but B gets the semaphore first.
 const HANDED: [Step; 11] = [
     Step::Spawn(FRAME, [0, 100, 0], A, 0),
     Step::Spawn(FRAME, [0, 50, 0], B, 0),
@@ -40,7 +41,7 @@ const HANDED: [Step; 11] = [
     ),
 ];
 
-// A has B's priority for as long as B waits for its mutex.
+// A has B's priority while B waits for A's mutex.
 const LENT: [Step; 12] = [
     Step::Spawn(FRAME, [0, 100, 0], A, 0),
     Step::Spawn(FRAME, [0, 50, 0], B, 0),
@@ -68,7 +69,8 @@ const LENT: [Step; 12] = [
     Step::Call(B, Gate::SemDelete, [OBJECT, 0, 0, 0], OK, 0),
 ];
 
-// The shell's task asks for the deletion of a task that is safe, and asks again at the end of its safe section.
+// The shell's task calls for the deletion of a task that is safe, and calls again when the safe
+// section ends.
 const GUARDED: [Step; 12] = [
     Step::Spawn(FRAME, [0, 100, 0], A, 0),
     Step::Spawn(FRAME, [0, 50, 0], B, 0),

@@ -7,7 +7,8 @@ use crate::steps::{Step, Table};
 use wind_base::Gate;
 use wind_base::words::{ERROR, OK};
 
-// Where the names are put: one of four bytes, one of none, one of 40, and 1,024 bytes without an end.
+// Where the names are: one of four bytes, an empty one, one of 40 bytes, and 1,024 bytes without an
+// end.
 const PUMP: u32 = 0x1000;
 
 const NO_NAME: u32 = 0x1020;
@@ -16,10 +17,10 @@ const FORTY: u32 = 0x1100;
 
 const ENDLESS: u32 = 0x2000;
 
-// The frame of a caller whose seven words above r1 end where RAM does.
+// The frame of a caller whose seven words above r1 end at the end of RAM.
 const LAST_FRAME: u32 = 0x00ff_ffdc;
 
-// The words 4 to 10 stand above r1. The new frame is cleared.
+// The words 4 to 10 are above r1. The new frame is cleared.
 const TEN_WORDS: [Step; 8] = [
     Step::Write(PUMP, b"pump\0"),
     Step::Write(
@@ -40,7 +41,7 @@ const TEN_WORDS: [Step; 8] = [
     Step::See(Look::Output(b"")),
 ];
 
-// A stack has 512 bytes at least, in steps of 16; a name has 31 bytes at most.
+// A stack has at least 512 bytes, rounded up to 16; a name has at most 31 bytes.
 const STACKS: [Step; 12] = [
     Step::Write(PUMP, b"pump\0"),
     Step::Write(FORTY, b"0123456789012345678901234567890123456789\0"),
@@ -59,7 +60,8 @@ const STACKS: [Step; 12] = [
     Step::See(Look::Task(6, TaskLook::Made(b"pump", FIRST + 2064, FIRST + 22_000, 7))),
 ];
 
-// Each refusal has a later one beside it. Nothing is left of them: no block, no id, no number of a name.
+// Each refusal is also played when a later one would apply too. Refusals leave nothing behind: no
+// block, no id, no number of a name.
 const REFUSED: [Step; 12] = [
     Step::Write(PUMP, b"pump\0"),
     Step::Fill(ENDLESS, 1024, b'e'),
@@ -80,7 +82,7 @@ const REFUSED: [Step; 12] = [
     Step::See(Look::Tasks(2)),
 ];
 
-// The two words above r1, of which the second is outside RAM at first.
+// The two words above r1; at first the second is outside RAM.
 const QUICK: [Step; 8] = [
     Step::Write(RAM_END - 8, b"\0\0\0\x08\0\0\0\x09"),
     Step::Quick(RAM_END - 15, ERROR, BAD_ADDRESS),
@@ -98,8 +100,8 @@ const QUICK: [Step; 8] = [
     Step::See(Look::Output(b"task spawned: id = 0x2, name = t1\n")),
 ];
 
-// The shell's task is one of 256. The want of a block comes later, a bad address before. One that ends leaves its place
-// and its stack.
+// At most 256 tasks live, with the shell's task. The partition is checked after that
+// limit, and addresses before it. A task that ends frees its place and its stack.
 const TASKS_FULL: [Step; 10] = [
     Step::SpawnAll(2, 255),
     Step::Spawn(FRAME, [0, 0, RAM_END], ERROR, TOO_MANY),
@@ -116,7 +118,6 @@ const TASKS_FULL: [Step; 10] = [
     Step::See(Look::Task(257, TaskLook::Made(b"t256", FIRST, FIRST + 448, 100))),
 ];
 
-// The shell's task is one of 256.
 // All but 496 bytes are in a block.
 const PARTITION_FULL: [Step; 6] = [
     Step::Call(
@@ -139,7 +140,7 @@ const PARTITION_FULL: [Step; 6] = [
     Step::Spawn(FRAME, [0, 100, 0], 2, NOT_ENOUGH_MEMORY),
 ];
 
-// Tasks 2 and 3 have one name.
+// Tasks 2 and 3 have the same name.
 const NAMESAKES: [Step; 8] = [
     Step::Write(PUMP, b"pump\0"),
     Step::Spawn(FRAME, [PUMP, 100, 0], 2, 0),

@@ -8,7 +8,8 @@ use symbol_table::SymKind;
 use wind_base::Gate;
 use wind_base::words::{ERROR, OK};
 
-// Where the names are put: one of four bytes, one of none, one of 256 bytes, and 1,024 bytes without an end.
+// Where the names are: one of four bytes, an empty one, one of 256 bytes, and 1,024 bytes without
+// an end.
 const PUMP: u32 = 0x1000;
 
 const NO_NAME: u32 = 0x1020;
@@ -17,7 +18,7 @@ const TOO_LONG: u32 = 0x1200;
 
 const ENDLESS: u32 = 0x2000;
 
-// The table, the name, the kind.
+// The table is checked first, then the name, then the kind.
 const REFUSED: [Step; 13] = [
     Step::Write(PUMP, b"pump\0"),
     Step::Fill(TOO_LONG, 256, b'n'),
@@ -30,7 +31,7 @@ const REFUSED: [Step; 13] = [
     Step::Call(SHELL, Gate::SymAdd, [0, TOO_LONG, 5, 1], ERROR, BAD_ADDRESS),
     Step::Call(SHELL, Gate::SymAdd, [0, ENDLESS, 5, 0], ERROR, BAD_ADDRESS),
     Step::See(Look::Symbols(49)),
-    // 255 bytes are a name
+    // a name may have 255 bytes
     Step::Call(
         SHELL,
         Gate::SymAdd,
@@ -53,7 +54,7 @@ const ADDED: [Step; 9] = [
     Step::See(Look::Symbol(52, b"pump", 80, SymKind::AbsSym)),
 ];
 
-// There are 65,536 symbols at most, 49 calls among them. The kind is looked at before.
+// There are at most 65,536 symbols, 49 of them for calls. The kind is checked before.
 const FULL: [Step; 5] = [
     Step::Write(PUMP, b"pump\0"),
     Step::AddAll(PUMP, 65_487),
@@ -62,7 +63,6 @@ const FULL: [Step; 5] = [
     Step::See(Look::Symbols(65_536)),
 ];
 
-// There are 65,536 symbols at most, 49 calls among them.
 pub(super) const TABLES: [Table; 3] = [
     Table {
         name: "a symbol is refused in order",

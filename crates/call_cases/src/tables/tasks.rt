@@ -1,4 +1,4 @@
-//! The calls on tasks, made by the shell's task.
+//! The calls on tasks, from the shell's task.
 
 use super::{BAD_ADDRESS, ILLEGAL_PRIORITY, OBJ_ID_ERROR, RAM_END, TASK_NOT_FOUND};
 use crate::bench::{ROUTINE, SHELL};
@@ -7,7 +7,7 @@ use crate::steps::{Step, Table};
 use wind_base::Gate;
 use wind_base::words::{ERROR, OK};
 
-// A task that doesn't live, and no task's number.
+// The id of a task that doesn't live, and a number that is no task's id.
 const NOBODY: u32 = 2;
 
 const ABOVE_ALL: u32 = 0xffff_ffff;
@@ -24,7 +24,7 @@ const IDS: [Step; 10] = [
         OBJ_ID_ERROR,
     ),
     Step::Call(SHELL, Gate::ErrnoGet, [0; 4], OBJ_ID_ERROR, OBJ_ID_ERROR),
-    // an answer leaves the error number
+    // a call that succeeds leaves the error number as it was
     Step::Call(
         SHELL,
         Gate::TaskIdVerify,
@@ -45,7 +45,7 @@ const IDS: [Step; 10] = [
     ),
 ];
 
-// 0 is the caller. Only another can resume it.
+// 0 is the caller. Only another caller can resume it.
 const SUSPENSIONS: [Step; 6] = [
     Step::Call(
         SHELL,
@@ -67,7 +67,7 @@ const SUSPENSIONS: [Step; 6] = [
     Step::See(Look::Task(SHELL, TaskLook::Suspended(false))),
 ];
 
-// The task is looked for first. The priority goes to any address of which each of four bytes is in RAM.
+// The task is checked first. The priority goes to any address if all four bytes there are in RAM.
 const PRIORITIES: [Step; 11] = [
     Step::Call(
         SHELL,
@@ -131,23 +131,23 @@ const PRIORITIES: [Step; 11] = [
 ];
 
 const TIMES: [Step; 11] = [
-    // no lock is dropped that there isn't
+    // unlocking does nothing if there is no lock
     Step::Call(SHELL, Gate::TaskUnlock, [0; 4], OK, 0),
     Step::Call(SHELL, Gate::TaskLock, [0; 4], OK, 0),
     Step::Call(SHELL, Gate::TaskLock, [0; 4], OK, 0),
     Step::Call(SHELL, Gate::TaskUnlock, [0; 4], OK, 0),
     Step::See(Look::Task(SHELL, TaskLook::Locks(1))),
     Step::Call(SHELL, Gate::KernelTimeSlice, [5, 0, 0, 0], OK, 0),
-    // no tick has come
+    // no tick has occurred
     Step::Call(SHELL, Gate::TickGet, [5, 0, 0, 0], 0, 0),
     Step::Call(SHELL, Gate::TaskDelay, [0; 4], OK, 0),
     Step::See(Look::Task(SHELL, TaskLook::Wake(None))),
-    // a delay leaves r3 until it ends
+    // a delay leaves r3 as it was until it ends
     Step::Wait(SHELL, Gate::TaskDelay, [3, 0, 0, 0], 3, 0),
     Step::See(Look::Task(SHELL, TaskLook::Wake(Some(3)))),
 ];
 
-// Where the names are put: two strings, one of no bytes, and 1,024 bytes without an end.
+// Where the names are: two strings, an empty one, and 1,024 bytes without an end.
 const OWN_NAME: u32 = 0x1000;
 
 const OTHER_NAME: u32 = 0x1010;
@@ -183,7 +183,7 @@ const NAMES: [Step; 11] = [
         ERROR,
         TASK_NOT_FOUND,
     ),
-    // a string has 1,023 bytes at most
+    // a string has at most 1,023 bytes
     Step::Call(
         SHELL,
         Gate::TaskNameToId,

@@ -1,4 +1,4 @@
-//! Held-back interrupts, and the calls that write texts.
+//! Interrupts held back, and the calls that write texts.
 
 use super::{BAD_ADDRESS, NOT_ISR_CALLABLE, RAM_END};
 use crate::bench::{ROUTINE, SHELL};
@@ -30,7 +30,7 @@ const FORMAT: u32 = 0x1000;
 
 const PUMP: u32 = 0x1020;
 
-// A string that can't be read is the last value; nothing is then written.
+// If the last value is a string that can't be read, nothing is written.
 const PRINTED: [Step; 7] = [
     Step::Write(FORMAT, b"%d-%s\n\0"),
     Step::Write(PUMP, b"pump\0"),
@@ -59,7 +59,7 @@ const PRINTED: [Step; 7] = [
     Step::See(Look::Output(b"-7-pump\n")),
 ];
 
-// The caller is shown behind its gate.
+// The caller is shown after its gate.
 const TABLE: [Step; 3] = [
     Step::Call(SHELL, Gate::I, [0; 4], OK, 0),
     Step::Call(ROUTINE, Gate::I, [0; 4], ERROR, NOT_ISR_CALLABLE),
@@ -68,8 +68,8 @@ const TABLE: [Step; 3] = [
     )),
 ];
 
-// Without a width the units have two bytes, and without units there are 128 bytes. The width is looked at first, then
-// the size, then the address.
+// Width 0 means two bytes, and 0 units mean 128 bytes. The width is checked first, then the size,
+// then the address.
 const DUMPED: [Step; 10] = [
     Step::Write(PUMP, b"pump\x00\x7f"),
     Step::Call(SHELL, Gate::D, [PUMP, 3, 0, 0], OK, 0),
@@ -89,7 +89,7 @@ const DUMPED: [Step; 10] = [
     Step::See(Look::Output(b"00001020: 7075 6d70 007f  *pump..*\n00001020: 70756d70  *pump*\n")),
 ];
 
-// The names of symbols that have a text; there is no module yet.
+// The symbols whose names contain a text; there is no module yet.
 const LOOKED_UP: [Step; 8] = [
     Step::Write(PUMP, b"taskId\0"),
     Step::Call(SHELL, Gate::Lkup, [PUMP, 0, 0, 0], OK, 0),

@@ -1,4 +1,4 @@
-//! Calls on watchdogs, of the shell's task and of an interrupt routine.
+//! Calls on watchdogs, from the shell's task and from an interrupt routine.
 
 use super::{NOT_ISR_CALLABLE, OBJ_ID_ERROR};
 use crate::bench::{ROUTINE, SHELL};
@@ -13,7 +13,7 @@ const WATCHDOGS: [Step; 14] = [
     Step::Call(SHELL, Gate::WdCreate, [0; 4], 3, OBJ_ID_ERROR),
     Step::Call(SHELL, Gate::WdStart, [2, 5, 0x100, 7], OK, OBJ_ID_ERROR),
     Step::Call(SHELL, Gate::WdCancel, [2, 0, 0, 0], OK, OBJ_ID_ERROR),
-    // a routine starts and cancels, and neither makes nor deletes
+    // a routine may start and cancel, but not make or delete
     Step::Call(ROUTINE, Gate::WdStart, [3, 0, 0x100, 7], OK, 0),
     Step::Call(ROUTINE, Gate::WdCancel, [3, 0, 0, 0], OK, 0),
     Step::Call(ROUTINE, Gate::WdCancel, [1, 0, 0, 0], ERROR, OBJ_ID_ERROR),

@@ -5,7 +5,7 @@ use Rattle.std.proofs.lemmas.List.{take_all}
 use Rattle.board_mem.proofs.Stores.{IsMaking, AreStored-making, bytes_of-making, made_of-set, room_for_page}
 use Rattle.board_mem.proofs.store.make.Goals as goal
 
--- the page that is made
+-- the page that is created
 making : (c : goal.In-Ok) → IsMaking c.args.index.now c.args.store.now.items c.resize.new.self.items (vec_capacity c.args.store.now) c.args.page (c.len-len.result / 4096) (c.len-len.result + 4096 - vec_len c.args.store.now)
 making c =
     let room = room_for_page c.args.index.now c.args.store.now.items (vec_capacity c.args.store.now) c.args.page c.requires.stored c.requires.there c.requires.unmade in

@@ -4,7 +4,7 @@ use Rattle.wind_core.specs.State.{Lives}
 use Rattle.wind_machine.specs.Events.{heard_from, heard_all}
 use Rattle.board_turns.proofs.arrival.hear.Given as goal
 
--- the bytes that are left come to what the others changed
+-- hearing the bytes left, after what the others have done, is hearing them all
 abbrev pub invariant-loop-byte : goal.invariant-loop-byte
 invariant-loop-byte l = record {
   heard : heard_all (heard_from l.console l.shell l.kern l.out.bytes) (drop l.byte-index l.bytes) ≡ heard_all (heard_from l.initial.console l.initial.shell l.initial.kern l.initial.out.bytes) l.bytes;

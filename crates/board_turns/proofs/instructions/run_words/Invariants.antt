@@ -2,7 +2,7 @@ use Rattle.board_turns.specs.Instructions.{ExecutesMany}
 use Rattle.board_bus.specs.Seen.{bus_by}
 use Rattle.board_turns.proofs.instructions.run_words.Given as goal
 
--- so many were executed
+-- this many instructions were executed
 abbrev pub invariant-loop-made : goal.invariant-loop-made
 invariant-loop-made g l =
     let seen = bus_by (λ d. (goal.Device-dyn g (d.vtable, d.value)).kind_of d.value) (λ d. (goal.Device-dyn g (d.vtable, d.value)).words_of d.value) in

@@ -2,6 +2,6 @@ use Rattle.linked_lists.specs.Chains.{chain_at}
 use Rattle.delay_queue.proofs.Waiting.{Passed}
 use Rattle.delay_queue.proofs.gaps.place_of.Given as goal
 
--- so many were passed, and all of them are due at the wake or before
+-- the given number was passed, and their wakes are at most this one
 abbrev pub invariant-loop-passed : goal.invariant-loop-passed
 invariant-loop-passed l = Passed (chain_at l.tasks.chains 0) l.wake l.next l.left l._passed

@@ -2,7 +2,7 @@ use Rattle.std.proofs.Common.{◌+◌, ◌++◌, ◌∙◌, sym, ap, string_byte
 use Rattle.generated_session.specs.Session.{round, rounds}
 use Rattle.generated_session.proofs.inputs.add_rounds.Goals as goal
 
--- the lines of one number more were added
+-- the lines of one more round were added
 pub loop-made-preserved : goal.loop-made-preserved
 loop-made-preserved c =
     let made = c.loop-made.made in

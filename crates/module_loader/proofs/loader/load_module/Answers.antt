@@ -20,7 +20,7 @@ use Rattle.module_loader.proofs.loader.load_module.Goals as goal
 use Rattle.module_loader.proofs.loader.load_module.Goals.{After-check_counts, In-Ok-place}
 
 abbrev start : (c : After-check_counts) → LoaderState
-start c = state_of c.args.kern.now c.args.syms.now.list c.args.table.now.rows c.args.part.now c.args.ram.now
+start c = state_of c.args.kern.now c.args.syms.now.list c.args.table.now.rows c.args.part.now c.args.ram.now.bytes
 
 pub returns-in-Err-clause-refused : goal.returns-in-Err-clause-refused
 returns-in-Err-clause-refused c =
@@ -37,9 +37,9 @@ returns-in-Err-place-clause-refused c =
     (subst (λ (xs : List Symbol). IsVerdict (place_verdict c.args.m.now xs (places_of c.args.part.now (needs_of c.args.m.now))) c.in-Err-place.e) c.check_counts.ensures.list
     (subst (λ (z : Needs). IsVerdict (place_verdict c.args.m.now c.check_counts.new.syms.list (places_of c.args.part.now z)) c.in-Err-place.e) c.in-Ok.ensures c.in-Err-place.ensures.refused))
 
-fits : (c : In-Ok-place) → Fitting c.in-Ok.needs c.in-Ok-place.r.0 (length c.args.ram.now) (length c.in-Ok-place.r.1.bytes.items)
+fits : (c : In-Ok-place) → Fitting c.in-Ok.needs c.in-Ok-place.r.0 (length c.args.ram.now.bytes) (length c.in-Ok-place.r.1.bytes.items)
 fits c =
-    fitting c.args.part.now c.in-Ok.needs c.in-Ok-place.r.0 (length c.args.ram.now) (length c.in-Ok-place.r.1.bytes.items)
+    fitting c.args.part.now c.in-Ok.needs c.in-Ok-place.r.0 (length c.args.ram.now.bytes) (length c.in-Ok-place.r.1.bytes.items)
     c.place.ensures.sound c.requires.pool c.in-Ok-place.ensures.made.size c.in-Ok-place.ensures.placed
 
 pub make_record-row-requires-clause-text : goal.make_record-row-requires-clause-text
@@ -78,7 +78,7 @@ returns-clause-accepted c =
     let adds = c.in-Ok-place.r.1.exports.items in
     let same : c.check_counts.new.kern ≡ c.args.kern.now = c.check_counts.ensures.same in
     is_loaded (start k) c.args.name c.args.m.now c.args.mode at bytes adds
-    c.commit.new.kern c.commit.new.syms.list c.commit.new.table.rows c.place.new.part c.commit.new.ram
+    c.commit.new.kern c.commit.new.syms.list c.commit.new.table.rows c.place.new.part c.commit.new.ram.bytes
     (subst (λ n. count_by (length c.args.table.now.rows) c.args.kern.now.next_id (length c.args.syms.now.list + n) ≡ None) (c.count_added-added.ensures ∙ ap (export_count c.args.mode) c.as_slice.ensures) c.in-Ok-check_counts.ensures.none)
     (subst (λ (z : Needs). places_of c.args.part.now z ≡ Ok at) c.in-Ok.ensures c.in-Ok-place.ensures.placed)
     (subst (λ (z : Needs). IsMade (image c.args.m.now c.args.syms.now.list at) z bytes) c.in-Ok.ensures
@@ -90,4 +90,4 @@ returns-clause-accepted c =
     ∙ ap (λ (x : KernState). c.args.table.now.rows ++ (x.next_id, c.make_record-row.result) ∷ []) same
     ∙ ap (λ (r : LoadedModule). c.args.table.now.rows ++ (c.args.kern.now.next_id, r) ∷ []) (c.make_record-row.ensures ∙ ap (λ (z : Needs). record_of c.args.name z at) c.in-Ok.ensures))
     (c.in-Ok-place.ensures.after ∙ ap (with_needs c.args.part.now) c.in-Ok.ensures)
-    (c.commit.ensures.ram ∙ ap (λ (z : Needs). stored_all c.args.ram.now (three_pieces at (in_block (take z.text.size bytes)) (in_block (drop z.text.size bytes)) (in_block (replicate z.bss.size 0)))) c.in-Ok.ensures)
+    (c.commit.ensures.ram ∙ ap (λ (z : Needs). stored_all c.args.ram.now.bytes (three_pieces at (in_block (take z.text.size bytes)) (in_block (drop z.text.size bytes)) (in_block (replicate z.bss.size 0)))) c.in-Ok.ensures)

@@ -1,4 +1,4 @@
--- Each arm of the match makes the registers that its row's equation says.
+-- Each arm of the match makes the registers of its row's equation.
 use Rattle.std.proofs.Common.{rules}
 use Rattle.ppc_core.specs.Instructions.{effect_of}
 use Rattle.ppc_core.proofs.execution.run.Goals as goal

@@ -13,7 +13,7 @@ pub read-requires-clause-form : goal.read-requires-clause-form
 read-requires-clause-form c =
     rw (c.pattern.ensures, c.place_of.ensures.is, pieces_of-at (number c.args.row) (number-below c.args.row)) (whole-at (number c.args.row) (number-below c.args.row))
 
--- six places with the fields by these pieces
+-- the fields of a word by these pieces, in six places
 abbrev six : List Piece → ℕ → List ℕ
 six ps w = parts ps w ++ replicate (6 - fields ps) 0
 

@@ -11,7 +11,7 @@ front-requires-clause-short c = omega (arith, c.loop-first.invariant.few, c.loop
 pub behind-left-requires : goal.behind-left-requires
 behind-left-requires c = omega (arith, token_fits c.loop-first.spot c.in-Some.first.now c.in-Some.rest.now, ap (λ (x : Token × ℕ). x.1) c.in_ok-token.ensures)
 
--- the token at the front and its column go to the ends of the lists
+-- the first token and its column are added at the ends of the lists
 pub loop-first-preserved : goal.loop-first-preserved
 loop-first-preserved c =
     let spot = c.loop-first.spot in

@@ -2,7 +2,7 @@ use Rattle.std.proofs.Common.{◌≡◌, ◌≤◌, drop}
 use Rattle.std.specs.Str.Parse.{digits_value_after, digits_value}
 use Rattle.shell_parse.proofs.literal.value_within.Given as goal
 
--- the value of the digits so far, and what follows of it
+-- the value of the digits so far, and what follows from it
 abbrev pub invariant-loop-byte : goal.invariant-loop-byte
 invariant-loop-byte l = record {
   small : l.value ≤ 0xffffffff;

@@ -9,7 +9,7 @@ use Rattle.task_safety.specs.Deletion.{is_repeated, asked, after}
 use Rattle.task_safety.proofs.Targets.{again_lives, lessen_lives, says}
 use Rattle.task_safety.proofs.deleting.delete.Goals as goal
 
--- the caller's mark, by what the call does
+-- the caller's mark, depending on what the call does
 marked : (s k : KernState) (caller : ℕ) (d e : Deed) → k ≡ set_again s caller (is_repeated d) → d ≡ e → k ≡ set_again s caller (is_repeated e)
 marked s k caller d e is same = is ∙ ap (λ x. set_again s caller (is_repeated x)) same
 

@@ -6,7 +6,7 @@ use Rattle.text_show.proofs.memory.add_lines.Goals as goal
 
 pub loop-number-preserved : goal.loop-number-preserved
 loop-number-preserved c =
-    let ram = c.args.ram.now in
+    let ram = c.args.ram.now.bytes in
     let bytes = bytes_at ram c.args.at c.args.n in
     let number = c.loop-number.number in
     let page = c.loop-number.page.items in

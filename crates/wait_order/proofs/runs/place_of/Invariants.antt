@@ -2,6 +2,6 @@ use Rattle.std.proofs.Common.{◌≤◌, length}
 use Rattle.wait_order.specs.Inside.{waiters_in, IsBehind}
 use Rattle.wait_order.proofs.runs.place_of.Given as goal
 
--- all that were passed precede the waiter
+-- all waiters passed so far precede the new one
 abbrev pub invariant-loop-passed : goal.invariant-loop-passed
 invariant-loop-passed l = (b : IsBehind (waiters_in l.waiters.chains) l.next l.waiter) × (l._passed ≤ length b.front)

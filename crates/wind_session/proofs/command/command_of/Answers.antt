@@ -11,7 +11,7 @@ use Rattle.wind_session.proofs.command.command_of.Goals as goal
 pub returns-in-Err-2-clause-usage : goal.returns-in-Err-2-clause-usage
 returns-in-Err-2-clause-usage c = λ other. refused_words _ _ c.in-Err-2.error c.in_ok-app.ensures c.in-Err-2.ensures.kinds (search rules)
 
--- a number is out of form
+-- a number is invalid
 pub returns-in_default-clause-usage : goal.returns-in_default-clause-usage
 returns-in_default-clause-usage c = λ other.
     let taken = taken_words _ _ c.in-Ok.matches c.in_ok-app.ensures c.in-Ok.ensures.kinds c.in-Ok.ensures.ok.2 in

@@ -1,4 +1,4 @@
-use Rattle.std.proofs.Common.{◌∙◌, ◌∷◌, [], Some, true, refl, sym, ap, subst}
+use Rattle.std.proofs.Common.{◌∙◌, ◌∷◌, [], Some, true, sym, ap, subst}
 use Rattle.std.specs.Str.{IsUtf8}
 use Rattle.wind_outside.specs.Requests as outcomes
 use Rattle.live_loading.specs.Said.{Held, TooLong, Missing}
@@ -8,12 +8,12 @@ use Rattle.wind_session.proofs.FetchLemmas.{grows_none, no_text_module, path_req
 use Rattle.wind_session.proofs.ModuleLemmas.{of_text, of_no_text, found_said, missing_said, long_said}
 use Rattle.wind_session.proofs.modules.fetched_module.Goals as goal
 
--- the name is no text
+-- the name isn't UTF-8
 pub returns-in_default-clause-said : goal.returns-in_default-clause-said
 returns-in_default-clause-said g c =
     of_no_text (g.F.Folder.files c.args.folder.now) c.args.name.now (module_path c.args.modules.now c.args.name.now) (λ text. c.in_default.ensures.cases.0 (subst IsUtf8 (sym c.bytes.ensures.value) text))
 
--- what a fetch from its path tells
+-- what a fetch from the module's path tells
 pub returns-in-Found-clause-said : goal.returns-in-Found-clause-said
 returns-in-Found-clause-said g c =
     let files = g.F.Folder.files c.args.folder.now in
@@ -36,7 +36,7 @@ returns-in-TooLong-clause-said g c =
     (subst (λ path. IsSaidBy true files path TooLong) at (long_said files c.deref.result.now c.in-TooLong.ensures.told))
 
 -- ---- the requests
--- the name is no text
+-- the name isn't UTF-8
 pub returns-in_default-clause-requested : goal.returns-in_default-clause-requested
 returns-in_default-clause-requested g c =
     let before = g.F.Folder.requests c.args.folder.now in

@@ -1,4 +1,4 @@
-use Rattle.std.proofs.Common.{◌≡◌, ◌∙◌, Some, None, refl, sym, ap, subst}
+use Rattle.std.proofs.Common.{◌≡◌, ◌∙◌, Some, None, refl, sym, subst}
 use Rattle.live_loading.specs.Said.{Missing}
 use Rattle.wind_outside.specs.Requests as outcomes
 use Rattle.wind_outside.specs.Requests.{GrowsBy}
@@ -7,11 +7,11 @@ use Rattle.wind_session.proofs.FetchLemmas.{grows_none, stops_before}
 use Rattle.wind_machine.proofs.Asking.{asked_may}
 use Rattle.wind_session.proofs.modules.step.Goals as goal
 
--- a step that asks for a file may lack memory
+-- a step that needs a file may run out of memory
 pub returns-in-NeedsFile-clause-no_memory : goal.returns-in-NeedsFile-clause-no_memory
 returns-in-NeedsFile-clause-no_memory g c = λ e. asked_may _ c.in-NeedsFile.name c.in-NeedsFile.ensures.file
 
--- a step that asks for no file makes no request
+-- a step that needs no file makes no request
 pub returns-in-Stepped-clause-made : goal.returns-in-Stepped-clause-made
 returns-in-Stepped-clause-made g c = λ e. (
   Missing,

@@ -4,7 +4,7 @@ use Rattle.wind_session.proofs.FetchLemmas.{rounds_none, rounds_unread}
 use Rattle.wind_session.proofs.PlanLemmas.{refuses_memory}
 use Rattle.wind_session.proofs.playing.inputs_of.Goals as goal
 
--- a generated session is refused for want of memory alone
+-- a generated session is refused only if memory runs out
 pub returns-in_default-clause-refused : goal.returns-in_default-clause-refused
 returns-in_default-clause-refused g c =
     refuses_memory (g.F.Folder.files c.args.folder.now) (command_state c.args.command.now) (Rose (g.F.Folder.faults c.args.folder.now) (g.F.Folder.faults c.args.folder.now))
@@ -12,6 +12,6 @@ returns-in_default-clause-refused g c =
 pub returns-in_default-clause-without_run : goal.returns-in_default-clause-without_run
 returns-in_default-clause-without_run g c = rounds_unread c.args.command.now.generate (command_state c.args.command.now) (g.F.Folder.requests c.args.folder.now)
 
--- and asks for no file
+-- and needs no file
 pub returns-clause-found : goal.returns-clause-found
 returns-clause-found g c = rounds_none c.args.command.now.generate (command_state c.args.command.now) (g.F.Folder.requests c.args.folder.now) c.if-command-eq0.false

@@ -11,12 +11,12 @@ use Rattle.wind_session.proofs.PlanLemmas.{some_plan}
 use Rattle.wind_session.proofs.ToldLemmas.{memory_is_text}
 use Rattle.wind_session.proofs.playing.play.Goals as goal
 
--- words that are no command
+-- the arguments are invalid
 pub returns-in-Err-Usage-clause-machine : goal.returns-in-Err-Usage-clause-machine
 returns-in-Err-Usage-clause-machine g c =
     rw c.refused.ensures (rw (c.in-Err-Usage.ensures.usage (λ e. cc)) (record { plan = Refuse status.Usage; planned = refl; leaves = (refl, record { bytes = refl; pieces = refl; refusal = refl; fetches = refl }) }))
 
--- want of memory, before it is known what the words are
+-- memory ran out before it is known what the arguments ask for
 pub returns-in-Err-NoMemory-clause-machine : goal.returns-in-Err-NoMemory-clause-machine
 returns-in-Err-NoMemory-clause-machine g c =
     let some = some_plan (g.F.Folder.files c.args.folder.now) (command_of (map {A = Bor (List ℕ)} {B = List ℕ} (λ w. w.now) c.args.words.now)) in
@@ -26,7 +26,7 @@ pub returns-in-Err-NoMemory-clause-err : goal.returns-in-Err-NoMemory-clause-err
 returns-in-Err-NoMemory-clause-err g c =
     rw c.refused-in-Err-NoMemory.ensures (record { text = memory_text; text_is = memory_is_text _; told = c.tell_no_memory.ensures.told })
 
--- it is complete as the session of its command is
+-- playing is complete if the session of the command is
 pub returns-clause-complete : goal.returns-clause-complete
 returns-clause-complete g c =
     subst (λ (o : Option CommandState). IsComplete c.session-ending.result.status o (g.F.Folder.files c.args.folder.now)

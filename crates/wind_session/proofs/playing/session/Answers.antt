@@ -64,7 +64,7 @@ pub played-status-requires-clause-fresh : goal.played-status-requires-clause-fre
 unfolding opening
 played-status-requires-clause-fresh g c = ap (λ (s : State). s.steps) c.in-Ok-boot.ensures.ok
 
--- the board that is left has the kept facts, and so what is so at each instant
+-- the board that is left keeps the invariant, and so what holds at each instant
 pub returns-clause-kept : goal.returns-clause-kept
 returns-clause-kept g c = (c.facts.ensures, c.instant_law.ensures _ c.facts.ensures)
 

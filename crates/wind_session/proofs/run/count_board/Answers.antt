@@ -1,4 +1,4 @@
-use Rattle.std.proofs.Common.{◌+◌, ◌∙◌, ap, sym, arith, refl, length}
+use Rattle.std.proofs.Common.{◌+◌, ◌∙◌, ap, arith, refl, length}
 use Rattle.wind_session.specs.Modules.{Shelf}
 use Rattle.wind_session.proofs.Saying.{saying}
 use Rattle.wind_session.proofs.RunLemmas.{nothing_said, begun, further, bytes_on, quiet, lacking, unread, at_limit}
@@ -31,7 +31,7 @@ loop-made-preserved g c =
       folder_faults = omega (arith, c.in-Made.ensures.faults, c.loop-made.invariant.folder_faults);
     }
 
--- behind a burst there are fewer
+-- after a burst the steps are still below the bound
 pub step-requires : goal.step-requires
 step-requires g c =
     let shelf : Shelf = record { files = g.F.Folder.files c.args.folder.now; name = c.args.modules.now } in
@@ -51,7 +51,7 @@ returns-then-made-limit-clause-counted g c =
       all_put = λ e. cc;
     }
 
--- there is no further step
+-- no step is left
 pub returns-in-Quiet-clause-counted : goal.returns-in-Quiet-clause-counted
 returns-in-Quiet-clause-counted g c =
     let shelf : Shelf = record { files = g.F.Folder.files c.args.folder.now; name = c.args.modules.now } in

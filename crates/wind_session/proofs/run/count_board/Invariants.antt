@@ -4,7 +4,7 @@ use Rattle.board_player.specs.Seen.{board_by}
 use Rattle.wind_session.proofs.RunLemmas.{Behind}
 use Rattle.wind_session.proofs.run.count_board.Given as goal
 
--- so many steps were made, and all that they wrote was counted
+-- this many steps were made, and all that they wrote was counted
 abbrev pub invariant-loop-made : goal.invariant-loop-made
 invariant-loop-made g l =
     let state = board_by (λ d. (goal.Device-dyn g (d.vtable, d.value)).kind_of d.value) (λ d. (goal.Device-dyn g (d.vtable, d.value)).words_of d.value) in

@@ -1,4 +1,4 @@
-use Rattle.std.proofs.Common.{◌+◌, ◌∙◌, sym, subst, arith, refl}
+use Rattle.std.proofs.Common.{◌+◌, ◌∙◌, subst, arith, refl}
 use Rattle.wind_outside.specs.Told.{Appended}
 use Rattle.wind_session.specs.Modules.{Shelf}
 use Rattle.wind_session.proofs.Saying.{saying}
@@ -44,14 +44,14 @@ returns-then-made-limit-clause-ran g c =
     let run = runs_on c.silent_law.ensures shelf _ _ _ _ _ _ _ c.loop-made.invariant.run c.burst-made.result (omega (arith, c.burst-made.ensures.within)) _ c.burst-made.ensures.made in
     record { said = c.loop-made.invariant.said; k = c.loop-made.made + c.burst-made.result; made = at_limit shelf _ _ _ _ _ _ _ run (omega arith); written = record { gained = (subst (Appended _ _) (as_written c.silent_law.ensures shelf _ _ _ _ _ _ _ c.loop-made.invariant.run _ _ c.burst-made.ensures.made) c.loop-made.invariant.written); pieces = (subst (GrowsBy _ _) (as_put c.silent_law.ensures shelf _ _ _ _ _ _ _ c.loop-made.invariant.run _ _ c.burst-made.ensures.made) c.loop-made.invariant.pieces) } }
 
--- behind a burst there are fewer
+-- after a burst the steps are still below the bound
 pub step-requires : goal.step-requires
 step-requires g c =
     let shelf : Shelf = record { files = g.F.Folder.files c.args.folder.now; name = c.args.modules.now } in
     let run = runs_on c.silent_law.ensures shelf _ _ _ _ _ _ _ c.loop-made.invariant.run c.burst-made.result (omega (arith, c.burst-made.ensures.within)) _ c.burst-made.ensures.made in
     omega (arith, run.counted, c.requires.bound, c.burst-made.ensures.within, c.if-made-limit.false)
 
--- there is no further step
+-- no step is left
 pub returns-in-Quiet-clause-ran : goal.returns-in-Quiet-clause-ran
 returns-in-Quiet-clause-ran g c =
     let shelf : Shelf = record { files = g.F.Folder.files c.args.folder.now; name = c.args.modules.now } in

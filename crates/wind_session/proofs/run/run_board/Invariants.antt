@@ -7,7 +7,7 @@ use Rattle.wind_session.specs.Pieces.{pieces_of}
 use Rattle.wind_session.proofs.RunLemmas.{Behind}
 use Rattle.wind_session.proofs.run.run_board.Given as goal
 
--- so many steps were made, and all that they wrote was put
+-- this many steps were made, and all that they wrote was put
 abbrev pub invariant-loop-made : goal.invariant-loop-made
 invariant-loop-made g l =
     let state = board_by (λ d. (goal.Device-dyn g (d.vtable, d.value)).kind_of d.value) (λ d. (goal.Device-dyn g (d.vtable, d.value)).words_of d.value) in

@@ -10,4 +10,4 @@ told : (b : BusState) (at n : ℕ) (t : Bool) → t ≡ has b.ram at n → t ≡
 told b at n t e = e ∙ has-all_ram b at n
 
 pub returns-clause-is : goal.returns-clause-is
-returns-clause-is g c = told (record { ram = c.args.self.now.ram; slots = [] }) c.args.addr c.args.n _ c.has.ensures.is
+returns-clause-is g c = told (record { ram = c.args.self.now.ram.bytes; slots = [] }) c.args.addr c.args.n _ c.has.ensures.is

@@ -25,7 +25,7 @@ window c =
       there = omega (arith, size, length-bytes_of c.self.inside.size c.self.inside.index.items c.self.inside.store.items);
     }
 
--- what is put, and where
+-- the written bytes and their place
 put_is : (c : goal.After-self-2-1) → IsPut c.self.inside.size c.self.inside.index.items c.self.inside.store.items c.place_made-start.new.index c.place_made-start.new.store.items (with_items c.self.inside.index c.place_made-start.new.index).items (with_items c.place_made-start.new.store c.put_in.new.store).items (vec_capacity c.self.inside.store) (vec_capacity c.place_made-start.new.store) c.args.at c.args.src.now
 put_is c = record {
   window = window c;

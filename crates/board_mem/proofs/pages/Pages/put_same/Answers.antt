@@ -26,7 +26,7 @@ window c =
       there = omega (arith, count, size, length-bytes_of c.self.inside.size c.self.inside.index.items c.self.inside.store.items);
     }
 
--- what is put, and where
+-- the written bytes and their place
 put_is : (c : goal.After-self-2-1) → IsPut c.self.inside.size c.self.inside.index.items c.self.inside.store.items c.place_made-start.new.index c.place_made-start.new.store.items (with_items c.self.inside.index c.place_made-start.new.index).items (with_items c.place_made-start.new.store c.fill_in.new.store).items (vec_capacity c.self.inside.store) (vec_capacity c.place_made-start.new.store) c.args.at (replicate c.args.n c.args.byte)
 put_is c = record {
   window = window c;

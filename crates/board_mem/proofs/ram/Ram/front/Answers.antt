@@ -2,6 +2,7 @@ use Rattle.std.proofs.Common.{◌≡◌, ◌+◌, min, length, take, drop, ap, �
 use Rattle.std.proofs.lemmas.List.{length-drop, length-take, take_at, take_min}
 use Rattle.wind_base.specs.Limits.{longest_string}
 use Rattle.board_mem.specs.Memory.{bytes_at}
+use Rattle.board_mem.specs.Pages.{PagesState}
 use Rattle.board_mem.proofs.Moves.{length-bytes_at}
 use Rattle.board_mem.proofs.ram.Ram.front.Goals as goal
 
@@ -14,4 +15,4 @@ returns-clause-front c =
     let size : length c.get_across.new.dst ≡ count = ap length copied ∙ length-bytes_at ram c.args.addr count (omega arith) in
     let all : count ≡ min (longest_string + 1) (length (drop c.args.addr ram)) = omega (arith, length-drop c.args.addr ram) in
     take_at c.get_across.new.dst _ count size ∙ copied ∙ ap (bytes_at ram c.args.addr) all ∙ take_min (longest_string + 1) (drop c.args.addr ram)
-    ∙ ap (λ r. bytes_at r c.args.addr (longest_string + 1)) c.self.view_is
+    ∙ ap (λ (r : PagesState). bytes_at r.bytes c.args.addr (longest_string + 1)) c.self.view_is

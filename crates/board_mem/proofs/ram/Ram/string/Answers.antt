@@ -6,7 +6,7 @@ use Rattle.board_mem.proofs.ram.Ram.string.Goals as goal
 
 pub returns : goal.returns
 returns c =
-    let ram = c.args.self.now in
+    let ram = c.args.self.now.bytes in
     let n = c.in_ok-length.length in
     let bytes = take-front ram c.front-count.new.bytes c.args.addr c.front-count.result n c.front-count.ensures.front c.in_ok-length.ensures.within in
     let found : Some n ≡ string_length ram c.args.addr = c.in_ok-length.ensures.is ∙ ap (position (λ b. b == 0)) c.front-count.ensures.front in

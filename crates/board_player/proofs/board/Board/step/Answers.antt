@@ -1,4 +1,4 @@
-use Rattle.std.proofs.Common.{sym, refl, ◌∙◌}
+use Rattle.std.proofs.Common.{◌∙◌}
 use Rattle.live_loading.specs.Said.{Missing}
 use Rattle.board_player.proofs.Answering.{steps_on}
 use Rattle.board_player.proofs.Keeping.{kept}

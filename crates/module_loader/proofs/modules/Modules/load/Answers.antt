@@ -8,8 +8,8 @@ use Rattle.module_loader.proofs.modules.Modules.load.Goals as goal
 pub returns-clause-kept : goal.returns-clause-kept
 returns-clause-kept c =
     kept_after_load c.load_file.result
-    (state_of c.args.kern.now c.args.syms.now.list c.self.inside.table.rows c.args.part.now c.args.ram.now)
-    (state_of c.load_file.new.kern c.load_file.new.syms.list c.load_file.new.table.rows c.load_file.new.part c.load_file.new.ram)
+    (state_of c.args.kern.now c.args.syms.now.list c.self.inside.table.rows c.args.part.now c.args.ram.now.bytes)
+    (state_of c.load_file.new.kern c.load_file.new.syms.list c.load_file.new.table.rows c.load_file.new.part c.load_file.new.ram.bytes)
     c.args.name c.args.file.now c.args.mode
-    (subst (λ (rs : List (ℕ × LoadedModule)). KeepsModules (state_of c.args.kern.now c.args.syms.now.list rs c.args.part.now c.args.ram.now)) (sym c.self.view_is) c.requires)
+    (subst (λ (rs : List (ℕ × LoadedModule)). KeepsModules (state_of c.args.kern.now c.args.syms.now.list rs c.args.part.now c.args.ram.now.bytes)) (sym c.self.view_is) c.requires)
     c.load_file.ensures.sound c.load_file.ensures.accepted c.load_file.ensures.unchanged

@@ -20,6 +20,6 @@ fits size buffer room most n held m all front e there =
 pub unreachable-requires : goal.unreachable-requires
 unreachable-requires c =
     let q = c.queue.result.now in
-    let ok = fits (length c.args.ram.now) c.args.buffer c.args.room q.max_len c.min-n.result q.held c.in-Some.bytes.now (c.requires.short q c.queue.ensures) c.in-Some.ensures c.min-n.ensures (c.requires.there q c.queue.ensures) in
+    let ok = fits (length c.args.ram.now.bytes) c.args.buffer c.args.room q.max_len c.min-n.result q.held c.in-Some.bytes.now (c.requires.short q c.queue.ensures) c.in-Some.ensures c.min-n.ensures (c.requires.there q c.queue.ensures) in
     let lost = c.in_default-copy_in.ensures.ok.1 ok in
     absurd (cc)

@@ -14,7 +14,7 @@ put_is f rs asks id x y q here is there = ap (λ z. queues_in (with_object rs id
 pub returns : goal.returns
 returns c =
     let k = c.self.inside in
-    let f : QueueState → QueueState = added c.args.urgent (bytes_at c.args.ram.now c.args.buffer c.args.count) in
+    let f : QueueState → QueueState = added c.args.urgent (bytes_at c.args.ram.now.bytes c.args.buffer c.args.count) in
     subst
     (λ (s : QueuesState). (q : QueueState) → object_of s.queues c.args.id ≡ Some q → queues_in (with_object k.queues.rows c.args.id c.push.new.self) k.asks.items ≡ record s { queues = with_object s.queues c.args.id (f q) })
     c.self.view_is

@@ -7,95 +7,95 @@ use Rattle.msg_queue.proofs.queues.Queues.send.Goals as goal
 
 pub hand_over-requires-clause-live : goal.hand_over-requires-clause-live
 hand_over-requires-clause-live c =
-    let s = scene c.args.kern.now c.args.self.now c.args.ram.now in
+    let s = scene c.args.kern.now c.args.self.now c.args.ram.now.bytes in
     passed_live s c.args.id c.args.words c.in-PassedOn.ask c.in-PassedOn.ensures c.requires.kept
 
 pub hand_over-requires-clause-place : goal.hand_over-requires-clause-place
 hand_over-requires-clause-place c =
-    let s = scene c.args.kern.now c.args.self.now c.args.ram.now in
+    let s = scene c.args.kern.now c.args.self.now c.args.ram.now.bytes in
     passed_place s c.args.id c.args.words c.in-PassedOn.ask c.in-PassedOn.ensures c.requires.kept
 
 pub put_message-requires-clause-live : goal.put_message-requires-clause-live
 put_message-requires-clause-live c =
-    let s = scene c.args.kern.now c.args.self.now c.args.ram.now in
+    let s = scene c.args.kern.now c.args.self.now c.args.ram.now.bytes in
     queued_live s c.args.id c.args.words c.in-Queued.at c.in-Queued.ensures
 
 pub put_message-requires-clause-there : goal.put_message-requires-clause-there
 put_message-requires-clause-there c =
-    let s = scene c.args.kern.now c.args.self.now c.args.ram.now in
+    let s = scene c.args.kern.now c.args.self.now c.args.ram.now.bytes in
     queued_there s c.args.id c.args.words c.in-Queued.at c.in-Queued.ensures
 
 pub put_message-requires-clause-room : goal.put_message-requires-clause-room
 put_message-requires-clause-room c =
-    let s = scene c.args.kern.now c.args.self.now c.args.ram.now in
+    let s = scene c.args.kern.now c.args.self.now c.args.ram.now.bytes in
     queued_room s c.args.id c.args.words c.in-Queued.at c.in-Queued.ensures
 
 pub put_message-requires-clause-short : goal.put_message-requires-clause-short
 put_message-requires-clause-short c =
-    let s = scene c.args.kern.now c.args.self.now c.args.ram.now in
+    let s = scene c.args.kern.now c.args.self.now c.args.ram.now.bytes in
     queued_short s c.args.id c.args.words c.in-Queued.at c.in-Queued.ensures
 
 pub wait_for-requires-clause-live : goal.wait_for-requires-clause-live
 wait_for-requires-clause-live c =
-    let s = scene c.args.kern.now c.args.self.now c.args.ram.now in
+    let s = scene c.args.kern.now c.args.self.now c.args.ram.now.bytes in
     blocked_live s c.args.id c.args.words c.in-Blocked.ask c.in-Blocked.fifo c.in-Blocked.ensures c.requires.caller
 
 pub wait_for-requires-clause-room : goal.wait_for-requires-clause-room
 wait_for-requires-clause-room c =
-    let s = scene c.args.kern.now c.args.self.now c.args.ram.now in
+    let s = scene c.args.kern.now c.args.self.now c.args.ram.now.bytes in
     blocked_room s c.args.id c.args.words c.in-Blocked.ask c.in-Blocked.fifo c.in-Blocked.ensures c.requires.kept c.requires.caller
 
 pub wait_for-requires-clause-timeout : goal.wait_for-requires-clause-timeout
 wait_for-requires-clause-timeout c =
-    let s = scene c.args.kern.now c.args.self.now c.args.ram.now in
+    let s = scene c.args.kern.now c.args.self.now c.args.ram.now.bytes in
     blocked_timeout s c.args.id c.args.words c.in-Blocked.ask c.in-Blocked.fifo c.in-Blocked.ensures
 
 pub returns-in-Declined-clause-scene : goal.returns-in-Declined-clause-scene
 returns-in-Declined-clause-scene c =
-    let s = scene c.args.kern.now c.args.self.now c.args.ram.now in
+    let s = scene c.args.kern.now c.args.self.now c.args.ram.now.bytes in
     sent_declined s c.args.id c.args.words c.in-Declined.e c.in-Declined.ensures
 
 pub returns-in-Declined-clause-answer : goal.returns-in-Declined-clause-answer
 returns-in-Declined-clause-answer c =
-    let s = scene c.args.kern.now c.args.self.now c.args.ram.now in
+    let s = scene c.args.kern.now c.args.self.now c.args.ram.now.bytes in
     answer_declined s c.args.id c.args.words c.in-Declined.e c.in-Declined.ensures
 
 pub returns-in-PassedOn-clause-scene : goal.returns-in-PassedOn-clause-scene
 returns-in-PassedOn-clause-scene c =
-    let s = scene c.args.kern.now c.args.self.now c.args.ram.now in
-    sent_passed s c.args.id c.args.words c.in-PassedOn.ask c.in-PassedOn.ensures c.hand_over.new.kern c.hand_over.new.ram c.hand_over.ensures.kern c.hand_over.ensures.ram
+    let s = scene c.args.kern.now c.args.self.now c.args.ram.now.bytes in
+    sent_passed s c.args.id c.args.words c.in-PassedOn.ask c.in-PassedOn.ensures c.hand_over.new.kern c.hand_over.new.ram.bytes c.hand_over.ensures.kern c.hand_over.ensures.ram
 
 pub returns-in-PassedOn-clause-kept : goal.returns-in-PassedOn-clause-kept
 returns-in-PassedOn-clause-kept c =
-    let s = scene c.args.kern.now c.args.self.now c.args.ram.now in
-    subst IsKept (sym (sent_passed s c.args.id c.args.words c.in-PassedOn.ask c.in-PassedOn.ensures c.hand_over.new.kern c.hand_over.new.ram c.hand_over.ensures.kern c.hand_over.ensures.ram)) (send_keeps s c.args.id c.args.words c.requires.kept c.requires.caller)
+    let s = scene c.args.kern.now c.args.self.now c.args.ram.now.bytes in
+    subst IsKept (sym (sent_passed s c.args.id c.args.words c.in-PassedOn.ask c.in-PassedOn.ensures c.hand_over.new.kern c.hand_over.new.ram.bytes c.hand_over.ensures.kern c.hand_over.ensures.ram)) (send_keeps s c.args.id c.args.words c.requires.kept c.requires.caller)
 
 pub returns-in-Queued-clause-scene : goal.returns-in-Queued-clause-scene
 returns-in-Queued-clause-scene c =
-    let s = scene c.args.kern.now c.args.self.now c.args.ram.now in
+    let s = scene c.args.kern.now c.args.self.now c.args.ram.now.bytes in
     sent_queued s c.args.id c.args.words c.in-Queued.at c.in-Queued.ensures c.put_message.new.self c.put_message.ensures
 
 pub returns-in-Queued-clause-answer : goal.returns-in-Queued-clause-answer
 returns-in-Queued-clause-answer c =
-    let s = scene c.args.kern.now c.args.self.now c.args.ram.now in
+    let s = scene c.args.kern.now c.args.self.now c.args.ram.now.bytes in
     answer_queued s c.args.id c.args.words c.in-Queued.at c.in-Queued.ensures
 
 pub returns-in-Queued-clause-kept : goal.returns-in-Queued-clause-kept
 returns-in-Queued-clause-kept c =
-    let s = scene c.args.kern.now c.args.self.now c.args.ram.now in
+    let s = scene c.args.kern.now c.args.self.now c.args.ram.now.bytes in
     subst IsKept (sym (sent_queued s c.args.id c.args.words c.in-Queued.at c.in-Queued.ensures c.put_message.new.self c.put_message.ensures)) (send_keeps s c.args.id c.args.words c.requires.kept c.requires.caller)
 
 pub returns-in-Blocked-clause-scene : goal.returns-in-Blocked-clause-scene
 returns-in-Blocked-clause-scene c =
-    let s = scene c.args.kern.now c.args.self.now c.args.ram.now in
+    let s = scene c.args.kern.now c.args.self.now c.args.ram.now.bytes in
     sent_blocked s c.args.id c.args.words c.in-Blocked.ask c.in-Blocked.fifo c.in-Blocked.ensures c.wait_for.new.kern c.wait_for.new.self c.wait_for.ensures.asks c.wait_for.ensures.kern
 
 pub returns-in-Blocked-clause-answer : goal.returns-in-Blocked-clause-answer
 returns-in-Blocked-clause-answer c =
-    let s = scene c.args.kern.now c.args.self.now c.args.ram.now in
+    let s = scene c.args.kern.now c.args.self.now c.args.ram.now.bytes in
     answer_blocked s c.args.id c.args.words c.in-Blocked.ask c.in-Blocked.fifo c.in-Blocked.ensures
 
 pub returns-in-Blocked-clause-kept : goal.returns-in-Blocked-clause-kept
 returns-in-Blocked-clause-kept c =
-    let s = scene c.args.kern.now c.args.self.now c.args.ram.now in
+    let s = scene c.args.kern.now c.args.self.now c.args.ram.now.bytes in
     subst IsKept (sym (sent_blocked s c.args.id c.args.words c.in-Blocked.ask c.in-Blocked.fifo c.in-Blocked.ensures c.wait_for.new.kern c.wait_for.new.self c.wait_for.ensures.asks c.wait_for.ensures.kern)) (send_keeps s c.args.id c.args.words c.requires.kept c.requires.caller)

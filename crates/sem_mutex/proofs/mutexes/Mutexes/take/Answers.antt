@@ -36,7 +36,7 @@ returns-then-eq c =
     (subst (λ j. both c.deepen.new.k c.deepen.new.self ≡ deepened s c.args.caller j (object_of c.args.self.now j)) f.same c.deepen.ensures) in
     record { ok = (m.fine, m.how_is, m.state); err = tt; kept = m.keeps }
 
--- what the walk asks for
+-- what the walk requires
 begun : (k r : KernState) (ms : List (ℕ × Mutex)) (who id n number : ℕ) → Lives k who → KeepsMutexes (both k ms) → Some id ≡ live_mutex ms number → both r ms ≡ awaited (both k ms) who id n (object_of ms id) → MayLend (both k ms) (both r ms) who
 begun k r ms who id n number lives kept e state =
     let f = found ms number id e in

@@ -1,0 +1,12 @@
+//! The texts of a kernel call and of its reply, for a trace: `semTake(2, -1)` and
+//! ` = -1 OBJ_TIMEOUT`.
+#![tactic(auto)]
+
+mod calls;
+mod replies;
+#[cfg(test)]
+mod tests;
+mod word;
+
+pub use calls::{CALL_TEXT_BYTES, add_call};
+pub use replies::{REPLY_TEXT_BYTES, add_reply};

@@ -1,0 +1,438 @@
+-- Which ids the objects have after each row of the calls on them, and who owns the mutexes.
+use Rattle.std.proofs.Common.{◌≡◌, ℕ, ◌+◌, ◌-◌, true, false, not, cond, eqb, leb, ltb, List, [], ◌∷◌, ◌++◌, length, Option, None, Some, IsSome, is_some, refl, sym, ap, ◌∙◌, subst, arith}
+use Rattle.std.specs.List.{All}
+use Rattle.std.specs.Option.{option_map}
+use Rattle.std.proofs.lemmas.List.Elements.{All-push, All-filter, All-contains}
+use Rattle.wind_base.specs.SemBits.{read_options}
+use Rattle.wind_base.specs.declared.errno.Errno.{Errno}
+use Rattle.wind_base.specs.declared.errno.Errno.TheVariants as errors
+use Rattle.wind_base.specs.declared.semaphore.SemKind.TheVariants as kinds
+use Rattle.wind_base.specs.declared.semaphore.SemOptions.{SemOptions}
+use Rattle.id_table.specs.Rows.{object_of, with_object, without, ids}
+use Rattle.id_table.proofs.Lookups.{All-write, found_has}
+use Rattle.task_block.specs.declared.task.Task.{Task as TaskRecord}
+use Rattle.wind_lists.proofs.Records.{found_id, found_at}
+use Rattle.wind_core.specs.State.{KernState, IsKern, Lives, task_id, task_of}
+use Rattle.wind_core.specs.Orders.{first_waiter}
+use Rattle.sem_plain.specs.declared.semaphore.Semaphore.{Semaphore}
+use Rattle.sem_plain.specs.Calls as plain
+use Rattle.inheritance.specs.declared.mutex.Mutex.{Mutex}
+use Rattle.inheritance.specs.Mutexes.{mutex_place}
+use Rattle.sem_mutex.specs.Calls as mutex
+use Rattle.sem_mutex.specs.Making as making
+use Rattle.sem_mutex.proofs.Answering.{next_lives}
+use Rattle.msg_queue.specs.declared.words.Sending.{Sending}
+use Rattle.msg_queue.specs.declared.words.Receiving.{Receiving}
+use Rattle.msg_queue.specs.declared.asks.Ask.{Ask}
+use Rattle.msg_queue.specs.State.{QueueState, QueuesState, Scene, queue_of, added, senders, first_asking}
+use Rattle.msg_queue.specs.Sends.{SendDeed, declined, passed_on, queued, blocked, sent_bytes, send_deed, after_send, send}
+use Rattle.msg_queue.specs.Receives.{ReceiveDeed, denied, taken, starved, receive_deed, taken_out, waited_bytes, refilled, after_receive}
+use Rattle.msg_queue.specs.Comings.{create_refusal, new_queue, deleted, delete}
+use Rattle.kernel_world.specs.LiveIds.{waited_ids}
+use Rattle.kernel_world.specs.declared.objects.Objects.{Objects}
+use Rattle.kernel_world.specs.declared.actor.Actor.{Actor}
+use Rattle.kernel_world.specs.declared.actor.Actor.TheVariants.{Task, Interrupt}
+use Rattle.kernel_world.specs.declared.reply.Reply.TheVariants.{Answer}
+use Rattle.kernel_world.specs.Actors.{Acts}
+use Rattle.kernel_world.proofs.LiveIds.{Fewer, Given, fewer_same, fewer_before, fewer_behind, fewer_without, ids_write, given_before, given_behind, given_none, given_push}
+use Rattle.object_calls.specs.SemRows.{ObjectRow, refused, by_mutexes, sems, mutexes, is_mutex, of_task, made_unless, made, binary_with, binary_row, counting_with, counting_row, mutex_unless, mutex_with, mutex_row, plain_take_unless, plain_take, mutex_take_unless, mutex_take, take_row, plain_give_unless, plain_give, mutex_give_unless, mutex_give, give_row, flush_unless, flush_row, plain_delete_unless, delete_row, priority_row}
+use Rattle.object_calls.specs.QueueRows as queue_rows
+
+-- ---- one kind of the objects
+module _ (o : Objects) where
+  -- these objects have only ids that were there before
+  abbrev pub NoneComes : Objects → Type 0
+  NoneComes p = Fewer (waited_ids p) (waited_ids o)
+
+  pub none_comes : NoneComes o
+  none_comes = fewer_same (waited_ids o) (waited_ids o) refl
+
+  by_semaphores : (ss : List (ℕ × Semaphore)) → Fewer (ids ss) (ids o.semaphores) → NoneComes (record o { semaphores = ss })
+  by_semaphores ss few = fewer_behind (ids o.mutexes ++ ids o.queues.queues) (ids o.semaphores) (ids ss) few
+
+  by_mutex_rows : (ms : List (ℕ × Mutex)) → Fewer (ids ms) (ids o.mutexes) → NoneComes (record o { mutexes = ms })
+  by_mutex_rows ms few =
+      fewer_before (ids o.semaphores) (ids o.mutexes ++ ids o.queues.queues) (ids ms ++ ids o.queues.queues) (fewer_behind (ids o.queues.queues) (ids o.mutexes) (ids ms) few)
+
+  by_queues : (qs : QueuesState) → Fewer (ids qs.queues) (ids o.queues.queues) → NoneComes (record o { queues = qs })
+  by_queues qs few =
+      fewer_before (ids o.semaphores) (ids o.mutexes ++ ids o.queues.queues) (ids o.mutexes ++ ids qs.queues) (fewer_before (ids o.mutexes) (ids o.queues.queues) (ids qs.queues) few)
+
+  semaphore_written : (id : ℕ) (v : Semaphore) → NoneComes (record o { semaphores = with_object o.semaphores id v })
+  semaphore_written id v = by_semaphores (with_object o.semaphores id v) (fewer_same (ids o.semaphores) (ids (with_object o.semaphores id v)) (ids_write o.semaphores id v))
+
+  mutex_written : (id : ℕ) (v : Mutex) → NoneComes (record o { mutexes = with_object o.mutexes id v })
+  mutex_written id v = by_mutex_rows (with_object o.mutexes id v) (fewer_same (ids o.mutexes) (ids (with_object o.mutexes id v)) (ids_write o.mutexes id v))
+
+-- ---- the ids after a row of semaphores and mutexes
+module _ (k : KernState) (o : Objects) where
+  -- at most the next id is added
+  abbrev pub Comes : ObjectRow → Type 0
+  Comes r = Given k.next_id r.kern.next_id (waited_ids o) (waited_ids r.objects)
+
+  still : Comes (refused k o errors.ObjIdError)
+  still = given_none k.next_id k.next_id (waited_ids o) (omega arith)
+
+  made_comes : (v : Semaphore) → Comes (made k o v)
+  made_comes v = go (plain.create_refusal (sems k o)) where
+    go : (r : Option Errno) → Comes (made_unless r k o v)
+    go (Some e) = still
+    go None = given_behind k.next_id (k.next_id + 1) (ids o.mutexes ++ ids o.queues.queues) (ids o.semaphores) (ids (o.semaphores ++ (k.next_id, v) ∷ [])) (given_push o.semaphores k.next_id v)
+
+  binary_with_comes : (state : ℕ) (options : Option SemOptions) → Comes (binary_with k o state options)
+  binary_with_comes state None = still
+  binary_with_comes state (Some options) =
+      elim (leb state 1) as (λ b. Comes (cond b (made k o (plain.new_semaphore kinds.Binary options state)) (refused k o errors.InvalidState))) [
+        | true ↦ made_comes (plain.new_semaphore kinds.Binary options state)
+        | false ↦ still
+      ]
+
+  pub binary_comes : (options state : ℕ) → Comes (binary_row k o options state)
+  binary_comes options state = binary_with_comes state (read_options options kinds.Binary)
+
+  counting_with_comes : (count : ℕ) (options : Option SemOptions) → Comes (counting_with k o count options)
+  counting_with_comes count None = still
+  counting_with_comes count (Some options) = made_comes (plain.new_semaphore kinds.Counting options count)
+
+  pub counting_comes : (options count : ℕ) → Comes (counting_row k o options count)
+  counting_comes options count = counting_with_comes count (read_options options kinds.Counting)
+
+  mutex_unless_comes : (options : SemOptions) (r : Option Errno) → Comes (mutex_unless r k o options)
+  mutex_unless_comes options (Some e) = still
+  mutex_unless_comes options None =
+      let new : List (ℕ × Mutex) = o.mutexes ++ (k.next_id, making.new_mutex options) ∷ [] in
+      given_before k.next_id (k.next_id + 1) (ids o.semaphores) (ids o.mutexes ++ ids o.queues.queues) (ids new ++ ids o.queues.queues)
+      (given_behind k.next_id (k.next_id + 1) (ids o.queues.queues) (ids o.mutexes) (ids new) (given_push o.mutexes k.next_id (making.new_mutex options)))
+
+  mutex_with_comes : (options : Option SemOptions) → Comes (mutex_with k o options)
+  mutex_with_comes None = still
+  mutex_with_comes (Some options) = mutex_unless_comes options (making.create_refusal (mutexes k o))
+
+  pub mutex_comes : (options : ℕ) → Comes (mutex_row k o options)
+  mutex_comes options = mutex_with_comes (read_options options kinds.Mutex)
+
+  -- ---- semTake
+  plain_taken : (who id m : ℕ) (v : Option Semaphore) → NoneComes o (record o { semaphores = (plain.take_found (sems k o) who id m v).semaphores })
+  plain_taken who id m None = none_comes o
+  plain_taken who id m (Some v) =
+      elim (eqb v.count 0) as (λ b. NoneComes o (record o { semaphores = (cond b (plain.awaited (sems k o) who id m v) (plain.written (sems k o) id (plain.emptied v))).semaphores })) [
+        | true ↦ none_comes o
+        | false ↦ semaphore_written o id (plain.emptied v)
+      ]
+
+  plain_take_stays : (who id m : ℕ) (r : Option Errno) → NoneComes o (plain_take_unless r k o who id m).objects
+  plain_take_stays who id m (Some e) = none_comes o
+  plain_take_stays who id m None = plain_taken who id m (plain.live (sems k o) id)
+
+  taken_stays : (who id m : ℕ) (v : Mutex) (owner : Option ℕ) → NoneComes o (record o { mutexes = (mutex.taken (mutexes k o) who id m v owner).mutexes })
+  taken_stays who id m v None = mutex_written o id (mutex.owned who v)
+  taken_stays who id m v (Some x) =
+      elim (eqb x who) as (λ b. NoneComes o (record o { mutexes = (cond b (mutex.deepen (mutexes k o) who id v) (mutex.await (mutexes k o) who id m v)).mutexes })) [
+        | true ↦ mutex_written o id (record v { depth = v.depth + 1 })
+        | false ↦ none_comes o
+      ]
+
+  take_alone_stays : (who id m : ℕ) (v : Option Mutex) → NoneComes o (record o { mutexes = (mutex.take_alone (mutexes k o) who id m v).mutexes })
+  take_alone_stays who id m None = none_comes o
+  take_alone_stays who id m (Some v) = taken_stays who id m v v.owner
+
+  mutex_take_stays : (who id m : ℕ) (r : Option Errno) → NoneComes o (mutex_take_unless r k o who id m).objects
+  mutex_take_stays who id m (Some e) = none_comes o
+  mutex_take_stays who id m None = take_alone_stays who id m (object_of o.mutexes id)
+
+  pub take_stays : (a : Actor) (id m : ℕ) → NoneComes o (take_row k o a id m).objects
+  take_stays (Task who) id m =
+      elim (is_some (object_of o.mutexes id)) as (λ b. NoneComes o (cond b (mutex_take k o who id m) (plain_take k o who id m)).objects) [
+        | true ↦ mutex_take_stays who id m (mutex.take_refusal who m (object_of o.mutexes id))
+        | false ↦ plain_take_stays who id m (plain.take_refusal (sems k o) id m)
+      ]
+  take_stays Interrupt id m = none_comes o
+
+  -- ---- semGive
+  plain_handed : (id : ℕ) (v : Semaphore) (t : Option TaskRecord) → NoneComes o (record o { semaphores = (plain.handed (sems k o) id v t).semaphores })
+  plain_handed id v None = semaphore_written o id (plain.filled v)
+  plain_handed id v (Some t) = none_comes o
+
+  plain_given : (id : ℕ) (v : Option Semaphore) → NoneComes o (record o { semaphores = (plain.give_found (sems k o) id v).semaphores })
+  plain_given id None = none_comes o
+  plain_given id (Some v) = plain_handed id v (plain.next_of (sems k o) id)
+
+  plain_give_stays : (id : ℕ) (r : Option Errno) → NoneComes o (plain_give_unless r k o id).objects
+  plain_give_stays id (Some e) = none_comes o
+  plain_give_stays id None = plain_given id (plain.live (sems k o) id)
+
+  passed_stays : (id : ℕ) (v : Mutex) (next : Option TaskRecord) → NoneComes o (record o { mutexes = (mutex.pass_on (mutexes k o) id v next).mutexes })
+  passed_stays id v None = mutex_written o id (mutex.freed v)
+  passed_stays id v (Some t) = mutex_written o id (mutex.owned t.id v)
+
+  give_alone_stays : (who id : ℕ) (v : Option Mutex) → NoneComes o (record o { mutexes = (mutex.give_alone (mutexes k o) who id v).mutexes })
+  give_alone_stays who id None = none_comes o
+  give_alone_stays who id (Some v) =
+      elim (ltb 1 v.depth) as (λ b. NoneComes o (record o { mutexes = (cond b (mutex.shallow (mutexes k o) who id v) (mutex.give_up (mutexes k o) who id v)).mutexes })) [
+        | true ↦ mutex_written o id (record v { depth = v.depth - 1 })
+        | false ↦ passed_stays id v (first_waiter k.tasks (mutex_place id))
+      ]
+
+  mutex_give_stays : (who id : ℕ) (r : Option Errno) → NoneComes o (mutex_give_unless r k o who id).objects
+  mutex_give_stays who id (Some e) = none_comes o
+  mutex_give_stays who id None = give_alone_stays who id (object_of o.mutexes id)
+
+  owner_gives : (id : ℕ) (a : Actor) → NoneComes o (of_task k o a (λ who. mutex_give k o who id)).objects
+  owner_gives id (Task who) = mutex_give_stays who id (mutex.give_refusal who (object_of o.mutexes id))
+  owner_gives id Interrupt = none_comes o
+
+  pub give_stays : (a : Actor) (id : ℕ) → NoneComes o (give_row k o a id).objects
+  give_stays a id =
+      elim (is_some (object_of o.mutexes id)) as (λ b. NoneComes o (cond b (of_task k o a (λ who. mutex_give k o who id)) (plain_give k o id)).objects) [
+        | true ↦ owner_gives id a
+        | false ↦ plain_give_stays id (plain.give_refusal (sems k o) id)
+      ]
+
+  -- ---- semFlush and semDelete
+  flush_unless_stays : (id : ℕ) (r : Option Errno) → NoneComes o (flush_unless r k o id).objects
+  flush_unless_stays id (Some e) = none_comes o
+  flush_unless_stays id None = none_comes o
+
+  pub flush_stays : (id : ℕ) → NoneComes o (flush_row k o id).objects
+  flush_stays id =
+      elim (is_some (object_of o.mutexes id)) as (λ b. NoneComes o (cond b (refused k o errors.InvalidOperation) (flush_unless (plain.flush_refusal (sems k o) id) k o id)).objects) [
+        | true ↦ none_comes o
+        | false ↦ flush_unless_stays id (plain.flush_refusal (sems k o) id)
+      ]
+
+  plain_delete_stays : (id : ℕ) (r : Option Errno) → NoneComes o (plain_delete_unless r k o id).objects
+  plain_delete_stays id (Some e) = none_comes o
+  plain_delete_stays id None = by_semaphores o (without o.semaphores id) (fewer_without o.semaphores id)
+
+  delete_alone_stays : (id : ℕ) (v : Option Mutex) → NoneComes o (record o { mutexes = (mutex.delete_alone (mutexes k o) id v).mutexes })
+  delete_alone_stays id None = none_comes o
+  delete_alone_stays id (Some v) = by_mutex_rows o (without o.mutexes id) (fewer_without o.mutexes id)
+
+  pub delete_stays : (id : ℕ) → NoneComes o (delete_row k o id).objects
+  delete_stays id =
+      elim (is_some (object_of o.mutexes id)) as (λ b. NoneComes o (cond b (by_mutexes o (mutex.delete (mutexes k o) id) (Answer 0)) (plain_delete_unless (plain.delete_refusal (sems k o) id) k o id)).objects) [
+        | true ↦ delete_alone_stays id (object_of o.mutexes id)
+        | false ↦ plain_delete_stays id (plain.delete_refusal (sems k o) id)
+      ]
+
+  -- ---- taskPrioritySet
+  pub priority_stays : (pri : ℕ) (who : Option ℕ) → NoneComes o (priority_row k o pri who).objects
+  priority_stays pri None = none_comes o
+  priority_stays pri (Some who) =
+      elim (leb pri 255) as (λ b. NoneComes o (cond b (by_mutexes o (mutex.priority_set (mutexes k o) who pri) (Answer 0)) (refused k o errors.IllegalPriority)).objects) [
+        | true ↦ none_comes o
+        | false ↦ none_comes o
+      ]
+
+-- ---- the ids after a row of queues
+module _ (s : Scene) where
+  -- these queues have only ids that were there before
+  abbrev FewQueues : Scene → Type 0
+  FewQueues t = Fewer (ids t.queues.queues) (ids s.queues.queues)
+
+  all_queues : FewQueues s
+  all_queues = fewer_same (ids s.queues.queues) (ids s.queues.queues) refl
+
+  queue_written : (id : ℕ) (q : QueueState) → Fewer (ids (with_object s.queues.queues id q)) (ids s.queues.queues)
+  queue_written id q = fewer_same (ids s.queues.queues) (ids (with_object s.queues.queues id q)) (ids_write s.queues.queues id q)
+
+  sent_stays : (id : ℕ) (x : Sending) (d : SendDeed) → FewQueues (after_send s id x d)
+  sent_stays id x (declined e) = all_queues
+  sent_stays id x (passed_on a) = all_queues
+  sent_stays id x (queued q) = queue_written id (added x.urgent (sent_bytes s x) q)
+  sent_stays id x (blocked who q) = all_queues
+
+  pub send_stays : (id : ℕ) (x : Sending) → FewQueues (send s id x)
+  send_stays id x = sent_stays id x (send_deed s id x)
+
+  refilled_stays : (id : ℕ) (x : Receiving) (q : QueueState) (m : List ℕ) (rest : List (List ℕ)) (a : Option Ask) → FewQueues (refilled (taken_out s id x q m rest) id (record q { held = rest }) a)
+  refilled_stays id x q m rest None = queue_written id (record q { held = rest })
+  refilled_stays id x q m rest (Some a) =
+      let half : List (ℕ × QueueState) = with_object s.queues.queues id (record q { held = rest }) in
+      let whole : QueueState = added a.urgent (waited_bytes (taken_out s id x q m rest) a) (record q { held = rest }) in
+      fewer_same (ids s.queues.queues) (ids (with_object half id whole)) (ids_write half id whole ∙ ids_write s.queues.queues id (record q { held = rest }))
+
+  received_stays : (id : ℕ) (x : Receiving) (d : ReceiveDeed) → FewQueues (after_receive s id x d)
+  received_stays id x (denied e) = all_queues
+  received_stays id x (taken q m rest) = refilled_stays id x q m rest (first_asking s (senders id))
+  received_stays id x (starved q) = all_queues
+
+  pub receive_row_stays : (a : Actor) (id buffer count timeout : ℕ) → FewQueues (queue_rows.receive_row s a id buffer count timeout).scene
+  receive_row_stays (Task who) id buffer count timeout =
+      let x : Receiving = record { caller = who; buffer = buffer; room = count; timeout = timeout } in received_stays id x (receive_deed s id x)
+  receive_row_stays Interrupt id buffer count timeout = all_queues
+
+  deleted_stays : (id : ℕ) (q : Option QueueState) → FewQueues (deleted s id q)
+  deleted_stays id None = all_queues
+  deleted_stays id (Some q) = fewer_without s.queues.queues id
+
+  pub queue_delete_stays : (id : ℕ) → FewQueues (delete s id)
+  queue_delete_stays id = deleted_stays id (queue_of s id)
+
+  -- at most the next id is added
+  abbrev pub QueueComes : Scene → Type 0
+  QueueComes t = Given s.kern.next_id t.kern.next_id (ids s.queues.queues) (ids t.queues.queues)
+
+  pub queue_create_comes : (max_msgs max_len options : ℕ) → QueueComes (queue_rows.create_row s max_msgs max_len options).scene
+  queue_create_comes max_msgs max_len options = go (create_refusal (length s.queues.queues) s.kern.next_id max_msgs max_len options) where
+    go : (r : Option Errno) → QueueComes (queue_rows.create_unless r s (new_queue max_msgs max_len options)).scene
+    go (Some e) = given_none s.kern.next_id s.kern.next_id (ids s.queues.queues) (omega arith)
+    go None = given_push s.queues.queues s.kern.next_id (new_queue max_msgs max_len options)
+
+-- the queues' ids among all
+pub queues_given : (o : Objects) (qs : QueuesState) (next after : ℕ) → Given next after (ids o.queues.queues) (ids qs.queues) → Given next after (waited_ids o) (waited_ids (record o { queues = qs }))
+queues_given o qs next after given =
+    given_before next after (ids o.semaphores) (ids o.mutexes ++ ids o.queues.queues) (ids o.mutexes ++ ids qs.queues) (given_before next after (ids o.mutexes) (ids o.queues.queues) (ids qs.queues) given)
+
+-- ---- owners
+-- what holds for every live task, for every owner, and if there is no owner
+module _ (k : KernState) (o : Objects) (is : IsKern k) (Q : Option ℕ → Type 0) (none : Q None) (tasks : All (λ t. Q (Some t.id)) k.tasks) (owners : All (λ r. Q r.1.owner) o.mutexes) where
+  -- it holds of each owner
+  abbrev Owned : List (ℕ × Mutex) → Type 0
+  Owned ms = All (λ r. Q r.1.owner) ms
+
+  live_owner : (who : ℕ) → Lives k who → Q (Some who)
+  live_owner who live =
+      elim (task_of k.tasks who) as (λ q. task_of k.tasks who ≡ q → IsSome q → Q (Some who)) [
+        | None ↦ λ e h. absurd (cc)
+        | Some t ↦ λ e h. subst (λ n. Q (Some n)) (found_id task_id k.tasks who t e) (All-contains (λ (u : TaskRecord). Q (Some u.id)) k.tasks t tasks (found_at task_id k.tasks who t e))
+      ] refl live
+
+  -- one mutex is written
+  written : (id : ℕ) (v : Mutex) → Q v.owner → Owned (with_object o.mutexes id v)
+  written id v own = All-write (λ (r : ℕ × Mutex). Q r.1.owner) o.mutexes id v owners (λ r h. own)
+
+  new_mutex : (options : SemOptions) (r : Option Errno) → Owned (mutex_unless r k o options).objects.mutexes
+  new_mutex options (Some e) = owners
+  new_mutex options None = All-push (λ (r : ℕ × Mutex). Q r.1.owner) o.mutexes (k.next_id, making.new_mutex options) owners none
+
+  mutex_with_owned : (options : Option SemOptions) → Owned (mutex_with k o options).objects.mutexes
+  mutex_with_owned None = owners
+  mutex_with_owned (Some options) = new_mutex options (making.create_refusal (mutexes k o))
+
+  pub mutex_owned : (options : ℕ) → Owned (mutex_row k o options).objects.mutexes
+  mutex_owned options = mutex_with_owned (read_options options kinds.Mutex)
+
+  made_owned : (v : Semaphore) → Owned (made k o v).objects.mutexes
+  made_owned v = go (plain.create_refusal (sems k o)) where
+    go : (r : Option Errno) → Owned (made_unless r k o v).objects.mutexes
+    go (Some e) = owners
+    go None = owners
+
+  binary_with_owned : (state : ℕ) (options : Option SemOptions) → Owned (binary_with k o state options).objects.mutexes
+  binary_with_owned state None = owners
+  binary_with_owned state (Some options) =
+      elim (leb state 1) as (λ b. Owned (cond b (made k o (plain.new_semaphore kinds.Binary options state)) (refused k o errors.InvalidState)).objects.mutexes) [
+        | true ↦ made_owned (plain.new_semaphore kinds.Binary options state)
+        | false ↦ owners
+      ]
+
+  pub binary_owned : (options state : ℕ) → Owned (binary_row k o options state).objects.mutexes
+  binary_owned options state = binary_with_owned state (read_options options kinds.Binary)
+
+  counting_with_owned : (count : ℕ) (options : Option SemOptions) → Owned (counting_with k o count options).objects.mutexes
+  counting_with_owned count None = owners
+  counting_with_owned count (Some options) = made_owned (plain.new_semaphore kinds.Counting options count)
+
+  pub counting_owned : (options count : ℕ) → Owned (counting_row k o options count).objects.mutexes
+  counting_owned options count = counting_with_owned count (read_options options kinds.Counting)
+
+  -- ---- semTake: the caller may become an owner
+  taken_owned : (who id m : ℕ) (v : Mutex) → Lives k who → object_of o.mutexes id ≡ Some v → (owner : Option ℕ) → Owned (mutex.taken (mutexes k o) who id m v owner).mutexes
+  taken_owned who id m v live found None = written id (mutex.owned who v) (live_owner who live)
+  taken_owned who id m v live found (Some x) =
+      elim (eqb x who) as (λ b. Owned (cond b (mutex.deepen (mutexes k o) who id v) (mutex.await (mutexes k o) who id m v)).mutexes) [
+        | true ↦ written id (record v { depth = v.depth + 1 }) (found_has (λ (u : Mutex). Q u.owner) o.mutexes id v owners found)
+        | false ↦ owners
+      ]
+
+  take_alone_owned : (who id m : ℕ) → Lives k who → Owned (mutex.take_alone (mutexes k o) who id m (object_of o.mutexes id)).mutexes
+  take_alone_owned who id m live = go (object_of o.mutexes id) refl where
+    go : (v : Option Mutex) → object_of o.mutexes id ≡ v → Owned (mutex.take_alone (mutexes k o) who id m v).mutexes
+    go None found = owners
+    go (Some v) found = taken_owned who id m v live found v.owner
+
+  mutex_take_owned : (who id m : ℕ) (r : Option Errno) → Lives k who → Owned (mutex_take_unless r k o who id m).objects.mutexes
+  mutex_take_owned who id m (Some e) live = owners
+  mutex_take_owned who id m None live = take_alone_owned who id m live
+
+  plain_take_owned : (who id m : ℕ) (r : Option Errno) → Owned (plain_take_unless r k o who id m).objects.mutexes
+  plain_take_owned who id m (Some e) = owners
+  plain_take_owned who id m None = owners
+
+  pub take_owned : (a : Actor) (id m : ℕ) → (is_mutex o id ≡ true → Acts k a) → Owned (take_row k o a id m).objects.mutexes
+  take_owned (Task who) id m live =
+      elim (is_some (object_of o.mutexes id)) as (λ b. is_some (object_of o.mutexes id) ≡ b → Owned (cond b (mutex_take k o who id m) (plain_take k o who id m)).objects.mutexes) [
+        | true ↦ λ e. mutex_take_owned who id m (mutex.take_refusal who m (object_of o.mutexes id)) (live e)
+        | false ↦ λ e. plain_take_owned who id m (plain.take_refusal (sems k o) id m)
+      ] refl
+  take_owned Interrupt id m live = owners
+
+  -- ---- semGive: the first waiter may become an owner
+  passed_owned : (id : ℕ) (v : Mutex) (next : Option TaskRecord) → first_waiter k.tasks (mutex_place id) ≡ next → Owned (mutex.pass_on (mutexes k o) id v next).mutexes
+  passed_owned id v None first = written id (mutex.freed v) none
+  passed_owned id v (Some t) first = written id (mutex.owned t.id v) (live_owner t.id (next_lives k id t.id is (sym (ap (option_map task_id) first))))
+
+  give_alone_owned : (who id : ℕ) → Owned (mutex.give_alone (mutexes k o) who id (object_of o.mutexes id)).mutexes
+  give_alone_owned who id = go (object_of o.mutexes id) refl where
+    go : (v : Option Mutex) → object_of o.mutexes id ≡ v → Owned (mutex.give_alone (mutexes k o) who id v).mutexes
+    go None found = owners
+    go (Some v) found =
+        elim (ltb 1 v.depth) as (λ b. Owned (cond b (mutex.shallow (mutexes k o) who id v) (mutex.give_up (mutexes k o) who id v)).mutexes) [
+          | true ↦ written id (record v { depth = v.depth - 1 }) (found_has (λ (u : Mutex). Q u.owner) o.mutexes id v owners found)
+          | false ↦ passed_owned id v (first_waiter k.tasks (mutex_place id)) refl
+        ]
+
+  mutex_give_owned : (who id : ℕ) (r : Option Errno) → Owned (mutex_give_unless r k o who id).objects.mutexes
+  mutex_give_owned who id (Some e) = owners
+  mutex_give_owned who id None = give_alone_owned who id
+
+  owner_gives_owned : (id : ℕ) (a : Actor) → Owned (of_task k o a (λ who. mutex_give k o who id)).objects.mutexes
+  owner_gives_owned id (Task who) = mutex_give_owned who id (mutex.give_refusal who (object_of o.mutexes id))
+  owner_gives_owned id Interrupt = owners
+
+  plain_give_owned : (id : ℕ) (r : Option Errno) → Owned (plain_give_unless r k o id).objects.mutexes
+  plain_give_owned id (Some e) = owners
+  plain_give_owned id None = owners
+
+  pub give_owned : (a : Actor) (id : ℕ) → Owned (give_row k o a id).objects.mutexes
+  give_owned a id =
+      elim (is_some (object_of o.mutexes id)) as (λ b. Owned (cond b (of_task k o a (λ who. mutex_give k o who id)) (plain_give k o id)).objects.mutexes) [
+        | true ↦ owner_gives_owned id a
+        | false ↦ plain_give_owned id (plain.give_refusal (sems k o) id)
+      ]
+
+  -- ---- semFlush, semDelete and taskPrioritySet
+  flush_unless_owned : (id : ℕ) (r : Option Errno) → Owned (flush_unless r k o id).objects.mutexes
+  flush_unless_owned id (Some e) = owners
+  flush_unless_owned id None = owners
+
+  pub flush_owned : (id : ℕ) → Owned (flush_row k o id).objects.mutexes
+  flush_owned id =
+      elim (is_some (object_of o.mutexes id)) as (λ b. Owned (cond b (refused k o errors.InvalidOperation) (flush_unless (plain.flush_refusal (sems k o) id) k o id)).objects.mutexes) [
+        | true ↦ owners
+        | false ↦ flush_unless_owned id (plain.flush_refusal (sems k o) id)
+      ]
+
+  plain_delete_owned : (id : ℕ) (r : Option Errno) → Owned (plain_delete_unless r k o id).objects.mutexes
+  plain_delete_owned id (Some e) = owners
+  plain_delete_owned id None = owners
+
+  delete_alone_owned : (id : ℕ) (v : Option Mutex) → Owned (mutex.delete_alone (mutexes k o) id v).mutexes
+  delete_alone_owned id None = owners
+  delete_alone_owned id (Some v) = All-filter (λ (r : ℕ × Mutex). not (eqb r.0 id)) (λ (r : ℕ × Mutex). Q r.1.owner) o.mutexes owners
+
+  pub delete_owned : (id : ℕ) → Owned (delete_row k o id).objects.mutexes
+  delete_owned id =
+      elim (is_some (object_of o.mutexes id)) as (λ b. Owned (cond b (by_mutexes o (mutex.delete (mutexes k o) id) (Answer 0)) (plain_delete_unless (plain.delete_refusal (sems k o) id) k o id)).objects.mutexes) [
+        | true ↦ delete_alone_owned id (object_of o.mutexes id)
+        | false ↦ plain_delete_owned id (plain.delete_refusal (sems k o) id)
+      ]
+
+  pub priority_owned : (pri : ℕ) (who : Option ℕ) → Owned (priority_row k o pri who).objects.mutexes
+  priority_owned pri None = owners
+  priority_owned pri (Some who) =
+      elim (leb pri 255) as (λ b. Owned (cond b (by_mutexes o (mutex.priority_set (mutexes k o) who pri) (Answer 0)) (refused k o errors.IllegalPriority)).objects.mutexes) [
+        | true ↦ owners
+        | false ↦ owners
+      ]
