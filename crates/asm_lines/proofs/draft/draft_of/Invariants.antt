@@ -1,0 +1,18 @@
+use Rattle.std.proofs.Common.{◌≡◌, ℕ, ◌+◌, ◌≤◌, List, length, map}
+use Rattle.wind_base.specs.Lines.{line_length}
+use Rattle.ppc_text.specs.Lines.{line_of}
+use Rattle.asm_lines.specs.Items.{Placed, lines_of}
+use Rattle.asm_lines.specs.Causes.{judged, items}
+use Rattle.asm_lines.specs.Drafts.{IsDraft, IsSmall}
+use Rattle.asm_lines.proofs.draft.draft_of.Given as goal
+
+abbrev pub invariant-loop-len : goal.invariant-loop-len
+invariant-loop-len l = record {
+  len : l.len ≡ line_length l.left;
+  count : l.number + length l.left ≤ length l.text + 1;
+  small : IsSmall l.draft;
+  good : (ps : List Placed) × IsDraft l.draft ps × (judged ps l.number (map line_of (lines_of l.left)) ≡ items l.text);
+}
+
+abbrev pub decreases-loop-len : goal.decreases-loop-len
+decreases-loop-len l = length l.left

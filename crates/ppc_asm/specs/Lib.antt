@@ -1,0 +1,4 @@
+pub mod Assembly
+pub mod Command
+pub mod Laws
+pub mod Listing

@@ -1,0 +1,16 @@
+//! An assembler for PowerPC: the module of a source text, the listing of a module, and the call of the program.
+#![tactic(auto)]
+
+mod assembling;
+mod command;
+mod listing;
+mod report;
+mod status;
+#[cfg(test)]
+mod tests;
+
+pub use asm_lines::{AsmErr, Cause};
+pub use assembling::{assemble, shown_law};
+pub use command::ppcasm;
+pub use report::tell_no_memory;
+pub use status::AsmStatus;

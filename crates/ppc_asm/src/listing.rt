@@ -1,0 +1,129 @@
+//! The instructions of a module as text.
+
+ghost use Rattle.std.specs.Prelude.{◌≡◌, ◌<◌, ◌≤◌, ◌+◌, [], ◌∷◌, false, length, slice_index};
+ghost use Rattle.std.specs.Int.{from_be_bytes, w32};
+ghost use Rattle.std.specs.Fmt.{digit_glyph};
+ghost use Rattle.wind_base.specs.OutBuf.{Added, KeepsSpace};
+ghost use Rattle.ppc_word.specs.Rows.{row_of};
+ghost use Rattle.ppc_asm.specs.Listing.{hex_places, item_text, line_text, lines_from, section_lines, listing, PutsLines};
+
+use elf_read::{Body, Module, Sect};
+use ppc_text::show;
+use ppc_word::decode;
+use wind_base::text::add;
+use wind_base::{OutBuf, behind};
+use wind_outside::{Put, Sink};
+
+/// SHF_EXECINSTR.
+const EXECUTABLE: u32 = 4;
+
+/// The most bytes of a line: two numbers of 8 digits, a blank after each, an instruction of 64, and the line feed.
+pub(crate) const LINE_ROOM: u32 = 83;
+
+fn glyph(digit: u64) -> u8
+    requires { digit < 16 }
+    ensures { result ≡ digit_glyph false digit }
+{
+    if digit < 10 {
+        b'0' + digit as u8
+    } else {
+        b'a' + (digit - 10) as u8
+    }
+}
+
+// Adds the lowest `places` hexadecimal digits of a number.
+fn put_hex(line: &mut OutBuf, places: u32, number: u64)
+    requires { places ≤ line.old.room }
+    ensures { Added places line.old line.new (hex_places places number) }
+{
+    if places > 0 {
+        put_hex(line, places - 1, number / 16);
+        add(line, &[glyph(number % 16)]);
+    }
+}
+
+#[tactic(auto, using(crate::proofs::Listed::shown_as))]
+fn put_item(line: &mut OutBuf, word: u32)
+    requires { 64 ≤ line.old.room }
+    ensures { Added 64 line.old line.new (item_text (row_of word) word) }
+{
+    match decode(word) {
+        Some(insn) => show(&insn, line),
+        None => {
+            add(line, b".long 0x");
+            put_hex(line, 8, u64::from(word));
+        }
+    }
+}
+
+#[tactic(auto, unfolding(crate::specs::Listing::line_text))]
+fn put_line(line: &mut OutBuf, offset: u64, word: u32)
+    requires { 83 ≤ line.old.room }
+    ensures { Added 83 line.old line.new (line_text offset word) }
+{
+    put_hex(line, 8, offset);
+    add(line, b" ");
+    put_hex(line, 8, u64::from(word));
+    add(line, b" ");
+    put_item(line, word);
+    add(line, b"\n");
+}
+
+// The word in the first four bytes, high byte first.
+fn first_word(bytes: &[u8]) -> u32
+    requires { 4 ≤ length bytes.now }
+    ensures { result ≡ from_be_bytes w32 (slice_index bytes.now 0 ∷ slice_index bytes.now 1 ∷ slice_index bytes.now 2 ∷ slice_index bytes.now 3 ∷ []) }
+{
+    u32::from_be_bytes([bytes[0], bytes[1], bytes[2], bytes[3]])
+}
+
+fn list_bytes<O: Sink>(out: &mut O, line: &mut OutBuf, bytes: &[u8]) -> Put
+    requires { 83 ≤ line.old.room + length line.old.bytes }
+    ensures put { PutsLines (lines_from 0 bytes.now) result (O.bytes out.old) (O.bytes out.new) (O.faults out.old) (O.faults out.new) }
+    ensures space { KeepsSpace line.old line.new }
+{
+    let mut left = bytes;
+    let mut offset: u64 = 0;
+    while left.len() >= 4 {
+        line.clear();
+        put_line(line, offset, first_word(left));
+        match out.put(line.bytes()) {
+            Put::Failed => return Put::Failed,
+            Put::Done => {}
+        }
+        left = behind(left, 4);
+        offset += 4;
+    }
+    Put::Done
+}
+
+#[tactic(auto, unfolding(crate::specs::Listing::section_lines))]
+fn list_section<O: Sink>(out: &mut O, line: &mut OutBuf, section: &Sect) -> Put
+    requires { 83 ≤ line.old.room + length line.old.bytes }
+    ensures put { PutsLines (section_lines section.now) result (O.bytes out.old) (O.bytes out.new) (O.faults out.old) (O.faults out.new) }
+    ensures space { KeepsSpace line.old line.new }
+{
+    if section.flags & EXECUTABLE == 0 {
+        return Put::Done;
+    }
+    match &section.body {
+        Body::Bytes(bytes) => list_bytes(out, line, bytes.as_slice()),
+        Body::Size(_) => Put::Done,
+    }
+}
+
+/// Writes a line for each word of the executable sections: its offset in its section, the word, and its instruction.
+/// `line` is a buffer of `LINE_ROOM` bytes.
+#[tactic(auto, unfolding(crate::specs::Listing::listing))]
+pub(crate) fn list<O: Sink>(out: &mut O, line: &mut OutBuf, module: &Module) -> Put
+    requires { 83 ≤ line.old.room + length line.old.bytes }
+    ensures { PutsLines (listing module.now) result (O.bytes out.old) (O.bytes out.new) (O.faults out.old) (O.faults out.new) }
+{
+    for section in module.sections.as_slice() {
+        match list_section(out, line, section) {
+            Put::Failed => return Put::Failed,
+            Put::Done => {}
+        }
+    }
+    Put::Done
+}

@@ -1,0 +1,11 @@
+pub mod Again
+pub mod Digested
+pub mod Digits
+pub mod Fields
+pub mod Fits
+pub mod Lexing
+pub mod Lining
+pub mod Naming
+pub mod Spellings
+pub mod Unbroken
+pub mod Widths

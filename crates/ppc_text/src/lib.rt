@@ -1,0 +1,20 @@
+//! Instructions as text. `parse` reads a line of assembler source; `show` writes an instruction as such a line. Both
+//! use one table of the mnemonics and their operands. The names and operands are those of the Power ISA, Book I.
+#![tactic(auto)]
+
+mod lexer;
+mod line;
+mod literal;
+mod making;
+mod mnemonic;
+mod operand;
+mod part;
+mod showing;
+mod token;
+mod values;
+
+pub use line::{Instruction, Item, Line, parse};
+pub use making::insn_of;
+pub use showing::{show, shown_law};
+pub use token::{Reference, Text, Word};
+pub use values::{Value, Values};

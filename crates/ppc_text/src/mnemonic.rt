@@ -1,0 +1,372 @@
+//! The mnemonics: one line for each instruction and each short form.
+
+ghost use Rattle.std.specs.Prelude.{◌≡◌, ◌≤◌, length, map, not, ◌==◌, slice_set};
+ghost use Rattle.std.specs.List.{prefix_len};
+ghost use Rattle.ppc_text.specs.Mnemonics.{name_of as name_of_lem, seen, ending_of as ending_of_lem, named as named_lem, spelling_in, spelling_of as spelling_of_lem, named_as, flagged as flagged_lem, is_absolute as is_absolute_lem, spells};
+
+use crate::part::Shape;
+use ppc_word::Row;
+
+/// The letters that may follow the name of an instruction, with the place of the first field that they set.
+#[derive(Clone, Copy, Debug, PartialEq, Eq, Drop)]
+pub(crate) enum Endings {
+    /// Nothing.
+    Bare,
+    /// `.` for Rc.
+    Record(u8),
+    /// `o` for OE, then `.` for Rc.
+    Overflow(u8),
+    /// `l` for LK.
+    Link(u8),
+    /// `l` for LK, then `a` for AA. The field of AA stands first.
+    LinkAbsolute(u8),
+}
+
+/// The condition that the fields of an instruction meet in addition to their ranges.
+#[derive(Clone, Copy, Debug, PartialEq, Eq, Drop)]
+pub(crate) enum Condition {
+    /// Nothing.
+    Any,
+    /// The base register is neither `r0` nor the target.
+    LoadUpdate,
+    /// The base register isn't `r0`.
+    StoreUpdate,
+    /// The base register's number is below the target's, so that it isn't among the loaded registers.
+    LoadMultiple,
+    /// The special register is XER, LR or CTR.
+    SpecialRegister,
+    /// The branch doesn't decrement CTR.
+    NoCount,
+}
+
+/// How an instruction is spelled.
+#[derive(Clone, Copy, Debug, Drop)]
+pub(crate) struct Mnemonic {
+    /// The name, with zeros after it.
+    pub name: [u8; 6],
+    /// The instruction's row of the table.
+    pub row: Row,
+    /// The operands.
+    pub shape: Shape,
+    /// The letters that may follow the name.
+    pub endings: Endings,
+    /// The condition on the fields.
+    pub condition: Condition,
+}
+
+/// The values of the one or two fields that an ending sets, in the order of their places.
+#[derive(Clone, Copy, Debug, PartialEq, Eq, Drop)]
+pub(crate) struct Flags {
+    /// The field at the ending's place.
+    pub first: u32,
+    /// The field after it.
+    pub second: u32,
+}
+
+/// What a mnemonic names: an instruction, the shape of its operands, and the fields that its ending sets.
+#[derive(Clone, Copy, Debug, Drop)]
+pub(crate) struct Spelling {
+    /// The instruction's row of the table.
+    pub row: Row,
+    /// The operands.
+    pub shape: Shape,
+    /// Whether the ending sets AA.
+    pub absolute: bool,
+    /// The fields that the ending sets; the others are 0.
+    pub fields: [u32; 6],
+}
+
+macro_rules! mnemonic {
+    ($name:literal, $row:ident, $shape:ident, if $condition:ident) => {
+        Mnemonic {
+            name: *$name,
+            row: Row::$row,
+            shape: Shape::$shape,
+            endings: Endings::Bare,
+            condition: Condition::$condition,
+        }
+    };
+    ($name:literal, $row:ident, $shape:ident, Link($place:literal) if $condition:ident) => {
+        Mnemonic {
+            name: *$name,
+            row: Row::$row,
+            shape: Shape::$shape,
+            endings: Endings::Link($place),
+            condition: Condition::$condition,
+        }
+    };
+    ($name:literal, $row:ident, $shape:ident, $($endings:tt)*) => {
+        Mnemonic {
+            name: *$name,
+            row: Row::$row,
+            shape: Shape::$shape,
+            endings: Endings::$($endings)*,
+            condition: Condition::Any,
+        }
+    };
+}
+
+/// The number of mnemonics, including the short forms.
+pub(crate) const MNEMONICS: usize = 118;
+
+/// The instructions in the order of `Row`, then the short forms.
+pub(crate) static TABLE: [Mnemonic; MNEMONICS] = [
+    mnemonic!(b"twi\0\0\0", Twi, TrapImmediate, Bare),
+    mnemonic!(b"mulli\0", Mulli, Immediate, Bare),
+    mnemonic!(b"subfic", Subfic, Immediate, Bare),
+    mnemonic!(b"cmplwi", Cmpli, CompareUnsigned, Bare),
+    mnemonic!(b"cmpwi\0", Cmpi, CompareImmediate, Bare),
+    mnemonic!(b"addic\0", Addic, Immediate, Bare),
+    mnemonic!(b"addic.", AddicDot, Immediate, Bare),
+    mnemonic!(b"addi\0\0", Addi, Immediate, Bare),
+    mnemonic!(b"addis\0", Addis, Shifted, Bare),
+    mnemonic!(b"bc\0\0\0\0", Bc, BranchConditional, LinkAbsolute(3)),
+    mnemonic!(b"sc\0\0\0\0", Sc, Nothing, Bare),
+    mnemonic!(b"b\0\0\0\0\0", B, Branch, LinkAbsolute(1)),
+    mnemonic!(b"rlwimi", Rlwimi, Rotate, Record(5)),
+    mnemonic!(b"rlwinm", Rlwinm, Rotate, Record(5)),
+    mnemonic!(b"rlwnm\0", Rlwnm, RotateBy, Record(5)),
+    mnemonic!(b"ori\0\0\0", Ori, LogicalImmediate, Bare),
+    mnemonic!(b"oris\0\0", Oris, LogicalImmediate, Bare),
+    mnemonic!(b"xori\0\0", Xori, LogicalImmediate, Bare),
+    mnemonic!(b"xoris\0", Xoris, LogicalImmediate, Bare),
+    mnemonic!(b"andi.\0", Andi, LogicalImmediate, Bare),
+    mnemonic!(b"andis.", Andis, LogicalImmediate, Bare),
+    mnemonic!(b"lwz\0\0\0", Lwz, Memory, Bare),
+    mnemonic!(b"lwzu\0\0", Lwzu, Memory, if LoadUpdate),
+    mnemonic!(b"lbz\0\0\0", Lbz, Memory, Bare),
+    mnemonic!(b"lbzu\0\0", Lbzu, Memory, if LoadUpdate),
+    mnemonic!(b"stw\0\0\0", Stw, Memory, Bare),
+    mnemonic!(b"stwu\0\0", Stwu, Memory, if StoreUpdate),
+    mnemonic!(b"stb\0\0\0", Stb, Memory, Bare),
+    mnemonic!(b"stbu\0\0", Stbu, Memory, if StoreUpdate),
+    mnemonic!(b"lhz\0\0\0", Lhz, Memory, Bare),
+    mnemonic!(b"lhzu\0\0", Lhzu, Memory, if LoadUpdate),
+    mnemonic!(b"lha\0\0\0", Lha, Memory, Bare),
+    mnemonic!(b"lhau\0\0", Lhau, Memory, if LoadUpdate),
+    mnemonic!(b"sth\0\0\0", Sth, Memory, Bare),
+    mnemonic!(b"sthu\0\0", Sthu, Memory, if StoreUpdate),
+    mnemonic!(b"lmw\0\0\0", Lmw, Memory, if LoadMultiple),
+    mnemonic!(b"stmw\0\0", Stmw, Memory, Bare),
+    mnemonic!(b"mcrf\0\0", Mcrf, Fields, Bare),
+    mnemonic!(b"bclr\0\0", Bclr, BranchRegister, Link(2)),
+    mnemonic!(b"bcctr\0", Bcctr, BranchRegister, Link(2) if NoCount),
+    mnemonic!(b"crnor\0", Crnor, Bits, Bare),
+    mnemonic!(b"crandc", Crandc, Bits, Bare),
+    mnemonic!(b"crxor\0", Crxor, Bits, Bare),
+    mnemonic!(b"crnand", Crnand, Bits, Bare),
+    mnemonic!(b"crand\0", Crand, Bits, Bare),
+    mnemonic!(b"creqv\0", Creqv, Bits, Bare),
+    mnemonic!(b"crorc\0", Crorc, Bits, Bare),
+    mnemonic!(b"cror\0\0", Cror, Bits, Bare),
+    mnemonic!(b"isync\0", Isync, Nothing, Bare),
+    mnemonic!(b"cmpw\0\0", Cmp, Compare, Bare),
+    mnemonic!(b"cmplw\0", Cmpl, Compare, Bare),
+    mnemonic!(b"tw\0\0\0\0", Tw, Trap, Bare),
+    mnemonic!(b"subfc\0", Subfc, Three, Overflow(3)),
+    mnemonic!(b"subf\0\0", Subf, Three, Overflow(3)),
+    mnemonic!(b"addc\0\0", Addc, Three, Overflow(3)),
+    mnemonic!(b"add\0\0\0", Add, Three, Overflow(3)),
+    mnemonic!(b"subfe\0", Subfe, Three, Overflow(3)),
+    mnemonic!(b"adde\0\0", Adde, Three, Overflow(3)),
+    mnemonic!(b"subfze", Subfze, Two, Overflow(2)),
+    mnemonic!(b"addze\0", Addze, Two, Overflow(2)),
+    mnemonic!(b"subfme", Subfme, Two, Overflow(2)),
+    mnemonic!(b"addme\0", Addme, Two, Overflow(2)),
+    mnemonic!(b"neg\0\0\0", Neg, Two, Overflow(2)),
+    mnemonic!(b"mulhwu", Mulhwu, Three, Record(3)),
+    mnemonic!(b"mulhw\0", Mulhw, Three, Record(3)),
+    mnemonic!(b"mullw\0", Mullw, Three, Overflow(3)),
+    mnemonic!(b"divwu\0", Divwu, Three, Overflow(3)),
+    mnemonic!(b"divw\0\0", Divw, Three, Overflow(3)),
+    mnemonic!(b"and\0\0\0", And, LogicalThree, Record(3)),
+    mnemonic!(b"andc\0\0", Andc, LogicalThree, Record(3)),
+    mnemonic!(b"or\0\0\0\0", Or, LogicalThree, Record(3)),
+    mnemonic!(b"orc\0\0\0", Orc, LogicalThree, Record(3)),
+    mnemonic!(b"xor\0\0\0", Xor, LogicalThree, Record(3)),
+    mnemonic!(b"eqv\0\0\0", Eqv, LogicalThree, Record(3)),
+    mnemonic!(b"nor\0\0\0", Nor, LogicalThree, Record(3)),
+    mnemonic!(b"nand\0\0", Nand, LogicalThree, Record(3)),
+    mnemonic!(b"slw\0\0\0", Slw, LogicalThree, Record(3)),
+    mnemonic!(b"srw\0\0\0", Srw, LogicalThree, Record(3)),
+    mnemonic!(b"sraw\0\0", Sraw, LogicalThree, Record(3)),
+    mnemonic!(b"srawi\0", Srawi, Shift, Record(3)),
+    mnemonic!(b"cntlzw", Cntlzw, LogicalTwo, Record(2)),
+    mnemonic!(b"extsb\0", Extsb, LogicalTwo, Record(2)),
+    mnemonic!(b"extsh\0", Extsh, LogicalTwo, Record(2)),
+    mnemonic!(b"mfcr\0\0", Mfcr, One, Bare),
+    mnemonic!(b"mtcrf\0", Mtcrf, Mask, Bare),
+    mnemonic!(b"mcrxr\0", Mcrxr, Field, Bare),
+    mnemonic!(b"mfspr\0", Mfspr, FromSpecial, if SpecialRegister),
+    mnemonic!(b"mtspr\0", Mtspr, ToSpecial, if SpecialRegister),
+    mnemonic!(b"lwzx\0\0", Lwzx, Three, Bare),
+    mnemonic!(b"lbzx\0\0", Lbzx, Three, Bare),
+    mnemonic!(b"lhzx\0\0", Lhzx, Three, Bare),
+    mnemonic!(b"lhax\0\0", Lhax, Three, Bare),
+    mnemonic!(b"lwzux\0", Lwzux, Three, if LoadUpdate),
+    mnemonic!(b"lbzux\0", Lbzux, Three, if LoadUpdate),
+    mnemonic!(b"lhzux\0", Lhzux, Three, if LoadUpdate),
+    mnemonic!(b"lhaux\0", Lhaux, Three, if LoadUpdate),
+    mnemonic!(b"stwx\0\0", Stwx, Three, Bare),
+    mnemonic!(b"stbx\0\0", Stbx, Three, Bare),
+    mnemonic!(b"sthx\0\0", Sthx, Three, Bare),
+    mnemonic!(b"stwux\0", Stwux, Three, if StoreUpdate),
+    mnemonic!(b"stbux\0", Stbux, Three, if StoreUpdate),
+    mnemonic!(b"sthux\0", Sthux, Three, if StoreUpdate),
+    mnemonic!(b"lwbrx\0", Lwbrx, Three, Bare),
+    mnemonic!(b"lhbrx\0", Lhbrx, Three, Bare),
+    mnemonic!(b"stwbrx", Stwbrx, Three, Bare),
+    mnemonic!(b"sthbrx", Sthbrx, Three, Bare),
+    mnemonic!(b"lwarx\0", Lwarx, Three, Bare),
+    mnemonic!(b"stwcx.", Stwcx, Three, Bare),
+    mnemonic!(b"sync\0\0", Sync, Nothing, Bare),
+    mnemonic!(b"eieio\0", Eieio, Nothing, Bare),
+    mnemonic!(b"li\0\0\0\0", Addi, LoadImmediate, Bare),
+    mnemonic!(b"lis\0\0\0", Addis, LoadShifted, Bare),
+    mnemonic!(b"mr\0\0\0\0", Or, Move, Bare),
+    mnemonic!(b"blr\0\0\0", Bclr, Always, Bare),
+    mnemonic!(b"bctr\0\0", Bcctr, Always, Bare),
+    mnemonic!(b"mflr\0\0", Mfspr, FromLink, Bare),
+    mnemonic!(b"mtlr\0\0", Mtspr, ToLink, Bare),
+    mnemonic!(b"nop\0\0\0", Ori, Nothing, Bare),
+];
+
+// The number of bytes before the first zero.
+fn name_len(name: &[u8]) -> usize
+    ensures exact { result ≡ prefix_len (λ b. not (b == 0)) name.now }
+    ensures within { result ≤ length name.now }
+{
+    name.iter().take_while(|byte| **byte != 0).count()
+}
+
+/// The name without the zeros after it.
+pub(crate) fn name_of(mnemonic: &Mnemonic) -> &[u8]
+    ensures value { result.now ≡ name_of_lem mnemonic.now }
+    ensures within { length result.now ≤ 6 }
+{
+    &mnemonic.name[..name_len(&mnemonic.name)]
+}
+
+const NO_FLAGS: Flags = Flags {
+    first: 0,
+    second: 0,
+};
+
+const FIRST: Flags = Flags {
+    first: 1,
+    second: 0,
+};
+
+const SECOND: Flags = Flags {
+    first: 0,
+    second: 1,
+};
+
+const BOTH: Flags = Flags {
+    first: 1,
+    second: 1,
+};
+
+// The fields that the bytes after a name set. None if the bytes aren't one of the name's endings.
+#[tactic(auto, unfolding(crate::specs::Mnemonics::ending_of))]
+fn ending_of(endings: Endings, bytes: &[u8]) -> Option<Flags>
+    ensures { result ≡ ending_of_lem endings bytes.now }
+{
+    match (endings, bytes) {
+        (_, []) => Some(NO_FLAGS),
+        (Endings::Record(_), [b'.']) => Some(FIRST),
+        (Endings::Overflow(_), [b'o']) => Some(FIRST),
+        (Endings::Overflow(_), [b'.']) => Some(SECOND),
+        (Endings::Overflow(_), [b'o', b'.']) => Some(BOTH),
+        (Endings::Link(_), [b'l']) => Some(FIRST),
+        (Endings::LinkAbsolute(_), [b'a']) => Some(FIRST),
+        (Endings::LinkAbsolute(_), [b'l']) => Some(SECOND),
+        (Endings::LinkAbsolute(_), [b'l', b'a']) => Some(BOTH),
+        _ => None,
+    }
+}
+
+// The fields that a word's ending sets. None if the word isn't this mnemonic.
+#[tactic(auto, unfolding(crate::specs::Mnemonics::named))]
+fn named(mnemonic: &Mnemonic, word: &[u8]) -> Option<Flags>
+    ensures { result ≡ named_lem (seen mnemonic.now) word.now }
+{
+    let name = name_of(mnemonic);
+    if word.starts_with(name) {
+        ending_of(mnemonic.endings, &word[name.len()..])
+    } else {
+        None
+    }
+}
+
+#[tactic(auto, unfolding(crate::specs::Mnemonics::is_absolute))]
+fn is_absolute(endings: Endings, flags: Flags) -> bool
+    ensures { result ≡ is_absolute_lem endings flags }
+{
+    match endings {
+        Endings::LinkAbsolute(_) => flags.first == 1,
+        _ => false,
+    }
+}
+
+/// Six fields: those that the ending sets, and 0 elsewhere.
+#[tactic(auto, unfolding(crate::specs::Mnemonics::flagged))]
+pub(crate) fn flagged(endings: Endings, flags: Flags) -> [u32; 6]
+    ensures { result ≡ flagged_lem endings flags }
+{
+    let mut fields = [0; 6];
+    match endings {
+        Endings::Bare => {}
+        Endings::Record(place) | Endings::Link(place) => put(&mut fields, place, flags.first),
+        Endings::Overflow(place) | Endings::LinkAbsolute(place) => {
+            put(&mut fields, place, flags.first);
+            put(&mut fields, place.saturating_add(1), flags.second);
+        }
+    }
+    fields
+}
+
+fn put(fields: &mut [u32; 6], place: u8, value: u32)
+    ensures { fields.new ≡ slice_set fields.old place value }
+{
+    if (place as usize) < fields.len() {
+        fields[place as usize] = value;
+    }
+}
+
+#[tactic(auto, unfolding(crate::specs::Mnemonics::spells))]
+fn spelled(mnemonic: &Mnemonic, flags: Flags) -> Spelling
+    ensures { result ≡ spells (seen mnemonic.now) flags }
+{
+    Spelling {
+        row: mnemonic.row,
+        shape: mnemonic.shape,
+        absolute: is_absolute(mnemonic.endings, flags),
+        fields: flagged(mnemonic.endings, flags),
+    }
+}
+
+fn spelling_among(mnemonics: &[Mnemonic], word: &[u8]) -> Option<Spelling>
+    ensures { result ≡ spelling_in (map seen mnemonics.now) word.now }
+{
+    for mnemonic in mnemonics {
+        if let Some(flags) = named(mnemonic, word) {
+            return Some(spelled(mnemonic, flags));
+        }
+    }
+    None
+}
+
+/// How an instruction is spelled.
+pub(crate) fn mnemonic_of(row: Row) -> &'static Mnemonic
+    ensures { seen result.now ≡ named_as row }
+{
+    &TABLE[row as usize]
+}
+
+/// What a mnemonic names. None if the word isn't a mnemonic.
+pub(crate) fn spelling_of(word: &[u8]) -> Option<Spelling>
+    ensures { result ≡ spelling_of_lem word.now }
+{
+    spelling_among(&TABLE, word)
+}

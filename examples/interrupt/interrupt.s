@@ -1,0 +1,4 @@
+# Never returns.
+        .globl  forever
+forever:
+        b       forever
