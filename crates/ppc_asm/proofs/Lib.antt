@@ -1,5 +1,6 @@
 pub mod Alone
 pub mod Counting
+pub mod Decoded
 pub mod Drafted
 pub mod Ending
 pub mod Filing

@@ -7,7 +7,7 @@ ghost use Rattle.elf_build.specs.Buildable.{Buildable};
 ghost use Rattle.elf_read.specs.declared.module.Sym.{Sym};
 ghost use Rattle.asm_lines.specs.Items.{Placed};
 ghost use Rattle.ppc_asm.specs.Assembly.{label_symbol as label_symbol_lem, undefined_symbol as undefined_symbol_lem, is_undefined, symbols as symbols_lem, binding_of, is_chosen as is_chosen_lem, relocation, section_of, module_of as module_of_lem, assembly, FitsModule, Numbers};
-ghost use Rattle.ppc_asm.specs.Laws.{ShownLaw};
+ghost use Rattle.ppc_asm.specs.Laws.{DecodedLaw, ShownLaw};
 ghost use Rattle.asm_lines.specs.Causes.{Tells};
 ghost use Rattle.asm_lines.specs.Drafts.{number_at, Has, IsDraft, IsSmall};
 
@@ -257,4 +257,11 @@ pub fn assemble(alloc: Global, text: &[u8]) -> Result<Module, AsmErr>
 #[tactic(auto, using(crate::proofs::Alone::assembled))]
 pub fn shown_law()
     ensures { ShownLaw }
+{}
+
+/// The law of words: the word of each instruction of a text that is assembled decodes to the instruction that its line
+/// names.
+#[tactic(auto, using(crate::proofs::Decoded::decoded))]
+pub fn decoded_law()
+    ensures { DecodedLaw }
 {}

@@ -6,7 +6,7 @@ mod words;
 
 use crate::{AsmErr, AsmStatus, Cause, assemble, ppcasm};
 use beyond::BEYOND;
-use elf_read::{Body, Module, SymPlace};
+use elf_read::{Body, ElfErr, Module, SymPlace};
 use std::alloc::Global;
 use std::test::Fail;
 use wind_outside::{MemFolder, MemSink};
@@ -180,5 +180,72 @@ fn a_file_has_at_most_1_mib(rt: HostRuntime) -> Result<(), Fail> {
         end_of_lines(rt.alloc(), 0x10_0001)?,
         (AsmStatus::TooLong, false)
     );
+    Ok(())
+}
+
+// The status of a call and its text, over a folder with a file `bad.s`, whose fetches with these numbers fail, and an
+// output with this room.
+fn told(
+    alloc: Global,
+    words: &[&str],
+    failing: Vec<u64>,
+    room: u32,
+) -> Result<(AsmStatus, Vec<u8>), Fail> {
+    let mut folder = MemFolder::new(alloc, failing);
+    folder.add(
+        "bad.s",
+        b"nop\nf:\nlwzu r3, 0(r0)\n".as_slice().to_vec(alloc)?,
+    )?;
+    folder.add("f.s", b"nop\n".as_slice().to_vec(alloc)?)?;
+    let mut out = MemSink::reserved(alloc, room, Vec::new(alloc))?;
+    let mut err = MemSink::reserved(alloc, 4096, Vec::new(alloc))?;
+    let status = ppcasm(alloc, words, &mut folder, &mut out, &mut err);
+    Ok((status, err.bytes().to_vec(alloc)?))
+}
+
+#[test]
+fn tells_each_end(rt: HostRuntime) -> Result<(), Fail> {
+    let alloc = rt.alloc();
+    let usage = b"usage: ppcasm FILE\n       ppcasm --list FILE\n".as_slice();
+    let cases: [(&[&str], AsmStatus, &[u8]); 7] = [
+        (&["ppcasm"], AsmStatus::Usage, usage),
+        (&["ppcasm", "--list"], AsmStatus::Usage, usage),
+        (&["ppcasm", "--help"], AsmStatus::Usage, usage),
+        (&["ppcasm", "f.s", "--list"], AsmStatus::Usage, usage),
+        (
+            &["ppcasm", "none.s"],
+            AsmStatus::Absent,
+            b"ppcasm: none.s: not found\n",
+        ),
+        (
+            &["ppcasm", "bad.s"],
+            AsmStatus::BadSource(3, Cause::BadWord),
+            b"ppcasm: bad.s: line 3: no such instruction\n",
+        ),
+        (
+            &["ppcasm", "--list", "bad.s"],
+            AsmStatus::BadObject(ElfErr::Short(22)),
+            b"ppcasm: bad.s: short file at 22\n",
+        ),
+    ];
+    for (words, status, text) in cases {
+        let (end, said) = told(alloc, words, Vec::new(alloc), 4096)?;
+        assert_eq!(rt; end, status);
+        assert_eq!(rt; said.as_slice(), text);
+    }
+    Ok(())
+}
+
+#[test]
+fn tells_faults(rt: HostRuntime) -> Result<(), Fail> {
+    let alloc = rt.alloc();
+    let mut failing = Vec::new(alloc);
+    failing.push(1)?;
+    let (end, said) = told(alloc, &["ppcasm", "f.s"], failing, 4096)?;
+    assert_eq!(rt; end, AsmStatus::ReadFault);
+    assert_eq!(rt; said.as_slice(), b"ppcasm: reading failed\n".as_slice());
+    let (end, said) = told(alloc, &["ppcasm", "f.s"], Vec::new(alloc), 3)?;
+    assert_eq!(rt; end, AsmStatus::WriteFault);
+    assert_eq!(rt; said.as_slice(), b"ppcasm: writing failed\n".as_slice());
     Ok(())
 }

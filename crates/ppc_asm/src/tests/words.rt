@@ -1,7 +1,7 @@
 //! Lines at both ends of the ranges of their operands.
 
 /// Each mnemonic at both ends of the ranges of its operands, and its endings, with the words that the GNU assembler makes
-/// (those with BO 31, which it refuses, by the fields of the Power ISA).
+/// (those with BO 31 and `bcctr 4, 0`, which it refuses, by the fields of the Power ISA).
 pub(crate) static WORDS: [(&str, u32); 268] = [
     ("twi 0, r0, -32768", 0x0c00_8000),
     ("twi 31, r31, 32767", 0x0fff_7fff),
