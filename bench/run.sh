@@ -35,12 +35,13 @@ tell() {
     awk "BEGIN { printf \"%-36s %12.0f %s a second (%s in %s s)\n\", \"$1\", $2 / ($seconds + 1e-9), \"$3\", \"$2\", \"$seconds\" }"
 }
 
-# Makes a number of steps of a session that doesn't end before, and tells how many come in a second.
+# Makes a number of steps of a session that doesn't end before, with these further words, and tells how many come in a second.
 steps() {
     name=$1
     folder=$2
     limit=$3
-    measure "$folder" --limit "$limit"
+    shift 3
+    measure "$folder" --limit "$limit" "$@"
     case $status in
         3) tell "$name" "$limit" steps ;;
         *) printf '%-36s ended with status %s\n' "$name" "$status" ;;
@@ -147,13 +148,18 @@ mkdir "$work/sleepers"
 cp "$here/idle-ticks/ticks.txt" "$work/sleepers/ticks.txt"
 awk 'BEGIN { for (i = 0; i < 250; i++) print "sp taskDelay, 1000000000" }' >"$work/sleepers/console.txt"
 steps 'idle ticks, delayed tasks: 250' "$work/sleepers" 1000000
+steps 'the same, profile 2' "$work/sleepers" 1000000 --profile 2
 
 chain 0
 measure "$work/chain" --limit 1000000000000
 chain_seconds=$seconds
+measure "$work/chain" --limit 1000000000000 --profile 2
+exact_seconds=$seconds
 chain 50
 measure "$work/chain" --limit 1000000000000
 each 'semTake along 250 owners' 50 "$chain_seconds"
+measure "$work/chain" --limit 1000000000000 --profile 2
+each 'the same, profile 2' 50 "$exact_seconds"
 
 # A console of 20,000 lines.
 : >"$work/lines/ticks.txt"

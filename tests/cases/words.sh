@@ -10,6 +10,7 @@ Options:
       --modules <DIR>   The folder of modules [default: .]
       --limit <N>       The most steps to make, up to 1000000000000 [default: 1000000]
       --generate <N>    Plays a session of N generated rounds, up to 10000, and tells of it in one line [default: 0]
+      --profile <N>     The rule by which owners of mutexes inherit priorities, 1 or 2 [default: 1]
   -h, --help            Print help
 "
 
@@ -150,7 +151,7 @@ plays x
 refuses "unexpected argument 'x' found"
 
 # The last word is an option without its value, or another option stands in its place.
-for option in '--console <FILE>' '--ticks <FILE>' '--modules <DIR>' '--limit <N>' '--generate <N>'; do
+for option in '--console <FILE>' '--ticks <FILE>' '--modules <DIR>' '--limit <N>' '--generate <N>' '--profile <N>'; do
     long=${option% *}
     shows "$long without a value is refused"
     plays "$long"
@@ -182,6 +183,13 @@ for limit in '' -1 +1 0x10 ' 1' '1 ' 1_000 1e3 x 5x 1000000000001 9999999999999 
     shows "the limit '$limit' is refused"
     plays "--limit=$limit"
     refuses "'--limit <N>' takes 1 to 13 digits, and at most 1000000000000"
+done
+
+# Rules of inheritance are 1 and 2.
+for profile in '' 0 3 -1 +1 0x1 x 10 00000000000001; do
+    shows "the rule of inheritance '$profile' is refused"
+    plays "--profile=$profile"
+    refuses "'--profile <N>' takes 1 or 2"
 done
 
 shows 'an invalid limit is refused before a file that is not there'

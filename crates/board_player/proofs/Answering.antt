@@ -1,20 +1,22 @@
 -- What a board answers for its next step.
-use Rattle.std.proofs.Common.{◌≡◌, ◌≢◌, List, ℕ, true, Option, None, Some, IfSome, Result, Ok, Err, sym, ap, ◌∙◌}
+use Rattle.std.proofs.Common.{◌≡◌, ◌≢◌, List, ℕ, true, Option, None, Some, IfSome, Result, Ok, Err, sym, ap, ◌∙◌, subst}
 use Rattle.std.specs.Prelude.{OnOk, OnErr, ◌↔◌}
+use Rattle.std.specs.Option.{option_map}
 use Rattle.wind_base.specs.declared.NoMemory.{NoMemory}
 use Rattle.live_loading.specs.Said.{FileSaid}
 use Rattle.wind_machine.specs.State.{State}
 use Rattle.wind_machine.specs.ActorSteps.{load_step}
 use Rattle.wind_machine.specs.Next.{next}
-use Rattle.wind_machine.specs.Machine.{state_after, file_of, file_asked, machine_step, Steps, IsOver, next_may, may_lack_memory}
+use Rattle.wind_machine.specs.Machine.{state_after, file_of, file_asked, settled_state, machine_step, Steps, IsOver, next_may, may_lack_memory}
 use Rattle.wind_machine.specs.declared.next.Next.{Next}
 use Rattle.wind_machine.specs.declared.next.Next.TheVariants.{Load, Over}
 use Rattle.wind_machine.proofs.Asking.{asked_may}
+use Rattle.board_player.specs.Settling.{CanSettle, Makes}
 
 -- the step that comes next, whatever is said of a file
-pub steps_on : (s t : State) (n : Next) → n ≡ next s → ((said : FileSaid) → state_after said s n ≡ Some t) → Steps s t
+pub steps_on : (s t : State) (n : Next) → n ≡ next s → Makes s n t → Steps s t
 unfolding machine_step
-steps_on s t n e on said = ap (state_after said s) (sym e) ∙ on said
+steps_on s t n e on said = ap (λ m. option_map settled_state (state_after said s m)) (sym e) ∙ on said
 
 -- the file that the step needs
 pub asked_is : (s : State) (n : Next) (o : Option (List ℕ)) → n ≡ next s → o ≡ file_of n → o ≡ file_asked s
@@ -38,14 +40,19 @@ by_case : (said : FileSaid) (s : State) (name : List ℕ) (n : Next) → file_of
 by_case said s name (Load given) q = let same : given ≡ name = cc in ap (λ x. Some (load_step said s x)) same
 by_case said s name n q = absurd (cc)
 
-pub loads : (said : FileSaid) (s : State) (name : List ℕ) → file_asked s ≡ Some name → machine_step said s ≡ Some (load_step said s name)
+pub loads : (said : FileSaid) (s : State) (name : List ℕ) → file_asked s ≡ Some name → machine_step said s ≡ Some (settled_state (load_step said s name))
 unfolding machine_step file_asked
-loads said s name e = by_case said s name (next s) e
+loads said s name e = ap (option_map settled_state) (by_case said s name (next s) e)
 
 -- ---- what the call for a load answers
-pub loaded_step : (said : FileSaid) (r : Result Unit NoMemory) (s t : State) (name : List ℕ) → file_asked s ≡ Some name → OnOk r (t ≡ load_step said s name) → OnOk r (machine_step said s ≡ Some t)
+pub loaded_step : (said : FileSaid) (r : Result Unit NoMemory) (s t : State) (name : List ℕ) → file_asked s ≡ Some name → OnOk r (t ≡ settled_state (load_step said s name)) → OnOk r (machine_step said s ≡ Some t)
 loaded_step said (Ok u) s t name asked ok = loads said s name asked ∙ ap Some (sym ok)
 loaded_step said (Err e) s t name asked ok = tt
+
+-- a load leaves a state that can be settled
+pub load_left : (said : FileSaid) (s : State) (name : List ℕ) → file_asked s ≡ Some name → IfSome (state_after said s (next s)) CanSettle → CanSettle (load_step said s name)
+unfolding file_asked
+load_left said s name asked h = subst (λ o. IfSome o CanSettle) (by_case said s name (next s) asked) h
 
 pub load_lacks : (r : Result Unit NoMemory) (s : State) (name : List ℕ) → file_asked s ≡ Some name → OnErr r (may_lack_memory s ≡ true)
 load_lacks (Ok u) s name asked = tt

@@ -12,13 +12,13 @@ use Rattle.wind_machine.specs.Reserving.{drop_all}
 -- the counters are far below their limits
 pub good_early : (s : State) → Good s → s.steps < 10 ^ 12 → IsEarly s.world
 good_early s g few = record {
-  sinces = omega (arith, g.sinces, few);
-  ticks = omega (arith, g.ticks, few);
-  locks = All-weaker (HasCounts s.steps) (λ t. t.locks < 2 ^ 60) (λ t h. omega (arith, h.0, few)) s.world.kern.tasks g.within.0;
-  safes = All-weaker (HasCounts s.steps) (λ t. t.safe < 2 ^ 60) (λ t h. omega (arith, h.1, few)) s.world.kern.tasks g.within.0;
-  depths = All-weaker (λ r. r.1.depth ≤ s.steps) (λ r. r.1.depth < 2 ^ 60) (λ r h. omega (arith, h, few)) s.world.objects.mutexes g.within.1;
-  names = omega (arith, g.names, few);
-  starts = omega (arith, g.starts, few);
+  sinces = omega (arith, g.kept.sinces, few);
+  ticks = omega (arith, g.kept.ticks, few);
+  locks = All-weaker (HasCounts s.steps) (λ t. t.locks < 2 ^ 60) (λ t h. omega (arith, h.0, few)) s.world.kern.tasks g.kept.within.0;
+  safes = All-weaker (HasCounts s.steps) (λ t. t.safe < 2 ^ 60) (λ t h. omega (arith, h.1, few)) s.world.kern.tasks g.kept.within.0;
+  depths = All-weaker (λ r. r.1.depth ≤ s.steps) (λ r. r.1.depth < 2 ^ 60) (λ r h. omega (arith, h, few)) s.world.objects.mutexes.rows g.kept.within.1;
+  names = omega (arith, g.kept.names, few);
+  starts = omega (arith, g.kept.starts, few);
 }
 
 -- before an event, a task that lives still does

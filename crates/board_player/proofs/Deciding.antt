@@ -122,4 +122,4 @@ module _ (s : State) (who : ℕ) (comes : Act who ≡ next s) where
   act_lives up = runner_lives s.world.kern who up act_runs
 
   pub act_ready : Good s → IsReady s.world.kern who
-  act_ready good = runner_is_ready s.world.kern good.world.kern who act_runs
+  act_ready good = runner_is_ready s.world.kern good.kept.world.kern who act_runs

@@ -2,6 +2,7 @@
 use Rattle.std.proofs.Common.{◌≡◌, ◌≢◌, ℕ, ◌<◌, ◌^◌, List, Option, None, Some, IfSome, Result, Ok, Err, refl, sym, ap, ◌∙◌, subst}
 use Rattle.std.specs.Prelude.{OnOk, OnErr}
 use Rattle.std.specs.Option.{option_map}
+use Rattle.wind_base.specs.declared.profile.Profile.{Profile}
 use Rattle.wind_outside.specs.Devices.{DeviceState}
 use Rattle.tick_file.specs.Schedule.{Timed, Timetable, at}
 use Rattle.tick_file.specs.declared.event.Event.{Event}
@@ -18,33 +19,34 @@ use Rattle.wind_base.specs.declared.NoMemory.{NoMemory}
 use Rattle.wind_machine.specs.Events.{next_event}
 use Rattle.wind_machine.specs.ActorSteps.{load_step}
 use Rattle.wind_machine.specs.Next.{next}
-use Rattle.wind_machine.specs.Machine.{opening, state_after, file_asked}
+use Rattle.wind_machine.specs.Machine.{opening, settled_state, file_asked}
 use Rattle.wind_machine.specs.declared.next.Next.{Next}
 use Rattle.board_player.specs.declared.Step.{Step}
 use Rattle.board_player.specs.declared.Step.TheVariants as steps
+use Rattle.board_player.specs.Settling.{Makes}
 use Rattle.board_player.proofs.Answering.{steps_on, loads}
 
 -- the board at the start
-pub booted : StartLaw → (console : List ℕ) (slots : List (Option DeviceState)) (left : List ℕ) (screen : ConsoleState) (shell : ShellState) (w : WorldState) (schedule : Timetable) (time made : ℕ)
-    → left ≡ console → screen ≡ opening_console → shell ≡ at_prompt → w ≡ opening_world slots → time ≡ 0 → made ≡ 0
+pub booted : StartLaw → (console : List ℕ) (slots : List (Option DeviceState)) (profile : Profile) (left : List ℕ) (screen : ConsoleState) (shell : ShellState) (w : WorldState) (schedule : Timetable) (time made : ℕ)
+    → left ≡ console → screen ≡ opening_console → shell ≡ at_prompt → w ≡ opening_world slots profile → time ≡ 0 → made ≡ 0
     → Good (record { left = left; console = screen; shell = shell; world = w; schedule = schedule; time = time; steps = made })
 unfolding opening
-booted law console slots left screen shell w schedule time made l s h e t m =
+booted law console slots profile left screen shell w schedule time made l s h e t m =
     subst (λ x. Good (record { left = x; console = screen; shell = shell; world = w; schedule = schedule; time = time; steps = made })) (sym l)
     (subst (λ x. Good (record { left = console; console = x; shell = shell; world = w; schedule = schedule; time = time; steps = made })) (sym s)
     (subst (λ x. Good (record { left = console; console = opening_console; shell = x; world = w; schedule = schedule; time = time; steps = made })) (sym h)
     (subst (λ x. Good (record { left = console; console = opening_console; shell = at_prompt; world = x; schedule = schedule; time = time; steps = made })) (sym e)
-    (subst (λ x. Good (record { left = console; console = opening_console; shell = at_prompt; world = opening_world slots; schedule = schedule; time = x; steps = made })) (sym t)
-    (subst (λ x. Good (record { left = console; console = opening_console; shell = at_prompt; world = opening_world slots; schedule = schedule; time = 0; steps = x })) (sym m)
-    (law console schedule slots))))))
+    (subst (λ x. Good (record { left = console; console = opening_console; shell = at_prompt; world = opening_world slots profile; schedule = schedule; time = x; steps = made })) (sym t)
+    (subst (λ x. Good (record { left = console; console = opening_console; shell = at_prompt; world = opening_world slots profile; schedule = schedule; time = 0; steps = x })) (sym m)
+    (law console schedule slots profile))))))
 
 -- the step that comes next
-pub kept : StepLaw → (r : Step) (s t : State) (n : Next) → IfSome (next_event s) IsEarly → Good s → n ≡ next s → (r ≡ steps.Stepped → (said : FileSaid) → state_after said s n ≡ Some t) → (r ≢ steps.Stepped → t ≡ s) → Good t
+pub kept : StepLaw → (r : Step) (s t : State) (n : Next) → IfSome (next_event s) IsEarly → Good s → n ≡ next s → (r ≡ steps.Stepped → Makes s n t) → (r ≢ steps.Stepped → t ≡ s) → Good t
 kept law steps.Stepped s t n early good e stepped same = law Missing s t early good (steps_on s t n e (stepped refl) Missing)
 kept law r s t n early good e stepped same = subst Good (sym (same (λ q. cc))) good
 
 -- a step that loads a file
-pub kept_loading : StepLaw → (said : FileSaid) (r : Result Unit NoMemory) (s t : State) (name : List ℕ) → IfSome (next_event s) IsEarly → Good s → file_asked s ≡ Some name → OnOk r (t ≡ load_step said s name) → OnErr r (t ≡ s) → Good t
+pub kept_loading : StepLaw → (said : FileSaid) (r : Result Unit NoMemory) (s t : State) (name : List ℕ) → IfSome (next_event s) IsEarly → Good s → file_asked s ≡ Some name → OnOk r (t ≡ settled_state (load_step said s name)) → OnErr r (t ≡ s) → Good t
 kept_loading law said (Ok u) s t name early good asked ok err = law said s t early good (loads said s name asked ∙ ap Some (sym ok))
 kept_loading law said (Err e) s t name early good asked ok err = subst Good (sym err) good
 

@@ -7,5 +7,6 @@ pub mod Answering
 pub mod Keeping
 pub mod Stepping
 pub mod Going
+pub mod Settled
 pub mod TaskBursts
 pub mod RoutineBursts

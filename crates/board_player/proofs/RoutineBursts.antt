@@ -5,11 +5,12 @@ use Rattle.std.proofs.lemmas.List.Elements.{All-nil, All-cons, All-map}
 use Rattle.std.specs.Prelude.{unwrap_or, ◌&&◌}
 use Rattle.wind_base.specs.declared.regs.Regs.{Regs}
 use Rattle.task_block.specs.declared.task.Task.{Task}
-use Rattle.wind_core.specs.State.{KernState}
+use Rattle.wind_core.specs.State.{KernState, IsKern}
 use Rattle.wind_core.specs.Moves.{unreserved}
 use Rattle.board_bus.specs.BusState.{BusState}
 use Rattle.kernel_world.specs.State.{WorldState}
 use Rattle.kernel_world.specs.Kept.{ReservedBy}
+use Rattle.kernel_world.specs.Settling.{HasExact}
 use Rattle.kernel_world.specs.Starting.{no_regs}
 use Rattle.wind_machine.specs.State.{State}
 use Rattle.wind_machine.specs.Silent.{IsSilentStep, SilentSteps}
@@ -18,7 +19,7 @@ use Rattle.wind_machine.specs.Processor.{bus_of}
 use Rattle.wind_machine.specs.Routine.{routine_regs, routine_at, routine_word, routine_executed, routine_part}
 use Rattle.wind_machine.specs.Events.{cleared, unreserved_world}
 use Rattle.wind_machine.specs.Next.{next}
-use Rattle.wind_machine.specs.Machine.{file_of, file_asked, Steps}
+use Rattle.wind_machine.specs.Machine.{file_of, file_asked, settled_state, Steps}
 use Rattle.wind_machine.specs.declared.next.Next.TheVariants.{Routine}
 use Rattle.wind_machine.proofs.Reserving.{all_none}
 use Rattle.board_turns.specs.Instructions.{Executes, ExecutesMany, routine_executed_to}
@@ -27,6 +28,7 @@ use Rattle.board_player.specs.Going.{IsRoutine}
 use Rattle.board_player.specs.Bursts.{RoutineRunsOn, routine_moved}
 use Rattle.board_player.proofs.Deciding.{routine_next}
 use Rattle.board_player.proofs.Answering.{steps_on}
+use Rattle.board_player.proofs.Settled.{still_settled}
 
 -- nobody has a reservation, so none is dropped
 pub routine_alone : (k : KernState) → ReservedBy None k → drop_all k ≡ k
@@ -52,7 +54,7 @@ level_regs : (o : Option Regs) → is_some o ≡ true → o ≡ Some (unwrap_or 
 level_regs None e = absurd (cc)
 level_regs (Some r) e = refl
 
-module _ (s : State) (on : RoutineRunsOn s) where
+module _ (s : State) (is : IsKern s.world.kern) (exact : HasExact s.world) (on : RoutineRunsOn s) where
   -- its step begins with the world as it is
   as_begun : cleared (unreserved_world s.world) ≡ s.world
   as_begun = ap₂ (λ k o. record s.world { kern = k; output = o }) on.alone (sym on.silent)
@@ -74,14 +76,15 @@ module _ (s : State) (on : RoutineRunsOn s) where
 
     steps : Steps s (routine_moved s r b 1)
     steps = steps_on s (routine_moved s r b 1) Routine comes (λ said.
-        ap (λ w. Some (record s { world = routine_part w; time = s.time + 1; steps = s.steps + 1 })) as_begun
-        ∙ ap (λ w. Some (record s { world = w; time = s.time + 1; steps = s.steps + 1 })) part)
+        ap (λ w. Some (settled_state (record s { world = routine_part w; time = s.time + 1; steps = s.steps + 1 }))) as_begun
+        ∙ ap (λ w. Some (settled_state (record s { world = w; time = s.time + 1; steps = s.steps + 1 }))) part
+        ∙ ap Some (still_settled s (routine_moved s r b 1) is refl refl exact))
 
     one_step : IsSilentStep s (routine_moved s r b 1)
     one_step = record { unasked = unasked; steps = steps; silent = on.silent; counted = refl; uneventful = refl }
 
 -- ---- the routine goes on after them
-module _ (s : State) (on : RoutineRunsOn s) where
+module _ (s : State) (is : IsKern s.world.kern) (exact : HasExact s.world) (on : RoutineRunsOn s) where
   on_after : (m : Regs) (c : BusState) (k : ℕ) → RoutineRunsOn (routine_moved s m c k)
   on_after m c k = record { active = refl; alone = on.alone; silent = on.silent }
 
@@ -99,14 +102,14 @@ module _ (s : State) (on : RoutineRunsOn s) where
   routine_bursts (suc k) r b many =
       let m = many.0 in
       let c = many.1 in
-      (routine_moved s m c k, routine_bursts k m c many.2, subst (IsSilentStep (routine_moved s m c k)) (further m r c b k) (one_step (routine_moved s m c k) (on_after m c k) r b many.3))
+      (routine_moved s m c k, routine_bursts k m c many.2, subst (IsSilentStep (routine_moved s m c k)) (further m r c b k) (one_step (routine_moved s m c k) is exact (on_after m c k) r b many.3))
 
 -- ---- what a call for them leaves
-pub routine_gone : (s : State) (k time count : ℕ) (w : WorldState) → RoutineRunsOn s → RoutineRanMany k s.world w → time ≡ s.time + k → count ≡ s.steps + k → SilentSteps k s (record s { world = w; time = time; steps = count })
-routine_gone s k time count w on ran t c =
+pub routine_gone : (s : State) (k time count : ℕ) (w : WorldState) → IsKern s.world.kern → HasExact s.world → RoutineRunsOn s → RoutineRanMany k s.world w → time ≡ s.time + k → count ≡ s.steps + k → SilentSteps k s (record s { world = w; time = time; steps = count })
+routine_gone s k time count w is exact on ran t c =
     subst (SilentSteps k s)
     (ap (λ v. record s { world = v; time = s.time + k; steps = s.steps + k }) (sym ran.world) ∙ ap₂ (λ x y. record s { world = w; time = x; steps = y }) (sym t) (sym c))
-    (routine_bursts s on k ran.regs ran.bus ran.many)
+    (routine_bursts s is exact on k ran.regs ran.bus ran.many)
 
 -- the step of a routine's instruction leaves it active, and no reservation
 pub routine_left : (level : Option Regs) (k turned done : KernState) (b : Bool) → turned ≡ drop_all k → (b ≡ true → done ≡ turned) → (b ≡ true → is_some level ≡ true) → b ≡ true → IsRoutine done level

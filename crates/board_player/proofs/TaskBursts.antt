@@ -21,6 +21,7 @@ use Rattle.isr_watch.specs.State.{WatchState}
 use Rattle.kernel_world.specs.State.{WorldState}
 use Rattle.kernel_world.specs.Actors.{shell_id}
 use Rattle.kernel_world.specs.Kept.{ReservedBy}
+use Rattle.kernel_world.specs.Settling.{HasExact}
 use Rattle.kernel_world.specs.Starting.{no_regs}
 use Rattle.live_loading.specs.Said.{Missing}
 use Rattle.wind_machine.specs.State.{State}
@@ -35,7 +36,7 @@ use Rattle.board_turns.specs.Instructions.{Executes, ExecutesMany, executed_to}
 use Rattle.wind_machine.specs.Events.{next_event}
 use Rattle.wind_machine.specs.ActorSteps.{at_turn, stepped, file_at, file_in, file_for, shell_step, task_step, step_of}
 use Rattle.wind_machine.specs.Next.{event_of, holds_back, is_open, is_active, due_at, due_event, next}
-use Rattle.wind_machine.specs.Machine.{file_of, file_asked, Steps}
+use Rattle.wind_machine.specs.Machine.{file_of, file_asked, settled_state, Steps}
 use Rattle.wind_machine.specs.declared.next.Next.TheVariants.{Act}
 use Rattle.wind_machine.proofs.Reserving.{last_own, own_regs}
 use Rattle.board_player.specs.declared.order.Running.{Running}
@@ -47,6 +48,7 @@ use Rattle.board_player.proofs.Stepping.{by_word}
 use Rattle.wind_machine.proofs.Order.{comes_alone}
 use Rattle.board_player.proofs.Deciding.{left_to_tasks}
 use Rattle.board_player.proofs.Answering.{steps_on}
+use Rattle.board_player.proofs.Settled.{regs_lend, still_exact, still_settled, regs_keep}
 
 -- ---- the registers of one task change
 module _ (who : ℕ) (m : Regs) where
@@ -132,7 +134,7 @@ no_event true (Some e) time h =
     let later : nat_le e.time time ≡ false = grind (arith, nat_tests, behind) in
     ap (λ b. option_map event_of (cond b (Some e) None)) (sym later)
 
-module _ (s : State) (who : ℕ) (on : RunsOn s who) (room : HasRoom (is_open s) (next_event s) s.time 1) where
+module _ (s : State) (who : ℕ) (is : IsKern s.world.kern) (exact : HasExact s.world) (on : RunsOn s who) (room : HasRoom (is_open s) (next_event s) s.time 1) where
   none : None ≡ option_map event_of (due_event s)
   none = no_event (is_open s) (next_event s) s.time room
 
@@ -180,8 +182,12 @@ module _ (s : State) (who : ℕ) (on : RunsOn s who) (room : HasRoom (is_open s)
     unfolding file_asked
     unasked = ap file_of (sym comes)
 
+    -- it leaves priorities settled
+    stays : settled_state (moved s who r b 1) ≡ moved s who r b 1
+    stays = still_settled s (moved s who r b 1) (regs_keep s.world.kern who r is) refl (regs_lend s.world.kern.tasks who r) exact
+
     steps : Steps s (moved s who r b 1)
-    steps = steps_on s (moved s who r b 1) (Act who) comes (λ said. ap Some (own_step ∙ made))
+    steps = steps_on s (moved s who r b 1) (Act who) comes (λ said. ap (λ t. Some (settled_state t)) (own_step ∙ made) ∙ ap Some stays)
 
     one_step : IsSilentStep s (moved s who r b 1)
     one_step = record { unasked = unasked; steps = steps; silent = on.silent; counted = refl; uneventful = refl }
@@ -234,7 +240,7 @@ module _ (s : State) (who : ℕ) (up : Rising task_id s.world.kern.tasks) (on : 
   room_on true (Some e) time n k h room = λ some. omega (arith, h, room (omega (arith, h)))
 
   -- ---- none so far
-  module _ (is : IsKern s.world.kern) where
+  module _ (is : IsKern s.world.kern) (exact : HasExact s.world) where
     as_it_was : (r : Regs) (b : BusState) → r ≡ regs_of s.world who → b ≡ bus_of s.world → moved s who r b 0 ≡ s
     as_it_was r b e f =
         let x = found s.world.kern who up on.runs in
@@ -256,7 +262,9 @@ module _ (s : State) (who : ℕ) (up : Rising task_id s.world.kern.tasks) (on : 
         let u = moved s who m c k in
         let here : HasRoom (is_open u) (next_event s) (s.time + k) 1 = subst (λ o. HasRoom o (next_event s) (s.time + k) 1) (sym (same_open m)) (room_on (is_open s) (next_event s) s.time n k h room) in
         let ex : Executes (regs_of u.world who) (bus_of u.world) r b = subst (λ x. Executes x c r b) (sym (same_regs m c)) many.3 in
-        (u, bursts n room k (omega (arith, h)) m c many.2, subst (IsSilentStep u) (further m r c b k) (one_step u who (on_behind m c k) here r b ex))
+        let is_behind : IsKern u.world.kern = regs_keep s.world.kern who m is in
+        let exact_behind : HasExact u.world = still_exact s u refl (regs_lend s.world.kern.tasks who m) exact in
+        (u, bursts n room k (omega (arith, h)) m c many.2, subst (IsSilentStep u) (further m r c b k) (one_step u who is_behind exact_behind (on_behind m c k) here r b ex))
 
 -- ---- the invariant is kept
 pub record Holds (s t : State) : Type 0 where
@@ -279,12 +287,12 @@ pub alone_by : (s : State) (who : ℕ) → ReservedBy s.world.kern.last s.world.
 alone_by s who by last = ap (λ ts. record s.world.kern { tasks = ts }) (last_own s.world.kern.tasks who (subst (λ o. ReservedBy o s.world.kern) last by))
 
 -- ---- what a call for them leaves
-pub gone : (s : State) (who k n time count : ℕ) (w : WorldState) → IsKern s.world.kern → RunsOn s who → HasRoom (is_open s) (next_event s) s.time n → k ≤ n → RanMany k who s.world w
+pub gone : (s : State) (who k n time count : ℕ) (w : WorldState) → IsKern s.world.kern → HasExact s.world → RunsOn s who → HasRoom (is_open s) (next_event s) s.time n → k ≤ n → RanMany k who s.world w
     → time ≡ s.time + k → count ≡ s.steps + k → SilentSteps k s (record s { world = w; time = time; steps = count })
-gone s who k n time count w is on room h ran t c =
+gone s who k n time count w is exact on room h ran t c =
     subst (SilentSteps k s)
     (ap (λ v. record s { world = v; time = s.time + k; steps = s.steps + k }) (sym ran.world) ∙ ap₂ (λ x y. record s { world = w; time = x; steps = y }) (sym t) (sym c))
-    (bursts s who is.rising on is n room k h ran.regs ran.bus ran.many)
+    (bursts s who is.rising on is exact n room k h ran.regs ran.bus ran.many)
 
 -- the same task runs as before
 pub known_behind : (s : State) (who : ℕ) (regs : Regs) (new : KernState) (watch : WatchState) (now : Running) → Rising task_id s.world.kern.tasks → RunsOn s who → IsRunner s.world.kern s.world.watch.level now

@@ -6,3 +6,4 @@ pub mod Facts
 pub mod Going
 pub mod Bursts
 pub mod Knowing
+pub mod Settling

@@ -20,7 +20,7 @@ use live_loading::FileAnswer;
 use std::alloc::Global;
 use tick_file::Schedule;
 use wind_base::limits::CHUNK_BYTES;
-use wind_base::{Name, NoMemory, OutBuf};
+use wind_base::{Name, NoMemory, OutBuf, Profile};
 use wind_machine::step_law;
 use wind_outside::{Device, Slots};
 
@@ -47,18 +47,19 @@ impl Board {
     ghost use Rattle.wind_machine.specs.Machine.{opening};
     ghost use Rattle.wind_base.specs.Limits.{most_slots};
 
-    /// Makes a board in the opening state, with this console file, these events and these devices.
-    /// If memory runs out, the slots come back as they were.
+    /// Makes a board in the opening state, with this console file, these events, these devices and
+    /// this rule of inheritance. If memory runs out, the slots come back as they were.
     #[tactic(auto, unfolding(wind_machine::specs::Machine::opening))]
     pub fn boot(
         alloc: Global,
         slots: Slots,
         console: Vec<u8>,
         schedule: Schedule,
+        profile: Profile,
     ) -> Result<Board, Slots>
         requires { length slots.items ≤ most_slots }
         ensures ok { IfOk result (λ board. seen ⟦<dyn Device as Device>⟧ board
-            ≡ opening console.items schedule (slots_of kind_of words_of slots.items)) }
+            ≡ opening console.items schedule (slots_of kind_of words_of slots.items) profile) }
         ensures err { IfErr result (λ back. back ≡ slots) }
     {
         step_law();
@@ -68,7 +69,7 @@ impl Board {
         let Ok(screen) = Console::new(alloc) else {
             return Err(slots);
         };
-        let world = World::boot(alloc, slots)?;
+        let world = World::boot(alloc, slots, profile)?;
         Ok(Board {
             parts: Parts {
                 alloc,

@@ -28,7 +28,7 @@ impl Clock {
         self.steps += 1;
     }
 
-    /// Counts `n` steps, each of which takes one unit of board time.
+    /// Counts `n` steps. Each takes one unit of board time.
     pub(crate) fn advance(&mut self, n: u64)
         requires time { self.old.time < 2 ^ 65 }
         requires steps { self.old.steps + n ≤ most_steps }

@@ -7,6 +7,7 @@ mod clock;
 mod loading;
 mod order;
 mod parts;
+mod settling;
 mod steps;
 
 pub use board::Board;

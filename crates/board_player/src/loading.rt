@@ -7,11 +7,13 @@ ghost use Rattle.live_loading.specs.Said.{said_of};
 ghost use Rattle.wind_machine.specs.Good.{Good};
 ghost use Rattle.wind_machine.specs.declared.phase.Phase.TheVariants as phases;
 ghost use Rattle.wind_machine.specs.ActorSteps.{file_in, file_for as file_for_lem, load_step};
-ghost use Rattle.wind_machine.specs.Machine.{file_asked};
+ghost use Rattle.wind_machine.specs.Machine.{file_asked, settled_state};
 ghost use Rattle.wind_machine.specs.Processor.{gate_under};
 ghost use Rattle.board_player.specs.Inside.{inside, parts_seen, IsSpacious};
+ghost use Rattle.board_player.specs.Settling.{CanSettle};
 
 use crate::parts::Parts;
+use crate::settling::settle;
 use crate::steps::end;
 use board_turns::{counter, drop_own, give_back, revocable_turn, shell_id};
 use id_table::Ident;
@@ -78,10 +80,10 @@ pub(crate) fn file_for(parts: &Parts, who: Ident) -> Result<Option<Name>, NoMemo
     }
 }
 
-/// The shell's task loads the file with this name, given what is said of that file. If memory runs
-/// out, nothing changes.
+// The shell's task loads the file with this name, given what is said of that file. If memory runs
+// out, nothing changes.
 #[tactic(auto, using(crate::proofs::Beginning::good_early, crate::proofs::Asked::wanted, crate::proofs::Asked::asker_ready))]
-pub(crate) fn load(parts: &mut Parts, name: &Name, file: &FileAnswer) -> Result<(), NoMemory>
+fn load_file(parts: &mut Parts, name: &Name, file: &FileAnswer) -> Result<(), NoMemory>
     requires good { Good (inside parts.old) }
     requires few { parts.old.clock.steps < most_steps }
     requires space { IsSpacious parts.old }
@@ -99,5 +101,24 @@ pub(crate) fn load(parts: &mut Parts, name: &Name, file: &FileAnswer) -> Result<
     }
     drop_own(&mut parts.world.kern, shell_id());
     end(parts, shell_id());
+    Ok(())
+}
+
+/// The shell's task loads the file with this name, given what is said of that file, and priorities
+/// are settled. If memory runs out, nothing changes.
+pub(crate) fn load(parts: &mut Parts, name: &Name, file: &FileAnswer) -> Result<(), NoMemory>
+    requires good { Good (inside parts.old) }
+    requires few { parts.old.clock.steps < most_steps }
+    requires space { IsSpacious parts.old }
+    requires asked { file_asked (parts_seen ⟦<dyn Device as Device>⟧ parts.old) ≡ Some name.now }
+    requires left { CanSettle (load_step (said_of file.now) (parts_seen ⟦<dyn Device as Device>⟧ parts.old) name.now) }
+    ensures ok { OnOk result (parts_seen ⟦<dyn Device as Device>⟧ parts.new
+        ≡ settled_state (load_step (said_of file.now) (parts_seen ⟦<dyn Device as Device>⟧ parts.old) name.now)) }
+    ensures err { OnErr result (parts_seen ⟦<dyn Device as Device>⟧ parts.new
+        ≡ parts_seen ⟦<dyn Device as Device>⟧ parts.old) }
+    ensures space { IsSpacious parts.new }
+{
+    load_file(parts, name, file)?;
+    settle(parts);
     Ok(())
 }

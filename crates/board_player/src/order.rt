@@ -10,19 +10,21 @@ ghost use Rattle.live_loading.specs.Said.{FileSaid};
 ghost use Rattle.wind_machine.specs.Good.{Good};
 ghost use Rattle.wind_machine.specs.Processor.{gate_under};
 ghost use Rattle.wind_machine.specs.Events.{next_event};
-ghost use Rattle.wind_machine.specs.ActorSteps.{shell_step, step_of, file_for as file_for_lem};
+ghost use Rattle.wind_machine.specs.ActorSteps.{shell_step, step_of, routine_step as routine_step_lem, file_for as file_for_lem};
 ghost use Rattle.wind_machine.specs.Next.{due_event as due_event_lem, event_of, console_is_due as console_is_due_lem, is_open as is_open_lem, is_active as is_active_lem, holds_back, task_next as task_next_lem, next as next_lem};
-ghost use Rattle.wind_machine.specs.Machine.{state_after, file_of, phase_may, gate_may, who_may, next_may, may_lack_memory};
+ghost use Rattle.wind_machine.specs.Machine.{state_after, settled_state, file_of, phase_may, gate_may, who_may, next_may, may_lack_memory};
 ghost use Rattle.wind_machine.specs.declared.next.Next.TheVariants as nexts;
 ghost use Rattle.board_player.specs.Inside.{inside, parts_seen, IsSpacious};
 ghost use Rattle.board_player.specs.Asking.{needed};
 ghost use Rattle.board_player.specs.Going.{IsKnown, OnlyStepped};
-ghost use Rattle.board_player.specs.Knowing.{RoutineKnown, jump_or_over as jump_or_over_lem};
+ghost use Rattle.board_player.specs.Knowing.{jump_or_over as jump_or_over_lem};
+ghost use Rattle.board_player.specs.Settling.{CanSettle, Makes};
 ghost use Rattle.board_player.specs.declared.Step.TheVariants as steps;
 
 use crate::Step;
 use crate::loading::file_for;
 use crate::parts::Parts;
+use crate::settling::settle;
 use crate::steps::{arrive, come, evaluate, jump, prompt, read, run, step_routine};
 use board_turns::{shell_id, waits_for_console};
 use id_table::Ident;
@@ -142,6 +144,7 @@ fn run_shell(parts: &mut Parts) -> Result<bool, NoMemory>
         ≡ parts_seen ⟦<dyn Device as Device>⟧ parts.old) }
     ensures only { result ≡ Ok true → OnlyStepped parts.old.world.kern parts.new.world.kern 1 }
     ensures watch { result ≡ Ok true → parts.new.world.watch ≡ parts.old.world.watch }
+    ensures objects { result ≡ Ok true → parts.new.world.objects ≡ parts.old.world.objects }
     ensures space { IsSpacious parts.new }
 {
     match parts.shell.phase() {
@@ -178,6 +181,7 @@ fn run_task(parts: &mut Parts, who: Ident) -> Result<bool, NoMemory>
         ≡ parts_seen ⟦<dyn Device as Device>⟧ parts.old) }
     ensures only { result ≡ Ok true → OnlyStepped parts.old.world.kern parts.new.world.kern who }
     ensures watch { result ≡ Ok true → parts.new.world.watch ≡ parts.old.world.watch }
+    ensures objects { result ≡ Ok true → parts.new.world.objects ≡ parts.old.world.objects }
     ensures space { IsSpacious parts.new }
 {
     if who == shell_id() {
@@ -187,14 +191,23 @@ fn run_task(parts: &mut Parts, who: Ident) -> Result<bool, NoMemory>
     }
 }
 
-// What is known after a step of the interrupt routine: after an instruction that caused no
-// exception, it is still active.
-fn routine_runs_on(is_done: bool) -> Known
-    ensures { RoutineKnown is_done result }
+// Makes a step of the active interrupt routine, and settles priorities except after an instruction
+// that caused no exception. After such an instruction the routine is known to be still active.
+fn act_routine(parts: &mut Parts) -> Known
+    requires active { is_active_lem (parts_seen ⟦<dyn Device as Device>⟧ parts.old).world ≡ true }
+    requires good { Good (inside parts.old) }
+    requires few { parts.old.clock.steps < most_steps }
+    requires space { IsSpacious parts.old }
+    requires left { CanSettle (routine_step_lem (parts_seen ⟦<dyn Device as Device>⟧ parts.old)) }
+    ensures step { parts_seen ⟦<dyn Device as Device>⟧ parts.new
+        ≡ settled_state (routine_step_lem (parts_seen ⟦<dyn Device as Device>⟧ parts.old)) }
+    ensures known { IsKnown parts.new.world.kern parts.new.world.watch.level result }
+    ensures space { IsSpacious parts.new }
 {
-    if is_done {
+    if step_routine(parts) {
         Known::Routine
     } else {
+        settle(parts);
         Known::Nothing
     }
 }
@@ -278,17 +291,18 @@ pub(crate) fn next(parts: &Parts, known: &mut Known) -> Result<Next, NoMemory>
     }
 }
 
-// Makes a step of the running task that needs no file. After an instruction that caused no
-// exception, who runs stays known.
+// Makes a step of the running task that needs no file, and settles priorities except after an
+// instruction that caused no exception. After such an instruction, who runs stays known.
 #[inline(always)]
 fn act(parts: &mut Parts, known: &mut Known, who: Ident) -> Step
     requires good { Good (inside parts.old) }
     requires few { parts.old.clock.steps < most_steps }
     requires space { IsSpacious parts.old }
     requires next { nexts.Act who ≡ next_lem (parts_seen ⟦<dyn Device as Device>⟧ parts.old) }
+    requires left { CanSettle (step_of (parts_seen ⟦<dyn Device as Device>⟧ parts.old) who) }
     requires known { IsKnown parts.old.world.kern parts.old.world.watch.level known.old }
     ensures stepped { result ≡ steps.Stepped → parts_seen ⟦<dyn Device as Device>⟧ parts.new
-        ≡ step_of (parts_seen ⟦<dyn Device as Device>⟧ parts.old) who }
+        ≡ settled_state (step_of (parts_seen ⟦<dyn Device as Device>⟧ parts.old) who) }
     ensures either { result ≢ steps.Quiet }
     ensures file { needed result ≡ None }
     ensures no_memory { result ≡ steps.NoMemory → who_may (parts_seen ⟦<dyn Device as Device>⟧ parts.old) who ≡ true }
@@ -301,6 +315,7 @@ fn act(parts: &mut Parts, known: &mut Known, who: Ident) -> Step
         Ok(true) => Step::Stepped,
         Ok(false) => {
             *known = Known::Nothing;
+            settle(parts);
             Step::Stepped
         }
         Err(NoMemory) => {
@@ -318,10 +333,11 @@ pub(crate) fn make(parts: &mut Parts, known: &mut Known, next: Next) -> Step
     requires few { parts.old.clock.steps < most_steps }
     requires space { IsSpacious parts.old }
     requires next { next ≡ next_lem (parts_seen ⟦<dyn Device as Device>⟧ parts.old) }
+    requires left { (said : FileSaid)
+        → IfSome (state_after said (parts_seen ⟦<dyn Device as Device>⟧ parts.old) next) CanSettle }
     requires known { IsKnown parts.old.world.kern parts.old.world.watch.level known.old }
-    ensures stepped { result ≡ steps.Stepped → (said : FileSaid)
-        → state_after said (parts_seen ⟦<dyn Device as Device>⟧ parts.old) next
-        ≡ Some (parts_seen ⟦<dyn Device as Device>⟧ parts.new) }
+    ensures stepped { result ≡ steps.Stepped → Makes (parts_seen ⟦<dyn Device as Device>⟧ parts.old) next
+        (parts_seen ⟦<dyn Device as Device>⟧ parts.new) }
     ensures quiet { (result ≡ steps.Quiet) ↔ (next ≡ nexts.Over) }
     ensures file { needed result ≡ file_of next }
     ensures no_memory { result ≡ steps.NoMemory
@@ -335,16 +351,17 @@ pub(crate) fn make(parts: &mut Parts, known: &mut Known, next: Next) -> Step
         Next::Come(event) => {
             *known = Known::Nothing;
             come(parts, event);
+            settle(parts);
             Step::Stepped
         }
         Next::Arrive => {
             *known = Known::Nothing;
             arrive(parts);
+            settle(parts);
             Step::Stepped
         }
         Next::Routine => {
-            let is_done = step_routine(parts);
-            *known = routine_runs_on(is_done);
+            *known = act_routine(parts);
             Step::Stepped
         }
         Next::Act(who) => act(parts, known, who),

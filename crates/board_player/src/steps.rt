@@ -12,6 +12,7 @@ ghost use Rattle.wind_machine.specs.Processor.{gate_under, regs_of};
 ghost use Rattle.wind_machine.specs.Events.{arrival, ticked, received, event_step, jump as jump_lem};
 ghost use Rattle.wind_machine.specs.ActorSteps.{prompt_step, read_step, eval_step, task_step, routine_step, file_for};
 ghost use Rattle.wind_machine.specs.Next.{is_active};
+ghost use Rattle.wind_machine.specs.Reserving.{drop_all as drop_all_lem};
 ghost use Rattle.wind_machine.specs.Machine.{gate_may};
 ghost use Rattle.wind_machine.specs.declared.phase.Phase.TheVariants as phases;
 ghost use Rattle.board_player.specs.Inside.{inside, parts_seen, IsSpacious};
@@ -141,6 +142,7 @@ fn run_word(parts: &mut Parts, who: Ident, at: u32) -> bool
         ≡ task_step (parts_seen ⟦<dyn Device as Device>⟧ parts.old) who }
     ensures only { result ≡ true → OnlyStepped parts.old.world.kern parts.new.world.kern who }
     ensures watch { result ≡ true → parts.new.world.watch ≡ parts.old.world.watch }
+    ensures objects { result ≡ true → parts.new.world.objects ≡ parts.old.world.objects }
     ensures space { IsSpacious parts.new }
 {
     turn(&mut parts.world, who);
@@ -255,6 +257,7 @@ pub(crate) fn run(parts: &mut Parts, who: Ident) -> Result<bool, NoMemory>
         ≡ parts_seen ⟦<dyn Device as Device>⟧ parts.old) }
     ensures only { result ≡ Ok true → OnlyStepped parts.old.world.kern parts.new.world.kern who }
     ensures watch { result ≡ Ok true → parts.new.world.watch ≡ parts.old.world.watch }
+    ensures objects { result ≡ Ok true → parts.new.world.objects ≡ parts.old.world.objects }
     ensures space { IsSpacious parts.new }
 {
     let at = counter(&parts.world, who);
@@ -279,6 +282,8 @@ pub(crate) fn step_routine(parts: &mut Parts) -> bool
     ensures step { parts_seen ⟦<dyn Device as Device>⟧ parts.new
         ≡ routine_step (parts_seen ⟦<dyn Device as Device>⟧ parts.old) }
     ensures routine { result ≡ true → IsRoutine parts.new.world.kern parts.new.world.watch.level }
+    ensures kern { result ≡ true → parts.new.world.kern ≡ drop_all_lem parts.old.world.kern }
+    ensures objects { result ≡ true → parts.new.world.objects ≡ parts.old.world.objects }
     ensures space { IsSpacious parts.new }
 {
     routine_turn(&mut parts.world);

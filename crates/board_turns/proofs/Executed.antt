@@ -64,7 +64,8 @@ module _ (w : WorldState) where
       let same : routine_regs w ≡ old = ap (λ o. unwrap_or o no_regs) e in
       subst (λ x. RoutineRan (exec_of board_meaning x word (bus_of w)) r w (routine_left regs bus)) (sym same) (by_routine (exec_of board_meaning old word (bus_of w)) r old regs bus e l)
 
--- ---- an instruction without an exception leaves the kernel, except for registers, and the watchdogs as they were
+-- ---- an instruction without an exception leaves the kernel, except for registers, the watchdogs and the objects as
+-- they were
 pub only_regs : (o : Outcome BusState) (r : Result (Unit {0}) Trap) (who : ℕ) (old new : WorldState) → Ran o r who old new → r ≡ Ok tt → OnlyRegs old.kern new.kern who
 only_regs (Done regs bus) r who old new ran ok = (regs, ap (λ w. w.kern) ran.1)
 only_regs (Trapped trap) r who old new ran ok = absurd (cc)
@@ -72,6 +73,10 @@ only_regs (Trapped trap) r who old new ran ok = absurd (cc)
 pub same_watch : (o : Outcome BusState) (r : Result (Unit {0}) Trap) (who : ℕ) (old new : WorldState) → Ran o r who old new → r ≡ Ok tt → new.watch ≡ old.watch
 same_watch (Done regs bus) r who old new ran ok = ap (λ w. w.watch) ran.1
 same_watch (Trapped trap) r who old new ran ok = absurd (cc)
+
+pub same_objects : (o : Outcome BusState) (r : Result (Unit {0}) Trap) (who : ℕ) (old new : WorldState) → Ran o r who old new → r ≡ Ok tt → new.objects ≡ old.objects
+same_objects (Done regs bus) r who old new ran ok = ap (λ w. w.objects) ran.1
+same_objects (Trapped trap) r who old new ran ok = absurd (cc)
 
 -- ---- it answers Ok exactly if it completes
 pub done_so : (o : Outcome BusState) (r : Result (Unit {0}) Trap) (who : ℕ) (old new : WorldState) → Ran o r who old new → r ≡ Ok tt → is_done o ≡ true
@@ -90,7 +95,7 @@ pub routine_not_done_so : (o : Outcome BusState) (r : Result (Unit {0}) Trap) (o
 routine_not_done_so (Done regs bus) r old new trap ran bad = absurd (cc)
 routine_not_done_so (Trapped other) r old new trap ran bad = refl
 
--- ---- one of a routine without an exception leaves the tasks, and the routine active
+-- ---- one of a routine without an exception leaves the tasks and the objects, and the routine active
 pub routine_goes_on : (o : Outcome BusState) (r : Result (Unit {0}) Trap) (old new : WorldState) → RoutineRan o r old new → r ≡ Ok tt → is_some new.watch.level ≡ true
 routine_goes_on (Done regs bus) r old new ran ok = ap (λ (w : WorldState). is_some w.watch.level) ran.1
 routine_goes_on (Trapped trap) r old new ran ok = absurd (cc)
@@ -98,3 +103,7 @@ routine_goes_on (Trapped trap) r old new ran ok = absurd (cc)
 pub same_tasks : (o : Outcome BusState) (r : Result (Unit {0}) Trap) (old new : WorldState) → RoutineRan o r old new → new.kern ≡ old.kern
 same_tasks (Done regs bus) r old new ran = ap (λ (w : WorldState). w.kern) ran.1
 same_tasks (Trapped trap) r old new ran = ap (λ (w : WorldState). w.kern) ran.1
+
+pub routine_objects : (o : Outcome BusState) (r : Result (Unit {0}) Trap) (old new : WorldState) → RoutineRan o r old new → new.objects ≡ old.objects
+routine_objects (Done regs bus) r old new ran = ap (λ (w : WorldState). w.objects) ran.1
+routine_objects (Trapped trap) r old new ran = ap (λ (w : WorldState). w.objects) ran.1

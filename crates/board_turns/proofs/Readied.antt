@@ -24,7 +24,7 @@ use Rattle.board_turns.proofs.Dropped.{dropped_others, not_own}
 within : (w : WorldState) → IsEarly w → Within (2 ^ 60 - 1) w
 within w early = (
   λ k d h. (let below = early.locks k d h in omega (arith, below), let below = early.safes k d h in omega (arith, below)),
-  All-weaker (λ r. r.1.depth < 2 ^ 60) (λ r. r.1.depth ≤ 2 ^ 60 - 1) (λ r h. omega (arith, h)) w.objects.mutexes early.depths,
+  All-weaker (λ r. r.1.depth < 2 ^ 60) (λ r. r.1.depth ≤ 2 ^ 60 - 1) (λ r h. omega (arith, h)) w.objects.mutexes.rows early.depths,
 )
 
 -- ---- the step begins

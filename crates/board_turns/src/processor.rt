@@ -213,6 +213,7 @@ pub fn execute(shell: &mut Shell, world: &mut World, who: Ident, at: u32) -> boo
         (bus_of (world_seen ⟦<dyn Device as Device>⟧ world.old)) }
     ensures registers { result ≡ true → OnlyRegs world.old.kern world.new.kern who }
     ensures watch { result ≡ true → world.new.watch ≡ world.old.watch }
+    ensures objects { result ≡ true → world.new.objects ≡ world.old.objects }
     ensures space { KeepsSpace world.old.out world.new.out }
 {
     let Some(word) = world.bus.fetch(at) else {

@@ -130,6 +130,7 @@ fn execute(world: &mut World, at: u32) -> bool
         (bus_of (world_seen ⟦<dyn Device as Device>⟧ world.old)) }
     ensures active { result ≡ true → is_some world.new.watch.level ≡ true }
     ensures kern { world.new.kern ≡ world.old.kern }
+    ensures objects { world.new.objects ≡ world.old.objects }
     ensures space { KeepsSpace world.old.out world.new.out }
 {
     let Some(word) = world.bus.fetch(at) else {
@@ -147,7 +148,7 @@ fn execute(world: &mut World, at: u32) -> bool
 
 /// Makes a step of the active interrupt routine: a call, if it is at a gate, else an instruction.
 /// Returns whether the step was an instruction that caused no exception; if so, the routine is
-/// still active, and the tasks are as they were.
+/// still active, and the tasks and the objects are as they were.
 #[tactic(auto, unfolding(wind_machine::specs::Routine::routine_part))]
 pub fn run_routine(alloc: Global, world: &mut World) -> bool
     requires active { is_some world.old.watch.level ≡ true }
@@ -158,6 +159,7 @@ pub fn run_routine(alloc: Global, world: &mut World) -> bool
         ≡ routine_part (world_seen ⟦<dyn Device as Device>⟧ world.old) }
     ensures active { result ≡ true → is_some world.new.watch.level ≡ true }
     ensures kern { result ≡ true → world.new.kern ≡ world.old.kern }
+    ensures objects { result ≡ true → world.new.objects ≡ world.old.objects }
     ensures space { HoldsSpace world.old.out world.new.out }
 {
     let at = counter(world);

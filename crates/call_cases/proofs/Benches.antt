@@ -3,6 +3,7 @@ use Rattle.std.proofs.Common.{◌≡◌, ℕ, ◌+◌, ◌*◌, ◌<◌, ◌≤�
 use Rattle.std.specs.List.{All}
 use Rattle.std.proofs.lemmas.List.Elements.{All-cons}
 use Rattle.wind_base.specs.declared.gate.Gate.{Gate}
+use Rattle.wind_base.specs.declared.profile.Profile.{Profile}
 use Rattle.wind_base.specs.declared.regs.Regs.{Regs}
 use Rattle.wind_outside.specs.Devices.{DeviceState}
 use Rattle.task_block.specs.declared.task.Task.{Task}
@@ -41,16 +42,16 @@ abbrev pub Used : WorldState → ℕ → Type 0
 Used w n = IsWorld w × Within n w × (w.kern.next_since ≤ 1 + 1024 * n) × (w.kern.tick ≡ 0) × (w.names ≤ 1 + n) × (w.watch.next_start ≤ 1 + n)
 
 -- no count is above 0 at the start
-opening_within : (slots : List (Option DeviceState)) → Within 0 (opening_world slots)
+opening_within : (slots : List (Option DeviceState)) (profile : Profile) → Within 0 (opening_world slots profile)
 unfolding opening_world
-opening_within slots = (All-cons (HasCounts 0) _ [] (omega arith, omega arith) (λ i d within. absurd (omega arith)), λ i d within. absurd (omega arith))
+opening_within slots profile = (All-cons (HasCounts 0) _ [] (omega arith, omega arith) (λ i d within. absurd (omega arith)), λ i d within. absurd (omega arith))
 
-opening_used : (slots : List (Option DeviceState)) → Used (opening_world slots) 0
+opening_used : (slots : List (Option DeviceState)) (profile : Profile) → Used (opening_world slots profile) 0
 unfolding opening_world
-opening_used slots = (opens slots, opening_within slots, omega arith, refl, omega arith, omega arith)
+opening_used slots profile = (opens slots profile, opening_within slots profile, omega arith, refl, omega arith, omega arith)
 
-pub used_start : (slots : List (Option DeviceState)) (w : WorldState) → w ≡ opening_world slots → Used w 0
-used_start slots w e = subst (λ v. Used v 0) (sym e) (opening_used slots)
+pub used_start : (slots : List (Option DeviceState)) (profile : Profile) (w : WorldState) → w ≡ opening_world slots profile → Used w 0
+used_start slots profile w e = subst (λ v. Used v 0) (sym e) (opening_used slots profile)
 
 used_call : (g : Gate) (w : WorldState) (a : Actor) (n : ℕ) → MayCall w.kern a → Used w n → Used (call g w a) (n + 1)
 used_call g w a n may (kept, within, sinces, count, names, starts) =
@@ -118,11 +119,11 @@ used_watch w s n watch starts fewer (kept, within, sinces, count, names, _) =
     (record { kern = kept.kern; home = kept.home; objects = kept.objects; pool = kept.pool; stacks = kept.stacks; modules = kept.modules; ram = kept.ram; symbols = kept.symbols; watch = watch; ids = ids_watch w kept.ids w.kern s refl (Nothing (omega arith) fewer) }, within, sinces, count, names, starts)
 
 -- no watchdog lives, and one's routine is active
-pub used_alarm : (slots : List (Option DeviceState)) (w : WorldState) (s : WatchState) → w ≡ opening_world slots → IsWatch s → s.watchdogs ≡ [] → s.next_start ≤ 1 → Used (record w { watch = s }) 0
-used_alarm slots w s e is none starts =
+pub used_alarm : (slots : List (Option DeviceState)) (profile : Profile) (w : WorldState) (s : WatchState) → w ≡ opening_world slots profile → IsWatch s → s.watchdogs ≡ [] → s.next_start ≤ 1 → Used (record w { watch = s }) 0
+used_alarm slots profile w s e is none starts =
     let ids : AllBelow w.kern.next_id s = subst (All (λ (v : Watchdog). v.id < w.kern.next_id)) (sym none) (λ i d within. absurd (omega (arith, within))) in
     used_watch w s 0 (record { watch = is; ids = ids }) starts
-    (subst (λ vs. Fewer (map watchdog_id vs) (map watchdog_id w.watch.watchdogs)) (sym none) (λ n. omega arith)) (used_start slots w e)
+    (subst (λ vs. Fewer (map watchdog_id vs) (map watchdog_id w.watch.watchdogs)) (sym none) (λ n. omega arith)) (used_start slots profile w e)
 
 -- and it has other registers
 pub used_level : (w : WorldState) (s : WatchState) (n : ℕ) → IsWatch s → s.watchdogs ≡ w.watch.watchdogs → s.next_start ≡ w.watch.next_start → Used w n → Used (record w { watch = s }) n

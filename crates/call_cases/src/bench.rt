@@ -14,7 +14,7 @@ use symbol_table::Symbol;
 use task_block::Task;
 use task_calls::end_task;
 use wind_base::limits::GATES_START;
-use wind_base::{Gate, Regs};
+use wind_base::{Gate, Profile, Regs};
 use wind_core::Kern;
 use wind_outside::Slots;
 
@@ -125,12 +125,12 @@ fn set_level(watch: &mut Watch, regs: Regs)
 }
 
 impl Bench {
-    // The world at the start, without devices. `None` if it can't be made, for example because
-    // memory runs out.
+    // The world at the start under profile 1, without devices. `None` if it can't be made, for
+    // example because memory runs out.
     pub(crate) fn new(alloc: Global) -> Option<Bench> {
         let slots: Slots = Vec::new(alloc);
         let watch = with_routine(alloc)?;
-        let Ok(mut world) = World::boot(alloc, slots) else {
+        let Ok(mut world) = World::boot(alloc, slots, Profile::One) else {
             return None;
         };
         world.watch = watch;

@@ -18,7 +18,7 @@ ByteLaw = (c : ConsoleState) (b : ℕ) → Keeps c → Keeps (after_byte c b)
 abbrev pub DropLaw : Type 0
 DropLaw = (c : ConsoleState) → Keeps c → Keeps (line_dropped c)
 
--- a line without its end: at most 255 bytes, none of which is 0x0A
+-- a line without its end: at most 255 bytes, and none is 0x0A
 pub record IsLine (line : List ℕ) : Type 0 where
   pub short : length line ≤ longest_line
   pub unended : All (λ b. b ≢ 10) line

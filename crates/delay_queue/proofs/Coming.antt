@@ -23,7 +23,7 @@ due_came changes tick id e =
     let found = first_due (after_changes task_id task_wake changes) tick id e in
     record { wake = found.0; reached = found.2; earliest = first_earliest task_id task_wake changes (id, found.0) found.1 }
 
--- if no task is due, there is no task, or the first is due later
+-- if no task is due, the queue is empty, or its first task is due later
 first_later : (ts : List (ℕ × ℕ)) (tick : ℕ) → due_at ts tick ≡ None → (t : ℕ × ℕ) → first ts ≡ Some t → tick < t.1
 first_later [] tick e t q = absurd (cc)
 first_later (u ∷ us) tick e t q =

@@ -1,4 +1,4 @@
-//! Lists, of which a module consists.
+//! The lists that make up a module.
 
 ghost use Rattle.std.specs.Prelude.{◌≡◌};
 

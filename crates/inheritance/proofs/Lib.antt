@@ -6,3 +6,8 @@ pub mod Same
 pub mod Inheriting
 pub mod Path
 pub mod Joined
+pub mod Normals
+pub mod Exact
+pub mod Places
+pub mod Lending
+pub mod Turn

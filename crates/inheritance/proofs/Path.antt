@@ -3,6 +3,7 @@ use Rattle.std.proofs.Common.{◌≡◌, ℕ, zero, suc, ◌-◌, ◌+◌, ◌<�
 use Rattle.std.proofs.lemmas.Bool.{cases_eq, cases_lt, eq-eqb, ne_eqb, lt-ltb, le-ltb}
 use Rattle.std.proofs.lemmas.Option.{same_Some}
 use Rattle.id_table.specs.declared.ident.Place.{Place}
+use Rattle.wind_base.specs.declared.profile.Profile.TheVariants.{One}
 use Rattle.task_block.specs.declared.task.Task.{Task}
 use Rattle.task_block.specs.Standing.{is_ready}
 use Rattle.wind_core.specs.State.{KernState, IsKern, task_of}
@@ -221,20 +222,20 @@ module _ (k : KernState) (ms : List (ℕ × Mutex)) (w : ℕ) (is : IsKern k) (l
       ap (goes_to n at on closed within (walk_is n)) (heir_on on at) ∙ step n at on closed within (walk_is n) (up at) refl
 
   -- ---- the same by a scan of all tasks
-  goal_is : (x : ℕ) → lifted k ms x ≡ cond (is_on (fronts 256 w) x) (pri w) (pri x)
+  goal_is : (x : ℕ) → lifted One k ms x ≡ cond (is_on (fronts 256 w) x) (pri w) (pri x)
   goal_is x = walk_law up pri w 256 (ids k.tasks) good (place_on (ids k.tasks) w (on_ids k.tasks w lives)) x
 
   pass_is : (us : List Task) (on : ℕ → Bool) → ((i : ℕ) (d : Task) → i < length us → is_some (task_of k.tasks (get_or us i d).id) ≡ true) → ((x : ℕ) → on x ≡ true → is_on (fronts 256 w) x ≡ true)
-      → repried (with_heirs on) (lifted k ms) us ≡ with_heirs (λ x. on x || (is_on (fronts 256 w) x && is_on (ids us) x))
+      → repried (with_heirs on) (lifted One k ms) us ≡ with_heirs (λ x. on x || (is_on (fronts 256 w) x && is_on (ids us) x))
   pass_is [] on live within = alike_on k (pri w) (end_of up 256 w) on (λ x. on x || (is_on (fronts 256 w) x && false)) (λ x l. sym (ap (λ b. on x || b) (and_none (is_on (fronts 256 w) x)) ∙ or_none (on x)))
   pass_is (u ∷ us) on live within =
       let t = live_is (task_of k.tasks u.id) (live 0 u (omega arith)) in
       let later : (i : ℕ) (d : Task) → i < length us → is_some (task_of k.tasks (get_or us i d).id) ≡ true = λ i d hi. live (suc i) d (omega arith) in
-      ap (λ g. repried (change_pri (with_heirs on) u.id g) (lifted k ms) us) (goal_is u.id)
-      ∙ elim (is_on (fronts 256 w) u.id) as (λ b. is_on (fronts 256 w) u.id ≡ b → repried (change_pri (with_heirs on) u.id (cond b (pri w) (pri u.id))) (lifted k ms) us ≡ with_heirs (λ x. on x || (is_on (fronts 256 w) x && is_on (ids (u ∷ us)) x))) [
-        | true ↦ λ f. elim (on u.id) as (λ b. on u.id ≡ b → repried (change_pri (with_heirs on) u.id (pri w)) (lifted k ms) us ≡ with_heirs (λ x. on x || (is_on (fronts 256 w) x && is_on (ids (u ∷ us)) x))) [
+      ap (λ g. repried (change_pri (with_heirs on) u.id g) (lifted One k ms) us) (goal_is u.id)
+      ∙ elim (is_on (fronts 256 w) u.id) as (λ b. is_on (fronts 256 w) u.id ≡ b → repried (change_pri (with_heirs on) u.id (cond b (pri w) (pri u.id))) (lifted One k ms) us ≡ with_heirs (λ x. on x || (is_on (fronts 256 w) x && is_on (ids (u ∷ us)) x))) [
+        | true ↦ λ f. elim (on u.id) as (λ b. on u.id ≡ b → repried (change_pri (with_heirs on) u.id (pri w)) (lifted One k ms) us ≡ with_heirs (λ x. on x || (is_on (fronts 256 w) x && is_on (ids (u ∷ us)) x))) [
           | true ↦ λ q.
-              ap (λ r. repried r (lifted k ms) us) (again k (pri w) (end_of up 256 w) on u.id t.0 t.1 q)
+              ap (λ r. repried r (lifted One k ms) us) (again k (pri w) (end_of up 256 w) on u.id t.0 t.1 q)
               ∙ pass_is us on later within
               ∙ alike_on k (pri w) (end_of up 256 w) (λ x. on x || (is_on (fronts 256 w) x && is_on (ids us) x)) (λ x. on x || (is_on (fronts 256 w) x && is_on (ids (u ∷ us)) x))
               (λ x l. ⊎_elim
@@ -243,7 +244,7 @@ module _ (k : KernState) (ms : List (ℕ × Mutex)) (w : ℕ) (is : IsKern k) (l
               (cases_eq u.id x))
           | false ↦ λ q.
               let next : ℕ → Bool = λ y. eqb y u.id || on y in
-              ap (λ r. repried r (lifted k ms) us) (goes on u.id t.0 t.1 f q)
+              ap (λ r. repried r (lifted One k ms) us) (goes on u.id t.0 t.1 f q)
               ∙ pass_is us next later (λ x h. ⊎_elim
               (λ (same : x ≡ u.id). ap (is_on (fronts 256 w)) same ∙ f)
               (λ (other : x ≡ u.id → ⊥). within x (or_right (eqb x u.id) (on x) (ne_eqb x u.id other) h))
@@ -261,7 +262,7 @@ module _ (k : KernState) (ms : List (ℕ × Mutex)) (w : ℕ) (is : IsKern k) (l
         ] refl
         | false ↦ λ f.
             let off : on u.id ≡ false = not_on (on u.id) (λ h. let no : true ≡ false = sym (within u.id h) ∙ f in absurd (cc)) in
-            ap (λ r. repried r (lifted k ms) us) (untouched k (pri w) (end_of up 256 w) on u.id t.0 t.1 off)
+            ap (λ r. repried r (lifted One k ms) us) (untouched k (pri w) (end_of up 256 w) on u.id t.0 t.1 off)
             ∙ pass_is us on later within
             ∙ alike_on k (pri w) (end_of up 256 w) (λ x. on x || (is_on (fronts 256 w) x && is_on (ids us) x)) (λ x. on x || (is_on (fronts 256 w) x && is_on (ids (u ∷ us)) x))
             (λ x l. ⊎_elim
@@ -274,11 +275,11 @@ module _ (k : KernState) (ms : List (ℕ × Mutex)) (w : ℕ) (is : IsKern k) (l
       not_on true h = absurd (h refl)
       not_on false h = refl
 
-  pub walk_raises : walked ms (pri w) 256 k w ≡ raised_kern k ms
+  pub walk_raises : walked ms (pri w) 256 k w ≡ raised_kern One k ms
   walk_raises =
       ap (λ r. walked ms (pri w) 256 r w) (sym (none_on k (pri w) (end_of up 256 w)))
       ∙ walk_is 256 w (λ _. false) (λ y x h other q. absurd (cc)) (λ x h. h)
-      ∙ sym (ap (λ r. repried r (lifted k ms) k.tasks) (sym (none_on k (pri w) (end_of up 256 w)))
+      ∙ sym (ap (λ r. repried r (lifted One k ms) k.tasks) (sym (none_on k (pri w) (end_of up 256 w)))
       ∙ pass_is k.tasks (λ _. false) (each_lives k.tasks) (λ x h. absurd (cc))
       ∙ alike_on k (pri w) (end_of up 256 w) (λ x. false || (is_on (fronts 256 w) x && is_on (ids k.tasks) x)) (λ x. false || is_on (fronts 256 w) x)
       (λ x l. ap (λ b. is_on (fronts 256 w) x && b) (on_ids k.tasks x l) ∙ and_true (is_on (fronts 256 w) x)))

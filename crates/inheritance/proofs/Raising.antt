@@ -5,6 +5,7 @@ use Rattle.std.specs.Option.{option_map}
 use Rattle.std.proofs.lemmas.Bool.{cases_eq, ne_eqb, eq-eqb, eqb-true}
 use Rattle.std.proofs.lemmas.Option.{same_Some}
 use Rattle.std.proofs.lemmas.List.{length-map}
+use Rattle.wind_base.specs.declared.profile.Profile.{Profile}
 use Rattle.task_block.specs.declared.task.Task.{Task}
 use Rattle.task_block.specs.Standing.{is_ready}
 use Rattle.wind_lists.proofs.Records.{found_id}
@@ -12,7 +13,7 @@ use Rattle.wind_core.specs.State.{KernState, task_id, task_of}
 use Rattle.wind_core.specs.Moves.{change_pri, move_found, has_pri, settled, renewed, with_pri}
 use Rattle.wind_core.proofs.Ids.{ids, ids-change}
 use Rattle.inheritance.specs.declared.mutex.Mutex.{Mutex}
-use Rattle.inheritance.specs.Reach.{boss, live_one, wait_of, owner_at, pri_of, pri_in, is_on, lifted, repried, raised_kern}
+use Rattle.inheritance.specs.Reach.{boss, live_one, wait_of, owner_at, pri_of, pri_in, lent_pri, is_on, lifted, repried, raised_kern}
 use Rattle.inheritance.specs.Laws.{StaysIn}
 use Rattle.inheritance.proofs.Lookups.{live_is, on_ids, place_on, each_lives}
 use Rattle.inheritance.proofs.Long.{owner_law}
@@ -123,8 +124,8 @@ raise_all goal (u ∷ us) r live =
         (cases_eq y u.id)
 
 -- each live task has its most urgent priority, and waits as before
-pub raised_to : (k : KernState) (ms : List (ℕ × Mutex)) → RaisedTo k (raised_kern k ms) (lifted k ms) (ids k.tasks)
-raised_to k ms = raise_all (lifted k ms) k.tasks k (each_lives k.tasks)
+pub raised_to : (p : Profile) (k : KernState) (ms : List (ℕ × Mutex)) → RaisedTo k (raised_kern p k ms) (lifted p k ms) (ids k.tasks)
+raised_to p k ms = raise_all (lifted p k ms) k.tasks k (each_lives k.tasks)
 
 -- ---- which task waits for which stays
 pub boss-alike : (ts us : List Task) (ms : List (ℕ × Mutex)) → ((y : ℕ) → option_map (λ t. t.wait) (task_of us y) ≡ option_map (λ t. t.wait) (task_of ts y)) → (y : ℕ) → boss us ms y ≡ boss ts ms y
@@ -168,13 +169,13 @@ boss_lives ts ms y x e = (waits (task_of ts y) e, of_owner (owner_at ms (wait_of
 pub stays : (ts : List Task) (ms : List (ℕ × Mutex)) → StaysIn (boss ts ms) (ids ts)
 stays ts ms y x e = on_ids ts x (boss_lives ts ms y x e).1
 
-pub boss_urgent : (k : KernState) (ms : List (ℕ × Mutex)) → length k.tasks ≤ 256 → (y x : ℕ) → boss (raised_kern k ms).tasks ms y ≡ Some x
-    → pri_of (raised_kern k ms).tasks x ≤ pri_of (raised_kern k ms).tasks y
-boss_urgent k ms few y x e =
-    let to = raised_to k ms in
-    let before : boss k.tasks ms y ≡ Some x = sym (ap (λ up. up y) (bosses k (raised_kern k ms) (lifted k ms) (ids k.tasks) ms to)) ∙ e in
+pub boss_urgent : (p : Profile) (k : KernState) (ms : List (ℕ × Mutex)) → length k.tasks ≤ 256 → (y x : ℕ) → boss (raised_kern p k ms).tasks ms y ≡ Some x
+    → pri_of (raised_kern p k ms).tasks x ≤ pri_of (raised_kern p k ms).tasks y
+boss_urgent p k ms few y x e =
+    let to = raised_to p k ms in
+    let before : boss k.tasks ms y ≡ Some x = sym (ap (λ up. up y) (bosses k (raised_kern p k ms) (lifted p k ms) (ids k.tasks) ms to)) ∙ e in
     let live = boss_lives k.tasks ms y x before in
-    let law = owner_law (boss k.tasks ms) (pri_of k.tasks) 256 (ids k.tasks) (stays k.tasks ms) (omega (arith, length-map k.tasks task_id)) y x before (place_on (ids k.tasks) y (on_ids k.tasks y live.0)) in
-    let px : pri_of (raised_kern k ms).tasks x ≡ lifted k ms x = to.pris x ∙ ap (λ b. cond b (lifted k ms x) (pri_of k.tasks x)) (on_ids k.tasks x live.1) in
-    let py : pri_of (raised_kern k ms).tasks y ≡ lifted k ms y = to.pris y ∙ ap (λ b. cond b (lifted k ms y) (pri_of k.tasks y)) (on_ids k.tasks y live.0) in
+    let law = owner_law (boss k.tasks ms) (lent_pri p k.tasks) 256 (ids k.tasks) (stays k.tasks ms) (omega (arith, length-map k.tasks task_id)) y x before (place_on (ids k.tasks) y (on_ids k.tasks y live.0)) in
+    let px : pri_of (raised_kern p k ms).tasks x ≡ lifted p k ms x = to.pris x ∙ ap (λ b. cond b (lifted p k ms x) (pri_of k.tasks x)) (on_ids k.tasks x live.1) in
+    let py : pri_of (raised_kern p k ms).tasks y ≡ lifted p k ms y = to.pris y ∙ ap (λ b. cond b (lifted p k ms y) (pri_of k.tasks y)) (on_ids k.tasks y live.0) in
     omega (arith, px, py, law)

@@ -3,6 +3,7 @@ use Rattle.std.proofs.Common.{◌≡◌, ℕ, zero, suc, ◌≤◌, true, false,
 use Rattle.std.specs.List.{filter, All, Contains}
 use Rattle.std.proofs.lemmas.Bool.{eq-eqb}
 use Rattle.std.proofs.lemmas.List.Elements.{All-contains, All-head, All-tail, Contains-get_or}
+use Rattle.wind_base.specs.declared.profile.Profile.TheVariants.{One}
 use Rattle.task_block.specs.declared.task.Task.{Task}
 use Rattle.wind_lists.specs.Records.{Rising}
 use Rattle.wind_lists.proofs.Records.{found_in, found_at, found_id}
@@ -12,9 +13,9 @@ use Rattle.wind_core.specs.Move.{ChangePri}
 use Rattle.wind_core.proofs.Moving.{move_keeps}
 use Rattle.wind_core.proofs.Ids.{ids}
 use Rattle.inheritance.specs.declared.mutex.Mutex.{Mutex}
-use Rattle.inheritance.specs.Mutexes.{both}
-use Rattle.inheritance.specs.Reach.{boss, live_one, wait_of, owner_at, pri_of, pri_in, is_on, path, reaches, urgency, lifted, repried, raised_kern, raised}
-use Rattle.inheritance.specs.Laws.{GoodBut, OwnersUrgent, OwnersUrgentBut, RaisedLaw, SameLaw}
+use Rattle.inheritance.specs.Mutexes.{MutexState}
+use Rattle.inheritance.specs.Reach.{boss, live_one, wait_of, owner_at, pri_of, pri_in, is_on, path, reaches, urgency, lifted, repried, raised, IsExact}
+use Rattle.inheritance.specs.Laws.{GoodBut, OwnersUrgent, OwnersUrgentBut, RaisedLaw, SameLaw, ExactSameLaw, ExactUrgentLaw}
 use Rattle.inheritance.proofs.Lookups.{live_is}
 use Rattle.inheritance.proofs.Walk.{path_cases, most_own, most_least}
 use Rattle.inheritance.proofs.Raising.{boss_urgent, boss_lives}
@@ -66,7 +67,7 @@ repried_keeps goal (u ∷ us) r is = repried_keeps goal us (change_pri r u.id (g
 
 pub raised_law : RaisedLaw
 raised_law s is =
-    urgent_from (raised s).kern.tasks s.mutexes (repried_keeps (lifted s.kern s.mutexes) s.kern.tasks s.kern is).rising (boss_urgent s.kern s.mutexes is.few)
+    urgent_from (raised s).kern.tasks s.mutexes (repried_keeps (lifted s.profile s.kern s.mutexes) s.kern.tasks s.kern is).rising (boss_urgent s.profile s.kern s.mutexes is.few)
 
 -- ---- each owner is as urgent already
 module _ (up : ℕ → Option ℕ) (pri : ℕ → ℕ) (good : (y x : ℕ) → up y ≡ Some x → pri x ≤ pri y) where
@@ -96,13 +97,25 @@ repried_same k goal (u ∷ us) same =
     ∙ ap (λ b. cond b k (move_task k u.id (with_pri (goal u.id)))) (eq-eqb u.pri (goal u.id) (sym here.1)) in
     ap (λ r. repried r goal us) step ∙ repried_same k goal us (All-tail (λ v. (task_of k.tasks v.id ≡ Some v) × (goal v.id ≡ v.pri)) u us same)
 
-pub same_kern : (k : KernState) (ms : List (ℕ × Mutex)) → IsKern k → OwnersUrgent ms k.tasks → raised_kern k ms ≡ k
-same_kern k ms is urgent =
-    repried_same k (lifted k ms) k.tasks (λ i d hi.
-    let at = Contains-get_or k.tasks i d hi in (
-      found_in task_id k.tasks (get_or k.tasks i d) is.rising at,
-      urgency_same (boss k.tasks ms) (pri_of k.tasks) (urgent_at k.tasks ms urgent) 256 (ids k.tasks) (get_or k.tasks i d).id ∙ pri_is k.tasks (get_or k.tasks i d) is.rising at,
-    ))
+-- if priorities are exact, raising changes nothing, and each owner is as urgent as its waiters
+pub exact_same : ExactSameLaw
+exact_same s is exact =
+    ap (λ k. record s { kern = k })
+    (repried_same s.kern (lifted s.profile s.kern s.mutexes) s.kern.tasks
+    (λ i d hi. (found_in task_id s.kern.tasks (get_or s.kern.tasks i d) is.rising (Contains-get_or s.kern.tasks i d hi), sym (exact i d hi))))
+
+pub exact_urgent : ExactUrgentLaw
+exact_urgent s is exact = subst (λ (r : MutexState). OwnersUrgent s.mutexes r.kern.tasks) (exact_same s is exact) (raised_law s is)
+
+-- under profile 1 priorities are exact if each owner is as urgent as its waiters
+pub one_exact : (k : KernState) (ms : List (ℕ × Mutex)) → IsKern k → OwnersUrgent ms k.tasks → All (λ t. t.pri ≡ lifted One k ms t.id) k.tasks
+one_exact k ms is urgent i d hi =
+    let t : Task = get_or k.tasks i d in
+    let at = Contains-get_or k.tasks i d hi in
+    sym (urgency_same (boss k.tasks ms) (pri_of k.tasks) (urgent_at k.tasks ms urgent) 256 (ids k.tasks) t.id ∙ pri_is k.tasks t is.rising at)
+
+pub exact_by_owners : (s : MutexState) → s.profile ≡ One → IsKern s.kern → OwnersUrgent s.mutexes s.kern.tasks → IsExact s
+exact_by_owners s one is urgent = subst (λ p. All (λ t. t.pri ≡ lifted p s.kern s.mutexes t.id) s.kern.tasks) (sym one) (one_exact s.kern s.mutexes is urgent)
 
 pub same_law : SameLaw
-same_law s is urgent = ap (λ k. both k s.mutexes) (same_kern s.kern s.mutexes is urgent)
+same_law s one is urgent = exact_same s is (exact_by_owners s one is urgent)

@@ -1,11 +1,13 @@
 -- The walk from owner to owner, and the priorities after raising.
 use Rattle.std.specs.Prelude.{◌≡◌, ℕ, ◌≤◌, cond, nat_lt, true, length, map, List, Option, Some}
+use Rattle.wind_base.specs.declared.profile.Profile.TheVariants.{One, Two}
+use Rattle.id_table.specs.declared.ident.Place.{Place}
 use Rattle.std.specs.List.{All, Contains}
 use Rattle.task_block.specs.declared.task.Task.{Task}
 use Rattle.wind_core.specs.State.{IsKern, Lives, task_id}
 use Rattle.inheritance.specs.declared.mutex.Mutex.{Mutex}
 use Rattle.inheritance.specs.Mutexes.{MutexState}
-use Rattle.inheritance.specs.Reach.{boss, owner_at, pri_of, raised, path, is_on, urgency, front_while}
+use Rattle.inheritance.specs.Reach.{boss, owner_at, pri_of, lent_pri, raised, IsExact, path, is_on, urgency, front_while}
 
 -- each owner is at least as urgent as its waiters, except the waiter w
 abbrev pub GoodBut : (ℕ → Option ℕ) → (ℕ → ℕ) → ℕ → Type 0
@@ -34,28 +36,54 @@ OwnersUrgent ms ts = All (λ y. All (λ x. owner_at ms y.wait ≡ Some x.id → 
 abbrev pub OwnersUrgentBut : ℕ → List (ℕ × Mutex) → List Task → Type 0
 OwnersUrgentBut w ms ts = All (λ y. (y.id ≡ w → ⊥) → All (λ x. owner_at ms y.wait ≡ Some x.id → x.pri ≤ y.pri) ts) ts
 
+-- a task whose count of owned mutexes is 0 owns no inversion-safe mutex that a task can wait for
+abbrev pub OwnersHold : List (ℕ × Mutex) → List Task → Type 0
+OwnersHold ms ts = All (λ t. t.held ≡ 0 → (w : Option Place) → owner_at ms w ≡ Some t.id → ⊥) ts
+
 -- after raising, each live owner is at least as urgent as its waiters
 abbrev pub RaisedLaw : Type 0
 RaisedLaw = (s : MutexState) → IsKern s.kern → OwnersUrgent s.mutexes (raised s).kern.tasks
 
--- if each was so before, raising changes nothing
+-- if each was so before, raising under profile 1 changes nothing
 abbrev pub SameLaw : Type 0
-SameLaw = (s : MutexState) → IsKern s.kern → OwnersUrgent s.mutexes s.kern.tasks → raised s ≡ s
+SameLaw = (s : MutexState) → s.profile ≡ One → IsKern s.kern → OwnersUrgent s.mutexes s.kern.tasks → raised s ≡ s
+
+-- after raising, priorities are exact
+abbrev pub ExactLaw : Type 0
+ExactLaw = (s : MutexState) → IsKern s.kern → IsExact (raised s)
+
+-- if they were exact before, raising changes nothing
+abbrev pub ExactSameLaw : Type 0
+ExactSameLaw = (s : MutexState) → IsKern s.kern → IsExact s → raised s ≡ s
+
+-- if priorities are exact, each live owner is at least as urgent as its waiters
+abbrev pub ExactUrgentLaw : Type 0
+ExactUrgentLaw = (s : MutexState) → IsKern s.kern → IsExact s → OwnersUrgent s.mutexes s.kern.tasks
+
+-- under profile 2, if they are exact, no task is less urgent than its normal priority, and one that owns no
+-- inversion-safe mutex has its normal priority
+pub record ExactNormal (ts : List Task) : Type 0 where
+  pub raised : All (λ t. t.pri ≤ t.normal) ts
+  pub normal : All (λ t. t.held ≡ 0 → t.pri ≡ t.normal) ts
+
+abbrev pub ExactNormalLaw : Type 0
+ExactNormalLaw = (s : MutexState) → s.profile ≡ Two → IsKern s.kern → OwnersHold s.mutexes s.kern.tasks → IsExact s
+    → ExactNormal s.kern.tasks
 
 -- raising gives each live task the priority that the walk law names, by the bosses and priorities before
 abbrev pub UrgencyLaw : Type 0
 UrgencyLaw = (s : MutexState) (x : ℕ) → Lives s.kern x
     → pri_of (raised s).kern.tasks x
-    ≡ urgency (boss s.kern.tasks s.mutexes) (pri_of s.kern.tasks) 256 (map task_id s.kern.tasks) x
+    ≡ urgency (boss s.kern.tasks s.mutexes) (lent_pri s.profile s.kern.tasks) 256 (map task_id s.kern.tasks) x
 
 -- if each owner is at least as urgent as its waiters, except the waiter w, the premise of the walk law holds for bosses and priorities
 abbrev pub PremiseLaw : Type 0
 PremiseLaw = (w : ℕ) (ms : List (ℕ × Mutex)) (ts : List Task) → OwnersUrgentBut w ms ts → GoodBut (boss ts ms) (pri_of ts) w
 
--- so raising gives w's priority to the live owners on its path before the first that is at least as urgent,
--- and changes no other priority
+-- so raising under profile 1 gives w's priority to the live owners on its path before the first that is at least as
+-- urgent, and changes no other priority
 abbrev pub HeirsLaw : Type 0
-HeirsLaw = (s : MutexState) (w x : ℕ) → OwnersUrgentBut w s.mutexes s.kern.tasks → Lives s.kern w → Lives s.kern x
+HeirsLaw = (s : MutexState) (w x : ℕ) → s.profile ≡ One → OwnersUrgentBut w s.mutexes s.kern.tasks → Lives s.kern w → Lives s.kern x
     → pri_of (raised s).kern.tasks x
     ≡ cond (is_on (front_while (λ z. nat_lt (pri_of s.kern.tasks w) (pri_of s.kern.tasks z))
     (path (boss s.kern.tasks s.mutexes) 256 w)) x)

@@ -1,3 +1,4 @@
 pub mod Mutexes
 pub mod Reach
 pub mod Laws
+pub mod Goals

@@ -2,20 +2,27 @@
 use Rattle.std.specs.Prelude.{ℕ, Bool, false, ◌==◌, ◌&&◌, List, Option, None, Some}
 use Rattle.std.specs.List.{count_by}
 use Rattle.wind_base.specs.Limits.{most_mutexes}
+use Rattle.wind_base.specs.declared.profile.Profile.{Profile}
 use Rattle.id_table.specs.Rows.{IsTable}
 use Rattle.id_table.specs.Sides.{object_side}
 use Rattle.id_table.specs.declared.ident.Place.{Place}
 use Rattle.wind_core.specs.State.{KernState}
 use Rattle.inheritance.specs.declared.mutex.Mutex.{Mutex}
 
--- the kernel's tasks and counters, and the live mutexes with their ids, by rising id
+-- the rule by which owners inherit, and the live mutexes with their ids, by rising id
+pub record LiveMutexes : Type 0 where
+  pub profile : Profile
+  pub rows : List (ℕ × Mutex)
+
+-- the kernel's tasks and counters, the rule of inheritance, and the live mutexes
 pub record MutexState : Type 0 where
   pub kern : KernState
+  pub profile : Profile
   pub mutexes : List (ℕ × Mutex)
 
 -- the kernel and the mutexes together
-abbrev pub both : KernState → List (ℕ × Mutex) → MutexState
-both kern mutexes = record { kern = kern; mutexes = mutexes }
+abbrev pub both : KernState → LiveMutexes → MutexState
+both kern live = record { kern = kern; profile = live.profile; mutexes = live.rows }
 
 -- the invariant of the list of mutexes: at most as many as allowed, by rising id, and each id is valid
 abbrev pub AreMutexes : List (ℕ × Mutex) → Type 0

@@ -1,6 +1,8 @@
 -- Which task waits for which, and the priority that each task gets from the tasks that wait for it.
-use Rattle.std.specs.Prelude.{ℕ, zero, suc, Bool, cond, ◌==◌, nat_lt, if◌then◌else◌, min, List, [], ◌∷◌, map, Option, None, Some, is_some}
-use Rattle.std.specs.List.{filter, fold, list_any}
+use Rattle.std.specs.Prelude.{◌≡◌, ℕ, zero, suc, Bool, cond, ◌==◌, nat_lt, if◌then◌else◌, min, List, [], ◌∷◌, map, Option, None, Some, is_some}
+use Rattle.std.specs.List.{All, filter, fold, list_any}
+use Rattle.wind_base.specs.declared.profile.Profile.{Profile}
+use Rattle.wind_base.specs.declared.profile.Profile.TheVariants.{One, Two}
 use Rattle.id_table.specs.Rows.{object_of}
 use Rattle.id_table.specs.declared.ident.Place.{Place}
 use Rattle.task_block.specs.declared.task.Task.{Task}
@@ -61,6 +63,19 @@ pri_in (Some t) = t.pri
 abbrev pub pri_of : List Task → ℕ → ℕ
 pri_of ts id = pri_in (task_of ts id)
 
+-- the same of normal priorities
+abbrev pub normal_in : Option Task → ℕ
+normal_in None = 256
+normal_in (Some t) = t.normal
+
+abbrev pub normal_of : List Task → ℕ → ℕ
+normal_of ts id = normal_in (task_of ts id)
+
+-- the priority that a task passes on: under profile 1 its current one, under profile 2 its normal one
+abbrev pub lent_pri : Profile → List Task → ℕ → ℕ
+lent_pri One ts = pri_of ts
+lent_pri Two ts = normal_of ts
+
 -- the most urgent of these priorities
 abbrev pub most : ℕ → List ℕ → ℕ
 most p [] = p
@@ -71,20 +86,25 @@ abbrev pub urgency : (ℕ → Option ℕ) → (ℕ → ℕ) → ℕ → List ℕ
 urgency up pri n ids x = most (pri x) (map pri (filter (λ y. reaches up n y x) ids))
 
 -- the same for a live task, through at most 256 owners
-abbrev pub lifted : KernState → List (ℕ × Mutex) → ℕ → ℕ
-lifted k ms x = urgency (boss k.tasks ms) (pri_of k.tasks) 256 (map task_id k.tasks) x
+abbrev pub lifted : Profile → KernState → List (ℕ × Mutex) → ℕ → ℕ
+lifted p k ms x = urgency (boss k.tasks ms) (lent_pri p k.tasks) 256 (map task_id k.tasks) x
 
 -- each task of a list gets its priority, in order
 abbrev pub repried : KernState → (ℕ → ℕ) → List Task → KernState
 repried k goal ts = fold (λ r t. change_pri r t.id (goal t.id)) k ts
 
--- each live task has the most urgent priority of itself and of all tasks that reach it
-abbrev pub raised_kern : KernState → List (ℕ × Mutex) → KernState
-raised_kern k ms = repried k (lifted k ms) k.tasks
+-- each live task gets the most urgent priority that it or a task that reaches it passes on
+abbrev pub raised_kern : Profile → KernState → List (ℕ × Mutex) → KernState
+raised_kern p k ms = repried k (lifted p k ms) k.tasks
 
 -- raising: each live task gets the most urgent priority of itself and of all tasks that reach it
 abbrev pub raised : MutexState → MutexState
-raised s = record s { kern = raised_kern s.kern s.mutexes }
+raised s = record s { kern = raised_kern s.profile s.kern s.mutexes }
+
+-- each live task has exactly that priority; so under profile 2 it has the most urgent normal priority among itself
+-- and the tasks that reach it
+abbrev pub IsExact : MutexState → Type 0
+IsExact s = All (λ t. t.pri ≡ lifted s.profile s.kern s.mutexes t.id) s.kern.tasks
 
 -- the longest prefix of a list whose elements pass the test
 abbrev pub front_while : (ℕ → Bool) → List ℕ → List ℕ

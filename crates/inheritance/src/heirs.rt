@@ -1,6 +1,7 @@
 //! Priority inheritance: owners inherit the priorities of the tasks that wait for them.
 
 ghost use Rattle.std.specs.Prelude.{◌≡◌, ◌<◌, ◌^◌, min};
+ghost use Rattle.wind_base.specs.declared.profile.Profile.TheVariants.{One};
 ghost use Rattle.wind_core.specs.State.{Lives};
 ghost use Rattle.inheritance.specs.Reach.{pri_of, heir as heir_lem, raised_kern};
 ghost use Rattle.inheritance.specs.Laws.{OwnersUrgentBut};
@@ -47,12 +48,12 @@ fn heir(k: &Kern, mutexes: &Table<Mutex>, who: Ident, pri: Pri) -> Option<Ident>
 /// for, and so on. This ends at the first owner that is at least as urgent. A ready task whose
 /// priority changes goes after its new equals. Every other waiter must have passed its priority on
 /// before. Afterwards each task has the most urgent priority of itself and of the tasks that wait
-/// for it.
+/// for it, as profile 1 requires.
 pub fn inherit(k: &mut Kern, mutexes: &Table<Mutex>, who: Ident)
     requires live { Lives k.old who }
     requires urgent { OwnersUrgentBut who mutexes.now.rows k.old.tasks }
     requires since { k.old.next_since < 2 ^ 63 }
-    ensures { k.new ≡ raised_kern k.old mutexes.now.rows }
+    ensures { k.new ≡ raised_kern One k.old mutexes.now.rows }
 {
     k.facts();
     let pri = priority(k, who);

@@ -46,6 +46,7 @@ module _ (w : WorldState) (kept : IsWorld w) (n : ℕ) (within : Within n w) (ca
     count = d.count;
     names = omega (arith, d.names);
     starts = omega (arith, d.starts);
+    rule = d.rule;
   }
 
   more : Within (n + 1) w

@@ -159,6 +159,7 @@ pub record Departs (w v : WorldState) (who n d : ℕ) : Type 0 where
   pub count : v.kern.tick ≡ w.kern.tick
   pub names : v.names ≡ w.names
   pub starts : v.watch.next_start ≡ w.watch.next_start
+  pub rule : v.objects.mutexes.profile ≡ w.objects.mutexes.profile
 
 -- the world after that: the task's stack is freed
 abbrev pub parted : WorldState → KernState → ℕ → WorldState
@@ -188,10 +189,11 @@ departs w j who n d kept l objects depths =
       count = l.count;
       names = refl;
       starts = refl;
+      rule = refl;
     }
 
 pub ends : EndLaw
 ends w who n kept within =
     let j : KernState = remove (unguarded w.kern who) who in
     let d = departs w j who n 256 kept (ended_leaves w.kern n kept.kern within.0 who) (objects-ended w.kern w.objects kept.kern kept.objects who) within.1 in
-    record { kept = d.kept; lives = d.lives; within = d.within; reserves = d.reserves; sinces = omega (arith, d.sinces); count = d.count; names = d.names; starts = d.starts }
+    record { kept = d.kept; lives = d.lives; within = d.within; reserves = d.reserves; sinces = omega (arith, d.sinces); count = d.count; names = d.names; starts = d.starts; rule = d.rule }

@@ -87,14 +87,14 @@ module _ (w : WorldState) (kept : IsWorld w) (n : ℕ) (within : Within n w) (a 
 
   -- at most one object is added, with the next id
   of_object_row : (r : ObjectRow) → Goes w.kern r.kern (n + 1) call_sinces → KeepsObjects r.kern r.objects → DepthsWithin (n + 1) r.objects → Comes w.kern w.objects r
-      → All (λ m. MayOwn m.1.owner) r.objects.mutexes → Serves w a (of_objects w r) (n + 1)
+      → All (λ m. MayOwn m.1.owner) r.objects.mutexes.rows → Serves w a (of_objects w r) (n + 1)
   of_object_row r g objects depths comes owners =
-      served w a (of_objects w r) (n + 1) (of_both w kept n within r.kern r.objects g objects depths (ids_objects w kept.ids r.kern r.objects g.alone comes owners))
+      served w a (of_objects w r) (n + 1) (of_both w kept n within r.kern r.objects g objects depths (ids_objects w kept.ids r.kern r.objects g.alone comes.0 owners) comes.1)
 
   -- no object is added
   of_still_row : (r : ObjectRow) → Goes w.kern r.kern (n + 1) call_sinces → KeepsObjects r.kern r.objects → DepthsWithin (n + 1) r.objects → NoneComes w.objects r.objects
-      → All (λ m. MayOwn m.1.owner) r.objects.mutexes → Serves w a (of_objects w r) (n + 1)
-  of_still_row r g objects depths stays owners = of_object_row r g objects depths (Nothing g.next stays) owners
+      → All (λ m. MayOwn m.1.owner) r.objects.mutexes.rows → Serves w a (of_objects w r) (n + 1)
+  of_still_row r g objects depths stays owners = of_object_row r g objects depths (Nothing g.next stays.0, stays.1) owners
 
   of_queue_row : (r : QueueRow) → IsNear (scene_of w) n kept.kern within.0 r.scene → KeepsObjects r.scene.kern (record w.objects { queues = r.scene.queues })
       → Given w.kern.next_id r.scene.kern.next_id (ids w.objects.queues.queues) (ids r.scene.queues.queues) → Serves w a (of_queues w r) (n + 1)

@@ -8,6 +8,7 @@ use Rattle.kernel_world.specs.State.{WorldState}
 use Rattle.kernel_world.specs.Actors.{MayCall, shell_id}
 use Rattle.kernel_calls.specs.Calls.{call}
 use Rattle.task_calls.specs.Ending.{ended}
+use Rattle.wind_base.specs.declared.profile.Profile.{Profile}
 use Rattle.kernel_world.specs.Opening.{opening_world}
 use Rattle.kernel_world.specs.Kept.{IsWorld, Within, ReservedBy, call_sinces}
 use Rattle.kernel_world.specs.declared.actor.Actor.{Actor}
@@ -19,7 +20,8 @@ OnlyUnsafeGo w a v = (id : ℕ) → Lives w.kern id → (Lives v.kern id → ⊥
 
 -- from one world to another within one call: the invariant holds; no safe task but the caller is gone, and the
 -- shell's task lives on; counts stay within n; no task has a reservation that had none; the tick count is the same;
--- at most d order numbers, m numbers for names and m numbers for starts of watchdogs were handed out
+-- at most d order numbers, m numbers for names and m numbers for starts of watchdogs were handed out; the rule of
+-- inheritance is the same
 pub record Passes (w v : WorldState) (a : Actor) (n d m : ℕ) : Type 0 where
   pub kept : IsWorld v
   pub gone : OnlyUnsafeGo w a v
@@ -31,10 +33,11 @@ pub record Passes (w v : WorldState) (a : Actor) (n d m : ℕ) : Type 0 where
   pub count : v.kern.tick ≡ w.kern.tick
   pub names : v.names ≤ w.names + m
   pub starts : v.watch.next_start ≤ w.watch.next_start + m
+  pub rule : v.objects.mutexes.profile ≡ w.objects.mutexes.profile
 
--- the world at the start has the invariant
+-- the world at the start has the invariant, under either rule of inheritance
 abbrev pub OpeningLaw : Type 0
-OpeningLaw = (slots : List (Option DeviceState)) → IsWorld (opening_world slots)
+OpeningLaw = (slots : List (Option DeviceState)) (profile : Profile) → IsWorld (opening_world slots profile)
 
 -- every call keeps the invariant, whoever makes it
 abbrev pub CallLaw : Type 0
@@ -50,6 +53,7 @@ pub record Ends (w v : WorldState) (who n : ℕ) : Type 0 where
   pub count : v.kern.tick ≡ w.kern.tick
   pub names : v.names ≡ w.names
   pub starts : v.watch.next_start ≡ w.watch.next_start
+  pub rule : v.objects.mutexes.profile ≡ w.objects.mutexes.profile
 
 abbrev pub EndLaw : Type 0
 EndLaw = (w : WorldState) (who n : ℕ) → IsWorld w → Within n w → Ends w (ended w who) who n

@@ -31,7 +31,7 @@ use Rattle.kernel_world.proofs.WorldIds.{ids_kern, ids_watch, ids_modules}
 -- from one world to another: the invariant holds, tasks that live live on, counts stay within n, and the tick
 -- count is the same;
 -- no task has a reservation that had none; at most d order numbers, m numbers for names and m for starts of
--- watchdogs were handed out
+-- watchdogs were handed out; the rule of inheritance is the same
 pub record Advances (w v : WorldState) (n d m : ℕ) : Type 0 where
   pub kept : IsWorld v
   pub lives : (who : ℕ) → Lives w.kern who → Lives v.kern who
@@ -42,11 +42,12 @@ pub record Advances (w v : WorldState) (n d m : ℕ) : Type 0 where
   pub count : v.kern.tick ≡ w.kern.tick
   pub names : v.names ≤ w.names + m
   pub starts : v.watch.next_start ≤ w.watch.next_start + m
+  pub rule : v.objects.mutexes.profile ≡ w.objects.mutexes.profile
 
 -- a bound of counts may rise
 pub within_more : (w : WorldState) (l n : ℕ) → l ≤ n → Within l w → Within n w
 within_more w l n more within =
-    (more_counts w.kern l n more within.0, All-weaker (λ r. r.1.depth ≤ l) (λ r. r.1.depth ≤ n) (λ r h. omega (arith, h, more)) w.objects.mutexes within.1)
+    (more_counts w.kern l n more within.0, All-weaker (λ r. r.1.depth ≤ l) (λ r. r.1.depth ≤ n) (λ r h. omega (arith, h, more)) w.objects.mutexes.rows within.1)
 
 -- the ids of watchdogs are below a later next id too
 pub watch_on : (m n : ℕ) (s : WatchState) → m ≤ n → KeepsWatch m s → KeepsWatch n s
@@ -72,6 +73,7 @@ advances_on w v u l n d e m o a b = record {
   count = b.count ∙ a.count;
   names = omega (arith, a.names, b.names);
   starts = omega (arith, a.starts, b.starts);
+  rule = b.rule ∙ a.rule;
 }
 
 pub advances_more : (w v : WorldState) (l n d e m o : ℕ) → l ≤ n → d ≤ e → m ≤ o → Advances w v l d m → Advances w v n e o
@@ -85,13 +87,14 @@ advances_more w v l n d e m o more sinces names a = record {
   count = a.count;
   names = omega (arith, a.names, names);
   starts = omega (arith, a.starts, names);
+  rule = a.rule;
 }
 
 module _ (w : WorldState) (kept : IsWorld w) where
   -- the tasks change, and the objects with them
   pub by_objects : (j : KernState) (o : Objects) (n d : ℕ) → Goes w.kern j n d → KeepsObjects j o → DepthsWithin n o → KeepsIds (record w { kern = j; objects = o })
-      → Advances w (record w { kern = j; objects = o }) n d 0
-  by_objects j o n d g objects depths own = record {
+      → o.mutexes.profile ≡ w.objects.mutexes.profile → Advances w (record w { kern = j; objects = o }) n d 0
+  by_objects j o n d g objects depths own rule = record {
     kept = record {
       kern = g.kern;
       home = g.lent ∙ kept.home;
@@ -112,10 +115,11 @@ module _ (w : WorldState) (kept : IsWorld w) where
     count = g.count;
     names = omega arith;
     starts = omega arith;
+    rule = rule;
   }
 
   pub by_kern : (j : KernState) (n d : ℕ) → Goes w.kern j n d → KeepsObjects j w.objects → DepthsWithin n w.objects → Advances w (record w { kern = j }) n d 0
-  by_kern j n d g objects depths = by_objects j w.objects n d g objects depths (ids_kern w kept.ids j g.alone g.next)
+  by_kern j n d g objects depths = by_objects j w.objects n d g objects depths (ids_kern w kept.ids j g.alone g.next) refl
 
   module _ (n : ℕ) (within : Within n w) where
     more : Within (n + 1) w
@@ -135,6 +139,7 @@ module _ (w : WorldState) (kept : IsWorld w) where
       count = refl;
       names = omega arith;
       starts = omega arith;
+      rule = refl;
     }
 
     -- the modules stay
@@ -178,6 +183,7 @@ module _ (w : WorldState) (kept : IsWorld w) where
           count = moved.count;
           names = omega arith;
           starts = starts;
+          rule = refl;
         }
 
     -- the active routine's registers are others
@@ -195,17 +201,17 @@ module _ (w : WorldState) (kept : IsWorld w) where
         (by_kern j (n + 1) call_sinces g objects more.1)
 
     pub of_both : (j : KernState) (o : Objects) → Goes w.kern j (n + 1) call_sinces → KeepsObjects j o → DepthsWithin (n + 1) o → KeepsIds (record w { kern = j; objects = o })
-        → Advances w (record w { kern = j; objects = o }) (n + 1) call_sinces 1
-    of_both j o g objects depths own =
+        → o.mutexes.profile ≡ w.objects.mutexes.profile → Advances w (record w { kern = j; objects = o }) (n + 1) call_sinces 1
+    of_both j o g objects depths own rule =
         advances_more w (record w { kern = j; objects = o }) (n + 1) (n + 1) call_sinces call_sinces 0 1 (omega arith) (omega arith) (omega arith)
-        (by_objects j o (n + 1) call_sinces g objects depths own)
+        (by_objects j o (n + 1) call_sinces g objects depths own rule)
 
     -- and so do tasks, queues and RAM
     pub of_scene : (t : Scene) → Goes w.kern t.kern (n + 1) call_sinces → length t.ram ≡ length w.ram → KeepsObjects t.kern (record w.objects { queues = t.queues })
         → KeepsIds (record w { kern = t.kern; objects = record w.objects { queues = t.queues } })
         → Advances w (record w { kern = t.kern; objects = record w.objects { queues = t.queues }; ram = t.ram }) (n + 1) call_sinces 1
     of_scene t g size objects own =
-        let both = of_both t.kern (record w.objects { queues = t.queues }) g objects more.1 own in
+        let both = of_both t.kern (record w.objects { queues = t.queues }) g objects more.1 own refl in
         record {
           kept = record {
             kern = both.kept.kern;
@@ -227,6 +233,7 @@ module _ (w : WorldState) (kept : IsWorld w) where
           count = both.count;
           names = both.names;
           starts = both.starts;
+          rule = refl;
         }
 
     pub of_blocks : (p : PartState) → KeepsPool p → AreStacks p (routine_stack ∷ task_stacks w.kern) → KeepsLoaded w.kern p w.modules → Advances w (record w { part = p }) (n + 1) call_sinces 1

@@ -10,6 +10,7 @@ use Rattle.wind_core.specs.Moves.{change_pri, set_safe}
 use Rattle.wind_core.specs.Releases.{release_all}
 use Rattle.wind_core.specs.Move.{ReleaseAll, ChangePri, SetSafe}
 use Rattle.task_safety.specs.Safety.{deletion, safe_of, lessen}
+use Rattle.wind_base.specs.declared.profile.Profile.{Profile}
 use Rattle.inheritance.specs.declared.mutex.Mutex.{Mutex}
 use Rattle.inheritance.specs.Reach.{lifted, repried, raised_kern}
 use Rattle.msg_queue.specs.State.{QueueState, scene}
@@ -47,8 +48,8 @@ module _ (rs : List (ℕ × QueueState)) where
       let once : IsCalm rs k next = calms rs k (ChangePri t.id (goal t.id)) is tt tt in
       calm_then rs k next (repried next goal ts) once (calm-repried next goal ts once.kern)
 
-  pub calm-raised : (k : KernState) (ms : List (ℕ × Mutex)) → IsKern k → IsCalm rs k (raised_kern k ms)
-  calm-raised k ms is = calm-repried k (lifted k ms) k.tasks is
+  pub calm-raised : (p : Profile) (k : KernState) (ms : List (ℕ × Mutex)) → IsKern k → IsCalm rs k (raised_kern p k ms)
+  calm-raised p k ms is = calm-repried k (lifted p k ms) k.tasks is
 
 -- ---- a change of tasks' fields that neither the kernel's invariant nor that of waits reads
 pub record Spares (f : Task → Task) : Type 0 where

@@ -16,7 +16,7 @@ both_counts ts locks safes i d within = (omega (arith, locks i d within), omega 
 
 -- counts below a bound are within it
 pub early_within : (w : WorldState) → IsEarly w → Within (2 ^ 60) w
-early_within w e = (both_counts w.kern.tasks e.locks e.safes, All-weaker (λ r. r.1.depth < 2 ^ 60) (λ r. r.1.depth ≤ 2 ^ 60) (λ r h. omega (arith, h)) w.objects.mutexes e.depths)
+early_within w e = (both_counts w.kern.tasks e.locks e.safes, All-weaker (λ r. r.1.depth < 2 ^ 60) (λ r. r.1.depth ≤ 2 ^ 60) (λ r h. omega (arith, h)) w.objects.mutexes.rows e.depths)
 
 -- the counters stay below it if a caller goes on after its gate
 pub left_early : (w : WorldState) (a : Actor) → IsEarly w → IsEarly (left_gate w a)

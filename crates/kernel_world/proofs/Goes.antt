@@ -18,6 +18,7 @@ use Rattle.wind_core.proofs.Stable.{All-change, renew_task-stable, move_task-sta
 use Rattle.wind_core.proofs.Unwritten.{map-change, map-renew, map-move}
 use Rattle.wind_core.proofs.Waking.{length-waiters}
 use Rattle.task_safety.specs.Safety.{deletion, safe_of, make_safe, lessen}
+use Rattle.wind_base.specs.declared.profile.Profile.{Profile}
 use Rattle.inheritance.specs.declared.mutex.Mutex.{Mutex}
 use Rattle.inheritance.specs.Reach.{lifted, repried, raised_kern}
 use Rattle.msg_queue.proofs.Calm.{next-move}
@@ -292,8 +293,8 @@ module _ (k : KernState) (n : ℕ) (is : IsKern k) (within : CountsWithin n k) w
   goes-move (Lend on) may = absurd may
 
 module _ (k : KernState) (n : ℕ) (is : IsKern k) (within : CountsWithin n k) where
-  pub goes-raised : (ms : List (ℕ × Mutex)) → Goes k (raised_kern k ms) n 256
-  goes-raised ms = goes_further k (raised_kern k ms) n n (length k.tasks) 256 (omega arith) is.few (goes-repried k n (lifted k ms) k.tasks is within)
+  pub goes-raised : (p : Profile) (ms : List (ℕ × Mutex)) → Goes k (raised_kern p k ms) n 256
+  goes-raised p ms = goes_further k (raised_kern p k ms) n n (length k.tasks) 256 (omega arith) is.few (goes-repried k n (lifted p k ms) k.tasks is within)
 
   -- ---- safe sections
   pub goes-make_safe : (who : ℕ) → Goes k (make_safe k who) (n + 1) 0

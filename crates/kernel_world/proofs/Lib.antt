@@ -13,3 +13,4 @@ pub mod WorldIds
 pub mod Advancing
 pub mod Replying
 pub mod Opened
+pub mod Settling

@@ -1,4 +1,4 @@
--- What every move of the kernel keeps of the objects, none of which it writes.
+-- Every move of the kernel leaves the objects as they are.
 use Rattle.std.proofs.Common.{◌≡◌, ℕ, ◌+◌, ◌<◌, Bool, true, false, cond, eqb, map, Option, None, Some, IfSome, refl, sym, ap, ◌∙◌, subst, arith}
 use Rattle.std.specs.List.{All}
 use Rattle.std.specs.Option.{option_map}
@@ -129,12 +129,12 @@ objects-drop k o kept keeps =
     let begins : BeginsOnly nowhere k j =
     by_tasks nowhere k j (omega arith) (All-map (IsOld nowhere k) f k.tasks (All-weaker (IsOld nowhere k) (λ t. IsOld nowhere k (f t)) (λ t h.
     elim (keeps t) as (λ b. IsOld nowhere k (cond b t (unreserved t))) [ true ↦ h | false ↦ h ]) k.tasks (themselves nowhere k))) in
-    let comes : All (Comes o.mutexes k) j.tasks =
-    All-map (Comes o.mutexes k) f k.tasks (All-weaker (Comes o.mutexes k) (λ t. Comes o.mutexes k (f t)) (λ t h.
-    elim (keeps t) as (λ b. Comes o.mutexes k (cond b t (unreserved t))) [
+    let comes : All (Comes o.mutexes.rows k) j.tasks =
+    All-map (Comes o.mutexes.rows k) f k.tasks (All-weaker (Comes o.mutexes.rows k) (λ t. Comes o.mutexes.rows k (f t)) (λ t h.
+    elim (keeps t) as (λ b. Comes o.mutexes.rows k (cond b t (unreserved t))) [
       | true ↦ h
-      | false ↦ comes_on o.mutexes k t (unreserved t) h (alike o.mutexes k t (unreserved t) refl refl refl refl refl refl)
-    ]) k.tasks (mutexes.themselves o.mutexes k)) in
+      | false ↦ comes_on o.mutexes.rows k t (unreserved t) h (alike o.mutexes.rows k t (unreserved t) refl refl refl refl refl refl)
+    ]) k.tasks (mutexes.themselves o.mutexes.rows k)) in
     let spares : Spares f = record {
       id = λ t. elim (keeps t) as (λ b. (cond b t (unreserved t)).id ≡ t.id) [ true ↦ refl | false ↦ refl ];
       since = λ t. elim (keeps t) as (λ b. (cond b t (unreserved t)).since ≡ t.since) [ true ↦ refl | false ↦ refl ];

@@ -20,19 +20,25 @@ use Rattle.mem_partition.specs.declared.block.Block.{Block}
 use Rattle.mem_partition.specs.declared.block.Class.TheVariants.{Kernel}
 use Rattle.mem_partition.proofs.Places.{gap_place}
 use Rattle.mem_partition.proofs.Allocs.{after_is}
-use Rattle.wind_core.specs.State.{IsKern}
+use Rattle.wind_core.specs.State.{KernState, IsKern}
+use Rattle.isr_watch.specs.State.{WatchState}
+use Rattle.symbol_table.specs.declared.symbol.Symbol.{Symbol}
+use Rattle.module_loader.specs.declared.module.LoadedModule.{LoadedModule}
 use Rattle.wind_core.specs.Moves.{new_task}
 use Rattle.wind_core.specs.Move.{Spawn}
 use Rattle.wind_core.proofs.Moving.{move_keeps}
 use Rattle.id_table.specs.Rows.{IsId, object_of}
 use Rattle.sem_plain.specs.Kept.{IsCount, IsForEmpty, IsForMade}
 use Rattle.task_safety.specs.Kept.{Deletes, IsSafe}
+use Rattle.wind_base.specs.declared.profile.Profile.{Profile}
 use Rattle.inheritance.specs.Mutexes.{both as with_mutexes}
 use Rattle.sem_mutex.proofs.Opening.{opening_keeps}
 use Rattle.sem_mutex.proofs.Lawful.{beside_law}
 use Rattle.msg_queue.proofs.Events.{starts}
+use Rattle.kernel_world.specs.State.{WorldState}
+use Rattle.kernel_world.specs.declared.objects.Objects.{Objects}
 use Rattle.kernel_world.specs.Objects.{no_objects, is_live, WaitsRight, KeepsObjects}
-use Rattle.kernel_world.specs.Opening.{empty_kern, opening_kern, shell_record, opening_part, stack_block, symbol_if_named, symbols_of_gate, gate_symbols, zeros, opening_world}
+use Rattle.kernel_world.specs.Opening.{empty_kern, opening_kern, shell_record, opening_part, stack_block, symbol_if_named, symbols_of_gate, gate_symbols, no_watch, zeros, opening_world}
 use Rattle.kernel_world.specs.Kept.{Stack, stack_of, routine_stack, IsStack, AreApart, AreStacks, IsWorld}
 use Rattle.kernel_world.proofs.Holding.{IsNoModules}
 use Rattle.kernel_world.proofs.LiveIds.{HasOwner, ids_task}
@@ -169,8 +175,8 @@ of_one : (P : Task → Type 0) → P (new_task 1 0 shell_record) → All P openi
 of_one P one = All-cons P (new_task 1 0 shell_record) [] one (none_yet P)
 
 -- the shell's task waits for nothing, and there are no objects
-opening_objects : KeepsObjects opening_kern no_objects
-opening_objects = record {
+opening_objects : (profile : Profile) → KeepsObjects opening_kern (no_objects profile)
+opening_objects profile = record {
   waits = record {
     semaphores = record {
       ids = none_yet (λ r. r.0 < 2);
@@ -179,10 +185,10 @@ opening_objects = record {
       made = of_one (λ t. IsForMade 2 t.wait) tt;
     };
     deleters = of_one (Deletes (IsSafe opening_kern)) tt;
-    live = of_one (λ t. IfSome t.wait (λ p. is_live no_objects p ≡ true)) tt;
+    live = of_one (λ t. IfSome t.wait (λ p. is_live (no_objects profile) p ≡ true)) tt;
     right = of_one WaitsRight (record { console = tt; repeats = tt });
   };
-  mutexes = beside_law (with_mutexes empty_kern []) (Spawn shell_record) (opening_keeps (with_mutexes empty_kern []) refl refl) tt;
+  mutexes = beside_law (with_mutexes empty_kern (no_objects profile).mutexes) (Spawn shell_record) (opening_keeps (with_mutexes empty_kern (no_objects profile).mutexes) refl refl) tt;
   table = record { few = omega arith; rising = λ i j d lt within. absurd (omega arith); ranged = none_yet (λ r. IsId r.0) };
   queues = λ ram size. starts opening_kern ram (move_keeps empty_kern (Spawn shell_record) empty_keeps refl) (of_one (λ t. t.wait ≡ None) refl);
   queues_ranged = none_yet (λ r. 0 < r.0);
@@ -190,12 +196,12 @@ opening_objects = record {
   queues_apart = none_yet (λ r. (object_of [] r.0 ≡ None) × (object_of [] r.0 ≡ None));
 }
 
-pub opens : (slots : List (Option DeviceState)) → IsWorld (opening_world slots)
+pub opens : (slots : List (Option DeviceState)) (profile : Profile) → IsWorld (opening_world slots profile)
 unfolding opening_world
-opens slots = record {
+opens slots profile = record {
   kern = move_keeps empty_kern (Spawn shell_record) empty_keeps refl;
   home = refl;
-  objects = opening_objects;
+  objects = opening_objects profile;
   pool = record {
     blocks = record { laid = (omega arith, omega arith, omega arith, (omega arith, omega arith, omega arith, tt)); few = omega arith; bound = omega arith };
     start = refl;
@@ -215,3 +221,22 @@ opens slots = record {
   watch = record { watch = record { few = omega arith; rising = λ i j d lt within. absurd (omega arith); idle = λ none. refl }; ids = λ i d within. absurd (omega arith) };
   ids = ids_task 1 [] [] [] (record { distinct = λ n. omega arith; below = λ n some. absurd (omega arith); owners = none_yet (HasOwner 1 []) });
 }
+
+abbrev with_parts : KernState → Objects → PartState → List Symbol → List (ℕ × LoadedModule) → List ℕ → List (Option DeviceState) → List ℕ → WatchState → WorldState
+with_parts k o p ss ms ram slots output watch = record { kern = k; objects = o; part = p; symbols = ss; modules = ms; ram = ram; slots = slots; output = output; names = 1; watch = watch; int_errno = 0 }
+
+-- a world with these parts is the world at the start
+pub opened_by : (slots mine : List (Option DeviceState)) (profile : Profile) (k : KernState) (o : Objects) (p : PartState) (ss : List Symbol) (ms : List (ℕ × LoadedModule)) (ram output : List ℕ) (watch : WatchState)
+    → k ≡ opening_kern → o ≡ no_objects profile → p ≡ opening_part → ss ≡ gate_symbols gates → ms ≡ [] → ram ≡ zeros ram_bytes → mine ≡ slots → output ≡ [] → watch ≡ no_watch
+    → record { kern = k; objects = o; part = p; symbols = ss; modules = ms; ram = ram; slots = mine; output = output; names = 1; watch = watch; int_errno = 0 } ≡ opening_world slots profile
+unfolding opening_world
+opened_by slots mine profile k o p ss ms ram output watch kern objects part symbols modules bytes devices written watches =
+    ap (λ x. with_parts x o p ss ms ram mine output watch) kern
+    ∙ ap (λ x. with_parts opening_kern x p ss ms ram mine output watch) objects
+    ∙ ap (λ x. with_parts opening_kern (no_objects profile) x ss ms ram mine output watch) part
+    ∙ ap (λ x. with_parts opening_kern (no_objects profile) opening_part x ms ram mine output watch) symbols
+    ∙ ap (λ x. with_parts opening_kern (no_objects profile) opening_part (gate_symbols gates) x ram mine output watch) modules
+    ∙ ap (λ x. with_parts opening_kern (no_objects profile) opening_part (gate_symbols gates) [] x mine output watch) bytes
+    ∙ ap (λ x. with_parts opening_kern (no_objects profile) opening_part (gate_symbols gates) [] (zeros ram_bytes) x output watch) devices
+    ∙ ap (λ x. with_parts opening_kern (no_objects profile) opening_part (gate_symbols gates) [] (zeros ram_bytes) slots x watch) written
+    ∙ ap (λ x. with_parts opening_kern (no_objects profile) opening_part (gate_symbols gates) [] (zeros ram_bytes) slots [] x) watches

@@ -26,6 +26,7 @@ use Rattle.sem_plain.proofs.Living.{live_beside}
 use Rattle.task_safety.specs.Safety.{deletion, safe_of, lessen}
 use Rattle.task_safety.specs.Kept.{IsSafe, KeepsDeleters}
 use Rattle.task_safety.proofs.Waiting.{moves_keep, calls_keep}
+use Rattle.wind_base.specs.declared.profile.Profile.{Profile}
 use Rattle.inheritance.specs.declared.mutex.Mutex.{Mutex}
 use Rattle.inheritance.specs.Reach.{lifted, repried, raised_kern}
 use Rattle.kernel_world.specs.Objects.{is_live, deletion_gate, WaitsRight, KeepsWaits, IsFree}
@@ -199,8 +200,8 @@ waits-repried k o goal (t ∷ ts) is kept =
     waits-repried (change_pri k t.id (goal t.id)) o goal ts (move_keeps k m is tt) (waits-move k o is kept m tt)
 
 module _ (k : KernState) (o : Objects) (is : IsKern k) (kept : KeepsWaits k o) where
-  pub waits-raised : (ms : List (ℕ × Mutex)) → KeepsWaits (raised_kern k ms) o
-  waits-raised ms = waits-repried k o (lifted k ms) k.tasks is kept
+  pub waits-raised : (p : Profile) (ms : List (ℕ × Mutex)) → KeepsWaits (raised_kern p k ms) o
+  waits-raised p ms = waits-repried k o (lifted p k ms) k.tasks is kept
 
   -- when the last safe section ends, all who wait to delete the task go on
   pub waits-lessen : (who n : ℕ) → KeepsWaits (lessen k who n) o

@@ -14,9 +14,9 @@ use Rattle.kernel_world.proofs.LiveIds.{Owns, HasOwner, all_by_id, task_owns, Fe
 module _ (w : WorldState) (kept : KeepsIds w) where
   -- the same tasks live, and the waited-for objects get at most the next id
   pub ids_objects : (j : KernState) (o : Objects) → ids j.tasks ≡ ids w.kern.tasks → Given w.kern.next_id j.next_id (waited_ids w.objects) (waited_ids o)
-      → All (HasOwner w.kern.next_id (object_ids w)) o.mutexes → KeepsIds (record w { kern = j; objects = o })
+      → All (HasOwner w.kern.next_id (object_ids w)) o.mutexes.rows → KeepsIds (record w { kern = j; objects = o })
   ids_objects j o alone given owners =
-      ids_given w.kern.next_id (task_ids w) (object_ids w) w.objects.mutexes kept j.next_id (ids j.tasks) (waited_ids o ++ other_ids w) o.mutexes
+      ids_given w.kern.next_id (task_ids w) (object_ids w) w.objects.mutexes.rows kept j.next_id (ids j.tasks) (waited_ids o ++ other_ids w) o.mutexes.rows
       (fewer_same (task_ids w) (ids j.tasks) alone) (given_behind w.kern.next_id j.next_id (other_ids w) (waited_ids w.objects) (waited_ids o) given) owners
 
   -- the objects are as they were
@@ -29,7 +29,7 @@ module _ (w : WorldState) (kept : KeepsIds w) where
   ids_watch j s alone given =
       let old : List ℕ = map watchdog_id w.watch.watchdogs in
       let new : List ℕ = map watchdog_id s.watchdogs in
-      ids_given w.kern.next_id (task_ids w) (object_ids w) w.objects.mutexes kept j.next_id (ids j.tasks) (waited_ids w.objects ++ (new ++ table.ids w.modules)) w.objects.mutexes
+      ids_given w.kern.next_id (task_ids w) (object_ids w) w.objects.mutexes.rows kept j.next_id (ids j.tasks) (waited_ids w.objects ++ (new ++ table.ids w.modules)) w.objects.mutexes.rows
       (fewer_same (task_ids w) (ids j.tasks) alone)
       (given_before w.kern.next_id j.next_id (waited_ids w.objects) (other_ids w) (new ++ table.ids w.modules)
       (given_behind w.kern.next_id j.next_id (table.ids w.modules) old new given)) kept.owners
@@ -38,7 +38,7 @@ module _ (w : WorldState) (kept : KeepsIds w) where
   pub ids_modules : (ms : List (ℕ × LoadedModule)) → Fewer (table.ids ms) (table.ids w.modules) → KeepsIds (record w { modules = ms })
   ids_modules ms fewer =
       let watches : List ℕ = map watchdog_id w.watch.watchdogs in
-      ids_fewer w.kern.next_id (task_ids w) (object_ids w) w.objects.mutexes kept w.kern.next_id (task_ids w) (waited_ids w.objects ++ (watches ++ table.ids ms)) w.objects.mutexes
+      ids_fewer w.kern.next_id (task_ids w) (object_ids w) w.objects.mutexes.rows kept w.kern.next_id (task_ids w) (waited_ids w.objects ++ (watches ++ table.ids ms)) w.objects.mutexes.rows
       (omega arith) (fewer_same (task_ids w) (task_ids w) refl)
       (fewer_before (waited_ids w.objects) (other_ids w) (watches ++ table.ids ms) (fewer_before watches (table.ids w.modules) (table.ids ms) fewer)) kept.owners
 
@@ -46,7 +46,7 @@ module _ (w : WorldState) (kept : KeepsIds w) where
   pub tasks_own : All (λ t. Owns w.kern.next_id (object_ids w) (Some t.id)) w.kern.tasks
   tasks_own =
       all_by_id task_id (λ n. Owns w.kern.next_id (object_ids w) (Some n)) w.kern.tasks
-      (task_owns w.kern.next_id (task_ids w) (object_ids w) w.objects.mutexes kept)
+      (task_owns w.kern.next_id (task_ids w) (object_ids w) w.objects.mutexes.rows kept)
 
   -- a module is added, with the next id
   pub ids_load : (j : KernState) (m : LoadedModule) → ids j.tasks ≡ ids w.kern.tasks → j.next_id ≡ w.kern.next_id + 1
@@ -54,7 +54,7 @@ module _ (w : WorldState) (kept : KeepsIds w) where
   ids_load j m alone next =
       let watches : List ℕ = map watchdog_id w.watch.watchdogs in
       let new : List ℕ = table.ids (w.modules ++ (w.kern.next_id, m) ∷ []) in
-      ids_given w.kern.next_id (task_ids w) (object_ids w) w.objects.mutexes kept j.next_id (ids j.tasks) (waited_ids w.objects ++ (watches ++ new)) w.objects.mutexes
+      ids_given w.kern.next_id (task_ids w) (object_ids w) w.objects.mutexes.rows kept j.next_id (ids j.tasks) (waited_ids w.objects ++ (watches ++ new)) w.objects.mutexes.rows
       (fewer_same (task_ids w) (ids j.tasks) alone)
       (subst (λ after. Given w.kern.next_id after (object_ids w) (waited_ids w.objects ++ (watches ++ new))) (sym next)
       (given_before w.kern.next_id (w.kern.next_id + 1) (waited_ids w.objects) (other_ids w) (watches ++ new)
@@ -63,12 +63,12 @@ module _ (w : WorldState) (kept : KeepsIds w) where
   -- a task is added, with the next id
   pub ids_spawn : (j : KernState) → ids j.tasks ≡ ids w.kern.tasks ++ w.kern.next_id ∷ [] → j.next_id ≡ w.kern.next_id + 1 → KeepsIds (record w { kern = j })
   ids_spawn j tasks next =
-      subst (λ ts. AreIds j.next_id ts (object_ids w) w.objects.mutexes) (sym tasks)
-      (subst (λ after. AreIds after (ids w.kern.tasks ++ w.kern.next_id ∷ []) (object_ids w) w.objects.mutexes) (sym next)
-      (ids_task w.kern.next_id (task_ids w) (object_ids w) w.objects.mutexes kept))
+      subst (λ ts. AreIds j.next_id ts (object_ids w) w.objects.mutexes.rows) (sym tasks)
+      (subst (λ after. AreIds after (ids w.kern.tasks ++ w.kern.next_id ∷ []) (object_ids w) w.objects.mutexes.rows) (sym next)
+      (ids_task w.kern.next_id (task_ids w) (object_ids w) w.objects.mutexes.rows kept))
 
   -- a task is gone
   pub ids_leave : (j : KernState) → Fewer (ids j.tasks) (ids w.kern.tasks) → w.kern.next_id ≤ j.next_id → KeepsIds (record w { kern = j })
   ids_leave j fewer more =
-      ids_fewer w.kern.next_id (task_ids w) (object_ids w) w.objects.mutexes kept j.next_id (ids j.tasks) (object_ids w) w.objects.mutexes
+      ids_fewer w.kern.next_id (task_ids w) (object_ids w) w.objects.mutexes.rows kept j.next_id (ids j.tasks) (object_ids w) w.objects.mutexes.rows
       more fewer (fewer_same (object_ids w) (object_ids w) refl) kept.owners

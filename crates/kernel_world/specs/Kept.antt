@@ -115,7 +115,7 @@ pub record Early (w : WorldState) : Type 0 where
   pub ticks : w.kern.tick < 2 ^ 60
   pub locks : All (λ t. t.locks < 2 ^ 60) w.kern.tasks
   pub safes : All (λ t. t.safe < 2 ^ 60) w.kern.tasks
-  pub depths : All (λ r. r.1.depth < 2 ^ 60) w.objects.mutexes
+  pub depths : All (λ r. r.1.depth < 2 ^ 60) w.objects.mutexes.rows
   pub names : w.names < 2 ^ 60
   pub starts : w.watch.next_start < 2 ^ 60
 

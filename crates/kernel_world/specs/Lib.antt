@@ -9,3 +9,4 @@ pub mod Opening
 pub mod Seen
 pub mod LiveIds
 pub mod Kept
+pub mod Settling

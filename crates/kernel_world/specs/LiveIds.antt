@@ -15,7 +15,7 @@ task_ids w = map task_id w.kern.tasks
 
 -- the ids of the live objects for which tasks wait: semaphores, mutexes and message queues
 abbrev pub waited_ids : Objects → List ℕ
-waited_ids o = ids o.semaphores ++ (ids o.mutexes ++ ids o.queues.queues)
+waited_ids o = ids o.semaphores ++ (ids o.mutexes.rows ++ ids o.queues.queues)
 
 -- the ids of the live watchdogs and modules
 abbrev pub other_ids : WorldState → List ℕ
@@ -34,4 +34,4 @@ pub record AreIds (next : ℕ) (tasks objects : List ℕ) (mutexes : List (ℕ �
 
 -- all live ids of all kinds are distinct and below the next; each mutex's owner, live or ended, has an id below the next, and no live object other than a task has it
 abbrev pub KeepsIds : WorldState → Type 0
-KeepsIds w = AreIds w.kern.next_id (task_ids w) (object_ids w) w.objects.mutexes
+KeepsIds w = AreIds w.kern.next_id (task_ids w) (object_ids w) w.objects.mutexes.rows

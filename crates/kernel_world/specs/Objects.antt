@@ -4,6 +4,7 @@ use Rattle.std.specs.List.{All}
 use Rattle.wind_base.specs.Limits.{gates_start, ram_bytes}
 use Rattle.wind_base.specs.Gates.{gate_address}
 use Rattle.wind_base.specs.declared.gate.Gate.TheVariants as gates
+use Rattle.wind_base.specs.declared.profile.Profile.{Profile}
 use Rattle.id_table.specs.Rows.{object_of}
 use Rattle.id_table.specs.Sides.{object_side, senders_side, deletion_side, console_side}
 use Rattle.id_table.specs.declared.ident.Place.{Place}
@@ -20,8 +21,8 @@ use Rattle.msg_queue.specs.Kept.{IsKept}
 use Rattle.kernel_world.specs.declared.objects.Objects.{Objects}
 
 -- no object lives
-abbrev pub no_objects : Objects
-no_objects = record { semaphores = []; mutexes = []; queues = record { queues = []; asks = [] } }
+abbrev pub no_objects : Profile → Objects
+no_objects profile = record { semaphores = []; mutexes = record { profile = profile; rows = [] }; queues = record { queues = []; asks = [] } }
 
 -- ---- waits
 -- a side at which tasks wait for a queue: its receivers, and its senders
@@ -31,7 +32,7 @@ is_queue_side side = side == object_side || side == senders_side
 -- the place is that of a mutex, of a queue, of a task to delete, or of the console
 abbrev pub is_live_beside : Objects → Place → Bool
 is_live_beside o p =
-    p.side == object_side && is_some (object_of o.mutexes p.id)
+    p.side == object_side && is_some (object_of o.mutexes.rows p.id)
     || (is_queue_side p.side && is_some (object_of o.queues.queues p.id) || (p.side == deletion_side || p.side == console_side))
 
 -- what is waited for at the place lives: a semaphore, or one of these
@@ -59,18 +60,18 @@ pub record KeepsWaits (k : KernState) (o : Objects) : Type 0 where
 pub record KeepsObjects (k : KernState) (o : Objects) : Type 0 where
   pub waits : KeepsWaits k o
   pub mutexes : KeepsMutexes (with_mutexes k o.mutexes)
-  pub table : AreMutexes o.mutexes
+  pub table : AreMutexes o.mutexes.rows
   -- the queues, with any RAM of the board's size
   pub queues : (ram : List ℕ) → length ram ≡ ram_bytes → IsKept (scene k o.queues ram)
   -- no queue has number 0
   pub queues_ranged : All (λ r. 0 < r.0) o.queues.queues
   -- no two objects of different kinds have the same id
-  pub apart : All (λ r. object_of o.semaphores r.0 ≡ None) o.mutexes
-  pub queues_apart : All (λ r. (object_of o.semaphores r.0 ≡ None) × (object_of o.mutexes r.0 ≡ None)) o.queues.queues
+  pub apart : All (λ r. object_of o.semaphores r.0 ≡ None) o.mutexes.rows
+  pub queues_apart : All (λ r. (object_of o.semaphores r.0 ≡ None) × (object_of o.mutexes.rows r.0 ≡ None)) o.queues.queues
 
 -- no mutex is owned more than n times
 abbrev pub DepthsWithin : ℕ → Objects → Type 0
-DepthsWithin n o = All (λ r. r.1.depth ≤ n) o.mutexes
+DepthsWithin n o = All (λ r. r.1.depth ≤ n) o.mutexes.rows
 
 -- the task waits for nothing
 abbrev pub IsFree : KernState → ℕ → Type 0

@@ -3,6 +3,7 @@ use Rattle.std.specs.Prelude.{ℕ, ◌+◌, List, [], ◌∷◌, ◌++◌, Optio
 use Rattle.wind_base.specs.Limits.{ram_bytes, pool_start, shell_stack_bytes, interrupt_stack_bytes, most_blocks, gates_start}
 use Rattle.wind_base.specs.Gates.{gates, gate_name, gate_number, gate_address}
 use Rattle.wind_base.specs.declared.gate.Gate.{Gate}
+use Rattle.wind_base.specs.declared.profile.Profile.{Profile}
 use Rattle.wind_outside.specs.Devices.{DeviceState}
 use Rattle.task_block.specs.declared.task.NewTask.{NewTask}
 use Rattle.mem_partition.specs.State.{PartState}
@@ -68,11 +69,11 @@ no_watch = record { watchdogs = []; level = None; listed = []; next_start = 0 }
 unfoldable pub zeros : ℕ → List ℕ
 zeros n = replicate n 0
 
--- the world at the start, over these devices
-unfoldable pub opening_world : List (Option DeviceState) → WorldState
-opening_world slots = record {
+-- the world at the start, over these devices, under a rule of inheritance
+unfoldable pub opening_world : List (Option DeviceState) → Profile → WorldState
+opening_world slots profile = record {
   kern = opening_kern;
-  objects = no_objects;
+  objects = no_objects profile;
   part = opening_part;
   symbols = gate_symbols gates;
   modules = [];

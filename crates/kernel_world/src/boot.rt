@@ -22,7 +22,7 @@ use task_block::NewTask;
 use wind_base::limits::{
     CHUNK_BYTES, GATES_START, INTERRUPT_STACK_BYTES, POOL_START, RAM_BYTES, SHELL_STACK_BYTES,
 };
-use wind_base::{Gate, Name, NoMemory, OutBuf, Pri, ShortName, gate_name};
+use wind_base::{Gate, Name, NoMemory, OutBuf, Pri, Profile, ShortName, gate_name};
 use wind_core::Kern;
 use wind_outside::{Device, Slots};
 
@@ -132,15 +132,15 @@ struct Started {
     kern: Kern,
 }
 
-// Makes the kernel with the shell's task and no objects.
-fn start(alloc: Global) -> Result<Started, NoMemory>
+// Makes the kernel with the shell's task and no objects, under a rule of inheritance.
+fn start(alloc: Global, profile: Profile) -> Result<Started, NoMemory>
     ensures kern { IfOk result (λ s. s.kern ≡ opening_kern_lem) }
-    ensures objects { IfOk result (λ s. s.objects ≡ no_objects) }
+    ensures objects { IfOk result (λ s. s.objects ≡ no_objects profile) }
     ensures watch { IfOk result (λ s. s.watch ≡ no_watch) }
 {
     Ok(Started {
         watch: Watch::reserved(alloc)?,
-        objects: objects::reserved(alloc)?,
+        objects: objects::reserved(alloc, profile)?,
         kern: opening_kern(alloc)?,
     })
 }
@@ -167,13 +167,13 @@ fn make_loadable(alloc: Global) -> Result<Loadable, NoMemory>
 }
 
 impl World {
-    /// Makes the world at the start, over these devices. If memory runs out, the devices come back
-    /// unchanged.
-    #[tactic(auto, unfolding(crate::specs::Opening::opening_world))]
-    pub fn boot(alloc: Global, slots: Slots) -> Result<World, Slots>
+    /// Makes the world at the start, over these devices, under a rule of inheritance. If memory runs
+    /// out, the devices come back unchanged.
+    #[tactic(auto, using(crate::proofs::Opened::opened_by))]
+    pub fn boot(alloc: Global, slots: Slots, profile: Profile) -> Result<World, Slots>
         requires { length slots.items ≤ most_slots }
         ensures ok { IfOk result (λ w. world_seen ⟦<dyn Device as Device>⟧ w
-            ≡ opening_world (slots_of kind_of words_of slots.items)) }
+            ≡ opening_world (slots_of kind_of words_of slots.items) profile) }
         ensures room { IfOk result (λ w. 12291 ≤ w.out.room) }
         ensures err { IfErr result (λ back. back ≡ slots) }
     {
@@ -188,7 +188,7 @@ impl World {
         let Ok(loadable) = make_loadable(alloc) else {
             return Err(slots);
         };
-        let Ok(started) = start(alloc) else {
+        let Ok(started) = start(alloc, profile) else {
             return Err(slots);
         };
         Ok(World {

@@ -7,7 +7,7 @@ use msg_queue::Queues;
 use sem_mutex::Mutexes;
 use sem_plain::Plain;
 use std::alloc::Global;
-use wind_base::NoMemory;
+use wind_base::{NoMemory, Profile};
 
 /// The kernel's objects other than tasks and watchdogs.
 #[derive(Drop)]
@@ -20,13 +20,13 @@ pub struct Objects {
     pub queues: Queues,
 }
 
-// No objects, with room reserved for the most of each kind.
-pub(crate) fn reserved(alloc: Global) -> Result<Objects, NoMemory>
-    ensures { IfOk result (λ o. o ≡ no_objects) }
+// No objects, with room reserved for the most of each kind, under a rule of inheritance.
+pub(crate) fn reserved(alloc: Global, profile: Profile) -> Result<Objects, NoMemory>
+    ensures { IfOk result (λ o. o ≡ no_objects profile) }
 {
     Ok(Objects {
         semaphores: Plain::reserved(alloc)?,
-        mutexes: Mutexes::reserved(alloc)?,
+        mutexes: Mutexes::reserved(alloc, profile)?,
         queues: Queues::reserved(alloc)?,
     })
 }

@@ -45,10 +45,10 @@ bound f (x ∷ xs) =
 pub counts_bound : (w : WorldState) → (n : ℕ) × Within n w
 counts_bound w =
     let (n, tasks) = bound (λ t. t.locks + t.safe) w.kern.tasks in
-    let (m, depths) = bound (λ r. r.1.depth) w.objects.mutexes in (
+    let (m, depths) = bound (λ r. r.1.depth) w.objects.mutexes.rows in (
       n + m,
       (
         All-weaker (λ t. t.locks + t.safe ≤ n) (HasCounts (n + m)) (λ t h. (omega (arith, h), omega (arith, h))) w.kern.tasks tasks,
-        All-weaker (λ r. r.1.depth ≤ m) (λ r. r.1.depth ≤ n + m) (λ r h. omega (arith, h)) w.objects.mutexes depths,
+        All-weaker (λ r. r.1.depth ≤ m) (λ r. r.1.depth ≤ n + m) (λ r h. omega (arith, h)) w.objects.mutexes.rows depths,
       ),
     )

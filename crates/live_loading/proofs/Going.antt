@@ -133,6 +133,7 @@ module _ (w : WorldState) (kept : IsWorld w) (name : List ℕ) (m : Module) (mod
         count = g.count;
         names = g.names;
         starts = g.starts;
+        rule = g.rule;
       }
 
 -- ---- what is written and answered

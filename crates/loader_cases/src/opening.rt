@@ -81,7 +81,7 @@ fn add(alloc: Global, syms: &mut Symbols) -> Result<(), Trouble> {
     Ok(())
 }
 
-/// RAM of this many bytes, none of which is zero.
+/// RAM of this many bytes. No byte is zero.
 pub fn filled(alloc: Global, size: u32) -> Result<Ram, NoMemory> {
     let mut ram = Ram::new(alloc, size)?;
     let _ = ram.fill(0, size, FILL);

@@ -29,7 +29,7 @@ abbrev pub meaning : List Symbol → List Load → List ℕ → ℕ
 meaning tab [] name = bind tab name
 meaning tab (l ∷ earlier) name = value_else (told_by l name) (meaning tab earlier name)
 
--- the images of loads that come after these, the latest of which is first
+-- the images of loads that come after these, the latest first
 abbrev pub link_after : List Symbol → List Load → List Load → List Images
 link_after tab earlier [] = []
 link_after tab earlier (l ∷ ls) = image_by l.body (meaning tab earlier) l.at ∷ link_after tab (l ∷ earlier) ls

@@ -26,8 +26,8 @@ pub fn layout_law()
     ensures { LayoutLaw }
 {}
 
-/// For any list of loads over a table, each of which finds the symbols that those before it left,
-/// the images are those of one static link at the same places.
+/// Take any list of loads over a table, where each load finds the symbols that the loads before it
+/// left. Their images are those of one static link at the same places.
 pub fn link_law()
     ensures { LinkLaw }
 {}

@@ -166,6 +166,18 @@ pub fn apply(k: &mut Kern, mutexes: &mut Mutexes, act: Act) -> Option<Told>
     }
 }
 
+/// Settles priorities, as at the end of a step. None if a counter is near overflow.
+pub fn settle(k: &mut Kern, mutexes: &Mutexes) -> Option<()>
+    requires { KeepsMutexes (both k.old mutexes.now) }
+    ensures { KeepsMutexes (both k.new mutexes.now) }
+{
+    if !mutexes.is_early(k) {
+        return None;
+    }
+    mutexes.settle(k);
+    Some(())
+}
+
 /// The priority of the task with this number. None if it isn't live.
 pub fn pri(k: &Kern, number: u32) -> Option<u32> {
     Some(k.task(Ident::new(number)?)?.pri.get())

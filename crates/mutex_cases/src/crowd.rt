@@ -84,7 +84,7 @@ fn count_of(k: &Kern, wanted: u32) -> u32 {
 // waits too.
 fn counts(k: &mut Kern, mutexes: &mut Mutexes) -> Option<(u32, u32)>
     requires ids { k.old.lent ≡ false }
-    requires fresh { (k.old.tasks ≡ []) × (mutexes.old ≡ []) }
+    requires fresh { (k.old.tasks ≡ []) × (mutexes.old.rows ≡ []) }
 {
     spawn_all(k, mutexes)?;
     create_all(k, mutexes)?;
@@ -103,7 +103,7 @@ fn counts(k: &mut Kern, mutexes: &mut Mutexes) -> Option<(u32, u32)>
 /// last one.
 pub fn play(k: &mut Kern, mutexes: &mut Mutexes) -> Verdict
     requires ids { k.old.lent ≡ false }
-    requires fresh { (k.old.tasks ≡ []) × (mutexes.old ≡ []) }
+    requires fresh { (k.old.tasks ≡ []) × (mutexes.old.rows ≡ []) }
 {
     match counts(k, mutexes) {
         Some((OWNERS, OWNERS)) => Verdict::AsWorkedOut,

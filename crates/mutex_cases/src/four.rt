@@ -4,7 +4,7 @@ ghost use Rattle.std.specs.Prelude.{◌≡◌, false, []};
 ghost use Rattle.inheritance.specs.Mutexes.{both};
 ghost use Rattle.sem_mutex.specs.Kept.{KeepsMutexes};
 
-use crate::bench::{Act, Told, apply, create, pri, spawn};
+use crate::bench::{Act, Told, apply, create, pri, settle, spawn};
 use crate::verdict::Verdict;
 use sem_mutex::Mutexes;
 use wind_base::Errno;
@@ -74,6 +74,21 @@ pub const TWO: [Row; 13] = [
     (Act::Delete(M1), Told::Done, [150, 50, 170, 10]),
 ];
 
+/// The same owner under profile 2: with each give A loses what it inherits from that mutex's
+/// waiter. Its normal priority counts at once.
+pub const TWO_EXACT: [Row; 10] = [
+    (Act::Take(A, M1), Told::Done, [150, 50, 170, 10]),
+    (Act::Take(A, M2), Told::Done, [150, 50, 170, 10]),
+    (Act::Take(D, M1), Told::Pended, [10, 50, 170, 10]),
+    (Act::Take(B, M2), Told::Pended, [10, 50, 170, 10]),
+    (Act::Give(A, M1), Told::Done, [50, 50, 170, 10]),
+    (Act::Priority(A, 40), Told::Done, [40, 50, 170, 10]),
+    (Act::Priority(A, 150), Told::Done, [50, 50, 170, 10]),
+    (Act::Give(A, M2), Told::Done, [150, 50, 170, 10]),
+    (Act::Priority(A, 200), Told::Done, [200, 50, 170, 10]),
+    (Act::Delete(M1), Told::Done, [200, 50, 170, 10]),
+];
+
 /// C waits for B, and B for A. A becomes more urgent, then less; then C becomes more urgent, and
 /// the owners that it waits for inherit that.
 pub const SET: [Row; 8] = [
@@ -90,7 +105,7 @@ pub const SET: [Row; 8] = [
 // Makes four tasks of these priorities, with ids 1 to 4, and then three mutexes.
 fn begin(k: &mut Kern, mutexes: &mut Mutexes, pris: [u32; 4]) -> Option<()>
     requires ids { k.old.lent ≡ false }
-    requires fresh { (k.old.tasks ≡ []) × (mutexes.old ≡ []) }
+    requires fresh { (k.old.tasks ≡ []) × (mutexes.old.rows ≡ []) }
     ensures kept { KeepsMutexes (both k.new mutexes.new) }
 {
     spawn(k, mutexes, pris[0])?;
@@ -115,7 +130,7 @@ fn priorities(k: &Kern) -> [u32; 4] {
     ]
 }
 
-// Makes the calls of the rows, up to the first with another outcome.
+// Makes the calls of the rows, each followed by settling, up to the first with another outcome.
 fn compare(k: &mut Kern, mutexes: &mut Mutexes, rows: &[Row]) -> Verdict
     requires { KeepsMutexes (both k.old mutexes.old) }
 {
@@ -125,6 +140,9 @@ fn compare(k: &mut Kern, mutexes: &mut Mutexes, rows: &[Row]) -> Verdict
         call += 1;
         if apply(k, mutexes, act) != Some(told) {
             return Verdict::Answers(call);
+        }
+        if settle(k, mutexes).is_none() {
+            return Verdict::Stuck;
         }
         let left = priorities(k);
         if left != wanted {
@@ -137,7 +155,7 @@ fn compare(k: &mut Kern, mutexes: &mut Mutexes, rows: &[Row]) -> Verdict
 /// Makes the calls of the rows, with four tasks of these priorities.
 pub fn play(k: &mut Kern, mutexes: &mut Mutexes, pris: [u32; 4], rows: &[Row]) -> Verdict
     requires ids { k.old.lent ≡ false }
-    requires fresh { (k.old.tasks ≡ []) × (mutexes.old ≡ []) }
+    requires fresh { (k.old.tasks ≡ []) × (mutexes.old.rows ≡ []) }
 {
     match begin(k, mutexes, pris) {
         Some(()) => compare(k, mutexes, rows),

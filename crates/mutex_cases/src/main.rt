@@ -10,11 +10,12 @@ mod verdict;
 
 ghost use Rattle.std.specs.Prelude.{◌≡◌, false, []};
 
-use four::{CHAIN, CYCLE, Row, SET, TWO};
+use four::{CHAIN, CYCLE, Row, SET, TWO, TWO_EXACT};
 use sem_mutex::Mutexes;
 use std::alloc::Global;
 use std::io;
 use verdict::Verdict;
+use wind_base::Profile;
 use wind_core::Kern;
 
 // A case.
@@ -22,30 +23,42 @@ use wind_core::Kern;
 enum Case {
     Turns,
     // calls of four tasks of these priorities
-    Four([u32; 4], &'static [Row]),
+    Four(Profile, [u32; 4], &'static [Row]),
     Crowd,
 }
 
 // The cases and their names.
-const CASES: [(&str, Case); 6] = [
+const CASES: [(&str, Case); 9] = [
     ("turns of two ticks", Case::Turns),
     (
         "a chain of three owners",
-        Case::Four([150, 160, 170, 10], &CHAIN),
+        Case::Four(Profile::One, [150, 160, 170, 10], &CHAIN),
     ),
     (
         "a cycle of two owners",
-        Case::Four([150, 160, 170, 10], &CYCLE),
+        Case::Four(Profile::One, [150, 160, 170, 10], &CYCLE),
     ),
     (
         "an owner of two mutexes",
-        Case::Four([150, 50, 170, 10], &TWO),
+        Case::Four(Profile::One, [150, 50, 170, 10], &TWO),
     ),
     (
         "normal priorities that are set",
-        Case::Four([150, 160, 170, 10], &SET),
+        Case::Four(Profile::One, [150, 160, 170, 10], &SET),
     ),
     ("255 owners", Case::Crowd),
+    (
+        "a chain of three owners under profile 2",
+        Case::Four(Profile::Two, [150, 160, 170, 10], &CHAIN),
+    ),
+    (
+        "a cycle of two owners under profile 2",
+        Case::Four(Profile::Two, [150, 160, 170, 10], &CYCLE),
+    ),
+    (
+        "an owner of two mutexes under profile 2",
+        Case::Four(Profile::Two, [150, 50, 170, 10], &TWO_EXACT),
+    ),
 ];
 
 /// Plays each case, and prints its verdict.
@@ -54,6 +67,14 @@ fn main(rt: HostRuntime) -> io::Result<()> {
         tell(&rt, name, play(rt.alloc(), case))?;
     }
     Ok(())
+}
+
+// The rule of inheritance of a case.
+fn profile(case: Case) -> Profile {
+    match case {
+        Case::Four(profile, _, _) => profile,
+        Case::Turns | Case::Crowd => Profile::One,
+    }
 }
 
 // Plays a case with a kernel of its own.
@@ -68,7 +89,7 @@ fn play_over(alloc: Global, k: &mut Kern, case: Case) -> Verdict
     requires ids { k.old.lent ≡ false }
     requires fresh { k.old.tasks ≡ [] }
 {
-    match Mutexes::reserved(alloc) {
+    match Mutexes::reserved(alloc, profile(case)) {
         Ok(mut mutexes) => play_with(alloc, k, &mut mutexes, case),
         Err(_) => Verdict::NoRoom,
     }
@@ -76,11 +97,11 @@ fn play_over(alloc: Global, k: &mut Kern, case: Case) -> Verdict
 
 fn play_with(alloc: Global, k: &mut Kern, mutexes: &mut Mutexes, case: Case) -> Verdict
     requires ids { k.old.lent ≡ false }
-    requires fresh { (k.old.tasks ≡ []) × (mutexes.old ≡ []) }
+    requires fresh { (k.old.tasks ≡ []) × (mutexes.old.rows ≡ []) }
 {
     match case {
         Case::Turns => turns::play(alloc, k),
-        Case::Four(pris, rows) => four::play(k, mutexes, pris, rows),
+        Case::Four(_, pris, rows) => four::play(k, mutexes, pris, rows),
         Case::Crowd => crowd::play(k, mutexes),
     }
 }

@@ -14,13 +14,17 @@ use Rattle.wind_lists.proofs.Passing.{length-filter}
 use Rattle.wind_core.specs.State.{KernState}
 use Rattle.wind_core.specs.Orders.{is_place}
 use Rattle.inheritance.specs.declared.mutex.Mutex.{Mutex}
-use Rattle.inheritance.specs.Mutexes.{AreMutexes, mutex_place}
+use Rattle.inheritance.specs.Mutexes.{AreMutexes, LiveMutexes, mutex_place}
 use Rattle.kernel_world.specs.Objects.{is_queue_side, is_live, KeepsWaits}
 use Rattle.kernel_world.specs.declared.objects.Objects.{Objects}
 
 -- the objects with other mutexes
-abbrev pub with_mutexes : Objects → List (ℕ × Mutex) → Objects
-with_mutexes o ms = record o { mutexes = ms }
+abbrev pub with_mutexes : Objects → LiveMutexes → Objects
+with_mutexes o live = record o { mutexes = live }
+
+-- the mutexes under the same rule with other rows
+abbrev pub with_rows : Objects → List (ℕ × Mutex) → LiveMutexes
+with_rows o ms = record o.mutexes { rows = ms }
 
 -- ---- the same ids
 -- one object is written
@@ -94,7 +98,7 @@ monotone false true true e false more h = or_left e false (more refl)
 monotone false true false e false more h = absurd (cc)
 
 -- each mutex that lived lives among others
-pub waits-more : (k : KernState) (o : Objects) (ns : List (ℕ × Mutex)) → ((n : ℕ) → is_some (object_of o.mutexes n) ≡ true → is_some (object_of ns n) ≡ true) → KeepsWaits k o → KeepsWaits k (with_mutexes o ns)
+pub waits-more : (k : KernState) (o : Objects) (ns : LiveMutexes) → ((n : ℕ) → is_some (object_of o.mutexes.rows n) ≡ true → is_some (object_of ns.rows n) ≡ true) → KeepsWaits k o → KeepsWaits k (with_mutexes o ns)
 waits-more k o ns more kept = record {
   semaphores = kept.semaphores;
   deleters = kept.deleters;
@@ -105,17 +109,17 @@ waits-more k o ns more kept = record {
     each : (w : Option Place) → IfSome w (λ p. is_live o p ≡ true) → IfSome w (λ p. is_live (with_mutexes o ns) p ≡ true)
     each None h = tt
     each (Some p) h =
-        monotone (eqb p.side 0 && is_some (object_of o.semaphores p.id)) (eqb p.side 0) (is_some (object_of o.mutexes p.id)) (is_some (object_of ns p.id)) (is_beyond o p) (more p.id) h
+        monotone (eqb p.side 0 && is_some (object_of o.semaphores p.id)) (eqb p.side 0) (is_some (object_of o.mutexes.rows p.id)) (is_some (object_of ns.rows p.id)) (is_beyond o p) (more p.id) h
 
 -- if the ids are the same
-pub waits-ids : (k : KernState) (o : Objects) (ns : List (ℕ × Mutex)) → ids ns ≡ ids o.mutexes → KeepsWaits k o → KeepsWaits k (with_mutexes o ns)
-waits-ids k o ns same kept = waits-more k o ns (λ n lives. lives-ids o.mutexes ns same n ∙ lives) kept
+pub waits-ids : (k : KernState) (o : Objects) (ns : LiveMutexes) → ids ns.rows ≡ ids o.mutexes.rows → KeepsWaits k o → KeepsWaits k (with_mutexes o ns)
+waits-ids k o ns same kept = waits-more k o ns (λ n lives. lives-ids o.mutexes.rows ns.rows same n ∙ lives) kept
 
 -- one mutex is added
-pub waits-push : (k : KernState) (o : Objects) (id : ℕ) (m : Mutex) → KeepsWaits k o → KeepsWaits k (with_mutexes o (o.mutexes ++ (id, m) ∷ []))
+pub waits-push : (k : KernState) (o : Objects) (id : ℕ) (m : Mutex) → KeepsWaits k o → KeepsWaits k (with_mutexes o (with_rows o (o.mutexes.rows ++ (id, m) ∷ [])))
 waits-push k o id m kept =
-    waits-more k o (o.mutexes ++ (id, m) ∷ [])
-    (λ n lives. ap is_some (object_of-push o.mutexes id n m) ∙ ap (λ c. is_some (cond c (object_of o.mutexes n) (cond (eqb id n) (Some m) None))) lives ∙ lives) kept
+    waits-more k o (with_rows o (o.mutexes.rows ++ (id, m) ∷ []))
+    (λ n lives. ap is_some (object_of-push o.mutexes.rows id n m) ∙ ap (λ c. is_some (cond c (object_of o.mutexes.rows n) (cond (eqb id n) (Some m) None))) lives ∙ lives) kept
 
 elsewhere : (a b q d : Bool) (x : Option Mutex) → (b && q) ≡ false → (a || ((b && is_some x) || d)) ≡ true → (a || ((b && is_some (cond q None x)) || d)) ≡ true
 elsewhere true b q d x away h = refl
@@ -124,7 +128,7 @@ elsewhere false true true d x away h = absurd (cc)
 elsewhere false true false d x away h = h
 
 -- a mutex that nobody waits for is gone
-pub waits-without : (k : KernState) (o : Objects) (id : ℕ) → All (λ t. is_place (mutex_place id) t.wait ≡ false) k.tasks → KeepsWaits k o → KeepsWaits k (with_mutexes o (without o.mutexes id))
+pub waits-without : (k : KernState) (o : Objects) (id : ℕ) → All (λ t. is_place (mutex_place id) t.wait ≡ false) k.tasks → KeepsWaits k o → KeepsWaits k (with_mutexes o (with_rows o (without o.mutexes.rows id)))
 waits-without k o id away kept = record {
   semaphores = kept.semaphores;
   deleters = kept.deleters;
@@ -132,8 +136,8 @@ waits-without k o id away kept = record {
   right = kept.right;
 }
   where
-    each : (w : Option Place) → is_place (mutex_place id) w ≡ false → IfSome w (λ p. is_live o p ≡ true) → IfSome w (λ p. is_live (with_mutexes o (without o.mutexes id)) p ≡ true)
+    each : (w : Option Place) → is_place (mutex_place id) w ≡ false → IfSome w (λ p. is_live o p ≡ true) → IfSome w (λ p. is_live (with_mutexes o (with_rows o (without o.mutexes.rows id))) p ≡ true)
     each None apart h = tt
     each (Some p) apart h =
-        subst (λ x. ((eqb p.side 0 && is_some (object_of o.semaphores p.id)) || ((eqb p.side 0 && is_some x) || is_beyond o p)) ≡ true) (sym (object_of-without o.mutexes id p.id))
-        (elsewhere (eqb p.side 0 && is_some (object_of o.semaphores p.id)) (eqb p.side 0) (eqb p.id id) (is_beyond o p) (object_of o.mutexes p.id) apart h)
+        subst (λ x. ((eqb p.side 0 && is_some (object_of o.semaphores p.id)) || ((eqb p.side 0 && is_some x) || is_beyond o p)) ≡ true) (sym (object_of-without o.mutexes.rows id p.id))
+        (elsewhere (eqb p.side 0 && is_some (object_of o.semaphores p.id)) (eqb p.side 0) (eqb p.id id) (is_beyond o p) (object_of o.mutexes.rows p.id) apart h)

@@ -5,6 +5,8 @@ use Rattle.wind_base.specs.declared.errno.Errno.{Errno}
 use Rattle.wind_base.specs.declared.errno.Errno.TheVariants as errors
 use Rattle.id_table.specs.Rows.{object_of, ids}
 use Rattle.id_table.specs.declared.ident.Place.{Place}
+use Rattle.wind_base.specs.declared.profile.Profile.{Profile}
+use Rattle.wind_base.specs.declared.profile.Profile.TheVariants.{One, Two}
 use Rattle.task_block.specs.declared.task.Task.{Task}
 use Rattle.wind_core.specs.State.{KernState, IsKern, task_of}
 use Rattle.wind_core.specs.Orders.{first_waiter}
@@ -16,7 +18,7 @@ use Rattle.task_safety.specs.Safety.{safe_of, make_safe, lessen}
 use Rattle.inheritance.specs.declared.mutex.Mutex.{Mutex}
 use Rattle.inheritance.specs.Mutexes.{MutexState, mutex_place}
 use Rattle.inheritance.specs.Reach.{raised_kern}
-use Rattle.sem_mutex.specs.Calls.{held_of, holding, guarded, eased, restored, less_held, dropped, letting_go, hand, deepen, await, taken, take_alone, take, is_others, take_refusal, freed, owned, pass_on, give_up, shallow, give_alone, give, ended, owner_ended, delete_alone, delete, pri_after, priority_alone, priority_set}
+use Rattle.sem_mutex.specs.Calls.{at_once, followed, held_of, holding, guarded, eased, restored, less_held, dropped, letting_go, hand, deepen, await, taken, take_alone, take, is_others, take_refusal, freed, owned, pass_on, give_up, shallow, give_alone, give, ended, owner_ended, delete_alone, delete, pri_after, priority_alone, priority_set}
 use Rattle.msg_queue.specs.Kept.{IsCalm}
 use Rattle.msg_queue.specs.Laws.{SparesQueues}
 use Rattle.msg_queue.proofs.Calm.{calms}
@@ -66,8 +68,13 @@ module _ (o : Objects) where
     still-lessen : (who n : ℕ) → Still (lessen k who n) o
     still-lessen who n = still_by (lessen k who n) (waits-lessen k o still.kern still.waits who n) (calm-lessen o.queues.queues k who n still.kern)
 
-    still-raised : (ms : List (ℕ × Mutex)) → Still (raised_kern k ms) o
-    still-raised ms = still_by (raised_kern k ms) (waits-raised k o still.kern still.waits ms) (calm-raised o.queues.queues k ms still.kern)
+    still-raised : (p : Profile) (ms : List (ℕ × Mutex)) → Still (at_once p k ms) o
+    still-raised One ms = still_by (raised_kern One k ms) (waits-raised k o still.kern still.waits One ms) (calm-raised o.queues.queues One k ms still.kern)
+    still-raised Two ms = still
+
+    still-followed : (p : Profile) (who pri : ℕ) → Still (followed p k who pri) o
+    still-followed One who pri = still-change_pri who pri
+    still-followed Two who pri = still
 
   -- ---- what a mutex is for its owner
   still-holding : (k : KernState) (who : ℕ) (m : Mutex) → Still k o → Still (holding k who m) o
@@ -80,14 +87,15 @@ module _ (o : Objects) where
   still-eased : (k : KernState) (who : ℕ) (m : Mutex) (n : ℕ) → Still k o → Still (eased k who m n) o
   still-eased k who m n still = elim m.delete_safe as (λ b. Still (cond b (lessen k who n) k) o) [ true ↦ still-lessen k still who n | false ↦ still ]
 
-  still-restored : (k : KernState) (who : ℕ) (t : Option Task) → Still k o → Still (restored k who t) o
-  still-restored k who None still = still
-  still-restored k who (Some t) still = elim (eqb t.held 0) as (λ b. Still (cond b (change_pri k who t.normal) k) o) [ true ↦ still-change_pri k still who t.normal | false ↦ still ]
+  still-restored : (p : Profile) (k : KernState) (who : ℕ) (t : Option Task) → Still k o → Still (restored p k who t) o
+  still-restored Two k who t still = still
+  still-restored One k who None still = still
+  still-restored One k who (Some t) still = elim (eqb t.held 0) as (λ b. Still (cond b (change_pri k who t.normal) k) o) [ true ↦ still-change_pri k still who t.normal | false ↦ still ]
 
-  still-letting_go : (k : KernState) (who : ℕ) (m : Mutex) → Still k o → Still (letting_go k who m) o
-  still-letting_go k who m still =
-      elim m.inversion_safe as (λ b. Still (cond b (dropped k who) k) o) [
-        | true ↦ still-restored (less_held k who) who (task_of (less_held k who).tasks who) (still-set_held k still who (held_of (task_of k.tasks who) - 1))
+  still-letting_go : (p : Profile) (k : KernState) (who : ℕ) (m : Mutex) → Still k o → Still (letting_go p k who m) o
+  still-letting_go p k who m still =
+      elim m.inversion_safe as (λ b. Still (cond b (dropped p k who) k) o) [
+        | true ↦ still-restored p (less_held k who) who (task_of (less_held k who).tasks who) (still-set_held k still who (held_of (task_of k.tasks who) - 1))
         | false ↦ still
       ]
 
@@ -105,7 +113,7 @@ module _ (o : Objects) where
   pub still-take : (s : MutexState) (who id n : ℕ) → take_refusal who n (object_of s.mutexes id) ≡ None → (is_some (object_of s.mutexes id) ≡ true → MayAwait s.kern o id)
       → Still s.kern o → Still (take s who id n).kern o
   still-take s who id n fine there still =
-      still-raised (take_alone s who id n (object_of s.mutexes id)).kern (row (object_of s.mutexes id) fine there) (take_alone s who id n (object_of s.mutexes id)).mutexes
+      still-raised (take_alone s who id n (object_of s.mutexes id)).kern (row (object_of s.mutexes id) fine there) (take_alone s who id n (object_of s.mutexes id)).profile (take_alone s who id n (object_of s.mutexes id)).mutexes
     where
       above : (i : ℕ) → cond (eqb i 0) (Some errors.ObjUnavailable) None ≡ None → 0 < i
       above i g = elim (eqb i 0) as (λ b. eqb i 0 ≡ b → cond b (Some errors.ObjUnavailable) None ≡ None → 0 < i) [ true ↦ λ b q. absurd (cc) | false ↦ λ b q. let ne = eqb-false i 0 b in omega arith ] refl g
@@ -129,7 +137,7 @@ module _ (o : Objects) where
   still-pass_on s id m (Some w) still = still-end_wait (hand s w.id id m).kern (still-hand s w.id id m still) w.id 0 None
 
   pub still-give : (s : MutexState) (who id : ℕ) → Still s.kern o → Still (give s who id).kern o
-  still-give s who id still = still-raised (give_alone s who id (object_of s.mutexes id)).kern (row (object_of s.mutexes id)) (give_alone s who id (object_of s.mutexes id)).mutexes
+  still-give s who id still = still-raised (give_alone s who id (object_of s.mutexes id)).kern (row (object_of s.mutexes id)) (give_alone s who id (object_of s.mutexes id)).profile (give_alone s who id (object_of s.mutexes id)).mutexes
     where
       row : (q : Option Mutex) → Still (give_alone s who id q).kern o
       row None = still
@@ -137,31 +145,31 @@ module _ (o : Objects) where
           let t : MutexState = pass_on s id m (first_waiter s.kern.tasks (mutex_place id)) in
           elim (ltb 1 m.depth) as (λ b. Still (cond b (shallow s who id m) (give_up s who id m)).kern o) [
             | true ↦ still-eased s.kern who m 1 still
-            | false ↦ still-eased (letting_go t.kern who m) who m 1 (still-letting_go t.kern who m (still-pass_on s id m (first_waiter s.kern.tasks (mutex_place id)) still))
+            | false ↦ still-eased (letting_go s.profile t.kern who m) who m 1 (still-letting_go s.profile t.kern who m (still-pass_on s id m (first_waiter s.kern.tasks (mutex_place id)) still))
           ]
 
   -- ---- delete
-  still-owner_ended : (k : KernState) (m : Mutex) (w : Option ℕ) → Still k o → Still (owner_ended k m w) o
-  still-owner_ended k m None still = still
-  still-owner_ended k m (Some x) still = each (task_of k.tasks x)
+  still-owner_ended : (p : Profile) (k : KernState) (m : Mutex) (w : Option ℕ) → Still k o → Still (owner_ended p k m w) o
+  still-owner_ended p k m None still = still
+  still-owner_ended p k m (Some x) still = each (task_of k.tasks x)
     where
-      each : (q : Option Task) → Still (ended k x m q) o
+      each : (q : Option Task) → Still (ended p k x m q) o
       each None = still
-      each (Some t) = still-eased (letting_go k x m) x m m.depth (still-letting_go k x m still)
+      each (Some t) = still-eased (letting_go p k x m) x m m.depth (still-letting_go p k x m still)
 
   pub still-delete : (s : MutexState) (id : ℕ) → Still s.kern o → Still (delete s id).kern o
-  still-delete s id still = still-raised (delete_alone s id (object_of s.mutexes id)).kern (row (object_of s.mutexes id)) (delete_alone s id (object_of s.mutexes id)).mutexes
+  still-delete s id still = still-raised (delete_alone s id (object_of s.mutexes id)).kern (row (object_of s.mutexes id)) (delete_alone s id (object_of s.mutexes id)).profile (delete_alone s id (object_of s.mutexes id)).mutexes
     where
       row : (q : Option Mutex) → Still (delete_alone s id q).kern o
       row None = still
       row (Some m) =
-          still-owner_ended (wake_all s.kern (mutex_place id) 4294967295 (Some errors.ObjDeleted)) m m.owner (still-wake_all s.kern still (mutex_place id) 4294967295 (Some errors.ObjDeleted))
+          still-owner_ended s.profile (wake_all s.kern (mutex_place id) 4294967295 (Some errors.ObjDeleted)) m m.owner (still-wake_all s.kern still (mutex_place id) 4294967295 (Some errors.ObjDeleted))
 
   -- ---- a normal priority is set
   pub still-priority_set : (s : MutexState) (who pri : ℕ) → Still s.kern o → Still (priority_set s who pri).kern o
   still-priority_set s who pri still =
       still-raised (priority_alone s who pri).kern
-      (still-change_pri (set_normal s.kern who pri) (still-set_normal s.kern still who pri) who (pri_after pri (task_of s.kern.tasks who))) (priority_alone s who pri).mutexes
+      (still-followed (set_normal s.kern who pri) (still-set_normal s.kern still who pri) s.profile who (pri_after pri (task_of s.kern.tasks who))) s.profile s.mutexes
 
 -- ---- the ids of the mutexes
 pub ids-take : (s : MutexState) (who id n : ℕ) → ids (take s who id n).mutexes ≡ ids s.mutexes

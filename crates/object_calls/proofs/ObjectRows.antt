@@ -24,8 +24,7 @@ use Rattle.sem_plain.proofs.Living.{calls_live}
 use Rattle.sem_plain.proofs.Moving.{same_itself}
 use Rattle.task_safety.proofs.Waiting.{moves_keep}
 use Rattle.inheritance.specs.declared.mutex.Mutex.{Mutex}
-use Rattle.inheritance.specs.Mutexes.{MutexState, both, mutex_place}
-use Rattle.inheritance.specs.Reach.{raised}
+use Rattle.inheritance.specs.Mutexes.{MutexState, LiveMutexes, both, mutex_place}
 use Rattle.sem_mutex.specs.Calls as mutex
 use Rattle.sem_mutex.specs.Making as making
 use Rattle.sem_mutex.specs.Kept.{MutexKept, KeepsMutexes}
@@ -33,7 +32,7 @@ use Rattle.sem_mutex.specs.Laws as laws
 use Rattle.sem_mutex.proofs.Lawful.{beside_law, calls_law, gone_law}
 use Rattle.msg_queue.proofs.Calm.{calms}
 use Rattle.kernel_world.specs.Objects.{is_live_beside, KeepsObjects}
-use Rattle.object_calls.specs.SemRows.{ObjectRow, sems, mutexes, is_mutex, refused, by_semaphores, by_mutexes, made_unless, made, binary_with, binary_row, counting_with, counting_row, mutex_unless, mutex_with, mutex_row, took_reply, plain_take_unless, plain_take, mutex_take_unless, mutex_take, take_row, plain_give_unless, plain_give, mutex_give_unless, mutex_give, give_row, flush_unless, flush_row, plain_delete_unless, delete_row, priority_row}
+use Rattle.object_calls.specs.SemRows.{ObjectRow, live_in, sems, mutexes, is_mutex, refused, by_semaphores, by_mutexes, made_unless, made, binary_with, binary_row, counting_with, counting_row, mutex_unless, mutex_with, mutex_row, took_reply, plain_take_unless, plain_take, mutex_take_unless, mutex_take, take_row, plain_give_unless, plain_give, mutex_give_unless, mutex_give, give_row, flush_unless, flush_row, plain_delete_unless, delete_row, priority_row}
 use Rattle.kernel_world.specs.Actors.{Acts}
 use Rattle.kernel_world.specs.declared.objects.Objects.{Objects}
 use Rattle.kernel_world.specs.declared.actor.Actor.{Actor}
@@ -77,7 +76,7 @@ module _ (k : KernState) (o : Objects) (is : IsKern k) (kept : KeepsObjects k o)
 
   -- no mutex has number 0
   pub zero_none : is_mutex o 0 ≡ false
-  zero_none = ap is_some (no_object_of (record { rows = o.mutexes; room = 1024 }) 0 kept.table (λ (i : IsId 0). omega (arith, i.0)))
+  zero_none = ap is_some (no_object_of (record { rows = o.mutexes.rows; room = 1024 }) 0 kept.table (λ (i : IsId 0). omega (arith, i.0)))
 
   -- ---- semaphores
   keeps : KeptByCalls (sems k o)
@@ -93,21 +92,21 @@ module _ (k : KernState) (o : Objects) (is : IsKern k) (kept : KeepsObjects k o)
   semaphore_no_queue : (id : ℕ) → is_some (object_of o.semaphores id) ≡ true → object_of o.queues.queues id ≡ None
   semaphore_no_queue id there =
       other_kind o.queues.queues o.semaphores id
-      (All-weaker (λ r. (object_of o.semaphores r.0 ≡ None) × (object_of o.mutexes r.0 ≡ None)) (λ r. object_of o.semaphores r.0 ≡ None) (λ r h. h.0) o.queues.queues kept.queues_apart) there
+      (All-weaker (λ r. (object_of o.semaphores r.0 ≡ None) × (object_of o.mutexes.rows r.0 ≡ None)) (λ r. object_of o.semaphores r.0 ≡ None) (λ r h. h.0) o.queues.queues kept.queues_apart) there
 
-  mutex_no_queue : (id : ℕ) → is_some (object_of o.mutexes id) ≡ true → object_of o.queues.queues id ≡ None
+  mutex_no_queue : (id : ℕ) → is_some (object_of o.mutexes.rows id) ≡ true → object_of o.queues.queues id ≡ None
   mutex_no_queue id there =
-      other_kind o.queues.queues o.mutexes id
-      (All-weaker (λ r. (object_of o.semaphores r.0 ≡ None) × (object_of o.mutexes r.0 ≡ None)) (λ r. object_of o.mutexes r.0 ≡ None) (λ r h. h.1) o.queues.queues kept.queues_apart) there
+      other_kind o.queues.queues o.mutexes.rows id
+      (All-weaker (λ r. (object_of o.semaphores r.0 ≡ None) × (object_of o.mutexes.rows r.0 ≡ None)) (λ r. object_of o.mutexes.rows r.0 ≡ None) (λ r h. h.1) o.queues.queues kept.queues_apart) there
 
   -- no id that was no semaphore's becomes one's
   abbrev StaysNone : List (ℕ × Semaphore) → Type 0
   StaysNone ss = (n : ℕ) → n < k.next_id → object_of o.semaphores n ≡ None → object_of ss n ≡ None
 
-  apart_by : (ss : List (ℕ × Semaphore)) → StaysNone ss → All (λ r. object_of ss r.0 ≡ None) o.mutexes
-  apart_by ss none i d within = none (get_or o.mutexes i d).0 (kept.mutexes.holds.mutexes i d within).id (kept.apart i d within)
+  apart_by : (ss : List (ℕ × Semaphore)) → StaysNone ss → All (λ r. object_of ss r.0 ≡ None) o.mutexes.rows
+  apart_by ss none i d within = none (get_or o.mutexes.rows i d).0 (kept.mutexes.holds.mutexes i d within).id (kept.apart i d within)
 
-  queues_apart_by : (ss : List (ℕ × Semaphore)) → StaysNone ss → All (λ r. (object_of ss r.0 ≡ None) × (object_of o.mutexes r.0 ≡ None)) o.queues.queues
+  queues_apart_by : (ss : List (ℕ × Semaphore)) → StaysNone ss → All (λ r. (object_of ss r.0 ≡ None) × (object_of o.mutexes.rows r.0 ≡ None)) o.queues.queues
   queues_apart_by ss none i d within =
       let each = kept.queues_apart i d within in
       (none (get_or o.queues.queues i d).0 (queue_below i d within) each.0, each.1)
@@ -188,7 +187,7 @@ module _ (k : KernState) (o : Objects) (is : IsKern k) (kept : KeepsObjects k o)
         | false ↦ λ z q. let ne = eqb-false n 0 z in omega arith
       ] refl fine
 
-  sem_take : (who id n : ℕ) → object_of o.mutexes id ≡ None → plain.take_refusal s id n ≡ None → KeepsRow (by_semaphores o (plain.take s who id n) (took_reply (plain.took s id)))
+  sem_take : (who id n : ℕ) → object_of o.mutexes.rows id ≡ None → plain.take_refusal s id n ≡ None → KeepsRow (by_semaphores o (plain.take s who id n) (took_reply (plain.took s id)))
   sem_take who id n other fine =
       elim (plain.live s id) as (λ q. plain.live s id ≡ q → KeepsSemaphores (plain.take_found s who id n q) → WaitsLiveIn (is_live_beside o) (plain.take_found s who id n q)
       → KeepsObjects (plain.take_found s who id n q).kern (other_semaphores o (plain.take_found s who id n q).semaphores)) [
@@ -198,7 +197,7 @@ module _ (k : KernState) (o : Objects) (is : IsKern k) (kept : KeepsObjects k o)
             → KeepsObjects (cond b (plain.awaited s who id n v) (plain.written s id (plain.emptied v))).kern (other_semaphores o (cond b (plain.awaited s who id n v) (plain.written s id (plain.emptied v))).semaphores)) [
               | true ↦ λ b semaphores live.
                   let may = may_pend s id v (sem_place id) kept.waits.semaphores e (eqb-true v.count 0 b) (same_itself (sem_place id)) in
-                  let there = or_left (is_some (object_of o.semaphores id)) (is_some (object_of o.mutexes id) || (is_some (object_of o.queues.queues id) || false)) (ap is_some e) in
+                  let there = or_left (is_some (object_of o.semaphores id)) (is_some (object_of o.mutexes.rows id) || (is_some (object_of o.queues.queues id) || false)) (ap is_some e) in
                   objects-move k o is kept (Pend who (sem_place id) (not (is_priority v.options)) n) (
                     takes_time v n (subst (λ q. plain.take_refused n q ≡ None) e fine) b,
                     record { may = may; lives = there; other = λ q. absurd (omega (arith, q)); console = λ q. absurd (omega (arith, q)) },
@@ -225,7 +224,7 @@ module _ (k : KernState) (o : Objects) (is : IsKern k) (kept : KeepsObjects k o)
       by_others (plain.delete s id).kern (without o.semaphores id) (objects-move k o is kept (WakeAll (sem_place id) 4294967295 (Some errors.ObjDeleted)) (tt, tt, tt, tt)) (keeps.deleting id) (lives.deleting id) (stays_without id)
 
   -- the calls on semaphores
-  plain_take_keeps : (who id n : ℕ) → object_of o.mutexes id ≡ None → KeepsRow (plain_take k o who id n)
+  plain_take_keeps : (who id n : ℕ) → object_of o.mutexes.rows id ≡ None → KeepsRow (plain_take k o who id n)
   plain_take_keeps who id n other =
       elim (plain.take_refusal s id n) as (λ r. plain.take_refusal s id n ≡ r → KeepsRow (plain_take_unless r k o who id n)) [ Some e ↦ λ r. kept | None ↦ λ r. sem_take who id n other r ] refl
 
@@ -253,21 +252,21 @@ module _ (k : KernState) (o : Objects) (is : IsKern k) (kept : KeepsObjects k o)
   calls = calls_law m is kept.table kept.mutexes
 
   -- other mutexes with the same ids
-  by_same : (j : KernState) (ms : List (ℕ × Mutex)) → Still j o → ids ms ≡ ids o.mutexes → KeepsMutexes (both j ms) → KeepsObjects j (with_mutexes o ms)
-  by_same j ms there same mutexes = record {
-    waits = waits-ids j o ms same there.waits;
+  by_same : (j : KernState) (live : LiveMutexes) → Still j o → ids live.rows ≡ ids o.mutexes.rows → KeepsMutexes (both j live) → KeepsObjects j (with_mutexes o live)
+  by_same j live there same mutexes = record {
+    waits = waits-ids j o live same there.waits;
     mutexes = mutexes;
-    table = table-ids o.mutexes ms same kept.table;
+    table = table-ids o.mutexes.rows live.rows same kept.table;
     queues = there.queues;
     queues_ranged = kept.queues_ranged;
-    apart = all-ids o.mutexes ms same (λ n. object_of o.semaphores n ≡ None) kept.apart;
+    apart = all-ids o.mutexes.rows live.rows same (λ n. object_of o.semaphores n ≡ None) kept.apart;
     queues_apart =
-        All-weaker (λ r. (object_of o.semaphores r.0 ≡ None) × (object_of o.mutexes r.0 ≡ None)) (λ r. (object_of o.semaphores r.0 ≡ None) × (object_of ms r.0 ≡ None))
-        (λ r h. (h.0, not_some (object_of ms r.0) (lives-ids o.mutexes ms same r.0 ∙ ap is_some h.1))) o.queues.queues kept.queues_apart;
+        All-weaker (λ r. (object_of o.semaphores r.0 ≡ None) × (object_of o.mutexes.rows r.0 ≡ None)) (λ r. (object_of o.semaphores r.0 ≡ None) × (object_of live.rows r.0 ≡ None))
+        (λ r h. (h.0, not_some (object_of live.rows r.0) (lives-ids o.mutexes.rows live.rows same r.0 ∙ ap is_some h.1))) o.queues.queues kept.queues_apart;
   }
 
-  below : IdsBelow k.next_id o.mutexes
-  below = All-weaker (MutexKept k.next_id) (λ r. r.0 < k.next_id) (λ r h. h.id) o.mutexes kept.mutexes.holds.mutexes
+  below : IdsBelow k.next_id o.mutexes.rows
+  below = All-weaker (MutexKept k.next_id) (λ r. r.0 < k.next_id) (λ r h. h.id) o.mutexes.rows kept.mutexes.holds.mutexes
 
   -- a mutex is made
   mutex_made : (options : SemOptions) → (is_inversion_safe options ≡ true → is_priority options ≡ true) → KeepsRow (mutex_with k o (Some options))
@@ -278,17 +277,17 @@ module _ (k : KernState) (o : Objects) (is : IsKern k) (kept : KeepsObjects k o)
       elim (making.create_refusal m) as (λ r. making.create_refusal m ≡ r → KeepsRow (mutex_unless r k o options)) [
         | Some e ↦ λ r. kept
         | None ↦ λ r.
-            let left = room_left (length o.mutexes) next errors.TooMany errors.IdsSpent r in
+            let left = room_left (length o.mutexes.rows) next errors.TooMany errors.IdsSpent r in
             record {
               waits = waits-push j o next v (waits-move k o is kept.waits (DrawIds (next + 1)) (omega arith));
               mutexes = calls.creating options urgency;
-              table = table-push o.mutexes next v kept.table left.0 is.first_id left.1 below;
+              table = table-push o.mutexes.rows next v kept.table left.0 is.first_id left.1 below;
               queues = queues_draw left.1;
               queues_ranged = kept.queues_ranged;
-              apart = All-push (λ x. object_of o.semaphores x.0 ≡ None) o.mutexes (next, v) kept.apart (none_from o.semaphores next next kept.waits.semaphores.ids (omega arith));
+              apart = All-push (λ x. object_of o.semaphores x.0 ≡ None) o.mutexes.rows (next, v) kept.apart (none_from o.semaphores next next kept.waits.semaphores.ids (omega arith));
               queues_apart = λ i d within.
                   let each = kept.queues_apart i d within in
-                  (each.0, none_push o.mutexes next (get_or o.queues.queues i d).0 v (queue_below i d within) each.1);
+                  (each.0, none_push o.mutexes.rows next (get_or o.queues.queues i d).0 v (queue_below i d within) each.1);
             }
       ] refl
 
@@ -303,8 +302,8 @@ module _ (k : KernState) (o : Objects) (is : IsKern k) (kept : KeepsObjects k o)
   awaitable : (id : ℕ) → is_mutex o id ≡ true → MayAwait k o id
   awaitable id e = (
     record {
-      empty = subst (λ q. IfSome q (λ v. v.count ≡ 0)) (sym (by_id (λ n. object_of o.semaphores n ≡ None) o.mutexes id kept.apart e)) tt;
-      made = by_id (λ n. n < k.next_id) o.mutexes id below e;
+      empty = subst (λ q. IfSome q (λ v. v.count ≡ 0)) (sym (by_id (λ n. object_of o.semaphores n ≡ None) o.mutexes.rows id kept.apart e)) tt;
+      made = by_id (λ n. n < k.next_id) o.mutexes.rows id below e;
     },
     or_right (is_some (object_of o.semaphores id)) (is_mutex o id || (is_some (object_of o.queues.queues id) || false)) (or_left (is_mutex o id) (is_some (object_of o.queues.queues id) || false) e),
     mutex_no_queue id e,
@@ -312,37 +311,37 @@ module _ (k : KernState) (o : Objects) (is : IsKern k) (kept : KeepsObjects k o)
 
   mutex_take_keeps : (who id n : ℕ) → Lives k who → KeepsRow (mutex_take k o who id n)
   mutex_take_keeps who id n acts =
-      elim (mutex.take_refusal who n (object_of o.mutexes id)) as (λ r. mutex.take_refusal who n (object_of o.mutexes id) ≡ r → KeepsRow (mutex_take_unless r k o who id n)) [
+      elim (mutex.take_refusal who n (object_of o.mutexes.rows id)) as (λ r. mutex.take_refusal who n (object_of o.mutexes.rows id) ≡ r → KeepsRow (mutex_take_unless r k o who id n)) [
         | Some e ↦ λ r. kept
         | None ↦ λ r.
-            by_same (mutex.take m who id n).kern (mutex.take m who id n).mutexes (still-take o m who id n r (awaitable id) still) (ids-take m who id n) (calls.taking who id n acts r)
+            by_same (mutex.take m who id n).kern (live_in (mutex.take m who id n)) (still-take o m who id n r (awaitable id) still) (ids-take m who id n) (calls.taking who id n acts r)
       ] refl
 
   mutex_give_keeps : (who id : ℕ) → Lives k who → KeepsRow (mutex_give k o who id)
   mutex_give_keeps who id acts =
-      elim (mutex.give_refusal who (object_of o.mutexes id)) as (λ r. mutex.give_refusal who (object_of o.mutexes id) ≡ r → KeepsRow (mutex_give_unless r k o who id)) [
+      elim (mutex.give_refusal who (object_of o.mutexes.rows id)) as (λ r. mutex.give_refusal who (object_of o.mutexes.rows id) ≡ r → KeepsRow (mutex_give_unless r k o who id)) [
         | Some e ↦ λ r. kept
-        | None ↦ λ r. by_same (mutex.give m who id).kern (mutex.give m who id).mutexes (still-give o m who id still) (ids-give m who id) (calls.giving who id acts r)
+        | None ↦ λ r. by_same (mutex.give m who id).kern (live_in (mutex.give m who id)) (still-give o m who id still) (ids-give m who id) (calls.giving who id acts r)
       ] refl
 
   mutex_delete_keeps : (id : ℕ) → is_mutex o id ≡ true → KeepsRow (by_mutexes o (mutex.delete m id) (Answer 0))
   mutex_delete_keeps id there =
-      let fine : mutex.delete_refusal (object_of o.mutexes id) ≡ None =
-      elim (object_of o.mutexes id) as (λ q. is_some q ≡ true → mutex.delete_refusal q ≡ None) [ None ↦ λ q. absurd (cc) | Some v ↦ λ q. refl ] there in
-      elim (object_of o.mutexes id) as (λ q. is_some q ≡ true → Still (raised (mutex.delete_alone m id q)).kern o → KeepsMutexes (raised (mutex.delete_alone m id q))
-      → All (λ t. is_place (mutex_place id) t.wait ≡ false) (raised (mutex.delete_alone m id q)).kern.tasks
-      → KeepsObjects (raised (mutex.delete_alone m id q)).kern (with_mutexes o (raised (mutex.delete_alone m id q)).mutexes)) [
+      let fine : mutex.delete_refusal (object_of o.mutexes.rows id) ≡ None =
+      elim (object_of o.mutexes.rows id) as (λ q. is_some q ≡ true → mutex.delete_refusal q ≡ None) [ None ↦ λ q. absurd (cc) | Some v ↦ λ q. refl ] there in
+      elim (object_of o.mutexes.rows id) as (λ q. is_some q ≡ true → Still (mutex.raised_at_once (mutex.delete_alone m id q)).kern o → KeepsMutexes (mutex.raised_at_once (mutex.delete_alone m id q))
+      → All (λ t. is_place (mutex_place id) t.wait ≡ false) (mutex.raised_at_once (mutex.delete_alone m id q)).kern.tasks
+      → KeepsObjects (mutex.raised_at_once (mutex.delete_alone m id q)).kern (with_mutexes o (live_in (mutex.raised_at_once (mutex.delete_alone m id q))))) [
         | None ↦ λ q after mutexes away. absurd (cc)
         | Some v ↦ λ q after mutexes away. record {
-          waits = waits-without (raised (mutex.delete_alone m id (Some v))).kern o id away after.waits;
+          waits = waits-without (mutex.raised_at_once (mutex.delete_alone m id (Some v))).kern o id away after.waits;
           mutexes = mutexes;
-          table = table-without o.mutexes id kept.table;
+          table = table-without o.mutexes.rows id kept.table;
           queues = after.queues;
           queues_ranged = kept.queues_ranged;
-          apart = All-filter (λ r. not (eqb r.0 id)) (λ r. object_of o.semaphores r.0 ≡ None) o.mutexes kept.apart;
+          apart = All-filter (λ r. not (eqb r.0 id)) (λ r. object_of o.semaphores r.0 ≡ None) o.mutexes.rows kept.apart;
           queues_apart =
-              All-weaker (λ r. (object_of o.semaphores r.0 ≡ None) × (object_of o.mutexes r.0 ≡ None)) (λ r. (object_of o.semaphores r.0 ≡ None) × (object_of (without o.mutexes id) r.0 ≡ None))
-              (λ r h. (h.0, none_without o.mutexes id r.0 h.1)) o.queues.queues kept.queues_apart;
+              All-weaker (λ r. (object_of o.semaphores r.0 ≡ None) × (object_of o.mutexes.rows r.0 ≡ None)) (λ r. (object_of o.semaphores r.0 ≡ None) × (object_of (without o.mutexes.rows id) r.0 ≡ None))
+              (λ r h. (h.0, none_without o.mutexes.rows id r.0 h.1)) o.queues.queues kept.queues_apart;
         }
       ] there (still-delete o m id still) (calls.deleting id fine) (gone_law m id is fine)
 
@@ -351,7 +350,7 @@ module _ (k : KernState) (o : Objects) (is : IsKern k) (kept : KeepsObjects k o)
   keeps-take_row (Task who) id n acts =
       elim (is_mutex o id) as (λ b. is_mutex o id ≡ b → KeepsRow (cond b (mutex_take k o who id n) (plain_take k o who id n))) [
         | true ↦ λ b. mutex_take_keeps who id n (acts b)
-        | false ↦ λ b. plain_take_keeps who id n (not_some (object_of o.mutexes id) b)
+        | false ↦ λ b. plain_take_keeps who id n (not_some (object_of o.mutexes.rows id) b)
       ] refl
   keeps-take_row Interrupt id n acts = kept
 

@@ -73,7 +73,7 @@ waits_among k o qs more kept = record {
     each : (w : Option Place) → IfSome w (λ p. is_live o p ≡ true) → IfSome w (λ p. is_live (with_queues o qs) p ≡ true)
     each None h = tt
     each (Some p) h =
-        grows (eqb p.side 0 && is_some (object_of o.semaphores p.id)) (eqb p.side 0 && is_some (object_of o.mutexes p.id)) (is_queue_side p.side)
+        grows (eqb p.side 0 && is_some (object_of o.semaphores p.id)) (eqb p.side 0 && is_some (object_of o.mutexes.rows p.id)) (is_queue_side p.side)
         (is_some (object_of o.queues.queues p.id)) (is_some (object_of qs.queues p.id)) (eqb p.side 2 || eqb p.side 3) (more p.id) h
 
 shrinks : (a m b c q e : Bool) (x : Option QueueState) → (b && q) ≡ false → (c && q) ≡ false → (a || (m || (((b || c) && is_some x) || e))) ≡ true → (a || (m || (((b || c) && is_some (cond q None x)) || e))) ≡ true
@@ -101,9 +101,9 @@ waits_without k o id none_receives none_sends kept = record {
         → IfSome w (λ p. is_live (with_queues o (record o.queues { queues = without o.queues.queues id })) p ≡ true)
     each None one two h = tt
     each (Some p) one two h =
-        subst (λ x. ((eqb p.side 0 && is_some (object_of o.semaphores p.id)) || ((eqb p.side 0 && is_some (object_of o.mutexes p.id)) || ((is_queue_side p.side && is_some x) || (eqb p.side 2 || eqb p.side 3)))) ≡ true)
+        subst (λ x. ((eqb p.side 0 && is_some (object_of o.semaphores p.id)) || ((eqb p.side 0 && is_some (object_of o.mutexes.rows p.id)) || ((is_queue_side p.side && is_some x) || (eqb p.side 2 || eqb p.side 3)))) ≡ true)
         (sym (object_of-without o.queues.queues id p.id))
-        (shrinks (eqb p.side 0 && is_some (object_of o.semaphores p.id)) (eqb p.side 0 && is_some (object_of o.mutexes p.id)) (eqb p.side 0) (eqb p.side 1) (eqb p.id id) (eqb p.side 2 || eqb p.side 3)
+        (shrinks (eqb p.side 0 && is_some (object_of o.semaphores p.id)) (eqb p.side 0 && is_some (object_of o.mutexes.rows p.id)) (eqb p.side 0) (eqb p.side 1) (eqb p.id id) (eqb p.side 2 || eqb p.side 3)
         (object_of o.queues.queues p.id) one two h)
 
 -- ---- all tasks that wait at a place go on
@@ -133,7 +133,7 @@ module _ (k : KernState) (o : Objects) (ram : List ℕ) (is : IsKern k) (kept : 
 
   -- no id of a queue is that of a semaphore or of a mutex
   abbrev IsAlone : ℕ → Type 0
-  IsAlone n = (object_of o.semaphores n ≡ None) × (object_of o.mutexes n ≡ None)
+  IsAlone n = (object_of o.semaphores n ≡ None) × (object_of o.mutexes.rows n ≡ None)
 
   -- queues with the same ids
   by_same : (t : Scene) → KeepsWaits t.kern o → KeepsMutexes (with_mutexes t.kern o.mutexes) → length t.ram ≡ ram_bytes → IsKept t → ids t.queues.queues ≡ ids o.queues.queues → KeepsScene o t
@@ -166,7 +166,7 @@ module _ (k : KernState) (o : Objects) (ram : List ℕ) (is : IsKern k) (kept : 
           queues_ranged = All-push (λ x. 0 < x.0) rs (next, q) kept.queues_ranged is.first_id;
           apart = kept.apart;
           queues_apart = All-push (λ x. IsAlone x.0) rs (next, q) kept.queues_apart
-              (none_from o.semaphores next next kept.waits.semaphores.ids (omega arith), none_from o.mutexes next next (All-weaker (MutexKept next) (λ x. x.0 < next) (λ x h. h.id) o.mutexes kept.mutexes.holds.mutexes) (omega arith));
+              (none_from o.semaphores next next kept.waits.semaphores.ids (omega arith), none_from o.mutexes.rows next next (All-weaker (MutexKept next) (λ x. x.0 < next) (λ x h. h.id) o.mutexes.rows kept.mutexes.holds.mutexes) (omega arith));
         }
       ] refl
 
@@ -192,7 +192,7 @@ module _ (k : KernState) (o : Objects) (ram : List ℕ) (is : IsKern k) (kept : 
         let queue : Bool = is_some (object_of o.queues.queues id) in
         waits-move k o is kept.waits (Pend who (receivers id) fifo n) (record {
           may = record { empty = subst (λ q. IfSome q (λ v. v.count ≡ 0)) (sym alone.0) tt; made = below };
-          lives = or_right (is_some (object_of o.semaphores id)) (is_some (object_of o.mutexes id) || (queue || false)) (or_right (is_some (object_of o.mutexes id)) (queue || false) (or_left queue false there));
+          lives = or_right (is_some (object_of o.semaphores id)) (is_some (object_of o.mutexes.rows id) || (queue || false)) (or_right (is_some (object_of o.mutexes.rows id)) (queue || false) (or_left queue false there));
           other = λ q. absurd (omega (arith, q));
           console = λ q. absurd (omega (arith, q));
         })

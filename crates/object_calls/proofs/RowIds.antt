@@ -17,7 +17,7 @@ use Rattle.wind_core.specs.Orders.{first_waiter}
 use Rattle.sem_plain.specs.declared.semaphore.Semaphore.{Semaphore}
 use Rattle.sem_plain.specs.Calls as plain
 use Rattle.inheritance.specs.declared.mutex.Mutex.{Mutex}
-use Rattle.inheritance.specs.Mutexes.{mutex_place}
+use Rattle.inheritance.specs.Mutexes.{LiveMutexes, mutex_place}
 use Rattle.sem_mutex.specs.Calls as mutex
 use Rattle.sem_mutex.specs.Making as making
 use Rattle.sem_mutex.proofs.Answering.{next_lives}
@@ -35,49 +35,53 @@ use Rattle.kernel_world.specs.declared.actor.Actor.TheVariants.{Task, Interrupt}
 use Rattle.kernel_world.specs.declared.reply.Reply.TheVariants.{Answer}
 use Rattle.kernel_world.specs.Actors.{Acts}
 use Rattle.kernel_world.proofs.LiveIds.{Fewer, Given, fewer_same, fewer_before, fewer_behind, fewer_without, ids_write, given_before, given_behind, given_none, given_push}
-use Rattle.object_calls.specs.SemRows.{ObjectRow, refused, by_mutexes, sems, mutexes, is_mutex, of_task, made_unless, made, binary_with, binary_row, counting_with, counting_row, mutex_unless, mutex_with, mutex_row, plain_take_unless, plain_take, mutex_take_unless, mutex_take, take_row, plain_give_unless, plain_give, mutex_give_unless, mutex_give, give_row, flush_unless, flush_row, plain_delete_unless, delete_row, priority_row}
+use Rattle.object_calls.specs.SemRows.{ObjectRow, refused, live_in, by_mutexes, sems, mutexes, is_mutex, of_task, made_unless, made, binary_with, binary_row, counting_with, counting_row, mutex_unless, mutex_with, mutex_row, plain_take_unless, plain_take, mutex_take_unless, mutex_take, take_row, plain_give_unless, plain_give, mutex_give_unless, mutex_give, give_row, flush_unless, flush_row, plain_delete_unless, delete_row, priority_row}
 use Rattle.object_calls.specs.QueueRows as queue_rows
 
 -- ---- one kind of the objects
 module _ (o : Objects) where
-  -- these objects have only ids that were there before
+  -- these objects have only ids that were there before, under the same rule of inheritance
   abbrev pub NoneComes : Objects → Type 0
-  NoneComes p = Fewer (waited_ids p) (waited_ids o)
+  NoneComes p = Fewer (waited_ids p) (waited_ids o) × (p.mutexes.profile ≡ o.mutexes.profile)
 
   pub none_comes : NoneComes o
-  none_comes = fewer_same (waited_ids o) (waited_ids o) refl
+  none_comes = (fewer_same (waited_ids o) (waited_ids o) refl, refl)
 
   by_semaphores : (ss : List (ℕ × Semaphore)) → Fewer (ids ss) (ids o.semaphores) → NoneComes (record o { semaphores = ss })
-  by_semaphores ss few = fewer_behind (ids o.mutexes ++ ids o.queues.queues) (ids o.semaphores) (ids ss) few
+  by_semaphores ss few = (fewer_behind (ids o.mutexes.rows ++ ids o.queues.queues) (ids o.semaphores) (ids ss) few, refl)
 
-  by_mutex_rows : (ms : List (ℕ × Mutex)) → Fewer (ids ms) (ids o.mutexes) → NoneComes (record o { mutexes = ms })
-  by_mutex_rows ms few =
-      fewer_before (ids o.semaphores) (ids o.mutexes ++ ids o.queues.queues) (ids ms ++ ids o.queues.queues) (fewer_behind (ids o.queues.queues) (ids o.mutexes) (ids ms) few)
+  by_mutex_rows : (live : LiveMutexes) → Fewer (ids live.rows) (ids o.mutexes.rows) → live.profile ≡ o.mutexes.profile → NoneComes (record o { mutexes = live })
+  by_mutex_rows live few rule = (
+    fewer_before (ids o.semaphores) (ids o.mutexes.rows ++ ids o.queues.queues) (ids live.rows ++ ids o.queues.queues) (fewer_behind (ids o.queues.queues) (ids o.mutexes.rows) (ids live.rows) few),
+    rule,
+  )
 
   by_queues : (qs : QueuesState) → Fewer (ids qs.queues) (ids o.queues.queues) → NoneComes (record o { queues = qs })
-  by_queues qs few =
-      fewer_before (ids o.semaphores) (ids o.mutexes ++ ids o.queues.queues) (ids o.mutexes ++ ids qs.queues) (fewer_before (ids o.mutexes) (ids o.queues.queues) (ids qs.queues) few)
+  by_queues qs few = (
+    fewer_before (ids o.semaphores) (ids o.mutexes.rows ++ ids o.queues.queues) (ids o.mutexes.rows ++ ids qs.queues) (fewer_before (ids o.mutexes.rows) (ids o.queues.queues) (ids qs.queues) few),
+    refl,
+  )
 
   semaphore_written : (id : ℕ) (v : Semaphore) → NoneComes (record o { semaphores = with_object o.semaphores id v })
   semaphore_written id v = by_semaphores (with_object o.semaphores id v) (fewer_same (ids o.semaphores) (ids (with_object o.semaphores id v)) (ids_write o.semaphores id v))
 
-  mutex_written : (id : ℕ) (v : Mutex) → NoneComes (record o { mutexes = with_object o.mutexes id v })
-  mutex_written id v = by_mutex_rows (with_object o.mutexes id v) (fewer_same (ids o.mutexes) (ids (with_object o.mutexes id v)) (ids_write o.mutexes id v))
+  mutex_written : (id : ℕ) (v : Mutex) → NoneComes (record o { mutexes = record o.mutexes { rows = with_object o.mutexes.rows id v } })
+  mutex_written id v = by_mutex_rows (record o.mutexes { rows = with_object o.mutexes.rows id v }) (fewer_same (ids o.mutexes.rows) (ids (with_object o.mutexes.rows id v)) (ids_write o.mutexes.rows id v)) refl
 
 -- ---- the ids after a row of semaphores and mutexes
 module _ (k : KernState) (o : Objects) where
-  -- at most the next id is added
+  -- at most the next id is added, under the same rule of inheritance
   abbrev pub Comes : ObjectRow → Type 0
-  Comes r = Given k.next_id r.kern.next_id (waited_ids o) (waited_ids r.objects)
+  Comes r = Given k.next_id r.kern.next_id (waited_ids o) (waited_ids r.objects) × (r.objects.mutexes.profile ≡ o.mutexes.profile)
 
   still : Comes (refused k o errors.ObjIdError)
-  still = given_none k.next_id k.next_id (waited_ids o) (omega arith)
+  still = (given_none k.next_id k.next_id (waited_ids o) (omega arith), refl)
 
   made_comes : (v : Semaphore) → Comes (made k o v)
   made_comes v = go (plain.create_refusal (sems k o)) where
     go : (r : Option Errno) → Comes (made_unless r k o v)
     go (Some e) = still
-    go None = given_behind k.next_id (k.next_id + 1) (ids o.mutexes ++ ids o.queues.queues) (ids o.semaphores) (ids (o.semaphores ++ (k.next_id, v) ∷ [])) (given_push o.semaphores k.next_id v)
+    go None = (given_behind k.next_id (k.next_id + 1) (ids o.mutexes.rows ++ ids o.queues.queues) (ids o.semaphores) (ids (o.semaphores ++ (k.next_id, v) ∷ [])) (given_push o.semaphores k.next_id v), refl)
 
   binary_with_comes : (state : ℕ) (options : Option SemOptions) → Comes (binary_with k o state options)
   binary_with_comes state None = still
@@ -100,9 +104,11 @@ module _ (k : KernState) (o : Objects) where
   mutex_unless_comes : (options : SemOptions) (r : Option Errno) → Comes (mutex_unless r k o options)
   mutex_unless_comes options (Some e) = still
   mutex_unless_comes options None =
-      let new : List (ℕ × Mutex) = o.mutexes ++ (k.next_id, making.new_mutex options) ∷ [] in
-      given_before k.next_id (k.next_id + 1) (ids o.semaphores) (ids o.mutexes ++ ids o.queues.queues) (ids new ++ ids o.queues.queues)
-      (given_behind k.next_id (k.next_id + 1) (ids o.queues.queues) (ids o.mutexes) (ids new) (given_push o.mutexes k.next_id (making.new_mutex options)))
+      let new : List (ℕ × Mutex) = o.mutexes.rows ++ (k.next_id, making.new_mutex options) ∷ [] in (
+        given_before k.next_id (k.next_id + 1) (ids o.semaphores) (ids o.mutexes.rows ++ ids o.queues.queues) (ids new ++ ids o.queues.queues)
+            (given_behind k.next_id (k.next_id + 1) (ids o.queues.queues) (ids o.mutexes.rows) (ids new) (given_push o.mutexes.rows k.next_id (making.new_mutex options))),
+        refl,
+      )
 
   mutex_with_comes : (options : Option SemOptions) → Comes (mutex_with k o options)
   mutex_with_comes None = still
@@ -124,26 +130,26 @@ module _ (k : KernState) (o : Objects) where
   plain_take_stays who id m (Some e) = none_comes o
   plain_take_stays who id m None = plain_taken who id m (plain.live (sems k o) id)
 
-  taken_stays : (who id m : ℕ) (v : Mutex) (owner : Option ℕ) → NoneComes o (record o { mutexes = (mutex.taken (mutexes k o) who id m v owner).mutexes })
+  taken_stays : (who id m : ℕ) (v : Mutex) (owner : Option ℕ) → NoneComes o (record o { mutexes = live_in (mutex.taken (mutexes k o) who id m v owner) })
   taken_stays who id m v None = mutex_written o id (mutex.owned who v)
   taken_stays who id m v (Some x) =
-      elim (eqb x who) as (λ b. NoneComes o (record o { mutexes = (cond b (mutex.deepen (mutexes k o) who id v) (mutex.await (mutexes k o) who id m v)).mutexes })) [
+      elim (eqb x who) as (λ b. NoneComes o (record o { mutexes = live_in (cond b (mutex.deepen (mutexes k o) who id v) (mutex.await (mutexes k o) who id m v)) })) [
         | true ↦ mutex_written o id (record v { depth = v.depth + 1 })
         | false ↦ none_comes o
       ]
 
-  take_alone_stays : (who id m : ℕ) (v : Option Mutex) → NoneComes o (record o { mutexes = (mutex.take_alone (mutexes k o) who id m v).mutexes })
+  take_alone_stays : (who id m : ℕ) (v : Option Mutex) → NoneComes o (record o { mutexes = live_in (mutex.take_alone (mutexes k o) who id m v) })
   take_alone_stays who id m None = none_comes o
   take_alone_stays who id m (Some v) = taken_stays who id m v v.owner
 
   mutex_take_stays : (who id m : ℕ) (r : Option Errno) → NoneComes o (mutex_take_unless r k o who id m).objects
   mutex_take_stays who id m (Some e) = none_comes o
-  mutex_take_stays who id m None = take_alone_stays who id m (object_of o.mutexes id)
+  mutex_take_stays who id m None = take_alone_stays who id m (object_of o.mutexes.rows id)
 
   pub take_stays : (a : Actor) (id m : ℕ) → NoneComes o (take_row k o a id m).objects
   take_stays (Task who) id m =
-      elim (is_some (object_of o.mutexes id)) as (λ b. NoneComes o (cond b (mutex_take k o who id m) (plain_take k o who id m)).objects) [
-        | true ↦ mutex_take_stays who id m (mutex.take_refusal who m (object_of o.mutexes id))
+      elim (is_some (object_of o.mutexes.rows id)) as (λ b. NoneComes o (cond b (mutex_take k o who id m) (plain_take k o who id m)).objects) [
+        | true ↦ mutex_take_stays who id m (mutex.take_refusal who m (object_of o.mutexes.rows id))
         | false ↦ plain_take_stays who id m (plain.take_refusal (sems k o) id m)
       ]
   take_stays Interrupt id m = none_comes o
@@ -161,29 +167,29 @@ module _ (k : KernState) (o : Objects) where
   plain_give_stays id (Some e) = none_comes o
   plain_give_stays id None = plain_given id (plain.live (sems k o) id)
 
-  passed_stays : (id : ℕ) (v : Mutex) (next : Option TaskRecord) → NoneComes o (record o { mutexes = (mutex.pass_on (mutexes k o) id v next).mutexes })
+  passed_stays : (id : ℕ) (v : Mutex) (next : Option TaskRecord) → NoneComes o (record o { mutexes = live_in (mutex.pass_on (mutexes k o) id v next) })
   passed_stays id v None = mutex_written o id (mutex.freed v)
   passed_stays id v (Some t) = mutex_written o id (mutex.owned t.id v)
 
-  give_alone_stays : (who id : ℕ) (v : Option Mutex) → NoneComes o (record o { mutexes = (mutex.give_alone (mutexes k o) who id v).mutexes })
+  give_alone_stays : (who id : ℕ) (v : Option Mutex) → NoneComes o (record o { mutexes = live_in (mutex.give_alone (mutexes k o) who id v) })
   give_alone_stays who id None = none_comes o
   give_alone_stays who id (Some v) =
-      elim (ltb 1 v.depth) as (λ b. NoneComes o (record o { mutexes = (cond b (mutex.shallow (mutexes k o) who id v) (mutex.give_up (mutexes k o) who id v)).mutexes })) [
+      elim (ltb 1 v.depth) as (λ b. NoneComes o (record o { mutexes = live_in (cond b (mutex.shallow (mutexes k o) who id v) (mutex.give_up (mutexes k o) who id v)) })) [
         | true ↦ mutex_written o id (record v { depth = v.depth - 1 })
         | false ↦ passed_stays id v (first_waiter k.tasks (mutex_place id))
       ]
 
   mutex_give_stays : (who id : ℕ) (r : Option Errno) → NoneComes o (mutex_give_unless r k o who id).objects
   mutex_give_stays who id (Some e) = none_comes o
-  mutex_give_stays who id None = give_alone_stays who id (object_of o.mutexes id)
+  mutex_give_stays who id None = give_alone_stays who id (object_of o.mutexes.rows id)
 
   owner_gives : (id : ℕ) (a : Actor) → NoneComes o (of_task k o a (λ who. mutex_give k o who id)).objects
-  owner_gives id (Task who) = mutex_give_stays who id (mutex.give_refusal who (object_of o.mutexes id))
+  owner_gives id (Task who) = mutex_give_stays who id (mutex.give_refusal who (object_of o.mutexes.rows id))
   owner_gives id Interrupt = none_comes o
 
   pub give_stays : (a : Actor) (id : ℕ) → NoneComes o (give_row k o a id).objects
   give_stays a id =
-      elim (is_some (object_of o.mutexes id)) as (λ b. NoneComes o (cond b (of_task k o a (λ who. mutex_give k o who id)) (plain_give k o id)).objects) [
+      elim (is_some (object_of o.mutexes.rows id)) as (λ b. NoneComes o (cond b (of_task k o a (λ who. mutex_give k o who id)) (plain_give k o id)).objects) [
         | true ↦ owner_gives id a
         | false ↦ plain_give_stays id (plain.give_refusal (sems k o) id)
       ]
@@ -195,7 +201,7 @@ module _ (k : KernState) (o : Objects) where
 
   pub flush_stays : (id : ℕ) → NoneComes o (flush_row k o id).objects
   flush_stays id =
-      elim (is_some (object_of o.mutexes id)) as (λ b. NoneComes o (cond b (refused k o errors.InvalidOperation) (flush_unless (plain.flush_refusal (sems k o) id) k o id)).objects) [
+      elim (is_some (object_of o.mutexes.rows id)) as (λ b. NoneComes o (cond b (refused k o errors.InvalidOperation) (flush_unless (plain.flush_refusal (sems k o) id) k o id)).objects) [
         | true ↦ none_comes o
         | false ↦ flush_unless_stays id (plain.flush_refusal (sems k o) id)
       ]
@@ -204,14 +210,14 @@ module _ (k : KernState) (o : Objects) where
   plain_delete_stays id (Some e) = none_comes o
   plain_delete_stays id None = by_semaphores o (without o.semaphores id) (fewer_without o.semaphores id)
 
-  delete_alone_stays : (id : ℕ) (v : Option Mutex) → NoneComes o (record o { mutexes = (mutex.delete_alone (mutexes k o) id v).mutexes })
+  delete_alone_stays : (id : ℕ) (v : Option Mutex) → NoneComes o (record o { mutexes = live_in (mutex.delete_alone (mutexes k o) id v) })
   delete_alone_stays id None = none_comes o
-  delete_alone_stays id (Some v) = by_mutex_rows o (without o.mutexes id) (fewer_without o.mutexes id)
+  delete_alone_stays id (Some v) = by_mutex_rows o (record o.mutexes { rows = without o.mutexes.rows id }) (fewer_without o.mutexes.rows id) refl
 
   pub delete_stays : (id : ℕ) → NoneComes o (delete_row k o id).objects
   delete_stays id =
-      elim (is_some (object_of o.mutexes id)) as (λ b. NoneComes o (cond b (by_mutexes o (mutex.delete (mutexes k o) id) (Answer 0)) (plain_delete_unless (plain.delete_refusal (sems k o) id) k o id)).objects) [
-        | true ↦ delete_alone_stays id (object_of o.mutexes id)
+      elim (is_some (object_of o.mutexes.rows id)) as (λ b. NoneComes o (cond b (by_mutexes o (mutex.delete (mutexes k o) id) (Answer 0)) (plain_delete_unless (plain.delete_refusal (sems k o) id) k o id)).objects) [
+        | true ↦ delete_alone_stays id (object_of o.mutexes.rows id)
         | false ↦ plain_delete_stays id (plain.delete_refusal (sems k o) id)
       ]
 
@@ -282,11 +288,11 @@ module _ (s : Scene) where
 -- the queues' ids among all
 pub queues_given : (o : Objects) (qs : QueuesState) (next after : ℕ) → Given next after (ids o.queues.queues) (ids qs.queues) → Given next after (waited_ids o) (waited_ids (record o { queues = qs }))
 queues_given o qs next after given =
-    given_before next after (ids o.semaphores) (ids o.mutexes ++ ids o.queues.queues) (ids o.mutexes ++ ids qs.queues) (given_before next after (ids o.mutexes) (ids o.queues.queues) (ids qs.queues) given)
+    given_before next after (ids o.semaphores) (ids o.mutexes.rows ++ ids o.queues.queues) (ids o.mutexes.rows ++ ids qs.queues) (given_before next after (ids o.mutexes.rows) (ids o.queues.queues) (ids qs.queues) given)
 
 -- ---- owners
 -- what holds for every live task, for every owner, and if there is no owner
-module _ (k : KernState) (o : Objects) (is : IsKern k) (Q : Option ℕ → Type 0) (none : Q None) (tasks : All (λ t. Q (Some t.id)) k.tasks) (owners : All (λ r. Q r.1.owner) o.mutexes) where
+module _ (k : KernState) (o : Objects) (is : IsKern k) (Q : Option ℕ → Type 0) (none : Q None) (tasks : All (λ t. Q (Some t.id)) k.tasks) (owners : All (λ r. Q r.1.owner) o.mutexes.rows) where
   -- it holds of each owner
   abbrev Owned : List (ℕ × Mutex) → Type 0
   Owned ms = All (λ r. Q r.1.owner) ms
@@ -299,71 +305,71 @@ module _ (k : KernState) (o : Objects) (is : IsKern k) (Q : Option ℕ → Type 
       ] refl live
 
   -- one mutex is written
-  written : (id : ℕ) (v : Mutex) → Q v.owner → Owned (with_object o.mutexes id v)
-  written id v own = All-write (λ (r : ℕ × Mutex). Q r.1.owner) o.mutexes id v owners (λ r h. own)
+  written : (id : ℕ) (v : Mutex) → Q v.owner → Owned (with_object o.mutexes.rows id v)
+  written id v own = All-write (λ (r : ℕ × Mutex). Q r.1.owner) o.mutexes.rows id v owners (λ r h. own)
 
-  new_mutex : (options : SemOptions) (r : Option Errno) → Owned (mutex_unless r k o options).objects.mutexes
+  new_mutex : (options : SemOptions) (r : Option Errno) → Owned (mutex_unless r k o options).objects.mutexes.rows
   new_mutex options (Some e) = owners
-  new_mutex options None = All-push (λ (r : ℕ × Mutex). Q r.1.owner) o.mutexes (k.next_id, making.new_mutex options) owners none
+  new_mutex options None = All-push (λ (r : ℕ × Mutex). Q r.1.owner) o.mutexes.rows (k.next_id, making.new_mutex options) owners none
 
-  mutex_with_owned : (options : Option SemOptions) → Owned (mutex_with k o options).objects.mutexes
+  mutex_with_owned : (options : Option SemOptions) → Owned (mutex_with k o options).objects.mutexes.rows
   mutex_with_owned None = owners
   mutex_with_owned (Some options) = new_mutex options (making.create_refusal (mutexes k o))
 
-  pub mutex_owned : (options : ℕ) → Owned (mutex_row k o options).objects.mutexes
+  pub mutex_owned : (options : ℕ) → Owned (mutex_row k o options).objects.mutexes.rows
   mutex_owned options = mutex_with_owned (read_options options kinds.Mutex)
 
-  made_owned : (v : Semaphore) → Owned (made k o v).objects.mutexes
+  made_owned : (v : Semaphore) → Owned (made k o v).objects.mutexes.rows
   made_owned v = go (plain.create_refusal (sems k o)) where
-    go : (r : Option Errno) → Owned (made_unless r k o v).objects.mutexes
+    go : (r : Option Errno) → Owned (made_unless r k o v).objects.mutexes.rows
     go (Some e) = owners
     go None = owners
 
-  binary_with_owned : (state : ℕ) (options : Option SemOptions) → Owned (binary_with k o state options).objects.mutexes
+  binary_with_owned : (state : ℕ) (options : Option SemOptions) → Owned (binary_with k o state options).objects.mutexes.rows
   binary_with_owned state None = owners
   binary_with_owned state (Some options) =
-      elim (leb state 1) as (λ b. Owned (cond b (made k o (plain.new_semaphore kinds.Binary options state)) (refused k o errors.InvalidState)).objects.mutexes) [
+      elim (leb state 1) as (λ b. Owned (cond b (made k o (plain.new_semaphore kinds.Binary options state)) (refused k o errors.InvalidState)).objects.mutexes.rows) [
         | true ↦ made_owned (plain.new_semaphore kinds.Binary options state)
         | false ↦ owners
       ]
 
-  pub binary_owned : (options state : ℕ) → Owned (binary_row k o options state).objects.mutexes
+  pub binary_owned : (options state : ℕ) → Owned (binary_row k o options state).objects.mutexes.rows
   binary_owned options state = binary_with_owned state (read_options options kinds.Binary)
 
-  counting_with_owned : (count : ℕ) (options : Option SemOptions) → Owned (counting_with k o count options).objects.mutexes
+  counting_with_owned : (count : ℕ) (options : Option SemOptions) → Owned (counting_with k o count options).objects.mutexes.rows
   counting_with_owned count None = owners
   counting_with_owned count (Some options) = made_owned (plain.new_semaphore kinds.Counting options count)
 
-  pub counting_owned : (options count : ℕ) → Owned (counting_row k o options count).objects.mutexes
+  pub counting_owned : (options count : ℕ) → Owned (counting_row k o options count).objects.mutexes.rows
   counting_owned options count = counting_with_owned count (read_options options kinds.Counting)
 
   -- ---- semTake: the caller may become an owner
-  taken_owned : (who id m : ℕ) (v : Mutex) → Lives k who → object_of o.mutexes id ≡ Some v → (owner : Option ℕ) → Owned (mutex.taken (mutexes k o) who id m v owner).mutexes
+  taken_owned : (who id m : ℕ) (v : Mutex) → Lives k who → object_of o.mutexes.rows id ≡ Some v → (owner : Option ℕ) → Owned (mutex.taken (mutexes k o) who id m v owner).mutexes
   taken_owned who id m v live found None = written id (mutex.owned who v) (live_owner who live)
   taken_owned who id m v live found (Some x) =
       elim (eqb x who) as (λ b. Owned (cond b (mutex.deepen (mutexes k o) who id v) (mutex.await (mutexes k o) who id m v)).mutexes) [
-        | true ↦ written id (record v { depth = v.depth + 1 }) (found_has (λ (u : Mutex). Q u.owner) o.mutexes id v owners found)
+        | true ↦ written id (record v { depth = v.depth + 1 }) (found_has (λ (u : Mutex). Q u.owner) o.mutexes.rows id v owners found)
         | false ↦ owners
       ]
 
-  take_alone_owned : (who id m : ℕ) → Lives k who → Owned (mutex.take_alone (mutexes k o) who id m (object_of o.mutexes id)).mutexes
-  take_alone_owned who id m live = go (object_of o.mutexes id) refl where
-    go : (v : Option Mutex) → object_of o.mutexes id ≡ v → Owned (mutex.take_alone (mutexes k o) who id m v).mutexes
+  take_alone_owned : (who id m : ℕ) → Lives k who → Owned (mutex.take_alone (mutexes k o) who id m (object_of o.mutexes.rows id)).mutexes
+  take_alone_owned who id m live = go (object_of o.mutexes.rows id) refl where
+    go : (v : Option Mutex) → object_of o.mutexes.rows id ≡ v → Owned (mutex.take_alone (mutexes k o) who id m v).mutexes
     go None found = owners
     go (Some v) found = taken_owned who id m v live found v.owner
 
-  mutex_take_owned : (who id m : ℕ) (r : Option Errno) → Lives k who → Owned (mutex_take_unless r k o who id m).objects.mutexes
+  mutex_take_owned : (who id m : ℕ) (r : Option Errno) → Lives k who → Owned (mutex_take_unless r k o who id m).objects.mutexes.rows
   mutex_take_owned who id m (Some e) live = owners
   mutex_take_owned who id m None live = take_alone_owned who id m live
 
-  plain_take_owned : (who id m : ℕ) (r : Option Errno) → Owned (plain_take_unless r k o who id m).objects.mutexes
+  plain_take_owned : (who id m : ℕ) (r : Option Errno) → Owned (plain_take_unless r k o who id m).objects.mutexes.rows
   plain_take_owned who id m (Some e) = owners
   plain_take_owned who id m None = owners
 
-  pub take_owned : (a : Actor) (id m : ℕ) → (is_mutex o id ≡ true → Acts k a) → Owned (take_row k o a id m).objects.mutexes
+  pub take_owned : (a : Actor) (id m : ℕ) → (is_mutex o id ≡ true → Acts k a) → Owned (take_row k o a id m).objects.mutexes.rows
   take_owned (Task who) id m live =
-      elim (is_some (object_of o.mutexes id)) as (λ b. is_some (object_of o.mutexes id) ≡ b → Owned (cond b (mutex_take k o who id m) (plain_take k o who id m)).objects.mutexes) [
-        | true ↦ λ e. mutex_take_owned who id m (mutex.take_refusal who m (object_of o.mutexes id)) (live e)
+      elim (is_some (object_of o.mutexes.rows id)) as (λ b. is_some (object_of o.mutexes.rows id) ≡ b → Owned (cond b (mutex_take k o who id m) (plain_take k o who id m)).objects.mutexes.rows) [
+        | true ↦ λ e. mutex_take_owned who id m (mutex.take_refusal who m (object_of o.mutexes.rows id)) (live e)
         | false ↦ λ e. plain_take_owned who id m (plain.take_refusal (sems k o) id m)
       ] refl
   take_owned Interrupt id m live = owners
@@ -373,66 +379,66 @@ module _ (k : KernState) (o : Objects) (is : IsKern k) (Q : Option ℕ → Type 
   passed_owned id v None first = written id (mutex.freed v) none
   passed_owned id v (Some t) first = written id (mutex.owned t.id v) (live_owner t.id (next_lives k id t.id is (sym (ap (option_map task_id) first))))
 
-  give_alone_owned : (who id : ℕ) → Owned (mutex.give_alone (mutexes k o) who id (object_of o.mutexes id)).mutexes
-  give_alone_owned who id = go (object_of o.mutexes id) refl where
-    go : (v : Option Mutex) → object_of o.mutexes id ≡ v → Owned (mutex.give_alone (mutexes k o) who id v).mutexes
+  give_alone_owned : (who id : ℕ) → Owned (mutex.give_alone (mutexes k o) who id (object_of o.mutexes.rows id)).mutexes
+  give_alone_owned who id = go (object_of o.mutexes.rows id) refl where
+    go : (v : Option Mutex) → object_of o.mutexes.rows id ≡ v → Owned (mutex.give_alone (mutexes k o) who id v).mutexes
     go None found = owners
     go (Some v) found =
         elim (ltb 1 v.depth) as (λ b. Owned (cond b (mutex.shallow (mutexes k o) who id v) (mutex.give_up (mutexes k o) who id v)).mutexes) [
-          | true ↦ written id (record v { depth = v.depth - 1 }) (found_has (λ (u : Mutex). Q u.owner) o.mutexes id v owners found)
+          | true ↦ written id (record v { depth = v.depth - 1 }) (found_has (λ (u : Mutex). Q u.owner) o.mutexes.rows id v owners found)
           | false ↦ passed_owned id v (first_waiter k.tasks (mutex_place id)) refl
         ]
 
-  mutex_give_owned : (who id : ℕ) (r : Option Errno) → Owned (mutex_give_unless r k o who id).objects.mutexes
+  mutex_give_owned : (who id : ℕ) (r : Option Errno) → Owned (mutex_give_unless r k o who id).objects.mutexes.rows
   mutex_give_owned who id (Some e) = owners
   mutex_give_owned who id None = give_alone_owned who id
 
-  owner_gives_owned : (id : ℕ) (a : Actor) → Owned (of_task k o a (λ who. mutex_give k o who id)).objects.mutexes
-  owner_gives_owned id (Task who) = mutex_give_owned who id (mutex.give_refusal who (object_of o.mutexes id))
+  owner_gives_owned : (id : ℕ) (a : Actor) → Owned (of_task k o a (λ who. mutex_give k o who id)).objects.mutexes.rows
+  owner_gives_owned id (Task who) = mutex_give_owned who id (mutex.give_refusal who (object_of o.mutexes.rows id))
   owner_gives_owned id Interrupt = owners
 
-  plain_give_owned : (id : ℕ) (r : Option Errno) → Owned (plain_give_unless r k o id).objects.mutexes
+  plain_give_owned : (id : ℕ) (r : Option Errno) → Owned (plain_give_unless r k o id).objects.mutexes.rows
   plain_give_owned id (Some e) = owners
   plain_give_owned id None = owners
 
-  pub give_owned : (a : Actor) (id : ℕ) → Owned (give_row k o a id).objects.mutexes
+  pub give_owned : (a : Actor) (id : ℕ) → Owned (give_row k o a id).objects.mutexes.rows
   give_owned a id =
-      elim (is_some (object_of o.mutexes id)) as (λ b. Owned (cond b (of_task k o a (λ who. mutex_give k o who id)) (plain_give k o id)).objects.mutexes) [
+      elim (is_some (object_of o.mutexes.rows id)) as (λ b. Owned (cond b (of_task k o a (λ who. mutex_give k o who id)) (plain_give k o id)).objects.mutexes.rows) [
         | true ↦ owner_gives_owned id a
         | false ↦ plain_give_owned id (plain.give_refusal (sems k o) id)
       ]
 
   -- ---- semFlush, semDelete and taskPrioritySet
-  flush_unless_owned : (id : ℕ) (r : Option Errno) → Owned (flush_unless r k o id).objects.mutexes
+  flush_unless_owned : (id : ℕ) (r : Option Errno) → Owned (flush_unless r k o id).objects.mutexes.rows
   flush_unless_owned id (Some e) = owners
   flush_unless_owned id None = owners
 
-  pub flush_owned : (id : ℕ) → Owned (flush_row k o id).objects.mutexes
+  pub flush_owned : (id : ℕ) → Owned (flush_row k o id).objects.mutexes.rows
   flush_owned id =
-      elim (is_some (object_of o.mutexes id)) as (λ b. Owned (cond b (refused k o errors.InvalidOperation) (flush_unless (plain.flush_refusal (sems k o) id) k o id)).objects.mutexes) [
+      elim (is_some (object_of o.mutexes.rows id)) as (λ b. Owned (cond b (refused k o errors.InvalidOperation) (flush_unless (plain.flush_refusal (sems k o) id) k o id)).objects.mutexes.rows) [
         | true ↦ owners
         | false ↦ flush_unless_owned id (plain.flush_refusal (sems k o) id)
       ]
 
-  plain_delete_owned : (id : ℕ) (r : Option Errno) → Owned (plain_delete_unless r k o id).objects.mutexes
+  plain_delete_owned : (id : ℕ) (r : Option Errno) → Owned (plain_delete_unless r k o id).objects.mutexes.rows
   plain_delete_owned id (Some e) = owners
   plain_delete_owned id None = owners
 
   delete_alone_owned : (id : ℕ) (v : Option Mutex) → Owned (mutex.delete_alone (mutexes k o) id v).mutexes
   delete_alone_owned id None = owners
-  delete_alone_owned id (Some v) = All-filter (λ (r : ℕ × Mutex). not (eqb r.0 id)) (λ (r : ℕ × Mutex). Q r.1.owner) o.mutexes owners
+  delete_alone_owned id (Some v) = All-filter (λ (r : ℕ × Mutex). not (eqb r.0 id)) (λ (r : ℕ × Mutex). Q r.1.owner) o.mutexes.rows owners
 
-  pub delete_owned : (id : ℕ) → Owned (delete_row k o id).objects.mutexes
+  pub delete_owned : (id : ℕ) → Owned (delete_row k o id).objects.mutexes.rows
   delete_owned id =
-      elim (is_some (object_of o.mutexes id)) as (λ b. Owned (cond b (by_mutexes o (mutex.delete (mutexes k o) id) (Answer 0)) (plain_delete_unless (plain.delete_refusal (sems k o) id) k o id)).objects.mutexes) [
-        | true ↦ delete_alone_owned id (object_of o.mutexes id)
+      elim (is_some (object_of o.mutexes.rows id)) as (λ b. Owned (cond b (by_mutexes o (mutex.delete (mutexes k o) id) (Answer 0)) (plain_delete_unless (plain.delete_refusal (sems k o) id) k o id)).objects.mutexes.rows) [
+        | true ↦ delete_alone_owned id (object_of o.mutexes.rows id)
         | false ↦ plain_delete_owned id (plain.delete_refusal (sems k o) id)
       ]
 
-  pub priority_owned : (pri : ℕ) (who : Option ℕ) → Owned (priority_row k o pri who).objects.mutexes
+  pub priority_owned : (pri : ℕ) (who : Option ℕ) → Owned (priority_row k o pri who).objects.mutexes.rows
   priority_owned pri None = owners
   priority_owned pri (Some who) =
-      elim (leb pri 255) as (λ b. Owned (cond b (by_mutexes o (mutex.priority_set (mutexes k o) who pri) (Answer 0)) (refused k o errors.IllegalPriority)).objects.mutexes) [
+      elim (leb pri 255) as (λ b. Owned (cond b (by_mutexes o (mutex.priority_set (mutexes k o) who pri) (Answer 0)) (refused k o errors.IllegalPriority)).objects.mutexes.rows) [
         | true ↦ owners
         | false ↦ owners
       ]

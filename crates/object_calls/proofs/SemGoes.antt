@@ -27,6 +27,8 @@ use Rattle.kernel_world.specs.declared.objects.Objects.{Objects}
 use Rattle.kernel_world.specs.declared.actor.Actor.{Actor}
 use Rattle.kernel_world.specs.declared.actor.Actor.TheVariants.{Task, Interrupt}
 use Rattle.kernel_world.specs.declared.reply.Reply.TheVariants.{Answer}
+use Rattle.wind_base.specs.declared.profile.Profile.{Profile}
+use Rattle.wind_base.specs.declared.profile.Profile.TheVariants.{One, Two}
 use Rattle.kernel_world.proofs.Goes.{Goes, id_left, drawn, goes-draw, goes_nowhere, goes_on, goes_further, goes-move, goes-raised, goes-make_safe, goes-lessen}
 
 -- ---- what a mutex is for its owner
@@ -52,21 +54,22 @@ module _ (k : KernState) (n : ℕ) (is : IsKern k) (within : CountsWithin n k) w
         | false ↦ goes_further k k n n 0 256 (omega arith) (omega arith) (goes_nowhere k n is within)
       ]
 
-  goes-restored : (who : ℕ) (o : Option TaskRecord) → Goes k (mutex.restored k who o) n 1
-  goes-restored who None = goes_further k k n n 0 1 (omega arith) (omega arith) (goes_nowhere k n is within)
-  goes-restored who (Some t) =
+  goes-restored : (p : Profile) (who : ℕ) (o : Option TaskRecord) → Goes k (mutex.restored p k who o) n 1
+  goes-restored Two who o = goes_further k k n n 0 1 (omega arith) (omega arith) (goes_nowhere k n is within)
+  goes-restored One who None = goes_further k k n n 0 1 (omega arith) (omega arith) (goes_nowhere k n is within)
+  goes-restored One who (Some t) =
       elim (eqb t.held 0) as (λ b. Goes k (cond b (change_pri k who t.normal) k) n 1) [
         | true ↦ goes-move k n is within (ChangePri who t.normal) tt
         | false ↦ goes_further k k n n 0 1 (omega arith) (omega arith) (goes_nowhere k n is within)
       ]
 
 module _ (k : KernState) (n : ℕ) (is : IsKern k) (within : CountsWithin n k) where
-  goes-letting_go : (who : ℕ) (m : Mutex) → Goes k (mutex.letting_go k who m) n 1
-  goes-letting_go who m =
+  goes-letting_go : (p : Profile) (who : ℕ) (m : Mutex) → Goes k (mutex.letting_go p k who m) n 1
+  goes-letting_go p who m =
       let less : KernState = mutex.less_held k who in
       let one = goes-move k n is within (SetHeld who (mutex.held_of (task_of k.tasks who) - 1)) tt in
-      elim m.inversion_safe as (λ b. Goes k (cond b (mutex.dropped k who) k) n 1) [
-        | true ↦ goes_on k less (mutex.dropped k who) n n 0 1 one (goes-restored less n one.kern one.counts who (task_of less.tasks who))
+      elim m.inversion_safe as (λ b. Goes k (cond b (mutex.dropped p k who) k) n 1) [
+        | true ↦ goes_on k less (mutex.dropped p k who) n n 0 1 one (goes-restored less n one.kern one.counts p who (task_of less.tasks who))
         | false ↦ goes_further k k n n 0 1 (omega arith) (omega arith) (goes_nowhere k n is within)
       ]
 
@@ -79,10 +82,10 @@ module _ (k : KernState) (n : ℕ) (is : IsKern k) (within : CountsWithin n k) w
 
 module _ (k : KernState) (n : ℕ) (is : IsKern k) (within : CountsWithin n k) where
   -- the owner gives it up, and has this many safe sections
-  goes-left : (who : ℕ) (m : Mutex) (count : ℕ) → Goes k (mutex.eased (mutex.letting_go k who m) who m count) n 257
-  goes-left who m count =
-      let one = goes-letting_go k n is within who m in
-      let j : KernState = mutex.letting_go k who m in
+  goes-left : (p : Profile) (who : ℕ) (m : Mutex) (count : ℕ) → Goes k (mutex.eased (mutex.letting_go p k who m) who m count) n 257
+  goes-left p who m count =
+      let one = goes-letting_go k n is within p who m in
+      let j : KernState = mutex.letting_go p k who m in
       goes_on k j (mutex.eased j who m count) n n 1 256 one (goes-eased j n one.kern one.counts who m count)
 
 -- a call that is not refused waits for some ticks at least
@@ -104,11 +107,12 @@ module _ (k : KernState) (o : Objects) (n : ℕ) (is : IsKern k) (within : Count
   stays : GoesTo k
   stays = within_call k 0 (omega arith) (goes_nowhere k n is within)
 
-  -- all are raised then
-  then_raised : (j : KernState) (d : ℕ) → d ≤ 768 → Goes k j (n + 1) d → (ms : List (ℕ × Mutex)) → GoesTo (raised_kern j ms)
-  then_raised j d few g ms =
-      goes_further k (raised_kern j ms) (n + 1) (n + 1) (d + 256) call_sinces (omega arith) (omega (arith, few))
-      (goes_on k j (raised_kern j ms) (n + 1) (n + 1) d 256 g (goes-raised j (n + 1) g.kern g.counts ms))
+  -- under profile 1 all are raised then
+  then_raised : (p : Profile) (j : KernState) (d : ℕ) → d ≤ 768 → Goes k j (n + 1) d → (ms : List (ℕ × Mutex)) → GoesTo (mutex.at_once p j ms)
+  then_raised One j d few g ms =
+      goes_further k (raised_kern One j ms) (n + 1) (n + 1) (d + 256) call_sinces (omega arith) (omega (arith, few))
+      (goes_on k j (raised_kern One j ms) (n + 1) (n + 1) d 256 g (goes-raised j (n + 1) g.kern g.counts One ms))
+  then_raised Two j d few g ms = goes_further k j (n + 1) (n + 1) d call_sinces (omega arith) (omega (arith, few)) g
 
   -- ---- a semaphore is made
   made_goes : (v : Semaphore) → GoesTo (made k o v).kern
@@ -140,7 +144,7 @@ module _ (k : KernState) (o : Objects) (n : ℕ) (is : IsKern k) (within : Count
   mutex_with_goes (Some options) = go (making.create_refusal (mutexes k o)) refl where
     go : (r : Option Errno) → making.create_refusal (mutexes k o) ≡ r → GoesTo (mutex_unless r k o options).kern
     go (Some e) same = stays
-    go None same = within_call (drawn k) 0 (omega arith) (goes-draw k n is within (id_left 1024 (length o.mutexes) k.next_id errors.TooMany errors.IdsSpent same))
+    go None same = within_call (drawn k) 0 (omega arith) (goes-draw k n is within (id_left 1024 (length o.mutexes.rows) k.next_id errors.TooMany errors.IdsSpent same))
 
   pub mutex_goes : (options : ℕ) → GoesTo (mutex_row k o options).kern
   mutex_goes options = mutex_with_goes (read_options options kinds.Mutex)
@@ -176,16 +180,16 @@ module _ (k : KernState) (o : Objects) (n : ℕ) (is : IsKern k) (within : Count
   mutex_take_alone who id m (Some v) fine = taken_goes who id m v v.owner fine
 
   mutex_take_goes : (who id m : ℕ) → GoesTo (mutex_take k o who id m).kern
-  mutex_take_goes who id m = go (mutex.take_refusal who m (object_of o.mutexes id)) refl where
-    go : (r : Option Errno) → mutex.take_refusal who m (object_of o.mutexes id) ≡ r → GoesTo (mutex_take_unless r k o who id m).kern
+  mutex_take_goes who id m = go (mutex.take_refusal who m (object_of o.mutexes.rows id)) refl where
+    go : (r : Option Errno) → mutex.take_refusal who m (object_of o.mutexes.rows id) ≡ r → GoesTo (mutex_take_unless r k o who id m).kern
     go (Some e) same = stays
     go None same =
-        let alone : MutexState = mutex.take_alone (mutexes k o) who id m (object_of o.mutexes id) in
-        then_raised alone.kern 1 (omega arith) (mutex_take_alone who id m (object_of o.mutexes id) same) alone.mutexes
+        let alone : MutexState = mutex.take_alone (mutexes k o) who id m (object_of o.mutexes.rows id) in
+        then_raised alone.profile alone.kern 1 (omega arith) (mutex_take_alone who id m (object_of o.mutexes.rows id) same) alone.mutexes
 
   pub take_goes : (a : Actor) (id m : ℕ) → GoesTo (take_row k o a id m).kern
   take_goes (Task who) id m =
-      elim (is_some (object_of o.mutexes id)) as (λ b. GoesTo (cond b (mutex_take k o who id m) (plain_take k o who id m)).kern) [ true ↦ mutex_take_goes who id m | false ↦ plain_take_goes who id m ]
+      elim (is_some (object_of o.mutexes.rows id)) as (λ b. GoesTo (cond b (mutex_take k o who id m) (plain_take k o who id m)).kern) [ true ↦ mutex_take_goes who id m | false ↦ plain_take_goes who id m ]
   take_goes Interrupt id m = stays
 
   -- ---- semGive
@@ -213,7 +217,7 @@ module _ (k : KernState) (o : Objects) (n : ℕ) (is : IsKern k) (within : Count
       let next = first_waiter k.tasks (mutex_place id) in
       let j : KernState = (mutex.pass_on (mutexes k o) id v next).kern in
       let one = passed_goes id v next in
-      goes_on k j (mutex.eased (mutex.letting_go j who v) who v 1) (n + 1) (n + 1) 1 257 one (goes-left j (n + 1) one.kern one.counts who v 1)
+      goes_on k j (mutex.eased (mutex.letting_go o.mutexes.profile j who v) who v 1) (n + 1) (n + 1) 1 257 one (goes-left j (n + 1) one.kern one.counts o.mutexes.profile who v 1)
 
   mutex_give_alone : (who id : ℕ) (v : Option Mutex) → Goes k (mutex.give_alone (mutexes k o) who id v).kern (n + 1) 258
   mutex_give_alone who id None = goes_further k k n (n + 1) 0 258 (omega arith) (omega arith) (goes_nowhere k n is within)
@@ -226,16 +230,16 @@ module _ (k : KernState) (o : Objects) (n : ℕ) (is : IsKern k) (within : Count
   mutex_give_goes : (who id : ℕ) (r : Option Errno) → GoesTo (mutex_give_unless r k o who id).kern
   mutex_give_goes who id (Some e) = stays
   mutex_give_goes who id None =
-      let alone : MutexState = mutex.give_alone (mutexes k o) who id (object_of o.mutexes id) in
-      then_raised alone.kern 258 (omega arith) (mutex_give_alone who id (object_of o.mutexes id)) alone.mutexes
+      let alone : MutexState = mutex.give_alone (mutexes k o) who id (object_of o.mutexes.rows id) in
+      then_raised alone.profile alone.kern 258 (omega arith) (mutex_give_alone who id (object_of o.mutexes.rows id)) alone.mutexes
 
   owner_gives : (id : ℕ) (a : Actor) → GoesTo (of_task k o a (λ who. mutex_give k o who id)).kern
-  owner_gives id (Task who) = mutex_give_goes who id (mutex.give_refusal who (object_of o.mutexes id))
+  owner_gives id (Task who) = mutex_give_goes who id (mutex.give_refusal who (object_of o.mutexes.rows id))
   owner_gives id Interrupt = stays
 
   pub give_goes : (a : Actor) (id : ℕ) → GoesTo (give_row k o a id).kern
   give_goes a id =
-      elim (is_some (object_of o.mutexes id)) as (λ b. GoesTo (cond b (of_task k o a (λ who. mutex_give k o who id)) (plain_give k o id)).kern) [
+      elim (is_some (object_of o.mutexes.rows id)) as (λ b. GoesTo (cond b (of_task k o a (λ who. mutex_give k o who id)) (plain_give k o id)).kern) [
         | true ↦ owner_gives id a
         | false ↦ plain_give_goes id (plain.give_refusal (sems k o) id)
       ]
@@ -247,7 +251,7 @@ module _ (k : KernState) (o : Objects) (n : ℕ) (is : IsKern k) (within : Count
 
   pub flush_goes : (id : ℕ) → GoesTo (flush_row k o id).kern
   flush_goes id =
-      elim (is_some (object_of o.mutexes id)) as (λ b. GoesTo (cond b (refused k o errors.InvalidOperation) (flush_unless (plain.flush_refusal (sems k o) id) k o id)).kern) [
+      elim (is_some (object_of o.mutexes.rows id)) as (λ b. GoesTo (cond b (refused k o errors.InvalidOperation) (flush_unless (plain.flush_refusal (sems k o) id) k o id)).kern) [
         | true ↦ stays
         | false ↦ flush_unless_goes id (plain.flush_refusal (sems k o) id)
       ]
@@ -264,35 +268,40 @@ module _ (k : KernState) (o : Objects) (n : ℕ) (is : IsKern k) (within : Count
       let j : KernState = wake_all k (mutex_place id) 4294967295 (Some errors.ObjDeleted) in
       let one = goes-move k n is within (WakeAll (mutex_place id) 4294967295 (Some errors.ObjDeleted)) tt in
       let still : Goes j j n 257 = goes_further j j n n 0 257 (omega arith) (omega arith) (goes_nowhere j n one.kern one.counts) in
-      let ended : (who : ℕ) (t : Option TaskRecord) → Goes j (mutex.ended j who v t) n 257 =
-      λ who t. elim t as (λ t. Goes j (mutex.ended j who v t) n 257) [ None ↦ still | Some t ↦ goes-left j n one.kern one.counts who v v.depth ] in
-      let by_owner : Goes j (mutex.owner_ended j v v.owner) n 257 = elim v.owner as (λ w. Goes j (mutex.owner_ended j v w) n 257) [ None ↦ still | Some who ↦ ended who (task_of j.tasks who) ] in
-      goes_further k (mutex.owner_ended j v v.owner) n (n + 1) 513 513 (omega arith) (omega arith) (goes_on k j (mutex.owner_ended j v v.owner) n n 256 257 one by_owner)
+      let ended : (who : ℕ) (t : Option TaskRecord) → Goes j (mutex.ended o.mutexes.profile j who v t) n 257 =
+      λ who t. elim t as (λ t. Goes j (mutex.ended o.mutexes.profile j who v t) n 257) [ None ↦ still | Some t ↦ goes-left j n one.kern one.counts o.mutexes.profile who v v.depth ] in
+      let by_owner : Goes j (mutex.owner_ended o.mutexes.profile j v v.owner) n 257 = elim v.owner as (λ w. Goes j (mutex.owner_ended o.mutexes.profile j v w) n 257) [ None ↦ still | Some who ↦ ended who (task_of j.tasks who) ] in
+      goes_further k (mutex.owner_ended o.mutexes.profile j v v.owner) n (n + 1) 513 513 (omega arith) (omega arith) (goes_on k j (mutex.owner_ended o.mutexes.profile j v v.owner) n n 256 257 one by_owner)
 
   mutex_delete_goes : (id : ℕ) → GoesTo (mutex.delete (mutexes k o) id).kern
   mutex_delete_goes id =
-      let alone : MutexState = mutex.delete_alone (mutexes k o) id (object_of o.mutexes id) in
-      then_raised alone.kern 513 (omega arith) (mutex_delete_alone id (object_of o.mutexes id)) alone.mutexes
+      let alone : MutexState = mutex.delete_alone (mutexes k o) id (object_of o.mutexes.rows id) in
+      then_raised alone.profile alone.kern 513 (omega arith) (mutex_delete_alone id (object_of o.mutexes.rows id)) alone.mutexes
 
   pub delete_goes : (id : ℕ) → GoesTo (delete_row k o id).kern
   delete_goes id =
-      elim (is_some (object_of o.mutexes id)) as (λ b. GoesTo (cond b (by_mutexes o (mutex.delete (mutexes k o) id) (Answer 0)) (plain_delete_unless (plain.delete_refusal (sems k o) id) k o id)).kern) [
+      elim (is_some (object_of o.mutexes.rows id)) as (λ b. GoesTo (cond b (by_mutexes o (mutex.delete (mutexes k o) id) (Answer 0)) (plain_delete_unless (plain.delete_refusal (sems k o) id) k o id)).kern) [
         | true ↦ mutex_delete_goes id
         | false ↦ plain_delete_goes id (plain.delete_refusal (sems k o) id)
       ]
 
   -- ---- taskPrioritySet
+  followed_goes : (p : Profile) (j : KernState) (who now : ℕ) → IsKern j → CountsWithin n j → Goes j (mutex.followed p j who now) n 1
+  followed_goes One j who now is within = goes-move j n is within (ChangePri who now) tt
+  followed_goes Two j who now is within = goes_further j j n n 0 1 (omega arith) (omega arith) (goes_nowhere j n is within)
+
   priority_alone : (who pri : ℕ) → Goes k (mutex.priority_alone (mutexes k o) who pri).kern (n + 1) 1
   priority_alone who pri =
       let j : KernState = set_normal k who pri in
       let one = goes-move k n is within (SetNormal who pri) tt in
       let now : ℕ = mutex.pri_after pri (task_of k.tasks who) in
-      goes_further k (change_pri j who now) n (n + 1) 1 1 (omega arith) (omega arith) (goes_on k j (change_pri j who now) n n 0 1 one (goes-move j n one.kern one.counts (ChangePri who now) tt))
+      let last : KernState = mutex.followed o.mutexes.profile j who now in
+      goes_further k last n (n + 1) 1 1 (omega arith) (omega arith) (goes_on k j last n n 0 1 one (followed_goes o.mutexes.profile j who now one.kern one.counts))
 
   pub priority_goes : (pri : ℕ) (who : Option ℕ) → GoesTo (priority_row k o pri who).kern
   priority_goes pri None = stays
   priority_goes pri (Some who) =
       elim (leb pri 255) as (λ b. GoesTo (cond b (by_mutexes o (mutex.priority_set (mutexes k o) who pri) (Answer 0)) (refused k o errors.IllegalPriority)).kern) [
-        | true ↦ then_raised (mutex.priority_alone (mutexes k o) who pri).kern 1 (omega arith) (priority_alone who pri) o.mutexes
+        | true ↦ then_raised o.mutexes.profile (mutex.priority_alone (mutexes k o) who pri).kern 1 (omega arith) (priority_alone who pri) o.mutexes.rows
         | false ↦ stays
       ]

@@ -1,5 +1,5 @@
 -- The rows of the calls on semaphores and mutexes, and of taskPrioritySet, whose priority the owners of mutexes
--- inherit.
+-- inherit, under profile 1 at once.
 use Rattle.std.specs.Prelude.{ℕ, Bool, nat_le, if◌then◌else◌, Option, None, Some, is_some}
 use Rattle.wind_base.specs.Limits.{least_urgent, ok_word}
 use Rattle.wind_base.specs.SemBits.{read_options}
@@ -14,7 +14,7 @@ use Rattle.wind_core.specs.declared.took.Took.TheVariants.{Taken, Pended}
 use Rattle.sem_plain.specs.declared.semaphore.Semaphore.{Semaphore}
 use Rattle.sem_plain.specs.State.{SemState, both as with_semaphores}
 use Rattle.sem_plain.specs.Calls as plain
-use Rattle.inheritance.specs.Mutexes.{MutexState, both as with_mutexes}
+use Rattle.inheritance.specs.Mutexes.{MutexState, LiveMutexes, both as with_mutexes}
 use Rattle.sem_mutex.specs.Calls as mutex
 use Rattle.sem_mutex.specs.Making as making
 use Rattle.kernel_world.specs.declared.objects.Objects.{Objects}
@@ -39,8 +39,11 @@ refused k o e = row_of k o (Refusal e)
 abbrev pub by_semaphores : Objects → SemState → Reply → ObjectRow
 by_semaphores o s reply = row_of s.kern (record o { semaphores = s.semaphores }) reply
 
+abbrev pub live_in : MutexState → LiveMutexes
+live_in s = record { profile = s.profile; rows = s.mutexes }
+
 abbrev pub by_mutexes : Objects → MutexState → Reply → ObjectRow
-by_mutexes o s reply = row_of s.kern (record o { mutexes = s.mutexes }) reply
+by_mutexes o s reply = row_of s.kern (record o { mutexes = live_in s }) reply
 
 abbrev pub sems : KernState → Objects → SemState
 sems k o = with_semaphores k o.semaphores
@@ -50,7 +53,7 @@ mutexes k o = with_mutexes k o.mutexes
 
 -- the number is the id of a live mutex
 abbrev pub is_mutex : Objects → ℕ → Bool
-is_mutex o id = is_some (object_of o.mutexes id)
+is_mutex o id = is_some (object_of o.mutexes.rows id)
 
 -- a call that only a task may make
 abbrev pub of_task : KernState → Objects → Actor → (ℕ → ObjectRow) → ObjectRow
@@ -110,10 +113,10 @@ plain_take k o who id n = plain_take_unless (plain.take_refusal (sems k o) id n)
 
 abbrev pub mutex_take_unless : Option Errno → KernState → Objects → ℕ → ℕ → ℕ → ObjectRow
 mutex_take_unless (Some e) k o who id n = refused k o e
-mutex_take_unless None k o who id n = by_mutexes o (mutex.take (mutexes k o) who id n) (took_reply (mutex.took who (object_of o.mutexes id)))
+mutex_take_unless None k o who id n = by_mutexes o (mutex.take (mutexes k o) who id n) (took_reply (mutex.took who (object_of o.mutexes.rows id)))
 
 abbrev pub mutex_take : KernState → Objects → ℕ → ℕ → ℕ → ObjectRow
-mutex_take k o who id n = mutex_take_unless (mutex.take_refusal who n (object_of o.mutexes id)) k o who id n
+mutex_take k o who id n = mutex_take_unless (mutex.take_refusal who n (object_of o.mutexes.rows id)) k o who id n
 
 abbrev pub take_row : KernState → Objects → Actor → ℕ → ℕ → ObjectRow
 take_row k o a id n = of_task k o a (λ who. if is_mutex o id then mutex_take k o who id n else plain_take k o who id n)
@@ -131,7 +134,7 @@ mutex_give_unless (Some e) k o who id = refused k o e
 mutex_give_unless None k o who id = by_mutexes o (mutex.give (mutexes k o) who id) (Answer ok_word)
 
 abbrev pub mutex_give : KernState → Objects → ℕ → ℕ → ObjectRow
-mutex_give k o who id = mutex_give_unless (mutex.give_refusal who (object_of o.mutexes id)) k o who id
+mutex_give k o who id = mutex_give_unless (mutex.give_refusal who (object_of o.mutexes.rows id)) k o who id
 
 abbrev pub give_row : KernState → Objects → Actor → ℕ → ObjectRow
 give_row k o a id = if is_mutex o id then of_task k o a (λ who. mutex_give k o who id) else plain_give k o id

@@ -16,7 +16,7 @@ use Rattle.ppc_text.specs.Lines.{line_of}
 use Rattle.asm_lines.specs.declared.error.Cause.{Cause}
 use Rattle.asm_lines.specs.declared.error.Cause.TheVariants.{BadPlace, BadWord}
 use Rattle.asm_lines.specs.Items.{Placed, next, lines_of}
-use Rattle.asm_lines.specs.Causes.{is_bad_place, is_bad_word, is_twice, is_too_large, item_cause, cause_or, cause_of, or_refused, judged, items}
+use Rattle.asm_lines.specs.Causes.{is_bad_place, is_bad_word, item_cause, cause_or, cause_of, or_refused, judged, items}
 use Rattle.ppc_asm.specs.Laws.{Decodes}
 
 decodes_fields : (row : Row) (fs : List ℕ) → are_fields row fs ≡ true → (row_of (word_with row fs) ≡ Some row) × (fields_of row (word_with row fs) ≡ fs)

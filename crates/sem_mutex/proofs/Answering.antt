@@ -6,31 +6,33 @@ use Rattle.std.proofs.lemmas.Bool.{eq-eqb, ne_eqb, lt-ltb, le-ltb}
 use Rattle.std.proofs.lemmas.Option.{same_Some}
 use Rattle.std.proofs.lemmas.List.Sums.{count_by-le-length}
 use Rattle.id_table.specs.Rows.{object_of, without, IsId}
+use Rattle.wind_base.specs.declared.profile.Profile.{Profile}
+use Rattle.wind_base.specs.declared.profile.Profile.TheVariants.{One, Two}
 use Rattle.task_block.specs.declared.task.Task.{Task}
 use Rattle.wind_core.specs.State.{KernState, IsKern, Lives, task_id, task_of}
 use Rattle.wind_lists.proofs.Passing.{front_found}
 use Rattle.wind_core.specs.Orders.{first_waiter, waiters, waits_at, waits_before}
-use Rattle.wind_core.specs.Moves.{set_held, set_normal, change_pri, has_pri, move_task, with_pri, renewed, pended, wake_at, end_wait, end_waits, wake_all}
+use Rattle.wind_core.specs.Moves.{set_held, set_normal, change_pri, renewed, pended, wake_at, end_wait, end_waits, wake_all}
 use Rattle.wind_core.proofs.Passes.{waits_before-order}
 use Rattle.wind_core.proofs.Waking.{since-end_wait, length-waiters}
-use Rattle.wind_core.proofs.Ids.{ids, ids-change, ids-move, lives_by}
+use Rattle.wind_core.proofs.Ids.{ids, ids-change, lives_by}
 use Rattle.task_safety.specs.Safety.{safe_of, make_safe, lessen}
 use Rattle.wind_base.specs.declared.errno.Errno.{Errno}
 use Rattle.wind_base.specs.declared.errno.Errno.TheVariants as errors
 use Rattle.inheritance.specs.declared.mutex.Mutex.{Mutex}
 use Rattle.wind_core.specs.declared.took.Took.{Took}
 use Rattle.wind_core.specs.declared.took.Took.TheVariants.{Taken, Pended}
-use Rattle.inheritance.specs.Mutexes.{MutexState, both, is_id, holds, held_count, AreMutexes, mutex_place, owner_in}
-use Rattle.inheritance.specs.Reach.{raised}
-use Rattle.sem_mutex.specs.Calls.{held_of, holding, guarded, eased, restored, less_held, dropped, letting_go, pass_on, passed_on, give_up, shallow, hand, deepen, await, handed, deepened, awaited, taken, take_alone, take, is_others, take_refusal, took, give_alone, give, give_refusal, given_up, given_once, owner_ended, its_owner_ended, delete_refusal, delete, live_mutex, pri_after, priority_alone}
+use Rattle.inheritance.specs.Mutexes.{MutexState, LiveMutexes, both, is_id, holds, held_count, AreMutexes, mutex_place, owner_in}
+use Rattle.sem_mutex.specs.Calls.{raised_at_once, held_of, holding, guarded, eased, restored, less_held, dropped, letting_go, pass_on, passed_on, give_up, shallow, hand, deepen, await, handed, deepened, awaited, taken, take_alone, take, is_others, take_refusal, took, give_alone, give, give_refusal, given_up, given_once, owner_ended, its_owner_ended, delete_refusal, delete, live_mutex, pri_after, followed, priority_alone}
 use Rattle.inheritance.specs.Laws.{OwnersUrgentBut}
 use Rattle.sem_mutex.specs.Kept.{TaskKept, KeepsMutexes, FewSafe, IsEarly}
 use Rattle.inheritance.proofs.Lookups.{live_is}
-use Rattle.inheritance.proofs.Same.{same_law}
 use Rattle.sem_mutex.proofs.Handing.{found_row, hand_keeps, deepen_keeps, await_urgent}
 use Rattle.sem_mutex.proofs.Counting.{object_of-write}
 use Rattle.inheritance.proofs.Raising.{since-change_pri}
 use Rattle.sem_mutex.proofs.Giving.{kern_hand, ids_hand, next_owner, passed}
+use Rattle.inheritance.proofs.Turn.{ids-change_pri}
+use Rattle.sem_mutex.proofs.AtOnce.{at_once_same}
 use Rattle.sem_mutex.proofs.Keeping.{kern_guarded, take_keeps, give_same}
 use Rattle.sem_mutex.proofs.Ending.{delete_same, priority_urgent}
 use Rattle.wind_base.specs.Limits.{error_word}
@@ -79,7 +81,7 @@ few_held s who are kept =
     elim (task_of s.kern.tasks who) as (λ o. task_of s.kern.tasks who ≡ o → held_of o ≤ 1024) [
       | None ↦ λ e. omega arith
       | Some t ↦ λ e.
-          let one = (found_all (TaskKept s.mutexes (held_count s.mutexes) s.kern.next_id) s.kern.tasks who t kept.holds.tasks e).held in
+          let one = (found_all (TaskKept s.profile s.mutexes (held_count s.mutexes) s.kern.next_id) s.kern.tasks who t kept.holds.tasks e).held in
           omega (arith, one, count_by-le-length (λ (r : ℕ × Mutex). holds t.id r.1) s.mutexes, are.few)
     ] refl
 
@@ -120,8 +122,8 @@ module _ (s : MutexState) (who id n : ℕ) (is : IsKern s.kern) (are : AreMutexe
       let how : Taken ≡ took who (Some m.0) = ap (λ o. cond (is_others who o) Pended Taken) (sym none) in
       made t Taken (ap (take_refusal who n) m.1 ∙ fine) (how ∙ ap (took who) (sym m.1))
       (state ∙ ap (handed s who id) m.1
-      ∙ sym (same_law (hand s who id m.0) (kern_hand s.kern who m.0 is) (hand_keeps s who id m.0 is are.rising lives m.1 none kept).urgent)
-      ∙ sym (ap (λ o. raised (take_alone s who id n o)) m.1 ∙ ap (λ o. raised (taken s who id n m.0 o)) none))
+      ∙ sym (at_once_same (hand s who id m.0) (kern_hand s.kern who m.0 is) (hand_keeps s who id m.0 is are.rising lives m.1 none kept).urgent)
+      ∙ sym (ap (λ o. raised_at_once (take_alone s who id n o)) m.1 ∙ ap (λ o. raised_at_once (taken s who id n m.0 o)) none))
 
   pub took_again : (t : MutexState) → IsSome (object_of s.mutexes id) → owner_in (object_of s.mutexes id) ≡ Some who → t ≡ deepened s who id (object_of s.mutexes id) → Made t Taken
   took_again t there own state =
@@ -132,10 +134,10 @@ module _ (s : MutexState) (who id n : ℕ) (is : IsKern s.kern) (are : AreMutexe
       let how : took who (Some m.0) ≡ Taken = ap (λ o. cond (is_others who o) Pended Taken) mine ∙ ap (λ b. cond (not b) Pended Taken) yes in
       made t Taken (ap (take_refusal who n) m.1 ∙ fine) (sym (ap (took who) m.1 ∙ how))
       (state ∙ ap (deepened s who id) m.1
-      ∙ sym (same_law (deepen s who id m.0) (kern_guarded s.kern who m.0 is) (deepen_keeps s who id m.0 are.rising m.1 kept).urgent)
-      ∙ sym (ap (λ o. raised (take_alone s who id n o)) m.1 ∙ ap (λ o. raised (taken s who id n m.0 o)) mine ∙ ap (λ b. raised (cond b (deepen s who id m.0) (await s who id n m.0))) yes))
+      ∙ sym (at_once_same (deepen s who id m.0) (kern_guarded s.kern who m.0 is) (deepen_keeps s who id m.0 are.rising m.1 kept).urgent)
+      ∙ sym (ap (λ o. raised_at_once (take_alone s who id n o)) m.1 ∙ ap (λ o. raised_at_once (taken s who id n m.0 o)) mine ∙ ap (λ b. raised_at_once (cond b (deepen s who id m.0) (await s who id n m.0))) yes))
 
-  pub pended_row : (x : ℕ) → owner_in (object_of s.mutexes id) ≡ Some x → (x ≡ who → ⊥) → (n ≡ 0 → ⊥) → IsSome (object_of s.mutexes id) → (t : MutexState) → t ≡ raised (awaited s who id n (object_of s.mutexes id)) → Made t Pended
+  pub pended_row : (x : ℕ) → owner_in (object_of s.mutexes id) ≡ Some x → (x ≡ who → ⊥) → (n ≡ 0 → ⊥) → IsSome (object_of s.mutexes id) → (t : MutexState) → t ≡ raised_at_once (awaited s who id n (object_of s.mutexes id)) → Made t Pended
   pended_row x own other waits there t state =
       let m = live_is (object_of s.mutexes id) there in
       let theirs : m.0.owner ≡ Some x = sym (ap owner_in m.1) ∙ own in
@@ -144,8 +146,8 @@ module _ (s : MutexState) (who id n : ℕ) (is : IsKern s.kern) (are : AreMutexe
       ap (λ o. cond (is_others who o && eqb n 0) (Some errors.ObjUnavailable) None) theirs ∙ ap (λ b. cond (not b && eqb n 0) (Some errors.ObjUnavailable) None) no ∙ ap (λ b. cond b (Some errors.ObjUnavailable) None) (ne_eqb n 0 waits) in
       let how : took who (Some m.0) ≡ Pended = ap (λ o. cond (is_others who o) Pended Taken) theirs ∙ ap (λ b. cond (not b) Pended Taken) no in
       made t Pended (ap (take_refusal who n) m.1 ∙ fine) (sym (ap (took who) m.1 ∙ how))
-      (state ∙ ap (λ o. raised (awaited s who id n o)) m.1
-      ∙ sym (ap (λ o. raised (take_alone s who id n o)) m.1 ∙ ap (λ o. raised (taken s who id n m.0 o)) theirs ∙ ap (λ b. raised (cond b (deepen s who id m.0) (await s who id n m.0))) no))
+      (state ∙ ap (λ o. raised_at_once (awaited s who id n o)) m.1
+      ∙ sym (ap (λ o. raised_at_once (take_alone s who id n o)) m.1 ∙ ap (λ o. raised_at_once (taken s who id n m.0 o)) theirs ∙ ap (λ b. raised_at_once (cond b (deepen s who id m.0) (await s who id n m.0))) no))
 
   pub refused_take : (x : ℕ) → owner_in (object_of s.mutexes id) ≡ Some x → (x ≡ who → ⊥) → n ≡ 0 → IsSome (object_of s.mutexes id) → take_refusal who n (object_of s.mutexes id) ≡ Some errors.ObjUnavailable
   refused_take x own other waits there =
@@ -158,7 +160,7 @@ module _ (s : MutexState) (who id n : ℕ) (is : IsKern s.kern) (are : AreMutexe
 -- what the walk from owner to owner requires
 pub record MayLend (s t : MutexState) (who : ℕ) : Type 0 where
   pub lives : Lives t.kern who
-  pub urgent : OwnersUrgentBut who t.mutexes t.kern.tasks
+  pub urgent : t.profile ≡ One → OwnersUrgentBut who t.mutexes t.kern.tasks
   pub sinces : t.kern.next_since ≤ s.kern.next_since + 1
 
 pub awaits : (s t : MutexState) (who id n : ℕ) → Lives s.kern who → KeepsMutexes s → IsSome (object_of s.mutexes id) → t ≡ awaited s who id n (object_of s.mutexes id) → MayLend s t who
@@ -167,12 +169,13 @@ awaits s t who id n lives kept there state =
     let begins : Task → Task = λ u. renewed s.kern.next_since (pended (mutex_place id) (not m.0.by_priority) (wake_at 0 s.kern.tick n) u) in
     subst (λ r. MayLend s r who) (sym (state ∙ ap (awaited s who id n) m.1)) (record {
       lives = lives_by (await s who id n m.0).kern.tasks s.kern.tasks who (ids-change s.kern.tasks who begins (λ u. refl)) lives;
-      urgent = await_urgent s who id n m.0 kept;
+      urgent = λ first. await_urgent s who id n m.0 first kept;
       sinces = omega arith;
     })
 
-ids-change_pri : (k : KernState) (who p : ℕ) → ids (change_pri k who p).tasks ≡ ids k.tasks
-ids-change_pri k who p = elim (has_pri p (task_of k.tasks who)) as (λ b. ids (cond b k (move_task k who (with_pri p))).tasks ≡ ids k.tasks) [ true ↦ refl | false ↦ ids-move k who (with_pri p) (λ u. refl) ]
+followed_alike : (p : Profile) (k : KernState) (who q : ℕ) → (ids (followed p k who q).tasks ≡ ids k.tasks) × ((followed p k who q).next_since ≤ k.next_since + 1)
+followed_alike One k who q = (ids-change_pri k who q, since-change_pri k who q)
+followed_alike Two k who q = (refl, omega arith)
 
 pub lives_normal : (k : KernState) (who p : ℕ) → Lives k who → Lives (set_normal k who p) who
 lives_normal k who p lives = lives_by (set_normal k who p).tasks k.tasks who (ids-change k.tasks who (λ (u : Task). record u { normal = p }) (λ u. refl)) lives
@@ -181,10 +184,11 @@ pub reprices : (s t : MutexState) (who p : ℕ) → IsKern s.kern → Lives s.ke
 reprices s t who p is lives kept state =
     let k : KernState = set_normal s.kern who p in
     let q : ℕ = pri_after p (task_of s.kern.tasks who) in
+    let after = followed_alike s.profile k who q in
     subst (λ r. MayLend s r who) (sym state) (record {
-      lives = lives_by (change_pri k who q).tasks k.tasks who (ids-change_pri k who q) (lives_normal s.kern who p lives);
-      urgent = priority_urgent s who p is kept;
-      sinces = omega (arith, since-change_pri k who q);
+      lives = lives_by (followed s.profile k who q).tasks k.tasks who after.0 (lives_normal s.kern who p lives);
+      urgent = λ first. priority_urgent s who p first is kept;
+      sinces = omega (arith, after.1);
     })
 
 -- ---- the mutex is passed on
@@ -214,19 +218,20 @@ handed_lives s t who id o e lives = subst (λ r. Lives r.kern who) (sym e) (each
     each (Some m) = lives_by (hand s who id m).kern.tasks s.kern.tasks who (ids_hand s.kern who m) lives
 
 pub passed_is : (s t : MutexState) (id next : ℕ) (k : KernState) (o : Option Mutex) → IsKern s.kern → IsSome o → Some next ≡ option_map task_id (first_waiter s.kern.tasks (mutex_place id)) → t ≡ handed s next id o
-    → k ≡ end_wait t.kern next 0 None → both k t.mutexes ≡ passed_on s id o
+    → k ≡ end_wait t.kern next 0 None → record t { kern = k } ≡ passed_on s id o
 passed_is s t id next k None is there e hands ends = absurd (cc)
 passed_is s t id next k (Some m) is there e hands ends =
     let x = next_is s.kern id next is e in
-    ap (λ j. both j t.mutexes) ends
-    ∙ ap (λ r. both (end_wait r.kern next 0 None) r.mutexes) hands
-    ∙ ap (λ n. both (end_wait (hand s n id m).kern n 0 None) (hand s n id m).mutexes) x.1.same
+    ap (λ j. record t { kern = j }) ends
+    ∙ ap (λ (r : MutexState). record r { kern = end_wait r.kern next 0 None }) hands
+    ∙ ap (λ n. record (hand s n id m) { kern = end_wait (hand s n id m).kern n 0 None }) x.1.same
     ∙ sym (ap (pass_on s id m) x.1.first)
 
 -- ---- the giver gives up its ownership
 pub record AfterPass (s t : MutexState) (who id : ℕ) (m : Mutex) : Type 0 where
   pub there : IsSome (object_of t.mutexes id)
   pub lends : (v : Mutex) → object_of t.mutexes id ≡ Some v → (v.inversion_safe ≡ m.inversion_safe) × (v.delete_safe ≡ m.delete_safe)
+  pub profile : t.profile ≡ s.profile
   pub lives : Lives t.kern who
   pub sinces : t.kern.next_since ≤ s.kern.next_since + 1
 
@@ -257,6 +262,7 @@ after_pass s t who id m is lives kept e state =
       lends = λ v q.
           let same : next_owner m o ≡ v = same_Some (next_owner m o) v (sym there ∙ q) in
           (ap (λ u. u.inversion_safe) (sym same) ∙ (next_owner_like m o).0, ap (λ u. u.delete_safe) (sym same) ∙ (next_owner_like m o).1);
+      profile = ap (λ (r : MutexState). r.profile) now ∙ p.profile;
       lives = subst (λ r. Lives r.kern who) (sym now) (lives_by (pass_on s id m o).kern.tasks s.kern.tasks who p.alike lives);
       sinces = omega (arith, ap (λ r. r.kern.next_since) now, since_pass s id m o);
     }
@@ -265,9 +271,10 @@ pub record AfterLettingGo (k j : KernState) (who : ℕ) : Type 0 where
   pub lives : Lives j who
   pub sinces : j.next_since ≤ k.next_since + 1
 
-ids_restored : (k : KernState) (who : ℕ) (o : Option Task) → (ids (restored k who o).tasks ≡ ids k.tasks) × ((restored k who o).next_since ≤ k.next_since + 1)
-ids_restored k who None = (refl, omega arith)
-ids_restored k who (Some t) =
+ids_restored : (p : Profile) (k : KernState) (who : ℕ) (o : Option Task) → (ids (restored p k who o).tasks ≡ ids k.tasks) × ((restored p k who o).next_since ≤ k.next_since + 1)
+ids_restored Two k who o = (refl, omega arith)
+ids_restored One k who None = (refl, omega arith)
+ids_restored One k who (Some t) =
     elim (eqb t.held 0) as (λ b. (ids (cond b (change_pri k who t.normal) k).tasks ≡ ids k.tasks) × ((cond b (change_pri k who t.normal) k).next_since ≤ k.next_since + 1)) [
       | true ↦ (
         ids-change_pri k who t.normal,
@@ -276,28 +283,30 @@ ids_restored k who (Some t) =
       | false ↦ (refl, omega arith)
     ]
 
-after_letting_go : (k : KernState) (who : ℕ) (m : Mutex) → Lives k who → AfterLettingGo k (letting_go k who m) who
-after_letting_go k who m lives =
-    elim m.inversion_safe as (λ b. AfterLettingGo k (cond b (dropped k who) k) who) [
+after_letting_go : (p : Profile) (k : KernState) (who : ℕ) (m : Mutex) → Lives k who → AfterLettingGo k (letting_go p k who m) who
+after_letting_go p k who m lives =
+    elim m.inversion_safe as (λ b. AfterLettingGo k (cond b (dropped p k who) k) who) [
       | true ↦
-          let r = ids_restored (less_held k who) who (task_of (less_held k who).tasks who) in
+          let r = ids_restored p (less_held k who) who (task_of (less_held k who).tasks who) in
           record {
-            lives = lives_by (dropped k who).tasks k.tasks who (r.0 ∙ ids-change k.tasks who (λ t. record t { held = held_of (task_of k.tasks who) - 1 }) (λ t. refl)) lives;
+            lives = lives_by (dropped p k who).tasks k.tasks who (r.0 ∙ ids-change k.tasks who (λ t. record t { held = held_of (task_of k.tasks who) - 1 }) (λ t. refl)) lives;
             sinces = r.1;
           }
       | false ↦ record { lives = lives; sinces = omega arith }
     ]
 
-pub let_go_after : (k j : KernState) (who : ℕ) (m : Mutex) → j ≡ letting_go k who m → Lives k who → AfterLettingGo k j who
-let_go_after k j who m e lives = subst (λ r. AfterLettingGo k r who) (sym e) (after_letting_go k who m lives)
+pub let_go_after : (p : Profile) (k j : KernState) (who : ℕ) (m : Mutex) → j ≡ letting_go p k who m → Lives k who → AfterLettingGo k j who
+let_go_after p k j who m e lives = subst (λ r. AfterLettingGo k r who) (sym e) (after_letting_go p k who m lives)
 
-pub given_is : (s t : MutexState) (who id : ℕ) (m v w : Mutex) (j n : KernState) → object_of s.mutexes id ≡ Some m → t ≡ passed_on s id (object_of s.mutexes id) → v.inversion_safe ≡ m.inversion_safe → w.delete_safe ≡ m.delete_safe
-    → j ≡ letting_go t.kern who v → n ≡ eased j who w 1 → both n t.mutexes ≡ given_up s who id (object_of s.mutexes id)
-given_is s t who id m v w j n e state lends guards goes eases =
+-- the profile by which the giver gives up its ownership is that of the state before
+pub given_is : (s t : MutexState) (who id : ℕ) (m v w : Mutex) (j n : KernState) → object_of s.mutexes id ≡ Some m → t ≡ passed_on s id (object_of s.mutexes id) → t.profile ≡ s.profile → v.inversion_safe ≡ m.inversion_safe → w.delete_safe ≡ m.delete_safe
+    → j ≡ letting_go t.profile t.kern who v → n ≡ eased j who w 1 → record t { kern = n } ≡ given_up s who id (object_of s.mutexes id)
+given_is s t who id m v w j n e state rule lends guards goes eases =
     let o : Option Task = first_waiter s.kern.tasks (mutex_place id) in
     let now : t ≡ pass_on s id m o = state ∙ ap (passed_on s id) e in
-    ap (λ r. both r t.mutexes) (eases ∙ ap (λ b. cond b (lessen j who 1) j) guards ∙ ap (λ r. eased r who m 1) (goes ∙ ap (λ b. cond b (dropped t.kern who) t.kern) lends))
-    ∙ ap (λ r. both (eased (letting_go r.kern who m) who m 1) r.mutexes) now
+    ap (λ r. record t { kern = r }) (eases ∙ ap (λ b. cond b (lessen j who 1) j) guards
+    ∙ ap (λ r. eased r who m 1) (goes ∙ ap (λ p. letting_go p t.kern who v) rule ∙ ap (λ b. cond b (dropped s.profile t.kern who) t.kern) lends))
+    ∙ ap (λ (r : MutexState). record r { kern = eased (letting_go s.profile r.kern who m) who m 1 }) now
     ∙ sym (ap (given_up s who id) e)
 
 -- ---- give
@@ -337,11 +346,13 @@ pub record Deleted (s t : MutexState) (id : ℕ) : Type 0 where
   pub state : t ≡ delete s id
   pub keeps : KeepsMutexes t
 
-pub deleted : (s : MutexState) (id : ℕ) (k j : KernState) (ns : List (ℕ × Mutex)) → IsKern s.kern → AreMutexes s.mutexes → KeepsMutexes s → IsSome (object_of s.mutexes id)
-    → k ≡ wake_all s.kern (mutex_place id) error_word (Some errors.ObjDeleted) → j ≡ its_owner_ended k (object_of s.mutexes id) → ns ≡ without s.mutexes id → Deleted s (both j ns) id
-deleted s id k j ns is are kept there wakes ends less =
+pub deleted : (s : MutexState) (id : ℕ) (k j : KernState) (live : LiveMutexes) → IsKern s.kern → AreMutexes s.mutexes → KeepsMutexes s → IsSome (object_of s.mutexes id)
+    → k ≡ wake_all s.kern (mutex_place id) error_word (Some errors.ObjDeleted) → j ≡ its_owner_ended s.profile k (object_of s.mutexes id) → live.profile ≡ s.profile → live.rows ≡ without s.mutexes id → Deleted s (both j live) id
+deleted s id k j live is are kept there wakes ends rule less =
     let m = live_is (object_of s.mutexes id) there in
     let all = delete_same s id m.0 is are.rising m.1 kept in
-    let state : both j ns ≡ delete s id =
-    ap (λ xs. both j xs) less ∙ ap (λ r. both r (without s.mutexes id)) (ends ∙ ap (its_owner_ended k) m.1 ∙ ap (λ r. owner_ended r m.0 m.0.owner) wakes) ∙ sym all.0 in
+    let state : both j live ≡ delete s id =
+    ap (λ p. record { kern = j; profile = p; mutexes = live.rows }) rule
+    ∙ ap (λ xs. record s { kern = j; mutexes = xs }) less
+    ∙ ap (λ r. record s { kern = r; mutexes = without s.mutexes id }) (ends ∙ ap (its_owner_ended s.profile k) m.1 ∙ ap (λ r. owner_ended s.profile r m.0 m.0.owner) wakes) ∙ sym all.0 in
     record { fine = ap delete_refusal m.1; state = state; keeps = subst KeepsMutexes (sym state) all.1 }

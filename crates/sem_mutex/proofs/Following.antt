@@ -7,12 +7,13 @@ use Rattle.std.proofs.lemmas.List.Sums.{sum_by-cons}
 use Rattle.id_table.proofs.Kept.{object_of-cons}
 use Rattle.id_table.specs.Rows.{object_of}
 use Rattle.id_table.specs.declared.ident.Place.{Place}
+use Rattle.wind_base.specs.declared.profile.Profile.{Profile}
 use Rattle.task_block.specs.declared.task.Task.{Task}
 use Rattle.wind_core.specs.State.{KernState, task_of}
 use Rattle.wind_core.specs.Moves.{renewed, change_task, renew_task, move_found, move_task}
 use Rattle.wind_core.proofs.Stable.{All-change, renew_task-stable, move_task-stable}
 use Rattle.inheritance.specs.declared.mutex.Mutex.{Mutex}
-use Rattle.inheritance.specs.Mutexes.{MutexState, both, is_id, holds, held_count}
+use Rattle.inheritance.specs.Mutexes.{MutexState, is_id, holds, held_count}
 use Rattle.inheritance.specs.Reach.{mutex_at, lent_to, owner_at}
 use Rattle.inheritance.specs.Laws.{OwnersUrgent}
 use Rattle.sem_mutex.specs.Kept.{MutexKept, TaskKept, Holds, KeepsMutexes}
@@ -112,25 +113,25 @@ module _ (ms : List (ℕ × Mutex)) (k n : KernState) (follows : Follows ms k n)
       (λ (e : Elsewhere ms k.next_id u.wait). subst (λ o. IfSome o (λ m. IsSome m.owner × (m.inversion_safe ≡ true → u.fifo ≡ false))) (sym e.other) tt)
       same.wait
 
-  pub holds_follows : (count : ℕ → ℕ) → ((i : ℕ) → k.next_id ≤ i → count i ≡ 0) → Holds count ms k → Holds count ms n
-  holds_follows count none h = record {
-    tasks = All-weaker (Comes ms k) (TaskKept ms count n.next_id) (λ u comes.
+  pub holds_follows : (p : Profile) (count : ℕ → ℕ) → ((i : ℕ) → k.next_id ≤ i → count i ≡ 0) → Holds p count ms k → Holds p count ms n
+  holds_follows p count none h = record {
+    tasks = All-weaker (Comes ms k) (TaskKept p ms count n.next_id) (λ u comes.
         ⊎_elim
         (λ (old : (t : Task) × Contains k.tasks t × Same ms k.next_id t u).
         let t = old.0 in
         let s = old.2 in
-        let kept = All-contains (TaskKept ms count k.next_id) k.tasks t h.tasks old.1 in
+        let kept = All-contains (TaskKept p ms count k.next_id) k.tasks t h.tasks old.1 in
         record {
-          raised = omega (arith, s.pri, s.normal, kept.raised);
+          raised = λ one. let was = kept.raised one in omega (arith, s.pri, s.normal, was);
           held = s.held ∙ kept.held ∙ ap count (sym s.id);
-          normal = λ z. s.pri ∙ kept.normal (sym s.held ∙ z) ∙ sym s.normal;
+          normal = λ one z. s.pri ∙ kept.normal one (sym s.held ∙ z) ∙ sym s.normal;
           made = made_by t u s kept.made;
           owned = owned_by t u s kept.owned;
         })
         (λ (f : Fresh ms k.next_id u). record {
-          raised = omega (arith, f.pri);
+          raised = λ one. omega (arith, f.pri);
           held = f.held ∙ sym (none u.id f.id);
-          normal = λ z. f.pri;
+          normal = λ one z. f.pri;
           made = made_on u.wait f.wait.made;
           owned = subst (λ o. IfSome o (λ m. IsSome m.owner × (m.inversion_safe ≡ true → u.fifo ≡ false))) (sym f.wait.other) tt;
         })
@@ -177,10 +178,10 @@ module _ (ms : List (ℕ × Mutex)) (k n : KernState) (follows : Follows ms k n)
           comes_y
 
 -- the mutexes' invariant stays if the kernel makes such moves
-pub follows_keeps : (s : MutexState) (n : KernState) → Follows s.mutexes s.kern n → KeepsMutexes s → KeepsMutexes (both n s.mutexes)
+pub follows_keeps : (s : MutexState) (n : KernState) → Follows s.mutexes s.kern n → KeepsMutexes s → KeepsMutexes (record s { kern = n })
 follows_keeps s n follows kept = record {
-  holds = holds_follows s.mutexes s.kern n follows (held_count s.mutexes) (λ i le. none_above s.mutexes s.kern.next_id i kept.holds.mutexes le) kept.holds;
-  urgent = urgent_follows s.mutexes s.kern n follows kept.holds.mutexes kept.urgent;
+  holds = holds_follows s.mutexes s.kern n follows s.profile (held_count s.mutexes) (λ i le. none_above s.mutexes s.kern.next_id i kept.holds.mutexes le) kept.holds;
+  urgent = λ one. urgent_follows s.mutexes s.kern n follows kept.holds.mutexes (kept.urgent one);
 }
 
 -- ---- such moves

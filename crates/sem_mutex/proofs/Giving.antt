@@ -9,6 +9,8 @@ use Rattle.std.proofs.lemmas.Bool.{cases_lt, lt-ltb}
 use Rattle.std.proofs.lemmas.Option.{same_Some}
 use Rattle.std.proofs.lemmas.List.Elements.{All-contains}
 use Rattle.id_table.specs.Rows.{object_of, with_object, row_id}
+use Rattle.wind_base.specs.declared.profile.Profile.{Profile}
+use Rattle.wind_base.specs.declared.profile.Profile.TheVariants.{One}
 use Rattle.task_block.specs.declared.task.Task.{Task}
 use Rattle.wind_lists.proofs.Records.{found_at, found_in}
 use Rattle.wind_lists.proofs.Passing.{contains_filter, front_passes, front_found, none_passes}
@@ -22,7 +24,7 @@ use Rattle.wind_core.proofs.Moving.{move_keeps}
 use Rattle.wind_core.proofs.Ids.{ids, ids-change, ids-move, lives_by}
 use Rattle.task_safety.specs.Safety.{make_safe, safe_of}
 use Rattle.inheritance.specs.declared.mutex.Mutex.{Mutex}
-use Rattle.inheritance.specs.Mutexes.{MutexState, both, is_id, holds, held_count, mutex_place}
+use Rattle.inheritance.specs.Mutexes.{MutexState, is_id, holds, held_count, mutex_place}
 use Rattle.inheritance.specs.Reach.{lent_to}
 use Rattle.sem_mutex.specs.Calls.{held_of, holding, guarded, eased, dropped, letting_go, owned, hand, freed, pass_on, give_up}
 use Rattle.inheritance.specs.Laws.{OwnersUrgent}
@@ -76,11 +78,12 @@ next_hand k who m = guards (holding k who m) ∙ elim m.inversion_safe as (λ b.
 -- ---- the mutex is passed on, and is still counted for the giver
 pub record IsPassed (s t : MutexState) (id : ℕ) (v : Mutex) : Type 0 where
   pub mutexes : t.mutexes ≡ with_object s.mutexes id v
+  pub profile : t.profile ≡ s.profile
   pub kern : IsKern t.kern
   pub alike : ids t.kern.tasks ≡ ids s.kern.tasks
   pub next : s.kern.next_id ≤ t.kern.next_id
-  pub holds : Holds (plus (held_count s.mutexes) v) (with_object s.mutexes id v) t.kern
-  pub urgent : OwnersUrgent (with_object s.mutexes id v) t.kern.tasks
+  pub holds : Holds s.profile (plus (held_count s.mutexes) v) (with_object s.mutexes id v) t.kern
+  pub urgent : s.profile ≡ One → OwnersUrgent (with_object s.mutexes id v) t.kern.tasks
 
 abbrev pub next_owner : Mutex → Option Task → Mutex
 next_owner m None = freed m
@@ -95,18 +98,19 @@ passed_free s id m is e none kept =
     let row = found_row (MutexKept k.next_id) ms id m kept.holds.mutexes e in
     let nobody : (t : Task) → Contains k.tasks t → is_place (mutex_place id) t.wait ≡ true → ⊥ =
     λ t at b. let no : is_place (mutex_place id) t.wait ≡ false = All-contains (λ u. waits_at (mutex_place id) u ≡ false) k.tasks t (none_passes task_id waits_before waits_before-order (waits_at (mutex_place id)) k.tasks none) at in cc in
-    let switched : Holds (held_count ms) (with_object ms id v) k =
-    switch (held_count ms) ms k id m v e (record { id = row.id; owner = tt; depth = λ q. absurd (cc); by_urgency = row.by_urgency }) (λ t at b. absurd (nobody t at b)) kept.holds in
+    let switched : Holds s.profile (held_count ms) (with_object ms id v) k =
+    switch s.profile (held_count ms) ms k id m v e (record { id = row.id; owner = tt; depth = λ q. absurd (cc); by_urgency = row.by_urgency }) (λ t at b. absurd (nobody t at b)) kept.holds in
     let none_more : (i : ℕ) → held_count ms i ≡ plus (held_count ms) v i = λ i.
     let z : one (m.inversion_safe && false) ≡ 0 = elim m.inversion_safe as (λ b. ◌≡◌ {A = ℕ} (one (b && false)) 0) [ true ↦ refl | false ↦ refl ] in
     omega arith in
     record {
       mutexes = refl;
+      profile = refl;
       kern = is;
       alike = refl;
       next = omega arith;
-      holds = subst (λ c. Holds c (with_object ms id v) k) (fun_ext none_more) switched;
-      urgent = urgent_switch ms k id m v e (λ y x at_y at_x b q. absurd (nobody y at_y b)) kept.urgent;
+      holds = subst (λ c. Holds s.profile c (with_object ms id v) k) (fun_ext none_more) switched;
+      urgent = λ first. urgent_switch ms k id m v e (λ y x at_y at_x b q. absurd (nobody y at_y b)) (kept.urgent first);
     }
 
 passed_to : (s : MutexState) (id : ℕ) (m : Mutex) (x : Task) → IsKern s.kern → object_of s.mutexes id ≡ Some m → first_waiter s.kern.tasks (mutex_place id) ≡ Some x → KeepsMutexes s
@@ -121,22 +125,23 @@ passed_to s id m x is e first kept =
     let at_x = found_at task_id k.tasks x.id x here in
     let waits : is_place (mutex_place id) x.wait ≡ true = front_passes task_id waits_before waits_before-order (waits_at (mutex_place id)) k.tasks x first in
     let lives : Lives k x.id = subst (λ o. IsSome o) (sym here) refl in
-    let own : (t : Task) → Contains k.tasks t → is_place (mutex_place id) t.wait ≡ true → IsOwned t.fifo m = waits_owned (held_count ms) ms k id m e kept.holds in
-    let switched : Holds (held_count ms) ns k = switch (held_count ms) ms k id m v e (new_owner ms k.next_id id x.id m (lives_below k x.id is lives) row) (λ t at b. (refl, (own t at b).1)) kept.holds in
-    let urgent : OwnersUrgent ns k.tasks = urgent_switch ms k id m v e (λ y z at_y at_z b q. lent y z at_y at_z b at_x waits here own q) kept.urgent in
+    let own : (t : Task) → Contains k.tasks t → is_place (mutex_place id) t.wait ≡ true → IsOwned t.fifo m = waits_owned s.profile (held_count ms) ms k id m e kept.holds in
+    let switched : Holds s.profile (held_count ms) ns k = switch s.profile (held_count ms) ms k id m v e (new_owner ms k.next_id id x.id m (lives_below k x.id is lives) row) (λ t at b. (refl, (own t at b).1)) kept.holds in
+    let urgent : s.profile ≡ One → OwnersUrgent ns k.tasks = λ one. urgent_switch ms k id m v e (λ y z at_y at_z b q. lent y z at_y at_z b at_x waits here own q) (kept.urgent one) in
     let none = λ (i : ℕ) (le : k.next_id ≤ i). none_above ms k.next_id i kept.holds.mutexes le in
-    let handed : Holds (plus (held_count ms) v) ns (hand s x.id id m).kern = holds_hand (held_count ms) ns k x.id m is lives none switched in
-    let handed_urgent : OwnersUrgent ns (hand s x.id id m).kern.tasks = urgent_hand ns k x.id m switched.mutexes urgent in
+    let handed : Holds s.profile (plus (held_count ms) v) ns (hand s x.id id m).kern = holds_hand s.profile (held_count ms) ns k x.id m is lives none switched in
+    let handed_urgent : s.profile ≡ One → OwnersUrgent ns (hand s x.id id m).kern.tasks = λ first. urgent_hand ns k x.id m switched.mutexes (urgent first) in
     let j : KernState = (hand s x.id id m).kern in
     let goes = follows-end_wait ns j x.id 0 None in
     let below = lives_below k x.id is lives in
     record {
       mutexes = refl;
+      profile = refl;
       kern = move_keeps j (EndWait x.id 0 None) (kern_hand k x.id m is) tt;
       alike = ids-move j x.id (answered 0 None) (λ t. refl) ∙ ids_hand k x.id m;
       next = omega (arith, goes.next, next_hand k x.id m);
-      holds = holds_follows ns j (end_wait j x.id 0 None) goes (plus (held_count ms) v) (λ i le. plus_above (held_count ms) x.id v k.next_id refl below none i (omega (arith, next_hand k x.id m))) handed;
-      urgent = urgent_follows ns j (end_wait j x.id 0 None) goes (subst (λ n. All (MutexKept n) ns) (sym (next_hand k x.id m)) switched.mutexes) handed_urgent;
+      holds = holds_follows ns j (end_wait j x.id 0 None) goes s.profile (plus (held_count ms) v) (λ i le. plus_above (held_count ms) x.id v k.next_id refl below none i (omega (arith, next_hand k x.id m))) handed;
+      urgent = λ first. urgent_follows ns j (end_wait j x.id 0 None) goes (subst (λ n. All (MutexKept n) ns) (sym (next_hand k x.id m)) switched.mutexes) (handed_urgent first);
     }
   where
     lent : (y z : Task) → Contains s.kern.tasks y → Contains s.kern.tasks z → is_place (mutex_place id) y.wait ≡ true → Contains s.kern.tasks x → is_place (mutex_place id) x.wait ≡ true → task_of s.kern.tasks x.id ≡ Some x
@@ -161,28 +166,28 @@ passed s id m is e kept =
     ] refl
 
 -- ---- the giver gives up its ownership
-letting_by : (b : Bool) (count : ℕ → ℕ) (ms : List (ℕ × Mutex)) (k : KernState) (who : ℕ) → IsKern k → Lives k who → Holds count ms k
-    → Holds (λ i. count i - one (b && eqb who i)) ms (cond b (dropped k who) k)
-letting_by true count ms k who is lives h = holds_less count ms k who is lives h
-letting_by false count ms k who is lives h = subst (λ c. Holds c ms k) (fun_ext (λ i. let z : count i ≡ count i - 0 = omega arith in z)) h
+letting_by : (p : Profile) (b : Bool) (count : ℕ → ℕ) (ms : List (ℕ × Mutex)) (k : KernState) (who : ℕ) → IsKern k → Lives k who → Holds p count ms k
+    → Holds p (λ i. count i - one (b && eqb who i)) ms (cond b (dropped p k who) k)
+letting_by p true count ms k who is lives h = holds_less p count ms k who is lives h
+letting_by p false count ms k who is lives h = subst (λ c. Holds p c ms k) (fun_ext (λ i. let z : count i ≡ count i - 0 = omega arith in z)) h
 
-urgent_by : (b : Bool) (count : ℕ → ℕ) (ms : List (ℕ × Mutex)) (k : KernState) (who : ℕ) → IsKern k → Lives k who → Holds count ms k
-    → ((i : ℕ) → count i - one (b && eqb who i) ≡ held_count ms i) → OwnersUrgent ms k.tasks → OwnersUrgent ms (cond b (dropped k who) k).tasks
-urgent_by true count ms k who is lives h counted urgent = urgent_dropped count ms ms k who is lives h (λ z w e. no_lender ms who (sym (counted who) ∙ z) w e) urgent
-urgent_by false count ms k who is lives h counted urgent = urgent
+urgent_by : (p : Profile) → p ≡ One → (b : Bool) (count : ℕ → ℕ) (ms : List (ℕ × Mutex)) (k : KernState) (who : ℕ) → IsKern k → Lives k who → Holds p count ms k
+    → ((i : ℕ) → count i - one (b && eqb who i) ≡ held_count ms i) → OwnersUrgent ms k.tasks → OwnersUrgent ms (cond b (dropped p k who) k).tasks
+urgent_by p first true count ms k who is lives h counted urgent = urgent_dropped p first count ms ms k who is lives h (λ z w e. no_lender ms who (sym (counted who) ∙ z) w e) urgent
+urgent_by p first false count ms k who is lives h counted urgent = urgent
 
 -- t is s, but the giver is still counted as an owner of the mutex
-pub let_go_keeps : (count : ℕ → ℕ) (ns : List (ℕ × Mutex)) (k : KernState) (who n : ℕ) (m : Mutex) → m.owner ≡ Some who → IsKern k → Lives k who → Holds count ns k → OwnersUrgent ns k.tasks
-    → ((i : ℕ) → count i - one (holds i m) ≡ held_count ns i) → KeepsMutexes (both (eased (letting_go k who m) who m n) ns)
-let_go_keeps count ns k who n m own is lives h urgent counted =
-    let j : KernState = letting_go k who m in
+pub let_go_keeps : (p : Profile) (count : ℕ → ℕ) (ns : List (ℕ × Mutex)) (k : KernState) (who n : ℕ) (m : Mutex) → m.owner ≡ Some who → IsKern k → Lives k who → Holds p count ns k → (p ≡ One → OwnersUrgent ns k.tasks)
+    → ((i : ℕ) → count i - one (holds i m) ≡ held_count ns i) → KeepsMutexes (record { kern = eased (letting_go p k who m) who m n; profile = p; mutexes = ns })
+let_go_keeps p count ns k who n m own is lives h urgent counted =
+    let j : KernState = letting_go p k who m in
     let by : (i : ℕ) → count i - one (m.inversion_safe && eqb who i) ≡ held_count ns i = λ i. sym (ap {B = ℕ} (λ o. count i - one (m.inversion_safe && is_id i o)) own) ∙ counted i in
-    let less_holds : Holds (held_count ns) ns j = subst (λ c. Holds c ns j) (fun_ext by) (letting_by m.inversion_safe count ns k who is lives h) in
-    let less_urgent : OwnersUrgent ns j.tasks = urgent_by m.inversion_safe count ns k who is lives h by urgent in
+    let less_holds : Holds p (held_count ns) ns j = subst (λ c. Holds p c ns j) (fun_ext by) (letting_by p m.inversion_safe count ns k who is lives h) in
+    let less_urgent : p ≡ One → OwnersUrgent ns j.tasks = λ first. urgent_by p first m.inversion_safe count ns k who is lives h by (urgent first) in
     let goes = follows-eased ns j who m n in
     record {
-      holds = holds_follows ns j (eased j who m n) goes (held_count ns) (λ i le. none_above ns j.next_id i less_holds.mutexes le) less_holds;
-      urgent = urgent_follows ns j (eased j who m n) goes less_holds.mutexes less_urgent;
+      holds = holds_follows ns j (eased j who m n) goes p (held_count ns) (λ i le. none_above ns j.next_id i less_holds.mutexes le) less_holds;
+      urgent = λ first. urgent_follows ns j (eased j who m n) goes less_holds.mutexes (less_urgent first);
     }
 
 next_lends : (m : Mutex) (o : Option Task) → (next_owner m o).inversion_safe ≡ m.inversion_safe
@@ -196,5 +201,7 @@ give_up_keeps s who id m is up lives e own kept =
     let t : MutexState = pass_on s id m o in
     let p = passed s id m is e kept in
     let counted : (i : ℕ) → plus (held_count s.mutexes) v i - one (holds i m) ≡ held_count (with_object s.mutexes id v) i = λ i. let w = count_write s.mutexes id m v up e i in omega arith in
-    let all = let_go_keeps (plus (held_count s.mutexes) v) (with_object s.mutexes id v) t.kern who 1 m own p.kern (lives_by t.kern.tasks s.kern.tasks who p.alike lives) p.holds p.urgent counted in
-    subst (λ ns. KeepsMutexes (both (eased (letting_go t.kern who m) who m 1) ns)) (sym p.mutexes) all
+    let all = let_go_keeps s.profile (plus (held_count s.mutexes) v) (with_object s.mutexes id v) t.kern who 1 m own p.kern (lives_by t.kern.tasks s.kern.tasks who p.alike lives) p.holds p.urgent counted in
+    let j : KernState = eased (letting_go s.profile t.kern who m) who m 1 in
+    subst (λ q. KeepsMutexes (record { kern = j; profile = q; mutexes = t.mutexes })) (sym p.profile)
+    (subst (λ ns. KeepsMutexes (record { kern = j; profile = s.profile; mutexes = ns })) (sym p.mutexes) all)

@@ -8,6 +8,8 @@ use Rattle.std.proofs.lemmas.List.{get_or-map, length-map}
 use Rattle.std.proofs.lemmas.List.Elements.{All-contains, Contains-get_or}
 use Rattle.id_table.proofs.Kept.{object_of-cons}
 use Rattle.id_table.specs.Rows.{object_of, with_object, row_id}
+use Rattle.wind_base.specs.declared.profile.Profile.{Profile}
+use Rattle.wind_base.specs.declared.profile.Profile.TheVariants.{One}
 use Rattle.task_block.specs.declared.task.Task.{Task}
 use Rattle.wind_lists.proofs.Records.{found_id}
 use Rattle.wind_core.specs.State.{KernState, IsKern, Lives, task_id, task_of}
@@ -16,7 +18,7 @@ use Rattle.wind_core.specs.Moves.{renewed, pended, wake_at, set_held}
 use Rattle.wind_core.proofs.Stable.{renew_task-stable}
 use Rattle.task_safety.specs.Safety.{make_safe, safe_of, lessen}
 use Rattle.inheritance.specs.declared.mutex.Mutex.{Mutex}
-use Rattle.inheritance.specs.Mutexes.{MutexState, both, is_id, holds, held_count, mutex_place}
+use Rattle.inheritance.specs.Mutexes.{MutexState, is_id, holds, held_count, mutex_place}
 use Rattle.inheritance.specs.Reach.{mutex_at, lent_to, owner_at}
 use Rattle.sem_mutex.specs.Calls.{held_of, holding, guarded, eased, owned, hand, deepen, await, shallow}
 use Rattle.inheritance.specs.Laws.{OwnersUrgent, OwnersUrgentBut}
@@ -43,9 +45,9 @@ mutexes_written ms next id v all new i d hi =
       | false ↦ all i d within
     ])
 
-pub switch : (count : ℕ → ℕ) (ms : List (ℕ × Mutex)) (k : KernState) (id : ℕ) (m v : Mutex) → object_of ms id ≡ Some m → MutexKept k.next_id (id, v)
-    → ((t : Task) → Contains k.tasks t → is_place (mutex_place id) t.wait ≡ true → IsOwned t.fifo v) → Holds count ms k → Holds count (with_object ms id v) k
-switch count ms k id m v e new ok h = record {
+pub switch : (p : Profile) (count : ℕ → ℕ) (ms : List (ℕ × Mutex)) (k : KernState) (id : ℕ) (m v : Mutex) → object_of ms id ≡ Some m → MutexKept k.next_id (id, v)
+    → ((t : Task) → Contains k.tasks t → is_place (mutex_place id) t.wait ≡ true → IsOwned t.fifo v) → Holds p count ms k → Holds p count (with_object ms id v) k
+switch p count ms k id m v e new ok h = record {
   tasks = λ i d hi.
       let t : Task = get_or k.tasks i d in
       let at = Contains-get_or k.tasks i d hi in
@@ -65,10 +67,10 @@ switch count ms k id m v e new ok h = record {
 }
 
 -- what is known of the tasks that wait for the mutex
-pub waits_owned : (count : ℕ → ℕ) (ms : List (ℕ × Mutex)) (k : KernState) (id : ℕ) (m : Mutex) → object_of ms id ≡ Some m → Holds count ms k → (t : Task) → Contains k.tasks t
+pub waits_owned : (p : Profile) (count : ℕ → ℕ) (ms : List (ℕ × Mutex)) (k : KernState) (id : ℕ) (m : Mutex) → object_of ms id ≡ Some m → Holds p count ms k → (t : Task) → Contains k.tasks t
     → is_place (mutex_place id) t.wait ≡ true → IsOwned t.fifo m
-waits_owned count ms k id m e h t at b =
-    let kept = All-contains (TaskKept ms count k.next_id) k.tasks t h.tasks at in
+waits_owned p count ms k id m e h t at b =
+    let kept = All-contains (TaskKept p ms count k.next_id) k.tasks t h.tasks at in
     subst (λ o. IfSome o (IsOwned t.fifo)) (mutex_at_place ms id t.wait b ∙ e) kept.owned
 
 pub urgent_switch : (ms : List (ℕ × Mutex)) (k : KernState) (id : ℕ) (m v : Mutex) → object_of ms id ≡ Some m
@@ -116,18 +118,18 @@ plus_above count who v next own below none i le =
     let nothing : one (v.inversion_safe && false) ≡ 0 = elim v.inversion_safe as (λ b. ◌≡◌ {A = ℕ} (one (b && false)) 0) [ true ↦ refl | false ↦ refl ] in
     omega arith
 
-holding_by : (b : Bool) (count : ℕ → ℕ) (ms : List (ℕ × Mutex)) (k : KernState) (who : ℕ) → Lives k who → Holds count ms k
-    → Holds (λ i. count i + one (b && eqb who i)) ms (cond b (set_held k who (held_of (task_of k.tasks who) + 1)) k)
-holding_by true count ms k who lives h = holds_more count ms k who lives h
-holding_by false count ms k who lives h = subst (λ c. Holds c ms k) (fun_ext (λ i. let z : count i ≡ count i + 0 = omega arith in z)) h
+holding_by : (p : Profile) (b : Bool) (count : ℕ → ℕ) (ms : List (ℕ × Mutex)) (k : KernState) (who : ℕ) → Lives k who → Holds p count ms k
+    → Holds p (λ i. count i + one (b && eqb who i)) ms (cond b (set_held k who (held_of (task_of k.tasks who) + 1)) k)
+holding_by p true count ms k who lives h = holds_more p count ms k who lives h
+holding_by p false count ms k who lives h = subst (λ c. Holds p c ms k) (fun_ext (λ i. let z : count i ≡ count i + 0 = omega arith in z)) h
 
-pub holds_hand : (count : ℕ → ℕ) (ms : List (ℕ × Mutex)) (k : KernState) (who : ℕ) (m : Mutex) → IsKern k → Lives k who → ((i : ℕ) → k.next_id ≤ i → count i ≡ 0) → Holds count ms k
-    → Holds (plus count (owned who m)) ms (guarded (holding k who m) who m)
-holds_hand count ms k who m is lives none h =
+pub holds_hand : (p : Profile) (count : ℕ → ℕ) (ms : List (ℕ × Mutex)) (k : KernState) (who : ℕ) (m : Mutex) → IsKern k → Lives k who → ((i : ℕ) → k.next_id ≤ i → count i ≡ 0) → Holds p count ms k
+    → Holds p (plus count (owned who m)) ms (guarded (holding k who m) who m)
+holds_hand p count ms k who m is lives none h =
     let k1 : KernState = holding k who m in
-    let held : Holds (plus count (owned who m)) ms k1 = holding_by m.inversion_safe count ms k who lives h in
+    let held : Holds p (plus count (owned who m)) ms k1 = holding_by p m.inversion_safe count ms k who lives h in
     let same : k1.next_id ≡ k.next_id = elim m.inversion_safe as (λ b. (cond b (set_held k who (held_of (task_of k.tasks who) + 1)) k).next_id ≡ k.next_id) [ true ↦ refl | false ↦ refl ] in
-    holds_follows ms k1 (guarded k1 who m) (follows-guarded ms k1 who m) (plus count (owned who m))
+    holds_follows ms k1 (guarded k1 who m) (follows-guarded ms k1 who m) p (plus count (owned who m))
     (λ i le. plus_above count who (owned who m) k.next_id refl (lives_below k who is lives) none i (omega arith)) held
 
 -- ---- owners stay as urgent as their waiters if no priority and no wait changes
@@ -173,16 +175,16 @@ hand_keeps s who id m is up lives e free kept =
     let ns : List (ℕ × Mutex) = with_object ms id v in
     let row = found_row (MutexKept k.next_id) ms id m kept.holds.mutexes e in
     let nobody : (t : Task) → Contains k.tasks t → is_place (mutex_place id) t.wait ≡ true → ⊥ =
-    λ t at b. let own = (waits_owned (held_count ms) ms k id m e kept.holds t at b).0 in subst (λ o. IsSome o → ⊥) (sym free) (λ q. absurd (cc)) own in
-    let switched : Holds (held_count ms) ns k = switch (held_count ms) ms k id m v e (new_owner ms k.next_id id who m (lives_below k who is lives) row) (λ t at b. absurd (nobody t at b)) kept.holds in
+    λ t at b. let own = (waits_owned s.profile (held_count ms) ms k id m e kept.holds t at b).0 in subst (λ o. IsSome o → ⊥) (sym free) (λ q. absurd (cc)) own in
+    let switched : Holds s.profile (held_count ms) ns k = switch s.profile (held_count ms) ms k id m v e (new_owner ms k.next_id id who m (lives_below k who is lives) row) (λ t at b. absurd (nobody t at b)) kept.holds in
     let count : (i : ℕ) → plus (held_count ms) v i ≡ held_count ns i = λ i.
     let w = count_write ms id m v up e i in
     let z = none_held m free i in
     omega arith in
     record {
-      holds = subst (λ c. Holds c ns (hand s who id m).kern) (fun_ext count)
-          (holds_hand (held_count ms) ns k who m is lives (λ i le. none_above ms k.next_id i kept.holds.mutexes le) switched);
-      urgent = urgent_hand ns k who m switched.mutexes (urgent_switch ms k id m v e (λ y x at_y at_x b q. absurd (nobody y at_y b)) kept.urgent);
+      holds = subst (λ c. Holds s.profile c ns (hand s who id m).kern) (fun_ext count)
+          (holds_hand s.profile (held_count ms) ns k who m is lives (λ i le. none_above ms k.next_id i kept.holds.mutexes le) switched);
+      urgent = λ first. urgent_hand ns k who m switched.mutexes (urgent_switch ms k id m v e (λ y x at_y at_x b q. absurd (nobody y at_y b)) (kept.urgent first));
     }
 
 -- ---- the owner takes it once more, or gives it once
@@ -195,22 +197,22 @@ same_owner ms id m v up e own lends i =
 
 -- another count of takes, and a change that doesn't concern mutexes
 pub depth_keeps : (s : MutexState) (n : KernState) (id depth : ℕ) (m : Mutex) → Rising row_id s.mutexes → object_of s.mutexes id ≡ Some m → (IsSome m.owner → 0 < depth) → KeepsMutexes s
-    → ((ns : List (ℕ × Mutex)) → Follows ns s.kern n) → KeepsMutexes (both n (with_object s.mutexes id (record m { depth = depth })))
+    → ((ns : List (ℕ × Mutex)) → Follows ns s.kern n) → KeepsMutexes (record s { kern = n; mutexes = with_object s.mutexes id (record m { depth = depth }) })
 depth_keeps s n id depth m up e deep kept follows =
     let ms = s.mutexes in
     let k = s.kern in
     let v : Mutex = record m { depth = depth } in
     let ns : List (ℕ × Mutex) = with_object ms id v in
     let row = found_row (MutexKept k.next_id) ms id m kept.holds.mutexes e in
-    let switched : Holds (held_count ms) ns k = switch (held_count ms) ms k id m v e (record { id = row.id; owner = row.owner; depth = deep; by_urgency = row.by_urgency }) (λ t at b. waits_owned (held_count ms) ms k id m e kept.holds t at b) kept.holds in
-    let urgent : OwnersUrgent ns k.tasks = urgent_switch ms k id m v e (λ y x at_y at_x b q.
+    let switched : Holds s.profile (held_count ms) ns k = switch s.profile (held_count ms) ms k id m v e (record { id = row.id; owner = row.owner; depth = deep; by_urgency = row.by_urgency }) (λ t at b. waits_owned s.profile (held_count ms) ms k id m e kept.holds t at b) kept.holds in
+    let urgent : s.profile ≡ One → OwnersUrgent ns k.tasks = λ first. urgent_switch ms k id m v e (λ y x at_y at_x b q.
     All-contains (λ u. owner_at ms y.wait ≡ Some u.id → u.pri ≤ y.pri) k.tasks x
-    (All-contains (λ w. All (λ u. owner_at ms w.wait ≡ Some u.id → u.pri ≤ w.pri) k.tasks) k.tasks y kept.urgent at_y) at_x
-    (ap lent_to (mutex_at_place ms id y.wait b ∙ e) ∙ q)) kept.urgent in
+    (All-contains (λ w. All (λ u. owner_at ms w.wait ≡ Some u.id → u.pri ≤ w.pri) k.tasks) k.tasks y (kept.urgent first) at_y) at_x
+    (ap lent_to (mutex_at_place ms id y.wait b ∙ e) ∙ q)) (kept.urgent first) in
     let count = fun_ext (same_owner ms id m v up e refl refl) in
     record {
-      holds = subst (λ c. Holds c ns n) count (holds_follows ns k n (follows ns) (held_count ms) (λ i le. none_above ms k.next_id i kept.holds.mutexes le) switched);
-      urgent = urgent_follows ns k n (follows ns) switched.mutexes urgent;
+      holds = subst (λ c. Holds s.profile c ns n) count (holds_follows ns k n (follows ns) s.profile (held_count ms) (λ i le. none_above ms k.next_id i kept.holds.mutexes le) switched);
+      urgent = λ first. urgent_follows ns k n (follows ns) switched.mutexes (urgent first);
     }
 
 pub deepen_keeps : (s : MutexState) (who id : ℕ) (m : Mutex) → Rising row_id s.mutexes → object_of s.mutexes id ≡ Some m → KeepsMutexes s → KeepsMutexes (deepen s who id m)
@@ -220,13 +222,13 @@ pub shallow_keeps : (s : MutexState) (who id : ℕ) (m : Mutex) → Rising row_i
 shallow_keeps s who id m up e deep kept = depth_keeps s (eased s.kern who m 1) id (m.depth - 1) m up e (λ _. omega arith) kept (λ ns. follows-eased ns s.kern who m 1)
 
 -- ---- the task begins to wait
-pub await_holds : (s : MutexState) (who id n : ℕ) (m : Mutex) → object_of s.mutexes id ≡ Some m → IsSome m.owner → KeepsMutexes s → Holds (held_count s.mutexes) s.mutexes (await s who id n m).kern
+pub await_holds : (s : MutexState) (who id n : ℕ) (m : Mutex) → object_of s.mutexes id ≡ Some m → IsSome m.owner → KeepsMutexes s → Holds s.profile (held_count s.mutexes) s.mutexes (await s who id n m).kern
 await_holds s who id n m e own kept =
     let ms = s.mutexes in
     let k = s.kern in
     let row = found_row (MutexKept k.next_id) ms id m kept.holds.mutexes e in
     record {
-      tasks = renew_task-stable (TaskKept ms (held_count ms) k.next_id) (λ since t h. record { raised = h.raised; held = h.held; normal = h.normal; made = h.made; owned = h.owned }) k who
+      tasks = renew_task-stable (TaskKept s.profile ms (held_count ms) k.next_id) (λ since t h. record { raised = h.raised; held = h.held; normal = h.normal; made = h.made; owned = h.owned }) k who
           (pended (mutex_place id) (not m.by_priority) (wake_at 0 k.tick n))
           (λ t h. record {
             raised = h.raised;
@@ -239,12 +241,12 @@ await_holds s who id n m e own kept =
     }
 
 -- after a task begins to wait, only that waiter can be more urgent than its owner
-pub await_urgent : (s : MutexState) (who id n : ℕ) (m : Mutex) → KeepsMutexes s → OwnersUrgentBut who s.mutexes (await s who id n m).kern.tasks
-await_urgent s who id n m kept =
+pub await_urgent : (s : MutexState) (who id n : ℕ) (m : Mutex) → s.profile ≡ One → KeepsMutexes s → OwnersUrgentBut who s.mutexes (await s who id n m).kern.tasks
+await_urgent s who id n m first kept =
     let ms = s.mutexes in
     let k = s.kern in
     urgent_slack_but who ms k.tasks (await s who id n m).kern.tasks
     (All-change_at (λ t. t.id ≡ t.id) (From (SlackBut who ms) k.tasks) k.tasks who (λ t. renewed k.next_since (pended (mutex_place id) (not m.by_priority) (wake_at 0 k.tick n) t))
     (λ t at same h. (t, at, record { id = refl; waiter = λ other. absurd (other same); owner = inl (omega arith) }))
     (λ t at other h. (t, at, record { id = refl; waiter = λ _. (refl, omega arith); owner = inl (omega arith) }))
-    (λ i d hi. refl)) kept.urgent
+    (λ i d hi. refl)) (kept.urgent first)

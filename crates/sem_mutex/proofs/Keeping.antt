@@ -1,7 +1,9 @@
--- Take and give keep the invariant, and raising changes nothing if no task begins to wait.
+-- Take and give keep the invariant, and raising at once changes nothing if no task begins to wait.
 use Rattle.std.proofs.Common.{◌≡◌, ℕ, ◌+◌, ◌-◌, ◌<◌, true, false, cond, not, ◌&&◌, eqb, ltb, leb, Option, None, Some, IsSome, refl, sym, ap, subst, arith}
 use Rattle.std.proofs.lemmas.Bool.{eqb-true, eqb-false, ltb-true}
 use Rattle.id_table.specs.Rows.{object_of, row_id}
+use Rattle.wind_base.specs.declared.profile.Profile.{Profile}
+use Rattle.wind_base.specs.declared.profile.Profile.TheVariants.{One, Two}
 use Rattle.task_block.specs.declared.task.Task.{Task}
 use Rattle.wind_core.specs.State.{KernState, IsKern, Lives, task_of}
 use Rattle.wind_core.specs.Orders.{first_waiter}
@@ -15,8 +17,7 @@ use Rattle.wind_base.specs.declared.errno.Errno.TheVariants as errors
 use Rattle.inheritance.specs.Mutexes.{MutexState, is_id, held_count, mutex_place}
 use Rattle.sem_mutex.specs.Calls.{held_of, guarded, eased, restored, less_held, dropped, letting_go, deepen, await, taken, take_alone, take, is_others, take_refusal, pass_on, give_up, shallow, give_alone, give, give_refusal}
 use Rattle.sem_mutex.specs.Kept.{Holds, KeepsMutexes}
-use Rattle.inheritance.proofs.Same.{same_law}
-use Rattle.sem_mutex.proofs.Lifting.{raised_keeps}
+use Rattle.sem_mutex.proofs.AtOnce.{at_once_keeps, at_once_same}
 use Rattle.sem_mutex.proofs.Handing.{hand_keeps, deepen_keeps, shallow_keeps, await_holds}
 use Rattle.sem_mutex.proofs.Giving.{kern_hand, passed, give_up_keeps}
 use Rattle.wind_lists.specs.Records.{Rising}
@@ -35,21 +36,22 @@ kern_guarded k who m is = elim m.delete_safe as (λ b. IsKern (cond b (make_safe
 pub kern_eased : (k : KernState) (who : ℕ) (m : Mutex) (n : ℕ) → IsKern k → IsKern (eased k who m n)
 kern_eased k who m n is = elim m.delete_safe as (λ b. IsKern (cond b (lessen k who n) k)) [ true ↦ kern_lessen k who n is | false ↦ is ]
 
-kern_restored : (k : KernState) (who : ℕ) (o : Option Task) → IsKern k → IsKern (restored k who o)
-kern_restored k who None is = is
-kern_restored k who (Some t) is = elim (eqb t.held 0) as (λ b. IsKern (cond b (change_pri k who t.normal) k)) [ true ↦ move_keeps k (ChangePri who t.normal) is tt | false ↦ is ]
+kern_restored : (p : Profile) (k : KernState) (who : ℕ) (o : Option Task) → IsKern k → IsKern (restored p k who o)
+kern_restored Two k who o is = is
+kern_restored One k who None is = is
+kern_restored One k who (Some t) is = elim (eqb t.held 0) as (λ b. IsKern (cond b (change_pri k who t.normal) k)) [ true ↦ move_keeps k (ChangePri who t.normal) is tt | false ↦ is ]
 
-pub kern_letting_go : (k : KernState) (who : ℕ) (m : Mutex) → IsKern k → IsKern (letting_go k who m)
-kern_letting_go k who m is =
-    elim m.inversion_safe as (λ b. IsKern (cond b (dropped k who) k)) [
-      | true ↦ kern_restored (less_held k who) who (task_of (less_held k who).tasks who) (move_keeps k (SetHeld who (held_of (task_of k.tasks who) - 1)) is tt)
+pub kern_letting_go : (p : Profile) (k : KernState) (who : ℕ) (m : Mutex) → IsKern k → IsKern (letting_go p k who m)
+kern_letting_go p k who m is =
+    elim m.inversion_safe as (λ b. IsKern (cond b (dropped p k who) k)) [
+      | true ↦ kern_restored p (less_held k who) who (task_of (less_held k who).tasks who) (move_keeps k (SetHeld who (held_of (task_of k.tasks who) - 1)) is tt)
       | false ↦ is
     ]
 
 -- ---- take
 pub record IsTaken (s t : MutexState) : Type 0 where
   pub kern : IsKern t.kern
-  pub holds : Holds (held_count t.mutexes) t.mutexes t.kern
+  pub holds : Holds t.profile (held_count t.mutexes) t.mutexes t.kern
 
 take_alone_keeps : (s : MutexState) (who id n : ℕ) → IsKern s.kern → Rising row_id s.mutexes → Lives s.kern who → KeepsMutexes s → (take_refusal who n (object_of s.mutexes id) ≡ None) → IsTaken s (take_alone s who id n (object_of s.mutexes id))
 take_alone_keeps s who id n is up lives kept fine =
@@ -76,7 +78,8 @@ take_alone_keeps s who id n is up lives kept fine =
 pub take_keeps : (s : MutexState) (who id n : ℕ) → IsKern s.kern → Rising row_id s.mutexes → Lives s.kern who → KeepsMutexes s → take_refusal who n (object_of s.mutexes id) ≡ None → KeepsMutexes (take s who id n)
 take_keeps s who id n is up lives kept fine =
     let row = take_alone_keeps s who id n is up lives kept fine in
-    raised_keeps (take_alone s who id n (object_of s.mutexes id)) row.kern row.holds
+    let t : MutexState = take_alone s who id n (object_of s.mutexes id) in
+    at_once_keeps t.profile t.kern t.mutexes row.kern row.holds
 
 -- ---- give
 give_alone_keeps : (s : MutexState) (who id : ℕ) → IsKern s.kern → Rising row_id s.mutexes → Lives s.kern who → KeepsMutexes s → give_refusal who (object_of s.mutexes id) ≡ None
@@ -90,7 +93,7 @@ give_alone_keeps s who id is up lives kept fine =
             | true ↦ λ b. (kern_eased s.kern who m 1 is, shallow_keeps s who id m up e (ltb-true 1 m.depth b) kept)
             | false ↦ λ b.
                 let t : MutexState = pass_on s id m (first_waiter s.kern.tasks (mutex_place id)) in
-                (kern_eased (letting_go t.kern who m) who m 1 (kern_letting_go t.kern who m (passed s id m is e kept).kern), give_up_keeps s who id m is up lives e own kept)
+                (kern_eased (letting_go s.profile t.kern who m) who m 1 (kern_letting_go s.profile t.kern who m (passed s id m is e kept).kern), give_up_keeps s who id m is up lives e own kept)
           ] refl
     ] refl fine
   where
@@ -106,5 +109,5 @@ pub give_same : (s : MutexState) (who id : ℕ) → IsKern s.kern → Rising row
     → (give s who id ≡ give_alone s who id (object_of s.mutexes id)) × KeepsMutexes (give s who id)
 give_same s who id is up lives kept fine =
     let row = give_alone_keeps s who id is up lives kept fine in
-    let same = same_law (give_alone s who id (object_of s.mutexes id)) row.0 row.1.urgent in
+    let same = at_once_same (give_alone s who id (object_of s.mutexes id)) row.0 row.1.urgent in
     (same, subst KeepsMutexes (sym same) row.1)

@@ -2,14 +2,13 @@
 use Rattle.std.proofs.Common.{◌≡◌, ℕ, None, Some, refl, false, true, ◌+◌}
 use Rattle.id_table.specs.Rows.{object_of, row_id}
 use Rattle.wind_core.specs.State.{KernState, IsKern, task_of}
-use Rattle.inheritance.specs.Mutexes.{MutexState, both, mutex_place}
+use Rattle.inheritance.specs.Mutexes.{MutexState, mutex_place}
 use Rattle.sem_mutex.specs.Kept.{KeepsMutexes}
 use Rattle.sem_mutex.specs.Calls.{delete, delete_refusal}
 use Rattle.sem_mutex.proofs.Ending.{delete_same, priority_keeps}
 use Rattle.sem_mutex.proofs.Making.{create_keeps}
-use Rattle.sem_mutex.specs.Laws.{SparesMutexes, BesideLaw, SafetyLaw, IdleLaw, CallsLaw, Keeps, GoneLaw}
+use Rattle.sem_mutex.specs.Laws.{SparesMutexes, BesideLaw, SafetyLaw, CallsLaw, Keeps, GoneLaw}
 use Rattle.sem_mutex.proofs.Following.{Follows, follows_keeps}
-use Rattle.inheritance.proofs.Same.{same_law}
 use Rattle.sem_mutex.proofs.Keeping.{take_keeps, give_same}
 use Rattle.sem_mutex.proofs.Beside.{follows-tick, follows-pend, follows-delay, follows-release, follows-release_all, follows-end_wait, follows-wake_all, follows-remove, follows-spawn, follows-ids, follows-last, follows-slice, follows-suspend, follows-resume, follows-reset, follows-set_locks, follows-set_safe, follows-set_errno, follows-set_int_locked, follows-set_again, follows-set_regs, follows-leave_gate, follows-answer, follows-refuse, follows-lessen, follows-lent, follows-unreserve}
 use Rattle.wind_lists.specs.Records.{Rising}
@@ -33,17 +32,17 @@ task_deleted s caller n (EndsItself count) is said kept =
     let ms = s.mutexes in
     let k : KernState = asked s.kern caller in
     let less : KernState = unguarded s.kern caller count in
-    let one : KeepsMutexes (both k ms) = follows_keeps s k (follows-set_again ms s.kern caller false) kept in
-    let two : KeepsMutexes (both less ms) = follows_keeps (both k ms) less (follows-lessen ms k caller count) one in
-    follows_keeps (both less ms) (remove less caller) (follows-remove ms less caller) two
+    let one : KeepsMutexes (record s { kern = k }) = follows_keeps s k (follows-set_again ms s.kern caller false) kept in
+    let two : KeepsMutexes (record s { kern = less }) = follows_keeps (record s { kern = k }) less (follows-lessen ms k caller count) one in
+    follows_keeps (record s { kern = less }) (remove less caller) (follows-remove ms less caller) two
 task_deleted s caller n (Removes who) is said kept =
     let k : KernState = asked s.kern caller in
-    let one : KeepsMutexes (both k s.mutexes) = follows_keeps s k (follows-set_again s.mutexes s.kern caller false) kept in
-    follows_keeps (both k s.mutexes) (remove k who) (follows-remove s.mutexes k who) one
+    let one : KeepsMutexes (record s { kern = k }) = follows_keeps s k (follows-set_again s.mutexes s.kern caller false) kept in
+    follows_keeps (record s { kern = k }) (remove k who) (follows-remove s.mutexes k who) one
 task_deleted s caller n (Awaits who) is said kept =
     let k : KernState = set_again s.kern caller true in
-    let one : KeepsMutexes (both k s.mutexes) = follows_keeps s k (follows-set_again s.mutexes s.kern caller true) kept in
-    follows_keeps (both k s.mutexes) (awaiting s.kern caller who) (follows-pend s.mutexes k caller (deletion who) false wait_forever refl (lives_below s.kern who is said.1)) one
+    let one : KeepsMutexes (record s { kern = k }) = follows_keeps s k (follows-set_again s.mutexes s.kern caller true) kept in
+    follows_keeps (record s { kern = k }) (awaiting s.kern caller who) (follows-pend s.mutexes k caller (deletion who) false wait_forever refl (lives_below s.kern who is said.1)) one
 
 -- a move that leaves mutexes alone
 follows : (s : MutexState) (m : Move) → SparesMutexes s m → Follows s.mutexes s.kern (apply s.kern m)
@@ -86,9 +85,6 @@ safety_law s kept = record {
   lessening = λ who n. follows_keeps s (lessen s.kern who n) (follows-lessen s.mutexes s.kern who n) kept;
   deleting = λ caller target is. task_deleted s caller target (deed_of s.kern.tasks caller target) is (deed_says s.kern.tasks caller target) kept;
 }
-
-pub idle_law : IdleLaw
-idle_law s is kept = same_law s is kept.urgent
 
 deleting : (s : MutexState) → IsKern s.kern → Rising row_id s.mutexes → KeepsMutexes s → (id : ℕ) → delete_refusal (object_of s.mutexes id) ≡ None → KeepsMutexes (delete s id)
 deleting s is up kept id fine =

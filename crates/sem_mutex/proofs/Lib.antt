@@ -3,6 +3,7 @@ pub mod Beside
 pub mod Counting
 pub mod Owning
 pub mod Lifting
+pub mod AtOnce
 pub mod Handing
 pub mod Giving
 pub mod Keeping

@@ -1,8 +1,10 @@
 -- Raising keeps the mutexes' invariant.
-use Rattle.std.proofs.Common.{◌≡◌, ℕ, zero, suc, ◌<◌, ◌≤◌, true, false, cond, List, [], ◌∷◌, map, Option, None, Some, IsSome, IfSome, refl, sym, ap, ◌∙◌, subst, arith, ◌⊎◌, inl, inr, ⊎_elim}
+use Rattle.std.proofs.Common.{◌≡◌, ℕ, ◌<◌, ◌≤◌, true, false, cond, List, [], ◌∷◌, map, Option, None, Some, IsSome, IfSome, refl, sym, ap, ◌∙◌, subst, arith, ◌⊎◌, inl, inr, ⊎_elim}
 use Rattle.std.specs.List.{All, Contains, filter}
 use Rattle.std.proofs.lemmas.List.Elements.{All-contains, All-contains_itself, All-weaker}
 use Rattle.id_table.specs.declared.ident.Place.{Place}
+use Rattle.wind_base.specs.declared.profile.Profile.{Profile}
+use Rattle.wind_base.specs.declared.profile.Profile.TheVariants.{One}
 use Rattle.task_block.specs.declared.task.Task.{Task}
 use Rattle.wind_core.specs.State.{KernState, IsKern, task_of}
 use Rattle.wind_core.specs.Moves.{move_found, with_pri, has_pri, change_pri}
@@ -11,9 +13,10 @@ use Rattle.wind_core.proofs.Moving.{move_keeps}
 use Rattle.wind_core.proofs.Ids.{ids}
 use Rattle.inheritance.specs.declared.mutex.Mutex.{Mutex}
 use Rattle.inheritance.specs.Mutexes.{MutexState, held_count}
-use Rattle.inheritance.specs.Reach.{mutex_at, owner_at, boss, wait_of, pri_of, is_on, path, reaches, urgency, lifted, repried, raised_kern, raised}
+use Rattle.inheritance.specs.Reach.{mutex_at, owner_at, boss, wait_of, pri_of, reaches, lifted, repried, raised_kern, raised}
 use Rattle.sem_mutex.specs.Kept.{MutexKept, TaskKept, Holds, KeepsMutexes}
-use Rattle.inheritance.proofs.Walk.{path_cases, most_own, most_least}
+use Rattle.inheritance.proofs.Walk.{most_own}
+use Rattle.inheritance.proofs.Exact.{urgency_alone}
 use Rattle.inheritance.proofs.Same.{pri_is, boss_owner, raised_law}
 use Rattle.sem_mutex.proofs.Counting.{no_lender}
 use Rattle.sem_mutex.proofs.Owning.{From}
@@ -49,56 +52,46 @@ drift_all ts goal (u ∷ us) r is all =
     (λ since t f. (f.0, f.1, record { id = f.2.id; normal = f.2.normal; held = f.2.held; wait = f.2.wait; fifo = f.2.fifo; pri = f.2.pri }))
     all)
 
--- ---- a task that no task waits for
-module _ (up : ℕ → Option ℕ) (pri : ℕ → ℕ) (x : ℕ) (nobody : (z : ℕ) → up z ≡ Some x → ⊥) where
-  never_on : (n y : ℕ) → is_on (path up n y) x ≡ true → ⊥
-  never_on zero y h = absurd (cc)
-  never_on (suc n) y h =
-      let s = path_cases up n y x h in
-      ⊎_elim (λ (e : s.0 ≡ x). nobody y (s.1 ∙ ap Some e)) (λ (r : is_on (path up n s.0) x ≡ true). never_on n s.0 r) s.2
-
-  pub urgency_alone : (n : ℕ) (all : List ℕ) → urgency up pri n all x ≡ pri x
-  urgency_alone n all =
-      let low = most_own pri (pri x) (map pri (filter (λ y. reaches up n y x) all)) in
-      let high = most_least pri (pri x) (pri x) (λ y. reaches up n y x) all (omega arith) (λ y r. absurd (never_on n y r)) in
-      omega (arith, low, high)
-
 -- ---- the invariant
-module _ (count : ℕ → ℕ) (ms : List (ℕ × Mutex)) (k : KernState) (is : IsKern k) (free : (i : ℕ) → count i ≡ 0 → (w : Option Place) → owner_at ms w ≡ Some i → ⊥) (h : Holds count ms k) where
-  lifted_kept : (u : Task) → From (Drifts (lifted k ms)) k.tasks u → TaskKept ms count k.next_id u
+module _ (p : Profile) (count : ℕ → ℕ) (ms : List (ℕ × Mutex)) (k : KernState) (is : IsKern k) (free : (i : ℕ) → count i ≡ 0 → (w : Option Place) → owner_at ms w ≡ Some i → ⊥) (h : Holds p count ms k) where
+  lifted_kept : (u : Task) → From (Drifts (lifted p k ms)) k.tasks u → TaskKept p ms count k.next_id u
   lifted_kept u f =
       let t = f.0 in
       let d = f.2 in
-      let kept = All-contains (TaskKept ms count k.next_id) k.tasks t h.tasks f.1 in
+      let kept = All-contains (TaskKept p ms count k.next_id) k.tasks t h.tasks f.1 in
       let own = pri_is k.tasks t is.rising f.1 in
-      let less : lifted k ms t.id ≤ pri_of k.tasks t.id = most_own (pri_of k.tasks) (pri_of k.tasks t.id) (map (pri_of k.tasks) (filter (λ y. reaches (boss k.tasks ms) 256 y t.id) (ids k.tasks))) in
+      let less : p ≡ One → lifted p k ms t.id ≤ pri_of k.tasks t.id =
+      λ one. subst (λ q. lifted q k ms t.id ≤ pri_of k.tasks t.id) (sym one) (most_own (pri_of k.tasks) (pri_of k.tasks t.id) (map (pri_of k.tasks) (filter (λ y. reaches (boss k.tasks ms) 256 y t.id) (ids k.tasks)))) in
       record {
-        raised = ⊎_elim (λ (q : u.pri ≡ t.pri). omega (arith, d.normal, kept.raised)) (λ (q : u.pri ≡ lifted k ms t.id). omega (arith, d.normal, kept.raised)) d.pri;
+        raised = λ one.
+            let was = kept.raised one in
+            let low = less one in
+            ⊎_elim (λ (q : u.pri ≡ t.pri). omega (arith, d.normal, was, q)) (λ (q : u.pri ≡ lifted p k ms t.id). omega (arith, d.normal, was, q, low, own)) d.pri;
         held = d.held ∙ kept.held ∙ ap count (sym d.id);
-        normal = λ z.
+        normal = λ one z.
             let none : count t.id ≡ 0 = sym kept.held ∙ sym d.held ∙ z in
-            let alone : lifted k ms t.id ≡ pri_of k.tasks t.id =
-            urgency_alone (boss k.tasks ms) (pri_of k.tasks) t.id (λ y e. free t.id none (wait_of (task_of k.tasks y)) (boss_owner k.tasks (owner_at ms (wait_of (task_of k.tasks y))) t.id e)) 256 (ids k.tasks) in
-            ⊎_elim (λ (q : u.pri ≡ t.pri). q) (λ (q : u.pri ≡ lifted k ms t.id). q ∙ alone ∙ own) d.pri ∙ kept.normal (sym d.held ∙ z) ∙ sym d.normal;
+            let alone : lifted p k ms t.id ≡ pri_of k.tasks t.id = subst (λ q. lifted q k ms t.id ≡ pri_of k.tasks t.id) (sym one)
+            (urgency_alone (boss k.tasks ms) (pri_of k.tasks) t.id (λ y e. free t.id none (wait_of (task_of k.tasks y)) (boss_owner k.tasks (owner_at ms (wait_of (task_of k.tasks y))) t.id e)) 256 (ids k.tasks)) in
+            ⊎_elim (λ (q : u.pri ≡ t.pri). q) (λ (q : u.pri ≡ lifted p k ms t.id). q ∙ alone ∙ own) d.pri ∙ kept.normal one (sym d.held ∙ z) ∙ sym d.normal;
         made = subst (λ w. IfSome w (λ p. p.id < k.next_id)) (sym d.wait) kept.made;
         owned = subst (λ w. IfSome (mutex_at ms w) (λ m. IsSome m.owner × (m.inversion_safe ≡ true → u.fifo ≡ false))) (sym d.wait)
             (subst (λ f. IfSome (mutex_at ms t.wait) (λ m. IsSome m.owner × (m.inversion_safe ≡ true → f ≡ false))) (sym d.fifo) kept.owned);
       }
 
-  pub holds_raised : Holds count ms (raised_kern k ms)
+  pub holds_raised : Holds p count ms (raised_kern p k ms)
   holds_raised =
-      let same = next-repried k (lifted k ms) k.tasks in
+      let same = next-repried k (lifted p k ms) k.tasks in
       record {
-        tasks = subst (λ n. All (TaskKept ms count n) (raised_kern k ms).tasks) (sym same)
-            (All-weaker (From (Drifts (lifted k ms)) k.tasks) (TaskKept ms count k.next_id) lifted_kept (raised_kern k ms).tasks
-            (drift_all k.tasks (lifted k ms) k.tasks k is
-            (All-weaker (Contains k.tasks) (From (Drifts (lifted k ms)) k.tasks) (λ t at. (t, at, record { id = refl; normal = refl; held = refl; wait = refl; fifo = refl; pri = inl refl })) k.tasks (All-contains_itself k.tasks))));
+        tasks = subst (λ n. All (TaskKept p ms count n) (raised_kern p k ms).tasks) (sym same)
+            (All-weaker (From (Drifts (lifted p k ms)) k.tasks) (TaskKept p ms count k.next_id) lifted_kept (raised_kern p k ms).tasks
+            (drift_all k.tasks (lifted p k ms) k.tasks k is
+            (All-weaker (Contains k.tasks) (From (Drifts (lifted p k ms)) k.tasks) (λ t at. (t, at, record { id = refl; normal = refl; held = refl; wait = refl; fifo = refl; pri = inl refl })) k.tasks (All-contains_itself k.tasks))));
         mutexes = subst (λ n. All (MutexKept n) ms) (sym same) h.mutexes;
       }
 
 -- after raising, the invariant holds, even if owners weren't as urgent as their waiters before
-pub raised_keeps : (s : MutexState) → IsKern s.kern → Holds (held_count s.mutexes) s.mutexes s.kern → KeepsMutexes (raised s)
+pub raised_keeps : (s : MutexState) → IsKern s.kern → Holds s.profile (held_count s.mutexes) s.mutexes s.kern → KeepsMutexes (raised s)
 raised_keeps s is h = record {
-  holds = holds_raised (held_count s.mutexes) s.mutexes s.kern is (λ i z w e. no_lender s.mutexes i z w e) h;
-  urgent = raised_law s is;
+  holds = holds_raised s.profile (held_count s.mutexes) s.mutexes s.kern is (λ i z w e. no_lender s.mutexes i z w e) h;
+  urgent = λ one. raised_law s is;
 }

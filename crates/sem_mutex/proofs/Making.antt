@@ -41,7 +41,7 @@ create_keeps s options urgency kept =
     let none : ◌≡◌ {A = ℕ} (cond (is_inversion_safe options && false) 1 0) 0 = elim (is_inversion_safe options) as (λ b. ◌≡◌ {A = ℕ} (cond (b && false) 1 0) 0) [ true ↦ refl | false ↦ refl ] in
     omega arith in
     record {
-      holds = subst (λ c. Holds c (ms ++ (n, v) ∷ []) k) (fun_ext count) (record {
+      holds = subst (λ c. Holds s.profile c (ms ++ (n, v) ∷ []) k) (fun_ext count) (record {
         tasks = λ i d hi.
             let t : Task = get_or s.kern.tasks i d in
             let was = kept.holds.tasks i d hi in
@@ -55,7 +55,7 @@ create_keeps s options urgency kept =
             };
         mutexes = All-push (MutexKept (n + 1)) ms (n, v) more.holds.mutexes (record { id = omega arith; owner = tt; depth = λ q. absurd (cc); by_urgency = urgency });
       });
-      urgent = λ i c hi j d hj e. kept.urgent i c hi j d hj (sym (ap lent_to (mutex_at-push ms n v (get_or s.kern.tasks i c).wait (kept.holds.tasks i c hi).made)) ∙ e);
+      urgent = λ one i c hi j d hj e. kept.urgent one i c hi j d hj (sym (ap lent_to (mutex_at-push ms n v (get_or s.kern.tasks i c).wait (kept.holds.tasks i c hi).made)) ∙ e);
     }
 
 pub below_next : (s : MutexState) → KeepsMutexes s → IdsBelow s.kern.next_id s.mutexes

@@ -5,5 +5,5 @@ use Rattle.sem_mutex.specs.Laws.{OpeningLaw}
 pub opening_keeps : OpeningLaw
 opening_keeps s no_task no_mutex = record {
   holds = record { tasks = λ i d hi. absurd (omega (arith, ap length no_task)); mutexes = λ i d hi. absurd (omega (arith, ap length no_mutex)) };
-  urgent = λ i c hi. absurd (omega (arith, ap length no_task));
+  urgent = λ one i c hi. absurd (omega (arith, ap length no_task));
 }

@@ -4,6 +4,8 @@ use Rattle.std.specs.List.{All}
 use Rattle.wind_base.specs.declared.errno.Errno.{Errno}
 use Rattle.wind_base.specs.declared.errno.Errno.TheVariants as errors
 use Rattle.id_table.specs.Rows.{object_of}
+use Rattle.wind_base.specs.declared.profile.Profile.{Profile}
+use Rattle.wind_base.specs.declared.profile.Profile.TheVariants.{One, Two}
 use Rattle.task_block.specs.declared.task.Task.{Task}
 use Rattle.wind_lists.specs.Sorting.{first}
 use Rattle.wind_lists.proofs.Passing.{none_passes}
@@ -17,8 +19,8 @@ use Rattle.wind_core.proofs.Stable.{All-change, renew_task-stable, move_task-sta
 use Rattle.task_safety.specs.Safety.{deletion, safe_of, make_safe, lessen}
 use Rattle.inheritance.specs.declared.mutex.Mutex.{Mutex}
 use Rattle.inheritance.specs.Mutexes.{MutexState, mutex_place}
-use Rattle.inheritance.specs.Reach.{lifted, repried, raised}
-use Rattle.sem_mutex.specs.Calls.{held_of, holding, guarded, eased, restored, less_held, dropped, letting_go, hand, deepen, await, taken, take_alone, take, pass_on, give_up, shallow, give_alone, give, ended, owner_ended, delete_alone, delete}
+use Rattle.inheritance.specs.Reach.{lifted, repried}
+use Rattle.sem_mutex.specs.Calls.{at_once, raised_at_once, held_of, holding, guarded, eased, restored, less_held, dropped, letting_go, hand, deepen, await, taken, take_alone, take, pass_on, give_up, shallow, give_alone, give, ended, owner_ended, delete_alone, delete}
 
 module _ (P : Task → Type 0) (renews : (since : ℕ) (t : Task) → P t → P (renewed since t)) (helds : (n : ℕ) (t : Task) → P t → P (record t { held = n })) (safes : (n : ℕ) (t : Task) → P t → P (record t { safe = n }))
     (pris : (p : ℕ) (t : Task) → P t → P (with_pri p t)) (goes : (t : Task) → P t → P (released t)) (answers : (a : ℕ) (e : Option Errno) (t : Task) → P t → P (answered a e t)) where
@@ -29,8 +31,12 @@ module _ (P : Task → Type 0) (renews : (since : ℕ) (t : Task) → P t → P 
   repried-steady k goal [] all = all
   repried-steady k goal (u ∷ us) all = repried-steady (change_pri k u.id (goal u.id)) goal us (change_pri-steady k u.id (goal u.id) all)
 
-  pub raised-steady : (s : MutexState) → All P s.kern.tasks → All P (raised s).kern.tasks
-  raised-steady s all = repried-steady s.kern (lifted s.kern s.mutexes) s.kern.tasks all
+  at_once-steady : (p : Profile) (k : KernState) (ms : List (ℕ × Mutex)) → All P k.tasks → All P (at_once p k ms).tasks
+  at_once-steady One k ms all = repried-steady k (lifted One k ms) k.tasks all
+  at_once-steady Two k ms all = all
+
+  pub raised-steady : (s : MutexState) → All P s.kern.tasks → All P (raised_at_once s).kern.tasks
+  raised-steady s all = at_once-steady s.profile s.kern s.mutexes all
 
   releases-steady : (k : KernState) (ts : List Task) → All P k.tasks → All P (releases k ts).tasks
   releases-steady k [] all = all
@@ -52,14 +58,15 @@ module _ (P : Task → Type 0) (renews : (since : ℕ) (t : Task) → P t → P 
   eased-steady : (k : KernState) (who : ℕ) (m : Mutex) (n : ℕ) → All P k.tasks → All P (eased k who m n).tasks
   eased-steady k who m n all = elim m.delete_safe as (λ b. All P (cond b (lessen k who n) k).tasks) [ true ↦ lessen-steady k who n all | false ↦ all ]
 
-  restored-steady : (k : KernState) (who : ℕ) (o : Option Task) → All P k.tasks → All P (restored k who o).tasks
-  restored-steady k who None all = all
-  restored-steady k who (Some t) all = elim (eqb t.held 0) as (λ b. All P (cond b (change_pri k who t.normal) k).tasks) [ true ↦ change_pri-steady k who t.normal all | false ↦ all ]
+  restored-steady : (p : Profile) (k : KernState) (who : ℕ) (o : Option Task) → All P k.tasks → All P (restored p k who o).tasks
+  restored-steady Two k who o all = all
+  restored-steady One k who None all = all
+  restored-steady One k who (Some t) all = elim (eqb t.held 0) as (λ b. All P (cond b (change_pri k who t.normal) k).tasks) [ true ↦ change_pri-steady k who t.normal all | false ↦ all ]
 
-  letting_go-steady : (k : KernState) (who : ℕ) (m : Mutex) → All P k.tasks → All P (letting_go k who m).tasks
-  letting_go-steady k who m all =
-      elim m.inversion_safe as (λ b. All P (cond b (dropped k who) k).tasks) [
-        | true ↦ restored-steady (less_held k who) who (task_of (less_held k who).tasks who) (All-change P k.tasks who (λ t. record t { held = held_of (task_of k.tasks who) - 1 }) (helds (held_of (task_of k.tasks who) - 1)) all)
+  letting_go-steady : (p : Profile) (k : KernState) (who : ℕ) (m : Mutex) → All P k.tasks → All P (letting_go p k who m).tasks
+  letting_go-steady p k who m all =
+      elim m.inversion_safe as (λ b. All P (cond b (dropped p k who) k).tasks) [
+        | true ↦ restored-steady p (less_held k who) who (task_of (less_held k who).tasks who) (All-change P k.tasks who (λ t. record t { held = held_of (task_of k.tasks who) - 1 }) (helds (held_of (task_of k.tasks who) - 1)) all)
         | false ↦ all
       ]
 
@@ -79,16 +86,16 @@ module _ (P : Task → Type 0) (renews : (since : ℕ) (t : Task) → P t → P 
           let t : MutexState = pass_on s id m (first_waiter s.kern.tasks (mutex_place id)) in
           elim (ltb 1 m.depth) as (λ b. All P (cond b (shallow s who id m) (give_up s who id m)).kern.tasks) [
             | true ↦ eased-steady s.kern who m 1 all
-            | false ↦ eased-steady (letting_go t.kern who m) who m 1 (letting_go-steady t.kern who m (pass_on-steady s id m (first_waiter s.kern.tasks (mutex_place id)) all))
+            | false ↦ eased-steady (letting_go s.profile t.kern who m) who m 1 (letting_go-steady s.profile t.kern who m (pass_on-steady s id m (first_waiter s.kern.tasks (mutex_place id)) all))
           ]
 
-  pub owner_ended-steady : (k : KernState) (m : Mutex) (o : Option ℕ) → All P k.tasks → All P (owner_ended k m o).tasks
-  owner_ended-steady k m None all = all
-  owner_ended-steady k m (Some o) all = each (task_of k.tasks o)
+  pub owner_ended-steady : (p : Profile) (k : KernState) (m : Mutex) (o : Option ℕ) → All P k.tasks → All P (owner_ended p k m o).tasks
+  owner_ended-steady p k m None all = all
+  owner_ended-steady p k m (Some o) all = each (task_of k.tasks o)
     where
-      each : (q : Option Task) → All P (ended k o m q).tasks
+      each : (q : Option Task) → All P (ended p k o m q).tasks
       each None = all
-      each (Some t) = eased-steady (letting_go k o m) o m m.depth (letting_go-steady k o m all)
+      each (Some t) = eased-steady (letting_go p k o m) o m m.depth (letting_go-steady p k o m all)
 
   pub take-steady : (s : MutexState) (who id n : ℕ) → ((fifo : Bool) (wake : Option ℕ) (t : Task) → P t → P (pended (mutex_place id) fifo wake t)) → All P s.kern.tasks → All P (take s who id n).kern.tasks
   take-steady s who id n pends all = raised-steady (take_alone s who id n (object_of s.mutexes id)) (row (object_of s.mutexes id))
@@ -113,6 +120,6 @@ pub nobody_left : (s : MutexState) (id : ℕ) (m : Mutex) → IsKern s.kern → 
 nobody_left s id m is e =
     let k : KernState = wake_all s.kern (mutex_place id) 4294967295 (Some errors.ObjDeleted) in
     let none : All (IsAway id) k.tasks = none_passes task_id waits_before waits_before-order (waits_at (mutex_place id)) k.tasks (ap first (none_left s.kern is (mutex_place id) 4294967295 (Some errors.ObjDeleted))) in
-    let row : All (IsAway id) (delete_alone s id (Some m)).kern.tasks = owner_ended-steady (IsAway id) (λ since t h. h) (λ n t h. h) (λ n t h. h) (λ p t h. h) (λ t h. refl) (λ a x t h. refl) k m m.owner none in
-    subst (λ o. All (IsAway id) (raised (delete_alone s id o)).kern.tasks) (sym e)
+    let row : All (IsAway id) (delete_alone s id (Some m)).kern.tasks = owner_ended-steady (IsAway id) (λ since t h. h) (λ n t h. h) (λ n t h. h) (λ p t h. h) (λ t h. refl) (λ a x t h. refl) s.profile k m m.owner none in
+    subst (λ o. All (IsAway id) (raised_at_once (delete_alone s id o)).kern.tasks) (sym e)
     (raised-steady (IsAway id) (λ since t h. h) (λ n t h. h) (λ n t h. h) (λ p t h. h) (λ t h. refl) (λ a x t h. refl) (delete_alone s id (Some m)) row)

@@ -2,6 +2,8 @@
 use Rattle.std.specs.Prelude.{ℕ, ◌+◌, ◌-◌, Bool, false, not, ◌==◌, ◌&&◌, nat_lt, min, if◌then◌else◌, List, Option, None, Some}
 use Rattle.std.specs.Option.{option_map}
 use Rattle.wind_base.specs.Limits.{error_word, ok_word, no_wait}
+use Rattle.wind_base.specs.declared.profile.Profile.{Profile}
+use Rattle.wind_base.specs.declared.profile.Profile.TheVariants.{One, Two}
 use Rattle.id_table.specs.Rows.{object_of, with_object, without}
 use Rattle.task_block.specs.declared.task.Task.{Task}
 use Rattle.wind_base.specs.declared.errno.Errno.{Errno}
@@ -14,11 +16,20 @@ use Rattle.inheritance.specs.declared.mutex.Mutex.{Mutex}
 use Rattle.wind_core.specs.declared.took.Took.{Took}
 use Rattle.wind_core.specs.declared.took.Took.TheVariants.{Taken, Pended}
 use Rattle.inheritance.specs.Mutexes.{MutexState, is_id, mutex_place, owner_in}
-use Rattle.inheritance.specs.Reach.{raised}
+use Rattle.inheritance.specs.Reach.{raised_kern}
 
 -- the number as an id, if a mutex with this id is live
 abbrev pub live_mutex : List (ℕ × Mutex) → ℕ → Option ℕ
 live_mutex ms id = option_map (λ _. id) (object_of ms id)
+
+-- ---- when priorities are inherited
+-- under profile 1 a call raises priorities at once; under profile 2 it leaves that to the end of the step
+abbrev pub at_once : Profile → KernState → List (ℕ × Mutex) → KernState
+at_once One k ms = raised_kern One k ms
+at_once Two k ms = k
+
+abbrev pub raised_at_once : MutexState → MutexState
+raised_at_once s = record s { kern = at_once s.profile s.kern s.mutexes }
 
 -- ---- what owning a mutex means
 -- the number of inversion-safe mutexes that a task owns, as its record says
@@ -38,22 +49,23 @@ guarded k who m = if m.delete_safe then make_safe k who else k
 abbrev pub eased : KernState → ℕ → Mutex → ℕ → KernState
 eased k who m n = if m.delete_safe then lessen k who n else k
 
--- the task gets its normal priority back if it owns no inversion-safe mutex
-abbrev pub restored : KernState → ℕ → Option Task → KernState
-restored k who None = k
-restored k who (Some t) = if t.held == 0 then change_pri k who t.normal else k
+-- under profile 1 the task gets its normal priority back if it owns no inversion-safe mutex
+abbrev pub restored : Profile → KernState → ℕ → Option Task → KernState
+restored One k who None = k
+restored One k who (Some t) = if t.held == 0 then change_pri k who t.normal else k
+restored Two k who o = k
 
 -- the task owns one inversion-safe mutex less
 abbrev pub less_held : KernState → ℕ → KernState
 less_held k who = set_held k who (held_of (task_of k.tasks who) - 1)
 
 -- one inversion-safe mutex less
-abbrev pub dropped : KernState → ℕ → KernState
-dropped k who = restored (less_held k who) who (task_of (less_held k who).tasks who)
+abbrev pub dropped : Profile → KernState → ℕ → KernState
+dropped p k who = restored p (less_held k who) who (task_of (less_held k who).tasks who)
 
 -- the task gives up the ownership of the mutex
-abbrev pub letting_go : KernState → ℕ → Mutex → KernState
-letting_go k who m = if m.inversion_safe then dropped k who else k
+abbrev pub letting_go : Profile → KernState → ℕ → Mutex → KernState
+letting_go p k who m = if m.inversion_safe then dropped p k who else k
 
 -- ---- take
 -- the mutex with this owner, taken once
@@ -62,14 +74,14 @@ owned who m = record m { owner = Some who; depth = 1 }
 
 -- the task becomes the owner
 abbrev pub hand : MutexState → ℕ → ℕ → Mutex → MutexState
-hand s who id m = record {
+hand s who id m = record s {
   kern = guarded (holding s.kern who m) who m;
   mutexes = with_object s.mutexes id (owned who m);
 }
 
 -- the owner takes it once more
 abbrev pub deepen : MutexState → ℕ → ℕ → Mutex → MutexState
-deepen s who id m = record {
+deepen s who id m = record s {
   kern = guarded s.kern who m;
   mutexes = with_object s.mutexes id (record m { depth = m.depth + 1 });
 }
@@ -119,7 +131,7 @@ took who o = if is_others who (owner_in o) then Pended else Taken
 
 -- the state after a take that isn't refused
 abbrev pub take : MutexState → ℕ → ℕ → ℕ → MutexState
-take s who id n = raised (take_alone s who id n (object_of s.mutexes id))
+take s who id n = raised_at_once (take_alone s who id n (object_of s.mutexes id))
 
 -- ---- give
 -- the mutex without an owner
@@ -135,11 +147,11 @@ pass_on s id m (Some w) = record (hand s w.id id m) { kern = end_wait (hand s w.
 abbrev pub give_up : MutexState → ℕ → ℕ → Mutex → MutexState
 give_up s who id m =
     let t = pass_on s id m (first_waiter s.kern.tasks (mutex_place id)) in
-    record t { kern = eased (letting_go t.kern who m) who m 1 }
+    record t { kern = eased (letting_go s.profile t.kern who m) who m 1 }
 
 -- the owner gives it once
 abbrev pub shallow : MutexState → ℕ → ℕ → Mutex → MutexState
-shallow s who id m = record {
+shallow s who id m = record s {
   kern = eased s.kern who m 1;
   mutexes = with_object s.mutexes id (record m { depth = m.depth - 1 });
 }
@@ -171,29 +183,29 @@ give_refusal who (Some m) = if is_id who m.owner then None else Some errors.Inva
 
 -- the state after a give that isn't refused
 abbrev pub give : MutexState → ℕ → ℕ → MutexState
-give s who id = raised (give_alone s who id (object_of s.mutexes id))
+give s who id = raised_at_once (give_alone s who id (object_of s.mutexes id))
 
 -- ---- delete
 -- a live owner gives up all its takes
-abbrev pub ended : KernState → ℕ → Mutex → Option Task → KernState
-ended k who m None = k
-ended k who m (Some t) = eased (letting_go k who m) who m m.depth
+abbrev pub ended : Profile → KernState → ℕ → Mutex → Option Task → KernState
+ended p k who m None = k
+ended p k who m (Some t) = eased (letting_go p k who m) who m m.depth
 
 -- the owner, if it is live, gives up all its takes
-abbrev pub owner_ended : KernState → Mutex → Option ℕ → KernState
-owner_ended k m None = k
-owner_ended k m (Some o) = ended k o m (task_of k.tasks o)
+abbrev pub owner_ended : Profile → KernState → Mutex → Option ℕ → KernState
+owner_ended p k m None = k
+owner_ended p k m (Some o) = ended p k o m (task_of k.tasks o)
 
 -- the same, if the mutex is live
-abbrev pub its_owner_ended : KernState → Option Mutex → KernState
-its_owner_ended k None = k
-its_owner_ended k (Some m) = owner_ended k m m.owner
+abbrev pub its_owner_ended : Profile → KernState → Option Mutex → KernState
+its_owner_ended p k None = k
+its_owner_ended p k (Some m) = owner_ended p k m m.owner
 
 -- a deletion, before owners inherit
 abbrev pub delete_alone : MutexState → ℕ → Option Mutex → MutexState
 delete_alone s id None = s
-delete_alone s id (Some m) = record {
-  kern = owner_ended (wake_all s.kern (mutex_place id) error_word (Some errors.ObjDeleted)) m m.owner;
+delete_alone s id (Some m) = record s {
+  kern = owner_ended s.profile (wake_all s.kern (mutex_place id) error_word (Some errors.ObjDeleted)) m m.owner;
   mutexes = without s.mutexes id;
 }
 
@@ -204,7 +216,7 @@ delete_refusal (Some m) = None
 
 -- the state after a deletion that isn't refused
 abbrev pub delete : MutexState → ℕ → MutexState
-delete s id = raised (delete_alone s id (object_of s.mutexes id))
+delete s id = raised_at_once (delete_alone s id (object_of s.mutexes id))
 
 -- ---- setting a task's normal priority
 -- the priority of a task after its normal priority is set
@@ -212,12 +224,17 @@ abbrev pub pri_after : ℕ → Option Task → ℕ
 pri_after pri None = pri
 pri_after pri (Some t) = if t.held == 0 then pri else min t.pri pri
 
+-- under profile 1 the task's priority follows; under profile 2 that is left to the end of the step
+abbrev pub followed : Profile → KernState → ℕ → ℕ → KernState
+followed One k who pri = change_pri k who pri
+followed Two k who pri = k
+
 -- the setting of a normal priority, before owners inherit
 abbrev pub priority_alone : MutexState → ℕ → ℕ → MutexState
 priority_alone s who pri = record s {
-  kern = change_pri (set_normal s.kern who pri) who (pri_after pri (task_of s.kern.tasks who));
+  kern = followed s.profile (set_normal s.kern who pri) who (pri_after pri (task_of s.kern.tasks who));
 }
 
 -- the state after a normal priority is set
 abbrev pub priority_set : MutexState → ℕ → ℕ → MutexState
-priority_set s who pri = raised (priority_alone s who pri)
+priority_set s who pri = raised_at_once (priority_alone s who pri)

@@ -1,11 +1,13 @@
 -- The invariant of mutexes, which the calls on them require and keep.
 use Rattle.std.specs.Prelude.{◌≡◌, ℕ, ◌<◌, ◌≤◌, ◌^◌, true, false, List, IfSome, IsSome}
 use Rattle.std.specs.List.{All}
+use Rattle.wind_base.specs.declared.profile.Profile.{Profile}
+use Rattle.wind_base.specs.declared.profile.Profile.TheVariants.{One}
 use Rattle.task_block.specs.declared.task.Task.{Task}
 use Rattle.wind_core.specs.State.{KernState}
 use Rattle.inheritance.specs.declared.mutex.Mutex.{Mutex}
 use Rattle.inheritance.specs.Mutexes.{MutexState, held_count}
-use Rattle.inheritance.specs.Reach.{mutex_at}
+use Rattle.inheritance.specs.Reach.{mutex_at, IsExact}
 use Rattle.inheritance.specs.Laws.{OwnersUrgent}
 
 -- the owner was made as a task, and has taken the mutex at least once; an inversion-safe mutex has waiters by priority
@@ -16,28 +18,39 @@ pub record MutexKept (next : ℕ) (r : ℕ × Mutex) : Type 0 where
   pub by_urgency : r.1.inversion_safe ≡ true → r.1.by_priority ≡ true
 
 -- the invariant of a task, where `count` is the number of inversion-safe mutexes of each task
-pub record TaskKept (ms : List (ℕ × Mutex)) (count : ℕ → ℕ) (next : ℕ) (t : Task) : Type 0 where
-  -- it is at least as urgent as its normal priority
-  pub raised : t.pri ≤ t.normal
+pub record TaskKept (p : Profile) (ms : List (ℕ × Mutex)) (count : ℕ → ℕ) (next : ℕ) (t : Task) : Type 0 where
+  -- under profile 1 it is at least as urgent as its normal priority
+  pub raised : p ≡ One → t.pri ≤ t.normal
   -- its count of owned mutexes is right
   pub held : t.held ≡ count t.id
-  -- if it owns none, it has its normal priority
-  pub normal : t.held ≡ 0 → t.pri ≡ t.normal
+  -- under profile 1, if it owns none, it has its normal priority
+  pub normal : p ≡ One → t.held ≡ 0 → t.pri ≡ t.normal
   -- it waits for an object that was made
   pub made : IfSome t.wait (λ p. p.id < next)
   -- it waits for no free mutex, and for an inversion-safe one by priority
   pub owned : IfSome (mutex_at ms t.wait) (λ m. IsSome m.owner × (m.inversion_safe ≡ true → t.fifo ≡ false))
 
 -- the invariant of all tasks and mutexes, without the priorities of owners
-pub record Holds (count : ℕ → ℕ) (ms : List (ℕ × Mutex)) (k : KernState) : Type 0 where
-  pub tasks : All (TaskKept ms count k.next_id) k.tasks
+pub record Holds (p : Profile) (count : ℕ → ℕ) (ms : List (ℕ × Mutex)) (k : KernState) : Type 0 where
+  pub tasks : All (TaskKept p ms count k.next_id) k.tasks
   pub mutexes : All (MutexKept k.next_id) ms
 
 -- the invariant of mutexes
 pub record KeepsMutexes (s : MutexState) : Type 0 where
-  pub holds : Holds (held_count s.mutexes) s.mutexes s.kern
+  pub holds : Holds s.profile (held_count s.mutexes) s.mutexes s.kern
+  -- under profile 1 each live owner is at least as urgent as its waiters
+  pub urgent : s.profile ≡ One → OwnersUrgent s.mutexes s.kern.tasks
+
+-- what is true of priorities at the end of each step, under both profiles
+pub record IsSettled (s : MutexState) : Type 0 where
+  -- each task has exactly the priority that it inherits
+  pub exact : IsExact s
   -- each live owner is at least as urgent as its waiters
   pub urgent : OwnersUrgent s.mutexes s.kern.tasks
+  -- each task is at least as urgent as its normal priority
+  pub raised : All (λ t. t.pri ≤ t.normal) s.kern.tasks
+  -- a task that owns no inversion-safe mutex has its normal priority
+  pub normal : All (λ t. t.held ≡ 0 → t.pri ≡ t.normal) s.kern.tasks
 
 -- the order numbers are far from overflow
 abbrev pub FewSinces : KernState → Type 0

@@ -1,6 +1,7 @@
 -- What follows from the definitions alone.
 use Rattle.std.specs.Prelude.{◌≡◌, ℕ, ◌<◌, ◌≤◌, true, false, [], None, Some}
 use Rattle.std.specs.List.{All}
+use Rattle.wind_base.specs.declared.profile.Profile.TheVariants.{Two}
 use Rattle.wind_base.specs.SemBits.{is_priority, is_inversion_safe}
 use Rattle.wind_base.specs.declared.semaphore.SemOptions.{SemOptions}
 use Rattle.wind_core.specs.State.{KernState, IsKern, Lives}
@@ -9,15 +10,15 @@ use Rattle.wind_core.specs.Move.{Move, Pend, ChangePri, SetNormal, SetHeld, Draw
 use Rattle.task_safety.specs.Safety.{make_safe, lessen}
 use Rattle.task_safety.specs.Deletion.{delete as delete_task}
 use Rattle.id_table.specs.Rows.{object_of}
-use Rattle.inheritance.specs.Mutexes.{MutexState, both, AreMutexes, mutex_place}
-use Rattle.inheritance.specs.Reach.{mutex_at, raised}
+use Rattle.inheritance.specs.Mutexes.{MutexState, AreMutexes, mutex_place}
+use Rattle.inheritance.specs.Reach.{mutex_at, raised, IsExact}
 use Rattle.sem_mutex.specs.Calls.{take, take_refusal, give, give_refusal, delete, delete_refusal, priority_set}
 use Rattle.sem_mutex.specs.Making.{create, new_mutex}
-use Rattle.sem_mutex.specs.Kept.{KeepsMutexes}
+use Rattle.sem_mutex.specs.Kept.{KeepsMutexes, IsSettled}
 
 -- the mutexes' invariant holds with this kernel
 abbrev pub Keeps : MutexState → KernState → Type 0
-Keeps s k = KeepsMutexes (both k s.mutexes)
+Keeps s k = KeepsMutexes (record s { kern = k })
 
 -- a move leaves mutexes alone: it begins no wait for a mutex, doesn't lower the next id, and writes no priority and
 -- no count of mutexes; only the calls on mutexes write those
@@ -43,9 +44,23 @@ pub record KeptBySafety (s : MutexState) : Type 0 where
 abbrev pub SafetyLaw : Type 0
 SafetyLaw = (s : MutexState) → KeepsMutexes s → KeptBySafety s
 
--- if the invariant holds, raising changes nothing, so no other call needs to raise
+-- if the invariant holds and, under profile 2, priorities are exact, raising changes nothing, so no other call needs
+-- to raise
 abbrev pub IdleLaw : Type 0
-IdleLaw = (s : MutexState) → IsKern s.kern → KeepsMutexes s → raised s ≡ s
+IdleLaw = (s : MutexState) → IsKern s.kern → KeepsMutexes s → (s.profile ≡ Two → IsExact s) → raised s ≡ s
+
+-- raising keeps the invariant, and priorities are exact afterwards
+pub record Settles (s : MutexState) : Type 0 where
+  pub keeps : KeepsMutexes (raised s)
+  pub exact : IsExact (raised s)
+
+abbrev pub SettleLaw : Type 0
+SettleLaw = (s : MutexState) → IsKern s.kern → KeepsMutexes s → Settles s
+
+-- if the invariant holds and, under profile 2, priorities are exact, all that is true of priorities at the end of a
+-- step is true
+abbrev pub SettledLaw : Type 0
+SettledLaw = (s : MutexState) → IsKern s.kern → KeepsMutexes s → (s.profile ≡ Two → IsExact s) → IsSettled s
 
 -- the calls on mutexes keep it
 pub record KeptByCalls (s : MutexState) : Type 0 where

@@ -27,7 +27,7 @@ create_refusal s =
 
 -- the mutex gets the next id, and goes last, since ids rise
 abbrev pub create : MutexState → Mutex → MutexState
-create s v = record {
+create s v = record s {
   kern = record s.kern { next_id = s.kern.next_id + 1 };
   mutexes = s.mutexes ++ (s.kern.next_id, v) ∷ [];
 }

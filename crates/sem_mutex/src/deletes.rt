@@ -17,9 +17,9 @@ use wind_core::Kern;
 impl Mutexes {
     // Ends the ownership of a live owner: it gives up all its takes.
     fn end_owner(&self, k: &mut Kern, id: Ident)
-        requires there { IsSome (object_of self.now id) }
+        requires there { IsSome (object_of self.now.rows id) }
         requires since { k.old.next_since + 1 < 2 ^ 63 }
-        ensures { k.new ≡ its_owner_ended k.old (object_of self.now id) }
+        ensures { k.new ≡ its_owner_ended self.now.profile k.old (object_of self.now.rows id) }
     {
         let m = self.mutex(id);
         let Some(owner) = m.owner else {
@@ -29,7 +29,7 @@ impl Mutexes {
         if k.task(owner).is_none() {
             return;
         }
-        let_go(k, owner, m);
+        let_go(k, owner, m, self.profile);
         ease(k, owner, m, depth);
     }
 
@@ -42,9 +42,9 @@ impl Mutexes {
     pub fn delete(&mut self, k: &mut Kern, id: u32) -> Result<(), Errno>
         requires kept { KeepsMutexes (both k.old self.old) }
         requires since { FewSinces k.old }
-        ensures ok { IfOk result (λ _. (delete_refusal (object_of self.old id) ≡ None)
+        ensures ok { IfOk result (λ _. (delete_refusal (object_of self.old.rows id) ≡ None)
             × (both k.new self.new ≡ delete (both k.old self.old) id)) }
-        ensures err { IfErr result (λ e. (delete_refusal (object_of self.old id) ≡ Some e)
+        ensures err { IfErr result (λ e. (delete_refusal (object_of self.old.rows id) ≡ Some e)
             × (both k.new self.new ≡ both k.old self.old)) }
         ensures kept { KeepsMutexes (both k.new self.new) }
     {

@@ -19,19 +19,19 @@ use wind_core::Kern;
 impl Mutexes {
     // How many times its owner has taken it and not given it back.
     fn depth(&self, id: Ident) -> u64
-        requires { IsSome (object_of self.now id) }
-        ensures { (m : Mutex_lem) → object_of self.now id ≡ Some m → result ≡ m.depth }
+        requires { IsSome (object_of self.now.rows id) }
+        ensures { (m : Mutex_lem) → object_of self.now.rows id ≡ Some m → result ≡ m.depth }
     {
         self.mutex(id).depth
     }
 
     // Makes the first waiter the owner and ends its wait. If no task waits, the mutex becomes free.
     fn pass_on(&mut self, k: &mut Kern, id: Ident)
-        requires there { IsSome (object_of self.old id) }
+        requires there { IsSome (object_of self.old.rows id) }
         requires kept { KeepsMutexes (both k.old self.old) }
         requires since { FewSinces k.old }
         requires safe { FewSafe k.old }
-        ensures { both k.new self.new ≡ passed_on (both k.old self.old) id (object_of self.old id) }
+        ensures { both k.new self.new ≡ passed_on (both k.old self.old) id (object_of self.old.rows id) }
     {
         k.facts();
         self.facts();
@@ -46,33 +46,33 @@ impl Mutexes {
     // The owner's last give.
     fn give_up(&mut self, k: &mut Kern, who: Ident, id: Ident)
         requires live { Lives k.old who }
-        requires there { IsSome (object_of self.old id) }
+        requires there { IsSome (object_of self.old.rows id) }
         requires kept { KeepsMutexes (both k.old self.old) }
         requires since { FewSinces k.old }
         requires safe { FewSafe k.old }
-        ensures { both k.new self.new ≡ given_up (both k.old self.old) who id (object_of self.old id) }
+        ensures { both k.new self.new ≡ given_up (both k.old self.old) who id (object_of self.old.rows id) }
     {
         k.facts();
         self.pass_on(k, id);
-        let_go(k, who, self.mutex(id));
+        let_go(k, who, self.mutex(id), self.profile);
         ease(k, who, self.mutex(id), 1);
     }
 
     // A give after which the owner still owns it.
     fn give_once(&mut self, k: &mut Kern, who: Ident, id: Ident)
         requires live { Lives k.old who }
-        requires there { IsSome (object_of self.old id) }
+        requires there { IsSome (object_of self.old.rows id) }
         requires since { k.old.next_since < 2 ^ 63 }
-        ensures { both k.new self.new ≡ given_once (both k.old self.old) who id (object_of self.old id) }
+        ensures { both k.new self.new ≡ given_once (both k.old self.old) who id (object_of self.old.rows id) }
     {
         ease(k, who, self.mutex(id), 1);
         take_depth(self.table.object_mut(id));
     }
 
     /// Gives the mutex once, on behalf of its owner (semGive). After the last give the first
-    /// waiting task owns it, or it is free; and if it is inversion-safe and the caller owns no
-    /// other such mutex, the caller gets its normal priority back. Last of all, if the mutex is
-    /// delete-safe, a safe section of the caller ends.
+    /// waiting task owns it, or it is free; and under profile 1, if it is inversion-safe and the
+    /// caller owns no other such mutex, the caller gets its normal priority back. Last of all, if
+    /// the mutex is delete-safe, a safe section of the caller ends.
     ///
     /// # Errors
     ///
@@ -83,9 +83,9 @@ impl Mutexes {
         requires kept { KeepsMutexes (both k.old self.old) }
         requires since { FewSinces k.old }
         requires safe { FewSafe k.old }
-        ensures ok { IfOk result (λ _. (give_refusal caller (object_of self.old id) ≡ None)
+        ensures ok { IfOk result (λ _. (give_refusal caller (object_of self.old.rows id) ≡ None)
             × (both k.new self.new ≡ give (both k.old self.old) caller id)) }
-        ensures err { IfErr result (λ e. (give_refusal caller (object_of self.old id) ≡ Some e)
+        ensures err { IfErr result (λ e. (give_refusal caller (object_of self.old.rows id) ≡ Some e)
             × (both k.new self.new ≡ both k.old self.old)) }
         ensures kept { KeepsMutexes (both k.new self.new) }
     {

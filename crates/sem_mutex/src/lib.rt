@@ -7,6 +7,7 @@ mod gives;
 mod laws;
 mod mutexes;
 mod owners;
+mod settling;
 mod takes;
 
 pub use laws::kept_law;

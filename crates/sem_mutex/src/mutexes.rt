@@ -4,59 +4,63 @@ ghost use Rattle.std.specs.Prelude.{◌≡◌, ◌<◌, ◌^◌, true, false, []
 ghost use Rattle.wind_base.specs.SemBits.{is_priority, is_inversion_safe};
 ghost use Rattle.id_table.specs.Rows.{object_of};
 ghost use Rattle.wind_core.specs.State.{Lives};
+ghost use Rattle.wind_base.specs.declared.profile.Profile.TheVariants.{One};
 ghost use Rattle.inheritance.specs.Mutexes.{both, owner_in, AreMutexes};
+ghost use Rattle.inheritance.specs.Laws.{OwnersUrgentBut};
 ghost use Rattle.sem_mutex.specs.Kept.{KeepsMutexes, FewSinces};
-ghost use Rattle.sem_mutex.specs.Calls.{live_mutex, priority_set};
+ghost use Rattle.sem_mutex.specs.Calls.{live_mutex, priority_set, raised_at_once};
 ghost use Rattle.sem_mutex.specs.Making.{create, create_refusal, new_mutex};
 
-use crate::owners::pri_after;
+use crate::owners::{follow, pri_after};
 use id_table::{Ident, Table};
 use inheritance::{Mutex, inherit};
 use std::alloc::Global;
 use std::marker::Model;
 use wind_base::limits::MUTEXES;
-use wind_base::{Errno, NoMemory, Pri, SemOptions};
+use wind_base::{Errno, NoMemory, Pri, Profile, SemOptions};
 use wind_core::Kern;
 
-/// The live mutexes, by id.
+/// The live mutexes, by id, and the rule by which their owners inherit priorities.
 #[derive(Drop)]
 pub struct Mutexes {
+    pub(crate) profile: Profile,
     pub(crate) table: Table<Mutex>,
 }
 
 impl Model for Mutexes {
-    ghost use Rattle.std.specs.Prelude.{◌≡◌, ℕ, List};
+    ghost use Rattle.std.specs.Prelude.{◌≡◌};
     ghost use Rattle.wind_base.specs.Limits.{most_mutexes};
-    ghost use Rattle.inheritance.specs.declared.mutex.Mutex.{Mutex as Mutex_lem};
+    ghost use Rattle.inheritance.specs.Mutexes.{LiveMutexes};
 
-    ghost Value = { List (ℕ × Mutex_lem) };
+    ghost Value = { LiveMutexes };
 
-    ghost view = { λ m. m.table.rows };
+    ghost view = { λ m. record { profile = m.profile; rows = m.table.rows } };
 
     ghost invariant = { λ m. m.table.room ≡ most_mutexes };
 }
 
 impl Mutexes {
-    /// No mutexes, with room for 1,024. No other call takes memory.
-    pub fn reserved(alloc: Global) -> Result<Mutexes, NoMemory>
-        ensures { IfOk result (λ m. m ≡ []) }
+    /// No mutexes, with room for 1,024, under a rule of inheritance. No other call takes memory.
+    pub fn reserved(alloc: Global, profile: Profile) -> Result<Mutexes, NoMemory>
+        ensures { IfOk result (λ m. m ≡ record { profile = profile; rows = [] }) }
     {
         Ok(Mutexes {
+            profile,
             table: Table::reserved(alloc, MUTEXES)?,
         })
     }
 
     /// Does nothing. Its contract states the invariant of the list of mutexes.
     pub fn facts(&self)
-        ensures { AreMutexes self.now }
+        ensures { AreMutexes self.now.rows }
     {
         self.table.facts();
     }
 
     // The mutex with this id, which must exist.
     pub(crate) fn mutex(&self, id: Ident) -> &Mutex
-        requires { IsSome (object_of self.now id) }
-        ensures { object_of self.now id ≡ Some result.now }
+        requires { IsSome (object_of self.now.rows id) }
+        ensures { object_of self.now.rows id ≡ Some result.now }
     {
         match self.table.get(id) {
             Some(m) => m,
@@ -66,7 +70,7 @@ impl Mutexes {
 
     // The id with this number, if its mutex is live.
     pub(crate) fn find(&self, id: u32) -> Option<Ident>
-        ensures { result ≡ live_mutex self.now id }
+        ensures { result ≡ live_mutex self.now.rows id }
     {
         self.facts();
         let id = Ident::new(id)?;
@@ -79,7 +83,7 @@ impl Mutexes {
 
     // The owner of the mutex with this id, live or ended. None if it is free.
     pub(crate) fn owner_by(&self, id: Ident) -> Option<Ident>
-        ensures { result ≡ owner_in (object_of self.now id) }
+        ensures { result ≡ owner_in (object_of self.now.rows id) }
     {
         self.table.get(id)?.owner
     }
@@ -118,7 +122,7 @@ impl Mutexes {
 
     /// Whether this number is the id of a live mutex.
     pub fn is_live(&self, id: u32) -> bool
-        ensures { result ≡ is_some (object_of self.now id) }
+        ensures { result ≡ is_some (object_of self.now.rows id) }
     {
         self.find(id).is_some()
     }
@@ -126,16 +130,30 @@ impl Mutexes {
     /// The number of the task that owns the mutex, live or ended. None if there is no such mutex,
     /// or if it is free.
     pub fn owner(&self, id: u32) -> Option<u32>
-        ensures { result ≡ owner_in (object_of self.now id) }
+        ensures { result ≡ owner_in (object_of self.now.rows id) }
     {
         let id = self.find(id)?;
         let owner = self.owner_by(id)?;
         Some(owner.get())
     }
 
-    /// Sets the task's normal priority. If the task owns no inversion-safe mutex, that becomes its
-    /// priority; otherwise it gets the more urgent of that and its current priority. The owner that
-    /// it waits for inherits the result.
+    // Under profile 1 the owner that the task waits for inherits its priority at once.
+    pub(crate) fn inherit_at_once(&self, k: &mut Kern, who: Ident)
+        requires live { Lives k.old who }
+        requires urgent { self.now.profile ≡ One → OwnersUrgentBut who self.now.rows k.old.tasks }
+        requires since { k.old.next_since < 2 ^ 63 }
+        ensures { both k.new self.now ≡ raised_at_once (both k.old self.now) }
+    {
+        match self.profile {
+            Profile::One => inherit(k, &self.table, who),
+            Profile::Two => {}
+        }
+    }
+
+    /// Sets the task's normal priority. Under profile 1 the task's priority follows at once: if the
+    /// task owns no inversion-safe mutex, it becomes the normal one; otherwise the task gets the
+    /// more urgent of that and its current priority. The owner that it waits for inherits the
+    /// result. Under profile 2 priorities follow when they are settled.
     pub fn priority_set(&mut self, k: &mut Kern, who: Ident, pri: Pri)
         requires live { Lives k.old who }
         requires kept { KeepsMutexes (both k.old self.old) }
@@ -146,7 +164,7 @@ impl Mutexes {
         k.facts();
         let changed = pri_after(k, who, pri);
         k.set_normal(who, pri);
-        k.change_pri(who, changed);
-        inherit(k, &self.table, who);
+        follow(k, who, changed, self.profile);
+        self.inherit_at_once(k, who);
     }
 }

@@ -1,14 +1,15 @@
 //! What owning a mutex means for a task.
 
 ghost use Rattle.std.specs.Prelude.{◌≡◌, ◌<◌, ◌+◌, ◌^◌, ◌-◌, Some};
+ghost use Rattle.wind_base.specs.declared.profile.Profile.TheVariants.{One};
 ghost use Rattle.wind_core.specs.State.{Lives, task_of};
 ghost use Rattle.task_safety.specs.Safety.{safe_of};
-ghost use Rattle.sem_mutex.specs.Calls.{held_of, holding, guarded, eased, letting_go, owned, freed, restored, pri_after as pri_after_lem};
+ghost use Rattle.sem_mutex.specs.Calls.{held_of, holding, guarded, eased, letting_go, owned, freed, restored, followed, pri_after as pri_after_lem};
 
 use id_table::Ident;
 use inheritance::{Mutex, more_urgent};
 use task_safety::{lessen, safe};
-use wind_base::Pri;
+use wind_base::{Pri, Profile};
 use wind_core::Kern;
 
 // Makes the task the owner, with one take.
@@ -99,9 +100,9 @@ pub(crate) fn ease(k: &mut Kern, who: Ident, m: &Mutex, n: u64)
 }
 
 // Gives the task its normal priority back, if it owns no inversion-safe mutex.
-fn restore(k: &mut Kern, who: Ident)
+fn restore_normal(k: &mut Kern, who: Ident)
     requires since { k.old.next_since < 2 ^ 63 }
-    ensures { k.new ≡ restored k.old who (task_of k.old.tasks who) }
+    ensures { k.new ≡ restored One k.old who (task_of k.old.tasks who) }
 {
     let Some(task) = k.task(who) else {
         return;
@@ -112,20 +113,43 @@ fn restore(k: &mut Kern, who: Ident)
     }
 }
 
+// Does so under profile 1.
+fn restore(k: &mut Kern, who: Ident, profile: Profile)
+    requires since { k.old.next_since < 2 ^ 63 }
+    ensures { k.new ≡ restored profile k.old who (task_of k.old.tasks who) }
+{
+    match profile {
+        Profile::One => restore_normal(k, who),
+        Profile::Two => {}
+    }
+}
+
 // Counts one inversion-safe mutex of the task less, if the mutex is one.
-pub(crate) fn let_go(k: &mut Kern, who: Ident, m: &Mutex)
+pub(crate) fn let_go(k: &mut Kern, who: Ident, m: &Mutex, profile: Profile)
     requires live { Lives k.old who }
     requires since { k.old.next_since < 2 ^ 63 }
-    ensures { k.new ≡ letting_go k.old who m.now }
+    ensures { k.new ≡ letting_go profile k.old who m.now }
 {
     if m.inversion_safe {
         let n = held(k, who);
         k.set_held(who, n.saturating_sub(1));
-        restore(k, who);
+        restore(k, who, profile);
     }
 }
 
-// The priority of a task after its normal priority is set to `pri`.
+// Under profile 1 the task gets this priority.
+pub(crate) fn follow(k: &mut Kern, who: Ident, pri: Pri, profile: Profile)
+    requires live { Lives k.old who }
+    requires since { k.old.next_since + 1 < 2 ^ 64 }
+    ensures { k.new ≡ followed profile k.old who pri }
+{
+    match profile {
+        Profile::One => k.change_pri(who, pri),
+        Profile::Two => {}
+    }
+}
+
+// The priority that follows under profile 1 when a task's normal priority is set to `pri`.
 pub(crate) fn pri_after(k: &Kern, who: Ident, pri: Pri) -> Pri
     ensures { result ≡ pri_after_lem pri (task_of k.now.tasks who) }
 {

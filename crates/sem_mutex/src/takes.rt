@@ -12,7 +12,6 @@ use crate::mutexes::Mutexes;
 use crate::owners::{add_depth, adopt, guard, own};
 use id_table::sides::OBJECT;
 use id_table::{Ident, Place};
-use inheritance::inherit;
 use wind_base::Errno;
 use wind_base::words::NO_WAIT;
 use wind_core::{Kern, Took};
@@ -21,10 +20,10 @@ impl Mutexes {
     // Makes the task the owner.
     pub(crate) fn hand(&mut self, k: &mut Kern, who: Ident, id: Ident)
         requires live { Lives k.old who }
-        requires there { IsSome (object_of self.old id) }
+        requires there { IsSome (object_of self.old.rows id) }
         requires held { held_of (task_of k.old.tasks who) + 1 < 2 ^ 64 }
         requires safe { safe_of (task_of k.old.tasks who) + 1 < 2 ^ 64 }
-        ensures { both k.new self.new ≡ handed (both k.old self.old) who id (object_of self.old id) }
+        ensures { both k.new self.new ≡ handed (both k.old self.old) who id (object_of self.old.rows id) }
     {
         adopt(k, who, self.mutex(id));
         own(self.table.object_mut(id), who);
@@ -33,9 +32,9 @@ impl Mutexes {
     // The owner takes it once more.
     fn deepen(&mut self, k: &mut Kern, who: Ident, id: Ident)
         requires live { Lives k.old who }
-        requires there { IsSome (object_of self.old id) }
+        requires there { IsSome (object_of self.old.rows id) }
         requires early { IsEarly (both k.old self.old) }
-        ensures { both k.new self.new ≡ deepened (both k.old self.old) who id (object_of self.old id) }
+        ensures { both k.new self.new ≡ deepened (both k.old self.old) who id (object_of self.old.rows id) }
     {
         guard(k, who, self.mutex(id));
         add_depth(self.table.object_mut(id));
@@ -44,10 +43,10 @@ impl Mutexes {
     // Begins the task's wait for it.
     fn await_turn(&self, k: &mut Kern, who: Ident, id: Ident, timeout: u32)
         requires live { Lives k.old who }
-        requires there { IsSome (object_of self.now id) }
+        requires there { IsSome (object_of self.now.rows id) }
         requires timeout { 0 < timeout }
         requires early { IsEarly (both k.old self.now) }
-        ensures { both k.new self.now ≡ awaited (both k.old self.now) who id timeout (object_of self.now id) }
+        ensures { both k.new self.now ≡ awaited (both k.old self.now) who id timeout (object_of self.now.rows id) }
     {
         let fifo = !self.mutex(id).by_priority;
         k.pend(who, Place { side: OBJECT, id }, fifo, timeout);
@@ -56,7 +55,7 @@ impl Mutexes {
     /// Takes the mutex for the caller if it is free, or once more if the caller owns it (semTake).
     /// Otherwise the caller begins to wait for it, for `timeout` ticks, or without a time limit if
     /// `timeout` is `WAIT_FOREVER`; and the owner of an inversion-safe mutex inherits the caller's
-    /// priority.
+    /// priority, under profile 1 at once.
     ///
     /// # Errors
     ///
@@ -72,10 +71,10 @@ impl Mutexes {
         requires live { Lives k.old caller }
         requires kept { KeepsMutexes (both k.old self.old) }
         requires early { IsEarly (both k.old self.old) }
-        ensures ok { IfOk result (λ t. (take_refusal caller timeout (object_of self.old id) ≡ None)
-            × (t ≡ took caller (object_of self.old id))
+        ensures ok { IfOk result (λ t. (take_refusal caller timeout (object_of self.old.rows id) ≡ None)
+            × (t ≡ took caller (object_of self.old.rows id))
             × (both k.new self.new ≡ take (both k.old self.old) caller id timeout)) }
-        ensures err { IfErr result (λ e. (take_refusal caller timeout (object_of self.old id) ≡ Some e)
+        ensures err { IfErr result (λ e. (take_refusal caller timeout (object_of self.old.rows id) ≡ Some e)
             × (both k.new self.new ≡ both k.old self.old)) }
         ensures kept { KeepsMutexes (both k.new self.new) }
     {
@@ -96,7 +95,7 @@ impl Mutexes {
             return Err(Errno::ObjUnavailable);
         }
         self.await_turn(k, caller, id, timeout);
-        inherit(k, &self.table, caller);
+        self.inherit_at_once(k, caller);
         Ok(Took::Pended)
     }
 }

@@ -3,7 +3,7 @@
 ghost use Rattle.shell_eval.specs.Laws.{SmallerLaw, RepeatsLaw, BegunLaw, StepLaw, CallLaw, FillLaw, EndsLaw};
 ghost use Rattle.shell_eval.specs.Kept.{KeepsLaw, OutputLaw};
 
-/// Evaluation makes one reduction after another, each of which makes the tree smaller, so it ends.
+/// Evaluation makes one reduction after another. Each makes the tree smaller, so evaluation ends.
 /// At most one call's answer is awaited.
 pub fn evaluation_law()
     ensures smaller { SmallerLaw }

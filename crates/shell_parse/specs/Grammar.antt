@@ -49,7 +49,7 @@ mutual
     name : {x : List ℕ} {ts rest : List Token} {e : PlainTree} → Calls (trees.Name x) ts e rest → Unary (Name x ∷ ts) e rest
     group : {ts mid rest : List Token} {callee e : PlainTree} → Expression ts callee (Close ∷ mid) → Calls callee mid e rest → Unary (Open ∷ ts) e rest
 
-  -- e is the callee and the calls that follow it, each of which calls what comes before it
+  -- e is the callee and the calls that follow it; each calls what comes before it
   pub data Calls : PlainTree → List Token → PlainTree → List Token → Type 0 where
     no_call : {callee : PlainTree} {ts : List Token} → Calls callee ts callee ts
     call : {callee e : PlainTree} {es : Arguments} {ts mid rest : List Token} → Args ts es (Close ∷ mid) → Calls (trees.Call callee es) mid e rest

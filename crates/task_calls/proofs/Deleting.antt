@@ -93,7 +93,7 @@ module _ (k : KernState) (o : Objects) (is : IsKern k) (kept : KeepsObjects k o)
       let one : KeepsMutexes (with_mutexes (marked who) ms) = beside_law (with_mutexes k ms) (SetAgain who true) kept.mutexes tt in
       let two : KeepsMutexes (with_mutexes (awaiting k who id) ms) = beside_law (with_mutexes (marked who) ms) (Pend who (deletion id) false wait_forever) one (refl, lives_below k id is lives) in
       follows_keeps (with_mutexes (awaiting k who id) ms) (back_at_gate (awaiting k who id) who)
-      (mutexes.by_change ms (awaiting k who id) who at_deletion (λ t. alike ms (awaiting k who id) t (at_deletion t) refl refl refl refl refl refl)) two
+      (mutexes.by_change ms.rows (awaiting k who id) who at_deletion (λ t. alike ms.rows (awaiting k who id) t (at_deletion t) refl refl refl refl refl refl)) two
 
   -- the caller waits for no queue
   calm_back : (who id : ℕ) → IsCalm o.queues.queues k (back_at_gate (awaiting k who id) who)

@@ -134,6 +134,7 @@ module _ (w : WorldState) (kept : IsWorld w) (n : ℕ) (within : Within n w) whe
         count = refl;
         names = names_few s.name;
         starts = omega arith;
+        rule = refl;
       }
 
   at_advances : (s : Wanted) (r : Result ℕ PartErr) → spawn_refusal w.kern ≡ None → alloc_of w.part (stack_bytes s.stack) 16 ≡ r → Advances w (after_spawn w (spawned_at (spawn_state w) s r).after) (n + 1) call_sinces 1

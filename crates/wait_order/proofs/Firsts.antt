@@ -21,7 +21,7 @@ use Rattle.wait_order.proofs.Standing.{list_order, earlier_place, run_more, own_
 use Rattle.wait_order.proofs.Walking.{joined_cells, found_behind, none_ahead}
 
 -- ---- which waiter is first at a place
--- the first waiter of a place, with those before it, none of which waits there
+-- the first waiter of a place, with those before it, which wait elsewhere
 pub record Foremost (ws : List Waiter) (p : Place) (w : Waiter) : Type 0 where
   pub front : List Waiter
   pub back : List Waiter

@@ -1,8 +1,10 @@
 //! What every crate of windplay shares: the board's limits, a byte buffer with reserved room,
-//! lines, numbers as text, priorities, names, error numbers, gates, the processor's registers,
-//! semaphore kinds and options, and the errors "out of memory" and "no room left".
+//! lines, numbers as text, priorities, the rules of inheritance, names, error numbers, gates, kinds
+//! of boards, the processor's registers, semaphore kinds and options, and the errors "out of memory"
+//! and "no room left".
 #![tactic(auto)]
 
+mod board_kind;
 mod errno;
 mod gate;
 mod gate_rules;
@@ -13,11 +15,13 @@ mod name;
 mod number;
 mod out_buf;
 mod priority;
+mod profile;
 mod regs;
 mod semaphore;
 pub mod text;
 pub mod words;
 
+pub use board_kind::{BoardKind, BoardRules, Side};
 pub use errno::Errno;
 pub use gate::Gate;
 pub use gate_rules::{Callers, GateRules, gate_name};
@@ -27,6 +31,7 @@ pub use name::{Name, NameErr, ShortName};
 pub use number::decimal;
 pub use out_buf::OutBuf;
 pub use priority::Pri;
+pub use profile::Profile;
 pub use regs::Regs;
 pub use semaphore::{SemKind, SemOptions};
 use std::alloc::AllocError;

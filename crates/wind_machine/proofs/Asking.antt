@@ -69,8 +69,8 @@ shell_ready s g = by_next s (λ n. actor_of n ≡ Some shell → IsReady s.world
   come = λ e due q. absurd (cc);
   arrive = λ quiet due q. absurd (cc);
   routine = λ nothing active q. absurd (cc);
-  act = λ left t runs none q. let own : t.id ≡ shell_id = cc in subst (IsReady s.world.kern) own (runner_ready s.world.kern g.world.kern t runs);
-  load = λ left t runs own name found q. subst (IsReady s.world.kern) own (runner_ready s.world.kern g.world.kern t runs);
+  act = λ left t runs none q. let own : t.id ≡ shell_id = cc in subst (IsReady s.world.kern) own (runner_ready s.world.kern g.kept.world.kern t runs);
+  load = λ left t runs own name found q. subst (IsReady s.world.kern) own (runner_ready s.world.kern g.kept.world.kern t runs);
   jump = λ left nobody e there q. absurd (cc);
   over = λ left nobody none q. absurd (cc);
 })

@@ -9,6 +9,7 @@ use Rattle.wind_machine.specs.Events.{event_comes, unreserved_world, without_nex
 use Rattle.wind_machine.specs.ActorSteps.{shell_step, task_step, step_of}
 use Rattle.wind_machine.specs.Next.{next}
 use Rattle.wind_machine.specs.Machine.{machine_step, state_after}
+use Rattle.wind_machine.proofs.Steps.{if_settled}
 use Rattle.wind_machine.specs.declared.next.Next.{Next}
 use Rattle.wind_machine.specs.declared.next.Next.TheVariants.{Come, Arrive, Routine, Act, Load, Jump, Over}
 use Rattle.wind_machine.specs.declared.phase.Phase.{Phase}
@@ -42,4 +43,4 @@ after_counted said s Over = tt
 
 pub counted : (said : FileSaid) (s t : State) → machine_step said s ≡ Some t → t.steps ≡ s.steps + 1
 unfolding machine_step
-counted said s t e = subst (λ o. IfSome o (IsCounted s)) e (after_counted said s (next s))
+counted said s t e = subst (λ o. IfSome o (IsCounted s)) e (if_settled (IsCounted s) (state_after said s (next s)) (after_counted said s (next s)))

@@ -1,5 +1,5 @@
 -- Every state of every run keeps the invariant.
-use Rattle.std.proofs.Common.{◌≡◌, ℕ, zero, suc, true, false, cond, eqb, List, [], ◌∷◌, Option, None, Some, IfSome, add-one, refl, sym, subst}
+use Rattle.std.proofs.Common.{◌≡◌, ℕ, zero, suc, true, false, cond, eqb, List, [], ◌∷◌, Option, None, Some, IfSome, add-one, refl, sym, ◌∙◌, subst}
 use Rattle.std.specs.Prelude.{unwrap_or}
 use Rattle.std.specs.List.{All}
 use Rattle.std.proofs.lemmas.List.Elements.{All-head, All-drop}
@@ -13,12 +13,15 @@ use Rattle.live_loading.specs.Said.{FileSaid}
 use Rattle.wind_machine.specs.State.{State}
 use Rattle.wind_machine.specs.Good.{Good}
 use Rattle.tick_file.specs.Laws.{IsEarly, EarlyLaw}
-use Rattle.wind_machine.specs.Laws.{StartLaw, StepLaw, InstantLaw, SafetyLaw, OnlyUnsafeGo, RunLaw}
+use Rattle.wind_machine.specs.Laws.{RuleLaw, StartLaw, StepLaw, InstantLaw, SafetyLaw, OnlyUnsafeGo, RunLaw}
 use Rattle.wind_machine.specs.Run.{Answers, after}
 use Rattle.wind_machine.specs.Events.{event_comes, unreserved_world, without_next}
 use Rattle.wind_machine.specs.ActorSteps.{shell_step, task_step, step_of}
 use Rattle.wind_machine.specs.Next.{next}
+use Rattle.wind_base.specs.declared.profile.Profile.{Profile}
 use Rattle.wind_machine.specs.Machine.{opening, machine_step, state_after}
+use Rattle.kernel_world.specs.Opening.{opening_world}
+use Rattle.wind_machine.proofs.Steps.{if_settled}
 use Rattle.wind_machine.specs.declared.next.Next.{Next}
 use Rattle.wind_machine.specs.declared.next.Next.TheVariants.{Come, Arrive, Routine, Act, Load, Jump, Over}
 use Rattle.wind_machine.specs.declared.phase.Phase.{Phase}
@@ -56,11 +59,11 @@ after_early said s Over h = tt
 
 step_early : (said : FileSaid) (s t : State) → IsOnTime s → machine_step said s ≡ Some t → IsOnTime t
 unfolding machine_step
-step_early said s t h e = subst (λ o. IfSome o IsOnTime) e (after_early said s (next s) h)
+step_early said s t h e = subst (λ o. IfSome o IsOnTime) e (if_settled IsOnTime (state_after said s (next s)) (after_early said s (next s) h))
 
-starts_early : (console : List ℕ) (schedule : Timetable) (slots : List (Option DeviceState)) → All IsEarly schedule.events → IsOnTime (opening console schedule slots)
+starts_early : (console : List ℕ) (schedule : Timetable) (slots : List (Option DeviceState)) (profile : Profile) → All IsEarly schedule.events → IsOnTime (opening console schedule slots profile)
 unfolding opening
-starts_early console schedule slots h = h
+starts_early console schedule slots profile h = h
 
 onward : StepLaw → (said : FileSaid) (s : State) → Good s × IsOnTime s → Good (unwrap_or (machine_step said s) s) × IsOnTime (unwrap_or (machine_step said s) s)
 onward step said s h =
@@ -73,6 +76,22 @@ course : StepLaw → (said : Answers) (s : State) → Good s × IsOnTime s → (
 course step said s h zero = h
 course step said s h (suc k) = onward step (said k) (after said s k) (course step said s h k)
 
+-- the rule of inheritance stays
+onward_rule : RuleLaw → (said : FileSaid) (s : State) → Good s → (unwrap_or (machine_step said s) s).world.objects.mutexes.profile ≡ s.world.objects.mutexes.profile
+onward_rule rule said s g =
+    elim (machine_step said s) as (λ o. machine_step said s ≡ o → (unwrap_or o s).world.objects.mutexes.profile ≡ s.world.objects.mutexes.profile) [
+      | None ↦ λ e. refl
+      | Some t ↦ λ e. rule said s t g e
+    ] refl
+
+course_rule : StepLaw → RuleLaw → (said : Answers) (s : State) → Good s × IsOnTime s → (k : ℕ) → (after said s k).world.objects.mutexes.profile ≡ s.world.objects.mutexes.profile
+course_rule step rule said s h zero = refl
+course_rule step rule said s h (suc k) = onward_rule rule (said k) (after said s k) (course step said s h k).0 ∙ course_rule step rule said s h k
+
+starts_rule : (console : List ℕ) (schedule : Timetable) (slots : List (Option DeviceState)) (profile : Profile) → (opening console schedule slots profile).world.objects.mutexes.profile ≡ profile
+unfolding opening opening_world
+starts_rule console schedule slots profile = refl
+
 -- in the step that follows, if there is one
 next_safe : SafetyLaw → (said : FileSaid) (s : State) → Good s → OnlyUnsafeGo s (unwrap_or (machine_step said s) s)
 next_safe safety said s g =
@@ -81,12 +100,14 @@ next_safe safety said s g =
       | Some t ↦ λ e. safety said s t g e
     ] refl
 
-pub runs_keep : StartLaw → StepLaw → InstantLaw → SafetyLaw → EarlyLaw → RunLaw
-runs_keep start step instant safety early said console ticks slots k =
-    let begun = opening console (timetable_of ticks) slots in
-    let good = (course step said begun (start console (timetable_of ticks) slots, starts_early console (timetable_of ticks) slots (early ticks)) k).0 in
+pub runs_keep : StartLaw → StepLaw → RuleLaw → InstantLaw → SafetyLaw → EarlyLaw → RunLaw
+runs_keep start step rule instant safety early said console ticks slots profile k =
+    let begun = opening console (timetable_of ticks) slots profile in
+    let from : Good begun × IsOnTime begun = (start console (timetable_of ticks) slots profile, starts_early console (timetable_of ticks) slots profile (early ticks)) in
+    let good = (course step said begun from k).0 in
     record {
       kept = good;
       instant = instant (after said begun k) good;
+      rule = course_rule step rule said begun from k ∙ starts_rule console (timetable_of ticks) slots profile;
       safety = subst (λ n. OnlyUnsafeGo (after said begun k) (after said begun n)) (sym (add-one k)) (next_safe safety (said k) (after said begun k) good);
     }

@@ -70,6 +70,7 @@ module _ (f : Task → Task) (drops : Drops f) where
     count = refl;
     names = omega arith;
     starts = omega arith;
+    rule = refl;
   }
 
 -- ---- that of one task, of all, of all others

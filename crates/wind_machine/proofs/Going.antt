@@ -20,17 +20,21 @@ use Rattle.live_loading.specs.Said.{FileSaid}
 use Rattle.live_loading.specs.Loading.{shell, load_call}
 use Rattle.live_loading.specs.Laws.{LoadLaw}
 use Rattle.wind_machine.specs.State.{State}
-use Rattle.wind_machine.specs.Good.{Good}
+use Rattle.wind_machine.specs.Good.{Keeps, bare}
 use Rattle.wind_machine.specs.Feed.{chunk, after_chunk, brought}
 use Rattle.wind_machine.specs.Part.{Part, part_of}
 use Rattle.wind_machine.specs.Reserving.{unless_own, drop_all}
 use Rattle.wind_machine.specs.Shell.{prompt_part, read_part, eval_part}
 use Rattle.wind_machine.specs.Processor.{without_own, task_part}
-use Rattle.wind_machine.specs.Laws.{OnlyUnsafeGo, SafetyLaw}
+use Rattle.wind_machine.proofs.Steps.{if_settled}
+use Rattle.wind_machine.specs.Laws.{RuleLaw, OnlyUnsafeGo, SafetyLaw}
 use Rattle.wind_machine.specs.Events.{Heard, heard_by, arrived, event_comes, event_step, unreserved_world, without_next}
 use Rattle.wind_machine.specs.ActorSteps.{at_turn, shell_world, task_step, shell_step, step_of, routine_step, load_step}
 use Rattle.wind_machine.specs.Next.{is_active, next}
-use Rattle.wind_machine.specs.Machine.{machine_step, state_after, actor_of}
+use Rattle.std.specs.Option.{option_map}
+use Rattle.inheritance.proofs.Raising.{raised_to}
+use Rattle.kernel_world.specs.Settling.{settled_kern}
+use Rattle.wind_machine.specs.Machine.{machine_step, settled_state, state_after, actor_of}
 use Rattle.wind_machine.specs.declared.phase.Phase.{Phase}
 use Rattle.wind_machine.specs.declared.phase.Phase.TheVariants as phases
 use Rattle.wind_machine.proofs.Order.{by_next}
@@ -58,7 +62,7 @@ all_safe (t ∷ ts) id =
 abbrev GoBy : State → Option Actor → KernState → Type 0
 GoBy s o k = (id : ℕ) → Lives s.world.kern id → (Lives k id → ⊥) → (safe_of (task_of s.world.kern.tasks id) ≡ 0) ⊎ (o ≡ Some (by_task id))
 
-module _ (s : State) (g : Good s) where
+module _ (s : State) (g : Keeps 0 (bare s)) where
   own_step : (who id : ℕ) → (safe_of (task_of s.world.kern.tasks id) ≡ 0) ⊎ (who ≡ id) → (safe_of (task_of s.world.kern.tasks id) ≡ 0) ⊎ (Some (by_task who) ≡ Some (by_task id))
   own_step who id (inl safe) = inl safe
   own_step who id (inr own) = inr (ap (λ n. Some (by_task n)) own)
@@ -110,14 +114,14 @@ module _ (s : State) (g : Good s) where
       (λ (itself : Interrupt ≡ by_task id). absurd (cc))
       ((routine_turns s g active).gone id ((all_advance s.world s.steps g.world g.within).lives id live) dead)
 
-event_goes : (s : State) (e : Event) → Good s → GoBy s None (event_step s e).world.kern
+event_goes : (s : State) (e : Event) → Keeps 0 (bare s) → GoBy s None (event_step s e).world.kern
 event_goes s e g id live dead =
     let t = without_next s.schedule in
     let there = record s { schedule = t; world = unreserved_world s.world } in
     absurd (dead (comes_stay there (unreserved_keeps s g t) e id ((all_advance s.world s.steps g.world g.within).lives id live)))
 
 -- ---- by the order of the next step
-next_goes : LoadLaw → (said : FileSaid) (s : State) → Good s → IfSome (state_after said s (next s)) (OnlyUnsafeGo s)
+next_goes : LoadLaw → (said : FileSaid) (s : State) → Keeps 0 (bare s) → IfSome (state_after said s (next s)) (OnlyUnsafeGo s)
 next_goes law said s g = by_next s (λ n. IfSome (state_after said s n) (λ t. GoBy s (actor_of n) t.world.kern)) (record {
   come = λ e due. event_goes s e.event g;
   arrive = λ quiet due id live dead. absurd (dead (arrived_stay s g (after_chunk s.left) (chunk s.left) (heard_by s (chunk s.left)) refl id live));
@@ -128,6 +132,65 @@ next_goes law said s g = by_next s (λ n. IfSome (state_after said s n) (λ t. G
   over = λ left nobody none. tt;
 })
 
+-- the same tasks live after priorities are settled
+settled_goes : (s u : State) → OnlyUnsafeGo s u → OnlyUnsafeGo s (settled_state u)
+settled_goes s u goes id live dead =
+    let k = u.world.kern in
+    goes id live (λ there. dead (lives_by (settled_kern k u.world.objects).tasks k.tasks id (raised_to u.world.objects.mutexes.profile k u.world.objects.mutexes.rows).alike there))
+
+some_goes : (s : State) (o : Option State) → IfSome o (OnlyUnsafeGo s) → IfSome (option_map settled_state o) (OnlyUnsafeGo s)
+some_goes s None h = tt
+some_goes s (Some u) h = settled_goes s u h
+
 pub safe_stay : LoadLaw → SafetyLaw
 unfolding machine_step
-safe_stay law said s t g e = subst (λ o. IfSome o (OnlyUnsafeGo s)) e (next_goes law said s g)
+safe_stay law said s t g e = subst (λ o. IfSome o (OnlyUnsafeGo s)) e (some_goes s (state_after said s (next s)) (next_goes law said s g.kept))
+
+-- ---- the rule of inheritance
+-- this state has the rule of that one
+abbrev SameRule : State → State → Type 0
+SameRule s t = t.world.objects.mutexes.profile ≡ s.world.objects.mutexes.profile
+
+module _ (s : State) (g : Keeps 0 (bare s)) where
+  part_rule : (who n : ℕ) (finished : List ℕ) (p : Part) → PartKeeps (at_turn s.world who) p who n finished → p.world.objects.mutexes.profile ≡ s.world.objects.mutexes.profile
+  part_rule who n finished p part = part.turns.rule ∙ (at_turn_advances s g who).rule
+
+  task_rule : (who : ℕ) → Lives s.world.kern who → IsReady s.world.kern who → SameRule s (task_step s who)
+  task_rule who live ready = part_rule who (s.steps + 1) s.console.finished (task_part s.shell (at_turn s.world who) who) (acts s g who live ready)
+
+  shell_rule : (p : Phase) → IsReady s.world.kern shell_id → SameRule s (shell_step p s)
+  shell_rule phases.Prompt ready = part_rule shell_id (s.steps + 1) s.console.finished (prompt_part (has_line s.console) s.shell (shell_world s)) (prompts s g)
+  shell_rule phases.Read ready = part_rule shell_id (s.steps + 1) (line_dropped s.console).finished (read_part (read_line (front_line s.console)) (shell_world s)) (reads s g)
+  shell_rule phases.Eval ready = part_rule shell_id (s.steps + 1) s.console.finished (eval_part s.shell.trees (shell_world s)) (evaluates s g ready)
+  shell_rule phases.Call ready = task_rule shell_id g.shell ready
+
+  whoever_rule : (who : ℕ) → Lives s.world.kern who → IsReady s.world.kern who → SameRule s (step_of s who)
+  whoever_rule who live ready =
+      elim (eqb who shell_id) as (λ b. eqb who shell_id ≡ b → SameRule s (cond b (shell_step s.shell.phase s) (task_step s who))) [
+        | true ↦ λ e. shell_rule s.shell.phase (subst (IsReady s.world.kern) (eqb-true who shell_id e) ready)
+        | false ↦ λ e. task_rule who live ready
+      ] refl
+
+  load_rule : LoadLaw → IsReady s.world.kern shell_id → (name : List ℕ) (said : FileSaid) → SameRule s (load_step said s name)
+  load_rule law ready name said =
+      let part = part_of s.shell (without_own (load_call (shell_world s) name said) shell_id) in
+      part_rule shell_id (s.steps + 1) s.console.finished part (loads s g law ready name said)
+
+event_rule : (s : State) (e : Event) → SameRule s (event_comes s e)
+event_rule s Tick = refl
+event_rule s (Rx n) = refl
+
+next_rule : LoadLaw → (said : FileSaid) (s : State) → Keeps 0 (bare s) → IfSome (state_after said s (next s)) (SameRule s)
+next_rule law said s g = by_next s (λ n. IfSome (state_after said s n) (SameRule s)) (record {
+  come = λ e due. event_rule (record s { schedule = without_next s.schedule; world = unreserved_world s.world }) e.event;
+  arrive = λ quiet due. refl;
+  routine = λ nothing active. (routine_turns s g active).rule;
+  act = λ left t runs none. whoever_rule s g t.id (runner_there s.world.kern g.world.kern t runs) (runner_ready s.world.kern g.world.kern t runs);
+  load = λ left t runs own name found. load_rule s g law (subst (IsReady s.world.kern) own (runner_ready s.world.kern g.world.kern t runs)) name said;
+  jump = λ left nobody e there. refl;
+  over = λ left nobody none. tt;
+})
+
+pub rule_stays : LoadLaw → RuleLaw
+unfolding machine_step
+rule_stays law said s t g e = subst (λ o. IfSome o (SameRule s)) e (if_settled (SameRule s) (state_after said s (next s)) (next_rule law said s g.kept))

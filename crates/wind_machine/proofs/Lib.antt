@@ -18,3 +18,4 @@ pub mod Beginning
 pub mod Courses
 pub mod Counting
 pub mod Silence
+pub mod Alike

@@ -13,7 +13,8 @@ use Rattle.wind_machine.specs.State.{State}
 use Rattle.wind_machine.specs.Events.{next_event}
 use Rattle.wind_machine.specs.ActorSteps.{file_in, file_for}
 use Rattle.wind_machine.specs.Next.{is_active, event_of, time_of, due_event, console_is_due, first_or_over, when, act_or_load, task_next, next, NothingIsDue, IsLeftToTasks, ComesNext}
-use Rattle.wind_machine.specs.Machine.{state_after, machine_step}
+use Rattle.std.specs.Option.{option_map}
+use Rattle.wind_machine.specs.Machine.{state_after, settled_state, machine_step}
 use Rattle.wind_machine.specs.Laws.{OrderLaw, OverLaw}
 use Rattle.wind_machine.specs.declared.next.Next.{Next}
 use Rattle.wind_machine.specs.declared.next.Next.TheVariants.{Come, Arrive, Routine, Act, Load, Jump, Over}
@@ -122,6 +123,10 @@ no_state : (said : FileSaid) (s : State) (n : Next) → state_after said s n ≡
 no_state said s Over e = refl
 no_state said s n e = absurd (cc)
 
+none_settled : (o : Option State) → option_map settled_state o ≡ None → o ≡ None
+none_settled None e = refl
+none_settled (Some u) e = absurd (cc)
+
 pub over_alone : OverLaw
 unfolding machine_step
-over_alone said s = (no_state said s (next s), ap (state_after said s))
+over_alone said s = (λ e. no_state said s (next s) (none_settled (state_after said s (next s)) e), λ e. ap (λ n. option_map settled_state (state_after said s n)) e)

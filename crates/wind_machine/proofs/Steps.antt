@@ -1,5 +1,5 @@
 -- Every step keeps the invariant.
-use Rattle.std.proofs.Common.{◌≡◌, ℕ, ◌+◌, ◌≤◌, true, false, cond, eqb, List, [], ◌∷◌, length, map, take, drop, Some, IfSome, refl, sym, ◌∙◌, subst, arith}
+use Rattle.std.proofs.Common.{◌≡◌, ℕ, ◌+◌, ◌≤◌, true, false, cond, eqb, List, [], ◌∷◌, length, map, take, drop, Option, None, Some, IfSome, inl, inr, refl, sym, ap, ◌∙◌, subst, arith}
 use Rattle.std.proofs.lemmas.Bool.{eqb-true}
 use Rattle.std.proofs.lemmas.List.{length-take}
 use Rattle.tick_file.specs.Schedule.{Timed, Timetable}
@@ -33,7 +33,7 @@ use Rattle.live_loading.specs.Said.{FileSaid}
 use Rattle.live_loading.specs.Loading.{load_call}
 use Rattle.live_loading.specs.Laws.{LoadLaw}
 use Rattle.wind_machine.specs.State.{State}
-use Rattle.wind_machine.specs.Good.{Good}
+use Rattle.wind_machine.specs.Good.{Keeps, bare, settle_sinces, KeepsEffect, Good}
 use Rattle.wind_machine.specs.Feed.{chunk, after_chunk, brought}
 use Rattle.wind_machine.specs.Part.{Part, part_of}
 use Rattle.wind_machine.specs.Shell.{prompt_part, read_part, shell_read, eval_part}
@@ -42,7 +42,13 @@ use Rattle.wind_machine.specs.Routine.{interrupt_top}
 use Rattle.wind_machine.specs.Events.{Heard, heard_by, arrived, arrival, ticked, received, event_comes, event_step, unreserved_world, without_next, jump, cleared, next_event}
 use Rattle.wind_machine.specs.ActorSteps.{at_turn, shell_world, stepped, prompt_step, read_step, eval_step, task_step, shell_step, step_of, routine_step}
 use Rattle.wind_machine.specs.Next.{is_active, next}
-use Rattle.wind_machine.specs.Machine.{machine_step, state_after}
+use Rattle.std.specs.Option.{option_map}
+use Rattle.inheritance.specs.Mutexes.{both as with_mutexes}
+use Rattle.inheritance.proofs.Same.{exact_by_owners}
+use Rattle.kernel_world.specs.Settling.{settled_kern}
+use Rattle.kernel_world.proofs.Settling.{objects-settled, goes-settled, exact-settled, settled_same}
+use Rattle.wind_machine.specs.Laws.{StepLaw, EffectLaw, SettleLaw, IdleLaw}
+use Rattle.wind_machine.specs.Machine.{machine_step, settled_state, state_after}
 use Rattle.wind_machine.specs.declared.phase.Phase.{Phase}
 use Rattle.wind_machine.specs.declared.phase.Phase.TheVariants as phases
 use Rattle.wind_machine.proofs.Kept.{needs_none, prompt_has_line, read_phase}
@@ -55,7 +61,7 @@ use Rattle.wind_machine.proofs.Order.{by_next}
 use Rattle.wind_machine.proofs.Parts.{PartKeeps, prompt_turns, read_turns, eval_keeps, load_keeps, task_keeps}
 
 -- from a good state
-module _ (s : State) (g : Good s) where
+module _ (s : State) (g : Keeps 0 (bare s)) where
   more_counts : Within (s.steps + 1) s.world
   more_counts = within_more s.world s.steps (s.steps + 1) (omega arith) g.within
 
@@ -74,10 +80,11 @@ module _ (s : State) (g : Good s) where
         count = a.count;
         names = a.names;
         starts = a.starts;
+        rule = a.rule;
       }
 
   stepped_keeps : (console : ConsoleState) (who : ℕ) (p : Part) → KeepsLines console.edited console.finished → PartKeeps (at_turn s.world who) p who (s.steps + 1) console.finished
-      → Good (stepped (record s { console = console }) who p)
+      → KeepsEffect (stepped (record s { console = console }) who p)
   stepped_keeps console who p lines part =
       let turns = part.turns in
       let kept = turns.kept in
@@ -123,27 +130,27 @@ module _ (s : State) (g : Good s) where
       let a = at_turn_advances shell_id in
       load_keeps (shell_world s) s.steps a.kept a.within s.console.finished law s.shell g.read (turn_ready s.world.kern shell_id ready) name said
 
-  prompt_keeps : Good (prompt_step s)
+  prompt_keeps : KeepsEffect (prompt_step s)
   prompt_keeps = stepped_keeps s.console shell_id (prompt_part (has_line s.console) s.shell (shell_world s)) g.console prompts
 
-  read_keeps : Good (read_step s)
+  read_keeps : KeepsEffect (read_step s)
   read_keeps = stepped_keeps (line_dropped s.console) shell_id (read_part (read_line (front_line s.console)) (shell_world s)) (drop_keeps s.console g.console) reads
 
-  evals_keep : IsReady s.world.kern shell_id → Good (eval_step s)
+  evals_keep : IsReady s.world.kern shell_id → KeepsEffect (eval_step s)
   evals_keep ready = stepped_keeps s.console shell_id (eval_part s.shell.trees (shell_world s)) g.console (evaluates ready)
 
-  tasks_keep : (who : ℕ) → Lives s.world.kern who → IsReady s.world.kern who → Good (task_step s who)
+  tasks_keep : (who : ℕ) → Lives s.world.kern who → IsReady s.world.kern who → KeepsEffect (task_step s who)
   tasks_keep who live ready = stepped_keeps s.console who (task_part s.shell (at_turn s.world who) who) g.console (acts who live ready)
 
-  shell_keeps : (p : Phase) → IsReady s.world.kern shell_id → Good (shell_step p s)
+  shell_keeps : (p : Phase) → IsReady s.world.kern shell_id → KeepsEffect (shell_step p s)
   shell_keeps phases.Prompt ready = prompt_keeps
   shell_keeps phases.Read ready = read_keeps
   shell_keeps phases.Eval ready = evals_keep ready
   shell_keeps phases.Call ready = tasks_keep shell_id g.shell ready
 
-  whoever_keeps : (who : ℕ) → Lives s.world.kern who → IsReady s.world.kern who → Good (step_of s who)
+  whoever_keeps : (who : ℕ) → Lives s.world.kern who → IsReady s.world.kern who → KeepsEffect (step_of s who)
   whoever_keeps who live ready =
-      elim (eqb who shell_id) as (λ b. eqb who shell_id ≡ b → Good (cond b (shell_step s.shell.phase s) (task_step s who))) [
+      elim (eqb who shell_id) as (λ b. eqb who shell_id ≡ b → KeepsEffect (cond b (shell_step s.shell.phase s) (task_step s who))) [
         | true ↦ λ e. shell_keeps s.shell.phase (subst (IsReady s.world.kern) (eqb-true who shell_id e) ready)
         | false ↦ λ e. tasks_keep who live ready
       ] refl
@@ -156,7 +163,7 @@ module _ (s : State) (g : Good s) where
       let kept : IsWorld w = record { kern = a.kept.kern; home = a.kept.home; objects = a.kept.objects; pool = a.kept.pool; stacks = a.kept.stacks; modules = a.kept.modules; ram = a.kept.ram; symbols = a.kept.symbols; watch = a.kept.watch; ids = a.kept.ids } in
       routine_passes w s.steps kept a.within active
 
-  routine_keeps : is_active s.world ≡ true → Good (routine_step s)
+  routine_keeps : is_active s.world ≡ true → KeepsEffect (routine_step s)
   routine_keeps active =
       let a = all_advance s.world s.steps g.world g.within in
       let goes = routine_turns active in
@@ -176,7 +183,7 @@ module _ (s : State) (g : Good s) where
       }
 
   -- ---- bytes arrive
-  arrived_keeps : (left bytes : List ℕ) (h : Heard) → length bytes ≤ 4097 → h ≡ heard_by s bytes → Good (arrived s left h)
+  arrived_keeps : (left bytes : List ℕ) (h : Heard) → length bytes ≤ 4097 → h ≡ heard_by s bytes → KeepsEffect (arrived s left h)
   arrived_keeps left bytes h short e =
       let heard = heard_keeps s.console s.shell s.world.kern [] bytes (s.steps + 1) g.console g.read g.world.kern more_counts.0 h e in
       let a = by_kern s.world g.world h.kern (s.steps + 1) (length bytes + 1) heard.2 (heard.3 s.world.objects g.world.objects) more_counts.1 in
@@ -194,10 +201,10 @@ module _ (s : State) (g : Good s) where
         time = omega (arith, g.time);
       }
 
-  arrival_keeps : Good (arrival s)
+  arrival_keeps : KeepsEffect (arrival s)
   arrival_keeps = arrived_keeps (after_chunk s.left) (chunk s.left) (heard_by s (chunk s.left)) (chunk_short s.left) refl
 
-  received_keeps : (n : ℕ) → Good (received s n)
+  received_keeps : (n : ℕ) → KeepsEffect (received s n)
   received_keeps n =
       let bytes = take (brought n) s.left in
       arrived_keeps (drop (brought n) s.left) bytes (heard_by s bytes) (omega (arith, length-take (brought n) s.left)) refl
@@ -214,7 +221,7 @@ module _ (s : State) (g : Good s) where
   stops_alike : (n : ℕ) (v : Watchdog) → (cond (is_due n v) (stopped v) v).id ≡ v.id
   stops_alike n v = elim (is_due n v) as (λ b. (cond b (stopped v) v).id ≡ v.id) [ true ↦ refl | false ↦ refl ]
 
-  ticked_keeps : Good (ticked s)
+  ticked_keeps : KeepsEffect (ticked s)
   ticked_keeps =
       let k = s.world.kern in
       record {
@@ -243,12 +250,12 @@ module _ (s : State) (g : Good s) where
         time = omega (arith, g.time);
       }
 
-  comes_keeps : (e : Event) → Good (event_comes s e)
+  comes_keeps : (e : Event) → KeepsEffect (event_comes s e)
   comes_keeps Tick = ticked_keeps
   comes_keeps (Rx n) = received_keeps n
 
   -- nobody has a reservation when an event occurs; the invariant doesn't mention the future events
-  pub unreserved_keeps : (t : Timetable) → Good (record s { schedule = t; world = unreserved_world s.world })
+  pub unreserved_keeps : (t : Timetable) → Keeps 0 (bare (record s { schedule = t; world = unreserved_world s.world }))
   unreserved_keeps t =
       let a = all_advance s.world s.steps g.world g.within in
       record {
@@ -266,7 +273,7 @@ module _ (s : State) (g : Good s) where
       }
 
   -- ---- board time jumps
-  jump_keeps : (e : Timed) → IsEarly e → Good (jump s e.time)
+  jump_keeps : (e : Timed) → IsEarly e → KeepsEffect (jump s e.time)
   jump_keeps e early = record {
     console = g.console;
     read = g.read;
@@ -281,14 +288,14 @@ module _ (s : State) (g : Good s) where
     time = omega (arith, early);
   }
 
-event_keeps : (s : State) (e : Event) → Good s → Good (event_step s e)
+event_keeps : (s : State) (e : Event) → Keeps 0 (bare s) → KeepsEffect (event_step s e)
 event_keeps s e g =
     let t = without_next s.schedule in
     comes_keeps (record s { schedule = t; world = unreserved_world s.world }) (unreserved_keeps s g t) e
 
 -- ---- a step of the machine
-next_keeps : LoadLaw → (said : FileSaid) (s : State) → IfSome (next_event s) IsEarly → Good s → IfSome (state_after said s (next s)) Good
-next_keeps law said s early g = by_next s (λ n. IfSome (state_after said s n) Good) (record {
+next_keeps : LoadLaw → (said : FileSaid) (s : State) → IfSome (next_event s) IsEarly → Keeps 0 (bare s) → IfSome (state_after said s (next s)) KeepsEffect
+next_keeps law said s early g = by_next s (λ n. IfSome (state_after said s n) KeepsEffect) (record {
   come = λ e due. event_keeps s e.event g;
   arrive = λ quiet due. arrival_keeps s g;
   routine = λ nothing active. routine_keeps s g active;
@@ -300,6 +307,46 @@ next_keeps law said s early g = by_next s (λ n. IfSome (state_after said s n) G
   over = λ left nobody none. tt;
 })
 
-pub step_keeps : LoadLaw → (said : FileSaid) (s t : State) → IfSome (next_event s) IsEarly → Good s → machine_step said s ≡ Some t → Good t
+pub effect_keeps : LoadLaw → EffectLaw
+effect_keeps law said s early g = next_keeps law said s early g.kept
+
+-- ---- priorities are settled
+pub settles : SettleLaw
+settles s g =
+    let k = s.world.kern in
+    let o = s.world.objects in
+    let a = by_kern s.world g.world (settled_kern k o) s.steps settle_sinces (goes-settled k o s.steps g.world.kern g.within.0) (objects-settled k o g.world.kern g.world.objects) g.within.1 in
+    record {
+      kept = record {
+        console = g.console;
+        read = g.read;
+        world = record { kern = a.kept.kern; home = a.kept.home; objects = a.kept.objects; pool = a.kept.pool; stacks = a.kept.stacks; modules = a.kept.modules; ram = a.kept.ram; symbols = a.kept.symbols; watch = a.kept.watch; ids = a.kept.ids };
+        shell = a.lives shell_id g.shell;
+        reserved = subst (λ who. ReservedBy who (settled_kern k o)) (sym a.last) (a.reserves k.last g.reserved);
+        sinces = omega (arith, a.sinces, g.sinces);
+        ticks = omega (arith, a.count, g.ticks);
+        within = a.within;
+        names = g.names;
+        starts = g.starts;
+        time = g.time;
+      };
+      exact = exact-settled s.world g.world.kern;
+    }
+
+pub idles : IdleLaw
+idles s g (inl one) = ap (λ w. record s { world = w }) (settled_same s.world g.world.kern (exact_by_owners (with_mutexes s.world.kern s.world.objects.mutexes) one g.world.kern (g.world.objects.mutexes.urgent one)))
+idles s g (inr exact) = ap (λ w. record s { world = w }) (settled_same s.world g.world.kern exact)
+
+-- what holds of a state whose priorities are settled holds after the step
+pub if_settled : (P : State → Type 0) (o : Option State) → IfSome o (λ u. P (settled_state u)) → IfSome (option_map settled_state o) P
+if_settled P None h = tt
+if_settled P (Some u) h = h
+
+if_each : (P Q : State → Type 0) → ((u : State) → P u → Q u) → (o : Option State) → IfSome o P → IfSome o Q
+if_each P Q to None h = tt
+if_each P Q to (Some u) h = to u h
+
+pub step_keeps : LoadLaw → StepLaw
 unfolding machine_step
-step_keeps law said s t early g e = subst (λ o. IfSome o Good) e (next_keeps law said s early g)
+step_keeps law said s t early g e =
+    subst (λ o. IfSome o Good) e (if_settled Good (state_after said s (next s)) (if_each KeepsEffect (λ u. Good (settled_state u)) settles (state_after said s (next s)) (effect_keeps law said s early g)))

@@ -44,7 +44,7 @@ use Rattle.wind_machine.specs.Shell.{eval_state, with_eval}
 -- from a world to another within a step of a task: the invariant holds, the shell's task lives on, no safe task
 -- except the task itself ends, and counts stay within n;
 -- no other task has a reservation that had none; few numbers, and at most one for a watchdog's start, were handed
--- out; the tick count is the same
+-- out; the tick count and the rule of inheritance are the same
 pub record Turns (w v : WorldState) (who n : ℕ) : Type 0 where
   pub kept : IsWorld v
   pub shell : Lives w.kern shell_id → Lives v.kern shell_id
@@ -55,6 +55,7 @@ pub record Turns (w v : WorldState) (who n : ℕ) : Type 0 where
   pub count : v.kern.tick ≡ w.kern.tick
   pub names : v.names ≤ w.names + 1
   pub starts : v.watch.next_start ≤ w.watch.next_start + 1
+  pub rule : v.objects.mutexes.profile ≡ w.objects.mutexes.profile
 
 pub turns_by : (w v : WorldState) (who n d m : ℕ) → d ≤ call_sinces → m ≤ 1 → Advances w v n d m → Turns w v who n
 turns_by w v who n d m few one a = record {
@@ -67,6 +68,7 @@ turns_by w v who n d m few one a = record {
   count = a.count;
   names = omega (arith, a.names, one);
   starts = omega (arith, a.starts, one);
+  rule = a.rule;
 }
 
 -- by a call of a task
@@ -81,6 +83,7 @@ turns_passed w v who n d m few one p = record {
   count = p.count;
   names = omega (arith, p.names, one);
   starts = omega (arith, p.starts, one);
+  rule = p.rule;
 }
   where
     by_itself : (id : ℕ) → (safe_of (task_of w.kern.tasks id) ≡ 0) ⊎ (by_task who ≡ by_task id) → (safe_of (task_of w.kern.tasks id) ≡ 0) ⊎ (who ≡ id)
@@ -99,10 +102,11 @@ turns_then w v u who n t a = record {
   count = a.count ∙ t.count;
   names = omega (arith, a.names, t.names);
   starts = omega (arith, a.starts, t.starts);
+  rule = a.rule ∙ t.rule;
 }
 
 pub nowhere : (w : WorldState) (who n : ℕ) → IsWorld w → Within n w → Turns w w who n
-nowhere w who n kept within = record { kept = kept; shell = λ h. h; gone = λ id live dead. absurd (dead live); within = within; reserves = λ h. h; sinces = omega arith; count = refl; names = omega arith; starts = omega arith }
+nowhere w who n kept within = record { kept = kept; shell = λ h. h; gone = λ id live dead. absurd (dead live); within = within; reserves = λ h. h; sinces = omega arith; count = refl; names = omega arith; starts = omega arith; rule = refl }
 
 pub more_counts : (w v : WorldState) (who n : ℕ) → Turns w v who n → Turns w v who (n + 1)
 more_counts w v who n t = record {
@@ -115,6 +119,7 @@ more_counts w v who n t = record {
   count = t.count;
   names = t.names;
   starts = t.starts;
+  rule = t.rule;
 }
 
 module _ (w v : WorldState) (who n : ℕ) (t : Turns w v who n) where
@@ -130,6 +135,7 @@ module _ (w v : WorldState) (who n : ℕ) (t : Turns w v who n) where
     count = t.count;
     names = t.names;
     starts = t.starts;
+    rule = t.rule;
   }
 
   pub wrote : (output : List ℕ) → Turns w (record v { output = output }) who n
@@ -174,6 +180,7 @@ module _ (w v : WorldState) (who n : ℕ) (t : Turns w v who n) where
         count = t.count;
         names = t.names;
         starts = t.starts;
+        rule = t.rule;
       }
 
 -- ---- another task than the shell's ends
@@ -190,6 +197,7 @@ ended_turns w who n other kept within =
       count = e.count;
       names = omega (arith, e.names);
       starts = omega (arith, e.starts);
+      rule = e.rule;
     }
   where
     differ : shell_id ≡ who → ⊥
@@ -263,4 +271,5 @@ evaluated_turns w who n e kept within keeps =
       count = refl;
       names = omega arith;
       starts = omega arith;
+      rule = refl;
     }

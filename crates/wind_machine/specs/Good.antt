@@ -4,6 +4,7 @@ use Rattle.con_line.specs.Lines.{KeepsLines}
 use Rattle.wind_core.specs.State.{Lives}
 use Rattle.kernel_world.specs.Actors.{shell_id}
 use Rattle.kernel_world.specs.Kept.{IsWorld, ReservedBy, Within}
+use Rattle.kernel_world.specs.Settling.{HasExact}
 use Rattle.wind_machine.specs.State.{State}
 use Rattle.wind_machine.specs.declared.phase.Phase.{Phase}
 use Rattle.wind_machine.specs.declared.phase.Phase.TheVariants as phases
@@ -12,7 +13,12 @@ use Rattle.wind_machine.specs.declared.phase.Phase.TheVariants as phases
 abbrev pub HasItsLine : Phase → List ℕ → Type 0
 HasItsLine phase finished = phase ≡ phases.Read → finished ≢ []
 
-pub record Keeps (s : State) : Type 0 where
+-- the most order numbers that settling priorities hands out
+abbrev pub settle_sinces : ℕ
+settle_sinces = 256
+
+-- the invariant but for exact priorities, with this many order numbers left
+pub record Keeps (spare : ℕ) (s : State) : Type 0 where
   -- the edited line and the finished lines keep the console's invariant
   pub console : KeepsLines s.console.edited s.console.finished
   -- in phase Read there is a finished line
@@ -25,7 +31,7 @@ pub record Keeps (s : State) : Type 0 where
   -- whoever has a reservation ran last
   pub reserved : ReservedBy s.world.kern.last s.world.kern
   -- the counters are bounded by the steps made
-  pub sinces : s.world.kern.next_since ≤ 8192 * (s.steps + 1)
+  pub sinces : s.world.kern.next_since + spare ≤ 8192 * (s.steps + 1)
   pub ticks : s.world.kern.tick ≤ s.steps
   pub within : Within s.steps s.world
   pub names : s.world.names ≤ s.steps + 1
@@ -33,6 +39,20 @@ pub record Keeps (s : State) : Type 0 where
   -- board time exceeds the number of steps by at most the time of an event
   pub time : s.time ≤ 2 ^ 64 + s.steps
 
+-- a state without its devices, which the invariant doesn't mention
+abbrev pub bare : State → State
+bare s = record s { world = record s.world { slots = [] } }
+
+-- what a step's effect keeps, before priorities are settled
+abbrev pub KeepsEffect : State → Type 0
+KeepsEffect s = Keeps settle_sinces (bare s)
+
+-- the invariant of a state without devices, with exact priorities
+pub record KeepsExactly (s : State) : Type 0 where
+  pub kept : Keeps 0 s
+  -- each task has exactly the priority that it inherits
+  pub exact : HasExact s.world
+
 -- the invariant of a state, whatever devices are in its slots
 abbrev pub Good : State → Type 0
-Good s = Keeps (record s { world = record s.world { slots = [] } })
+Good s = KeepsExactly (bare s)

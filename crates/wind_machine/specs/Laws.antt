@@ -1,19 +1,22 @@
 -- What follows from the machine's definitions alone.
 use Rattle.std.specs.Prelude.{◌≡◌, ℕ, ◌+◌, List, Option, Some, None, IfSome, ◌⊎◌, ◌↔◌}
+use Rattle.wind_base.specs.declared.profile.Profile.{Profile}
+use Rattle.wind_base.specs.declared.profile.Profile.TheVariants.{One}
 use Rattle.wind_outside.specs.Devices.{DeviceState}
 use Rattle.live_loading.specs.Said.{FileSaid}
 use Rattle.tick_file.specs.Schedule.{Timetable, timetable_of}
 use Rattle.tick_file.specs.Laws.{IsEarly}
 use Rattle.wind_core.specs.State.{Lives, task_of}
 use Rattle.task_safety.specs.Safety.{safe_of}
+use Rattle.kernel_world.specs.Settling.{HasExact}
 use Rattle.kernel_world.specs.declared.actor.Actor.TheVariants.{Task as by_task}
 use Rattle.wind_machine.specs.State.{State}
-use Rattle.wind_machine.specs.Good.{Good}
+use Rattle.wind_machine.specs.Good.{Good, KeepsEffect}
 use Rattle.wind_machine.specs.Instants.{IsInstant}
 use Rattle.wind_machine.specs.Run.{Answers, after}
 use Rattle.wind_machine.specs.Events.{next_event}
 use Rattle.wind_machine.specs.Next.{next, ComesNext}
-use Rattle.wind_machine.specs.Machine.{machine_step, IsOver, stepping, opening}
+use Rattle.wind_machine.specs.Machine.{state_after, settled_state, machine_step, IsOver, stepping, opening}
 use Rattle.wind_machine.specs.declared.next.Next.{Next}
 
 -- exactly one value comes next, in every state
@@ -26,11 +29,30 @@ OverLaw = (said : FileSaid) (s : State) → (machine_step said s ≡ None) ↔ I
 
 -- the opening state has the invariant
 abbrev pub StartLaw : Type 0
-StartLaw = (console : List ℕ) (schedule : Timetable) (slots : List (Option DeviceState)) → Good (opening console schedule slots)
+StartLaw = (console : List ℕ) (schedule : Timetable) (slots : List (Option DeviceState)) (profile : Profile)
+    → Good (opening console schedule slots profile)
 
 -- every step keeps the invariant, whatever is said of a file, if the next event comes before 2^64
 abbrev pub StepLaw : Type 0
 StepLaw = (said : FileSaid) (s t : State) → IfSome (next_event s) IsEarly → Good s → machine_step said s ≡ Some t → Good t
+
+-- the effect of every step keeps the rest of the invariant, whatever is said of a file
+abbrev pub EffectLaw : Type 0
+EffectLaw = (said : FileSaid) (s : State) → IfSome (next_event s) IsEarly → Good s
+    → IfSome (state_after said s (next s)) KeepsEffect
+
+-- settling priorities then gives the invariant
+abbrev pub SettleLaw : Type 0
+SettleLaw = (s : State) → KeepsEffect s → Good (settled_state s)
+
+-- it changes nothing under profile 1, nor if priorities are exact already
+abbrev pub IdleLaw : Type 0
+IdleLaw = (s : State) → KeepsEffect s → (s.world.objects.mutexes.profile ≡ One) ⊎ HasExact s.world → settled_state s ≡ s
+
+-- no step changes the rule of inheritance
+abbrev pub RuleLaw : Type 0
+RuleLaw = (said : FileSaid) (s t : State) → Good s → machine_step said s ≡ Some t
+    → t.world.objects.mutexes.profile ≡ s.world.objects.mutexes.profile
 
 -- every step is counted
 abbrev pub CountLaw : Type 0
@@ -49,16 +71,21 @@ OnlyUnsafeGo s t = (id : ℕ) → Lives s.world.kern id → (Lives t.world.kern 
 abbrev pub SafetyLaw : Type 0
 SafetyLaw = (said : FileSaid) (s t : State) → Good s → machine_step said s ≡ Some t → OnlyUnsafeGo s t
 
--- the state after k steps with this console file and these events, given what is said of the files that they need
-abbrev pub at_step : Answers → List ℕ → Timetable → List (Option DeviceState) → ℕ → State
-at_step said console schedule slots k = after said (opening console schedule slots) k
+-- the state after k steps with this console file and these events under a rule of inheritance, given what is said of the
+-- files that they need
+abbrev pub at_step : Answers → List ℕ → Timetable → List (Option DeviceState) → Profile → ℕ → State
+at_step said console schedule slots profile k = after said (opening console schedule slots profile) k
 
 -- what holds there: the invariant, what holds at each instant, and that no safe task ends in the step that follows
-pub record HoldsAfter (said : Answers) (console : List ℕ) (schedule : Timetable) (slots : List (Option DeviceState)) (k : ℕ) : Type 0 where
-  pub kept : Good (at_step said console schedule slots k)
-  pub instant : IsInstant (at_step said console schedule slots k).world
-  pub safety : OnlyUnsafeGo (at_step said console schedule slots k) (at_step said console schedule slots (k + 1))
+pub record HoldsAfter (said : Answers) (console : List ℕ) (schedule : Timetable) (slots : List (Option DeviceState)) (profile : Profile) (k : ℕ) : Type 0 where
+  pub kept : Good (at_step said console schedule slots profile k)
+  pub instant : IsInstant (at_step said console schedule slots profile k).world
+  -- the rule of inheritance is the one asked for
+  pub rule : (at_step said console schedule slots profile k).world.objects.mutexes.profile ≡ profile
+  pub safety : OnlyUnsafeGo (at_step said console schedule slots profile k) (at_step said console schedule slots profile (k + 1))
 
--- it holds at every state of every run, whatever the console file, the tick file, the module files and the devices are
+-- it holds at every state of every run under both rules, whatever the console file, the tick file, the module files and
+-- the devices are
 abbrev pub RunLaw : Type 0
-RunLaw = (said : Answers) (console ticks : List ℕ) (slots : List (Option DeviceState)) (k : ℕ) → HoldsAfter said console (timetable_of ticks) slots k
+RunLaw = (said : Answers) (console ticks : List ℕ) (slots : List (Option DeviceState)) (profile : Profile) (k : ℕ)
+    → HoldsAfter said console (timetable_of ticks) slots profile k

@@ -1,12 +1,15 @@
 -- The wind machine: its opening state and its step.
+use Rattle.std.specs.Option.{option_map}
 use Rattle.std.specs.Prelude.{◌≡◌, ℕ, List, Option, Some, None, Bool, true, false, ◌==◌, if◌then◌else◌}
 use Rattle.wind_base.specs.declared.gate.Gate.{Gate}
+use Rattle.wind_base.specs.declared.profile.Profile.{Profile}
 use Rattle.wind_outside.specs.Devices.{DeviceState}
 use Rattle.tick_file.specs.Schedule.{Timetable}
 use Rattle.con_line.specs.State.{opening_console}
 use Rattle.kernel_world.specs.Actors.{shell_id}
 use Rattle.kernel_world.specs.Allowed.{may_lack_memory as call_may_lack_memory}
 use Rattle.kernel_world.specs.Opening.{opening_world}
+use Rattle.kernel_world.specs.Settling.{settled_world}
 use Rattle.kernel_world.specs.declared.actor.Actor.{Actor}
 use Rattle.kernel_world.specs.declared.actor.Actor.TheVariants.{Task as by_task, Interrupt}
 use Rattle.live_loading.specs.Said.{FileSaid}
@@ -22,20 +25,25 @@ use Rattle.wind_machine.specs.declared.next.Next.TheVariants.{Come, Arrive, Rout
 use Rattle.wind_machine.specs.declared.phase.Phase.{Phase}
 use Rattle.wind_machine.specs.declared.phase.Phase.TheVariants as phases
 
--- the state in which a board starts, with this console file, these events and these devices
-unfoldable pub opening : List ℕ → Timetable → List (Option DeviceState) → State
-opening console schedule slots = record {
+-- the state in which a board starts, with this console file, these events and these devices, under a rule of
+-- inheritance
+unfoldable pub opening : List ℕ → Timetable → List (Option DeviceState) → Profile → State
+opening console schedule slots profile = record {
   left = console;
   console = opening_console;
   shell = at_prompt;
-  world = opening_world slots;
+  world = opening_world slots profile;
   schedule = schedule;
   time = 0;
   steps = 0;
 }
 
 -- ---- the next step
--- the state after it, given what is said of the file that it needs; if it needs none, that is not used
+-- priorities are settled at its end
+abbrev pub settled_state : State → State
+settled_state s = record s { world = settled_world s.world }
+
+-- its effect, given what is said of the file that it needs; if it needs none, that is not used
 abbrev pub state_after : FileSaid → State → Next → Option State
 state_after said s (Come e) = Some (event_step s e)
 state_after said s Arrive = Some (arrival s)
@@ -45,8 +53,9 @@ state_after said s (Load name) = Some (load_step said s name)
 state_after said s (Jump time) = Some (jump s time)
 state_after said s Over = None
 
+-- the state after it
 unfoldable pub machine_step : FileSaid → State → Option State
-machine_step said s = state_after said s (next s)
+machine_step said s = option_map settled_state (state_after said s (next s))
 
 -- from one state to the next, whatever is said of a file; and there is no further step
 abbrev pub Steps : State → State → Type 0

@@ -1,6 +1,6 @@
 //! What follows from the machine's definitions alone, whatever the code does.
 
-ghost use Rattle.wind_machine.specs.Laws.{OrderLaw, OverLaw, StartLaw, StepLaw, CountLaw, InstantLaw, SafetyLaw, RunLaw};
+ghost use Rattle.wind_machine.specs.Laws.{OrderLaw, OverLaw, StartLaw, StepLaw, EffectLaw, SettleLaw, IdleLaw, RuleLaw, CountLaw, InstantLaw, SafetyLaw, RunLaw};
 ghost use Rattle.wind_machine.specs.Silent.{SilentLaw};
 
 use live_loading::loading_law;
@@ -15,21 +15,31 @@ pub fn order_law()
 
 /// The law of the invariant: it holds in the opening state, and every step of the wind machine
 /// keeps it if the next event of the tick file comes before 2^64. All events that a tick file can
-/// ask for do. Every step is counted.
+/// ask for do. No step changes the rule of inheritance. Every step is counted.
 #[tactic(auto, unfolding(crate::specs::Machine::opening))]
 pub fn step_law()
     ensures start { StartLaw }
     ensures step { StepLaw }
+    ensures effect { EffectLaw }
+    ensures rule { RuleLaw }
     ensures count { CountLaw }
 {
     loading_law();
 }
 
+/// The law of settling. After a step's effect, settling priorities gives the invariant. It changes
+/// nothing under profile 1, nor if priorities are exact already.
+pub fn settle_law()
+    ensures settle { SettleLaw }
+    ensures idle { IdleLaw }
+{}
+
 /// The law of each instant: in every state with the invariant, these hold. If no interrupt routine
 /// is active, the running task lives and is ready. No ready task comes before it, unless it ran
 /// last and holds the scheduler's lock. Each live owner of an inversion-safe mutex is at least as
 /// urgent as whoever waits for it, directly or through further owners. A task that owns no such
-/// mutex has its normal priority. Raising owners again would change nothing.
+/// mutex has its normal priority. Under profile 2 each task has exactly the most urgent normal
+/// priority among itself and the tasks that wait for it. Raising owners again would change nothing.
 pub fn instant_law()
     ensures { InstantLaw }
 {}
@@ -42,9 +52,9 @@ pub fn safety_law()
     loading_law();
 }
 
-/// The law of runs: for every console file, tick file and list of devices, the state after any
-/// number of steps keeps the invariant and what holds at each instant. In the step that follows, no
-/// safe task ends, unless the step is its own.
+/// The law of runs: for every console file, tick file and list of devices, and under both rules of
+/// inheritance, the state after any number of steps has the invariant and what holds at each
+/// instant. In the step that follows, no safe task ends, unless the step is its own.
 pub fn run_law()
     ensures { RunLaw }
 {

@@ -5,6 +5,6 @@ mod laws;
 mod next;
 mod phase;
 
-pub use laws::{instant_law, order_law, run_law, safety_law, silent_law, step_law};
+pub use laws::{instant_law, order_law, run_law, safety_law, settle_law, silent_law, step_law};
 pub use next::Next;
 pub use phase::Phase;

@@ -2,6 +2,8 @@
 use Rattle.std.proofs.Common.{◌≡◌, ℕ, ◌-◌, Bool, true, false, ◌&&◌, cond, eqb, ltb, leb, List, [], ◌∷◌, Option, None, Some, refl, ◌∙◌}
 use Rattle.wind_base.specs.declared.errno.Errno.TheVariants as errors
 use Rattle.id_table.specs.Rows.{object_of}
+use Rattle.wind_base.specs.declared.profile.Profile.{Profile}
+use Rattle.wind_base.specs.declared.profile.Profile.TheVariants.{One, Two}
 use Rattle.task_block.specs.declared.task.Task.{Task}
 use Rattle.wind_core.specs.State.{KernState, task_of}
 use Rattle.wind_core.specs.Orders.{waiters, first_waiter}
@@ -10,7 +12,7 @@ use Rattle.wind_core.specs.Releases.{releases, release_all}
 use Rattle.task_safety.specs.Safety.{deletion, safe_of, make_safe, lessen}
 use Rattle.inheritance.specs.declared.mutex.Mutex.{Mutex}
 use Rattle.inheritance.specs.Mutexes.{MutexState, mutex_place}
-use Rattle.inheritance.specs.Reach.{lifted, raised_kern, raised}
+use Rattle.inheritance.specs.Reach.{lifted, raised_kern}
 use Rattle.sem_mutex.specs.Calls as mutex
 use Rattle.sem_mutex.proofs.Lifting.{next-change_pri, next-repried}
 use Rattle.sem_mutex.proofs.Giving.{next_hand}
@@ -44,8 +46,8 @@ next-lessen k who n =
     let less : KernState = set_safe k who (count - n) in
     next-if (ltb 0 count && leb count n) k (release_all less (deletion who)) less (next-releases less (waiters less.tasks (deletion who))) refl
 
-pub next-raised : (k : KernState) (ms : List (ℕ × Mutex)) → NextSame k (raised_kern k ms)
-next-raised k ms = next-repried k (lifted k ms) k.tasks
+pub next-raised : (p : Profile) (k : KernState) (ms : List (ℕ × Mutex)) → NextSame k (raised_kern p k ms)
+next-raised p k ms = next-repried k (lifted p k ms) k.tasks
 
 -- ---- semaphores
 pub next-sem_take : (s : SemState) (who id n : ℕ) (o : Option Semaphore) → NextSame s.kern (plain.take_found s who id n o).kern
@@ -73,14 +75,15 @@ next-guarded k who m = next-if m.delete_safe k (make_safe k who) k refl refl
 next-eased : (k : KernState) (who : ℕ) (m : Mutex) (n : ℕ) → NextSame k (mutex.eased k who m n)
 next-eased k who m n = next-if m.delete_safe k (lessen k who n) k (next-lessen k who n) refl
 
-next-restored : (k : KernState) (who : ℕ) (o : Option Task) → NextSame k (mutex.restored k who o)
-next-restored k who None = refl
-next-restored k who (Some t) = next-if (eqb t.held 0) k (change_pri k who t.normal) k (next-change_pri k who t.normal) refl
+next-restored : (p : Profile) (k : KernState) (who : ℕ) (o : Option Task) → NextSame k (mutex.restored p k who o)
+next-restored Two k who o = refl
+next-restored One k who None = refl
+next-restored One k who (Some t) = next-if (eqb t.held 0) k (change_pri k who t.normal) k (next-change_pri k who t.normal) refl
 
-next-letting_go : (k : KernState) (who : ℕ) (m : Mutex) → NextSame k (mutex.letting_go k who m)
-next-letting_go k who m =
+next-letting_go : (p : Profile) (k : KernState) (who : ℕ) (m : Mutex) → NextSame k (mutex.letting_go p k who m)
+next-letting_go p k who m =
     let less : KernState = mutex.less_held k who in
-    next-if m.inversion_safe k (mutex.dropped k who) k (next-restored less who (task_of less.tasks who)) refl
+    next-if m.inversion_safe k (mutex.dropped p k who) k (next-restored p less who (task_of less.tasks who)) refl
 
 next-taken : (s : MutexState) (who id n : ℕ) (m : Mutex) (o : Option ℕ) → NextSame s.kern (mutex.taken s who id n m o).kern
 next-taken s who id n m None = next_hand s.kern who m
@@ -99,30 +102,38 @@ next-give_up : (s : MutexState) (who id : ℕ) (m : Mutex) → NextSame s.kern (
 next-give_up s who id m =
     let next : Option Task = first_waiter s.kern.tasks (mutex_place id) in
     let passed : KernState = (mutex.pass_on s id m next).kern in
-    next-eased (mutex.letting_go passed who m) who m 1 ∙ next-letting_go passed who m ∙ next-pass_on s id m next
+    next-eased (mutex.letting_go s.profile passed who m) who m 1 ∙ next-letting_go s.profile passed who m ∙ next-pass_on s id m next
 
 next-give_alone : (s : MutexState) (who id : ℕ) (o : Option Mutex) → NextSame s.kern (mutex.give_alone s who id o).kern
 next-give_alone s who id None = refl
 next-give_alone s who id (Some m) =
     elim (ltb 1 m.depth) as (λ b. NextSame s.kern (cond b (mutex.shallow s who id m) (mutex.give_up s who id m)).kern) [ true ↦ next-eased s.kern who m 1 | false ↦ next-give_up s who id m ]
 
-next-ended : (k : KernState) (who : ℕ) (m : Mutex) (o : Option Task) → NextSame k (mutex.ended k who m o)
-next-ended k who m None = refl
-next-ended k who m (Some t) = next-eased (mutex.letting_go k who m) who m m.depth ∙ next-letting_go k who m
+next-ended : (p : Profile) (k : KernState) (who : ℕ) (m : Mutex) (o : Option Task) → NextSame k (mutex.ended p k who m o)
+next-ended p k who m None = refl
+next-ended p k who m (Some t) = next-eased (mutex.letting_go p k who m) who m m.depth ∙ next-letting_go p k who m
 
-next-owner_ended : (k : KernState) (m : Mutex) (o : Option ℕ) → NextSame k (mutex.owner_ended k m o)
-next-owner_ended k m None = refl
-next-owner_ended k m (Some who) = next-ended k who m (task_of k.tasks who)
+next-owner_ended : (p : Profile) (k : KernState) (m : Mutex) (o : Option ℕ) → NextSame k (mutex.owner_ended p k m o)
+next-owner_ended p k m None = refl
+next-owner_ended p k m (Some who) = next-ended p k who m (task_of k.tasks who)
 
 next-delete_alone : (s : MutexState) (id : ℕ) (o : Option Mutex) → NextSame s.kern (mutex.delete_alone s id o).kern
 next-delete_alone s id None = refl
 next-delete_alone s id (Some m) =
-    next-owner_ended (wake_all s.kern (mutex_place id) 4294967295 (Some errors.ObjDeleted)) m m.owner
+    next-owner_ended s.profile (wake_all s.kern (mutex_place id) 4294967295 (Some errors.ObjDeleted)) m m.owner
     ∙ next-end_waits s.kern (waiters s.kern.tasks (mutex_place id)) 4294967295 (Some errors.ObjDeleted)
 
 -- and the priorities that follow
-raises : (s t : MutexState) → NextSame s.kern t.kern → NextSame s.kern (raised t).kern
-raises s t same = next-raised t.kern t.mutexes ∙ same
+next-at_once : (p : Profile) (k : KernState) (ms : List (ℕ × Mutex)) → NextSame k (mutex.at_once p k ms)
+next-at_once One k ms = next-raised One k ms
+next-at_once Two k ms = refl
+
+raises : (s t : MutexState) → NextSame s.kern t.kern → NextSame s.kern (mutex.raised_at_once t).kern
+raises s t same = next-at_once t.profile t.kern t.mutexes ∙ same
+
+next-followed : (p : Profile) (k : KernState) (who pri : ℕ) → NextSame k (mutex.followed p k who pri)
+next-followed One k who pri = next-change_pri k who pri
+next-followed Two k who pri = refl
 
 pub next-mutex_take : (s : MutexState) (who id n : ℕ) → NextSame s.kern (mutex.take s who id n).kern
 next-mutex_take s who id n = raises s (mutex.take_alone s who id n (object_of s.mutexes id)) (next-take_alone s who id n (object_of s.mutexes id))
@@ -134,4 +145,4 @@ pub next-mutex_delete : (s : MutexState) (id : ℕ) → NextSame s.kern (mutex.d
 next-mutex_delete s id = raises s (mutex.delete_alone s id (object_of s.mutexes id)) (next-delete_alone s id (object_of s.mutexes id))
 
 pub next-priority_set : (s : MutexState) (who pri : ℕ) → NextSame s.kern (mutex.priority_set s who pri).kern
-next-priority_set s who pri = raises s (mutex.priority_alone s who pri) (next-change_pri (set_normal s.kern who pri) who (mutex.pri_after pri (task_of s.kern.tasks who)))
+next-priority_set s who pri = raises s (mutex.priority_alone s who pri) (next-followed s.profile (set_normal s.kern who pri) who (mutex.pri_after pri (task_of s.kern.tasks who)))

@@ -147,7 +147,7 @@ module _ (k : KernState) (o : Objects) where
   takes : (who id n : ℕ) → LeavesQueues k o (sem.take_row k o (by_task who) id n)
   takes who id n =
       elim (sem.is_mutex o id) as (λ b. LeavesQueues k o (cond b (sem.mutex_take k o who id n) (sem.plain_take k o who id n))) [
-        | true ↦ mutex_takes who id n (mutex.take_refusal who n (object_of o.mutexes id))
+        | true ↦ mutex_takes who id n (mutex.take_refusal who n (object_of o.mutexes.rows id))
         | false ↦ plain_takes who id n (plain.take_refusal (sem.sems k o) id n)
       ]
 
@@ -162,7 +162,7 @@ module _ (k : KernState) (o : Objects) where
   gives : (who id : ℕ) → LeavesQueues k o (sem.give_row k o (by_task who) id)
   gives who id =
       elim (sem.is_mutex o id) as (λ b. LeavesQueues k o (cond b (sem.mutex_give k o who id) (sem.plain_give k o id))) [
-        | true ↦ mutex_gives who id (mutex.give_refusal who (object_of o.mutexes id))
+        | true ↦ mutex_gives who id (mutex.give_refusal who (object_of o.mutexes.rows id))
         | false ↦ plain_gives id (plain.give_refusal (sem.sems k o) id)
       ]
 

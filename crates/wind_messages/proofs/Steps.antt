@@ -35,7 +35,12 @@ use Rattle.wind_machine.specs.Shell.{read_part}
 use Rattle.wind_machine.specs.Processor.{gate_under}
 use Rattle.wind_machine.specs.Events.{Heard, hear, heard_all, heard_from, heard_by, kern_after, arrived, event_comes, event_step, unreserved_world, without_next, jump}
 use Rattle.wind_machine.specs.ActorSteps.{shell_world, task_step, shell_step, step_of, routine_step, load_step, file_in}
-use Rattle.wind_machine.specs.Machine.{state_after, machine_step, actor_of, stepping}
+use Rattle.std.specs.Option.{option_map}
+use Rattle.msg_queue.specs.Machine.{accepted_next, taken_next}
+use Rattle.msg_queue.specs.Laws.{IsBalanced}
+use Rattle.kernel_world.specs.Settling.{settled_world}
+use Rattle.wind_machine.specs.Next.{next}
+use Rattle.wind_machine.specs.Machine.{state_after, settled_state, machine_step, actor_of, stepping}
 use Rattle.wind_machine.specs.declared.phase.Phase.{Phase}
 use Rattle.wind_machine.specs.declared.phase.Phase.TheVariants as phases
 use Rattle.wind_machine.proofs.Dropping.{all_advance}
@@ -44,8 +49,8 @@ use Rattle.wind_machine.proofs.Asking.{at_load, same_gate}
 use Rattle.wind_machine.proofs.Free.{runner_ready, turn_ready}
 use Rattle.wind_machine.proofs.Steps.{at_turn_advances}
 use Rattle.wind_messages.specs.Messages.{is_call, is_at_work, turn_world, task_call, task_scene, call_under, call_of, scene_by, routine_world, routine_scene}
-use Rattle.wind_messages.proofs.NextIds.{NextSame, next-if, next-release}
-use Rattle.wind_messages.proofs.Rows.{Balances, leaves}
+use Rattle.wind_messages.proofs.NextIds.{NextSame, next-if, next-release, next-raised}
+use Rattle.wind_messages.proofs.Rows.{Balances, stock_in, leaves}
 use Rattle.wind_messages.proofs.Parts.{next-aborted, prompts, evaluates, task_balances}
 use Rattle.wind_messages.proofs.Routines.{routine_balances}
 
@@ -87,7 +92,7 @@ module _ (s : State) (g : Good s) where
   scene_kept : (who : ℕ) → IsKept (task_scene s who)
   scene_kept who =
       let w : WorldState = turn_world s who in
-      let kept = (at_turn_advances s g who).kept in
+      let kept = (at_turn_advances s g.kept who).kept in
       let calm = calms w.objects.queues.queues w.kern (LeaveGate who) kept.kern tt tt in
       queues-calm w.kern (left_gate w (by_task who)).kern w.objects calm kept.objects.queues w.ram kept.ram
 
@@ -115,7 +120,7 @@ module _ (s : State) (g : Good s) where
   -- what a call of an interrupt routine sees keeps the queues' invariant
   routine_kept : IsKept (routine_scene s)
   routine_kept =
-      let kept = (all_advance s.world s.steps g.world g.within).kept in
+      let kept = (all_advance s.world s.steps g.kept.world g.kept.within).kept in
       kept.objects.queues s.world.ram kept.ram
 
   routines_go : Goes s (routine_step s) (Some Interrupt)
@@ -130,20 +135,31 @@ module _ (s : State) (g : Good s) where
   load_goes : AloneLaw → IsReady s.world.kern shell_id → (said : FileSaid) (name : List ℕ) → file_in s.shell.phase s.world ≡ Some name → Goes s (load_step said s name) (Some shell)
   load_goes law ready said name found =
       let w : WorldState = shell_world s in
-      let alone = law w name said (at_turn_advances s g shell_id).kept (turn_ready s.world.kern shell_id ready) in
+      let alone = law w name said (at_turn_advances s g.kept shell_id).kept (turn_ready s.world.kern shell_id ready) in
       let here : Balances s.world (load_step said s name).world (task_scene s shell_id) None
       = leaves w (load_step said s name).world (task_scene s shell_id) (ap (λ o. o.queues.queues) alone.objects) alone.ids in
       subst (Balances s.world (load_step said s name).world (task_scene s shell_id)) (sym (no_call name found)) here
 
   -- ---- by the order of the next step
-  pub step_goes : AloneLaw → (said : FileSaid) → Goes s (unwrap_or (machine_step said s) s) (stepping s)
-  unfolding machine_step
-  step_goes law said = by_next s (λ n. Goes s (unwrap_or (state_after said s n) s) (actor_of n)) (record {
+  pub effect_goes : AloneLaw → (said : FileSaid) → Goes s (unwrap_or (state_after said s (next s)) s) (stepping s)
+  effect_goes law said = by_next s (λ n. Goes s (unwrap_or (state_after said s n) s) (actor_of n)) (record {
     come = λ e due. due_events s e.event;
     arrive = λ quiet due. arrivals s (after_chunk s.left) (chunk s.left);
     routine = λ nothing active. routines_go;
     act = λ left t runs none. whoever_goes t.id;
-    load = λ left t runs own name found. load_goes law (subst (IsReady s.world.kern) own (runner_ready s.world.kern g.world.kern t runs)) said name found;
+    load = λ left t runs own name found. load_goes law (subst (IsReady s.world.kern) own (runner_ready s.world.kern g.kept.world.kern t runs)) said name found;
     jump = λ left nobody e there. left_alone s (jump s e.time) refl refl;
     over = λ left nobody none. left_alone s s refl refl;
   })
+
+  -- settling priorities touches no queue
+  settled_stock : (w : WorldState) → stock_in (settled_world w) ≡ stock_in w
+  settled_stock w = ap (λ n. record (stock_in w) { next_id = n }) (next-raised w.objects.mutexes.profile w.kern w.objects.mutexes.rows)
+
+  settled_goes : (o : Option State) (a : Option Actor) → Goes s (unwrap_or o s) a → Goes s (unwrap_or (option_map settled_state o) s) a
+  settled_goes None a goes = goes
+  settled_goes (Some u) a goes = subst (λ x. IsBalanced (stock_in s.world) x (accepted_next (scene_by s a) (call_of s a)) (taken_next (scene_by s a) (call_of s a))) (sym (settled_stock u.world)) goes
+
+  pub step_goes : AloneLaw → (said : FileSaid) → Goes s (unwrap_or (machine_step said s) s) (stepping s)
+  unfolding machine_step
+  step_goes law said = settled_goes (state_after said s (next s)) (stepping s) (effect_goes law said)

@@ -2,6 +2,7 @@
 use Rattle.std.specs.Prelude.{◌≡◌, ℕ, List, Option, Some}
 use Rattle.id_table.specs.Rows.{object_of}
 use Rattle.tick_file.specs.Schedule.{timetable_of}
+use Rattle.wind_base.specs.declared.profile.Profile.{Profile}
 use Rattle.wind_outside.specs.Devices.{DeviceState}
 use Rattle.msg_queue.specs.State.{QueueState}
 use Rattle.msg_queue.specs.Laws.{IsConserved}
@@ -9,10 +10,10 @@ use Rattle.wind_machine.specs.Machine.{opening}
 use Rattle.wind_machine.specs.Run.{Answers, after}
 use Rattle.wind_messages.specs.Messages.{accepted, taken}
 
--- for every console file, tick file and list of devices, whatever is said of module files, and for each queue that
--- is live after k steps: what was accepted is, each as often, what was taken followed by what the queue holds; if
--- none was urgent, the two are equal, order included
+-- for every console file, tick file and list of devices, under both rules of inheritance, whatever is said of module
+-- files, and for each queue that is live after k steps: what was accepted is, each as often, what was taken followed
+-- by what the queue holds; if none was urgent, the two are equal, order included
 abbrev pub ConservationLaw : Type 0
-ConservationLaw = (said : Answers) (console ticks : List ℕ) (slots : List (Option DeviceState)) (k q : ℕ) (y : QueueState)
-    → object_of (after said (opening console (timetable_of ticks) slots) k).world.objects.queues.queues q ≡ Some y
-    → IsConserved (accepted said (opening console (timetable_of ticks) slots) q k) (taken said (opening console (timetable_of ticks) slots) q k) y.held
+ConservationLaw = (said : Answers) (console ticks : List ℕ) (slots : List (Option DeviceState)) (profile : Profile) (k q : ℕ) (y : QueueState)
+    → object_of (after said (opening console (timetable_of ticks) slots profile) k).world.objects.queues.queues q ≡ Some y
+    → IsConserved (accepted said (opening console (timetable_of ticks) slots profile) q k) (taken said (opening console (timetable_of ticks) slots profile) q k) y.held

@@ -5,8 +5,7 @@ ghost use Rattle.std.specs.Prelude.{◌≡◌, replicate};
 use crate::{Device, DeviceKind};
 use std::marker::Model;
 
-/// A latch: four words, each of which holds what was last stored there. A contract sees these
-/// words.
+/// A latch: four words. Each holds what was last stored there. A contract sees these words.
 #[derive(Drop)]
 pub struct Latch {
     words: [u32; 4],

@@ -8,8 +8,9 @@ use Rattle.clap.specs.declared.error.kind.ErrorKind.TheVariants.{OutOfMemory}
 use Rattle.clap.specs.declared.parser.matches.ArgMatches.{ArgMatches}
 use Rattle.clap.proofs.OnLiterals.{clap_on_literals}
 use Rattle.wind_base.specs.Limits.{most_steps}
+use Rattle.wind_base.specs.declared.profile.Profile.{Profile}
 use Rattle.generated_session.specs.Session.{most_rounds}
-use Rattle.wind_session.specs.Command.{CommandState, app, command_of, command_of_rows, number_value, of_numbers, unless_fault, value_of, with_numbers}
+use Rattle.wind_session.specs.Command.{CommandState, app, command_of, command_of_rows, number_value, of_values, profile_value, unless_fault, value_of, with_values}
 
 -- clap specifies each match and each error of this command line
 app_is_free : is_simple_and_free app ≡ true
@@ -39,23 +40,35 @@ taken_words a words m same passes has =
     let found = subst (λ (x : App). rows_of (found_of m) ≡ matches_of x words) same (has (ap is_simple same ∙ app_is_simple)).0 in
     ap (λ (k : Kinds). unless_fault k (matches_of app words)) none ∙ ap command_of_rows (sym found)
 
--- if one of the numbers is missing, there is no command
-no_second : (f : ℕ → ℕ → CommandState) (limit : Option ℕ) → of_numbers f limit None ≡ None
-no_second f None = refl
-no_second f (Some n) = refl
+-- if one of the values is missing, there is no command
+no_second : (f : ℕ → ℕ → Profile → CommandState) (limit : Option ℕ) (profile : Option Profile) → of_values f limit None profile ≡ None
+no_second f None profile = refl
+no_second f (Some n) profile = refl
+
+no_third : (f : ℕ → ℕ → Profile → CommandState) (limit generate : Option ℕ) → of_values f limit generate None ≡ None
+no_third f None generate = refl
+no_third f (Some n) None = refl
+no_third f (Some n) (Some m) = refl
 
 module _ (rows : List Row) where
   pub no_limit : number_value most_steps (value_of (codes "limit") rows) ≡ None → command_of_rows rows ≡ None
-  no_limit none = ap (λ limit. of_numbers (with_numbers rows) limit (number_value most_rounds (value_of (codes "generate") rows))) none
+  no_limit none = ap (λ limit. of_values (with_values rows) limit (number_value most_rounds (value_of (codes "generate") rows)) (profile_value (value_of (codes "profile") rows))) none
 
   pub no_rounds : number_value most_rounds (value_of (codes "generate") rows) ≡ None → command_of_rows rows ≡ None
   no_rounds none =
-      ap (of_numbers (with_numbers rows) (number_value most_steps (value_of (codes "limit") rows))) none
-      ∙ no_second (with_numbers rows) (number_value most_steps (value_of (codes "limit") rows))
+      ap (λ generate. of_values (with_values rows) (number_value most_steps (value_of (codes "limit") rows)) generate (profile_value (value_of (codes "profile") rows))) none
+      ∙ no_second (with_values rows) (number_value most_steps (value_of (codes "limit") rows)) (profile_value (value_of (codes "profile") rows))
 
-  -- and if there are both, there is one
-  pub both_numbers : (limit generate : ℕ) → number_value most_steps (value_of (codes "limit") rows) ≡ Some limit
-      → number_value most_rounds (value_of (codes "generate") rows) ≡ Some generate → command_of_rows rows ≡ Some (with_numbers rows limit generate)
-  both_numbers limit generate one two =
-      ap (λ a. of_numbers (with_numbers rows) a (number_value most_rounds (value_of (codes "generate") rows))) one
-      ∙ ap (of_numbers (with_numbers rows) (Some limit)) two
+  pub no_profile : profile_value (value_of (codes "profile") rows) ≡ None → command_of_rows rows ≡ None
+  no_profile none =
+      ap (of_values (with_values rows) (number_value most_steps (value_of (codes "limit") rows)) (number_value most_rounds (value_of (codes "generate") rows))) none
+      ∙ no_third (with_values rows) (number_value most_steps (value_of (codes "limit") rows)) (number_value most_rounds (value_of (codes "generate") rows))
+
+  -- and if there are all, there is one
+  pub all_values : (limit generate : ℕ) (profile : Profile) → number_value most_steps (value_of (codes "limit") rows) ≡ Some limit
+      → number_value most_rounds (value_of (codes "generate") rows) ≡ Some generate → profile_value (value_of (codes "profile") rows) ≡ Some profile
+      → command_of_rows rows ≡ Some (with_values rows limit generate profile)
+  all_values limit generate profile one two three =
+      ap (λ a. of_values (with_values rows) a (number_value most_rounds (value_of (codes "generate") rows)) (profile_value (value_of (codes "profile") rows))) one
+      ∙ ap (λ b. of_values (with_values rows) (Some limit) b (profile_value (value_of (codes "profile") rows))) two
+      ∙ ap (of_values (with_values rows) (Some limit) (Some generate)) three

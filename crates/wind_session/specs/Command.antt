@@ -1,19 +1,22 @@
 -- What the arguments of the command line ask for, by the definition of a simple command of `clap`.
-use Rattle.std.specs.Prelude.{ℕ, List, [], ◌∷◌, Option, Some, None, unwrap_or, nat_le, if◌then◌else◌, length, codes}
+use Rattle.std.specs.Prelude.{ℕ, List, [], ◌∷◌, Option, Some, None, unwrap_or, nat_le, if◌then◌else◌, ◌==◌, length, codes}
 use Rattle.wind_base.specs.Limits.{most_steps}
+use Rattle.wind_base.specs.declared.profile.Profile.{Profile}
+use Rattle.wind_base.specs.declared.profile.Profile.TheVariants.{One, Two}
 use Rattle.wind_base.specs.Decimal.{decimal_value}
 use Rattle.generated_session.specs.Session.{most_rounds}
 use Rattle.clap.specs.Kinds.{Kinds}
 use Rattle.clap.specs.Words.{App, Row, Rule, Text, fault_of, first_of, matches_of, new_app, new_rule, with_rule}
 
 -- a command: the names of the console file, of the tick file and of the folder of modules; the most steps that the
--- run makes; and the rounds of the generated session, or 0
+-- run makes; the rounds of the generated session, or 0; and the rule of inheritance
 pub record CommandState : Type 0 where
   pub console : List ℕ
   pub ticks : List ℕ
   pub modules : List ℕ
   pub limit : ℕ
   pub generate : ℕ
+  pub profile : Profile
 
 -- an option that takes one value: its name and its default
 abbrev pub option_rule : Text → Text → Rule
@@ -25,12 +28,13 @@ with_option name default app = with_rule app (option_rule name default)
 -- the command line, as clap reads it: its options with their defaults
 unfoldable pub app : App
 app =
-    with_option (codes "generate") (codes "0")
+    with_option (codes "profile") (codes "1")
+    (with_option (codes "generate") (codes "0")
     (with_option (codes "limit") (codes "1000000")
     (with_option (codes "modules") (codes ".")
     (with_option (codes "ticks") (codes "ticks.txt")
     (with_option (codes "console") (codes "console.txt")
-    (new_app (codes "windplay"))))))
+    (new_app (codes "windplay")))))))
 
 -- the most digits that a number may have
 abbrev pub most_number_digits : ℕ
@@ -40,37 +44,52 @@ most_number_digits = 13
 abbrev pub number_value : ℕ → Text → Option ℕ
 number_value most text = if nat_le (length text) most_number_digits then decimal_value most text else None
 
+-- the rule of inheritance with this number
+abbrev pub profile_of_number : Option ℕ → Option Profile
+profile_of_number None = None
+profile_of_number (Some n) = if n == 1 then Some One else if n == 2 then Some Two else None
+
+-- the greatest number of a rule
+abbrev pub most_profiles : ℕ
+most_profiles = 2
+
+-- a rule: 1 or 2
+abbrev pub profile_value : Text → Option Profile
+profile_value text = profile_of_number (number_value most_profiles text)
+
 -- the value that clap gives for an option; there always is one, because each option has a default
 abbrev pub value_of : Text → List Row → Text
 value_of name rows = unwrap_or (first_of name rows) []
 
--- the command of clap's matches, with these two numbers
-abbrev pub with_numbers : List Row → ℕ → ℕ → CommandState
-with_numbers rows limit generate = record {
+-- the command of clap's matches, with these three values
+abbrev pub with_values : List Row → ℕ → ℕ → Profile → CommandState
+with_values rows limit generate profile = record {
   console = value_of (codes "console") rows;
   ticks = value_of (codes "ticks") rows;
   modules = value_of (codes "modules") rows;
   limit = limit;
   generate = generate;
+  profile = profile;
 }
 
--- what is made of two numbers, if both are valid
-abbrev pub of_numbers : (ℕ → ℕ → CommandState) → Option ℕ → Option ℕ → Option CommandState
-of_numbers f None generate = None
-of_numbers f (Some limit) None = None
-of_numbers f (Some limit) (Some generate) = Some (f limit generate)
+-- what is made of three values, if all are valid
+abbrev pub of_values : (ℕ → ℕ → Profile → CommandState) → Option ℕ → Option ℕ → Option Profile → Option CommandState
+of_values f None generate profile = None
+of_values f (Some limit) None profile = None
+of_values f (Some limit) (Some generate) None = None
+of_values f (Some limit) (Some generate) (Some profile) = Some (f limit generate profile)
 
--- the command of clap's matches; none if a number is invalid
+-- the command of clap's matches; none if a value is invalid
 abbrev pub command_of_rows : List Row → Option CommandState
 command_of_rows rows =
-    of_numbers (with_numbers rows) (number_value most_steps (value_of (codes "limit") rows)) (number_value most_rounds (value_of (codes "generate") rows))
+    of_values (with_values rows) (number_value most_steps (value_of (codes "limit") rows)) (number_value most_rounds (value_of (codes "generate") rows)) (profile_value (value_of (codes "profile") rows))
 
 -- the command of arguments in which clap finds no fault; a call for help is such a fault
 abbrev pub unless_fault : Kinds → List Row → Option CommandState
 unless_fault [] rows = command_of_rows rows
 unless_fault (kind ∷ kinds) rows = None
 
--- the command of these words, the first of which is the program's name; none if clap finds a fault or a number is
+-- the command of these words, the first of which is the program's name; none if clap finds a fault or a value is
 -- invalid
 unfoldable pub command_of : List Text → Option CommandState
 command_of words = unless_fault (fault_of app words) (matches_of app words)

@@ -1,5 +1,6 @@
 -- The commands of some valid and invalid command lines. The first word is the program's name.
 use Rattle.std.specs.Prelude.{◌≡◌, List, [], ◌∷◌, Option, Some, None, codes}
+use Rattle.wind_base.specs.declared.profile.Profile.TheVariants.{One, Two}
 use Rattle.clap.specs.Words.{Text}
 use Rattle.wind_session.specs.Command.{CommandState, command_of}
 
@@ -9,7 +10,7 @@ command_behind words = command_of (codes "windplay" ∷ words)
 
 -- the command if no option is given
 abbrev pub defaults : CommandState
-defaults = record { console = codes "console.txt"; ticks = codes "ticks.txt"; modules = codes "."; limit = 1000000; generate = 0 }
+defaults = record { console = codes "console.txt"; ticks = codes "ticks.txt"; modules = codes "."; limit = 1000000; generate = 0; profile = One }
 
 -- words that are a command: options in any order, each at most once, with the value as the next word or after `=`
 pub record RightWords : Type 0 where
@@ -26,8 +27,10 @@ pub record RightWords : Type 0 where
   pub modules : command_behind (codes "--modules" ∷ codes "m" ∷ []) ≡ Some (record defaults { modules = codes "m" })
   pub greatest_generate : command_behind (codes "--generate" ∷ codes "10000" ∷ []) ≡ Some (record defaults { generate = 10000 })
   pub no_generate : command_behind (codes "--generate=00" ∷ []) ≡ Some defaults
-  pub all_options : command_behind (codes "--ticks=t" ∷ codes "--limit" ∷ codes "7" ∷ codes "--modules" ∷ codes "m" ∷ codes "--generate=1" ∷ codes "--console" ∷ codes "c" ∷ [])
-      ≡ Some (record { console = codes "c"; ticks = codes "t"; modules = codes "m"; limit = 7; generate = 1 })
+  pub first_profile : command_behind (codes "--profile" ∷ codes "1" ∷ []) ≡ Some defaults
+  pub second_profile : command_behind (codes "--profile" ∷ codes "2" ∷ []) ≡ Some (record defaults { profile = Two })
+  pub all_options : command_behind (codes "--ticks=t" ∷ codes "--limit" ∷ codes "7" ∷ codes "--modules" ∷ codes "m" ∷ codes "--generate=1" ∷ codes "--profile=2" ∷ codes "--console" ∷ codes "c" ∷ [])
+      ≡ Some (record { console = codes "c"; ticks = codes "t"; modules = codes "m"; limit = 7; generate = 1; profile = Two })
 
 -- words that are no command
 pub record WrongWords : Type 0 where
@@ -52,5 +55,8 @@ pub record WrongWords : Type 0 where
   pub limit_above_the_most : command_behind (codes "--limit" ∷ codes "1000000000001" ∷ []) ≡ None
   pub generate_above_the_most : command_behind (codes "--generate" ∷ codes "10001" ∷ []) ≡ None
   pub signed_generate : command_behind (codes "--generate" ∷ codes "+1" ∷ []) ≡ None
+  pub profile_zero : command_behind (codes "--profile" ∷ codes "0" ∷ []) ≡ None
+  pub profile_above_the_most : command_behind (codes "--profile" ∷ codes "3" ∷ []) ≡ None
+  pub empty_profile : command_behind (codes "--profile=" ∷ []) ≡ None
   -- what the program plays if its arguments are not UTF-8
   pub no_text : command_behind (codes "(arguments that are no text)" ∷ []) ≡ None

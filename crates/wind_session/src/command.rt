@@ -4,15 +4,15 @@ ghost use Rattle.std.specs.Prelude.{◌≡◌, ◌≢◌, ◌≤◌, IfOk, IfErr
 ghost use Rattle.clap.specs.Words.{app_of, found_of, rows_of, rule_of};
 ghost use Rattle.wind_base.specs.Limits.{most_steps};
 ghost use Rattle.generated_session.specs.Session.{most_rounds};
-ghost use Rattle.wind_session.specs.Command.{app as app_lem, command_of as command_of_lem, number_value, option_rule, value_of as value_of_lem};
+ghost use Rattle.wind_session.specs.Command.{app as app_lem, command_of as command_of_lem, number_value, profile_value, option_rule, value_of as value_of_lem};
 ghost use Rattle.wind_session.specs.Words.{command_state};
 ghost use Rattle.wind_session.specs.declared.command.CommandErr.TheVariants as errors;
 
 use clap::error::ErrorKind;
 use clap::{Arg, ArgMatches, Error};
 use std::alloc::{AllocError, Global};
-use wind_base::decimal;
 use wind_base::limits::STEPS;
+use wind_base::{Profile, decimal};
 
 /// What the arguments ask for.
 #[derive(Clone, Copy)]
@@ -27,6 +27,8 @@ pub struct Command<'a> {
     pub limit: u64,
     /// The number of rounds of the generated session, or 0 if the files are read.
     pub generate: u32,
+    /// The rule of inheritance.
+    pub profile: Profile,
 }
 
 /// Why the arguments give no command.
@@ -60,6 +62,11 @@ const BAD_LIMIT: &str = "'--limit <N>' takes 1 to 13 digits, and at most 1000000
 
 const BAD_ROUNDS: &str = "'--generate <N>' takes 1 to 13 digits, and at most 10000";
 
+// The greatest number of a rule of inheritance.
+const PROFILES: u64 = 2;
+
+const BAD_PROFILE: &str = "'--profile <N>' takes 1 or 2";
+
 // The value of decimal digits, at most `most`.
 fn number(text: &str, most: u64) -> Option<u64>
     ensures value { result ≡ number_value most text.now }
@@ -69,6 +76,17 @@ fn number(text: &str, most: u64) -> Option<u64>
         return None;
     }
     decimal(text.as_bytes(), most)
+}
+
+// The rule of inheritance with this number.
+fn profile(text: &str) -> Option<Profile>
+    ensures { result ≡ profile_value text.now }
+{
+    match number(text, PROFILES)? {
+        1 => Some(Profile::One),
+        2 => Some(Profile::Two),
+        _ => None,
+    }
 }
 
 // An option that takes one value.
@@ -112,6 +130,13 @@ fn app<'a>(alloc: Global) -> Result<clap::Command<'a>, AllocError>
             "N",
             "0",
             "Plays a session of N generated rounds, up to 10000, and tells of it in one line",
+        ))?
+        .arg(option(
+            alloc,
+            "profile",
+            "N",
+            "1",
+            "The rule by which owners of mutexes inherit priorities, 1 or 2",
         ))
 }
 
@@ -130,8 +155,8 @@ fn usage(alloc: Global, error: &Error) -> CommandErr {
     }
 }
 
-// The message for an invalid number, as clap prints it.
-fn bad_number(alloc: Global, app: &mut clap::Command<'_>, text: &str) -> CommandErr {
+// The message for an invalid value, as clap prints it.
+fn bad_value(alloc: Global, app: &mut clap::Command<'_>, text: &str) -> CommandErr {
     match app.error(ErrorKind::ValueValidation, text) {
         Ok(error) => usage(alloc, &error),
         Err(_) => CommandErr::NoMemory,
@@ -151,10 +176,13 @@ pub fn command_of<'a>(alloc: Global, words: &'a [&'a str]) -> Result<Command<'a>
         Err(error) => return Err(usage(alloc, &error)),
     };
     let Some(limit) = number(value_of(&matches, "limit"), STEPS) else {
-        return Err(bad_number(alloc, &mut app, BAD_LIMIT));
+        return Err(bad_value(alloc, &mut app, BAD_LIMIT));
     };
     let Some(generate) = number(value_of(&matches, "generate"), ROUNDS) else {
-        return Err(bad_number(alloc, &mut app, BAD_ROUNDS));
+        return Err(bad_value(alloc, &mut app, BAD_ROUNDS));
+    };
+    let Some(profile) = profile(value_of(&matches, "profile")) else {
+        return Err(bad_value(alloc, &mut app, BAD_PROFILE));
     };
     Ok(Command {
         console: value_of(&matches, "console"),
@@ -162,5 +190,6 @@ pub fn command_of<'a>(alloc: Global, words: &'a [&'a str]) -> Result<Command<'a>
         modules: value_of(&matches, "modules"),
         limit,
         generate: generate as u32,
+        profile,
     })
 }

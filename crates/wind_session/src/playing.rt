@@ -251,7 +251,7 @@ fn session<F: Folder, O: Sink>(
         Err(status) => return refused(status, devices),
     };
     let Inputs { console, schedule } = inputs;
-    let mut board = match Board::boot(alloc, devices, console, schedule) {
+    let mut board = match Board::boot(alloc, devices, console, schedule, command.profile) {
         Ok(board) => board,
         Err(devices) => return refused(Status::NoMemory, devices),
     };

@@ -60,8 +60,8 @@ const STACKS: [Step; 12] = [
     Step::See(Look::Task(6, TaskLook::Made(b"pump", FIRST + 2064, FIRST + 22_000, 7))),
 ];
 
-// Each refusal is also played when a later one would apply too. Refusals leave nothing behind: no
-// block, no id, no number of a name.
+// Each refusal is also played when a later one would apply too. A refusal takes no block, no id
+// and no number of a name.
 const REFUSED: [Step; 12] = [
     Step::Write(PUMP, b"pump\0"),
     Step::Fill(ENDLESS, 1024, b'e'),

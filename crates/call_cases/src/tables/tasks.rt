@@ -7,7 +7,7 @@ use crate::steps::{Step, Table};
 use wind_base::Gate;
 use wind_base::words::{ERROR, OK};
 
-// The id of a task that doesn't live, and a number that is no task's id.
+// The id of a task that doesn't live, and a number that isn't a task's id.
 const NOBODY: u32 = 2;
 
 const ABOVE_ALL: u32 = 0xffff_ffff;
@@ -34,7 +34,7 @@ const IDS: [Step; 10] = [
     ),
     Step::Call(SHELL, Gate::ErrnoSet, [ABOVE_ALL, 0, 0, 0], OK, ABOVE_ALL),
     Step::Call(SHELL, Gate::ErrnoGet, [0; 4], ABOVE_ALL, ABOVE_ALL),
-    // 0 is no task's id
+    // 0 isn't a task's id
     Step::Call(SHELL, Gate::TaskIdVerify, [0; 4], ERROR, OBJ_ID_ERROR),
     Step::Call(
         SHELL,

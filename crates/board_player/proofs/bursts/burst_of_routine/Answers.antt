@@ -8,7 +8,7 @@ pub returns-clause-made : goal.returns-clause-made
 returns-clause-made g c =
     let yes : c.routine_runs_on.result ≡ true = search rules in
     routine_gone (parts_by (λ d. (goal.Device-dyn g (d.vtable, d.value)).kind_of d.value) (λ d. (goal.Device-dyn g (d.vtable, d.value)).words_of d.value) c.args.parts.now)
-    c.execute_many_of_routine-made.result _ _ _ (c.routine_runs_on.ensures yes) c.execute_many_of_routine-made.ensures.ran
+    c.execute_many_of_routine-made.result _ _ _ c.requires.good.kept.world.kern c.requires.good.exact (c.routine_runs_on.ensures yes) c.execute_many_of_routine-made.ensures.ran
     (ap (λ (k : Clock). k.time) c.advance.ensures) (ap (λ (k : Clock). k.steps) c.advance.ensures)
 
 pub returns-clause-routine : goal.returns-clause-routine

@@ -7,4 +7,4 @@ pub returns-clause-runner : goal.returns-clause-runner
 returns-clause-runner g c =
     let yes : c.runs_on.result ≡ true = search rules in
     known_behind (parts_by (λ d. (goal.Device-dyn g (d.vtable, d.value)).kind_of d.value) (λ d. (goal.Device-dyn g (d.vtable, d.value)).words_of d.value) c.args.parts.now)
-    c.in-Some.who c.go_on.ensures.regs.0 _ _ c.args.now c.requires.good.world.kern.rising (c.runs_on.ensures yes) c.requires.runner c.in-Some.is c.go_on.ensures.regs.1 c.go_on.ensures.watch
+    c.in-Some.who c.go_on.ensures.regs.0 _ _ c.args.now c.requires.good.kept.world.kern.rising (c.runs_on.ensures yes) c.requires.runner c.in-Some.is c.go_on.ensures.regs.1 c.go_on.ensures.watch

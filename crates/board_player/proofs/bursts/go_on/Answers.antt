@@ -6,10 +6,10 @@ use Rattle.board_player.proofs.TaskBursts.{gone}
 use Rattle.board_player.proofs.bursts.go_on.Goals as goal
 
 pub execute_many-made-requires-clause-live : goal.execute_many-made-requires-clause-live
-execute_many-made-requires-clause-live g c = runner_lives c.args.parts.now.world.kern c.args.who c.requires.good.world.kern.rising c.requires.on.runs
+execute_many-made-requires-clause-live g c = runner_lives c.args.parts.now.world.kern c.args.who c.requires.good.kept.world.kern.rising c.requires.on.runs
 
 pub returns-clause-made : goal.returns-clause-made
 returns-clause-made g c =
     gone (parts_by (λ d. (goal.Device-dyn g (d.vtable, d.value)).kind_of d.value) (λ d. (goal.Device-dyn g (d.vtable, d.value)).words_of d.value) c.args.parts.now)
-    c.args.who c.execute_many-made.result c.args.most _ _ _ c.requires.good.world.kern c.requires.on c.requires.room c.execute_many-made.ensures.within c.execute_many-made.ensures.ran
+    c.args.who c.execute_many-made.result c.args.most _ _ _ c.requires.good.kept.world.kern c.requires.good.exact c.requires.on c.requires.room c.execute_many-made.ensures.within c.execute_many-made.ensures.ran
     (ap (λ (k : Clock). k.time) c.advance.ensures) (ap (λ (k : Clock). k.steps) c.advance.ensures)

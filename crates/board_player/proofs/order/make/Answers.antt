@@ -1,9 +1,38 @@
-use Rattle.std.proofs.Common.{sym, ◌∙◌}
+use Rattle.std.proofs.Common.{refl, sym, ◌∙◌}
+use Rattle.live_loading.specs.Said.{Missing}
+use Rattle.board_player.proofs.Settled.{left_by, makes, come_left, come_makes, arrive_left, arrive_makes, jumps}
 use Rattle.board_player.proofs.Deciding.{event_idle, routine_active}
 use Rattle.board_player.proofs.order.make.Goals as goal
 
 pub come-requires-clause-idle : goal.come-requires-clause-idle
 come-requires-clause-idle g c = event_idle _ c.in-Come.event (sym c.in-Come.is ∙ c.requires.next)
 
-pub step_routine-is_done-requires-clause-active : goal.step_routine-is_done-requires-clause-active
-step_routine-is_done-requires-clause-active g c = routine_active _ (sym c.in-Routine.is ∙ c.requires.next)
+pub act_routine-requires-clause-active : goal.act_routine-requires-clause-active
+act_routine-requires-clause-active g c = routine_active _ (sym c.in-Routine.is ∙ c.requires.next)
+
+pub act_routine-requires-clause-left : goal.act_routine-requires-clause-left
+act_routine-requires-clause-left g c = left_by Missing _ _ _ _ _ c.in-Routine.is refl refl (c.requires.left Missing)
+
+pub act-requires-clause-left : goal.act-requires-clause-left
+act-requires-clause-left g c = left_by Missing _ _ _ _ _ c.in-Act.is refl refl (c.requires.left Missing)
+
+pub settle-requires-clause-left : goal.settle-requires-clause-left
+settle-requires-clause-left g c = come_left Missing _ _ _ c.in-Come.event c.requires.next c.in-Come.is c.come.ensures.step (c.requires.left Missing)
+
+pub settle-requires-in-Arrive-clause-left : goal.settle-requires-in-Arrive-clause-left
+settle-requires-in-Arrive-clause-left g c = arrive_left Missing _ _ _ c.in-Arrive.is c.arrive.ensures.step (c.requires.left Missing)
+
+pub returns-in-Come-clause-stepped : goal.returns-in-Come-clause-stepped
+returns-in-Come-clause-stepped g c = λ e. come_makes _ _ _ _ c.in-Come.event c.requires.next c.in-Come.is c.come.ensures.step c.settle.ensures.step
+
+pub returns-in-Arrive-clause-stepped : goal.returns-in-Arrive-clause-stepped
+returns-in-Arrive-clause-stepped g c = λ e. arrive_makes _ _ _ _ c.in-Arrive.is c.arrive.ensures.step c.settle-in-Arrive.ensures.step
+
+pub returns-in-Routine-clause-stepped : goal.returns-in-Routine-clause-stepped
+returns-in-Routine-clause-stepped g c = λ e. makes _ _ _ _ _ _ c.in-Routine.is (λ said. refl) refl c.act_routine.ensures.step
+
+pub returns-in-Act-clause-stepped : goal.returns-in-Act-clause-stepped
+returns-in-Act-clause-stepped g c = λ e. makes _ _ _ _ _ _ c.in-Act.is (λ said. refl) refl (c.act.ensures.stepped e)
+
+pub returns-in-Jump-clause-stepped : goal.returns-in-Jump-clause-stepped
+returns-in-Jump-clause-stepped g c = λ e. jumps _ _ _ c.in-Jump.time c.requires.good c.in-Jump.is c.jump.ensures.step

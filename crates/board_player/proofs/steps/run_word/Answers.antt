@@ -16,3 +16,7 @@ returns-clause-step g c =
 pub returns-clause-only : goal.returns-clause-only
 returns-clause-only g c done =
     only_stepped _ _ _ _ c.args.who (ap (λ (w : WorldState). w.kern) c.turn.ensures.world) (c.execute-is_done.ensures.registers done) (ap (λ (s : State). s.world.kern) c.end.ensures.step)
+
+pub returns-clause-objects : goal.returns-clause-objects
+returns-clause-objects g c done =
+    ap (λ (s : State). s.world.objects) c.end.ensures.step ∙ c.execute-is_done.ensures.objects done ∙ ap (λ (w : WorldState). w.objects) c.turn.ensures.world

@@ -1,4 +1,4 @@
-use Rattle.std.proofs.Common.{ap}
+use Rattle.std.proofs.Common.{ap, ◌∙◌}
 use Rattle.kernel_world.specs.State.{WorldState}
 use Rattle.board_player.proofs.RoutineBursts.{routine_left}
 use Rattle.board_player.proofs.steps.step_routine.Goals as goal
@@ -6,3 +6,9 @@ use Rattle.board_player.proofs.steps.step_routine.Goals as goal
 pub returns-clause-routine : goal.returns-clause-routine
 returns-clause-routine g c =
     routine_left _ _ _ _ c.run_routine-is_done.result (ap (λ (w : WorldState). w.kern) c.routine_turn.ensures.world) c.run_routine-is_done.ensures.kern c.run_routine-is_done.ensures.active
+
+pub returns-clause-kern : goal.returns-clause-kern
+returns-clause-kern g c done = c.run_routine-is_done.ensures.kern done ∙ ap (λ (w : WorldState). w.kern) c.routine_turn.ensures.world
+
+pub returns-clause-objects : goal.returns-clause-objects
+returns-clause-objects g c done = c.run_routine-is_done.ensures.objects done ∙ ap (λ (w : WorldState). w.objects) c.routine_turn.ensures.world

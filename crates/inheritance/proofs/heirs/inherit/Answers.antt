@@ -1,4 +1,5 @@
 use Rattle.std.proofs.Common.{◌≡◌, ℕ, ◌+◌, ◌-◌, List, sym, ap, ◌∙◌, arith}
+use Rattle.wind_base.specs.declared.profile.Profile.TheVariants.{One}
 use Rattle.wind_core.specs.State.{KernState, IsKern, Lives}
 use Rattle.inheritance.specs.declared.mutex.Mutex.{Mutex}
 use Rattle.inheritance.specs.Reach.{pri_of, raised_kern}
@@ -7,7 +8,7 @@ use Rattle.inheritance.proofs.Raising.{since-change_pri}
 use Rattle.inheritance.proofs.Path.{walked, walk_ends, walk_goes_on, walk_raises}
 use Rattle.inheritance.proofs.heirs.inherit.Goals as goal
 
-all : (k r : KernState) (ms : List (ℕ × Mutex)) (p who : ℕ) → IsKern k → Lives k who → OwnersUrgentBut who ms k.tasks → p ≡ pri_of k.tasks who → walked ms p 256 k who ≡ r → r ≡ raised_kern k ms
+all : (k r : KernState) (ms : List (ℕ × Mutex)) (p who : ℕ) → IsKern k → Lives k who → OwnersUrgentBut who ms k.tasks → p ≡ pri_of k.tasks who → walked ms p 256 k who ≡ r → r ≡ raised_kern One k ms
 all k r ms p who is lives urgent own e = sym e ∙ ap (λ q. walked ms q 256 k who) own ∙ walk_raises k ms who is lives urgent
 
 pub returns-in_default : goal.returns-in_default

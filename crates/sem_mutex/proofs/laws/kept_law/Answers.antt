@@ -1,3 +1,4 @@
+use Rattle.sem_mutex.proofs.AtOnce as settling
 use Rattle.sem_mutex.proofs.Lawful as laws
 use Rattle.sem_mutex.proofs.Opening.{opening_keeps}
 use Rattle.sem_mutex.proofs.laws.kept_law.Goals as goal
@@ -12,7 +13,13 @@ pub returns-clause-calls : goal.returns-clause-calls
 returns-clause-calls c = laws.calls_law
 
 pub returns-clause-idle : goal.returns-clause-idle
-returns-clause-idle c = laws.idle_law
+returns-clause-idle c = settling.idle_law
+
+pub returns-clause-settle : goal.returns-clause-settle
+returns-clause-settle c = settling.settle_law
+
+pub returns-clause-settled : goal.returns-clause-settled
+returns-clause-settled c = settling.settled_law
 
 pub returns-clause-gone : goal.returns-clause-gone
 returns-clause-gone c = laws.gone_law

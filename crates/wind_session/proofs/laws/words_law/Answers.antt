@@ -20,6 +20,8 @@ returns-clause-right c = record {
   modules = refl;
   greatest_generate = refl;
   no_generate = refl;
+  first_profile = refl;
+  second_profile = refl;
   all_options = refl;
 }
 
@@ -47,5 +49,8 @@ returns-clause-wrong c = record {
   limit_above_the_most = refl;
   generate_above_the_most = refl;
   signed_generate = refl;
+  profile_zero = refl;
+  profile_above_the_most = refl;
+  empty_profile = refl;
   no_text = refl;
 }

@@ -2,6 +2,7 @@ use Rattle.std.proofs.Common.{◌∙◌}
 use Rattle.live_loading.specs.Said.{Missing}
 use Rattle.board_player.proofs.Answering.{steps_on}
 use Rattle.board_player.proofs.Keeping.{kept}
+use Rattle.board_player.proofs.Settled.{leaves}
 use Rattle.board_player.proofs.board.Board.step.Goals as goal
 
 pub invariant_of-self-2-clause-good : goal.invariant_of-self-2-clause-good
@@ -12,3 +13,6 @@ returns-clause-stepped g c = λ e. steps_on _ _ c.in-Ok.next c.in-Ok.ensures.nex
 
 pub returns-clause-counted : goal.returns-clause-counted
 returns-clause-counted g c = λ e. c.step_law.ensures.count Missing _ _ (steps_on _ _ c.in-Ok.next c.in-Ok.ensures.next (c.make.ensures.stepped e) Missing)
+
+pub make-requires-clause-left : goal.make-requires-clause-left
+make-requires-clause-left g c = leaves c.step_law.ensures.effect c.step_law.ensures.count _ c.is_early.ensures c.args.self.now.good c.requires c.in-Ok.next c.in-Ok.ensures.next

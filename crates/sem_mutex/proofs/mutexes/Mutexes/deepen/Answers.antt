@@ -1,6 +1,6 @@
 use Rattle.std.proofs.Common.{ap, sym, ◌∙◌, arith}
 use Rattle.id_table.specs.Rows.{object_of}
-use Rattle.inheritance.specs.Mutexes.{both}
+use Rattle.inheritance.specs.Mutexes.{LiveMutexes, both}
 use Rattle.sem_mutex.proofs.Answering.{few_safe, few_deep}
 use Rattle.sem_mutex.proofs.mutexes.Mutexes.deepen.Goals as goal
 
@@ -9,4 +9,4 @@ guard-requires-clause-safe c = omega (arith, few_safe c.args.k.now c.args.who c.
 
 pub add_depth-requires : goal.add_depth-requires
 add_depth-requires c =
-    omega (arith, few_deep (both c.args.k.now c.args.self.now) c.args.id c.object_mut.result.now c.requires.early (sym (ap (λ ms. object_of ms c.args.id) c.self.view_is) ∙ c.object_mut.ensures.value))
+    omega (arith, few_deep (both c.args.k.now c.args.self.now) c.args.id c.object_mut.result.now c.requires.early (sym (ap (λ (live : LiveMutexes). object_of live.rows c.args.id) c.self.view_is) ∙ c.object_mut.ensures.value))

@@ -16,10 +16,10 @@ hand-requires-clause-safe c = omega (arith, few_safe c.args.k.now c.in-Some.next
 
 pub end_wait-requires-clause-live : goal.end_wait-requires-clause-live
 end_wait-requires-clause-live c =
-    handed_lives (both c.args.k.now c.args.self.now) (both c.hand.new.k c.hand.new.self) c.in-Some.next c.args.id (object_of c.args.self.now c.args.id) c.hand.ensures
+    handed_lives (both c.args.k.now c.args.self.now) (both c.hand.new.k c.hand.new.self) c.in-Some.next c.args.id (object_of c.args.self.now.rows c.args.id) c.hand.ensures
     (next_lives c.args.k.now c.args.id c.in-Some.next c.facts.ensures c.in-Some.ensures)
 
 pub returns : goal.returns
 returns c =
-    passed_is (both c.args.k.now c.args.self.now) (both c.hand.new.k c.hand.new.self) c.args.id c.in-Some.next c.end_wait.new.self (object_of c.args.self.now c.args.id) c.facts.ensures c.requires.there c.in-Some.ensures
+    passed_is (both c.args.k.now c.args.self.now) (both c.hand.new.k c.hand.new.self) c.args.id c.in-Some.next c.end_wait.new.self (object_of c.args.self.now.rows c.args.id) c.facts.ensures c.requires.there c.in-Some.ensures
     c.hand.ensures c.end_wait.ensures

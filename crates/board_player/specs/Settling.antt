@@ -1,0 +1,17 @@
+-- How a step ends: priorities are settled.
+use Rattle.std.specs.Prelude.{◌≡◌, ◌≤◌, Some}
+use Rattle.std.specs.Option.{option_map}
+use Rattle.wind_base.specs.Limits.{most_steps}
+use Rattle.live_loading.specs.Said.{FileSaid}
+use Rattle.wind_machine.specs.State.{State}
+use Rattle.wind_machine.specs.Good.{KeepsEffect}
+use Rattle.wind_machine.specs.Machine.{state_after, settled_state}
+use Rattle.wind_machine.specs.declared.next.Next.{Next}
+
+-- a step left this state, and its priorities can be settled
+abbrev pub CanSettle : State → Type 0
+CanSettle s = KeepsEffect s × (s.steps ≤ most_steps)
+
+-- a step for which this comes next leads from s to t, whatever is said of a file
+abbrev pub Makes : State → Next → State → Type 0
+Makes s n t = (said : FileSaid) → option_map settled_state (state_after said s n) ≡ Some t

@@ -1,0 +1,32 @@
+-- Settling priorities keeps the world's invariant, and makes priorities exact.
+use Rattle.std.proofs.Common.{◌≡◌, ℕ, ap}
+use Rattle.wind_core.specs.State.{KernState, IsKern}
+use Rattle.inheritance.specs.Mutexes.{MutexState, both as with_mutexes}
+use Rattle.inheritance.proofs.Same.{exact_same}
+use Rattle.inheritance.proofs.Exact.{exact_law}
+use Rattle.sem_mutex.proofs.Lifting.{raised_keeps}
+use Rattle.kernel_world.specs.State.{WorldState}
+use Rattle.kernel_world.specs.declared.objects.Objects.{Objects}
+use Rattle.kernel_world.specs.Objects.{KeepsObjects}
+use Rattle.kernel_world.specs.Kept.{CountsWithin}
+use Rattle.kernel_world.specs.Settling.{settled_kern, settled_world, HasExact}
+use Rattle.kernel_world.proofs.Waiting.{waits-raised}
+use Rattle.kernel_world.proofs.Calming.{calm-raised}
+use Rattle.kernel_world.proofs.Goes.{Goes, goes-raised}
+use Rattle.kernel_world.proofs.ObjectMoves.{by_kern}
+
+pub objects-settled : (k : KernState) (o : Objects) → IsKern k → KeepsObjects k o → KeepsObjects (settled_kern k o) o
+objects-settled k o is kept =
+    by_kern k o is kept (settled_kern k o) (waits-raised k o is kept.waits o.mutexes.profile o.mutexes.rows)
+    (raised_keeps (with_mutexes k o.mutexes) is kept.mutexes.holds)
+    (calm-raised o.queues.queues o.mutexes.profile k o.mutexes.rows is)
+
+pub goes-settled : (k : KernState) (o : Objects) (n : ℕ) → IsKern k → CountsWithin n k → Goes k (settled_kern k o) n 256
+goes-settled k o n is within = goes-raised k n is within o.mutexes.profile o.mutexes.rows
+
+pub exact-settled : (w : WorldState) → IsKern w.kern → HasExact (settled_world w)
+exact-settled w is = exact_law (with_mutexes w.kern w.objects.mutexes) is
+
+-- if priorities are exact already, settling changes nothing
+pub settled_same : (w : WorldState) → IsKern w.kern → HasExact w → settled_world w ≡ w
+settled_same w is exact = ap (λ (s : MutexState). record w { kern = s.kern }) (exact_same (with_mutexes w.kern w.objects.mutexes) is exact)
