@@ -2,12 +2,16 @@
 # Plays the cases of the folder `cases` with PROGRAM. It prints a line for each case that differs, and one that counts
 # them. It ends with 1 if a case differs, and with 2 if there is none or not all could be played.
 #
-# usage: tests/run.sh PROGRAM
+# With BOARD 2 it plays them on a board of that kind. They have to end the same, with the same outputs but for addresses: each number
+# of five digits or more counts as one. Cases that are of board 1 alone say so, and are left out.
+#
+# usage: tests/run.sh PROGRAM [BOARD]
 set -eu
-if [ $# -ne 1 ]; then
-    echo "usage: $0 PROGRAM" >&2
+if [ $# -lt 1 ] || [ $# -gt 2 ]; then
+    echo "usage: $0 PROGRAM [BOARD]" >&2
     exit 2
 fi
+board=${2:-1}
 program=$(command -v "$1") || { echo "$0: $1: no such program" >&2; exit 2; }
 case $program in /*) ;; *) program=$PWD/$program ;; esac
 here=$(cd "$(dirname "$0")" && pwd)
@@ -21,6 +25,7 @@ ln -s "$program" "$work/windplay"
 output='-> 1+2\nvalue = 3 = 0x3\n-> '
 
 cases=0
+left_out=0
 differing=0
 told=yes
 
@@ -29,12 +34,22 @@ shows() {
     ended
     name=$1
     told=no
+    skipped=no
     unset status
     cases=$((cases + 1))
     rm -rf "$work/session"
     mkdir "$work/session"
     console '1+2\n'
     ticks ''
+}
+
+# The case is of board 1 alone: it names a board, or where RAM or the gates are, or it takes all blocks or all memory.
+of_board_1() {
+    [ "$board" = 1 ] || {
+        skipped=yes
+        cases=$((cases - 1))
+        left_out=$((left_out + 1))
+    }
 }
 
 # Each case has to say how it ends.
@@ -93,6 +108,8 @@ without() {
 
 # Becomes the program with these words, in the folder of the case.
 become() {
+    [ "$skipped" = no ] || return 0
+    [ "$board" = 1 ] || set -- --board "$board" "$@"
     cd "$work/session" && exec "$work/windplay" "$@"
 }
 
@@ -170,15 +187,31 @@ differs() {
     difference="${difference:+$difference; }$1"
 }
 
+# Puts `#` in place of each number of five digits or more in a file, unless the board is 1.
+mask() {
+    [ "$board" = 1 ] || {
+        LC_ALL=C sed -E 's/-?(0x)?[0-9a-f]{5,}/#/g' "$work/$1" >"$work/masked"
+        mv "$work/masked" "$work/$1"
+    }
+}
+
+# Compares the expected bytes with those of a file.
+compare_expected() {
+    mask expected
+    mask "$1"
+    place=$(cd "$work" && cmp expected "$1" 2>&1) || differs "$place"
+}
+
 # Compares what was written with these bytes.
 compare() {
     printf '%b' "$2" >"$work/expected"
-    place=$(cd "$work" && cmp expected "$1" 2>&1) || differs "$place"
+    compare_expected "$1"
 }
 
 # Ends the case.
 tell() {
     told=yes
+    [ "$skipped" = no ] || return 0
     if [ -n "$difference" ]; then
         printf '%s\n' "$subject: $name: $difference"
         differing=$((differing + 1))
@@ -252,7 +285,7 @@ rows() {
     difference=
     plays "$@"
     [ "$status" = 0 ] || differs "status $status, not 0"
-    place=$(cd "$work" && cmp expected stdout 2>&1) || differs "$place"
+    compare_expected stdout
     compare stderr ''
     tell
 }
@@ -272,12 +305,16 @@ refuses() {
 for path in "$here"/cases/*.sh; do
     [ -f "$path" ] || { echo "$0: no cases" >&2; exit 2; }
     subject=$(basename "$path" .sh)
-    before=$cases
+    before=$((cases + left_out))
     . "$path"
     ended
-    [ "$cases" -gt "$before" ] || { echo "$subject: no case" >&2; exit 2; }
+    [ "$((cases + left_out))" -gt "$before" ] || { echo "$subject: no case" >&2; exit 2; }
 done
 
 all_played=yes
-echo "$cases cases, $differing of them differ"
+if [ "$board" = 1 ]; then
+    echo "$cases cases, $differing of them differ"
+else
+    echo "$cases cases on board $board, $differing of them differ; $left_out are of board 1 alone"
+fi
 [ "$differing" -eq 0 ]

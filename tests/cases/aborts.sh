@@ -35,6 +35,7 @@ aborts 'taskPrioritySet 0, 200\nm = semMCreate(13); sp semTake, m, -1\nsemTake m
 
 # The spawned task calls taskSafe, and is then delayed for nine ticks.
 shows 'a wait for the end of a safe section ends, and the task lives on'
+of_board_1
 aborts 'taskPrioritySet 0, 200\n*0x1000 = 0x490000d3; *0x1004 = 0x38600009; *0x1008 = 0x490000a3\nsp 0x1000\ntaskDelete 2\n' \
     '-> value = 0 = 0x0\n-> value = 1224736979 = 0x490000d3\nvalue = 945815561 = 0x38600009\nvalue = 1224736931 = 0x490000a3\n-> task spawned: id = 0x2, name = t1\nvalue = 2 = 0x2\n-> ' \
     'taskIdVerify 2\n' 'value = 0 = 0x0\n'

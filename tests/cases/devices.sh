@@ -54,6 +54,7 @@ ROWS
 
 # A function of one instruction: `lbz r3, 0(r3)`, `lhz r3, 0(r3)`, `stb r4, 0(r3)`, `sth r4, 0(r3)`; and one in the latch.
 shows 'a device takes whole words alone, and has no instructions'
+of_board_1
 rows <<'ROWS'
 *0x1000 = 0x88630000; *0x1010 = 0xa0630000; *0x1020 = 0x98830000; *0x1030 = 0xb0830000 => -2006777856 | -1604124672 | -1736245248 | -1333592064
 *0x1004 = *0x1014 = *0x1024 = *0x1034 = 0x4e800020; *0x2000 = 0x01020304; *0xe0000000 = 0x4e800020 => 1317011488 | 16909060 | 1317011488

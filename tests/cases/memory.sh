@@ -8,6 +8,7 @@ functions='*0x1000 = *0x1040 = 0x7c6903a6; *0x1004 = *0x1044 = 0x7c832378; *0x10
 
 # Of 16,384 blocks, the stacks of the shell and of the interrupts are two.
 shows 'as many blocks as there may be'
+of_board_1
 rows <<ROWS
 $functions
 (0x1000)(16382, 1) == 0x15e20 + 16 * 16381 => 1
@@ -18,6 +19,7 @@ ROWS
 
 # As many blocks of 16 bytes as there may be; each second one is freed, and then the others: one hole is left.
 shows 'as many holes as there may be, which join'
+of_board_1
 rows <<ROWS
 $functions
 (0x1000)(16382, 16) == 0x15e20 + 16 * 16381 => 1
@@ -29,6 +31,7 @@ ROWS
 
 # 1,024 blocks of 256 bytes. Where each second one is free there is room for 256 bytes and no more; each further one joins two holes.
 shows 'blocks that are freed join the holes beside them'
+of_board_1
 rows <<ROWS
 $functions
 (0x1000)(1024, 256) == 0x15e20 + 256 * 1023 => 1

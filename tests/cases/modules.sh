@@ -40,13 +40,60 @@ put_g() {
     00000001 00000000
 }
 
+# 16 bytes of code, and two sections of 16 MiB without bytes in the file, all with the alignment 16.
+put_big() {
+    words "$1" \
+    7f454c46 01020100 00000000 00000000 00010014 00000001 00000000 00000000 00000090 00000000 00340000 00000028 00070006 \
+    00000000 00000000 00000000 60000000 60000000 60000000 4e800020 00000000 00000000 00000000 00000000 00002e74 65787400 \
+    2e627373 002e6d6f 7265002e 73796d74 6162002e 73747274 6162002e 73687374 72746162 00000000 00000000 00000000 00000000 \
+    00000000 00000000 00000000 00000000 00000000 00000000 00000000 00000001 00000001 00000006 00000000 00000040 00000010 \
+    00000000 00000000 00000010 00000000 00000007 00000008 00000003 00000000 00000050 01000000 00000000 00000000 00000010 \
+    00000000 0000000c 00000008 00000003 00000000 00000050 01000000 00000000 00000000 00000010 00000000 00000012 00000002 \
+    00000000 00000000 00000050 00000010 00000005 00000001 00000004 00000010 0000001a 00000003 00000000 00000000 00000060 \
+    00000001 00000000 00000000 00000001 00000000 00000022 00000003 00000000 00000000 00000061 0000002c 00000000 00000000 \
+    00000001 00000000
+}
+
+# 16 bytes of code that begin with a branch to `printf`, relocated by R_PPC_REL24.
+put_print_caller() {
+    words "$1" \
+    7f454c46 01020100 00000000 00000000 00010014 00000001 00000000 00000000 000000b0 00000000 00340000 00000028 00060005 \
+    00000000 00000000 00000000 48000001 60000000 60000000 4e800020 00000000 0000010a 00000000 00000000 00000000 00000000 \
+    00000000 00000001 00000000 00000000 10000000 00707269 6e746600 002e7465 7874002e 72656c61 2e746578 74002e73 796d7461 \
+    62002e73 74727461 62002e73 68737472 74616200 00000000 00000000 00000000 00000000 00000000 00000000 00000000 00000000 \
+    00000000 00000000 00000001 00000001 00000006 00000000 00000040 00000010 00000000 00000000 00000010 00000000 00000007 \
+    00000004 00000040 00000000 00000050 0000000c 00000003 00000001 00000004 0000000c 00000012 00000002 00000000 00000000 \
+    0000005c 00000020 00000004 00000001 00000004 00000010 0000001a 00000003 00000000 00000000 0000007c 00000008 00000000 \
+    00000000 00000001 00000000 00000022 00000003 00000000 00000000 00000084 0000002c 00000000 00000000 00000001 00000000
+}
+
 shows 'a reference is bound to the newest global of its name, and stays so when that is unloaded'
+of_board_1
 put_f a.o
 put_f b.o
 put_caller c.o
 console 'ld < a.o\nld < b.o\nld < c.o\nunld 3\n&f\n*0x15e70\n'
 plays
 ends 0 '-> ld < a.o\nvalue = 2 = 0x2\n-> ld < b.o\nvalue = 3 = 0x3\n-> ld < c.o\nvalue = 4 = 0x4\n-> unld 3\nvalue = 0 = 0x0\n-> &f\nvalue = 89648 = 0x15e30\n-> *0x15e70\nvalue = 1275068385 = 0x4bffffe1\n-> ' ''
+
+shows 'on board 2 modules are at the end of RAM, each below the one before'
+of_board_1
+put_f a.o
+put_f b.o
+put_caller c.o
+console 'ld < a.o\nld < b.o\nld < c.o\nunld 3\n&f\n*0x3ffffd0\n'
+plays --board 2
+ends 0 '-> ld < a.o\nvalue = 2 = 0x2\n-> ld < b.o\nvalue = 3 = 0x3\n-> ld < c.o\nvalue = 4 = 0x4\n-> unld 3\nvalue = 0 = 0x0\n-> &f\nvalue = 67108848 = 0x3fffff0\n-> *0x3ffffd0\nvalue = 1207959569 = 0x48000011\n-> ' ''
+
+# The text of `big.o` is the last 16 bytes of RAM, its bss 32 MiB below, and `g.o` would be 32 bytes below the middle of RAM. The gates are
+# out of the reach of a branch from there.
+shows 'on board 2 a module too far below the gates is refused'
+of_board_1
+put_big big.o
+put_print_caller g.o
+console 'ld < big.o\nld < g.o\nmoduleShow\n'
+plays --board 2
+ends 0 '-> ld < big.o\nvalue = 2 = 0x2\n-> ld < g.o\nld: g.o: relocation 0 out of range\nvalue = 0 = 0x0\n-> moduleShow\nMODULE                   ID       TEXT     DATA     BSS     \nbig.o                           2 03fffff0 00000000 01fffff0\nvalue = 0 = 0x0\n-> ' ''
 
 shows 'of three modules with one name the newest answers; after it, the oldest'
 put_f a.o
@@ -110,6 +157,7 @@ plays_cuts() {
 }
 
 shows 'a module that is cut after any of its bytes changes nothing'
+of_board_1
 put_caller c.o
 plays_cuts c.o 412 f f
 

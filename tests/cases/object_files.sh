@@ -30,6 +30,7 @@ put_object() {
 
 # The name takes the first block, at 0x15e20: the text is at 0x15e30, the data at 0x15e40, the bss at 0x15e50. The branch goes back to 0.
 shows 'what GNU as wrote is loaded: its sections, its global and weak symbols, its relocations'
+of_board_1
 put_object o
 rows <<'ROWS'
 ld < o => undefined symbol: nosuch | 2
@@ -42,6 +43,7 @@ moduleShow => MODULE                   ID       TEXT     DATA     BSS      | o  
 ROWS
 
 shows 'its local symbols are added if the mode asks for them'
+of_board_1
 put_object o
 rows <<'ROWS'
 ld 1, 0, "o" => undefined symbol: nosuch | 2
@@ -111,6 +113,7 @@ PLACES
 rows <"$work/table"
 
 shows 'what no rule names is taken'
+of_board_1
 put_object o
 : >"$work/table"
 count=1

@@ -122,6 +122,7 @@ value = 2 = 0x2
 
 # li r6,1024; mtctr r6; then that often: li r3,0; li r4,0; a call of semBCreate; bdnz; and back to the shell
 shows 'as many semaphores as there may be, and a mutex beside them'
+of_board_1
 console '*0x1000 = 0x38c00400; *0x1004 = 0x7cc903a6; *0x1008 = 0x38600000; *0x100c = 0x38800000
 *0x1010 = 0x49000143; *0x1014 = 0x4200fff4; *0x1018 = 0x49000012
 (0x1000)()
@@ -265,6 +266,7 @@ value = 196610 = 0x30002
 
 # li r4,-1; a call of semTake; li r3,0; of taskSuspend; li r3,2; of semGive; and the task's end
 shows 'a suspended owner keeps its mutex'
+of_board_1
 console '*0x1000 = 0x3880ffff; *0x1004 = 0x49000173; *0x1008 = 0x38600000; *0x100c = 0x49000063
 *0x1010 = 0x38600002; *0x1014 = 0x49000183; *0x1018 = 0x49000002
 semMCreate 0

@@ -15,6 +15,7 @@ spawned() {
 words='*0x2000 = 0x6f6e6574; *0x2004 = 0x776f7369; *0x2008 = 0x7874656e => 1869505908 | 2003792745 | 2020894062'
 
 shows 'the refusals of the calls, in their order'
+of_board_1
 rows <<'ROWS'
 msgQCreate 0, 8, 2; errnoGet => 0 | 1441794
 msgQCreate 0, 8, 0; errnoGet => 0 | 4259843
@@ -44,6 +45,7 @@ ROWS
 
 # At 0x1040 two urgent bytes are sent from 0x2000, with no timeout; at 0x1060 with one, and the error number goes to 0x3000.
 shows 'sends to receivers that wait, and from an interrupt routine'
+of_board_1
 ticks 'every 500 5\n'
 rows <<ROWS
 $routines
@@ -64,6 +66,7 @@ ROWS
 
 # Each pair waits in the order 3, 4 and 6, 7; the second of a pair has the priority 50.
 shows 'receivers stand by arrival, or by priority'
+of_board_1
 ticks 'every 500 6\n'
 rows <<ROWS
 $routines
@@ -90,6 +93,7 @@ ROWS
 
 # "abcd" is written over the front of "stuvwxyz"; the task sends four bytes from the third on.
 shows 'a sender that waits sends what the receive has just written'
+of_board_1
 ticks 'every 500 2\n'
 rows <<ROWS
 $routines
@@ -102,6 +106,7 @@ msgQReceive 2, 0x3100, 4, 0; msgQReceive 2, 0x3110, 4, 0 => 4 | 4
 ROWS
 
 shows 'a sender goes on for each message that is taken: the first in line, and an urgent one is in front'
+of_board_1
 ticks 'every 500 4\n'
 rows <<ROWS
 $routines
@@ -117,6 +122,7 @@ msgQNumMsgs 2; taskDelay 1; *0x3200 => 1 | 0 | 0
 ROWS
 
 shows 'a wait that ended by its time is forgotten, whether its task waits there again or elsewhere'
+of_board_1
 ticks 'every 500 6\n'
 rows <<ROWS
 $routines
@@ -131,6 +137,7 @@ sp 0x1020, 2, 0x2000, 4, 0, 0, 0x3200; msgQReceive 3, 0x3020, 4, 2 => task spawn
 ROWS
 
 shows 'a deletion ends the waits of senders and of receivers'
+of_board_1
 ticks 'every 500 3\n'
 rows <<ROWS
 $routines
@@ -143,6 +150,7 @@ ROWS
 
 # `mtctr r3`, that often `li r3, 1`, `li r4, 1`, `li r5, 0`, a call of msgQCreate and `bdnz`, and back to the shell.
 shows 'as many queues as there may be'
+of_board_1
 rows <<'ROWS'
 *0x1000 = 0x7c6903a6; *0x1004 = 0x38600001; *0x1008 = 0x38800001; *0x100c = 0x38a00000 => 2087256998 | 945815553 | 947912705 | 950009856
 *0x1010 = 0x490001b3; *0x1014 = 0x4200fff0; *0x1018 = 0x49000012 => 1224737203 | 1107361776 | 1224736786

@@ -12,6 +12,7 @@ spawned() {
 
 # The first of each pair of tasks comes first, and the second is more urgent. A 9 stands for no answer yet.
 shows 'the most urgent has a semaphore, by the priority that it has when the semaphore is given'
+of_board_1
 ticks 'every 500 6\n'
 rows <<ROWS
 $taker
@@ -25,6 +26,7 @@ semGive 2; taskDelay 1; *0x3020; semTake 2, 0 => 0 | 0 | 0 | -1
 ROWS
 
 shows 'who comes first has a semaphore whose waiters stand by arrival'
+of_board_1
 ticks 'every 500 3\n'
 rows <<ROWS
 $taker
@@ -35,6 +37,7 @@ taskDelay 1; semGive 2; taskDelay 1; *0x3000; *0x3010 => 0 | 0 | 0 | 0 | 9
 ROWS
 
 shows 'who waited too long stands in no line any more'
+of_board_1
 ticks 'every 500 4\n'
 rows <<ROWS
 $taker
@@ -46,6 +49,7 @@ semGive 2; taskDelay 1; *0x3000; semGive 2; semTake 2, 0 => 0 | 0 | 0 | 0 | 0
 ROWS
 
 shows 'a flush answers all that wait, and so does a deletion'
+of_board_1
 ticks 'every 500 6\n'
 rows <<ROWS
 $taker
@@ -77,6 +81,7 @@ ROWS
 # 0x1040 one that deletes the task of the id r3: its answer and error number go where r8 says and 4 bytes after, and the error number
 # of the same call once more 8 bytes after.
 shows 'a task that is safe twice goes when it is safe no more, by the first that waits to delete it'
+of_board_1
 ticks 'every 500 5\n'
 rows <<ROWS
 *0x1000 = *0x1004 = 0x490000d3; *0x1008 = 0x38600000; *0x100c = 0x49000063 => 1224736979 | 945815552 | 1224736867
@@ -98,6 +103,7 @@ ROWS
 
 # At 0x1000 a task that calls taskSafe, sleeps for two ticks and deletes itself. The task t2 waits to delete it.
 shows 'a task that deletes itself goes, safe or not, and who waits to delete it goes on'
+of_board_1
 ticks 'every 500 4\n'
 rows <<ROWS
 *0x1000 = 0x490000d3; *0x1004 = 0x38600002; *0x1008 = 0x490000a3; *0x100c = 0x38600000 => 1224736979 | 945815554 | 1224736931 | 945815552
@@ -111,6 +117,7 @@ ROWS
 # At 0x1000 r3 semaphores, each made and deleted: `mtctr r3`, `li r3, 0`, `li r4, 0`, both calls, `bdnz`, and back to the shell. Each takes an
 # id, the first of them the one after the shell's task, so the last id is left after 1,048,574.
 shows 'no semaphore is made when the ids are used up'
+of_board_1
 console '*0x1000 = 0x7c6903a6; *0x1004 = 0x38600000; *0x1008 = 0x38800000; *0x100c = 0x49000143
 *0x1010 = 0x490001a3; *0x1014 = 0x4200fff0; *0x1018 = 0x49000012
 (0x1000)(1048574)

@@ -22,6 +22,7 @@ value = 0 = 0x0
 -> ' ''
 
 shows 'a format with numbers, strings and a character'
+of_board_1
 console 'printf "%d %x|%5s|%-5s|%c%04d\\n", -1, 255, "ab", "cd", 122, -7\nprintf 0x1000000; errnoGet\n'
 plays
 ends 0 '-> printf "%d %x|%5s|%-5s|%c%04d\\n", -1, 255, "ab", "cd", 122, -7
@@ -33,6 +34,7 @@ value = 1114116 = 0x110004
 -> ' ''
 
 shows 'dumps of memory, and sizes that there are not'
+of_board_1
 console '*0x2000 = 0x68656c6c\nd 0x2000, 5, 4\nd 0x2000, 3, 3; errnoGet\nd 0xffffff, 1, 2; errnoGet\n'
 plays
 ends 0 '-> *0x2000 = 0x68656c6c

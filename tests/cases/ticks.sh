@@ -21,12 +21,14 @@ value = 2 = 0x2
 "
 
 shows 'a tick before bytes that come at its time'
+of_board_1
 console "$lines"
 ticks "rx 0 $first\\ntick 200\\nrx 200 8\\n"
 plays
 ends 0 "${written}value = 7 = 0x7\\n-> " ''
 
 shows 'bytes before a tick that comes at their time'
+of_board_1
 console "$lines"
 ticks "rx 0 $first\\nrx 200 8\\ntick 200\\n"
 plays

@@ -86,6 +86,7 @@ ROWS
 
 # `d` is data at 0x2000, `b` bss at 0x2010, `k` absolute, and `far` data at the end of RAM; the gate of `taskIdSelf` is 0x010000f0.
 shows 'names and addresses'
+of_board_1
 rows <<'ROWS'
 symAdd 0, "d", 0x2000, 2; symAdd 0, "b", 0x2010, 3; symAdd 0, "k", 40, 4; symAdd 0, "far", 0x1000000, 2 => 0 | 0 | 0 | 0
 *0x2000 = 7 => 7
@@ -113,6 +114,7 @@ d => 5
 ROWS
 
 shows 'assignments to known places'
+of_board_1
 rows <<'ROWS'
 symAdd 0, "d", 0x2000, 2; symAdd 0, "b", 0x2010, 3; symAdd 0, "k", 40, 4; symAdd 0, "far", 0x1000000, 2 => 0 | 0 | 0 | 0
 d = 7 => 7
@@ -220,6 +222,7 @@ ROWS
 
 # A block of all the pool but its last 16 bytes, which lie at 0xfffff0: 0x1000000 - 0x15e20 - 16 = 0xfea1d0.
 shows 'no room for a string or a variable'
+of_board_1
 rows <<'ROWS'
 malloc 0xfea1d0 => 89632
 "0123456789abcdef" => not enough memory
@@ -246,6 +249,7 @@ ROWS
 # `mtctr r3`, `li r6, 4`, that often `li r3, 0`, a call of symAdd and `bdnz`, and back to the shell. There are 49 symbols at the start:
 # with 65,486 more there is room for one.
 shows 'a full table of symbols'
+of_board_1
 rows <<'ROWS'
 *0x1000 = 0x7c6903a6; *0x1004 = 0x38c00004; *0x1008 = 0x38600000; *0x100c = 0x490002a3 => 2087256998 | 952107012 | 945815552 | 1224737443
 *0x1010 = 0x4200fff8; *0x1014 = 0x49000012 => 1107361784 | 1224736786

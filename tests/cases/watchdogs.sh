@@ -132,11 +132,21 @@ wdCreate; wdCreate; wdCreate => 2 | 3 | 4'
 
 # The interrupt stack ends at 0x15e20, and gate 2 is at 0x01000020.
 shows 'the routines of one tick run in the order of their starts, each with its parameter'
+of_board_1
 ticks 'every 1000 3\n'
 rows <<ROWS
 $digits
 wdStart 3, 3, 0x1000, 7; taskDelay 1; wdStart 2, 2, 0x1000, 8; taskDelay 1; *0x2000 => 0 | 0 | 0 | 0 | 0
 taskDelay 1; *0x2000 == 0x78; *0x2004 == 0x15e20 - 64; *0x2008 == 0x1000020 => 0 | 1 | 1 | 1
+ROWS
+
+shows 'on board 2 routines return to gate 2 of that board'
+of_board_1
+ticks 'every 1000 3\n'
+rows --board 2 <<ROWS
+$digits
+wdStart 3, 3, 0x1000, 7; taskDelay 1; wdStart 2, 2, 0x1000, 8; taskDelay 1; *0x2000 => 0 | 0 | 0 | 0 | 0
+taskDelay 1; *0x2000 == 0x78; *0x2004 == 0x15e20 - 64; *0x2008 == 0x4000020 => 0 | 1 | 1 | 1
 ROWS
 
 shows 'a watchdog that is started anew is last'
@@ -158,6 +168,7 @@ ROWS
 
 # At 0x1040 a routine that cancels the watchdog of its parameter, at 0x1048 one that starts it with the routine 0x3000.
 shows 'a routine that is cancelled does not run, unless it is listed already'
+of_board_1
 ticks 'every 1000 6\n'
 rows <<ROWS
 $digits
@@ -173,6 +184,7 @@ ROWS
 
 # `mtctr r3`, that often a call of wdCreate and `bdnz`, and back to the shell.
 shows 'as many watchdogs as there may be'
+of_board_1
 rows <<'ROWS'
 *0x1000 = 0x7c6903a6; *0x1004 = 0x49000203; *0x1008 = 0x4200fffc; *0x100c = 0x49000012 => 2087256998 | 1224737283 | 1107361788 | 1224736786
 (0x1000)(256) => 257

@@ -11,6 +11,7 @@ Options:
       --limit <N>       The most steps to make, up to 1000000000000 [default: 1000000]
       --generate <N>    Plays a session of N generated rounds, up to 10000, and tells of it in one line [default: 0]
       --profile <N>     The rule by which owners of mutexes inherit priorities, 1 or 2 [default: 1]
+      --board <N>       The kind of board, 1 or 2 [default: 1]
   -h, --help            Print help
 "
 
@@ -151,7 +152,7 @@ plays x
 refuses "unexpected argument 'x' found"
 
 # The last word is an option without its value, or another option stands in its place.
-for option in '--console <FILE>' '--ticks <FILE>' '--modules <DIR>' '--limit <N>' '--generate <N>' '--profile <N>'; do
+for option in '--console <FILE>' '--ticks <FILE>' '--modules <DIR>' '--limit <N>' '--generate <N>' '--profile <N>' '--board <N>'; do
     long=${option% *}
     shows "$long without a value is refused"
     plays "$long"
@@ -190,6 +191,14 @@ for profile in '' 0 3 -1 +1 0x1 x 10 00000000000001; do
     shows "the rule of inheritance '$profile' is refused"
     plays "--profile=$profile"
     refuses "'--profile <N>' takes 1 or 2"
+done
+
+# Kinds of boards are 1 and 2.
+for kind in '' 0 3 -1 +1 0x1 x 10 00000000000001; do
+    shows "the kind of board '$kind' is refused"
+    of_board_1
+    plays "--board=$kind"
+    refuses "'--board <N>' takes 1 or 2"
 done
 
 shows 'an invalid limit is refused before a file that is not there'

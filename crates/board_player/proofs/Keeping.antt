@@ -2,6 +2,7 @@
 use Rattle.std.proofs.Common.{◌≡◌, ◌≢◌, ℕ, ◌<◌, ◌^◌, List, Option, None, Some, IfSome, Result, Ok, Err, refl, sym, ap, ◌∙◌, subst}
 use Rattle.std.specs.Prelude.{OnOk, OnErr}
 use Rattle.std.specs.Option.{option_map}
+use Rattle.wind_base.specs.declared.board_kind.BoardKind.{BoardKind}
 use Rattle.wind_base.specs.declared.profile.Profile.{Profile}
 use Rattle.wind_outside.specs.Devices.{DeviceState}
 use Rattle.tick_file.specs.Schedule.{Timed, Timetable, at}
@@ -27,18 +28,18 @@ use Rattle.board_player.specs.Settling.{Makes}
 use Rattle.board_player.proofs.Answering.{steps_on, loads}
 
 -- the board at the start
-pub booted : StartLaw → (console : List ℕ) (slots : List (Option DeviceState)) (profile : Profile) (left : List ℕ) (screen : ConsoleState) (shell : ShellState) (w : WorldState) (schedule : Timetable) (time made : ℕ)
-    → left ≡ console → screen ≡ opening_console → shell ≡ at_prompt → w ≡ opening_world slots profile → time ≡ 0 → made ≡ 0
+pub booted : StartLaw → (console : List ℕ) (slots : List (Option DeviceState)) (profile : Profile) (board : BoardKind) (left : List ℕ) (screen : ConsoleState) (shell : ShellState) (w : WorldState) (schedule : Timetable) (time made : ℕ)
+    → left ≡ console → screen ≡ opening_console → shell ≡ at_prompt → w ≡ opening_world slots profile board → time ≡ 0 → made ≡ 0
     → Good (record { left = left; console = screen; shell = shell; world = w; schedule = schedule; time = time; steps = made })
 unfolding opening
-booted law console slots profile left screen shell w schedule time made l s h e t m =
+booted law console slots profile board left screen shell w schedule time made l s h e t m =
     subst (λ x. Good (record { left = x; console = screen; shell = shell; world = w; schedule = schedule; time = time; steps = made })) (sym l)
     (subst (λ x. Good (record { left = console; console = x; shell = shell; world = w; schedule = schedule; time = time; steps = made })) (sym s)
     (subst (λ x. Good (record { left = console; console = opening_console; shell = x; world = w; schedule = schedule; time = time; steps = made })) (sym h)
     (subst (λ x. Good (record { left = console; console = opening_console; shell = at_prompt; world = x; schedule = schedule; time = time; steps = made })) (sym e)
-    (subst (λ x. Good (record { left = console; console = opening_console; shell = at_prompt; world = opening_world slots profile; schedule = schedule; time = x; steps = made })) (sym t)
-    (subst (λ x. Good (record { left = console; console = opening_console; shell = at_prompt; world = opening_world slots profile; schedule = schedule; time = 0; steps = x })) (sym m)
-    (law console schedule slots profile))))))
+    (subst (λ x. Good (record { left = console; console = opening_console; shell = at_prompt; world = opening_world slots profile board; schedule = schedule; time = x; steps = made })) (sym t)
+    (subst (λ x. Good (record { left = console; console = opening_console; shell = at_prompt; world = opening_world slots profile board; schedule = schedule; time = 0; steps = x })) (sym m)
+    (law console schedule slots profile board))))))
 
 -- the step that comes next
 pub kept : StepLaw → (r : Step) (s t : State) (n : Next) → IfSome (next_event s) IsEarly → Good s → n ≡ next s → (r ≡ steps.Stepped → Makes s n t) → (r ≢ steps.Stepped → t ≡ s) → Good t

@@ -1,8 +1,9 @@
 -- Instructions of an interrupt routine, one after the other, are silent steps.
-use Rattle.std.proofs.Common.{◌≡◌, ℕ, zero, suc, ◌+◌, Bool, true, List, [], ◌∷◌, Option, None, Some, is_some, IsSome, refl, sym, ap, ap₂, ◌∙◌, subst, arith}
+use Rattle.std.proofs.Common.{◌≡◌, ℕ, zero, suc, ◌+◌, true, List, [], ◌∷◌, Option, None, Some, is_some, IsSome, refl, sym, ap, ap₂, ◌∙◌, subst, arith}
 use Rattle.std.specs.List.{All}
 use Rattle.std.proofs.lemmas.List.Elements.{All-nil, All-cons, All-map}
 use Rattle.std.specs.Prelude.{unwrap_or, ◌&&◌}
+use Rattle.wind_base.specs.Boards.{board_rules}
 use Rattle.wind_base.specs.declared.regs.Regs.{Regs}
 use Rattle.task_block.specs.declared.task.Task.{Task}
 use Rattle.wind_core.specs.State.{KernState, IsKern}
@@ -24,6 +25,8 @@ use Rattle.wind_machine.specs.declared.next.Next.TheVariants.{Routine}
 use Rattle.wind_machine.proofs.Reserving.{all_none}
 use Rattle.board_turns.specs.Instructions.{Executes, ExecutesMany, routine_executed_to}
 use Rattle.board_turns.specs.Running.{RoutineRanMany}
+use Rattle.board_turns.specs.declared.step_kind.StepKind.{StepKind}
+use Rattle.board_turns.specs.declared.step_kind.StepKind.TheVariants as kinds
 use Rattle.board_player.specs.Going.{IsRoutine}
 use Rattle.board_player.specs.Bursts.{RoutineRunsOn, routine_moved}
 use Rattle.board_player.proofs.Deciding.{routine_next}
@@ -66,7 +69,7 @@ module _ (s : State) (is : IsKern s.world.kern) (exact : HasExact s.world) (on :
   unfolding file_asked
   unasked = ap file_of (sym comes)
 
-  module _ (r : Regs) (b : BusState) (ex : Executes (routine_regs s.world) (bus_of s.world) r b) where
+  module _ (r : Regs) (b : BusState) (ex : Executes (board_rules s.world.board).gates_start (routine_regs s.world) (bus_of s.world) r b) where
     part : routine_part s.world ≡ routine_executed_to s.world r b
     unfolding routine_part
     part =
@@ -97,7 +100,7 @@ module _ (s : State) (is : IsKern s.world.kern) (exact : HasExact s.world) (on :
   further : (m r : Regs) (c b : BusState) (k : ℕ) → routine_moved (routine_moved s m c k) r b 1 ≡ routine_moved s r b (suc k)
   further m r c b k = ap₂ (λ t n. record s { world = routine_executed_to s.world r b; time = t; steps = n }) (omega arith) (omega arith)
 
-  pub routine_bursts : (k : ℕ) (r : Regs) (b : BusState) → ExecutesMany k (routine_regs s.world) (bus_of s.world) r b → SilentSteps k s (routine_moved s r b k)
+  pub routine_bursts : (k : ℕ) (r : Regs) (b : BusState) → ExecutesMany (board_rules s.world.board).gates_start k (routine_regs s.world) (bus_of s.world) r b → SilentSteps k s (routine_moved s r b k)
   routine_bursts zero r b many = as_it_was r b many.0 many.1
   routine_bursts (suc k) r b many =
       let m = many.0 in
@@ -112,8 +115,8 @@ routine_gone s k time count w is exact on ran t c =
     (routine_bursts s is exact on k ran.regs ran.bus ran.many)
 
 -- the step of a routine's instruction leaves it active, and no reservation
-pub routine_left : (level : Option Regs) (k turned done : KernState) (b : Bool) → turned ≡ drop_all k → (b ≡ true → done ≡ turned) → (b ≡ true → is_some level ≡ true) → b ≡ true → IsRoutine done level
-routine_left level k turned done b began same active is_done = record { active = active is_done; none = none_reserved k done (same is_done ∙ began) }
+pub routine_left : (level : Option Regs) (k turned done : KernState) (kind : StepKind) → turned ≡ drop_all k → (kind ≡ kinds.Instruction → done ≡ turned) → (kind ≡ kinds.Instruction → is_some level ≡ true) → kind ≡ kinds.Instruction → IsRoutine done level
+routine_left level k turned done kind began same active is = record { active = active is; none = none_reserved k done (same is ∙ began) }
 
 -- a routine is active as before
 pub still_routine : (k : ℕ) (old new : WorldState) → RoutineRanMany k old new → IsRoutine old.kern old.watch.level → IsRoutine new.kern new.watch.level

@@ -1,6 +1,6 @@
 -- A step of a task, by its program counter.
 use Rattle.std.proofs.Common.{◌≡◌, ℕ, None, Some, sym, ap, ◌∙◌}
-use Rattle.wind_base.specs.Limits.{gates_start}
+use Rattle.wind_base.specs.Boards.{board_rules}
 use Rattle.wind_base.specs.Gates.{gate_at}
 use Rattle.wind_base.specs.declared.gate.Gate.{Gate}
 use Rattle.board_bus.specs.Access.{fetched}
@@ -12,22 +12,26 @@ use Rattle.wind_machine.specs.Processor.{bus_of, regs_of, gate_under, gate_part,
 use Rattle.board_player.specs.Moves.{noted_step}
 
 module _ (shell : ShellState) (w : WorldState) (who at : ℕ) (here : at ≡ (regs_of w who).pc) where
-  under : gate_under w who ≡ gate_at gates_start at
-  under = ap (gate_at gates_start) (sym here)
+  under : gate_under w who ≡ gate_at (board_rules w.board).gates_start at
+  under = ap (gate_at (board_rules w.board).gates_start) (sym here)
 
-  pub by_gate : (g : Gate) → gate_at gates_start at ≡ Some g → task_part shell w who ≡ gate_part g shell w who
+  pub by_gate : (g : Gate) → gate_at (board_rules w.board).gates_start at ≡ Some g → task_part shell w who ≡ gate_part g shell w who
   unfolding task_part
   by_gate g e = ap (λ o. part_at o shell w who) (under ∙ e)
 
-  pub by_word : gate_at gates_start at ≡ None → task_part shell w who ≡ word_part (fetched (bus_of w) at) shell w who
+  pub by_word : gate_at (board_rules w.board).gates_start at ≡ None → task_part shell w who ≡ word_part (fetched (bus_of w) at) shell w who
   unfolding task_part
   by_word e = ap (λ o. part_at o shell w who) (under ∙ e) ∙ ap (λ pc. word_part (fetched (bus_of w) pc) shell w who) (sym here)
 
+-- the gate at an address is the same in the world of the turn
+turned_gate : (s : State) (who at : ℕ) (v : WorldState) → v ≡ at_turn s.world who → gate_at (board_rules v.board).gates_start at ≡ gate_at (board_rules s.world.board).gates_start at
+turned_gate s who at v turned = ap (λ (u : WorldState). gate_at (board_rules u.board).gates_start at) turned
+
 -- the step that the code has made
 pub word_stepped : (s : State) (who at : ℕ) (v x : WorldState) (shell : ShellState) → v ≡ at_turn s.world who → part_of shell x ≡ word_part (fetched (bus_of v) at) s.shell v who
-    → at ≡ (regs_of v who).pc → gate_at gates_start at ≡ None → noted_step (record s { shell = shell; world = x }) who ≡ task_step s who
-word_stepped s who at v x shell turned made here none = ap (stepped s who) (made ∙ sym (by_word s.shell v who at here none) ∙ ap (λ u. task_part s.shell u who) turned)
+    → at ≡ (regs_of v who).pc → gate_at (board_rules s.world.board).gates_start at ≡ None → noted_step (record s { shell = shell; world = x }) who ≡ task_step s who
+word_stepped s who at v x shell turned made here none = ap (stepped s who) (made ∙ sym (by_word s.shell v who at here (turned_gate s who at v turned ∙ none)) ∙ ap (λ u. task_part s.shell u who) turned)
 
 pub gate_stepped : (s : State) (who at : ℕ) (g : Gate) (v x : WorldState) (shell : ShellState) → v ≡ at_turn s.world who → part_of shell x ≡ gate_part g s.shell v who
-    → at ≡ (regs_of v who).pc → gate_at gates_start at ≡ Some g → noted_step (record s { shell = shell; world = x }) who ≡ task_step s who
-gate_stepped s who at g v x shell turned made here some = ap (stepped s who) (made ∙ sym (by_gate s.shell v who at here g some) ∙ ap (λ u. task_part s.shell u who) turned)
+    → at ≡ (regs_of v who).pc → gate_at (board_rules s.world.board).gates_start at ≡ Some g → noted_step (record s { shell = shell; world = x }) who ≡ task_step s who
+gate_stepped s who at g v x shell turned made here some = ap (stepped s who) (made ∙ sym (by_gate s.shell v who at here g (turned_gate s who at v turned ∙ some)) ∙ ap (λ u. task_part s.shell u who) turned)

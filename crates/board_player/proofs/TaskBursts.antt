@@ -4,6 +4,7 @@ use Rattle.std.specs.Prelude.{unwrap_or, nat_le}
 use Rattle.std.specs.Option.{option_map}
 use Rattle.std.proofs.lemmas.Bool.{eq-eqb, eqb-true}
 use Rattle.std.proofs.lemmas.Bool.Decides.{nat_tests}
+use Rattle.wind_base.specs.Boards.{board_rules}
 use Rattle.wind_base.specs.declared.regs.Regs.{Regs}
 use Rattle.task_block.specs.declared.task.Task.{Task}
 use Rattle.tick_file.specs.Schedule.{Timed}
@@ -141,7 +142,7 @@ module _ (s : State) (who : ℕ) (is : IsKern s.world.kern) (exact : HasExact s.
   its_turn : at_turn s.world who ≡ s.world
   its_turn = ap₂ (λ k o. record s.world { kern = k; output = o }) on.alone (sym on.silent)
 
-  module _ (r : Regs) (b : BusState) (ex : Executes (regs_of s.world who) (bus_of s.world) r b) where
+  module _ (r : Regs) (b : BusState) (ex : Executes (board_rules s.world.board).gates_start (regs_of s.world who) (bus_of s.world) r b) where
     part : task_part s.shell (at_turn s.world who) who ≡ part_of s.shell (executed_to s.world who r b)
     part =
         ap (λ w. task_part s.shell w who) its_turn
@@ -254,14 +255,14 @@ module _ (s : State) (who : ℕ) (up : Rising task_id s.world.kern.tasks) (on : 
         ap (λ (j : KernState). record s { world = record s.world { kern = j; ram = b.ram; slots = b.slots }; time = s.time + k + 1; steps = s.steps + k + 1 }) (over who m r s.world.kern)
         ∙ ap₂ (λ t n. record s { world = executed_to s.world who r b; time = t; steps = n }) (omega arith) (omega arith)
 
-    pub bursts : (n : ℕ) → HasRoom (is_open s) (next_event s) s.time n → (k : ℕ) → k ≤ n → (r : Regs) (b : BusState) → ExecutesMany k (regs_of s.world who) (bus_of s.world) r b → SilentSteps k s (moved s who r b k)
+    pub bursts : (n : ℕ) → HasRoom (is_open s) (next_event s) s.time n → (k : ℕ) → k ≤ n → (r : Regs) (b : BusState) → ExecutesMany (board_rules s.world.board).gates_start k (regs_of s.world who) (bus_of s.world) r b → SilentSteps k s (moved s who r b k)
     bursts n room zero h r b many = as_it_was r b many.0 many.1
     bursts n room (suc k) h r b many =
         let m = many.0 in
         let c = many.1 in
         let u = moved s who m c k in
         let here : HasRoom (is_open u) (next_event s) (s.time + k) 1 = subst (λ o. HasRoom o (next_event s) (s.time + k) 1) (sym (same_open m)) (room_on (is_open s) (next_event s) s.time n k h room) in
-        let ex : Executes (regs_of u.world who) (bus_of u.world) r b = subst (λ x. Executes x c r b) (sym (same_regs m c)) many.3 in
+        let ex : Executes (board_rules s.world.board).gates_start (regs_of u.world who) (bus_of u.world) r b = subst (λ x. Executes (board_rules s.world.board).gates_start x c r b) (sym (same_regs m c)) many.3 in
         let is_behind : IsKern u.world.kern = regs_keep s.world.kern who m is in
         let exact_behind : HasExact u.world = still_exact s u refl (regs_lend s.world.kern.tasks who m) exact in
         (u, bursts n room k (omega (arith, h)) m c many.2, subst (IsSilentStep u) (further m r c b k) (one_step u who is_behind exact_behind (on_behind m c k) here r b ex))

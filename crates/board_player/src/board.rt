@@ -20,7 +20,7 @@ use live_loading::FileAnswer;
 use std::alloc::Global;
 use tick_file::Schedule;
 use wind_base::limits::CHUNK_BYTES;
-use wind_base::{Name, NoMemory, OutBuf, Profile};
+use wind_base::{BoardKind, Name, NoMemory, OutBuf, Profile};
 use wind_machine::step_law;
 use wind_outside::{Device, Slots};
 
@@ -47,8 +47,8 @@ impl Board {
     ghost use Rattle.wind_machine.specs.Machine.{opening};
     ghost use Rattle.wind_base.specs.Limits.{most_slots};
 
-    /// Makes a board in the opening state, with this console file, these events, these devices and
-    /// this rule of inheritance. If memory runs out, the slots come back as they were.
+    /// Makes a board of a kind in the opening state, with this console file, these events, these
+    /// devices and this rule of inheritance. If memory runs out, the slots come back as they were.
     #[tactic(auto, unfolding(wind_machine::specs::Machine::opening))]
     pub fn boot(
         alloc: Global,
@@ -56,10 +56,11 @@ impl Board {
         console: Vec<u8>,
         schedule: Schedule,
         profile: Profile,
+        board: BoardKind,
     ) -> Result<Board, Slots>
         requires { length slots.items ≤ most_slots }
-        ensures ok { IfOk result (λ board. seen ⟦<dyn Device as Device>⟧ board
-            ≡ opening console.items schedule (slots_of kind_of words_of slots.items) profile) }
+        ensures ok { IfOk result (λ made. seen ⟦<dyn Device as Device>⟧ made
+            ≡ opening console.items schedule (slots_of kind_of words_of slots.items) profile board) }
         ensures err { IfErr result (λ back. back ≡ slots) }
     {
         step_law();
@@ -69,7 +70,7 @@ impl Board {
         let Ok(screen) = Console::new(alloc) else {
             return Err(slots);
         };
-        let world = World::boot(alloc, slots, profile)?;
+        let world = World::boot(alloc, slots, profile, board)?;
         Ok(Board {
             parts: Parts {
                 alloc,

@@ -6,9 +6,12 @@ mod bursts;
 mod clock;
 mod loading;
 mod order;
+mod outside;
 mod parts;
+mod routine_steps;
 mod settling;
-mod steps;
+mod shell_steps;
+mod task_steps;
 
 pub use board::Board;
 use wind_base::Name;

@@ -14,13 +14,12 @@ ghost use Rattle.board_player.specs.Settling.{CanSettle};
 
 use crate::parts::Parts;
 use crate::settling::settle;
-use crate::steps::end;
+use crate::task_steps::end;
 use board_turns::{counter, drop_own, give_back, revocable_turn, shell_id};
 use id_table::Ident;
 use kernel_calls::file_wanted;
-use kernel_world::Actor;
+use kernel_world::{Actor, gate_at};
 use live_loading::{FileAnswer, kernel_load};
-use wind_base::limits::GATES_START;
 use wind_base::{Gate, Name, NoMemory};
 use wind_machine::Phase;
 use wind_outside::Device;
@@ -30,7 +29,7 @@ fn is_at_load(parts: &Parts) -> bool
     ensures { (result ≡ true)
         ↔ (gate_under (parts_seen ⟦<dyn Device as Device>⟧ parts.now).world 1 ≡ Some gates.Ld) }
 {
-    match Gate::at(counter(&parts.world, shell_id()), GATES_START) {
+    match gate_at(parts.world.board, counter(&parts.world, shell_id())) {
         Some(gate) => gate == Gate::Ld,
         None => false,
     }

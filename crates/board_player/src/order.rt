@@ -8,12 +8,12 @@ ghost use Rattle.wind_core.specs.Orders.{running as running_lem};
 ghost use Rattle.kernel_world.specs.Objects.{IsReady};
 ghost use Rattle.live_loading.specs.Said.{FileSaid};
 ghost use Rattle.wind_machine.specs.Good.{Good};
-ghost use Rattle.wind_machine.specs.Processor.{gate_under};
 ghost use Rattle.wind_machine.specs.Events.{next_event};
-ghost use Rattle.wind_machine.specs.ActorSteps.{shell_step, step_of, routine_step as routine_step_lem, file_for as file_for_lem};
+ghost use Rattle.wind_machine.specs.ActorSteps.{step_of, routine_step as routine_step_lem, file_for as file_for_lem};
 ghost use Rattle.wind_machine.specs.Next.{due_event as due_event_lem, event_of, console_is_due as console_is_due_lem, is_open as is_open_lem, is_active as is_active_lem, holds_back, task_next as task_next_lem, next as next_lem};
-ghost use Rattle.wind_machine.specs.Machine.{state_after, settled_state, file_of, phase_may, gate_may, who_may, next_may, may_lack_memory};
+ghost use Rattle.wind_machine.specs.Machine.{state_after, settled_state, file_of, who_may, next_may, may_lack_memory};
 ghost use Rattle.wind_machine.specs.declared.next.Next.TheVariants as nexts;
+ghost use Rattle.board_turns.specs.declared.step_kind.StepKind.TheVariants as kinds;
 ghost use Rattle.board_player.specs.Inside.{inside, parts_seen, IsSpacious};
 ghost use Rattle.board_player.specs.Asking.{needed};
 ghost use Rattle.board_player.specs.Going.{IsKnown, OnlyStepped};
@@ -23,14 +23,17 @@ ghost use Rattle.board_player.specs.declared.Step.TheVariants as steps;
 
 use crate::Step;
 use crate::loading::file_for;
+use crate::outside::{arrive, come, jump};
 use crate::parts::Parts;
+use crate::routine_steps::step_routine;
 use crate::settling::settle;
-use crate::steps::{arrive, come, evaluate, jump, prompt, read, run, step_routine};
-use board_turns::{shell_id, waits_for_console};
+use crate::shell_steps::run_shell;
+use crate::task_steps::run;
+use board_turns::{StepKind, shell_id, waits_for_console};
 use id_table::Ident;
 use tick_file::Event;
 use wind_base::NoMemory;
-use wind_machine::{Next, Phase};
+use wind_machine::Next;
 use wind_outside::Device;
 
 // The event, if its time has come.
@@ -127,47 +130,9 @@ pub(crate) fn console_is_due(parts: &Parts, is_open: bool) -> bool
         && !parts.console.has_line()
 }
 
-// Makes the shell's step, by its phase. If memory runs out, nothing changes. Returns whether the
-// step was an instruction that caused no exception.
-#[inline(never)]
-fn run_shell(parts: &mut Parts) -> Result<bool, NoMemory>
-    requires good { Good (inside parts.old) }
-    requires few { parts.old.clock.steps < most_steps }
-    requires space { IsSpacious parts.old }
-    requires ready { IsReady parts.old.world.kern 1 }
-    requires asks { file_for_lem (parts_seen ⟦<dyn Device as Device>⟧ parts.old) 1 ≡ None }
-    ensures ok { OnOk result (parts_seen ⟦<dyn Device as Device>⟧ parts.new
-        ≡ shell_step parts.old.shell.phase (parts_seen ⟦<dyn Device as Device>⟧ parts.old)) }
-    ensures memory { OnErr result (phase_may parts.old.shell.phase
-        (gate_may (gate_under (parts_seen ⟦<dyn Device as Device>⟧ parts.old).world 1)) ≡ true) }
-    ensures err { OnErr result (parts_seen ⟦<dyn Device as Device>⟧ parts.new
-        ≡ parts_seen ⟦<dyn Device as Device>⟧ parts.old) }
-    ensures only { result ≡ Ok true → OnlyStepped parts.old.world.kern parts.new.world.kern 1 }
-    ensures watch { result ≡ Ok true → parts.new.world.watch ≡ parts.old.world.watch }
-    ensures objects { result ≡ Ok true → parts.new.world.objects ≡ parts.old.world.objects }
-    ensures space { IsSpacious parts.new }
-{
-    match parts.shell.phase() {
-        Phase::Prompt => {
-            prompt(parts);
-            Ok(false)
-        }
-        Phase::Read => {
-            read(parts)?;
-            Ok(false)
-        }
-        Phase::Eval => {
-            evaluate(parts)?;
-            Ok(false)
-        }
-        Phase::Call => run(parts, shell_id()),
-    }
-}
-
-// Makes the step of whoever runs. If memory runs out, nothing changes. Returns whether the step was
-// an instruction that caused no exception.
+// Makes the step of whoever runs. If memory runs out, nothing changes.
 #[inline(always)]
-fn run_task(parts: &mut Parts, who: Ident) -> Result<bool, NoMemory>
+fn run_task(parts: &mut Parts, who: Ident) -> Result<StepKind, NoMemory>
     requires good { Good (inside parts.old) }
     requires few { parts.old.clock.steps < most_steps }
     requires space { IsSpacious parts.old }
@@ -179,9 +144,9 @@ fn run_task(parts: &mut Parts, who: Ident) -> Result<bool, NoMemory>
     ensures memory { OnErr result (who_may (parts_seen ⟦<dyn Device as Device>⟧ parts.old) who ≡ true) }
     ensures err { OnErr result (parts_seen ⟦<dyn Device as Device>⟧ parts.new
         ≡ parts_seen ⟦<dyn Device as Device>⟧ parts.old) }
-    ensures only { result ≡ Ok true → OnlyStepped parts.old.world.kern parts.new.world.kern who }
-    ensures watch { result ≡ Ok true → parts.new.world.watch ≡ parts.old.world.watch }
-    ensures objects { result ≡ Ok true → parts.new.world.objects ≡ parts.old.world.objects }
+    ensures only { result ≡ Ok kinds.Instruction → OnlyStepped parts.old.world.kern parts.new.world.kern who }
+    ensures watch { result ≡ Ok kinds.Instruction → parts.new.world.watch ≡ parts.old.world.watch }
+    ensures objects { result ≡ Ok kinds.Instruction → parts.new.world.objects ≡ parts.old.world.objects }
     ensures space { IsSpacious parts.new }
 {
     if who == shell_id() {
@@ -204,11 +169,12 @@ fn act_routine(parts: &mut Parts) -> Known
     ensures known { IsKnown parts.new.world.kern parts.new.world.watch.level result }
     ensures space { IsSpacious parts.new }
 {
-    if step_routine(parts) {
-        Known::Routine
-    } else {
-        settle(parts);
-        Known::Nothing
+    match step_routine(parts) {
+        StepKind::Instruction => Known::Routine,
+        StepKind::Other => {
+            settle(parts);
+            Known::Nothing
+        }
     }
 }
 
@@ -312,8 +278,8 @@ fn act(parts: &mut Parts, known: &mut Known, who: Ident) -> Step
     ensures known { IsKnown parts.new.world.kern parts.new.world.watch.level known.new }
 {
     match run_task(parts, who) {
-        Ok(true) => Step::Stepped,
-        Ok(false) => {
+        Ok(StepKind::Instruction) => Step::Stepped,
+        Ok(StepKind::Other) => {
             *known = Known::Nothing;
             settle(parts);
             Step::Stepped

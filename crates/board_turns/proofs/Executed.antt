@@ -1,5 +1,5 @@
 -- What an instruction leaves of the world.
-use Rattle.std.proofs.Common.{◌≡◌, ℕ, true, false, Option, None, Some, is_some, Result, Ok, Err, refl, sym, ap, ◌∙◌, subst}
+use Rattle.std.proofs.Common.{◌≡◌, ℕ, true, Option, None, Some, is_some, Result, Ok, Err, refl, sym, ap, ◌∙◌, subst}
 use Rattle.std.specs.Prelude.{unwrap_or}
 use Rattle.std.specs.Option.{option_map}
 use Rattle.wind_base.specs.declared.regs.Regs.{Regs}
@@ -18,7 +18,8 @@ use Rattle.wind_machine.specs.Part.{with_kern}
 use Rattle.wind_machine.specs.Processor.{bus_of, with_bus, regs_of}
 use Rattle.wind_machine.proofs.Reserving.{own_regs}
 use Rattle.wind_machine.specs.Routine.{with_watch, routine_regs}
-use Rattle.board_turns.specs.Instructions.{is_done}
+use Rattle.board_turns.specs.Instructions.{outcome_kind}
+use Rattle.board_turns.specs.declared.step_kind.StepKind.TheVariants as kinds
 use Rattle.board_turns.specs.Running.{Ran, RoutineRan, OnlyRegs}
 
 module _ (w : WorldState) (who : ℕ) (is : IsKern w.kern) where
@@ -78,22 +79,22 @@ pub same_objects : (o : Outcome BusState) (r : Result (Unit {0}) Trap) (who : �
 same_objects (Done regs bus) r who old new ran ok = ap (λ w. w.objects) ran.1
 same_objects (Trapped trap) r who old new ran ok = absurd (cc)
 
--- ---- it answers Ok exactly if it completes
-pub done_so : (o : Outcome BusState) (r : Result (Unit {0}) Trap) (who : ℕ) (old new : WorldState) → Ran o r who old new → r ≡ Ok tt → is_done o ≡ true
-done_so (Done regs bus) r who old new ran ok = refl
-done_so (Trapped trap) r who old new ran ok = absurd (cc)
+-- ---- it answers Ok exactly if it is no trap
+pub instruction_so : (o : Outcome BusState) (r : Result (Unit {0}) Trap) (who : ℕ) (old new : WorldState) → Ran o r who old new → r ≡ Ok tt → outcome_kind o ≡ kinds.Instruction
+instruction_so (Done regs bus) r who old new ran ok = refl
+instruction_so (Trapped trap) r who old new ran ok = absurd (cc)
 
-pub not_done_so : (o : Outcome BusState) (r : Result (Unit {0}) Trap) (who : ℕ) (old new : WorldState) (trap : Trap) → Ran o r who old new → r ≡ Err trap → is_done o ≡ false
-not_done_so (Done regs bus) r who old new trap ran bad = absurd (cc)
-not_done_so (Trapped other) r who old new trap ran bad = refl
+pub other_so : (o : Outcome BusState) (r : Result (Unit {0}) Trap) (who : ℕ) (old new : WorldState) (trap : Trap) → Ran o r who old new → r ≡ Err trap → outcome_kind o ≡ kinds.Other
+other_so (Done regs bus) r who old new trap ran bad = absurd (cc)
+other_so (Trapped other) r who old new trap ran bad = refl
 
-pub routine_done_so : (o : Outcome BusState) (r : Result (Unit {0}) Trap) (old new : WorldState) → RoutineRan o r old new → r ≡ Ok tt → is_done o ≡ true
-routine_done_so (Done regs bus) r old new ran ok = refl
-routine_done_so (Trapped trap) r old new ran ok = absurd (cc)
+pub routine_instruction_so : (o : Outcome BusState) (r : Result (Unit {0}) Trap) (old new : WorldState) → RoutineRan o r old new → r ≡ Ok tt → outcome_kind o ≡ kinds.Instruction
+routine_instruction_so (Done regs bus) r old new ran ok = refl
+routine_instruction_so (Trapped trap) r old new ran ok = absurd (cc)
 
-pub routine_not_done_so : (o : Outcome BusState) (r : Result (Unit {0}) Trap) (old new : WorldState) (trap : Trap) → RoutineRan o r old new → r ≡ Err trap → is_done o ≡ false
-routine_not_done_so (Done regs bus) r old new trap ran bad = absurd (cc)
-routine_not_done_so (Trapped other) r old new trap ran bad = refl
+pub routine_other_so : (o : Outcome BusState) (r : Result (Unit {0}) Trap) (old new : WorldState) (trap : Trap) → RoutineRan o r old new → r ≡ Err trap → outcome_kind o ≡ kinds.Other
+routine_other_so (Done regs bus) r old new trap ran bad = absurd (cc)
+routine_other_so (Trapped other) r old new trap ran bad = refl
 
 -- ---- one of a routine without an exception leaves the tasks and the objects, and the routine active
 pub routine_goes_on : (o : Outcome BusState) (r : Result (Unit {0}) Trap) (old new : WorldState) → RoutineRan o r old new → r ≡ Ok tt → is_some new.watch.level ≡ true

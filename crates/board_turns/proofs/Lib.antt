@@ -5,3 +5,4 @@ pub mod Dropped
 pub mod Executed
 pub mod FeedLemmas
 pub mod Readied
+pub mod Calling

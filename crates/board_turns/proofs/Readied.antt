@@ -32,7 +32,7 @@ pub readies : (w : WorldState) (who : ℕ) → IsWorld w → IsEarly w → Readi
 readies w who kept early =
     let a = others_advance w (2 ^ 60 - 1) kept (within w early) who in
     record {
-      kept = record { kern = a.kept.kern; home = a.kept.home; objects = a.kept.objects; pool = a.kept.pool; stacks = a.kept.stacks; modules = a.kept.modules; ram = a.kept.ram; symbols = a.kept.symbols; watch = a.kept.watch; ids = a.kept.ids };
+      kept = record { kern = a.kept.kern; home = a.kept.home; kind = a.kept.kind; objects = a.kept.objects; pool = a.kept.pool; stacks = a.kept.stacks; modules = a.kept.modules; ram = a.kept.ram; symbols = a.kept.symbols; watch = a.kept.watch; ids = a.kept.ids };
       early = record {
         sinces = early.sinces;
         ticks = early.ticks;
@@ -52,7 +52,7 @@ pub all_ready : (w : WorldState) → IsWorld w → IsEarly w → IsReadied (clea
 all_ready w kept early =
     let a = all_advance w (2 ^ 60 - 1) kept (within w early) in
     record {
-      kept = record { kern = a.kept.kern; home = a.kept.home; objects = a.kept.objects; pool = a.kept.pool; stacks = a.kept.stacks; modules = a.kept.modules; ram = a.kept.ram; symbols = a.kept.symbols; watch = a.kept.watch; ids = a.kept.ids };
+      kept = record { kern = a.kept.kern; home = a.kept.home; kind = a.kept.kind; objects = a.kept.objects; pool = a.kept.pool; stacks = a.kept.stacks; modules = a.kept.modules; ram = a.kept.ram; symbols = a.kept.symbols; watch = a.kept.watch; ids = a.kept.ids };
       early = record {
         sinces = early.sinces;
         ticks = early.ticks;

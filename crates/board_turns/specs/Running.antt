@@ -1,5 +1,6 @@
 -- What an instruction leaves.
 use Rattle.std.specs.Prelude.{◌≡◌, ℕ, Result, Ok, Err}
+use Rattle.wind_base.specs.Boards.{board_rules}
 use Rattle.wind_base.specs.declared.regs.Regs.{Regs}
 use Rattle.wind_core.specs.State.{KernState}
 use Rattle.wind_core.specs.Moves.{set_regs}
@@ -31,12 +32,12 @@ OnlyRegs old new who = (regs : Regs) × (new ≡ set_regs old who regs)
 pub record RanMany (k who : ℕ) (old new : WorldState) : Type 0 where
   pub regs : Regs
   pub bus : BusState
-  pub many : ExecutesMany k (regs_of old who) (bus_of old) regs bus
+  pub many : ExecutesMany (board_rules old.board).gates_start k (regs_of old who) (bus_of old) regs bus
   pub world : new ≡ executed_to old who regs bus
 
 -- k instructions of the active interrupt routine were executed
 pub record RoutineRanMany (k : ℕ) (old new : WorldState) : Type 0 where
   pub regs : Regs
   pub bus : BusState
-  pub many : ExecutesMany k (routine_regs old) (bus_of old) regs bus
+  pub many : ExecutesMany (board_rules old.board).gates_start k (routine_regs old) (bus_of old) regs bus
   pub world : new ≡ routine_executed_to old regs bus

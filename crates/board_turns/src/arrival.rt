@@ -9,7 +9,7 @@ ghost use Rattle.con_line.specs.declared.console.ByteDone.TheVariants as done;
 ghost use Rattle.wind_machine.specs.Events.{heard_from, hear as hear_lem, heard_all, shell_after, kern_after};
 
 use crate::shell::Shell;
-use crate::task::{abort, shell_id, waits_for_console};
+use crate::shell_task::{abort, shell_id, waits_for_console};
 use con_line::{ByteDone, Console};
 use wind_base::OutBuf;
 use wind_core::Kern;

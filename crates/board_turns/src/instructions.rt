@@ -12,22 +12,21 @@ use id_table::Ident;
 use kernel_world::World;
 use ppc_core::exec_inline;
 use wind_base::Regs;
-use wind_base::limits::GATES_START;
 use wind_outside::Device;
 
 // Executes at most `most` instructions, and returns how many it executed. It stops before an
-// instruction that is at or above the first gate, can't be fetched, or causes an exception. On the
-// host, this test of the program counter costs two instructions; looking for the gate itself would
-// cost thirteen.
+// instruction that is at or above the first gate, whose address is `gates`, can't be fetched, or
+// causes an exception. On the host, this test of the program counter costs two instructions;
+// looking for the gate itself would cost thirteen.
 #[inline(never)]
-fn run_words(regs: &mut Regs, bus: &mut BoardBus, most: u64) -> u64
+fn run_words(regs: &mut Regs, bus: &mut BoardBus, gates: u32, most: u64) -> u64
     requires { Unit {0} }
-    ensures ran { ExecutesMany result regs.old (bus_seen ⟦<dyn Device as Device>⟧ bus.old)
+    ensures ran { ExecutesMany gates result regs.old (bus_seen ⟦<dyn Device as Device>⟧ bus.old)
         regs.new (bus_seen ⟦<dyn Device as Device>⟧ bus.new) }
     ensures within { result ≤ most }
 {
     for made in 0..most {
-        if regs.pc >= GATES_START {
+        if regs.pc >= gates {
             return made;
         }
         let Some(word) = bus.fetch(regs.pc) else {
@@ -50,7 +49,8 @@ pub fn execute_many(world: &mut World, who: Ident, most: u64) -> u64
     ensures within { result ≤ most }
     ensures out { world.new.out ≡ world.old.out }
 {
-    run_words(world.kern.regs_of(who), &mut world.bus, most)
+    let gates = world.board.rules().gates_start;
+    run_words(world.kern.regs_of(who), &mut world.bus, gates, most)
 }
 
 /// The same for the active interrupt routine.
@@ -61,8 +61,9 @@ pub fn execute_many_of_routine(world: &mut World, most: u64) -> u64
     ensures within { result ≤ most }
     ensures out { world.new.out ≡ world.old.out }
 {
+    let gates = world.board.rules().gates_start;
     match world.watch.regs_mut() {
-        Some(regs) => run_words(regs, &mut world.bus, most),
+        Some(regs) => run_words(regs, &mut world.bus, gates, most),
         None => unreachable!(),
     }
 }

@@ -8,7 +8,7 @@ ghost use Rattle.ppc_core.specs.declared.trap.Trap.TheVariants as traps;
 ghost use Rattle.kernel_world.specs.Kept.{IsWorld, IsEarly};
 ghost use Rattle.kernel_world.specs.Objects.{IsReady};
 ghost use Rattle.kernel_world.specs.Seen.{world_seen, world_with};
-ghost use Rattle.kernel_world.specs.Allowed.{is_call as is_call_lem, may_lack_memory};
+ghost use Rattle.kernel_world.specs.Allowed.{may_lack_memory};
 ghost use Rattle.kernel_calls.specs.Calls.{file_wanted};
 ghost use Rattle.kernel_world.specs.declared.actor.Actor.TheVariants as actors;
 ghost use Rattle.kernel_calls.specs.Space.{HoldsSpace};
@@ -16,15 +16,17 @@ ghost use Rattle.wind_base.specs.OutBuf.{KeepsSpace};
 ghost use Rattle.wind_machine.specs.Part.{part_of, writing};
 ghost use Rattle.wind_machine.specs.Processor.{trapped, told_of, bus_of, is_return as is_return_lem, return_part, called as called_lem, gate_part, executed, word_part, regs_of};
 ghost use Rattle.wind_machine.specs.declared.phase.Phase.TheVariants as phases;
-ghost use Rattle.board_turns.specs.Instructions.{completes};
+ghost use Rattle.board_turns.specs.Instructions.{word_kind};
 ghost use Rattle.board_turns.specs.Running.{Ran, OnlyRegs};
+ghost use Rattle.board_turns.specs.declared.step_kind.StepKind.TheVariants as kinds;
 
 use crate::reserving::drop_own;
 use crate::shell::Shell;
-use crate::task::{abort, shell_id};
+use crate::shell_task::{abort, shell_id};
+use crate::step_kind::StepKind;
 use crate::text::add_exception;
 use id_table::Ident;
-use kernel_calls::{Called, kernel_call};
+use kernel_calls::make_call;
 use kernel_world::{Actor, World, is_call};
 use ppc_core::{Trap, exec};
 use std::alloc::Global;
@@ -112,7 +114,6 @@ fn return_from(shell: &mut Shell, world: &mut World, who: Ident)
 
 // Makes a kernel call. If memory runs out, nothing changes.
 fn call(alloc: Global, world: &mut World, who: Ident, gate: Gate) -> Result<(), NoMemory>
-    requires call { is_call_lem gate ≡ true }
     requires unasked { file_wanted gate (world_seen ⟦<dyn Device as Device>⟧ world.old) (actors.Task who) ≡ None }
     requires live { Lives world.old.kern who }
     requires ready { IsReady world.old.kern who }
@@ -126,15 +127,9 @@ fn call(alloc: Global, world: &mut World, who: Ident, gate: Gate) -> Result<(), 
         ≡ world_seen ⟦<dyn Device as Device>⟧ world.old) }
     ensures space { HoldsSpace world.old.out world.new.out }
 {
-    match kernel_call(alloc, world, gate, &Actor::Task(who)) {
-        // a call that needs a file is made by another step
-        Called::NeedsFile(_) => unreachable!(),
-        Called::NoMemory => Err(NoMemory),
-        Called::Done | Called::Pended | Called::Ended => {
-            drop_own(&mut world.kern, who);
-            Ok(())
-        }
-    }
+    make_call(alloc, world, gate, &Actor::Task(who))?;
+    drop_own(&mut world.kern, who);
+    Ok(())
 }
 
 /// What a task does at a gate. Host memory may run out only if the gate's call may run out of it;
@@ -196,11 +191,10 @@ pub fn counter(world: &World, who: Ident) -> u32
 }
 
 /// Executes the instruction of a task at this address. If its word can't be fetched, that is an
-/// access to nothing. Returns true exactly if the instruction causes no exception; it then changes
-/// only registers of the task and the bus.
-#[tactic(auto, using(crate::proofs::Executed::done_so, crate::proofs::Executed::not_done_so))]
+/// access to nothing.
+#[tactic(auto, using(crate::proofs::Executed::instruction_so, crate::proofs::Executed::other_so))]
 #[inline(always)]
-pub fn execute(shell: &mut Shell, world: &mut World, who: Ident, at: u32) -> bool
+pub fn execute(shell: &mut Shell, world: &mut World, who: Ident, at: u32) -> StepKind
     requires live { Lives world.old.kern who }
     requires kern { IsKern world.old.kern }
     requires since { world.old.kern.next_since + 2 < 2 ^ 64 }
@@ -208,23 +202,23 @@ pub fn execute(shell: &mut Shell, world: &mut World, who: Ident, at: u32) -> boo
     ensures part { part_of shell.new (world_seen ⟦<dyn Device as Device>⟧ world.new)
         ≡ word_part (fetched (bus_of (world_seen ⟦<dyn Device as Device>⟧ world.old)) at) shell.old
         (world_seen ⟦<dyn Device as Device>⟧ world.old) who }
-    ensures exact { result ≡ completes (fetched (bus_of (world_seen ⟦<dyn Device as Device>⟧ world.old)) at)
+    ensures kind { result ≡ word_kind (fetched (bus_of (world_seen ⟦<dyn Device as Device>⟧ world.old)) at)
         (regs_of (world_seen ⟦<dyn Device as Device>⟧ world.old) who)
         (bus_of (world_seen ⟦<dyn Device as Device>⟧ world.old)) }
-    ensures registers { result ≡ true → OnlyRegs world.old.kern world.new.kern who }
-    ensures watch { result ≡ true → world.new.watch ≡ world.old.watch }
-    ensures objects { result ≡ true → world.new.objects ≡ world.old.objects }
+    ensures registers { result ≡ kinds.Instruction → OnlyRegs world.old.kern world.new.kern who }
+    ensures watch { result ≡ kinds.Instruction → world.new.watch ≡ world.old.watch }
+    ensures objects { result ≡ kinds.Instruction → world.new.objects ≡ world.old.objects }
     ensures space { KeepsSpace world.old.out world.new.out }
 {
     let Some(word) = world.bus.fetch(at) else {
         fault(shell, world, who, Trap::Access);
-        return false;
+        return StepKind::Other;
     };
     match run_word(world, who, word) {
-        Ok(()) => true,
+        Ok(()) => StepKind::Instruction,
         Err(trap) => {
             fault(shell, world, who, trap);
-            false
+            StepKind::Other
         }
     }
 }

@@ -7,25 +7,36 @@ ghost use Rattle.ppc_core.specs.Instructions.{exec_of};
 ghost use Rattle.kernel_world.specs.Kept.{IsWorld, IsEarly};
 ghost use Rattle.kernel_world.specs.Seen.{world_seen, world_with};
 ghost use Rattle.kernel_calls.specs.Space.{HoldsSpace};
-ghost use Rattle.kernel_world.specs.Allowed.{is_call as is_call_lem};
 ghost use Rattle.kernel_world.specs.Replies.{level_by};
 ghost use Rattle.wind_machine.specs.Processor.{bus_of};
-ghost use Rattle.wind_machine.specs.Routine.{next_routine as next_routine_lem, given_up, without_reserve, routine_call, routine_gate, routine_word, routine_regs, routine_part};
-ghost use Rattle.board_turns.specs.Instructions.{completes};
+ghost use Rattle.wind_machine.specs.Routine.{next_routine as next_routine_lem, given_up, without_reserve, routine_call, routine_gate, routine_word, routine_regs, routine_part, with_return};
+ghost use Rattle.board_turns.specs.Instructions.{word_kind};
 ghost use Rattle.board_turns.specs.Running.{RoutineRan};
+ghost use Rattle.board_turns.specs.declared.step_kind.StepKind.TheVariants as kinds;
 
+use crate::step_kind::StepKind;
 use crate::text::add_routine_exception;
 use isr_watch::Watch;
-use kernel_calls::{Called, kernel_call};
-use kernel_world::{Actor, World, is_call};
+use kernel_calls::make_call;
+use kernel_world::{Actor, World, gate_address, gate_at, is_call};
 use ppc_core::{Trap, exec};
 use std::alloc::Global;
-use wind_base::Gate;
-use wind_base::limits::{GATES_START, INTERRUPT_STACK_BYTES, POOL_START, SHELL_STACK_BYTES};
+use wind_base::limits::{INTERRUPT_STACK_BYTES, POOL_START, SHELL_STACK_BYTES};
+use wind_base::{BoardKind, Gate, NoMemory};
 use wind_outside::Device;
 
 /// The end of the interrupt stack, which comes after the stack of the shell's task.
 pub const INTERRUPT_TOP: u32 = POOL_START + SHELL_STACK_BYTES + INTERRUPT_STACK_BYTES;
+
+/// Puts the address of the board's gate for the return of interrupt routines into the link register
+/// of the active routine, if there is one. `Watch` has put that of board 1 there.
+pub fn put_return(watch: &mut Watch, board: BoardKind)
+    ensures { watch.new ≡ with_return board watch.old }
+{
+    if let Some(regs) = watch.regs_mut() {
+        regs.lr = gate_address(board, Gate::InterruptReturn);
+    }
+}
 
 // The routine is done: the next listed one becomes active, if there is one.
 fn next_routine(world: &mut World)
@@ -34,6 +45,7 @@ fn next_routine(world: &mut World)
     ensures out { world.new.out ≡ world.old.out }
 {
     world.watch.finish(INTERRUPT_TOP);
+    put_return(&mut world.watch, world.board);
 }
 
 // The routine's program counter.
@@ -67,9 +79,8 @@ fn drop_reserve(watch: &mut Watch)
     }
 }
 
-// Makes a kernel call, which can't run out of memory.
+// Makes a kernel call, which needs no file and can't run out of memory.
 fn call(alloc: Global, world: &mut World, gate: Gate)
-    requires call { is_call_lem gate ≡ true }
     requires kept { IsWorld (world_with [] world.old) }
     requires early { IsEarly (world_with [] world.old) }
     requires room { 4096 ≤ world.old.out.room }
@@ -77,9 +88,9 @@ fn call(alloc: Global, world: &mut World, gate: Gate)
         ≡ routine_call gate (world_seen ⟦<dyn Device as Device>⟧ world.old) }
     ensures space { HoldsSpace world.old.out world.new.out }
 {
-    match kernel_call(alloc, world, gate, &Actor::Interrupt) {
-        Called::NeedsFile(_) | Called::NoMemory => unreachable!(),
-        Called::Done | Called::Pended | Called::Ended => drop_reserve(&mut world.watch),
+    match make_call(alloc, world, gate, &Actor::Interrupt) {
+        Ok(_) => drop_reserve(&mut world.watch),
+        Err(NoMemory) => unreachable!(),
     }
 }
 
@@ -116,57 +127,56 @@ fn run_word(world: &mut World, word: u32) -> Result<(), Trap>
 }
 
 // Executes the routine's instruction at this address. If its word can't be fetched, that is an
-// access to nothing. Returns true exactly if the instruction causes no exception; it then changes
-// only registers of the routine and the bus.
-#[tactic(auto, using(crate::proofs::Executed::routine_done_so, crate::proofs::Executed::routine_not_done_so))]
-fn execute(world: &mut World, at: u32) -> bool
+// access to nothing.
+#[tactic(auto, using(crate::proofs::Executed::routine_instruction_so, crate::proofs::Executed::routine_other_so))]
+fn execute(world: &mut World, at: u32) -> StepKind
     requires active { is_some world.old.watch.level ≡ true }
     requires room { 160 ≤ world.old.out.room }
     ensures world { world_seen ⟦<dyn Device as Device>⟧ world.new
         ≡ routine_word (fetched (bus_of (world_seen ⟦<dyn Device as Device>⟧ world.old)) at)
         (world_seen ⟦<dyn Device as Device>⟧ world.old) }
-    ensures exact { result ≡ completes (fetched (bus_of (world_seen ⟦<dyn Device as Device>⟧ world.old)) at)
+    ensures kind { result ≡ word_kind (fetched (bus_of (world_seen ⟦<dyn Device as Device>⟧ world.old)) at)
         (routine_regs (world_seen ⟦<dyn Device as Device>⟧ world.old))
         (bus_of (world_seen ⟦<dyn Device as Device>⟧ world.old)) }
-    ensures active { result ≡ true → is_some world.new.watch.level ≡ true }
+    ensures active { result ≡ kinds.Instruction → is_some world.new.watch.level ≡ true }
     ensures kern { world.new.kern ≡ world.old.kern }
     ensures objects { world.new.objects ≡ world.old.objects }
     ensures space { KeepsSpace world.old.out world.new.out }
 {
     let Some(word) = world.bus.fetch(at) else {
         give_up(world, Trap::Access);
-        return false;
+        return StepKind::Other;
     };
     match run_word(world, word) {
-        Ok(()) => true,
+        Ok(()) => StepKind::Instruction,
         Err(trap) => {
             give_up(world, trap);
-            false
+            StepKind::Other
         }
     }
 }
 
 /// Makes a step of the active interrupt routine: a call, if it is at a gate, else an instruction.
-/// Returns whether the step was an instruction that caused no exception; if so, the routine is
-/// still active, and the tasks and the objects are as they were.
+/// After an instruction that caused no exception, the routine is still active, and the tasks and the
+/// objects are as they were.
 #[tactic(auto, unfolding(wind_machine::specs::Routine::routine_part))]
-pub fn run_routine(alloc: Global, world: &mut World) -> bool
+pub fn run_routine(alloc: Global, world: &mut World) -> StepKind
     requires active { is_some world.old.watch.level ≡ true }
     requires kept { IsWorld (world_with [] world.old) }
     requires early { IsEarly (world_with [] world.old) }
     requires room { 4096 ≤ world.old.out.room }
     ensures world { world_seen ⟦<dyn Device as Device>⟧ world.new
         ≡ routine_part (world_seen ⟦<dyn Device as Device>⟧ world.old) }
-    ensures active { result ≡ true → is_some world.new.watch.level ≡ true }
-    ensures kern { result ≡ true → world.new.kern ≡ world.old.kern }
-    ensures objects { result ≡ true → world.new.objects ≡ world.old.objects }
+    ensures active { result ≡ kinds.Instruction → is_some world.new.watch.level ≡ true }
+    ensures kern { result ≡ kinds.Instruction → world.new.kern ≡ world.old.kern }
+    ensures objects { result ≡ kinds.Instruction → world.new.objects ≡ world.old.objects }
     ensures space { HoldsSpace world.old.out world.new.out }
 {
     let at = counter(world);
-    match Gate::at(at, GATES_START) {
+    match gate_at(world.board, at) {
         Some(gate) => {
             at_gate(alloc, world, gate);
-            false
+            StepKind::Other
         }
         None => execute(world, at),
     }

@@ -2,7 +2,7 @@
 
 ghost use Rattle.std.specs.Prelude.{◌≡◌, ◌≢◌, ◌+◌, ◌≤◌, [], ◌++◌, List, None, OnOk, OnErr, IfOk, map, drop, length};
 ghost use Rattle.wind_base.specs.OutBuf.{KeepsSpace};
-ghost use Rattle.wind_base.specs.Limits.{longest_line, ram_bytes};
+ghost use Rattle.wind_base.specs.Limits.{longest_line};
 ghost use Rattle.wind_core.specs.State.{Lives};
 ghost use Rattle.shell_parse.specs.Reading.{read_line};
 ghost use Rattle.shell_parse.specs.Trees.{PlainStmt, Nothing, plain_stmt};
@@ -19,7 +19,7 @@ ghost use Rattle.wind_machine.specs.Part.{part_of};
 ghost use Rattle.wind_machine.specs.declared.phase.Phase.TheVariants as phases;
 ghost use Rattle.wind_machine.specs.Shell.{at_prompt, prompted, is_nothing as is_nothing_lem, begun_tree, begun, shell_read, read_text, shell_with, fill_first, returned, eval_state, with_eval, eval_part};
 
-use crate::task::begin_call;
+use crate::shell_task::begin_call;
 use crate::text::{add_fault, add_syntax};
 use kernel_world::World;
 use shell_eval::{Env, Eval, Went, evaluation_law};
@@ -154,7 +154,6 @@ impl Shell {
     pub fn evaluate(&mut self, alloc: Global, world: &mut World) -> Result<(), NoMemory>
         requires phase { self.old.phase ≡ phases.Eval }
         requires pool { world.old.part.end ≤ length world.old.bus.ram.bytes }
-        requires ram { length world.old.bus.ram.bytes ≡ ram_bytes }
         requires live { Lives world.old.kern 1 }
         ensures ok { OnOk result (part_of self.new (world_seen ⟦<dyn Device as Device>⟧ world.new)
             ≡ eval_part self.old.trees (world_seen ⟦<dyn Device as Device>⟧ world.old)) }
@@ -285,6 +284,7 @@ fn go(eval: &mut Eval, world: &mut World) -> Result<Went, NoMemory>
         ≡ world_seen ⟦<dyn Device as Device>⟧ world.old) }
     ensures same { OnErr result (eval.new ≡ eval.old) }
     ensures kern { world.new.kern ≡ world.old.kern }
+    ensures board { world.new.board ≡ world.old.board }
     ensures ram { length world.new.bus.ram.bytes ≡ length world.old.bus.ram.bytes }
     ensures room { OnOk result (kept_free ≤ world.new.out.room) }
     ensures space { HoldsSpace world.old.out world.new.out }

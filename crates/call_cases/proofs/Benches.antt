@@ -2,6 +2,7 @@
 use Rattle.std.proofs.Common.{◌≡◌, ℕ, ◌+◌, ◌*◌, ◌<◌, ◌≤◌, true, false, cond, List, [], ◌∷◌, map, Option, length, refl, sym, ap, subst, ◌∙◌, arith}
 use Rattle.std.specs.List.{All}
 use Rattle.std.proofs.lemmas.List.Elements.{All-cons}
+use Rattle.wind_base.specs.declared.board_kind.BoardKind.{BoardKind}
 use Rattle.wind_base.specs.declared.gate.Gate.{Gate}
 use Rattle.wind_base.specs.declared.profile.Profile.{Profile}
 use Rattle.wind_base.specs.declared.regs.Regs.{Regs}
@@ -42,16 +43,16 @@ abbrev pub Used : WorldState → ℕ → Type 0
 Used w n = IsWorld w × Within n w × (w.kern.next_since ≤ 1 + 1024 * n) × (w.kern.tick ≡ 0) × (w.names ≤ 1 + n) × (w.watch.next_start ≤ 1 + n)
 
 -- no count is above 0 at the start
-opening_within : (slots : List (Option DeviceState)) (profile : Profile) → Within 0 (opening_world slots profile)
+opening_within : (slots : List (Option DeviceState)) (profile : Profile) (board : BoardKind) → Within 0 (opening_world slots profile board)
 unfolding opening_world
-opening_within slots profile = (All-cons (HasCounts 0) _ [] (omega arith, omega arith) (λ i d within. absurd (omega arith)), λ i d within. absurd (omega arith))
+opening_within slots profile board = (All-cons (HasCounts 0) _ [] (omega arith, omega arith) (λ i d within. absurd (omega arith)), λ i d within. absurd (omega arith))
 
-opening_used : (slots : List (Option DeviceState)) (profile : Profile) → Used (opening_world slots profile) 0
+opening_used : (slots : List (Option DeviceState)) (profile : Profile) (board : BoardKind) → Used (opening_world slots profile board) 0
 unfolding opening_world
-opening_used slots profile = (opens slots profile, opening_within slots profile, omega arith, refl, omega arith, omega arith)
+opening_used slots profile board = (opens slots profile board, opening_within slots profile board, omega arith, refl, omega arith, omega arith)
 
-pub used_start : (slots : List (Option DeviceState)) (profile : Profile) (w : WorldState) → w ≡ opening_world slots profile → Used w 0
-used_start slots profile w e = subst (λ v. Used v 0) (sym e) (opening_used slots profile)
+pub used_start : (slots : List (Option DeviceState)) (profile : Profile) (board : BoardKind) (w : WorldState) → w ≡ opening_world slots profile board → Used w 0
+used_start slots profile board w e = subst (λ v. Used v 0) (sym e) (opening_used slots profile board)
 
 used_call : (g : Gate) (w : WorldState) (a : Actor) (n : ℕ) → MayCall w.kern a → Used w n → Used (call g w a) (n + 1)
 used_call g w a n may (kept, within, sinces, count, names, starts) =
@@ -78,10 +79,11 @@ used_regs w k who n regs free e (kept, within, sinces, count, names, starts) =
       record {
         kern = move_keeps w.kern (SetRegs who regs) kept.kern tt;
         home = kept.home;
+        kind = kept.kind;
         objects = objects-move w.kern w.objects kept.kern kept.objects (SetRegs who regs) (tt, free, tt, tt);
         pool = kept.pool;
         stacks = subst (λ s. AreStacks w.part (routine_stack ∷ s)) (sym stacks) kept.stacks;
-        modules = loaded_on w.kern w.part w.modules kept.modules (set_regs w.kern who regs) (omega arith) stacks;
+        modules = loaded_on w.kern w.part w.modules.rows kept.modules (set_regs w.kern who regs) (omega arith) stacks;
         ram = kept.ram;
         symbols = kept.symbols;
         watch = kept.watch;
@@ -111,19 +113,19 @@ sized ram at n bytes size =
 
 used_ram : (w : WorldState) (ram : List ℕ) (n : ℕ) → length ram ≡ length w.ram → Used w n → Used (record w { ram = ram }) n
 used_ram w ram n e (kept, within, sinces, count, names, starts) =
-    (record { kern = kept.kern; home = kept.home; objects = kept.objects; pool = kept.pool; stacks = kept.stacks; modules = kept.modules; ram = e ∙ kept.ram; symbols = kept.symbols; watch = kept.watch; ids = kept.ids }, within, sinces, count, names, starts)
+    (record { kern = kept.kern; home = kept.home; kind = kept.kind; objects = kept.objects; pool = kept.pool; stacks = kept.stacks; modules = kept.modules; ram = e ∙ kept.ram; symbols = kept.symbols; watch = kept.watch; ids = kept.ids }, within, sinces, count, names, starts)
 
 -- other watchdogs, with ids that were handed out
 pub used_watch : (w : WorldState) (s : WatchState) (n : ℕ) → KeepsWatch w.kern.next_id s → s.next_start ≤ 1 + n → Fewer (map watchdog_id s.watchdogs) (map watchdog_id w.watch.watchdogs) → Used w n → Used (record w { watch = s }) n
 used_watch w s n watch starts fewer (kept, within, sinces, count, names, _) =
-    (record { kern = kept.kern; home = kept.home; objects = kept.objects; pool = kept.pool; stacks = kept.stacks; modules = kept.modules; ram = kept.ram; symbols = kept.symbols; watch = watch; ids = ids_watch w kept.ids w.kern s refl (Nothing (omega arith) fewer) }, within, sinces, count, names, starts)
+    (record { kern = kept.kern; home = kept.home; kind = kept.kind; objects = kept.objects; pool = kept.pool; stacks = kept.stacks; modules = kept.modules; ram = kept.ram; symbols = kept.symbols; watch = watch; ids = ids_watch w kept.ids w.kern s refl (Nothing (omega arith) fewer) }, within, sinces, count, names, starts)
 
 -- no watchdog lives, and one's routine is active
-pub used_alarm : (slots : List (Option DeviceState)) (profile : Profile) (w : WorldState) (s : WatchState) → w ≡ opening_world slots profile → IsWatch s → s.watchdogs ≡ [] → s.next_start ≤ 1 → Used (record w { watch = s }) 0
-used_alarm slots profile w s e is none starts =
+pub used_alarm : (slots : List (Option DeviceState)) (profile : Profile) (board : BoardKind) (w : WorldState) (s : WatchState) → w ≡ opening_world slots profile board → IsWatch s → s.watchdogs ≡ [] → s.next_start ≤ 1 → Used (record w { watch = s }) 0
+used_alarm slots profile board w s e is none starts =
     let ids : AllBelow w.kern.next_id s = subst (All (λ (v : Watchdog). v.id < w.kern.next_id)) (sym none) (λ i d within. absurd (omega (arith, within))) in
     used_watch w s 0 (record { watch = is; ids = ids }) starts
-    (subst (λ vs. Fewer (map watchdog_id vs) (map watchdog_id w.watch.watchdogs)) (sym none) (λ n. omega arith)) (used_start slots profile w e)
+    (subst (λ vs. Fewer (map watchdog_id vs) (map watchdog_id w.watch.watchdogs)) (sym none) (λ n. omega arith)) (used_start slots profile board w e)
 
 -- and it has other registers
 pub used_level : (w : WorldState) (s : WatchState) (n : ℕ) → IsWatch s → s.watchdogs ≡ w.watch.watchdogs → s.next_start ≡ w.watch.next_start → Used w n → Used (record w { watch = s }) n

@@ -7,14 +7,13 @@ ghost use Rattle.kernel_world.specs.Actors.{Acts, MayCall};
 use id_table::Ident;
 use isr_watch::{Routine, Watch};
 use kernel_calls::{Called, kernel_call};
-use kernel_world::{Actor, World, is_call, starting_regs};
+use kernel_world::{Actor, World, gate_address, is_call, starting_regs};
 use std::alloc::Global;
 use std::marker::Model;
 use symbol_table::Symbol;
 use task_block::Task;
 use task_calls::end_task;
-use wind_base::limits::GATES_START;
-use wind_base::{Gate, Profile, Regs};
+use wind_base::{BoardKind, Gate, Profile, Regs};
 use wind_core::Kern;
 use wind_outside::Slots;
 
@@ -125,12 +124,12 @@ fn set_level(watch: &mut Watch, regs: Regs)
 }
 
 impl Bench {
-    // The world at the start under profile 1, without devices. `None` if it can't be made, for
+    // The world at the start under profile 1 on board 1, without devices. `None` if it can't be made, for
     // example because memory runs out.
     pub(crate) fn new(alloc: Global) -> Option<Bench> {
         let slots: Slots = Vec::new(alloc);
         let watch = with_routine(alloc)?;
-        let Ok(mut world) = World::boot(alloc, slots, Profile::One) else {
+        let Ok(mut world) = World::boot(alloc, slots, Profile::One, BoardKind::One) else {
             return None;
         };
         world.watch = watch;
@@ -181,7 +180,7 @@ impl Bench {
         frame: u32,
         words: &[u32; 10],
     ) -> Option<Called> {
-        let regs = starting_regs(frame, BACK, gate.address(GATES_START), words);
+        let regs = starting_regs(frame, BACK, gate_address(self.world.board, gate), words);
         match Ident::new(who) {
             Some(id) => {
                 self.set_task(id, regs);

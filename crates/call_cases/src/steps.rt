@@ -3,10 +3,10 @@
 use crate::bench::{BACK, Bench, FRAME, SHELL};
 use crate::looks::{Look, sees};
 use kernel_calls::Called;
+use kernel_world::gate_address;
 use std::alloc::Global;
-use wind_base::Gate;
-use wind_base::limits::GATES_START;
 use wind_base::words::OK;
+use wind_base::{BoardKind, Gate};
 
 // A step. Callers and tasks are given by their ids, and the interrupt routine by 0.
 #[derive(Clone, Copy)]
@@ -97,14 +97,14 @@ fn leaves(alloc: Global, bench: &mut Bench, who: u32) -> bool {
 // Whether a task that wants to delete another pends, and is at the gate of its call.
 fn awaits(alloc: Global, bench: &mut Bench, who: u32, target: u32) -> bool {
     let call = (who, Gate::TaskDelete, FRAME, four([target, 0, 0, 0]));
-    let gate = Gate::TaskDelete.address(GATES_START);
+    let gate = gate_address(BoardKind::One, Gate::TaskDelete);
     call_made(alloc, bench, call) == Some(Made::Pended)
         && bench.standing(who) == Some((gate, target, 0))
 }
 
 // Whether the shell's task needs the file with this name, and is at the gate of its call.
 fn asks(alloc: Global, bench: &mut Bench, words: [u32; 4], name: &[u8]) -> bool {
-    let gate = Gate::Ld.address(GATES_START);
+    let gate = gate_address(BoardKind::One, Gate::Ld);
     match bench.call(alloc, SHELL, Gate::Ld, FRAME, &four(words)) {
         Some(Called::NeedsFile(wanted)) => {
             wanted.bytes() == name && bench.standing(SHELL) == Some((gate, words[0], 0))

@@ -46,17 +46,17 @@ module _ (w : WorldState) (kept : IsWorld w) (n : ℕ) (within : Within n w) (ca
     count = d.count;
     names = omega (arith, d.names);
     starts = omega (arith, d.starts);
-    rule = d.rule;
+    choice = d.choice;
   }
 
   more : Within (n + 1) w
   more = within_more w n (n + 1) (omega arith) within
 
   by_deed : (id : ℕ) (d : Deed) → deed_of w.kern.tasks caller id ≡ d → Says w.kern.tasks caller id d → GoesUnsafe w.kern caller (after w.kern caller d)
-      → KeepsObjects (deletes w.kern w.part caller d).kern w.objects → Serves w (Task caller) (of_deletion w (deletes w.kern w.part caller d)) (n + 1)
+      → KeepsObjects w.board (deletes w.board w.kern w.part caller d).kern w.objects → Serves w (Task caller) (of_deletion w (deletes w.board w.kern w.part caller d)) (n + 1)
   by_deed id (Refuses e) is said goes objects =
       let far = goes_further w.kern (asked w.kern caller) n (n + 1) 0 call_sinces (omega arith) (omega arith) (refuses_goes w.kern n kept.kern within.0 caller e) in
-      served w (Task caller) (of_deletion w (deletes w.kern w.part caller (Refuses e))) (n + 1) (of_tasks w kept n within (asked w.kern caller) far objects)
+      served w (Task caller) (of_deletion w (deletes w.board w.kern w.part caller (Refuses e))) (n + 1) (of_tasks w kept n within (asked w.kern caller) far objects)
   by_deed id (EndsItself count) is said goes objects =
       let j : KernState = after w.kern caller (EndsItself count) in
       let out = departs w j caller (n + 1) 256 kept (itself_leaves w.kern (n + 1) kept.kern more.0 caller count) objects more.1 in
@@ -69,11 +69,11 @@ module _ (w : WorldState) (kept : IsWorld w) (n : ℕ) (within : Within n w) (ca
       let other : who ≡ 1 → ⊥ = λ e. not_shell w.kern.tasks caller id (Removes who) is (λ f x. absurd (cc)) (sym said.0 ∙ e) in
       record { passes = taking (parted w j who) who goes other out; acts = λ stays live. out.lives caller (λ e. said.3 (sym e)) live }
   by_deed id (Awaits who) is said goes objects =
-      let j : KernState = back_at_gate (after w.kern caller (Awaits who)) caller in
-      let far = goes_further w.kern j n (n + 1) 1 call_sinces (omega arith) (omega arith) (awaits_goes w.kern n kept.kern within.0 caller who) in
-      served w (Task caller) (of_deletion w (deletes w.kern w.part caller (Awaits who))) (n + 1) (of_tasks w kept n within j far objects)
+      let j : KernState = back_at_gate w.board (after w.kern caller (Awaits who)) caller in
+      let far = goes_further w.kern j n (n + 1) 1 call_sinces (omega arith) (omega arith) (awaits_goes w.kern n kept.kern within.0 w.board caller who) in
+      served w (Task caller) (of_deletion w (deletes w.board w.kern w.part caller (Awaits who))) (n + 1) (of_tasks w kept n within j far objects)
 
-  pub delete_serves : (id : ℕ) → IsReady w.kern caller → Serves w (Task caller) (of_deletion w (delete_row w.kern w.part (Task caller) id)) (n + 1)
+  pub delete_serves : (id : ℕ) → IsReady w.kern caller → Serves w (Task caller) (of_deletion w (delete_row w.board w.kern w.part (Task caller) id)) (n + 1)
   delete_serves id ready =
       let named : ℕ = meant caller id in
       by_deed named (deed_of w.kern.tasks caller named) refl (deed_says w.kern.tasks caller named) ((who_goes w.kern).deleting caller named)

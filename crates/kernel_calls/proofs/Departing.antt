@@ -4,6 +4,7 @@ use Rattle.std.specs.List.{All, AllPairs}
 use Rattle.std.proofs.lemmas.Bool.{eqb-true, ne_eqb}
 use Rattle.std.proofs.lemmas.List.Elements.{All-weaker, All-head, All-tail, All-cons}
 use Rattle.std.proofs.lemmas.List.Kept.{AllPairs-cons}
+use Rattle.wind_base.specs.declared.board_kind.BoardKind.{BoardKind}
 use Rattle.mem_partition.specs.State.{PartState, own_block, after_free}
 use Rattle.mem_partition.specs.declared.block.Class.TheVariants.{Kernel}
 use Rattle.task_block.specs.declared.task.Task.{Task}
@@ -14,7 +15,7 @@ use Rattle.wind_lists.specs.Records.{without}
 use Rattle.wind_core.specs.State.{KernState, Lives, task_id, task_of}
 use Rattle.wind_core.specs.Moves.{remove}
 use Rattle.wind_core.proofs.Ids.{ids, lives_by}
-use Rattle.kernel_world.specs.State.{WorldState}
+use Rattle.kernel_world.specs.State.{WorldState, choice_of}
 use Rattle.kernel_world.specs.Objects.{KeepsObjects, DepthsWithin}
 use Rattle.task_calls.specs.Ending.{without_stack, unguarded}
 use Rattle.kernel_world.specs.Kept.{Stack, stack_of, routine_stack, IsStack, AreApart, KeepsPool, AreStacks, KeepsLoaded, task_stacks, IsWorld, Within, ReservedBy}
@@ -144,7 +145,7 @@ loaded_left k p ms kept who o e j more same = record {
         let none : IsNoModules ms (stack_of t) = of_found (IsNoModules ms) k.tasks who t others found in
         kernels-other p t.stack a (λ is. (let zero : occurs a (held_by ms) ≡ 0 = subst (λ x. occurs x (held_by ms) ≡ 0) (sym is) none in omega (arith, some, zero)))
 
-pool_left : (p : PartState) (o : Option Task) → KeepsPool p → KeepsPool (without_stack p o)
+pool_left : {board : BoardKind} (p : PartState) (o : Option Task) → KeepsPool board p → KeepsPool board (without_stack p o)
 pool_left p None k = k
 pool_left p (Some t) k = pool-free p t.stack Kernel k
 
@@ -159,23 +160,24 @@ pub record Departs (w v : WorldState) (who n d : ℕ) : Type 0 where
   pub count : v.kern.tick ≡ w.kern.tick
   pub names : v.names ≡ w.names
   pub starts : v.watch.next_start ≡ w.watch.next_start
-  pub rule : v.objects.mutexes.profile ≡ w.objects.mutexes.profile
+  pub choice : choice_of v ≡ choice_of w
 
 -- the world after that: the task's stack is freed
 abbrev pub parted : WorldState → KernState → ℕ → WorldState
 parted w j who = record w { kern = j; part = without_stack w.part (task_of w.kern.tasks who) }
 
-pub departs : (w : WorldState) (j : KernState) (who n d : ℕ) → IsWorld w → Leaves w.kern j who n d → KeepsObjects j w.objects → DepthsWithin n w.objects → Departs w (parted w j who) who n d
+pub departs : (w : WorldState) (j : KernState) (who n d : ℕ) → IsWorld w → Leaves w.kern j who n d → KeepsObjects w.board j w.objects → DepthsWithin n w.objects → Departs w (parted w j who) who n d
 departs w j who n d kept l objects depths =
     let part : PartState = without_stack w.part (task_of w.kern.tasks who) in
     record {
       kept = record {
         kern = l.kern;
         home = l.lent ∙ kept.home;
+        kind = kept.kind;
         objects = objects;
         pool = pool_left w.part (task_of w.kern.tasks who) kept.pool;
         stacks = subst (λ s. AreStacks part (routine_stack ∷ s)) (sym l.stacks) (stacks_left w.part w.kern.tasks who (task_of w.kern.tasks who) refl kept.stacks);
-        modules = loaded_left w.kern w.part w.modules kept.modules who (task_of w.kern.tasks who) refl j l.next l.stacks;
+        modules = loaded_left w.kern w.part w.modules.rows kept.modules who (task_of w.kern.tasks who) refl j l.next l.stacks;
         ram = kept.ram;
         symbols = kept.symbols;
         watch = watch_on w.kern.next_id j.next_id w.watch l.next kept.watch;
@@ -189,11 +191,11 @@ departs w j who n d kept l objects depths =
       count = l.count;
       names = refl;
       starts = refl;
-      rule = refl;
+      choice = refl;
     }
 
 pub ends : EndLaw
 ends w who n kept within =
     let j : KernState = remove (unguarded w.kern who) who in
     let d = departs w j who n 256 kept (ended_leaves w.kern n kept.kern within.0 who) (objects-ended w.kern w.objects kept.kern kept.objects who) within.1 in
-    record { kept = d.kept; lives = d.lives; within = d.within; reserves = d.reserves; sinces = omega (arith, d.sinces); count = d.count; names = d.names; starts = d.starts; rule = d.rule }
+    record { kept = d.kept; lives = d.lives; within = d.within; reserves = d.reserves; sinces = omega (arith, d.sinces); count = d.count; names = d.names; starts = d.starts; choice = d.choice }

@@ -1,12 +1,14 @@
 -- The results of the rows of some calls.
-use Rattle.std.proofs.Common.{◌≡◌, List, ℕ, Option, None, Some, refl, sym, ap, ◌∙◌}
+use Rattle.std.proofs.Common.{◌≡◌, List, ℕ, Option, None, Some, Result, Ok, Err, refl, sym, ap, ◌∙◌}
+use Rattle.std.specs.Prelude.{IfOk}
+use Rattle.wind_base.specs.declared.NoMemory.{NoMemory}
 use Rattle.task_block.specs.declared.task.Task.{Task as TaskRecord}
 use Rattle.board_mem.specs.Memory.{string_at}
 use Rattle.wind_core.specs.State.{KernState, task_named}
 use Rattle.msg_queue.specs.State.{scene}
 use Rattle.kernel_world.specs.State.{WorldState}
 use Rattle.object_calls.specs.QueueRows.{QueueRow, row_of as queue_row, create_row}
-use Rattle.kernel_calls.specs.Calls.{with_reply, of_kern, of_queues, scene_of, row}
+use Rattle.kernel_calls.specs.Calls.{with_reply, of_kern, of_queues, row}
 use Rattle.task_calls.specs.TaskRows.{name_row, found_row}
 use Rattle.kernel_world.specs.declared.objects.Objects.{Objects}
 use Rattle.kernel_world.specs.declared.actor.Actor.{Actor}
@@ -15,12 +17,14 @@ use Rattle.kernel_world.specs.declared.call.Call.TheVariants as calls
 use Rattle.kernel_world.specs.declared.reply.Reply.{Reply}
 
 -- msgQCreate: the kernel's objects stay, except for the queues
-pub created : (w : WorldState) (k : KernState) (o : Objects) (reply : Reply) (max_msgs max_len options : ℕ)
-    → queue_row (scene k o.queues w.ram) reply ≡ create_row (scene_of w) max_msgs max_len options → o ≡ record w.objects { queues = o.queues }
-    → with_reply (record w { kern = k; objects = o }) reply ≡ of_queues w (create_row (scene_of w) max_msgs max_len options)
-created w k o reply max_msgs max_len options e rest =
+pub created : (c : Call) (w : WorldState) (a : Actor) (k : KernState) (o : Objects) (max_msgs max_len options : ℕ) (result : Result Reply NoMemory) → c ≡ calls.MsgQCreate max_msgs max_len options
+    → IfOk result (λ r. (ram : List ℕ) → queue_row (scene k o.queues ram) r ≡ create_row (scene w.kern w.objects.queues ram) max_msgs max_len options)
+    → o ≡ record w.objects { queues = o.queues } → IfOk result (λ r. with_reply (record w { kern = k; objects = o }) r ≡ row c w a)
+created c w a k o max_msgs max_len options (Ok reply) is made rest =
     ap (λ (p : Objects). with_reply (record w { kern = k; objects = p }) reply) rest
-    ∙ ap (λ (x : QueueRow). of_queues w x) e
+    ∙ ap (λ (x : QueueRow). of_queues w x) (made w.ram)
+    ∙ ap (λ d. row d w a) (sym is)
+created c w a k o max_msgs max_len options (Err e) is made rest = tt
 
 -- ---- taskNameToId: it changes nothing
 pub named : (c : Call) (w : WorldState) (a : Actor) (name : ℕ) (reply : Reply) → c ≡ calls.TaskNameToId name → reply ≡ (name_row w.kern (string_at w.ram name)).reply → with_reply w reply ≡ row c w a

@@ -15,14 +15,14 @@ use Rattle.wind_core.specs.Moves.{live_id}
 use Rattle.kernel_world.specs.State.{WorldState}
 use Rattle.kernel_world.specs.Objects.{KeepsObjects, DepthsWithin}
 use Rattle.kernel_world.specs.Actors.{Acts, MayCall, caller_words, target}
-use Rattle.task_calls.specs.TaskRows.{KernRow}
+use Rattle.task_calls.specs.TaskRows.{KernRow, ram_row, task_at, priority_in}
 use Rattle.task_calls.specs.SafetyRows.{delete_row}
 use Rattle.object_calls.specs.SemRows.{ObjectRow, is_mutex}
 use Rattle.object_calls.specs.QueueRows.{QueueRow, sending}
 use Rattle.object_calls.specs.WatchRows.{WatchRow, routine_of}
 use Rattle.kernel_calls.specs.ShowRows.{ShowRow}
 use Rattle.task_calls.specs.Spawning.{spawned_if, task_wanted, quick_wanted, quick_text, after_spawn, spawn_state}
-use Rattle.kernel_calls.specs.Calls.{priority_in, with_reply, of_kern, of_objects, scene_of, of_queues, of_watch, of_text, of_deletion, task_at, row_of, refusal_before, row_unless, made, call}
+use Rattle.kernel_calls.specs.Calls.{with_reply, of_kern, of_objects, scene_of, of_queues, of_watch, of_text, of_deletion, of_ram, row_of, refusal_before, row_unless, made, call}
 use Rattle.kernel_world.specs.CallWords.{ten_arguments, quick_arguments, call_of}
 use Rattle.kernel_world.specs.Replies.{left_gate}
 use Rattle.kernel_world.specs.Kept.{IsWorld, Within, call_sinces}
@@ -55,17 +55,17 @@ use Rattle.object_calls.proofs.RowIds.{NoneComes, Comes, binary_comes, counting_
 use Rattle.object_calls.proofs.Depths.{binary_depths, counting_depths, mutex_depths, take_depths, give_depths, flush_depths, delete_depths, priority_depths}
 
 -- a deletion by any caller
-delete_row_serves : (w : WorldState) (kept : IsWorld w) (n : ℕ) (within : Within n w) (a : Actor) (id : ℕ) → MayCall w.kern a → Serves w a (of_deletion w (delete_row w.kern w.part a id)) (n + 1)
+delete_row_serves : (w : WorldState) (kept : IsWorld w) (n : ℕ) (within : Within n w) (a : Actor) (id : ℕ) → MayCall w.kern a → Serves w a (of_deletion w (delete_row w.board w.kern w.part a id)) (n + 1)
 delete_row_serves w kept n within (Task who) id may = delete_serves w kept n within who id may
-delete_row_serves w kept n within Interrupt id may = served w Interrupt (of_deletion w (delete_row w.kern w.part Interrupt id)) (n + 1) (nowhere w kept n within)
+delete_row_serves w kept n within Interrupt id may = served w Interrupt (of_deletion w (delete_row w.board w.kern w.part Interrupt id)) (n + 1) (nowhere w kept n within)
 
 -- a priority that is reported
 module _ (w : WorldState) (kept : IsWorld w) (n : ℕ) (within : Within n w) where
-  told_advances : (at : ℕ) (o : Option TaskRecord) → Advances w (priority_in w at o).world (n + 1) call_sinces 1
+  told_advances : (at : ℕ) (o : Option TaskRecord) → Advances w (of_ram w (priority_in w.ram at o)).world (n + 1) call_sinces 1
   told_advances at None = nowhere w kept n within
   told_advances at (Some t) = go (has w.ram at 4) refl where
     go : (b : Bool) → has w.ram at 4 ≡ b
-        → Advances w (cond b (with_reply (record w { ram = with_word w.ram at t.pri }) (Answer 0)) (with_reply w (Refusal errors.BadAddress))).world (n + 1) call_sinces 1
+        → Advances w (of_ram w (cond b (ram_row (with_word w.ram at t.pri) (Answer 0)) (ram_row w.ram (Refusal errors.BadAddress)))).world (n + 1) call_sinces 1
     go true e = of_memory w kept n within (with_word w.ram at t.pri) (length-with_number 4 w.ram at t.pri e)
     go false e = nowhere w kept n within
 
@@ -75,7 +75,7 @@ module _ (w : WorldState) (kept : IsWorld w) (n : ℕ) (within : Within n w) (a 
   idle : (reply : Reply) → Serves w a (with_reply w reply) (n + 1)
   idle reply = served w a (with_reply w reply) (n + 1) (nowhere w kept n within)
 
-  of_kern_row : (r : KernRow) → Goes w.kern r.kern (n + 1) call_sinces → KeepsObjects r.kern w.objects → Serves w a (of_kern w r) (n + 1)
+  of_kern_row : (r : KernRow) → Goes w.kern r.kern (n + 1) call_sinces → KeepsObjects w.board r.kern w.objects → Serves w a (of_kern w r) (n + 1)
   of_kern_row r g objects = served w a (of_kern w r) (n + 1) (of_tasks w kept n within r.kern g objects)
 
   -- an owner of a mutex: nobody, or a task whose id no object has
@@ -86,17 +86,17 @@ module _ (w : WorldState) (kept : IsWorld w) (n : ℕ) (within : Within n w) (a 
   tasks_may = tasks_own w kept.ids
 
   -- at most one object is added, with the next id
-  of_object_row : (r : ObjectRow) → Goes w.kern r.kern (n + 1) call_sinces → KeepsObjects r.kern r.objects → DepthsWithin (n + 1) r.objects → Comes w.kern w.objects r
+  of_object_row : (r : ObjectRow) → Goes w.kern r.kern (n + 1) call_sinces → KeepsObjects w.board r.kern r.objects → DepthsWithin (n + 1) r.objects → Comes w.kern w.objects r
       → All (λ m. MayOwn m.1.owner) r.objects.mutexes.rows → Serves w a (of_objects w r) (n + 1)
   of_object_row r g objects depths comes owners =
       served w a (of_objects w r) (n + 1) (of_both w kept n within r.kern r.objects g objects depths (ids_objects w kept.ids r.kern r.objects g.alone comes.0 owners) comes.1)
 
   -- no object is added
-  of_still_row : (r : ObjectRow) → Goes w.kern r.kern (n + 1) call_sinces → KeepsObjects r.kern r.objects → DepthsWithin (n + 1) r.objects → NoneComes w.objects r.objects
+  of_still_row : (r : ObjectRow) → Goes w.kern r.kern (n + 1) call_sinces → KeepsObjects w.board r.kern r.objects → DepthsWithin (n + 1) r.objects → NoneComes w.objects r.objects
       → All (λ m. MayOwn m.1.owner) r.objects.mutexes.rows → Serves w a (of_objects w r) (n + 1)
   of_still_row r g objects depths stays owners = of_object_row r g objects depths (Nothing g.next stays.0, stays.1) owners
 
-  of_queue_row : (r : QueueRow) → IsNear (scene_of w) n kept.kern within.0 r.scene → KeepsObjects r.scene.kern (record w.objects { queues = r.scene.queues })
+  of_queue_row : (r : QueueRow) → IsNear (scene_of w) n kept.kern within.0 r.scene → KeepsObjects w.board r.scene.kern (record w.objects { queues = r.scene.queues })
       → Given w.kern.next_id r.scene.kern.next_id (ids w.objects.queues.queues) (ids r.scene.queues.queues) → Serves w a (of_queues w r) (n + 1)
   of_queue_row r near objects given =
       served w a (of_queues w r) (n + 1) (of_scene w kept n within r.scene near.0 near.1 objects

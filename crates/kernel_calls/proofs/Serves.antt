@@ -34,7 +34,7 @@ passes_by w v a n d m g = record {
   count = g.count;
   names = g.names;
   starts = g.starts;
-  rule = g.rule;
+  choice = g.choice;
 }
 
 pub served : (w : WorldState) (a : Actor) (r : Row) (n : ℕ) → Advances w r.world n call_sinces 1 → Serves w a r n
@@ -52,7 +52,7 @@ passes_behind w v u a l n d m g safes p = record {
   shell = λ live. p.shell (g.lives 1 live);
   within = p.within;
   last = p.last ∙ g.last;
-  rule = p.rule ∙ g.rule;
+  choice = p.choice ∙ g.choice;
   reserves = λ who h. p.reserves who (g.reserves who h);
   sinces = omega (arith, g.sinces, p.sinces);
   count = p.count ∙ g.count;
@@ -68,7 +68,7 @@ passes_before w v u a l n d m p g = record {
   shell = λ live. g.lives 1 (p.shell live);
   within = g.within;
   last = g.last ∙ p.last;
-  rule = g.rule ∙ p.rule;
+  choice = g.choice ∙ p.choice;
   reserves = λ who h. g.reserves who (p.reserves who h);
   sinces = omega (arith, g.sinces, p.sinces);
   count = g.count ∙ p.count;

@@ -1,15 +1,16 @@
 -- The caller of a call lives on until it is answered, unless it has ended, and the world keeps its invariant.
-use Rattle.std.proofs.Common.{◌≡◌, ◌≢◌, ◌+◌, ◌^◌, true, false, not, ◌&&◌, cond, None, Some, refl, ap, ◌∙◌, sym, subst}
+use Rattle.std.proofs.Common.{◌≡◌, ◌≢◌, ◌+◌, ◌<◌, ◌^◌, true, false, not, ◌&&◌, cond, None, Some, refl, ap, ◌∙◌, sym, subst}
 use Rattle.wind_base.specs.declared.gate.Gate.{Gate}
 use Rattle.module_loader.specs.Holding.{AreHeld}
 use Rattle.wind_base.specs.declared.gate.Gate.TheVariants as gates
 use Rattle.wind_base.specs.declared.errno.Errno.TheVariants as errors
 use Rattle.wind_core.specs.State.{Lives}
+use Rattle.msg_queue.specs.Kept.{IsKept}
 use Rattle.kernel_world.specs.State.{WorldState}
 use Rattle.kernel_world.specs.Objects.{KeepsObjects}
 use Rattle.kernel_world.specs.Actors.{is_interrupt, Acts, MayCall, shell_id}
 use Rattle.kernel_world.specs.Kept.{KeepsWatch, IsWorld, IsEarly}
-use Rattle.kernel_calls.specs.Calls.{Row, with_reply, refusal_before, made}
+use Rattle.kernel_calls.specs.Calls.{Row, scene_of, with_reply, refusal_before, made}
 use Rattle.kernel_world.specs.Replies.{left_gate, replied}
 use Rattle.kernel_world.specs.Allowed.{is_isr_callable, is_shells_own, may_lack_memory}
 use Rattle.kernel_world.specs.declared.actor.Actor.{Actor}
@@ -22,11 +23,21 @@ use Rattle.kernel_world.proofs.Replying.{left_advances, replied_advances}
 use Rattle.kernel_world.proofs.Early.{early_within}
 
 -- the objects keep their invariant after the gate
-pub left_objects : (w : WorldState) (a : Actor) → IsWorld w → MayCall w.kern a → IsEarly w → KeepsObjects (left_gate w a).kern (left_gate w a).objects
+pub left_objects : (w : WorldState) (a : Actor) → IsWorld w → MayCall w.kern a → IsEarly w → KeepsObjects (left_gate w a).board (left_gate w a).kern (left_gate w a).objects
 left_objects w a kept may early = (left_advances w kept (2 ^ 60) (early_within w early) a may).kept.objects
 
+-- the pool ends within 32-bit addresses
+pub left_end : (w : WorldState) (a : Actor) → IsWorld w → MayCall w.kern a → IsEarly w → (left_gate w a).part.end < 2 ^ 32
+left_end w a kept may early = (left_advances w kept (2 ^ 60) (early_within w early) a may).kept.pool.blocks.bound
+
+-- so do the queues
+pub left_queues : (w : WorldState) (a : Actor) → IsWorld w → MayCall w.kern a → IsEarly w → IsKept (scene_of (left_gate w a))
+left_queues w a kept may early =
+    let there = (left_advances w kept (2 ^ 60) (early_within w early) a may).kept in
+    there.objects.queues (left_gate w a).ram there.ram
+
 -- so do the modules
-pub left_modules : (w : WorldState) (a : Actor) → IsWorld w → MayCall w.kern a → IsEarly w → AreHeld (left_gate w a).modules (left_gate w a).part
+pub left_modules : (w : WorldState) (a : Actor) → IsWorld w → MayCall w.kern a → IsEarly w → AreHeld (left_gate w a).modules.rows (left_gate w a).part
 left_modules w a kept may early = (left_advances w kept (2 ^ 60) (early_within w early) a may).kept.modules.held
 
 -- so have the watchdogs

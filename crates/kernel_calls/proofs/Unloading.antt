@@ -8,6 +8,7 @@ use Rattle.std.proofs.lemmas.List.{length-reverse, get_or-reverse}
 use Rattle.std.proofs.lemmas.List.Elements.{All-weaker, All-filter, All-head, All-tail}
 use Rattle.std.proofs.lemmas.List.Kept.{AllPairs-filter}
 use Rattle.std.proofs.lemmas.Option.{same_Some}
+use Rattle.wind_base.specs.declared.board_kind.BoardKind.{BoardKind}
 use Rattle.id_table.specs.Rows.{object_of, without}
 use Rattle.board_mem.specs.Memory.{string_at}
 use Rattle.mem_partition.specs.State.{PartState, after_free}
@@ -67,11 +68,11 @@ meant_lives ms ram x id e =
     ] refl e
 
 -- ---- its blocks are freed
-pool_without : (gs : List Segment) (p : PartState) → KeepsPool p → KeepsPool (without_all p gs)
-pool_without [] p k = k
-pool_without (g ∷ gs) p k =
+pool_without : {board : BoardKind} (gs : List Segment) (p : PartState) → KeepsPool board p → KeepsPool board (without_all p gs)
+pool_without {board} [] p k = k
+pool_without {board} (g ∷ gs) p k =
     pool_without gs (without_segment p g)
-    (elim (eqb g.size 0) as (λ b. KeepsPool (cond b p (after_free p g.addr Kernel))) [ true ↦ k | false ↦ pool-free p g.addr Kernel k ])
+    (elim (eqb g.size 0) as (λ b. KeepsPool board (cond b p (after_free p g.addr Kernel))) [ true ↦ k | false ↦ pool-free p g.addr Kernel k ])
 
 module _ (k : KernState) (p : PartState) (ms : List (ℕ × LoadedModule)) (kept : KeepsLoaded k p ms) (id : ℕ) (m : LoadedModule) (live : object_of ms id ≡ Some m) where
   -- the freed blocks are no stacks
@@ -107,16 +108,16 @@ few_symbols id (s ∷ ss) =
 
 -- ---- the row
 module _ (w : WorldState) (kept : IsWorld w) (n : ℕ) (within : Within n w) where
-  by_live : (id : ℕ) (o : Option LoadedModule) → object_of w.modules id ≡ o → IsSome o
-      → Advances w (record w { symbols = without_group id w.symbols; modules = without w.modules id; part = without_segments w.part o }) (n + 1) call_sinces 1
+  by_live : (id : ℕ) (o : Option LoadedModule) → object_of w.modules.rows id ≡ o → IsSome o
+      → Advances w (record w { symbols = without_group id w.symbols; modules = record w.modules { rows = without w.modules.rows id }; part = without_segments w.part o }) (n + 1) call_sinces 1
   by_live id None e live = absurd (cc)
   by_live id (Some m) e live =
-      of_unload w kept n within (without_group id w.symbols) (without w.modules id) (without_all w.part m.segments) (omega (arith, few_symbols id w.symbols, kept.symbols))
-      (pool_without m.segments w.part kept.pool) (stacks_without w.kern w.part w.modules kept.modules id m e kept.stacks) (loaded_without w.kern w.part w.modules kept.modules id m e) (fewer_without w.modules id)
+      of_unload w kept n within (without_group id w.symbols) (without w.modules.rows id) (without_all w.part m.segments) (omega (arith, few_symbols id w.symbols, kept.symbols))
+      (pool_without m.segments w.part kept.pool) (stacks_without w.kern w.part w.modules.rows kept.modules id m e kept.stacks) (loaded_without w.kern w.part w.modules.rows kept.modules id m e) (fewer_without w.modules.rows id)
 
-  by_meant : (x : ℕ) (o : Option ℕ) → meant_module w.modules w.ram x ≡ o → Advances w (of_modules w (unload_meant w.symbols w.modules w.part o)).world (n + 1) call_sinces 1
+  by_meant : (x : ℕ) (o : Option ℕ) → meant_module w.modules.rows w.ram x ≡ o → Advances w (of_modules w (unload_meant w.symbols w.modules.rows w.part o)).world (n + 1) call_sinces 1
   by_meant x None e = nowhere w kept n within
-  by_meant x (Some id) e = by_live id (object_of w.modules id) refl (meant_lives w.modules w.ram x id e)
+  by_meant x (Some id) e = by_live id (object_of w.modules.rows id) refl (meant_lives w.modules.rows w.ram x id e)
 
-  pub unload_advances : (x : ℕ) → Advances w (of_modules w (unload_row w.symbols w.modules w.part w.ram x)).world (n + 1) call_sinces 1
-  unload_advances x = by_meant x (meant_module w.modules w.ram x) refl
+  pub unload_advances : (x : ℕ) → Advances w (of_modules w (unload_row w.symbols w.modules.rows w.part w.ram x)).world (n + 1) call_sinces 1
+  unload_advances x = by_meant x (meant_module w.modules.rows w.ram x) refl

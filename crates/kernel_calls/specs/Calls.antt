@@ -4,9 +4,7 @@ use Rattle.wind_base.specs.Limits.{ok_word, longest_name}
 use Rattle.wind_base.specs.declared.gate.Gate.{Gate}
 use Rattle.wind_base.specs.declared.errno.Errno.{Errno}
 use Rattle.wind_base.specs.declared.errno.Errno.TheVariants as errors
-use Rattle.task_block.specs.declared.task.Task.{Task as TaskRecord}
-use Rattle.board_mem.specs.Memory.{has, with_word, string_at}
-use Rattle.wind_core.specs.State.{KernState, task_of}
+use Rattle.board_mem.specs.Memory.{string_at}
 use Rattle.wind_core.specs.Moves.{live_id}
 use Rattle.msg_queue.specs.State.{Scene, scene}
 use Rattle.kernel_world.specs.State.{WorldState}
@@ -22,11 +20,11 @@ use Rattle.kernel_world.specs.declared.reply.Reply.TheVariants.{Answer, Refusal,
 use Rattle.object_calls.specs.SemRows as sem
 use Rattle.object_calls.specs.QueueRows as queue
 use Rattle.object_calls.specs.WatchRows as watch
-use Rattle.task_calls.specs.TaskRows.{KernRow, suspend_row, resume_row, delay_row, lock_row, unlock_row, self_row, verify_row, name_row, slice_row, tick_row, int_lock_row, int_unlock_row, int_context_row}
+use Rattle.task_calls.specs.TaskRows.{KernRow, RamRow, task_at, priority_in, suspend_row, resume_row, delay_row, lock_row, unlock_row, self_row, verify_row, name_row, slice_row, tick_row, int_lock_row, int_unlock_row, int_context_row}
 use Rattle.task_calls.specs.SafetyRows.{DeleteRow, safe_row, unsafe_row, delete_row}
 use Rattle.task_calls.specs.MemoryRows.{PartRow, malloc_row, align_row, free_row}
 use Rattle.task_calls.specs.SymbolRows.{SymbolRow, symbol_row}
-use Rattle.task_calls.specs.Spawning.{SpawnRow, spawn_state, after_spawn, spawned_if, task_wanted, quick_wanted, quick_text}
+use Rattle.task_calls.specs.Spawning.{SpawnRow, spawn_state, after_spawn, after_quick, spawned_if, task_wanted, quick_wanted}
 use Rattle.kernel_calls.specs.ShowRows as show
 use Rattle.kernel_calls.specs.ModuleRows.{ModuleRow, unload_row}
 use Rattle.kernel_calls.specs.declared.calls.Called.{Called}
@@ -40,7 +38,7 @@ pub record Row : Type 0 where
 abbrev pub with_reply : WorldState → Reply → Row
 with_reply w r = record { world = w; reply = r }
 
--- the world and the reply after a row of one kind: of tasks, objects, queues, watchdogs, texts, a deletion, the
+-- the world and the reply after a row of one kind: of tasks, objects, queues, watchdogs, texts, a deletion, RAM, the
 -- partition, symbols
 abbrev pub of_kern : WorldState → KernRow → Row
 of_kern w r = with_reply (record w { kern = r.kern }) r.reply
@@ -63,43 +61,34 @@ of_text w r = with_reply (record w { output = w.output ++ r.text }) r.reply
 abbrev pub of_deletion : WorldState → DeleteRow → Row
 of_deletion w r = with_reply (record w { kern = r.kern; part = r.part }) r.reply
 
+abbrev pub of_ram : WorldState → RamRow → Row
+of_ram w r = with_reply (record w { ram = r.ram }) r.reply
+
 abbrev pub of_part : WorldState → PartRow → Row
 of_part w r = with_reply (record w { part = r.part }) r.reply
 
 abbrev pub of_symbols : WorldState → SymbolRow → Row
 of_symbols w r = with_reply (record w { symbols = r.symbols }) r.reply
 
--- the same of an unload, and of a spawn
+-- the same of an unload, and of a spawn by taskSpawn or sp
 abbrev pub of_modules : WorldState → ModuleRow → Row
-of_modules w r = with_reply (record w { symbols = r.symbols; modules = r.modules; part = r.part }) r.reply
+of_modules w r = with_reply (record w { symbols = r.symbols; modules = record w.modules { rows = r.modules }; part = r.part }) r.reply
 
 abbrev pub of_spawn : WorldState → SpawnRow → Row
 of_spawn w r = with_reply (after_spawn w r.after) r.reply
 
--- sp also writes the line that reports the task
 abbrev pub of_quick : WorldState → SpawnRow → Row
-of_quick w r = with_reply (record (after_spawn w r.after) { output = w.output ++ quick_text w.names r.reply }) r.reply
-
--- taskPriorityGet: the priority goes to a word of RAM
-abbrev pub priority_in : WorldState → ℕ → Option TaskRecord → Row
-priority_in w at None = with_reply w (Refusal errors.ObjIdError)
-priority_in w at (Some t) =
-    if has w.ram at 4 then with_reply (record w { ram = with_word w.ram at t.pri }) (Answer ok_word)
-    else with_reply w (Refusal errors.BadAddress)
-
-abbrev pub task_at : KernState → Option ℕ → Option TaskRecord
-task_at k None = None
-task_at k (Some id) = task_of k.tasks id
+of_quick w r = with_reply (after_quick w r) r.reply
 
 -- the row of a call; ld comes to its row only if it needs no file, because the file's name can't be read
 abbrev pub row : Call → WorldState → Actor → Row
 row (calls.TaskSpawn name priority options stack_size entry arguments) w a = of_spawn w (spawned_if (spawn_state w) (task_wanted w.ram name priority stack_size entry arguments))
 row (calls.Sp entry arguments) w a = of_quick w (spawned_if (spawn_state w) (quick_wanted entry arguments))
-row (calls.TaskDelete id) w a = of_deletion w (delete_row w.kern w.part a id)
+row (calls.TaskDelete id) w a = of_deletion w (delete_row w.board w.kern w.part a id)
 row (calls.TaskSuspend id) w a = of_kern w (suspend_row w.kern (target w.kern a id))
 row (calls.TaskResume id) w a = of_kern w (resume_row w.kern (target w.kern a id))
 row (calls.TaskPrioritySet id priority) w a = of_objects w (sem.priority_row w.kern w.objects priority (target w.kern a id))
-row (calls.TaskPriorityGet id address) w a = priority_in w address (task_at w.kern (target w.kern a id))
+row (calls.TaskPriorityGet id address) w a = of_ram w (priority_in w.ram address (task_at w.kern (target w.kern a id)))
 row (calls.TaskDelay ticks) w a = of_kern w (delay_row w.kern a ticks)
 row calls.TaskLock w a = of_kern w (lock_row w.kern a)
 row calls.TaskUnlock w a = of_kern w (unlock_row w.kern a)
@@ -138,9 +127,9 @@ row calls.ErrnoGet w a = with_reply w (Answer (errno_of w a))
 row (calls.ErrnoSet number) w a = with_reply (with_errno w a number) (Answer ok_word)
 row calls.I w a = of_text w (show.tasks_row w.kern)
 row (calls.Ld symbols no_abort name) w a = with_reply w (Refusal errors.BadAddress)
-row (calls.Unld which options) w a = of_modules w (unload_row w.symbols w.modules w.part w.ram which)
+row (calls.Unld which options) w a = of_modules w (unload_row w.symbols w.modules.rows w.part w.ram which)
 row (calls.Lkup text) w a = of_text w (show.lookup_row w.symbols w.ram text)
-row calls.ModuleShow w a = of_text w (show.modules_row w.modules)
+row calls.ModuleShow w a = of_text w (show.modules_row w.modules.rows)
 row (calls.D address units width) w a = of_text w (show.dump_row w.ram address units width)
 
 -- the row of the call at a gate; if the gate has no call, nothing happens

@@ -1,10 +1,11 @@
 -- What follows from the definitions of the calls alone.
 use Rattle.std.specs.Prelude.{◌≡◌, ℕ, ◌+◌, ◌≤◌, ◌⊎◌, List, Option}
+use Rattle.wind_base.specs.declared.board_kind.BoardKind.{BoardKind}
 use Rattle.wind_base.specs.declared.gate.Gate.{Gate}
 use Rattle.wind_outside.specs.Devices.{DeviceState}
 use Rattle.wind_core.specs.State.{Lives, task_of}
 use Rattle.task_safety.specs.Safety.{safe_of}
-use Rattle.kernel_world.specs.State.{WorldState}
+use Rattle.kernel_world.specs.State.{WorldState, choice_of}
 use Rattle.kernel_world.specs.Actors.{MayCall, shell_id}
 use Rattle.kernel_calls.specs.Calls.{call}
 use Rattle.task_calls.specs.Ending.{ended}
@@ -20,8 +21,8 @@ OnlyUnsafeGo w a v = (id : ℕ) → Lives w.kern id → (Lives v.kern id → ⊥
 
 -- from one world to another within one call: the invariant holds; no safe task but the caller is gone, and the
 -- shell's task lives on; counts stay within n; no task has a reservation that had none; the tick count is the same;
--- at most d order numbers, m numbers for names and m numbers for starts of watchdogs were handed out; the rule of
--- inheritance is the same
+-- at most d order numbers, m numbers for names and m numbers for starts of watchdogs were handed out; what was
+-- chosen at the start is the same
 pub record Passes (w v : WorldState) (a : Actor) (n d m : ℕ) : Type 0 where
   pub kept : IsWorld v
   pub gone : OnlyUnsafeGo w a v
@@ -33,11 +34,11 @@ pub record Passes (w v : WorldState) (a : Actor) (n d m : ℕ) : Type 0 where
   pub count : v.kern.tick ≡ w.kern.tick
   pub names : v.names ≤ w.names + m
   pub starts : v.watch.next_start ≤ w.watch.next_start + m
-  pub rule : v.objects.mutexes.profile ≡ w.objects.mutexes.profile
+  pub choice : choice_of v ≡ choice_of w
 
--- the world at the start has the invariant, under either rule of inheritance
+-- the world at the start has the invariant, under either rule of inheritance, on either board
 abbrev pub OpeningLaw : Type 0
-OpeningLaw = (slots : List (Option DeviceState)) (profile : Profile) → IsWorld (opening_world slots profile)
+OpeningLaw = (slots : List (Option DeviceState)) (profile : Profile) (board : BoardKind) → IsWorld (opening_world slots profile board)
 
 -- every call keeps the invariant, whoever makes it
 abbrev pub CallLaw : Type 0
@@ -53,7 +54,7 @@ pub record Ends (w v : WorldState) (who n : ℕ) : Type 0 where
   pub count : v.kern.tick ≡ w.kern.tick
   pub names : v.names ≡ w.names
   pub starts : v.watch.next_start ≡ w.watch.next_start
-  pub rule : v.objects.mutexes.profile ≡ w.objects.mutexes.profile
+  pub choice : choice_of v ≡ choice_of w
 
 abbrev pub EndLaw : Type 0
 EndLaw = (w : WorldState) (who n : ℕ) → IsWorld w → Within n w → Ends w (ended w who) who n

@@ -1,23 +1,21 @@
 //! A kernel call: the gate that it leaves, its refusals and its answer.
 
-ghost use Rattle.std.specs.Prelude.{◌≡◌, ◌<◌, ◌≤◌, [], true, false, None, Some, IfOk, IfSome, OnErr};
+ghost use Rattle.std.specs.Prelude.{◌≡◌, ◌<◌, ◌≤◌, [], true, false, None, Some, IfOk, IfSome, OnOk, OnErr};
 ghost use Rattle.wind_base.specs.OutBuf.{KeepsSpace};
 ghost use Rattle.wind_core.specs.State.{Lives};
 ghost use Rattle.kernel_world.specs.Actors.{Acts, MayCall, is_interrupt as is_interrupt_lem, shell_id as shell_id_lem};
 ghost use Rattle.kernel_world.specs.Kept.{IsWorld, IsEarly};
-ghost use Rattle.kernel_world.specs.Allowed.{is_call, may_lack_memory};
-ghost use Rattle.kernel_world.specs.CallWords.{call_by};
+ghost use Rattle.kernel_world.specs.Allowed.{may_lack_memory};
 ghost use Rattle.kernel_calls.specs.Standing.{counter_of, standing_at};
 ghost use Rattle.kernel_calls.specs.Calls.{refusal_before as refusal_before_lem, with_reply, told_by, told as told_lem, made, call, file_wanted as file_wanted_lem, is_made, asked_for};
 ghost use Rattle.kernel_calls.specs.declared.calls.Called.TheVariants as called;
 ghost use Rattle.kernel_world.specs.Seen.{world_seen, world_with};
 ghost use Rattle.kernel_calls.specs.Space.{makes_room, HoldsSpace};
 
-use crate::files::file_of;
+use crate::files::file_wanted;
 use crate::rows::row;
 use kernel_world::{
-    Actor, Call, Reply, World, is_isr_callable, is_shell, is_shells_own, leave_gate, read_call,
-    reply_to,
+    Actor, Reply, World, is_isr_callable, is_shell, is_shells_own, leave_gate, read_call, reply_to,
 };
 use std::alloc::Global;
 use wind_base::{Errno, Gate, Name, NoMemory};
@@ -97,16 +95,10 @@ fn stand_again(w: &mut World, who: &Actor, pc: u32)
     }
 }
 
-// Makes a call up to the answer: the caller goes on after its gate, and the call has its effect. If
-// memory runs out, nothing changes.
-fn make(
-    alloc: Global,
-    w: &mut World,
-    gate: Gate,
-    call: &Call,
-    who: &Actor,
-) -> Result<Reply, NoMemory>
-    requires is { Some call.now ≡ call_by gate (world_seen ⟦<dyn Device as Device>⟧ w.old) who.now }
+// Makes a call up to the answer: the caller goes on after its gate, and the call has its effect. At
+// a return gate, the caller only goes on. If memory runs out, nothing changes.
+#[tactic(auto, using(crate::proofs::Reading::row_made, crate::proofs::Reading::none_made))]
+fn make(alloc: Global, w: &mut World, gate: Gate, who: &Actor) -> Result<Reply, NoMemory>
     requires caller { Acts w.old.kern who.now }
     requires free { MayCall w.old.kern who.now }
     requires kept { IsWorld (world_with [] w.old) }
@@ -124,24 +116,56 @@ fn make(
         leave_gate(w, who);
         return Ok(Reply::Refusal(errno));
     }
+    let read = read_call(w, gate, who);
     w.kern.facts();
     let pc = counter(w, who);
     leave_gate(w, who);
-    let Ok(reply) = row(alloc, w, call, *who) else {
+    let Some(call) = read else {
+        return Ok(Reply::Later);
+    };
+    let Ok(reply) = row(alloc, w, &call, *who) else {
         stand_again(w, who, pc);
         return Err(NoMemory);
     };
     Ok(reply)
 }
 
-/// Makes the call of a gate. A caller that is a task must be ready. The caller goes on after its
-/// gate, and the call has the effect of its row. The caller is answered in r3, at once or at the
-/// end of its wait, unless it has ended. A call of `ld` that needs a file is not made, and the
-/// result names the file. Host memory may run out only at `symAdd`, `msgQCreate`, `ld`, `i`,
+/// Makes the call of a gate, if it needs no file. A caller that is a task must be ready. The caller
+/// goes on after its gate, and the call has the effect of its row. The caller is answered in r3, at
+/// once or at the end of its wait, unless it has ended. At a return gate, the caller only goes on.
+/// Returns how the caller is answered. Host memory may run out only at `symAdd`, `msgQCreate`, `i`,
 /// `lkup`, `moduleShow` and `d` of a task, and the world is then as it was. No call deletes the
 /// shell's task.
+pub fn make_call(alloc: Global, w: &mut World, gate: Gate, who: &Actor) -> Result<Reply, NoMemory>
+    requires unasked { file_wanted_lem gate (world_seen ⟦<dyn Device as Device>⟧ w.old) who.now ≡ None }
+    requires caller { Acts w.old.kern who.now }
+    requires free { MayCall w.old.kern who.now }
+    requires kept { IsWorld (world_with [] w.old) }
+    requires early { IsEarly (world_with [] w.old) }
+    requires room { 4096 ≤ w.old.out.room }
+    ensures made { OnOk result
+        (world_seen ⟦<dyn Device as Device>⟧ w.new ≡ call gate (world_seen ⟦<dyn Device as Device>⟧ w.old) who.now) }
+    ensures reply { IfOk result (λ r. r ≡ (made gate (world_seen ⟦<dyn Device as Device>⟧ w.old) who.now).reply) }
+    ensures memory { OnErr result (may_lack_memory gate ≡ true) }
+    ensures task { OnErr result (is_interrupt_lem who.now ≡ false) }
+    ensures err { OnErr result (world_seen ⟦<dyn Device as Device>⟧ w.new ≡ world_seen ⟦<dyn Device as Device>⟧ w.old) }
+    ensures kept { IsWorld (world_with [] w.new) }
+    ensures shell { Lives w.old.kern shell_id_lem → Lives w.new.kern shell_id_lem }
+    ensures space { makes_room gate ≡ false → KeepsSpace w.old.out w.new.out }
+    ensures holds { HoldsSpace w.old.out w.new.out }
+{
+    let Ok(reply) = make(alloc, w, gate, who) else {
+        return Err(NoMemory);
+    };
+    reply_to(w, gate, who, &reply);
+    Ok(reply)
+}
+
+/// Makes the call of a gate as `make_call` does, unless it needs a file. A call of `ld` that needs a
+/// file is not made, and the result names the file. Host memory may run out only at `symAdd`,
+/// `msgQCreate`, `ld`, `i`, `lkup`, `moduleShow` and `d` of a task, and the world is then as it was.
+#[tactic(auto, using(crate::proofs::Reading::asks_lack, crate::proofs::Reading::asks_as_task))]
 pub fn kernel_call(alloc: Global, w: &mut World, gate: Gate, who: &Actor) -> Called
-    requires call { is_call gate ≡ true }
     requires caller { Acts w.old.kern who.now }
     requires free { MayCall w.old.kern who.now }
     requires kept { IsWorld (world_with [] w.old) }
@@ -164,17 +188,13 @@ pub fn kernel_call(alloc: Global, w: &mut World, gate: Gate, who: &Actor) -> Cal
     ensures space { makes_room gate ≡ false → KeepsSpace w.old.out w.new.out }
     ensures holds { HoldsSpace w.old.out w.new.out }
 {
-    let Some(call) = read_call(w, gate, who) else {
-        unreachable!()
-    };
-    match file_of(alloc, &w.bus.ram, &call, who) {
+    match file_wanted(alloc, w, gate, who) {
         Ok(Some(name)) => return Called::NeedsFile(name),
         Ok(None) => {}
         Err(NoMemory) => return Called::NoMemory,
     }
-    let Ok(reply) = make(alloc, w, gate, &call, who) else {
+    let Ok(reply) = make_call(alloc, w, gate, who) else {
         return Called::NoMemory;
     };
-    reply_to(w, gate, who, &reply);
     told(&reply)
 }

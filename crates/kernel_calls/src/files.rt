@@ -33,12 +33,7 @@ fn file_name(alloc: Global, ram: &Ram, at: u32) -> Result<Option<Name>, NoMemory
 // The name of the file that a call needs: the string at an address, of 1 to 255 bytes, if the
 // shell's task calls `ld`. `None` if the call needs no file. Host memory may run out only if it
 // needs one.
-pub(crate) fn file_of(
-    alloc: Global,
-    ram: &Ram,
-    call: &Call,
-    who: &Actor,
-) -> Result<Option<Name>, NoMemory>
+fn file_of(alloc: Global, ram: &Ram, call: &Call, who: &Actor) -> Result<Option<Name>, NoMemory>
     ensures wanted { IfOk result (λ o. o ≡ file_named call.now ram.now.bytes who.now) }
     ensures memory { OnErr result (IsSome (file_named call.now ram.now.bytes who.now)) }
 {

@@ -8,6 +8,6 @@ mod module_rows;
 mod rows;
 mod show_rows;
 
-pub use calls::{Called, kernel_call};
+pub use calls::{Called, kernel_call, make_call};
 pub use files::file_wanted;
 pub use laws::world_law;

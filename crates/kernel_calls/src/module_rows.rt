@@ -13,7 +13,7 @@ use wind_base::Errno;
 
 // The id of the module that a word means: the word is its id, or the address of its name.
 fn meant_module(mods: &Modules, ram: &Ram, x: u32) -> Option<u32>
-    ensures { result ≡ meant_module_lem mods.now ram.now.bytes x }
+    ensures { result ≡ meant_module_lem mods.now.rows ram.now.bytes x }
 {
     if mods.get(x).is_some() {
         return Some(x);
@@ -32,17 +32,18 @@ pub(crate) fn unload(
     ram: &Ram,
     x: u32,
 ) -> Reply
-    requires { AreHeld mods.old part.old }
-    ensures symbols { syms.new.list ≡ (unload_row syms.old.list mods.old part.old ram.now.bytes x).symbols }
-    ensures modules { mods.new ≡ (unload_row syms.old.list mods.old part.old ram.now.bytes x).modules }
-    ensures part { part.new ≡ (unload_row syms.old.list mods.old part.old ram.now.bytes x).part }
-    ensures reply { result ≡ (unload_row syms.old.list mods.old part.old ram.now.bytes x).reply }
+    requires { AreHeld mods.old.rows part.old }
+    ensures symbols { syms.new.list ≡ (unload_row syms.old.list mods.old.rows part.old ram.now.bytes x).symbols }
+    ensures modules { mods.new
+        ≡ record mods.old { rows = (unload_row syms.old.list mods.old.rows part.old ram.now.bytes x).modules } }
+    ensures part { part.new ≡ (unload_row syms.old.list mods.old.rows part.old ram.now.bytes x).part }
+    ensures reply { result ≡ (unload_row syms.old.list mods.old.rows part.old ram.now.bytes x).reply }
 {
     let Some(id) = meant_module(mods, ram, x) else {
         return Reply::Refusal(Errno::NoSuchModule);
     };
     match mods.unload(part, syms, id) {
         Ok(()) => DONE,
-        Err(_) => unreachable!(),
+        Err(_) => Reply::Refusal(Errno::NoSuchModule),
     }
 }

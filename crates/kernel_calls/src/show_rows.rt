@@ -76,8 +76,8 @@ pub(crate) fn show_modules(
     mods: &Modules,
     out: &mut OutBuf,
 ) -> Result<Reply, NoMemory>
-    ensures ok { IfOk result (λ r. (r ≡ (modules_row mods.now).reply)
-        × (out.new ≡ with_text out.old (modules_row mods.now).text)) }
+    ensures ok { IfOk result (λ r. (r ≡ (modules_row mods.now.rows).reply)
+        × (out.new ≡ with_text out.old (modules_row mods.now.rows).text)) }
     ensures err { OnErr result (out.new ≡ out.old) }
 {
     module_rows(alloc, mods, out)?;

@@ -1,5 +1,5 @@
 -- What a call keeps while all its tasks live on: the invariant, and the bounds of the counters.
-use Rattle.std.proofs.Common.{◌≡◌, ℕ, ◌+◌, ◌<◌, ◌≤◌, List, ◌∷◌, map, length, Option, None, Some, refl, sym, ◌∙◌, subst, arith}
+use Rattle.std.proofs.Common.{◌≡◌, ℕ, ◌+◌, ◌<◌, ◌≤◌, List, ◌∷◌, map, length, Option, None, Some, refl, sym, ap, ◌∙◌, subst, arith}
 use Rattle.std.specs.Option.{option_map}
 use Rattle.std.proofs.lemmas.List.Elements.{All-weaker}
 use Rattle.wind_base.specs.Limits.{most_symbols}
@@ -14,7 +14,7 @@ use Rattle.wind_core.specs.Move.{SetErrno}
 use Rattle.wind_core.proofs.Ids.{lives_by}
 use Rattle.msg_queue.specs.State.{Scene}
 use Rattle.isr_watch.specs.State.{WatchState, IsWatch, watchdog_id}
-use Rattle.kernel_world.specs.State.{WorldState}
+use Rattle.kernel_world.specs.State.{WorldState, choice_of}
 use Rattle.kernel_world.specs.Objects.{KeepsObjects, DepthsWithin}
 use Rattle.kernel_world.specs.Replies.{level_by, at_level, with_errno}
 use Rattle.kernel_world.specs.Kept.{routine_stack, KeepsPool, KeepsLoaded, task_stacks, AreStacks, KeepsWatch, IsWorld, ReservedBy, Within, call_sinces}
@@ -31,7 +31,7 @@ use Rattle.kernel_world.proofs.WorldIds.{ids_kern, ids_watch, ids_modules}
 -- from one world to another: the invariant holds, tasks that live live on, counts stay within n, and the tick
 -- count is the same;
 -- no task has a reservation that had none; at most d order numbers, m numbers for names and m for starts of
--- watchdogs were handed out; the rule of inheritance is the same
+-- watchdogs were handed out; what was chosen at the start is the same
 pub record Advances (w v : WorldState) (n d m : ℕ) : Type 0 where
   pub kept : IsWorld v
   pub lives : (who : ℕ) → Lives w.kern who → Lives v.kern who
@@ -42,7 +42,7 @@ pub record Advances (w v : WorldState) (n d m : ℕ) : Type 0 where
   pub count : v.kern.tick ≡ w.kern.tick
   pub names : v.names ≤ w.names + m
   pub starts : v.watch.next_start ≤ w.watch.next_start + m
-  pub rule : v.objects.mutexes.profile ≡ w.objects.mutexes.profile
+  pub choice : choice_of v ≡ choice_of w
 
 -- a bound of counts may rise
 pub within_more : (w : WorldState) (l n : ℕ) → l ≤ n → Within l w → Within n w
@@ -54,7 +54,7 @@ pub watch_on : (m n : ℕ) (s : WatchState) → m ≤ n → KeepsWatch m s → K
 watch_on m n s more h = record { watch = h.watch; ids = All-weaker (λ v. v.id < m) (λ v. v.id < n) (λ v below. omega (arith, below, more)) s.watchdogs h.ids }
 
 -- if no routine is active, none is listed, whatever registers the active one has
-level_is : (f : Regs → Regs) (s : WatchState) → IsWatch s → IsWatch (level_by f s)
+pub level_is : (f : Regs → Regs) (s : WatchState) → IsWatch s → IsWatch (level_by f s)
 level_is f s is = record {
   few = is.few;
   rising = is.rising;
@@ -73,7 +73,7 @@ advances_on w v u l n d e m o a b = record {
   count = b.count ∙ a.count;
   names = omega (arith, a.names, b.names);
   starts = omega (arith, a.starts, b.starts);
-  rule = b.rule ∙ a.rule;
+  choice = b.choice ∙ a.choice;
 }
 
 pub advances_more : (w v : WorldState) (l n d e m o : ℕ) → l ≤ n → d ≤ e → m ≤ o → Advances w v l d m → Advances w v n e o
@@ -87,21 +87,22 @@ advances_more w v l n d e m o more sinces names a = record {
   count = a.count;
   names = omega (arith, a.names, names);
   starts = omega (arith, a.starts, names);
-  rule = a.rule;
+  choice = a.choice;
 }
 
 module _ (w : WorldState) (kept : IsWorld w) where
   -- the tasks change, and the objects with them
-  pub by_objects : (j : KernState) (o : Objects) (n d : ℕ) → Goes w.kern j n d → KeepsObjects j o → DepthsWithin n o → KeepsIds (record w { kern = j; objects = o })
+  pub by_objects : (j : KernState) (o : Objects) (n d : ℕ) → Goes w.kern j n d → KeepsObjects w.board j o → DepthsWithin n o → KeepsIds (record w { kern = j; objects = o })
       → o.mutexes.profile ≡ w.objects.mutexes.profile → Advances w (record w { kern = j; objects = o }) n d 0
   by_objects j o n d g objects depths own rule = record {
     kept = record {
       kern = g.kern;
       home = g.lent ∙ kept.home;
+      kind = kept.kind;
       objects = objects;
       pool = kept.pool;
       stacks = subst (λ s. AreStacks w.part (routine_stack ∷ s)) (sym g.stacks) kept.stacks;
-      modules = loaded_on w.kern w.part w.modules kept.modules j g.next g.stacks;
+      modules = loaded_on w.kern w.part w.modules.rows kept.modules j g.next g.stacks;
       ram = kept.ram;
       symbols = kept.symbols;
       watch = watch_on w.kern.next_id j.next_id w.watch g.next kept.watch;
@@ -115,10 +116,10 @@ module _ (w : WorldState) (kept : IsWorld w) where
     count = g.count;
     names = omega arith;
     starts = omega arith;
-    rule = rule;
+    choice = ap (λ p. record { profile = p; board = w.board }) rule;
   }
 
-  pub by_kern : (j : KernState) (n d : ℕ) → Goes w.kern j n d → KeepsObjects j w.objects → DepthsWithin n w.objects → Advances w (record w { kern = j }) n d 0
+  pub by_kern : (j : KernState) (n d : ℕ) → Goes w.kern j n d → KeepsObjects w.board j w.objects → DepthsWithin n w.objects → Advances w (record w { kern = j }) n d 0
   by_kern j n d g objects depths = by_objects j w.objects n d g objects depths (ids_kern w kept.ids j g.alone g.next) refl
 
   module _ (n : ℕ) (within : Within n w) where
@@ -127,10 +128,10 @@ module _ (w : WorldState) (kept : IsWorld w) where
 
     -- blocks, symbols, modules and RAM change, and so may what the invariant doesn't mention
     pub of_parts : (p : PartState) (ss : List Symbol) (ms : List (ℕ × LoadedModule)) (ram : List ℕ) (slots : List (Option DeviceState)) (output : List ℕ) (errno : ℕ)
-        → KeepsPool p → AreStacks p (routine_stack ∷ task_stacks w.kern) → KeepsLoaded w.kern p ms → length ss ≤ most_symbols → length ram ≡ length w.ram → Fewer (table.ids ms) (table.ids w.modules)
-        → Advances w (record w { part = p; symbols = ss; modules = ms; ram = ram; slots = slots; output = output; int_errno = errno }) n 0 0
+        → KeepsPool w.board p → AreStacks p (routine_stack ∷ task_stacks w.kern) → KeepsLoaded w.kern p ms → length ss ≤ most_symbols → length ram ≡ length w.ram → Fewer (table.ids ms) (table.ids w.modules.rows)
+        → Advances w (record w { part = p; symbols = ss; modules = record w.modules { rows = ms }; ram = ram; slots = slots; output = output; int_errno = errno }) n 0 0
     of_parts p ss ms ram slots output errno pool stacks modules few same fewer = record {
-      kept = record { kern = kept.kern; home = kept.home; objects = kept.objects; pool = pool; stacks = stacks; modules = modules; ram = same ∙ kept.ram; symbols = few; watch = kept.watch; ids = ids_modules w kept.ids ms fewer };
+      kept = record { kern = kept.kern; home = kept.home; kind = kept.kind; objects = kept.objects; pool = pool; stacks = stacks; modules = modules; ram = same ∙ kept.ram; symbols = few; watch = kept.watch; ids = ids_modules w kept.ids ms fewer };
       lives = λ who h. h;
       within = within;
       last = refl;
@@ -139,16 +140,16 @@ module _ (w : WorldState) (kept : IsWorld w) where
       count = refl;
       names = omega arith;
       starts = omega arith;
-      rule = refl;
+      choice = refl;
     }
 
     -- the modules stay
-    same_modules : Fewer (table.ids w.modules) (table.ids w.modules)
-    same_modules = fewer_same (table.ids w.modules) (table.ids w.modules) refl
+    same_modules : Fewer (table.ids w.modules.rows) (table.ids w.modules.rows)
+    same_modules = fewer_same (table.ids w.modules.rows) (table.ids w.modules.rows) refl
 
     -- only what the invariant doesn't mention changes
     pub beside : (slots : List (Option DeviceState)) (output : List ℕ) (errno : ℕ) → Advances w (record w { slots = slots; output = output; int_errno = errno }) n 0 0
-    beside slots output errno = of_parts w.part w.symbols w.modules w.ram slots output errno kept.pool kept.stacks kept.modules kept.symbols refl same_modules
+    beside slots output errno = of_parts w.part w.symbols w.modules.rows w.ram slots output errno kept.pool kept.stacks kept.modules kept.symbols refl same_modules
 
     -- a move that hands out no numbers, seen as a call that may
     pub as_call : (v : WorldState) → Advances w v n 0 0 → Advances w v (n + 1) call_sinces 1
@@ -158,7 +159,7 @@ module _ (w : WorldState) (kept : IsWorld w) where
     stays = beside w.slots w.output w.int_errno
 
     -- the watchdogs change, and the next id with them
-    pub of_watches : (j : KernState) (s : WatchState) (m : ℕ) → Goes w.kern j n 0 → KeepsObjects j w.objects → KeepsWatch j.next_id s → s.next_start ≤ w.watch.next_start + m
+    pub of_watches : (j : KernState) (s : WatchState) (m : ℕ) → Goes w.kern j n 0 → KeepsObjects w.board j w.objects → KeepsWatch j.next_id s → s.next_start ≤ w.watch.next_start + m
         → Given w.kern.next_id j.next_id (map watchdog_id w.watch.watchdogs) (map watchdog_id s.watchdogs) → Advances w (record w { kern = j; watch = s }) n 0 m
     of_watches j s m g objects watch starts given =
         let moved = by_kern j n 0 g objects within.1 in
@@ -166,6 +167,7 @@ module _ (w : WorldState) (kept : IsWorld w) where
           kept = record {
             kern = moved.kept.kern;
             home = moved.kept.home;
+            kind = moved.kept.kind;
             objects = moved.kept.objects;
             pool = moved.kept.pool;
             stacks = moved.kept.stacks;
@@ -183,7 +185,7 @@ module _ (w : WorldState) (kept : IsWorld w) where
           count = moved.count;
           names = omega arith;
           starts = starts;
-          rule = refl;
+          choice = refl;
         }
 
     -- the active routine's registers are others
@@ -195,19 +197,19 @@ module _ (w : WorldState) (kept : IsWorld w) where
     pub nowhere : Advances w w (n + 1) call_sinces 1
     nowhere = as_call w stays
 
-    pub of_tasks : (j : KernState) → Goes w.kern j (n + 1) call_sinces → KeepsObjects j w.objects → Advances w (record w { kern = j }) (n + 1) call_sinces 1
+    pub of_tasks : (j : KernState) → Goes w.kern j (n + 1) call_sinces → KeepsObjects w.board j w.objects → Advances w (record w { kern = j }) (n + 1) call_sinces 1
     of_tasks j g objects =
         advances_more w (record w { kern = j }) (n + 1) (n + 1) call_sinces call_sinces 0 1 (omega arith) (omega arith) (omega arith)
         (by_kern j (n + 1) call_sinces g objects more.1)
 
-    pub of_both : (j : KernState) (o : Objects) → Goes w.kern j (n + 1) call_sinces → KeepsObjects j o → DepthsWithin (n + 1) o → KeepsIds (record w { kern = j; objects = o })
+    pub of_both : (j : KernState) (o : Objects) → Goes w.kern j (n + 1) call_sinces → KeepsObjects w.board j o → DepthsWithin (n + 1) o → KeepsIds (record w { kern = j; objects = o })
         → o.mutexes.profile ≡ w.objects.mutexes.profile → Advances w (record w { kern = j; objects = o }) (n + 1) call_sinces 1
     of_both j o g objects depths own rule =
         advances_more w (record w { kern = j; objects = o }) (n + 1) (n + 1) call_sinces call_sinces 0 1 (omega arith) (omega arith) (omega arith)
         (by_objects j o (n + 1) call_sinces g objects depths own rule)
 
     -- and so do tasks, queues and RAM
-    pub of_scene : (t : Scene) → Goes w.kern t.kern (n + 1) call_sinces → length t.ram ≡ length w.ram → KeepsObjects t.kern (record w.objects { queues = t.queues })
+    pub of_scene : (t : Scene) → Goes w.kern t.kern (n + 1) call_sinces → length t.ram ≡ length w.ram → KeepsObjects w.board t.kern (record w.objects { queues = t.queues })
         → KeepsIds (record w { kern = t.kern; objects = record w.objects { queues = t.queues } })
         → Advances w (record w { kern = t.kern; objects = record w.objects { queues = t.queues }; ram = t.ram }) (n + 1) call_sinces 1
     of_scene t g size objects own =
@@ -216,6 +218,7 @@ module _ (w : WorldState) (kept : IsWorld w) where
           kept = record {
             kern = both.kept.kern;
             home = both.kept.home;
+            kind = both.kept.kind;
             objects = both.kept.objects;
             pool = both.kept.pool;
             stacks = both.kept.stacks;
@@ -233,22 +236,22 @@ module _ (w : WorldState) (kept : IsWorld w) where
           count = both.count;
           names = both.names;
           starts = both.starts;
-          rule = refl;
+          choice = refl;
         }
 
-    pub of_blocks : (p : PartState) → KeepsPool p → AreStacks p (routine_stack ∷ task_stacks w.kern) → KeepsLoaded w.kern p w.modules → Advances w (record w { part = p }) (n + 1) call_sinces 1
-    of_blocks p pool stacks modules = as_call (record w { part = p }) (of_parts p w.symbols w.modules w.ram w.slots w.output w.int_errno pool stacks modules kept.symbols refl same_modules)
+    pub of_blocks : (p : PartState) → KeepsPool w.board p → AreStacks p (routine_stack ∷ task_stacks w.kern) → KeepsLoaded w.kern p w.modules.rows → Advances w (record w { part = p }) (n + 1) call_sinces 1
+    of_blocks p pool stacks modules = as_call (record w { part = p }) (of_parts p w.symbols w.modules.rows w.ram w.slots w.output w.int_errno pool stacks modules kept.symbols refl same_modules)
 
     pub of_list : (ss : List Symbol) → length ss ≤ most_symbols → Advances w (record w { symbols = ss }) (n + 1) call_sinces 1
-    of_list ss few = as_call (record w { symbols = ss }) (of_parts w.part ss w.modules w.ram w.slots w.output w.int_errno kept.pool kept.stacks kept.modules few refl same_modules)
+    of_list ss few = as_call (record w { symbols = ss }) (of_parts w.part ss w.modules.rows w.ram w.slots w.output w.int_errno kept.pool kept.stacks kept.modules few refl same_modules)
 
     -- symbols, modules and blocks
-    pub of_unload : (ss : List Symbol) (ms : List (ℕ × LoadedModule)) (p : PartState) → length ss ≤ most_symbols → KeepsPool p → AreStacks p (routine_stack ∷ task_stacks w.kern) → KeepsLoaded w.kern p ms → Fewer (table.ids ms) (table.ids w.modules)
-        → Advances w (record w { symbols = ss; modules = ms; part = p }) (n + 1) call_sinces 1
-    of_unload ss ms p few pool stacks modules fewer = as_call (record w { symbols = ss; modules = ms; part = p }) (of_parts p ss ms w.ram w.slots w.output w.int_errno pool stacks modules few refl fewer)
+    pub of_unload : (ss : List Symbol) (ms : List (ℕ × LoadedModule)) (p : PartState) → length ss ≤ most_symbols → KeepsPool w.board p → AreStacks p (routine_stack ∷ task_stacks w.kern) → KeepsLoaded w.kern p ms → Fewer (table.ids ms) (table.ids w.modules.rows)
+        → Advances w (record w { symbols = ss; modules = record w.modules { rows = ms }; part = p }) (n + 1) call_sinces 1
+    of_unload ss ms p few pool stacks modules fewer = as_call (record w { symbols = ss; modules = record w.modules { rows = ms }; part = p }) (of_parts p ss ms w.ram w.slots w.output w.int_errno pool stacks modules few refl fewer)
 
     pub of_memory : (ram : List ℕ) → length ram ≡ length w.ram → Advances w (record w { ram = ram }) (n + 1) call_sinces 1
-    of_memory ram same = as_call (record w { ram = ram }) (of_parts w.part w.symbols w.modules ram w.slots w.output w.int_errno kept.pool kept.stacks kept.modules kept.symbols same same_modules)
+    of_memory ram same = as_call (record w { ram = ram }) (of_parts w.part w.symbols w.modules.rows ram w.slots w.output w.int_errno kept.pool kept.stacks kept.modules kept.symbols same same_modules)
 
     pub errno_advances : (a : Actor) (e : ℕ) → Advances w (with_errno w a e) n 0 0
     errno_advances (Task who) e = by_kern _ n 0 (goes-move w.kern n kept.kern within.0 (SetErrno who e) tt) (objects-move w.kern w.objects kept.kern kept.objects (SetErrno who e) (tt, tt, tt, tt)) within.1

@@ -5,7 +5,8 @@ use Rattle.std.specs.Option.{option_map}
 use Rattle.std.proofs.lemmas.Bool.{ne_eqb}
 use Rattle.std.proofs.lemmas.List.{length-replicate}
 use Rattle.std.proofs.lemmas.List.Elements.{All-contains}
-use Rattle.wind_base.specs.Limits.{ram_bytes}
+use Rattle.wind_base.specs.Boards.{board_rules}
+use Rattle.wind_base.specs.declared.board_kind.BoardKind.{BoardKind}
 use Rattle.id_table.specs.Rows.{IdsBelow, row_id, row_object, object_of, with_object, without}
 use Rattle.id_table.proofs.Lookups.{object_of-push, object_of-write, object_of-without, found_below}
 use Rattle.wind_lists.specs.Records.{of_id}
@@ -65,9 +66,9 @@ other_kind {X} {Y} rs ss n apart there =
 beside_any : {C : Type 0} (n : ℕ) → ((ram : List ℕ) → length ram ≡ n → C) → C
 beside_any n holds = holds (replicate n 0) (length-replicate n 0)
 
-module _ (k : KernState) (o : Objects) (kept : KeepsObjects k o) where
+module _ {board : BoardKind} (k : KernState) (o : Objects) (kept : KeepsObjects board k o) where
   pub kern_kept : IsKern k
-  kern_kept = beside_any ram_bytes (λ ram long. (kept.queues ram long).kern)
+  kern_kept = beside_any (board_rules board).ram_bytes (λ ram long. (kept.queues ram long).kern)
 
   pub queue_ids : IdsBelow k.next_id o.queues.queues
-  queue_ids = beside_any ram_bytes (λ ram long. (kept.queues ram long).ids)
+  queue_ids = beside_any (board_rules board).ram_bytes (λ ram long. (kept.queues ram long).ids)

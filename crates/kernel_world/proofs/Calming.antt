@@ -3,7 +3,8 @@ use Rattle.std.proofs.Common.{◌≡◌, ℕ, ◌-◌, ◌<◌, true, false, con
 use Rattle.std.specs.List.{All, AllPairs}
 use Rattle.std.proofs.lemmas.List.{length-map, get_or-map}
 use Rattle.std.proofs.lemmas.List.Elements.{All-map, All-weaker}
-use Rattle.wind_base.specs.Limits.{ram_bytes}
+use Rattle.wind_base.specs.Boards.{board_rules}
+use Rattle.wind_base.specs.declared.board_kind.BoardKind.{BoardKind}
 use Rattle.task_block.specs.declared.task.Task.{Task}
 use Rattle.wind_core.specs.State.{KernState, IsKern, WakesAhead, task_id, task_of}
 use Rattle.wind_core.specs.Moves.{change_pri, set_safe}
@@ -21,12 +22,12 @@ use Rattle.msg_queue.proofs.Events.{keeps}
 use Rattle.kernel_world.specs.declared.objects.Objects.{Objects}
 
 -- the queues, with any RAM of the board's size
-abbrev pub KeepsQueues : KernState → Objects → Type 0
-KeepsQueues k o = (ram : List ℕ) → length ram ≡ ram_bytes → IsKept (scene k o.queues ram)
+abbrev pub KeepsQueues : BoardKind → KernState → Objects → Type 0
+KeepsQueues board k o = (ram : List ℕ) → length ram ≡ (board_rules board).ram_bytes → IsKept (scene k o.queues ram)
 
 -- a move that begins no wait at a queue keeps them
-pub queues-calm : (k j : KernState) (o : Objects) → IsCalm o.queues.queues k j → KeepsQueues k o → KeepsQueues j o
-queues-calm k j o calm kept ram long = keeps (scene k o.queues ram) (others j ram) (kept ram long) (calm, refl)
+pub queues-calm : (board : BoardKind) (k j : KernState) (o : Objects) → IsCalm o.queues.queues k j → KeepsQueues board k o → KeepsQueues board j o
+queues-calm board k j o calm kept ram long = keeps (scene k o.queues ram) (others j ram) (kept ram long) (calm, refl)
 
 module _ (rs : List (ℕ × QueueState)) where
   -- ---- safe sections

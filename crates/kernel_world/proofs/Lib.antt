@@ -1,3 +1,4 @@
+pub mod Boards
 pub mod Living
 pub mod Early
 pub mod Stacks

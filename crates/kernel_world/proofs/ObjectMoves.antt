@@ -4,6 +4,7 @@ use Rattle.std.specs.List.{All}
 use Rattle.std.specs.Option.{option_map}
 use Rattle.std.proofs.lemmas.Bool.{eq-eqb}
 use Rattle.std.proofs.lemmas.List.Elements.{All-weaker, All-map}
+use Rattle.wind_base.specs.declared.board_kind.BoardKind.{BoardKind}
 use Rattle.id_table.specs.Sides.{console_side}
 use Rattle.id_table.specs.declared.ident.Place.{Place}
 use Rattle.task_block.specs.declared.task.Task.{Task}
@@ -68,26 +69,26 @@ free-release k who =
 abbrev pub SparesObjects : KernState → Objects → Move → Type 0
 SparesObjects k o m = IsAllowed k m × SparesWaits k o m × SparesMutexes (with_mutexes k o.mutexes) m × SparesQueues o.queues.queues k m
 
-module _ (k : KernState) (o : Objects) (is : IsKern k) (kept : KeepsObjects k o) where
+module _ {board : BoardKind} (k : KernState) (o : Objects) (is : IsKern k) (kept : KeepsObjects board k o) where
   -- by the invariants of waits and of mutexes, if no wait at a queue begins
-  pub by_kern : (j : KernState) → KeepsWaits j o → KeepsMutexes (with_mutexes j o.mutexes) → IsCalm o.queues.queues k j → KeepsObjects j o
+  pub by_kern : (j : KernState) → KeepsWaits board j o → KeepsMutexes (with_mutexes j o.mutexes) → IsCalm o.queues.queues k j → KeepsObjects board j o
   by_kern j waits mutexes calm = record {
     waits = waits;
     mutexes = mutexes;
     table = kept.table;
-    queues = queues-calm k j o calm kept.queues;
+    queues = queues-calm board k j o calm kept.queues;
     queues_ranged = kept.queues_ranged;
     apart = kept.apart;
     queues_apart = kept.queues_apart;
   }
 
   -- every move that spares them all
-  pub objects-move : (m : Move) → SparesObjects k o m → KeepsObjects (apply k m) o
+  pub objects-move : (m : Move) → SparesObjects k o m → KeepsObjects board (apply k m) o
   objects-move m spares =
       by_kern (apply k m) (waits-move k o is kept.waits m spares.1) (beside_law (with_mutexes k o.mutexes) m kept.mutexes spares.2) (calms o.queues.queues k m is spares.0 spares.3)
 
   -- the shell's task waits for a line of the console
-  pub objects-listen : (fifo : Bool) (n : ℕ) → Lives k 1 → 0 < n → KeepsObjects (pend k 1 (record { side = console_side; id = 1 }) fifo n) o
+  pub objects-listen : (fifo : Bool) (n : ℕ) → Lives k 1 → 0 < n → KeepsObjects board (pend k 1 (record { side = console_side; id = 1 }) fifo n) o
   objects-listen fifo n lives some =
       let place : Place = record { side = console_side; id = 1 } in
       let made : 1 < k.next_id = lives_below k 1 is lives in
@@ -99,15 +100,15 @@ module _ (k : KernState) (o : Objects) (is : IsKern k) (kept : KeepsObjects k o)
       )
 
   -- ---- safe sections
-  pub objects-make_safe : (who : ℕ) → KeepsObjects (make_safe k who) o
+  pub objects-make_safe : (who : ℕ) → KeepsObjects board (make_safe k who) o
   objects-make_safe who = objects-move (SetSafe who (safe_of (task_of k.tasks who) + 1)) (tt, λ some. omega arith, tt, tt)
 
-  pub objects-lessen : (who n : ℕ) → KeepsObjects (lessen k who n) o
+  pub objects-lessen : (who n : ℕ) → KeepsObjects board (lessen k who n) o
   objects-lessen who n =
       by_kern (lessen k who n) (waits-lessen k o is kept.waits who n) ((safety_law (with_mutexes k o.mutexes) kept.mutexes).lessening who n) (calm-lessen o.queues.queues k who n is)
 
 -- the wait of a task ends, and then its marks are cleared
-pub objects-reset_released : (k : KernState) (o : Objects) → IsKern k → KeepsObjects k o → (who : ℕ) → KeepsObjects (reset (release k who) who) o
+pub objects-reset_released : {board : BoardKind} (k : KernState) (o : Objects) → IsKern k → KeepsObjects board k o → (who : ℕ) → KeepsObjects board (reset (release k who) who) o
 objects-reset_released k o is kept who =
     objects-move (release k who) o (move_keeps k (Release who) is tt) (objects-move k o is kept (Release who) (tt, tt, tt, tt)) (Reset who) (tt, free-release k who, tt, tt)
 
@@ -116,16 +117,16 @@ objects-reset_released k o is kept who =
 abbrev pub dropped : (Task → Bool) → Task → Task
 dropped keeps t = cond (keeps t) t (unreserved t)
 
-pub objects-drop : (k : KernState) (o : Objects) → KeepsObjects k o → (keeps : Task → Bool) → KeepsObjects (record k { tasks = map (dropped keeps) k.tasks }) o
-objects-drop k o kept keeps =
+pub objects-drop : {board : BoardKind} (k : KernState) (o : Objects) → KeepsObjects board k o → (keeps : Task → Bool) → KeepsObjects board (record k { tasks = map (dropped keeps) k.tasks }) o
+objects-drop {board} k o kept keeps =
     let f : Task → Task = dropped keeps in
     let j : KernState = record k { tasks = map f k.tasks } in
     let deleters : KeepsDeleters j =
     deleters-map k f (λ t. elim (keeps t) as (λ b. counted (cond b t (unreserved t)) ≡ counted t) [ true ↦ refl | false ↦ refl ])
     (λ P t h. elim (keeps t) as (λ b. Deletes P (cond b t (unreserved t))) [ true ↦ h | false ↦ h ]) kept.waits.deleters in
-    let right : All WaitsRight j.tasks =
-    All-map WaitsRight f k.tasks (All-weaker WaitsRight (λ t. WaitsRight (f t)) (λ t h.
-    elim (keeps t) as (λ b. WaitsRight (cond b t (unreserved t))) [ true ↦ h | false ↦ record { console = h.console; repeats = h.repeats } ]) k.tasks kept.waits.right) in
+    let right : All (WaitsRight board) j.tasks =
+    All-map (WaitsRight board) f k.tasks (All-weaker (WaitsRight board) (λ t. WaitsRight board (f t)) (λ t h.
+    elim (keeps t) as (λ b. WaitsRight board (cond b t (unreserved t))) [ true ↦ h | false ↦ record { console = h.console; repeats = h.repeats } ]) k.tasks kept.waits.right) in
     let begins : BeginsOnly nowhere k j =
     by_tasks nowhere k j (omega arith) (All-map (IsOld nowhere k) f k.tasks (All-weaker (IsOld nowhere k) (λ t. IsOld nowhere k (f t)) (λ t h.
     elim (keeps t) as (λ b. IsOld nowhere k (cond b t (unreserved t))) [ true ↦ h | false ↦ h ]) k.tasks (themselves nowhere k))) in

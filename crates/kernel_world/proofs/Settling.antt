@@ -1,5 +1,6 @@
 -- Settling priorities keeps the world's invariant, and makes priorities exact.
 use Rattle.std.proofs.Common.{◌≡◌, ℕ, ap}
+use Rattle.wind_base.specs.declared.board_kind.BoardKind.{BoardKind}
 use Rattle.wind_core.specs.State.{KernState, IsKern}
 use Rattle.inheritance.specs.Mutexes.{MutexState, both as with_mutexes}
 use Rattle.inheritance.proofs.Same.{exact_same}
@@ -15,7 +16,7 @@ use Rattle.kernel_world.proofs.Calming.{calm-raised}
 use Rattle.kernel_world.proofs.Goes.{Goes, goes-raised}
 use Rattle.kernel_world.proofs.ObjectMoves.{by_kern}
 
-pub objects-settled : (k : KernState) (o : Objects) → IsKern k → KeepsObjects k o → KeepsObjects (settled_kern k o) o
+pub objects-settled : {board : BoardKind} (k : KernState) (o : Objects) → IsKern k → KeepsObjects board k o → KeepsObjects board (settled_kern k o) o
 objects-settled k o is kept =
     by_kern k o is kept (settled_kern k o) (waits-raised k o is kept.waits o.mutexes.profile o.mutexes.rows)
     (raised_keeps (with_mutexes k o.mutexes) is kept.mutexes.holds)

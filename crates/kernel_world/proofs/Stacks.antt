@@ -3,47 +3,57 @@ use Rattle.std.proofs.Common.{◌≡◌, ℕ, true, eqb, List, [], ◌∷◌, �
 use Rattle.std.proofs.lemmas.List.Elements.{All-weaker, All-push}
 use Rattle.std.proofs.lemmas.List.Quantifiers.{all_pairs_push}
 use Rattle.std.proofs.lemmas.Bool.{eq-eqb, ne_eqb, and_from, and_left}
+use Rattle.wind_base.specs.declared.board_kind.BoardKind.{BoardKind}
+use Rattle.wind_base.specs.declared.board_kind.Side.{Side}
+use Rattle.wind_base.specs.declared.board_kind.Side.TheVariants.{Low}
 use Rattle.mem_partition.specs.Place.{rounded}
-use Rattle.mem_partition.specs.State.{PartState, IsPart, own_block, same_class, alloc_of, after_alloc, taken_at, size_or, freed, after_free, with_block}
+use Rattle.mem_partition.specs.State.{PartState, IsPart, own_block, same_class, alloc_of, alloc_on, after_alloc, after_alloc_on, taken_at, size_or, freed, after_free, with_block}
 use Rattle.mem_partition.specs.declared.block.Block.{Block}
 use Rattle.mem_partition.specs.declared.block.Class.{Class}
 use Rattle.mem_partition.specs.declared.block.Class.TheVariants.{User, Kernel}
 use Rattle.mem_partition.specs.declared.block.PartErr.{PartErr}
 use Rattle.mem_partition.proofs.Keeping.{free_kept, with_blocks}
-use Rattle.mem_partition.proofs.Allocs.{rounded_some, find_with, alloc_lies, alloc_kept, given_block, after_is}
+use Rattle.mem_partition.proofs.Allocs.{rounded_some, find_with, alloc_on_lies, alloc_lies, alloc_on_kept, given_block, after_on_is, after_is}
 use Rattle.mem_partition.proofs.Owners.{is_own, find-with_block, fresh_address, own-without, classes_apart}
 use Rattle.kernel_world.specs.Kept.{KeepsPool, Stack, IsStack, AreApart, AreStacks}
 
 -- the pool is that of the board, whatever blocks there are
-pool_with : (p : PartState) (bs : List Block) → KeepsPool p → IsPart (with_blocks p bs) → KeepsPool (with_blocks p bs)
+pool_with : {board : BoardKind} (p : PartState) (bs : List Block) → KeepsPool board p → IsPart (with_blocks p bs) → KeepsPool board (with_blocks p bs)
 pool_with p bs k is = record { blocks = is; start = k.start; end = k.end; room = k.room }
 
-pub pool-alloc : (p : PartState) (n align : ℕ) (class : Class) → KeepsPool p → KeepsPool (after_alloc p n align class)
-unfolding after_alloc
-pool-alloc p n align class k = go (alloc_of p n align) refl where
-  go : (r : Result ℕ PartErr) → alloc_of p n align ≡ r → KeepsPool (taken_at p n class r)
+pub pool-alloc_on : {board : BoardKind} (side : Side) (p : PartState) (n align : ℕ) (class : Class) → KeepsPool board p → KeepsPool board (after_alloc_on side p n align class)
+unfolding after_alloc_on
+pool-alloc_on {board} side p n align class k = go (alloc_on side p n align) refl where
+  go : (r : Result ℕ PartErr) → alloc_on side p n align ≡ r → KeepsPool board (taken_at p n class r)
   go (Err e) same = k
   go (Ok at) same =
       let b = given_block n at class in
-      pool_with p (with_block b p.blocks) k (subst IsPart (after_is p n align at class same) (alloc_kept p n align class k.blocks))
+      pool_with p (with_block b p.blocks) k (subst IsPart (after_on_is side p n align at class same) (alloc_on_kept side p n align class k.blocks))
 
-pub pool-free : (p : PartState) (at : ℕ) (class : Class) → KeepsPool p → KeepsPool (after_free p at class)
+pub pool-alloc : {board : BoardKind} (p : PartState) (n align : ℕ) (class : Class) → KeepsPool board p → KeepsPool board (after_alloc p n align class)
+pool-alloc p n align class k = pool-alloc_on Low p n align class k
+
+pub pool-free : {board : BoardKind} (p : PartState) (at : ℕ) (class : Class) → KeepsPool board p → KeepsPool board (after_free p at class)
 unfolding after_free
-pool-free p at class k = go (own_block p.blocks at class) refl where
-  go : (o : Option Block) → own_block p.blocks at class ≡ o → KeepsPool (freed p at (size_or o))
+pool-free {board} p at class k = go (own_block p.blocks at class) refl where
+  go : (o : Option Block) → own_block p.blocks at class ≡ o → KeepsPool board (freed p at (size_or o))
   go None same = k
   go (Some b) same = pool_with p _ k (subst (λ o. IsPart (freed p at (size_or o))) same (free_kept p at class k.blocks))
 
 -- the Kernel block at an address stays as it is when a block is allocated
-pub kernels-alloc : (p : PartState) (n align : ℕ) (class : Class) (a : ℕ) → IsPart p → IsSome (own_block p.blocks a Kernel)
-    → own_block (after_alloc p n align class).blocks a Kernel ≡ own_block p.blocks a Kernel
-unfolding after_alloc
-kernels-alloc p n align class a is there = go (alloc_of p n align) refl where
-  go : (r : Result ℕ PartErr) → alloc_of p n align ≡ r → own_block (taken_at p n class r).blocks a Kernel ≡ own_block p.blocks a Kernel
+pub kernels-alloc_on : (side : Side) (p : PartState) (n align : ℕ) (class : Class) (a : ℕ) → IsPart p → IsSome (own_block p.blocks a Kernel)
+    → own_block (after_alloc_on side p n align class).blocks a Kernel ≡ own_block p.blocks a Kernel
+unfolding after_alloc_on
+kernels-alloc_on side p n align class a is there = go (alloc_on side p n align) refl where
+  go : (r : Result ℕ PartErr) → alloc_on side p n align ≡ r → own_block (taken_at p n class r).blocks a Kernel ≡ own_block p.blocks a Kernel
   go (Err e) same = refl
   go (Ok at) same =
-      let other : at ≡ a → ⊥ = λ e. fresh_address p.start p.end p.blocks (rounded n) at a Kernel is.laid (rounded_some n) (alloc_lies p n align at same).apart there (sym e) in
+      let other : at ≡ a → ⊥ = λ e. fresh_address p.start p.end p.blocks (rounded n) at a Kernel is.laid (rounded_some n) (alloc_on_lies side p n align at same).apart there (sym e) in
       find-with_block (is_own a Kernel) (given_block n at class) p.blocks (and_left (eqb at a) (same_class class Kernel) (ne_eqb at a other))
+
+pub kernels-alloc : (p : PartState) (n align : ℕ) (class : Class) (a : ℕ) → IsPart p → IsSome (own_block p.blocks a Kernel)
+    → own_block (after_alloc p n align class).blocks a Kernel ≡ own_block p.blocks a Kernel
+kernels-alloc = kernels-alloc_on Low
 
 -- and when a User block is freed
 pub kernels-free : (p : PartState) (at a : ℕ) → IsPart p → IsSome (own_block p.blocks a Kernel)
@@ -67,11 +77,14 @@ kernels-other p at a apart = go (own_block p.blocks at Kernel) where
 pub is_there : (p : PartState) (s : Stack) → IsStack p s → IsSome (own_block p.blocks s.addr Kernel)
 is_there p s h = subst IsSome (sym h) refl
 
-pub stacks-alloc : (p : PartState) (n align : ℕ) (class : Class) (stacks : List Stack) → IsPart p → AreStacks p stacks → AreStacks (after_alloc p n align class) stacks
-stacks-alloc p n align class stacks is s = record {
-  kernels = All-weaker (IsStack p) (IsStack (after_alloc p n align class)) (λ x h. kernels-alloc p n align class x.addr is (is_there p x h) ∙ h) stacks s.kernels;
+pub stacks-alloc_on : (side : Side) (p : PartState) (n align : ℕ) (class : Class) (stacks : List Stack) → IsPart p → AreStacks p stacks → AreStacks (after_alloc_on side p n align class) stacks
+stacks-alloc_on side p n align class stacks is s = record {
+  kernels = All-weaker (IsStack p) (IsStack (after_alloc_on side p n align class)) (λ x h. kernels-alloc_on side p n align class x.addr is (is_there p x h) ∙ h) stacks s.kernels;
   apart = s.apart;
 }
+
+pub stacks-alloc : (p : PartState) (n align : ℕ) (class : Class) (stacks : List Stack) → IsPart p → AreStacks p stacks → AreStacks (after_alloc p n align class) stacks
+stacks-alloc = stacks-alloc_on Low
 
 pub stacks-free : (p : PartState) (at : ℕ) (stacks : List Stack) → IsPart p → AreStacks p stacks → AreStacks (after_free p at User) stacks
 stacks-free p at stacks is s = record {

@@ -3,6 +3,7 @@
 use Rattle.std.proofs.Common.{◌≡◌, ℕ, ◌+◌, ◌-◌, ◌<◌, ◌≤◌, Bool, true, false, cond, not, ◌&&◌, eqb, ltb, leb, List, [], ◌∷◌, Option, None, Some, IfSome, refl, sym, ap, ◌∙◌, subst}
 use Rattle.std.specs.List.{All}
 use Rattle.std.proofs.lemmas.List.Elements.{All-filter, All-push}
+use Rattle.wind_base.specs.declared.board_kind.BoardKind.{BoardKind}
 use Rattle.wind_base.specs.declared.errno.Errno.{Errno}
 use Rattle.id_table.specs.Sides.{deletion_side, console_side}
 use Rattle.id_table.specs.declared.ident.Place.{Place}
@@ -33,23 +34,23 @@ use Rattle.kernel_world.specs.Objects.{is_live, deletion_gate, WaitsRight, Keeps
 use Rattle.kernel_world.specs.declared.objects.Objects.{Objects}
 
 -- ---- one task's wait
-pub right_renews : (since : ℕ) (t : Task) → WaitsRight t → WaitsRight (renewed since t)
+pub right_renews : {board : BoardKind} (since : ℕ) (t : Task) → WaitsRight board t → WaitsRight board (renewed since t)
 right_renews since t h = record { console = h.console; repeats = h.repeats }
 
-right_answers : (a : ℕ) (e : Option Errno) (t : Task) → WaitsRight t → WaitsRight (answered a e t)
+right_answers : {board : BoardKind} (a : ℕ) (e : Option Errno) (t : Task) → WaitsRight board t → WaitsRight board (answered a e t)
 right_answers a e t h = record { console = tt; repeats = tt }
 
 -- a task that waits for nothing satisfies the rules of waits
-pub right_idle : (t : Task) → t.wait ≡ None → WaitsRight t
-right_idle t none = record {
+pub right_idle : {board : BoardKind} (t : Task) → t.wait ≡ None → WaitsRight board t
+right_idle {board} t none = record {
   console = subst (λ w. IfSome w (λ p. p.side ≡ console_side → t.id ≡ 1)) (sym none) tt;
-  repeats = subst (λ w. IfSome w (λ p. p.side ≡ deletion_side → t.regs.pc ≡ deletion_gate)) (sym none) tt;
+  repeats = subst (λ w. IfSome w (λ p. p.side ≡ deletion_side → t.regs.pc ≡ deletion_gate board)) (sym none) tt;
 }
 
 -- ---- from one kernel to the next
 -- waits begin only at places where they may, and what they are for lives
-pub waits_keep : (k j : KernState) (o : Objects) (begins : Place → Bool) → BeginsOnly begins k j → ((p : Place) → begins p ≡ true → MayBegin (both k o.semaphores) p × (is_live o p ≡ true))
-    → KeepsDeleters j → All WaitsRight j.tasks → KeepsWaits k o → KeepsWaits j o
+pub waits_keep : {board : BoardKind} (k j : KernState) (o : Objects) (begins : Place → Bool) → BeginsOnly begins k j → ((p : Place) → begins p ≡ true → MayBegin (both k o.semaphores) p × (is_live o p ≡ true))
+    → KeepsDeleters j → All (WaitsRight board) j.tasks → KeepsWaits board k o → KeepsWaits board j o
 waits_keep k j o begins from may deleters right kept =
     let may_begin : (p : Place) → begins p ≡ true → MayBegin (both k o.semaphores) p = λ p b. (may p b).0 in
     let lives : (p : Place) → begins p ≡ true → is_live o p ≡ true = λ p b. (may p b).1 in
@@ -61,17 +62,17 @@ waits_keep k j o begins from may deleters right kept =
     }
 
 -- none begins
-pub waits_calm : (k j : KernState) (o : Objects) → BeginsOnly nowhere k j → KeepsDeleters j → All WaitsRight j.tasks → KeepsWaits k o → KeepsWaits j o
+pub waits_calm : {board : BoardKind} (k j : KernState) (o : Objects) → BeginsOnly nowhere k j → KeepsDeleters j → All (WaitsRight board) j.tasks → KeepsWaits board k o → KeepsWaits board j o
 waits_calm k j o from deleters right kept = waits_keep k j o nowhere from (λ p b. absurd (cc)) deleters right kept
 
 -- ---- several waits end
-right_releases : (k : KernState) (ts : List Task) → All WaitsRight k.tasks → All WaitsRight (releases k ts).tasks
-right_releases k [] all = all
-right_releases k (t ∷ ts) all = right_releases (release k t.id) ts (move_task-stable WaitsRight right_renews k t.id released (λ u h. record { console = tt; repeats = tt }) all)
+right_releases : {board : BoardKind} (k : KernState) (ts : List Task) → All (WaitsRight board) k.tasks → All (WaitsRight board) (releases k ts).tasks
+right_releases {board} k [] all = all
+right_releases {board} k (t ∷ ts) all = right_releases (release k t.id) ts (move_task-stable (WaitsRight board) right_renews k t.id released (λ u h. record { console = tt; repeats = tt }) all)
 
-right_end_waits : (k : KernState) (ts : List Task) (value : ℕ) (errno : Option Errno) → All WaitsRight k.tasks → All WaitsRight (end_waits k ts value errno).tasks
-right_end_waits k [] value errno all = all
-right_end_waits k (t ∷ ts) value errno all = right_end_waits (end_wait k t.id value errno) ts value errno (move_task-stable WaitsRight right_renews k t.id (answered value errno) (right_answers value errno) all)
+right_end_waits : {board : BoardKind} (k : KernState) (ts : List Task) (value : ℕ) (errno : Option Errno) → All (WaitsRight board) k.tasks → All (WaitsRight board) (end_waits k ts value errno).tasks
+right_end_waits {board} k [] value errno all = all
+right_end_waits {board} k (t ∷ ts) value errno all = right_end_waits (end_wait k t.id value errno) ts value errno (move_task-stable (WaitsRight board) right_renews k t.id (answered value errno) (right_answers value errno) all)
 
 -- ---- every move
 -- a task may begin to wait at a place: what it waits for lives, and is neither an available semaphore nor a
@@ -94,23 +95,23 @@ SparesWaits k o (LeaveGate who) = IsFree k who
 SparesWaits k o (DrawIds next) = k.next_id ≤ next
 SparesWaits k o m = Unit {0}
 
-module _ (k : KernState) (o : Objects) (is : IsKern k) (kept : KeepsWaits k o) where
-  calmly : (m : Move) → BeginsOnly nowhere k (apply k m) → KeepsDeleters (apply k m) → All WaitsRight (apply k m).tasks → KeepsWaits (apply k m) o
+module _ {board : BoardKind} (k : KernState) (o : Objects) (is : IsKern k) (kept : KeepsWaits board k o) where
+  calmly : (m : Move) → BeginsOnly nowhere k (apply k m) → KeepsDeleters (apply k m) → All (WaitsRight board) (apply k m).tasks → KeepsWaits board (apply k m) o
   calmly m begins goes right = waits_calm k (apply k m) o begins goes right kept
 
   -- the task's wait, its id and its program counter are the same
-  right_change : (who : ℕ) (f : Task → Task) → ((t : Task) → WaitsRight t → WaitsRight (f t)) → All WaitsRight (change_task k who f).tasks
-  right_change who f keeps = All-change WaitsRight k.tasks who f keeps kept.right
+  right_change : (who : ℕ) (f : Task → Task) → ((t : Task) → WaitsRight board t → WaitsRight board (f t)) → All (WaitsRight board) (change_task k who f).tasks
+  right_change who f keeps = All-change (WaitsRight board) k.tasks who f keeps kept.right
 
-  right_renew : (who : ℕ) (f : Task → Task) → ((t : Task) → WaitsRight t → WaitsRight (f t)) → All WaitsRight (renew_task k who f).tasks
-  right_renew who f keeps = renew_task-stable WaitsRight right_renews k who f keeps kept.right
+  right_renew : (who : ℕ) (f : Task → Task) → ((t : Task) → WaitsRight board t → WaitsRight board (f t)) → All (WaitsRight board) (renew_task k who f).tasks
+  right_renew who f keeps = renew_task-stable (WaitsRight board) right_renews k who f keeps kept.right
 
-  right_move : (who : ℕ) (f : Task → Task) → ((t : Task) → WaitsRight t → WaitsRight (f t)) → All WaitsRight (move_task k who f).tasks
-  right_move who f keeps = move_task-stable WaitsRight right_renews k who f keeps kept.right
+  right_move : (who : ℕ) (f : Task → Task) → ((t : Task) → WaitsRight board t → WaitsRight board (f t)) → All (WaitsRight board) (move_task k who f).tasks
+  right_move who f keeps = move_task-stable (WaitsRight board) right_renews k who f keeps kept.right
 
   -- of a task that waits for nothing anything else may change
-  right_free : (who : ℕ) → IsFree k who → (f : Task → Task) → ((t : Task) → (f t).wait ≡ t.wait) → All WaitsRight (change_task k who f).tasks
-  right_free who free f same = All-change_at WaitsRight WaitsRight k.tasks who f
+  right_free : (who : ℕ) → IsFree k who → (f : Task → Task) → ((t : Task) → (f t).wait ≡ t.wait) → All (WaitsRight board) (change_task k who f).tasks
+  right_free who free f same = All-change_at (WaitsRight board) (WaitsRight board) k.tasks who f
       (λ t at own h.
       let found : task_of k.tasks who ≡ Some t = ap (task_of k.tasks) (sym own) ∙ found_in task_id k.tasks t is.rising at in
       let none : t.wait ≡ None = subst (λ q. IfSome q (λ u. u.wait ≡ None)) found free in
@@ -119,23 +120,23 @@ module _ (k : KernState) (o : Objects) (is : IsKern k) (kept : KeepsWaits k o) w
       kept.right
 
   -- each is for what lives, after such a move
-  pub waits-move : (m : Move) → SparesWaits k o m → KeepsWaits (apply k m) o
+  pub waits-move : (m : Move) → SparesWaits k o m → KeepsWaits board (apply k m) o
   waits-move (Spawn n) spares = calmly (Spawn n) (moves k (Spawn n) tt) (moves_keep k (Spawn n) is kept.deleters tt)
-      (All-push WaitsRight k.tasks (new_task k.next_id k.next_since n) kept.right (record { console = tt; repeats = tt }))
+      (All-push (WaitsRight board) k.tasks (new_task k.next_id k.next_since n) kept.right (record { console = tt; repeats = tt }))
   waits-move (Remove who) spares = calmly (Remove who) (moves k (Remove who) tt) spares
-      (All-filter (λ t. not (eqb t.id who)) WaitsRight k.tasks kept.right)
+      (All-filter (λ t. not (eqb t.id who)) (WaitsRight board) k.tasks kept.right)
   waits-move (Pend who place fifo n) spares =
       waits_keep k (pend k who place fifo n) o (same_place place) (moves k (Pend who place fifo n) tt)
       (λ p here. subst (λ q. MayBegin (both k o.semaphores) q × (is_live o q ≡ true)) (place_is place p here) (spares.may, spares.lives))
       (moves_keep k (Pend who place fifo n) is kept.deleters spares.other)
-      (All-change_at WaitsRight WaitsRight k.tasks who (λ t. renewed k.next_since (pended place fifo (wake_at place.side k.tick n) t))
+      (All-change_at (WaitsRight board) (WaitsRight board) k.tasks who (λ t. renewed k.next_since (pended place fifo (wake_at place.side k.tick n) t))
       (λ t at own h. record { console = λ q. own ∙ spares.console q; repeats = λ q. absurd (spares.other q) })
       (λ t at own h. h)
       kept.right)
       kept
   waits-move (Delay who n) spares = calmly (Delay who n) (moves k (Delay who n) tt) (moves_keep k (Delay who n) is kept.deleters tt)
       (right_renew who (delayed k.tick n) (λ t h.
-      elim (eqb n 0) as (λ b. WaitsRight (cond b t (record t { wake = Some (k.tick + n); turns = 0 }))) [
+      elim (eqb n 0) as (λ b. WaitsRight board (cond b t (record t { wake = Some (k.tick + n); turns = 0 }))) [
         | true ↦ h
         | false ↦ record { console = h.console; repeats = h.repeats }
       ]))
@@ -148,16 +149,16 @@ module _ (k : KernState) (o : Objects) (is : IsKern k) (kept : KeepsWaits k o) w
   waits-move (WakeAll place value errno) spares = calmly (WakeAll place value errno) (moves k (WakeAll place value errno) tt) (moves_keep k (WakeAll place value errno) is kept.deleters tt)
       (right_end_waits k (waiters k.tasks place) value errno kept.right)
   waits-move Tick spares = calmly Tick (moves k Tick tt) (moves_keep k Tick is kept.deleters tt)
-      (tick-stable WaitsRight right_renews right_answers (λ n t h. record { console = h.console; repeats = h.repeats }) k kept.right)
+      (tick-stable (WaitsRight board) right_renews right_answers (λ n t h. record { console = h.console; repeats = h.repeats }) k kept.right)
   waits-move (Suspend who) spares = calmly (Suspend who) (moves k (Suspend who) tt) (moves_keep k (Suspend who) is kept.deleters tt)
       (right_change who suspended (λ t h. record { console = h.console; repeats = h.repeats }))
   waits-move (Resume who) spares = calmly (Resume who) (moves k (Resume who) tt) (moves_keep k (Resume who) is kept.deleters tt)
-      (elim (is_suspended (task_of k.tasks who)) as (λ b. All WaitsRight (cond b (move_task k who resumed) k).tasks) [
+      (elim (is_suspended (task_of k.tasks who)) as (λ b. All (WaitsRight board) (cond b (move_task k who resumed) k).tasks) [
         | true ↦ right_move who resumed (λ t h. record { console = h.console; repeats = h.repeats })
         | false ↦ kept.right
       ])
   waits-move (ChangePri who pri) spares = calmly (ChangePri who pri) (moves k (ChangePri who pri) tt) (moves_keep k (ChangePri who pri) is kept.deleters tt)
-      (elim (has_pri pri (task_of k.tasks who)) as (λ b. All WaitsRight (cond b k (move_task k who (with_pri pri))).tasks) [
+      (elim (has_pri pri (task_of k.tasks who)) as (λ b. All (WaitsRight board) (cond b k (move_task k who (with_pri pri))).tasks) [
         | true ↦ kept.right
         | false ↦ right_move who (with_pri pri) (λ t h. record { console = h.console; repeats = h.repeats })
       ])
@@ -193,24 +194,24 @@ module _ (k : KernState) (o : Objects) (is : IsKern k) (kept : KeepsWaits k o) w
   waits-move (Lend on) spares = calmly (Lend on) (moves k (Lend on) tt) (moves_keep k (Lend on) is kept.deleters tt) kept.right
 
 -- ---- several priorities change
-pub waits-repried : (k : KernState) (o : Objects) (goal : ℕ → ℕ) (ts : List Task) → IsKern k → KeepsWaits k o → KeepsWaits (repried k goal ts) o
+pub waits-repried : {board : BoardKind} (k : KernState) (o : Objects) (goal : ℕ → ℕ) (ts : List Task) → IsKern k → KeepsWaits board k o → KeepsWaits board (repried k goal ts) o
 waits-repried k o goal [] is kept = kept
 waits-repried k o goal (t ∷ ts) is kept =
     let m : Move = ChangePri t.id (goal t.id) in
     waits-repried (change_pri k t.id (goal t.id)) o goal ts (move_keeps k m is tt) (waits-move k o is kept m tt)
 
-module _ (k : KernState) (o : Objects) (is : IsKern k) (kept : KeepsWaits k o) where
-  pub waits-raised : (p : Profile) (ms : List (ℕ × Mutex)) → KeepsWaits (raised_kern p k ms) o
+module _ {board : BoardKind} (k : KernState) (o : Objects) (is : IsKern k) (kept : KeepsWaits board k o) where
+  pub waits-raised : (p : Profile) (ms : List (ℕ × Mutex)) → KeepsWaits board (raised_kern p k ms) o
   waits-raised p ms = waits-repried k o (lifted p k ms) k.tasks is kept
 
   -- when the last safe section ends, all who wait to delete the task go on
-  pub waits-lessen : (who n : ℕ) → KeepsWaits (lessen k who n) o
+  pub waits-lessen : (who n : ℕ) → KeepsWaits board (lessen k who n) o
   waits-lessen who n =
       let count : ℕ = safe_of (task_of k.tasks who) in
       let less : KernState = set_safe k who (count - n) in
       let set : BeginsOnly nowhere k less = moves k (SetSafe who (count - n)) tt in
-      let right : All WaitsRight less.tasks = All-change WaitsRight k.tasks who (λ t. record t { safe = count - n }) (λ t h. record { console = h.console; repeats = h.repeats }) kept.right in
-      elim (ltb 0 count && leb count n) as (λ b. KeepsDeleters (cond b (release_all less (deletion who)) less) → KeepsWaits (cond b (release_all less (deletion who)) less) o) [
+      let right : All (WaitsRight board) less.tasks = All-change (WaitsRight board) k.tasks who (λ t. record t { safe = count - n }) (λ t h. record { console = h.console; repeats = h.repeats }) kept.right in
+      elim (ltb 0 count && leb count n) as (λ b. KeepsDeleters (cond b (release_all less (deletion who)) less) → KeepsWaits board (cond b (release_all less (deletion who)) less) o) [
         | true ↦ λ goes.
             waits_calm k (release_all less (deletion who)) o (then nowhere k less (release_all less (deletion who)) set (moves less (ReleaseAll (deletion who)) tt)) goes
             (right_releases less (waiters less.tasks (deletion who)) right) kept

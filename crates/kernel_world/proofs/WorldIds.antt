@@ -29,18 +29,18 @@ module _ (w : WorldState) (kept : KeepsIds w) where
   ids_watch j s alone given =
       let old : List ℕ = map watchdog_id w.watch.watchdogs in
       let new : List ℕ = map watchdog_id s.watchdogs in
-      ids_given w.kern.next_id (task_ids w) (object_ids w) w.objects.mutexes.rows kept j.next_id (ids j.tasks) (waited_ids w.objects ++ (new ++ table.ids w.modules)) w.objects.mutexes.rows
+      ids_given w.kern.next_id (task_ids w) (object_ids w) w.objects.mutexes.rows kept j.next_id (ids j.tasks) (waited_ids w.objects ++ (new ++ table.ids w.modules.rows)) w.objects.mutexes.rows
       (fewer_same (task_ids w) (ids j.tasks) alone)
-      (given_before w.kern.next_id j.next_id (waited_ids w.objects) (other_ids w) (new ++ table.ids w.modules)
-      (given_behind w.kern.next_id j.next_id (table.ids w.modules) old new given)) kept.owners
+      (given_before w.kern.next_id j.next_id (waited_ids w.objects) (other_ids w) (new ++ table.ids w.modules.rows)
+      (given_behind w.kern.next_id j.next_id (table.ids w.modules.rows) old new given)) kept.owners
 
   -- some modules are gone
-  pub ids_modules : (ms : List (ℕ × LoadedModule)) → Fewer (table.ids ms) (table.ids w.modules) → KeepsIds (record w { modules = ms })
+  pub ids_modules : (ms : List (ℕ × LoadedModule)) → Fewer (table.ids ms) (table.ids w.modules.rows) → KeepsIds (record w { modules = record w.modules { rows = ms } })
   ids_modules ms fewer =
       let watches : List ℕ = map watchdog_id w.watch.watchdogs in
       ids_fewer w.kern.next_id (task_ids w) (object_ids w) w.objects.mutexes.rows kept w.kern.next_id (task_ids w) (waited_ids w.objects ++ (watches ++ table.ids ms)) w.objects.mutexes.rows
       (omega arith) (fewer_same (task_ids w) (task_ids w) refl)
-      (fewer_before (waited_ids w.objects) (other_ids w) (watches ++ table.ids ms) (fewer_before watches (table.ids w.modules) (table.ids ms) fewer)) kept.owners
+      (fewer_before (waited_ids w.objects) (other_ids w) (watches ++ table.ids ms) (fewer_before watches (table.ids w.modules.rows) (table.ids ms) fewer)) kept.owners
 
   -- a live task may own a mutex
   pub tasks_own : All (λ t. Owns w.kern.next_id (object_ids w) (Some t.id)) w.kern.tasks
@@ -50,15 +50,15 @@ module _ (w : WorldState) (kept : KeepsIds w) where
 
   -- a module is added, with the next id
   pub ids_load : (j : KernState) (m : LoadedModule) → ids j.tasks ≡ ids w.kern.tasks → j.next_id ≡ w.kern.next_id + 1
-      → KeepsIds (record w { kern = j; modules = w.modules ++ (w.kern.next_id, m) ∷ [] })
+      → KeepsIds (record w { kern = j; modules = record w.modules { rows = w.modules.rows ++ (w.kern.next_id, m) ∷ [] } })
   ids_load j m alone next =
       let watches : List ℕ = map watchdog_id w.watch.watchdogs in
-      let new : List ℕ = table.ids (w.modules ++ (w.kern.next_id, m) ∷ []) in
+      let new : List ℕ = table.ids (w.modules.rows ++ (w.kern.next_id, m) ∷ []) in
       ids_given w.kern.next_id (task_ids w) (object_ids w) w.objects.mutexes.rows kept j.next_id (ids j.tasks) (waited_ids w.objects ++ (watches ++ new)) w.objects.mutexes.rows
       (fewer_same (task_ids w) (ids j.tasks) alone)
       (subst (λ after. Given w.kern.next_id after (object_ids w) (waited_ids w.objects ++ (watches ++ new))) (sym next)
       (given_before w.kern.next_id (w.kern.next_id + 1) (waited_ids w.objects) (other_ids w) (watches ++ new)
-      (given_before w.kern.next_id (w.kern.next_id + 1) watches (table.ids w.modules) new (given_push w.modules w.kern.next_id m)))) kept.owners
+      (given_before w.kern.next_id (w.kern.next_id + 1) watches (table.ids w.modules.rows) new (given_push w.modules.rows w.kern.next_id m)))) kept.owners
 
   -- a task is added, with the next id
   pub ids_spawn : (j : KernState) → ids j.tasks ≡ ids w.kern.tasks ++ w.kern.next_id ∷ [] → j.next_id ≡ w.kern.next_id + 1 → KeepsIds (record w { kern = j })

@@ -1,7 +1,9 @@
 -- The invariant of the world: it holds at the start, and every call keeps it.
 use Rattle.std.specs.Prelude.{◌≡◌, ℕ, ◌^◌, ◌<◌, ◌≤◌, List, [], ◌∷◌, length, map, false, Option, Some, IsSome}
 use Rattle.std.specs.List.{All, AllPairs}
-use Rattle.wind_base.specs.Limits.{ram_bytes, pool_start, interrupt_stack_bytes, most_blocks, most_modules, most_symbols}
+use Rattle.wind_base.specs.Limits.{pool_start, interrupt_stack_bytes, most_modules, most_symbols}
+use Rattle.wind_base.specs.Boards.{board_rules}
+use Rattle.wind_base.specs.declared.board_kind.BoardKind.{BoardKind}
 use Rattle.wind_lists.specs.Records.{Rising}
 use Rattle.id_table.specs.Rows.{IdsBelow, row_id}
 use Rattle.mem_partition.specs.Place.{rounded}
@@ -15,15 +17,15 @@ use Rattle.isr_watch.specs.State.{WatchState, IsWatch}
 use Rattle.isr_watch.specs.Laws.{AllBelow}
 use Rattle.kernel_world.specs.Objects.{KeepsObjects, DepthsWithin}
 use Rattle.kernel_world.specs.State.{WorldState}
-use Rattle.kernel_world.specs.Opening.{interrupt_stack, stack_block}
+use Rattle.module_image.specs.Opening.{interrupt_stack, stack_block}
 use Rattle.kernel_world.specs.LiveIds.{KeepsIds}
 
 -- the pool is the board's
-pub record KeepsPool (p : PartState) : Type 0 where
+pub record KeepsPool (board : BoardKind) (p : PartState) : Type 0 where
   pub blocks : IsPart p
   pub start : p.start ≡ pool_start
-  pub end : p.end ≡ ram_bytes
-  pub room : p.room ≡ most_blocks
+  pub end : p.end ≡ (board_rules board).pool_end
+  pub room : p.room ≡ (board_rules board).blocks
 
 -- a stack: its address, and its size in bytes
 pub record Stack : Type 0 where
@@ -81,11 +83,13 @@ pub record KeepsWorld (w : WorldState) : Type 0 where
   pub kern : IsKern w.kern
   -- the kernel has its ids
   pub home : w.kern.lent ≡ false
-  pub objects : KeepsObjects w.kern w.objects
-  pub pool : KeepsPool w.part
+  pub objects : KeepsObjects w.board w.kern w.objects
+  pub pool : KeepsPool w.board w.part
   pub stacks : KeepsStacks w.kern w.part
-  pub modules : KeepsLoaded w.kern w.part w.modules
-  pub ram : length w.ram ≡ ram_bytes
+  pub modules : KeepsLoaded w.kern w.part w.modules.rows
+  -- modules are placed as on this board
+  pub kind : w.modules.board ≡ w.board
+  pub ram : length w.ram ≡ (board_rules w.board).ram_bytes
   pub symbols : length w.symbols ≤ most_symbols
   pub watch : KeepsWatch w.kern.next_id w.watch
   pub ids : KeepsIds w

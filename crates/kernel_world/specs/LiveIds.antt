@@ -19,7 +19,7 @@ waited_ids o = ids o.semaphores ++ (ids o.mutexes.rows ++ ids o.queues.queues)
 
 -- the ids of the live watchdogs and modules
 abbrev pub other_ids : WorldState → List ℕ
-other_ids w = map watchdog_id w.watch.watchdogs ++ ids w.modules
+other_ids w = map watchdog_id w.watch.watchdogs ++ ids w.modules.rows
 
 -- the ids of all live objects other than tasks
 abbrev pub object_ids : WorldState → List ℕ

@@ -1,8 +1,9 @@
 -- The invariant of the objects other than the kernel's tasks, and of the waits for them.
 use Rattle.std.specs.Prelude.{◌≡◌, ℕ, ◌==◌, ◌<◌, ◌≤◌, ◌&&◌, ◌||◌, Bool, true, List, [], length, None, IfSome, is_some}
 use Rattle.std.specs.List.{All}
-use Rattle.wind_base.specs.Limits.{gates_start, ram_bytes}
+use Rattle.wind_base.specs.Boards.{board_rules}
 use Rattle.wind_base.specs.Gates.{gate_address}
+use Rattle.wind_base.specs.declared.board_kind.BoardKind.{BoardKind}
 use Rattle.wind_base.specs.declared.gate.Gate.TheVariants as gates
 use Rattle.wind_base.specs.declared.profile.Profile.{Profile}
 use Rattle.id_table.specs.Rows.{object_of}
@@ -40,29 +41,29 @@ abbrev pub is_live : Objects → Place → Bool
 is_live o p = live_with (is_live_beside o) o.semaphores p
 
 -- the gate of taskDelete; a task that waits for a deletion is there, so that it repeats its call
-abbrev pub deletion_gate : ℕ
-deletion_gate = gate_address gates_start gates.TaskDelete
+abbrev pub deletion_gate : BoardKind → ℕ
+deletion_gate board = gate_address (board_rules board).gates_start gates.TaskDelete
 
 -- only the shell's task waits for the console, and a task that waits for a deletion is at the gate of taskDelete
-pub record WaitsRight (t : Task) : Type 0 where
+pub record WaitsRight (board : BoardKind) (t : Task) : Type 0 where
   pub console : IfSome t.wait (λ p. p.side ≡ console_side → t.id ≡ 1)
-  pub repeats : IfSome t.wait (λ p. p.side ≡ deletion_side → t.regs.pc ≡ deletion_gate)
+  pub repeats : IfSome t.wait (λ p. p.side ≡ deletion_side → t.regs.pc ≡ deletion_gate board)
 
 -- what each move of the kernel keeps by itself: the invariant of semaphores, that of tasks that wait to delete a
 -- task, and that every wait is for something that lives
-pub record KeepsWaits (k : KernState) (o : Objects) : Type 0 where
+pub record KeepsWaits (board : BoardKind) (k : KernState) (o : Objects) : Type 0 where
   pub semaphores : KeepsSemaphores (with_semaphores k o.semaphores)
   pub deleters : KeepsDeleters k
   pub live : WaitsLive (is_live o) k
-  pub right : All WaitsRight k.tasks
+  pub right : All (WaitsRight board) k.tasks
 
--- ---- all
-pub record KeepsObjects (k : KernState) (o : Objects) : Type 0 where
-  pub waits : KeepsWaits k o
+-- ---- all, on a board of this kind
+pub record KeepsObjects (board : BoardKind) (k : KernState) (o : Objects) : Type 0 where
+  pub waits : KeepsWaits board k o
   pub mutexes : KeepsMutexes (with_mutexes k o.mutexes)
   pub table : AreMutexes o.mutexes.rows
   -- the queues, with any RAM of the board's size
-  pub queues : (ram : List ℕ) → length ram ≡ ram_bytes → IsKept (scene k o.queues ram)
+  pub queues : (ram : List ℕ) → length ram ≡ (board_rules board).ram_bytes → IsKept (scene k o.queues ram)
   -- no queue has number 0
   pub queues_ranged : All (λ r. 0 < r.0) o.queues.queues
   -- no two objects of different kinds have the same id

@@ -22,6 +22,7 @@ world_with slots w = record {
   names = w.names;
   watch = w.watch;
   int_errno = w.int_errno;
+  board = w.board;
 }
 
 -- a world, with each device seen by these two functions

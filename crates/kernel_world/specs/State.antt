@@ -1,9 +1,11 @@
 -- What a contract sees of the world of the kernel's calls.
 use Rattle.std.specs.Prelude.{ℕ, List, Option}
+use Rattle.wind_base.specs.declared.board_kind.BoardKind.{BoardKind}
+use Rattle.wind_base.specs.declared.profile.Profile.{Profile}
 use Rattle.wind_outside.specs.Devices.{DeviceState}
 use Rattle.mem_partition.specs.State.{PartState}
 use Rattle.symbol_table.specs.declared.symbol.Symbol.{Symbol}
-use Rattle.module_loader.specs.declared.module.LoadedModule.{LoadedModule}
+use Rattle.module_loader.specs.Modules.{LoadedModules}
 use Rattle.wind_core.specs.State.{KernState}
 use Rattle.isr_watch.specs.State.{WatchState}
 use Rattle.kernel_world.specs.declared.objects.Objects.{Objects}
@@ -18,8 +20,8 @@ pub record WorldState : Type 0 where
   pub part : PartState
   -- the symbols, in order of adding
   pub symbols : List Symbol
-  -- the live modules, by rising id
-  pub modules : List (ℕ × LoadedModule)
+  -- the live modules, by rising id, and the kind of board for which they are placed
+  pub modules : LoadedModules
   -- the bytes of RAM, from address 0 on
   pub ram : List ℕ
   pub slots : List (Option DeviceState)
@@ -31,3 +33,13 @@ pub record WorldState : Type 0 where
   pub watch : WatchState
   -- the last error number at interrupt level
   pub int_errno : ℕ
+  -- the kind of the board
+  pub board : BoardKind
+
+-- what is chosen at the start, and no call changes: the rule of inheritance, and the kind of board
+pub record Choice : Type 0 where
+  pub profile : Profile
+  pub board : BoardKind
+
+abbrev pub choice_of : WorldState → Choice
+choice_of w = record { profile = w.objects.mutexes.profile; board = w.board }

@@ -2,12 +2,16 @@
 
 ghost use Rattle.std.specs.Prelude.{◌≡◌, ◌+◌, ◌<◌, ◌≤◌, ◌++◌, [], length, IfOk, IfErr, OnOk};
 ghost use Rattle.wind_base.specs.Limits.{most_slots};
+ghost use Rattle.wind_base.specs.Boards.{board_rules};
 ghost use Rattle.wind_base.specs.Gates.{gates};
 ghost use Rattle.wind_outside.specs.Devices.{slots_of};
+ghost use Rattle.module_loader.specs.Modules.{modules_on};
 ghost use Rattle.kernel_world.specs.Objects.{no_objects};
-ghost use Rattle.kernel_world.specs.Opening.{shell_record as shell_record_lem, opening_kern as opening_kern_lem, opening_part as opening_part_lem, no_watch, symbols_of_gate, gate_symbols as gate_symbols_lem, zeros, opening_world};
+ghost use Rattle.module_image.specs.Opening.{symbols_of_gate, gate_symbols as gate_symbols_lem};
+ghost use Rattle.kernel_world.specs.Opening.{shell_record as shell_record_lem, opening_kern as opening_kern_lem, opening_part as opening_part_lem, no_watch, zeros, opening_world};
 ghost use Rattle.kernel_world.specs.Seen.{world_seen};
 
+use crate::board_gates::gate_address;
 use crate::objects::{self, Objects};
 use crate::starting::no_regs;
 use crate::world::World;
@@ -19,10 +23,10 @@ use module_loader::Modules;
 use std::alloc::Global;
 use symbol_table::{SymKind, Symbol, Symbols};
 use task_block::NewTask;
-use wind_base::limits::{
-    CHUNK_BYTES, GATES_START, INTERRUPT_STACK_BYTES, POOL_START, RAM_BYTES, SHELL_STACK_BYTES,
+use wind_base::limits::{CHUNK_BYTES, INTERRUPT_STACK_BYTES, POOL_START, SHELL_STACK_BYTES};
+use wind_base::{
+    BoardKind, BoardRules, Gate, Name, NoMemory, OutBuf, Pri, Profile, ShortName, gate_name,
 };
-use wind_base::{Gate, Name, NoMemory, OutBuf, Pri, Profile, ShortName, gate_name};
 use wind_core::Kern;
 use wind_outside::{Device, Slots};
 
@@ -66,10 +70,16 @@ fn opening_kern(alloc: Global) -> Result<Kern, NoMemory>
 }
 
 // The partition at the start: it holds the stack of the shell's task and the interrupt stack.
-fn opening_part(alloc: Global) -> Result<Part, NoMemory>
-    ensures { IfOk result (λ p. p ≡ opening_part_lem) }
+#[tactic(auto, using(crate::proofs::Boards::blocks_few))]
+fn opening_part(alloc: Global, board: BoardKind) -> Result<Part, NoMemory>
+    ensures { IfOk result (λ p. p ≡ opening_part_lem board) }
 {
-    let mut part = Part::new(alloc, POOL_START, RAM_BYTES)?;
+    let BoardRules {
+        pool_end,
+        blocks,
+        ..
+    } = board.rules();
+    let mut part = Part::with_limit(alloc, POOL_START, pool_end, blocks)?;
     let Ok(_) = part.alloc(SHELL_STACK_BYTES, GRAIN, Class::Kernel) else {
         unreachable!()
     };
@@ -79,10 +89,10 @@ fn opening_part(alloc: Global) -> Result<Part, NoMemory>
     Ok(part)
 }
 
-// Adds the symbol of a gate, if it has a name.
-fn add_gate(alloc: Global, syms: &mut Symbols, gate: Gate) -> Result<(), NoMemory>
+// Adds the symbol of a board's gate, if it has a name.
+fn add_gate(alloc: Global, syms: &mut Symbols, board: BoardKind, gate: Gate) -> Result<(), NoMemory>
     requires { 0 < syms.old.spare }
-    ensures ok { OnOk result (syms.new.list ≡ syms.old.list ++ symbols_of_gate gate) }
+    ensures ok { OnOk result (syms.new.list ≡ syms.old.list ++ symbols_of_gate (board_rules board).gates_start gate) }
     ensures spare { OnOk result (syms.old.spare ≤ syms.new.spare + 1) }
 {
     let Some(name) = gate_name(gate.number()) else {
@@ -93,7 +103,7 @@ fn add_gate(alloc: Global, syms: &mut Symbols, gate: Gate) -> Result<(), NoMemor
     };
     syms.add(Symbol {
         name,
-        value: gate.address(GATES_START),
+        value: gate_address(board, gate),
         kind: SymKind::TextSym,
         global: true,
         group: 0,
@@ -109,9 +119,9 @@ fn cleared_ram(alloc: Global, bytes: u32) -> Result<Ram, NoMemory>
     Ram::new(alloc, bytes)
 }
 
-// The symbols of the kernel's calls.
-fn gate_symbols(alloc: Global) -> Result<Symbols, NoMemory>
-    ensures { IfOk result (λ t. t.list ≡ gate_symbols_lem gates) }
+// The symbols of the kernel's calls on a board.
+fn gate_symbols(alloc: Global, board: BoardKind) -> Result<Symbols, NoMemory>
+    ensures { IfOk result (λ t. t.list ≡ gate_symbols_lem (board_rules board).gates_start gates) }
 {
     let mut syms = Symbols::new(alloc)?;
     let all = Gate::all();
@@ -119,7 +129,7 @@ fn gate_symbols(alloc: Global) -> Result<Symbols, NoMemory>
         return Err(NoMemory);
     };
     for gate in all {
-        add_gate(alloc, &mut syms, *gate)?;
+        add_gate(alloc, &mut syms, board, *gate)?;
     }
     Ok(syms)
 }
@@ -153,27 +163,32 @@ struct Loadable {
     mods: Modules,
 }
 
-// Makes the partition and the symbols, without modules.
-fn make_loadable(alloc: Global) -> Result<Loadable, NoMemory>
-    ensures part { IfOk result (λ l. l.part ≡ opening_part_lem) }
-    ensures symbols { IfOk result (λ l. l.syms.list ≡ gate_symbols_lem gates) }
-    ensures modules { IfOk result (λ l. l.mods ≡ []) }
+// Makes the board's partition and symbols, without modules.
+fn make_loadable(alloc: Global, board: BoardKind) -> Result<Loadable, NoMemory>
+    ensures part { IfOk result (λ l. l.part ≡ opening_part_lem board) }
+    ensures symbols { IfOk result (λ l. l.syms.list ≡ gate_symbols_lem (board_rules board).gates_start gates) }
+    ensures modules { IfOk result (λ l. l.mods ≡ modules_on board []) }
 {
     Ok(Loadable {
-        part: opening_part(alloc)?,
-        syms: gate_symbols(alloc)?,
-        mods: Modules::new(alloc)?,
+        part: opening_part(alloc, board)?,
+        syms: gate_symbols(alloc, board)?,
+        mods: Modules::new(alloc, board)?,
     })
 }
 
 impl World {
-    /// Makes the world at the start, over these devices, under a rule of inheritance. If memory runs
-    /// out, the devices come back unchanged.
+    /// Makes the world at the start, over these devices, under a rule of inheritance, on a board of
+    /// a kind. If memory runs out, the devices come back unchanged.
     #[tactic(auto, using(crate::proofs::Opened::opened_by))]
-    pub fn boot(alloc: Global, slots: Slots, profile: Profile) -> Result<World, Slots>
+    pub fn boot(
+        alloc: Global,
+        slots: Slots,
+        profile: Profile,
+        board: BoardKind,
+    ) -> Result<World, Slots>
         requires { length slots.items ≤ most_slots }
         ensures ok { IfOk result (λ w. world_seen ⟦<dyn Device as Device>⟧ w
-            ≡ opening_world (slots_of kind_of words_of slots.items) profile) }
+            ≡ opening_world (slots_of kind_of words_of slots.items) profile board) }
         ensures room { IfOk result (λ w. 12291 ≤ w.out.room) }
         ensures err { IfErr result (λ back. back ≡ slots) }
     {
@@ -182,10 +197,10 @@ impl World {
         let Ok(out) = OutBuf::reserved(alloc, OUTPUT_BYTES) else {
             return Err(slots);
         };
-        let Ok(ram) = cleared_ram(alloc, RAM_BYTES) else {
+        let Ok(ram) = cleared_ram(alloc, board.rules().ram_bytes) else {
             return Err(slots);
         };
-        let Ok(loadable) = make_loadable(alloc) else {
+        let Ok(loadable) = make_loadable(alloc, board) else {
             return Err(slots);
         };
         let Ok(started) = start(alloc, profile) else {
@@ -202,6 +217,7 @@ impl World {
             names: 1,
             watch: started.watch,
             int_errno: 0,
+            board,
         })
     }
 }

@@ -3,6 +3,7 @@
 
 mod actor;
 mod answering;
+mod board_gates;
 mod boot;
 mod call;
 mod gates;
@@ -14,6 +15,7 @@ mod world;
 
 pub use actor::{Actor, caller_regs, is_shell, stack_word, target};
 pub use answering::{errno_of, reply_to, set_errno};
+pub use board_gates::{gate_address, gate_at};
 pub use call::{Call, read_call};
 pub use gates::{is_call, is_isr_callable, is_shells_own, may_lack_memory};
 pub use leaving::leave_gate;

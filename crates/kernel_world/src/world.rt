@@ -6,7 +6,7 @@ use isr_watch::Watch;
 use mem_partition::Part;
 use module_loader::Modules;
 use symbol_table::Symbols;
-use wind_base::OutBuf;
+use wind_base::{BoardKind, OutBuf};
 use wind_core::Kern;
 
 /// All that a kernel call may read or change.
@@ -32,4 +32,6 @@ pub struct World {
     pub watch: Watch,
     /// The last error number at interrupt level.
     pub int_errno: u32,
+    /// The kind of the board.
+    pub board: BoardKind,
 }

@@ -16,8 +16,8 @@ use Rattle.wind_lists.proofs.Places.{place_of, insert_place, of_id-without, of_i
 use Rattle.linked_lists.specs.declared.index.Entry.{Entry}
 use Rattle.linked_lists.specs.declared.id_lists.Member.{Member}
 use Rattle.linked_lists.specs.Chains.{Chains, cell_key, all_cells, chain_at, first_key, is_key, put_before, value_in, value_of, IsOnlyIn}
-use Rattle.linked_lists.specs.Named.{entry_id, member_id, named_cell, named_chains, entry_of, IsIndexed, key_found}
-use Rattle.linked_lists.proofs.Keeping.{Split, some_is, is_some_of}
+use Rattle.linked_lists.specs.Named.{entry_id, member_id, named_cell, named_chains, named, entry_of, IsIndexed, key_found}
+use Rattle.linked_lists.proofs.Keeping.{Split, some_is, not_some, is_some_of}
 use Rattle.linked_lists.proofs.Telling.{no_cells}
 
 eqb_comm : (m n : ℕ) → eqb m n ≡ eqb n m
@@ -179,6 +179,10 @@ module _ {T : Type 0} where
         | false ↦ ap (λ zs. named_cell c ∷ zs) rest
       ]
 
+  -- a place among the lists by id is one among the lists by key
+  pub place_within : (l : Chains (Member T)) (t : Chains T) (p : ℕ) → named l ≡ t → p < length t.chains → p < length l.chains
+  place_within l t p is within = subst (λ n. p < n) (length-map l.chains (map named_cell)) (subst (λ (s : Chains T). p < length s.chains) (sym is) within)
+
   pub named_at : (cs : List (List (ℕ × Member T))) (p : ℕ) → p < length cs → chain_at (named_chains cs) p ≡ map named_cell (chain_at cs p)
   named_at cs p hp = get_or-map (map named_cell) cs p [] [] hp
 
@@ -225,6 +229,14 @@ module _ {T : Type 0} where
         (λ c listed. ne_eqb c.1.who who (λ q. let there : ◌≡◌ {A = Option Entry} None (Some (entry_of c)) = sym none ∙ ap (of_id entry_id es) (sym q) ∙ listed in absurd (cc)))
         (all_cells cs) is.listed
 
+    -- the entry of an id has a node
+    pub entry_node : (who : ℕ) (e : Entry) → of_id entry_id es who ≡ Some e → IsSome (value_of cs e.key)
+    entry_node who e entry = let v = entry_value who e entry in some_is (value_of cs e.key) v.0 v.1
+
+    -- and so has an entry that stands at the place of the id
+    pub node_there : (who at : ℕ) (e : Entry) → StandsAt entry_id es who at → e ≡ get_or es at e → IsSome (value_of cs e.key)
+    node_there who at e stands here = entry_node who e (entry_found es who at e stands is.rising here)
+
     pub no_value : (who : ℕ) → of_id entry_id es who ≡ None → value_of (named_chains cs) who ≡ None
     no_value who none = ap (λ zs. value_in zs who) (named_cells cs) ∙ missing (all_cells cs) (no_cell who none)
       where
@@ -233,6 +245,14 @@ module _ {T : Type 0} where
         missing (x ∷ xs) all =
             ap (λ b. option_map (λ (c : ℕ × T). c.1) (cond b (Some (named_cell x)) (of_id cell_key (map named_cell xs) who))) (All-head (λ c. eqb c.1.who who ≡ false) x xs all)
             ∙ missing xs (All-tail (λ c. eqb c.1.who who ≡ false) x xs all)
+
+    -- an id in a list has an entry
+    pub has_entry : (who : ℕ) → IsSome (value_of (named_chains cs) who) → IsSome (of_id entry_id es who)
+    has_entry who some =
+        elim (of_id entry_id es who) as (λ o. of_id entry_id es who ≡ o → IsSome o) [
+          | None ↦ λ e. absurd (not_some (value_of (named_chains cs) who) (no_value who e) some)
+          | Some x ↦ λ e. refl
+        ] refl
 
     -- if an id is in no list, it has no entry
     pub no_entry : (who : ℕ) → value_of (named_chains cs) who ≡ None → of_id entry_id es who ≡ None

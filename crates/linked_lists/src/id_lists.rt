@@ -5,7 +5,7 @@ ghost use Rattle.std.specs.Option.{ForSome};
 ghost use Rattle.linked_lists.specs.Chains.{Chains, all_cells, chain_at, first_key, value_in, value_of, first_value as first_value_lem, with_cell, without_cell, with_value, AreChains, NextIs};
 ghost use Rattle.linked_lists.specs.Named.{list_found};
 
-use crate::index::{Entry, key_of, place_of, rank_of};
+use crate::index::{Entry, key_at, key_of, place_of, rank_of};
 use crate::lists::Lists;
 use id_table::Ident;
 use std::alloc::Global;
@@ -126,10 +126,7 @@ impl<T> IdLists<T> {
         requires { IsSome (value_of self.now.chains who) }
         ensures { value_of self.now.chains who ≡ Some result.now }
     {
-        match place_of(&self.index, who) {
-            Some(at) => &self.lists.value(self.index[at].key).value,
-            None => unreachable!(),
-        }
+        &self.lists.value(key_at(&self.index, who)).value
     }
 
     /// The value of the first id of a list. None if the list is empty.
@@ -158,9 +155,7 @@ impl<T> IdLists<T> {
         requires { IsSome (value_of self.old.chains who) }
         ensures { self.new ≡ with_value self.old who value }
     {
-        match place_of(&self.index, who) {
-            Some(at) => self.lists.set(self.index[at].key, Member { who, value }),
-            None => unreachable!(),
-        }
+        let key = key_at(&self.index, who);
+        self.lists.set(key, Member { who, value });
     }
 }

@@ -1,6 +1,6 @@
 //! The index: where the node of each id is.
 
-ghost use Rattle.std.specs.Prelude.{◌≡◌, ◌≤◌, None, length, MatchOption, nat_lt, true, false};
+ghost use Rattle.std.specs.Prelude.{◌≡◌, ◌≤◌, Some, None, length, IsSome, MatchOption, nat_lt, true, false};
 ghost use Rattle.std.specs.List.Sorted.{IsPartitionPoint};
 ghost use Rattle.wind_lists.specs.Records.{of_id, Rising, StandsAt};
 ghost use Rattle.linked_lists.specs.Named.{entry_id, key_found};
@@ -37,6 +37,18 @@ pub(crate) fn place_of(index: &[Entry], who: Ident) -> Option<usize>
         Some(rank)
     } else {
         None
+    }
+}
+
+// The key of the node of an id that has one.
+pub(crate) fn key_at(index: &[Entry], who: Ident) -> usize
+    requires rising { Rising entry_id index.now }
+    requires there { IsSome (of_id entry_id index.now who) }
+    ensures { of_id entry_id index.now who ≡ Some (record { id = who; key = result }) }
+{
+    match place_of(index, who) {
+        Some(at) => index[at].key,
+        None => unreachable!(),
     }
 }
 

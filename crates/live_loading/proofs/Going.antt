@@ -5,8 +5,10 @@ use Rattle.std.proofs.lemmas.List.{length-append}
 use Rattle.std.proofs.lemmas.List.Quantifiers.{all_pairs_push}
 use Rattle.wind_base.specs.Limits.{greatest_word, most_symbols, ok_word}
 use Rattle.wind_base.specs.Errno.{errno_number}
+use Rattle.wind_base.specs.declared.board_kind.BoardKind.{BoardKind}
 use Rattle.wind_base.specs.declared.errno.Errno.TheVariants as errors
-use Rattle.mem_partition.specs.State.{PartState, after_alloc}
+use Rattle.wind_base.specs.declared.board_kind.Side.{Side}
+use Rattle.mem_partition.specs.State.{PartState, after_alloc_on}
 use Rattle.mem_partition.specs.declared.block.Class.TheVariants.{Kernel}
 use Rattle.elf_read.specs.declared.module.Module.{Module}
 use Rattle.elf_read.specs.Contents.{module_at}
@@ -20,7 +22,7 @@ use Rattle.module_image.proofs.Counts.{count_law}
 use Rattle.module_loader.specs.declared.module.LoadErr.{LoadErr}
 use Rattle.module_loader.specs.declared.module.LoadedModule.{LoadedModule}
 use Rattle.module_loader.specs.Placing.{with_seg, with_text, with_data, with_needs}
-use Rattle.module_loader.specs.Loading.{LoaderState, count_refusal, verdict, file_verdict, loaded, record_of, told, IsLoaded}
+use Rattle.module_loader.specs.Loading.{LoaderState, side_of, count_refusal, verdict, file_verdict, loaded, record_of, told, IsLoaded}
 use Rattle.module_loader.specs.Live.{IsLoader}
 use Rattle.module_loader.proofs.Files.{is_file}
 use Rattle.module_loader.proofs.Applying.{is_accepted}
@@ -35,11 +37,12 @@ use Rattle.kernel_world.specs.State.{WorldState}
 use Rattle.kernel_world.specs.Actors.{MayCall, shell_id, caller_words}
 use Rattle.kernel_world.specs.Replies.{left_gate, with_answer, with_errno}
 use Rattle.kernel_world.specs.Kept.{Stack, routine_stack, KeepsPool, AreStacks, KeepsLoaded, task_stacks, IsWorld, Within, call_sinces}
+use Rattle.kernel_world.proofs.Boards.{pool_in_ram}
 use Rattle.kernel_world.proofs.WorldIds.{ids_load}
 use Rattle.kernel_world.proofs.Advancing.{Advances, advances_on, advances_more, beside, by_kern, errno_advances}
 use Rattle.kernel_world.proofs.Goes.{drawn, goes-draw, goes-move}
 use Rattle.kernel_world.proofs.ObjectMoves.{objects-move}
-use Rattle.kernel_world.proofs.Stacks.{pool-alloc, stacks-alloc}
+use Rattle.kernel_world.proofs.Stacks.{pool-alloc_on, stacks-alloc_on}
 use Rattle.kernel_world.proofs.Replying.{left_advances}
 use Rattle.kernel_calls.proofs.Serves.{passes_by}
 use Rattle.live_loading.specs.Said.{FileSaid, Held, Missing, TooLong}
@@ -49,29 +52,29 @@ use Rattle.live_loading.specs.Laws.{LoadLaw}
 use Rattle.live_loading.proofs.Counted.{Fits, fits, counts_bound}
 
 -- ---- the blocks of a module
-pool_seg : (p : PartState) (n : Need) → KeepsPool p → KeepsPool (with_seg p n)
-pool_seg p n k = elim (eqb n.size 0) as (λ b. KeepsPool (cond b p (after_alloc p (min n.size greatest_word) n.align Kernel))) [
+pool_seg : {board : BoardKind} (side : Side) (p : PartState) (n : Need) → KeepsPool board p → KeepsPool board (with_seg side p n)
+pool_seg {board} side p n k = elim (eqb n.size 0) as (λ b. KeepsPool board (cond b p (after_alloc_on side p (min n.size greatest_word) n.align Kernel))) [
   | true ↦ k
-  | false ↦ pool-alloc p (min n.size greatest_word) n.align Kernel k
+  | false ↦ pool-alloc_on side p (min n.size greatest_word) n.align Kernel k
 ]
 
-stacks_seg : (p : PartState) (n : Need) (stacks : List Stack) → KeepsPool p → AreStacks p stacks → AreStacks (with_seg p n) stacks
-stacks_seg p n stacks k s = elim (eqb n.size 0) as (λ b. AreStacks (cond b p (after_alloc p (min n.size greatest_word) n.align Kernel)) stacks) [
+stacks_seg : {board : BoardKind} (side : Side) (p : PartState) (n : Need) (stacks : List Stack) → KeepsPool board p → AreStacks p stacks → AreStacks (with_seg side p n) stacks
+stacks_seg side p n stacks k s = elim (eqb n.size 0) as (λ b. AreStacks (cond b p (after_alloc_on side p (min n.size greatest_word) n.align Kernel)) stacks) [
   | true ↦ s
-  | false ↦ stacks-alloc p (min n.size greatest_word) n.align Kernel stacks k.blocks s
+  | false ↦ stacks-alloc_on side p (min n.size greatest_word) n.align Kernel stacks k.blocks s
 ]
 
-pool_needs : (p : PartState) (z : Needs) → KeepsPool p → KeepsPool (with_needs p z)
-pool_needs p z k = pool_seg (with_data p z) z.bss (pool_seg (with_text p z) z.«data» (pool_seg p z.text k))
+pool_needs : {board : BoardKind} (side : Side) (p : PartState) (z : Needs) → KeepsPool board p → KeepsPool board (with_needs side p z)
+pool_needs side p z k = pool_seg side (with_data side p z) z.bss (pool_seg side (with_text side p z) z.«data» (pool_seg side p z.text k))
 
-stacks_needs : (p : PartState) (z : Needs) (stacks : List Stack) → KeepsPool p → AreStacks p stacks → AreStacks (with_needs p z) stacks
-stacks_needs p z stacks k s =
-    let text = pool_seg p z.text k in
-    let «data» = pool_seg (with_text p z) z.«data» text in
-    stacks_seg (with_data p z) z.bss stacks «data» (stacks_seg (with_text p z) z.«data» stacks text (stacks_seg p z.text stacks k s))
+stacks_needs : {board : BoardKind} (side : Side) (p : PartState) (z : Needs) (stacks : List Stack) → KeepsPool board p → AreStacks p stacks → AreStacks (with_needs side p z) stacks
+stacks_needs side p z stacks k s =
+    let text = pool_seg side p z.text k in
+    let «data» = pool_seg side (with_text side p z) z.«data» text in
+    stacks_seg side (with_data side p z) z.bss stacks «data» (stacks_seg side (with_text side p z) z.«data» stacks text (stacks_seg side p z.text stacks k s))
 
 pub is_loader : (w : WorldState) → IsWorld w → IsLoader (loader_state w)
-is_loader w kept = record { part = kept.pool.blocks; pool = omega (arith, kept.pool.end, kept.ram) }
+is_loader w kept = record { part = kept.pool.blocks; pool = pool_in_ram w kept }
 
 -- ---- an accepted load
 module _ (w : WorldState) (kept : IsWorld w) (name : List ℕ) (m : Module) (mode : ℕ) (at : Places) (known : IsModule m) (ok : verdict (loader_state w) m mode ≡ Ok at) where
@@ -81,23 +84,23 @@ module _ (w : WorldState) (kept : IsWorld w) (name : List ℕ) (m : Module) (mod
   after : LoaderState
   after = loaded (loader_state w) name m mode at
 
-  counts : Fits (length w.modules) w.kern.next_id (length w.symbols + export_count mode m.symbols)
+  counts : Fits (length w.modules.rows) w.kern.next_id (length w.symbols + export_count mode m.symbols)
   unfolding count_refusal s
-  counts = fits (length w.modules) w.kern.next_id (length w.symbols + export_count mode m.symbols) (is_accepted (loader_state w) m mode at ok).counts
+  counts = fits (length w.modules.rows) w.kern.next_id (length w.symbols + export_count mode m.symbols) (is_accepted (loader_state w) m mode at ok).counts
 
   symbols_few : length after.symbols ≤ most_symbols
   unfolding loaded after
   symbols_few = omega (arith, length-append w.symbols (exports m mode at w.kern.next_id), count_law m mode w.kern.next_id at, counts.room)
 
-  modules_loaded : KeepsLoaded after.kern after.part after.modules
+  modules_loaded : KeepsLoaded after.kern after.part after.modules.rows
   unfolding loaded after
   modules_loaded =
       let row : ℕ × LoadedModule = (w.kern.next_id, record_of name (needs_of m) at) in
       let holds = load_keeps (loader_state w) name m mode at kept.pool.blocks known (record { ids = kept.home; below = kept.modules.below; pool = (is_loader w kept).pool; held = kept.modules.held }) ok in
       let stacks : List Stack = routine_stack ∷ task_stacks w.kern in
       record {
-        few = omega (arith, length-append w.modules (row ∷ []), counts.few);
-        rising = all_pairs_push (λ r t. r.0 < t.0) w.modules row kept.modules.rising kept.modules.below;
+        few = omega (arith, length-append w.modules.rows (row ∷ []), counts.few);
+        rising = all_pairs_push (λ r t. r.0 < t.0) w.modules.rows row kept.modules.rising kept.modules.below;
         below = holds.below;
         held = holds.held;
         apart = λ i d within.
@@ -116,9 +119,10 @@ module _ (w : WorldState) (kept : IsWorld w) (name : List ℕ) (m : Module) (mod
         kept = record {
           kern = g.kept.kern;
           home = g.kept.home;
+          kind = kept.kind;
           objects = g.kept.objects;
-          pool = pool_needs w.part (needs_of m) kept.pool;
-          stacks = stacks_needs w.part (needs_of m) (routine_stack ∷ task_stacks w.kern) kept.pool kept.stacks;
+          pool = pool_needs (side_of (loader_state w)) w.part (needs_of m) kept.pool;
+          stacks = stacks_needs (side_of (loader_state w)) w.part (needs_of m) (routine_stack ∷ task_stacks w.kern) kept.pool kept.stacks;
           modules = modules_loaded;
           ram = write_law.size (loader_state w) name m mode at (is_loader w kept) known ok ∙ kept.ram;
           symbols = symbols_few;
@@ -133,7 +137,7 @@ module _ (w : WorldState) (kept : IsWorld w) (name : List ℕ) (m : Module) (mod
         count = g.count;
         names = g.names;
         starts = g.starts;
-        rule = g.rule;
+        choice = g.choice;
       }
 
 -- ---- what is written and answered

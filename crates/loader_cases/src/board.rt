@@ -10,12 +10,14 @@ use module_loader::{LoadErr, Loaded, Modules, NoSuchModule};
 use std::alloc::Global;
 use std::marker::Model;
 use symbol_table::Symbols;
-use wind_base::Name;
+use wind_base::{BoardKind, Name};
 use wind_core::Kern;
 
 /// How a board begins.
 #[derive(Clone, Copy, Drop)]
 pub struct Opening {
+    /// The kind of the board.
+    pub kind: BoardKind,
     /// The first address of the partition's pool.
     pub start: u32,
     /// The first address after the pool, which is also the end of RAM.
@@ -54,12 +56,18 @@ impl Board {
     /// Makes a board without modules.
     pub fn new(alloc: Global, opening: Opening) -> Result<Board, Trouble> {
         let ram = filled(alloc, opening.end)?;
-        let part = part_after(alloc, opening.start, opening.end, opening.blocks)?;
+        let part = part_after(
+            alloc,
+            opening.kind,
+            opening.start,
+            opening.end,
+            opening.blocks,
+        )?;
         if part.end() > ram.size() {
             return Err(Trouble::Unreadable);
         }
         let syms = symbols_after(alloc, opening.symbols)?;
-        let modules = Modules::new(alloc)?;
+        let modules = Modules::new(alloc, opening.kind)?;
         let kern = kern_after(alloc, opening.ids)?;
         Ok(Board {
             kern,

@@ -8,7 +8,7 @@ use id_table::Table;
 use mem_partition::{Class, Part};
 use std::alloc::Global;
 use symbol_table::{SymKind, Symbol, Symbols};
-use wind_base::{Name, NoMemory};
+use wind_base::{BoardKind, Name, NoMemory, tables_law};
 use wind_core::Kern;
 
 /// What each byte of RAM holds.
@@ -50,9 +50,17 @@ fn spend(kern: &mut Kern, table: &mut Table<()>, ids: u32)
     }
 }
 
-/// A partition of this pool, with this many blocks allocated.
-pub fn part_after(alloc: Global, start: u32, end: u32, blocks: u32) -> Result<Part, NoMemory> {
-    let mut part = Part::new(alloc, start, end)?;
+/// A partition of this pool with the limit of a kind of board, with this many blocks allocated.
+pub fn part_after(
+    alloc: Global,
+    kind: BoardKind,
+    start: u32,
+    end: u32,
+    blocks: u32,
+) -> Result<Part, NoMemory> {
+    // gives the bound of the boards' limits
+    tables_law();
+    let mut part = Part::with_limit(alloc, start, end, kind.rules().blocks)?;
     for _ in 0..blocks {
         let _ = part.alloc(BLOCK, BLOCK, Class::User);
     }

@@ -9,6 +9,9 @@ use std::alloc::{AllocError, Global};
 use symbol_table::{Symbol, Symbols};
 use wind_base::limits::MODULES;
 
+/// How many bytes of RAM make one number.
+const IN_NUMBER: u32 = 8;
+
 /// The ids that are left, the symbols, the modules, the blocks, and the bytes of RAM.
 pub fn picture(alloc: Global, board: &mut Board) -> Result<Vec<u64>, AllocError> {
     let mut list = Vec::new(alloc);
@@ -20,13 +23,24 @@ pub fn picture(alloc: Global, board: &mut Board) -> Result<Vec<u64>, AllocError>
     Ok(list)
 }
 
-// Adds the size of RAM, and its bytes.
+// Adds the size of RAM, and its bytes: eight in a number, and those that remain at the end.
 fn put_ram(list: &mut Vec<u64>, ram: &Ram) -> Result<(), AllocError> {
+    let numbers = ram.size() / IN_NUMBER;
     list.push(u64::from(ram.size()))?;
-    for at in 0..ram.size() {
+    for n in 0..numbers {
+        list.push(bytes_from(ram, n * IN_NUMBER))?;
+    }
+    for at in numbers * IN_NUMBER..ram.size() {
         list.push(ram.read8(at).map_or(0, u64::from))?;
     }
     Ok(())
+}
+
+// The eight bytes from an address on.
+fn bytes_from(ram: &Ram, at: u32) -> u64 {
+    let mut bytes = [0; IN_NUMBER as usize];
+    let _ = ram.copy_out(at, &mut bytes);
+    u64::from_be_bytes(bytes)
 }
 
 // Adds how many bytes there are, and the bytes.

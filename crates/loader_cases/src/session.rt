@@ -10,10 +10,11 @@ use module_loader::LoadErr;
 use std::alloc::Global;
 use std::mem;
 use text_show::module_rows;
-use wind_base::OutBuf;
+use wind_base::{BoardKind, OutBuf};
 
 /// The board before the first line that makes one.
 const NOTHING: Opening = Opening {
+    kind: BoardKind::One,
     start: 0,
     end: 0,
     ids: 0,
@@ -81,7 +82,8 @@ impl Session {
             "file" => self.file(rest),
             "cut" => silent(alloc, self.cut(rest)),
             "byte" => silent(alloc, self.change(rest)),
-            "board" => silent(alloc, self.open(rest)),
+            "board" => silent(alloc, self.open(BoardKind::One, rest)),
+            "board-2" => silent(alloc, self.open(BoardKind::Two, rest)),
             "load" => self.load(rest),
             "loads" => self.load_often(rest),
             "unload" => self.unload(rest),
@@ -154,12 +156,14 @@ fn find<'a>(files: &'a mut [File], label: &str) -> Result<&'a mut Vec<u8>, Troub
 
 // Loads and unloads.
 impl Session {
-    // `board START END IDS BLOCKS SYMBOLS`: makes a board without modules. The files stay.
-    fn open(&mut self, words: &[&str]) -> Result<(), Trouble> {
+    // `board START END IDS BLOCKS SYMBOLS`: makes a board without modules. The files stay. After
+    // `board-2` it is a board of kind 2.
+    fn open(&mut self, kind: BoardKind, words: &[&str]) -> Result<(), Trouble> {
         let [start, end, ids, blocks, symbols] = words else {
             return Err(Trouble::Unreadable);
         };
         let opening = Opening {
+            kind,
             start: number(start)?,
             end: number(end)?,
             ids: number(ids)?,

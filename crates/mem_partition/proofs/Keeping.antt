@@ -8,7 +8,7 @@ use Rattle.mem_partition.specs.declared.block.Block.{Block}
 use Rattle.mem_partition.specs.declared.block.Class.{Class}
 use Rattle.mem_partition.specs.Place.{is_apart, meets_none, Lies}
 use Rattle.mem_partition.specs.State.{PartState, IsPart, Laid, with_block, without_block, own_block, size_or, freed, after_free}
-use Rattle.mem_partition.specs.Gaps.{IsOwn}
+use Rattle.mem_partition.specs.Own.{IsOwn}
 
 -- the place at which a block is inserted
 abbrev place_of : Block → List Block → ℕ

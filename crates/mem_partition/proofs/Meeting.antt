@@ -1,16 +1,17 @@
 -- Which ranges of bytes overlap a block.
-use Rattle.std.proofs.Common.{◌≡◌, ℕ, suc, ◌+◌, ◌<◌, ◌≤◌, ◌%◌, max, true, false, leb, eqb, ◌&&◌, List, [], ◌∷◌, Some, Ok, refl, subst, inl, inr, ◌⊎◌, arith}
+use Rattle.std.proofs.Common.{◌≡◌, ℕ, suc, ◌+◌, ◌<◌, ◌≤◌, ◌%◌, max, true, false, leb, eqb, ◌&&◌, List, [], ◌∷◌, Some, Ok, refl, sym, subst, inl, inr, ◌⊎◌, arith}
 use Rattle.std.specs.List.{All, AllPairs, Any}
 use Rattle.std.proofs.lemmas.Bool.{leb-false, eq-eqb, eqb-true, or_parts, and_cases, and_from, and_parts}
 use Rattle.std.proofs.lemmas.List.Elements.{All-cons}
 use Rattle.std.proofs.lemmas.List.Kept.{AllPairs-cons}
+use Rattle.wind_base.specs.declared.board_kind.Side.{Side}
 use Rattle.mem_partition.specs.declared.block.Block.{Block}
-use Rattle.mem_partition.specs.Place.{aligned, rounded, place, is_apart, meets_none, Fits, IsPlace}
-use Rattle.mem_partition.specs.State.{PartState, IsPart, Laid, alloc_of}
+use Rattle.mem_partition.specs.Place.{aligned, rounded, place, is_apart, meets_none, Fits, IsNearer, IsPlace}
+use Rattle.mem_partition.specs.State.{PartState, IsPart, Laid, alloc_on}
 use Rattle.mem_partition.specs.Laws.{Meets, IsNextMultiple}
-use Rattle.mem_partition.proofs.Places.{aligned_multiple, aligned_above, aligned_least}
+use Rattle.mem_partition.proofs.Places.{aligned_multiple, aligned_above, aligned_least, one_place}
 use Rattle.mem_partition.proofs.Keeping.{apart_cases}
-use Rattle.mem_partition.proofs.Allocs.{alloc_lies, rounded_some, place_is, place_of_alloc}
+use Rattle.mem_partition.proofs.Allocs.{alloc_on_lies, rounded_some, place_is, place_of_alloc}
 
 -- what is apart from a block doesn't overlap it
 apart_meets_not : (size at : ℕ) (b : Block) → is_apart size at b ≡ true → Meets size at b → ⊥
@@ -39,13 +40,13 @@ one_met size at lo hi (b ∷ bs) some (low, full, high, laid) e = elim (and_case
       (suc place, block, omega arith, is, meets)
 ]
 
--- a lower multiple doesn't fit, so it exceeds the pool or overlaps a block
-pub lesser_meets : (start end : ℕ) (blocks : List Block) (n align at c : ℕ) → Laid start end blocks → place start end blocks n align ≡ Some at
-    → start ≤ c → c < at → c % max align 16 ≡ 0 → (end < c + rounded n) ⊎ Any (Meets (rounded n) c) blocks
-lesser_meets start end blocks n align at c laid e low less m =
+-- a multiple that is nearer to the side doesn't fit, so it exceeds the pool or overlaps a block
+pub nearer_meets : (start end : ℕ) (blocks : List Block) (n align at c : ℕ) (side : Side) → Laid start end blocks → place start end blocks n align side ≡ Some at
+    → start ≤ c → IsNearer side c at → (c ≡ at → ⊥) → c % max align 16 ≡ 0 → (end < c + rounded n) ⊎ Any (Meets (rounded n) c) blocks
+nearer_meets start end blocks n align at c side laid e low near other m =
     let size = rounded n in
-    let is = subst (λ o. IsPlace start end blocks size (max align 16) o) e (place_is start end blocks n align) in
-    let never : Fits start end blocks size (max align 16) c → ⊥ = λ f. let up = is.1 c f in omega arith in
+    let is = subst (λ o. IsPlace start end blocks size (max align 16) side o) e (place_is start end blocks n align side) in
+    let never : Fits start end blocks size (max align 16) c → ⊥ = λ f. other (sym (one_place side at c (is.1 c f) near)) in
     elim (leb (c + size) end) as (λ t. leb (c + size) end ≡ t → (end < c + size) ⊎ Any (Meets size c) blocks) [
       | false ↦ λ q. inl (leb-false (c + size) end q)
       | true ↦ λ q.
@@ -66,12 +67,12 @@ aligned_is_next n align h = record {
   least = λ c low m. aligned_least n align c h low m;
 }
 
-pub alloc_apart : (s : PartState) (n align at : ℕ) → alloc_of s n align ≡ Ok at → All (λ b. Meets (rounded n) at b → ⊥) s.blocks
-alloc_apart s n align at e = none_met (rounded n) at s.blocks (alloc_lies s n align at e).apart
+pub alloc_apart : (side : Side) (s : PartState) (n align at : ℕ) → alloc_on side s n align ≡ Ok at → All (λ b. Meets (rounded n) at b → ⊥) s.blocks
+alloc_apart side s n align at e = none_met (rounded n) at s.blocks (alloc_on_lies side s n align at e).apart
 
-pub alloc_multiple : (s : PartState) (n align at : ℕ) → alloc_of s n align ≡ Ok at → at % max align 16 ≡ 0
-alloc_multiple s n align at e =
-    let is = subst (λ o. IsPlace s.start s.end s.blocks (rounded n) (max align 16) o) (place_of_alloc s n align at e) (place_is s.start s.end s.blocks n align) in
+pub alloc_multiple : (side : Side) (s : PartState) (n align at : ℕ) → alloc_on side s n align ≡ Ok at → at % max align 16 ≡ 0
+alloc_multiple side s n align at e =
+    let is = subst (λ o. IsPlace s.start s.end s.blocks (rounded n) (max align 16) side o) (place_of_alloc side s n align at e) (place_is s.start s.end s.blocks n align side) in
     eqb-true (at % max align 16) 0
     (and_parts (eqb (at % max align 16) 0) (leb (at + rounded n) s.end && meets_none s.blocks (rounded n) at) is.0.1).0
 

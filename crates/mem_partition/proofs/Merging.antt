@@ -7,7 +7,8 @@ use Rattle.mem_partition.specs.declared.hole.Hole.{Hole}
 use Rattle.mem_partition.specs.State.{Laid, without_block}
 use Rattle.mem_partition.specs.Holes.{gap, holes_of, put_gap, reach_down, reach_up, touches, apart_from, rank, merged}
 use Rattle.mem_partition.proofs.Keeping.{none_behind, place_behind, place_full}
-use Rattle.mem_partition.proofs.Splitting.{put_first, put_behind, nothing_more}
+use Rattle.mem_partition.proofs.Places.{nothing_more}
+use Rattle.mem_partition.proofs.Splitting.{put_first, put_behind}
 
 abbrev hole : ℕ → ℕ → Hole
 hole lo hi = record { start = lo; end = hi }

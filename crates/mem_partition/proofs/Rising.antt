@@ -7,7 +7,7 @@ use Rattle.mem_partition.specs.declared.block.Block.{Block}
 use Rattle.mem_partition.specs.declared.hole.Hole.{Hole}
 use Rattle.mem_partition.specs.State.{Laid, is_free}
 use Rattle.mem_partition.specs.Holes.{HolesState, AreHoles, gap, holes_of, Rise, is_in_hole}
-use Rattle.mem_partition.proofs.Splitting.{nothing_more}
+use Rattle.mem_partition.proofs.Places.{nothing_more}
 use Rattle.mem_partition.proofs.Counting.{before_all, in_first, behind_first}
 
 -- each is between two addresses

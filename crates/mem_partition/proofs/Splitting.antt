@@ -1,53 +1,14 @@
--- The place of a block in the holes, and a block that is cut out of one.
-use Rattle.std.proofs.Common.{◌≡◌, ℕ, suc, ◌+◌, ◌<◌, ◌≤◌, max, true, false, cond, leb, ltb, not, List, [], ◌∷◌, ◌++◌, length, get_or, Option, Some, None, refl, sym, ap, ◌∙◌, inl, inr, arith}
+-- A block that is cut out of a hole.
+use Rattle.std.proofs.Common.{◌≡◌, ℕ, suc, ◌+◌, ◌<◌, ◌≤◌, true, false, cond, leb, ltb, not, List, [], ◌∷◌, ◌++◌, length, get_or, Some, None, refl, sym, ap, ◌∙◌, inl, inr, arith}
 use Rattle.std.specs.List.{insert, remove, position, position_or_len}
 use Rattle.std.proofs.lemmas.Bool.{le-leb, lt-leb, lt-ltb, ltb-true, ltb-false, and_parts}
 use Rattle.mem_partition.specs.declared.block.Block.{Block}
 use Rattle.mem_partition.specs.declared.hole.Hole.{Hole}
-use Rattle.mem_partition.specs.Place.{aligned, first_fit, is_apart, meets_none, Lies}
+use Rattle.mem_partition.specs.Place.{is_apart, meets_none, Lies}
 use Rattle.mem_partition.specs.State.{Laid, with_block}
-use Rattle.mem_partition.specs.Gaps.{gap_from}
-use Rattle.mem_partition.specs.Holes.{gap, holes_of, first_hole, put_gap, cut_out}
-use Rattle.mem_partition.proofs.Places.{aligned_above, aligned_least, aligned_multiple, gap_place}
+use Rattle.mem_partition.specs.Holes.{gap, holes_of, put_gap, cut_out}
+use Rattle.mem_partition.proofs.Places.{nothing_more}
 use Rattle.mem_partition.proofs.Keeping.{apart_cases}
-
--- ---- the first hole
-
--- the answer of a gap from lo to hi, or what is found after it
-abbrev fit_or : ℕ → ℕ → ℕ → ℕ → Option ℕ → Option ℕ
-fit_or lo hi size align o = cond (leb (aligned lo align + size) hi) (Some (aligned lo align)) o
-
-gap_first : (lo hi size align : ℕ) (hs : List Hole) → 1 ≤ align → 0 < size → first_hole size align (gap lo hi ++ hs) ≡ fit_or lo hi size align (first_hole size align hs)
-gap_first lo hi size align hs h some =
-    let up = aligned_above lo align h in
-    elim (ltb lo hi) as (λ t. ltb lo hi ≡ t → first_hole size align (cond t (record { start = lo; end = hi } ∷ []) [] ++ hs) ≡ fit_or lo hi size align (first_hole size align hs)) [
-      | true ↦ λ e. refl
-      | false ↦ λ e.
-          let more = ltb-false lo hi e in
-          sym (ap (λ t. cond t (Some (aligned lo align)) (first_hole size align hs)) (lt-leb (aligned lo align + size) hi (omega arith)))
-    ] refl
-
-pub nothing_more : (hs : List Hole) → hs ++ [] ≡ hs
-nothing_more [] = refl
-nothing_more (h ∷ hs) = ap (λ x. h ∷ x) (nothing_more hs)
-
--- the greater of two multiples, if the second bound is above the first
-greater : (lo to align : ℕ) → 1 ≤ align → lo ≤ to → max (aligned lo align) (aligned to align) ≡ aligned to align
-greater lo to align h k =
-    let up = aligned_above to align h in
-    let least = aligned_least lo align (aligned to align) h (omega arith) (aligned_multiple to align h) in
-    omega arith
-
-holes_gaps : (lo hi : ℕ) (bs : List Block) (size align : ℕ) → 1 ≤ align → 0 < size → Laid lo hi bs → first_hole size align (holes_of lo hi bs) ≡ gap_from hi size align (aligned lo align) bs
-holes_gaps lo hi [] size align h some laid = ap (first_hole size align) (sym (nothing_more (gap lo hi))) ∙ gap_first lo hi size align [] h some
-holes_gaps lo hi (b ∷ bs) size align h some (low, b_some, high, laid) =
-    gap_first lo b.addr size align (holes_of (b.addr + b.size) hi bs) h some
-    ∙ ap (λ o. fit_or lo b.addr size align o)
-    (holes_gaps (b.addr + b.size) hi bs size align h some laid
-    ∙ ap (λ n. gap_from hi size align n bs) (sym (greater lo (b.addr + b.size) align h (omega arith))))
-
-pub hole_place : (lo hi : ℕ) (bs : List Block) (size align : ℕ) → 1 ≤ align → 0 < size → Laid lo hi bs → first_hole size align (holes_of lo hi bs) ≡ first_fit lo hi bs size align
-hole_place lo hi bs size align h some laid = holes_gaps lo hi bs size align h some laid ∙ gap_place lo hi bs size align h some laid
 
 -- ---- a block cut out of the gap that contains it, or of the holes after it
 

@@ -6,7 +6,7 @@ use Rattle.mem_partition.specs.declared.block.Class.{Class}
 use Rattle.mem_partition.specs.declared.hole.Hole.{Hole}
 use Rattle.mem_partition.specs.Place.{Lies}
 use Rattle.mem_partition.specs.State.{PartState, IsPart, with_block, without_block, after_free}
-use Rattle.mem_partition.specs.Gaps.{IsOwn}
+use Rattle.mem_partition.specs.Own.{IsOwn}
 use Rattle.mem_partition.specs.Holes.{HolesState, AreHoles, holes_of, with_holes, cut_out, apart_from, merged}
 use Rattle.mem_partition.proofs.Keeping.{part_with, part_without, own_removed, freed_is}
 use Rattle.mem_partition.proofs.Splitting.{split}

@@ -1,11 +1,13 @@
 -- The holes of a pool: what its blocks leave free, in order of address.
-use Rattle.std.specs.Prelude.{◌≡◌, ℕ, ◌+◌, ◌≤◌, ◌<◌, nat_le, nat_lt, ◌==◌, ◌&&◌, ◌||◌, Bool, not, if◌then◌else◌, List, [], ◌∷◌, ◌++◌, Option, Some, None}
+use Rattle.std.specs.Prelude.{◌≡◌, ℕ, ◌+◌, ◌-◌, ◌*◌, ◌/◌, ◌≤◌, ◌<◌, nat_le, nat_lt, ◌==◌, ◌&&◌, ◌||◌, Bool, not, if◌then◌else◌, List, [], ◌∷◌, ◌++◌, Option, Some, None}
 use Rattle.std.specs.List.{All, list_any, find, filter, insert, position_or_len}
-use Rattle.wind_base.specs.Limits.{most_blocks}
+use Rattle.std.specs.Option.{option_or}
+use Rattle.wind_base.specs.declared.board_kind.Side.{Side}
+use Rattle.wind_base.specs.declared.board_kind.Side.TheVariants.{Low, High}
 use Rattle.mem_partition.specs.declared.block.Block.{Block}
 use Rattle.mem_partition.specs.declared.hole.Hole.{Hole}
 use Rattle.mem_partition.specs.Place.{aligned}
-use Rattle.mem_partition.specs.State.{PartState, IsPart, is_free}
+use Rattle.mem_partition.specs.State.{PartState, IsPart, most_room, is_free}
 
 -- the hole from lo to hi, unless it is empty
 abbrev pub gap : ℕ → ℕ → List Hole
@@ -28,7 +30,7 @@ with_holes s = record { part = s; holes = holes_of s.start s.end s.blocks }
 -- the holes are those that the blocks leave, in a partition with its invariant
 pub record AreHoles (s : HolesState) : Type 0 where
   pub part : IsPart s.part
-  pub room : s.part.room ≤ most_blocks
+  pub room : s.part.room ≤ most_room
   pub exact : s.holes ≡ holes_of s.part.start s.part.end s.part.blocks
 
 -- no hole is empty, they are in order of address, and no two of them touch
@@ -48,11 +50,30 @@ pub record HolesLaw : Type 0 where
   pub exact : (s : HolesState) (at : ℕ) → AreHoles s → s.part.start ≤ at → at < s.part.end
       → is_in_hole s.holes at ≡ is_free s.part.blocks at
 
--- the address in the first hole that has room from a multiple of align on
-abbrev pub first_hole : ℕ → ℕ → List Hole → Option ℕ
-first_hole size align [] = None
-first_hole size align (h ∷ hs) =
-    if nat_le (aligned h.start align + size) h.end then Some (aligned h.start align) else first_hole size align hs
+-- the only multiple of align in question for size bytes in a hole: the first from its start on, or the last with size
+-- bytes before its end
+abbrev pub nearest : Side → ℕ → ℕ → Hole → ℕ
+nearest Low size align h = aligned h.start align
+nearest High size align h = (h.end - size) / align * align
+
+-- it is in the hole, and so are size bytes from there on
+abbrev pub is_inside : ℕ → ℕ → Hole → Bool
+is_inside at size h = nat_le h.start at && nat_le (at + size) h.end
+
+-- the address of size bytes in a hole that is nearest to a side
+abbrev pub in_hole : Side → ℕ → ℕ → Hole → Option ℕ
+in_hole side size align h =
+    if is_inside (nearest side size align h) size h then Some (nearest side size align h) else None
+
+-- of an address in a lower hole and one in the holes above it, the nearer to a side
+abbrev pub nearer : Side → Option ℕ → Option ℕ → Option ℕ
+nearer Low a b = option_or a b
+nearer High a b = option_or b a
+
+-- the address in the first hole that has room, or in the last
+abbrev pub hole_on : Side → ℕ → ℕ → List Hole → Option ℕ
+hole_on side size align [] = None
+hole_on side size align (h ∷ hs) = nearer side (in_hole side size align h) (hole_on side size align hs)
 
 -- the holes with the one from lo to hi inserted at a place, unless it is empty
 abbrev pub put_gap : ℕ → ℕ → ℕ → List Hole → List Hole

@@ -2,6 +2,8 @@
 use Rattle.std.specs.Prelude.{ℕ, ◌+◌, ◌-◌, ◌^◌, ◌≤◌, ◌<◌, Bool, true, false, ◌&&◌, not, nat_le, nat_lt, ◌==◌, if◌then◌else◌, List, [], ◌∷◌, length, sum_by, count_by, Option, Some, None, Result, Ok, Err}
 use Rattle.std.specs.Int.{is_power_of_two}
 use Rattle.std.specs.List.{filter, find, list_any, range_with_len}
+use Rattle.wind_base.specs.declared.board_kind.Side.{Side}
+use Rattle.wind_base.specs.declared.board_kind.Side.TheVariants.{Low}
 use Rattle.mem_partition.specs.declared.block.Block.{Block}
 use Rattle.mem_partition.specs.declared.block.Class.{Class}
 use Rattle.mem_partition.specs.declared.block.Class.TheVariants.{User, Kernel}
@@ -21,6 +23,14 @@ abbrev pub Laid : ℕ → ℕ → List Block → Type 0
 Laid lo hi [] = Unit {0}
 Laid lo hi (b ∷ bs) = (lo ≤ b.addr) × (0 < b.size) × (b.addr + b.size ≤ hi) × Laid (b.addr + b.size) hi bs
 
+-- the greatest number of blocks that a partition may be made for
+abbrev pub most_room : ℕ
+most_room = 2 ^ 16
+
+-- the partition of this pool with no blocks, and with room for this many
+abbrev pub empty_part : ℕ → ℕ → ℕ → PartState
+empty_part start end room = record { start = start; end = end; room = room; blocks = [] }
+
 -- the invariant of every partition
 pub record IsPart (s : PartState) : Type 0 where
   pub laid : Laid s.start s.end s.blocks
@@ -36,12 +46,16 @@ abbrev pub found_or : PartErr → Option ℕ → Result ℕ PartErr
 found_or e None = Err e
 found_or e (Some at) = Ok at
 
--- what `alloc` answers: the place, or the first refusal
-unfoldable pub alloc_of : PartState → ℕ → ℕ → Result ℕ PartErr
-alloc_of s n align =
+-- what an allocation on a side answers: the place, or the first refusal
+unfoldable pub alloc_on : Side → PartState → ℕ → ℕ → Result ℕ PartErr
+alloc_on side s n align =
     if not (is_align align) then Err errors.BadAlign else
     (if nat_le s.room (length s.blocks) then Err errors.BlocksFull else
-    found_or errors.NoRoom (place s.start s.end s.blocks n align))
+    found_or errors.NoRoom (place s.start s.end s.blocks n align side))
+
+-- what `alloc` answers: blocks are placed low
+abbrev pub alloc_of : PartState → ℕ → ℕ → Result ℕ PartErr
+alloc_of s n align = alloc_on Low s n align
 
 -- the blocks with one more, at its place in the order of addresses
 abbrev pub with_block : Block → List Block → List Block
@@ -52,15 +66,19 @@ with_block b (c ∷ cs) = if nat_lt b.addr c.addr then b ∷ c ∷ cs else c ∷
 abbrev pub without_block : ℕ → List Block → List Block
 without_block at bs = filter (λ b. not (b.addr == at)) bs
 
--- the partition after an answer of `alloc`
+-- the partition after an answer of an allocation
 abbrev pub taken_at : PartState → ℕ → Class → Result ℕ PartErr → PartState
 taken_at s n class (Err e) = s
 taken_at s n class (Ok at) =
     record s { blocks = with_block (record { addr = at; size = rounded n; class = class }) s.blocks }
 
+-- the partition after an allocation on a side
+unfoldable pub after_alloc_on : Side → PartState → ℕ → ℕ → Class → PartState
+after_alloc_on side s n align class = taken_at s n class (alloc_on side s n align)
+
 -- the partition after `alloc`
-unfoldable pub after_alloc : PartState → ℕ → ℕ → Class → PartState
-after_alloc s n align class = taken_at s n class (alloc_of s n align)
+abbrev pub after_alloc : PartState → ℕ → ℕ → Class → PartState
+after_alloc s n align class = after_alloc_on Low s n align class
 
 -- the two classes are the same
 abbrev pub same_class : Class → Class → Bool

@@ -1,6 +1,6 @@
 //! Alignments and sizes of blocks.
 
-ghost use Rattle.std.specs.Prelude.{◌≡◌, ◌+◌, ◌≤◌, ◌<◌, ◌^◌};
+ghost use Rattle.std.specs.Prelude.{◌≡◌, ◌+◌, ◌*◌, ◌/◌, ◌≤◌, ◌<◌, ◌^◌};
 ghost use Rattle.mem_partition.specs.Place.{aligned, rounded};
 ghost use Rattle.mem_partition.specs.State.{is_align as is_align_lem};
 
@@ -28,6 +28,15 @@ pub(crate) fn align_up(n: u64, align: u64) -> u64
     ensures above { n ≤ result }
 {
     (n + align - 1) / align * align
+}
+
+/// The greatest multiple of `align` that is at most `n`.
+pub(crate) fn align_down(n: u64, align: u64) -> u64
+    requires { 1 ≤ align }
+    ensures value { result ≡ n / align * align }
+    ensures below { result ≤ n }
+{
+    n / align * align
 }
 
 /// The size of a block for `n` bytes: at least 1, rounded up to a multiple of 16.

@@ -4,7 +4,7 @@ ghost use Rattle.std.specs.Prelude.{◌≡◌, ◌<◌, ◌≤◌, ◌^◌, None
 ghost use Rattle.std.specs.List.{position_or_len};
 ghost use Rattle.std.specs.List.Sorted.{IsNonDecreasingBy};
 ghost use Rattle.mem_partition.specs.State.{with_block, same_class, block_at, own_block, used};
-ghost use Rattle.mem_partition.specs.Gaps.{IsOwn};
+ghost use Rattle.mem_partition.specs.Own.{IsOwn};
 
 use crate::block::{Block, Class};
 

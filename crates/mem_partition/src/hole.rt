@@ -2,10 +2,12 @@
 
 ghost use Rattle.std.specs.Prelude.{◌≡◌, ◌<◌, ◌≤◌, ◌^◌, ◌+◌, ◌==◌, None, length, option_copied, nat_le, nat_lt, MatchOption, slice_index_or, vec_len, vec_capacity, position};
 ghost use Rattle.std.specs.List.{find};
+ghost use Rattle.wind_base.specs.declared.board_kind.Side.TheVariants.{Low, High};
 ghost use Rattle.mem_partition.specs.Place.{greatest_align};
-ghost use Rattle.mem_partition.specs.Holes.{first_hole, put_gap, cut_out, reach_down, reach_up, apart_from, rank, merged};
+ghost use Rattle.mem_partition.specs.Holes.{nearest, in_hole, hole_on, put_gap, cut_out, reach_down, reach_up, apart_from, rank, merged};
 
-use crate::gaps::align_up;
+use crate::gaps::{align_down, align_up};
+use wind_base::Side;
 
 /// A part of the pool that is in no block: from address `start` up to `end`, the first address
 /// after it.
@@ -17,20 +19,78 @@ pub struct Hole {
     pub end: u32,
 }
 
-/// The first multiple of `align` from which a hole has room for `size` bytes.
-pub(crate) fn first_with_room(list: &[Hole], size: u64, align: u64) -> Option<u64>
+/// The only multiple of `align` in question for `size` bytes in a hole.
+fn nearest_in(hole: Hole, size: u64, align: u64, side: Side) -> u64
+    requires some { 1 ≤ align }
+    requires align { align ≤ greatest_align }
+    ensures value { result ≡ nearest side size align hole }
+    ensures small { result < 2 ^ 33 }
+{
+    match side {
+        Side::Low => align_up(u64::from(hole.start), align),
+        Side::High => align_down(u64::from(hole.end).saturating_sub(size), align),
+    }
+}
+
+/// The multiple of `align` in a hole that is nearest to the side and has room for `size` bytes.
+fn place_in(hole: Hole, size: u64, align: u64, side: Side) -> Option<u64>
     requires some { 1 ≤ align }
     requires align { align ≤ greatest_align }
     requires size { size < 2 ^ 33 }
-    ensures { result ≡ first_hole size align list.now }
+    ensures { result ≡ in_hole side size align hole }
+{
+    let at = nearest_in(hole, size, align, side);
+    if u64::from(hole.start) <= at && at + size <= u64::from(hole.end) {
+        Some(at)
+    } else {
+        None
+    }
+}
+
+/// The place in the first hole that has room, from the lowest hole up.
+fn first_with_room(list: &[Hole], size: u64, align: u64) -> Option<u64>
+    requires some { 1 ≤ align }
+    requires align { align ≤ greatest_align }
+    requires size { size < 2 ^ 33 }
+    ensures { result ≡ hole_on Low size align list.now }
 {
     for hole in list {
-        let at = align_up(u64::from(hole.start), align);
-        if at + size <= u64::from(hole.end) {
-            return Some(at);
+        let at = place_in(*hole, size, align, Side::Low);
+        if at.is_some() {
+            return at;
         }
     }
     None
+}
+
+/// The place in the last hole that has room, from the highest hole down.
+fn last_with_room(list: &[Hole], size: u64, align: u64) -> Option<u64>
+    requires some { 1 ≤ align }
+    requires align { align ≤ greatest_align }
+    requires size { size < 2 ^ 33 }
+    ensures { result ≡ hole_on High size align list.now }
+{
+    for i in (0..list.len()).rev() {
+        let at = place_in(list[i], size, align, Side::High);
+        if at.is_some() {
+            return at;
+        }
+    }
+    None
+}
+
+/// The multiple of `align` that is nearest to the side and from which a hole has room for `size`
+/// bytes.
+pub(crate) fn with_room(list: &[Hole], size: u64, align: u64, side: Side) -> Option<u64>
+    requires some { 1 ≤ align }
+    requires align { align ≤ greatest_align }
+    requires size { size < 2 ^ 33 }
+    ensures { result ≡ hole_on side size align list.now }
+{
+    match side {
+        Side::Low => first_with_room(list, size, align),
+        Side::High => last_with_room(list, size, align),
+    }
 }
 
 /// Inserts the hole from `lo` to `hi` at a place, unless it is empty.

@@ -1,20 +1,18 @@
 //! The blocks of a partition together with the holes between them.
 
-ghost use Rattle.std.specs.Prelude.{◌≡◌, ◌≤◌, ◌<◌, ◌^◌, [], IfOk, IfSome, length, max};
+ghost use Rattle.std.specs.Prelude.{◌≡◌, ◌≤◌, ◌<◌, ◌^◌, IfOk, IfSome, length, max};
 ghost use Rattle.std.specs.Option.{option_map};
-ghost use Rattle.wind_base.specs.Limits.{most_blocks};
-ghost use Rattle.mem_partition.specs.Place.{grain, greatest_align, first_fit, Lies};
-ghost use Rattle.mem_partition.specs.State.{IsPart, with_block, alloc_of, after_alloc, free_of, after_free, block_at, free_bytes};
+ghost use Rattle.mem_partition.specs.Place.{grain, greatest_align, fit_on, Lies};
+ghost use Rattle.mem_partition.specs.State.{IsPart, most_room, empty_part, with_block, alloc_on, after_alloc_on, free_of, after_free, block_at, free_bytes};
 ghost use Rattle.mem_partition.specs.Holes.{AreHoles, with_holes};
 
 use crate::block::{Block, Class, PartErr};
 use crate::gaps::{GRAIN, is_align, round_up};
 use crate::held::{count_used, find_at, own_place, put_block};
-use crate::hole::{Hole, cut, first_with_room, merge, put_in};
+use crate::hole::{Hole, cut, merge, put_in, with_room};
 use std::alloc::Global;
 use std::marker::Model;
-use wind_base::NoMemory;
-use wind_base::limits::BLOCKS;
+use wind_base::{NoMemory, Side};
 
 /// The blocks of a pool and its holes, both in order of address. No hole is empty, no two holes
 /// touch, and together with the blocks they make up the pool. Contracts see a partition and its
@@ -30,7 +28,6 @@ pub struct Holes {
 
 impl Model for Holes {
     ghost use Rattle.std.specs.Prelude.{◌≤◌, ◌<◌, vec_capacity};
-    ghost use Rattle.wind_base.specs.Limits.{most_blocks};
     ghost use Rattle.mem_partition.specs.Holes.{HolesState, AreHoles};
 
     ghost Value = { HolesState };
@@ -41,7 +38,7 @@ impl Model for Holes {
     } };
 
     ghost invariant = { λ h. (h.room ≤ vec_capacity h.blocks)
-        × (most_blocks < vec_capacity h.list)
+        × (h.room < vec_capacity h.list)
         × AreHoles (record {
           part = record { start = h.start; end = h.end; room = h.room; blocks = h.blocks.items };
           holes = h.list.items;
@@ -49,23 +46,19 @@ impl Model for Holes {
 }
 
 impl Holes {
-    /// Makes a pool without blocks, with room for 16,384 blocks and 16,385 holes. No other call
+    /// Makes a pool without blocks, with room for `room` blocks and one hole more. No other call
     /// allocates memory.
-    pub(crate) fn new(alloc: Global, start: u32, end: u32) -> Result<Holes, NoMemory>
-        ensures { IfOk result (λ h. h ≡ with_holes (record {
-          start = start;
-          end = end;
-          room = most_blocks;
-          blocks = [];
-        })) }
+    pub(crate) fn new(alloc: Global, start: u32, end: u32, room: u32) -> Result<Holes, NoMemory>
+        requires { room ≤ most_room }
+        ensures { IfOk result (λ h. h ≡ with_holes (empty_part start end room)) }
     {
-        let blocks = Vec::with_capacity(alloc, BLOCKS as usize)?;
-        let mut list = Vec::with_capacity(alloc, BLOCKS as usize + 1)?;
+        let blocks = Vec::with_capacity(alloc, room as usize)?;
+        let mut list = Vec::with_capacity(alloc, room as usize + 1)?;
         put_in(&mut list, 0, start, end);
         Ok(Holes {
             start,
             end,
-            room: BLOCKS,
+            room,
             blocks,
             list,
         })
@@ -87,17 +80,18 @@ impl Holes {
         self.end
     }
 
-    /// The place of a block of `size` bytes in the first hole that has room for it, at a multiple
-    /// of `align`.
-    fn first_place(&self, size: u64, align: u32) -> Option<u64>
+    /// The place of a block of `size` bytes in the hole nearest to the side that has room for it,
+    /// at a multiple of `align`.
+    fn place_on(&self, size: u64, align: u32, side: Side) -> Option<u64>
         requires some { 1 ≤ align }
         requires align { align ≤ greatest_align }
         requires bytes { 0 < size }
         requires size { size < 2 ^ 33 }
-        ensures value { result ≡ first_fit self.now.part.start self.now.part.end self.now.part.blocks size (max align grain) }
+        ensures value { result
+            ≡ fit_on side self.now.part.start self.now.part.end self.now.part.blocks size (max align grain) }
         ensures lies { IfSome result (λ at. Lies self.now.part.start self.now.part.end self.now.part.blocks size at) }
     {
-        first_with_room(&self.list, size, u64::from(align.max(GRAIN)))
+        with_room(&self.list, size, u64::from(align.max(GRAIN)), side)
     }
 
     /// Inserts the block, and cuts it out of the hole that contains it.
@@ -112,9 +106,9 @@ impl Holes {
     }
 
     /// The address for a new block, or the first refusal.
-    #[tactic(auto, unfolding(crate::specs::State::alloc_of, crate::specs::Place::place))]
-    fn find_place(&self, n: u32, align: u32) -> Result<u32, PartErr>
-        ensures answer { result ≡ alloc_of self.now.part n align }
+    #[tactic(auto, unfolding(crate::specs::State::alloc_on, crate::specs::Place::place))]
+    fn find_place(&self, n: u32, align: u32, side: Side) -> Result<u32, PartErr>
+        ensures answer { result ≡ alloc_on side self.now.part n align }
         ensures sound { AreHoles self.now }
     {
         let full = self.blocks.len() >= self.room as usize;
@@ -124,18 +118,24 @@ impl Holes {
         if full {
             return Err(PartErr::BlocksFull);
         }
-        let Some(at) = self.first_place(round_up(n), align) else {
+        let Some(at) = self.place_on(round_up(n), align, side) else {
             return Err(PartErr::NoRoom);
         };
         Ok(at as u32)
     }
 
-    /// As `Part::alloc`.
-    pub(crate) fn alloc(&mut self, n: u32, align: u32, class: Class) -> Result<u32, PartErr>
-        ensures answer { result ≡ alloc_of self.old.part n align }
-        ensures after { self.new ≡ with_holes (after_alloc self.old.part n align class) }
+    /// As `Part::alloc` and `Part::alloc_high`.
+    pub(crate) fn alloc(
+        &mut self,
+        n: u32,
+        align: u32,
+        class: Class,
+        side: Side,
+    ) -> Result<u32, PartErr>
+        ensures answer { result ≡ alloc_on side self.old.part n align }
+        ensures after { self.new ≡ with_holes (after_alloc_on side self.old.part n align class) }
     {
-        match self.find_place(n, align) {
+        match self.find_place(n, align, side) {
             Err(refusal) => Err(refusal),
             Ok(addr) => {
                 let size = round_up(n) as u32;

@@ -1,4 +1,5 @@
-//! The memory partition: blocks of a pool of addresses, each at the least address that fits.
+//! The memory partition: blocks of a pool of addresses, each at the least or the greatest address
+//! that fits.
 #![tactic(auto)]
 
 mod block;
@@ -8,6 +9,8 @@ mod hole;
 mod holes;
 mod laws;
 mod part;
+#[cfg(test)]
+mod tests;
 
 pub use block::{Block, Class, PartErr};
 pub use gaps::{GRAIN, round_up};

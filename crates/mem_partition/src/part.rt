@@ -1,16 +1,18 @@
 //! The partition and its calls.
 
-ghost use Rattle.std.specs.Prelude.{◌≡◌, [], IfOk};
+ghost use Rattle.std.specs.Prelude.{◌≡◌, ◌≤◌, IfOk};
 ghost use Rattle.std.specs.Option.{option_map};
 ghost use Rattle.wind_base.specs.Limits.{most_blocks};
-ghost use Rattle.mem_partition.specs.State.{IsPart, alloc_of, after_alloc, free_of, after_free, block_at, free_bytes};
+ghost use Rattle.wind_base.specs.declared.board_kind.Side.TheVariants.{High};
+ghost use Rattle.mem_partition.specs.State.{IsPart, most_room, empty_part, alloc_of, after_alloc, alloc_on, after_alloc_on, free_of, after_free, block_at, free_bytes};
 ghost use Rattle.mem_partition.specs.Holes.{with_holes};
 
 use crate::block::{Class, PartErr};
 use crate::holes::Holes;
 use std::alloc::Global;
 use std::marker::Model;
-use wind_base::NoMemory;
+use wind_base::limits::BLOCKS;
+use wind_base::{NoMemory, Side};
 
 /// Blocks in a pool of addresses. Contracts see the pool, the most blocks that it may have, and the
 /// blocks in order of address.
@@ -33,11 +35,21 @@ impl Model for Part {
 
 impl Part {
     /// Makes a partition of the pool from address `start` up to `end`, the first address after it,
-    /// with room for 16,384 blocks. No other call allocates memory.
+    /// with room for 16,384 blocks.
     pub fn new(alloc: Global, start: u32, end: u32) -> Result<Part, NoMemory>
-        ensures { IfOk result (λ p. p ≡ record { start = start; end = end; room = most_blocks; blocks = [] }) }
+        ensures { IfOk result (λ p. p ≡ empty_part start end most_blocks) }
     {
-        match Holes::new(alloc, start, end) {
+        Part::with_limit(alloc, start, end, BLOCKS)
+    }
+
+    /// Makes a partition of the pool from address `start` up to `end`, the first address after it,
+    /// for at most `blocks` blocks, from 0 to 65,536. It reserves room for them and for one hole
+    /// more; no later call allocates memory.
+    pub fn with_limit(alloc: Global, start: u32, end: u32, blocks: u32) -> Result<Part, NoMemory>
+        requires { blocks ≤ most_room }
+        ensures { IfOk result (λ p. p ≡ empty_part start end blocks) }
+    {
+        match Holes::new(alloc, start, end, blocks) {
             Ok(held) => Ok(Part { held }),
             Err(NoMemory) => Err(NoMemory),
         }
@@ -58,7 +70,16 @@ impl Part {
         ensures answer { result ≡ alloc_of self.old n align }
         ensures after { self.new ≡ after_alloc self.old n align class }
     {
-        self.held.alloc(n, align, class)
+        self.held.alloc(n, align, class, Side::Low)
+    }
+
+    /// As `alloc`, at the greatest such address in place of the least. The errors and their order
+    /// are the same.
+    pub fn alloc_high(&mut self, n: u32, align: u32, class: Class) -> Result<u32, PartErr>
+        ensures answer { result ≡ alloc_on High self.old n align }
+        ensures after { self.new ≡ after_alloc_on High self.old n align class }
+    {
+        self.held.alloc(n, align, class, Side::High)
     }
 
     /// Frees the block of this class that begins at an address, and returns its size in bytes.

@@ -19,12 +19,13 @@ use Rattle.module_image.specs.declared.segments.SegmentKind.TheVariants.{Text, D
 use Rattle.elf_read.specs.declared.module.Sym.{Sym}
 use Rattle.mem_partition.specs.Place.{aligned}
 use Rattle.mem_partition.proofs.Places.{aligned_above}
-use Rattle.elf_read.specs.Modules.{IsModule, IsRel, size_of}
+use Rattle.elf_read.specs.Modules.{IsRel, size_of}
+use Rattle.module_image.specs.Linkable.{IsLinkable}
 use Rattle.module_image.specs.Layout.{segment_of, place_of, end_in, with_end, after_section, offset_in, addresses_from, addresses, ends_from, ends_of, no_ends, after_symbol, values_from, IsSectRoom}
 use Rattle.module_image.specs.Needs.{same_segment}
-use Rattle.module_image.specs.Image.{body_bytes, padded, laid, flat, binding_of, patched_of}
+use Rattle.module_image.specs.Image.{body_bytes, padded, laid, joined, binding_of, patched_of}
 use Rattle.module_image.specs.Making.{IsPatched}
-use Rattle.module_image.proofs.Known.{sects_room, HasBytes, has_bytes, within_body}
+use Rattle.module_image.proofs.Known.{HasBytes, has_bytes, within_body}
 use Rattle.module_image.proofs.Agreement.{widths}
 
 pub same_refl : (g : SegmentKind) → same_segment g g ≡ true
@@ -120,7 +121,7 @@ length_values places at [] end = refl
 length_values places at (y ∷ ys) end = ap suc (length_values places at ys (after_symbol end y y.place))
 
 -- in the flat bytes
-flat_end : (e : Ends) (g : SegmentKind) (o size : ℕ) → HasBytes g → o + size ≤ end_in e g → place_of (flat e) g + o + size ≤ e.text + e.«data»
+flat_end : (e : Ends) (g : SegmentKind) (o size : ℕ) → HasBytes g → o + size ≤ end_in e g → place_of (joined e) g + o + size ≤ e.text + e.«data»
 flat_end e Text o size h k = omega arith
 flat_end e Data o size h k = omega arith
 flat_end e Bss o size h k = absurd h
@@ -128,17 +129,17 @@ flat_end e Bss o size h k = absurd h
 abbrev no_sect : Sect
 no_sect = record { name = []; flags = 0; align = 1; body = body.Size 0 }
 
-pub reloc_lies : (m : Module) (own means : List ℕ) (r : Rel) → IsModule m → IsRel m.sections m.symbols r → (ends_of m).text + (ends_of m).«data» < 2 ^ 32
-    → LiesWithin ((ends_of m).text + (ends_of m).«data») (binding_of (addresses_from (flat (ends_of m)) no_ends m.sections) own means r)
+pub reloc_lies : (m : Module) (own means : List ℕ) (r : Rel) → IsLinkable m → IsRel m.sections m.symbols r → (ends_of m).text + (ends_of m).«data» < 2 ^ 32
+    → LiesWithin ((ends_of m).text + (ends_of m).«data») (binding_of (addresses_from (joined (ends_of m)) no_ends m.sections) own means r)
 reloc_lies m own means r k one total =
     let s = get_or m.sections r.section no_sect in
-    let there = address_at (flat (ends_of m)) no_ends m.sections r.section no_sect (sects_room m k) one.section in
+    let there = address_at (joined (ends_of m)) no_ends m.sections r.section no_sect k.sections one.section in
     let inside = one.inside no_sect in
     let low = flat_end (ends_of m) (segment_of s) there.offset (size_of s.body) (has_bytes s.body s.flags _ inside) there.within in
     let within = within_body s.body _ inside in
     let wide = widths r.kind in
     let is = there.is in
-    let small : get_or (addresses_from (flat (ends_of m)) no_ends m.sections) r.section 0 + r.offset < 2 ^ 32 = omega arith in
+    let small : get_or (addresses_from (joined (ends_of m)) no_ends m.sections) r.section 0 + r.offset < 2 ^ 32 = omega arith in
     let same = mod-eq_of_lt small in
     omega arith
 
@@ -153,40 +154,40 @@ pub record AreReady (at_flat at_own at_means : List ℕ) (size : ℕ) (relocs : 
 no_rel : Rel
 no_rel = record { section = 0; offset = 0; kind = 0; symbol = 0; addend = 0 }
 
-pub ready_at : (m : Module) (own means : List ℕ) → IsModule m → (ends_of m).text + (ends_of m).«data» < 2 ^ 32 → length own ≡ length m.sections → length means ≡ length m.symbols + 1
-    → AreReady (addresses_from (flat (ends_of m)) no_ends m.sections) own means ((ends_of m).text + (ends_of m).«data») m.relocs
+pub ready_at : (m : Module) (own means : List ℕ) → IsLinkable m → (ends_of m).text + (ends_of m).«data» < 2 ^ 32 → length own ≡ length m.sections → length means ≡ length m.symbols + 1
+    → AreReady (addresses_from (joined (ends_of m)) no_ends m.sections) own means ((ends_of m).text + (ends_of m).«data») m.relocs
 ready_at m own means k total two count =
-    let one = length_addresses (flat (ends_of m)) no_ends m.sections in
+    let one = length_addresses (joined (ends_of m)) no_ends m.sections in
     record {
       in_flat = λ i d h. (let there = (k.relocs i d h).section in omega arith);
       own = λ i d h. (let there = (k.relocs i d h).section in omega arith);
       means = λ i d h. (let there = (k.relocs i d h).symbol in omega arith);
       lies = λ i d h.
-          (let n : i < length m.relocs = omega (arith, length-map m.relocs (binding_of (addresses_from (flat (ends_of m)) no_ends m.sections) own means)) in
+          (let n : i < length m.relocs = omega (arith, length-map m.relocs (binding_of (addresses_from (joined (ends_of m)) no_ends m.sections) own means)) in
           subst (λ b. LiesWithin ((ends_of m).text + (ends_of m).«data») b)
-          (sym (get_or-map (binding_of (addresses_from (flat (ends_of m)) no_ends m.sections) own means) m.relocs i no_rel d n))
+          (sym (get_or-map (binding_of (addresses_from (joined (ends_of m)) no_ends m.sections) own means) m.relocs i no_rel d n))
           (reloc_lies m own means (get_or m.relocs i no_rel) k (k.relocs i no_rel n) total));
       few = (let f = k.few_relocs in omega arith);
     }
 
-pub ready : (m : Module) (ends : Ends) (f : Places) (ss : List Sect) (at_flat own means : List ℕ) (size : ℕ) (relocs : List Rel) → IsModule m
-    → ends ≡ ends_of m → ends.text + ends.«data» < 2 ^ 32 → f ≡ flat ends → ss ≡ m.sections → at_flat ≡ addresses_from f no_ends ss
+pub ready : (m : Module) (ends : Ends) (f : Places) (ss : List Sect) (at_flat own means : List ℕ) (size : ℕ) (relocs : List Rel) → IsLinkable m
+    → ends ≡ ends_of m → ends.text + ends.«data» < 2 ^ 32 → f ≡ joined ends → ss ≡ m.sections → at_flat ≡ addresses_from f no_ends ss
     → length own ≡ length m.sections → length means ≡ length m.symbols + 1 → size ≡ ends.text + ends.«data» → relocs ≡ m.relocs → AreReady at_flat own means size relocs
 ready m ends f ss at_flat own means size relocs k e total f_is ss_is p o count n r =
     let total' : (ends_of m).text + (ends_of m).«data» < 2 ^ 32 = subst (λ (x : Ends). x.text + x.«data» < 2 ^ 32) e total in
-    let p' : at_flat ≡ addresses_from (flat (ends_of m)) no_ends m.sections =
-    p ∙ (ap (λ (x : Places). addresses_from x no_ends ss) (f_is ∙ ap flat e) ∙ ap (addresses_from (flat (ends_of m)) no_ends) ss_is) in
+    let p' : at_flat ≡ addresses_from (joined (ends_of m)) no_ends m.sections =
+    p ∙ (ap (λ (x : Places). addresses_from x no_ends ss) (f_is ∙ ap joined e) ∙ ap (addresses_from (joined (ends_of m)) no_ends) ss_is) in
     let n' : size ≡ (ends_of m).text + (ends_of m).«data» = n ∙ ap (λ (x : Ends). x.text + x.«data») e in
     subst (λ x. AreReady x own means size relocs) (sym p')
-    (subst (λ x. AreReady (addresses_from (flat (ends_of m)) no_ends m.sections) own means x relocs) (sym n')
-    (subst (λ x. AreReady (addresses_from (flat (ends_of m)) no_ends m.sections) own means ((ends_of m).text + (ends_of m).«data») x) (sym r)
+    (subst (λ x. AreReady (addresses_from (joined (ends_of m)) no_ends m.sections) own means x relocs) (sym n')
+    (subst (λ x. AreReady (addresses_from (joined (ends_of m)) no_ends m.sections) own means ((ends_of m).text + (ends_of m).«data») x) (sym r)
     (ready_at m own means k total' o count)))
 
 -- text followed by data
-pub length-flat : (m : Module) → IsModule m → length (laid Text 0 m.sections ++ laid Data 0 m.sections) ≡ (ends_of m).text + (ends_of m).«data»
+pub length-flat : (m : Module) → IsLinkable m → length (laid Text 0 m.sections ++ laid Data 0 m.sections) ≡ (ends_of m).text + (ends_of m).«data»
 length-flat m k =
-    let one = length-laid no_ends m.sections Text (sects_room m k) in
-    let two = length-laid no_ends m.sections Data (sects_room m k) in
+    let one = length-laid no_ends m.sections Text k.sections in
+    let two = length-laid no_ends m.sections Data k.sections in
     let both = length-append (laid Text 0 m.sections) (laid Data 0 m.sections) in
     omega arith
 
@@ -194,21 +195,21 @@ length-flat m k =
 pub whole_back : (n : ℕ) (xs ys : List ℕ) → length xs ≡ length ys → n ≡ length ys → take n (xs ++ drop (length xs) ys) ≡ xs
 whole_back n xs ys e h = take_at xs (drop (length xs) ys) n (sym (h ∙ sym e))
 
-pub patched_is : (m : Module) (ends : Ends) (f : Places) (ss : List Sect) (at_flat own means bytes done : List ℕ) (relocs : List Rel) → IsModule m
-    → ends ≡ ends_of m → ends.text + ends.«data» < 2 ^ 32 → f ≡ flat ends → ss ≡ m.sections → at_flat ≡ addresses_from f no_ends ss
+pub patched_is : (m : Module) (ends : Ends) (f : Places) (ss : List Sect) (at_flat own means bytes done : List ℕ) (relocs : List Rel) → IsLinkable m
+    → ends ≡ ends_of m → ends.text + ends.«data» < 2 ^ 32 → f ≡ joined ends → ss ≡ m.sections → at_flat ≡ addresses_from f no_ends ss
     → length own ≡ length m.sections → length means ≡ length m.symbols + 1 → bytes ≡ laid Text 0 m.sections ++ laid Data 0 m.sections → relocs ≡ m.relocs
     → done ≡ (patched 0 bytes (map (binding_of at_flat own means) relocs)).image → None ≡ (patched 0 bytes (map (binding_of at_flat own means) relocs)).fault
     → IsPatched (patched_of m own means) (ends.text + ends.«data») done
 unfolding patched_of addresses
 patched_is m ends f ss at_flat own means bytes done relocs k e total f_is ss_is p o count b r d q =
-    let p' : at_flat ≡ addresses_from (flat (ends_of m)) no_ends m.sections =
-    p ∙ (ap (λ (x : Places). addresses_from x no_ends ss) (f_is ∙ ap flat e) ∙ ap (addresses_from (flat (ends_of m)) no_ends) ss_is) in
+    let p' : at_flat ≡ addresses_from (joined (ends_of m)) no_ends m.sections =
+    p ∙ (ap (λ (x : Places). addresses_from x no_ends ss) (f_is ∙ ap joined e) ∙ ap (addresses_from (joined (ends_of m)) no_ends) ss_is) in
     let size : length bytes ≡ ends.text + ends.«data» = ap length b ∙ (length-flat m k ∙ sym (ap (λ (x : Ends). x.text + x.«data») e)) in
     let all = (ready m ends f ss at_flat own means (length bytes) relocs k e total f_is ss_is p o count size r).lies in
     let same : patched 0 bytes (map (binding_of at_flat own means) relocs) ≡ patched_of m own means =
     ap (λ x. patched 0 x (map (binding_of at_flat own means) relocs)) b
     ∙ (ap (λ x. patched 0 (laid Text 0 m.sections ++ laid Data 0 m.sections) (map (binding_of x own means) relocs)) p'
-    ∙ ap (λ (x : List Rel). patched 0 (laid Text 0 m.sections ++ laid Data 0 m.sections) (map (binding_of (addresses_from (flat (ends_of m)) no_ends m.sections) own means) x)) r) in
+    ∙ ap (λ (x : List Rel). patched 0 (laid Text 0 m.sections ++ laid Data 0 m.sections) (map (binding_of (addresses_from (joined (ends_of m)) no_ends m.sections) own means) x)) r) in
     record {
       image = d ∙ ap (λ (x : Patched). x.image) same;
       fault = sym (q ∙ ap (λ (x : Patched). x.fault) same);

@@ -4,7 +4,8 @@ use Rattle.std.specs.List.{All}
 use Rattle.std.proofs.lemmas.List.{places, length-replicate}
 use Rattle.elf_read.specs.declared.module.Module.{Module}
 use Rattle.elf_read.specs.declared.module.Sect.{Sect}
-use Rattle.elf_read.specs.Modules.{IsModule, size_of}
+use Rattle.elf_read.specs.Modules.{size_of}
+use Rattle.module_image.specs.Linkable.{IsLinkable}
 use Rattle.mem_partition.specs.Place.{aligned}
 use Rattle.mem_partition.proofs.Places.{aligned_multiple, aligned_above}
 use Rattle.module_image.specs.declared.segments.SegmentKind.{SegmentKind}
@@ -15,7 +16,6 @@ use Rattle.module_image.specs.Layout.{segment_of, place_of, end_in, after_sectio
 use Rattle.module_image.specs.Needs.{same_segment}
 use Rattle.module_image.specs.Image.{body_bytes, padded, laid}
 use Rattle.module_image.specs.LayoutLaw.{nowhere, offset_at, LiesIn, LayoutLaw}
-use Rattle.module_image.proofs.Known.{sects_room}
 use Rattle.module_image.proofs.Fitting.{same_refl, end_after, grows, small_tail, small_head, length-padded}
 
 -- where section number k begins, if the segments are used up to e
@@ -131,11 +131,11 @@ held e (s ∷ ss) (suc k) d n j all h low at =
       | false ↦ λ q. subst (λ t. get_or (laid g t ss) n 0 ≡ body) q (held (after_section e s) ss k d n j (small_tail s ss all) (omega arith) low (omega arith))
     ] (end_after e s g)
 
-lies_in : (m : Module) (i : ℕ) (d : Sect) → IsModule m → i < length m.sections → LiesIn m i (get_or m.sections i d)
+lies_in : (m : Module) (i : ℕ) (d : Sect) → IsLinkable m → i < length m.sections → LiesIn m i (get_or m.sections i d)
 unfolding addresses
 lies_in m i d k h =
     let g = segment_of (get_or m.sections i d) in
-    let room = sects_room m k in
+    let room = k.sections in
     record {
       address = λ at. moved at no_ends m.sections i d h;
       multiple = multiple no_ends m.sections i d room h;
@@ -146,10 +146,10 @@ lies_in m i d k h =
           (held no_ends m.sections i d (off no_ends m.sections i + j) j room h low (omega arith)));
     }
 
-in_order : (m : Module) (i j : ℕ) (d : Sect) → IsModule m → i < j → j < length m.sections
+in_order : (m : Module) (i j : ℕ) (d : Sect) → IsLinkable m → i < j → j < length m.sections
     → segment_of (get_or m.sections i d) ≡ segment_of (get_or m.sections j d) → offset_at m i + size_of (get_or m.sections i d).body ≤ offset_at m j
 unfolding addresses
-in_order m i j d k h low same = order no_ends m.sections i j d (sects_room m k) h low same
+in_order m i j d k h low same = order no_ends m.sections i j d k.sections h low same
 
 pub layout_law : LayoutLaw
 layout_law = record { each = lies_in; order = in_order }

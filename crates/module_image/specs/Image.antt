@@ -58,8 +58,8 @@ abbrev pub laid_both : Module → List ℕ
 laid_both m = laid Text 0 m.sections ++ laid Data 0 m.sections
 
 -- where the segments begin in these bytes; bss has none there
-abbrev pub flat : Ends → Places
-flat ends = record { text = 0; «data» = ends.text; bss = ends.text + ends.«data» }
+abbrev pub joined : Ends → Places
+joined ends = record { text = 0; «data» = ends.text; bss = ends.text + ends.«data» }
 
 -- ---- relocation
 -- a relocation whose section begins here in the bytes and has this address, and whose symbol has this value
@@ -75,7 +75,7 @@ binding_of places at means r = record {
 -- the bytes after every relocation in order, if the sections have these addresses and the symbols these values
 unfoldable pub patched_of : Module → List ℕ → List ℕ → Patched
 patched_of m own means =
-    patched 0 (laid_both m) (map (binding_of (addresses m (flat (ends_of m))) own means) m.relocs)
+    patched 0 (laid_both m) (map (binding_of (addresses m (joined (ends_of m))) own means) m.relocs)
 
 -- ---- the image
 -- the bytes of each segment, and the first refused relocation

@@ -2,7 +2,7 @@
 use Rattle.std.specs.Prelude.{◌≡◌, ℕ, ◌+◌, ◌<◌, ◌^◌, List, length}
 use Rattle.symbol_table.specs.declared.symbol.Symbol.{Symbol}
 use Rattle.elf_read.specs.declared.module.Module.{Module}
-use Rattle.elf_read.specs.Modules.{IsModule}
+use Rattle.module_image.specs.Linkable.{IsLinkable}
 use Rattle.elf_read.specs.Tables.{width}
 use Rattle.elf_read.specs.Rules.{is_alignment}
 use Rattle.mem_partition.specs.State.{is_align}
@@ -33,5 +33,5 @@ pub record HasSizes (i : Images) (z : Needs) : Type 0 where
 -- the image of a module has the sizes that it needs, even if a relocation is refused
 abbrev pub SizeLaw : Type 0
 SizeLaw =
-    (m : Module) (tab : List Symbol) (at : Places) → IsModule m
+    (m : Module) (tab : List Symbol) (at : Places) → IsLinkable m
     → (needs_of m).text.size + (needs_of m).«data».size < 2 ^ 32 → HasSizes (image m tab at) (needs_of m)

@@ -145,6 +145,10 @@ IsCommonRoom _ y = Unit {0}
 abbrev pub IsSymRoom : Sym → Type 0
 IsSymRoom y = IsCommonRoom y.place y
 
+-- the most sections, symbols or relocations of a module: 32 bits number them
+abbrev pub most_entries : ℕ
+most_entries = 2 ^ 32
+
 -- the most bytes that one section or common symbol adds to a segment
 abbrev pub longest_step : ℕ
 longest_step = most_section_bytes + greatest_align

@@ -2,7 +2,8 @@
 use Rattle.std.specs.Prelude.{◌≡◌, ℕ, ◌+◌, ◌<◌, ◌≤◌, ◌%◌, length, slice_index, slice_index_or}
 use Rattle.elf_read.specs.declared.module.Module.{Module}
 use Rattle.elf_read.specs.declared.module.Sect.{Sect}
-use Rattle.elf_read.specs.Modules.{IsModule, size_of}
+use Rattle.elf_read.specs.Modules.{size_of}
+use Rattle.module_image.specs.Linkable.{IsLinkable}
 use Rattle.module_image.specs.declared.segments.Places.{Places}
 use Rattle.module_image.specs.Layout.{segment_of, place_of, end_in, ends_of, addresses}
 use Rattle.module_image.specs.Image.{body_bytes, laid}
@@ -29,8 +30,8 @@ pub record LiesIn (m : Module) (i : ℕ) (s : Sect) : Type 0 where
 -- the layout of a module
 pub record LayoutLaw : Type 0 where
   pub each : (m : Module) (i : ℕ) (d : Sect)
-      → IsModule m → i < length m.sections → LiesIn m i (slice_index_or m.sections i d)
+      → IsLinkable m → i < length m.sections → LiesIn m i (slice_index_or m.sections i d)
   -- of two sections in the same segment, the earlier ends before the later begins
-  pub order : (m : Module) (i j : ℕ) (d : Sect) → IsModule m → i < j → j < length m.sections
+  pub order : (m : Module) (i j : ℕ) (d : Sect) → IsLinkable m → i < j → j < length m.sections
       → segment_of (slice_index_or m.sections i d) ≡ segment_of (slice_index_or m.sections j d)
       → offset_at m i + size_of (slice_index_or m.sections i d).body ≤ offset_at m j

@@ -1,9 +1,11 @@
 pub mod Layout
 pub mod Needs
+pub mod Linkable
 pub mod Exports
 pub mod Binding
 pub mod Image
 pub mod Making
 pub mod Link
+pub mod Opening
 pub mod LayoutLaw
 pub mod Laws

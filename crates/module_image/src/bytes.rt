@@ -1,9 +1,8 @@
 //! The bytes that a load writes.
 
 ghost use Rattle.std.specs.Prelude.{◌≡◌, ◌+◌, ◌≤◌, ◌<◌, ◌^◌, ◌++◌, length, map, replicate, All, OnOk, IfOk};
-ghost use Rattle.wind_base.specs.Limits.{most_section_headers};
 ghost use Rattle.reloc_link.specs.Patched.{LiesWithin, patched, fault_of};
-ghost use Rattle.module_image.specs.Layout.{IsSectRoom};
+ghost use Rattle.module_image.specs.Layout.{IsSectRoom, most_entries};
 ghost use Rattle.module_image.specs.Image.{padded, laid, binding_of};
 
 use crate::layout::{align_up, segment};
@@ -44,7 +43,7 @@ fn push_section(out: &mut Vec<u8>, from: u64, s: &Sect) -> Result<(), AllocError
 /// The bytes of a segment before relocation.
 pub(crate) fn lay(out: &mut Vec<u8>, sections: &[Sect], kind: SegmentKind) -> Result<(), AllocError>
     requires room { All IsSectRoom sections.now }
-    requires few { length sections.now ≤ most_section_headers }
+    requires few { length sections.now ≤ most_entries }
     ensures { OnOk result (out.new.items ≡ out.old.items ++ laid kind 0 sections.now) }
 {
     let mut from = 0;

@@ -52,6 +52,14 @@ fn is_defined(place: SymPlace) -> bool
     }
 }
 
+/// Whether a load in this mode adds the symbol for modules that are loaded later, if the module
+/// defines it.
+pub fn is_visible(mode: u32, y: &Sym) -> bool
+    ensures { result ≡ (is_wanted_lem mode y.now && is_global_lem y.now) }
+{
+    is_wanted(mode, y) && is_global(y)
+}
+
 fn is_counted(mode: u32, y: &Sym) -> bool
     ensures { result ≡ (is_defined_lem y.now.place && is_wanted_lem mode y.now) }
 {

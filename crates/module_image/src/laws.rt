@@ -3,6 +3,7 @@
 ghost use Rattle.module_image.specs.Laws.{AgreementLaw, CountLaw, SizeLaw};
 ghost use Rattle.module_image.specs.LayoutLaw.{LayoutLaw};
 ghost use Rattle.module_image.specs.Link.{LinkLaw};
+ghost use Rattle.module_image.specs.Linkable.{LinkableLaw};
 
 /// Relocation and the partition accept whatever an object file may say about widths of relocations
 /// and alignments.
@@ -13,6 +14,11 @@ pub fn agreement_law()
 /// A load adds as many symbols as were counted before, whatever its places and its id are.
 pub fn count_law()
     ensures { CountLaw }
+{}
+
+/// The module of a file can be linked.
+pub fn linkable_law()
+    ensures { LinkableLaw }
 {}
 
 /// An image has as many bytes as its module needs.

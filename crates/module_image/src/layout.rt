@@ -1,10 +1,9 @@
 //! Where the sections and symbols of a module are.
 
 ghost use Rattle.std.specs.Prelude.{◌≡◌, ◌+◌, ◌*◌, ◌≤◌, ◌<◌, ◌%◌, ◌^◌, length, map, All, IfOk};
-ghost use Rattle.wind_base.specs.Limits.{most_section_headers, most_symbol_entries};
 ghost use Rattle.mem_partition.specs.Place.{aligned};
 ghost use Rattle.elf_read.specs.Outline.{shape_of};
-ghost use Rattle.module_image.specs.Layout.{segment_in, place_of, end_in, with_end, offset_by, after_shape, addresses_from, ends_by, no_ends, value_in, after_symbol, commons_end, IsRoom, IsShapeRoom, IsSectRoom, IsSymRoom, longest_step, AreWithin, values_from};
+ghost use Rattle.module_image.specs.Layout.{segment_in, place_of, end_in, with_end, offset_by, after_shape, addresses_from, ends_by, no_ends, value_in, after_symbol, commons_end, IsRoom, IsShapeRoom, IsSectRoom, IsSymRoom, longest_step, most_entries, AreWithin, values_from};
 
 use crate::segments::{Ends, Places, SegmentKind};
 use elf_read::{Sect, Shape, Sym, SymPlace, find_shape};
@@ -109,9 +108,9 @@ pub(crate) fn advance(ends: Ends, s: Shape, n: u64) -> Ends
 /// The ends of the segments after all sections.
 pub(crate) fn find_ends(shapes: &[Shape]) -> Ends
     requires room { All IsShapeRoom shapes.now }
-    requires few { length shapes.now ≤ most_section_headers }
+    requires few { length shapes.now ≤ most_entries }
     ensures value { result ≡ ends_by no_ends shapes.now }
-    ensures within { AreWithin result (2 ^ 40) }
+    ensures within { AreWithin result (2 ^ 57) }
 {
     let mut ends = NO_ENDS;
     for (i, s) in shapes.iter().enumerate() {
@@ -137,7 +136,7 @@ pub(crate) fn section_addresses(
     at: Places,
 ) -> Result<Vec<u64>, AllocError>
     requires room { All IsSectRoom sections.now }
-    requires few { length sections.now ≤ most_section_headers }
+    requires few { length sections.now ≤ most_entries }
     ensures { IfOk result (λ v. v.items ≡ addresses_from at no_ends sections.now) }
 {
     let mut list = Vec::new(alloc);
@@ -187,8 +186,8 @@ fn behind(end: u64, y: &Sym, n: u64) -> u64
 /// The end of bss after the common symbols, if the sections end at `start`.
 pub(crate) fn find_commons(start: u64, symbols: &[Sym]) -> u64
     requires room { All IsSymRoom symbols.now }
-    requires few { length symbols.now ≤ most_symbol_entries }
-    requires start { start ≤ 2 ^ 40 }
+    requires few { length symbols.now ≤ most_entries }
+    requires start { start ≤ 2 ^ 57 }
     ensures { result ≡ commons_end start symbols.now }
 {
     let mut end = start;
@@ -207,8 +206,8 @@ pub(crate) fn symbol_values(
     symbols: &[Sym],
 ) -> Result<Vec<Option<u32>>, AllocError>
     requires room { All IsSymRoom symbols.now }
-    requires few { length symbols.now ≤ most_symbol_entries }
-    requires start { start ≤ 2 ^ 40 }
+    requires few { length symbols.now ≤ most_entries }
+    requires start { start ≤ 2 ^ 57 }
     ensures { IfOk result (λ v. v.items ≡ values_from places.now at start symbols.now) }
 {
     let mut list = Vec::new(alloc);

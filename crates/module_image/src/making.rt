@@ -1,17 +1,18 @@
 //! Makes what a load writes and adds, without touching RAM or the symbol table.
 
 ghost use Rattle.std.specs.Prelude.{◌≡◌, ◌<◌, ◌≤◌, ◌+◌, ◌^◌, ◌∷◌, IfOk, IfErr, length};
-ghost use Rattle.elf_read.specs.Modules.{IsModule};
+ghost use Rattle.module_image.specs.Linkable.{IsLinkable};
 ghost use Rattle.module_image.specs.Needs.{needs_of};
 ghost use Rattle.module_image.specs.Layout.{ends_of, AreWithin};
 ghost use Rattle.module_image.specs.Exports.{exports as exports_lem};
 ghost use Rattle.module_image.specs.Binding.{bind, is_unbound as is_unbound_lem, unbound};
-ghost use Rattle.module_image.specs.Image.{image, flat, meaning_by, meanings_from, laid_both, patched_of};
+ghost use Rattle.module_image.specs.Image.{image, joined, meaning_by, meanings_from, laid_both, patched_of};
 ghost use Rattle.module_image.specs.Making.{IsMade, IsPatched, IsRefusal};
 
 use crate::bytes::{lay, relocate};
 use crate::exports::{collect_exports, copied};
-use crate::layout::{find_ends, find_shapes, section_addresses, symbol_values};
+use crate::layout::section_addresses;
+use crate::locating::locate;
 use crate::segments::{Ends, Places, SegmentKind};
 use elf_read::{Items, Module, Sym, SymPlace};
 use reloc_link::RelocErr;
@@ -109,9 +110,8 @@ fn unbound_names(alloc: Global, syms: &Symbols, symbols: &[Sym]) -> Result<NameL
 }
 
 /// Text and data before relocation.
-#[tactic(auto, using(crate::proofs::Known::sects_room))]
 fn lay_both(alloc: Global, m: &Module) -> Result<Vec<u8>, AllocError>
-    requires { IsModule m.now }
+    requires { IsLinkable m.now }
     ensures { IfOk result (λ v. v.items ≡ laid_both m.now) }
 {
     let mut bytes = Vec::new(alloc);
@@ -121,9 +121,9 @@ fn lay_both(alloc: Global, m: &Module) -> Result<Vec<u8>, AllocError>
 }
 
 /// Where the segments begin in those bytes.
-fn flat_places(ends: Ends) -> Places
+fn joined_places(ends: Ends) -> Places
     requires { ends.text + ends.«data» < 2 ^ 32 }
-    ensures { result ≡ flat ends }
+    ensures { result ≡ joined ends }
 {
     Places {
         text: 0,
@@ -132,16 +132,18 @@ fn flat_places(ends: Ends) -> Places
     }
 }
 
-/// Text and data after every relocation, or the first relocation that is refused.
-#[tactic(auto, unfolding(crate::specs::Image::patched_of, crate::specs::Layout::addresses), using(crate::proofs::Known::sects_room))]
-fn make_bytes(
+/// Text and data after every relocation, if the sections have these addresses and the symbols, by
+/// number, these values; number 0 means none. The error is the first relocation that is refused, or
+/// that memory ran out.
+#[tactic(auto, unfolding(crate::specs::Image::patched_of, crate::specs::Layout::addresses))]
+pub fn make_bytes(
     alloc: Global,
     m: &Module,
     ends: Ends,
     own: &[u64],
     means: &[u32],
 ) -> Result<Vec<u8>, PrepareErr>
-    requires module { IsModule m.now }
+    requires module { IsLinkable m.now }
     requires ends { ends ≡ ends_of m.now }
     requires room { ends.text + ends.«data» < 2 ^ 32 }
     requires own { length own.now ≡ length m.now.sections }
@@ -150,7 +152,7 @@ fn make_bytes(
         (λ v. IsPatched (patched_of m.now own.now means.now) (ends.text + ends.«data») v.items) }
     ensures fault { IfErr result (IsRefusal (patched_of m.now own.now means.now).fault) }
 {
-    let Ok(places) = section_addresses(alloc, m.sections.as_slice(), flat_places(ends)) else {
+    let Ok(places) = section_addresses(alloc, m.sections.as_slice(), joined_places(ends)) else {
         return Err(PrepareErr::NoMemory);
     };
     let Ok(mut bytes) = lay_both(alloc, m) else {
@@ -165,7 +167,7 @@ fn make_bytes(
 
 /// Makes what a load of the module writes and adds, with its segments at these places and with this
 /// id. The error is the first relocation that is refused, or that memory ran out.
-#[tactic(auto, using(crate::proofs::Known::sects_room, crate::proofs::Known::shapes_room, crate::proofs::Known::few_shapes, crate::proofs::Known::syms_room, crate::proofs::Made::fault_is, crate::proofs::Made::length_means, crate::proofs::Fitting::length_values, crate::proofs::Fitting::length_addresses, crate::proofs::Made::ends_room), unfolding(crate::specs::Exports::exports, crate::specs::Layout::addresses, crate::specs::Layout::values))]
+#[tactic(auto, using(crate::proofs::Made::length_means, crate::proofs::Made::length_own, crate::proofs::Made::length_valued, crate::proofs::Made::ends_room), unfolding(crate::specs::Exports::exports))]
 pub fn prepare(
     alloc: Global,
     m: &Module,
@@ -174,35 +176,29 @@ pub fn prepare(
     mode: u32,
     id: u32,
 ) -> Result<Prepared, PrepareErr>
-    requires module { IsModule m.now }
+    requires module { IsLinkable m.now }
     requires room { (needs_of m.now).text.size + (needs_of m.now).«data».size < 2 ^ 32 }
     ensures made { IfOk result (λ p. IsMade (image m.now syms.now.list at) (needs_of m.now) p.bytes.items) }
     ensures exports { IfOk result (λ p. p.exports.items ≡ exports_lem m.now mode at id) }
     ensures undefined { IfOk result (λ p. p.undefined ≡ unbound syms.now.list m.now.symbols) }
     ensures fault { IfErr result (IsRefusal (image m.now syms.now.list at).fault) }
 {
-    let sections = m.sections.as_slice();
     let symbols = m.symbols.as_slice();
-    let Ok(shapes) = find_shapes(alloc, sections) else {
+    let Ok(located) = locate(alloc, m, at) else {
         return Err(PrepareErr::NoMemory);
     };
-    let ends = find_ends(&shapes);
-    let Ok(own) = section_addresses(alloc, sections, at) else {
+    let values = located.values.as_slice();
+    let Ok(means) = meanings(alloc, syms, symbols, values) else {
         return Err(PrepareErr::NoMemory);
     };
-    let Ok(values) = symbol_values(alloc, &own, at, ends.bss, symbols) else {
-        return Err(PrepareErr::NoMemory);
-    };
-    let Ok(means) = meanings(alloc, syms, symbols, &values) else {
-        return Err(PrepareErr::NoMemory);
-    };
-    let Ok(exports) = collect_exports(alloc, sections, mode, id, symbols, &values) else {
+    let Ok(exports) = collect_exports(alloc, m.sections.as_slice(), mode, id, symbols, values)
+    else {
         return Err(PrepareErr::NoMemory);
     };
     let Ok(undefined) = unbound_names(alloc, syms, symbols) else {
         return Err(PrepareErr::NoMemory);
     };
-    match make_bytes(alloc, m, ends, &own, &means) {
+    match make_bytes(alloc, m, located.ends, &located.sections, &means) {
         Ok(bytes) => Ok(Prepared {
             bytes,
             exports,

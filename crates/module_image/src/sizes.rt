@@ -1,11 +1,11 @@
 //! The memory that a module needs.
 
 ghost use Rattle.std.specs.Prelude.{◌≡◌, ◌≤◌, max, if◌then◌else◌, length, All, IfOk};
-ghost use Rattle.wind_base.specs.Limits.{most_section_headers, most_symbol_entries};
+ghost use Rattle.wind_base.specs.Limits.{most_symbol_entries};
 ghost use Rattle.mem_partition.specs.Place.{grain};
-ghost use Rattle.elf_read.specs.Modules.{IsModule};
 ghost use Rattle.module_image.specs.Exports.{export_count};
-ghost use Rattle.module_image.specs.Layout.{segment_in, IsShapeRoom, IsSymRoom};
+ghost use Rattle.module_image.specs.Layout.{segment_in, most_entries, IsShapeRoom, IsSymRoom};
+ghost use Rattle.module_image.specs.Linkable.{IsLinkable};
 ghost use Rattle.module_image.specs.Needs.{same_segment, align_by, align_after, common_align, needs_by, needs_of};
 
 use crate::exports::count_exports;
@@ -75,9 +75,9 @@ fn find_common_align(start: u32, symbols: &[Sym]) -> u32
 /// The memory that each segment needs for sections of these shapes and these symbols.
 pub fn measure(shapes: &[Shape], symbols: &[Sym]) -> Needs
     requires sections { All IsShapeRoom shapes.now }
-    requires few { length shapes.now ≤ most_section_headers }
+    requires few { length shapes.now ≤ most_entries }
     requires symbols { All IsSymRoom symbols.now }
-    requires few_symbols { length symbols.now ≤ most_symbol_entries }
+    requires few_symbols { length symbols.now ≤ most_entries }
     ensures { result ≡ needs_by shapes.now symbols.now }
 {
     let ends = find_ends(shapes);
@@ -98,9 +98,9 @@ pub fn measure(shapes: &[Shape], symbols: &[Sym]) -> Needs
 }
 
 /// The memory that each segment of a module needs.
-#[tactic(auto, using(crate::proofs::Known::shapes_room, crate::proofs::Known::few_shapes, crate::proofs::Known::syms_room, crate::proofs::Made::needs_shaped))]
+#[tactic(auto, using(crate::proofs::Known::shapes_room, crate::proofs::Known::few_shapes, crate::proofs::Made::needs_shaped))]
 pub fn measure_module(alloc: Global, m: &Module) -> Result<Needs, NoMemory>
-    requires { IsModule m.now }
+    requires { IsLinkable m.now }
     ensures { IfOk result (λ z. z ≡ needs_of m.now) }
 {
     let sections = m.sections.as_slice();

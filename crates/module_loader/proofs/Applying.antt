@@ -3,6 +3,7 @@ use Rattle.std.proofs.Common.{◌≡◌, ℕ, ◌+◌, ◌≤◌, true, false, c
 use Rattle.std.proofs.lemmas.Bool.{and_parts}
 use Rattle.reloc_link.specs.declared.patching.RelocErr.{RelocErr}
 use Rattle.symbol_table.specs.declared.symbol.Symbol.{Symbol}
+use Rattle.wind_base.specs.declared.board_kind.Side.{Side}
 use Rattle.mem_partition.specs.declared.block.Block.{Block as PartBlock}
 use Rattle.mem_partition.specs.declared.block.PartErr.{PartErr}
 use Rattle.mem_partition.specs.Place.{is_apart, meets_none}
@@ -17,7 +18,7 @@ use Rattle.module_image.specs.Image.{Images, image}
 use Rattle.module_image.specs.Laws.{HasSizes}
 use Rattle.module_loader.specs.declared.module.LoadErr.{LoadErr}
 use Rattle.module_loader.specs.Placing.{with_seg, with_text, with_data, with_needs, places_of}
-use Rattle.module_loader.specs.Loading.{LoaderState, Piece, block_size, in_blocks, count_refusal, reloc_verdict, place_verdict, verdict_by, verdict}
+use Rattle.module_loader.specs.Loading.{LoaderState, side_of, Piece, block_size, in_blocks, count_refusal, reloc_verdict, place_verdict, verdict_by, verdict}
 use Rattle.module_loader.specs.Live.{IsPiece}
 use Rattle.module_loader.proofs.Ram.{Block, Apart, IsAmong, IsHeldBy, Clear}
 use Rattle.module_loader.proofs.Taking.{seg_kept, are_places}
@@ -29,7 +30,7 @@ use Rattle.module_loader.proofs.Filling.{length-in_block}
 
 pub record IsAccepted (s : LoaderState) (m : Module) (mode : ℕ) (at : Places) : Type 0 where
   pub counts : count_refusal s m mode ≡ None
-  pub places : places_of s.part (needs_of m) ≡ Ok at
+  pub places : places_of (side_of s) s.part (needs_of m) ≡ Ok at
   pub fault : (image m s.symbols at).fault ≡ None
 
 reloc_none : (at to : Places) (f : Option RelocErr) → reloc_verdict at f ≡ Ok to → (at ≡ to) × (f ≡ None)
@@ -49,8 +50,8 @@ verdict_some (Some e) r at h = absurd (cc)
 pub is_accepted : (s : LoaderState) (m : Module) (mode : ℕ) (at : Places) → verdict s m mode ≡ Ok at → IsAccepted s m mode at
 unfolding verdict
 is_accepted s m mode at h =
-    let one = verdict_some (count_refusal s m mode) (place_verdict m s.symbols (places_of s.part (needs_of m))) at h in
-    let two = place_some m s.symbols (places_of s.part (needs_of m)) at one.1 in
+    let one = verdict_some (count_refusal s m mode) (place_verdict m s.symbols (places_of (side_of s) s.part (needs_of m))) at h in
+    let two = place_some m s.symbols (places_of (side_of s) s.part (needs_of m)) at one.1 in
     record { counts = one.0; places = two.0; fault = two.1 }
 
 -- ---- where the pieces are
@@ -73,9 +74,9 @@ shrink at size len x k (inl h) = inl (omega arith)
 shrink at size len x k (inr h) = inr h
 
 -- the bytes of a segment overlap no block before it
-seg_apart : (s : PartState) (n : Need) (at : ℕ) (bytes : List ℕ) → Stands s n at → length bytes ≡ block_size n.size → (x : Block) → IsAmong x (pairs s.blocks) → (length bytes ≡ 0) ⊎ Apart (at, length bytes) x
-seg_apart s n at bytes (inl h) e x among = let z = block_none n.size h.0 in inl (omega arith)
-seg_apart s n at bytes (inr (b, h)) e x among =
+seg_apart : (side : Side) (s : PartState) (n : Need) (at : ℕ) (bytes : List ℕ) → Stands side s n at → length bytes ≡ block_size n.size → (x : Block) → IsAmong x (pairs s.blocks) → (length bytes ≡ 0) ⊎ Apart (at, length bytes) x
+seg_apart side s n at bytes (inl h) e x among = let z = block_none n.size h.0 in inl (omega arith)
+seg_apart side s n at bytes (inr (b, h)) e x among =
     let full = h.full in
     inr (shrink at b.size (length bytes) x (omega arith) (apart_among s.blocks b.size at x (subst (λ a. meets_none s.blocks b.size a ≡ true) h.addr h.lies.apart) among))
 
@@ -95,47 +96,47 @@ among_new b (c ∷ cs) =
       | false ↦ inr (among_new b cs)
     ]
 
-seg_keeps : (s : PartState) (n : Need) (at : ℕ) (x : Block) → Stands s n at → IsAmong x (pairs s.blocks) → IsAmong x (pairs (with_seg s n).blocks)
-seg_keeps s n at x (inl h) among = subst (λ (t : PartState). IsAmong x (pairs t.blocks)) (sym h.1) among
-seg_keeps s n at x (inr (b, h)) among = subst (λ (t : PartState). IsAmong x (pairs t.blocks)) (sym h.after) (among_kept b s.blocks x among)
+seg_keeps : (side : Side) (s : PartState) (n : Need) (at : ℕ) (x : Block) → Stands side s n at → IsAmong x (pairs s.blocks) → IsAmong x (pairs (with_seg side s n).blocks)
+seg_keeps side s n at x (inl h) among = subst (λ (t : PartState). IsAmong x (pairs t.blocks)) (sym h.1) among
+seg_keeps side s n at x (inr (b, h)) among = subst (λ (t : PartState). IsAmong x (pairs t.blocks)) (sym h.after) (among_kept b s.blocks x among)
 
-seg_held : (s : PartState) (n : Need) (at : ℕ) (bytes : List ℕ) → Stands s n at → length bytes ≡ block_size n.size → IsHeldBy (pairs (with_seg s n).blocks) (at, bytes)
-seg_held s n at bytes (inl h) e = let z = block_none n.size h.0 in inl (omega arith)
-seg_held s n at bytes (inr (b, h)) e =
+seg_held : (side : Side) (s : PartState) (n : Need) (at : ℕ) (bytes : List ℕ) → Stands side s n at → length bytes ≡ block_size n.size → IsHeldBy (pairs (with_seg side s n).blocks) (at, bytes)
+seg_held side s n at bytes (inl h) e = let z = block_none n.size h.0 in inl (omega arith)
+seg_held side s n at bytes (inr (b, h)) e =
     let full = h.full in
     let addr = h.addr in
     inr (pair_of b, subst (λ (t : PartState). IsAmong (pair_of b) (pairs t.blocks)) (sym h.after) (among_new b s.blocks), (omega arith, omega arith))
 
-held_later : (s : PartState) (n : Need) (at : ℕ) (p : Piece) → Stands s n at → IsHeldBy (pairs s.blocks) p → IsHeldBy (pairs (with_seg s n).blocks) p
-held_later s n at p st (inl h) = inl h
-held_later s n at p st (inr (b, among, covers)) = inr (b, seg_keeps s n at b st among, covers)
+held_later : (side : Side) (s : PartState) (n : Need) (at : ℕ) (p : Piece) → Stands side s n at → IsHeldBy (pairs s.blocks) p → IsHeldBy (pairs (with_seg side s n).blocks) p
+held_later side s n at p st (inl h) = inl h
+held_later side s n at p st (inr (b, among, covers)) = inr (b, seg_keeps side s n at b st among, covers)
 
 -- a later segment is apart from the bytes of an earlier one
-apart_earlier : (s t : PartState) (n1 n2 : Need) (at1 at2 : ℕ) (b1 b2 : List ℕ) → Stands s n1 at1 → length b1 ≡ block_size n1.size → Stands t n2 at2 → length b2 ≡ block_size n2.size
-    → ((x : Block) → IsAmong x (pairs (with_seg s n1).blocks) → IsAmong x (pairs t.blocks)) → (length b2 ≡ 0) ⊎ Apart (at2, length b2) (at1, length b1)
-apart_earlier s t n1 n2 at1 at2 b1 b2 (inl h) e1 st e2 keeps = let z = block_none n1.size h.0 in let a = h.2 in inr (inr (omega arith))
-apart_earlier s t n1 n2 at1 at2 b1 b2 (inr (b, h)) e1 st e2 keeps =
+apart_earlier : (side : Side) (s t : PartState) (n1 n2 : Need) (at1 at2 : ℕ) (b1 b2 : List ℕ) → Stands side s n1 at1 → length b1 ≡ block_size n1.size → Stands side t n2 at2 → length b2 ≡ block_size n2.size
+    → ((x : Block) → IsAmong x (pairs (with_seg side s n1).blocks) → IsAmong x (pairs t.blocks)) → (length b2 ≡ 0) ⊎ Apart (at2, length b2) (at1, length b1)
+apart_earlier side s t n1 n2 at1 at2 b1 b2 (inl h) e1 st e2 keeps = let z = block_none n1.size h.0 in let a = h.2 in inr (inr (omega arith))
+apart_earlier side s t n1 n2 at1 at2 b1 b2 (inr (b, h)) e1 st e2 keeps =
     let full = h.full in
     let addr = h.addr in
-    elim (seg_apart t n2 at2 b2 st e2 (pair_of b) (keeps (pair_of b) (subst (λ (u : PartState). IsAmong (pair_of b) (pairs u.blocks)) (sym h.after) (among_new b s.blocks)))) [
+    elim (seg_apart side t n2 at2 b2 st e2 (pair_of b) (keeps (pair_of b) (subst (λ (u : PartState). IsAmong (pair_of b) (pairs u.blocks)) (sym h.after) (among_new b s.blocks)))) [
       | inl z ↦ inl z
       | inr apart ↦ inr (elim apart [ inl k ↦ inl (omega arith) | inr k ↦ inr (omega arith) ])
     ]
 
 -- the three segments
-pub record AllStand (s : PartState) (z : Needs) (at : Places) : Type 0 where
-  pub text : Stands s z.text at.text
-  pub «data» : Stands (with_text s z) z.«data» at.«data»
-  pub bss : Stands (with_data s z) z.bss at.bss
+pub record AllStand (side : Side) (s : PartState) (z : Needs) (at : Places) : Type 0 where
+  pub text : Stands side s z.text at.text
+  pub «data» : Stands side (with_text side s z) z.«data» at.«data»
+  pub bss : Stands side (with_data side s z) z.bss at.bss
 
-pub all_stand : (s : PartState) (z : Needs) (at : Places) → IsPart s → places_of s z ≡ Ok at → AllStand s z at
-all_stand s z at k e =
-    let p = are_places s z at e in
-    let kt = seg_kept s z.text k in
+pub all_stand : (side : Side) (s : PartState) (z : Needs) (at : Places) → IsPart s → places_of side s z ≡ Ok at → AllStand side s z at
+all_stand side s z at k e =
+    let p = are_places side s z at e in
+    let kt = seg_kept side s z.text k in
     record {
-      text = stands s z.text at.text k p.text;
-      «data» = stands (with_text s z) z.«data» at.«data» kt p.«data»;
-      bss = stands (with_data s z) z.bss at.bss (seg_kept (with_text s z) z.«data» kt) p.bss;
+      text = stands side s z.text at.text k p.text;
+      «data» = stands side (with_text side s z) z.«data» at.«data» kt p.«data»;
+      bss = stands side (with_data side s z) z.bss at.bss (seg_kept side (with_text side s z) z.«data» kt) p.bss;
     }
 
 -- where the segments' blocks end
@@ -157,19 +158,19 @@ fill_blocks i z b = record {
   bss = length-in_block i.bss ∙ ap block_size b.bss;
 }
 
-pub all_fit : (s : PartState) (z : Needs) (at : Places) (size : ℕ) → AllStand s z at → s.end ≤ size → AllFit size z at
-all_fit s z at size k h =
-    let one = block_in_pool s z.text at.text k.text in
-    let two = block_in_pool (with_text s z) z.«data» at.«data» k.«data» in
-    let three = block_in_pool (with_data s z) z.bss at.bss k.bss in
-    let e1 = same_end s z.text at.text k.text in
-    let e2 = same_end (with_text s z) z.«data» at.«data» k.«data» in
+pub all_fit : (side : Side) (s : PartState) (z : Needs) (at : Places) (size : ℕ) → AllStand side s z at → s.end ≤ size → AllFit size z at
+all_fit side s z at size k h =
+    let one = block_in_pool side s z.text at.text k.text in
+    let two = block_in_pool side (with_text side s z) z.«data» at.«data» k.«data» in
+    let three = block_in_pool side (with_data side s z) z.bss at.bss k.bss in
+    let e1 = same_end side s z.text at.text k.text in
+    let e2 = same_end side (with_text side s z) z.«data» at.«data» k.«data» in
     record { text = omega arith; «data» = omega arith; bss = omega arith }
 
-pub clear_all : (s : PartState) (z : Needs) (at : Places) (i : Images) (size : ℕ) → AllStand s z at → FillBlocks i z → s.end ≤ size
+pub clear_all : (side : Side) (s : PartState) (z : Needs) (at : Places) (i : Images) (size : ℕ) → AllStand side s z at → FillBlocks i z → s.end ≤ size
     → Clear size (pairs s.blocks) (three_pieces at i.text i.«data» i.bss)
-clear_all s z at i size k b h =
-    let fit = all_fit s z at size k h in
+clear_all side s z at i size k b h =
+    let fit = all_fit side s z at size k h in
     let bt = b.text in
     let bv = b.«data» in
     let bb = b.bss in
@@ -180,42 +181,42 @@ clear_all s z at i size k b h =
     let t2 : at.«data» + length i.«data» ≤ size = omega arith in
     let t3 : at.bss + length i.bss ≤ size = omega arith in (
       t1,
-      (λ x among. seg_apart s z.text at.text i.text k.text b.text x among),
+      (λ x among. seg_apart side s z.text at.text i.text k.text b.text x among),
       (
         t2,
         (λ x among. elim among [
           | inl e ↦ subst (λ (y : Block). (length i.«data» ≡ 0) ⊎ Apart (at.«data», length i.«data») y) (sym e)
-              (apart_earlier s (with_text s z) z.text z.«data» at.text at.«data» i.text i.«data» k.text b.text k.«data» b.«data» (λ y m. m))
-          | inr m ↦ seg_apart (with_text s z) z.«data» at.«data» i.«data» k.«data» b.«data» x (seg_keeps s z.text at.text x k.text m)
+              (apart_earlier side s (with_text side s z) z.text z.«data» at.text at.«data» i.text i.«data» k.text b.text k.«data» b.«data» (λ y m. m))
+          | inr m ↦ seg_apart side (with_text side s z) z.«data» at.«data» i.«data» k.«data» b.«data» x (seg_keeps side s z.text at.text x k.text m)
         ]),
         (
           t3,
           (λ x among. elim among [
             | inl e ↦ subst (λ (y : Block). (length i.bss ≡ 0) ⊎ Apart (at.bss, length i.bss) y) (sym e)
-                (apart_earlier (with_text s z) (with_data s z) z.«data» z.bss at.«data» at.bss i.«data» i.bss k.«data» b.«data» k.bss b.bss (λ y m. m))
+                (apart_earlier side (with_text side s z) (with_data side s z) z.«data» z.bss at.«data» at.bss i.«data» i.bss k.«data» b.«data» k.bss b.bss (λ y m. m))
             | inr (inl e) ↦ subst (λ (y : Block). (length i.bss ≡ 0) ⊎ Apart (at.bss, length i.bss) y) (sym e)
-                (apart_earlier s (with_data s z) z.text z.bss at.text at.bss i.text i.bss k.text b.text k.bss b.bss (λ y m. seg_keeps (with_text s z) z.«data» at.«data» y k.«data» m))
-            | inr (inr m) ↦ seg_apart (with_data s z) z.bss at.bss i.bss k.bss b.bss x (seg_keeps (with_text s z) z.«data» at.«data» x k.«data» (seg_keeps s z.text at.text x k.text m))
+                (apart_earlier side s (with_data side s z) z.text z.bss at.text at.bss i.text i.bss k.text b.text k.bss b.bss (λ y m. seg_keeps side (with_text side s z) z.«data» at.«data» y k.«data» m))
+            | inr (inr m) ↦ seg_apart side (with_data side s z) z.bss at.bss i.bss k.bss b.bss x (seg_keeps side (with_text side s z) z.«data» at.«data» x k.«data» (seg_keeps side s z.text at.text x k.text m))
           ]),
           tt,
         ),
       ),
     )
 
-pub held_all : (s : PartState) (z : Needs) (at : Places) (i : Images) → AllStand s z at → FillBlocks i z
-    → (p : Piece) → IsPiece p (three_pieces at i.text i.«data» i.bss) → IsHeldBy (pairs (with_needs s z).blocks) p
-held_all s z at i k b p (inl e) =
-    subst (λ (q : Piece). IsHeldBy (pairs (with_needs s z).blocks) q) (sym e)
-    (held_later (with_data s z) z.bss at.bss (at.text, i.text) k.bss (held_later (with_text s z) z.«data» at.«data» (at.text, i.text) k.«data» (seg_held s z.text at.text i.text k.text b.text)))
-held_all s z at i k b p (inr (inl e)) =
-    subst (λ (q : Piece). IsHeldBy (pairs (with_needs s z).blocks) q) (sym e)
-    (held_later (with_data s z) z.bss at.bss (at.«data», i.«data») k.bss (seg_held (with_text s z) z.«data» at.«data» i.«data» k.«data» b.«data»))
-held_all s z at i k b p (inr (inr (inl e))) =
-    subst (λ (q : Piece). IsHeldBy (pairs (with_needs s z).blocks) q) (sym e) (seg_held (with_data s z) z.bss at.bss i.bss k.bss b.bss)
-held_all s z at i k b p (inr (inr (inr h))) = absurd h
+pub held_all : (side : Side) (s : PartState) (z : Needs) (at : Places) (i : Images) → AllStand side s z at → FillBlocks i z
+    → (p : Piece) → IsPiece p (three_pieces at i.text i.«data» i.bss) → IsHeldBy (pairs (with_needs side s z).blocks) p
+held_all side s z at i k b p (inl e) =
+    subst (λ (q : Piece). IsHeldBy (pairs (with_needs side s z).blocks) q) (sym e)
+    (held_later side (with_data side s z) z.bss at.bss (at.text, i.text) k.bss (held_later side (with_text side s z) z.«data» at.«data» (at.text, i.text) k.«data» (seg_held side s z.text at.text i.text k.text b.text)))
+held_all side s z at i k b p (inr (inl e)) =
+    subst (λ (q : Piece). IsHeldBy (pairs (with_needs side s z).blocks) q) (sym e)
+    (held_later side (with_data side s z) z.bss at.bss (at.«data», i.«data») k.bss (seg_held side (with_text side s z) z.«data» at.«data» i.«data» k.«data» b.«data»))
+held_all side s z at i k b p (inr (inr (inl e))) =
+    subst (λ (q : Piece). IsHeldBy (pairs (with_needs side s z).blocks) q) (sym e) (seg_held side (with_data side s z) z.bss at.bss i.bss k.bss b.bss)
+held_all side s z at i k b p (inr (inr (inr h))) = absurd h
 
-pub keeps_all : (s : PartState) (z : Needs) (at : Places) (x : Block) → AllStand s z at → IsAmong x (pairs s.blocks) → IsAmong x (pairs (with_needs s z).blocks)
-keeps_all s z at x k among = seg_keeps (with_data s z) z.bss at.bss x k.bss (seg_keeps (with_text s z) z.«data» at.«data» x k.«data» (seg_keeps s z.text at.text x k.text among))
+pub keeps_all : (side : Side) (s : PartState) (z : Needs) (at : Places) (x : Block) → AllStand side s z at → IsAmong x (pairs s.blocks) → IsAmong x (pairs (with_needs side s z).blocks)
+keeps_all side s z at x k among = seg_keeps side (with_data side s z) z.bss at.bss x k.bss (seg_keeps side (with_text side s z) z.«data» at.«data» x k.«data» (seg_keeps side s z.text at.text x k.text among))
 
-pub end_all : (s : PartState) (z : Needs) (at : Places) → AllStand s z at → (with_needs s z).end ≡ s.end
-end_all s z at k = same_end (with_data s z) z.bss at.bss k.bss ∙ (same_end (with_text s z) z.«data» at.«data» k.«data» ∙ same_end s z.text at.text k.text)
+pub end_all : (side : Side) (s : PartState) (z : Needs) (at : Places) → AllStand side s z at → (with_needs side s z).end ≡ s.end
+end_all side s z at k = same_end side (with_data side s z) z.bss at.bss k.bss ∙ (same_end side (with_text side s z) z.«data» at.«data» k.«data» ∙ same_end side s z.text at.text k.text)

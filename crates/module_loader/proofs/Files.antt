@@ -16,7 +16,7 @@ use Rattle.module_image.specs.Exports.{export_count}
 use Rattle.module_image.specs.Needs.{needs_of}
 use Rattle.module_image.specs.Image.{image}
 use Rattle.module_loader.specs.Placing.{places_of}
-use Rattle.module_loader.specs.Loading.{LoaderState, count_by, reloc_verdict, place_verdict, verdict, file_by, file_verdict, ReachesRelocations, IsVerdict}
+use Rattle.module_loader.specs.Loading.{LoaderState, side_of, count_by, reloc_verdict, place_verdict, verdict, file_by, file_verdict, ReachesRelocations, IsVerdict}
 use Rattle.module_loader.specs.Steps.{IsFileRefusal, IsRefusedBy}
 use Rattle.module_loader.proofs.Loads.{by_counts, counted, placed}
 
@@ -39,13 +39,13 @@ file_refused s file mode (refusal.Reloc e) h = absurd h
 
 -- the refusals of a file that no rule refuses: by counts, and by the first segment that has no place
 pub counts_refused : (s : LoaderState) (file : List ℕ) (mode : ℕ) (e : LoadErr) → ModuleOf file (module_at file)
-    → IsRefusedBy (length s.modules) s.kern.next_id (length s.symbols + export_count mode (module_at file).symbols) e → IsVerdict (file_verdict s file mode) e
+    → IsRefusedBy (length s.modules.rows) s.kern.next_id (length s.symbols + export_count mode (module_at file).symbols) e → IsVerdict (file_verdict s file mode) e
 counts_refused s file mode e h r =
     subst (λ v. IsVerdict v e) (sym (read_verdict s file (module_at file) mode h)) (counted s (module_at file) mode e r)
 
 pub blocks_refused : (s : LoaderState) (file : List ℕ) (mode : ℕ) (e : PartErr) → ModuleOf file (module_at file)
-    → count_by (length s.modules) s.kern.next_id (length s.symbols + export_count mode (module_at file).symbols) ≡ None
-    → places_of s.part (needs_of (module_at file)) ≡ Err e → IsVerdict (file_verdict s file mode) (refusal.Part e)
+    → count_by (length s.modules.rows) s.kern.next_id (length s.symbols + export_count mode (module_at file).symbols) ≡ None
+    → places_of (side_of s) s.part (needs_of (module_at file)) ≡ Err e → IsVerdict (file_verdict s file mode) (refusal.Part e)
 blocks_refused s file mode e h n p =
     subst (λ v. IsVerdict v (refusal.Part e)) (sym (read_verdict s file (module_at file) mode h))
     (placed s (module_at file) mode (refusal.Part e) n (ap (place_verdict (module_at file) s.symbols) p))
@@ -60,11 +60,11 @@ places_reach m tab (Err e) h = absurd (cc)
 places_reach m tab (Ok at) h = reaches at (image m tab at).fault
 
 pub file_reaches : (s : LoaderState) (file : List ℕ) (mode : ℕ) → ModuleOf file (module_at file)
-    → count_by (length s.modules) s.kern.next_id (length s.symbols + export_count mode (module_at file).symbols) ≡ None
-    → IsOk (places_of s.part (needs_of (module_at file))) → ReachesRelocations (file_verdict s file mode)
+    → count_by (length s.modules.rows) s.kern.next_id (length s.symbols + export_count mode (module_at file).symbols) ≡ None
+    → IsOk (places_of (side_of s) s.part (needs_of (module_at file))) → ReachesRelocations (file_verdict s file mode)
 file_reaches s file mode h n p =
     let m = module_at file in
-    subst ReachesRelocations (sym (read_verdict s file m mode h ∙ by_counts s m mode None n)) (places_reach m s.symbols (places_of s.part (needs_of m)) p)
+    subst ReachesRelocations (sym (read_verdict s file m mode h ∙ by_counts s m mode None n)) (places_reach m s.symbols (places_of (side_of s) s.part (needs_of m)) p)
 
 -- what an accepted file says
 pub record IsFile (s : LoaderState) (file : List ℕ) (mode : ℕ) (at : Places) : Type 0 where

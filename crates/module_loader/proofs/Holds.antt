@@ -7,6 +7,7 @@ use Rattle.std.proofs.lemmas.Bool.{and_parts, and_from, and_left, eqb-true, eq-e
 use Rattle.std.specs.Option.{option_map}
 use Rattle.wind_lists.specs.Records.{of_id}
 use Rattle.id_table.specs.Rows.{row_id, row_object, object_of, without, IdsBelow}
+use Rattle.wind_base.specs.declared.board_kind.Side.{Side}
 use Rattle.mem_partition.specs.declared.block.Block.{Block}
 use Rattle.mem_partition.specs.declared.block.Class.TheVariants.{Kernel}
 use Rattle.mem_partition.specs.Place.{is_apart, meets_none}
@@ -26,7 +27,7 @@ use Rattle.module_loader.specs.declared.module.Loaded.{Loaded}
 use Rattle.module_loader.specs.declared.module.LoadedModule.{LoadedModule}
 use Rattle.module_loader.specs.declared.module.Segment.{Segment}
 use Rattle.module_loader.specs.Placing.{with_seg, with_text, with_data, with_needs}
-use Rattle.module_loader.specs.Loading.{LoaderState, block_size, segment_at, segments_at, record_of, verdict, file_verdict, loaded, IsLoaded}
+use Rattle.module_loader.specs.Loading.{LoaderState, side_of, block_size, segment_at, segments_at, record_of, verdict, file_verdict, loaded, IsLoaded}
 use Rattle.module_loader.specs.Modules.{without_segment, without_segments, without_all}
 use Rattle.module_loader.specs.Holding.{addr_of, addrs_of, held_by, occurs, is_kernel_block, HasItsBlock, AreHeld, KeepsModules, unloaded, HoldLaw}
 use Rattle.module_loader.proofs.Files.{is_file}
@@ -299,12 +300,12 @@ other_count n at a h = elim (eqb n.size 0) as (λ t. occurs a (cond t [] (at ∷
   | false ↦ ap (λ t. cond t 1 0 + 0) (ne_eqb at a h)
 ]
 
-step : (s : PartState) (n : Need) (at : ℕ) (count : ℕ → ℕ) → IsPart s → Stands s n at → Holds s count → Holds (with_seg s n) (λ a. count a + occurs a (addr_of (segment_at n at)))
-step s n at count k (inl h) held = record {
+step : (side : Side) (s : PartState) (n : Need) (at : ℕ) (count : ℕ → ℕ) → IsPart s → Stands side s n at → Holds s count → Holds (with_seg side s n) (λ a. count a + occurs a (addr_of (segment_at n at)))
+step side s n at count k (inl h) held = record {
   blocks = λ a p. (let z = no_count n at a h.0 in subst (λ (t : PartState). is_kernel_block t a ≡ true) (sym h.1) (held.blocks a (omega arith)));
   distinct = λ a. (let z = no_count n at a h.0 in let d = held.distinct a in omega arith);
 }
-step s n at count k (inr (b, h)) held = record {
+step side s n at count k (inr (b, h)) held = record {
   blocks = λ a p. elim (cases_eq at a) [
     | inl same ↦ subst (λ (t : PartState). is_kernel_block t a ≡ true) (sym h.after)
         (subst (λ x. is_kernel_block (with_blocks s (with_block b s.blocks)) x ≡ true) (h.addr ∙ same) (new_block s b k h.class h.some h.lies.apart))
@@ -338,21 +339,21 @@ same_counts s f g e k = record {
   distinct = λ a. (let q = e a in let d = k.distinct a in omega arith);
 }
 
-pub needs_hold : (s : PartState) (z : Needs) (at : Places) (count : ℕ → ℕ) → IsPart s → AllStand s z at → Holds s count
-    → Holds (with_needs s z) (λ a. count a + occurs a (addrs_of (segments_at z at)))
-needs_hold s z at count k st held =
-    let kt = seg_kept s z.text k in
-    let kv = seg_kept (with_text s z) z.«data» kt in
-    let one = step s z.text at.text count k st.text held in
-    let two = step (with_text s z) z.«data» at.«data» (λ a. count a + occurs a (addr_of (segment_at z.text at.text))) kt st.«data» one in
-    let last = step (with_data s z) z.bss at.bss (λ a. count a + occurs a (addr_of (segment_at z.text at.text)) + occurs a (addr_of (segment_at z.«data» at.«data»))) kv st.bss two in
-    same_counts (with_needs s z) (λ a. count a + occurs a (addr_of (segment_at z.text at.text)) + occurs a (addr_of (segment_at z.«data» at.«data»)) + occurs a (addr_of (segment_at z.bss at.bss)))
+pub needs_hold : (side : Side) (s : PartState) (z : Needs) (at : Places) (count : ℕ → ℕ) → IsPart s → AllStand side s z at → Holds s count
+    → Holds (with_needs side s z) (λ a. count a + occurs a (addrs_of (segments_at z at)))
+needs_hold side s z at count k st held =
+    let kt = seg_kept side s z.text k in
+    let kv = seg_kept side (with_text side s z) z.«data» kt in
+    let one = step side s z.text at.text count k st.text held in
+    let two = step side (with_text side s z) z.«data» at.«data» (λ a. count a + occurs a (addr_of (segment_at z.text at.text))) kt st.«data» one in
+    let last = step side (with_data side s z) z.bss at.bss (λ a. count a + occurs a (addr_of (segment_at z.text at.text)) + occurs a (addr_of (segment_at z.«data» at.«data»))) kv st.bss two in
+    same_counts (with_needs side s z) (λ a. count a + occurs a (addr_of (segment_at z.text at.text)) + occurs a (addr_of (segment_at z.«data» at.«data»)) + occurs a (addr_of (segment_at z.bss at.bss)))
     (λ a. count a + occurs a (addrs_of (segments_at z at))) (λ a. (let q = three z at a in omega arith)) last
 
 -- what begins at the address of a Kernel block stays when a segment's block is given
-seg_keeps : (s : PartState) (n : Need) (at a : ℕ) → IsPart s → Stands s n at → is_kernel_block s a ≡ true → own_block (with_seg s n).blocks a Kernel ≡ own_block s.blocks a Kernel
-seg_keeps s n at a k (inl h) there = ap (λ (t : PartState). own_block t.blocks a Kernel) h.1
-seg_keeps s n at a k (inr (b, h)) there =
+seg_keeps : (side : Side) (s : PartState) (n : Need) (at a : ℕ) → IsPart s → Stands side s n at → is_kernel_block s a ≡ true → own_block (with_seg side s n).blocks a Kernel ≡ own_block s.blocks a Kernel
+seg_keeps side s n at a k (inl h) there = ap (λ (t : PartState). own_block t.blocks a Kernel) h.1
+seg_keeps side s n at a k (inr (b, h)) there =
     ap (λ (t : PartState). own_block t.blocks a Kernel) h.after
     ∙ find-with_block (λ c. eqb c.addr a && same_class c.class Kernel) b s.blocks
     (and_left (eqb b.addr a) (same_class b.class Kernel)
@@ -363,9 +364,9 @@ block_is b at n one two three =
     ap (λ a. record b { addr = a }) one ∙ (ap (λ m. record b { addr = at; size = m }) two ∙ ap (λ c. record b { addr = at; size = n; class = c }) three)
 
 -- a segment with bytes gets its block
-seg_own : (s : PartState) (n : Need) (at : ℕ) → IsPart s → Stands s n at → HasItsBlock (with_seg s n) (segment_at n at)
-seg_own s n at k (inl h) some = absurd (omega (arith, h.0, some))
-seg_own s n at k (inr (b, h)) some =
+seg_own : (side : Side) (s : PartState) (n : Need) (at : ℕ) → IsPart s → Stands side s n at → HasItsBlock (with_seg side s n) (segment_at n at)
+seg_own side s n at k (inl h) some = absurd (omega (arith, h.0, some))
+seg_own side s n at k (inr (b, h)) some =
     ap (λ (t : PartState). own_block t.blocks at Kernel) h.after
     ∙ (ap (λ x. own_block (with_block b s.blocks) x Kernel) (sym h.addr)
     ∙ (find_with (λ c. eqb c.addr b.addr && same_class c.class Kernel) b s.start s.end s.blocks k.laid h.some h.lies.apart (own_passes b h.class)
@@ -373,60 +374,60 @@ seg_own s n at k (inr (b, h)) some =
     ∙ ap Some (block_is b at (block_size n.size) h.addr h.full h.class)))
 
 -- and a segment keeps its block when another's is allocated
-own_keeps : (s : PartState) (g : Segment) (n : Need) (at : ℕ) → IsPart s → Stands s n at → HasItsBlock s g → HasItsBlock (with_seg s n) g
-own_keeps s g n at k st has some = seg_keeps s n at g.addr k st (ap is_some (has some)) ∙ has some
+own_keeps : (side : Side) (s : PartState) (g : Segment) (n : Need) (at : ℕ) → IsPart s → Stands side s n at → HasItsBlock s g → HasItsBlock (with_seg side s n) g
+own_keeps side s g n at k st has some = seg_keeps side s n at g.addr k st (ap is_some (has some)) ∙ has some
 
-needs_own : (s : PartState) (z : Needs) (at : Places) → IsPart s → AllStand s z at → All (HasItsBlock (with_needs s z)) (segments_at z at)
-needs_own s z at k st =
-    let kt = seg_kept s z.text k in
-    let kv = seg_kept (with_text s z) z.«data» kt in
+needs_own : (side : Side) (s : PartState) (z : Needs) (at : Places) → IsPart s → AllStand side s z at → All (HasItsBlock (with_needs side s z)) (segments_at z at)
+needs_own side s z at k st =
+    let kt = seg_kept side s z.text k in
+    let kv = seg_kept side (with_text side s z) z.«data» kt in
     let text = segment_at z.text at.text in
     let «data» = segment_at z.«data» at.«data» in
     let bss = segment_at z.bss at.bss in
-    let text_then = own_keeps (with_text s z) text z.«data» at.«data» kt st.«data» (seg_own s z.text at.text k st.text) in
-    let text_last = own_keeps (with_data s z) text z.bss at.bss kv st.bss text_then in
-    let data_last = own_keeps (with_data s z) «data» z.bss at.bss kv st.bss (seg_own (with_text s z) z.«data» at.«data» kt st.«data») in
-    let bss_last = seg_own (with_data s z) z.bss at.bss kv st.bss in
-    let P = HasItsBlock (with_needs s z) in
+    let text_then = own_keeps side (with_text side s z) text z.«data» at.«data» kt st.«data» (seg_own side s z.text at.text k st.text) in
+    let text_last = own_keeps side (with_data side s z) text z.bss at.bss kv st.bss text_then in
+    let data_last = own_keeps side (with_data side s z) «data» z.bss at.bss kv st.bss (seg_own side (with_text side s z) z.«data» at.«data» kt st.«data») in
+    let bss_last = seg_own side (with_data side s z) z.bss at.bss kv st.bss in
+    let P = HasItsBlock (with_needs side s z) in
     All-cons P text («data» ∷ bss ∷ []) text_last (All-cons P «data» (bss ∷ []) data_last (All-cons P bss [] bss_last (λ i d within. absurd (omega arith))))
 
 -- what begins at the address of a Kernel block stays in a load
-needs_keep : (s : PartState) (z : Needs) (at : Places) (a : ℕ) → IsPart s → AllStand s z at → is_kernel_block s a ≡ true
-    → own_block (with_needs s z).blocks a Kernel ≡ own_block s.blocks a Kernel
-needs_keep s z at a k st there =
-    let kt = seg_kept s z.text k in
-    let kv = seg_kept (with_text s z) z.«data» kt in
-    let one = seg_keeps s z.text at.text a k st.text there in
-    let two = seg_keeps (with_text s z) z.«data» at.«data» a kt st.«data» (ap is_some one ∙ there) in
-    let last = seg_keeps (with_data s z) z.bss at.bss a kv st.bss (ap is_some two ∙ (ap is_some one ∙ there)) in
+needs_keep : (side : Side) (s : PartState) (z : Needs) (at : Places) (a : ℕ) → IsPart s → AllStand side s z at → is_kernel_block s a ≡ true
+    → own_block (with_needs side s z).blocks a Kernel ≡ own_block s.blocks a Kernel
+needs_keep side s z at a k st there =
+    let kt = seg_kept side s z.text k in
+    let kv = seg_kept side (with_text side s z) z.«data» kt in
+    let one = seg_keeps side s z.text at.text a k st.text there in
+    let two = seg_keeps side (with_text side s z) z.«data» at.«data» a kt st.«data» (ap is_some one ∙ there) in
+    let last = seg_keeps side (with_data side s z) z.bss at.bss a kv st.bss (ap is_some two ∙ (ap is_some one ∙ there)) in
     last ∙ (two ∙ one)
 
-pub load_holds : (s : LoaderState) (name : List ℕ) (m : Module) (mode : ℕ) (at : Places) → IsPart s.part → AreHeld s.modules s.part → verdict s m mode ≡ Ok at
-    → AreHeld (loaded s name m mode at).modules (loaded s name m mode at).part
+pub load_holds : (s : LoaderState) (name : List ℕ) (m : Module) (mode : ℕ) (at : Places) → IsPart s.part → AreHeld s.modules.rows s.part → verdict s m mode ≡ Ok at
+    → AreHeld (loaded s name m mode at).modules.rows (loaded s name m mode at).part
 unfolding loaded
 load_holds s name m mode at k held h =
-    let st = all_stand s.part (needs_of m) at k ((is_accepted s m mode at h).places) in
-    let all = needs_hold s.part (needs_of m) at (λ a. occurs a (held_by s.modules)) k st
-    (record { blocks = λ a some. rows_held s.modules s.part a held.blocks some; distinct = held.distinct }) in
+    let st = all_stand (side_of s) s.part (needs_of m) at k ((is_accepted s m mode at h).places) in
+    let all = needs_hold (side_of s) s.part (needs_of m) at (λ a. occurs a (held_by s.modules.rows)) k st
+    (record { blocks = λ a some. rows_held s.modules.rows s.part a held.blocks some; distinct = held.distinct }) in
     let row : ℕ × LoadedModule = (s.kern.next_id, record_of name (needs_of m) at) in
-    let after = with_needs s.part (needs_of m) in
+    let after = with_needs (side_of s) s.part (needs_of m) in
     record {
-      blocks = All-push (λ r. All (HasItsBlock after) r.1.segments) s.modules row
-          (rows_stay s.modules s.part after (λ a some. needs_keep s.part (needs_of m) at a k st (rows_held s.modules s.part a held.blocks some)) held.blocks)
-          (needs_own s.part (needs_of m) at k st);
+      blocks = All-push (λ r. All (HasItsBlock after) r.1.segments) s.modules.rows row
+          (rows_stay s.modules.rows s.part after (λ a some. needs_keep (side_of s) s.part (needs_of m) at a k st (rows_held s.modules.rows s.part a held.blocks some)) held.blocks)
+          (needs_own (side_of s) s.part (needs_of m) at k st);
       distinct = λ a.
-          (let n = held_by-append a s.modules (row ∷ []) in
+          (let n = held_by-append a s.modules.rows (row ∷ []) in
           let e = occurs-append a (addrs_of (segments_at (needs_of m) at)) [] in
           let d = all.distinct a in omega arith);
     }
 
 -- the addresses of the modules' blocks after a load
 pub held_by-loaded : (s : LoaderState) (name : List ℕ) (m : Module) (mode : ℕ) (at : Places) (a : ℕ)
-    → occurs a (held_by (loaded s name m mode at).modules) ≡ occurs a (held_by s.modules) + occurs a (addrs_of (segments_at (needs_of m) at))
+    → occurs a (held_by (loaded s name m mode at).modules.rows) ≡ occurs a (held_by s.modules.rows) + occurs a (addrs_of (segments_at (needs_of m) at))
 unfolding loaded
 held_by-loaded s name m mode at a =
     let row : ℕ × LoadedModule = (s.kern.next_id, record_of name (needs_of m) at) in
-    let n = held_by-append a s.modules (row ∷ []) in
+    let n = held_by-append a s.modules.rows (row ∷ []) in
     let e = occurs-append a (addrs_of (segments_at (needs_of m) at)) [] in
     omega arith
 
@@ -434,8 +435,8 @@ held_by-loaded s name m mode at a =
 pub none_before : (s : LoaderState) (m : Module) (mode : ℕ) (at : Places) (a : ℕ) → IsPart s.part → verdict s m mode ≡ Ok at → is_kernel_block s.part a ≡ true
     → occurs a (addrs_of (segments_at (needs_of m) at)) ≡ 0
 none_before s m mode at a k h there =
-    let st = all_stand s.part (needs_of m) at k ((is_accepted s m mode at h).places) in
-    let all = needs_hold s.part (needs_of m) at (λ b. occurs b (a ∷ [])) k st (record { blocks = one; distinct = once }) in
+    let st = all_stand (side_of s) s.part (needs_of m) at k ((is_accepted s m mode at h).places) in
+    let all = needs_hold (side_of s) s.part (needs_of m) at (λ b. occurs b (a ∷ [])) k st (record { blocks = one; distinct = once }) in
     let d = all.distinct a in
     let e = occurs_one a a refl in
     omega arith
@@ -460,7 +461,7 @@ pub load_keeps : (s : LoaderState) (name : List ℕ) (m : Module) (mode : ℕ) (
 unfolding loaded
 load_keeps s name m mode at k km keeps h = record {
   ids = keeps.ids;
-  below = below_more s.modules s.kern.next_id (record_of name (needs_of m) at) keeps.below;
+  below = below_more s.modules.rows s.kern.next_id (record_of name (needs_of m) at) keeps.below;
   pool = (kept s name m mode at (record { part = k; pool = keeps.pool }) km h).pool;
   held = load_holds s name m mode at k keeps.held h;
 }
@@ -488,12 +489,12 @@ below_without (r ∷ rs) next id all =
       | false ↦ All-cons (λ r. r.0 < next) r (without rs id) (All-head (λ r. r.0 < next) r rs all) rest
     ]
 
-unload_keeps : (s : LoaderState) (id : ℕ) (m : LoadedModule) → KeepsModules s → object_of s.modules id ≡ Some m → KeepsModules (unloaded s id m)
+unload_keeps : (s : LoaderState) (id : ℕ) (m : LoadedModule) → KeepsModules s → object_of s.modules.rows id ≡ Some m → KeepsModules (unloaded s id m)
 unload_keeps s id m keeps e = record {
   ids = keeps.ids;
-  below = below_without s.modules s.kern.next_id id keeps.below;
+  below = below_without s.modules.rows s.kern.next_id id keeps.below;
   pool = (let end = end_without m.segments s.part in let pool = keeps.pool in omega arith);
-  held = unload_holds s.modules s.part id m keeps.held e;
+  held = unload_holds s.modules.rows s.part id m keeps.held e;
 }
 
 pub hold_law : HoldLaw

@@ -2,6 +2,7 @@
 use Rattle.std.proofs.Common.{◌≡◌, ℕ, zero, suc, ◌+◌, ◌<◌, ◌≤◌, true, false, cond, ltb, List, [], ◌∷◌, length, get_or, Ok, refl, sym, ◌∙◌, subst, inl, inr, ◌⊎◌, arith}
 use Rattle.std.specs.List.{Contains}
 use Rattle.std.proofs.lemmas.Bool.{cases_lt}
+use Rattle.wind_base.specs.declared.board_kind.Side.{Side}
 use Rattle.mem_partition.specs.declared.block.Block.{Block as PartBlock}
 use Rattle.mem_partition.specs.Laws.{IsIn, Meets}
 use Rattle.mem_partition.specs.State.{PartState, with_block}
@@ -12,9 +13,10 @@ use Rattle.module_image.specs.declared.segments.Needs.{Needs}
 use Rattle.module_image.specs.declared.segments.Places.{Places}
 use Rattle.module_image.specs.Needs.{needs_of}
 use Rattle.module_image.specs.Image.{Images, image}
+use Rattle.module_image.proofs.Known.{linkable}
 use Rattle.module_image.proofs.Lengths.{size_law}
 use Rattle.module_loader.specs.Placing.{with_seg, with_text, with_data, with_needs}
-use Rattle.module_loader.specs.Loading.{LoaderState, Piece, block_size, in_blocks, stored, stored_all, pieces_of, verdict, loaded}
+use Rattle.module_loader.specs.Loading.{LoaderState, side_of, Piece, block_size, in_blocks, stored, stored_all, pieces_of, verdict, loaded}
 use Rattle.module_loader.specs.Steps.{three_pieces}
 use Rattle.module_loader.specs.Live.{IsPiece, IsLoader}
 use Rattle.module_loader.specs.Writes.{HasBlock, WriteLaw}
@@ -45,27 +47,27 @@ contains_kept b (c ∷ cs) x (suc k, h, e) = elim (ltb b.addr c.addr) as (λ t. 
 abbrev Owns : PartState → Piece → Type 0
 Owns s p = (length p.1 ≡ 0) ⊎ HasBlock s p
 
-owns_seg : (s : PartState) (n : Need) (at : ℕ) (bytes : List ℕ) → Stands s n at → length bytes ≡ block_size n.size → Owns (with_seg s n) (at, bytes)
-owns_seg s n at bytes (inl h) e = let z = block_none n.size h.0 in inl (omega arith)
-owns_seg s n at bytes (inr (b, h)) e =
+owns_seg : (side : Side) (s : PartState) (n : Need) (at : ℕ) (bytes : List ℕ) → Stands side s n at → length bytes ≡ block_size n.size → Owns (with_seg side s n) (at, bytes)
+owns_seg side s n at bytes (inl h) e = let z = block_none n.size h.0 in inl (omega arith)
+owns_seg side s n at bytes (inr (b, h)) e =
     inr (b, subst (λ (t : PartState). Contains t.blocks b) (sym h.after) (contains_new b s.blocks), h.class, h.addr, h.full ∙ sym e)
 
-owns_later : (s : PartState) (n : Need) (at : ℕ) (p : Piece) → Stands s n at → Owns s p → Owns (with_seg s n) p
-owns_later s n at p st (inl z) = inl z
-owns_later s n at p (inl h) (inr owned) = inr (subst (λ (t : PartState). HasBlock t p) (sym h.1) owned)
-owns_later s n at p (inr (b, h)) (inr (c, has, class, addr, fits)) =
+owns_later : (side : Side) (s : PartState) (n : Need) (at : ℕ) (p : Piece) → Stands side s n at → Owns s p → Owns (with_seg side s n) p
+owns_later side s n at p st (inl z) = inl z
+owns_later side s n at p (inl h) (inr owned) = inr (subst (λ (t : PartState). HasBlock t p) (sym h.1) owned)
+owns_later side s n at p (inr (b, h)) (inr (c, has, class, addr, fits)) =
     inr (c, subst (λ (t : PartState). Contains t.blocks c) (sym h.after) (contains_kept b s.blocks c has), class, addr, fits)
 
-owns_all : (s : PartState) (z : Needs) (at : Places) (i : Images) (p : Piece) → AllStand s z at → FillBlocks i z → IsPiece p (three_pieces at i.text i.«data» i.bss)
-    → Owns (with_needs s z) p
-owns_all s z at i p k b (inl e) =
-    subst (λ (q : Piece). Owns (with_needs s z) q) (sym e)
-    (owns_later (with_data s z) z.bss at.bss (at.text, i.text) k.bss (owns_later (with_text s z) z.«data» at.«data» (at.text, i.text) k.«data» (owns_seg s z.text at.text i.text k.text b.text)))
-owns_all s z at i p k b (inr (inl e)) =
-    subst (λ (q : Piece). Owns (with_needs s z) q) (sym e)
-    (owns_later (with_data s z) z.bss at.bss (at.«data», i.«data») k.bss (owns_seg (with_text s z) z.«data» at.«data» i.«data» k.«data» b.«data»))
-owns_all s z at i p k b (inr (inr (inl e))) = subst (λ (q : Piece). Owns (with_needs s z) q) (sym e) (owns_seg (with_data s z) z.bss at.bss i.bss k.bss b.bss)
-owns_all s z at i p k b (inr (inr (inr h))) = absurd h
+owns_all : (side : Side) (s : PartState) (z : Needs) (at : Places) (i : Images) (p : Piece) → AllStand side s z at → FillBlocks i z → IsPiece p (three_pieces at i.text i.«data» i.bss)
+    → Owns (with_needs side s z) p
+owns_all side s z at i p k b (inl e) =
+    subst (λ (q : Piece). Owns (with_needs side s z) q) (sym e)
+    (owns_later side (with_data side s z) z.bss at.bss (at.text, i.text) k.bss (owns_later side (with_text side s z) z.«data» at.«data» (at.text, i.text) k.«data» (owns_seg side s z.text at.text i.text k.text b.text)))
+owns_all side s z at i p k b (inr (inl e)) =
+    subst (λ (q : Piece). Owns (with_needs side s z) q) (sym e)
+    (owns_later side (with_data side s z) z.bss at.bss (at.«data», i.«data») k.bss (owns_seg side (with_text side s z) z.«data» at.«data» i.«data» k.«data» b.«data»))
+owns_all side s z at i p k b (inr (inr (inl e))) = subst (λ (q : Piece). Owns (with_needs side s z) q) (sym e) (owns_seg side (with_data side s z) z.bss at.bss i.bss k.bss b.bss)
+owns_all side s z at i p k b (inr (inr (inr h))) = absurd h
 
 -- ---- apart from the blocks before
 apart_of : (size : ℕ) (blocks : List Block) (ps : List Piece) (p : Piece) (x : Block) → Clear size blocks ps → IsPiece p ps → IsAmong x blocks
@@ -107,16 +109,16 @@ clear_of : (s : LoaderState) (m : Module) (mode : ℕ) (at : Places) → IsLoade
     → Clear (length s.ram) (pairs s.part.blocks) (pieces_of at (image m s.symbols at))
 clear_of s m mode at k km h =
     let places = (is_accepted s m mode at h).places in
-    clear_all s.part (needs_of m) at (in_blocks (image m s.symbols at)) (length s.ram) (all_stand s.part (needs_of m) at k.part places)
-    (fill_blocks (image m s.symbols at) (needs_of m) (size_law m s.symbols at km (total_small s.part (needs_of m) at k.part places))) k.pool
+    clear_all (side_of s) s.part (needs_of m) at (in_blocks (image m s.symbols at)) (length s.ram) (all_stand (side_of s) s.part (needs_of m) at k.part places)
+    (fill_blocks (image m s.symbols at) (needs_of m) (size_law m s.symbols at (linkable m km) (total_small (side_of s) s.part (needs_of m) at k.part places))) k.pool
 
 own : (s : LoaderState) (name : List ℕ) (m : Module) (mode : ℕ) (at : Places) (p : Piece) → IsLoader s → IsModule m → verdict s m mode ≡ Ok at
     → IsPiece p (pieces_of at (image m s.symbols at)) → Owns (loaded s name m mode at).part p
 unfolding loaded
 own s name m mode at p k km h in_it =
     let places = (is_accepted s m mode at h).places in
-    owns_all s.part (needs_of m) at (in_blocks (image m s.symbols at)) p (all_stand s.part (needs_of m) at k.part places)
-    (fill_blocks (image m s.symbols at) (needs_of m) (size_law m s.symbols at km (total_small s.part (needs_of m) at k.part places))) in_it
+    owns_all (side_of s) s.part (needs_of m) at (in_blocks (image m s.symbols at)) p (all_stand (side_of s) s.part (needs_of m) at k.part places)
+    (fill_blocks (image m s.symbols at) (needs_of m) (size_law m s.symbols at (linkable m km) (total_small (side_of s) s.part (needs_of m) at k.part places))) in_it
 
 outside : (s : LoaderState) (name : List ℕ) (m : Module) (mode : ℕ) (at : Places) (a : ℕ) → IsLoader s → IsModule m → verdict s m mode ≡ Ok at
     → ((p : Piece) → IsPiece p (pieces_of at (image m s.symbols at)) → IsIn a p.0 (length p.1) → ⊥)

@@ -8,10 +8,11 @@ use Rattle.module_image.specs.Needs.{needs_of}
 use Rattle.module_image.specs.Exports.{exports}
 use Rattle.module_image.specs.Image.{image}
 use Rattle.module_image.specs.Link.{Load, link, images_of}
+use Rattle.module_image.proofs.Known.{linkable}
 use Rattle.module_image.proofs.Lengths.{size_law}
 use Rattle.module_image.proofs.Linking.{link_law}
 use Rattle.module_loader.specs.Placing.{with_text, with_data}
-use Rattle.module_loader.specs.Loading.{LoaderState, in_blocks, pieces_of, verdict, loaded}
+use Rattle.module_loader.specs.Loading.{LoaderState, side_of, in_blocks, pieces_of, verdict, loaded}
 use Rattle.module_loader.specs.Live.{Job, load_of, after_job, Runs, written_by, IsLoader, LiveLaw}
 use Rattle.module_loader.proofs.Files.{is_file}
 use Rattle.module_loader.proofs.Ram.{Stand, Accepted, Loads, size_all, held_at_the_end}
@@ -20,20 +21,20 @@ use Rattle.module_loader.proofs.Standing.{total_small}
 use Rattle.module_loader.proofs.Applying.{is_accepted, pairs, all_stand, fill_blocks, clear_all, held_all, keeps_all, end_all}
 
 -- what the law sees of the state
-abbrev stand_of : LoaderState → Stand
+abbrev pub stand_of : LoaderState → Stand
 stand_of s = record { blocks = pairs s.part.blocks; ram = s.ram }
 
-accepted : (s : LoaderState) (name : List ℕ) (m : Module) (mode : ℕ) (at : Places) → IsLoader s → IsModule m → verdict s m mode ≡ Ok at
+pub accepted : (s : LoaderState) (name : List ℕ) (m : Module) (mode : ℕ) (at : Places) → IsLoader s → IsModule m → verdict s m mode ≡ Ok at
     → Accepted (stand_of s) (pieces_of at (image m s.symbols at)) (stand_of (loaded s name m mode at))
 unfolding loaded
 accepted s name m mode at k km h =
     let a = is_accepted s m mode at h in
-    let st = all_stand s.part (needs_of m) at k.part a.places in
-    let b = fill_blocks (image m s.symbols at) (needs_of m) (size_law m s.symbols at km (total_small s.part (needs_of m) at k.part a.places)) in
+    let st = all_stand (side_of s) s.part (needs_of m) at k.part a.places in
+    let b = fill_blocks (image m s.symbols at) (needs_of m) (size_law m s.symbols at (linkable m km) (total_small (side_of s) s.part (needs_of m) at k.part a.places)) in
     record {
-      clear = clear_all s.part (needs_of m) at (in_blocks (image m s.symbols at)) (length s.ram) st b k.pool;
-      older_blocks = λ x among. keeps_all s.part (needs_of m) at x st among;
-      blocks = held_all s.part (needs_of m) at (in_blocks (image m s.symbols at)) st b;
+      clear = clear_all (side_of s) s.part (needs_of m) at (in_blocks (image m s.symbols at)) (length s.ram) st b k.pool;
+      older_blocks = λ x among. keeps_all (side_of s) s.part (needs_of m) at x st among;
+      blocks = held_all (side_of s) s.part (needs_of m) at (in_blocks (image m s.symbols at)) st b;
       ram = refl;
     }
 
@@ -41,13 +42,13 @@ pub kept : (s : LoaderState) (name : List ℕ) (m : Module) (mode : ℕ) (at : P
 unfolding loaded
 kept s name m mode at k km h =
     let a = is_accepted s m mode at h in
-    let st = all_stand s.part (needs_of m) at k.part a.places in
-    let b = fill_blocks (image m s.symbols at) (needs_of m) (size_law m s.symbols at km (total_small s.part (needs_of m) at k.part a.places)) in
-    let size = size_all (length s.ram) (pairs s.part.blocks) (pieces_of at (image m s.symbols at)) s.ram refl (clear_all s.part (needs_of m) at (in_blocks (image m s.symbols at)) (length s.ram) st b k.pool) in
-    let end = end_all s.part (needs_of m) at st in
+    let st = all_stand (side_of s) s.part (needs_of m) at k.part a.places in
+    let b = fill_blocks (image m s.symbols at) (needs_of m) (size_law m s.symbols at (linkable m km) (total_small (side_of s) s.part (needs_of m) at k.part a.places)) in
+    let size = size_all (length s.ram) (pairs s.part.blocks) (pieces_of at (image m s.symbols at)) s.ram refl (clear_all (side_of s) s.part (needs_of m) at (in_blocks (image m s.symbols at)) (length s.ram) st b k.pool) in
+    let end = end_all (side_of s) s.part (needs_of m) at st in
     let pool = k.pool in
     record {
-      part = seg_kept (with_data s.part (needs_of m)) (needs_of m).bss (seg_kept (with_text s.part (needs_of m)) (needs_of m).«data» (seg_kept s.part (needs_of m).text k.part));
+      part = seg_kept (side_of s) (with_data (side_of s) s.part (needs_of m)) (needs_of m).bss (seg_kept (side_of s) (with_text (side_of s) s.part (needs_of m)) (needs_of m).«data» (seg_kept (side_of s) s.part (needs_of m).text k.part));
       pool = omega arith;
     }
 

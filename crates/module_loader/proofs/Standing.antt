@@ -1,12 +1,13 @@
 -- Where the segments' blocks are: in the pool, apart from the blocks before and from each other.
 use Rattle.std.proofs.Common.{◌≡◌, ℕ, ◌+◌, ◌^◌, ◌<◌, ◌≤◌, min, true, false, cond, eqb, ltb, List, [], ◌∷◌, Result, Ok, refl, sym, ap, ◌∙◌, subst, inl, inr, ◌⊎◌, arith}
 use Rattle.std.proofs.lemmas.Bool.{cases_lt, and_parts, and_from, eqb-true}
+use Rattle.wind_base.specs.declared.board_kind.Side.{Side}
 use Rattle.mem_partition.specs.declared.block.Block.{Block}
 use Rattle.mem_partition.specs.declared.block.Class.TheVariants.{Kernel}
 use Rattle.mem_partition.specs.declared.block.PartErr.{PartErr}
 use Rattle.mem_partition.specs.Place.{aligned, rounded, is_apart, meets_none, Lies}
-use Rattle.mem_partition.specs.State.{PartState, IsPart, alloc_of, with_block, after_alloc}
-use Rattle.mem_partition.proofs.Allocs.{alloc_lies, rounded_holds, rounded_some, after_is, given_block}
+use Rattle.mem_partition.specs.State.{PartState, IsPart, alloc_on, with_block, after_alloc_on}
+use Rattle.mem_partition.proofs.Allocs.{alloc_on_lies, rounded_holds, rounded_some, after_on_is, given_block}
 use Rattle.mem_partition.proofs.Keeping.{apart_cases, with_blocks}
 use Rattle.module_image.specs.declared.segments.Need.{Need}
 use Rattle.module_image.specs.declared.segments.Needs.{Needs}
@@ -29,17 +30,17 @@ meets_with b (c ∷ cs) size at h =
     ] h
 
 -- a segment's block: it is empty, or its bytes are in a block of the pool that overlaps none of the others
-pub record HasBlock (s : PartState) (n : Need) (at : ℕ) (b : Block) : Type 0 where
+pub record HasBlock (side : Side) (s : PartState) (n : Need) (at : ℕ) (b : Block) : Type 0 where
   pub addr : b.addr ≡ at
   pub holds : n.size ≤ b.size
   pub full : b.size ≡ block_size n.size
   pub lies : Lies s.start s.end s.blocks b.size b.addr
-  pub after : with_seg s n ≡ with_blocks s (with_block b s.blocks)
+  pub after : with_seg side s n ≡ with_blocks s (with_block b s.blocks)
   pub class : b.class ≡ Kernel
   pub some : 0 < b.size
 
-abbrev pub Stands : PartState → Need → ℕ → Type 0
-Stands s n at = ((n.size ≡ 0) × (with_seg s n ≡ s) × (at ≡ 0)) ⊎ ((b : Block) × HasBlock s n at b)
+abbrev pub Stands : Side → PartState → Need → ℕ → Type 0
+Stands side s n at = ((n.size ≡ 0) × (with_seg side s n ≡ s) × (at ≡ 0)) ⊎ ((b : Block) × HasBlock side s n at b)
 
 round_most : rounded greatest_word ≡ 4294967296
 unfolding rounded aligned
@@ -75,79 +76,79 @@ full_all size at end some h k = elim (cases_lt size 4294967296) [
 ]
 
 -- the same as a tuple, to look at its parts
-abbrev StandsBy : PartState → Need → ℕ → PartState → Type 0
-StandsBy s n at t =
+abbrev StandsBy : Side → PartState → Need → ℕ → PartState → Type 0
+StandsBy side s n at t =
     ((n.size ≡ 0) × (t ≡ s) × (at ≡ 0))
     ⊎ ((b : Block) × (b.addr ≡ at) × (n.size ≤ b.size) × Lies s.start s.end s.blocks b.size b.addr × (t ≡ with_blocks s (with_block b s.blocks)) × (b.class ≡ Kernel) × (0 < b.size) × (b.size ≡ block_size n.size))
 
 same_Ok : (a b : ℕ) → ◌≡◌ {A = Result ℕ PartErr} (Ok a) (Ok b) → a ≡ b
 same_Ok a b e = cc
 
-stands_by : (s : PartState) (n : Need) (at : ℕ) → IsPart s → place_seg s n ≡ Ok at → StandsBy s n at (with_seg s n)
-stands_by s n at k e =
-    elim (eqb n.size 0) as (λ t. eqb n.size 0 ≡ t → cond t (Ok 0) (alloc_of s (min n.size greatest_word) n.align) ≡ Ok at
-    → StandsBy s n at (cond t s (after_alloc s (min n.size greatest_word) n.align Kernel))) [
+stands_by : (side : Side) (s : PartState) (n : Need) (at : ℕ) → IsPart s → place_seg side s n ≡ Ok at → StandsBy side s n at (with_seg side s n)
+stands_by side s n at k e =
+    elim (eqb n.size 0) as (λ t. eqb n.size 0 ≡ t → cond t (Ok 0) (alloc_on side s (min n.size greatest_word) n.align) ≡ Ok at
+    → StandsBy side s n at (cond t s (after_alloc_on side s (min n.size greatest_word) n.align Kernel))) [
       | true ↦ λ q h. inl (eqb-true n.size 0 q, refl, sym (same_Ok 0 at h))
       | false ↦ λ q h.
-          let lies = alloc_lies s (min n.size greatest_word) n.align at h in
-          inr (given_block (min n.size greatest_word) at Kernel, refl, holds_all n.size at s.end k.bound lies.high, lies, after_is s (min n.size greatest_word) n.align at Kernel h, refl, rounded_some (min n.size greatest_word), full_all n.size at s.end q k.bound lies.high)
+          let lies = alloc_on_lies side s (min n.size greatest_word) n.align at h in
+          inr (given_block (min n.size greatest_word) at Kernel, refl, holds_all n.size at s.end k.bound lies.high, lies, after_on_is side s (min n.size greatest_word) n.align at Kernel h, refl, rounded_some (min n.size greatest_word), full_all n.size at s.end q k.bound lies.high)
     ] refl e
 
-pub stands : (s : PartState) (n : Need) (at : ℕ) → IsPart s → place_seg s n ≡ Ok at → Stands s n at
-stands s n at k e = elim (stands_by s n at k e) [
+pub stands : (side : Side) (s : PartState) (n : Need) (at : ℕ) → IsPart s → place_seg side s n ≡ Ok at → Stands side s n at
+stands side s n at k e = elim (stands_by side s n at k e) [
   | inl h ↦ inl h
   | inr h ↦ inr (h.0, record { addr = h.1; holds = h.2; full = h.7; lies = h.3; after = h.4; class = h.5; some = h.6 })
 ]
 
 -- the pool stays
-pub same_end : (s : PartState) (n : Need) (at : ℕ) → Stands s n at → (with_seg s n).end ≡ s.end
-same_end s n at (inl h) = ap (λ (x : PartState). x.end) h.1
-same_end s n at (inr h) = ap (λ (x : PartState). x.end) (h.1).after
+pub same_end : (side : Side) (s : PartState) (n : Need) (at : ℕ) → Stands side s n at → (with_seg side s n).end ≡ s.end
+same_end side s n at (inl h) = ap (λ (x : PartState). x.end) h.1
+same_end side s n at (inr h) = ap (λ (x : PartState). x.end) (h.1).after
 
 -- a segment is inside the pool
-pub in_pool : (s : PartState) (n : Need) (at : ℕ) → Stands s n at → at + n.size ≤ s.end
-in_pool s n at (inl h) = let a = h.0 in let b = h.2 in omega arith
-in_pool s n at (inr h) = let a = (h.1).addr in let b = (h.1).holds in let c = (h.1).lies.high in omega arith
+pub in_pool : (side : Side) (s : PartState) (n : Need) (at : ℕ) → Stands side s n at → at + n.size ≤ s.end
+in_pool side s n at (inl h) = let a = h.0 in let b = h.2 in omega arith
+in_pool side s n at (inr h) = let a = (h.1).addr in let b = (h.1).holds in let c = (h.1).lies.high in omega arith
 
 -- and so is its block
-pub block_in_pool : (s : PartState) (n : Need) (at : ℕ) → Stands s n at → at + block_size n.size ≤ s.end
-block_in_pool s n at (inl h) = let z = block_none n.size h.0 in let b = h.2 in omega arith
-block_in_pool s n at (inr h) = let a = (h.1).addr in let b = (h.1).full in let c = (h.1).lies.high in omega arith
+pub block_in_pool : (side : Side) (s : PartState) (n : Need) (at : ℕ) → Stands side s n at → at + block_size n.size ≤ s.end
+block_in_pool side s n at (inl h) = let z = block_none n.size h.0 in let b = h.2 in omega arith
+block_in_pool side s n at (inr h) = let a = (h.1).addr in let b = (h.1).full in let c = (h.1).lies.high in omega arith
 
 -- size bytes at an address overlap none of the blocks, or there are no bytes
 abbrev pub Meets : List Block → ℕ → ℕ → Type 0
 Meets bs size at = (size ≡ 0) ⊎ (meets_none bs size at ≡ true)
 
 -- a segment overlaps none of the blocks before
-pub stands_free : (s : PartState) (n : Need) (at : ℕ) → Stands s n at → (n.size ≡ 0) ⊎ ((z : ℕ) × (n.size ≤ z) × (meets_none s.blocks z at ≡ true))
-stands_free s n at (inl h) = inl h.0
-stands_free s n at (inr (b, h)) = inr (b.size, h.holds, subst (λ a. meets_none s.blocks b.size a ≡ true) h.addr h.lies.apart)
+pub stands_free : (side : Side) (s : PartState) (n : Need) (at : ℕ) → Stands side s n at → (n.size ≡ 0) ⊎ ((z : ℕ) × (n.size ≤ z) × (meets_none s.blocks z at ≡ true))
+stands_free side s n at (inl h) = inl h.0
+stands_free side s n at (inr (b, h)) = inr (b.size, h.holds, subst (λ a. meets_none s.blocks b.size a ≡ true) h.addr h.lies.apart)
 
 -- what overlaps none of the blocks after a segment
-pub behind_free : (s : PartState) (n : Need) (at size to : ℕ) → Stands s n at → meets_none (with_seg s n).blocks size to ≡ true
+pub behind_free : (side : Side) (s : PartState) (n : Need) (at size to : ℕ) → Stands side s n at → meets_none (with_seg side s n).blocks size to ≡ true
     → (meets_none s.blocks size to ≡ true) × ((n.size ≡ 0) ⊎ ((to + size ≤ at) ⊎ (at + n.size ≤ to)))
-behind_free s n at size to (inl h) free = (subst (λ (x : PartState). meets_none x.blocks size to ≡ true) h.1 free, inl h.0)
-behind_free s n at size to (inr (b, h)) free =
+behind_free side s n at size to (inl h) free = (subst (λ (x : PartState). meets_none x.blocks size to ≡ true) h.1 free, inl h.0)
+behind_free side s n at size to (inr (b, h)) free =
     let two = meets_with b s.blocks size to (subst (λ (x : PartState). meets_none x.blocks size to ≡ true) h.after free) in
     let holds = h.holds in
     let addr = h.addr in
     (two.1, inr (elim (apart_cases size to b two.0) [ inl a ↦ inl (omega arith) | inr a ↦ inr (omega arith) ]))
 
 -- text and data together are smaller than the pool
-pub total_small : (s : PartState) (z : Needs) (at : Places) → IsPart s → places_of s z ≡ Ok at → z.text.size + z.«data».size < 2 ^ 32
-total_small s z at k e =
-    let p = are_places s z at e in
-    let one = stands s z.text at.text k p.text in
-    let two = stands (with_text s z) z.«data» at.«data» (seg_kept s z.text k) p.«data» in
+pub total_small : (side : Side) (s : PartState) (z : Needs) (at : Places) → IsPart s → places_of side s z ≡ Ok at → z.text.size + z.«data».size < 2 ^ 32
+total_small side s z at k e =
+    let p = are_places side s z at e in
+    let one = stands side s z.text at.text k p.text in
+    let two = stands side (with_text side s z) z.«data» at.«data» (seg_kept side s z.text k) p.«data» in
     let bound = k.bound in
-    let in_one = in_pool s z.text at.text one in
-    let in_two = in_pool (with_text s z) z.«data» at.«data» two in
-    let end = same_end s z.text at.text one in
-    elim (stands_free (with_text s z) z.«data» at.«data» two) [
+    let in_one = in_pool side s z.text at.text one in
+    let in_two = in_pool side (with_text side s z) z.«data» at.«data» two in
+    let end = same_end side s z.text at.text one in
+    elim (stands_free side (with_text side s z) z.«data» at.«data» two) [
       | inl none ↦ omega arith
       | inr some ↦
           let size = some.1 in
-          elim (behind_free s z.text at.text some.0 at.«data» one some.2).1 [
+          elim (behind_free side s z.text at.text some.0 at.«data» one some.2).1 [
             | inl none ↦ omega arith
             | inr apart ↦ elim apart [ inl before ↦ omega arith | inr after ↦ omega arith ]
           ]

@@ -53,15 +53,15 @@ pub record AreHeld (modules : List (ℕ × LoadedModule)) (s : PartState) : Type
 -- segments have their blocks
 pub record KeepsModules (s : LoaderState) : Type 0 where
   pub ids : s.kern.lent ≡ false
-  pub below : IdsBelow s.kern.next_id s.modules
+  pub below : IdsBelow s.kern.next_id s.modules.rows
   pub pool : s.part.end ≤ length s.ram
-  pub held : AreHeld s.modules s.part
+  pub held : AreHeld s.modules.rows s.part
 
 -- what an unload of the module with this id leaves
 abbrev pub unloaded : LoaderState → ℕ → LoadedModule → LoaderState
 unloaded s id m = record s {
   symbols = without_group id s.symbols;
-  modules = without s.modules id;
+  modules = record s.modules { rows = without s.modules.rows id };
   part = without_all s.part m.segments;
 }
 
@@ -73,7 +73,7 @@ pub record HoldLaw : Type 0 where
   pub load : (s : LoaderState) (name : List ℕ) (m : Module) (mode : ℕ) (at : Places)
       → IsPart s.part → IsModule m → KeepsModules s → verdict s m mode ≡ Ok at → KeepsModules (loaded s name m mode at)
   pub unload : (s : LoaderState) (id : ℕ) (m : LoadedModule)
-      → KeepsModules s → object_of s.modules id ≡ Some m → KeepsModules (unloaded s id m)
+      → KeepsModules s → object_of s.modules.rows id ≡ Some m → KeepsModules (unloaded s id m)
   -- the blocks of an unloaded module are gone, and every other Kernel block stays
   pub gone : (s : PartState) (m : LoadedModule) (a : ℕ)
       → 0 < occurs a (addrs_of m.segments) → is_kernel_block (without_all s m.segments) a ≡ false

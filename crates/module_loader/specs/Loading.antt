@@ -1,6 +1,8 @@
 -- When a load is refused, where it places a module, and what it leaves.
 use Rattle.std.specs.Prelude.{◌≡◌, ℕ, ◌+◌, ◌-◌, nat_le, nat_lt, ◌==◌, if◌then◌else◌, List, [], ◌∷◌, ◌++◌, length, replicate, Option, Some, None, Result, Ok, Err}
 use Rattle.wind_base.specs.Limits.{most_modules, greatest_id, most_symbols}
+use Rattle.wind_base.specs.Boards.{board_rules}
+use Rattle.wind_base.specs.declared.board_kind.Side.{Side}
 use Rattle.wind_core.specs.State.{KernState}
 use Rattle.symbol_table.specs.declared.symbol.Symbol.{Symbol}
 use Rattle.mem_partition.specs.declared.block.PartErr.{PartErr}
@@ -24,17 +26,22 @@ use Rattle.module_loader.specs.declared.module.LoadErr.TheVariants as refusal
 use Rattle.module_loader.specs.declared.module.Loaded.{Loaded}
 use Rattle.module_loader.specs.declared.module.LoadedModule.{LoadedModule}
 use Rattle.module_loader.specs.declared.module.Segment.{Segment}
+use Rattle.module_loader.specs.Modules.{LoadedModules}
 use Rattle.module_loader.specs.Placing.{places_of, with_needs}
 
 -- ---- the state
--- what a load reads and changes: the kernel, from which it takes an id, the symbols, the live modules by id, the
--- partition and RAM
+-- what a load reads and changes: the kernel, from which it takes an id, the symbols, the live modules with the kind of
+-- their board, the partition and RAM
 pub record LoaderState : Type 0 where
   pub kern : KernState
   pub symbols : List Symbol
-  pub modules : List (ℕ × LoadedModule)
+  pub modules : LoadedModules
   pub part : PartState
   pub ram : List ℕ
+
+-- the side of the pool on which its board places segments
+abbrev pub side_of : LoaderState → Side
+side_of s = (board_rules s.modules.board).segments
 
 -- ---- refusals
 -- the first refusal by counts: of the modules now, the next id, and the symbols afterwards
@@ -45,7 +52,7 @@ count_by modules next symbols =
     (if nat_lt most_symbols symbols then Some refusal.TableFull else None))
 
 unfoldable pub count_refusal : LoaderState → Module → ℕ → Option LoadErr
-count_refusal s m mode = count_by (length s.modules) s.kern.next_id (length s.symbols + export_count mode m.symbols)
+count_refusal s m mode = count_by (length s.modules.rows) s.kern.next_id (length s.symbols + export_count mode m.symbols)
 
 -- the first refused relocation of the image
 abbrev pub reloc_verdict : Places → Option RelocErr → Result Places LoadErr
@@ -63,7 +70,7 @@ verdict_by None r = r
 
 -- the places of a load of the module, or its first refusal
 unfoldable pub verdict : LoaderState → Module → ℕ → Result Places LoadErr
-verdict s m mode = verdict_by (count_refusal s m mode) (place_verdict m s.symbols (places_of s.part (needs_of m)))
+verdict s m mode = verdict_by (count_refusal s m mode) (place_verdict m s.symbols (places_of (side_of s) s.part (needs_of m)))
 
 -- the file is checked first; a refused file refuses the load
 abbrev pub file_by : Result Unit ElfErr → Result Places LoadErr → Result Places LoadErr
@@ -119,8 +126,8 @@ unfoldable pub loaded : LoaderState → List ℕ → Module → ℕ → Places �
 loaded s name m mode at = record {
   kern = record s.kern { next_id = s.kern.next_id + 1 };
   symbols = s.symbols ++ exports m mode at s.kern.next_id;
-  modules = s.modules ++ (s.kern.next_id, record_of name (needs_of m) at) ∷ [];
-  part = with_needs s.part (needs_of m);
+  modules = record s.modules { rows = s.modules.rows ++ (s.kern.next_id, record_of name (needs_of m) at) ∷ [] };
+  part = with_needs (side_of s) s.part (needs_of m);
   ram = stored_all s.ram (pieces_of at (image m s.symbols at));
 }
 

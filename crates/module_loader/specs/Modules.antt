@@ -4,10 +4,20 @@ use Rattle.std.specs.List.{find}
 use Rattle.std.specs.Option.{option_map}
 use Rattle.std.specs.Str.{bytes_eq}
 use Rattle.wind_base.specs.Limits.{greatest_id}
+use Rattle.wind_base.specs.declared.board_kind.BoardKind.{BoardKind}
 use Rattle.mem_partition.specs.declared.block.Class.TheVariants.{Kernel}
 use Rattle.mem_partition.specs.State.{PartState, after_free}
 use Rattle.module_loader.specs.declared.module.LoadedModule.{LoadedModule}
 use Rattle.module_loader.specs.declared.module.Segment.{Segment}
+
+-- the kind of the board for which modules are loaded, and the live modules, by rising id
+pub record LoadedModules : Type 0 where
+  pub board : BoardKind
+  pub rows : List (ℕ × LoadedModule)
+
+-- these live modules on a board
+abbrev pub modules_on : BoardKind → List (ℕ × LoadedModule) → LoadedModules
+modules_on board rows = record { board = board; rows = rows }
 
 -- a row has a valid id
 abbrev pub HasIdent : ℕ × LoadedModule → Type 0

@@ -7,11 +7,11 @@ use Rattle.mem_partition.specs.State.{PartState}
 use Rattle.module_image.specs.declared.segments.Places.{Places}
 use Rattle.module_loader.specs.declared.module.LoadErr.{LoadErr}
 use Rattle.module_loader.specs.declared.module.LoadErr.TheVariants as refusal
-use Rattle.module_loader.specs.declared.module.LoadedModule.{LoadedModule}
+use Rattle.module_loader.specs.Modules.{LoadedModules}
 use Rattle.module_loader.specs.Loading.{LoaderState, Piece, count_by}
 
 -- the state with these parts
-abbrev pub state_of : KernState → List Symbol → List (ℕ × LoadedModule) → PartState → List ℕ → LoaderState
+abbrev pub state_of : KernState → List Symbol → LoadedModules → PartState → List ℕ → LoaderState
 state_of kern symbols modules part ram =
     record { kern = kern; symbols = symbols; modules = modules; part = part; ram = ram }
 

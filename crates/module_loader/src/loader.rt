@@ -1,6 +1,7 @@
 //! Loads a module.
 
 ghost use Rattle.std.specs.Prelude.{◌≡◌, ◌<◌, ◌≤◌, ◌+◌, ◌^◌, ℕ, List, Ok, Err, false, IfOk, IfErr, IsOk, OnOk, OnErr, length, All};
+ghost use Rattle.wind_base.specs.Boards.{board_rules};
 ghost use Rattle.wind_base.specs.Limits.{most_modules};
 ghost use Rattle.id_table.specs.Rows.{IdsBelow};
 ghost use Rattle.mem_partition.specs.State.{IsPart};
@@ -15,7 +16,7 @@ ghost use Rattle.module_image.specs.Image.{image};
 ghost use Rattle.module_image.specs.Making.{IsMade};
 ghost use Rattle.module_loader.specs.Placing.{places_of, with_needs};
 ghost use Rattle.module_loader.specs.Loading.{place_verdict, verdict, file_verdict, told, IsLoaded, IsVerdict, ReachesRelocations};
-ghost use Rattle.module_loader.specs.Modules.{HasIdent};
+ghost use Rattle.module_loader.specs.Modules.{HasIdent, modules_on};
 ghost use Rattle.module_loader.specs.Steps.{IsFileRefusal, state_of};
 
 use crate::blocks::{give_blocks, take_blocks};
@@ -31,14 +32,15 @@ use module_image::{
 };
 use std::alloc::Global;
 use symbol_table::Symbols;
-use wind_base::Name;
+use wind_base::{BoardKind, Name};
 use wind_core::Kern;
 
 /// Allocates the blocks of a module, and prepares what goes into them. If that fails, the blocks
 /// are freed.
-#[tactic(auto, using(crate::proofs::Loads::text_and_data, crate::proofs::Loads::placed_fault, crate::proofs::Taking::needs_back))]
+#[tactic(auto, using(crate::proofs::Loads::text_and_data, crate::proofs::Loads::placed_fault, crate::proofs::Taking::needs_back, module_image::proofs::Known::linkable))]
 fn place(
     alloc: Global,
+    board: BoardKind,
     part: &mut Part,
     syms: &Symbols,
     m: &Module,
@@ -48,17 +50,18 @@ fn place(
 ) -> Result<(Places, Prepared), LoadErr>
     requires module { IsModule m.now }
     requires needs { needs ≡ needs_of m.now }
-    ensures placed { IfOk result (λ r. places_of part.old needs ≡ Ok r.0) }
+    ensures placed { IfOk result (λ r. places_of (board_rules board).segments part.old needs ≡ Ok r.0) }
     ensures made { IfOk result (λ r. IsMade (image m.now syms.now.list r.0) needs r.1.bytes.items) }
     ensures exports { IfOk result (λ r. r.1.exports.items ≡ exports_lem m.now mode r.0 id) }
     ensures undefined { IfOk result (λ r. r.1.undefined ≡ unbound syms.now.list m.now.symbols) }
-    ensures after { OnOk result (part.new ≡ with_needs part.old needs) }
+    ensures after { OnOk result (part.new ≡ with_needs (board_rules board).segments part.old needs) }
     ensures unchanged { OnErr result (part.new ≡ part.old) }
-    ensures refused { IfErr result (IsVerdict (place_verdict m.now syms.now.list (places_of part.old needs))) }
+    ensures refused { IfErr result (IsVerdict
+        (place_verdict m.now syms.now.list (places_of (board_rules board).segments part.old needs))) }
     ensures sound { IsPart part.old }
 {
     let _end = part.end();
-    let at = match take_blocks(part, needs) {
+    let at = match take_blocks(part, board, needs) {
         Ok(at) => at,
         Err(e) => return Err(LoadErr::Part(e)),
     };
@@ -78,6 +81,7 @@ fn place(
 /// Loads a module that has been read.
 pub(crate) fn load_module(
     alloc: Global,
+    board: BoardKind,
     table: &mut Table<LoadedModule>,
     kern: &mut Kern,
     part: &mut Part,
@@ -94,15 +98,19 @@ pub(crate) fn load_module(
     requires idents { All HasIdent table.old.rows }
     requires pool { part.old.end ≤ length ram.old.bytes }
     ensures answer { IfOk result
-        (λ l. l ≡ told (state_of kern.old syms.old.list table.old.rows part.old ram.old.bytes) m.now) }
+        (λ l. l ≡ told
+        (state_of kern.old syms.old.list (modules_on board table.old.rows) part.old ram.old.bytes) m.now) }
     ensures accepted { OnOk result (IsLoaded
-        (verdict (state_of kern.old syms.old.list table.old.rows part.old ram.old.bytes) m.now mode)
-        (state_of kern.old syms.old.list table.old.rows part.old ram.old.bytes) name m.now mode
-        (state_of kern.new syms.new.list table.new.rows part.new ram.new.bytes)) }
+        (verdict
+        (state_of kern.old syms.old.list (modules_on board table.old.rows) part.old ram.old.bytes) m.now mode)
+        (state_of kern.old syms.old.list (modules_on board table.old.rows) part.old ram.old.bytes) name m.now mode
+        (state_of kern.new syms.new.list (modules_on board table.new.rows) part.new ram.new.bytes)) }
     ensures refused { IfErr result
-        (IsVerdict (verdict (state_of kern.old syms.old.list table.old.rows part.old ram.old.bytes) m.now mode)) }
-    ensures unchanged { OnErr result (state_of kern.new syms.new.list table.new.rows part.new ram.new.bytes
-        ≡ state_of kern.old syms.old.list table.old.rows part.old ram.old.bytes) }
+        (IsVerdict (verdict
+        (state_of kern.old syms.old.list (modules_on board table.old.rows) part.old ram.old.bytes) m.now mode)) }
+    ensures unchanged { OnErr result
+        (state_of kern.new syms.new.list (modules_on board table.new.rows) part.new ram.new.bytes
+        ≡ state_of kern.old syms.old.list (modules_on board table.old.rows) part.old ram.old.bytes) }
     ensures room { table.new.room ≡ most_modules }
     ensures idents { All HasIdent table.new.rows }
     ensures sound { OnOk result (IsPart part.old) }
@@ -115,7 +123,7 @@ pub(crate) fn load_module(
         Ok(id) => id,
         Err(e) => return Err(e),
     };
-    let (at, made) = match place(alloc, part, syms, m, needs, mode, id.get()) {
+    let (at, made) = match place(alloc, board, part, syms, m, needs, mode, id.get()) {
         Ok(r) => r,
         Err(e) => return Err(e),
     };
@@ -141,13 +149,13 @@ fn outline_file(alloc: Global, file: &[u8]) -> Result<Outline, LoadErr>
 
 /// Checks that the three segments have places. The partition stays as it is.
 #[tactic(auto, using(crate::proofs::Taking::needs_back))]
-fn check_blocks(part: &mut Part, needs: Needs) -> Result<(), PartErr>
-    ensures placed { OnOk result (IsOk (places_of part.old needs)) }
-    ensures refused { IfErr result (λ e. places_of part.old needs ≡ Err e) }
+fn check_blocks(part: &mut Part, board: BoardKind, needs: Needs) -> Result<(), PartErr>
+    ensures placed { OnOk result (IsOk (places_of (board_rules board).segments part.old needs)) }
+    ensures refused { IfErr result (λ e. places_of (board_rules board).segments part.old needs ≡ Err e) }
     ensures same { part.new ≡ part.old }
 {
     let _end = part.end();
-    match take_blocks(part, needs) {
+    match take_blocks(part, board, needs) {
         Ok(at) => {
             give_blocks(part, needs, at);
             Ok(())
@@ -161,6 +169,7 @@ fn check_blocks(part: &mut Part, needs: Needs) -> Result<(), PartErr>
 #[tactic(auto, using(crate::proofs::Files::file_refused))]
 pub(crate) fn check_file(
     alloc: Global,
+    board: BoardKind,
     table: &Table<LoadedModule>,
     kern: &mut Kern,
     part: &mut Part,
@@ -172,9 +181,11 @@ pub(crate) fn check_file(
     ensures outline { IfOk result (λ o. o ≡ outline_of (module_at file.now)) }
     ensures module { IfOk result (λ o. ModuleOf file.now (module_at file.now)) }
     ensures passed { OnOk result ((ram : List ℕ) → ReachesRelocations
-        (file_verdict (state_of kern.old syms.old.list table.now.rows part.old ram) file.now mode)) }
+        (file_verdict
+        (state_of kern.old syms.old.list (modules_on board table.now.rows) part.old ram) file.now mode)) }
     ensures refused { IfErr result (λ e. (ram : List ℕ) → IsVerdict
-        (file_verdict (state_of kern.old syms.old.list table.now.rows part.old ram) file.now mode) e) }
+        (file_verdict
+        (state_of kern.old syms.old.list (modules_on board table.now.rows) part.old ram) file.now mode) e) }
     ensures kern { kern.new ≡ kern.old }
     ensures list { syms.new.list ≡ syms.old.list }
     ensures part { part.new ≡ part.old }
@@ -188,7 +199,7 @@ pub(crate) fn check_file(
     if let Err(e) = check_counts(table, kern, syms, added) {
         return Err(e);
     }
-    match check_blocks(part, needs) {
+    match check_blocks(part, board, needs) {
         Ok(()) => Ok(outline),
         Err(e) => Err(LoadErr::Part(e)),
     }
@@ -198,6 +209,7 @@ pub(crate) fn check_file(
 #[tactic(auto, using(crate::proofs::Files::read_verdict))]
 pub(crate) fn load_file(
     alloc: Global,
+    board: BoardKind,
     table: &mut Table<LoadedModule>,
     kern: &mut Kern,
     part: &mut Part,
@@ -213,26 +225,32 @@ pub(crate) fn load_file(
     requires idents { All HasIdent table.old.rows }
     requires pool { part.old.end ≤ length ram.old.bytes }
     ensures answer { IfOk result
-        (λ l. l ≡ told (state_of kern.old syms.old.list table.old.rows part.old ram.old.bytes) (module_at file.now)) }
+        (λ l. l ≡ told
+        (state_of kern.old syms.old.list (modules_on board table.old.rows) part.old ram.old.bytes)
+        (module_at file.now)) }
     ensures accepted { OnOk result (IsLoaded
-        (file_verdict (state_of kern.old syms.old.list table.old.rows part.old ram.old.bytes) file.now mode)
-        (state_of kern.old syms.old.list table.old.rows part.old ram.old.bytes) name (module_at file.now) mode
-        (state_of kern.new syms.new.list table.new.rows part.new ram.new.bytes)) }
+        (file_verdict
+        (state_of kern.old syms.old.list (modules_on board table.old.rows) part.old ram.old.bytes) file.now mode)
+        (state_of kern.old syms.old.list (modules_on board table.old.rows) part.old ram.old.bytes) name
+        (module_at file.now) mode
+        (state_of kern.new syms.new.list (modules_on board table.new.rows) part.new ram.new.bytes)) }
     ensures refused { IfErr result
         (IsVerdict
-        (file_verdict (state_of kern.old syms.old.list table.old.rows part.old ram.old.bytes) file.now mode)) }
-    ensures unchanged { OnErr result (state_of kern.new syms.new.list table.new.rows part.new ram.new.bytes
-        ≡ state_of kern.old syms.old.list table.old.rows part.old ram.old.bytes) }
+        (file_verdict
+        (state_of kern.old syms.old.list (modules_on board table.old.rows) part.old ram.old.bytes) file.now mode)) }
+    ensures unchanged { OnErr result
+        (state_of kern.new syms.new.list (modules_on board table.new.rows) part.new ram.new.bytes
+        ≡ state_of kern.old syms.old.list (modules_on board table.old.rows) part.old ram.old.bytes) }
     ensures room { table.new.room ≡ most_modules }
     ensures idents { All HasIdent table.new.rows }
     ensures sound { OnOk result (IsPart part.old) }
 {
-    let outline = match check_file(alloc, table, kern, part, syms, file, mode) {
+    let outline = match check_file(alloc, board, table, kern, part, syms, file, mode) {
         Ok(outline) => outline,
         Err(e) => return Err(e),
     };
     let Ok(m) = fill(alloc, file, outline) else {
         return Err(LoadErr::NoMemory);
     };
-    load_module(alloc, table, kern, part, syms, ram, name, &m, mode)
+    load_module(alloc, board, table, kern, part, syms, ram, name, &m, mode)
 }

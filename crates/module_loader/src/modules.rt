@@ -10,7 +10,7 @@ ghost use Rattle.elf_read.specs.Modules.{IsModule};
 ghost use Rattle.module_loader.specs.Loading.{file_verdict, verdict, told, IsLoaded, IsVerdict, ReachesRelocations};
 ghost use Rattle.module_loader.specs.Steps.{state_of};
 ghost use Rattle.module_loader.specs.Holding.{AreHeld, KeepsModules};
-ghost use Rattle.module_loader.specs.Modules.{HasIdent, newest_named, without_segment, without_segments};
+ghost use Rattle.module_loader.specs.Modules.{HasIdent, modules_on, newest_named, without_segment, without_segments};
 
 use crate::loader::{check_file, load_file, load_module};
 use crate::module::{LoadErr, Loaded, LoadedModule, NoSuchModule, Segment};
@@ -23,44 +23,47 @@ use std::alloc::Global;
 use std::marker::Model;
 use symbol_table::Symbols;
 use wind_base::limits::MODULES;
-use wind_base::{Name, NoMemory};
+use wind_base::{BoardKind, Name, NoMemory};
 use wind_core::Kern;
 
-/// The live modules, at most 256. Contracts see them by rising id.
+/// The live modules of a board, at most 256. Contracts see the kind of the board, and the modules
+/// by rising id.
 #[derive(Drop)]
 pub struct Modules {
     alloc: Global,
+    board: BoardKind,
     table: Table<LoadedModule>,
 }
 
 impl Model for Modules {
-    ghost use Rattle.std.specs.Prelude.{◌≡◌, List, ℕ, All};
+    ghost use Rattle.std.specs.Prelude.{◌≡◌, All};
     ghost use Rattle.wind_base.specs.Limits.{most_modules};
-    ghost use Rattle.module_loader.specs.declared.module.LoadedModule.{LoadedModule};
-    ghost use Rattle.module_loader.specs.Modules.{HasIdent};
+    ghost use Rattle.module_loader.specs.Modules.{LoadedModules, HasIdent};
 
-    ghost Value = { List (ℕ × LoadedModule) };
+    ghost Value = { LoadedModules };
 
-    ghost view = { λ m. m.table.rows };
+    ghost view = { λ m. record { board = m.board; rows = m.table.rows } };
 
     ghost invariant = { λ m. (m.table.room ≡ most_modules) × All HasIdent m.table.rows };
 }
 
 impl Modules {
-    /// Makes the table of modules, empty and with room for 256.
-    pub fn new(alloc: Global) -> Result<Modules, NoMemory>
-        ensures { IfOk result (λ m. m ≡ []) }
+    /// Makes the table of modules of a board of this kind, empty and with room for 256.
+    pub fn new(alloc: Global, board: BoardKind) -> Result<Modules, NoMemory>
+        ensures { IfOk result (λ m. m ≡ modules_on board []) }
     {
         Ok(Modules {
             alloc,
+            board,
             table: Table::reserved(alloc, MODULES)?,
         })
     }
 
     /// Loads the module of an object file under a name, or changes nothing. The segments text, data
-    /// and bss get blocks of their own. The mode says which symbols are added: 0xffffffff adds
-    /// none, 1 also adds local ones, and any other mode adds global and weak ones. A reference that
-    /// the module doesn't define is bound to the newest global with its name, or else to 0.
+    /// and bss get blocks of their own, on the side of the pool where the board places segments.
+    /// The mode says which symbols are added: 0xffffffff adds none, 1 also adds local ones, and any
+    /// other mode adds global and weak ones. A reference that the module doesn't define is bound to
+    /// the newest global with its name, or else to 0.
     pub fn load(
         &mut self,
         kern: &mut Kern,
@@ -86,6 +89,7 @@ impl Modules {
     {
         load_file(
             self.alloc,
+            self.board,
             &mut self.table,
             kern,
             part,
@@ -119,7 +123,16 @@ impl Modules {
         ensures list { syms.new.list ≡ syms.old.list }
         ensures part { part.new ≡ part.old }
     {
-        check_file(self.alloc, &self.table, kern, part, syms, file, mode)
+        check_file(
+            self.alloc,
+            self.board,
+            &self.table,
+            kern,
+            part,
+            syms,
+            file,
+            mode,
+        )
     }
 
     /// The same as `load`, for a module that has been read from its file.
@@ -149,6 +162,7 @@ impl Modules {
     {
         load_module(
             self.alloc,
+            self.board,
             &mut self.table,
             kern,
             part,
@@ -169,14 +183,14 @@ impl Modules {
         syms: &mut Symbols,
         id: u32,
     ) -> Result<(), NoSuchModule>
-        requires { AreHeld self.old part.old }
-        ensures live { IsOk result ↔ IsSome (object_of self.old id) }
-        ensures modules { OnOk result (self.new ≡ without self.old id) }
+        requires { AreHeld self.old.rows part.old }
+        ensures live { IsOk result ↔ IsSome (object_of self.old.rows id) }
+        ensures modules { OnOk result (self.new ≡ record self.old { rows = without self.old.rows id }) }
         ensures symbols { OnOk result (syms.new.list ≡ without_group id syms.old.list) }
-        ensures blocks { OnOk result (part.new ≡ without_segments part.old (object_of self.old id)) }
+        ensures blocks { OnOk result (part.new ≡ without_segments part.old (object_of self.old.rows id)) }
         ensures unchanged { OnErr result
             ((self.new ≡ self.old) × (syms.new ≡ syms.old) × (part.new ≡ part.old)) }
-        ensures held { AreHeld self.new part.new }
+        ensures held { AreHeld self.new.rows part.new }
     {
         // a look at the table gives its invariant: each id in it is valid
         let _table = &self.table;
@@ -189,7 +203,7 @@ impl Modules {
     /// The live module with this id.
     #[tactic(auto, using(crate::proofs::Kernel::no_ident))]
     pub fn get(&self, id: u32) -> Option<&LoadedModule>
-        ensures { option_copied result ≡ object_of self.now id }
+        ensures { option_copied result ≡ object_of self.now.rows id }
     {
         match Ident::new(id) {
             Some(id) => self.table.get(id),
@@ -200,22 +214,22 @@ impl Modules {
     /// Does nothing. Its contract gives the invariant of the modules: their ids rise, and are from
     /// 1 to 1,048,576.
     pub fn facts(&self)
-        ensures rising { Rising row_id self.now }
-        ensures ranged { All HasIdent self.now }
+        ensures rising { Rising row_id self.now.rows }
+        ensures ranged { All HasIdent self.now.rows }
     {
         self.table.facts();
     }
 
     /// The newest live module with this name.
     pub fn newest_named(&self, name: &[u8]) -> Option<Ident>
-        ensures { result ≡ newest_named self.now name.now }
+        ensures { result ≡ newest_named self.now.rows name.now }
     {
         newest_in(&self.table, name)
     }
 
     /// The least live id above a number.
     pub fn next_after(&self, id: u32) -> Option<Ident>
-        ensures { result ≡ next_above self.now id }
+        ensures { result ≡ next_above self.now.rows id }
     {
         self.table.next_after(id)
     }

@@ -17,7 +17,7 @@ use Rattle.kernel_world.proofs.Apart.{by_id}
 use Rattle.object_calls.proofs.ObjectRows.{zero_none}
 
 -- after its gate, with the words that it handed in there
-pub mutex_callers : (w : WorldState) (a : Actor) → IsKern w.kern → KeepsObjects w.kern w.objects → is_mutex (left_gate w a).objects (slice_index (caller_words w a) 3) ≡ true → Acts w.kern a
+pub mutex_callers : (w : WorldState) (a : Actor) → IsKern w.kern → KeepsObjects w.board w.kern w.objects → is_mutex (left_gate w a).objects (slice_index (caller_words w a) 3) ≡ true → Acts w.kern a
 mutex_callers w (Task who) is kept there =
     let none = zero_none w.kern w.objects is kept in
     elim (task_of w.kern.tasks who) as (λ o. is_mutex w.objects (slice_index (unwrap_or (option_map (λ t. t.regs) o) no_regs).gpr 3) ≡ true → IsSome o) [
@@ -27,7 +27,7 @@ mutex_callers w (Task who) is kept there =
 mutex_callers w Interrupt is kept there = tt
 
 -- a caller that calls on a live queue lives too: no queue has number 0
-pub queue_callers : (w : WorldState) (a : Actor) → KeepsObjects w.kern w.objects → is_some (object_of (left_gate w a).objects.queues.queues (slice_index (caller_words w a) 3)) ≡ true → Acts w.kern a
+pub queue_callers : (w : WorldState) (a : Actor) → KeepsObjects w.board w.kern w.objects → is_some (object_of (left_gate w a).objects.queues.queues (slice_index (caller_words w a) 3)) ≡ true → Acts w.kern a
 queue_callers w (Task who) kept there =
     elim (task_of w.kern.tasks who) as (λ o. is_some (object_of w.objects.queues.queues (slice_index (unwrap_or (option_map (λ t. t.regs) o) no_regs).gpr 3)) ≡ true → IsSome o) [
       | None ↦ λ e. let some : 0 < 0 = by_id (λ n. 0 < n) w.objects.queues.queues 0 kept.queues_ranged e in absurd (omega (arith, some))

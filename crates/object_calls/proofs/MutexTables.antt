@@ -6,6 +6,7 @@ use Rattle.std.proofs.lemmas.List.{length-map, length_push, get_or-map}
 use Rattle.std.proofs.lemmas.List.Elements.{All-weaker, All-filter, All-push}
 use Rattle.std.proofs.lemmas.List.Kept.{AllPairs-filter}
 use Rattle.std.proofs.lemmas.List.Quantifiers.{all_pairs_push}
+use Rattle.wind_base.specs.declared.board_kind.BoardKind.{BoardKind}
 use Rattle.id_table.specs.Rows.{IsId, IdsBelow, row_id, ids, object_of, with_object, without}
 use Rattle.id_table.specs.declared.ident.Place.{Place}
 use Rattle.id_table.proofs.Kept.{object_of-cons}
@@ -98,7 +99,7 @@ monotone false true true e false more h = or_left e false (more refl)
 monotone false true false e false more h = absurd (cc)
 
 -- each mutex that lived lives among others
-pub waits-more : (k : KernState) (o : Objects) (ns : LiveMutexes) → ((n : ℕ) → is_some (object_of o.mutexes.rows n) ≡ true → is_some (object_of ns.rows n) ≡ true) → KeepsWaits k o → KeepsWaits k (with_mutexes o ns)
+pub waits-more : {board : BoardKind} (k : KernState) (o : Objects) (ns : LiveMutexes) → ((n : ℕ) → is_some (object_of o.mutexes.rows n) ≡ true → is_some (object_of ns.rows n) ≡ true) → KeepsWaits board k o → KeepsWaits board k (with_mutexes o ns)
 waits-more k o ns more kept = record {
   semaphores = kept.semaphores;
   deleters = kept.deleters;
@@ -112,11 +113,11 @@ waits-more k o ns more kept = record {
         monotone (eqb p.side 0 && is_some (object_of o.semaphores p.id)) (eqb p.side 0) (is_some (object_of o.mutexes.rows p.id)) (is_some (object_of ns.rows p.id)) (is_beyond o p) (more p.id) h
 
 -- if the ids are the same
-pub waits-ids : (k : KernState) (o : Objects) (ns : LiveMutexes) → ids ns.rows ≡ ids o.mutexes.rows → KeepsWaits k o → KeepsWaits k (with_mutexes o ns)
+pub waits-ids : {board : BoardKind} (k : KernState) (o : Objects) (ns : LiveMutexes) → ids ns.rows ≡ ids o.mutexes.rows → KeepsWaits board k o → KeepsWaits board k (with_mutexes o ns)
 waits-ids k o ns same kept = waits-more k o ns (λ n lives. lives-ids o.mutexes.rows ns.rows same n ∙ lives) kept
 
 -- one mutex is added
-pub waits-push : (k : KernState) (o : Objects) (id : ℕ) (m : Mutex) → KeepsWaits k o → KeepsWaits k (with_mutexes o (with_rows o (o.mutexes.rows ++ (id, m) ∷ [])))
+pub waits-push : {board : BoardKind} (k : KernState) (o : Objects) (id : ℕ) (m : Mutex) → KeepsWaits board k o → KeepsWaits board k (with_mutexes o (with_rows o (o.mutexes.rows ++ (id, m) ∷ [])))
 waits-push k o id m kept =
     waits-more k o (with_rows o (o.mutexes.rows ++ (id, m) ∷ []))
     (λ n lives. ap is_some (object_of-push o.mutexes.rows id n m) ∙ ap (λ c. is_some (cond c (object_of o.mutexes.rows n) (cond (eqb id n) (Some m) None))) lives ∙ lives) kept
@@ -128,7 +129,7 @@ elsewhere false true true d x away h = absurd (cc)
 elsewhere false true false d x away h = h
 
 -- a mutex that nobody waits for is gone
-pub waits-without : (k : KernState) (o : Objects) (id : ℕ) → All (λ t. is_place (mutex_place id) t.wait ≡ false) k.tasks → KeepsWaits k o → KeepsWaits k (with_mutexes o (with_rows o (without o.mutexes.rows id)))
+pub waits-without : {board : BoardKind} (k : KernState) (o : Objects) (id : ℕ) → All (λ t. is_place (mutex_place id) t.wait ≡ false) k.tasks → KeepsWaits board k o → KeepsWaits board k (with_mutexes o (with_rows o (without o.mutexes.rows id)))
 waits-without k o id away kept = record {
   semaphores = kept.semaphores;
   deleters = kept.deleters;

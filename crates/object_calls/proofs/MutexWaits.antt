@@ -1,6 +1,7 @@
 -- What the calls on mutexes do to the kernel keeps its invariant and that of waits.
 use Rattle.std.proofs.Common.{◌≡◌, ℕ, ◌+◌, ◌-◌, ◌<◌, true, false, cond, not, ◌&&◌, eqb, ltb, List, Option, None, Some, is_some, refl, arith}
 use Rattle.std.proofs.lemmas.Bool.{eqb-false}
+use Rattle.wind_base.specs.declared.board_kind.BoardKind.{BoardKind}
 use Rattle.wind_base.specs.declared.errno.Errno.{Errno}
 use Rattle.wind_base.specs.declared.errno.Errno.TheVariants as errors
 use Rattle.id_table.specs.Rows.{object_of, ids}
@@ -29,89 +30,89 @@ use Rattle.kernel_world.proofs.Waiting.{SparesWaits, waits-move, waits-lessen, w
 use Rattle.object_calls.proofs.MutexTables.{ids-write}
 
 -- the invariants of the kernel, of waits and of queues hold
-pub record Still (k : KernState) (o : Objects) : Type 0 where
+pub record Still (board : BoardKind) (k : KernState) (o : Objects) : Type 0 where
   pub kern : IsKern k
-  pub waits : KeepsWaits k o
-  pub queues : KeepsQueues k o
+  pub waits : KeepsWaits board k o
+  pub queues : KeepsQueues board k o
 
 -- a mutex that lives may be waited for: it is no semaphore that could be taken, and no queue
 abbrev pub MayAwait : KernState → Objects → ℕ → Type 0
 MayAwait k o id = MayBegin (with_semaphores k o.semaphores) (mutex_place id) × (is_live o (mutex_place id) ≡ true) × (object_of o.queues.queues id ≡ None)
 
-module _ (o : Objects) where
+module _ {board : BoardKind} (o : Objects) where
   -- ---- moves of the kernel
-  module _ (k : KernState) (still : Still k o) where
-    still_by : (j : KernState) → KeepsWaits j o → IsCalm o.queues.queues k j → Still j o
-    still_by j waits goes = record { kern = goes.kern; waits = waits; queues = queues-calm k j o goes still.queues }
+  module _ (k : KernState) (still : Still board k o) where
+    still_by : (j : KernState) → KeepsWaits board j o → IsCalm o.queues.queues k j → Still board j o
+    still_by j waits goes = record { kern = goes.kern; waits = waits; queues = queues-calm board k j o goes still.queues }
 
-    still-move : (m : Move) → IsAllowed k m → SparesWaits k o m → SparesQueues o.queues.queues k m → Still (apply k m) o
+    still-move : (m : Move) → IsAllowed k m → SparesWaits k o m → SparesQueues o.queues.queues k m → Still board (apply k m) o
     still-move m may waits queues = still_by (apply k m) (waits-move k o still.kern still.waits m waits) (calms o.queues.queues k m still.kern may queues)
 
-    still-end_wait : (who a : ℕ) (e : Option Errno) → Still (end_wait k who a e) o
+    still-end_wait : (who a : ℕ) (e : Option Errno) → Still board (end_wait k who a e) o
     still-end_wait who a e = still-move (EndWait who a e) tt tt tt
 
-    still-wake_all : (place : Place) (a : ℕ) (e : Option Errno) → Still (wake_all k place a e) o
+    still-wake_all : (place : Place) (a : ℕ) (e : Option Errno) → Still board (wake_all k place a e) o
     still-wake_all place a e = still-move (WakeAll place a e) tt tt tt
 
-    still-change_pri : (who pri : ℕ) → Still (change_pri k who pri) o
+    still-change_pri : (who pri : ℕ) → Still board (change_pri k who pri) o
     still-change_pri who pri = still-move (ChangePri who pri) tt tt tt
 
-    still-set_normal : (who pri : ℕ) → Still (set_normal k who pri) o
+    still-set_normal : (who pri : ℕ) → Still board (set_normal k who pri) o
     still-set_normal who pri = still-move (SetNormal who pri) tt tt tt
 
-    still-set_held : (who n : ℕ) → Still (set_held k who n) o
+    still-set_held : (who n : ℕ) → Still board (set_held k who n) o
     still-set_held who n = still-move (SetHeld who n) tt tt tt
 
-    still-make_safe : (who : ℕ) → Still (make_safe k who) o
+    still-make_safe : (who : ℕ) → Still board (make_safe k who) o
     still-make_safe who = still-move (SetSafe who (safe_of (task_of k.tasks who) + 1)) tt (λ some. omega arith) tt
 
-    still-lessen : (who n : ℕ) → Still (lessen k who n) o
+    still-lessen : (who n : ℕ) → Still board (lessen k who n) o
     still-lessen who n = still_by (lessen k who n) (waits-lessen k o still.kern still.waits who n) (calm-lessen o.queues.queues k who n still.kern)
 
-    still-raised : (p : Profile) (ms : List (ℕ × Mutex)) → Still (at_once p k ms) o
+    still-raised : (p : Profile) (ms : List (ℕ × Mutex)) → Still board (at_once p k ms) o
     still-raised One ms = still_by (raised_kern One k ms) (waits-raised k o still.kern still.waits One ms) (calm-raised o.queues.queues One k ms still.kern)
     still-raised Two ms = still
 
-    still-followed : (p : Profile) (who pri : ℕ) → Still (followed p k who pri) o
+    still-followed : (p : Profile) (who pri : ℕ) → Still board (followed p k who pri) o
     still-followed One who pri = still-change_pri who pri
     still-followed Two who pri = still
 
   -- ---- what a mutex is for its owner
-  still-holding : (k : KernState) (who : ℕ) (m : Mutex) → Still k o → Still (holding k who m) o
+  still-holding : (k : KernState) (who : ℕ) (m : Mutex) → Still board k o → Still board (holding k who m) o
   still-holding k who m still =
-      elim m.inversion_safe as (λ b. Still (cond b (set_held k who (held_of (task_of k.tasks who) + 1)) k) o) [ true ↦ still-set_held k still who (held_of (task_of k.tasks who) + 1) | false ↦ still ]
+      elim m.inversion_safe as (λ b. Still board (cond b (set_held k who (held_of (task_of k.tasks who) + 1)) k) o) [ true ↦ still-set_held k still who (held_of (task_of k.tasks who) + 1) | false ↦ still ]
 
-  still-guarded : (k : KernState) (who : ℕ) (m : Mutex) → Still k o → Still (guarded k who m) o
-  still-guarded k who m still = elim m.delete_safe as (λ b. Still (cond b (make_safe k who) k) o) [ true ↦ still-make_safe k still who | false ↦ still ]
+  still-guarded : (k : KernState) (who : ℕ) (m : Mutex) → Still board k o → Still board (guarded k who m) o
+  still-guarded k who m still = elim m.delete_safe as (λ b. Still board (cond b (make_safe k who) k) o) [ true ↦ still-make_safe k still who | false ↦ still ]
 
-  still-eased : (k : KernState) (who : ℕ) (m : Mutex) (n : ℕ) → Still k o → Still (eased k who m n) o
-  still-eased k who m n still = elim m.delete_safe as (λ b. Still (cond b (lessen k who n) k) o) [ true ↦ still-lessen k still who n | false ↦ still ]
+  still-eased : (k : KernState) (who : ℕ) (m : Mutex) (n : ℕ) → Still board k o → Still board (eased k who m n) o
+  still-eased k who m n still = elim m.delete_safe as (λ b. Still board (cond b (lessen k who n) k) o) [ true ↦ still-lessen k still who n | false ↦ still ]
 
-  still-restored : (p : Profile) (k : KernState) (who : ℕ) (t : Option Task) → Still k o → Still (restored p k who t) o
+  still-restored : (p : Profile) (k : KernState) (who : ℕ) (t : Option Task) → Still board k o → Still board (restored p k who t) o
   still-restored Two k who t still = still
   still-restored One k who None still = still
-  still-restored One k who (Some t) still = elim (eqb t.held 0) as (λ b. Still (cond b (change_pri k who t.normal) k) o) [ true ↦ still-change_pri k still who t.normal | false ↦ still ]
+  still-restored One k who (Some t) still = elim (eqb t.held 0) as (λ b. Still board (cond b (change_pri k who t.normal) k) o) [ true ↦ still-change_pri k still who t.normal | false ↦ still ]
 
-  still-letting_go : (p : Profile) (k : KernState) (who : ℕ) (m : Mutex) → Still k o → Still (letting_go p k who m) o
+  still-letting_go : (p : Profile) (k : KernState) (who : ℕ) (m : Mutex) → Still board k o → Still board (letting_go p k who m) o
   still-letting_go p k who m still =
-      elim m.inversion_safe as (λ b. Still (cond b (dropped p k who) k) o) [
+      elim m.inversion_safe as (λ b. Still board (cond b (dropped p k who) k) o) [
         | true ↦ still-restored p (less_held k who) who (task_of (less_held k who).tasks who) (still-set_held k still who (held_of (task_of k.tasks who) - 1))
         | false ↦ still
       ]
 
-  still-hand : (s : MutexState) (who id : ℕ) (m : Mutex) → Still s.kern o → Still (hand s who id m).kern o
+  still-hand : (s : MutexState) (who id : ℕ) (m : Mutex) → Still board s.kern o → Still board (hand s who id m).kern o
   still-hand s who id m still = still-guarded (holding s.kern who m) who m (still-holding s.kern who m still)
 
   -- ---- take
   -- a wait for a live mutex, which is no semaphore
-  still-await : (s : MutexState) (who id n : ℕ) (m : Mutex) → 0 < n → MayAwait s.kern o id → Still s.kern o → Still (await s who id n m).kern o
+  still-await : (s : MutexState) (who id n : ℕ) (m : Mutex) → 0 < n → MayAwait s.kern o id → Still board s.kern o → Still board (await s who id n m).kern o
   still-await s who id n m some may still =
       still-move s.kern still (Pend who (mutex_place id) (not m.by_priority) n) some
       (record { may = may.0; lives = may.1; other = λ q. absurd (omega (arith, q)); console = λ q. absurd (omega (arith, q)) })
       (λ side. (refl, may.0.made, may.2))
 
   pub still-take : (s : MutexState) (who id n : ℕ) → take_refusal who n (object_of s.mutexes id) ≡ None → (is_some (object_of s.mutexes id) ≡ true → MayAwait s.kern o id)
-      → Still s.kern o → Still (take s who id n).kern o
+      → Still board s.kern o → Still board (take s who id n).kern o
   still-take s who id n fine there still =
       still-raised (take_alone s who id n (object_of s.mutexes id)).kern (row (object_of s.mutexes id) fine there) (take_alone s who id n (object_of s.mutexes id)).profile (take_alone s who id n (object_of s.mutexes id)).mutexes
     where
@@ -119,54 +120,54 @@ module _ (o : Objects) where
       above i g = elim (eqb i 0) as (λ b. eqb i 0 ≡ b → cond b (Some errors.ObjUnavailable) None ≡ None → 0 < i) [ true ↦ λ b q. absurd (cc) | false ↦ λ b q. let ne = eqb-false i 0 b in omega arith ] refl g
 
       owner : (m : Mutex) (w : Option ℕ) → cond (is_others who w && eqb n 0) (Some errors.ObjUnavailable) None ≡ None → MayAwait s.kern o id
-          → Still (taken s who id n m w).kern o
+          → Still board (taken s who id n m w).kern o
       owner m None g may = still-hand s who id m still
       owner m (Some x) g may =
-          elim (eqb x who) as (λ b. cond (not b && eqb n 0) (Some errors.ObjUnavailable) None ≡ None → Still (cond b (deepen s who id m) (await s who id n m)).kern o) [
+          elim (eqb x who) as (λ b. cond (not b && eqb n 0) (Some errors.ObjUnavailable) None ≡ None → Still board (cond b (deepen s who id m) (await s who id n m)).kern o) [
             | true ↦ λ q. still-guarded s.kern who m still
             | false ↦ λ q. still-await s who id n m (above n q) may still
           ] g
 
-      row : (q : Option Mutex) → take_refusal who n q ≡ None → (is_some q ≡ true → MayAwait s.kern o id) → Still (take_alone s who id n q).kern o
+      row : (q : Option Mutex) → take_refusal who n q ≡ None → (is_some q ≡ true → MayAwait s.kern o id) → Still board (take_alone s who id n q).kern o
       row None g may = still
       row (Some m) g may = owner m m.owner g (may refl)
 
   -- ---- give
-  still-pass_on : (s : MutexState) (id : ℕ) (m : Mutex) (w : Option Task) → Still s.kern o → Still (pass_on s id m w).kern o
+  still-pass_on : (s : MutexState) (id : ℕ) (m : Mutex) (w : Option Task) → Still board s.kern o → Still board (pass_on s id m w).kern o
   still-pass_on s id m None still = still
   still-pass_on s id m (Some w) still = still-end_wait (hand s w.id id m).kern (still-hand s w.id id m still) w.id 0 None
 
-  pub still-give : (s : MutexState) (who id : ℕ) → Still s.kern o → Still (give s who id).kern o
+  pub still-give : (s : MutexState) (who id : ℕ) → Still board s.kern o → Still board (give s who id).kern o
   still-give s who id still = still-raised (give_alone s who id (object_of s.mutexes id)).kern (row (object_of s.mutexes id)) (give_alone s who id (object_of s.mutexes id)).profile (give_alone s who id (object_of s.mutexes id)).mutexes
     where
-      row : (q : Option Mutex) → Still (give_alone s who id q).kern o
+      row : (q : Option Mutex) → Still board (give_alone s who id q).kern o
       row None = still
       row (Some m) =
           let t : MutexState = pass_on s id m (first_waiter s.kern.tasks (mutex_place id)) in
-          elim (ltb 1 m.depth) as (λ b. Still (cond b (shallow s who id m) (give_up s who id m)).kern o) [
+          elim (ltb 1 m.depth) as (λ b. Still board (cond b (shallow s who id m) (give_up s who id m)).kern o) [
             | true ↦ still-eased s.kern who m 1 still
             | false ↦ still-eased (letting_go s.profile t.kern who m) who m 1 (still-letting_go s.profile t.kern who m (still-pass_on s id m (first_waiter s.kern.tasks (mutex_place id)) still))
           ]
 
   -- ---- delete
-  still-owner_ended : (p : Profile) (k : KernState) (m : Mutex) (w : Option ℕ) → Still k o → Still (owner_ended p k m w) o
+  still-owner_ended : (p : Profile) (k : KernState) (m : Mutex) (w : Option ℕ) → Still board k o → Still board (owner_ended p k m w) o
   still-owner_ended p k m None still = still
   still-owner_ended p k m (Some x) still = each (task_of k.tasks x)
     where
-      each : (q : Option Task) → Still (ended p k x m q) o
+      each : (q : Option Task) → Still board (ended p k x m q) o
       each None = still
       each (Some t) = still-eased (letting_go p k x m) x m m.depth (still-letting_go p k x m still)
 
-  pub still-delete : (s : MutexState) (id : ℕ) → Still s.kern o → Still (delete s id).kern o
+  pub still-delete : (s : MutexState) (id : ℕ) → Still board s.kern o → Still board (delete s id).kern o
   still-delete s id still = still-raised (delete_alone s id (object_of s.mutexes id)).kern (row (object_of s.mutexes id)) (delete_alone s id (object_of s.mutexes id)).profile (delete_alone s id (object_of s.mutexes id)).mutexes
     where
-      row : (q : Option Mutex) → Still (delete_alone s id q).kern o
+      row : (q : Option Mutex) → Still board (delete_alone s id q).kern o
       row None = still
       row (Some m) =
           still-owner_ended s.profile (wake_all s.kern (mutex_place id) 4294967295 (Some errors.ObjDeleted)) m m.owner (still-wake_all s.kern still (mutex_place id) 4294967295 (Some errors.ObjDeleted))
 
   -- ---- a normal priority is set
-  pub still-priority_set : (s : MutexState) (who pri : ℕ) → Still s.kern o → Still (priority_set s who pri).kern o
+  pub still-priority_set : (s : MutexState) (who pri : ℕ) → Still board s.kern o → Still board (priority_set s who pri).kern o
   still-priority_set s who pri still =
       still-raised (priority_alone s who pri).kern
       (still-followed (set_normal s.kern who pri) (still-set_normal s.kern still who pri) s.profile who (pri_after pri (task_of s.kern.tasks who))) s.profile s.mutexes

@@ -4,6 +4,7 @@ use Rattle.std.specs.List.{All}
 use Rattle.std.proofs.lemmas.Bool.{eqb-true, eqb-false, leb-false, and_parts, or_left, or_right}
 use Rattle.std.proofs.lemmas.List.Elements.{All-weaker, All-filter, All-push}
 use Rattle.wind_base.specs.SemBits.{has_bits, are_options, is_priority, is_inversion_safe, read_options}
+use Rattle.wind_base.specs.declared.board_kind.BoardKind.{BoardKind}
 use Rattle.wind_base.specs.declared.errno.Errno.{Errno}
 use Rattle.wind_base.specs.declared.errno.Errno.TheVariants as errors
 use Rattle.wind_base.specs.declared.semaphore.SemKind.{SemKind}
@@ -50,8 +51,8 @@ abbrev other_semaphores : Objects → List (ℕ × Semaphore) → Objects
 other_semaphores o ss = record o { semaphores = ss }
 
 -- the invariant holds after the row
-abbrev pub KeepsRow : ObjectRow → Type 0
-KeepsRow r = KeepsObjects r.kern r.objects
+abbrev pub KeepsRow : BoardKind → ObjectRow → Type 0
+KeepsRow board r = KeepsObjects board r.kern r.objects
 
 -- an object is made only if there is room and an id is left
 room_left : (n id : ℕ) (e f : Errno) → cond (leb 1024 n) (Some e) (cond (leb 1048577 id) (Some f) None) ≡ None → (n < 1024) × (id ≤ 1048576)
@@ -70,7 +71,7 @@ inherits : (a b c : Bool) → (a && (not b || c)) ≡ true → b ≡ true → c 
 inherits a true c h e = (and_parts a c h).1
 inherits a false c h e = absurd (cc)
 
-module _ (k : KernState) (o : Objects) (is : IsKern k) (kept : KeepsObjects k o) where
+module _ {board : BoardKind} (k : KernState) (o : Objects) (is : IsKern k) (kept : KeepsObjects board k o) where
   abbrev s : SemState
   s = sems k o
 
@@ -112,8 +113,8 @@ module _ (k : KernState) (o : Objects) (is : IsKern k) (kept : KeepsObjects k o)
       (none (get_or o.queues.queues i d).0 (queue_below i d within) each.0, each.1)
 
   -- other semaphores, with a kernel that keeps the invariant of these
-  by_others : (j : KernState) (ss : List (ℕ × Semaphore)) → KeepsObjects j o → KeepsSemaphores (sems j (other_semaphores o ss)) → WaitsLiveIn (is_live_beside o) (sems j (other_semaphores o ss))
-      → StaysNone ss → KeepsObjects j (other_semaphores o ss)
+  by_others : (j : KernState) (ss : List (ℕ × Semaphore)) → KeepsObjects board j o → KeepsSemaphores (sems j (other_semaphores o ss)) → WaitsLiveIn (is_live_beside o) (sems j (other_semaphores o ss))
+      → StaysNone ss → KeepsObjects board j (other_semaphores o ss)
   by_others j ss there semaphores live none = record {
     waits = record { semaphores = semaphores; deleters = there.waits.deleters; live = live; right = there.waits.right };
     mutexes = there.mutexes;
@@ -134,16 +135,16 @@ module _ (k : KernState) (o : Objects) (is : IsKern k) (kept : KeepsObjects k o)
   stays_push v n below none = none_push o.semaphores k.next_id n v below none
 
   -- an id is drawn
-  queues_draw : k.next_id ≤ 1048576 → KeepsQueues (record k { next_id = k.next_id + 1 }) o
-  queues_draw left = queues-calm k (record k { next_id = k.next_id + 1 }) o (calms o.queues.queues k (DrawIds (k.next_id + 1)) is (omega arith, omega (arith, left)) tt) kept.queues
+  queues_draw : k.next_id ≤ 1048576 → KeepsQueues board (record k { next_id = k.next_id + 1 }) o
+  queues_draw left = queues-calm board k (record k { next_id = k.next_id + 1 }) o (calms o.queues.queues k (DrawIds (k.next_id + 1)) is (omega arith, omega (arith, left)) tt) kept.queues
 
   -- ---- a semaphore is made
-  sem_made : (kind : SemKind) (options : SemOptions) (count : ℕ) → may_hold kind count ≡ true → KeepsRow (made k o (plain.new_semaphore kind options count))
+  sem_made : (kind : SemKind) (options : SemOptions) (count : ℕ) → may_hold kind count ≡ true → KeepsRow board (made k o (plain.new_semaphore kind options count))
   sem_made kind options count may =
       let v : Semaphore = plain.new_semaphore kind options count in
       let next : ℕ = k.next_id in
       let j : KernState = record k { next_id = next + 1 } in
-      elim (plain.create_refusal (sems k o)) as (λ r. plain.create_refusal (sems k o) ≡ r → KeepsRow (made_unless r k o v)) [
+      elim (plain.create_refusal (sems k o)) as (λ r. plain.create_refusal (sems k o) ≡ r → KeepsRow board (made_unless r k o v)) [
         | Some e ↦ λ r. kept
         | None ↦ λ r.
             record {
@@ -163,20 +164,20 @@ module _ (k : KernState) (o : Objects) (is : IsKern k) (kept : KeepsObjects k o)
       ] refl
 
   -- a binary one, empty or full
-  pub keeps-binary_row : (options state : ℕ) → KeepsRow (binary_row k o options state)
+  pub keeps-binary_row : (options state : ℕ) → KeepsRow board (binary_row k o options state)
   keeps-binary_row options state =
-      elim (read_options options kinds.Binary) as (λ q. KeepsRow (binary_with k o state q)) [
+      elim (read_options options kinds.Binary) as (λ q. KeepsRow board (binary_with k o state q)) [
         | None ↦ kept
         | Some v ↦
-            elim (leb state 1) as (λ b. leb state 1 ≡ b → KeepsRow (cond b (made k o (plain.new_semaphore kinds.Binary v state)) (refused k o errors.InvalidState))) [
+            elim (leb state 1) as (λ b. leb state 1 ≡ b → KeepsRow board (cond b (made k o (plain.new_semaphore kinds.Binary v state)) (refused k o errors.InvalidState))) [
               | true ↦ λ b. sem_made kinds.Binary v state b
               | false ↦ λ b. kept
             ] refl
       ]
 
-  pub keeps-counting_row : (options count : ℕ) → KeepsRow (counting_row k o options count)
+  pub keeps-counting_row : (options count : ℕ) → KeepsRow board (counting_row k o options count)
   keeps-counting_row options count =
-      elim (read_options options kinds.Counting) as (λ q. KeepsRow (counting_with k o count q)) [ None ↦ kept | Some v ↦ sem_made kinds.Counting v count refl ]
+      elim (read_options options kinds.Counting) as (λ q. KeepsRow board (counting_with k o count q)) [ None ↦ kept | Some v ↦ sem_made kinds.Counting v count refl ]
 
   -- ---- a semaphore is taken, given, flushed, deleted
   -- a wait for one takes time
@@ -187,14 +188,14 @@ module _ (k : KernState) (o : Objects) (is : IsKern k) (kept : KeepsObjects k o)
         | false ↦ λ z q. let ne = eqb-false n 0 z in omega arith
       ] refl fine
 
-  sem_take : (who id n : ℕ) → object_of o.mutexes.rows id ≡ None → plain.take_refusal s id n ≡ None → KeepsRow (by_semaphores o (plain.take s who id n) (took_reply (plain.took s id)))
+  sem_take : (who id n : ℕ) → object_of o.mutexes.rows id ≡ None → plain.take_refusal s id n ≡ None → KeepsRow board (by_semaphores o (plain.take s who id n) (took_reply (plain.took s id)))
   sem_take who id n other fine =
       elim (plain.live s id) as (λ q. plain.live s id ≡ q → KeepsSemaphores (plain.take_found s who id n q) → WaitsLiveIn (is_live_beside o) (plain.take_found s who id n q)
-      → KeepsObjects (plain.take_found s who id n q).kern (other_semaphores o (plain.take_found s who id n q).semaphores)) [
+      → KeepsObjects board (plain.take_found s who id n q).kern (other_semaphores o (plain.take_found s who id n q).semaphores)) [
         | None ↦ λ e semaphores live. kept
         | Some v ↦ λ e.
             elim (eqb v.count 0) as (λ b. eqb v.count 0 ≡ b → KeepsSemaphores (cond b (plain.awaited s who id n v) (plain.written s id (plain.emptied v))) → WaitsLiveIn (is_live_beside o) (cond b (plain.awaited s who id n v) (plain.written s id (plain.emptied v)))
-            → KeepsObjects (cond b (plain.awaited s who id n v) (plain.written s id (plain.emptied v))).kern (other_semaphores o (cond b (plain.awaited s who id n v) (plain.written s id (plain.emptied v))).semaphores)) [
+            → KeepsObjects board (cond b (plain.awaited s who id n v) (plain.written s id (plain.emptied v))).kern (other_semaphores o (cond b (plain.awaited s who id n v) (plain.written s id (plain.emptied v))).semaphores)) [
               | true ↦ λ b semaphores live.
                   let may = may_pend s id v (sem_place id) kept.waits.semaphores e (eqb-true v.count 0 b) (same_itself (sem_place id)) in
                   let there = or_left (is_some (object_of o.semaphores id)) (is_some (object_of o.mutexes.rows id) || (is_some (object_of o.queues.queues id) || false)) (ap is_some e) in
@@ -208,51 +209,51 @@ module _ (k : KernState) (o : Objects) (is : IsKern k) (kept : KeepsObjects k o)
             ] refl
       ] refl (keeps.taking who id n) (lives.taking who id n)
 
-  sem_give : (id : ℕ) → KeepsRow (by_semaphores o (plain.give s id) (Answer 0))
+  sem_give : (id : ℕ) → KeepsRow board (by_semaphores o (plain.give s id) (Answer 0))
   sem_give id =
-      elim (plain.live s id) as (λ q. KeepsSemaphores (plain.give_found s id q) → WaitsLiveIn (is_live_beside o) (plain.give_found s id q) → KeepsObjects (plain.give_found s id q).kern (other_semaphores o (plain.give_found s id q).semaphores)) [
+      elim (plain.live s id) as (λ q. KeepsSemaphores (plain.give_found s id q) → WaitsLiveIn (is_live_beside o) (plain.give_found s id q) → KeepsObjects board (plain.give_found s id q).kern (other_semaphores o (plain.give_found s id q).semaphores)) [
         | None ↦ λ semaphores live. kept
         | Some v ↦
-            elim (plain.next_of s id) as (λ t. KeepsSemaphores (plain.handed s id v t) → WaitsLiveIn (is_live_beside o) (plain.handed s id v t) → KeepsObjects (plain.handed s id v t).kern (other_semaphores o (plain.handed s id v t).semaphores)) [
+            elim (plain.next_of s id) as (λ t. KeepsSemaphores (plain.handed s id v t) → WaitsLiveIn (is_live_beside o) (plain.handed s id v t) → KeepsObjects board (plain.handed s id v t).kern (other_semaphores o (plain.handed s id v t).semaphores)) [
               | None ↦ λ semaphores live. by_others k (with_object o.semaphores id (plain.filled v)) kept semaphores live (stays_write id (plain.filled v))
               | Some t ↦ λ semaphores live. objects-move k o is kept (EndWait t.id 0 None) (tt, tt, tt, tt)
             ]
       ] (keeps.giving id) (lives.giving id)
 
-  sem_delete : (id : ℕ) → KeepsRow (by_semaphores o (plain.delete s id) (Answer 0))
+  sem_delete : (id : ℕ) → KeepsRow board (by_semaphores o (plain.delete s id) (Answer 0))
   sem_delete id =
       by_others (plain.delete s id).kern (without o.semaphores id) (objects-move k o is kept (WakeAll (sem_place id) 4294967295 (Some errors.ObjDeleted)) (tt, tt, tt, tt)) (keeps.deleting id) (lives.deleting id) (stays_without id)
 
   -- the calls on semaphores
-  plain_take_keeps : (who id n : ℕ) → object_of o.mutexes.rows id ≡ None → KeepsRow (plain_take k o who id n)
+  plain_take_keeps : (who id n : ℕ) → object_of o.mutexes.rows id ≡ None → KeepsRow board (plain_take k o who id n)
   plain_take_keeps who id n other =
-      elim (plain.take_refusal s id n) as (λ r. plain.take_refusal s id n ≡ r → KeepsRow (plain_take_unless r k o who id n)) [ Some e ↦ λ r. kept | None ↦ λ r. sem_take who id n other r ] refl
+      elim (plain.take_refusal s id n) as (λ r. plain.take_refusal s id n ≡ r → KeepsRow board (plain_take_unless r k o who id n)) [ Some e ↦ λ r. kept | None ↦ λ r. sem_take who id n other r ] refl
 
-  plain_give_keeps : (id : ℕ) → KeepsRow (plain_give k o id)
-  plain_give_keeps id = elim (plain.give_refusal s id) as (λ r. KeepsRow (plain_give_unless r k o id)) [ Some e ↦ kept | None ↦ sem_give id ]
+  plain_give_keeps : (id : ℕ) → KeepsRow board (plain_give k o id)
+  plain_give_keeps id = elim (plain.give_refusal s id) as (λ r. KeepsRow board (plain_give_unless r k o id)) [ Some e ↦ kept | None ↦ sem_give id ]
 
-  pub keeps-flush_row : (id : ℕ) → KeepsRow (flush_row k o id)
+  pub keeps-flush_row : (id : ℕ) → KeepsRow board (flush_row k o id)
   keeps-flush_row id =
-      elim (is_mutex o id) as (λ b. KeepsRow (cond b (refused k o errors.InvalidOperation) (flush_unless (plain.flush_refusal s id) k o id))) [
+      elim (is_mutex o id) as (λ b. KeepsRow board (cond b (refused k o errors.InvalidOperation) (flush_unless (plain.flush_refusal s id) k o id))) [
         | true ↦ kept
-        | false ↦ elim (plain.flush_refusal s id) as (λ r. KeepsRow (flush_unless r k o id)) [ Some e ↦ kept | None ↦ objects-move k o is kept (WakeAll (sem_place id) 0 None) (tt, tt, tt, tt) ]
+        | false ↦ elim (plain.flush_refusal s id) as (λ r. KeepsRow board (flush_unless r k o id)) [ Some e ↦ kept | None ↦ objects-move k o is kept (WakeAll (sem_place id) 0 None) (tt, tt, tt, tt) ]
       ]
 
-  plain_delete_keeps : (id : ℕ) → KeepsRow (plain_delete_unless (plain.delete_refusal s id) k o id)
-  plain_delete_keeps id = elim (plain.delete_refusal s id) as (λ r. KeepsRow (plain_delete_unless r k o id)) [ Some e ↦ kept | None ↦ sem_delete id ]
+  plain_delete_keeps : (id : ℕ) → KeepsRow board (plain_delete_unless (plain.delete_refusal s id) k o id)
+  plain_delete_keeps id = elim (plain.delete_refusal s id) as (λ r. KeepsRow board (plain_delete_unless r k o id)) [ Some e ↦ kept | None ↦ sem_delete id ]
 
   -- ---- mutexes
   abbrev m : MutexState
   m = mutexes k o
 
-  still : Still k o
+  still : Still board k o
   still = record { kern = is; waits = kept.waits; queues = kept.queues }
 
   calls : laws.KeptByCalls m
   calls = calls_law m is kept.table kept.mutexes
 
   -- other mutexes with the same ids
-  by_same : (j : KernState) (live : LiveMutexes) → Still j o → ids live.rows ≡ ids o.mutexes.rows → KeepsMutexes (both j live) → KeepsObjects j (with_mutexes o live)
+  by_same : (j : KernState) (live : LiveMutexes) → Still board j o → ids live.rows ≡ ids o.mutexes.rows → KeepsMutexes (both j live) → KeepsObjects board j (with_mutexes o live)
   by_same j live there same mutexes = record {
     waits = waits-ids j o live same there.waits;
     mutexes = mutexes;
@@ -269,12 +270,12 @@ module _ (k : KernState) (o : Objects) (is : IsKern k) (kept : KeepsObjects k o)
   below = All-weaker (MutexKept k.next_id) (λ r. r.0 < k.next_id) (λ r h. h.id) o.mutexes.rows kept.mutexes.holds.mutexes
 
   -- a mutex is made
-  mutex_made : (options : SemOptions) → (is_inversion_safe options ≡ true → is_priority options ≡ true) → KeepsRow (mutex_with k o (Some options))
+  mutex_made : (options : SemOptions) → (is_inversion_safe options ≡ true → is_priority options ≡ true) → KeepsRow board (mutex_with k o (Some options))
   mutex_made options urgency =
       let v : Mutex = making.new_mutex options in
       let next : ℕ = k.next_id in
       let j : KernState = record k { next_id = next + 1 } in
-      elim (making.create_refusal m) as (λ r. making.create_refusal m ≡ r → KeepsRow (mutex_unless r k o options)) [
+      elim (making.create_refusal m) as (λ r. making.create_refusal m ≡ r → KeepsRow board (mutex_unless r k o options)) [
         | Some e ↦ λ r. kept
         | None ↦ λ r.
             let left = room_left (length o.mutexes.rows) next errors.TooMany errors.IdsSpent r in
@@ -291,9 +292,9 @@ module _ (k : KernState) (o : Objects) (is : IsKern k) (kept : KeepsObjects k o)
             }
       ] refl
 
-  pub keeps-mutex_row : (options : ℕ) → KeepsRow (mutex_row k o options)
+  pub keeps-mutex_row : (options : ℕ) → KeepsRow board (mutex_row k o options)
   keeps-mutex_row n =
-      elim (are_options kinds.Mutex n) as (λ b. are_options kinds.Mutex n ≡ b → KeepsRow (mutex_with k o (cond b (Some (record { 0 = n })) None))) [
+      elim (are_options kinds.Mutex n) as (λ b. are_options kinds.Mutex n ≡ b → KeepsRow board (mutex_with k o (cond b (Some (record { 0 = n })) None))) [
         | true ↦ λ b. mutex_made (record { 0 = n }) (λ safe. inherits (has_bits 13 n) (has_bits n 8) (has_bits n 1) b safe)
         | false ↦ λ b. kept
       ] refl
@@ -309,28 +310,28 @@ module _ (k : KernState) (o : Objects) (is : IsKern k) (kept : KeepsObjects k o)
     mutex_no_queue id e,
   )
 
-  mutex_take_keeps : (who id n : ℕ) → Lives k who → KeepsRow (mutex_take k o who id n)
+  mutex_take_keeps : (who id n : ℕ) → Lives k who → KeepsRow board (mutex_take k o who id n)
   mutex_take_keeps who id n acts =
-      elim (mutex.take_refusal who n (object_of o.mutexes.rows id)) as (λ r. mutex.take_refusal who n (object_of o.mutexes.rows id) ≡ r → KeepsRow (mutex_take_unless r k o who id n)) [
+      elim (mutex.take_refusal who n (object_of o.mutexes.rows id)) as (λ r. mutex.take_refusal who n (object_of o.mutexes.rows id) ≡ r → KeepsRow board (mutex_take_unless r k o who id n)) [
         | Some e ↦ λ r. kept
         | None ↦ λ r.
             by_same (mutex.take m who id n).kern (live_in (mutex.take m who id n)) (still-take o m who id n r (awaitable id) still) (ids-take m who id n) (calls.taking who id n acts r)
       ] refl
 
-  mutex_give_keeps : (who id : ℕ) → Lives k who → KeepsRow (mutex_give k o who id)
+  mutex_give_keeps : (who id : ℕ) → Lives k who → KeepsRow board (mutex_give k o who id)
   mutex_give_keeps who id acts =
-      elim (mutex.give_refusal who (object_of o.mutexes.rows id)) as (λ r. mutex.give_refusal who (object_of o.mutexes.rows id) ≡ r → KeepsRow (mutex_give_unless r k o who id)) [
+      elim (mutex.give_refusal who (object_of o.mutexes.rows id)) as (λ r. mutex.give_refusal who (object_of o.mutexes.rows id) ≡ r → KeepsRow board (mutex_give_unless r k o who id)) [
         | Some e ↦ λ r. kept
         | None ↦ λ r. by_same (mutex.give m who id).kern (live_in (mutex.give m who id)) (still-give o m who id still) (ids-give m who id) (calls.giving who id acts r)
       ] refl
 
-  mutex_delete_keeps : (id : ℕ) → is_mutex o id ≡ true → KeepsRow (by_mutexes o (mutex.delete m id) (Answer 0))
+  mutex_delete_keeps : (id : ℕ) → is_mutex o id ≡ true → KeepsRow board (by_mutexes o (mutex.delete m id) (Answer 0))
   mutex_delete_keeps id there =
       let fine : mutex.delete_refusal (object_of o.mutexes.rows id) ≡ None =
       elim (object_of o.mutexes.rows id) as (λ q. is_some q ≡ true → mutex.delete_refusal q ≡ None) [ None ↦ λ q. absurd (cc) | Some v ↦ λ q. refl ] there in
-      elim (object_of o.mutexes.rows id) as (λ q. is_some q ≡ true → Still (mutex.raised_at_once (mutex.delete_alone m id q)).kern o → KeepsMutexes (mutex.raised_at_once (mutex.delete_alone m id q))
+      elim (object_of o.mutexes.rows id) as (λ q. is_some q ≡ true → Still board (mutex.raised_at_once (mutex.delete_alone m id q)).kern o → KeepsMutexes (mutex.raised_at_once (mutex.delete_alone m id q))
       → All (λ t. is_place (mutex_place id) t.wait ≡ false) (mutex.raised_at_once (mutex.delete_alone m id q)).kern.tasks
-      → KeepsObjects (mutex.raised_at_once (mutex.delete_alone m id q)).kern (with_mutexes o (live_in (mutex.raised_at_once (mutex.delete_alone m id q))))) [
+      → KeepsObjects board (mutex.raised_at_once (mutex.delete_alone m id q)).kern (with_mutexes o (live_in (mutex.raised_at_once (mutex.delete_alone m id q))))) [
         | None ↦ λ q after mutexes away. absurd (cc)
         | Some v ↦ λ q after mutexes away. record {
           waits = waits-without (mutex.raised_at_once (mutex.delete_alone m id (Some v))).kern o id away after.waits;
@@ -346,34 +347,34 @@ module _ (k : KernState) (o : Objects) (is : IsKern k) (kept : KeepsObjects k o)
       ] there (still-delete o m id still) (calls.deleting id fine) (gone_law m id is fine)
 
   -- ---- the rows of both kinds; a task that takes or gives a mutex lives
-  pub keeps-take_row : (a : Actor) (id n : ℕ) → (is_mutex o id ≡ true → Acts k a) → KeepsRow (take_row k o a id n)
+  pub keeps-take_row : (a : Actor) (id n : ℕ) → (is_mutex o id ≡ true → Acts k a) → KeepsRow board (take_row k o a id n)
   keeps-take_row (Task who) id n acts =
-      elim (is_mutex o id) as (λ b. is_mutex o id ≡ b → KeepsRow (cond b (mutex_take k o who id n) (plain_take k o who id n))) [
+      elim (is_mutex o id) as (λ b. is_mutex o id ≡ b → KeepsRow board (cond b (mutex_take k o who id n) (plain_take k o who id n))) [
         | true ↦ λ b. mutex_take_keeps who id n (acts b)
         | false ↦ λ b. plain_take_keeps who id n (not_some (object_of o.mutexes.rows id) b)
       ] refl
   keeps-take_row Interrupt id n acts = kept
 
-  pub keeps-give_row : (a : Actor) (id : ℕ) → (is_mutex o id ≡ true → Acts k a) → KeepsRow (give_row k o a id)
+  pub keeps-give_row : (a : Actor) (id : ℕ) → (is_mutex o id ≡ true → Acts k a) → KeepsRow board (give_row k o a id)
   keeps-give_row (Task who) id acts =
-      elim (is_mutex o id) as (λ b. is_mutex o id ≡ b → KeepsRow (cond b (mutex_give k o who id) (plain_give k o id))) [
+      elim (is_mutex o id) as (λ b. is_mutex o id ≡ b → KeepsRow board (cond b (mutex_give k o who id) (plain_give k o id))) [
         | true ↦ λ b. mutex_give_keeps who id (acts b)
         | false ↦ λ b. plain_give_keeps id
       ] refl
   keeps-give_row Interrupt id acts =
-      elim (is_mutex o id) as (λ b. KeepsRow (cond b (refused k o errors.NotIsrCallable) (plain_give k o id))) [ true ↦ kept | false ↦ plain_give_keeps id ]
+      elim (is_mutex o id) as (λ b. KeepsRow board (cond b (refused k o errors.NotIsrCallable) (plain_give k o id))) [ true ↦ kept | false ↦ plain_give_keeps id ]
 
-  pub keeps-delete_row : (id : ℕ) → KeepsRow (delete_row k o id)
+  pub keeps-delete_row : (id : ℕ) → KeepsRow board (delete_row k o id)
   keeps-delete_row id =
-      elim (is_mutex o id) as (λ b. is_mutex o id ≡ b → KeepsRow (cond b (by_mutexes o (mutex.delete m id) (Answer 0)) (plain_delete_unless (plain.delete_refusal s id) k o id))) [
+      elim (is_mutex o id) as (λ b. is_mutex o id ≡ b → KeepsRow board (cond b (by_mutexes o (mutex.delete m id) (Answer 0)) (plain_delete_unless (plain.delete_refusal s id) k o id))) [
         | true ↦ λ b. mutex_delete_keeps id b
         | false ↦ λ b. plain_delete_keeps id
       ] refl
 
-  pub keeps-priority_row : (pri : ℕ) (target : Option ℕ) → KeepsRow (priority_row k o pri target)
+  pub keeps-priority_row : (pri : ℕ) (target : Option ℕ) → KeepsRow board (priority_row k o pri target)
   keeps-priority_row pri None = kept
   keeps-priority_row pri (Some id) =
-      elim (leb pri 255) as (λ b. KeepsRow (cond b (by_mutexes o (mutex.priority_set m id pri) (Answer 0)) (refused k o errors.IllegalPriority))) [
+      elim (leb pri 255) as (λ b. KeepsRow board (cond b (by_mutexes o (mutex.priority_set m id pri) (Answer 0)) (refused k o errors.IllegalPriority))) [
         | true ↦ by_same (mutex.priority_set m id pri).kern o.mutexes (still-priority_set o m id pri still) refl (calls.setting_priority id pri)
         | false ↦ kept
       ]

@@ -3,7 +3,8 @@ use Rattle.std.proofs.Common.{◌≡◌, ℕ, ◌+◌, ◌<◌, Bool, true, fals
 use Rattle.std.specs.List.{All}
 use Rattle.std.proofs.lemmas.Bool.{or_left, or_right}
 use Rattle.std.proofs.lemmas.List.Elements.{All-weaker, All-filter, All-push}
-use Rattle.wind_base.specs.Limits.{ram_bytes}
+use Rattle.wind_base.specs.Boards.{board_rules}
+use Rattle.wind_base.specs.declared.board_kind.BoardKind.{BoardKind}
 use Rattle.wind_base.specs.declared.errno.Errno.{Errno}
 use Rattle.wind_base.specs.declared.errno.Errno.TheVariants as errors
 use Rattle.id_table.specs.Rows.{ids, object_of, with_object, without}
@@ -49,8 +50,8 @@ abbrev pub with_queues : Objects → QueuesState → Objects
 with_queues o qs = record o { queues = qs }
 
 -- the invariant holds after the row of a call on queues
-abbrev pub KeepsScene : Objects → Scene → Type 0
-KeepsScene o t = KeepsObjects t.kern (with_queues o t.queues)
+abbrev pub KeepsScene : BoardKind → Objects → Scene → Type 0
+KeepsScene board o t = KeepsObjects board t.kern (with_queues o t.queues)
 
 -- ---- waits for what lives, among other queues
 grows : (a m b c d e : Bool) → (c ≡ true → d ≡ true) → (a || (m || ((b && c) || e))) ≡ true → (a || (m || ((b && d) || e))) ≡ true
@@ -62,7 +63,7 @@ grows false false true true d false more h = or_left d false (more refl)
 grows false false true false d false more h = absurd (cc)
 
 -- each queue that lived lives among these
-waits_among : (k : KernState) (o : Objects) (qs : QueuesState) → ((n : ℕ) → is_some (object_of o.queues.queues n) ≡ true → is_some (object_of qs.queues n) ≡ true) → KeepsWaits k o → KeepsWaits k (with_queues o qs)
+waits_among : {board : BoardKind} (k : KernState) (o : Objects) (qs : QueuesState) → ((n : ℕ) → is_some (object_of o.queues.queues n) ≡ true → is_some (object_of qs.queues n) ≡ true) → KeepsWaits board k o → KeepsWaits board k (with_queues o qs)
 waits_among k o qs more kept = record {
   semaphores = kept.semaphores;
   deleters = kept.deleters;
@@ -89,7 +90,7 @@ abbrev NobodyAt : Place → KernState → Type 0
 NobodyAt place k = All (λ t. is_place place t.wait ≡ false) k.tasks
 
 -- a queue at which nobody waits is gone
-waits_without : (k : KernState) (o : Objects) (id : ℕ) → NobodyAt (receivers id) k → NobodyAt (senders id) k → KeepsWaits k o → KeepsWaits k (with_queues o (record o.queues { queues = without o.queues.queues id }))
+waits_without : {board : BoardKind} (k : KernState) (o : Objects) (id : ℕ) → NobodyAt (receivers id) k → NobodyAt (senders id) k → KeepsWaits board k o → KeepsWaits board k (with_queues o (record o.queues { queues = without o.queues.queues id }))
 waits_without k o id none_receives none_sends kept = record {
   semaphores = kept.semaphores;
   deleters = kept.deleters;
@@ -116,11 +117,15 @@ nobody-wake_all : (place : Place) (k : KernState) (a : ℕ) (e : Option Errno) �
 nobody-wake_all place k a e is = none_passes task_id waits_before waits_before-order (waits_at place) (wake_all k place a e).tasks (ap first (none_left k is place a e))
 
 -- ---- the queues
--- their invariant with one RAM holds with any of the board's size
-any_ram : (t : Scene) → length t.ram ≡ ram_bytes → IsKept t → (ram : List ℕ) → length ram ≡ ram_bytes → IsKept (scene t.kern t.queues ram)
-any_ram t size good ram long = keeps t (others t.kern ram) good (calm_stays t.queues.queues t.kern good.kern, long ∙ sym size)
+-- their invariant with one RAM holds with any of the same size
+any_ram : (bytes : ℕ) (t : Scene) → length t.ram ≡ bytes → IsKept t → (ram : List ℕ) → length ram ≡ bytes → IsKept (scene t.kern t.queues ram)
+any_ram bytes t size good ram long = keeps t (others t.kern ram) good (calm_stays t.queues.queues t.kern good.kern, long ∙ sym size)
 
-module _ (k : KernState) (o : Objects) (ram : List ℕ) (is : IsKern k) (kept : KeepsObjects k o) (size : length ram ≡ ram_bytes) where
+module _ {board : BoardKind} (k : KernState) (o : Objects) (ram : List ℕ) (is : IsKern k) (kept : KeepsObjects board k o) (size : length ram ≡ (board_rules board).ram_bytes) where
+  -- the size of RAM in bytes
+  abbrev ram_bytes : ℕ
+  ram_bytes = (board_rules board).ram_bytes
+
   abbrev s : Scene
   s = scene k o.queues ram
 
@@ -136,24 +141,24 @@ module _ (k : KernState) (o : Objects) (ram : List ℕ) (is : IsKern k) (kept : 
   IsAlone n = (object_of o.semaphores n ≡ None) × (object_of o.mutexes.rows n ≡ None)
 
   -- queues with the same ids
-  by_same : (t : Scene) → KeepsWaits t.kern o → KeepsMutexes (with_mutexes t.kern o.mutexes) → length t.ram ≡ ram_bytes → IsKept t → ids t.queues.queues ≡ ids o.queues.queues → KeepsScene o t
+  by_same : (t : Scene) → KeepsWaits board t.kern o → KeepsMutexes (with_mutexes t.kern o.mutexes) → length t.ram ≡ ram_bytes → IsKept t → ids t.queues.queues ≡ ids o.queues.queues → KeepsScene board o t
   by_same t waits mutexes long good same = record {
     waits = waits_among t.kern o t.queues (λ n lives. lives-ids o.queues.queues t.queues.queues same n ∙ lives) waits;
     mutexes = mutexes;
     table = kept.table;
-    queues = any_ram t long good;
+    queues = any_ram ram_bytes t long good;
     queues_ranged = all-ids o.queues.queues t.queues.queues same (λ n. 0 < n) kept.queues_ranged;
     apart = kept.apart;
     queues_apart = all-ids o.queues.queues t.queues.queues same IsAlone kept.queues_apart;
   }
 
   -- ---- a queue is made
-  pub keeps-create_row : (max_msgs max_len options : ℕ) → KeepsScene o (create_row s max_msgs max_len options).scene
+  pub keeps-create_row : (max_msgs max_len options : ℕ) → KeepsScene board o (create_row s max_msgs max_len options).scene
   keeps-create_row max_msgs max_len options =
       let q : QueueState = new_queue max_msgs max_len options in
       let next : ℕ = k.next_id in
       let rs : List (ℕ × QueueState) = o.queues.queues in
-      elim (create_refusal (length rs) next max_msgs max_len options) as (λ r. create_refusal (length rs) next max_msgs max_len options ≡ r → KeepsScene o (create_unless r s q).scene) [
+      elim (create_refusal (length rs) next max_msgs max_len options) as (λ r. create_refusal (length rs) next max_msgs max_len options ≡ r → KeepsScene board o (create_unless r s q).scene) [
         | Some e ↦ λ r. kept
         | None ↦ λ r. record {
           waits =
@@ -178,7 +183,7 @@ module _ (k : KernState) (o : Objects) (ram : List ℕ) (is : IsKern k) (kept : 
     below : id < k.next_id
     below = by_id (λ n. n < k.next_id) o.queues.queues id sound.ids there
 
-    waits_to_send : (who n : ℕ) (fifo : Bool) → KeepsWaits (pend k who (senders id) fifo n) o
+    waits_to_send : (who n : ℕ) (fifo : Bool) → KeepsWaits board (pend k who (senders id) fifo n) o
     waits_to_send who n fifo =
         waits-move k o is kept.waits (Pend who (senders id) fifo n) (record {
           may = record { empty = tt; made = below };
@@ -187,7 +192,7 @@ module _ (k : KernState) (o : Objects) (ram : List ℕ) (is : IsKern k) (kept : 
           console = λ q. absurd (omega (arith, q));
         })
 
-    waits_to_receive : (who n : ℕ) (fifo : Bool) → KeepsWaits (pend k who (receivers id) fifo n) o
+    waits_to_receive : (who n : ℕ) (fifo : Bool) → KeepsWaits board (pend k who (receivers id) fifo n) o
     waits_to_receive who n fifo =
         let queue : Bool = is_some (object_of o.queues.queues id) in
         waits-move k o is kept.waits (Pend who (receivers id) fifo n) (record {
@@ -198,7 +203,7 @@ module _ (k : KernState) (o : Objects) (ram : List ℕ) (is : IsKern k) (kept : 
         })
 
     -- ---- the result of a send and of a receive
-    sent : (x : Sending) (d : SendDeed) → length (after_send s id x d).ram ≡ ram_bytes → IsKept (after_send s id x d) → KeepsScene o (after_send s id x d)
+    sent : (x : Sending) (d : SendDeed) → length (after_send s id x d).ram ≡ ram_bytes → IsKept (after_send s id x d) → KeepsScene board o (after_send s id x d)
     sent x (declined e) long good = kept
     sent x (passed_on a) long good = objects-move k o is kept (EndWait a.who (min (length (sent_bytes s x)) a.count) None) (tt, tt, tt, tt)
     sent x (queued q) long good =
@@ -207,13 +212,13 @@ module _ (k : KernState) (o : Objects) (ram : List ℕ) (is : IsKern k) (kept : 
     sent x (blocked who q) long good =
         by_same (after_send s id x (blocked who q)) (waits_to_send who x.timeout (not q.by_priority)) (mutexes-move (Pend who (senders id) (not q.by_priority) x.timeout) (refl, below)) long good refl
 
-    received : (x : Receiving) (d : ReceiveDeed) → length (after_receive s id x d).ram ≡ ram_bytes → IsKept (after_receive s id x d) → KeepsScene o (after_receive s id x d)
+    received : (x : Receiving) (d : ReceiveDeed) → length (after_receive s id x d).ram ≡ ram_bytes → IsKept (after_receive s id x d) → KeepsScene board o (after_receive s id x d)
     received x (denied e) long good = kept
     received x (taken q m rest) long good =
         let out : Scene = taken_out s id x q m rest in
         let less : QueueState = record q { held = rest } in
         let rs : List (ℕ × QueueState) = o.queues.queues in
-        elim (first_asking s (senders id)) as (λ f. length (refilled out id less f).ram ≡ ram_bytes → IsKept (refilled out id less f) → KeepsScene o (refilled out id less f)) [
+        elim (first_asking s (senders id)) as (λ f. length (refilled out id less f).ram ≡ ram_bytes → IsKept (refilled out id less f) → KeepsScene board o (refilled out id less f)) [
           | None ↦ λ same sure. by_same out kept.waits kept.mutexes same sure (ids-write rs id less)
           | Some a ↦ λ same sure.
               let y : QueueState = added a.urgent (waited_bytes out a) less in
@@ -224,38 +229,38 @@ module _ (k : KernState) (o : Objects) (ram : List ℕ) (is : IsKern k) (kept : 
         by_same (after_receive s id x (starved q)) (waits_to_receive x.caller x.timeout (not q.by_priority)) (mutexes-move (Pend x.caller (receivers id) (not q.by_priority) x.timeout) (alone.1, below)) long good refl
 
   -- ---- a message is sent, by a caller that is ready if the queue lives
-  pub keeps-send : (id : ℕ) (x : Sending) → (is_some (object_of o.queues.queues id) ≡ true → IsCaller k x.caller) → length (send s id x).ram ≡ ram_bytes → KeepsScene o (send s id x)
+  pub keeps-send : (id : ℕ) (x : Sending) → (is_some (object_of o.queues.queues id) ≡ true → IsCaller k x.caller) → length (send s id x).ram ≡ ram_bytes → KeepsScene board o (send s id x)
   keeps-send id x callers long =
-      elim (is_some (object_of o.queues.queues id)) as (λ b. is_some (object_of o.queues.queues id) ≡ b → KeepsScene o (send s id x)) [
+      elim (is_some (object_of o.queues.queues id)) as (λ b. is_some (object_of o.queues.queues id) ≡ b → KeepsScene board o (send s id x)) [
         | true ↦ λ there. sent id there x (send_deed s id x) long (keeps s (sends id x) sound (callers there))
-        | false ↦ λ none. subst (λ q. KeepsScene o (after_send s id x (sends_at (size_of s) x (first_asking s (receivers id)) q))) (sym (not_some (queue_of s id) none)) kept
+        | false ↦ λ none. subst (λ q. KeepsScene board o (after_send s id x (sends_at (size_of s) x (first_asking s (receivers id)) q))) (sym (not_some (queue_of s id) none)) kept
       ] refl
 
   pub keeps-send_row : (a : Actor) (id buffer count timeout pri : ℕ) → (is_some (object_of o.queues.queues id) ≡ true → IsCaller k (task_in a))
-      → length (send_row s id (sending a buffer count timeout pri)).scene.ram ≡ ram_bytes → KeepsScene o (send_row s id (sending a buffer count timeout pri)).scene
+      → length (send_row s id (sending a buffer count timeout pri)).scene.ram ≡ ram_bytes → KeepsScene board o (send_row s id (sending a buffer count timeout pri)).scene
   keeps-send_row a id buffer count timeout pri callers long = keeps-send id (sending a buffer count timeout pri) callers long
 
   -- ---- a message is received
-  pub keeps-receive : (id : ℕ) (x : Receiving) → (is_some (object_of o.queues.queues id) ≡ true → IsCaller k (Some x.caller)) → length (receive s id x).ram ≡ ram_bytes → KeepsScene o (receive s id x)
+  pub keeps-receive : (id : ℕ) (x : Receiving) → (is_some (object_of o.queues.queues id) ≡ true → IsCaller k (Some x.caller)) → length (receive s id x).ram ≡ ram_bytes → KeepsScene board o (receive s id x)
   keeps-receive id x callers long =
-      elim (is_some (object_of o.queues.queues id)) as (λ b. is_some (object_of o.queues.queues id) ≡ b → KeepsScene o (receive s id x)) [
+      elim (is_some (object_of o.queues.queues id)) as (λ b. is_some (object_of o.queues.queues id) ≡ b → KeepsScene board o (receive s id x)) [
         | true ↦ λ there. received id there x (receive_deed s id x) long (keeps s (receives id x) sound (callers there))
-        | false ↦ λ none. subst (λ q. KeepsScene o (after_receive s id x (receives_at (size_of s) x q))) (sym (not_some (queue_of s id) none)) kept
+        | false ↦ λ none. subst (λ q. KeepsScene board o (after_receive s id x (receives_at (size_of s) x q))) (sym (not_some (queue_of s id) none)) kept
       ] refl
 
   pub keeps-receive_row : (a : Actor) (id buffer count timeout : ℕ) → (is_some (object_of o.queues.queues id) ≡ true → IsCaller k (task_in a))
-      → length (receive_row s a id buffer count timeout).scene.ram ≡ ram_bytes → KeepsScene o (receive_row s a id buffer count timeout).scene
+      → length (receive_row s a id buffer count timeout).scene.ram ≡ ram_bytes → KeepsScene board o (receive_row s a id buffer count timeout).scene
   keeps-receive_row (Task who) id buffer count timeout callers long =
       keeps-receive id (record { caller = who; buffer = buffer; room = count; timeout = timeout }) callers long
   keeps-receive_row Interrupt id buffer count timeout callers long = kept
 
   -- ---- a queue is deleted
-  gone_kept : (id : ℕ) → IsKept (gone s id) → KeepsScene o (gone s id)
+  gone_kept : (id : ℕ) → IsKept (gone s id) → KeepsScene board o (gone s id)
   gone_kept id good =
       let half : KernState = wake_all k (receivers id) 4294967295 (Some errors.ObjDeleted) in
       let is1 : IsKern half = move_keeps k (WakeAll (receivers id) 4294967295 (Some errors.ObjDeleted)) is tt in
-      let one : KeepsObjects half o = objects-move k o is kept (WakeAll (receivers id) 4294967295 (Some errors.ObjDeleted)) (tt, tt, tt, tt) in
-      let two : KeepsObjects (awakened k id) o = objects-move half o is1 one (WakeAll (senders id) 4294967295 (Some errors.ObjDeleted)) (tt, tt, tt, tt) in
+      let one : KeepsObjects board half o = objects-move k o is kept (WakeAll (receivers id) 4294967295 (Some errors.ObjDeleted)) (tt, tt, tt, tt) in
+      let two : KeepsObjects board (awakened k id) o = objects-move half o is1 one (WakeAll (senders id) 4294967295 (Some errors.ObjDeleted)) (tt, tt, tt, tt) in
       let none_receives : NobodyAt (receivers id) (awakened k id) =
       nobody-end_waits (receivers id) half (waiters half.tasks (senders id)) 4294967295 (Some errors.ObjDeleted) (nobody-wake_all (receivers id) k 4294967295 (Some errors.ObjDeleted) is) in
       let none_sends : NobodyAt (senders id) (awakened k id) = nobody-wake_all (senders id) half 4294967295 (Some errors.ObjDeleted) is1 in
@@ -263,15 +268,15 @@ module _ (k : KernState) (o : Objects) (ram : List ℕ) (is : IsKern k) (kept : 
         waits = waits_without (awakened k id) o id none_receives none_sends two.waits;
         mutexes = two.mutexes;
         table = kept.table;
-        queues = any_ram (gone s id) size good;
+        queues = any_ram ram_bytes (gone s id) size good;
         queues_ranged = All-filter (λ r. not (eqb r.0 id)) (λ r. 0 < r.0) o.queues.queues kept.queues_ranged;
         apart = kept.apart;
         queues_apart = All-filter (λ r. not (eqb r.0 id)) (λ r. IsAlone r.0) o.queues.queues kept.queues_apart;
       }
 
-  pub keeps-delete_row : (id : ℕ) → KeepsScene o (delete_row s id).scene
-  keeps-delete_row id = elim (queue_of s id) as (λ q. IsKept (deleted s id q) → KeepsScene o (deleted s id q)) [ None ↦ λ good. kept | Some q ↦ λ good. gone_kept id good ] (keeps s (deletes id) sound tt)
+  pub keeps-delete_row : (id : ℕ) → KeepsScene board o (delete_row s id).scene
+  keeps-delete_row id = elim (queue_of s id) as (λ q. IsKept (deleted s id q) → KeepsScene board o (deleted s id q)) [ None ↦ λ good. kept | Some q ↦ λ good. gone_kept id good ] (keeps s (deletes id) sound tt)
 
   -- ---- messages are counted
-  pub keeps-count_row : (id : ℕ) → KeepsScene o (count_row s id).scene
+  pub keeps-count_row : (id : ℕ) → KeepsScene board o (count_row s id).scene
   keeps-count_row id = kept

@@ -1,12 +1,11 @@
 //! The calls on message queues.
 
-ghost use Rattle.std.specs.Prelude.{◌≡◌, ◌<◌, ◌^◌, ℕ, false, length, List, IfOk, OnErr};
-ghost use Rattle.wind_base.specs.Limits.{ram_bytes};
-ghost use Rattle.id_table.specs.Rows.{object_of};
+ghost use Rattle.std.specs.Prelude.{◌≡◌, ◌<◌, ◌^◌, ℕ, false, List, IfOk, OnErr};
+ghost use Rattle.id_table.specs.Rows.{object_of, IdsBelow};
+ghost use Rattle.msg_queue.specs.Kept.{IsKept};
 ghost use Rattle.msg_queue.specs.State.{scene};
 ghost use Rattle.msg_queue.specs.Comings.{count_of};
 ghost use Rattle.kernel_world.specs.Actors.{Acts, MayCall};
-ghost use Rattle.kernel_world.specs.Objects.{KeepsObjects};
 ghost use Rattle.object_calls.specs.QueueRows.{row_of, task_in as task_in_lem, sending, create_row, send_row, receive_row, delete_row, count_reply};
 
 use board_mem::Ram;
@@ -32,7 +31,7 @@ pub fn create(
     options: u32,
 ) -> Result<Reply, NoMemory>
     requires home { kern.old.lent ≡ false }
-    requires kept { KeepsObjects kern.old objects.old }
+    requires below { IdsBelow kern.old.next_id objects.old.queues.queues }
     ensures ok { IfOk result (λ r. (ram : List ℕ) → row_of (scene kern.new objects.new.queues ram) r
         ≡ create_row (scene kern.old objects.old.queues ram) max_msgs max_len options) }
     ensures rest { objects.new ≡ record objects.old { queues = objects.new.queues } }
@@ -83,8 +82,7 @@ pub fn send(
 ) -> Reply
     requires live { Acts kern.old who }
     requires ready { MayCall kern.old who }
-    requires kept { KeepsObjects kern.old objects.old }
-    requires ram { length ram.old.bytes ≡ ram_bytes }
+    requires kept { IsKept (scene kern.old objects.old.queues ram.old.bytes) }
     requires since { kern.old.next_since < 2 ^ 62 }
     requires tick { kern.old.tick < 2 ^ 62 }
     ensures row { row_of (scene kern.new objects.new.queues ram.new.bytes) result
@@ -118,8 +116,7 @@ pub fn receive(
 ) -> Reply
     requires live { Acts kern.old who }
     requires ready { MayCall kern.old who }
-    requires kept { KeepsObjects kern.old objects.old }
-    requires ram { length ram.old.bytes ≡ ram_bytes }
+    requires kept { IsKept (scene kern.old objects.old.queues ram.old.bytes) }
     requires since { kern.old.next_since < 2 ^ 62 }
     requires tick { kern.old.tick < 2 ^ 62 }
     ensures row { row_of (scene kern.new objects.new.queues ram.new.bytes) result

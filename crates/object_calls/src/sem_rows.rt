@@ -1,11 +1,11 @@
 //! The calls on semaphores and mutexes, and taskPrioritySet.
 
 ghost use Rattle.std.specs.Prelude.{◌≡◌, false};
+ghost use Rattle.id_table.specs.Rows.{IdsBelow};
 ghost use Rattle.wind_core.specs.State.{Lives};
 ghost use Rattle.sem_plain.specs.State.{IsEarly as PlainEarly};
-ghost use Rattle.sem_mutex.specs.Kept.{FewSafe, FewSinces, IsEarly};
+ghost use Rattle.sem_mutex.specs.Kept.{FewSafe, FewSinces, IsEarly, KeepsMutexes};
 ghost use Rattle.kernel_world.specs.Actors.{Acts, target as target_lem};
-ghost use Rattle.kernel_world.specs.Objects.{KeepsObjects};
 ghost use Rattle.object_calls.specs.SemRows.{row_of, mutexes, binary_row, counting_row, mutex_row, plain_take, mutex_take, take_row, plain_give, mutex_give, give_row, flush_row, delete_row, priority_row};
 
 use id_table::Ident;
@@ -17,7 +17,7 @@ use wind_core::{Kern, Took};
 /// isn't allowed, if the state is another, if no more semaphores may live, or if no id is left.
 pub fn create_binary(kern: &mut Kern, objects: &mut Objects, options: u32, state: u32) -> Reply
     requires home { kern.old.lent ≡ false }
-    requires kept { KeepsObjects kern.old objects.old }
+    requires below { IdsBelow kern.old.next_id objects.old.semaphores }
     ensures row { row_of kern.new objects.new result ≡ binary_row kern.old objects.old options state }
 {
     let Some(options) = SemOptions::read(options, SemKind::Binary) else {
@@ -39,7 +39,7 @@ pub fn create_binary(kern: &mut Kern, objects: &mut Objects, options: u32, state
 /// isn't allowed, if no more semaphores may live, or if no id is left.
 pub fn create_counting(kern: &mut Kern, objects: &mut Objects, options: u32, count: u32) -> Reply
     requires home { kern.old.lent ≡ false }
-    requires kept { KeepsObjects kern.old objects.old }
+    requires below { IdsBelow kern.old.next_id objects.old.semaphores }
     ensures row { row_of kern.new objects.new result ≡ counting_row kern.old objects.old options count }
 {
     let Some(options) = SemOptions::read(options, SemKind::Counting) else {
@@ -58,7 +58,7 @@ pub fn create_counting(kern: &mut Kern, objects: &mut Objects, options: u32, cou
 /// mutexes may live, or if no id is left.
 pub fn create_mutex(kern: &mut Kern, objects: &mut Objects, options: u32) -> Reply
     requires home { kern.old.lent ≡ false }
-    requires kept { KeepsObjects kern.old objects.old }
+    requires kept { KeepsMutexes (mutexes kern.old objects.old) }
     ensures row { row_of kern.new objects.new result ≡ mutex_row kern.old objects.old options }
 {
     let Some(options) = SemOptions::read(options, SemKind::Mutex) else {
@@ -86,7 +86,7 @@ fn take_plain(kern: &mut Kern, objects: &mut Objects, who: Ident, id: u32, timeo
 // semTake of a mutex
 fn take_mutex(kern: &mut Kern, objects: &mut Objects, who: Ident, id: u32, timeout: u32) -> Reply
     requires live { Lives kern.old who }
-    requires kept { KeepsObjects kern.old objects.old }
+    requires kept { KeepsMutexes (mutexes kern.old objects.old) }
     requires early { IsEarly (mutexes kern.old objects.old) }
     ensures row { row_of kern.new objects.new result ≡ mutex_take kern.old objects.old who id timeout }
 {
@@ -102,7 +102,7 @@ fn take_mutex(kern: &mut Kern, objects: &mut Objects, who: Ident, id: u32, timeo
 /// would have to wait and may not.
 pub fn take(kern: &mut Kern, objects: &mut Objects, who: Actor, id: u32, timeout: u32) -> Reply
     requires live { Acts kern.old who }
-    requires kept { KeepsObjects kern.old objects.old }
+    requires kept { KeepsMutexes (mutexes kern.old objects.old) }
     requires early { IsEarly (mutexes kern.old objects.old) }
     ensures row { row_of kern.new objects.new result ≡ take_row kern.old objects.old who id timeout }
 {
@@ -130,7 +130,7 @@ fn give_plain(kern: &mut Kern, objects: &mut Objects, id: u32) -> Reply
 // semGive of a mutex
 fn give_mutex(kern: &mut Kern, objects: &mut Objects, who: Ident, id: u32) -> Reply
     requires live { Lives kern.old who }
-    requires kept { KeepsObjects kern.old objects.old }
+    requires kept { KeepsMutexes (mutexes kern.old objects.old) }
     requires since { FewSinces kern.old }
     requires safe { FewSafe kern.old }
     ensures row { row_of kern.new objects.new result ≡ mutex_give kern.old objects.old who id }
@@ -146,7 +146,7 @@ fn give_mutex(kern: &mut Kern, objects: &mut Objects, who: Ident, id: u32) -> Re
 /// and to a task that doesn't own it.
 pub fn give(kern: &mut Kern, objects: &mut Objects, who: Actor, id: u32) -> Reply
     requires live { Acts kern.old who }
-    requires kept { KeepsObjects kern.old objects.old }
+    requires kept { KeepsMutexes (mutexes kern.old objects.old) }
     requires early { IsEarly (mutexes kern.old objects.old) }
     ensures row { row_of kern.new objects.new result ≡ give_row kern.old objects.old who id }
 {
@@ -177,7 +177,7 @@ pub fn flush(kern: &mut Kern, objects: &mut Objects, id: u32) -> Reply
 /// semDelete: deletes the semaphore or mutex with this id; all tasks that wait for it go on.
 /// Refused if no such object lives.
 pub fn delete(kern: &mut Kern, objects: &mut Objects, id: u32) -> Reply
-    requires kept { KeepsObjects kern.old objects.old }
+    requires kept { KeepsMutexes (mutexes kern.old objects.old) }
     requires early { IsEarly (mutexes kern.old objects.old) }
     ensures row { row_of kern.new objects.new result ≡ delete_row kern.old objects.old id }
 {
@@ -196,7 +196,7 @@ pub fn delete(kern: &mut Kern, objects: &mut Objects, id: u32) -> Reply
 /// the priority is above 255.
 pub fn set_priority(kern: &mut Kern, objects: &mut Objects, who: Actor, id: u32, pri: u32) -> Reply
     requires live { Acts kern.old who }
-    requires kept { KeepsObjects kern.old objects.old }
+    requires kept { KeepsMutexes (mutexes kern.old objects.old) }
     requires since { FewSinces kern.old }
     ensures row { row_of kern.new objects.new result
         ≡ priority_row kern.old objects.old pri (target_lem kern.old who id) }

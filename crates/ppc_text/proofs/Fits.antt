@@ -6,9 +6,10 @@ use Rattle.std.proofs.lemmas.List.Sums.{prefix_len-le-length}
 use Rattle.std.specs.Char.{is_ascii_digit}
 use Prim.Native.Char.{code}
 use Rattle.ppc_text.specs.declared.token.Token.{Token}
-use Rattle.ppc_text.specs.Ascii.{is_word_byte}
-use Rattle.ppc_text.specs.Literals.{escaped, behind_escape, string_from, string_at}
-use Rattle.ppc_text.specs.Tokens.{word_len, dot_first, name_len, word_at, token_at}
+use Rattle.source_literals.specs.Words.{is_word_byte}
+use Rattle.source_literals.specs.Strings.{string_at}
+use Rattle.source_literals.proofs.Within.{string_len, string_within}
+use Rattle.ppc_text.specs.Tokens.{word_len, dot_first, name_len, word_at, string_token, token_at}
 
 -- a token has at most n bytes after its first
 record Fits (n : ℕ) (x : Token × ℕ) : Type 0 where
@@ -21,24 +22,9 @@ either false p q = q
 alone : (n : ℕ) (t : Token) → Fits n (t, 0)
 alone n t = record { few = omega arith }
 
-behind_fits : (n : ℕ) (value : Option ℕ) (go : ℕ → Token × ℕ) → ((v : ℕ) → Fits n (go v)) → Fits n (behind_escape value go)
-behind_fits n None go h = alone _ _
-behind_fits n (Some v) go h = h v
-
-wider : {x : Token × ℕ} (n m : ℕ) → Fits n x → n ≡ m → Fits m x
-wider n m p e = record { few = omega (arith, p.few) }
-
-string_fits : (mark : Bool) (text : List ℕ) (n : ℕ) (bs : List ℕ) → Fits (n + length bs) (string_from mark text n bs)
-string_fits mark text n [] = alone _ _
-string_fits true text n (b ∷ bs) = behind_fits (n + length (b ∷ bs)) (escaped b) _ (λ v. wider _ _ (string_fits false (text ++ v ∷ []) (n + 1) bs) (omega arith))
-string_fits false text n (b ∷ bs) =
-    either (b == code "\"") (record { few = omega arith }) (either (b == code "\\")
-    (wider _ _ (string_fits true text (n + 1) bs) (omega arith))
-    (wider _ _ (string_fits false (text ++ b ∷ []) (n + 1) bs) (omega arith)))
-
-whole_string : (bs : List ℕ) → Fits (length bs) (string_at bs)
-unfolding string_at
-whole_string bs = wider _ _ (string_fits false [] 0 bs) (omega arith)
+string_fits : (n : ℕ) (string : Option (List ℕ × ℕ)) → string_len string ≤ n → Fits n (string_token string)
+string_fits n (Some x) h = record { few = h }
+string_fits n None h = alone _ _
 
 dot_short : (bs : List ℕ) → dot_first bs ≤ length bs
 dot_short [] = omega arith
@@ -60,7 +46,7 @@ unfolding token_at
 fits b bs =
     either (is_word_byte b) (word_fits b bs)
     (either (b == code ".") (record { few = prefix_len-le-length is_word_byte bs })
-    (either (b == code "\"") (whole_string bs)
+    (either (b == code "\"") (string_fits (length bs) (string_at bs) (string_within bs))
     (either (b == code "@") (record { few = prefix_len-le-length is_word_byte bs }) (alone _ _))))
 
 -- the bytes of a token lie within the line

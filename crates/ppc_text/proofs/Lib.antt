@@ -1,6 +1,5 @@
 pub mod Again
 pub mod Digested
-pub mod Digits
 pub mod Fields
 pub mod Fits
 pub mod Lexing

@@ -28,9 +28,10 @@ use Rattle.ppc_text.specs.declared.line.Item.{Item}
 use Rattle.ppc_text.specs.declared.line.Item.TheVariants as items
 use Rattle.ppc_text.specs.declared.line.Line.{Line}
 use Rattle.ppc_text.specs.declared.mnemonic.Spelling.{Spelling}
-use Rattle.ppc_text.specs.Ascii.{is_blank, is_word_byte}
-use Rattle.ppc_text.specs.Literals.{are_digits, value_within, number_in, number_of, escaped, behind_escape, string_from, string_at}
-use Rattle.ppc_text.specs.Tokens.{number_token, name_token, word_len, name_len, plain_at, word_at, half_of, half_token, mark_of, token_at, tokens_from, tokens_of}
+use Rattle.source_literals.specs.Words.{is_blank, is_word_byte}
+use Rattle.source_literals.specs.Numbers.{are_digits, value_within, number_in, number_of}
+use Rattle.source_literals.specs.Strings.{string_at}
+use Rattle.ppc_text.specs.Tokens.{number_token, name_token, word_len, name_len, plain_at, word_at, half_of, half_token, string_token, mark_of, token_at, tokens_from, tokens_of}
 use Rattle.ppc_text.specs.Shapes.{parts_of}
 use Rattle.ppc_text.specs.Operands.{first_number, number_at, taken_away, addend_at, address_with, address_at, half_kind, first_half, half_behind, with_address, half_operand, plain, by_number, residue, immediate_at, reach_of, target_kind, words_of, target_address, register_of, register_at, swapped, is_comma, is_open, is_close, mark_operand, part_at, with_value, later, finished, with_operand, operands_from, operands_at}
 use Rattle.ppc_text.specs.Mnemonics.{spelling_of}
@@ -113,18 +114,9 @@ good_word b bs h =
     (λ k. good_plain b bs h)
     (λ k. pick GoodFirst (name_len bs == word_len bs) (plain_at b bs) (tokens.Dotted (b ∷ take (name_len bs) bs), name_len bs) (λ m. good_plain b bs h) (λ m. tt))
 
-good_escape : (o : Option ℕ) (go : ℕ → Token × ℕ) → ((v : ℕ) → GoodFirst (go v)) → GoodFirst (behind_escape o go)
-good_escape (Some v) go h = h v
-good_escape None go h = tt
-
-good_string : (mark : Bool) (text : List ℕ) (n : ℕ) (bs : List ℕ) → GoodFirst (string_from mark text n bs)
-good_string true text n [] = tt
-good_string false text n [] = tt
-good_string true text n (b ∷ bs) = good_escape (escaped b) (λ v. string_from false (text ++ v ∷ []) (n + 1) bs) (λ v. good_string false (text ++ v ∷ []) (n + 1) bs)
-good_string false text n (b ∷ bs) =
-    pick GoodFirst (b == code "\"") (tokens.Str text, n + 1) (if b == code "\\" then string_from true text (n + 1) bs else string_from false (text ++ b ∷ []) (n + 1) bs)
-    (λ k. tt)
-    (λ k. pick GoodFirst (b == code "\\") (string_from true text (n + 1) bs) (string_from false (text ++ b ∷ []) (n + 1) bs) (λ m. good_string true text (n + 1) bs) (λ m. good_string false (text ++ b ∷ []) (n + 1) bs))
+good_string : (string : Option (List ℕ × ℕ)) → GoodFirst (string_token string)
+good_string (Some x) = tt
+good_string None = tt
 
 good_half : (o : Option Half) → GoodToken (half_token o)
 good_half (Some h) = tt
@@ -140,11 +132,11 @@ good_mark b =
     (λ k. pick GoodToken (b == code "-") tokens.Minus tokens.Unknown (λ k. tt) (λ k. tt))))))
 
 good_token : (b : ℕ) (bs : List ℕ) → GoodFirst (token_at b bs)
-unfolding token_at string_at
+unfolding token_at
 good_token b bs =
     pick GoodFirst (is_word_byte b) (word_at b bs) _ (λ k. good_word b bs k)
     (λ k. pick GoodFirst (b == code ".") (tokens.Dotted (b ∷ take (word_len bs) bs), word_len bs) _ (λ k. tt)
-    (λ k. pick GoodFirst (b == code "\"") (string_from false [] 0 bs) _ (λ k. good_string false [] 0 bs)
+    (λ k. pick GoodFirst (b == code "\"") (string_token (string_at bs)) _ (λ k. good_string (string_at bs))
     (λ k. pick GoodFirst (b == code "@") (half_token (half_of (take (word_len bs) bs)), word_len bs) (mark_of b, 0) (λ k. good_half (half_of (take (word_len bs) bs))) (λ k. good_mark b))))
 
 good_tokens : (passed : ℕ) (bs : List ℕ) → All GoodToken (tokens_from passed bs)
@@ -173,17 +165,7 @@ record GoodAddress (a : Address) : Type 0 where
 first_word : (ts : List Token) → All GoodToken ts → Holds IsShort (first_number ts)
 first_word [] h = tt
 first_word (tokens.Number n ∷ ts) h = let k : n ≤ greatest_word = All-head GoodToken (tokens.Number n) ts h in omega arith
-first_word (tokens.Str s ∷ ts) h = tt
-first_word (tokens.Name s ∷ ts) h = tt
-first_word (tokens.Dotted s ∷ ts) h = tt
-first_word (tokens.Part s ∷ ts) h = tt
-first_word (tokens.Colon ∷ ts) h = tt
-first_word (tokens.Comma ∷ ts) h = tt
-first_word (tokens.Open ∷ ts) h = tt
-first_word (tokens.Close ∷ ts) h = tt
-first_word (tokens.Plus ∷ ts) h = tt
-first_word (tokens.Minus ∷ ts) h = tt
-first_word (tokens.Unknown ∷ ts) h = tt
+first_word (t ∷ ts) h = tt
 
 taken_word : (o : Option ℕ) → Holds IsShort (taken_away o)
 taken_word (Some n) = omega arith
@@ -193,16 +175,7 @@ addend_word : (ts : List Token) → All GoodToken ts → Holds IsShort (addend_a
 addend_word [] h = tt
 addend_word (tokens.Plus ∷ ts) h = first_word ts (All-tail GoodToken tokens.Plus ts h)
 addend_word (tokens.Minus ∷ ts) h = taken_word (first_number ts)
-addend_word (tokens.Number n ∷ ts) h = tt
-addend_word (tokens.Str s ∷ ts) h = tt
-addend_word (tokens.Name s ∷ ts) h = tt
-addend_word (tokens.Dotted s ∷ ts) h = tt
-addend_word (tokens.Part s ∷ ts) h = tt
-addend_word (tokens.Colon ∷ ts) h = tt
-addend_word (tokens.Comma ∷ ts) h = tt
-addend_word (tokens.Open ∷ ts) h = tt
-addend_word (tokens.Close ∷ ts) h = tt
-addend_word (tokens.Unknown ∷ ts) h = tt
+addend_word (t ∷ ts) h = tt
 
 good_with : (s : List ℕ) (o : Option ℕ) → IsName s → Holds IsShort o → GoodAddress (address_with s o)
 good_with s (Some n) g h = record { name = g; addend = h }
@@ -211,17 +184,7 @@ good_with s None g h = record { name = g; addend = omega arith }
 good_address : (ts : List Token) → All GoodToken ts → Holds GoodAddress (address_at ts)
 good_address [] h = tt
 good_address (tokens.Name s ∷ ts) h = good_with s (addend_at ts) (All-head GoodToken (tokens.Name s) ts h) (addend_word ts (All-tail GoodToken (tokens.Name s) ts h))
-good_address (tokens.Number n ∷ ts) h = tt
-good_address (tokens.Str s ∷ ts) h = tt
-good_address (tokens.Dotted s ∷ ts) h = tt
-good_address (tokens.Part s ∷ ts) h = tt
-good_address (tokens.Colon ∷ ts) h = tt
-good_address (tokens.Comma ∷ ts) h = tt
-good_address (tokens.Open ∷ ts) h = tt
-good_address (tokens.Close ∷ ts) h = tt
-good_address (tokens.Plus ∷ ts) h = tt
-good_address (tokens.Minus ∷ ts) h = tt
-good_address (tokens.Unknown ∷ ts) h = tt
+good_address (t ∷ ts) h = tt
 
 -- ---- operands
 abbrev pub GoodMaybe : Option Reference → Type 0
@@ -267,17 +230,7 @@ good_by None go other h k = k
 good_register : (ts : List Token) → Holds GoodOperand (register_at ts)
 good_register [] = tt
 good_register (tokens.Name s ∷ ts) = good_plainly (register_of s) 1
-good_register (tokens.Number n ∷ ts) = tt
-good_register (tokens.Str s ∷ ts) = tt
-good_register (tokens.Dotted s ∷ ts) = tt
-good_register (tokens.Part s ∷ ts) = tt
-good_register (tokens.Colon ∷ ts) = tt
-good_register (tokens.Comma ∷ ts) = tt
-good_register (tokens.Open ∷ ts) = tt
-good_register (tokens.Close ∷ ts) = tt
-good_register (tokens.Plus ∷ ts) = tt
-good_register (tokens.Minus ∷ ts) = tt
-good_register (tokens.Unknown ∷ ts) = tt
+good_register (t ∷ ts) = tt
 
 good_marked : (c : Bool) → Holds GoodOperand (mark_operand c)
 good_marked true = tt
@@ -392,18 +345,7 @@ good_insn name ts h = good_spelled (spelling_of name) ts h
 good_alone : (ts : List Token) → All GoodToken ts → Holds IsName (name_alone ts)
 good_alone [] h = tt
 good_alone (tokens.Name s ∷ []) h = All-head GoodToken (tokens.Name s) [] h
-good_alone (tokens.Name s ∷ t ∷ ts) h = tt
-good_alone (tokens.Number n ∷ ts) h = tt
-good_alone (tokens.Str s ∷ ts) h = tt
-good_alone (tokens.Dotted s ∷ ts) h = tt
-good_alone (tokens.Part s ∷ ts) h = tt
-good_alone (tokens.Colon ∷ ts) h = tt
-good_alone (tokens.Comma ∷ ts) h = tt
-good_alone (tokens.Open ∷ ts) h = tt
-good_alone (tokens.Close ∷ ts) h = tt
-good_alone (tokens.Plus ∷ ts) h = tt
-good_alone (tokens.Minus ∷ ts) h = tt
-good_alone (tokens.Unknown ∷ ts) h = tt
+good_alone (t ∷ ts) h = tt
 
 abbrev MaybeItem : Option Item → Type 0
 MaybeItem o = Holds GoodItem o
@@ -452,31 +394,12 @@ good_item : (ts : List Token) → All GoodToken ts → MaybeItem (item_at ts)
 good_item [] h = tt
 good_item (tokens.Name s ∷ ts) h = good_item_of s ts (All-tail GoodToken (tokens.Name s) ts h)
 good_item (tokens.Dotted s ∷ ts) h = good_item_of s ts (All-tail GoodToken (tokens.Dotted s) ts h)
-good_item (tokens.Number n ∷ ts) h = tt
-good_item (tokens.Str s ∷ ts) h = tt
-good_item (tokens.Part s ∷ ts) h = tt
-good_item (tokens.Colon ∷ ts) h = tt
-good_item (tokens.Comma ∷ ts) h = tt
-good_item (tokens.Open ∷ ts) h = tt
-good_item (tokens.Close ∷ ts) h = tt
-good_item (tokens.Plus ∷ ts) h = tt
-good_item (tokens.Minus ∷ ts) h = tt
-good_item (tokens.Unknown ∷ ts) h = tt
+good_item (t ∷ ts) h = tt
 
 good_name_first : (ts : List Token) → All GoodToken ts → Holds IsName (name_first ts)
 good_name_first [] h = tt
 good_name_first (tokens.Name s ∷ ts) h = All-head GoodToken (tokens.Name s) ts h
-good_name_first (tokens.Number n ∷ ts) h = tt
-good_name_first (tokens.Str s ∷ ts) h = tt
-good_name_first (tokens.Dotted s ∷ ts) h = tt
-good_name_first (tokens.Part s ∷ ts) h = tt
-good_name_first (tokens.Colon ∷ ts) h = tt
-good_name_first (tokens.Comma ∷ ts) h = tt
-good_name_first (tokens.Open ∷ ts) h = tt
-good_name_first (tokens.Close ∷ ts) h = tt
-good_name_first (tokens.Plus ∷ ts) h = tt
-good_name_first (tokens.Minus ∷ ts) h = tt
-good_name_first (tokens.Unknown ∷ ts) h = tt
+good_name_first (t ∷ ts) h = tt
 
 good_label : (ts : List Token) → All GoodToken ts → Holds IsName (label_of ts)
 good_label ts h = pick (Holds IsName) (colon_first (drop 1 ts)) (name_first ts) None (λ k. good_name_first ts h) (λ k. tt)

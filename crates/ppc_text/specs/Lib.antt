@@ -1,8 +1,6 @@
-pub mod Ascii
 pub mod Laws
 pub mod Limits
 pub mod Lines
-pub mod Literals
 pub mod Mnemonics
 pub mod Operands
 pub mod Shapes

@@ -7,9 +7,10 @@ use Rattle.wind_base.specs.Limits.{longest_name}
 use Rattle.ppc_text.specs.declared.token.Half.{Half}
 use Rattle.ppc_text.specs.declared.token.Half.TheVariants.{Low, High, HighAdjusted}
 use Rattle.ppc_text.specs.declared.token.Token.{Token}
-use Rattle.ppc_text.specs.declared.token.Token.TheVariants.{Number, Name, Dotted, Part, Colon, Comma, Open, Close, Plus, Minus, Unknown}
-use Rattle.ppc_text.specs.Ascii.{is_blank, is_word_byte}
-use Rattle.ppc_text.specs.Literals.{number_of, string_at}
+use Rattle.ppc_text.specs.declared.token.Token.TheVariants.{Number, Str, Name, Dotted, Part, Colon, Comma, Open, Close, Plus, Minus, Unknown}
+use Rattle.source_literals.specs.Words.{is_blank, is_word_byte}
+use Rattle.source_literals.specs.Numbers.{number_of}
+use Rattle.source_literals.specs.Strings.{string_at}
 
 -- the token of a number; Unknown if there is none
 abbrev pub number_token : Option ℕ → Token
@@ -55,6 +56,11 @@ abbrev pub half_token : Option Half → Token
 half_token (Some h) = Part h
 half_token None = Unknown
 
+-- the token of a string, and how many bytes belong to it; Unknown if there is none
+abbrev pub string_token : Option (List ℕ × ℕ) → Token × ℕ
+string_token (Some x) = (Str x.0, x.1)
+string_token None = (Unknown, 0)
+
 -- the token of a single byte
 abbrev pub mark_of : ℕ → Token
 mark_of b = if b == code ":" then Colon else (if b == code "," then Comma else (if b == code "(" then Open else (if b == code ")" then Close else (if b == code "+" then Plus else (if b == code "-" then Minus else Unknown)))))
@@ -64,7 +70,7 @@ unfoldable pub token_at : ℕ → List ℕ → Token × ℕ
 token_at b bs =
     if is_word_byte b then word_at b bs
     else (if b == code "." then (Dotted (b ∷ take (word_len bs) bs), word_len bs)
-    else (if b == code "\"" then string_at bs
+    else (if b == code "\"" then string_token (string_at bs)
     else (if b == code "@" then (half_token (half_of (take (word_len bs) bs)), word_len bs)
     else (mark_of b, 0))))
 

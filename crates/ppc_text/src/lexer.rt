@@ -2,36 +2,14 @@
 
 ghost use Rattle.std.specs.Prelude.{◌≡◌, ◌≤◌, ◌+◌, ◌∷◌, IfOk, length, drop, take};
 ghost use Rattle.std.specs.List.{prefix_len};
-ghost use Rattle.ppc_text.specs.Ascii.{is_blank as is_blank_lem, is_word_byte as is_word_byte_lem};
-ghost use Rattle.ppc_text.specs.Literals.{number_of as number_of_lem};
-ghost use Rattle.ppc_text.specs.Tokens.{number_token as number_token_lem, name_token as name_token_lem, word_token as word_token_lem, word_len as word_len_lem, dot_first as dot_first_lem, plain_at, word_at, half_of as half_of_lem, half_token as half_token_lem, mark_of, token_at, tokens_of};
+ghost use Rattle.source_literals.specs.Numbers.{number_of as number_of_lem};
+ghost use Rattle.ppc_text.specs.Tokens.{number_token as number_token_lem, name_token as name_token_lem, word_token as word_token_lem, word_len as word_len_lem, dot_first as dot_first_lem, plain_at, word_at, half_of as half_of_lem, half_token as half_token_lem, string_token as string_token_lem, mark_of, token_at, tokens_of};
 
-use crate::literal::{number_of, string};
 use crate::token::{Half, Token, Word};
+use source_literals::{Text, is_blank, is_word_byte, number_of, string, word_len};
 use std::alloc::{AllocError, Global};
 use wind_base::behind;
 use wind_base::limits::NAME_BYTES;
-
-fn is_blank(byte: u8) -> bool
-    ensures { result ≡ is_blank_lem byte }
-{
-    byte == b' ' || byte == b'\t'
-}
-
-// Whether a byte may stand in a name or a number.
-fn is_word_byte(byte: u8) -> bool
-    ensures { result ≡ is_word_byte_lem byte }
-{
-    byte.is_ascii_alphanumeric() || byte == b'_'
-}
-
-// The length of the prefix of bytes that may stand in a name or a number.
-fn word_len(bytes: &[u8]) -> usize
-    ensures exact { result ≡ word_len_lem bytes.now }
-    ensures inside { result ≤ length bytes.now }
-{
-    bytes.iter().take_while(|byte| is_word_byte(**byte)).count()
-}
 
 fn dot_first(bytes: &[u8]) -> usize
     ensures exact { result ≡ dot_first_lem bytes.now }
@@ -136,6 +114,15 @@ fn half<'a>(rest: &[u8]) -> (Token<'a>, usize)
     (half_token(half_of(&rest[..len])), len)
 }
 
+fn string_token<'a>(read: Option<(Text, usize)>) -> (Token<'a>, usize)
+    ensures { result ≡ string_token_lem read }
+{
+    match read {
+        Some((text, len)) => (Token::Str(text), len),
+        None => (Token::Unknown, 0),
+    }
+}
+
 fn mark<'a>(byte: u8) -> Token<'a>
     ensures { result ≡ mark_of byte }
 {
@@ -166,7 +153,7 @@ fn front<'a>(
     }
     match first {
         b'.' => Ok(directive(rest, bytes)),
-        b'"' => string(alloc, rest),
+        b'"' => Ok(string_token(string(alloc, rest)?)),
         b'@' => Ok(half(rest)),
         _ => Ok((mark(first), 0)),
     }

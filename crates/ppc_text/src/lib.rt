@@ -4,7 +4,6 @@
 
 mod lexer;
 mod line;
-mod literal;
 mod making;
 mod mnemonic;
 mod operand;
@@ -16,5 +15,6 @@ mod values;
 pub use line::{Instruction, Item, Line, parse};
 pub use making::insn_of;
 pub use showing::{show, shown_law};
-pub use token::{Reference, Text, Word};
+pub use source_literals::Text;
+pub use token::{Reference, Word};
 pub use values::{Value, Values};

@@ -10,9 +10,10 @@ use crate::operand::{
     Address, Signed, address_at, behind_tokens, is_comma, number_at, operands_at, residue,
 };
 use crate::part::parts_of;
-use crate::token::{Reference, Text, Token, Word};
+use crate::token::{Reference, Token, Word};
 use crate::values::{Value, Values};
 use ppc_word::Row;
+use source_literals::Text;
 use std::alloc::{AllocError, Global};
 
 /// An instruction as a line writes it. Its word may be outside the processor's table; `insn_of` checks that.
@@ -187,10 +188,7 @@ fn text_alone(alloc: Global, tokens: &[Token]) -> Result<Option<Text>, AllocErro
         return Ok(None);
     };
     match first {
-        Token::Str(text) => {
-            let kept = text.bytes().to_vec(alloc)?;
-            Ok(Some(Text { kept }))
-        }
+        Token::Str(text) => Ok(Some(Text::new(alloc, text.bytes())?)),
         _ => Ok(None),
     }
 }

@@ -1,5 +1,6 @@
 //! The tokens of a line.
 
+use source_literals::Text;
 use std::marker::Model;
 
 /// A name: bytes of the source text.
@@ -31,31 +32,6 @@ impl<'a> Word<'a> {
         ensures { result ≡ self.now }
     {
         Word { kept: self.kept }
-    }
-}
-
-/// The bytes of a string, with its escapes replaced.
-#[derive(Drop)]
-pub struct Text {
-    pub(crate) kept: Vec<u8>,
-}
-
-impl Model for Text {
-    ghost use Rattle.std.specs.Prelude.{ℕ, List};
-
-    ghost Value = { List ℕ };
-
-    ghost view = { λ t. t.kept.items };
-}
-
-impl Text {
-    ghost use Rattle.std.specs.Prelude.{◌≡◌};
-
-    /// The bytes.
-    pub fn bytes(&self) -> &[u8]
-        ensures { result.now ≡ self.now }
-    {
-        &self.kept
     }
 }
 

@@ -1,5 +1,6 @@
 //! The steps of tasks that wait for a tick, on both queues.
 
+use crate::bench::{Bench, Both};
 use crate::numbers::Numbers;
 use crate::plain::{Entry, Plain};
 use crate::tally::{Answer, Tally};
@@ -64,74 +65,66 @@ const EDGES: [Step; 25] = [
     Step::Due { tick: u64::MAX },
 ];
 
-// Both queues, and the tally of their answers.
+// The queue and the vector.
 #[derive(Drop)]
-struct Bench {
+struct Queues {
     delays: Delays,
     plain: Plain<u64>,
-    tally: Tally,
+}
+
+impl Both<Step> for Queues {
+    fn answer(&mut self, step: Step) -> Option<Answer> {
+        answer(&mut self.delays, step)
+    }
+
+    fn plain_answer(&mut self, step: Step) -> Result<Answer, NoMemory> {
+        plain_answer(&mut self.plain, step)
+    }
 }
 
 /// Plays all steps on both queues.
 pub fn play(alloc: Global) -> Result<Tally, NoMemory> {
-    let mut bench = Bench {
+    let both = Queues {
         delays: Delays::reserved(alloc, ROOM)?,
         plain: Plain::new(alloc, ROOM),
+    };
+    let mut bench = Bench {
+        both,
         tally: Tally::new(),
     };
-    bench.play()
+    bench.all(&EDGES)?;
+    one_tick(&mut bench)?;
+    generated(&mut bench)?;
+    Ok(bench.tally)
 }
 
-impl Bench {
-    fn play(&mut self) -> Result<Tally, NoMemory> {
-        self.all(&EDGES)?;
-        self.one_tick()?;
-        self.generated()?;
-        Ok(self.tally)
+// Fills the queue with tasks of one wake, adds one more, and then takes each as it is due.
+fn one_tick(bench: &mut Bench<Queues>) -> Result<(), NoMemory> {
+    for who in 1..ROOM + 2 {
+        bench.step(Step::Put { who, wake: 1_000 })?;
     }
+    for _ in 0..ROOM + 1 {
+        bench.step(Step::Due { tick: 999 })?;
+        bench.step(Step::Due { tick: 1_000 })?;
+    }
+    Ok(())
+}
 
-    fn step(&mut self, step: Step) -> Result<(), NoMemory> {
-        let answer = answer(&mut self.delays, step);
-        self.tally
-            .compare(answer, plain_answer(&mut self.plain, step)?);
-        Ok(())
+fn generated(bench: &mut Bench<Queues>) -> Result<(), NoMemory> {
+    let mut numbers = Numbers::new();
+    for now in 0..GENERATED {
+        let tick = now as u64;
+        let who = numbers.below(TASKS) + 1;
+        bench.step(match numbers.below(5) {
+            0 => Step::Take { who },
+            _ => Step::Put {
+                who,
+                wake: tick + numbers.below(60) as u64,
+            },
+        })?;
+        bench.step(Step::Due { tick })?;
     }
-
-    fn all(&mut self, steps: &[Step]) -> Result<(), NoMemory> {
-        for step in steps {
-            self.step(*step)?;
-        }
-        Ok(())
-    }
-
-    // Fills the queue with tasks of one wake, adds one more, and then takes each as it is due.
-    fn one_tick(&mut self) -> Result<(), NoMemory> {
-        for who in 1..ROOM + 2 {
-            self.step(Step::Put { who, wake: 1_000 })?;
-        }
-        for _ in 0..ROOM + 1 {
-            self.step(Step::Due { tick: 999 })?;
-            self.step(Step::Due { tick: 1_000 })?;
-        }
-        Ok(())
-    }
-
-    fn generated(&mut self) -> Result<(), NoMemory> {
-        let mut numbers = Numbers::new();
-        for now in 0..GENERATED {
-            let tick = now as u64;
-            let who = numbers.below(TASKS) + 1;
-            self.step(match numbers.below(5) {
-                0 => Step::Take { who },
-                _ => Step::Put {
-                    who,
-                    wake: tick + numbers.below(60) as u64,
-                },
-            })?;
-            self.step(Step::Due { tick })?;
-        }
-        Ok(())
-    }
+    Ok(())
 }
 
 // The queue's answer to a step. None if the step's task is not a valid id.

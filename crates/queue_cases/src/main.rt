@@ -2,6 +2,7 @@
 //! answers.
 #![tactic(auto)]
 
+mod bench;
 mod delays;
 mod numbers;
 mod plain;

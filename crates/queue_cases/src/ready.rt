@@ -1,5 +1,6 @@
 //! The steps of ready tasks, on both queues.
 
+use crate::bench::{Bench, Both};
 use crate::numbers::Numbers;
 use crate::plain::{Entry, Plain};
 use crate::tally::{Answer, Tally};
@@ -59,75 +60,67 @@ const EDGES: [Step; 28] = [
     Step::First,
 ];
 
-// Both queues, and the tally of their answers.
+// The queue and the vector.
 #[derive(Drop)]
-struct Bench {
+struct Queues {
     ready: Ready,
     plain: Plain<u32>,
-    tally: Tally,
+}
+
+impl Both<Step> for Queues {
+    fn answer(&mut self, step: Step) -> Option<Answer> {
+        answer(&mut self.ready, step)
+    }
+
+    fn plain_answer(&mut self, step: Step) -> Result<Answer, NoMemory> {
+        plain_answer(&mut self.plain, step)
+    }
 }
 
 /// Plays all steps on both queues.
 pub fn play(alloc: Global) -> Result<Tally, NoMemory> {
-    let mut bench = Bench {
+    let both = Queues {
         ready: Ready::reserved(alloc, ROOM)?,
         plain: Plain::new(alloc, ROOM),
+    };
+    let mut bench = Bench {
+        both,
         tally: Tally::new(),
     };
-    bench.play()
+    bench.all(&EDGES)?;
+    one_list(&mut bench)?;
+    generated(&mut bench)?;
+    Ok(bench.tally)
 }
 
-impl Bench {
-    fn play(&mut self) -> Result<Tally, NoMemory> {
-        self.all(&EDGES)?;
-        self.one_list()?;
-        self.generated()?;
-        Ok(self.tally)
+// Fills one list, adds one more task, and then takes each task as the first.
+fn one_list(bench: &mut Bench<Queues>) -> Result<(), NoMemory> {
+    for who in 1..ROOM + 2 {
+        bench.step(Step::Put { pri: 7, who })?;
     }
+    for who in 1..ROOM + 2 {
+        bench.step(Step::First)?;
+        bench.step(Step::Take { who })?;
+    }
+    Ok(())
+}
 
-    fn step(&mut self, step: Step) -> Result<(), NoMemory> {
-        let answer = answer(&mut self.ready, step);
-        self.tally
-            .compare(answer, plain_answer(&mut self.plain, step)?);
-        Ok(())
+fn generated(bench: &mut Bench<Queues>) -> Result<(), NoMemory> {
+    let mut numbers = Numbers::new();
+    for _ in 0..GENERATED {
+        let who = numbers.below(TASKS) + 1;
+        bench.step(match numbers.below(6) {
+            0 => Step::Take { who },
+            1 => Step::Rotate { who },
+            2 => Step::First,
+            _ => Step::Put {
+                pri: numbers.below(5) * 50,
+                who,
+            },
+        })?;
+        bench.step(Step::First)?;
     }
-
-    fn all(&mut self, steps: &[Step]) -> Result<(), NoMemory> {
-        for step in steps {
-            self.step(*step)?;
-        }
-        Ok(())
-    }
-
-    // Fills one list, adds one more task, and then takes each task as the first.
-    fn one_list(&mut self) -> Result<(), NoMemory> {
-        for who in 1..ROOM + 2 {
-            self.step(Step::Put { pri: 7, who })?;
-        }
-        for who in 1..ROOM + 2 {
-            self.step(Step::First)?;
-            self.step(Step::Take { who })?;
-        }
-        Ok(())
-    }
-
-    fn generated(&mut self) -> Result<(), NoMemory> {
-        let mut numbers = Numbers::new();
-        for _ in 0..GENERATED {
-            let who = numbers.below(TASKS) + 1;
-            self.step(match numbers.below(6) {
-                0 => Step::Take { who },
-                1 => Step::Rotate { who },
-                2 => Step::First,
-                _ => Step::Put {
-                    pri: numbers.below(5) * 50,
-                    who,
-                },
-            })?;
-            self.step(Step::First)?;
-        }
-        Ok(())
-    }
+    Ok(())
 }
 
 // The queue's answer to a step. None if the step's task or priority is invalid.

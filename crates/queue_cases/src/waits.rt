@@ -1,5 +1,6 @@
 //! The steps of waiters, on both queues.
 
+use crate::bench::{Bench, Both};
 use crate::numbers::Numbers;
 use crate::plain::{Entry, Plain};
 use crate::tally::{Answer, Tally};
@@ -84,74 +85,66 @@ struct Key {
     since: u64,
 }
 
-// Both queues, and the tally of their answers.
+// The queue and the vector.
 #[derive(Drop)]
-struct Bench {
+struct Queues {
     waits: Waits,
     plain: Plain<Key>,
-    tally: Tally,
+}
+
+impl Both<Step> for Queues {
+    fn answer(&mut self, step: Step) -> Option<Answer> {
+        answer(&mut self.waits, step)
+    }
+
+    fn plain_answer(&mut self, step: Step) -> Result<Answer, NoMemory> {
+        plain_answer(&mut self.plain, step)
+    }
 }
 
 /// Plays all steps on both queues.
 pub fn play(alloc: Global) -> Result<Tally, NoMemory> {
-    let mut bench = Bench {
+    let both = Queues {
         waits: Waits::reserved(alloc, ROOM)?,
         plain: Plain::new(alloc, ROOM),
+    };
+    let mut bench = Bench {
+        both,
         tally: Tally::new(),
     };
-    bench.play()
+    bench.all(&EDGES)?;
+    bench.all(&BESIDE)?;
+    one_place(&mut bench)?;
+    generated(&mut bench)?;
+    Ok(bench.tally)
 }
 
-impl Bench {
-    fn play(&mut self) -> Result<Tally, NoMemory> {
-        self.all(&EDGES)?;
-        self.all(&BESIDE)?;
-        self.one_place()?;
-        self.generated()?;
-        Ok(self.tally)
+// Fills one place, last waiter first, adds one more, and then takes each as the first.
+fn one_place(bench: &mut Bench<Queues>) -> Result<(), NoMemory> {
+    let first = Step::First { side: 0, object: 7 };
+    for number in 0..ROOM + 1 {
+        bench.step(Step::Put(0, 7, ROOM + 1 - number, 10, 1))?;
+        bench.step(first)?;
     }
+    for who in 1..ROOM + 2 {
+        bench.step(Step::Take { who })?;
+        bench.step(first)?;
+    }
+    Ok(())
+}
 
-    fn step(&mut self, step: Step) -> Result<(), NoMemory> {
-        let answer = answer(&mut self.waits, step);
-        self.tally
-            .compare(answer, plain_answer(&mut self.plain, step)?);
-        Ok(())
+fn generated(bench: &mut Bench<Queues>) -> Result<(), NoMemory> {
+    let mut numbers = Numbers::new();
+    for _ in 0..GENERATED {
+        let who = numbers.below(TASKS) + 1;
+        let (side, object) = (numbers.below(3) as u8, numbers.below(OBJECTS) + 1);
+        bench.step(match numbers.below(3) {
+            0 => Step::Take { who },
+            _ => Step::Put(side, object, who, numbers.below(4), numbers.below(6) as u64),
+        })?;
+        bench.step(Step::First { side, object })?;
     }
-
-    fn all(&mut self, steps: &[Step]) -> Result<(), NoMemory> {
-        for step in steps {
-            self.step(*step)?;
-        }
-        Ok(())
-    }
-
-    // Fills one place, last waiter first, adds one more, and then takes each as the first.
-    fn one_place(&mut self) -> Result<(), NoMemory> {
-        let first = Step::First { side: 0, object: 7 };
-        for number in 0..ROOM + 1 {
-            self.step(Step::Put(0, 7, ROOM + 1 - number, 10, 1))?;
-            self.step(first)?;
-        }
-        for who in 1..ROOM + 2 {
-            self.step(Step::Take { who })?;
-            self.step(first)?;
-        }
-        Ok(())
-    }
-
-    fn generated(&mut self) -> Result<(), NoMemory> {
-        let mut numbers = Numbers::new();
-        for _ in 0..GENERATED {
-            let who = numbers.below(TASKS) + 1;
-            let (side, object) = (numbers.below(3) as u8, numbers.below(OBJECTS) + 1);
-            self.step(match numbers.below(3) {
-                0 => Step::Take { who },
-                _ => Step::Put(side, object, who, numbers.below(4), numbers.below(6) as u64),
-            })?;
-            self.step(Step::First { side, object })?;
-        }
-        Ok(())
-    }
+    Ok(())
 }
 
 // A side of an object, as a place. None if the object's id is invalid.

@@ -2,7 +2,7 @@
 use Rattle.std.proofs.Common.{◌≡◌, ℕ, ◌+◌, ◌<◌, ◌≤◌, Option, Some, None, Result, Ok, Err, refl, arith}
 use Rattle.std.specs.Result.{result_ok}
 use Rattle.mem_partition.specs.Place.{rounded}
-use Rattle.mem_partition.specs.State.{PartState, alloc_of, after_alloc, taken_at}
+use Rattle.mem_partition.specs.State.{PartState, alloc_of, after_alloc_on, taken_at}
 use Rattle.mem_partition.specs.declared.block.PartErr.{PartErr}
 use Rattle.mem_partition.specs.declared.block.Class.TheVariants.{Kernel}
 use Rattle.mem_partition.proofs.Allocs.{alloc_lies, rounded_holds}
@@ -26,7 +26,7 @@ end_of s n (Ok at) = refl
 end_of s n (Err e) = refl
 
 pub block_end : (s : PartState) (n : ℕ) → (with_block_of s n).end ≡ s.end
-unfolding after_alloc
+unfolding after_alloc_on
 block_end s n = end_of s n (alloc_of s n 1)
 
 -- a refusal changes nothing
@@ -35,7 +35,7 @@ same_of s n (Ok at) e = absurd (cc)
 same_of s n (Err f) e = refl
 
 pub block_stays : (s : PartState) (n : ℕ) → block_of s n ≡ None → with_block_of s n ≡ s
-unfolding after_alloc
+unfolding after_alloc_on
 block_stays s n e = same_of s n (alloc_of s n 1) e
 
 -- no block is longer than the addresses before the pool's end

@@ -8,8 +8,11 @@ use Rattle.shell_parse.specs.declared.tree.BinOp.TheVariants.{OrElse, AndAlso, O
 use Rattle.shell_parse.specs.declared.token.Token.{Token}
 use Rattle.shell_parse.specs.declared.token.Spot.{Spot}
 use Rattle.shell_parse.specs.declared.token.Spot.TheVariants.{AtStart, BehindLd, AtFile, Within}
-use Rattle.shell_parse.specs.Ascii.{next_is, is_word_byte, is_file_byte}
-use Rattle.shell_parse.specs.Literals.{escaped, escaped_character, character_at, behind_escape, string_from, string_at}
+use Rattle.source_literals.specs.Words.{is_word_byte}
+use Rattle.source_literals.specs.Strings.{escaped, string_at}
+use Rattle.source_literals.proofs.Within.{string_len, string_within}
+use Rattle.shell_parse.specs.Ascii.{next_is, is_file_byte}
+use Rattle.shell_parse.specs.Literals.{escaped_character, character_at, string_token}
 use Rattle.shell_parse.specs.Signs.{or_set, or_twice, shift_at, comparison_at, angle_at, comparing_at, sign_at}
 use Rattle.shell_parse.specs.Tokens.{any_at, token_at}
 
@@ -80,29 +83,14 @@ character_fits (b ∷ []) = alone _ _
 character_fits (b ∷ c ∷ bs) =
     either (b == code "\\") (escaped_fits (escaped c) bs) (either (not (b == code "'") && c == code "'") (record { few = omega arith }) (alone _ _))
 
-behind_fits : (n : ℕ) (value : Option ℕ) (go : ℕ → Token × ℕ) → ((v : ℕ) → Fits n (go v)) → Fits n (behind_escape value go)
-behind_fits n None go h = alone _ _
-behind_fits n (Some v) go h = h v
-
-wider : {x : Token × ℕ} (n m : ℕ) → Fits n x → n ≡ m → Fits m x
-wider n m p e = record { few = omega (arith, p.few) }
-
-string_fits : (mark : Bool) (text : List ℕ) (n : ℕ) (bs : List ℕ) → Fits (n + length bs) (string_from mark text n bs)
-string_fits mark text n [] = alone _ _
-string_fits true text n (b ∷ bs) = behind_fits (n + length (b ∷ bs)) (escaped b) _ (λ v. wider _ _ (string_fits false (text ++ v ∷ []) (n + 1) bs) (omega arith))
-string_fits false text n (b ∷ bs) =
-    either (b == code "\"") (record { few = omega arith }) (either (b == code "\\")
-    (wider _ _ (string_fits true text (n + 1) bs) (omega arith))
-    (wider _ _ (string_fits false (text ++ b ∷ []) (n + 1) bs) (omega arith)))
-
-whole_string : (bs : List ℕ) → Fits (length bs) (string_at bs)
-unfolding string_at
-whole_string bs = wider _ _ (string_fits false [] 0 bs) (omega arith)
+string_fits : (n : ℕ) (string : Option (List ℕ × ℕ)) → string_len string ≤ n → Fits n (string_token string)
+string_fits n (Some x) h = record { few = h }
+string_fits n None h = alone _ _
 
 any_fits : (b : ℕ) (bs : List ℕ) → Fits (length bs) (any_at b bs)
 any_fits b bs =
     either (is_word_byte b) (record { few = prefix_len-le-length is_word_byte bs })
-    (either (b == code "'") (character_fits bs) (either (b == code "\"") (whole_string bs) (sign_fits b bs)))
+    (either (b == code "'") (character_fits bs) (either (b == code "\"") (string_fits (length bs) (string_at bs) (string_within bs)) (sign_fits b bs)))
 
 fits : (spot : Spot) (b : ℕ) (bs : List ℕ) → Fits (length bs) (token_at spot b bs)
 unfolding token_at

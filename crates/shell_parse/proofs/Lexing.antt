@@ -4,7 +4,7 @@ use Rattle.std.specs.List.{prefix_len}
 use Rattle.shell_parse.specs.declared.token.Token.{Token}
 use Rattle.std.specs.Prelude.{if◌then◌else◌}
 use Rattle.shell_parse.specs.declared.token.Spot.{Spot}
-use Rattle.shell_parse.specs.Ascii.{is_blank, is_word_byte}
+use Rattle.source_literals.specs.Words.{is_blank, is_word_byte}
 use Rattle.shell_parse.specs.Tokens.{word_token, word_at, token_at, spot_after, tokens_from}
 
 -- bytes that belong to the token before are passed over

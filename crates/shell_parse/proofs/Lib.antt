@@ -1,6 +1,5 @@
 pub mod Chains
 pub mod Complete
-pub mod Digits
 pub mod Fits
 pub mod Follow
 pub mod Laws

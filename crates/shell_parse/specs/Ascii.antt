@@ -1,15 +1,7 @@
 -- Bytes of a line by their kind, as ASCII characters.
-use Rattle.std.specs.Prelude.{ℕ, Bool, false, List, [], ◌∷◌, ◌==◌, ◌||◌, ◌&&◌, not}
-use Rattle.std.specs.Char.{is_ascii_alphanumeric}
+use Rattle.std.specs.Prelude.{ℕ, Bool, false, List, [], ◌∷◌, ◌==◌, ◌&&◌, not}
 use Prim.Native.Char.{code}
-
--- a space or a tab
-abbrev pub is_blank : ℕ → Bool
-is_blank b = b == code " " || b == code "\t"
-
--- a letter, a digit or an underscore: a byte of a name or a number
-abbrev pub is_word_byte : ℕ → Bool
-is_word_byte b = is_ascii_alphanumeric b || b == code "_"
+use Rattle.source_literals.specs.Words.{is_blank}
 
 -- a byte of the name of a file, which ends before a blank or a semicolon
 abbrev pub is_file_byte : ℕ → Bool

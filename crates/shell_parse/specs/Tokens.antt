@@ -8,8 +8,11 @@ use Rattle.shell_parse.specs.declared.token.Token.{Token}
 use Rattle.shell_parse.specs.declared.token.Token.TheVariants.{Number, Name, Operator, Semi, Redirect, File, Unknown}
 use Rattle.shell_parse.specs.declared.token.Spot.{Spot}
 use Rattle.shell_parse.specs.declared.token.Spot.TheVariants.{AtStart, BehindLd, AtFile, Within}
-use Rattle.shell_parse.specs.Ascii.{is_blank, is_word_byte, is_file_byte}
-use Rattle.shell_parse.specs.Literals.{number_of, character_at, string_at}
+use Rattle.source_literals.specs.Words.{is_blank, is_word_byte}
+use Rattle.source_literals.specs.Numbers.{number_of}
+use Rattle.source_literals.specs.Strings.{string_at}
+use Rattle.shell_parse.specs.Ascii.{is_file_byte}
+use Rattle.shell_parse.specs.Literals.{character_at, string_token}
 use Rattle.shell_parse.specs.Signs.{sign_at}
 
 -- the token of a number, if there is one
@@ -35,7 +38,7 @@ abbrev pub any_at : ℕ → List ℕ → Token × ℕ
 any_at b bs =
     if is_word_byte b then word_at b bs
     else (if b == code "'" then character_at bs
-    else (if b == code "\"" then string_at bs
+    else (if b == code "\"" then string_token (string_at bs)
     else sign_at b bs))
 
 -- after `ld`, `<` isn't a comparison

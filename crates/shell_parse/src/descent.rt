@@ -7,8 +7,9 @@ ghost use Rattle.shell_parse.specs.Trees as trees;
 ghost use Rattle.shell_parse.specs.Gives.{Gives};
 ghost use Rattle.shell_parse.specs.Descent.{whole_at, star_at, climb_at, more_at, level_at, unary_at, calls_at, args_at, listed_at, closed as closed_lem, opened as opened_lem, parted as parted_lem, starred as starred_lem, named as named_lem, assigned as assigned_lem, name_assigned as name_assigned_lem, operator_at, mapped};
 
-use crate::token::{Text, Token, Word};
+use crate::token::{Token, Word};
 use crate::tree::{BinOp, Tree, UnOp};
+use source_literals::Text;
 use std::alloc::{AllocError, AllocFailed, Global};
 use wind_base::{Name, NameErr};
 

@@ -3,14 +3,15 @@
 ghost use Rattle.std.specs.Prelude.{◌≡◌, ◌<◌, ◌≤◌, ◌+◌, ◌∷◌, IfOk, length, drop, map};
 ghost use Rattle.std.specs.List.{prefix_len};
 ghost use Rattle.wind_base.specs.Limits.{longest_line};
-ghost use Rattle.shell_parse.specs.Ascii.{is_blank as is_blank_lem, is_word_byte as is_word_byte_lem, is_file_byte as is_file_byte_lem};
-ghost use Rattle.shell_parse.specs.Literals.{number_of as number_of_lem};
+ghost use Rattle.source_literals.specs.Numbers.{number_of as number_of_lem};
+ghost use Rattle.shell_parse.specs.Ascii.{is_file_byte as is_file_byte_lem};
 ghost use Rattle.shell_parse.specs.Tokens.{number_token as number_token_lem, word_token as word_token_lem, word_at, file_at, any_at, redirected as redirected_lem, token_at, behind_name as behind_name_lem, spot_after as spot_after_lem, tokens_of, bare, columns};
 
-use crate::literal::{character, number_of, string};
+use crate::literal::{character, string_token};
 use crate::sign::sign;
 use crate::token::{Spot, Token, Word};
 use crate::tree::BinOp;
+use source_literals::{is_blank, is_word_byte, number_of, string, word_len};
 use std::alloc::{AllocError, Global};
 use wind_base::behind;
 
@@ -21,32 +22,11 @@ pub(crate) struct Lexed<'a> {
     pub(crate) columns: Vec<u32>,
 }
 
-fn is_blank(byte: u8) -> bool
-    ensures { result ≡ is_blank_lem byte }
-{
-    byte == b' ' || byte == b'\t'
-}
-
-// Whether a byte may be in a name or a number.
-fn is_word_byte(byte: u8) -> bool
-    ensures { result ≡ is_word_byte_lem byte }
-{
-    byte.is_ascii_alphanumeric() || byte == b'_'
-}
-
 // Whether a byte may be in the name of a file.
 fn is_file_byte(byte: u8) -> bool
     ensures { result ≡ is_file_byte_lem byte }
 {
     !is_blank(byte) && byte != b';'
-}
-
-// How many of the first bytes may be in a name or a number.
-fn word_len(bytes: &[u8]) -> usize
-    ensures exact { result ≡ prefix_len is_word_byte_lem bytes.now }
-    ensures inside { result ≤ length bytes.now }
-{
-    bytes.iter().take_while(|byte| is_word_byte(**byte)).count()
 }
 
 // How many of the first bytes may be in the name of a file.
@@ -119,7 +99,7 @@ fn any<'a>(
     }
     match first {
         b'\'' => Ok(character(rest)),
-        b'"' => string(alloc, rest),
+        b'"' => Ok(string_token(string(alloc, rest)?)),
         _ => Ok(sign(first, rest)),
     }
 }

@@ -1,6 +1,7 @@
 //! The tokens of a line.
 
 use crate::tree::BinOp;
+use source_literals::Text;
 use std::marker::Model;
 
 /// Bytes of the line: a name, or the name of a file.
@@ -30,31 +31,6 @@ impl<'a> Word<'a> {
         ensures within { length result.now ≤ longest_line }
     {
         self.kept
-    }
-}
-
-/// The bytes that a string stands for.
-#[derive(Drop)]
-pub(crate) struct Text {
-    pub(crate) kept: Vec<u8>,
-}
-
-impl Model for Text {
-    ghost use Rattle.std.specs.Prelude.{ℕ, List};
-
-    ghost Value = { List ℕ };
-
-    ghost view = { λ t. t.kept.items };
-}
-
-impl Text {
-    ghost use Rattle.std.specs.Prelude.{◌≡◌};
-
-    /// The bytes.
-    pub(crate) fn bytes(&self) -> &[u8]
-        ensures { result.now ≡ self.now }
-    {
-        &self.kept
     }
 }
 

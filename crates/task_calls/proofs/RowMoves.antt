@@ -46,7 +46,7 @@ module _ (w : WorldState) (kept : IsWorld w) (n : ℕ) (within : Within n w) whe
   pub align_advances : (align m : ℕ) → Advances w (record w { part = (align_row w.part align m).part }) (n + 1) call_sinces 1
   align_advances align m =
       of_blocks w kept n within (after_alloc w.part m align User) (pool-alloc w.part m align User kept.pool) (stacks-alloc w.part m align User (routine_stack ∷ task_stacks w.kern) kept.pool.blocks kept.stacks)
-      (loaded_with w.kern w.part w.modules kept.modules (after_alloc w.part m align User) (λ a h. kernels-alloc w.part m align User a kept.pool.blocks h))
+      (loaded_with w.kern w.part w.modules.rows kept.modules (after_alloc w.part m align User) (λ a h. kernels-alloc w.part m align User a kept.pool.blocks h))
 
   pub free_advances : (at : ℕ) → Advances w (record w { part = (free_row w.part at).part }) (n + 1) call_sinces 1
   free_advances at =
@@ -54,7 +54,7 @@ module _ (w : WorldState) (kept : IsWorld w) (n : ℕ) (within : Within n w) whe
         | true ↦ nowhere w kept n within
         | false ↦
             of_blocks w kept n within (after_free w.part at User) (pool-free w.part at User kept.pool) (stacks-free w.part at (routine_stack ∷ task_stacks w.kern) kept.pool.blocks kept.stacks)
-            (loaded_with w.kern w.part w.modules kept.modules (after_free w.part at User) (λ a h. kernels-free w.part at a kept.pool.blocks h))
+            (loaded_with w.kern w.part w.modules.rows kept.modules (after_free w.part at User) (λ a h. kernels-free w.part at a kept.pool.blocks h))
       ]
 
   -- ---- a symbol
@@ -109,18 +109,19 @@ module _ (w : WorldState) (kept : IsWorld w) (n : ℕ) (within : Within n w) whe
   spawned_advances : (s : Wanted) (at : ℕ) → spawn_refusal w.kern ≡ None → alloc_of w.part (stack_bytes s.stack) 16 ≡ Ok at
       → Advances w (after_spawn w (spawned_on (spawn_state w) s at)) (n + 1) call_sinces 1
   spawned_advances s at room ok =
-      let task : NewTask = started s w.names at in
+      let task : NewTask = started w.board s w.names at in
       let t : TaskRecord = new_task w.kern.next_id w.kern.next_since task in
       let stacks : task_stacks (spawn w.kern task) ≡ task_stacks w.kern ++ record { addr = at; size = stack_bytes s.stack } ∷ [] = map-append stack_of w.kern.tasks (t ∷ []) in
       record {
         kept = record {
           kern = move_keeps w.kern (Spawn task) kept.kern room;
           home = kept.home;
+          kind = kept.kind;
           objects = objects-move w.kern w.objects kept.kern kept.objects (Spawn task) (room, tt, tt, tt);
           pool = pool-alloc w.part (stack_bytes s.stack) 16 Kernel kept.pool;
           stacks = subst (λ ss. AreStacks (after_alloc w.part (stack_bytes s.stack) 16 Kernel) (routine_stack ∷ ss)) (sym stacks)
               (stacks-more w.part (stack_bytes s.stack) 16 at (routine_stack ∷ task_stacks w.kern) kept.pool.blocks ok kept.stacks);
-          modules = loaded_more w.kern w.part w.modules kept.modules (spawn w.kern task) (stack_bytes s.stack) 16 at kept.pool.blocks ok (omega arith) stacks;
+          modules = loaded_more w.kern w.part w.modules.rows kept.modules (spawn w.kern task) (stack_bytes s.stack) 16 at kept.pool.blocks ok (omega arith) stacks;
           ram = framed_size (first_pointer at (stack_bytes s.stack)) s.words ∙ kept.ram;
           symbols = kept.symbols;
           watch = watch_on w.kern.next_id (w.kern.next_id + 1) w.watch (omega arith) kept.watch;
@@ -134,7 +135,7 @@ module _ (w : WorldState) (kept : IsWorld w) (n : ℕ) (within : Within n w) whe
         count = refl;
         names = names_few s.name;
         starts = omega arith;
-        rule = refl;
+        choice = refl;
       }
 
   at_advances : (s : Wanted) (r : Result ℕ PartErr) → spawn_refusal w.kern ≡ None → alloc_of w.part (stack_bytes s.stack) 16 ≡ r → Advances w (after_spawn w (spawned_at (spawn_state w) s r).after) (n + 1) call_sinces 1

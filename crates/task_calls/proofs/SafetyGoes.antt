@@ -2,6 +2,7 @@
 use Rattle.std.proofs.Common.{◌≡◌, ℕ, ◌+◌, ◌≤◌, true, false, not, cond, eqb, List, [], ◌∷◌, map, Option, Some, IsSome, refl, ap, ◌∙◌, arith}
 use Rattle.std.proofs.lemmas.List.Elements.{All-filter}
 use Rattle.wind_base.specs.Limits.{wait_forever}
+use Rattle.wind_base.specs.declared.board_kind.BoardKind.{BoardKind}
 use Rattle.wind_base.specs.declared.errno.Errno.{Errno}
 use Rattle.task_block.specs.declared.task.Task.{Task}
 use Rattle.wind_lists.specs.Records.{without}
@@ -22,22 +23,22 @@ use Rattle.kernel_world.proofs.Goes.{Goes, goes_on, more_counts, by_change, goes
 
 -- ---- a deletion that takes no task out
 module _ (k : KernState) (n : ℕ) (is : IsKern k) (within : CountsWithin n k) where
-  pub goes-back_at_gate : (who : ℕ) → Goes k (back_at_gate k who) n 0
-  goes-back_at_gate who =
-      by_change k who n at_deletion (change_task_keeps k who at_deletion is (record { id = λ t. refl; since = λ t. refl; ahead = λ t h. h })) (λ t. refl) (λ t. refl) (λ t. refl) (λ t h. h) within
+  pub goes-back_at_gate : (board : BoardKind) (who : ℕ) → Goes k (back_at_gate board k who) n 0
+  goes-back_at_gate board who =
+      by_change k who n (at_deletion board) (change_task_keeps k who (at_deletion board) is (record { id = λ t. refl; since = λ t. refl; ahead = λ t h. h })) (λ t. refl) (λ t. refl) (λ t. refl) (λ t h. h) within
 
   pub refuses_goes : (who : ℕ) (e : Errno) → Goes k (after k who (Refuses e)) n 0
   refuses_goes who e = goes-move k n is within (SetAgain who false) tt
 
 module _ (k : KernState) (n : ℕ) (is : IsKern k) (within : CountsWithin n k) where
   -- the caller waits, and is at the gate of its call
-  pub awaits_goes : (who id : ℕ) → Goes k (back_at_gate (after k who (Awaits id)) who) n 1
-  awaits_goes who id =
+  pub awaits_goes : (board : BoardKind) (who id : ℕ) → Goes k (back_at_gate board (after k who (Awaits id)) who) n 1
+  awaits_goes board who id =
       let marked : KernState = set_again k who true in
       let waits : KernState = awaiting k who id in
       let one = goes-move k n is within (SetAgain who true) tt in
       let two = goes-move marked n one.kern one.counts (Pend who (deletion id) false wait_forever) (omega arith) in
-      goes_on k waits (back_at_gate waits who) n n 1 0 (goes_on k marked waits n n 0 1 one two) (goes-back_at_gate waits n two.kern two.counts who)
+      goes_on k waits (back_at_gate board waits who) n n 1 0 (goes_on k marked waits n n 0 1 one two) (goes-back_at_gate waits n two.kern two.counts board who)
 
 -- ---- a task ends
 -- from k to j: the invariant holds, all tasks but this one live on, on the same stacks, counts stay within n, and

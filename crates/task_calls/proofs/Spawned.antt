@@ -1,28 +1,24 @@
 -- A spawn by its cases.
-use Rattle.std.proofs.Common.{◌≡◌, ℕ, ◌+◌, ◌≤◌, None, Ok, Err, sym, ap, ◌∙◌, arith}
-use Rattle.wind_base.specs.Limits.{ram_bytes}
+use Rattle.std.proofs.Common.{◌≡◌, ℕ, ◌+◌, ◌<◌, ◌^◌, None, Ok, Err, sym, ap, ◌∙◌, arith}
+use Rattle.wind_base.specs.declared.board_kind.Side.TheVariants.{Low}
 use Rattle.wind_base.specs.declared.errno.Errno.TheVariants as errors
 use Rattle.mem_partition.specs.Place.{rounded}
-use Rattle.mem_partition.specs.State.{PartState, alloc_of, after_alloc, taken_at}
+use Rattle.mem_partition.specs.State.{PartState, alloc_of, after_alloc}
 use Rattle.mem_partition.specs.declared.block.Class.{Class}
 use Rattle.mem_partition.specs.declared.block.PartErr.{PartErr}
-use Rattle.mem_partition.proofs.Allocs.{alloc_lies}
+use Rattle.mem_partition.proofs.Allocs.{alloc_lies, refused_is}
 use Rattle.wind_core.specs.Moves.{spawn_refusal}
-use Rattle.task_calls.specs.Spawning.{SpawnState, no_spawn, spawned_on, spawned_at, spawned_unless, spawned, stack_bytes, first_pointer}
+use Rattle.task_calls.specs.Spawning.{SpawnState, no_spawn, spawned_on, spawned_at, spawned_unless, spawned, stack_bytes}
 use Rattle.task_calls.specs.declared.spawning.Wanted.{Wanted}
 use Rattle.kernel_world.specs.declared.reply.Reply.TheVariants.{Answer}
 
 -- a partition that refuses a block stays
 pub refused_part : (p : PartState) (n align : ℕ) (class : Class) (e : PartErr) → Err e ≡ alloc_of p n align → after_alloc p n align class ≡ p
-unfolding after_alloc
-refused_part p n align class e h = ap (taken_at p n class) (sym h)
+refused_part p n align class e h = refused_is Low p n align class e (sym h)
 
--- a block of the board's pool is inside RAM
-pub block_within : (p : PartState) (n align at : ℕ) → p.end ≡ ram_bytes → Ok at ≡ alloc_of p n align → at + rounded n ≤ ram_bytes
+-- a block of the pool ends within 32-bit addresses
+pub block_within : (p : PartState) (n align at : ℕ) → p.end < 2 ^ 32 → Ok at ≡ alloc_of p n align → at + rounded n < 2 ^ 32
 block_within p n align at e h = omega (arith, (alloc_lies p n align at (sym h)).high, e)
-
-pub pointer_within : (at n : ℕ) → at + rounded (stack_bytes n) ≤ ram_bytes → first_pointer at (stack_bytes n) + 64 ≤ ram_bytes + 64
-pointer_within at n h = omega (arith, h)
 
 module _ (w : SpawnState) (s : Wanted) (none : None ≡ spawn_refusal w.kern) where
   pub spawned_is : (at : ℕ) → Ok at ≡ alloc_of w.part (stack_bytes s.stack) 16 → spawned w s ≡ record { after = spawned_on w s at; reply = Answer w.kern.next_id }

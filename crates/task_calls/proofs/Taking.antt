@@ -1,6 +1,7 @@
 -- The stack of a removed task is that of the task as it was.
 use Rattle.std.proofs.Common.{◌≡◌, ℕ, true, false, cond, eqb, List, [], ◌∷◌, map, Option, None, Some, Result, Ok, refl, sym, ap, ◌∙◌}
 use Rattle.std.specs.Option.{option_map}
+use Rattle.wind_base.specs.declared.board_kind.BoardKind.{BoardKind}
 use Rattle.wind_base.specs.declared.errno.Errno.{Errno}
 use Rattle.wind_base.specs.declared.regs.Regs.{Regs}
 use Rattle.mem_partition.specs.State.{PartState, after_free}
@@ -93,8 +94,8 @@ never_ended : (o : Option Task) (t : Task) → option_map (told_by Removed) o �
 never_ended None t e = cc
 never_ended (Some u) t e = cc
 
-module _ (k : KernState) (p : PartState) (caller : ℕ) where
-  removed_row : (d : Deed) (t : Task) → answer_of k caller d ≡ Some (told_by Removed t) → deletion (after k caller d) (without_stack p (Some t)) (Answer 0) ≡ deletes k p caller d
+module _ (board : BoardKind) (k : KernState) (p : PartState) (caller : ℕ) where
+  removed_row : (d : Deed) (t : Task) → answer_of k caller d ≡ Some (told_by Removed t) → deletion (after k caller d) (without_stack p (Some t)) (Answer 0) ≡ deletes board k p caller d
   removed_row (Refuses e) t h = absurd (cc)
   removed_row (EndsItself n) t h = absurd (never_removed (task_of (unguarded_by k caller n).tasks caller) t h)
   removed_row (Removes who) t h =
@@ -102,7 +103,7 @@ module _ (k : KernState) (p : PartState) (caller : ℕ) where
       ap (λ q. deletion (after k caller (Removes who)) q (Answer 0)) (ap (without_stack p) (sym same) ∙ stack-asked p k caller who)
   removed_row (Awaits who) t h = absurd (cc)
 
-  ended_row : (d : Deed) (t : Task) → answer_of k caller d ≡ Some (told_by SelfEnded t) → deletion (after k caller d) (without_stack p (Some t)) Gone ≡ deletes k p caller d
+  ended_row : (d : Deed) (t : Task) → answer_of k caller d ≡ Some (told_by SelfEnded t) → deletion (after k caller d) (without_stack p (Some t)) Gone ≡ deletes board k p caller d
   ended_row (Refuses e) t h = absurd (cc)
   ended_row (EndsItself n) t h =
       let same : task_of (unguarded_by k caller n).tasks caller ≡ Some t = handed_ended (task_of (unguarded_by k caller n).tasks caller) t h in
@@ -112,17 +113,17 @@ module _ (k : KernState) (p : PartState) (caller : ℕ) where
   ended_row (Awaits who) t h = absurd (cc)
 
 -- ---- the rows of the deletion, and the end of a task
-module _ (k j : KernState) (p q : PartState) (who : Actor) (caller id n : ℕ) (t : Task) (own : who ≡ ATask caller) (named : n ≡ meant caller id) (gone : j ≡ delete k caller n) (freed : q ≡ without_stack p (Some t)) where
-  row_by : (r : Reply) → deletion (delete k caller n) (without_stack p (Some t)) r ≡ deletes k p caller (deed_of k.tasks caller n) → deletion j q r ≡ delete_row k p who id
+module _ (board : BoardKind) (k j : KernState) (p q : PartState) (who : Actor) (caller id n : ℕ) (t : Task) (own : who ≡ ATask caller) (named : n ≡ meant caller id) (gone : j ≡ delete k caller n) (freed : q ≡ without_stack p (Some t)) where
+  row_by : (r : Reply) → deletion (delete k caller n) (without_stack p (Some t)) r ≡ deletes board k p caller (deed_of k.tasks caller n) → deletion j q r ≡ delete_row board k p who id
   row_by r e =
       ap (λ x. deletion x q r) gone ∙ ap (λ x. deletion (delete k caller n) x r) freed ∙ e
-      ∙ ap (λ m. deletes k p caller (deed_of k.tasks caller m)) named ∙ ap (λ a. delete_row k p a id) (sym own)
+      ∙ ap (λ m. deletes board k p caller (deed_of k.tasks caller m)) named ∙ ap (λ a. delete_row board k p a id) (sym own)
 
-  pub removed_is : delete_answer k caller n ≡ Some (told_by Removed t) → deletion j q (Answer 0) ≡ delete_row k p who id
-  removed_is told = row_by (Answer 0) (removed_row k p caller (deed_of k.tasks caller n) t told)
+  pub removed_is : delete_answer k caller n ≡ Some (told_by Removed t) → deletion j q (Answer 0) ≡ delete_row board k p who id
+  removed_is told = row_by (Answer 0) (removed_row board k p caller (deed_of k.tasks caller n) t told)
 
-  pub ended_is : delete_answer k caller n ≡ Some (told_by SelfEnded t) → deletion j q Gone ≡ delete_row k p who id
-  ended_is told = row_by Gone (ended_row k p caller (deed_of k.tasks caller n) t told)
+  pub ended_is : delete_answer k caller n ≡ Some (told_by SelfEnded t) → deletion j q Gone ≡ delete_row board k p who id
+  ended_is told = row_by Gone (ended_row board k p caller (deed_of k.tasks caller n) t told)
 
 pub end_is : (w : WorldState) (k j : KernState) (p : PartState) (t : Option Task) (who : ℕ) → k ≡ unguarded w.kern who → j ≡ remove k who → t ≡ task_of k.tasks who → p ≡ without_stack w.part t → record w { kern = j; part = p } ≡ ended w who
 end_is w k j p t who eased gone found freed =
@@ -132,9 +133,9 @@ end_is w k j p t who eased gone found freed =
     ap (λ s. record w { kern = s; part = p }) kern ∙ ap (λ x. record w { kern = remove (unguarded w.kern who) who; part = x }) part
 
 -- registers at the gate of a deletion put the task back there
-pub at_gate : (k : KernState) (who : ℕ) (t : Task) (regs : Regs) → IsKern k → task_of k.tasks who ≡ Some t → regs ≡ record t.regs { pc = deletion_gate } → set_regs k who regs ≡ back_at_gate k who
-at_gate k who t regs is found e =
-    ap (λ ts. record k { tasks = ts }) (change_alike task_id k.tasks who t (λ u. record u { regs = regs }) at_deletion is.rising found (ap (λ r. record t { regs = r }) e))
+pub at_gate : (board : BoardKind) (k : KernState) (who : ℕ) (t : Task) (regs : Regs) → IsKern k → task_of k.tasks who ≡ Some t → regs ≡ record t.regs { pc = deletion_gate board } → set_regs k who regs ≡ back_at_gate board k who
+at_gate board k who t regs is found e =
+    ap (λ ts. record k { tasks = ts }) (change_alike task_id k.tasks who t (λ u. record u { regs = regs }) (at_deletion board) is.rising found (ap (λ r. record t { regs = r }) e))
 
-pub nobody_at_gate : (k : KernState) (who : ℕ) → task_of k.tasks who ≡ None → k ≡ back_at_gate k who
-nobody_at_gate k who none = ap (λ ts. record k { tasks = ts }) (sym (not_there task_id k.tasks who at_deletion none))
+pub nobody_at_gate : (board : BoardKind) (k : KernState) (who : ℕ) → task_of k.tasks who ≡ None → k ≡ back_at_gate board k who
+nobody_at_gate board k who none = ap (λ ts. record k { tasks = ts }) (sym (not_there task_id k.tasks who (at_deletion board) none))

@@ -1,6 +1,7 @@
 -- The rows of safe sections, and of the deletion of a task.
 use Rattle.std.specs.Prelude.{ℕ, ◌==◌, if◌then◌else◌, Option, None, Some}
 use Rattle.wind_base.specs.Limits.{ok_word}
+use Rattle.wind_base.specs.declared.board_kind.BoardKind.{BoardKind}
 use Rattle.wind_base.specs.declared.errno.Errno.{Errno}
 use Rattle.wind_base.specs.declared.errno.Errno.TheVariants as errors
 use Rattle.mem_partition.specs.State.{PartState}
@@ -42,23 +43,23 @@ abbrev pub deletion : KernState → PartState → Reply → DeleteRow
 deletion k p r = record { kern = k; part = p; reply = r }
 
 -- the task is at the gate of taskDelete, so it makes its call again when it goes on
-abbrev pub at_deletion : TaskRecord → TaskRecord
-at_deletion t = record t { regs = record t.regs { pc = deletion_gate } }
+abbrev pub at_deletion : BoardKind → TaskRecord → TaskRecord
+at_deletion board t = record t { regs = record t.regs { pc = deletion_gate board } }
 
-abbrev pub back_at_gate : KernState → ℕ → KernState
-back_at_gate k who = change_task k who at_deletion
+abbrev pub back_at_gate : BoardKind → KernState → ℕ → KernState
+back_at_gate board k who = change_task k who (at_deletion board)
 
 -- the stack of a deleted task goes back to the partition; a caller that deleted itself isn't answered
-abbrev pub deletes : KernState → PartState → ℕ → Deed → DeleteRow
-deletes k p who (Refuses e) = deletion (after k who (Refuses e)) p (Refusal e)
-deletes k p who (EndsItself count) = deletion (after k who (EndsItself count)) (without_stack p (task_of k.tasks who)) Gone
-deletes k p who (Removes id) = deletion (after k who (Removes id)) (without_stack p (task_of k.tasks id)) (Answer ok_word)
-deletes k p who (Awaits id) = deletion (back_at_gate (after k who (Awaits id)) who) p Later
+abbrev pub deletes : BoardKind → KernState → PartState → ℕ → Deed → DeleteRow
+deletes board k p who (Refuses e) = deletion (after k who (Refuses e)) p (Refusal e)
+deletes board k p who (EndsItself count) = deletion (after k who (EndsItself count)) (without_stack p (task_of k.tasks who)) Gone
+deletes board k p who (Removes id) = deletion (after k who (Removes id)) (without_stack p (task_of k.tasks id)) (Answer ok_word)
+deletes board k p who (Awaits id) = deletion (back_at_gate board (after k who (Awaits id)) who) p Later
 
 -- the id of the task to delete: 0 is the caller
 abbrev pub meant : ℕ → ℕ → ℕ
 meant who id = if id == 0 then who else id
 
-abbrev pub delete_row : KernState → PartState → Actor → ℕ → DeleteRow
-delete_row k p (Task who) id = deletes k p who (deed_of k.tasks who (meant who id))
-delete_row k p Interrupt id = deletion k p (Refusal errors.NotIsrCallable)
+abbrev pub delete_row : BoardKind → KernState → PartState → Actor → ℕ → DeleteRow
+delete_row board k p (Task who) id = deletes board k p who (deed_of k.tasks who (meant who id))
+delete_row board k p Interrupt id = deletion k p (Refusal errors.NotIsrCallable)

@@ -2,8 +2,10 @@
 use Rattle.std.specs.Prelude.{ℕ, ◌+◌, ◌-◌, max, List, [], ◌∷◌, ◌++◌, Option, None, Some, Result, Ok, Err, false, ◌==◌, nat_le, if◌then◌else◌, take, codes}
 use Rattle.std.specs.Option.{option_map}
 use Rattle.std.specs.Fmt.{decimal, digits}
-use Rattle.wind_base.specs.Limits.{least_urgent, longest_short_name, frame_bytes, gates_start}
+use Rattle.wind_base.specs.Limits.{least_urgent, longest_short_name, frame_bytes}
+use Rattle.wind_base.specs.Boards.{board_rules}
 use Rattle.wind_base.specs.Gates.{gate_address}
+use Rattle.wind_base.specs.declared.board_kind.BoardKind.{BoardKind}
 use Rattle.wind_base.specs.declared.gate.Gate.TheVariants as gates
 use Rattle.wind_base.specs.declared.errno.Errno.{Errno}
 use Rattle.wind_base.specs.declared.errno.Errno.TheVariants as errors
@@ -43,33 +45,34 @@ names_after None n = n + 1
 names_after (Some name) n = n
 
 -- where a task returns to when its entry returns
-abbrev pub task_return : ℕ
-task_return = gate_address gates_start gates.TaskReturn
+abbrev pub task_return : BoardKind → ℕ
+task_return board = gate_address (board_rules board).gates_start gates.TaskReturn
 
 -- the task, with its stack at an address
-abbrev pub started : Wanted → ℕ → ℕ → NewTask
-started s names at = record {
+abbrev pub started : BoardKind → Wanted → ℕ → ℕ → NewTask
+started board s names at = record {
   name = task_name s.name names;
   entry = s.start;
   stack = at;
   stack_size = stack_bytes s.stack;
   pri = s.pri;
-  regs = starting_regs (first_pointer at (stack_bytes s.stack)) task_return s.start s.words;
+  regs = starting_regs (first_pointer at (stack_bytes s.stack)) (task_return board) s.start s.words;
 }
 
--- what a spawn may change
+-- what a spawn reads and may change; the board stays
 pub record SpawnState : Type 0 where
+  pub board : BoardKind
   pub kern : KernState
   pub part : PartState
   pub ram : List ℕ
   pub names : ℕ
 
-abbrev pub spawn_parts : KernState → PartState → List ℕ → ℕ → SpawnState
-spawn_parts kern part ram names = record { kern = kern; part = part; ram = ram; names = names }
+abbrev pub spawn_parts : BoardKind → KernState → PartState → List ℕ → ℕ → SpawnState
+spawn_parts board kern part ram names = record { board = board; kern = kern; part = part; ram = ram; names = names }
 
 -- these parts of a world, and the world with other ones in their place
 abbrev pub spawn_state : WorldState → SpawnState
-spawn_state w = spawn_parts w.kern w.part w.ram w.names
+spawn_state w = spawn_parts w.board w.kern w.part w.ram w.names
 
 abbrev pub after_spawn : WorldState → SpawnState → WorldState
 after_spawn w s = record w { kern = s.kern; part = s.part; ram = s.ram; names = s.names }
@@ -86,7 +89,8 @@ no_spawn w e = record { after = w; reply = Refusal e }
 -- the stack is a Kernel block, and the task begins on it
 abbrev pub spawned_on : SpawnState → Wanted → ℕ → SpawnState
 spawned_on w s at = record {
-  kern = spawn w.kern (started s w.names at);
+  board = w.board;
+  kern = spawn w.kern (started w.board s w.names at);
   part = after_alloc w.part (stack_bytes s.stack) grain Kernel;
   ram = framed w.ram (first_pointer at (stack_bytes s.stack)) s.words;
   names = names_after s.name w.names;
@@ -145,3 +149,7 @@ spawn_text id name = codes "task spawned: id = 0x" ++ digits 16 false id ++ code
 abbrev pub quick_text : ℕ → Reply → List ℕ
 quick_text names (Answer id) = spawn_text id (task_name None names)
 quick_text names r = []
+
+-- the world after sp, which also writes the line
+abbrev pub after_quick : WorldState → SpawnRow → WorldState
+after_quick w r = record (after_spawn w r.after) { output = w.output ++ quick_text w.names r.reply }

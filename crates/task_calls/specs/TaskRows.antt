@@ -4,6 +4,7 @@ use Rattle.wind_base.specs.Limits.{ok_word}
 use Rattle.wind_base.specs.declared.errno.Errno.{Errno}
 use Rattle.wind_base.specs.declared.errno.Errno.TheVariants as errors
 use Rattle.task_block.specs.declared.task.Task.{Task as TaskRecord}
+use Rattle.board_mem.specs.Memory.{has, with_word}
 use Rattle.wind_core.specs.State.{KernState, task_of, task_named}
 use Rattle.wind_core.specs.Moves.{suspend, resume, set_locks, set_int_locked, delay}
 use Rattle.kernel_world.specs.declared.actor.Actor.{Actor}
@@ -34,6 +35,24 @@ suspend_row k (Some id) = done (suspend k id)
 abbrev pub resume_row : KernState → Option ℕ → KernRow
 resume_row k None = refused k errors.ObjIdError
 resume_row k (Some id) = done (resume k id)
+
+-- RAM after the effect of a call, and how its caller is answered
+pub record RamRow : Type 0 where
+  pub ram : List ℕ
+  pub reply : Reply
+
+abbrev pub ram_row : List ℕ → Reply → RamRow
+ram_row ram r = record { ram = ram; reply = r }
+
+-- taskPriorityGet: the priority of the task, if it lives, goes to a word of RAM
+abbrev pub task_at : KernState → Option ℕ → Option TaskRecord
+task_at k None = None
+task_at k (Some id) = task_of k.tasks id
+
+abbrev pub priority_in : List ℕ → ℕ → Option TaskRecord → RamRow
+priority_in ram at None = ram_row ram (Refusal errors.ObjIdError)
+priority_in ram at (Some t) =
+    if has ram at 4 then ram_row (with_word ram at t.pri) (Answer ok_word) else ram_row ram (Refusal errors.BadAddress)
 
 -- a call that only a task may make
 abbrev pub by_task : KernState → Actor → (ℕ → KernRow) → KernRow

@@ -8,11 +8,10 @@ ghost use Rattle.task_calls.specs.SafetyRows.{safe_row, unsafe_row, back_at_gate
 
 use crate::ending::take_stack;
 use id_table::Ident;
-use kernel_world::{Actor, DONE, Reply};
+use kernel_world::{Actor, DONE, Reply, gate_address};
 use mem_partition::Part;
 use task_safety::{Deleted, delete as delete_task, safe, unsafe_by};
-use wind_base::limits::GATES_START;
-use wind_base::{Errno, Gate, Regs};
+use wind_base::{BoardKind, Errno, Gate, Regs};
 use wind_core::Kern;
 
 /// taskSafe, from a task: makes the caller safe from deletion once more. Refused at interrupt
@@ -55,36 +54,36 @@ fn meant(caller: Ident, id: u32) -> u32
     if id == 0 { caller.get() } else { id }
 }
 
-// The registers, with the program counter at the gate of taskDelete.
-fn at_deletion(regs: &Regs) -> Regs
-    ensures { result ≡ record regs.now { pc = deletion_gate } }
+// The registers, with the program counter at the board's gate of taskDelete.
+fn at_deletion(regs: &Regs, board: BoardKind) -> Regs
+    ensures { result ≡ record regs.now { pc = deletion_gate board } }
 {
     Regs {
-        pc: Gate::TaskDelete.address(GATES_START),
+        pc: gate_address(board, Gate::TaskDelete),
         ..*regs
     }
 }
 
-// Puts the task at the gate of taskDelete.
-fn stand_at_gate(kern: &mut Kern, who: Ident)
-    ensures { kern.new ≡ back_at_gate kern.old who }
+// Puts the task at the board's gate of taskDelete.
+fn stand_at_gate(kern: &mut Kern, who: Ident, board: BoardKind)
+    ensures { kern.new ≡ back_at_gate board kern.old who }
 {
     kern.facts();
     let Some(task) = kern.task(who) else {
         return;
     };
-    let regs = at_deletion(&task.regs);
+    let regs = at_deletion(&task.regs, board);
     kern.set_regs(who, regs);
 }
 
 /// taskDelete, from a task: deletes the task with this id; 0 is the caller. While that task is
-/// safe, the caller waits at its gate. Refused at interrupt level, if no such task lives, and for
+/// safe, the caller waits at the board's gate of this call. Refused at interrupt level, if no such task lives, and for
 /// the shell's task.
-pub fn delete(kern: &mut Kern, part: &mut Part, who: Actor, id: u32) -> Reply
+pub fn delete(kern: &mut Kern, part: &mut Part, who: Actor, id: u32, board: BoardKind) -> Reply
     requires live { Acts kern.old who }
     requires since { kern.old.next_since < 2 ^ 63 }
     requires tick { kern.old.tick < 2 ^ 63 }
-    ensures row { deletion kern.new part.new result ≡ delete_row kern.old part.old who id }
+    ensures row { deletion kern.new part.new result ≡ delete_row board kern.old part.old who id }
 {
     let Actor::Task(caller) = who else {
         return Reply::Refusal(Errno::NotIsrCallable);
@@ -99,7 +98,7 @@ pub fn delete(kern: &mut Kern, part: &mut Part, who: Actor, id: u32) -> Reply
             Reply::Gone
         }
         Ok(Deleted::Pended) => {
-            stand_at_gate(kern, caller);
+            stand_at_gate(kern, caller, board);
             Reply::Later
         }
         Err(errno) => Reply::Refusal(errno),

@@ -1,21 +1,24 @@
 //! taskSpawn and sp.
 
-ghost use Rattle.std.specs.Prelude.{◌≡◌, ◌+◌, ◌-◌, ◌^◌, ◌<◌, ◌≤◌, false, length};
-ghost use Rattle.wind_base.specs.Limits.{ram_bytes, longest_short_name};
-ghost use Rattle.wind_base.specs.OutBuf.{Added};
+ghost use Rattle.std.specs.Prelude.{◌≡◌, ◌+◌, ◌-◌, ◌^◌, ◌<◌, ◌≤◌, false, [], length};
+ghost use Rattle.wind_base.specs.Limits.{longest_short_name};
+ghost use Rattle.wind_base.specs.OutBuf.{Added, KeepsSpace};
 ghost use Rattle.mem_partition.specs.Place.{rounded};
-ghost use Rattle.task_calls.specs.Spawning.{spawn_parts, spawned_if as spawned_if_lem, spawned as spawned_lem, started as started_lem, stack_bytes as stack_bytes_lem, first_pointer as first_pointer_lem, task_name as task_name_lem, names_after, name_at as name_at_lem, task_wanted as task_wanted_lem, quick_wanted as quick_wanted_lem, spawn_text, quick_text};
+ghost use Rattle.kernel_world.specs.Kept.{IsEarly};
+ghost use Rattle.kernel_world.specs.Seen.{world_seen, world_with};
+ghost use Rattle.task_calls.specs.Spawning.{spawn_parts, spawn_state, after_spawn, after_quick, spawned_if as spawned_if_lem, spawned as spawned_lem, started as started_lem, stack_bytes as stack_bytes_lem, first_pointer as first_pointer_lem, task_name as task_name_lem, names_after, name_at as name_at_lem, task_wanted as task_wanted_lem, quick_wanted as quick_wanted_lem, spawn_text, quick_text};
 
 use arrayvec::ArrayVec;
 use board_mem::Ram;
 use itoa::Buffer;
-use kernel_world::{Reply, put_frame, starting_regs};
+use kernel_world::{Reply, World, gate_address, put_frame, starting_regs};
 use mem_partition::{Class, GRAIN, Part, round_up};
 use task_block::NewTask;
-use wind_base::limits::{FRAME_BYTES, GATES_START};
+use wind_base::limits::FRAME_BYTES;
 use wind_base::text::{add, add_hex};
-use wind_base::{Errno, Gate, OutBuf, Pri, ShortName};
+use wind_base::{BoardKind, Errno, Gate, OutBuf, Pri, ShortName};
 use wind_core::Kern;
+use wind_outside::Device;
 
 // The least stack, in bytes.
 const LEAST_STACK: u32 = 512;
@@ -54,9 +57,9 @@ fn name_at(ram: &Ram, address: u32) -> Option<Option<ShortName>>
     }
 }
 
-/// The task that taskSpawn asks for; its name is at an address. Refused if the priority is above
-/// 255, then if the name or an argument can't be read.
-pub fn task_wanted(
+// The task that taskSpawn asks for; its name is at an address. Refused if the priority is above
+// 255, then if the name or an argument can't be read.
+fn task_wanted(
     ram: &Ram,
     name: u32,
     priority: u32,
@@ -94,8 +97,8 @@ fn quick_priority() -> Pri
     }
 }
 
-/// The task that sp asks for. Refused if an argument can't be read.
-pub fn quick_wanted(start: u32, arguments: Option<[u32; 10]>) -> Result<Wanted, Errno>
+// The task that sp asks for. Refused if an argument can't be read.
+fn quick_wanted(start: u32, arguments: Option<[u32; 10]>) -> Result<Wanted, Errno>
     ensures { result ≡ quick_wanted_lem start arguments }
 {
     let Some(words) = arguments else {
@@ -148,18 +151,18 @@ fn stack_bytes(bytes: u32) -> u32
 #[tactic(auto, using(mem_partition::proofs::Allocs::rounded_holds))]
 fn first_pointer(address: u32, bytes: u32) -> u32
     requires least { 64 ≤ bytes }
-    requires within { address + rounded bytes ≤ ram_bytes }
+    requires within { address + rounded bytes < 2 ^ 32 }
     ensures { result ≡ first_pointer_lem address bytes }
 {
     let end = u64::from(address) + round_up(bytes);
     (end - u64::from(FRAME_BYTES)) as u32
 }
 
-// The task, with its stack at an address.
-fn started(wanted: Wanted, names: &mut u64, address: u32, pointer: u32) -> NewTask
+// The task, with its stack at an address, on a board of this kind.
+fn started(wanted: Wanted, names: &mut u64, address: u32, pointer: u32, board: BoardKind) -> NewTask
     requires names { names.old + 1 < 2 ^ 64 }
     requires pointer { pointer ≡ first_pointer_lem address (stack_bytes_lem wanted.stack) }
-    ensures task { result ≡ started_lem wanted names.old address }
+    ensures task { result ≡ started_lem board wanted names.old address }
     ensures names { names.new ≡ names_after wanted.name names.old }
 {
     let Wanted {
@@ -169,7 +172,7 @@ fn started(wanted: Wanted, names: &mut u64, address: u32, pointer: u32) -> NewTa
         start,
         words,
     } = wanted;
-    let link = Gate::TaskReturn.address(GATES_START);
+    let link = gate_address(board, Gate::TaskReturn);
     NewTask {
         name: take_name(name, names),
         entry: start,
@@ -181,18 +184,25 @@ fn started(wanted: Wanted, names: &mut u64, address: u32, pointer: u32) -> NewTa
 }
 
 // Makes the task. If that is refused, nothing changes.
-fn spawn(kern: &mut Kern, part: &mut Part, ram: &mut Ram, names: &mut u64, wanted: Wanted) -> Reply
+fn spawn(
+    kern: &mut Kern,
+    part: &mut Part,
+    ram: &mut Ram,
+    names: &mut u64,
+    wanted: Wanted,
+    board: BoardKind,
+) -> Reply
     requires home { kern.old.lent ≡ false }
     requires since { kern.old.next_since + 1 < 2 ^ 64 }
     requires names { names.old + 1 < 2 ^ 64 }
-    requires end { part.old.end ≡ ram_bytes }
-    ensures kern { kern.new ≡ (spawned_lem (spawn_parts kern.old part.old ram.old.bytes names.old) wanted).after.kern }
-    ensures part { part.new ≡ (spawned_lem (spawn_parts kern.old part.old ram.old.bytes names.old) wanted).after.part }
+    requires end { part.old.end < 2 ^ 32 }
+    ensures kern { kern.new ≡ (spawned_lem (spawn_parts board kern.old part.old ram.old.bytes names.old) wanted).after.kern }
+    ensures part { part.new ≡ (spawned_lem (spawn_parts board kern.old part.old ram.old.bytes names.old) wanted).after.part }
     ensures ram { ram.new.bytes
-        ≡ (spawned_lem (spawn_parts kern.old part.old ram.old.bytes names.old) wanted).after.ram }
+        ≡ (spawned_lem (spawn_parts board kern.old part.old ram.old.bytes names.old) wanted).after.ram }
     ensures names { names.new
-        ≡ (spawned_lem (spawn_parts kern.old part.old ram.old.bytes names.old) wanted).after.names }
-    ensures reply { result ≡ (spawned_lem (spawn_parts kern.old part.old ram.old.bytes names.old) wanted).reply }
+        ≡ (spawned_lem (spawn_parts board kern.old part.old ram.old.bytes names.old) wanted).after.names }
+    ensures reply { result ≡ (spawned_lem (spawn_parts board kern.old part.old ram.old.bytes names.old) wanted).reply }
 {
     if let Some(refusal) = kern.spawn_refusal() {
         return Reply::Refusal(refusal);
@@ -203,36 +213,37 @@ fn spawn(kern: &mut Kern, part: &mut Part, ram: &mut Ram, names: &mut u64, wante
     };
     let pointer = first_pointer(address, bytes);
     put_frame(ram, pointer, &wanted.words);
-    let Ok(id) = kern.spawn_record(started(wanted, names, address, pointer)) else {
+    let Ok(id) = kern.spawn_record(started(wanted, names, address, pointer, board)) else {
         unreachable!()
     };
     Reply::Answer(id.get())
 }
 
-/// Makes the task, unless the request was refused.
-pub fn spawn_if(
+// Makes the task on a board of this kind, unless the request was refused.
+fn spawn_if(
     kern: &mut Kern,
     part: &mut Part,
     ram: &mut Ram,
     names: &mut u64,
     wanted: Result<Wanted, Errno>,
+    board: BoardKind,
 ) -> Reply
     requires home { kern.old.lent ≡ false }
     requires since { kern.old.next_since + 1 < 2 ^ 64 }
     requires names { names.old + 1 < 2 ^ 64 }
-    requires end { part.old.end ≡ ram_bytes }
+    requires end { part.old.end < 2 ^ 32 }
     ensures kern { kern.new
-        ≡ (spawned_if_lem (spawn_parts kern.old part.old ram.old.bytes names.old) wanted).after.kern }
+        ≡ (spawned_if_lem (spawn_parts board kern.old part.old ram.old.bytes names.old) wanted).after.kern }
     ensures part { part.new
-        ≡ (spawned_if_lem (spawn_parts kern.old part.old ram.old.bytes names.old) wanted).after.part }
+        ≡ (spawned_if_lem (spawn_parts board kern.old part.old ram.old.bytes names.old) wanted).after.part }
     ensures ram { ram.new.bytes
-        ≡ (spawned_if_lem (spawn_parts kern.old part.old ram.old.bytes names.old) wanted).after.ram }
+        ≡ (spawned_if_lem (spawn_parts board kern.old part.old ram.old.bytes names.old) wanted).after.ram }
     ensures names { names.new
-        ≡ (spawned_if_lem (spawn_parts kern.old part.old ram.old.bytes names.old) wanted).after.names }
-    ensures reply { result ≡ (spawned_if_lem (spawn_parts kern.old part.old ram.old.bytes names.old) wanted).reply }
+        ≡ (spawned_if_lem (spawn_parts board kern.old part.old ram.old.bytes names.old) wanted).after.names }
+    ensures reply { result ≡ (spawned_if_lem (spawn_parts board kern.old part.old ram.old.bytes names.old) wanted).reply }
 {
     match wanted {
-        Ok(wanted) => spawn(kern, part, ram, names, wanted),
+        Ok(wanted) => spawn(kern, part, ram, names, wanted, board),
         Err(errno) => Reply::Refusal(errno),
     }
 }
@@ -251,13 +262,74 @@ fn add_spawn(out: &mut OutBuf, id: u32, name: &[u8])
     add(out, b"\n");
 }
 
-/// Reports the task that sp made, named with the number that it took. If sp was refused, it writes
-/// nothing.
-pub fn tell_spawn(out: &mut OutBuf, number: u64, reply: Reply)
+// Reports the task that sp made, named with the number that it took. If sp was refused, it writes
+// nothing.
+fn tell_spawn(out: &mut OutBuf, number: u64, reply: Reply)
     requires { 128 ≤ out.old.room }
     ensures { Added 128 out.old out.new (quick_text number reply) }
 {
     if let Reply::Answer(id) = reply {
         add_spawn(out, id, numbered(number).bytes());
     }
+}
+
+/// taskSpawn: makes a task with the name at an address, this priority, a stack of at least `stack`
+/// bytes, and an entry with ten arguments. Refused if the priority is above 255, then if the name
+/// or an argument can't be read, then if no more tasks may live or no id is left, then if the
+/// partition has no room for the stack.
+pub fn spawn_task(
+    w: &mut World,
+    name: u32,
+    priority: u32,
+    stack: u32,
+    entry: u32,
+    arguments: Option<[u32; 10]>,
+) -> Reply
+    requires home { w.old.kern.lent ≡ false }
+    requires end { w.old.part.end < 2 ^ 32 }
+    requires early { IsEarly (world_with [] w.old) }
+    ensures world { world_seen ⟦<dyn Device as Device>⟧ w.new ≡ after_spawn (world_seen ⟦<dyn Device as Device>⟧ w.old)
+        (spawned_if_lem (spawn_state (world_seen ⟦<dyn Device as Device>⟧ w.old))
+        (task_wanted_lem w.old.bus.ram.bytes name priority stack entry arguments)).after }
+    ensures reply { result ≡ (spawned_if_lem (spawn_state (world_seen ⟦<dyn Device as Device>⟧ w.old))
+        (task_wanted_lem w.old.bus.ram.bytes name priority stack entry arguments)).reply }
+    ensures out { w.new.out ≡ w.old.out }
+{
+    let wanted = task_wanted(&w.bus.ram, name, priority, stack, entry, arguments);
+    spawn_if(
+        &mut w.kern,
+        &mut w.part,
+        &mut w.bus.ram,
+        &mut w.names,
+        wanted,
+        w.board,
+    )
+}
+
+/// sp: makes a task without a name, of priority 100, with a stack of 20,000 bytes and an entry with
+/// ten arguments, and writes the line that reports the task. Refused if an argument can't be read,
+/// then as taskSpawn.
+pub fn spawn_quickly(w: &mut World, entry: u32, arguments: Option<[u32; 10]>) -> Reply
+    requires home { w.old.kern.lent ≡ false }
+    requires end { w.old.part.end < 2 ^ 32 }
+    requires early { IsEarly (world_with [] w.old) }
+    requires room { 128 ≤ w.old.out.room }
+    ensures world { world_seen ⟦<dyn Device as Device>⟧ w.new ≡ after_quick (world_seen ⟦<dyn Device as Device>⟧ w.old)
+        (spawned_if_lem (spawn_state (world_seen ⟦<dyn Device as Device>⟧ w.old)) (quick_wanted_lem entry arguments)) }
+    ensures reply { result ≡ (spawned_if_lem (spawn_state (world_seen ⟦<dyn Device as Device>⟧ w.old))
+        (quick_wanted_lem entry arguments)).reply }
+    ensures space { KeepsSpace w.old.out w.new.out }
+{
+    let number = w.names;
+    let wanted = quick_wanted(entry, arguments);
+    let reply = spawn_if(
+        &mut w.kern,
+        &mut w.part,
+        &mut w.bus.ram,
+        &mut w.names,
+        wanted,
+        w.board,
+    );
+    tell_spawn(&mut w.out, number, reply);
+    reply
 }

@@ -1,11 +1,11 @@
-//! The calls that touch only the kernel's tasks and counters.
+//! The calls on the kernel's tasks and counters.
 
 ghost use Rattle.std.specs.Prelude.{◌≡◌, ◌+◌, ◌^◌, ◌<◌};
 ghost use Rattle.std.specs.List.{All};
 ghost use Rattle.wind_core.specs.State.{KernState, task_of};
 ghost use Rattle.wind_core.specs.Moves.{live_id};
 ghost use Rattle.kernel_world.specs.Actors.{Acts, target as target_lem};
-ghost use Rattle.task_calls.specs.TaskRows.{suspend_row, resume_row, delay_row, lock_row, unlock_row, self_row, verify_row, name_row, slice_row, tick_row, locks_of, mark_of, int_lock_row, int_unlock_row, int_context_row};
+ghost use Rattle.task_calls.specs.TaskRows.{task_at, priority_in, suspend_row, resume_row, delay_row, lock_row, unlock_row, self_row, verify_row, name_row, slice_row, tick_row, locks_of, mark_of, int_lock_row, int_unlock_row, int_context_row};
 ghost use Rattle.board_mem.specs.Memory.{string_at};
 
 use board_mem::Ram;
@@ -39,6 +39,27 @@ pub fn resume(kern: &mut Kern, who: Actor, id: u32) -> Reply
     };
     kern.resume(id);
     DONE
+}
+
+/// taskPriorityGet: puts the priority of the task with this id into the word at an address. Refused
+/// if no such task lives, then if the word isn't in RAM.
+pub fn get_priority(kern: &Kern, ram: &mut Ram, who: Actor, id: u32, address: u32) -> Reply
+    requires { Acts kern.now who }
+    ensures ram { ram.new.bytes
+        ≡ (priority_in ram.old.bytes address (task_at kern.now (target_lem kern.now who id))).ram }
+    ensures reply { result
+        ≡ (priority_in ram.old.bytes address (task_at kern.now (target_lem kern.now who id))).reply }
+{
+    let Some(id) = target(kern, who, id) else {
+        return Reply::Refusal(Errno::ObjIdError);
+    };
+    let Some(task) = kern.task(id) else {
+        return Reply::Refusal(Errno::ObjIdError);
+    };
+    match ram.write32(address, task.pri.get()) {
+        Ok(()) => DONE,
+        Err(_) => Reply::Refusal(Errno::BadAddress),
+    }
 }
 
 /// taskDelay, from a task: delays the caller for `ticks` ticks. It is answered when the delay ends,

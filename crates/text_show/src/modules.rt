@@ -61,7 +61,7 @@ fn add_module(page: &mut Vec<u8>, id: Ident, loaded: &LoadedModule) -> Result<()
 
 // Adds the rows of all modules, by id.
 fn add_modules(page: &mut Vec<u8>, modules: &Modules) -> Result<(), NoMemory>
-    ensures { OnOk result (page.new.items ≡ page.old.items ++ flat_map module_row modules.now) }
+    ensures { OnOk result (page.new.items ≡ page.old.items ++ flat_map module_row modules.now.rows) }
 {
     modules.facts();
     let mut last = 0;
@@ -78,7 +78,7 @@ fn add_modules(page: &mut Vec<u8>, modules: &Modules) -> Result<(), NoMemory>
 // Makes the table of modules.
 #[tactic(auto, unfolding(crate::specs::Modules::module_table_of))]
 fn module_page(alloc: Global, modules: &Modules) -> Result<Vec<u8>, NoMemory>
-    ensures { IfOk result (λ p. p.items ≡ module_table_of modules.now) }
+    ensures { IfOk result (λ p. p.items ≡ module_table_of modules.now.rows) }
 {
     let mut page = Vec::new(alloc);
     add_header(&mut page)?;
@@ -93,7 +93,7 @@ fn module_page(alloc: Global, modules: &Modules) -> Result<Vec<u8>, NoMemory>
 ///
 /// If host memory runs out, nothing is written.
 pub fn module_rows(alloc: Global, modules: &Modules, out: &mut OutBuf) -> Result<(), NoMemory>
-    ensures ok { OnOk result (out.new ≡ with_text out.old (module_table_of modules.now)) }
+    ensures ok { OnOk result (out.new ≡ with_text out.old (module_table_of modules.now.rows)) }
     ensures err { OnErr result (out.new ≡ out.old) }
 {
     let page = module_page(alloc, modules)?;

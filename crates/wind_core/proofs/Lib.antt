@@ -17,4 +17,5 @@ pub mod Finding
 pub mod Unwritten
 pub mod Ids
 pub mod Releasing
+pub mod NextId
 pub mod Moving

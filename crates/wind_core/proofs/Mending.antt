@@ -19,7 +19,7 @@ use Rattle.delay_queue.specs.Wakes as timed
 use Rattle.wind_core.specs.State.{KernState, WakesAhead, task_id}
 use Rattle.wind_core.specs.Orders.{first_waiter, sleeps}
 use Rattle.wind_core.specs.Waiting.{waiter_at, as_waiter, waits_of, task_waits, mended}
-use Rattle.wind_core.specs.Queues.{as_ready, ready_of, ready_tasks, delayed_of, delayed_tasks, ready_mended, delays_mended}
+use Rattle.wind_core.specs.Queues.{HaveRoom, as_ready, ready_of, ready_tasks, delayed_of, delayed_tasks, ready_mended, delays_mended}
 use Rattle.wind_core.specs.Moves.{renewed, settled, suspended}
 use Rattle.wind_core.specs.Tick.{turn_task}
 use Rattle.wind_core.specs.declared.kern.Kern.TheInside.{Inside}
@@ -141,6 +141,9 @@ module _ (k : Inside) (who : ℕ) (x y : Task) (kept : Kept k) (value : object_o
       subst (λ o. length (timed.taken_out o.tasks y.id) < o.room) (sym kept.3.delays_held)
       (subst (λ n. length (timed.taken_out (delayed_of ts) n) < most_tasks) (sym (own id)) (omega (arith, fewer_asleep ts who x (found k who x kept value), kept.2.few)))
 
+  pub all_fit : y.id ≡ x.id → HaveRoom k.waits k.ready k.delays y.id
+  all_fit id = record { waits = waits_fit id; ready = ready_fits id; delays = delays_fit id }
+
 -- ---- a setter
 -- everything that the queues and the invariant read of a task
 abbrev pub standing : Task → ℕ × ℕ × ℕ × Option Place × Bool × Option ℕ × Bool
@@ -190,24 +193,35 @@ suspended_keeps k who x y r kept value e out =
     never false q = refl
 
 -- ---- a new order number
--- y is u, which is made from x, with a new order number
-pub renewed_keeps : (k : Inside) (who n : ℕ) (x u y : Task) (l : Line) (r : urgent.Order) (d : timed.Order) → Kept k → object_of k.tasks.rows who ≡ Some x → u.id ≡ x.id
-    → (WakesAhead k.tick x → WakesAhead k.tick u) → y ≡ renewed k.next_since u → n ≡ k.next_since + 1
-    → l ≡ mended k.waits y → r ≡ ready_mended k.ready y → d ≡ delays_mended k.delays y → Kept (requeued k who y n l r d)
-renewed_keeps k who n x u y l r d kept value id ahead e next waits ready delays =
-    let own_id : y.id ≡ x.id = ap task_id e ∙ id in
-    let fresh : y.since ≡ k.next_since = ap (λ (t : Task). t.since) e in
-    written_keeps k who n x y l r d kept value
-    (subst (λ t. MayFollow (the_view k) x t n) (sym e) (record { id = id; since = inr (refl, next); ahead = ahead }))
-    (record {
-      waits_held = waits_mend k who x y kept value l own_id waits;
-      ready_held = ready_mends k who x y kept value r own_id (λ _. fresh) ready;
-      delays_held = delays_mend k who x y kept value d own_id (λ _. fresh) delays;
-    })
+-- x becomes u, and y is u with a new order number
+module _ (k : Inside) (who n : ℕ) (x u w y : Task) (kept : Kept k) (value : object_of k.tasks.rows who ≡ Some x) (id : u.id ≡ x.id) (ahead : WakesAhead k.tick x → WakesAhead k.tick u)
+    (made : w ≡ u) (task : y ≡ renewed k.next_since w) (next : n ≡ k.next_since + 1) where
+  renewed_is : y ≡ renewed k.next_since u
+  renewed_is = task ∙ ap (renewed k.next_since) made
 
--- y is u, which is made from x, with a new order number if it is ready
-module _ (k : Inside) (who n : ℕ) (x u y : Task) (kept : Kept k) (value : object_of k.tasks.rows who ≡ Some x) (id : u.id ≡ x.id) (since : u.since ≡ x.since)
-    (ahead : WakesAhead k.tick x → WakesAhead k.tick u) (e : y ≡ settled k.next_since u) (next : n ≡ k.next_since + cond (is_ready u) 1 0) where
+  renewed_own : y.id ≡ x.id
+  renewed_own = ap task_id renewed_is ∙ id
+
+  pub renewed_fit : HaveRoom k.waits k.ready k.delays y.id
+  renewed_fit = all_fit k who x y kept value renewed_own
+
+  pub renewed_keeps : (l : Line) (r : urgent.Order) (d : timed.Order) → l ≡ mended k.waits y → r ≡ ready_mended k.ready y → d ≡ delays_mended k.delays y → Kept (requeued k who y n l r d)
+  renewed_keeps l r d waits ready delays =
+      let fresh : y.since ≡ k.next_since = ap (λ (t : Task). t.since) renewed_is in
+      written_keeps k who n x y l r d kept value
+      (subst (λ t. MayFollow (the_view k) x t n) (sym renewed_is) (record { id = id; since = inr (refl, next); ahead = ahead }))
+      (record {
+        waits_held = waits_mend k who x y kept value l renewed_own waits;
+        ready_held = ready_mends k who x y kept value r renewed_own (λ _. fresh) ready;
+        delays_held = delays_mend k who x y kept value d renewed_own (λ _. fresh) delays;
+      })
+
+-- x becomes u, and y is u with a new order number if it is ready
+module _ (k : Inside) (who n : ℕ) (x u w y : Task) (kept : Kept k) (value : object_of k.tasks.rows who ≡ Some x) (id : u.id ≡ x.id) (since : u.since ≡ x.since)
+    (ahead : WakesAhead k.tick x → WakesAhead k.tick u) (made : w ≡ u) (task : y ≡ settled k.next_since w) (next : n ≡ k.next_since + cond (is_ready w) 1 0) where
+  e : y ≡ settled k.next_since u
+  e = task ∙ ap (settled k.next_since) made
+
   settled_own : y.id ≡ x.id
   settled_own = ap task_id e ∙ settled_id k.next_since u ∙ id
 
@@ -215,7 +229,12 @@ module _ (k : Inside) (who n : ℕ) (x u y : Task) (kept : Kept k) (value : obje
   fresh_ready b = ap (λ (t : Task). t.since) e ∙ settled_fresh k.next_since u (sym (ap is_ready e) ∙ b)
 
   settled_may : MayFollow (the_view k) x y n
-  settled_may = subst (λ t. MayFollow (the_view k) x t n) (sym e) (subst (MayFollow (the_view k) x (settled k.next_since u)) (sym next) (settled_follows (the_view k) x u id since ahead))
+  settled_may =
+      let after : n ≡ k.next_since + cond (is_ready u) 1 0 = next ∙ ap (λ t. k.next_since + cond (is_ready t) 1 0) made in
+      subst (λ t. MayFollow (the_view k) x t n) (sym e) (subst (MayFollow (the_view k) x (settled k.next_since u)) (sym after) (settled_follows (the_view k) x u id since ahead))
+
+  pub settled_fit : HaveRoom k.waits k.ready k.delays y.id
+  settled_fit = all_fit k who x y kept value settled_own
 
   -- if u has the wake of x, the task stays in the queue of wakes as it was: it has a wake, or it is ready
   settled_delays : u.wake ≡ x.wake → k.delays ≡ delayed_tasks (tasks_with k who y)

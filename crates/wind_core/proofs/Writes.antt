@@ -56,17 +56,19 @@ pub changed : (k : Inside) (who : ℕ) (x y : Task) (f : Task → Task) → Kept
     → the_view (written k who y k.next_since) ≡ change_task (the_view k) who f
 changed k who x y f kept value e = written_is k who k.next_since x y f kept value e
 
-pub renews_to : (k : Inside) (who n : ℕ) (x y : Task) (f : Task → Task) → Kept k → object_of k.tasks.rows who ≡ Some x → y ≡ renewed k.next_since (f x) → n ≡ k.next_since + 1
+-- u is f of x, and y is u with a new order number
+pub renews_to : (k : Inside) (who n : ℕ) (x u y : Task) (f : Task → Task) → Kept k → object_of k.tasks.rows who ≡ Some x → u ≡ f x → y ≡ renewed k.next_since u → n ≡ k.next_since + 1
     → the_view (written k who y n) ≡ renew_task (the_view k) who f
-renews_to k who n x y f kept value e next =
-    written_is k who n x y (λ t. renewed k.next_since (f t)) kept value e
+renews_to k who n x u y f kept value made e next =
+    written_is k who n x y (λ t. renewed k.next_since (f t)) kept value (e ∙ ap (renewed k.next_since) made)
     ∙ ap {B = KernState} (λ m. record (the_view k) { tasks = change task_id (the_view k).tasks who (λ t. renewed k.next_since (f t)); next_since = m }) next
 
-pub moves : (k : Inside) (who n : ℕ) (x y : Task) (f : Task → Task) → Kept k → object_of k.tasks.rows who ≡ Some x → y ≡ settled k.next_since (f x)
-    → n ≡ k.next_since + cond (is_ready (f x)) 1 0 → the_view (written k who y n) ≡ move_task (the_view k) who f
-moves k who n x y f kept value e next =
-    written_is k who n x y (λ t. settled k.next_since (f t)) kept value e
-    ∙ ap {B = KernState} (λ m. record (the_view k) { tasks = change task_id (the_view k).tasks who (λ t. settled k.next_since (f t)); next_since = m }) next
+-- u is f of x, and y is u with a new order number if it is ready
+pub moves : (k : Inside) (who n : ℕ) (x u y : Task) (f : Task → Task) → Kept k → object_of k.tasks.rows who ≡ Some x → u ≡ f x → y ≡ settled k.next_since u
+    → n ≡ k.next_since + cond (is_ready u) 1 0 → the_view (written k who y n) ≡ move_task (the_view k) who f
+moves k who n x u y f kept value made e next =
+    written_is k who n x y (λ t. settled k.next_since (f t)) kept value (e ∙ ap (settled k.next_since) made)
+    ∙ ap {B = KernState} (λ m. record (the_view k) { tasks = change task_id (the_view k).tasks who (λ t. settled k.next_since (f t)); next_since = m }) (next ∙ ap (λ t. k.next_since + cond (is_ready t) 1 0) made)
     ∙ ap (move_found (the_view k) who f) (sym (found k who x kept value))
 
 -- ---- the invariant

@@ -1,10 +1,10 @@
 -- Which tasks are ready and which have a wake, as the queues hold them.
-use Rattle.std.specs.Prelude.{◌≡◌, ℕ, if◌then◌else◌, List, map, Option, None, Some}
+use Rattle.std.specs.Prelude.{◌≡◌, ◌<◌, ℕ, length, if◌then◌else◌, List, map, Option, None, Some}
 use Rattle.wind_base.specs.Limits.{most_tasks}
 use Rattle.task_block.specs.declared.task.Task.{Task}
 use Rattle.task_block.specs.Standing.{is_ready}
 use Rattle.wind_lists.specs.Sorting.{in_line}
-use Rattle.wait_order.specs.Line.{Line}
+use Rattle.wait_order.specs.Line.{Line, without_waiter}
 use Rattle.ready_queue.specs.Order as urgent
 use Rattle.delay_queue.specs.Wakes as timed
 use Rattle.wind_core.specs.Orders.{is_before, sleeps, waking_tick, wakes_before}
@@ -46,6 +46,12 @@ with_wake o who (Some wake) = timed.with_task o (who, wake)
 -- the queue after one task is updated: it goes after all with the same wake or an earlier one, or isn't in the queue
 abbrev pub delays_mended : timed.Order → Task → timed.Order
 delays_mended o t = with_wake (timed.without_task o t.id) t.id t.wake
+
+-- each queue has room for the task with this id
+pub record HaveRoom (l : Line) (r : urgent.Order) (d : timed.Order) (who : ℕ) : Type 0 where
+  pub waits : length (without_waiter l who).waiters < l.room
+  pub ready : length (urgent.taken_out r.tasks who) < r.room
+  pub delays : length (timed.taken_out d.tasks who) < d.room
 
 -- the queues hold exactly what the tasks say
 pub record AreQueued (waits : Line) (ready : urgent.Order) (delays : timed.Order) (ts : List Task) : Type 0 where

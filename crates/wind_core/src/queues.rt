@@ -6,7 +6,7 @@ ghost use Rattle.ready_queue.specs.Order.{taken_out as ready_without, rotated};
 ghost use Rattle.delay_queue.specs.Wakes.{taken_out as delays_without};
 ghost use Rattle.wind_core.specs.Orders.{wait_pri as wait_pri_lem};
 ghost use Rattle.wind_core.specs.Waiting.{mended};
-ghost use Rattle.wind_core.specs.Queues.{ready_mended, delays_mended};
+ghost use Rattle.wind_core.specs.Queues.{HaveRoom, ready_mended, delays_mended};
 
 use delay_queue::Delays;
 use id_table::Ident;
@@ -60,9 +60,7 @@ pub(crate) fn mend_delays(delays: &mut Delays, task: &Task)
 
 // Updates the task in all queues. If it is ready or has a wake, it goes after its equals.
 pub(crate) fn mend(waits: &mut Waits, ready: &mut Ready, delays: &mut Delays, task: &Task)
-    requires waits { length (without_waiter waits.old task.now.id).waiters < waits.old.room }
-    requires ready { length (ready_without ready.old.tasks task.now.id) < ready.old.room }
-    requires delays { length (delays_without delays.old.tasks task.now.id) < delays.old.room }
+    requires { HaveRoom waits.old ready.old delays.old task.now.id }
     ensures waits { waits.new ≡ mended waits.old task.now }
     ensures ready { ready.new ≡ ready_mended ready.old task.now }
     ensures delays { delays.new ≡ delays_mended delays.old task.now }

@@ -48,7 +48,7 @@ pub(crate) fn made(new: NewTask, id: Ident, since: u64) -> Task
 }
 
 // Whether a wait at this side of an object has no timeout, and is in order of priority.
-pub(crate) fn is_endless(side: u8) -> bool
+fn is_endless(side: u8) -> bool
     ensures { result ≡ is_endless_lem side }
 {
     side == DELETION || side == CONSOLE
@@ -56,7 +56,7 @@ pub(crate) fn is_endless(side: u8) -> bool
 
 // The tick at which a wait at this side times out; `timeout` is in ticks. None if it doesn't time
 // out.
-pub(crate) fn wake_tick(side: u8, tick: u64, timeout: u32) -> Option<u64>
+fn wake_tick(side: u8, tick: u64, timeout: u32) -> Option<u64>
     requires { tick < 2 ^ 63 }
     ensures { result ≡ wake_at side tick timeout }
 {
@@ -67,14 +67,15 @@ pub(crate) fn wake_tick(side: u8, tick: u64, timeout: u32) -> Option<u64>
     }
 }
 
-// Begins the task's wait.
-pub(crate) fn begin_wait(task: &mut Task, place: Place, fifo: bool, wake: Option<u64>)
-    ensures { task.new ≡ pended place fifo wake task.old }
+// Begins the task's wait, with a timeout in ticks.
+pub(crate) fn begin_wait(task: &mut Task, place: Place, fifo: bool, tick: u64, timeout: u32)
+    requires { tick < 2 ^ 63 }
+    ensures { task.new ≡ pended place fifo (wake_at place.side tick timeout) task.old }
 {
     let side = place.side;
     task.wait = Some(place);
     task.fifo = fifo && !is_endless(side);
-    task.wake = wake;
+    task.wake = wake_tick(side, tick, timeout);
     task.turns = 0;
 }
 

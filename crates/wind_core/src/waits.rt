@@ -9,7 +9,7 @@ ghost use Rattle.wind_core.specs.Releases.{release_all};
 
 use crate::kern::Kern;
 use crate::queues::mend;
-use crate::tasks::{answer_wait, begin_delay, begin_wait, end, renew, settle, wake_tick};
+use crate::tasks::{answer_wait, begin_delay, begin_wait, end, renew, settle};
 use id_table::{Ident, Place};
 use wind_base::Errno;
 
@@ -25,9 +25,9 @@ impl Kern {
         requires tick { self.old.tick < 2 ^ 63 }
         ensures { self.new ≡ pend self.old who place fifo timeout }
     {
-        let wake = wake_tick(place.side, self.tick, timeout);
+        let tick = self.tick;
         let task = self.tasks.object_mut(who);
-        begin_wait(task, place, fifo, wake);
+        begin_wait(task, place, fifo, tick, timeout);
         renew(task, &mut self.next_since);
         mend(&mut self.waits, &mut self.ready, &mut self.delays, task);
     }

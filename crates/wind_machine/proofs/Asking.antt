@@ -5,7 +5,7 @@ use Rattle.std.specs.Option.{option_map}
 use Rattle.wind_base.specs.declared.gate.Gate.{Gate}
 use Rattle.wind_base.specs.declared.gate.Gate.TheVariants as gates
 use Rattle.kernel_world.specs.State.{WorldState}
-use Rattle.wind_base.specs.Limits.{gates_start}
+use Rattle.wind_base.specs.Boards.{board_rules}
 use Rattle.wind_base.specs.Gates.{gate_at}
 use Rattle.kernel_world.specs.Starting.{no_regs}
 use Rattle.kernel_world.specs.Actors.{shell_id}
@@ -77,7 +77,7 @@ shell_ready s g = by_next s (λ n. actor_of n ≡ Some shell → IsReady s.world
 
 -- ---- its gate, seen in the world at its step
 pub same_gate : (s : State) → gate_under (shell_world s) shell_id ≡ gate_under s.world shell_id
-same_gate s = ap (λ o. gate_at gates_start (unwrap_or (option_map (λ t. t.regs) o) no_regs).pc) (own_found s.world.kern.tasks shell_id)
+same_gate s = ap (λ o. gate_at (board_rules s.world.board).gates_start (unwrap_or (option_map (λ t. t.regs) o) no_regs).pc) (own_found s.world.kern.tasks shell_id)
 
 -- ---- a step that needs a file may run out of memory
 pub asked_may : (s : State) (name : List ℕ) → file_asked s ≡ Some name → may_lack_memory s ≡ true

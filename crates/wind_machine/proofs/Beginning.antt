@@ -30,11 +30,11 @@ exact-opening Two = All-cons (λ t. t.pri ≡ lifted Two opening_kern [] t.id) f
 
 pub begins : StartLaw
 unfolding opening opening_world first_task
-begins console schedule slots profile = record {
+begins console schedule slots profile board = record {
   kept = record {
     console = start_keeps;
     read = λ e. absurd (cc);
-    world = opens slots profile;
+    world = opens slots profile board;
     shell = refl;
     reserved = All-cons Unreserved first_task [] (λ some. absurd (cc)) (All-nil Unreserved);
     sinces = omega arith;

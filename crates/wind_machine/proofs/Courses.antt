@@ -3,17 +3,19 @@ use Rattle.std.proofs.Common.{◌≡◌, ℕ, zero, suc, true, false, cond, eqb,
 use Rattle.std.specs.Prelude.{unwrap_or}
 use Rattle.std.specs.List.{All}
 use Rattle.std.proofs.lemmas.List.Elements.{All-head, All-drop}
+use Rattle.wind_base.specs.declared.board_kind.BoardKind.{BoardKind}
 use Rattle.wind_outside.specs.Devices.{DeviceState}
 use Rattle.wind_lists.specs.Sorting.{first}
 use Rattle.tick_file.specs.Schedule.{Timed, Timetable, timetable_of}
 use Rattle.tick_file.specs.declared.event.Event.{Event}
 use Rattle.tick_file.specs.declared.event.Event.TheVariants.{Tick, Rx}
+use Rattle.kernel_world.specs.State.{Choice, choice_of}
 use Rattle.kernel_world.specs.Actors.{shell_id}
 use Rattle.live_loading.specs.Said.{FileSaid}
 use Rattle.wind_machine.specs.State.{State}
 use Rattle.wind_machine.specs.Good.{Good}
 use Rattle.tick_file.specs.Laws.{IsEarly, EarlyLaw}
-use Rattle.wind_machine.specs.Laws.{RuleLaw, StartLaw, StepLaw, InstantLaw, SafetyLaw, OnlyUnsafeGo, RunLaw}
+use Rattle.wind_machine.specs.Laws.{ChoiceLaw, StartLaw, StepLaw, InstantLaw, SafetyLaw, OnlyUnsafeGo, RunLaw}
 use Rattle.wind_machine.specs.Run.{Answers, after}
 use Rattle.wind_machine.specs.Events.{event_comes, unreserved_world, without_next}
 use Rattle.wind_machine.specs.ActorSteps.{shell_step, task_step, step_of}
@@ -61,9 +63,9 @@ step_early : (said : FileSaid) (s t : State) → IsOnTime s → machine_step sai
 unfolding machine_step
 step_early said s t h e = subst (λ o. IfSome o IsOnTime) e (if_settled IsOnTime (state_after said s (next s)) (after_early said s (next s) h))
 
-starts_early : (console : List ℕ) (schedule : Timetable) (slots : List (Option DeviceState)) (profile : Profile) → All IsEarly schedule.events → IsOnTime (opening console schedule slots profile)
+starts_early : (console : List ℕ) (schedule : Timetable) (slots : List (Option DeviceState)) (profile : Profile) (board : BoardKind) → All IsEarly schedule.events → IsOnTime (opening console schedule slots profile board)
 unfolding opening
-starts_early console schedule slots profile h = h
+starts_early console schedule slots profile board h = h
 
 onward : StepLaw → (said : FileSaid) (s : State) → Good s × IsOnTime s → Good (unwrap_or (machine_step said s) s) × IsOnTime (unwrap_or (machine_step said s) s)
 onward step said s h =
@@ -76,21 +78,21 @@ course : StepLaw → (said : Answers) (s : State) → Good s × IsOnTime s → (
 course step said s h zero = h
 course step said s h (suc k) = onward step (said k) (after said s k) (course step said s h k)
 
--- the rule of inheritance stays
-onward_rule : RuleLaw → (said : FileSaid) (s : State) → Good s → (unwrap_or (machine_step said s) s).world.objects.mutexes.profile ≡ s.world.objects.mutexes.profile
-onward_rule rule said s g =
-    elim (machine_step said s) as (λ o. machine_step said s ≡ o → (unwrap_or o s).world.objects.mutexes.profile ≡ s.world.objects.mutexes.profile) [
+-- what was chosen at the start stays
+onward_choice : ChoiceLaw → (said : FileSaid) (s : State) → Good s → choice_of (unwrap_or (machine_step said s) s).world ≡ choice_of s.world
+onward_choice same said s g =
+    elim (machine_step said s) as (λ o. machine_step said s ≡ o → choice_of (unwrap_or o s).world ≡ choice_of s.world) [
       | None ↦ λ e. refl
-      | Some t ↦ λ e. rule said s t g e
+      | Some t ↦ λ e. same said s t g e
     ] refl
 
-course_rule : StepLaw → RuleLaw → (said : Answers) (s : State) → Good s × IsOnTime s → (k : ℕ) → (after said s k).world.objects.mutexes.profile ≡ s.world.objects.mutexes.profile
-course_rule step rule said s h zero = refl
-course_rule step rule said s h (suc k) = onward_rule rule (said k) (after said s k) (course step said s h k).0 ∙ course_rule step rule said s h k
+course_choice : StepLaw → ChoiceLaw → (said : Answers) (s : State) → Good s × IsOnTime s → (k : ℕ) → choice_of (after said s k).world ≡ choice_of s.world
+course_choice step same said s h zero = refl
+course_choice step same said s h (suc k) = onward_choice same (said k) (after said s k) (course step said s h k).0 ∙ course_choice step same said s h k
 
-starts_rule : (console : List ℕ) (schedule : Timetable) (slots : List (Option DeviceState)) (profile : Profile) → (opening console schedule slots profile).world.objects.mutexes.profile ≡ profile
+starts_choice : (console : List ℕ) (schedule : Timetable) (slots : List (Option DeviceState)) (choice : Choice) → choice_of (opening console schedule slots choice.profile choice.board).world ≡ choice
 unfolding opening opening_world
-starts_rule console schedule slots profile = refl
+starts_choice console schedule slots choice = refl
 
 -- in the step that follows, if there is one
 next_safe : SafetyLaw → (said : FileSaid) (s : State) → Good s → OnlyUnsafeGo s (unwrap_or (machine_step said s) s)
@@ -100,14 +102,14 @@ next_safe safety said s g =
       | Some t ↦ λ e. safety said s t g e
     ] refl
 
-pub runs_keep : StartLaw → StepLaw → RuleLaw → InstantLaw → SafetyLaw → EarlyLaw → RunLaw
-runs_keep start step rule instant safety early said console ticks slots profile k =
-    let begun = opening console (timetable_of ticks) slots profile in
-    let from : Good begun × IsOnTime begun = (start console (timetable_of ticks) slots profile, starts_early console (timetable_of ticks) slots profile (early ticks)) in
+pub runs_keep : StartLaw → StepLaw → ChoiceLaw → InstantLaw → SafetyLaw → EarlyLaw → RunLaw
+runs_keep start step same instant safety early said console ticks slots choice k =
+    let begun = opening console (timetable_of ticks) slots choice.profile choice.board in
+    let from : Good begun × IsOnTime begun = (start console (timetable_of ticks) slots choice.profile choice.board, starts_early console (timetable_of ticks) slots choice.profile choice.board (early ticks)) in
     let good = (course step said begun from k).0 in
     record {
       kept = good;
       instant = instant (after said begun k) good;
-      rule = course_rule step rule said begun from k ∙ starts_rule console (timetable_of ticks) slots profile;
+      chosen = course_choice step same said begun from k ∙ starts_choice console (timetable_of ticks) slots choice;
       safety = subst (λ n. OnlyUnsafeGo (after said begun k) (after said begun n)) (sym (add-one k)) (next_safe safety (said k) (after said begun k) good);
     }

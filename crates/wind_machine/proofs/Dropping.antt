@@ -48,15 +48,16 @@ module _ (f : Task → Task) (drops : Drops f) where
   mapped_reserves : (k : KernState) (who : Option ℕ) → ReservedBy who k → ReservedBy who (mapped f k)
   mapped_reserves k who h = all_map (λ t. IsSome t.regs.reserve → who ≡ Some t.id) f k.tasks (λ t own some. own (drops.reserve t some) ∙ ap Some (sym (drops.id t))) h
 
-  pub drop_advances : (w : WorldState) (n : ℕ) → IsWorld w → Within n w → KeepsObjects (mapped f w.kern) w.objects → Advances w (with_kern w (mapped f w.kern)) n 0 0
+  pub drop_advances : (w : WorldState) (n : ℕ) → IsWorld w → Within n w → KeepsObjects w.board (mapped f w.kern) w.objects → Advances w (with_kern w (mapped f w.kern)) n 0 0
   drop_advances w n kept within objects = record {
     kept = record {
       kern = kern-map f spares w.kern kept.kern;
       home = kept.home;
+      kind = kept.kind;
       objects = objects;
       pool = kept.pool;
       stacks = subst (λ s. AreStacks w.part (routine_stack ∷ s)) (sym (same_field stack_of f w.kern.tasks drops.stack)) kept.stacks;
-      modules = loaded_on w.kern w.part w.modules kept.modules (mapped f w.kern) (omega arith) (same_field stack_of f w.kern.tasks drops.stack);
+      modules = loaded_on w.kern w.part w.modules.rows kept.modules (mapped f w.kern) (omega arith) (same_field stack_of f w.kern.tasks drops.stack);
       ram = kept.ram;
       symbols = kept.symbols;
       watch = kept.watch;
@@ -70,7 +71,7 @@ module _ (f : Task → Task) (drops : Drops f) where
     count = refl;
     names = omega arith;
     starts = omega arith;
-    rule = refl;
+    choice = refl;
   }
 
 -- ---- that of one task, of all, of all others

@@ -12,6 +12,7 @@ use Rattle.wind_core.proofs.Ids.{ids-tick, lives_by}
 use Rattle.task_safety.specs.Safety.{safe_of}
 use Rattle.shell_parse.specs.Reading.{read_line}
 use Rattle.con_line.specs.Lines.{has_line, front_line, line_dropped}
+use Rattle.kernel_world.specs.State.{choice_of}
 use Rattle.kernel_world.specs.Actors.{shell_id}
 use Rattle.kernel_world.specs.Objects.{IsReady}
 use Rattle.kernel_world.specs.declared.actor.Actor.{Actor}
@@ -27,7 +28,7 @@ use Rattle.wind_machine.specs.Reserving.{unless_own, drop_all}
 use Rattle.wind_machine.specs.Shell.{prompt_part, read_part, eval_part}
 use Rattle.wind_machine.specs.Processor.{without_own, task_part}
 use Rattle.wind_machine.proofs.Steps.{if_settled}
-use Rattle.wind_machine.specs.Laws.{RuleLaw, OnlyUnsafeGo, SafetyLaw}
+use Rattle.wind_machine.specs.Laws.{ChoiceLaw, OnlyUnsafeGo, SafetyLaw}
 use Rattle.wind_machine.specs.Events.{Heard, heard_by, arrived, event_comes, event_step, unreserved_world, without_next}
 use Rattle.wind_machine.specs.ActorSteps.{at_turn, shell_world, task_step, shell_step, step_of, routine_step, load_step}
 use Rattle.wind_machine.specs.Next.{is_active, next}
@@ -146,51 +147,51 @@ pub safe_stay : LoadLaw → SafetyLaw
 unfolding machine_step
 safe_stay law said s t g e = subst (λ o. IfSome o (OnlyUnsafeGo s)) e (some_goes s (state_after said s (next s)) (next_goes law said s g.kept))
 
--- ---- the rule of inheritance
--- this state has the rule of that one
-abbrev SameRule : State → State → Type 0
-SameRule s t = t.world.objects.mutexes.profile ≡ s.world.objects.mutexes.profile
+-- ---- what was chosen at the start
+-- it is the same in this state as in that one
+abbrev SameChoice : State → State → Type 0
+SameChoice s t = choice_of t.world ≡ choice_of s.world
 
 module _ (s : State) (g : Keeps 0 (bare s)) where
-  part_rule : (who n : ℕ) (finished : List ℕ) (p : Part) → PartKeeps (at_turn s.world who) p who n finished → p.world.objects.mutexes.profile ≡ s.world.objects.mutexes.profile
-  part_rule who n finished p part = part.turns.rule ∙ (at_turn_advances s g who).rule
+  part_choice : (who n : ℕ) (finished : List ℕ) (p : Part) → PartKeeps (at_turn s.world who) p who n finished → choice_of p.world ≡ choice_of s.world
+  part_choice who n finished p part = part.turns.choice ∙ (at_turn_advances s g who).choice
 
-  task_rule : (who : ℕ) → Lives s.world.kern who → IsReady s.world.kern who → SameRule s (task_step s who)
-  task_rule who live ready = part_rule who (s.steps + 1) s.console.finished (task_part s.shell (at_turn s.world who) who) (acts s g who live ready)
+  task_choice : (who : ℕ) → Lives s.world.kern who → IsReady s.world.kern who → SameChoice s (task_step s who)
+  task_choice who live ready = part_choice who (s.steps + 1) s.console.finished (task_part s.shell (at_turn s.world who) who) (acts s g who live ready)
 
-  shell_rule : (p : Phase) → IsReady s.world.kern shell_id → SameRule s (shell_step p s)
-  shell_rule phases.Prompt ready = part_rule shell_id (s.steps + 1) s.console.finished (prompt_part (has_line s.console) s.shell (shell_world s)) (prompts s g)
-  shell_rule phases.Read ready = part_rule shell_id (s.steps + 1) (line_dropped s.console).finished (read_part (read_line (front_line s.console)) (shell_world s)) (reads s g)
-  shell_rule phases.Eval ready = part_rule shell_id (s.steps + 1) s.console.finished (eval_part s.shell.trees (shell_world s)) (evaluates s g ready)
-  shell_rule phases.Call ready = task_rule shell_id g.shell ready
+  shell_choice : (p : Phase) → IsReady s.world.kern shell_id → SameChoice s (shell_step p s)
+  shell_choice phases.Prompt ready = part_choice shell_id (s.steps + 1) s.console.finished (prompt_part (has_line s.console) s.shell (shell_world s)) (prompts s g)
+  shell_choice phases.Read ready = part_choice shell_id (s.steps + 1) (line_dropped s.console).finished (read_part (read_line (front_line s.console)) (shell_world s)) (reads s g)
+  shell_choice phases.Eval ready = part_choice shell_id (s.steps + 1) s.console.finished (eval_part s.shell.trees (shell_world s)) (evaluates s g ready)
+  shell_choice phases.Call ready = task_choice shell_id g.shell ready
 
-  whoever_rule : (who : ℕ) → Lives s.world.kern who → IsReady s.world.kern who → SameRule s (step_of s who)
-  whoever_rule who live ready =
-      elim (eqb who shell_id) as (λ b. eqb who shell_id ≡ b → SameRule s (cond b (shell_step s.shell.phase s) (task_step s who))) [
-        | true ↦ λ e. shell_rule s.shell.phase (subst (IsReady s.world.kern) (eqb-true who shell_id e) ready)
-        | false ↦ λ e. task_rule who live ready
+  whoever_choice : (who : ℕ) → Lives s.world.kern who → IsReady s.world.kern who → SameChoice s (step_of s who)
+  whoever_choice who live ready =
+      elim (eqb who shell_id) as (λ b. eqb who shell_id ≡ b → SameChoice s (cond b (shell_step s.shell.phase s) (task_step s who))) [
+        | true ↦ λ e. shell_choice s.shell.phase (subst (IsReady s.world.kern) (eqb-true who shell_id e) ready)
+        | false ↦ λ e. task_choice who live ready
       ] refl
 
-  load_rule : LoadLaw → IsReady s.world.kern shell_id → (name : List ℕ) (said : FileSaid) → SameRule s (load_step said s name)
-  load_rule law ready name said =
+  load_choice : LoadLaw → IsReady s.world.kern shell_id → (name : List ℕ) (said : FileSaid) → SameChoice s (load_step said s name)
+  load_choice law ready name said =
       let part = part_of s.shell (without_own (load_call (shell_world s) name said) shell_id) in
-      part_rule shell_id (s.steps + 1) s.console.finished part (loads s g law ready name said)
+      part_choice shell_id (s.steps + 1) s.console.finished part (loads s g law ready name said)
 
-event_rule : (s : State) (e : Event) → SameRule s (event_comes s e)
-event_rule s Tick = refl
-event_rule s (Rx n) = refl
+event_choice : (s : State) (e : Event) → SameChoice s (event_comes s e)
+event_choice s Tick = refl
+event_choice s (Rx n) = refl
 
-next_rule : LoadLaw → (said : FileSaid) (s : State) → Keeps 0 (bare s) → IfSome (state_after said s (next s)) (SameRule s)
-next_rule law said s g = by_next s (λ n. IfSome (state_after said s n) (SameRule s)) (record {
-  come = λ e due. event_rule (record s { schedule = without_next s.schedule; world = unreserved_world s.world }) e.event;
+next_choice : LoadLaw → (said : FileSaid) (s : State) → Keeps 0 (bare s) → IfSome (state_after said s (next s)) (SameChoice s)
+next_choice law said s g = by_next s (λ n. IfSome (state_after said s n) (SameChoice s)) (record {
+  come = λ e due. event_choice (record s { schedule = without_next s.schedule; world = unreserved_world s.world }) e.event;
   arrive = λ quiet due. refl;
-  routine = λ nothing active. (routine_turns s g active).rule;
-  act = λ left t runs none. whoever_rule s g t.id (runner_there s.world.kern g.world.kern t runs) (runner_ready s.world.kern g.world.kern t runs);
-  load = λ left t runs own name found. load_rule s g law (subst (IsReady s.world.kern) own (runner_ready s.world.kern g.world.kern t runs)) name said;
+  routine = λ nothing active. (routine_turns s g active).choice;
+  act = λ left t runs none. whoever_choice s g t.id (runner_there s.world.kern g.world.kern t runs) (runner_ready s.world.kern g.world.kern t runs);
+  load = λ left t runs own name found. load_choice s g law (subst (IsReady s.world.kern) own (runner_ready s.world.kern g.world.kern t runs)) name said;
   jump = λ left nobody e there. refl;
   over = λ left nobody none. tt;
 })
 
-pub rule_stays : LoadLaw → RuleLaw
+pub choice_stays : LoadLaw → ChoiceLaw
 unfolding machine_step
-rule_stays law said s t g e = subst (λ o. IfSome o (SameRule s)) e (if_settled (SameRule s) (state_after said s (next s)) (next_rule law said s g.kept))
+choice_stays law said s t g e = subst (λ o. IfSome o (SameChoice s)) e (if_settled (SameChoice s) (state_after said s (next s)) (next_choice law said s g.kept))

@@ -4,6 +4,7 @@ use Rattle.std.specs.Option.{option_map}
 use Rattle.std.specs.List.{fold}
 use Rattle.std.proofs.lemmas.List.{length-take}
 use Rattle.std.proofs.lemmas.List.Quantifiers.{position-Some}
+use Rattle.wind_base.specs.declared.board_kind.BoardKind.{BoardKind}
 use Rattle.task_block.specs.declared.task.Task.{Task}
 use Rattle.task_block.specs.Standing.{is_ready}
 use Rattle.wind_lists.specs.Records.{change}
@@ -119,7 +120,7 @@ pub record HeardWell (from : KernState) (h : Heard) (n d spent : ℕ) : Type 0 w
   pub lines : KeepsLines h.console.edited h.console.finished
   pub read : HasItsLine h.shell.phase h.console.finished
   pub goes : Goes from h.kern n d
-  pub objects : (o : Objects) → KeepsObjects from o → KeepsObjects h.kern o
+  pub objects : (board : BoardKind) (o : Objects) → KeepsObjects board from o → KeepsObjects board h.kern o
   pub spends : h.kern.next_since + owed h.kern ≤ from.next_since + owed from + spent
 
 after_goes : (d : ByteDone) (waits : Bool) (k : KernState) (n : ℕ) → IsKern k → CountsWithin n k → Goes k (kern_after d waits k) n 2
@@ -136,27 +137,27 @@ task_free : (o : Option Task) → is_held o ≡ false → IfSome o (λ t. t.wait
 task_free None e = tt
 task_free (Some t) e = elim t.wait as (λ w. (is_some w || is_some t.wake) ≡ false → w ≡ None) [ None ↦ λ q. refl | Some p ↦ λ q. absurd (cc) ] e
 
-objects-let_go : (k : KernState) (o : Objects) → IsKern k → KeepsObjects k o → KeepsObjects (let_go k) o
-objects-let_go k o is kept = elim (is_held (shell_task k)) as (λ b. KeepsObjects (cond b (release k shell_id) k) o) [ true ↦ objects-move k o is kept (Release shell_id) (tt, tt, tt, tt) | false ↦ kept ]
+objects-let_go : {board : BoardKind} (k : KernState) (o : Objects) → IsKern k → KeepsObjects board k o → KeepsObjects board (let_go k) o
+objects-let_go {board} k o is kept = elim (is_held (shell_task k)) as (λ b. KeepsObjects board (cond b (release k shell_id) k) o) [ true ↦ objects-move k o is kept (Release shell_id) (tt, tt, tt, tt) | false ↦ kept ]
 
 is-let_go : (k : KernState) → IsKern k → IsKern (let_go k)
 is-let_go k is = elim (is_held (shell_task k)) as (λ b. IsKern (cond b (release k shell_id) k)) [ true ↦ move_keeps k (Release shell_id) is tt | false ↦ is ]
 
-pub objects-aborted : (k : KernState) (o : Objects) → IsKern k → KeepsObjects k o → KeepsObjects (aborted k) o
+pub objects-aborted : {board : BoardKind} (k : KernState) (o : Objects) → IsKern k → KeepsObjects board k o → KeepsObjects board (aborted k) o
 objects-aborted k o is kept =
     objects-move (let_go k) o (is-let_go k is) (objects-let_go k o is kept) (Reset shell_id) (tt, task_free (shell_task (let_go k)) (free_after_let_go k), tt, tt)
 
-after_objects : (d : ByteDone) (waits : Bool) (k : KernState) (o : Objects) → IsKern k → KeepsObjects k o → KeepsObjects (kern_after d waits k) o
-after_objects done.Abort waits k o is kept = objects-aborted k o is kept
-after_objects done.Line waits k o is kept = elim waits as (λ b. KeepsObjects (cond b (release k shell_id) k) o) [ true ↦ objects-move k o is kept (Release shell_id) (tt, tt, tt, tt) | false ↦ kept ]
-after_objects done.Kept waits k o is kept = kept
+after_objects : {board : BoardKind} (d : ByteDone) (waits : Bool) (k : KernState) (o : Objects) → IsKern k → KeepsObjects board k o → KeepsObjects board (kern_after d waits k) o
+after_objects {board} done.Abort waits k o is kept = objects-aborted k o is kept
+after_objects {board} done.Line waits k o is kept = elim waits as (λ b. KeepsObjects board (cond b (release k shell_id) k) o) [ true ↦ objects-move k o is kept (Release shell_id) (tt, tt, tt, tt) | false ↦ kept ]
+after_objects {board} done.Kept waits k o is kept = kept
 
 hear_well : (from : KernState) (h : Heard) (b n d spent : ℕ) → HeardWell from h n d spent → HeardWell from (hear h b) n (d + 2) (spent + 1)
 hear_well from h b n d spent w = record {
   lines = byte_keeps h.console b w.lines;
   read = byte_has_line h.console (waits_for_console h.kern) h.shell b w.read;
   goes = goes_on from h.kern (hear h b).kern n n d 2 w.goes (after_goes (byte_done h.console b) (waits_for_console h.kern) h.kern n w.goes.kern w.goes.counts);
-  objects = λ o kept. after_objects (byte_done h.console b) (waits_for_console h.kern) h.kern o w.goes.kern (w.objects o kept);
+  objects = λ board o kept. after_objects (byte_done h.console b) (waits_for_console h.kern) h.kern o w.goes.kern (w.objects board o kept);
   spends = omega (arith, w.spends, after_spends (byte_done h.console b) h.kern);
 }
 
@@ -176,9 +177,9 @@ heard_well from h (b ∷ bs) n d spent w =
 -- bytes that arrive at a console and a kernel with the invariant
 pub heard_keeps : (console : ConsoleState) (shell : ShellState) (k : KernState) (echo bytes : List ℕ) (n : ℕ) → KeepsLines console.edited console.finished → HasItsLine shell.phase console.finished → IsKern k → CountsWithin n k
     → (h : Heard) → h ≡ heard_all (heard_from console shell k echo) bytes
-    → KeepsLines h.console.edited h.console.finished × HasItsLine h.shell.phase h.console.finished × Goes k h.kern n (length bytes + 1) × ((o : Objects) → KeepsObjects k o → KeepsObjects h.kern o)
+    → KeepsLines h.console.edited h.console.finished × HasItsLine h.shell.phase h.console.finished × Goes k h.kern n (length bytes + 1) × ((board : BoardKind) (o : Objects) → KeepsObjects board k o → KeepsObjects board h.kern o)
 heard_keeps console shell k echo bytes n lines read is within h e =
-    let start : HeardWell k (heard_from console shell k echo) n 0 0 = record { lines = lines; read = read; goes = goes_nowhere k n is within; objects = λ o kept. kept; spends = omega arith } in
+    let start : HeardWell k (heard_from console shell k echo) n 0 0 = record { lines = lines; read = read; goes = goes_nowhere k n is within; objects = λ board o kept. kept; spends = omega arith } in
     let w : HeardWell k h n (0 + 2 * length bytes) (0 + length bytes) = subst (λ g. HeardWell k g n (0 + 2 * length bytes) (0 + length bytes)) (sym e) (heard_well k (heard_from console shell k echo) bytes n 0 0 start) in
     let one : owed k ≤ 1 = elim (is_held (shell_task k)) as (λ b. cond b 1 0 ≤ 1) [ true ↦ omega arith | false ↦ omega arith ] in
     (w.lines, w.read, record { kern = w.goes.kern; alone = w.goes.alone; stacks = w.goes.stacks; lent = w.goes.lent; last = w.goes.last; reserves = w.goes.reserves; counts = w.goes.counts; sinces = omega (arith, w.spends, one); next = w.goes.next; count = w.goes.count }, w.objects)

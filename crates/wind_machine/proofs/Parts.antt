@@ -79,7 +79,7 @@ module _ (w : WorldState) (n : ℕ) (kept : IsWorld w) (within : Within n w) whe
     called : (v : WorldState) → IsFree v.kern shell_id → Turns w v shell_id (n + 1) → (callee : ℕ) (words : List ℕ) → Turns w (calling v callee words) shell_id (n + 1)
     called v free t callee words =
         let u = with_kern v (calling v callee words).kern in
-        touched w u shell_id (n + 1) (gave_regs w v shell_id (n + 1) t (call_regs callee words) free) (calling v callee words).ram v.slots v.output (framed_size v.ram stack_pointer words)
+        touched w u shell_id (n + 1) (gave_regs w v shell_id (n + 1) t (call_regs v.board callee words) free) (calling v callee words).ram v.slots v.output (framed_size v.ram stack_pointer words)
 
     comes_to : (e : Ending) (behind : List (Option Pending)) (v : WorldState) → IsFree v.kern shell_id → Turns w v shell_id (n + 1) → PartKeeps w (came_to e behind v) shell_id (n + 1) finished
     comes_to (Value value) behind v free t = record { turns = wrote w v shell_id (n + 1) t (v.output ++ value_text value); read = needs_none (shell_with behind).phase finished (behind_phase behind) }

@@ -1,8 +1,11 @@
 -- What a step of an interrupt routine keeps.
-use Rattle.std.proofs.Common.{◌≡◌, ℕ, ◌+◌, true, false, cond, eqb, List, ◌++◌, length, map, Option, None, Some, IsSome, is_some, refl, arith}
+use Rattle.std.proofs.Common.{◌≡◌, ℕ, ◌+◌, true, false, cond, eqb, List, [], ◌∷◌, ◌++◌, length, map, Option, None, Some, IsSome, is_some, refl, ap, arith}
+use Rattle.std.specs.Option.{option_map}
 use Rattle.wind_base.specs.Gates.{gate_number}
+use Rattle.wind_base.specs.declared.board_kind.BoardKind.TheVariants.{One}
 use Rattle.wind_base.specs.declared.gate.Gate.{Gate}
 use Rattle.wind_base.specs.declared.gate.Gate.TheVariants as gates
+use Rattle.wind_base.specs.declared.regs.Regs.{Regs}
 use Rattle.wind_outside.specs.Devices.{DeviceState}
 use Rattle.ppc_core.specs.Instructions.{exec_of}
 use Rattle.ppc_core.specs.Outcomes.{Outcome, Done, Trapped}
@@ -12,7 +15,8 @@ use Rattle.board_bus.specs.BusState.{BusState}
 use Rattle.board_bus.specs.Access.{board_meaning, fetched}
 use Rattle.id_table.specs.Rows as table
 use Rattle.isr_watch.specs.State.{watchdog_id}
-use Rattle.isr_watch.specs.Calls.{finish, with_level}
+use Rattle.isr_watch.specs.declared.watchdog.Routine.{Routine}
+use Rattle.isr_watch.specs.Calls.{level_of, finish, with_level}
 use Rattle.isr_watch.proofs.Keeping.{watch_stays}
 use Rattle.kernel_world.specs.State.{WorldState}
 use Rattle.kernel_world.specs.Kept.{IsWorld, Within, call_sinces}
@@ -27,8 +31,9 @@ use Rattle.kernel_calls.proofs.Passing.{call_passes}
 use Rattle.kernel_calls.proofs.Serves.{passes_by, passes_before}
 use Rattle.wind_machine.specs.Processor.{bus_of, with_bus}
 use Rattle.wind_machine.specs.Text.{routine_text}
+use Rattle.wind_machine.specs.Laws.{ReturnLaw}
 use Rattle.wind_machine.specs.Next.{is_active}
-use Rattle.wind_machine.specs.Routine.{interrupt_top, with_watch, routine_regs, next_routine, given_up, without_reserve, routine_call, routine_gate, routine_executed, routine_word, routine_at, routine_under, routine_part}
+use Rattle.wind_machine.specs.Routine.{interrupt_top, routine_return, with_watch, routine_regs, next_routine, given_up, without_reserve, routine_call, routine_gate, routine_executed, routine_word, routine_at, routine_under, routine_part}
 use Rattle.wind_machine.proofs.Executing.{IfDone, executing_lasts, sizes_last}
 
 -- from a world to another within a step of a routine
@@ -37,14 +42,26 @@ RoutinePasses w v n = Passes w v Interrupt (n + 1) call_sinces 1
 
 -- RAM has the same size
 resized : (w : WorldState) (n : ℕ) → IsWorld w → Within n w → (ram : List ℕ) (slots : List (Option DeviceState)) → length ram ≡ length w.ram → Advances w (record w { ram = ram; slots = slots }) n 0 0
-resized w n kept within ram slots same = of_parts w kept n within w.part w.symbols w.modules ram slots w.output w.int_errno kept.pool kept.stacks kept.modules kept.symbols same (fewer_same (table.ids w.modules) (table.ids w.modules) refl)
+resized w n kept within ram slots same = of_parts w kept n within w.part w.symbols w.modules.rows ram slots w.output w.int_errno kept.pool kept.stacks kept.modules kept.symbols same (fewer_same (table.ids w.modules.rows) (table.ids w.modules.rows) refl)
+
+-- on board 1 the gate that a routine is begun with is the board's
+begun_already : (top : ℕ) (xs : List Routine) → option_map (λ (r : Regs). record r { lr = routine_return One }) (level_of top xs) ≡ level_of top xs
+begun_already top [] = refl
+begun_already top (x ∷ xs) = refl
+
+pub returns_already : ReturnLaw
+returns_already s top = ap (λ l. record (finish s top) { level = l }) (begun_already top s.listed)
 
 -- the next routine is active, or none
 done_advances : (w : WorldState) (n : ℕ) → IsWorld w → Within n w → Advances w (next_routine w) n 0 0
 done_advances w n kept within =
+    let v = with_watch w (finish w.watch interrupt_top) in
+    let ended =
     of_watches w kept n within w.kern (finish w.watch interrupt_top) 0 (goes_nowhere w.kern n kept.kern within.0) kept.objects
     (record { watch = (watch_stays w.kern.next_id w.watch kept.watch.watch kept.watch.ids).finishing interrupt_top; ids = kept.watch.ids }) (omega arith)
     (given_none w.kern.next_id w.kern.next_id (map watchdog_id w.watch.watchdogs) (omega arith))
+    in
+    advances_on w v (next_routine w) n n 0 0 0 0 ended (at_routine v ended.kept n ended.within (λ r. record r { lr = routine_return w.board }))
 
 active_some : {A : Type 0} (o : Option A) → is_some o ≡ true → IsSome o
 active_some None e = absurd (cc)

@@ -28,7 +28,7 @@ use Rattle.kernel_world.proofs.ObjectMoves.{objects-move}
 use Rattle.kernel_world.proofs.Holding.{loaded_on}
 use Rattle.kernel_world.proofs.LiveIds.{Nothing, fewer_same, ids_map}
 use Rattle.kernel_world.proofs.WorldIds.{ids_watch}
-use Rattle.kernel_world.proofs.Advancing.{Advances, watch_on, by_kern, within_more}
+use Rattle.kernel_world.proofs.Advancing.{Advances, level_is, watch_on, by_kern, within_more}
 use Rattle.live_loading.specs.Said.{FileSaid}
 use Rattle.live_loading.specs.Loading.{load_call}
 use Rattle.live_loading.specs.Laws.{LoadLaw}
@@ -38,7 +38,7 @@ use Rattle.wind_machine.specs.Feed.{chunk, after_chunk, brought}
 use Rattle.wind_machine.specs.Part.{Part, part_of}
 use Rattle.wind_machine.specs.Shell.{prompt_part, read_part, shell_read, eval_part}
 use Rattle.wind_machine.specs.Processor.{without_own, task_part}
-use Rattle.wind_machine.specs.Routine.{interrupt_top}
+use Rattle.wind_machine.specs.Routine.{interrupt_top, routine_return, with_return}
 use Rattle.wind_machine.specs.Events.{Heard, heard_by, arrived, arrival, ticked, received, event_comes, event_step, unreserved_world, without_next, jump, cleared, next_event}
 use Rattle.wind_machine.specs.ActorSteps.{at_turn, shell_world, stepped, prompt_step, read_step, eval_step, task_step, shell_step, step_of, routine_step}
 use Rattle.wind_machine.specs.Next.{is_active, next}
@@ -71,7 +71,7 @@ module _ (s : State) (g : Keeps 0 (bare s)) where
   at_turn_advances who =
       let a = others_advance s.world s.steps g.world g.within who in
       record {
-        kept = record { kern = a.kept.kern; home = a.kept.home; objects = a.kept.objects; pool = a.kept.pool; stacks = a.kept.stacks; modules = a.kept.modules; ram = a.kept.ram; symbols = a.kept.symbols; watch = a.kept.watch; ids = a.kept.ids };
+        kept = record { kern = a.kept.kern; home = a.kept.home; kind = a.kept.kind; objects = a.kept.objects; pool = a.kept.pool; stacks = a.kept.stacks; modules = a.kept.modules; ram = a.kept.ram; symbols = a.kept.symbols; watch = a.kept.watch; ids = a.kept.ids };
         lives = a.lives;
         within = a.within;
         last = a.last;
@@ -80,7 +80,7 @@ module _ (s : State) (g : Keeps 0 (bare s)) where
         count = a.count;
         names = a.names;
         starts = a.starts;
-        rule = a.rule;
+        choice = a.choice;
       }
 
   stepped_keeps : (console : ConsoleState) (who : ℕ) (p : Part) → KeepsLines console.edited console.finished → PartKeeps (at_turn s.world who) p who (s.steps + 1) console.finished
@@ -91,7 +91,7 @@ module _ (s : State) (g : Keeps 0 (bare s)) where
       record {
         console = lines;
         read = part.read;
-        world = record { kern = move_keeps p.world.kern (SetLast (Some who)) kept.kern tt; home = kept.home; objects = objects-move p.world.kern p.world.objects kept.kern kept.objects (SetLast (Some who)) (tt, tt, tt, tt); pool = kept.pool; stacks = kept.stacks; modules = kept.modules; ram = kept.ram; symbols = kept.symbols; watch = kept.watch; ids = kept.ids };
+        world = record { kern = move_keeps p.world.kern (SetLast (Some who)) kept.kern tt; home = kept.home; kind = kept.kind; objects = objects-move p.world.kern p.world.objects kept.kern kept.objects (SetLast (Some who)) (tt, tt, tt, tt); pool = kept.pool; stacks = kept.stacks; modules = kept.modules; ram = kept.ram; symbols = kept.symbols; watch = kept.watch; ids = kept.ids };
         shell = turns.shell ((at_turn_advances who).lives shell_id g.shell);
         reserved = turns.reserves (others_reserved s.world.kern who);
         sinces = omega (arith, turns.sinces, g.sinces);
@@ -160,7 +160,7 @@ module _ (s : State) (g : Keeps 0 (bare s)) where
   routine_turns active =
       let a = all_advance s.world s.steps g.world g.within in
       let w = cleared (unreserved_world s.world) in
-      let kept : IsWorld w = record { kern = a.kept.kern; home = a.kept.home; objects = a.kept.objects; pool = a.kept.pool; stacks = a.kept.stacks; modules = a.kept.modules; ram = a.kept.ram; symbols = a.kept.symbols; watch = a.kept.watch; ids = a.kept.ids } in
+      let kept : IsWorld w = record { kern = a.kept.kern; home = a.kept.home; kind = a.kept.kind; objects = a.kept.objects; pool = a.kept.pool; stacks = a.kept.stacks; modules = a.kept.modules; ram = a.kept.ram; symbols = a.kept.symbols; watch = a.kept.watch; ids = a.kept.ids } in
       routine_passes w s.steps kept a.within active
 
   routine_keeps : is_active s.world ≡ true → KeepsEffect (routine_step s)
@@ -186,11 +186,11 @@ module _ (s : State) (g : Keeps 0 (bare s)) where
   arrived_keeps : (left bytes : List ℕ) (h : Heard) → length bytes ≤ 4097 → h ≡ heard_by s bytes → KeepsEffect (arrived s left h)
   arrived_keeps left bytes h short e =
       let heard = heard_keeps s.console s.shell s.world.kern [] bytes (s.steps + 1) g.console g.read g.world.kern more_counts.0 h e in
-      let a = by_kern s.world g.world h.kern (s.steps + 1) (length bytes + 1) heard.2 (heard.3 s.world.objects g.world.objects) more_counts.1 in
+      let a = by_kern s.world g.world h.kern (s.steps + 1) (length bytes + 1) heard.2 (heard.3 s.world.board s.world.objects g.world.objects) more_counts.1 in
       record {
         console = heard.0;
         read = heard.1;
-        world = record { kern = a.kept.kern; home = a.kept.home; objects = a.kept.objects; pool = a.kept.pool; stacks = a.kept.stacks; modules = a.kept.modules; ram = a.kept.ram; symbols = a.kept.symbols; watch = a.kept.watch; ids = a.kept.ids };
+        world = record { kern = a.kept.kern; home = a.kept.home; kind = a.kept.kind; objects = a.kept.objects; pool = a.kept.pool; stacks = a.kept.stacks; modules = a.kept.modules; ram = a.kept.ram; symbols = a.kept.symbols; watch = a.kept.watch; ids = a.kept.ids };
         shell = a.lives shell_id g.shell;
         reserved = subst (λ who. ReservedBy who h.kern) (sym a.last) (a.reserves s.world.kern.last g.reserved);
         sinces = omega (arith, a.sinces, g.sinces, short);
@@ -210,11 +210,11 @@ module _ (s : State) (g : Keeps 0 (bare s)) where
       arrived_keeps (drop (brought n) s.left) bytes (heard_by s bytes) (omega (arith, length-take (brought n) s.left)) refl
 
   -- ---- a tick occurs
-  ticks_watch : (n : ℕ) → KeepsWatch s.world.kern.next_id (due s.world.watch n interrupt_top)
+  ticks_watch : (n : ℕ) → KeepsWatch s.world.kern.next_id (with_return s.world.board (due s.world.watch n interrupt_top))
   ticks_watch n =
       let w = g.world.watch in
       record {
-        watch = (watch_stays s.world.kern.next_id s.world.watch w.watch w.ids).ticking n interrupt_top;
+        watch = level_is (λ r. record r { lr = routine_return s.world.board }) (due s.world.watch n interrupt_top) ((watch_stays s.world.kern.next_id s.world.watch w.watch w.ids).ticking n interrupt_top);
         ids = (ids_stay s.world.kern.next_id s.world.watch w.ids).ticking n interrupt_top;
       }
 
@@ -230,14 +230,15 @@ module _ (s : State) (g : Keeps 0 (bare s)) where
         world = record {
           kern = tick_keeps k g.world.kern;
           home = lent-tick k ∙ g.world.home;
+          kind = g.world.kind;
           objects = objects-move k s.world.objects g.world.kern g.world.objects Tick (tt, tt, tt, tt);
           pool = g.world.pool;
           stacks = subst (λ ats. AreStacks s.world.part (routine_stack ∷ ats)) (sym (stacks-tick k)) g.world.stacks;
-          modules = loaded_on k s.world.part s.world.modules g.world.modules (tick k) (omega (arith, next-tick k)) (stacks-tick k);
+          modules = loaded_on k s.world.part s.world.modules.rows g.world.modules (tick k) (omega (arith, next-tick k)) (stacks-tick k);
           ram = g.world.ram;
           symbols = g.world.symbols;
           watch = watch_on k.next_id (tick k).next_id _ (omega (arith, next-tick k)) (ticks_watch (tick k).tick);
-          ids = ids_watch s.world g.world.ids (tick k) (due s.world.watch (tick k).tick interrupt_top) (ids-tick k)
+          ids = ids_watch s.world g.world.ids (tick k) (with_return s.world.board (due s.world.watch (tick k).tick interrupt_top)) (ids-tick k)
               (Nothing (omega (arith, next-tick k)) (fewer_same (map watchdog_id s.world.watch.watchdogs) _ (ids_map watchdog_id (λ v. cond (is_due (tick k).tick v) (stopped v) v) s.world.watch.watchdogs (stops_alike (tick k).tick))));
         };
         shell = lives_by (tick k).tasks k.tasks shell_id (ids-tick k) g.shell;
@@ -277,7 +278,7 @@ module _ (s : State) (g : Keeps 0 (bare s)) where
   jump_keeps e early = record {
     console = g.console;
     read = g.read;
-    world = record { kern = g.world.kern; home = g.world.home; objects = g.world.objects; pool = g.world.pool; stacks = g.world.stacks; modules = g.world.modules; ram = g.world.ram; symbols = g.world.symbols; watch = g.world.watch; ids = g.world.ids };
+    world = record { kern = g.world.kern; home = g.world.home; kind = g.world.kind; objects = g.world.objects; pool = g.world.pool; stacks = g.world.stacks; modules = g.world.modules; ram = g.world.ram; symbols = g.world.symbols; watch = g.world.watch; ids = g.world.ids };
     shell = g.shell;
     reserved = g.reserved;
     sinces = omega (arith, g.sinces);
@@ -320,7 +321,7 @@ settles s g =
       kept = record {
         console = g.console;
         read = g.read;
-        world = record { kern = a.kept.kern; home = a.kept.home; objects = a.kept.objects; pool = a.kept.pool; stacks = a.kept.stacks; modules = a.kept.modules; ram = a.kept.ram; symbols = a.kept.symbols; watch = a.kept.watch; ids = a.kept.ids };
+        world = record { kern = a.kept.kern; home = a.kept.home; kind = a.kept.kind; objects = a.kept.objects; pool = a.kept.pool; stacks = a.kept.stacks; modules = a.kept.modules; ram = a.kept.ram; symbols = a.kept.symbols; watch = a.kept.watch; ids = a.kept.ids };
         shell = a.lives shell_id g.shell;
         reserved = subst (λ who. ReservedBy who (settled_kern k o)) (sym a.last) (a.reserves k.last g.reserved);
         sinces = omega (arith, a.sinces, g.sinces);

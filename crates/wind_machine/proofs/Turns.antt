@@ -22,7 +22,7 @@ use Rattle.wind_core.proofs.Ids.{ids-change, lives_by}
 use Rattle.wind_core.proofs.Moving.{move_keeps}
 use Rattle.wind_core.proofs.Stable.{All-change}
 use Rattle.wind_core.proofs.Unwritten.{map-change}
-use Rattle.kernel_world.specs.State.{WorldState}
+use Rattle.kernel_world.specs.State.{WorldState, choice_of}
 use Rattle.kernel_world.specs.Actors.{shell_id}
 use Rattle.kernel_world.specs.Starting.{cleared, framed}
 use Rattle.task_calls.specs.Ending.{ended}
@@ -33,6 +33,7 @@ use Rattle.kernel_world.specs.declared.actor.Actor.TheVariants.{Task as by_task}
 use Rattle.kernel_world.proofs.WorldIds.{ids_kern}
 use Rattle.kernel_world.proofs.Holding.{loaded_on, loaded_with}
 use Rattle.kernel_world.proofs.Stacks.{is_there}
+use Rattle.kernel_world.proofs.Boards.{pool_in_ram}
 use Rattle.kernel_world.proofs.Advancing.{Advances, within_more}
 use Rattle.kernel_world.proofs.ObjectMoves.{objects-move}
 use Rattle.kernel_calls.proofs.Departing.{ends}
@@ -55,7 +56,7 @@ pub record Turns (w v : WorldState) (who n : ℕ) : Type 0 where
   pub count : v.kern.tick ≡ w.kern.tick
   pub names : v.names ≤ w.names + 1
   pub starts : v.watch.next_start ≤ w.watch.next_start + 1
-  pub rule : v.objects.mutexes.profile ≡ w.objects.mutexes.profile
+  pub choice : choice_of v ≡ choice_of w
 
 pub turns_by : (w v : WorldState) (who n d m : ℕ) → d ≤ call_sinces → m ≤ 1 → Advances w v n d m → Turns w v who n
 turns_by w v who n d m few one a = record {
@@ -68,7 +69,7 @@ turns_by w v who n d m few one a = record {
   count = a.count;
   names = omega (arith, a.names, one);
   starts = omega (arith, a.starts, one);
-  rule = a.rule;
+  choice = a.choice;
 }
 
 -- by a call of a task
@@ -83,7 +84,7 @@ turns_passed w v who n d m few one p = record {
   count = p.count;
   names = omega (arith, p.names, one);
   starts = omega (arith, p.starts, one);
-  rule = p.rule;
+  choice = p.choice;
 }
   where
     by_itself : (id : ℕ) → (safe_of (task_of w.kern.tasks id) ≡ 0) ⊎ (by_task who ≡ by_task id) → (safe_of (task_of w.kern.tasks id) ≡ 0) ⊎ (who ≡ id)
@@ -102,11 +103,11 @@ turns_then w v u who n t a = record {
   count = a.count ∙ t.count;
   names = omega (arith, a.names, t.names);
   starts = omega (arith, a.starts, t.starts);
-  rule = a.rule ∙ t.rule;
+  choice = a.choice ∙ t.choice;
 }
 
 pub nowhere : (w : WorldState) (who n : ℕ) → IsWorld w → Within n w → Turns w w who n
-nowhere w who n kept within = record { kept = kept; shell = λ h. h; gone = λ id live dead. absurd (dead live); within = within; reserves = λ h. h; sinces = omega arith; count = refl; names = omega arith; starts = omega arith; rule = refl }
+nowhere w who n kept within = record { kept = kept; shell = λ h. h; gone = λ id live dead. absurd (dead live); within = within; reserves = λ h. h; sinces = omega arith; count = refl; names = omega arith; starts = omega arith; choice = refl }
 
 pub more_counts : (w v : WorldState) (who n : ℕ) → Turns w v who n → Turns w v who (n + 1)
 more_counts w v who n t = record {
@@ -119,14 +120,14 @@ more_counts w v who n t = record {
   count = t.count;
   names = t.names;
   starts = t.starts;
-  rule = t.rule;
+  choice = t.choice;
 }
 
 module _ (w v : WorldState) (who n : ℕ) (t : Turns w v who n) where
   -- RAM, devices and the output change, and RAM keeps its size
   pub touched : (ram : List ℕ) (slots : List (Option DeviceState)) (output : List ℕ) → length ram ≡ length v.ram → Turns w (record v { ram = ram; slots = slots; output = output }) who n
   touched ram slots output same = record {
-    kept = record { kern = t.kept.kern; home = t.kept.home; objects = t.kept.objects; pool = t.kept.pool; stacks = t.kept.stacks; modules = t.kept.modules; ram = same ∙ t.kept.ram; symbols = t.kept.symbols; watch = t.kept.watch; ids = t.kept.ids };
+    kept = record { kern = t.kept.kern; home = t.kept.home; kind = t.kept.kind; objects = t.kept.objects; pool = t.kept.pool; stacks = t.kept.stacks; modules = t.kept.modules; ram = same ∙ t.kept.ram; symbols = t.kept.symbols; watch = t.kept.watch; ids = t.kept.ids };
     shell = t.shell;
     gone = t.gone;
     within = t.within;
@@ -135,7 +136,7 @@ module _ (w v : WorldState) (who n : ℕ) (t : Turns w v who n) where
     count = t.count;
     names = t.names;
     starts = t.starts;
-    rule = t.rule;
+    choice = t.choice;
   }
 
   pub wrote : (output : List ℕ) → Turns w (record v { output = output }) who n
@@ -163,10 +164,11 @@ module _ (w v : WorldState) (who n : ℕ) (t : Turns w v who n) where
         kept = record {
           kern = move_keeps v.kern (SetRegs who regs) t.kept.kern tt;
           home = t.kept.home;
+          kind = t.kept.kind;
           objects = objects-move v.kern v.objects t.kept.kern t.kept.objects (SetRegs who regs) (tt, free, tt, tt);
           pool = t.kept.pool;
           stacks = subst (λ s. AreStacks v.part (routine_stack ∷ s)) (sym (map-change stack_of v.kern.tasks who f (λ u. refl))) t.kept.stacks;
-          modules = loaded_on v.kern v.part v.modules t.kept.modules (set_regs v.kern who regs) (omega arith) (map-change stack_of v.kern.tasks who f (λ u. refl));
+          modules = loaded_on v.kern v.part v.modules.rows t.kept.modules (set_regs v.kern who regs) (omega arith) (map-change stack_of v.kern.tasks who f (λ u. refl));
           ram = t.kept.ram;
           symbols = t.kept.symbols;
           watch = t.kept.watch;
@@ -180,7 +182,7 @@ module _ (w v : WorldState) (who n : ℕ) (t : Turns w v who n) where
         count = t.count;
         names = t.names;
         starts = t.starts;
-        rule = t.rule;
+        choice = t.choice;
       }
 
 -- ---- another task than the shell's ends
@@ -197,7 +199,7 @@ ended_turns w who n other kept within =
       count = e.count;
       names = omega (arith, e.names);
       starts = omega (arith, e.starts);
-      rule = e.rule;
+      choice = e.choice;
     }
   where
     differ : shell_id ≡ who → ⊥
@@ -240,24 +242,22 @@ kernels_stay p q old new stays at there =
     only_block q.start q.end q.blocks one.0 at Kernel new.laid (stays one.0 one.1) one.2
     ∙ sym (only_block p.start p.end p.blocks one.0 at Kernel old.laid one.1 one.2)
 
-pool_lies : (w : WorldState) → IsWorld w → IsPoolInRam (eval_state w)
-pool_lies w kept = omega (arith, kept.pool.end, kept.ram)
-
 pub evaluated_turns : (w : WorldState) (who n : ℕ) (e : EvalState) → IsWorld w → Within n w → (IsPoolInRam (eval_state w) → Keeps (eval_state w) e) → Turns w (with_eval w e) who n
 evaluated_turns w who n e kept within keeps =
-    let k = keeps (pool_lies w kept) in
+    let k = keeps (pool_in_ram w kept) in
     let stay = kernels_stay w.part e.pool kept.pool.blocks (k.sound kept.pool.blocks) k.stays in
     record {
       kept = record {
         kern = kept.kern;
         home = kept.home;
+        kind = kept.kind;
         objects = kept.objects;
         pool = record { blocks = k.sound kept.pool.blocks; start = k.start ∙ kept.pool.start; end = k.end ∙ kept.pool.end; room = k.room ∙ kept.pool.room };
         stacks = record {
           kernels = All-weaker (IsStack w.part) (IsStack e.pool) (λ s h. stay s.addr (is_there w.part s h) ∙ h) (routine_stack ∷ task_stacks w.kern) kept.stacks.kernels;
           apart = kept.stacks.apart;
         };
-        modules = loaded_with w.kern w.part w.modules kept.modules e.pool stay;
+        modules = loaded_with w.kern w.part w.modules.rows kept.modules e.pool stay;
         ram = k.ram ∙ kept.ram;
         symbols = k.few kept.symbols;
         watch = kept.watch;
@@ -271,5 +271,5 @@ evaluated_turns w who n e kept within keeps =
       count = refl;
       names = omega arith;
       starts = omega arith;
-      rule = refl;
+      choice = refl;
     }

@@ -21,7 +21,7 @@ use Rattle.wind_machine.specs.Task.{waits_for_console, aborted}
 use Rattle.wind_machine.specs.Reserving.{drop_all}
 use Rattle.wind_machine.specs.Part.{with_kern}
 use Rattle.wind_machine.specs.Shell.{at_prompt}
-use Rattle.wind_machine.specs.Routine.{interrupt_top}
+use Rattle.wind_machine.specs.Routine.{interrupt_top, with_return}
 use Rattle.wind_machine.specs.declared.phase.Phase.TheVariants as phases
 
 -- ---- bytes of the console arrive
@@ -89,9 +89,9 @@ without_next t = record t { events = drop 1 t.events }
 abbrev pub unreserved_world : WorldState → WorldState
 unreserved_world w = with_kern w (drop_all w.kern)
 
--- the kernel's tick, and then the watchdogs due at it
+-- the kernel's tick, and then the watchdogs due at it; the routine that becomes active returns to the board's gate
 abbrev pub tick_world : WorldState → WorldState
-tick_world w = record w { kern = tick w.kern; watch = due w.watch (tick w.kern).tick interrupt_top }
+tick_world w = record w { kern = tick w.kern; watch = with_return w.board (due w.watch (tick w.kern).tick interrupt_top) }
 
 abbrev pub ticked : State → State
 ticked s = record s { world = cleared (tick_world s.world); steps = s.steps + 1 }

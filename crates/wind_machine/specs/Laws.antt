@@ -1,5 +1,7 @@
 -- What follows from the machine's definitions alone.
 use Rattle.std.specs.Prelude.{◌≡◌, ℕ, ◌+◌, List, Option, Some, None, IfSome, ◌⊎◌, ◌↔◌}
+use Rattle.wind_base.specs.declared.board_kind.BoardKind.{BoardKind}
+use Rattle.wind_base.specs.declared.board_kind.BoardKind.TheVariants as boards
 use Rattle.wind_base.specs.declared.profile.Profile.{Profile}
 use Rattle.wind_base.specs.declared.profile.Profile.TheVariants.{One}
 use Rattle.wind_outside.specs.Devices.{DeviceState}
@@ -8,6 +10,9 @@ use Rattle.tick_file.specs.Schedule.{Timetable, timetable_of}
 use Rattle.tick_file.specs.Laws.{IsEarly}
 use Rattle.wind_core.specs.State.{Lives, task_of}
 use Rattle.task_safety.specs.Safety.{safe_of}
+use Rattle.isr_watch.specs.State.{WatchState}
+use Rattle.isr_watch.specs.Calls.{finish}
+use Rattle.kernel_world.specs.State.{Choice, choice_of}
 use Rattle.kernel_world.specs.Settling.{HasExact}
 use Rattle.kernel_world.specs.declared.actor.Actor.TheVariants.{Task as by_task}
 use Rattle.wind_machine.specs.State.{State}
@@ -15,6 +20,7 @@ use Rattle.wind_machine.specs.Good.{Good, KeepsEffect}
 use Rattle.wind_machine.specs.Instants.{IsInstant}
 use Rattle.wind_machine.specs.Run.{Answers, after}
 use Rattle.wind_machine.specs.Events.{next_event}
+use Rattle.wind_machine.specs.Routine.{with_return}
 use Rattle.wind_machine.specs.Next.{next, ComesNext}
 use Rattle.wind_machine.specs.Machine.{state_after, settled_state, machine_step, IsOver, stepping, opening}
 use Rattle.wind_machine.specs.declared.next.Next.{Next}
@@ -29,8 +35,8 @@ OverLaw = (said : FileSaid) (s : State) → (machine_step said s ≡ None) ↔ I
 
 -- the opening state has the invariant
 abbrev pub StartLaw : Type 0
-StartLaw = (console : List ℕ) (schedule : Timetable) (slots : List (Option DeviceState)) (profile : Profile)
-    → Good (opening console schedule slots profile)
+StartLaw = (console : List ℕ) (schedule : Timetable) (slots : List (Option DeviceState)) (profile : Profile) (board : BoardKind)
+    → Good (opening console schedule slots profile board)
 
 -- every step keeps the invariant, whatever is said of a file, if the next event comes before 2^64
 abbrev pub StepLaw : Type 0
@@ -49,10 +55,13 @@ SettleLaw = (s : State) → KeepsEffect s → Good (settled_state s)
 abbrev pub IdleLaw : Type 0
 IdleLaw = (s : State) → KeepsEffect s → (s.world.objects.mutexes.profile ≡ One) ⊎ HasExact s.world → settled_state s ≡ s
 
--- no step changes the rule of inheritance
-abbrev pub RuleLaw : Type 0
-RuleLaw = (said : FileSaid) (s t : State) → Good s → machine_step said s ≡ Some t
-    → t.world.objects.mutexes.profile ≡ s.world.objects.mutexes.profile
+-- no step changes what was chosen at the start: the rule of inheritance, and the kind of board
+abbrev pub ChoiceLaw : Type 0
+ChoiceLaw = (said : FileSaid) (s t : State) → Good s → machine_step said s ≡ Some t → choice_of t.world ≡ choice_of s.world
+
+-- on board 1 a routine that has become active returns to the board's gate already
+abbrev pub ReturnLaw : Type 0
+ReturnLaw = (s : WatchState) (top : ℕ) → with_return boards.One (finish s top) ≡ finish s top
 
 -- every step is counted
 abbrev pub CountLaw : Type 0
@@ -71,21 +80,21 @@ OnlyUnsafeGo s t = (id : ℕ) → Lives s.world.kern id → (Lives t.world.kern 
 abbrev pub SafetyLaw : Type 0
 SafetyLaw = (said : FileSaid) (s t : State) → Good s → machine_step said s ≡ Some t → OnlyUnsafeGo s t
 
--- the state after k steps with this console file and these events under a rule of inheritance, given what is said of the
--- files that they need
-abbrev pub at_step : Answers → List ℕ → Timetable → List (Option DeviceState) → Profile → ℕ → State
-at_step said console schedule slots profile k = after said (opening console schedule slots profile) k
+-- the state after k steps with this console file and these events under a rule of inheritance on a board of a kind,
+-- given what is said of the files that they need
+abbrev pub at_step : Answers → List ℕ → Timetable → List (Option DeviceState) → Choice → ℕ → State
+at_step said console schedule slots choice k = after said (opening console schedule slots choice.profile choice.board) k
 
 -- what holds there: the invariant, what holds at each instant, and that no safe task ends in the step that follows
-pub record HoldsAfter (said : Answers) (console : List ℕ) (schedule : Timetable) (slots : List (Option DeviceState)) (profile : Profile) (k : ℕ) : Type 0 where
-  pub kept : Good (at_step said console schedule slots profile k)
-  pub instant : IsInstant (at_step said console schedule slots profile k).world
-  -- the rule of inheritance is the one asked for
-  pub rule : (at_step said console schedule slots profile k).world.objects.mutexes.profile ≡ profile
-  pub safety : OnlyUnsafeGo (at_step said console schedule slots profile k) (at_step said console schedule slots profile (k + 1))
+pub record HoldsAfter (said : Answers) (console : List ℕ) (schedule : Timetable) (slots : List (Option DeviceState)) (choice : Choice) (k : ℕ) : Type 0 where
+  pub kept : Good (at_step said console schedule slots choice k)
+  pub instant : IsInstant (at_step said console schedule slots choice k).world
+  -- the rule of inheritance and the kind of board are those chosen at the start
+  pub chosen : choice_of (at_step said console schedule slots choice k).world ≡ choice
+  pub safety : OnlyUnsafeGo (at_step said console schedule slots choice k) (at_step said console schedule slots choice (k + 1))
 
--- it holds at every state of every run under both rules, whatever the console file, the tick file, the module files and
--- the devices are
+-- it holds at every state of every run under both rules on both boards, whatever the console file, the tick file, the
+-- module files and the devices are
 abbrev pub RunLaw : Type 0
-RunLaw = (said : Answers) (console ticks : List ℕ) (slots : List (Option DeviceState)) (profile : Profile) (k : ℕ)
-    → HoldsAfter said console (timetable_of ticks) slots profile k
+RunLaw = (said : Answers) (console ticks : List ℕ) (slots : List (Option DeviceState)) (choice : Choice) (k : ℕ)
+    → HoldsAfter said console (timetable_of ticks) slots choice k

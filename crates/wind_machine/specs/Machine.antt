@@ -1,6 +1,7 @@
 -- The wind machine: its opening state and its step.
 use Rattle.std.specs.Option.{option_map}
 use Rattle.std.specs.Prelude.{◌≡◌, ℕ, List, Option, Some, None, Bool, true, false, ◌==◌, if◌then◌else◌}
+use Rattle.wind_base.specs.declared.board_kind.BoardKind.{BoardKind}
 use Rattle.wind_base.specs.declared.gate.Gate.{Gate}
 use Rattle.wind_base.specs.declared.profile.Profile.{Profile}
 use Rattle.wind_outside.specs.Devices.{DeviceState}
@@ -25,14 +26,14 @@ use Rattle.wind_machine.specs.declared.next.Next.TheVariants.{Come, Arrive, Rout
 use Rattle.wind_machine.specs.declared.phase.Phase.{Phase}
 use Rattle.wind_machine.specs.declared.phase.Phase.TheVariants as phases
 
--- the state in which a board starts, with this console file, these events and these devices, under a rule of
+-- the state in which a board of a kind starts, with this console file, these events and these devices, under a rule of
 -- inheritance
-unfoldable pub opening : List ℕ → Timetable → List (Option DeviceState) → Profile → State
-opening console schedule slots profile = record {
+unfoldable pub opening : List ℕ → Timetable → List (Option DeviceState) → Profile → BoardKind → State
+opening console schedule slots profile board = record {
   left = console;
   console = opening_console;
   shell = at_prompt;
-  world = opening_world slots profile;
+  world = opening_world slots profile board;
   schedule = schedule;
   time = 0;
   steps = 0;

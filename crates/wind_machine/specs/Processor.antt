@@ -1,6 +1,6 @@
 -- A step of a task: what it does at a gate, or one instruction.
 use Rattle.std.specs.Prelude.{ℕ, List, [], Bool, ◌==◌, Option, None, Some, if◌then◌else◌, slice_index}
-use Rattle.wind_base.specs.Limits.{gates_start}
+use Rattle.wind_base.specs.Boards.{board_rules}
 use Rattle.wind_base.specs.Gates.{gate_at, gate_number}
 use Rattle.wind_base.specs.declared.gate.Gate.{Gate}
 use Rattle.wind_base.specs.declared.gate.Gate.TheVariants as gates
@@ -98,7 +98,7 @@ part_at None shell w who = word_part (fetched (bus_of w) (regs_of w who).pc) she
 
 -- the gate at which a task is
 abbrev pub gate_under : WorldState → ℕ → Option Gate
-gate_under w who = gate_at gates_start (regs_of w who).pc
+gate_under w who = gate_at (board_rules w.board).gates_start (regs_of w who).pc
 
 unfoldable pub task_part : ShellState → WorldState → ℕ → Part
 task_part shell w who = part_at (gate_under w who) shell w who

@@ -1,7 +1,9 @@
 -- A step of the active interrupt routine: what it does at a gate, or one instruction.
 use Rattle.std.specs.Prelude.{ℕ, ◌+◌, Option, None, Some, ◌==◌, if◌then◌else◌}
-use Rattle.wind_base.specs.Limits.{gates_start, interrupt_stack_bytes}
-use Rattle.wind_base.specs.Gates.{gate_at, gate_number}
+use Rattle.wind_base.specs.Limits.{interrupt_stack_bytes}
+use Rattle.wind_base.specs.Boards.{board_rules}
+use Rattle.wind_base.specs.Gates.{gate_address, gate_at, gate_number}
+use Rattle.wind_base.specs.declared.board_kind.BoardKind.{BoardKind}
 use Rattle.wind_base.specs.declared.gate.Gate.{Gate}
 use Rattle.wind_base.specs.declared.gate.Gate.TheVariants as gates
 use Rattle.wind_base.specs.declared.regs.Regs.{Regs}
@@ -18,7 +20,7 @@ use Rattle.kernel_world.specs.Actors.{caller_regs}
 use Rattle.kernel_world.specs.Opening.{interrupt_stack}
 use Rattle.kernel_calls.specs.Calls.{call}
 use Rattle.kernel_world.specs.Allowed.{is_call}
-use Rattle.kernel_world.specs.Replies.{at_level}
+use Rattle.kernel_world.specs.Replies.{level_by, at_level}
 use Rattle.kernel_world.specs.declared.actor.Actor.TheVariants.{Interrupt}
 use Rattle.wind_machine.specs.Part.{writing}
 use Rattle.wind_machine.specs.Processor.{bus_of, with_bus}
@@ -36,9 +38,17 @@ with_watch w s = record w { watch = s }
 abbrev pub routine_regs : WorldState → Regs
 routine_regs w = caller_regs w.kern w.watch.level Interrupt
 
+-- the address to which a routine returns: that of its gate on a board of this kind
+abbrev pub routine_return : BoardKind → ℕ
+routine_return board = gate_address (board_rules board).gates_start gates.InterruptReturn
+
+-- the active routine, if there is one, has that address in its link register
+abbrev pub with_return : BoardKind → WatchState → WatchState
+with_return board s = level_by (λ r. record r { lr = routine_return board }) s
+
 -- the routine is done: the next listed one becomes active, if there is one
 abbrev pub next_routine : WorldState → WorldState
-next_routine w = with_watch w (finish w.watch interrupt_top)
+next_routine w = with_watch w (with_return w.board (finish w.watch interrupt_top))
 
 -- a routine that causes an exception is reported, and only this routine is given up
 abbrev pub given_up : Trap → WorldState → WorldState
@@ -75,7 +85,7 @@ routine_at (Some g) w = routine_gate g w
 routine_at None w = routine_word (fetched (bus_of w) (routine_regs w).pc) w
 
 abbrev pub routine_under : WorldState → Option Gate
-routine_under w = gate_at gates_start (routine_regs w).pc
+routine_under w = gate_at (board_rules w.board).gates_start (routine_regs w).pc
 
 unfoldable pub routine_part : WorldState → WorldState
 routine_part w = routine_at (routine_under w) w

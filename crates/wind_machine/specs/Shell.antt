@@ -81,7 +81,7 @@ with_eval w e = record w { symbols = e.symbols; part = e.pool; ram = e.memory.ra
 -- the shell's task begins a call: its registers are those of a call, and the frame is in RAM (System V ABI,
 -- PowerPC supplement, function calls)
 abbrev pub calling : WorldState → ℕ → List ℕ → WorldState
-calling w callee words = record w { kern = set_regs w.kern shell_id (call_regs callee words); ram = framed w.ram stack_pointer words }
+calling w callee words = record w { kern = set_regs w.kern shell_id (call_regs w.board callee words); ram = framed w.ram stack_pointer words }
 
 -- the first statement has come to this point, and these trees are left after it;
 -- at its value, the value is written; at a call, the call begins; at a fault, its text is written, and the rest of

@@ -1,7 +1,9 @@
 -- The shell's task, which the kernel calls tShell.
 use Rattle.std.specs.Prelude.{ℕ, ◌+◌, ◌-◌, List, Option, None, Some, Bool, false, ◌||◌, is_some, if◌then◌else◌}
-use Rattle.wind_base.specs.Limits.{wait_forever, gates_start, pool_start, shell_stack_bytes, frame_bytes}
+use Rattle.wind_base.specs.Limits.{wait_forever, pool_start, shell_stack_bytes, frame_bytes}
+use Rattle.wind_base.specs.Boards.{board_rules}
 use Rattle.wind_base.specs.Gates.{gate_address}
+use Rattle.wind_base.specs.declared.board_kind.BoardKind.{BoardKind}
 use Rattle.wind_base.specs.declared.gate.Gate.TheVariants as gates
 use Rattle.wind_base.specs.declared.regs.Regs.{Regs}
 use Rattle.id_table.specs.Sides.{console_side}
@@ -49,9 +51,9 @@ abbrev pub stack_pointer : ℕ
 stack_pointer = pool_start + shell_stack_bytes - frame_bytes
 
 -- the address to which a call of the shell returns
-abbrev pub return_address : ℕ
-return_address = gate_address gates_start gates.ShellReturn
+abbrev pub return_address : BoardKind → ℕ
+return_address board = gate_address (board_rules board).gates_start gates.ShellReturn
 
 -- its registers at a call
-abbrev pub call_regs : ℕ → List ℕ → Regs
-call_regs callee words = starting_regs stack_pointer return_address callee words
+abbrev pub call_regs : BoardKind → ℕ → List ℕ → Regs
+call_regs board callee words = starting_regs stack_pointer (return_address board) callee words

@@ -1,6 +1,6 @@
 //! What follows from the machine's definitions alone, whatever the code does.
 
-ghost use Rattle.wind_machine.specs.Laws.{OrderLaw, OverLaw, StartLaw, StepLaw, EffectLaw, SettleLaw, IdleLaw, RuleLaw, CountLaw, InstantLaw, SafetyLaw, RunLaw};
+ghost use Rattle.wind_machine.specs.Laws.{OrderLaw, OverLaw, ReturnLaw, StartLaw, StepLaw, EffectLaw, SettleLaw, IdleLaw, ChoiceLaw, CountLaw, InstantLaw, SafetyLaw, RunLaw};
 ghost use Rattle.wind_machine.specs.Silent.{SilentLaw};
 
 use live_loading::loading_law;
@@ -15,17 +15,23 @@ pub fn order_law()
 
 /// The law of the invariant: it holds in the opening state, and every step of the wind machine
 /// keeps it if the next event of the tick file comes before 2^64. All events that a tick file can
-/// ask for do. No step changes the rule of inheritance. Every step is counted.
+/// ask for do. No step changes the rule of inheritance or the kind of board. Every step is counted.
 #[tactic(auto, unfolding(crate::specs::Machine::opening))]
 pub fn step_law()
     ensures start { StartLaw }
     ensures step { StepLaw }
     ensures effect { EffectLaw }
-    ensures rule { RuleLaw }
+    ensures choice { ChoiceLaw }
     ensures count { CountLaw }
 {
     loading_law();
 }
+
+/// The law of returns: on board 1 the routine that becomes active returns to the board's gate, before
+/// the board writes that gate's address into its link register.
+pub fn return_law()
+    ensures { ReturnLaw }
+{}
 
 /// The law of settling. After a step's effect, settling priorities gives the invariant. It changes
 /// nothing under profile 1, nor if priorities are exact already.
@@ -52,9 +58,9 @@ pub fn safety_law()
     loading_law();
 }
 
-/// The law of runs: for every console file, tick file and list of devices, and under both rules of
-/// inheritance, the state after any number of steps has the invariant and what holds at each
-/// instant. In the step that follows, no safe task ends, unless the step is its own.
+/// The law of runs: for every console file, tick file and list of devices, under both rules of
+/// inheritance and on both boards, the state after any number of steps has the invariant and what
+/// holds at each instant. In the step that follows, no safe task ends, unless the step is its own.
 pub fn run_law()
     ensures { RunLaw }
 {

@@ -1,5 +1,6 @@
 -- Messages are conserved along every run of the machine.
 use Rattle.std.proofs.Common.{◌≡◌, ℕ, List, [], Option, refl}
+use Rattle.wind_base.specs.declared.board_kind.BoardKind.{BoardKind}
 use Rattle.wind_base.specs.declared.profile.Profile.{Profile}
 use Rattle.wind_outside.specs.Devices.{DeviceState}
 use Rattle.tick_file.specs.Schedule.{timetable_of}
@@ -19,9 +20,9 @@ use Rattle.wind_messages.proofs.Rows.{stock_in}
 use Rattle.wind_messages.proofs.Steps.{step_goes}
 
 -- in the opening state there is no queue
-none_yet : (console ticks : List ℕ) (slots : List (Option DeviceState)) (profile : Profile) → (stock_in (opening console (timetable_of ticks) slots profile).world).queues ≡ []
+none_yet : (console ticks : List ℕ) (slots : List (Option DeviceState)) (profile : Profile) (board : BoardKind) → (stock_in (opening console (timetable_of ticks) slots profile board).world).queues ≡ []
 unfolding opening opening_world
-none_yet console ticks slots profile = refl
+none_yet console ticks slots profile board = refl
 
 -- a run that begins without queues, with the invariant at each state
 runs : AloneLaw → (said : Answers) (s : State) → (stock_in s.world).queues ≡ [] → ((k : ℕ) → Good (after said s k))
@@ -33,7 +34,7 @@ runs law said s none good = record {
 }
 
 pub conserved : AloneLaw → RunLaw → ConservationLaw
-conserved alone law said console ticks slots profile k q y here =
-    let s : State = opening console (timetable_of ticks) slots profile in
+conserved alone law said console ticks slots profile board k q y here =
+    let s : State = opening console (timetable_of ticks) slots profile board in
     run_conserved (λ j. stock_in (after said s j).world) (λ j. step_accepts (after said s j)) (λ j. step_takes (after said s j))
-    (runs alone said s (none_yet console ticks slots profile) (λ j. (law said console ticks slots profile j).kept)) k q y here
+    (runs alone said s (none_yet console ticks slots profile board) (λ j. (law said console ticks slots (record { profile = profile; board = board }) j).kept)) k q y here

@@ -20,7 +20,8 @@ use Rattle.kernel_world.specs.Actors.{caller_words, target}
 use Rattle.object_calls.specs.SemRows as sem
 use Rattle.object_calls.specs.QueueRows.{sending}
 use Rattle.wind_core.specs.Moves.{live_id}
-use Rattle.kernel_calls.specs.Calls.{scene_of, task_at, Row, row_of, row_unless, allowed_row, made, answered}
+use Rattle.task_calls.specs.TaskRows.{task_at}
+use Rattle.kernel_calls.specs.Calls.{scene_of, Row, row_of, row_unless, allowed_row, made, answered}
 use Rattle.kernel_world.specs.Allowed.{is_call, is_isr_callable, is_shells_own}
 use Rattle.kernel_world.specs.Replies.{left_gate}
 use Rattle.kernel_world.specs.declared.actor.Actor.TheVariants.{Interrupt}

@@ -3,6 +3,7 @@
 use Rattle.std.proofs.Common.{◌≡◌, ℕ, ◌≤◌, true, false, cond, leb, List, [], length, Option, None, Some, Result, Ok, Err, refl, arith}
 use Rattle.std.specs.Prelude.{slice_index}
 use Rattle.wind_base.specs.SemBits.{read_options}
+use Rattle.wind_base.specs.declared.board_kind.BoardKind.{BoardKind}
 use Rattle.wind_base.specs.declared.errno.Errno.{Errno}
 use Rattle.wind_base.specs.declared.errno.Errno.TheVariants as errors
 use Rattle.wind_base.specs.declared.gate.Gate.{Gate}
@@ -33,14 +34,14 @@ use Rattle.msg_queue.proofs.Traffic.{stock, balanced_still, balanced_send, balan
 use Rattle.isr_watch.specs.Calls.{create_refusal as watchdog_refusal}
 use Rattle.kernel_world.specs.State.{WorldState}
 use Rattle.kernel_world.specs.declared.objects.Objects.{Objects}
-use Rattle.task_calls.specs.TaskRows.{done, refused, suspend_row, resume_row, verify_row, found_row, name_row}
+use Rattle.task_calls.specs.TaskRows.{done, refused, ram_row, task_at, priority_in, suspend_row, resume_row, verify_row, found_row, name_row}
 use Rattle.kernel_world.specs.Actors.{target}
 use Rattle.task_calls.specs.SafetyRows.{deletes, meant, unsafe_unless}
 use Rattle.object_calls.specs.SemRows as sem
 use Rattle.object_calls.specs.QueueRows as queue
 use Rattle.object_calls.specs.WatchRows as watch
 use Rattle.task_calls.specs.Spawning.{SpawnState, SpawnRow, spawned_at, spawned_unless, spawned_if, stack_bytes, task_wanted, quick_wanted, spawn_state}
-use Rattle.kernel_calls.specs.Calls.{with_reply, of_objects, of_queues, of_watch, scene_of, priority_in, task_at, row_of}
+use Rattle.kernel_calls.specs.Calls.{of_objects, of_queues, of_watch, of_ram, scene_of, row_of}
 use Rattle.kernel_world.specs.CallWords.{ten_arguments, quick_arguments, call_of}
 use Rattle.kernel_world.specs.declared.actor.Actor.TheVariants.{Task as by_task}
 use Rattle.wind_messages.specs.Messages.{event_in}
@@ -83,11 +84,11 @@ unsafes : (k : KernState) (who : ℕ) (o : Option Errno) → NextSame k (unsafe_
 unsafes k who None = next-lessen k who 1
 unsafes k who (Some e) = refl
 
-deletions : (k : KernState) (p : PartState) (who : ℕ) (d : Deed) → NextSame k (deletes k p who d).kern
-deletions k p who (Refuses e) = refl
-deletions k p who (EndsItself count) = next-lessen (asked k who) who count
-deletions k p who (Removes id) = refl
-deletions k p who (Awaits id) = refl
+deletions : (board : BoardKind) (k : KernState) (p : PartState) (who : ℕ) (d : Deed) → NextSame k (deletes board k p who d).kern
+deletions board k p who (Refuses e) = refl
+deletions board k p who (EndsItself count) = next-lessen (asked k who) who count
+deletions board k p who (Removes id) = refl
+deletions board k p who (Awaits id) = refl
 
 -- ---- spawns
 abbrev NextLater : SpawnState → SpawnRow → Type 0
@@ -210,10 +211,10 @@ module _ (w : WorldState) (kept : IsKept (scene_of w)) (who : ℕ) (ram r : List
   by_objects : (x : sem.ObjectRow) → LeavesQueues w.kern w.objects x → Balances w (of_objects w x).world (scene_of w) None
   by_objects x p = none (of_objects w x).world p.queues p.ids
 
-  pub tells : (at : ℕ) (o : Option TaskRecord) → Balances w (priority_in w at o).world (scene_of w) None
+  pub tells : (at : ℕ) (o : Option TaskRecord) → Balances w (of_ram w (priority_in w.ram at o)).world (scene_of w) None
   tells at None = none w refl (omega arith)
   tells at (Some t) =
-      elim (has w.ram at 4) as (λ b. Balances w (cond b (with_reply (record w { ram = with_word w.ram at t.pri }) (done w.kern).reply) (with_reply w (refused w.kern errors.BadAddress).reply)).world (scene_of w) None) [ true ↦ none (record w { ram = with_word w.ram at t.pri }) refl (omega arith) | false ↦ none w refl (omega arith) ]
+      elim (has w.ram at 4) as (λ b. Balances w (of_ram w (cond b (ram_row (with_word w.ram at t.pri) (done w.kern).reply) (ram_row w.ram (refused w.kern errors.BadAddress).reply))).world (scene_of w) None) [ true ↦ none (record w { ram = with_word w.ram at t.pri }) refl (omega arith) | false ↦ none w refl (omega arith) ]
 
   creates : (max_msgs max_len options : ℕ) → Balances w (of_queues w (queue.create_row (scene_of w) max_msgs max_len options)).world (scene_of w) None
   creates max_msgs max_len options =
@@ -234,7 +235,7 @@ module _ (w : WorldState) (kept : IsKept (scene_of w)) (who : ℕ) (ram r : List
   row_balances gates.TaskSpawn = none (behind gates.TaskSpawn) refl (spawns (spawn_state w) (task_wanted w.ram (slice_index r 3) (slice_index r 4) (slice_index r 6) (slice_index r 7) (ten_arguments ram r)))
   row_balances gates.Sp = none (behind gates.Sp) refl (spawns (spawn_state w) (quick_wanted (slice_index r 3) (quick_arguments ram r)))
   row_balances gates.TaskDelete =
-      by_tasks gates.TaskDelete refl (deletions w.kern w.part who (deed_of w.kern.tasks who (meant who (slice_index r 3))))
+      by_tasks gates.TaskDelete refl (deletions w.board w.kern w.part who (deed_of w.kern.tasks who (meant who (slice_index r 3))))
   row_balances gates.TaskSuspend = by_tasks gates.TaskSuspend refl (suspends w.kern (target w.kern (by_task who) (slice_index r 3)))
   row_balances gates.TaskResume = by_tasks gates.TaskResume refl (resumes w.kern (target w.kern (by_task who) (slice_index r 3)))
   row_balances gates.TaskPrioritySet = by_objects _ (priorities w.kern w.objects (slice_index r 4) (target w.kern (by_task who) (slice_index r 3)))

@@ -94,7 +94,7 @@ module _ (s : State) (g : Good s) where
       let w : WorldState = turn_world s who in
       let kept = (at_turn_advances s g.kept who).kept in
       let calm = calms w.objects.queues.queues w.kern (LeaveGate who) kept.kern tt tt in
-      queues-calm w.kern (left_gate w (by_task who)).kern w.objects calm kept.objects.queues w.ram kept.ram
+      queues-calm w.board w.kern (left_gate w (by_task who)).kern w.objects calm kept.objects.queues w.ram kept.ram
 
   -- the call at its gate
   abbrev gate_call : ℕ → Option Call

@@ -8,9 +8,10 @@ use Rattle.clap.specs.declared.error.kind.ErrorKind.TheVariants.{OutOfMemory}
 use Rattle.clap.specs.declared.parser.matches.ArgMatches.{ArgMatches}
 use Rattle.clap.proofs.OnLiterals.{clap_on_literals}
 use Rattle.wind_base.specs.Limits.{most_steps}
+use Rattle.wind_base.specs.declared.board_kind.BoardKind.{BoardKind}
 use Rattle.wind_base.specs.declared.profile.Profile.{Profile}
 use Rattle.generated_session.specs.Session.{most_rounds}
-use Rattle.wind_session.specs.Command.{CommandState, app, command_of, command_of_rows, number_value, of_values, profile_value, unless_fault, value_of, with_values}
+use Rattle.wind_session.specs.Command.{CommandState, app, board_value, command_of, command_of_rows, number_value, of_values, profile_value, unless_fault, value_of, with_values}
 
 -- clap specifies each match and each error of this command line
 app_is_free : is_simple_and_free app ≡ true
@@ -41,34 +42,52 @@ taken_words a words m same passes has =
     ap (λ (k : Kinds). unless_fault k (matches_of app words)) none ∙ ap command_of_rows (sym found)
 
 -- if one of the values is missing, there is no command
-no_second : (f : ℕ → ℕ → Profile → CommandState) (limit : Option ℕ) (profile : Option Profile) → of_values f limit None profile ≡ None
-no_second f None profile = refl
-no_second f (Some n) profile = refl
+no_second : (f : ℕ → ℕ → Profile → BoardKind → CommandState) (limit : Option ℕ) (profile : Option Profile) (board : Option BoardKind) → of_values f limit None profile board ≡ None
+no_second f None profile board = refl
+no_second f (Some n) profile board = refl
 
-no_third : (f : ℕ → ℕ → Profile → CommandState) (limit generate : Option ℕ) → of_values f limit generate None ≡ None
-no_third f None generate = refl
-no_third f (Some n) None = refl
-no_third f (Some n) (Some m) = refl
+no_third : (f : ℕ → ℕ → Profile → BoardKind → CommandState) (limit generate : Option ℕ) (board : Option BoardKind) → of_values f limit generate None board ≡ None
+no_third f None generate board = refl
+no_third f (Some n) None board = refl
+no_third f (Some n) (Some m) board = refl
+
+no_fourth : (f : ℕ → ℕ → Profile → BoardKind → CommandState) (limit generate : Option ℕ) (profile : Option Profile) → of_values f limit generate profile None ≡ None
+no_fourth f None generate profile = refl
+no_fourth f (Some n) None profile = refl
+no_fourth f (Some n) (Some m) None = refl
+no_fourth f (Some n) (Some m) (Some p) = refl
 
 module _ (rows : List Row) where
-  pub no_limit : number_value most_steps (value_of (codes "limit") rows) ≡ None → command_of_rows rows ≡ None
-  no_limit none = ap (λ limit. of_values (with_values rows) limit (number_value most_rounds (value_of (codes "generate") rows)) (profile_value (value_of (codes "profile") rows))) none
+  -- the four values that the rows give
+  abbrev steps : Option ℕ
+  steps = number_value most_steps (value_of (codes "limit") rows)
 
-  pub no_rounds : number_value most_rounds (value_of (codes "generate") rows) ≡ None → command_of_rows rows ≡ None
-  no_rounds none =
-      ap (λ generate. of_values (with_values rows) (number_value most_steps (value_of (codes "limit") rows)) generate (profile_value (value_of (codes "profile") rows))) none
-      ∙ no_second (with_values rows) (number_value most_steps (value_of (codes "limit") rows)) (profile_value (value_of (codes "profile") rows))
+  abbrev rounds : Option ℕ
+  rounds = number_value most_rounds (value_of (codes "generate") rows)
 
-  pub no_profile : profile_value (value_of (codes "profile") rows) ≡ None → command_of_rows rows ≡ None
-  no_profile none =
-      ap (of_values (with_values rows) (number_value most_steps (value_of (codes "limit") rows)) (number_value most_rounds (value_of (codes "generate") rows))) none
-      ∙ no_third (with_values rows) (number_value most_steps (value_of (codes "limit") rows)) (number_value most_rounds (value_of (codes "generate") rows))
+  abbrev rule : Option Profile
+  rule = profile_value (value_of (codes "profile") rows)
+
+  abbrev kind : Option BoardKind
+  kind = board_value (value_of (codes "board") rows)
+
+  pub no_limit : steps ≡ None → command_of_rows rows ≡ None
+  no_limit none = ap (λ limit. of_values (with_values rows) limit rounds rule kind) none
+
+  pub no_rounds : rounds ≡ None → command_of_rows rows ≡ None
+  no_rounds none = ap (λ generate. of_values (with_values rows) steps generate rule kind) none ∙ no_second (with_values rows) steps rule kind
+
+  pub no_profile : rule ≡ None → command_of_rows rows ≡ None
+  no_profile none = ap (λ profile. of_values (with_values rows) steps rounds profile kind) none ∙ no_third (with_values rows) steps rounds kind
+
+  pub no_board : kind ≡ None → command_of_rows rows ≡ None
+  no_board none = ap (of_values (with_values rows) steps rounds rule) none ∙ no_fourth (with_values rows) steps rounds rule
 
   -- and if there are all, there is one
-  pub all_values : (limit generate : ℕ) (profile : Profile) → number_value most_steps (value_of (codes "limit") rows) ≡ Some limit
-      → number_value most_rounds (value_of (codes "generate") rows) ≡ Some generate → profile_value (value_of (codes "profile") rows) ≡ Some profile
-      → command_of_rows rows ≡ Some (with_values rows limit generate profile)
-  all_values limit generate profile one two three =
-      ap (λ a. of_values (with_values rows) a (number_value most_rounds (value_of (codes "generate") rows)) (profile_value (value_of (codes "profile") rows))) one
-      ∙ ap (λ b. of_values (with_values rows) (Some limit) b (profile_value (value_of (codes "profile") rows))) two
-      ∙ ap (of_values (with_values rows) (Some limit) (Some generate)) three
+  pub all_values : (limit generate : ℕ) (profile : Profile) (board : BoardKind) → steps ≡ Some limit → rounds ≡ Some generate → rule ≡ Some profile → kind ≡ Some board
+      → command_of_rows rows ≡ Some (with_values rows limit generate profile board)
+  all_values limit generate profile board one two three four =
+      ap (λ a. of_values (with_values rows) a rounds rule kind) one
+      ∙ ap (λ b. of_values (with_values rows) (Some limit) b rule kind) two
+      ∙ ap (λ c. of_values (with_values rows) (Some limit) (Some generate) c kind) three
+      ∙ ap (of_values (with_values rows) (Some limit) (Some generate) (Some profile)) four

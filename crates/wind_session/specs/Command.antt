@@ -1,6 +1,8 @@
 -- What the arguments of the command line ask for, by the definition of a simple command of `clap`.
 use Rattle.std.specs.Prelude.{ℕ, List, [], ◌∷◌, Option, Some, None, unwrap_or, nat_le, if◌then◌else◌, ◌==◌, length, codes}
 use Rattle.wind_base.specs.Limits.{most_steps}
+use Rattle.wind_base.specs.declared.board_kind.BoardKind.{BoardKind}
+use Rattle.wind_base.specs.declared.board_kind.BoardKind.TheVariants as boards
 use Rattle.wind_base.specs.declared.profile.Profile.{Profile}
 use Rattle.wind_base.specs.declared.profile.Profile.TheVariants.{One, Two}
 use Rattle.wind_base.specs.Decimal.{decimal_value}
@@ -9,7 +11,7 @@ use Rattle.clap.specs.Kinds.{Kinds}
 use Rattle.clap.specs.Words.{App, Row, Rule, Text, fault_of, first_of, matches_of, new_app, new_rule, with_rule}
 
 -- a command: the names of the console file, of the tick file and of the folder of modules; the most steps that the
--- run makes; the rounds of the generated session, or 0; and the rule of inheritance
+-- run makes; the rounds of the generated session, or 0; the rule of inheritance; and the kind of board
 pub record CommandState : Type 0 where
   pub console : List ℕ
   pub ticks : List ℕ
@@ -17,6 +19,7 @@ pub record CommandState : Type 0 where
   pub limit : ℕ
   pub generate : ℕ
   pub profile : Profile
+  pub board : BoardKind
 
 -- an option that takes one value: its name and its default
 abbrev pub option_rule : Text → Text → Rule
@@ -28,13 +31,14 @@ with_option name default app = with_rule app (option_rule name default)
 -- the command line, as clap reads it: its options with their defaults
 unfoldable pub app : App
 app =
-    with_option (codes "profile") (codes "1")
+    with_option (codes "board") (codes "1")
+    (with_option (codes "profile") (codes "1")
     (with_option (codes "generate") (codes "0")
     (with_option (codes "limit") (codes "1000000")
     (with_option (codes "modules") (codes ".")
     (with_option (codes "ticks") (codes "ticks.txt")
     (with_option (codes "console") (codes "console.txt")
-    (new_app (codes "windplay")))))))
+    (new_app (codes "windplay"))))))))
 
 -- the most digits that a number may have
 abbrev pub most_number_digits : ℕ
@@ -57,32 +61,47 @@ most_profiles = 2
 abbrev pub profile_value : Text → Option Profile
 profile_value text = profile_of_number (number_value most_profiles text)
 
+-- the kind of board with this number
+abbrev pub board_of_number : Option ℕ → Option BoardKind
+board_of_number None = None
+board_of_number (Some n) = if n == 1 then Some boards.One else if n == 2 then Some boards.Two else None
+
+-- the greatest number of a kind
+abbrev pub most_boards : ℕ
+most_boards = 2
+
+-- a kind: 1 or 2
+abbrev pub board_value : Text → Option BoardKind
+board_value text = board_of_number (number_value most_boards text)
+
 -- the value that clap gives for an option; there always is one, because each option has a default
 abbrev pub value_of : Text → List Row → Text
 value_of name rows = unwrap_or (first_of name rows) []
 
--- the command of clap's matches, with these three values
-abbrev pub with_values : List Row → ℕ → ℕ → Profile → CommandState
-with_values rows limit generate profile = record {
+-- the command of clap's matches, with these four values
+abbrev pub with_values : List Row → ℕ → ℕ → Profile → BoardKind → CommandState
+with_values rows limit generate profile board = record {
   console = value_of (codes "console") rows;
   ticks = value_of (codes "ticks") rows;
   modules = value_of (codes "modules") rows;
   limit = limit;
   generate = generate;
   profile = profile;
+  board = board;
 }
 
--- what is made of three values, if all are valid
-abbrev pub of_values : (ℕ → ℕ → Profile → CommandState) → Option ℕ → Option ℕ → Option Profile → Option CommandState
-of_values f None generate profile = None
-of_values f (Some limit) None profile = None
-of_values f (Some limit) (Some generate) None = None
-of_values f (Some limit) (Some generate) (Some profile) = Some (f limit generate profile)
+-- what is made of four values, if all are valid
+abbrev pub of_values : (ℕ → ℕ → Profile → BoardKind → CommandState) → Option ℕ → Option ℕ → Option Profile → Option BoardKind → Option CommandState
+of_values f None generate profile board = None
+of_values f (Some limit) None profile board = None
+of_values f (Some limit) (Some generate) None board = None
+of_values f (Some limit) (Some generate) (Some profile) None = None
+of_values f (Some limit) (Some generate) (Some profile) (Some board) = Some (f limit generate profile board)
 
 -- the command of clap's matches; none if a value is invalid
 abbrev pub command_of_rows : List Row → Option CommandState
 command_of_rows rows =
-    of_values (with_values rows) (number_value most_steps (value_of (codes "limit") rows)) (number_value most_rounds (value_of (codes "generate") rows)) (profile_value (value_of (codes "profile") rows))
+    of_values (with_values rows) (number_value most_steps (value_of (codes "limit") rows)) (number_value most_rounds (value_of (codes "generate") rows)) (profile_value (value_of (codes "profile") rows)) (board_value (value_of (codes "board") rows))
 
 -- the command of arguments in which clap finds no fault; a call for help is such a fault
 abbrev pub unless_fault : Kinds → List Row → Option CommandState

@@ -9,6 +9,8 @@ use Rattle.wind_machine.specs.State.{State}
 use Rattle.wind_machine.specs.Good.{Good}
 use Rattle.wind_machine.specs.Instants.{IsInstant}
 use Rattle.board_player.specs.declared.board.Board.{Board}
+use Rattle.wind_base.specs.declared.board_kind.BoardKind.{BoardKind}
+use Rattle.wind_base.specs.declared.board_kind.BoardKind.TheVariants as boards
 use Rattle.wind_base.specs.declared.profile.Profile.{Profile}
 use Rattle.wind_base.specs.declared.profile.Profile.TheVariants.{One}
 use Rattle.wind_machine.specs.Machine.{opening}
@@ -82,6 +84,11 @@ abbrev pub profile_of : Option CommandState → Profile
 profile_of None = One
 profile_of (Some command) = command.profile
 
+-- its kind of board
+abbrev pub board_of : Option CommandState → BoardKind
+board_of None = boards.One
+board_of (Some command) = command.board
+
 -- and the folder of its modules
 abbrev pub modules_of : Option CommandState → List ℕ
 modules_of None = []
@@ -110,14 +117,14 @@ abbrev pub IsLeft : ℕ → Status → RunEnd → Shelf → State → ℕ → St
 IsLeft zero s end shelf start limit board old new = (s ≡ status_of end) × Ran end shelf start limit board old new
 IsLeft (suc n) s end shelf start limit board old new = SumsUp (suc n) s end shelf start limit board old new
 
--- a board was played: the wind machine's, started with the console, the events of the tick file, these devices and
--- this rule of inheritance, and given the files of modules that it needed
-pub record Played (s : Status) (plan : Plan) (rounds limit : ℕ) (profile : Profile) (shelf : Shelf) (devices : List (Option DeviceState)) (board : State) (old new : Outside) : Type 0 where
+-- a board of this kind was played: the wind machine's, started with the console, the events of the tick file, these
+-- devices and this rule of inheritance, and given the files of modules that it needed
+pub record Played (s : Status) (plan : Plan) (rounds limit : ℕ) (profile : Profile) (kind : BoardKind) (shelf : Shelf) (devices : List (Option DeviceState)) (board : State) (old new : Outside) : Type 0 where
   pub end : RunEnd
   pub console : List ℕ
   pub schedule : Timetable
   pub planned : plan ≡ Start console schedule
-  pub left : IsLeft rounds s end shelf (opening console schedule devices profile) limit board old new
+  pub left : IsLeft rounds s end shelf (opening console schedule devices profile kind) limit board old new
 
 -- a session without a run: nothing was put, and only the files of the command were fetched
 pub record NotPlayed (s : Status) (plan : Plan) (command : Option CommandState) (fault : Type 0) (old new : Outside) : Type 0 where
@@ -130,7 +137,7 @@ pub record NotPlayed (s : Status) (plan : Plan) (command : Option CommandState) 
 abbrev pub Leaves : {I : Type 0} {X : I → Type 0} → (Board I X → State) → Status → Stand I X → Plan → Option CommandState → Shelf → Type 0 → Vec (Option (DynBox I Global X)) Global → List (Option DeviceState) → Outside → Outside → Type 0
 Leaves state s (stands.NotBooted back) plan command shelf fault slots devices old new = (back ≡ slots) × NotPlayed s plan command fault old new
 Leaves state s (stands.Booted board) plan command shelf fault slots devices old new =
-    Played s plan (rounds_of command) (limit_of command) (profile_of command) shelf devices (state board) (with_inputs command old) new
+    Played s plan (rounds_of command) (limit_of command) (profile_of command) (board_of command) shelf devices (state board) (with_inputs command old) new
 
 -- playing a command leaves what the wind machine leaves; `rose` says that the folder's count of faults rose
 pub record Plays {I : Type 0} {X : I → Type 0} (state : Board I X → State) (ending : Ending I X) (command : Option CommandState) (files : Option Files) (rose : Type 0) (slots : Vec (Option (DynBox I Global X)) Global) (devices : List (Option DeviceState)) (old new : Outside) : Type 0 where

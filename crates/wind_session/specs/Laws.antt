@@ -1,5 +1,6 @@
 -- The commands of some valid and invalid command lines. The first word is the program's name.
 use Rattle.std.specs.Prelude.{◌≡◌, List, [], ◌∷◌, Option, Some, None, codes}
+use Rattle.wind_base.specs.declared.board_kind.BoardKind.TheVariants as boards
 use Rattle.wind_base.specs.declared.profile.Profile.TheVariants.{One, Two}
 use Rattle.clap.specs.Words.{Text}
 use Rattle.wind_session.specs.Command.{CommandState, command_of}
@@ -10,7 +11,7 @@ command_behind words = command_of (codes "windplay" ∷ words)
 
 -- the command if no option is given
 abbrev pub defaults : CommandState
-defaults = record { console = codes "console.txt"; ticks = codes "ticks.txt"; modules = codes "."; limit = 1000000; generate = 0; profile = One }
+defaults = record { console = codes "console.txt"; ticks = codes "ticks.txt"; modules = codes "."; limit = 1000000; generate = 0; profile = One; board = boards.One }
 
 -- words that are a command: options in any order, each at most once, with the value as the next word or after `=`
 pub record RightWords : Type 0 where
@@ -29,8 +30,10 @@ pub record RightWords : Type 0 where
   pub no_generate : command_behind (codes "--generate=00" ∷ []) ≡ Some defaults
   pub first_profile : command_behind (codes "--profile" ∷ codes "1" ∷ []) ≡ Some defaults
   pub second_profile : command_behind (codes "--profile" ∷ codes "2" ∷ []) ≡ Some (record defaults { profile = Two })
-  pub all_options : command_behind (codes "--ticks=t" ∷ codes "--limit" ∷ codes "7" ∷ codes "--modules" ∷ codes "m" ∷ codes "--generate=1" ∷ codes "--profile=2" ∷ codes "--console" ∷ codes "c" ∷ [])
-      ≡ Some (record { console = codes "c"; ticks = codes "t"; modules = codes "m"; limit = 7; generate = 1; profile = Two })
+  pub first_board : command_behind (codes "--board" ∷ codes "1" ∷ []) ≡ Some defaults
+  pub second_board : command_behind (codes "--board" ∷ codes "2" ∷ []) ≡ Some (record defaults { board = boards.Two })
+  pub all_options : command_behind (codes "--ticks=t" ∷ codes "--limit" ∷ codes "7" ∷ codes "--modules" ∷ codes "m" ∷ codes "--generate=1" ∷ codes "--profile=2" ∷ codes "--board=2" ∷ codes "--console" ∷ codes "c" ∷ [])
+      ≡ Some (record { console = codes "c"; ticks = codes "t"; modules = codes "m"; limit = 7; generate = 1; profile = Two; board = boards.Two })
 
 -- words that are no command
 pub record WrongWords : Type 0 where
@@ -57,6 +60,9 @@ pub record WrongWords : Type 0 where
   pub signed_generate : command_behind (codes "--generate" ∷ codes "+1" ∷ []) ≡ None
   pub profile_zero : command_behind (codes "--profile" ∷ codes "0" ∷ []) ≡ None
   pub profile_above_the_most : command_behind (codes "--profile" ∷ codes "3" ∷ []) ≡ None
+  pub board_zero : command_behind (codes "--board" ∷ codes "0" ∷ []) ≡ None
+  pub board_above_the_most : command_behind (codes "--board" ∷ codes "3" ∷ []) ≡ None
+  pub empty_board : command_behind (codes "--board=" ∷ []) ≡ None
   pub empty_profile : command_behind (codes "--profile=" ∷ []) ≡ None
   -- what the program plays if its arguments are not UTF-8
   pub no_text : command_behind (codes "(arguments that are no text)" ∷ []) ≡ None

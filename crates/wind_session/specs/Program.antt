@@ -8,7 +8,7 @@ use Rattle.wind_machine.specs.Good.{Good}
 use Rattle.wind_machine.specs.Instants.{IsInstant}
 use Rattle.wind_session.specs.Command.{CommandState}
 use Rattle.wind_session.specs.Fetches.{FailsLast}
-use Rattle.wind_session.specs.Headline.{IsComplete, NotPlayed, Played, fetch_fault, limit_of, profile_of, rounds_of, shelf_of}
+use Rattle.wind_session.specs.Headline.{IsComplete, NotPlayed, Played, board_of, fetch_fault, limit_of, profile_of, rounds_of, shelf_of}
 use Rattle.wind_session.specs.Modules.{Shelf}
 use Rattle.wind_session.specs.Outside.{Outside, with_inputs}
 use Rattle.wind_session.specs.Plan.{Plan, IsPlan}
@@ -28,7 +28,7 @@ opening_devices =
 -- a board was played with the files of the command and these devices, and has its invariant and what holds at each instant
 pub record PlayedOn (s : Status) (plan : Plan) (command : Option CommandState) (shelf : Shelf) (devices : List (Option DeviceState)) (old new : Outside) : Type 0 where
   pub board : State
-  pub played : Played s plan (rounds_of command) (limit_of command) (profile_of command) shelf devices board (with_inputs command old) new
+  pub played : Played s plan (rounds_of command) (limit_of command) (profile_of command) (board_of command) shelf devices board (with_inputs command old) new
   pub good : Good board
   pub instant : IsInstant board.world
 

@@ -4,7 +4,7 @@ ghost use Rattle.std.specs.Prelude.{◌≡◌, ◌≢◌, ◌≤◌, IfOk, IfErr
 ghost use Rattle.clap.specs.Words.{app_of, found_of, rows_of, rule_of};
 ghost use Rattle.wind_base.specs.Limits.{most_steps};
 ghost use Rattle.generated_session.specs.Session.{most_rounds};
-ghost use Rattle.wind_session.specs.Command.{app as app_lem, command_of as command_of_lem, number_value, profile_value, option_rule, value_of as value_of_lem};
+ghost use Rattle.wind_session.specs.Command.{app as app_lem, command_of as command_of_lem, number_value, profile_value, board_value, option_rule, value_of as value_of_lem};
 ghost use Rattle.wind_session.specs.Words.{command_state};
 ghost use Rattle.wind_session.specs.declared.command.CommandErr.TheVariants as errors;
 
@@ -12,7 +12,7 @@ use clap::error::ErrorKind;
 use clap::{Arg, ArgMatches, Error};
 use std::alloc::{AllocError, Global};
 use wind_base::limits::STEPS;
-use wind_base::{Profile, decimal};
+use wind_base::{BoardKind, Profile, decimal};
 
 /// What the arguments ask for.
 #[derive(Clone, Copy)]
@@ -29,6 +29,8 @@ pub struct Command<'a> {
     pub generate: u32,
     /// The rule of inheritance.
     pub profile: Profile,
+    /// The kind of board.
+    pub board: BoardKind,
 }
 
 /// Why the arguments give no command.
@@ -67,6 +69,11 @@ const PROFILES: u64 = 2;
 
 const BAD_PROFILE: &str = "'--profile <N>' takes 1 or 2";
 
+// The greatest number of a kind of board.
+const BOARDS: u64 = 2;
+
+const BAD_BOARD: &str = "'--board <N>' takes 1 or 2";
+
 // The value of decimal digits, at most `most`.
 fn number(text: &str, most: u64) -> Option<u64>
     ensures value { result ≡ number_value most text.now }
@@ -85,6 +92,17 @@ fn profile(text: &str) -> Option<Profile>
     match number(text, PROFILES)? {
         1 => Some(Profile::One),
         2 => Some(Profile::Two),
+        _ => None,
+    }
+}
+
+// The kind of board with this number.
+fn board(text: &str) -> Option<BoardKind>
+    ensures { result ≡ board_value text.now }
+{
+    match number(text, BOARDS)? {
+        1 => Some(BoardKind::One),
+        2 => Some(BoardKind::Two),
         _ => None,
     }
 }
@@ -137,7 +155,8 @@ fn app<'a>(alloc: Global) -> Result<clap::Command<'a>, AllocError>
             "N",
             "1",
             "The rule by which owners of mutexes inherit priorities, 1 or 2",
-        ))
+        ))?
+        .arg(option(alloc, "board", "N", "1", "The kind of board, 1 or 2"))
 }
 
 // The value of an option.
@@ -184,6 +203,9 @@ pub fn command_of<'a>(alloc: Global, words: &'a [&'a str]) -> Result<Command<'a>
     let Some(profile) = profile(value_of(&matches, "profile")) else {
         return Err(bad_value(alloc, &mut app, BAD_PROFILE));
     };
+    let Some(board) = board(value_of(&matches, "board")) else {
+        return Err(bad_value(alloc, &mut app, BAD_BOARD));
+    };
     Ok(Command {
         console: value_of(&matches, "console"),
         ticks: value_of(&matches, "ticks"),
@@ -191,5 +213,6 @@ pub fn command_of<'a>(alloc: Global, words: &'a [&'a str]) -> Result<Command<'a>
         limit,
         generate: generate as u32,
         profile,
+        board,
     })
 }

@@ -251,7 +251,14 @@ fn session<F: Folder, O: Sink>(
         Err(status) => return refused(status, devices),
     };
     let Inputs { console, schedule } = inputs;
-    let mut board = match Board::boot(alloc, devices, console, schedule, command.profile) {
+    let mut board = match Board::boot(
+        alloc,
+        devices,
+        console,
+        schedule,
+        command.profile,
+        command.board,
+    ) {
         Ok(board) => board,
         Err(devices) => return refused(Status::NoMemory, devices),
     };

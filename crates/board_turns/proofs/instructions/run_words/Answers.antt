@@ -7,4 +7,4 @@ loop-made-init g c = (refl, refl)
 
 pub loop-made-preserved : goal.loop-made-preserved
 loop-made-preserved g c =
-    one_more c.loop-made.made c.in-Some.word _ _ _ _ _ _ _ _ _ c.loop-made.invariant (omega arith) c.fetch.ensures c.in-Some.is c.exec_inline.ensures c.is_err.ensures.value c.if-is_err.false
+    one_more c.args.gates c.loop-made.made c.in-Some.word _ _ _ _ _ _ _ _ _ c.loop-made.invariant (omega arith) c.fetch.ensures c.in-Some.is c.exec_inline.ensures c.is_err.ensures.value c.if-is_err.false

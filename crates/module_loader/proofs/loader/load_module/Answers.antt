@@ -1,6 +1,7 @@
 use Rattle.std.proofs.Common.{◌≡◌, ◌+◌, List, [], ◌∷◌, ◌++◌, length, take, drop, replicate, None, Ok, sym, ap, ◌∙◌, subst, arith}
 use Rattle.wind_core.specs.State.{KernState}
 use Rattle.std.specs.List.{All}
+use Rattle.wind_base.specs.Boards.{board_rules}
 use Rattle.symbol_table.specs.declared.symbol.Symbol.{Symbol}
 use Rattle.symbol_table.specs.State.{HasName}
 use Rattle.id_table.specs.Rows.{Rows}
@@ -10,8 +11,10 @@ use Rattle.module_image.specs.Exports.{export_count, exports}
 use Rattle.module_image.specs.Image.{image}
 use Rattle.module_image.specs.Making.{IsMade}
 use Rattle.module_image.proofs.Counts.{count_law}
+use Rattle.module_image.proofs.Known.{linkable}
 use Rattle.module_image.proofs.Names.{exports_named}
 use Rattle.module_loader.specs.declared.module.LoadedModule.{LoadedModule}
+use Rattle.module_loader.specs.Modules.{modules_on}
 use Rattle.module_loader.specs.Placing.{places_of, with_needs}
 use Rattle.module_loader.specs.Loading.{LoaderState, count_by, place_verdict, in_block, stored_all, record_of, IsVerdict}
 use Rattle.module_loader.specs.Steps.{IsRefusedBy, state_of, three_pieces}
@@ -20,7 +23,10 @@ use Rattle.module_loader.proofs.loader.load_module.Goals as goal
 use Rattle.module_loader.proofs.loader.load_module.Goals.{After-check_counts, In-Ok-place}
 
 abbrev start : (c : After-check_counts) → LoaderState
-start c = state_of c.args.kern.now c.args.syms.now.list c.args.table.now.rows c.args.part.now c.args.ram.now.bytes
+start c = state_of c.args.kern.now c.args.syms.now.list (modules_on c.args.board c.args.table.now.rows) c.args.part.now c.args.ram.now.bytes
+
+pub measure_module-requires : goal.measure_module-requires
+measure_module-requires c = linkable c.args.m.now c.requires.module
 
 pub returns-in-Err-clause-refused : goal.returns-in-Err-clause-refused
 returns-in-Err-clause-refused c =
@@ -34,12 +40,12 @@ returns-in-Err-place-clause-refused c =
     let k = (goal.at.returns-in-Err-place-clause-refused c).After-check_counts in
     placed (start k) c.args.m.now c.args.mode c.in-Err-place.e
     (subst (λ n. count_by (length c.args.table.now.rows) c.args.kern.now.next_id (length c.args.syms.now.list + n) ≡ None) (k.count_added-added.ensures ∙ ap (export_count c.args.mode) k.as_slice.ensures) c.in-Ok-check_counts.ensures.none)
-    (subst (λ (xs : List Symbol). IsVerdict (place_verdict c.args.m.now xs (places_of c.args.part.now (needs_of c.args.m.now))) c.in-Err-place.e) c.check_counts.ensures.list
-    (subst (λ (z : Needs). IsVerdict (place_verdict c.args.m.now c.check_counts.new.syms.list (places_of c.args.part.now z)) c.in-Err-place.e) c.in-Ok.ensures c.in-Err-place.ensures.refused))
+    (subst (λ (xs : List Symbol). IsVerdict (place_verdict c.args.m.now xs (places_of (board_rules c.args.board).segments c.args.part.now (needs_of c.args.m.now))) c.in-Err-place.e) c.check_counts.ensures.list
+    (subst (λ (z : Needs). IsVerdict (place_verdict c.args.m.now c.check_counts.new.syms.list (places_of (board_rules c.args.board).segments c.args.part.now z)) c.in-Err-place.e) c.in-Ok.ensures c.in-Err-place.ensures.refused))
 
 fits : (c : In-Ok-place) → Fitting c.in-Ok.needs c.in-Ok-place.r.0 (length c.args.ram.now.bytes) (length c.in-Ok-place.r.1.bytes.items)
 fits c =
-    fitting c.args.part.now c.in-Ok.needs c.in-Ok-place.r.0 (length c.args.ram.now.bytes) (length c.in-Ok-place.r.1.bytes.items)
+    fitting (board_rules c.args.board).segments c.args.part.now c.in-Ok.needs c.in-Ok-place.r.0 (length c.args.ram.now.bytes) (length c.in-Ok-place.r.1.bytes.items)
     c.place.ensures.sound c.requires.pool c.in-Ok-place.ensures.made.size c.in-Ok-place.ensures.placed
 
 pub make_record-row-requires-clause-text : goal.make_record-row-requires-clause-text
@@ -80,7 +86,7 @@ returns-clause-accepted c =
     is_loaded (start k) c.args.name c.args.m.now c.args.mode at bytes adds
     c.commit.new.kern c.commit.new.syms.list c.commit.new.table.rows c.place.new.part c.commit.new.ram.bytes
     (subst (λ n. count_by (length c.args.table.now.rows) c.args.kern.now.next_id (length c.args.syms.now.list + n) ≡ None) (c.count_added-added.ensures ∙ ap (export_count c.args.mode) c.as_slice.ensures) c.in-Ok-check_counts.ensures.none)
-    (subst (λ (z : Needs). places_of c.args.part.now z ≡ Ok at) c.in-Ok.ensures c.in-Ok-place.ensures.placed)
+    (subst (λ (z : Needs). places_of (board_rules c.args.board).segments c.args.part.now z ≡ Ok at) c.in-Ok.ensures c.in-Ok-place.ensures.placed)
     (subst (λ (z : Needs). IsMade (image c.args.m.now c.args.syms.now.list at) z bytes) c.in-Ok.ensures
     (subst (λ (xs : List Symbol). IsMade (image c.args.m.now xs at) c.in-Ok.needs bytes) c.check_counts.ensures.list c.in-Ok-place.ensures.made))
     (c.in-Ok-place.ensures.exports ∙ ap (exports c.args.m.now c.args.mode at) (c.get.ensures.same ∙ c.in-Ok-check_counts.ensures.id))
@@ -89,5 +95,5 @@ returns-clause-accepted c =
     (ap (λ (t : Rows LoadedModule). t.rows) c.commit.ensures.rows
     ∙ ap (λ (x : KernState). c.args.table.now.rows ++ (x.next_id, c.make_record-row.result) ∷ []) same
     ∙ ap (λ (r : LoadedModule). c.args.table.now.rows ++ (c.args.kern.now.next_id, r) ∷ []) (c.make_record-row.ensures ∙ ap (λ (z : Needs). record_of c.args.name z at) c.in-Ok.ensures))
-    (c.in-Ok-place.ensures.after ∙ ap (with_needs c.args.part.now) c.in-Ok.ensures)
+    (c.in-Ok-place.ensures.after ∙ ap (with_needs (board_rules c.args.board).segments c.args.part.now) c.in-Ok.ensures)
     (c.commit.ensures.ram ∙ ap (λ (z : Needs). stored_all c.args.ram.now.bytes (three_pieces at (in_block (take z.text.size bytes)) (in_block (drop z.text.size bytes)) (in_block (replicate z.bss.size 0)))) c.in-Ok.ensures)

@@ -22,6 +22,8 @@ returns-clause-right c = record {
   no_generate = refl;
   first_profile = refl;
   second_profile = refl;
+  first_board = refl;
+  second_board = refl;
   all_options = refl;
 }
 
@@ -51,6 +53,9 @@ returns-clause-wrong c = record {
   signed_generate = refl;
   profile_zero = refl;
   profile_above_the_most = refl;
+  board_zero = refl;
+  board_above_the_most = refl;
+  empty_board = refl;
   empty_profile = refl;
   no_text = refl;
 }

@@ -5,13 +5,13 @@ use Rattle.linked_lists.specs.Chains.{value_of, value_in, chain_at, all_cells, p
 use Rattle.linked_lists.specs.Named.{IsIndexed, named, named_cell, named_chains, key_found}
 use Rattle.linked_lists.specs.declared.id_lists.Member.{Member}
 use Rattle.linked_lists.proofs.Keeping.{split_next}
-use Rattle.linked_lists.proofs.Naming.{node_of_next, named_cells, no_entry, parted, entry_placed, indexed_inserted, inserted_chains, named_alike}
+use Rattle.linked_lists.proofs.Naming.{place_within, node_of_next, named_cells, no_entry, parted, entry_placed, indexed_inserted, inserted_chains, named_alike}
 use Rattle.linked_lists.proofs.id_lists.IdLists.insert_before.Goals as goal
 
 pub insert_before-key-requires-clause-next : goal.insert_before-key-requires-clause-next
 insert_before-key-requires-clause-next g c x e =
     let k = c.self.inside in
-    let within = subst (λ n. c.args.list < n) (length-map k.lists.chains _) (subst (λ t. c.args.list < length t.chains) (sym c.self.view_is) c.requires.list) in
+    let within = place_within k.lists c.args.self.now c.args.list c.self.view_is c.requires.list in
     let next : (id : ℕ) → c.args.next ≡ Some id → IsSome (value_in (chain_at (named_chains k.lists.chains) c.args.list) id) = λ id q. subst (λ t. IsSome (value_in (chain_at t.chains c.args.list) id)) (sym c.self.view_is) (c.requires.next id q) in
     node_of_next k.lists.chains k.index.items c.self.invariant.1 c.args.next c.args.list within next x (ap (λ es. key_found es c.args.next) (sym c.deref.ensures.value) ∙ sym c.key_of-next.ensures ∙ e)
 
@@ -29,7 +29,7 @@ pub invariant_of-self : goal.invariant_of-self
 invariant_of-self g c =
     let k = c.self.inside in
     let cs = k.lists.chains in
-    let within = subst (λ n. c.args.list < n) (length-map cs _) (subst (λ t. c.args.list < length t.chains) (sym c.self.view_is) c.requires.list) in
+    let within = place_within k.lists c.args.self.now c.args.list c.self.view_is c.requires.list in
     let next : (id : ℕ) → c.args.next ≡ Some id → IsSome (value_in (chain_at (named_chains k.lists.chains) c.args.list) id) = λ id q. subst (λ t. IsSome (value_in (chain_at t.chains c.args.list) id)) (sym c.self.view_is) (c.requires.next id q) in
     let key_is = c.key_of-next.ensures ∙ ap (λ es. key_found es c.args.next) c.deref.ensures.value in
     let nodes : (x : ℕ) → c.key_of-next.result ≡ Some x → IsSome (value_in (chain_at cs c.args.list) x) = λ x e. node_of_next cs k.index.items c.self.invariant.1 c.args.next c.args.list within next x (sym key_is ∙ e) in
@@ -48,7 +48,7 @@ pub returns : goal.returns
 returns g c =
     let k = c.self.inside in
     let cs = k.lists.chains in
-    let within = subst (λ n. c.args.list < n) (length-map cs _) (subst (λ t. c.args.list < length t.chains) (sym c.self.view_is) c.requires.list) in
+    let within = place_within k.lists c.args.self.now c.args.list c.self.view_is c.requires.list in
     let next : (id : ℕ) → c.args.next ≡ Some id → IsSome (value_in (chain_at (named_chains k.lists.chains) c.args.list) id) = λ id q. subst (λ t. IsSome (value_in (chain_at t.chains c.args.list) id)) (sym c.self.view_is) (c.requires.next id q) in
     let key_is = c.key_of-next.ensures ∙ ap (λ es. key_found es c.args.next) c.deref.ensures.value in
     let cell : ℕ × Member g.row.T.Denot = (c.insert_before-key.result, record { who = c.args.who; value = c.args.value }) in

@@ -4,8 +4,7 @@ use Rattle.linked_lists.specs.Named.{entry_id, IsIndexed, named, named_chains}
 use Rattle.wind_lists.specs.Records.{without}
 use Rattle.wind_lists.proofs.Places.{remove_place}
 use Rattle.std.proofs.lemmas.Option.{same_Some}
-use Rattle.linked_lists.proofs.Keeping.{some_is}
-use Rattle.linked_lists.proofs.Naming.{no_value, chains_same, entry_found, entry_value, cells_alike, indexed_removed, chains_without, named_alike}
+use Rattle.linked_lists.proofs.Naming.{no_value, chains_same, node_there, entry_found, entry_value, cells_alike, indexed_removed, chains_without, named_alike}
 use Rattle.linked_lists.proofs.id_lists.IdLists.remove.Goals as goal
 
 pub returns-in_err-at-clause-value : goal.returns-in_err-at-clause-value
@@ -24,12 +23,7 @@ returns-in_err-at-clause-chains g c =
     ∙ ap (λ t. without_cell t c.args.who) c.self.view_is
 
 pub remove-value-requires : goal.remove-value-requires
-remove-value-requires g c =
-    let k = c.self.inside in
-    let at = rw c.deref.ensures.value at c.in_ok-at.ensures in
-    let entry = entry_found k.index.items c.args.who c.in_ok-at.at c.remove-key.result at c.self.invariant.1.rising c.remove-key.ensures.value in
-    let v = entry_value k.lists.chains k.index.items c.self.invariant.1 c.args.who c.remove-key.result entry in
-    some_is (value_of k.lists.chains c.remove-key.result.key) v.0 v.1
+remove-value-requires g c = node_there c.self.inside.lists.chains c.self.inside.index.items c.self.invariant.1 c.args.who c.in_ok-at.at c.remove-key.result (rw c.deref.ensures.value at c.in_ok-at.ensures) c.remove-key.ensures.value
 
 pub invariant_of-self : goal.invariant_of-self
 invariant_of-self g c =
@@ -46,16 +40,14 @@ invariant_of-self g c =
 pub returns-clause-value : goal.returns-clause-value
 returns-clause-value g c =
     let k = c.self.inside in
-    let at = rw c.deref.ensures.value at c.in_ok-at.ensures in
-    let entry = entry_found k.index.items c.args.who c.in_ok-at.at c.remove-key.result at c.self.invariant.1.rising c.remove-key.ensures.value in
+    let entry = entry_found k.index.items c.args.who c.in_ok-at.at c.remove-key.result (rw c.deref.ensures.value at c.in_ok-at.ensures) c.self.invariant.1.rising c.remove-key.ensures.value in
     let v = entry_value k.lists.chains k.index.items c.self.invariant.1 c.args.who c.remove-key.result entry in
     ap (λ m. Some m.value) (same_Some _ _ (sym c.remove-value.ensures.value ∙ v.1)) ∙ sym v.2 ∙ ap (λ t. value_of t.chains c.args.who) c.self.view_is
 
 pub returns-clause-chains : goal.returns-clause-chains
 returns-clause-chains g c =
     let k = c.self.inside in
-    let at = rw c.deref.ensures.value at c.in_ok-at.ensures in
-    let entry = entry_found k.index.items c.args.who c.in_ok-at.at c.remove-key.result at c.self.invariant.1.rising c.remove-key.ensures.value in
+    let entry = entry_found k.index.items c.args.who c.in_ok-at.at c.remove-key.result (rw c.deref.ensures.value at c.in_ok-at.ensures) c.self.invariant.1.rising c.remove-key.ensures.value in
     let alike = cells_alike k.lists.chains k.index.items c.self.invariant.1 c.args.who c.remove-key.result entry in
     ap named c.remove-value.ensures.chains
     ∙ named_alike (named_chains (map (λ d. without cell_key d c.remove-key.result.key) k.lists.chains)) (map (λ d. without cell_key d c.args.who) (named_chains k.lists.chains)) k.lists.room

@@ -4,6 +4,7 @@ use Rattle.slab.specs.Slab as slabs
 use Rattle.linked_lists.specs.Chains.{value_of, value_in, chain_at, all_cells, put_before, with_cell}
 use Rattle.linked_lists.specs.Inside.{IsKept, chains_in, behind, goes_on}
 use Rattle.linked_lists.proofs.Keeping.{behind_is, behind_there, value_node, split_next, some_updated, some_aimed, kept_inserted, kept_view, key_is_new, chains_alike, ends_length}
+use Rattle.linked_lists.proofs.Nodes.{kept_again}
 use Rattle.linked_lists.proofs.lists.Lists.insert_before.Goals as goal
 
 pub node_before-before-requires : goal.node_before-before-requires
@@ -52,7 +53,7 @@ invariant_of-self g c =
     let new = set cs c.args.list (put_before c.args.next (c.insert_reserved-key.result, c.args.value) (chain_at cs c.args.list)) in
     let now : IsKept nodes ends new k.room =
     rw (c.link_before.ensures.nodes, c.link_before.ensures.ends, c.link_after.ensures.nodes, c.link_after.ensures.ends) is in
-    subst (λ ds. IsKept nodes ends ds k.room) (sym (kept_view nodes ends new k.room now)) now
+    kept_again nodes ends new k.room now
 
 pub returns-clause-fresh : goal.returns-clause-fresh
 returns-clause-fresh g c =

@@ -1,20 +1,17 @@
 use Rattle.std.proofs.Common.{sym, subst}
 use Rattle.std.specs.Prelude.{IsSome}
-use Rattle.slab.specs.Slab as slabs
 use Rattle.linked_lists.specs.Chains.{value_of, IsOnlyIn}
 use Rattle.linked_lists.specs.Inside.{chains_in}
-use Rattle.linked_lists.proofs.Keeping.{some_is}
-use Rattle.linked_lists.proofs.Telling.{found_at, only_in}
+use Rattle.linked_lists.proofs.Telling.{only_in}
+use Rattle.linked_lists.proofs.Nodes.{node_live}
 use Rattle.linked_lists.proofs.lists.Lists.list_of.Goals as goal
 
 pub index-requires : goal.index-requires
 index-requires g c =
     let k = c.self.inside in
-    let found = found_at k.nodes k.ends.items (chains_in k.nodes k.ends.items) k.room c.args.key c.self.invariant (subst (λ t. IsSome (value_of t.chains c.args.key)) (sym c.self.view_is) c.requires) in
-    some_is (slabs.get k.nodes c.args.key) _ found.3
+    node_live k.nodes k.ends.items (chains_in k.nodes k.ends.items) k.room c.args.key c.self.invariant (subst (λ t. IsSome (value_of t.chains c.args.key)) (sym c.self.view_is) c.requires)
 
 pub returns : goal.returns
 returns g c =
-    let k = c.self.inside in
     subst (λ t. IsOnlyIn t.chains c.args.key c.index.result.now.list) c.self.view_is
-    (only_in k.nodes k.ends.items (chains_in k.nodes k.ends.items) k.room c.args.key c.index.result.now c.self.invariant (subst (λ t. IsSome (value_of t.chains c.args.key)) (sym c.self.view_is) c.requires) c.index.ensures)
+    (only_in c.self.inside.nodes c.self.inside.ends.items (chains_in c.self.inside.nodes c.self.inside.ends.items) c.self.inside.room c.args.key c.index.result.now c.self.invariant (subst (λ t. IsSome (value_of t.chains c.args.key)) (sym c.self.view_is) c.requires) c.index.ensures)

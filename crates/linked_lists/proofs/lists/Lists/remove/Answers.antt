@@ -5,15 +5,15 @@ use Rattle.slab.specs.Slab as slabs
 use Rattle.wind_lists.specs.Records.{without}
 use Rattle.linked_lists.specs.Chains.{cell_key, value_of, all_cells, without_cell}
 use Rattle.linked_lists.specs.Inside.{IsKept, chains_in, goes_on, goes_back}
-use Rattle.linked_lists.proofs.Keeping.{some_is, neighbours, some_aimed, kept_removed, kept_view, chains_alike, ends_length, length-aim_first, len_aimed}
+use Rattle.linked_lists.proofs.Keeping.{neighbours, some_aimed, kept_removed, kept_view, chains_alike, ends_length, length-aim_first, len_aimed}
 use Rattle.linked_lists.proofs.Telling.{found_at}
+use Rattle.linked_lists.proofs.Nodes.{node_live, kept_again}
 use Rattle.linked_lists.proofs.lists.Lists.remove.Goals as goal
 
 pub remove-list-requires : goal.remove-list-requires
 remove-list-requires g c =
     let k = c.self.inside in
-    let found = found_at k.nodes k.ends.items (chains_in k.nodes k.ends.items) k.room c.args.key c.self.invariant (subst (λ t. IsSome (value_of t.chains c.args.key)) (sym c.self.view_is) c.requires) in
-    some_is (slabs.get k.nodes c.args.key) _ found.3
+    node_live k.nodes k.ends.items (chains_in k.nodes k.ends.items) k.room c.args.key c.self.invariant (subst (λ t. IsSome (value_of t.chains c.args.key)) (sym c.self.view_is) c.requires)
 
 pub link_after-requires-clause-list : goal.link_after-requires-clause-list
 link_after-requires-clause-list g c =
@@ -61,7 +61,7 @@ invariant_of-self g c =
     let new = map (λ d. without cell_key d c.args.key) cs in
     let now : IsKept nodes ends new k.room =
     rw (c.link_before.ensures.nodes, c.link_before.ensures.ends, c.link_after.ensures.nodes, c.link_after.ensures.ends) is in
-    subst (λ ds. IsKept nodes ends ds k.room) (sym (kept_view nodes ends new k.room now)) now
+    kept_again nodes ends new k.room now
 
 pub returns-clause-value : goal.returns-clause-value
 returns-clause-value g c =

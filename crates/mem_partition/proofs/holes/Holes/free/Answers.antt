@@ -1,6 +1,6 @@
 use Rattle.std.proofs.Common.{◌≡◌, ◌+◌, get_or, None, sym, ap, ◌∙◌, arith}
 use Rattle.mem_partition.specs.declared.block.Block.{Block}
-use Rattle.mem_partition.specs.Gaps.{IsOwn}
+use Rattle.mem_partition.specs.Own.{IsOwn}
 use Rattle.mem_partition.specs.State.{own_block, after_free}
 use Rattle.mem_partition.specs.Holes.{HolesState, with_holes}
 use Rattle.mem_partition.specs.contracts.holes.Holes.{the_view}
@@ -35,7 +35,6 @@ merge-requires c =
     let own : IsOwn s.part.blocks c.args.addr c.args.class k = rw c.deref.ensures.value at c.in-Some.ensures in
     let few = apart_few s (c.remove-block.result.addr + c.remove-block.result.size) k c.remove-block.result c.self.invariant.2 own.within c.remove-block.ensures.value in
     let all = c.self.invariant.2.part.few in
-    let most = c.self.invariant.2.room in
     let spare = c.self.invariant.1 in
     record { room = omega arith }
 

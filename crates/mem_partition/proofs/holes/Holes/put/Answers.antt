@@ -13,7 +13,6 @@ cut-requires c =
     let s = the_view c.self.inside in
     let room : length s.part.blocks < s.part.room = subst (λ (x : HolesState). length x.part.blocks < x.part.room) (sym c.self.view_is) c.requires.room in
     let few = holes_few s c.self.invariant.2 in
-    let most = c.self.invariant.2.room in
     let spare = c.self.invariant.1 in
     record { room = omega arith }
 

@@ -1,9 +1,7 @@
-use Rattle.std.proofs.Common.{ap, ◌∙◌, ◌+◌, cond, refl}
-use Rattle.task_block.specs.Standing.{is_ready}
-use Rattle.wind_core.specs.State.{task_id}
-use Rattle.wind_core.specs.Moves.{with_pri, settled, move_task}
-use Rattle.wind_core.proofs.Writes.{object_lives, settled_id, moves}
-use Rattle.wind_core.proofs.Mending.{waits_fit, ready_fits, rekeyed_keeps}
+use Rattle.std.proofs.Common.{ap, ◌∙◌, cond, refl}
+use Rattle.wind_core.specs.Moves.{with_pri, move_task}
+use Rattle.wind_core.proofs.Writes.{object_lives, moves}
+use Rattle.wind_core.proofs.Mending.{settled_fit, rekeyed_keeps}
 use Rattle.wind_core.proofs.kern.Kern.change_pri.Goals as goal
 
 pub object_mut-task-requires : goal.object_mut-task-requires
@@ -11,35 +9,22 @@ object_mut-task-requires c = object_lives c.self.inside c.args.self.now c.args.w
 
 pub mend_waits-requires : goal.mend_waits-requires
 mend_waits-requires c =
-    let k = c.self.inside in
     let x = c.object_mut-task.result.now in
-    let y = c.settle.new.task in
-    let own = ap task_id (c.settle.ensures.task ∙ ap (settled k.next_since) c.set_pri.ensures) ∙ settled_id k.next_since (with_pri c.args.pri x) in
-    waits_fit k c.args.who x y c.self.invariant c.object_mut-task.ensures.value own
+    (settled_fit c.self.inside c.args.who c.settle.new.next_since x (with_pri c.args.pri x) c.set_pri.new.task c.settle.new.task c.self.invariant c.object_mut-task.ensures.value refl refl (λ h. h) c.set_pri.ensures c.settle.ensures.task c.settle.ensures.next).waits
 
 pub mend_ready-requires : goal.mend_ready-requires
 mend_ready-requires c =
-    let k = c.self.inside in
     let x = c.object_mut-task.result.now in
-    let y = c.settle.new.task in
-    let own = ap task_id (c.settle.ensures.task ∙ ap (settled k.next_since) c.set_pri.ensures) ∙ settled_id k.next_since (with_pri c.args.pri x) in
-    ready_fits k c.args.who x y c.self.invariant c.object_mut-task.ensures.value own
+    (settled_fit c.self.inside c.args.who c.settle.new.next_since x (with_pri c.args.pri x) c.set_pri.new.task c.settle.new.task c.self.invariant c.object_mut-task.ensures.value refl refl (λ h. h) c.set_pri.ensures c.settle.ensures.task c.settle.ensures.next).ready
 
 pub invariant_of-self : goal.invariant_of-self
 invariant_of-self c =
-    let k = c.self.inside in
     let x = c.object_mut-task.result.now in
-    let y = c.settle.new.task in
-    rekeyed_keeps k c.args.who c.settle.new.next_since x (with_pri c.args.pri x) y c.self.invariant c.object_mut-task.ensures.value refl refl (λ h. h)
-    (c.settle.ensures.task ∙ ap (settled k.next_since) c.set_pri.ensures)
-    (c.settle.ensures.next ∙ ap (λ t. k.next_since + cond (is_ready t) 1 0) c.set_pri.ensures)
+    rekeyed_keeps c.self.inside c.args.who c.settle.new.next_since x (with_pri c.args.pri x) c.set_pri.new.task c.settle.new.task c.self.invariant c.object_mut-task.ensures.value refl refl (λ h. h) c.set_pri.ensures c.settle.ensures.task c.settle.ensures.next
     c.mend_waits.new.waits c.mend_ready.new.ready refl c.mend_waits.ensures c.mend_ready.ensures
 
 pub returns : goal.returns
 returns c =
-    let k = c.self.inside in
-    moves k c.args.who c.settle.new.next_since c.object_mut-task.result.now c.settle.new.task (with_pri c.args.pri) c.self.invariant c.object_mut-task.ensures.value
-    (c.settle.ensures.task ∙ ap (settled k.next_since) c.set_pri.ensures)
-    (c.settle.ensures.next ∙ ap (λ t. k.next_since + cond (is_ready t) 1 0) c.set_pri.ensures)
+    moves c.self.inside c.args.who c.settle.new.next_since c.object_mut-task.result.now c.set_pri.new.task c.settle.new.task (with_pri c.args.pri) c.self.invariant c.object_mut-task.ensures.value c.set_pri.ensures c.settle.ensures.task c.settle.ensures.next
     ∙ ap (λ s. move_task s c.args.who (with_pri c.args.pri)) c.self.view_is
     ∙ ap (λ b. cond b c.args.self.now (move_task c.args.self.now c.args.who (with_pri c.args.pri))) c.if-has_pri.ensures

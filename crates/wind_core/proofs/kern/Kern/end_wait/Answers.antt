@@ -1,9 +1,7 @@
-use Rattle.std.proofs.Common.{ap, ◌∙◌, ◌+◌, cond, refl}
-use Rattle.task_block.specs.Standing.{is_ready}
-use Rattle.wind_core.specs.State.{task_id}
-use Rattle.wind_core.specs.Moves.{answered, settled, end_wait}
-use Rattle.wind_core.proofs.Writes.{object_lives, settled_id, moves}
-use Rattle.wind_core.proofs.Mending.{waits_fit, ready_fits, delays_fit, ended_keeps}
+use Rattle.std.proofs.Common.{ap, ◌∙◌, refl}
+use Rattle.wind_core.specs.Moves.{answered, end_wait}
+use Rattle.wind_core.proofs.Writes.{object_lives, moves}
+use Rattle.wind_core.proofs.Mending.{settled_fit, ended_keeps}
 use Rattle.wind_core.proofs.kern.Kern.end_wait.Goals as goal
 
 pub object_mut-task-requires : goal.object_mut-task-requires
@@ -11,30 +9,16 @@ object_mut-task-requires c = object_lives c.self.inside c.args.self.now c.args.w
 
 pub mend-requires : goal.mend-requires
 mend-requires c =
-    let k = c.self.inside in
     let x = c.object_mut-task.result.now in
-    let y = c.settle.new.task in
-    let own = ap task_id (c.settle.ensures.task ∙ ap (settled k.next_since) c.answer_wait.ensures) ∙ settled_id k.next_since (answered c.args.answer c.args.errno x) in
-    record {
-      waits = waits_fit k c.args.who x y c.self.invariant c.object_mut-task.ensures.value own;
-      ready = ready_fits k c.args.who x y c.self.invariant c.object_mut-task.ensures.value own;
-      delays = delays_fit k c.args.who x y c.self.invariant c.object_mut-task.ensures.value own;
-    }
+    settled_fit c.self.inside c.args.who c.settle.new.next_since x (answered c.args.answer c.args.errno x) c.answer_wait.new.task c.settle.new.task c.self.invariant c.object_mut-task.ensures.value refl refl (λ _. tt) c.answer_wait.ensures c.settle.ensures.task c.settle.ensures.next
 
 pub invariant_of-self : goal.invariant_of-self
 invariant_of-self c =
-    let k = c.self.inside in
     let x = c.object_mut-task.result.now in
-    let y = c.settle.new.task in
-    ended_keeps k c.args.who c.settle.new.next_since x (answered c.args.answer c.args.errno x) y c.self.invariant c.object_mut-task.ensures.value refl refl (λ _. tt)
-    (c.settle.ensures.task ∙ ap (settled k.next_since) c.answer_wait.ensures)
-    (c.settle.ensures.next ∙ ap (λ t. k.next_since + cond (is_ready t) 1 0) c.answer_wait.ensures)
+    ended_keeps c.self.inside c.args.who c.settle.new.next_since x (answered c.args.answer c.args.errno x) c.answer_wait.new.task c.settle.new.task c.self.invariant c.object_mut-task.ensures.value refl refl (λ _. tt) c.answer_wait.ensures c.settle.ensures.task c.settle.ensures.next
     c.mend.new.waits c.mend.new.ready c.mend.new.delays refl c.mend.ensures.waits c.mend.ensures.ready c.mend.ensures.delays
 
 pub returns : goal.returns
 returns c =
-    let k = c.self.inside in
-    moves k c.args.who c.settle.new.next_since c.object_mut-task.result.now c.settle.new.task (answered c.args.answer c.args.errno) c.self.invariant c.object_mut-task.ensures.value
-    (c.settle.ensures.task ∙ ap (settled k.next_since) c.answer_wait.ensures)
-    (c.settle.ensures.next ∙ ap (λ t. k.next_since + cond (is_ready t) 1 0) c.answer_wait.ensures)
+    moves c.self.inside c.args.who c.settle.new.next_since c.object_mut-task.result.now c.answer_wait.new.task c.settle.new.task (answered c.args.answer c.args.errno) c.self.invariant c.object_mut-task.ensures.value c.answer_wait.ensures c.settle.ensures.task c.settle.ensures.next
     ∙ ap (λ s. end_wait s c.args.who c.args.answer c.args.errno) c.self.view_is

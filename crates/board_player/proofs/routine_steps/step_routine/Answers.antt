@@ -1,0 +1,14 @@
+use Rattle.std.proofs.Common.{ap, ◌∙◌}
+use Rattle.kernel_world.specs.State.{WorldState}
+use Rattle.board_player.proofs.RoutineBursts.{routine_left}
+use Rattle.board_player.proofs.routine_steps.step_routine.Goals as goal
+
+pub returns-clause-routine : goal.returns-clause-routine
+returns-clause-routine g c =
+    routine_left _ _ _ _ c.run_routine-kind.result (ap (λ (w : WorldState). w.kern) c.routine_turn.ensures.world) c.run_routine-kind.ensures.kern c.run_routine-kind.ensures.active
+
+pub returns-clause-kern : goal.returns-clause-kern
+returns-clause-kern g c done = c.run_routine-kind.ensures.kern done ∙ ap (λ (w : WorldState). w.kern) c.routine_turn.ensures.world
+
+pub returns-clause-objects : goal.returns-clause-objects
+returns-clause-objects g c done = c.run_routine-kind.ensures.objects done ∙ ap (λ (w : WorldState). w.objects) c.routine_turn.ensures.world

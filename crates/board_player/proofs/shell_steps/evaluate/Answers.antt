@@ -1,0 +1,7 @@
+use Rattle.std.proofs.Common.{[]}
+use Rattle.kernel_world.specs.Seen.{world_with}
+use Rattle.kernel_world.proofs.Boards.{pool_in_ram}
+use Rattle.board_player.proofs.shell_steps.evaluate.Goals as goal
+
+pub evaluate-requires-clause-pool : goal.evaluate-requires-clause-pool
+evaluate-requires-clause-pool g c = pool_in_ram (world_with [] c.revocable_turn-kept.new.world) c.revocable_turn-kept.ensures.ready.kept

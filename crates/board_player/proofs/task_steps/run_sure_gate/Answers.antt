@@ -1,0 +1,17 @@
+use Rattle.std.proofs.Common.{sym, ap, ◌∙◌}
+use Rattle.wind_base.specs.declared.regs.Regs.{Regs}
+use Rattle.board_player.specs.Inside.{parts_by}
+use Rattle.board_player.proofs.Asked.{unasked_call}
+use Rattle.board_player.proofs.Stepping.{gate_stepped}
+use Rattle.board_player.proofs.task_steps.run_sure_gate.Goals as goal
+
+pub at_gate-requires-clause-unasked : goal.at_gate-requires-clause-unasked
+at_gate-requires-clause-unasked g c =
+    unasked_call (parts_by (λ d. (goal.Device-dyn g (d.vtable, d.value)).kind_of d.value) (λ d. (goal.Device-dyn g (d.vtable, d.value)).words_of d.value) c.args.parts.now)
+    c.args.who c.args.at c.args.gate _ c.turn.ensures.world c.requires.counter c.requires.gate c.requires.asks c.requires.phase
+
+pub returns-clause-step : goal.returns-clause-step
+returns-clause-step g c =
+    c.end.ensures.step
+    ∙ gate_stepped (parts_by (λ d. (goal.Device-dyn g (d.vtable, d.value)).kind_of d.value) (λ d. (goal.Device-dyn g (d.vtable, d.value)).words_of d.value) c.args.parts.now)
+    c.args.who c.args.at c.args.gate _ _ _ c.turn.ensures.world c.in-Ok.ensures.ok (c.requires.counter ∙ ap (λ (r : Regs). r.pc) (sym c.turn.ensures.ready.regs)) c.requires.gate

@@ -1,0 +1,11 @@
+-- The block that a call names by its address and class.
+use Rattle.std.specs.Prelude.{◌≡◌, ℕ, ◌<◌, List, length, slice_index_or, Some}
+use Rattle.mem_partition.specs.declared.block.Block.{Block}
+use Rattle.mem_partition.specs.declared.block.Class.{Class}
+use Rattle.mem_partition.specs.State.{own_block}
+
+-- the place in the list of the block of this class that begins at an address
+pub record IsOwn (blocks : List Block) (at : ℕ) (class : Class) (place : ℕ) : Type 0 where
+  pub within : place < length blocks
+  pub same : (d : Block) → (slice_index_or blocks place d).addr ≡ at
+  pub block : (d : Block) → own_block blocks at class ≡ Some (slice_index_or blocks place d)

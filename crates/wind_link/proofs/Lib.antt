@@ -1,0 +1,11 @@
+pub mod Flattening
+pub mod Extents
+pub mod Placement
+pub mod Exporting
+pub mod Joining
+pub mod Rowing
+pub mod Lining
+pub mod Covering
+pub mod Boarding
+pub mod Commanding
+pub mod Naming

@@ -1,0 +1,10 @@
+pub mod Flat
+pub mod Placing
+pub mod Linking
+pub mod Lists
+pub mod Command
+pub mod Values
+pub mod Steps
+pub mod Rows
+pub mod Adding
+pub mod Boards
