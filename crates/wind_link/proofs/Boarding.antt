@@ -1,5 +1,5 @@
 -- What loads on a board leave in RAM is the image of the same modules.
-use Rattle.std.proofs.Common.{◌≡◌, ℕ, ◌+◌, ◌-◌, ◌^◌, ◌≤◌, ◌<◌, inl, inr, List, [], ◌∷◌, ◌++◌, Option, Some, None, Result, Ok, length, map, get_or, replicate, refl, sym, ap, ◌∙◌, subst, arith}
+use Rattle.std.proofs.Common.{◌≡◌, ◌⊎◌, ℕ, ◌+◌, ◌-◌, ◌^◌, ◌≤◌, ◌<◌, inl, inr, List, [], ◌∷◌, ◌++◌, Option, Some, None, Result, Ok, length, map, get_or, replicate, refl, sym, ap, ◌∙◌, subst, arith}
 use Rattle.std.specs.List.{range_with_len}
 use Rattle.std.proofs.lemmas.List.{get_or_append_left, length-append}
 use Rattle.std.proofs.lemmas.List.FromFn.{get_or-map-range_with_len}
@@ -11,12 +11,12 @@ use Rattle.module_image.specs.Link.{Load, link, images_of}
 use Rattle.module_image.specs.Opening.{opening_blocks}
 use Rattle.module_image.proofs.Known.{linkable}
 use Rattle.module_image.proofs.Linking.{link_law}
-use Rattle.module_loader.specs.Loading.{block_size, in_block, pieces_of, loaded}
-use Rattle.module_loader.specs.Live.{IsPiece, AllHeld}
+use Rattle.module_loader.specs.Loading.{Piece, block_size, in_block, pieces_of, loaded}
+use Rattle.module_loader.specs.Live.{IsPiece, AllHeld, all_pieces}
 use Rattle.module_loader.proofs.Ram.{held_at_the_end}
 use Rattle.module_loader.proofs.Running.{stand_of, accepted}
 use Rattle.wind_link.specs.declared.linking.LinkErr.{LinkErr}
-use Rattle.wind_link.specs.Boards.{BoardLoad, IsAccepted, left_by, written_by, Follow, Stays, AllStay, HoldBoth, BoardLaw}
+use Rattle.wind_link.specs.Boards.{BoardLoad, IsAccepted, left_by, written_by, Follow, Stays, AllStay, HoldBoth, BoardLaw, LinkedLaw}
 use Rattle.wind_link.specs.Flat.{Segment, segments, byte_at, lowest, highest, flat}
 use Rattle.wind_link.specs.Linking.{opening_symbols, related_or, placed_or, images, linked, wrong_relocation, static_image}
 use Rattle.wind_link.specs.Placing.{wrong_place}
@@ -70,6 +70,24 @@ fills bytes = omega (arith, length-append bytes (replicate (block_size (length b
 first_in : (bytes : List ℕ) (k : ℕ) → k < length bytes → get_or (in_block bytes) k 0 ≡ get_or bytes k 0
 unfolding in_block
 first_in bytes k h = get_or_append_left bytes (replicate (block_size (length bytes) - length bytes) 0) 0 k h
+
+-- RAM holds what one load wrote
+one_held : (ram : List ℕ) (b : BoardLoad) → IsAccepted b → Stays ram b → AllHeld ram (pieces_of b.load.at (written_by b))
+one_held ram b one stays p h k small = stays p (p.0 + k) h (omega arith, omega (arith, small)) ∙ held b one p h k small
+
+of_either : (p : Piece) (ps qs : List Piece) → IsPiece p (ps ++ qs) → IsPiece p ps ⊎ IsPiece p qs
+of_either p [] qs h = inr h
+of_either p (q ∷ ps) qs (inl same) = inl (inl same)
+of_either p (q ∷ ps) qs (inr later) = elim (of_either p ps qs later) [ inl mine ↦ inl (inr mine) | inr theirs ↦ inr theirs ]
+
+all_held : (tab : List Symbol) (ram : List ℕ) (bs : List BoardLoad) → Follow tab bs → AllStay ram bs → AllHeld ram (all_pieces (the_loads bs) (map written_by bs))
+all_held tab ram [] f s p h = absurd h
+all_held tab ram (b ∷ bs) (one, found, rest) (stays, others) p h =
+    elim (of_either p (pieces_of b.load.at (written_by b)) (all_pieces (the_loads bs) (map written_by bs)) h)
+    [ inl mine ↦ one_held ram b one stays p mine | inr theirs ↦ all_held (left_by b).symbols ram bs rest others p theirs ]
+
+pub linked_law : LinkedLaw
+linked_law tab bs ram f s = (written_is tab bs f ∙ link_law tab (with_ids bs) ∙ ap (link tab) (loads_are bs), all_held tab ram bs f s)
 
 stays_read : (ram : List ℕ) (b : BoardLoad) (at : ℕ) (bytes : List ℕ) → IsAccepted b → Stays ram b → IsPiece (at, in_block bytes) (pieces_of b.load.at (written_by b))
     → (k : ℕ) → k < length bytes → get_or ram (at + k) 0 ≡ get_or bytes k 0

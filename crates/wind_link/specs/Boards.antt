@@ -4,9 +4,9 @@ use Rattle.symbol_table.specs.declared.symbol.Symbol.{Symbol}
 use Rattle.mem_partition.specs.Laws.{IsIn}
 use Rattle.elf_read.specs.Modules.{IsModule}
 use Rattle.module_image.specs.Image.{Images, image}
-use Rattle.module_image.specs.Link.{Load}
+use Rattle.module_image.specs.Link.{Load, link}
 use Rattle.module_loader.specs.Loading.{LoaderState, Piece, pieces_of, verdict, loaded}
-use Rattle.module_loader.specs.Live.{IsPiece, IsLoader}
+use Rattle.module_loader.specs.Live.{IsPiece, IsLoader, AllHeld, all_pieces}
 use Rattle.wind_link.specs.Flat.{Segment, segments, lowest}
 use Rattle.wind_link.specs.Linking.{opening_symbols, images, static_image}
 
@@ -42,6 +42,14 @@ Stays ram b = (p : Piece) (a : ℕ) → IsPiece p (pieces_of b.load.at (written_
 abbrev pub AllStay : List ℕ → List BoardLoad → Type 0
 AllStay ram [] = Unit {0}
 AllStay ram (b ∷ bs) = Stays ram b × AllStay ram bs
+
+-- live linking over symbols and written images, whatever happens between the loads to tasks, ids and other blocks:
+-- what accepted loads wrote is the static link of the same modules at the same places over the symbols that the first
+-- one found, and RAM holds it all if nothing else wrote into their blocks
+abbrev pub LinkedLaw : Type 0
+LinkedLaw = (tab : List Symbol) (bs : List BoardLoad) (ram : List ℕ) → Follow tab bs → AllStay ram bs
+    → (map written_by bs ≡ link tab (map (λ b. b.load) bs))
+    × AllHeld ram (all_pieces (map (λ b. b.load) bs) (map written_by bs))
 
 -- each byte of the segments is in RAM at its address, and in the bytes from `low` on
 abbrev pub HoldBoth : List ℕ → List ℕ → ℕ → List Segment → Type 0

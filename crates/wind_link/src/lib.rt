@@ -13,7 +13,7 @@ mod status;
 mod values;
 
 pub use command::windlink;
-pub use laws::board_law;
+pub use laws::{board_law, linked_law};
 pub use linking::{LinkErr, Placed, link_all};
 pub use report::tell_no_memory;
 pub use status::LinkStatus;
