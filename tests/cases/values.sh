@@ -246,14 +246,14 @@ ld < a.o => 89648
 ld(1, 2, 3) => 3
 ROWS
 
-# `mtctr r3`, `li r6, 4`, that often `li r3, 0`, a call of symAdd and `bdnz`, and back to the shell. There are 49 symbols at the start:
-# with 65,486 more there is room for one.
+# `mtctr r3`, `li r6, 4`, that often `li r3, 0`, a call of symAdd and `bdnz`, and back to the shell. There are 55 symbols at the start:
+# with 65,480 more there is room for one.
 shows 'a full table of symbols'
 of_board_1
 rows <<'ROWS'
 *0x1000 = 0x7c6903a6; *0x1004 = 0x38c00004; *0x1008 = 0x38600000; *0x100c = 0x490002a3 => 2087256998 | 952107012 | 945815552 | 1224737443
 *0x1010 = 0x4200fff8; *0x1014 = 0x49000012 => 1107361784 | 1224736786
-(0x1000)(65486, "s", 7) => 0
+(0x1000)(65480, "s", 7) => 0
 s => 7
 x = 1 => new symbol "x" added to symbol table. | 1
 y = 1/0 => divide by zero

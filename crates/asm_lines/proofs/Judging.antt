@@ -3,7 +3,7 @@ use Rattle.std.proofs.Common.{◌≡◌, ℕ, ◌+◌, ◌≤◌, Bool, true, fa
 use Rattle.std.specs.Prelude.{if◌then◌else◌, ◌||◌, is_some}
 use Rattle.ppc_text.specs.declared.line.Instruction.{Instruction as Insn}
 use Rattle.ppc_text.specs.declared.line.Item.{Item}
-use Rattle.ppc_text.specs.declared.line.Item.TheVariants.{Nothing, Text, Data, Global, Long, Ascii, Space, Align, Instruction}
+use Rattle.ppc_text.specs.declared.line.Item.TheVariants.{Instruction}
 use Rattle.ppc_text.specs.declared.line.Line.{Line}
 use Rattle.asm_lines.specs.declared.error.Cause.{Cause}
 use Rattle.asm_lines.specs.declared.error.Cause.TheVariants.{BadPlace, BadWord, Twice, TooLarge}
@@ -32,26 +32,12 @@ no_cause ps item i e t b = after_place ps item i None e t (ap (λ x. if x then S
 
 pub other_cause : (ps : List Placed) (item : Item) → ((i : Insn) → item ≡ Instruction i → ⊥) → None ≡ item_cause ps item
 unfolding item_cause
-other_cause ps Nothing h = refl
-other_cause ps Text h = refl
-other_cause ps Data h = refl
-other_cause ps (Global name) h = refl
-other_cause ps (Long vs) h = refl
-other_cause ps (Ascii bs) h = refl
-other_cause ps (Space n) h = refl
-other_cause ps (Align n) h = refl
 other_cause ps (Instruction i) h = absurd (h i refl)
+other_cause ps item h = refl
 
 pub good_word : (item : Item) → ((i : Insn) → item ≡ Instruction i → ⊥) → is_bad_word item ≡ false
-good_word Nothing h = refl
-good_word Text h = refl
-good_word Data h = refl
-good_word (Global name) h = refl
-good_word (Long vs) h = refl
-good_word (Ascii bs) h = refl
-good_word (Space n) h = refl
-good_word (Align n) h = refl
 good_word (Instruction i) h = absurd (h i refl)
+good_word item h = refl
 
 none_from : (o : Option Cause) → is_some o ≡ false → o ≡ None
 none_from None h = refl

@@ -53,12 +53,12 @@ pub small_size : (d : Draft) → IsSmall d → (if d.place == 0 then length d.te
 small_size d a = either_small (d.place == 0) _ _ longest_section a.small_text a.small_data
 
 -- the part of a line's effect that doesn't depend on its section
-pub record Behind (d d' : Draft) (l : Line) : Type 0 where
+pub record After (d d' : Draft) (l : Line) : Type 0 where
   pub place : d'.place ≡ section_after l.item d.place
   pub labels : d'.labels.items ≡ d.labels.items ++ label_at l.label d.place (if d.place == 0 then length d.text_part.bytes.items else length d.data_part.bytes.items)
   pub names : (ns ls gs : List (List ℕ)) → AreNames d.names ns ls gs → AreNames d'.names ((ns ++ label_names l.label) ++ item_names l.item) (ls ++ label_names l.label) (gs ++ global_names l.item)
 
-draft_with : (d d' : Draft) (ps : List Placed) (l : Line) → IsDraft d ps → Behind d d' l → IsSection 0 (ps ++ next ps l ∷ []) d'.text_part → IsSection 1 (ps ++ next ps l ∷ []) d'.data_part → IsDraft d' (ps ++ next ps l ∷ [])
+draft_with : (d d' : Draft) (ps : List Placed) (l : Line) → IsDraft d ps → After d d' l → IsSection 0 (ps ++ next ps l ∷ []) d'.text_part → IsSection 1 (ps ++ next ps l ∷ []) d'.data_part → IsDraft d' (ps ++ next ps l ∷ [])
 draft_with d d' ps l a b t u =
     let named = b.names (mentions ps) (defined ps) (globals ps) a.names in
     let m : (mentions ps ++ label_names l.label) ++ item_names l.item ≡ mentions (ps ++ next ps l ∷ []) = append_assoc (mentions ps) (label_names l.label) (item_names l.item) ∙ sym (mentions-snoc ps (next ps l)) in
@@ -80,7 +80,7 @@ is_zero k e = ap (λ (n : ℕ). n == 0) e
 is_one : (k : ℕ) → k ≡ 1 → (k == 1) ≡ true
 is_one k e = ap (λ (n : ℕ). n == 1) e
 
-pub in_text : (d d' : Draft) (ps : List Placed) (l : Line) → IsDraft d ps → Behind d d' l → d'.place ≡ 0
+pub in_text : (d d' : Draft) (ps : List Placed) (l : Line) → IsDraft d ps → After d d' l → d'.place ≡ 0
     → d'.text_part.bytes.items ≡ d.text_part.bytes.items ++ item_bytes (length d.text_part.bytes.items) l.item → d'.text_part.fixes.items ≡ d.text_part.fixes.items ++ item_fixes (length d.text_part.bytes.items) l.item
     → d'.data_part ≡ d.data_part → IsDraft d' (ps ++ next ps l ∷ [])
 in_text d d' ps l a b z e f s =
@@ -89,7 +89,7 @@ in_text d d' ps l a b z e f s =
     (section_more 0 ps (next ps l) d.text_part d'.text_part a.in_text (is_zero _ p) e f)
     (subst (λ (t : Section). IsSection 1 (ps ++ next ps l ∷ []) t) (sym s) (section_same 1 ps (next ps l) d.data_part a.in_data (ap (λ (n : ℕ). n == 1) p)))
 
-pub in_data : (d d' : Draft) (ps : List Placed) (l : Line) → IsDraft d ps → Behind d d' l → (d'.place ≡ 0 → ⊥)
+pub in_data : (d d' : Draft) (ps : List Placed) (l : Line) → IsDraft d ps → After d d' l → (d'.place ≡ 0 → ⊥)
     → d'.data_part.bytes.items ≡ d.data_part.bytes.items ++ item_bytes (length d.data_part.bytes.items) l.item → d'.data_part.fixes.items ≡ d.data_part.fixes.items ++ item_fixes (length d.data_part.bytes.items) l.item
     → d'.text_part ≡ d.text_part → IsDraft d' (ps ++ next ps l ∷ [])
 in_data d d' ps l a b z e f s =

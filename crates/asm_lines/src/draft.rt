@@ -13,7 +13,7 @@ use crate::names::{Label, Names};
 use crate::section::{Section, put_item};
 use ppc_text::{Item, Line, Word, insn_of, parse};
 use std::alloc::{AllocError, Global};
-use wind_base::{behind, line_len};
+use wind_base::{bytes_after, line_len};
 
 /// The most bytes of a section: 1 MiB.
 const SECTION_BYTES: usize = 0x10_0000;
@@ -42,7 +42,7 @@ pub struct Draft<'a> {
     pub names: Names<'a>,
 }
 
-fn section_behind(item: &Item, place: u32) -> u32
+fn section_after_item(item: &Item, place: u32) -> u32
     ensures { result ≡ section_after item.now place }
 {
     match item {
@@ -182,7 +182,7 @@ fn put<'a>(draft: &mut Draft<'a>, line: &Line<'a>) -> Result<(), AllocError>
     put_label(&mut draft.labels, &line.label, draft.place, offset)?;
     define(&mut draft.names, &line.label)?;
     draft.names.mention_item(&line.item)?;
-    draft.place = section_behind(&line.item, draft.place);
+    draft.place = section_after_item(&line.item, draft.place);
     if draft.place == TEXT {
         put_item(&mut draft.text_part, &line.item)?;
         Ok(())
@@ -257,7 +257,7 @@ pub fn draft_of<'a>(alloc: Global, text: &'a [u8]) -> Result<Draft<'a>, AsmErr>
             return Err(error);
         }
         number += 1;
-        left = behind(left, len + 1);
+        left = bytes_after(left, len + 1);
         len = line_len(left);
     }
     match judge(alloc, &mut draft, number, left) {

@@ -81,7 +81,7 @@ store-step r b c t at n small fits i =
       others = λ a side.
           elim side [
             | inl below ↦ byte-elsewhere c.ram place value a (omega arith) (inl (omega arith)) ∙ i.others a (inl below)
-            | inr behind ↦ byte-elsewhere c.ram place value a (omega arith) (inr (omega arith)) ∙ i.others a (inr (omega arith))
+            | inr after ↦ byte-elsewhere c.ram place value a (omega arith) (inr (omega arith)) ∙ i.others a (inr (omega arith))
           ];
       size = length-with_number 4 c.ram place value there ∙ i.size;
       slots = i.slots;

@@ -1,12 +1,12 @@
 -- A change of one slot, seen as plain data.
 use Rattle.std.proofs.Common.{◌≡◌, ℕ, Bool, true, false, ◌≤◌, ◌<◌, List, Option, Some, None, length, map, ◌∙◌, ap, arith, sym, get_or, [], ◌∷◌, zero, suc, refl}
-use Rattle.std.specs.Prelude.{slice_set, option_map, if◌then◌else◌}
-use Rattle.std.proofs.lemmas.List.{map-set}
+use Rattle.std.specs.Prelude.{slice_set, option_map, is_some, if◌then◌else◌}
+use Rattle.std.proofs.lemmas.List.{map-set, length-map}
 use Rattle.wind_outside.specs.Devices.{DeviceState}
-use Rattle.board_bus.specs.Slots.{device_at, with_device, is_slot_word, slot_number, reached}
+use Rattle.board_bus.specs.Slots.{device_at, is_occupied, with_device, without_device, is_slot_word, slot_number, reached}
 
 -- the content of slot i
-device_seen : {D : Type 0} (f : D → DeviceState) (xs : List (Option D)) (i : ℕ) (d : Option D) → i < length xs → option_map f (get_or xs i d) ≡ device_at (map (option_map f) xs) i
+pub device_seen : {D : Type 0} (f : D → DeviceState) (xs : List (Option D)) (i : ℕ) (d : Option D) → i < length xs → option_map f (get_or xs i d) ≡ device_at (map (option_map f) xs) i
 device_seen f [] i d h = absurd (omega arith)
 device_seen f (x ∷ xs) zero d h = refl
 device_seen f (x ∷ xs) (suc i) d h = device_seen f xs i d (omega arith)
@@ -37,8 +37,8 @@ slot_changed f h xs i old new d lt same e p =
 pub unreached : (xs : List (Option DeviceState)) (n at : ℕ) → is_slot_word n at ≡ false → reached xs n at ≡ None
 unreached xs n at h = rw h refl
 
-pub behind_last : (xs : List (Option DeviceState)) (n at : ℕ) → length xs ≤ slot_number at → reached xs n at ≡ None
-behind_last xs n at h = go (is_slot_word n at) where
+pub after_last : (xs : List (Option DeviceState)) (n at : ℕ) → length xs ≤ slot_number at → reached xs n at ≡ None
+after_last xs n at h = go (is_slot_word n at) where
   go : (t : Bool) → (if t then device_at xs (slot_number at) else None) ≡ None
   go true = no_slot xs (slot_number at) h
   go false = refl
@@ -46,3 +46,26 @@ behind_last xs n at h = go (is_slot_word n at) where
 -- if an access reaches no device, no slot changes
 pub nothing_changed : (h : DeviceState → DeviceState) (xs : List (Option DeviceState)) (n at : ℕ) → reached xs n at ≡ None → xs ≡ with_device xs (slot_number at) (option_map h (reached xs n at))
 nothing_changed h xs n at e = ap (λ o. with_device xs (slot_number at) (option_map h o)) (sym e)
+
+-- ---- removals
+-- a device is there however it is seen
+is_there : {D : Type 0} (f : D → DeviceState) (o : Option D) → is_some (option_map f o) ≡ is_some o
+is_there f None = refl
+is_there f (Some x) = refl
+
+pub slot_taken : {D : Type 0} (f : D → DeviceState) (xs : List (Option D)) (i : ℕ) (slot taken d : Option D) (there : Bool) → i < length xs → there ≡ is_some taken → taken ≡ slot → slot ≡ get_or xs i d → there ≡ is_occupied (map (option_map f) xs) i
+slot_taken f xs i slot taken d there lt was same e =
+    was ∙ ap is_some (same ∙ e) ∙ sym (is_there f (get_or xs i d)) ∙ ap is_some (device_seen f xs i d lt)
+
+-- a slot that is emptied
+pub slot_emptied : {D : Type 0} (f : D → DeviceState) (xs : List (Option D)) (i : ℕ) (new : Option D) → new ≡ None → map (option_map f) (slice_set xs i new) ≡ without_device (map (option_map f) xs) i
+slot_emptied f xs i new e = map-set (option_map f) xs i new ∙ ap (λ o. slice_set (map (option_map f) xs) i (option_map f o)) e
+
+-- there is no slot to empty
+none_emptied : (xs : List (Option DeviceState)) (i : ℕ) → length xs ≤ i → without_device xs i ≡ xs
+none_emptied [] i h = refl
+none_emptied (x ∷ xs) zero h = absurd (omega arith)
+none_emptied (x ∷ xs) (suc i) h = ap (λ (ys : List (Option DeviceState)). x ∷ ys) (none_emptied xs i (omega arith))
+
+pub none_there : {D : Type 0} (f : D → DeviceState) (xs : List (Option D)) (i : ℕ) → length xs ≤ i → map (option_map f) xs ≡ without_device (map (option_map f) xs) i
+none_there f xs i h = sym (none_emptied (map (option_map f) xs) i (omega (arith, length-map xs (option_map f), h)))

@@ -1,5 +1,5 @@
 -- The device slots by address.
-use Rattle.std.specs.Prelude.{ℕ, ◌+◌, ◌-◌, ◌*◌, ◌/◌, ◌%◌, Bool, ◌&&◌, ◌==◌, nat_le, nat_lt, List, Option, Some, None, slice_get, slice_set, option_and_then, option_map, if◌then◌else◌}
+use Rattle.std.specs.Prelude.{ℕ, ◌+◌, ◌-◌, ◌*◌, ◌/◌, ◌%◌, Bool, ◌&&◌, ◌==◌, nat_le, nat_lt, List, Option, Some, None, is_some, slice_get, slice_set, option_and_then, option_map, if◌then◌else◌}
 use Rattle.wind_base.specs.Limits.{most_slots, slots_start, slot_bytes}
 use Rattle.wind_outside.specs.declared.device.DeviceKind.{DeviceKind}
 use Rattle.wind_outside.specs.Devices.{DeviceState, load_answer, after_load, after_store}
@@ -19,6 +19,14 @@ slot_offset at = (at - slots_start) % slot_bytes
 -- the device in a slot; none if the slot is empty or doesn't exist
 abbrev pub device_at : List (Option DeviceState) → ℕ → Option DeviceState
 device_at slots i = option_and_then (λ slot. slot) (slice_get slots i)
+
+-- a slot holds a device
+abbrev pub is_occupied : List (Option DeviceState) → ℕ → Bool
+is_occupied slots i = is_some (device_at slots i)
+
+-- the slots with one of them empty; unchanged if there is none with this number
+abbrev pub without_device : List (Option DeviceState) → ℕ → List (Option DeviceState)
+without_device slots i = slice_set slots i None
 
 -- the slots with another device in one slot; unchanged if there is none
 abbrev pub with_device : List (Option DeviceState) → ℕ → Option DeviceState → List (Option DeviceState)

@@ -1,11 +1,12 @@
-//! The bus by address.
+//! The bus by address, and its devices by slot.
 
 ghost use Rattle.std.specs.Prelude.{◌≡◌};
 ghost use Rattle.board_bus.specs.Access.{fetched};
 ghost use Rattle.board_bus.specs.Seen.{bus_seen};
+ghost use Rattle.board_bus.specs.Slots.{is_occupied as is_occupied_lem, without_device};
 
 use crate::bus::BoardBus;
-use crate::slots::{load_word, store_word};
+use crate::slots::{is_occupied, load_word, remove, store_word};
 use ppc_core::{Bus, Fault};
 use wind_outside::Device;
 
@@ -20,6 +21,23 @@ impl BoardBus {
             return None;
         }
         self.ram.read32(addr)
+    }
+
+    /// Whether a slot holds a device. `false` if there is no slot with this number.
+    pub fn has_device(&self, slot: u32) -> bool
+        ensures { result ≡ is_occupied_lem (bus_seen ⟦<dyn Device as Device>⟧ self.now).slots slot }
+    {
+        is_occupied(&self.slots, slot as usize)
+    }
+
+    /// Removes the device in a slot, and drops it. `false` if there is none; then nothing changes.
+    pub fn remove_device(&mut self, slot: u32) -> bool
+        ensures answer { result ≡ is_occupied_lem (bus_seen ⟦<dyn Device as Device>⟧ self.old).slots slot }
+        ensures slots { (bus_seen ⟦<dyn Device as Device>⟧ self.new).slots
+            ≡ without_device (bus_seen ⟦<dyn Device as Device>⟧ self.old).slots slot }
+        ensures ram { self.new.ram ≡ self.old.ram }
+    {
+        remove(&mut self.slots, slot as usize)
     }
 }
 

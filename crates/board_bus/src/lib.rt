@@ -7,4 +7,4 @@ mod laws;
 mod slots;
 
 pub use bus::BoardBus;
-pub use laws::multiple_law;
+pub use laws::{multiple_law, removal_law};

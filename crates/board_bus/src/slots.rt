@@ -3,7 +3,7 @@
 ghost use Rattle.std.specs.Prelude.{◌≡◌, ◌<◌, ◌≤◌, ◌%◌, Some, None, length, option_map, option_and_then, is_some, map};
 ghost use Rattle.wind_base.specs.Limits.{slots_start, slot_bytes};
 ghost use Rattle.wind_outside.specs.Devices.{slots_of};
-ghost use Rattle.board_bus.specs.Slots.{is_slot_word as is_slot_word_lem, slot_number as slot_number_lem, slot_offset as slot_offset_lem, device_at, with_device, reached, answer_of, device_loaded, device_stored, slots_loaded, slots_stored, slot_seen};
+ghost use Rattle.board_bus.specs.Slots.{is_occupied as is_occupied_lem, without_device, is_slot_word as is_slot_word_lem, slot_number as slot_number_lem, slot_offset as slot_offset_lem, device_at, with_device, reached, answer_of, device_loaded, device_stored, slots_loaded, slots_stored, slot_seen};
 
 use wind_base::limits::{SLOT_BYTES, SLOTS, SLOTS_START};
 use wind_outside::{Device, Slots};
@@ -85,6 +85,40 @@ fn store(slots: &mut Slots, i: usize, off: u32, v: u32) -> bool
         slots_of kind_of words_of slots.new.items ≡ with_device seen i (device_stored (device_at seen i) off v) }
 {
     store_slot(&mut slots[i], off, v)
+}
+
+/// Whether slot `i` holds a device.
+pub(crate) fn is_occupied(slots: &Slots, i: usize) -> bool
+    ensures { result ≡ is_occupied_lem (slots_of kind_of words_of slots.now.items) i }
+{
+    if i >= slots.len() {
+        return false;
+    }
+    slots[i].is_some()
+}
+
+// Removes the device in slot `i`, and drops it. `false` if the slot is empty.
+fn empty_slot(slots: &mut Slots, i: usize) -> bool
+    requires slot { i < length slots.old.items }
+    ensures answer { result ≡ is_some (device_at (slots_of kind_of words_of slots.old.items) i) }
+    ensures slots { slots_of kind_of words_of slots.new.items
+        ≡ without_device (slots_of kind_of words_of slots.old.items) i }
+    ensures size { length slots.new.items ≡ length slots.old.items }
+{
+    slots[i].take().is_some()
+}
+
+/// Removes the device in slot `i`, and drops it. `false` if there is none; then nothing changes.
+pub(crate) fn remove(slots: &mut Slots, i: usize) -> bool
+    ensures answer { result ≡ is_occupied_lem (slots_of kind_of words_of slots.old.items) i }
+    ensures slots { slots_of kind_of words_of slots.new.items
+        ≡ without_device (slots_of kind_of words_of slots.old.items) i }
+    ensures size { length slots.new.items ≡ length slots.old.items }
+{
+    if i >= slots.len() {
+        return false;
+    }
+    empty_slot(slots, i)
 }
 
 /// Loads a word from a device. None if the address reaches no device.

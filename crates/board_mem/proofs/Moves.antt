@@ -4,7 +4,7 @@ use Rattle.std.proofs.lemmas.List.{length-drop, length-take-le}
 use Rattle.board_mem.specs.Memory.{bytes_at}
 use Rattle.board_mem.specs.Pages.{PagesState, written_at}
 use Rattle.board_mem.proofs.Sizes.{length-with_bytes}
-use Rattle.board_mem.proofs.Splices.{bytes_at-append, bytes_at-with_below, bytes_at-with_behind}
+use Rattle.board_mem.proofs.Splices.{bytes_at-append, bytes_at-with_below, bytes_at-with_after}
 use Rattle.board_mem.proofs.Writings.{written_at-append, written_at-prepend}
 
 -- the pages after n bytes are moved
@@ -25,7 +25,7 @@ moved_down s from to n m down there =
     let first = bytes_at s.bytes from n in
     let second = bytes_at s.bytes (from + n) m in
     let size : length first ≡ n = length-bytes_at s.bytes from n (omega arith) in
-    let kept : bytes_at (moved s from to n).bytes (from + n) m ≡ second = bytes_at-with_behind s.bytes to first (from + n) m (omega (arith, size)) (omega arith) in
+    let kept : bytes_at (moved s from to n).bytes (from + n) m ≡ second = bytes_at-with_after s.bytes to first (from + n) m (omega (arith, size)) (omega arith) in
     ap₂ (λ (at : ℕ) (bytes : List ℕ). written_at (moved s from to n) at bytes) (ap (λ k. to + k) (sym size)) kept
     ∙ written_at-append s to first second (omega arith) ∙ ap (written_at s to) (bytes_at-append s.bytes from n m)
 

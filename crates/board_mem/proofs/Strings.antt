@@ -5,8 +5,8 @@ use Rattle.wind_base.specs.Limits.{longest_string}
 use Rattle.board_mem.specs.Memory.{bytes_at}
 
 -- its first bytes are those of RAM
-pub take-front : (ram buffer : List ℕ) (at count n : ℕ) → take count buffer ≡ bytes_at ram at (longest_string + 1) → n < length (take count buffer) → take n buffer ≡ bytes_at ram at n
-take-front ram buffer at count n same h =
+pub take-prefix : (ram buffer : List ℕ) (at count n : ℕ) → take count buffer ≡ bytes_at ram at (longest_string + 1) → n < length (take count buffer) → take n buffer ≡ bytes_at ram at n
+take-prefix ram buffer at count n same h =
     let le : n ≤ count = omega (arith, h, length-take count buffer) in
     let short : n ≤ longest_string + 1 = omega (arith, h, ap length same, length-take (longest_string + 1) (drop at ram)) in
     sym (take-take n count buffer le) ∙ ap (take n) same ∙ take-take n (longest_string + 1) (drop at ram) short

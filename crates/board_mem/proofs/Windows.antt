@@ -6,7 +6,7 @@ use Rattle.board_mem.specs.Memory.{bytes_at, with_bytes}
 use Rattle.board_mem.specs.Pages.{page_of, page_bytes}
 use Rattle.board_mem.specs.Store.{place_of, bytes_of, IsStore}
 use Rattle.board_mem.proofs.Sizes.{length-with_bytes}
-use Rattle.board_mem.proofs.Splices.{get_or-with_inside, get_or-with_below, get_or-with_behind}
+use Rattle.board_mem.proofs.Splices.{get_or-with_inside, get_or-with_below, get_or-with_after}
 use Rattle.board_mem.proofs.Stores.{get_or-bytes_of, length-bytes_of, bytes_of-is}
 
 -- the n bytes from an address on exist, and are in one page
@@ -53,7 +53,7 @@ place_outside {index = index} {at = at} {n = n} w made k h out =
     elim (cases_eq (page_of k) (page_of at)) [
       | inl e ↦
           let same : get_or index (page_of k) 0 ≡ get_or index (page_of at) 0 = ap (λ p. get_or index p 0) e in
-          elim out [ inl below ↦ inl (omega (arith, same)) | inr behind ↦ inr (omega (arith, same, w.page)) ]
+          elim out [ inl below ↦ inl (omega (arith, same)) | inr after ↦ inr (omega (arith, same, w.page)) ]
       | inr other ↦ elim (cases_lt (get_or index (page_of k) 0) (get_or index (page_of at) 0)) [
         | inl less ↦ inl (omega arith)
         | inr more ↦ elim (cases_eq (get_or index (page_of at) 0) (get_or index (page_of k) 0)) [
@@ -70,7 +70,7 @@ put_outside {size} {index} {store} {at = at} w made src n k h out =
     let same = sym (get_or-bytes_of size index store k h) in
     elim (place_outside w made k h out) [
       | inl below ↦ get_or-with_below store (place_of index at) src (place_of index k) below le ∙ same
-      | inr behind ↦ get_or-with_behind store (place_of index at) src (place_of index k) (omega (arith, n)) le ∙ same
+      | inr after ↦ get_or-with_after store (place_of index at) src (place_of index k) (omega (arith, n)) le ∙ same
     ]
 
 -- bytes written to a window's part of the store are written to the bytes
@@ -91,7 +91,7 @@ bytes_of-put {size} {index} {store} {capacity} {at} {n} w made src len =
             ∙ get_or-with_inside store start src (start + (k - at)) (omega arith) (omega (arith, len)) (omega (arith, window_end w))
             ∙ ap (λ p. get_or src p 0) (omega arith)
             ∙ sym (get_or-with_inside bytes at src k from (omega (arith, len)) le)
-        | inr behind ↦ put_outside w made src len k h (inr behind) ∙ sym (get_or-with_behind bytes at src k (omega (arith, len)) le)
+        | inr after ↦ put_outside w made src len k h (inr after) ∙ sym (get_or-with_after bytes at src k (omega (arith, len)) le)
       ]
     ])
 

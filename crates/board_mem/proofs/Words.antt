@@ -4,7 +4,7 @@ use Rattle.std.proofs.lemmas.List.{length-take-le, drop_at}
 use Rattle.byteorder.specs.Endian.{big_number, big_bytes}
 use Rattle.byteorder.specs.Numbers.{big_from-take, big_number-reads_back, length-bytes_high_first}
 use Rattle.board_mem.specs.Memory.{bytes_at, word_at, with_word}
-use Rattle.board_mem.proofs.Splices.{bytes_at-with_below, get_or-with_below, get_or-with_behind}
+use Rattle.board_mem.proofs.Splices.{bytes_at-with_below, get_or-with_below, get_or-with_after}
 
 -- the written word
 pub word_at-same : (ram : List ℕ) (at value : ℕ) → at ≤ length ram → value < 2 ^ 32 → word_at (with_word ram at value) at ≡ value
@@ -29,5 +29,5 @@ word_at-below ram at value before h le =
 -- a byte elsewhere
 pub byte-elsewhere : (ram : List ℕ) (at value a : ℕ) → at ≤ length ram → (a < at) ⊎ (at + 4 ≤ a) → get_or (with_word ram at value) a 0 ≡ get_or ram a 0
 byte-elsewhere ram at value a le (inl before) = get_or-with_below ram at (big_bytes 4 (value % 256 ^ 4)) a before le
-byte-elsewhere ram at value a le (inr behind) =
-    get_or-with_behind ram at (big_bytes 4 (value % 256 ^ 4)) a (omega (arith, length-bytes_high_first 4 (value % 256 ^ 4))) le
+byte-elsewhere ram at value a le (inr after) =
+    get_or-with_after ram at (big_bytes 4 (value % 256 ^ 4)) a (omega (arith, length-bytes_high_first 4 (value % 256 ^ 4))) le

@@ -11,28 +11,28 @@ use Rattle.board_mem.specs.Pages.{PagesState, page_of, page_bytes, was_made, mee
 -- ---- the bytes
 pub with_bytes-append : (ram : List ℕ) (at : ℕ) (xs ys : List ℕ) → at ≤ length ram → with_bytes (with_bytes ram at xs) (at + length xs) ys ≡ with_bytes ram at (xs ++ ys)
 with_bytes-append ram at xs ys le =
-    let front = take at ram ++ xs in
+    let prefix = take at ram ++ xs in
     let back = drop (at + length xs) ram in
-    let size : length front ≡ at + length xs = omega (arith, length-append (take at ram) xs, length-take-le at ram le) in
-    let before : take (at + length xs) (front ++ back) ≡ front = take_at front back (at + length xs) size in
-    let behind : drop (at + length xs + length ys) (front ++ back) ≡ drop (at + length (xs ++ ys)) ram =
-    sym (drop-drop (length ys) (at + length xs) (front ++ back)) ∙ ap (drop (length ys)) (drop_at front back (at + length xs) size)
+    let size : length prefix ≡ at + length xs = omega (arith, length-append (take at ram) xs, length-take-le at ram le) in
+    let before : take (at + length xs) (prefix ++ back) ≡ prefix = take_at prefix back (at + length xs) size in
+    let after : drop (at + length xs + length ys) (prefix ++ back) ≡ drop (at + length (xs ++ ys)) ram =
+    sym (drop-drop (length ys) (at + length xs) (prefix ++ back)) ∙ ap (drop (length ys)) (drop_at prefix back (at + length xs) size)
     ∙ drop-drop (length ys) (at + length xs) ram ∙ ap (λ n. drop n ram) (omega (arith, length-append xs ys)) in
-    ap₂ (λ b d. b ++ ys ++ d) before behind ∙ ap (λ b. b ++ drop (at + length (xs ++ ys)) ram) (append_assoc (take at ram) xs ys)
+    ap₂ (λ b d. b ++ ys ++ d) before after ∙ ap (λ b. b ++ drop (at + length (xs ++ ys)) ram) (append_assoc (take at ram) xs ys)
 
 -- bytes written before other bytes
 with_bytes-prepend : (ram : List ℕ) (at : ℕ) (xs ys : List ℕ) → at + length xs ≤ length ram → with_bytes (with_bytes ram (at + length xs) ys) at xs ≡ with_bytes ram at (xs ++ ys)
 with_bytes-prepend ram at xs ys le =
-    let front = take (at + length xs) ram in
+    let prefix = take (at + length xs) ram in
     let back = drop (at + length xs + length ys) ram in
-    let size : length front ≡ at + length xs = length-take-le (at + length xs) ram le in
-    let before : take at (front ++ ys ++ back) ≡ take at ram =
-    ap (take at) (append_assoc front ys back) ∙ take-append-le at front (ys ++ back) (omega (arith, size)) ∙ take-take at (at + length xs) ram (omega arith) in
-    let behind : drop (at + length xs) (front ++ ys ++ back) ≡ ys ++ drop (at + length (xs ++ ys)) ram =
-    ap (drop (at + length xs)) (append_assoc front ys back) ∙ drop_at front (ys ++ back) (at + length xs) size
+    let size : length prefix ≡ at + length xs = length-take-le (at + length xs) ram le in
+    let before : take at (prefix ++ ys ++ back) ≡ take at ram =
+    ap (take at) (append_assoc prefix ys back) ∙ take-append-le at prefix (ys ++ back) (omega (arith, size)) ∙ take-take at (at + length xs) ram (omega arith) in
+    let after : drop (at + length xs) (prefix ++ ys ++ back) ≡ ys ++ drop (at + length (xs ++ ys)) ram =
+    ap (drop (at + length xs)) (append_assoc prefix ys back) ∙ drop_at prefix (ys ++ back) (at + length xs) size
     ∙ ap (λ n. ys ++ drop n ram) (omega (arith, length-append xs ys)) in
     let rest = drop (at + length (xs ++ ys)) ram in
-    ap₂ (λ b d. b ++ xs ++ d) before behind ∙ sym (append_assoc (take at ram ++ xs) ys rest) ∙ ap (λ b. b ++ rest) (append_assoc (take at ram) xs ys)
+    ap₂ (λ b d. b ++ xs ++ d) before after ∙ sym (append_assoc (take at ram ++ xs) ys rest) ∙ ap (λ b. b ++ rest) (append_assoc (take at ram) xs ys)
 
 pub with_bytes-none : (ram : List ℕ) (at : ℕ) → with_bytes ram at [] ≡ ram
 with_bytes-none ram at =

@@ -128,10 +128,10 @@ impl Pages {
         let mut at = at;
         let mut rest = src;
         while !rest.is_empty() {
-            let (piece, behind) = rest.split_at(left_in_page(at).min(rest.len()));
+            let (piece, after) = rest.split_at(left_in_page(at).min(rest.len()));
             self.put(at, piece);
             at += piece.len() as u32;
-            rest = behind;
+            rest = after;
         }
     }
 

@@ -255,8 +255,8 @@ impl Ram {
 
     // Fills a prefix of `bytes` with those from an address on: as many as the longest string has
     // with its zero, or all that RAM has. Returns their number.
-    fn front(&self, addr: u32, bytes: &mut [u8; STRING_ROOM]) -> usize
-        ensures front { take result bytes.new ≡ bytes_at self.now.bytes addr (longest_string + 1) }
+    fn prefix(&self, addr: u32, bytes: &mut [u8; STRING_ROOM]) -> usize
+        ensures prefix { take result bytes.new ≡ bytes_at self.now.bytes addr (longest_string + 1) }
         ensures within { result ≤ longest_string + 1 }
     {
         let size = self.pages.size();
@@ -274,9 +274,9 @@ impl Ram {
         ensures { result ≡ string_at self.now.bytes addr }
     {
         let mut bytes = [0; STRING_ROOM];
-        let count = self.front(addr, &mut bytes);
+        let count = self.prefix(addr, &mut bytes);
         let length = place_of_zero(&bytes[..count])?;
-        Some(RamString::of_front(bytes, length))
+        Some(RamString::of_prefix(bytes, length))
     }
 
     /// Copies the zero-terminated string at an address to the beginning of `dst`, without its zero,
@@ -287,7 +287,7 @@ impl Ram {
         ensures bytes { dst.new ≡ string_over self.now.bytes addr result dst.old }
     {
         let mut bytes = [0; STRING_ROOM];
-        let count = self.front(addr, &mut bytes);
+        let count = self.prefix(addr, &mut bytes);
         let n = place_of_zero(&bytes[..count])?;
         dst[..n].copy_from_slice(&bytes[..n]);
         Some(n as u32)

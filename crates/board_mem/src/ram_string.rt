@@ -30,7 +30,7 @@ impl Model for RamString {
 
 impl RamString {
     // The first `count` of these bytes.
-    pub(crate) fn of_front(bytes: [u8; STRING_ROOM], count: usize) -> RamString
+    pub(crate) fn of_prefix(bytes: [u8; STRING_ROOM], count: usize) -> RamString
         requires { count ≤ longest_string }
         ensures { result ≡ take count bytes }
     {

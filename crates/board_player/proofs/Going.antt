@@ -17,7 +17,7 @@ use Rattle.wind_core.proofs.Waking.{id_found}
 use Rattle.isr_watch.specs.State.{WatchState}
 use Rattle.wind_machine.specs.Reserving.{unless_own, drop_others}
 use Rattle.wind_machine.specs.Next.{holds_back}
-use Rattle.board_turns.specs.Running.{OnlyRegs}
+use Rattle.board_actors.specs.Running.{OnlyRegs}
 use Rattle.board_player.specs.Going.{IsRunner, IsKnown, OnlyStepped}
 use Rattle.board_player.specs.declared.order.Running.{Running}
 use Rattle.board_player.specs.declared.order.Known.{Known}
@@ -158,8 +158,8 @@ goes_on old new level r who up is some stepped =
     (subst (λ n. IsRunner (record (set_regs (drop_others old n) n stepped.0) { last = Some n }) level r) (sym x.2) (runs_on old level r stepped.0 x.0 up x.1 is))
 
 -- ---- what the step of an instruction leaves of the kernel
-pub only_stepped : (k turned done new : KernState) (who : ℕ) → turned ≡ drop_others k who → OnlyRegs turned done who → new ≡ record done { last = Some who } → OnlyStepped k new who
-only_stepped k turned done new who began others ended =
+pub only_stepped : (k said_no done new : KernState) (who : ℕ) → said_no ≡ drop_others k who → OnlyRegs said_no done who → new ≡ record done { last = Some who } → OnlyStepped k new who
+only_stepped k said_no done new who began others ended =
     (others.0, ended ∙ ap (λ (j : KernState). record j { last = Some who }) others.1 ∙ ap (λ (j : KernState). record (set_regs j who others.0) { last = Some who }) began)
 
 -- what is known stays so after such an instruction

@@ -1,10 +1,12 @@
 pub mod Beginning
 pub mod Running
 pub mod Deciding
+pub mod Delivering
 pub mod Idle
 pub mod Asked
 pub mod Answering
 pub mod Keeping
+pub mod Fetching
 pub mod Stepping
 pub mod Going
 pub mod Settled

@@ -2,7 +2,7 @@
 use Rattle.std.proofs.Common.{◌≡◌, ℕ, zero, suc, ◌+◌, true, List, [], ◌∷◌, Option, None, Some, is_some, IsSome, refl, sym, ap, ap₂, ◌∙◌, subst, arith}
 use Rattle.std.specs.List.{All}
 use Rattle.std.proofs.lemmas.List.Elements.{All-nil, All-cons, All-map}
-use Rattle.std.specs.Prelude.{unwrap_or, ◌&&◌}
+use Rattle.std.specs.Prelude.{unwrap_or}
 use Rattle.wind_base.specs.Boards.{board_rules}
 use Rattle.wind_base.specs.declared.regs.Regs.{Regs}
 use Rattle.task_block.specs.declared.task.Task.{Task}
@@ -23,10 +23,10 @@ use Rattle.wind_machine.specs.Next.{next}
 use Rattle.wind_machine.specs.Machine.{file_of, file_asked, settled_state, Steps}
 use Rattle.wind_machine.specs.declared.next.Next.TheVariants.{Routine}
 use Rattle.wind_machine.proofs.Reserving.{all_none}
-use Rattle.board_turns.specs.Instructions.{Executes, ExecutesMany, routine_executed_to}
-use Rattle.board_turns.specs.Running.{RoutineRanMany}
-use Rattle.board_turns.specs.declared.step_kind.StepKind.{StepKind}
-use Rattle.board_turns.specs.declared.step_kind.StepKind.TheVariants as kinds
+use Rattle.board_actors.specs.Instructions.{Executes, ExecutesMany, routine_executed_to}
+use Rattle.board_actors.specs.Running.{RoutineRanMany}
+use Rattle.board_actors.specs.declared.step_kind.StepKind.{StepKind}
+use Rattle.board_actors.specs.declared.step_kind.StepKind.TheVariants as kinds
 use Rattle.board_player.specs.Going.{IsRoutine}
 use Rattle.board_player.specs.Bursts.{RoutineRunsOn, routine_moved}
 use Rattle.board_player.proofs.Deciding.{routine_next}
@@ -115,8 +115,8 @@ routine_gone s k time count w is exact on ran t c =
     (routine_bursts s is exact on k ran.regs ran.bus ran.many)
 
 -- the step of a routine's instruction leaves it active, and no reservation
-pub routine_left : (level : Option Regs) (k turned done : KernState) (kind : StepKind) → turned ≡ drop_all k → (kind ≡ kinds.Instruction → done ≡ turned) → (kind ≡ kinds.Instruction → is_some level ≡ true) → kind ≡ kinds.Instruction → IsRoutine done level
-routine_left level k turned done kind began same active is = record { active = active is; none = none_reserved k done (same is ∙ began) }
+pub routine_left : (level : Option Regs) (k said_no done : KernState) (kind : StepKind) → said_no ≡ drop_all k → (kind ≡ kinds.Instruction → done ≡ said_no) → (kind ≡ kinds.Instruction → is_some level ≡ true) → kind ≡ kinds.Instruction → IsRoutine done level
+routine_left level k said_no done kind began same active is = record { active = active is; none = none_reserved k done (same is ∙ began) }
 
 -- a routine is active as before
 pub still_routine : (k : ℕ) (old new : WorldState) → RoutineRanMany k old new → IsRoutine old.kern old.watch.level → IsRoutine new.kern new.watch.level

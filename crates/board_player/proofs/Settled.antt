@@ -1,5 +1,5 @@
 -- Settling priorities at the end of a step changes nothing after an instruction.
-use Rattle.std.proofs.Common.{◌≡◌, ℕ, ◌+◌, ◌≤◌, ◌<◌, true, false, cond, eqb, List, [], ◌∷◌, map, Option, None, Some, IfSome, refl, sym, ap, ◌∙◌, subst, arith}
+use Rattle.std.proofs.Common.{◌≡◌, ℕ, ◌+◌, ◌<◌, true, false, cond, eqb, List, [], ◌∷◌, map, Option, None, Some, IfSome, refl, sym, ap, ◌∙◌, subst, arith}
 use Rattle.std.specs.Option.{option_map}
 use Rattle.wind_base.specs.Limits.{most_steps}
 use Rattle.wind_base.specs.declared.regs.Regs.{Regs}
@@ -20,13 +20,13 @@ use Rattle.live_loading.specs.Said.{FileSaid}
 use Rattle.wind_machine.specs.State.{State}
 use Rattle.wind_machine.specs.Good.{Good, KeepsEffect}
 use Rattle.wind_machine.specs.Laws.{EffectLaw, CountLaw}
-use Rattle.wind_machine.specs.Events.{next_event, event_step, arrival, jump}
+use Rattle.wind_machine.specs.Events.{next_event, delivery_step, event_step, arrival, jump}
 use Rattle.wind_machine.specs.ActorSteps.{step_of, routine_step}
 use Rattle.wind_machine.specs.Next.{next}
 use Rattle.wind_machine.specs.Reserving.{unless_own, drop_others, drop_all}
 use Rattle.wind_machine.specs.Machine.{state_after, machine_step, settled_state}
 use Rattle.wind_machine.specs.declared.next.Next.{Next}
-use Rattle.wind_machine.specs.declared.next.Next.TheVariants.{Come, Arrive, Jump}
+use Rattle.wind_machine.specs.declared.next.Next.TheVariants.{Deliver, Come, Arrive, Jump}
 use Rattle.wind_machine.proofs.Alike.{lends, SameLends, exact_alike}
 use Rattle.board_player.specs.Going.{OnlyStepped}
 use Rattle.board_player.specs.Settling.{CanSettle, Makes}
@@ -84,7 +84,13 @@ pub makes : (s t u v : State) (n m : Next) → n ≡ m → ((said : FileSaid) �
 makes s t u v n m e is same settled said =
     ap (λ x. option_map settled_state (state_after said s x)) e ∙ ap (option_map settled_state) (is said) ∙ ap (λ x. Some (settled_state x)) (sym same) ∙ ap Some (sym settled)
 
--- the same of an event, and of bytes that arrive
+-- the same of a delivery, of an event, and of bytes that arrive
+pub deliver_left : (said : FileSaid) (s t : State) (n : Next) (i : ℕ) → n ≡ Deliver i → t ≡ delivery_step s i → IfSome (state_after said s n) CanSettle → CanSettle t
+deliver_left said s t n i is same h = left_by said s t (delivery_step s i) n (Deliver i) is refl same h
+
+pub deliver_makes : (s t v : State) (n : Next) (i : ℕ) → n ≡ Deliver i → v ≡ delivery_step s i → t ≡ settled_state v → Makes s n t
+deliver_makes s t v n i is same settled = makes s t (delivery_step s i) v n (Deliver i) is (λ said. refl) same settled
+
 pub come_left : (said : FileSaid) (s t : State) (n : Next) (e : Event) → n ≡ next s → n ≡ Come e → t ≡ event_step s e → IfSome (state_after said s n) CanSettle → CanSettle t
 come_left said s t n e first is same h = left_by said s t (event_step s e) n (Come e) is refl same h
 

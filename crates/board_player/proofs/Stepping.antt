@@ -7,7 +7,7 @@ use Rattle.board_bus.specs.Access.{fetched}
 use Rattle.kernel_world.specs.State.{WorldState}
 use Rattle.wind_machine.specs.State.{ShellState, State}
 use Rattle.wind_machine.specs.Part.{part_of}
-use Rattle.wind_machine.specs.ActorSteps.{at_turn, stepped, task_step}
+use Rattle.wind_machine.specs.ActorSteps.{at_step_start, stepped, task_step}
 use Rattle.wind_machine.specs.Processor.{bus_of, regs_of, gate_under, gate_part, word_part, part_at, task_part}
 use Rattle.board_player.specs.Moves.{noted_step}
 
@@ -24,14 +24,14 @@ module _ (shell : ShellState) (w : WorldState) (who at : ℕ) (here : at ≡ (re
   by_word e = ap (λ o. part_at o shell w who) (under ∙ e) ∙ ap (λ pc. word_part (fetched (bus_of w) pc) shell w who) (sym here)
 
 -- the gate at an address is the same in the world of the turn
-turned_gate : (s : State) (who at : ℕ) (v : WorldState) → v ≡ at_turn s.world who → gate_at (board_rules v.board).gates_start at ≡ gate_at (board_rules s.world.board).gates_start at
-turned_gate s who at v turned = ap (λ (u : WorldState). gate_at (board_rules u.board).gates_start at) turned
+turned_gate : (s : State) (who at : ℕ) (v : WorldState) → v ≡ at_step_start s.world who → gate_at (board_rules v.board).gates_start at ≡ gate_at (board_rules s.world.board).gates_start at
+turned_gate s who at v said_no = ap (λ (u : WorldState). gate_at (board_rules u.board).gates_start at) said_no
 
 -- the step that the code has made
-pub word_stepped : (s : State) (who at : ℕ) (v x : WorldState) (shell : ShellState) → v ≡ at_turn s.world who → part_of shell x ≡ word_part (fetched (bus_of v) at) s.shell v who
+pub word_stepped : (s : State) (who at : ℕ) (v x : WorldState) (shell : ShellState) → v ≡ at_step_start s.world who → part_of shell x ≡ word_part (fetched (bus_of v) at) s.shell v who
     → at ≡ (regs_of v who).pc → gate_at (board_rules s.world.board).gates_start at ≡ None → noted_step (record s { shell = shell; world = x }) who ≡ task_step s who
-word_stepped s who at v x shell turned made here none = ap (stepped s who) (made ∙ sym (by_word s.shell v who at here (turned_gate s who at v turned ∙ none)) ∙ ap (λ u. task_part s.shell u who) turned)
+word_stepped s who at v x shell said_no made here none = ap (stepped s who) (made ∙ sym (by_word s.shell v who at here (turned_gate s who at v said_no ∙ none)) ∙ ap (λ u. task_part s.shell u who) said_no)
 
-pub gate_stepped : (s : State) (who at : ℕ) (g : Gate) (v x : WorldState) (shell : ShellState) → v ≡ at_turn s.world who → part_of shell x ≡ gate_part g s.shell v who
+pub gate_stepped : (s : State) (who at : ℕ) (g : Gate) (v x : WorldState) (shell : ShellState) → v ≡ at_step_start s.world who → part_of shell x ≡ gate_part g s.shell v who
     → at ≡ (regs_of v who).pc → gate_at (board_rules s.world.board).gates_start at ≡ Some g → noted_step (record s { shell = shell; world = x }) who ≡ task_step s who
-gate_stepped s who at g v x shell turned made here some = ap (stepped s who) (made ∙ sym (by_gate s.shell v who at here g (turned_gate s who at v turned ∙ some)) ∙ ap (λ u. task_part s.shell u who) turned)
+gate_stepped s who at g v x shell said_no made here some = ap (stepped s who) (made ∙ sym (by_gate s.shell v who at here g (turned_gate s who at v said_no ∙ some)) ∙ ap (λ u. task_part s.shell u who) said_no)

@@ -2,6 +2,7 @@
 use Rattle.std.proofs.Common.{◌≡◌, ℕ, zero, suc, ◌+◌, ◌≤◌, Bool, true, false, cond, eqb, not, ◌&&◌, length, List, [], ◌∷◌, map, Option, None, Some, IfSome, refl, sym, ap, ap₂, ◌∙◌, subst, arith}
 use Rattle.std.specs.Prelude.{unwrap_or, nat_le}
 use Rattle.std.specs.Option.{option_map}
+use Rattle.std.specs.List.{list_any}
 use Rattle.std.proofs.lemmas.Bool.{eq-eqb, eqb-true}
 use Rattle.std.proofs.lemmas.Bool.Decides.{nat_tests}
 use Rattle.wind_base.specs.Boards.{board_rules}
@@ -17,6 +18,7 @@ use Rattle.wind_core.specs.Moves.{set_regs, unreserved}
 use Rattle.wind_core.proofs.Ticks.{running_found}
 use Rattle.wind_core.proofs.Waking.{id_found}
 use Rattle.con_line.specs.Lines.{has_line}
+use Rattle.dev_irq.specs.State.{is_waiting}
 use Rattle.board_bus.specs.BusState.{BusState}
 use Rattle.isr_watch.specs.State.{WatchState}
 use Rattle.kernel_world.specs.State.{WorldState}
@@ -33,21 +35,22 @@ use Rattle.wind_machine.specs.Reserving.{unless_own, drop_others}
 use Rattle.wind_machine.specs.Part.{with_kern, part_of}
 use Rattle.wind_machine.specs.Processor.{bus_of, regs_of, gate_under, executed, word_part, task_part}
 use Rattle.wind_machine.specs.Silent.{IsSilentStep, SilentSteps}
-use Rattle.board_turns.specs.Instructions.{Executes, ExecutesMany, executed_to}
+use Rattle.board_actors.specs.Instructions.{Executes, ExecutesMany, executed_to}
 use Rattle.wind_machine.specs.Events.{next_event}
-use Rattle.wind_machine.specs.ActorSteps.{at_turn, stepped, file_at, file_in, file_for, shell_step, task_step, step_of}
+use Rattle.wind_machine.specs.ActorSteps.{at_step_start, stepped, file_at, file_in, file_for, shell_step, task_step, step_of}
 use Rattle.wind_machine.specs.Next.{event_of, holds_back, is_open, is_active, due_at, due_event, next}
 use Rattle.wind_machine.specs.Machine.{file_of, file_asked, settled_state, Steps}
 use Rattle.wind_machine.specs.declared.next.Next.TheVariants.{Act}
 use Rattle.wind_machine.proofs.Reserving.{last_own, own_regs}
 use Rattle.board_player.specs.declared.order.Running.{Running}
-use Rattle.board_turns.specs.Running.{RanMany}
+use Rattle.board_actors.specs.Running.{RanMany}
 use Rattle.board_player.specs.Going.{IsRunner}
 use Rattle.board_player.specs.Bursts.{RunsOn, HasRoom, moved}
 use Rattle.board_player.proofs.Going.{find_changed, goes_on}
 use Rattle.board_player.proofs.Stepping.{by_word}
 use Rattle.wind_machine.proofs.Order.{comes_alone}
 use Rattle.board_player.proofs.Deciding.{left_to_tasks}
+use Rattle.board_player.proofs.Delivering.{none_due}
 use Rattle.board_player.proofs.Answering.{steps_on}
 use Rattle.board_player.proofs.Settled.{regs_lend, still_exact, still_settled, regs_keep}
 
@@ -131,21 +134,21 @@ no_event : (can : Bool) (next : Option Timed) (time : ℕ) → HasRoom can next 
 no_event false next time h = refl
 no_event true None time h = refl
 no_event true (Some e) time h =
-    let behind : time + 1 ≤ e.time = h (omega arith) in
-    let later : nat_le e.time time ≡ false = grind (arith, nat_tests, behind) in
+    let after : time + 1 ≤ e.time = h (omega arith) in
+    let later : nat_le e.time time ≡ false = grind (arith, nat_tests, after) in
     ap (λ b. option_map event_of (cond b (Some e) None)) (sym later)
 
 module _ (s : State) (who : ℕ) (is : IsKern s.world.kern) (exact : HasExact s.world) (on : RunsOn s who) (room : HasRoom (is_open s) (next_event s) s.time 1) where
   none : None ≡ option_map event_of (due_event s)
   none = no_event (is_open s) (next_event s) s.time room
 
-  its_turn : at_turn s.world who ≡ s.world
-  its_turn = ap₂ (λ k o. record s.world { kern = k; output = o }) on.alone (sym on.silent)
+  started : at_step_start s.world who ≡ s.world
+  started = ap₂ (λ k o. record s.world { kern = k; output = o }) on.alone (sym on.silent)
 
   module _ (r : Regs) (b : BusState) (ex : Executes (board_rules s.world.board).gates_start (regs_of s.world who) (bus_of s.world) r b) where
-    part : task_part s.shell (at_turn s.world who) who ≡ part_of s.shell (executed_to s.world who r b)
+    part : task_part s.shell (at_step_start s.world who) who ≡ part_of s.shell (executed_to s.world who r b)
     part =
-        ap (λ w. task_part s.shell w who) its_turn
+        ap (λ w. task_part s.shell w who) started
         ∙ by_word s.shell s.world who (regs_of s.world who).pc refl ex.no_gate
         ∙ ap (λ o. word_part o s.shell s.world who) ex.there
         ∙ ap (λ o. executed o s.shell s.world who) ex.done
@@ -177,7 +180,7 @@ module _ (s : State) (who : ℕ) (is : IsKern s.world.kern) (exact : HasExact s.
 
     -- so it comes next
     comes : Act who ≡ next s
-    comes = comes_alone s (Act who) (left_to_tasks s on.idle none on.console, sym on.runs, file_none)
+    comes = comes_alone s (Act who) (left_to_tasks s on.idle (none_due s on.delivery) none on.console, sym on.runs, file_none)
 
     unasked : file_asked s ≡ None
     unfolding file_asked
@@ -218,14 +221,15 @@ module _ (s : State) (who : ℕ) (up : Rising task_id s.world.kern.tasks) (on : 
   same_open : (m : Regs) → (not (is_active s.world) && not (holds_back (running (there m)))) ≡ is_open s
   same_open m = ap (λ b. not (is_active s.world) && b) (sym (now_running m).back)
 
-  pub on_behind : (m : Regs) (c : BusState) (k : ℕ) → RunsOn (moved s who m c k) who
-  on_behind m c k = record {
+  pub on_after : (m : Regs) (c : BusState) (k : ℕ) → RunsOn (moved s who m c k) who
+  on_after m c k = record {
     idle = on.idle;
     runs = (now_running m).who;
     calls = on.calls;
     last = on.last;
     alone = still_alone who m s.world.kern on.alone;
     silent = on.silent;
+    delivery = on.delivery ∙ sym (ap (λ o. o && list_any is_waiting s.world.irqs) (same_open m));
     console = on.console ∙ sym (ap₂ (λ o w. o && (s.schedule.on_demand && (not (eqb (length s.left) 0) && (w && not (has_line s.console))))) (same_open m) (same_waits who m s.world.kern));
   }
 
@@ -263,9 +267,9 @@ module _ (s : State) (who : ℕ) (up : Rising task_id s.world.kern.tasks) (on : 
         let u = moved s who m c k in
         let here : HasRoom (is_open u) (next_event s) (s.time + k) 1 = subst (λ o. HasRoom o (next_event s) (s.time + k) 1) (sym (same_open m)) (room_on (is_open s) (next_event s) s.time n k h room) in
         let ex : Executes (board_rules s.world.board).gates_start (regs_of u.world who) (bus_of u.world) r b = subst (λ x. Executes (board_rules s.world.board).gates_start x c r b) (sym (same_regs m c)) many.3 in
-        let is_behind : IsKern u.world.kern = regs_keep s.world.kern who m is in
-        let exact_behind : HasExact u.world = still_exact s u refl (regs_lend s.world.kern.tasks who m) exact in
-        (u, bursts n room k (omega (arith, h)) m c many.2, subst (IsSilentStep u) (further m r c b k) (one_step u who is_behind exact_behind (on_behind m c k) here r b ex))
+        let is_after : IsKern u.world.kern = regs_keep s.world.kern who m is in
+        let exact_after : HasExact u.world = still_exact s u refl (regs_lend s.world.kern.tasks who m) exact in
+        (u, bursts n room k (omega (arith, h)) m c many.2, subst (IsSilentStep u) (further m r c b k) (one_step u who is_after exact_after (on_after m c k) here r b ex))
 
 -- ---- the invariant is kept
 pub record Holds (s t : State) : Type 0 where
@@ -296,8 +300,8 @@ gone s who k n time count w is exact on room h ran t c =
     (bursts s who is.rising on is exact n room k h ran.regs ran.bus ran.many)
 
 -- the same task runs as before
-pub known_behind : (s : State) (who : ℕ) (regs : Regs) (new : KernState) (watch : WatchState) (now : Running) → Rising task_id s.world.kern.tasks → RunsOn s who → IsRunner s.world.kern s.world.watch.level now
+pub known_after : (s : State) (who : ℕ) (regs : Regs) (new : KernState) (watch : WatchState) (now : Running) → Rising task_id s.world.kern.tasks → RunsOn s who → IsRunner s.world.kern s.world.watch.level now
     → now.who ≡ Some who → new ≡ set_regs s.world.kern who regs → watch ≡ s.world.watch → IsRunner new watch.level now
-known_behind s who regs new watch now up on is own kern same =
+known_after s who regs new watch now up on is own kern same =
     subst (λ (w : WatchState). IsRunner new w.level now) (sym same)
     (subst (λ k. IsRunner k s.world.watch.level now) (sym kern) (still_runs s who up on regs now is own))

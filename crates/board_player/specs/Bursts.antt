@@ -9,10 +9,11 @@ use Rattle.wind_machine.specs.State.{State}
 use Rattle.wind_machine.specs.Reserving.{drop_others, drop_all}
 use Rattle.wind_machine.specs.Next.{is_active, console_is_due}
 use Rattle.wind_machine.specs.declared.phase.Phase.TheVariants as phases
-use Rattle.board_turns.specs.Instructions.{executed_to, routine_executed_to}
+use Rattle.board_player.specs.Knowing.{may_deliver}
+use Rattle.board_actors.specs.Instructions.{executed_to, routine_executed_to}
 
 -- this task runs and goes on: it ran last, it wrote nothing, its steps are instructions and kernel calls, and only
--- an event can be due
+-- an event of the tick file can be due
 pub record RunsOn (s : State) (who : ℕ) : Type 0 where
   pub idle : is_active s.world ≡ false
   pub runs : Some who ≡ runner s.world.kern
@@ -21,6 +22,7 @@ pub record RunsOn (s : State) (who : ℕ) : Type 0 where
   pub last : s.world.kern.last ≡ Some who
   pub alone : drop_others s.world.kern who ≡ s.world.kern
   pub silent : s.world.output ≡ []
+  pub delivery : false ≡ may_deliver s
   pub console : false ≡ console_is_due s
 
 -- the active interrupt routine goes on: it wrote nothing, and no task has a reservation

@@ -22,8 +22,8 @@ use Rattle.board_player.specs.declared.order.Known.TheVariants.{Nothing, Runner,
 pub Laid-prop : (lo hi : ℕ) (bs : List Block) → IsProp (Laid lo hi bs)
 Laid-prop lo hi [] = Unit-prop
 Laid-prop lo hi (b ∷ bs) =
-    let behind : IsProp (Laid (b.addr + b.size) hi bs) = Laid-prop (b.addr + b.size) hi bs in
-    let whole : IsProp ((lo ≤ b.addr) × (0 < b.size) × (b.addr + b.size ≤ hi) × Laid (b.addr + b.size) hi bs) = hlevel (props, behind) in
+    let after : IsProp (Laid (b.addr + b.size) hi bs) = Laid-prop (b.addr + b.size) hi bs in
+    let whole : IsProp ((lo ≤ b.addr) × (0 < b.size) × (b.addr + b.size ≤ hi) × Laid (b.addr + b.size) hi bs) = hlevel (props, after) in
     whole
 
 -- what holds of a task that waits at a queue, by its ask

@@ -13,15 +13,15 @@ use crate::clock::Clock;
 use crate::loading::load;
 use crate::order::{Known, is_early, make, next};
 use crate::parts::Parts;
-use board_turns::{Feed, Shell};
+use board_actors::{Feed, Shell};
 use con_line::Console;
 use kernel_world::World;
 use live_loading::FileAnswer;
 use std::alloc::Global;
-use tick_file::Schedule;
+use tick_file::{Event, Schedule};
 use wind_base::limits::CHUNK_BYTES;
 use wind_base::{BoardKind, Name, NoMemory, OutBuf, Profile};
-use wind_machine::step_law;
+use wind_machine::{slot_law, step_law};
 use wind_outside::{Device, Slots};
 
 // The room, in bytes, for what one step writes. Each byte of the console echoes at most three
@@ -102,12 +102,15 @@ impl Board {
 }
 
 impl Board {
-    ghost use Rattle.std.specs.Prelude.{◌≢◌, ◌↔◌, ◌<◌, Some, None, IfSome, OnOk, OnErr, true};
-    ghost use Rattle.std.specs.Prelude.{◌≤◌};
+    ghost use Rattle.std.specs.Prelude.{◌≢◌, ◌↔◌, ◌<◌, ℕ, Some, None, IfSome, OnOk, OnErr, true};
+    ghost use Rattle.std.specs.Prelude.{◌≤◌, ◌-◌, ◌^◌};
+    ghost use Rattle.std.specs.List.{All};
     ghost use Rattle.wind_base.specs.Limits.{most_steps};
+    ghost use Rattle.wind_machine.specs.Extending.{extended, more_of};
     ghost use Rattle.wind_machine.specs.Silent.{SilentSteps};
+    ghost use Rattle.wind_machine.specs.Interrupts.{StepsSlot};
     ghost use Rattle.live_loading.specs.Said.{said_of};
-    ghost use Rattle.wind_machine.specs.Machine.{file_asked, machine_step, Steps, IsOver, may_lack_memory};
+    ghost use Rattle.wind_machine.specs.Machine.{file_asked, machine_step, Steps, IsOver, may_exhaust_memory};
     ghost use Rattle.board_player.specs.Asking.{needed};
     ghost use Rattle.board_player.specs.Seen.{seen};
     ghost use Rattle.board_player.specs.declared.Step.TheVariants as steps;
@@ -122,15 +125,19 @@ impl Board {
             (seen ⟦<dyn Device as Device>⟧ self.new) }
         ensures counted { result ≡ steps.Stepped → (seen ⟦<dyn Device as Device>⟧ self.new).steps
             ≡ (seen ⟦<dyn Device as Device>⟧ self.old).steps + 1 }
+        ensures slots { result ≡ steps.Stepped → (i : ℕ) → StepsSlot (seen ⟦<dyn Device as Device>⟧ self.old)
+            (seen ⟦<dyn Device as Device>⟧ self.new) i }
         ensures quiet { (result ≡ steps.Quiet) ↔ IsOver (seen ⟦<dyn Device as Device>⟧ self.old) }
         ensures file { IfSome (needed result) (λ name. file_asked (seen ⟦<dyn Device as Device>⟧ self.old) ≡ Some name) }
         ensures unasked { result ≡ steps.Stepped → file_asked (seen ⟦<dyn Device as Device>⟧ self.old) ≡ None }
-        ensures no_memory { result ≡ steps.NoMemory → may_lack_memory (seen ⟦<dyn Device as Device>⟧ self.old) ≡ true }
+        ensures no_memory { result ≡ steps.NoMemory → may_exhaust_memory (seen ⟦<dyn Device as Device>⟧ self.old) ≡ true }
         ensures unchanged { result ≢ steps.Stepped → seen ⟦<dyn Device as Device>⟧ self.new
             ≡ seen ⟦<dyn Device as Device>⟧ self.old }
     {
         step_law();
+        slot_law();
         is_early(&self.parts);
+        self.parts.world.irqs.facts();
         let Ok(next) = next(&self.parts, &mut self.known) else {
             return Step::NoMemory;
         };
@@ -165,14 +172,45 @@ impl Board {
             ≡ Some (seen ⟦<dyn Device as Device>⟧ self.new)) }
         ensures counted { OnOk result ((seen ⟦<dyn Device as Device>⟧ self.new).steps
             ≡ (seen ⟦<dyn Device as Device>⟧ self.old).steps + 1) }
-        ensures no_memory { OnErr result (may_lack_memory (seen ⟦<dyn Device as Device>⟧ self.old) ≡ true) }
+        ensures slots { OnOk result ((i : ℕ) → StepsSlot (seen ⟦<dyn Device as Device>⟧ self.old)
+            (seen ⟦<dyn Device as Device>⟧ self.new) i) }
+        ensures no_memory { OnErr result (may_exhaust_memory (seen ⟦<dyn Device as Device>⟧ self.old) ≡ true) }
         ensures unchanged { OnErr result (seen ⟦<dyn Device as Device>⟧ self.new
             ≡ seen ⟦<dyn Device as Device>⟧ self.old) }
     {
         step_law();
+        slot_law();
         is_early(&self.parts);
+        self.parts.world.irqs.facts();
         self.known = Known::Nothing;
         load(&mut self.parts, name, file)
+    }
+
+    /// Adds bytes to the console, after those that are left, and the event that line `line` of a
+    /// longer tick file asks for. No future event may come later, or be asked for by that line or a
+    /// later one. If memory runs out, nothing changes.
+    pub fn extend(
+        &mut self,
+        line: u64,
+        time: u64,
+        event: Event,
+        bytes: &[u8],
+    ) -> Result<(), NoMemory>
+        requires small { time ≤ 2 ^ 32 - 1 }
+        requires last { All (λ e. (e.time ≤ time) × (e.line < line))
+            (seen ⟦<dyn Device as Device>⟧ self.old).schedule.events }
+        ensures ok { OnOk result (seen ⟦<dyn Device as Device>⟧ self.new
+            ≡ extended (more_of bytes.now line time event (seen ⟦<dyn Device as Device>⟧ self.old).schedule.on_demand)
+            (seen ⟦<dyn Device as Device>⟧ self.old)) }
+        ensures err { OnErr result (seen ⟦<dyn Device as Device>⟧ self.new
+            ≡ seen ⟦<dyn Device as Device>⟧ self.old) }
+    {
+        self.parts.feed.add(bytes)?;
+        if self.parts.schedule.add(line, time, event).is_err() {
+            self.parts.feed.take_back(bytes.len());
+            return Err(NoMemory);
+        }
+        Ok(())
     }
 
     /// The bytes that the last step wrote.
@@ -180,6 +218,13 @@ impl Board {
         ensures { result.now ≡ (seen ⟦<dyn Device as Device>⟧ self.now).world.output }
     {
         self.parts.world.out.bytes()
+    }
+
+    /// Board time.
+    pub fn time(&self) -> u128
+        ensures { result ≡ (seen ⟦<dyn Device as Device>⟧ self.now).time }
+    {
+        self.parts.clock.time
     }
 
     /// How many steps the board has made.

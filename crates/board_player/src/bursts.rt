@@ -1,6 +1,6 @@
 //! Instructions of one task or interrupt routine, made at once while nothing else can come.
 
-ghost use Rattle.std.specs.Prelude.{◌≡◌, ◌+◌, ◌<◌, ◌≤◌, true, Some, None};
+ghost use Rattle.std.specs.Prelude.{◌≡◌, ◌+◌, ◌<◌, ◌≤◌, true, false, Some, None};
 ghost use Rattle.wind_base.specs.Limits.{most_steps};
 ghost use Rattle.wind_base.specs.declared.regs.Regs.{Regs};
 ghost use Rattle.wind_core.specs.Moves.{set_regs};
@@ -9,15 +9,16 @@ ghost use Rattle.kernel_world.specs.Kept.{ReservedBy};
 ghost use Rattle.wind_machine.specs.Good.{Good};
 ghost use Rattle.wind_machine.specs.Silent.{SilentSteps};
 ghost use Rattle.wind_machine.specs.Events.{next_event};
-ghost use Rattle.wind_machine.specs.Next.{is_open as is_open_lem};
+ghost use Rattle.wind_machine.specs.Next.{is_open as is_open_lem, console_is_due as console_is_due_lem};
 ghost use Rattle.wind_machine.specs.declared.phase.Phase.TheVariants as phases;
 ghost use Rattle.board_player.specs.Inside.{inside, parts_seen, IsSpacious};
 ghost use Rattle.board_player.specs.Bursts.{RunsOn, RoutineRunsOn, HasRoom};
+ghost use Rattle.board_player.specs.Knowing.{may_deliver as may_deliver_lem};
 ghost use Rattle.board_player.specs.Going.{IsRunner, IsRoutine, IsKnown};
 
-use crate::order::{Known, Running, console_is_due};
+use crate::order::{Known, Running, console_is_due, may_deliver};
 use crate::parts::Parts;
-use board_turns::{execute_many, execute_many_of_routine, shell_id};
+use board_actors::{execute_many, execute_many_of_routine, shell_id};
 use id_table::Ident;
 use tick_file::Event;
 use wind_machine::Phase;
@@ -31,7 +32,17 @@ fn makes_instructions(parts: &Parts, who: Ident) -> bool
     who != shell_id() || matches!(parts.shell.phase(), Phase::Call)
 }
 
-// Whether the running task goes on: it ran last, it wrote nothing, and only an event can be due.
+// Whether neither an interrupt of a device nor the console can be due.
+fn is_quiet(parts: &Parts, is_open: bool) -> bool
+    requires { is_open ≡ is_open_lem (parts_seen ⟦<dyn Device as Device>⟧ parts.now) }
+    ensures delivery { result ≡ true → false ≡ may_deliver_lem (parts_seen ⟦<dyn Device as Device>⟧ parts.now) }
+    ensures console { result ≡ true → false ≡ console_is_due_lem (parts_seen ⟦<dyn Device as Device>⟧ parts.now) }
+{
+    !may_deliver(parts, is_open) && !console_is_due(parts, is_open)
+}
+
+// Whether the running task goes on: it ran last, it wrote nothing, and only an event of the tick
+// file can be due.
 #[tactic(auto, using(crate::proofs::Running::opens, crate::proofs::TaskBursts::alone_by))]
 fn runs_on(parts: &Parts, now: Running, who: Ident) -> bool
     requires good { Good (inside parts.now) }
@@ -43,7 +54,7 @@ fn runs_on(parts: &Parts, now: Running, who: Ident) -> bool
         return false;
     }
     match parts.world.kern.last() {
-        Some(last) if last == who => !console_is_due(parts, now.is_open),
+        Some(last) if last == who => is_quiet(parts, now.is_open),
         _ => false,
     }
 }

@@ -15,7 +15,7 @@ ghost use Rattle.board_player.specs.Settling.{CanSettle};
 use crate::parts::Parts;
 use crate::settling::settle;
 use crate::task_steps::end;
-use board_turns::{counter, drop_own, give_back, revocable_turn, shell_id};
+use board_actors::{counter, drop_own, give_back, shell_id, start_revocable_step};
 use id_table::Ident;
 use kernel_calls::file_wanted;
 use kernel_world::{Actor, gate_at};
@@ -93,7 +93,7 @@ fn load_file(parts: &mut Parts, name: &Name, file: &FileAnswer) -> Result<(), No
         ≡ parts_seen ⟦<dyn Device as Device>⟧ parts.old) }
     ensures space { IsSpacious parts.new }
 {
-    let kept = revocable_turn(&mut parts.world, &mut parts.spare, shell_id());
+    let kept = start_revocable_step(&mut parts.world, &mut parts.spare, shell_id());
     if kernel_load(parts.alloc, &mut parts.world, name, file).is_err() {
         give_back(&mut parts.world, &mut parts.spare, kept);
         return Err(NoMemory);

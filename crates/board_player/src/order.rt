@@ -10,29 +10,33 @@ ghost use Rattle.live_loading.specs.Said.{FileSaid};
 ghost use Rattle.wind_machine.specs.Good.{Good};
 ghost use Rattle.wind_machine.specs.Events.{next_event};
 ghost use Rattle.wind_machine.specs.ActorSteps.{step_of, routine_step as routine_step_lem, file_for as file_for_lem};
-ghost use Rattle.wind_machine.specs.Next.{due_event as due_event_lem, event_of, console_is_due as console_is_due_lem, is_open as is_open_lem, is_active as is_active_lem, holds_back, task_next as task_next_lem, next as next_lem};
-ghost use Rattle.wind_machine.specs.Machine.{state_after, settled_state, file_of, who_may, next_may, may_lack_memory};
+ghost use Rattle.wind_machine.specs.Next.{due_delivery as due_delivery_lem, occupied as occupied_lem, due_event as due_event_lem, event_of, console_is_due as console_is_due_lem, is_open as is_open_lem, is_active as is_active_lem, holds_back, task_next as task_next_lem, next as next_lem};
+ghost use Rattle.wind_machine.specs.Machine.{state_after, settled_state, file_of, who_may, next_may, may_exhaust_memory};
 ghost use Rattle.wind_machine.specs.declared.next.Next.TheVariants as nexts;
-ghost use Rattle.board_turns.specs.declared.step_kind.StepKind.TheVariants as kinds;
+ghost use Rattle.board_bus.specs.Seen.{bus_seen};
+ghost use Rattle.dev_irq.specs.State.{next as next_delivery};
+ghost use Rattle.board_actors.specs.declared.step_kind.StepKind.TheVariants as kinds;
 ghost use Rattle.board_player.specs.Inside.{inside, parts_seen, IsSpacious};
 ghost use Rattle.board_player.specs.Asking.{needed};
 ghost use Rattle.board_player.specs.Going.{IsKnown, OnlyStepped};
-ghost use Rattle.board_player.specs.Knowing.{jump_or_over as jump_or_over_lem};
+ghost use Rattle.board_player.specs.Knowing.{jump_or_over as jump_or_over_lem, may_deliver as may_deliver_lem};
 ghost use Rattle.board_player.specs.Settling.{CanSettle, Makes};
 ghost use Rattle.board_player.specs.declared.Step.TheVariants as steps;
 
 use crate::Step;
 use crate::loading::file_for;
-use crate::outside::{arrive, come, jump};
+use crate::outside::{arrive, come, deliver, jump};
 use crate::parts::Parts;
 use crate::routine_steps::step_routine;
 use crate::settling::settle;
 use crate::shell_steps::run_shell;
 use crate::task_steps::run;
-use board_turns::{StepKind, shell_id, waits_for_console};
+use board_actors::{StepKind, shell_id, waits_for_console};
+use board_bus::BoardBus;
 use id_table::Ident;
 use tick_file::Event;
 use wind_base::NoMemory;
+use wind_base::limits::SLOTS;
 use wind_machine::Next;
 use wind_outside::Device;
 
@@ -100,6 +104,48 @@ fn who_runs(parts: &Parts, known: &Known) -> Running
         Known::Runner(now) => *now,
         Known::Nothing | Known::Routine => ask(parts),
     }
+}
+
+// Which slots hold devices.
+fn occupied(bus: &BoardBus) -> [bool; SLOTS]
+    requires { Unit {0} }
+    ensures { result ≡ occupied_lem (bus_seen ⟦<dyn Device as Device>⟧ bus.now).slots }
+{
+    let mut full = [false; SLOTS];
+    for slot in 0..SLOTS {
+        full[slot] = bus.has_device(slot as u32);
+    }
+    full
+}
+
+// The least slot that holds a device and whose line is waiting, if there is one.
+#[inline(never)]
+fn find_delivery(parts: &Parts) -> Option<u32>
+    ensures { result ≡ next_delivery (occupied_lem (parts_seen ⟦<dyn Device as Device>⟧ parts.now).world.slots)
+        parts.now.world.irqs }
+{
+    parts.world.irqs.next(&occupied(&parts.world.bus))
+}
+
+/// Whether an interrupt of a device may be due, given whether interrupts may come. It is one test.
+#[inline]
+pub(crate) fn may_deliver(parts: &Parts, is_open: bool) -> bool
+    requires { is_open ≡ is_open_lem (parts_seen ⟦<dyn Device as Device>⟧ parts.now) }
+    ensures { result ≡ may_deliver_lem (parts_seen ⟦<dyn Device as Device>⟧ parts.now) }
+{
+    is_open && parts.world.irqs.is_waiting()
+}
+
+/// The slot whose interrupt is due, if one is, given whether interrupts may come.
+#[inline]
+pub(crate) fn due_delivery(parts: &Parts, is_open: bool) -> Option<u32>
+    requires { is_open ≡ is_open_lem (parts_seen ⟦<dyn Device as Device>⟧ parts.now) }
+    ensures { result ≡ due_delivery_lem (parts_seen ⟦<dyn Device as Device>⟧ parts.now) }
+{
+    if !may_deliver(parts, is_open) {
+        return None;
+    }
+    find_delivery(parts)
 }
 
 /// The event that is due, if one is, given whether interrupts may come.
@@ -235,7 +281,7 @@ fn jump_or_over(parts: &Parts) -> Next
 pub(crate) fn next(parts: &Parts, known: &mut Known) -> Result<Next, NoMemory>
     requires { IsKnown parts.now.world.kern parts.now.world.watch.level known.old }
     ensures next { IfOk result (λ n. n ≡ next_lem (parts_seen ⟦<dyn Device as Device>⟧ parts.now)) }
-    ensures memory { OnErr result (may_lack_memory (parts_seen ⟦<dyn Device as Device>⟧ parts.now) ≡ true) }
+    ensures memory { OnErr result (may_exhaust_memory (parts_seen ⟦<dyn Device as Device>⟧ parts.now) ≡ true) }
     ensures known { IsKnown parts.now.world.kern parts.now.world.watch.level known.new }
 {
     if is_active(parts, known) {
@@ -245,6 +291,9 @@ pub(crate) fn next(parts: &Parts, known: &mut Known) -> Result<Next, NoMemory>
     let is_open = now.is_open;
     let who = now.who;
     *known = Known::Runner(now);
+    if let Some(slot) = due_delivery(parts, is_open) {
+        return Ok(Next::Deliver(slot));
+    }
     if let Some(event) = due_event(parts, is_open) {
         return Ok(Next::Come(event));
     }
@@ -314,6 +363,12 @@ pub(crate) fn make(parts: &mut Parts, known: &mut Known, next: Next) -> Step
     ensures known { IsKnown parts.new.world.kern parts.new.world.watch.level known.new }
 {
     match next {
+        Next::Deliver(slot) => {
+            *known = Known::Nothing;
+            deliver(parts, slot);
+            settle(parts);
+            Step::Stepped
+        }
         Next::Come(event) => {
             *known = Known::Nothing;
             come(parts, event);

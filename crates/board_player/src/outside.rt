@@ -1,16 +1,20 @@
 //! What comes from outside: events, chunks of the console, and time.
 
-ghost use Rattle.std.specs.Prelude.{◌≡◌, ◌+◌, ◌^◌, ◌<◌, ◌≤◌, false, length};
+ghost use Rattle.std.specs.Prelude.{◌≡◌, ◌+◌, ◌^◌, ◌<◌, ◌≤◌, false, Some, length};
 ghost use Rattle.wind_base.specs.Limits.{most_steps, longest_chunk};
 ghost use Rattle.wind_core.specs.State.{Lives};
 ghost use Rattle.wind_machine.specs.Good.{Good};
-ghost use Rattle.wind_machine.specs.Events.{arrival, ticked, received, event_step, jump as jump_lem};
-ghost use Rattle.wind_machine.specs.Next.{is_active};
+ghost use Rattle.board_bus.specs.Seen.{bus_seen};
+ghost use Rattle.wind_machine.specs.Events.{arrival, ticked, received, lines_raised, interrupted, event_step, delivery_step, jump as jump_lem};
+ghost use Rattle.wind_machine.specs.Next.{is_active, due_delivery};
 ghost use Rattle.board_player.specs.Inside.{inside, parts_seen, IsSpacious};
 ghost use Rattle.board_player.specs.Moves.{heard_bytes};
 
 use crate::parts::Parts;
-use board_turns::{INTERRUPT_TOP, brought, chunk_len, drop_all, hear_chunk, put_return};
+use board_actors::{INTERRUPT_TOP, brought, chunk_len, drop_all, hear_chunk, put_return};
+use board_bus::BoardBus;
+use dev_irq::Irqs;
+use object_calls::irq_rows::is_device;
 use tick_file::Event;
 use wind_outside::Device;
 
@@ -86,6 +90,51 @@ fn receive(parts: &mut Parts, n: u32)
     parts.clock.event();
 }
 
+// Counts an interrupt of the device in a slot, if there is one.
+fn raise(irqs: &mut Irqs, bus: &BoardBus, slot: u32)
+    requires { Unit {0} }
+    ensures { irqs.new ≡ lines_raised irqs.old (bus_seen ⟦<dyn Device as Device>⟧ bus.now).slots slot }
+{
+    if is_device(bus, slot) {
+        irqs.raise(slot);
+    }
+}
+
+// The device in a slot interrupts.
+fn interrupt(parts: &mut Parts, slot: u32)
+    requires few { parts.old.clock.steps < most_steps }
+    requires space { IsSpacious parts.old }
+    ensures step { parts_seen ⟦<dyn Device as Device>⟧ parts.new
+        ≡ interrupted (parts_seen ⟦<dyn Device as Device>⟧ parts.old) slot }
+    ensures space { IsSpacious parts.new }
+{
+    parts.world.out.clear();
+    raise(&mut parts.world.irqs, &parts.world.bus, slot);
+    parts.clock.event();
+}
+
+/// Delivers the interrupt that is due, of the device in this slot.
+#[tactic(auto, using(crate::proofs::Delivering::idle_due))]
+#[inline(never)]
+pub(crate) fn deliver(parts: &mut Parts, slot: u32)
+    requires due { due_delivery (parts_seen ⟦<dyn Device as Device>⟧ parts.old) ≡ Some slot }
+    requires good { Good (inside parts.old) }
+    requires few { parts.old.clock.steps < most_steps }
+    requires space { IsSpacious parts.old }
+    ensures step { parts_seen ⟦<dyn Device as Device>⟧ parts.new
+        ≡ delivery_step (parts_seen ⟦<dyn Device as Device>⟧ parts.old) slot }
+    ensures space { IsSpacious parts.new }
+{
+    drop_all(&mut parts.world.kern);
+    parts.world.out.clear();
+    parts
+        .world
+        .irqs
+        .deliver(slot, &mut parts.world.watch, INTERRUPT_TOP);
+    put_return(&mut parts.world.watch, parts.world.board);
+    parts.clock.event();
+}
+
 /// The due event occurs.
 #[tactic(auto, using(crate::proofs::Beginning::all_live))]
 #[inline(never)]
@@ -103,6 +152,7 @@ pub(crate) fn come(parts: &mut Parts, event: Event)
     match event {
         Event::Tick => tick(parts),
         Event::Rx(n) => receive(parts, n),
+        Event::Irq(slot) => interrupt(parts, slot),
     }
 }
 

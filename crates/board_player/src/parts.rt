@@ -1,7 +1,7 @@
 //! All that a board is made of.
 
 use crate::clock::Clock;
-use board_turns::{Feed, Shell};
+use board_actors::{Feed, Shell};
 use con_line::Console;
 use kernel_world::World;
 use std::alloc::Global;

@@ -6,12 +6,12 @@ ghost use Rattle.wind_machine.specs.Good.{Good};
 ghost use Rattle.wind_machine.specs.ActorSteps.{routine_step};
 ghost use Rattle.wind_machine.specs.Next.{is_active};
 ghost use Rattle.wind_machine.specs.Reserving.{drop_all as drop_all_lem};
-ghost use Rattle.board_turns.specs.declared.step_kind.StepKind.TheVariants as kinds;
+ghost use Rattle.board_actors.specs.declared.step_kind.StepKind.TheVariants as kinds;
 ghost use Rattle.board_player.specs.Inside.{inside, parts_seen, IsSpacious};
 ghost use Rattle.board_player.specs.Going.{IsRoutine};
 
 use crate::parts::Parts;
-use board_turns::{StepKind, routine_turn, run_routine};
+use board_actors::{StepKind, run_routine, start_routine_step};
 use wind_outside::Device;
 
 /// Makes a step of the active interrupt routine. After an instruction that caused no exception, the
@@ -30,7 +30,7 @@ pub(crate) fn step_routine(parts: &mut Parts) -> StepKind
     ensures objects { result ≡ kinds.Instruction → parts.new.world.objects ≡ parts.old.world.objects }
     ensures space { IsSpacious parts.new }
 {
-    routine_turn(&mut parts.world);
+    start_routine_step(&mut parts.world);
     let kind = run_routine(parts.alloc, &mut parts.world);
     parts.clock.step();
     kind

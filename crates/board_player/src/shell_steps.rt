@@ -2,20 +2,20 @@
 
 ghost use Rattle.std.specs.Prelude.{◌≡◌, ◌<◌, ◌≤◌, true, None, Ok, take, OnOk, OnErr};
 ghost use Rattle.wind_base.specs.Limits.{most_steps, longest_line};
-ghost use Rattle.con_line.specs.Lines.{front_line};
+ghost use Rattle.con_line.specs.Lines.{first_line};
 ghost use Rattle.kernel_world.specs.Objects.{IsReady};
 ghost use Rattle.wind_machine.specs.Good.{Good};
 ghost use Rattle.wind_machine.specs.Processor.{gate_under};
 ghost use Rattle.wind_machine.specs.ActorSteps.{prompt_step, read_step, eval_step, shell_step, file_for as file_for_lem};
 ghost use Rattle.wind_machine.specs.Machine.{gate_may, phase_may};
 ghost use Rattle.wind_machine.specs.declared.phase.Phase.TheVariants as phases;
-ghost use Rattle.board_turns.specs.declared.step_kind.StepKind.TheVariants as kinds;
+ghost use Rattle.board_actors.specs.declared.step_kind.StepKind.TheVariants as kinds;
 ghost use Rattle.board_player.specs.Inside.{inside, parts_seen, IsSpacious};
 ghost use Rattle.board_player.specs.Going.{OnlyStepped};
 
 use crate::parts::Parts;
 use crate::task_steps::{end, run};
-use board_turns::{StepKind, give_back, listen, revocable_turn, shell_id, turn};
+use board_actors::{StepKind, give_back, listen, shell_id, start_revocable_step, start_step};
 use con_line::{Console, LINE_ROOM};
 use wind_base::NoMemory;
 use wind_base::text::add;
@@ -32,7 +32,7 @@ fn prompt(parts: &mut Parts)
         ≡ prompt_step (parts_seen ⟦<dyn Device as Device>⟧ parts.old) }
     ensures space { IsSpacious parts.new }
 {
-    turn(&mut parts.world, shell_id());
+    start_step(&mut parts.world, shell_id());
     let has_line = parts.console.has_line();
     add(&mut parts.world.out, b"-> ");
     parts.shell.prompt(has_line);
@@ -45,10 +45,10 @@ fn prompt(parts: &mut Parts)
 // Copies the first finished line to the beginning of `room`, and returns its length in bytes: 0 if
 // there is no finished line.
 fn copy_line(console: &Console, room: &mut [u8; LINE_ROOM]) -> usize
-    ensures line { take result room.new ≡ front_line console.now }
+    ensures line { take result room.new ≡ first_line console.now }
     ensures short { result ≤ longest_line }
 {
-    match console.front_line(room) {
+    match console.first_line(room) {
         Some(len) => len as usize,
         None => 0,
     }
@@ -68,7 +68,7 @@ fn read(parts: &mut Parts) -> Result<(), NoMemory>
 {
     let mut line = [0; LINE_ROOM];
     let len = copy_line(&parts.console, &mut line);
-    let kept = revocable_turn(&mut parts.world, &mut parts.spare, shell_id());
+    let kept = start_revocable_step(&mut parts.world, &mut parts.spare, shell_id());
     if parts
         .shell
         .read(parts.alloc, &line[..len], &mut parts.world.out)
@@ -95,7 +95,7 @@ fn evaluate(parts: &mut Parts) -> Result<(), NoMemory>
         ≡ parts_seen ⟦<dyn Device as Device>⟧ parts.old) }
     ensures space { IsSpacious parts.new }
 {
-    let kept = revocable_turn(&mut parts.world, &mut parts.spare, shell_id());
+    let kept = start_revocable_step(&mut parts.world, &mut parts.spare, shell_id());
     if parts.shell.evaluate(parts.alloc, &mut parts.world).is_err() {
         give_back(&mut parts.world, &mut parts.spare, kept);
         return Err(NoMemory);

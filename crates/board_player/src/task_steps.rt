@@ -6,21 +6,23 @@ ghost use Rattle.wind_base.specs.Boards.{board_rules};
 ghost use Rattle.wind_base.specs.Gates.{gate_at as gate_at_lem};
 ghost use Rattle.wind_core.specs.State.{Lives};
 ghost use Rattle.kernel_world.specs.Objects.{IsReady};
-ghost use Rattle.kernel_world.specs.Allowed.{may_lack_memory as may_lack_memory_lem};
+ghost use Rattle.kernel_world.specs.Allowed.{may_exhaust_memory as may_exhaust_memory_lem};
 ghost use Rattle.wind_machine.specs.Good.{Good};
 ghost use Rattle.wind_machine.specs.Processor.{gate_under, regs_of};
 ghost use Rattle.wind_machine.specs.ActorSteps.{task_step, file_for};
 ghost use Rattle.wind_machine.specs.Machine.{gate_may};
 ghost use Rattle.wind_machine.specs.declared.phase.Phase.TheVariants as phases;
-ghost use Rattle.board_turns.specs.declared.step_kind.StepKind.TheVariants as kinds;
+ghost use Rattle.board_actors.specs.declared.step_kind.StepKind.TheVariants as kinds;
 ghost use Rattle.board_player.specs.Inside.{inside, parts_seen, IsSpacious};
 ghost use Rattle.board_player.specs.Going.{OnlyStepped};
 ghost use Rattle.board_player.specs.Moves.{noted_step};
 
 use crate::parts::Parts;
-use board_turns::{StepKind, at_gate, counter, execute, give_back, revocable_turn, turn};
+use board_actors::{
+    StepKind, at_gate, counter, execute, give_back, start_revocable_step, start_step,
+};
 use id_table::Ident;
-use kernel_world::{gate_at, may_lack_memory};
+use kernel_world::{gate_at, may_exhaust_memory};
 use wind_base::{Gate, NoMemory};
 use wind_outside::Device;
 
@@ -54,7 +56,7 @@ fn run_word(parts: &mut Parts, who: Ident, at: u32) -> StepKind
     ensures objects { result ≡ kinds.Instruction → parts.new.world.objects ≡ parts.old.world.objects }
     ensures space { IsSpacious parts.new }
 {
-    turn(&mut parts.world, who);
+    start_step(&mut parts.world, who);
     let kind = execute(&mut parts.shell, &mut parts.world, who, at);
     end(parts, who);
     kind
@@ -73,13 +75,13 @@ fn run_sure_gate(parts: &mut Parts, who: Ident, at: u32, gate: Gate)
     requires counter { at ≡ (regs_of (parts_seen ⟦<dyn Device as Device>⟧ parts.old).world who).pc }
     requires gate { gate_at_lem (board_rules parts.old.world.board).gates_start at ≡ Some gate }
     requires asks { file_for (parts_seen ⟦<dyn Device as Device>⟧ parts.old) who ≡ None }
-    requires sure { may_lack_memory_lem gate ≡ false }
+    requires sure { may_exhaust_memory_lem gate ≡ false }
     ensures step { parts_seen ⟦<dyn Device as Device>⟧ parts.new
         ≡ task_step (parts_seen ⟦<dyn Device as Device>⟧ parts.old) who }
     ensures space { IsSpacious parts.new }
 {
     let _ = at;
-    turn(&mut parts.world, who);
+    start_step(&mut parts.world, who);
     match at_gate(parts.alloc, &mut parts.shell, &mut parts.world, who, gate) {
         Ok(()) => end(parts, who),
         Err(NoMemory) => unreachable!(),
@@ -102,13 +104,13 @@ fn run_revocable_gate(parts: &mut Parts, who: Ident, at: u32, gate: Gate) -> Res
     requires asks { file_for (parts_seen ⟦<dyn Device as Device>⟧ parts.old) who ≡ None }
     ensures ok { OnOk result (parts_seen ⟦<dyn Device as Device>⟧ parts.new
         ≡ task_step (parts_seen ⟦<dyn Device as Device>⟧ parts.old) who) }
-    ensures memory { OnErr result (may_lack_memory_lem gate ≡ true) }
+    ensures memory { OnErr result (may_exhaust_memory_lem gate ≡ true) }
     ensures err { OnErr result (parts_seen ⟦<dyn Device as Device>⟧ parts.new
         ≡ parts_seen ⟦<dyn Device as Device>⟧ parts.old) }
     ensures space { IsSpacious parts.new }
 {
     let _ = at;
-    let kept = revocable_turn(&mut parts.world, &mut parts.spare, who);
+    let kept = start_revocable_step(&mut parts.world, &mut parts.spare, who);
     match at_gate(parts.alloc, &mut parts.shell, &mut parts.world, who, gate) {
         Ok(()) => {
             end(parts, who);
@@ -134,12 +136,12 @@ fn run_gate(parts: &mut Parts, who: Ident, at: u32, gate: Gate) -> Result<(), No
     requires asks { file_for (parts_seen ⟦<dyn Device as Device>⟧ parts.old) who ≡ None }
     ensures ok { OnOk result (parts_seen ⟦<dyn Device as Device>⟧ parts.new
         ≡ task_step (parts_seen ⟦<dyn Device as Device>⟧ parts.old) who) }
-    ensures memory { OnErr result (may_lack_memory_lem gate ≡ true) }
+    ensures memory { OnErr result (may_exhaust_memory_lem gate ≡ true) }
     ensures err { OnErr result (parts_seen ⟦<dyn Device as Device>⟧ parts.new
         ≡ parts_seen ⟦<dyn Device as Device>⟧ parts.old) }
     ensures space { IsSpacious parts.new }
 {
-    if may_lack_memory(gate) {
+    if may_exhaust_memory(gate) {
         return run_revocable_gate(parts, who, at, gate);
     }
     run_sure_gate(parts, who, at, gate);

@@ -19,6 +19,7 @@ use Rattle.wind_core.proofs.Unwritten.{map-change}
 use Rattle.isr_watch.specs.declared.watchdog.Watchdog.{Watchdog}
 use Rattle.isr_watch.specs.State.{WatchState, IsWatch, watchdog_id}
 use Rattle.isr_watch.specs.Laws.{AllBelow}
+use Rattle.dev_irq.specs.declared.line.Line.{Line}
 use Rattle.kernel_world.specs.State.{WorldState}
 use Rattle.kernel_world.specs.Kept.{stack_of, routine_stack, KeepsWatch, IsWorld, HasCounts, Within, AreStacks, task_stacks}
 use Rattle.kernel_world.specs.Objects.{IsFree}
@@ -32,7 +33,7 @@ use Rattle.kernel_calls.specs.declared.calls.Called.TheVariants.{Done, Pended, E
 use Rattle.kernel_world.proofs.Holding.{loaded_on}
 use Rattle.kernel_world.proofs.LiveIds.{Fewer, Nothing, fewer_same}
 use Rattle.kernel_world.proofs.WorldIds.{ids_kern, ids_watch}
-use Rattle.kernel_world.proofs.Advancing.{within_more}
+use Rattle.kernel_world.proofs.Advancing.{within_more, of_devices}
 use Rattle.kernel_calls.proofs.Passing.{call_passes}
 use Rattle.kernel_calls.proofs.Departing.{ends}
 use Rattle.kernel_world.proofs.ObjectMoves.{objects-move}
@@ -114,6 +115,10 @@ sized ram at n bytes size =
 used_ram : (w : WorldState) (ram : List ℕ) (n : ℕ) → length ram ≡ length w.ram → Used w n → Used (record w { ram = ram }) n
 used_ram w ram n e (kept, within, sinces, count, names, starts) =
     (record { kern = kept.kern; home = kept.home; kind = kept.kind; objects = kept.objects; pool = kept.pool; stacks = kept.stacks; modules = kept.modules; ram = e ∙ kept.ram; symbols = kept.symbols; watch = kept.watch; ids = kept.ids }, within, sinces, count, names, starts)
+
+-- other interrupts are pending
+pub used_irqs : (w : WorldState) (irqs : List Line) (n : ℕ) → Used w n → Used (record w { irqs = irqs }) n
+used_irqs w irqs n (kept, within, sinces, count, names, starts) = ((of_devices w kept n within irqs w.slots).kept, within, sinces, count, names, starts)
 
 -- other watchdogs, with ids that were handed out
 pub used_watch : (w : WorldState) (s : WatchState) (n : ℕ) → KeepsWatch w.kern.next_id s → s.next_start ≤ 1 + n → Fewer (map watchdog_id s.watchdogs) (map watchdog_id w.watch.watchdogs) → Used w n → Used (record w { watch = s }) n

@@ -1,6 +1,7 @@
 //! A world from its start on, in which callers are put at gates and make their calls.
 
-ghost use Rattle.std.specs.Prelude.{◌≡◌, ◌≤◌, true, false, [], None, IfSome};
+ghost use Rattle.std.specs.Prelude.{◌≡◌, ◌≤◌, true, false, [], length, None, IfSome};
+ghost use Rattle.wind_base.specs.Limits.{most_slots};
 ghost use Rattle.isr_watch.specs.State.{IsWatch};
 ghost use Rattle.kernel_world.specs.Actors.{Acts, MayCall};
 
@@ -13,6 +14,7 @@ use std::marker::Model;
 use symbol_table::Symbol;
 use task_block::Task;
 use task_calls::end_task;
+use wind_base::limits::SLOTS;
 use wind_base::{BoardKind, Gate, Profile, Regs};
 use wind_core::Kern;
 use wind_outside::Slots;
@@ -124,10 +126,11 @@ fn set_level(watch: &mut Watch, regs: Regs)
 }
 
 impl Bench {
-    // The world at the start under profile 1 on board 1, without devices. `None` if it can't be made, for
-    // example because memory runs out.
-    pub(crate) fn new(alloc: Global) -> Option<Bench> {
-        let slots: Slots = Vec::new(alloc);
+    // The world at the start under profile 1 on board 1, with these devices. `None` if it can't be
+    // made, for example because memory runs out.
+    pub(crate) fn new(alloc: Global, slots: Slots) -> Option<Bench>
+        requires { length slots.items ≤ most_slots }
+    {
         let watch = with_routine(alloc)?;
         let Ok(mut world) = World::boot(alloc, slots, Profile::One, BoardKind::One) else {
             return None;
@@ -139,6 +142,15 @@ impl Bench {
     // Puts these bytes into RAM from an address on. Returns false if they don't fit.
     pub(crate) fn write(&mut self, address: u32, bytes: &[u8]) -> bool {
         self.world.bus.ram.copy_in(address, bytes).is_ok()
+    }
+
+    // The device of a slot interrupts. Returns false if there is no slot with this number.
+    pub(crate) fn raise(&mut self, slot: u32) -> bool {
+        if slot as usize >= SLOTS {
+            return false;
+        }
+        self.world.irqs.raise(slot);
+        true
     }
 
     // Puts `count` equal bytes into RAM. Returns false if they don't fit.
@@ -235,6 +247,18 @@ impl Bench {
 
     pub(crate) fn symbols(&self) -> u32 {
         self.world.syms.len()
+    }
+
+    pub(crate) fn has_device(&self, slot: u32) -> bool {
+        self.world.bus.has_device(slot)
+    }
+
+    // How many interrupts of a slot are pending.
+    pub(crate) fn pending(&self, slot: u32) -> Option<u32> {
+        if slot as usize >= SLOTS {
+            return None;
+        }
+        Some(self.world.irqs.pending(slot))
     }
 
     // What the calls have written.

@@ -23,6 +23,10 @@ pub(crate) enum Look {
     Symbol(u32, &'static [u8], u32, SymKind),
     // the task with this id
     Task(u32, TaskLook),
+    // whether a slot holds a device
+    Device(u32, bool),
+    // how many interrupts of a slot are pending
+    Pending(u32, u32),
 }
 
 // What can be seen of a task.
@@ -108,5 +112,7 @@ pub(crate) fn sees(bench: &Bench, look: Look) -> bool {
         Look::Symbols(n) => bench.symbols() == n,
         Look::Symbol(place, name, value, kind) => sees_symbol(bench, place, name, value, kind),
         Look::Task(who, look) => sees_task(bench, who, look),
+        Look::Device(slot, is) => bench.has_device(slot) == is,
+        Look::Pending(slot, count) => bench.pending(slot) == Some(count),
     }
 }

@@ -1,12 +1,16 @@
 //! Steps over a world, one after the other.
 
+ghost use Rattle.std.specs.Prelude.{◌≤◌, length};
+ghost use Rattle.wind_base.specs.Limits.{most_slots};
+
 use crate::bench::{BACK, Bench, FRAME, SHELL};
 use crate::looks::{Look, sees};
 use kernel_calls::Called;
 use kernel_world::gate_address;
-use std::alloc::Global;
+use std::alloc::{AllocError, Global};
 use wind_base::words::OK;
 use wind_base::{BoardKind, Gate};
+use wind_outside::{Latch, Slots};
 
 // A step. Callers and tasks are given by their ids, and the interrupt routine by 0.
 #[derive(Clone, Copy)]
@@ -32,6 +36,8 @@ pub(crate) enum Step {
     Leave(u32),
     // the first task begins to wait until it may delete the second
     Await(u32, u32),
+    // the device of a slot interrupts
+    Raise(u32),
     // puts these bytes into RAM from an address on
     Write(u32, &'static [u8]),
     // puts this many equal bytes into RAM from an address on
@@ -69,9 +75,9 @@ fn comes_to(
     alloc: Global,
     bench: &mut Bench,
     call: (u32, Gate, u32, [u32; 10]),
-    told: (Made, u32, u32),
+    expected: (Made, u32, u32),
 ) -> bool {
-    let (made, r3, errno) = told;
+    let (made, r3, errno) = expected;
     call_made(alloc, bench, call) == Some(made) && bench.standing(call.0) == Some((BACK, r3, errno))
 }
 
@@ -114,9 +120,15 @@ fn asks(alloc: Global, bench: &mut Bench, words: [u32; 4], name: &[u8]) -> bool 
 }
 
 // Whether taskSpawn by the shell's task, with this r1, leaves this r3 and error number.
-fn spawns(alloc: Global, bench: &mut Bench, r1: u32, asked: [u32; 3], told: (u32, u32)) -> bool {
+fn spawns(
+    alloc: Global,
+    bench: &mut Bench,
+    r1: u32,
+    asked: [u32; 3],
+    expected: (u32, u32),
+) -> bool {
     let call = (SHELL, Gate::TaskSpawn, r1, spawning(asked));
-    comes_to(alloc, bench, call, (Made::Done, told.0, told.1))
+    comes_to(alloc, bench, call, (Made::Done, expected.0, expected.1))
 }
 
 // Whether this many tasks are spawned, with ids that count from this one.
@@ -163,6 +175,7 @@ fn goes(alloc: Global, bench: &mut Bench, step: Step) -> bool {
         Step::End(who) => bench.end(who),
         Step::Leave(who) => leaves(alloc, bench, who),
         Step::Await(who, target) => awaits(alloc, bench, who, target),
+        Step::Raise(slot) => bench.raise(slot),
         Step::Write(address, bytes) => bench.write(address, bytes),
         Step::Fill(address, count, byte) => bench.fill(address, count, byte),
         Step::See(look) => sees(bench, look),
@@ -197,10 +210,32 @@ fn play_steps(alloc: Global, bench: &mut Bench, steps: &[Step]) -> Outcome {
     Outcome::AsWorkedOut
 }
 
-// Makes the steps of a table over a world of its own.
-pub(crate) fn play(alloc: Global, table: &Table) -> Outcome {
-    match Bench::new(alloc) {
+// Makes the steps of a table over a world with these devices.
+fn play_over(alloc: Global, table: &Table, devices: Slots) -> Outcome
+    requires { length devices.items ≤ most_slots }
+{
+    match Bench::new(alloc, devices) {
         Some(mut bench) => play_steps(alloc, &mut bench, table.steps),
         None => Outcome::NoWorld,
+    }
+}
+
+// Makes the steps of a table over a world with a latch in slot 0, nothing in slot 1, and a latch in
+// slot 2.
+fn play_with_devices(alloc: Global, table: &Table) -> Result<Outcome, AllocError> {
+    let first = Box::new(alloc, Latch::new())?;
+    let second = Box::new(alloc, Latch::new())?;
+    let mut devices: Slots = Vec::with_capacity(alloc, 3)?;
+    devices.push(Some(first)).unwrap();
+    devices.push(None).unwrap();
+    devices.push(Some(second)).unwrap();
+    Ok(play_over(alloc, table, devices))
+}
+
+// Makes the steps of a table over a world of its own.
+pub(crate) fn play(alloc: Global, table: &Table) -> Outcome {
+    match play_with_devices(alloc, table) {
+        Ok(outcome) => outcome,
+        Err(_) => Outcome::NoWorld,
     }
 }

@@ -1,6 +1,7 @@
 //! Calls over a world from its start on, with their answers worked out by hand.
 
 mod blocks;
+mod devices;
 mod files;
 mod opening;
 mod routines;
@@ -50,7 +51,7 @@ const RAM_END: u32 = 0x0100_0000;
 const FIRST: u32 = 0x1_5e20;
 
 // The tables, by what they are about.
-pub(crate) const GROUPS: [&[Table]; 10] = [
+pub(crate) const GROUPS: [&[Table]; 11] = [
     &opening::TABLES,
     &tasks::TABLES,
     &spawns::TABLES,
@@ -61,4 +62,5 @@ pub(crate) const GROUPS: [&[Table]; 10] = [
     &routines::TABLES,
     &texts::TABLES,
     &files::TABLES,
+    &devices::TABLES,
 ];

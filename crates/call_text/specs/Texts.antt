@@ -101,6 +101,12 @@ words_of calls.I = []
 words_of (calls.Lkup text) = Hex text ∷ []
 words_of calls.ModuleShow = []
 words_of (calls.D address units width) = Hex address ∷ Number units ∷ Number width ∷ []
+words_of (calls.IntConnect slot routine parameter) = Number slot ∷ Hex routine ∷ Number parameter ∷ []
+words_of (calls.IntDisconnect slot routine) = Number slot ∷ Hex routine ∷ []
+words_of (calls.IntEnable slot) = Number slot ∷ []
+words_of (calls.IntDisable slot) = Number slot ∷ []
+words_of (calls.IntPending slot) = Number slot ∷ []
+words_of (calls.DevRemove slot) = Number slot ∷ []
 
 -- the name of the call of a gate
 abbrev pub name_text : Option (List ℕ) → List ℕ

@@ -178,6 +178,16 @@ fn words_of(call: &Call) -> Words
             units,
             width,
         } => words(&[Hex(address), Number(units), Number(width)]),
+        Call::IntConnect {
+            slot,
+            routine,
+            parameter,
+        } => words(&[Number(slot), Hex(routine), Number(parameter)]),
+        Call::IntDisconnect { slot, routine } => words(&[Number(slot), Hex(routine)]),
+        Call::IntEnable { slot } => words(&[Number(slot)]),
+        Call::IntDisable { slot } => words(&[Number(slot)]),
+        Call::IntPending { slot } => words(&[Number(slot)]),
+        Call::DevRemove { slot } => words(&[Number(slot)]),
     }
 }
 

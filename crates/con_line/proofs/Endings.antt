@@ -37,9 +37,9 @@ lines_more n (b ∷ bs) line h plain short =
     elim (cases_eq b 10) [
       | inl e ↦
           let both : nat_le n 255 && are_lines 0 bs ≡ true = sym (line_end n b bs e) ∙ h in
-          let front : nat_le n 255 ≡ true = both_left _ _ both in
+          let first : nat_le n 255 ≡ true = both_left _ _ both in
           let rest : are_lines 0 (bs ++ (line ++ 10 ∷ [])) ≡ true = lines_more 0 bs line (both_right (nat_le n 255) _ both) plain short in
-          line_end n b (bs ++ (line ++ 10 ∷ [])) e ∙ ap (λ x. x && are_lines 0 (bs ++ (line ++ 10 ∷ []))) front ∙ rest
+          line_end n b (bs ++ (line ++ 10 ∷ [])) e ∙ ap (λ x. x && are_lines 0 (bs ++ (line ++ 10 ∷ []))) first ∙ rest
       | inr e ↦ line_more n b (bs ++ (line ++ 10 ∷ [])) e ∙ lines_more (n + 1) bs line (sym (line_more n b bs e) ∙ h) plain short
     ]
 
@@ -50,7 +50,7 @@ line_within n (b ∷ bs) h =
     elim (cases_eq b 10) [
       | inl e ↦
           let both : nat_le n 255 && are_lines 0 bs ≡ true = sym (line_end n b bs e) ∙ h in
-          let front : nat_le n 255 ≡ true = both_left _ _ both in
+          let first : nat_le n 255 ≡ true = both_left _ _ both in
           let within : n ≤ 255 = grind (arith, nat_tests) in
           omega (arith, within, length_end b bs e)
       | inr e ↦ let rest = line_within (n + 1) bs (sym (line_more n b bs e) ∙ h) in omega (arith, rest, length_more b bs e)

@@ -8,7 +8,7 @@ use Rattle.std.proofs.lemmas.List.Sums.{prefix_len-le-length}
 use Rattle.wind_base.specs.Lines.{line_length}
 use Rattle.con_line.specs.State.{ConsoleState}
 use Rattle.con_line.specs.Keys.{key_of, has_room, line_ended, after_key}
-use Rattle.con_line.specs.Lines.{are_lines, KeepsLines, is_kept, with_end, front_line}
+use Rattle.con_line.specs.Lines.{are_lines, KeepsLines, is_kept, with_end, first_line}
 use Rattle.con_line.specs.Laws.{Keeps, StartLaw, ByteLaw, DropLaw}
 use Rattle.con_line.specs.declared.key.Key.{Key}
 use Rattle.con_line.specs.declared.key.Key.TheVariants as keys
@@ -82,6 +82,6 @@ drop_keeps c h = record {
 }
 
 -- a finished line has at most 255 bytes
-pub front_short : (c : ConsoleState) → are_lines 0 c.finished ≡ true → length (front_line c) ≤ 255
-front_short c lines =
+pub first_short : (c : ConsoleState) → are_lines 0 c.finished ≡ true → length (first_line c) ≤ 255
+first_short c lines =
     omega (arith, length-take-le (line_length c.finished) c.finished (prefix_len-le-length _ c.finished), line_within 0 c.finished lines)

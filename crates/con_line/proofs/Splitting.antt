@@ -8,7 +8,7 @@ use Rattle.std.proofs.lemmas.List.Elements.{All-head, All-tail, All-cons, All-ap
 use Rattle.wind_base.specs.Lines.{line_length}
 use Rattle.wind_base.proofs.LineLength.{length_end, length_more}
 use Rattle.con_line.specs.Lines.{are_lines}
-use Rattle.con_line.specs.Laws.{IsLine, joined, MadeLaw, SplitLaw, FrontLaw}
+use Rattle.con_line.specs.Laws.{IsLine, joined, MadeLaw, SplitLaw, FirstLineLaw}
 use Rattle.con_line.proofs.Endings.{both_left, both_right, line_end, line_more}
 
 -- ---- lines with their ends are finished lines
@@ -52,8 +52,8 @@ split_after (b ∷ bs) begun plain h =
     elim (cases_eq b 10) [
       | inl e ↦
           let both : nat_le (length begun) 255 && are_lines 0 bs ≡ true = sym (line_end (length begun) b bs e) ∙ h in
-          let front : nat_le (length begun) 255 ≡ true = both_left _ _ both in
-          let is : IsLine begun = record { short = grind (arith, nat_tests, front); unended = plain } in
+          let first : nat_le (length begun) 255 ≡ true = both_left _ _ both in
+          let is : IsLine begun = record { short = grind (arith, nat_tests, first); unended = plain } in
           ended_split begun b bs e is (split_after bs [] no_byte (both_right (nat_le (length begun) 255) _ both))
       | inr e ↦
           let longer : length (begun ++ b ∷ []) ≡ length begun + 1 = length-append begun (b ∷ []) in
@@ -65,15 +65,15 @@ pub split : SplitLaw
 split bytes h = split_after bytes [] no_byte h
 
 -- ---- the first line
-front_length : (line rest : List ℕ) → All (λ b. b ≢ 10) line → line_length ((line ++ 10 ∷ []) ++ rest) ≡ length line
-front_length [] rest plain = length_end 10 rest refl
-front_length (b ∷ bs) rest plain =
-    length_more b ((bs ++ 10 ∷ []) ++ rest) (All-head (λ x. x ≢ 10) b bs plain) ∙ ap suc (front_length bs rest (All-tail (λ x. x ≢ 10) b bs plain))
+first_length : (line rest : List ℕ) → All (λ b. b ≢ 10) line → line_length ((line ++ 10 ∷ []) ++ rest) ≡ length line
+first_length [] rest plain = length_end 10 rest refl
+first_length (b ∷ bs) rest plain =
+    length_more b ((bs ++ 10 ∷ []) ++ rest) (All-head (λ x. x ≢ 10) b bs plain) ∙ ap suc (first_length bs rest (All-tail (λ x. x ≢ 10) b bs plain))
 
-pub fronts : FrontLaw
-fronts c line lines is e =
+pub first_lines : FirstLineLaw
+first_lines c line lines is e =
     let whole : List ℕ = (line ++ 10 ∷ []) ++ joined lines in
-    let long : line_length c.finished ≡ length line = ap line_length e ∙ front_length line (joined lines) is.unended in
+    let long : line_length c.finished ≡ length line = ap line_length e ∙ first_length line (joined lines) is.unended in
     let ended : length (line ++ 10 ∷ []) ≡ length line + 1 = length-append line (10 ∷ []) in (
       ap (λ n. take n c.finished) long ∙ ap (take (length line)) (e ∙ append_assoc line (10 ∷ []) (joined lines)) ∙ take_at line (10 ∷ joined lines) (length line) refl,
       ap (λ n. drop (n + 1) c.finished) long ∙ ap (drop (length line + 1)) e ∙ drop_at (line ++ 10 ∷ []) (joined lines) (length line + 1) ended,

@@ -2,7 +2,7 @@
 use Rattle.std.specs.Prelude.{ℕ, ◌-◌, List, [], ◌∷◌, ◌++◌, Bool, ◌==◌, ◌||◌, nat_lt, nat_le, if◌then◌else◌, take, length}
 use Rattle.wind_base.specs.Limits.{longest_line}
 use Rattle.con_line.specs.State.{ConsoleState}
-use Rattle.con_line.specs.Lines.{is_kept, kept_behind}
+use Rattle.con_line.specs.Lines.{is_kept, with_kept}
 use Rattle.con_line.specs.declared.key.Key.{Key}
 use Rattle.con_line.specs.declared.key.Key.TheVariants as keys
 use Rattle.con_line.specs.declared.console.ByteDone.{ByteDone}
@@ -25,7 +25,7 @@ key_of b =
 
 -- the edited line ends: it is added after the finished ones, or dropped
 abbrev pub line_ended : ConsoleState → ConsoleState
-line_ended c = record c { edited = []; finished = kept_behind c.finished c.edited }
+line_ended c = record c { edited = []; finished = with_kept c.finished c.edited }
 
 abbrev pub line_done : ConsoleState → ByteDone
 line_done c = if is_kept c.finished c.edited then done.Line else done.Kept

@@ -3,7 +3,7 @@ use Rattle.std.specs.Prelude.{◌≡◌, ◌≢◌, ℕ, ◌≤◌, List, [], �
 use Rattle.wind_base.specs.Limits.{longest_line}
 use Rattle.con_line.specs.State.{ConsoleState, opening_console}
 use Rattle.con_line.specs.Keys.{after_byte}
-use Rattle.con_line.specs.Lines.{KeepsLines, with_end, are_lines, front_line, line_dropped}
+use Rattle.con_line.specs.Lines.{KeepsLines, with_end, are_lines, first_line, line_dropped}
 
 -- the invariant of the lines holds before the first byte, and a byte and the dropping of a line keep it
 abbrev pub Keeps : ConsoleState → Type 0
@@ -36,6 +36,6 @@ abbrev pub SplitLaw : Type 0
 SplitLaw = (bytes : List ℕ) → are_lines 0 bytes ≡ true → (lines : List (List ℕ)) × All IsLine lines × (joined lines ≡ bytes)
 
 -- the first of such lines is the one that is read, and dropping it leaves the others
-abbrev pub FrontLaw : Type 0
-FrontLaw = (c : ConsoleState) (line : List ℕ) (lines : List (List ℕ)) → IsLine line
-    → c.finished ≡ joined (line ∷ lines) → (front_line c ≡ line) × ((line_dropped c).finished ≡ joined lines)
+abbrev pub FirstLineLaw : Type 0
+FirstLineLaw = (c : ConsoleState) (line : List ℕ) (lines : List (List ℕ)) → IsLine line
+    → c.finished ≡ joined (line ∷ lines) → (first_line c ≡ line) × ((line_dropped c).finished ≡ joined lines)

@@ -14,16 +14,16 @@ abbrev pub is_kept : List ℕ → List ℕ → Bool
 is_kept finished line = nat_le (length finished + length (with_end line)) most_kept_bytes
 
 -- the finished lines with that one, if it is added
-abbrev pub kept_behind : List ℕ → List ℕ → List ℕ
-kept_behind finished line = if is_kept finished line then finished ++ with_end line else finished
+abbrev pub with_kept : List ℕ → List ℕ → List ℕ
+with_kept finished line = if is_kept finished line then finished ++ with_end line else finished
 
 -- whether there is a finished line
 abbrev pub has_line : ConsoleState → Bool
 has_line c = not (length c.finished == 0)
 
 -- the first finished line without its end, and the console without that line and its end
-abbrev pub front_line : ConsoleState → List ℕ
-front_line c = take (line_length c.finished) c.finished
+abbrev pub first_line : ConsoleState → List ℕ
+first_line c = take (line_length c.finished) c.finished
 
 abbrev pub line_dropped : ConsoleState → ConsoleState
 line_dropped c = record c { finished = drop (line_length c.finished + 1) c.finished }

@@ -7,7 +7,7 @@ ghost use Rattle.con_line.specs.declared.console.ByteDone.TheVariants as done;
 ghost use Rattle.con_line.specs.State.{console_of, opening_console};
 ghost use Rattle.con_line.specs.Keys.{after_key, after_byte, echo_of, byte_echo, done_by, byte_done};
 ghost use Rattle.con_line.specs.Keys.{erased, erase_echo, typed, type_echo};
-ghost use Rattle.con_line.specs.Lines.{KeepsLines, is_kept, kept_behind, laid_in, front_line as front_line_of, line_dropped, has_line as has_line_lem};
+ghost use Rattle.con_line.specs.Lines.{KeepsLines, is_kept, with_kept, laid_in, first_line as first_line_of, line_dropped, has_line as has_line_lem};
 ghost use Rattle.con_line.specs.Effect.{Leaves};
 
 use crate::finished::Finished;
@@ -97,17 +97,17 @@ impl Console {
     /// Copies the first finished line to the beginning of `dst`, without its 0x0A; the line stays.
     /// Returns its length in bytes. If there is no finished line, it returns `None`, and `dst` is
     /// as it was.
-    pub fn front_line(&self, dst: &mut [u8; LINE_ROOM]) -> Option<u32>
-        ensures count { result ≡ (if has_line_lem self.now then Some (length (front_line_of self.now)) else None) }
-        ensures line { dst.new ≡ laid_in (front_line_of self.now) dst.old }
+    pub fn first_line(&self, dst: &mut [u8; LINE_ROOM]) -> Option<u32>
+        ensures count { result ≡ (if has_line_lem self.now then Some (length (first_line_of self.now)) else None) }
+        ensures line { dst.new ≡ laid_in (first_line_of self.now) dst.old }
         ensures none { result ≡ None → dst.new ≡ dst.old }
-        ensures short { length (front_line_of self.now) ≤ longest_line }
+        ensures short { length (first_line_of self.now) ≤ longest_line }
     {
         if self.finished.is_empty() {
             return None;
         }
-        let len = self.finished.front_len();
-        self.finished.copy_front(&mut dst[..len]);
+        let len = self.finished.first_len();
+        self.finished.copy_first(&mut dst[..len]);
         Some(len as u32)
     }
 
@@ -117,7 +117,7 @@ impl Console {
         ensures dropped { result ≡ has_line_lem self.old }
     {
         let kept = !self.finished.is_empty();
-        self.finished.drop_front();
+        self.finished.drop_first();
         kept
     }
 
@@ -186,7 +186,7 @@ fn end_line(
 ) -> ByteDone
     requires { 3 ≤ echo.old.room }
     ensures edited { edited.new.items ≡ [] }
-    ensures finished { finished.new ≡ kept_behind finished.old edited.old.items }
+    ensures finished { finished.new ≡ with_kept finished.old edited.old.items }
     ensures done { result ≡ (if is_kept finished.old edited.old.items then done.Line else done.Kept) }
     ensures echo { Added 3 echo.old echo.new (10 ∷ []) }
 {

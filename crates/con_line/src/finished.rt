@@ -2,7 +2,7 @@
 
 ghost use Rattle.std.specs.Prelude.{◌≡◌, ◌≤◌, ◌+◌, ◌==◌, [], length, take, drop, IfOk};
 ghost use Rattle.wind_base.specs.Lines.{line_length};
-ghost use Rattle.con_line.specs.Lines.{is_kept, kept_behind};
+ghost use Rattle.con_line.specs.Lines.{is_kept, with_kept};
 
 use circular_buffer::HeapCircularBuffer;
 use std::alloc::Global;
@@ -54,7 +54,7 @@ impl Finished {
     /// nothing changes.
     pub(crate) fn keep(&mut self, line: &[u8]) -> bool
         ensures kept { result ≡ is_kept self.old line.now }
-        ensures lines { self.new ≡ kept_behind self.old line.now }
+        ensures lines { self.new ≡ with_kept self.old line.now }
     {
         if self.ring.capacity() - self.ring.len() <= line.len() {
             return false;
@@ -65,7 +65,7 @@ impl Finished {
     }
 
     /// The length of the first line in bytes, without its end.
-    pub(crate) fn front_len(&self) -> usize
+    pub(crate) fn first_len(&self) -> usize
         ensures exact { result ≡ line_length self.now }
         ensures inside { result ≤ length self.now }
     {
@@ -73,7 +73,7 @@ impl Finished {
     }
 
     /// Copies the first bytes, as many as `dst` takes.
-    pub(crate) fn copy_front(&self, dst: &mut [u8])
+    pub(crate) fn copy_first(&self, dst: &mut [u8])
         requires { length dst.old ≤ length self.now }
         ensures { dst.new ≡ take (length dst.old) self.now }
     {
@@ -85,10 +85,10 @@ impl Finished {
     }
 
     /// Drops the first line with its end.
-    pub(crate) fn drop_front(&mut self)
+    pub(crate) fn drop_first(&mut self)
         ensures { self.new ≡ drop (line_length self.old + 1) self.old }
     {
-        let left = self.ring.len().saturating_sub(self.front_len() + 1);
+        let left = self.ring.len().saturating_sub(self.first_len() + 1);
         self.ring.truncate_front(left);
     }
 }

@@ -1,6 +1,6 @@
 //! What follows from the console's definitions alone, whatever its code does.
 
-ghost use Rattle.con_line.specs.Laws.{StartLaw, ByteLaw, DropLaw, MadeLaw, SplitLaw, FrontLaw};
+ghost use Rattle.con_line.specs.Laws.{StartLaw, ByteLaw, DropLaw, MadeLaw, SplitLaw, FirstLineLaw};
 
 /// The law of the invariant: a console has it before its first byte, and every byte and the
 /// dropping of a line keep it.
@@ -16,5 +16,5 @@ pub fn kept_law()
 pub fn lines_law()
     ensures made { MadeLaw }
     ensures split { SplitLaw }
-    ensures front { FrontLaw }
+    ensures first { FirstLineLaw }
 {}

@@ -59,8 +59,8 @@ value_at [] k g ys none = rw (eq-eqb k k refl) refl
 value_at (x ∷ xs) k g ys none = let here = absent_cons k x xs none in rw here.0 (value_at xs k g ys here.1)
 
 hold_at : (xs : Cells) (k g h : ℕ) (ys : Cells) → Absent k xs → Absent k ys → hold k h (xs ++ (k, g) ∷ ys) ≡ xs ++ (k, h) ∷ ys
-hold_at [] k g h ys front back = rw (eq-eqb k k refl) (ap (λ zs. (k, h) ∷ zs) (not_there cell_key ys k (λ x. (x.0, h)) back))
-hold_at (x ∷ xs) k g h ys front back = let here = absent_cons k x xs front in rw here.0 (ap (λ zs. x ∷ zs) (hold_at xs k g h ys here.1 back))
+hold_at [] k g h ys prefix back = rw (eq-eqb k k refl) (ap (λ zs. (k, h) ∷ zs) (not_there cell_key ys k (λ x. (x.0, h)) back))
+hold_at (x ∷ xs) k g h ys prefix back = let here = absent_cons k x xs prefix in rw here.0 (ap (λ zs. x ∷ zs) (hold_at xs k g h ys here.1 back))
 
 put_at : (xs : Cells) (next : Option ℕ) (cell : ℕ × ℕ) (ys : Cells) → next ≡ first_key ys → Apart (xs ++ ys) → put_before next cell (xs ++ ys) ≡ xs ++ cell ∷ ys
 put_at [] next cell [] e a = refl
@@ -75,15 +75,15 @@ put_at (x ∷ xs) next cell ys e a =
 -- ---- the place of a wake
 -- the given number of tasks was passed: `next` is the first of the rest, and the wake is `left` ticks after the last one passed
 pub record Passed (c : Cells) (wake : ℕ) (next : Option ℕ) (left passed : ℕ) : Type 0 where
-  pub front : Cells
+  pub prefix : Cells
   pub back : Cells
-  pub whole : c ≡ front ++ back
+  pub whole : c ≡ prefix ++ back
   pub next_is : next ≡ first_key back
-  pub sum : total front + left ≡ wake
-  pub count : length front ≡ passed
+  pub sum : total prefix + left ≡ wake
+  pub count : length prefix ≡ passed
 
 pub none_passed : (c : Cells) (wake : ℕ) → Passed c wake (first_key c) wake 0
-none_passed c wake = record { front = []; back = c; whole = refl; next_is = refl; sum = omega arith; count = refl }
+none_passed c wake = record { prefix = []; back = c; whole = refl; next_is = refl; sum = omega arith; count = refl }
 
 -- ---- a task is added
 -- the list with a smaller or greater gap before its first task
@@ -125,7 +125,7 @@ shift_first f room xs y ys a =
 
 pub task_came : (c : Cells) (room who wake : ℕ) (next : Option ℕ) (left : ℕ) → Apart c → Absent who c → IsPlace c wake next left → Came (record { chains = c ∷ []; room = room }) who wake next left
 task_came c room who wake next left a none place =
-    let xs = place.front in
+    let xs = place.prefix in
     let t : Chains ℕ = record { chains = c ∷ []; room = room } in
     let a' = subst Apart place.whole a in
     let put : with_cell t 0 next (who, left) ≡ record { chains = (xs ++ (who, left) ∷ place.back) ∷ []; room = room } =
@@ -137,26 +137,26 @@ task_came c room who wake next left a none place =
       wakes = came 0 who left wake xs place.back (omega (arith, place.sum)) place.later ∙ ap (λ zs. put_in (wakes_from 0 zs) (who, wake)) (sym place.whole);
     }
   where
-    shifted : (ys : Cells) → Apart (place.front ++ (who, left) ∷ ys)
-        → with_gap (record { chains = (place.front ++ (who, left) ∷ ys) ∷ []; room = room }) (first_key ys) (λ gap. gap - left) ≡ record { chains = (place.front ++ (who, left) ∷ less_first left ys) ∷ []; room = room }
+    shifted : (ys : Cells) → Apart (place.prefix ++ (who, left) ∷ ys)
+        → with_gap (record { chains = (place.prefix ++ (who, left) ∷ ys) ∷ []; room = room }) (first_key ys) (λ gap. gap - left) ≡ record { chains = (place.prefix ++ (who, left) ∷ less_first left ys) ∷ []; room = room }
     shifted [] b = refl
     shifted (y ∷ ys) b =
-        let e = append_assoc place.front ((who, left) ∷ []) (y ∷ ys) in
+        let e = append_assoc place.prefix ((who, left) ∷ []) (y ∷ ys) in
         ap {A = Cells} (λ zs. with_gap (record { chains = zs ∷ []; room = room }) (Some y.0) (λ gap. gap - left)) (sym e)
-        ∙ shift_first (λ gap. gap - left) room (place.front ++ (who, left) ∷ []) y ys (subst Apart (sym e) b)
-        ∙ ap {B = Chains ℕ} (λ zs. record { chains = zs ∷ []; room = room }) (append_assoc place.front ((who, left) ∷ []) ((y.0, y.1 - left) ∷ ys))
+        ∙ shift_first (λ gap. gap - left) room (place.prefix ++ (who, left) ∷ []) y ys (subst Apart (sym e) b)
+        ∙ ap {B = Chains ℕ} (λ zs. record { chains = zs ∷ []; room = room }) (append_assoc place.prefix ((who, left) ∷ []) ((y.0, y.1 - left) ∷ ys))
 
 -- ---- a task is removed
 went : (b who gap : ℕ) (xs ys : Cells) → Absent who xs → Absent who ys → wakes_from b (xs ++ more_first gap ys) ≡ taken_out (wakes_from b (xs ++ (who, gap) ∷ ys)) who
-went b who gap [] [] front back = rw (eq-eqb who who refl) refl
-went b who gap [] (y ∷ ys) front back =
+went b who gap [] [] prefix back = rw (eq-eqb who who refl) refl
+went b who gap [] (y ∷ ys) prefix back =
     let same : b + (y.1 + gap) ≡ b + gap + y.1 = omega arith in
     let others : of_id task_id (wakes_from (b + gap) (y ∷ ys)) who ≡ None = unmapped (of_id task_id (wakes_from (b + gap) (y ∷ ys)) who) (no_wake (b + gap) who (y ∷ ys) (ap (option_map (λ (c : ℕ × ℕ). c.1)) back)) in
     (λ i. (y.0, same i) ∷ wakes_from (same i) ys)
     ∙ sym (none_without task_id (wakes_from (b + gap) (y ∷ ys)) who others)
     ∙ sym (ap (λ t. cond (not t) ((who, b + gap) ∷ taken_out (wakes_from (b + gap) (y ∷ ys)) who) (taken_out (wakes_from (b + gap) (y ∷ ys)) who)) (eq-eqb who who refl))
-went b who gap (x ∷ xs) ys front back =
-    let here = absent_cons who x xs front in
+went b who gap (x ∷ xs) ys prefix back =
+    let here = absent_cons who x xs prefix in
     ap (λ zs. (x.0, b + x.1) ∷ zs) (went (b + x.1) who gap xs ys here.1 back)
     ∙ sym (ap (λ t. cond (not t) ((x.0, b + x.1) ∷ taken_out (wakes_from (b + x.1) (xs ++ (who, gap) ∷ ys)) who) (taken_out (wakes_from (b + x.1) (xs ++ (who, gap) ∷ ys)) who)) here.0)
 
@@ -169,14 +169,14 @@ pub task_went : (c : Cells) (room who gap : ℕ) (next : Option ℕ) (xs ys : Ce
 task_went c room who gap next xs ys a whole next_is =
     let t : Chains ℕ = record { chains = c ∷ []; room = room } in
     let a' = subst Apart whole a in
-    let front = apart_middle xs (who, gap) ys a' in
+    let prefix = apart_middle xs (who, gap) ys a' in
     let back = (apart_back xs ((who, gap) ∷ ys) a').0 in
     let gone : without_cell t who ≡ record { chains = (xs ++ ys) ∷ []; room = room } =
     ap {B = Chains ℕ} (λ zs. record { chains = zs ∷ []; room = room }) (ap (λ zs. without cell_key zs who) whole ∙ without_middle xs (who, gap) ys a') in
     record {
       list = xs ++ more_first gap ys;
       chains = (λ i. with_gap (gone i) (next_is i) (λ g. g + gap)) ∙ shifted ys (apart_remove xs (who, gap) ys a');
-      wakes = went 0 who gap xs ys front back ∙ ap (λ zs. taken_out (wakes_from 0 zs) who) (sym whole);
+      wakes = went 0 who gap xs ys prefix back ∙ ap (λ zs. taken_out (wakes_from 0 zs) who) (sym whole);
     }
   where
     shifted : (zs : Cells) → Apart (xs ++ zs) → with_gap (record { chains = (xs ++ zs) ∷ []; room = room }) (first_key zs) (λ g. g + gap) ≡ record { chains = (xs ++ more_first gap zs) ∷ []; room = room }
@@ -220,7 +220,7 @@ pub record Coming (t : Chains ℕ) (who wake : ℕ) (next : Option ℕ) (left : 
 
 coming_single : (c : Cells) (room who wake : ℕ) (next : Option ℕ) (left : ℕ) → Apart c → Absent who c → IsPlace c wake next left → Coming (single c room) who wake next left
 coming_single c room who wake next left a none place =
-    let xs = place.front in
+    let xs = place.prefix in
     let a' = subst Apart place.whole a in
     let list : put_before next (who, left) c ≡ xs ++ (who, left) ∷ place.back = ap (put_before next (who, left)) place.whole ∙ put_at xs next (who, left) place.back place.next_is a' in
     let more = apart_insert xs (who, left) place.back a' (subst (Absent who) place.whole none) in
@@ -232,14 +232,14 @@ coming_single c room who wake next left a none place =
       came = task_came c room who wake next left a none place;
     }
   where
-    there : {x : ℕ} (ys : Cells) → ((gap : ℕ) → first_value ys ≡ Some gap → left < gap) → first_key ys ≡ Some x → Apart (place.front ++ (who, left) ∷ ys) → IsSomeAnd (value_in (place.front ++ (who, left) ∷ ys) x) (λ gap. left ≤ gap)
+    there : {x : ℕ} (ys : Cells) → ((gap : ℕ) → first_value ys ≡ Some gap → left < gap) → first_key ys ≡ Some x → Apart (place.prefix ++ (who, left) ∷ ys) → IsSomeAnd (value_in (place.prefix ++ (who, left) ∷ ys) x) (λ gap. left ≤ gap)
     there {x} [] later e b = absurd (cc)
     there {x} (y ∷ ys) later e b =
-        let joined = append_assoc place.front ((who, left) ∷ []) (y ∷ ys) in
+        let joined = append_assoc place.prefix ((who, left) ∷ []) (y ∷ ys) in
         let less : left < y.1 = later y.1 refl in
-        subst (λ k. IsSomeAnd (value_in (place.front ++ (who, left) ∷ y ∷ ys) k) (λ gap. left ≤ gap)) (same_Some y.0 x e)
-        (some_and (λ gap. left ≤ gap) (value_in (place.front ++ (who, left) ∷ y ∷ ys) y.0) y.1
-        (ap (λ zs. value_in zs y.0) (sym joined) ∙ value_at (place.front ++ (who, left) ∷ []) y.0 y.1 ys (apart_middle (place.front ++ (who, left) ∷ []) y ys (subst Apart (sym joined) b)))
+        subst (λ k. IsSomeAnd (value_in (place.prefix ++ (who, left) ∷ y ∷ ys) k) (λ gap. left ≤ gap)) (same_Some y.0 x e)
+        (some_and (λ gap. left ≤ gap) (value_in (place.prefix ++ (who, left) ∷ y ∷ ys) y.0) y.1
+        (ap (λ zs. value_in zs y.0) (sym joined) ∙ value_at (place.prefix ++ (who, left) ∷ []) y.0 y.1 ys (apart_middle (place.prefix ++ (who, left) ∷ []) y ys (subst Apart (sym joined) b)))
         (omega (arith, less)))
 
 pub coming : (t : Chains ℕ) (who wake : ℕ) (next : Option ℕ) (left : ℕ) → length t.chains ≡ 1 → Apart (chain_at t.chains 0) → value_of t.chains who ≡ None → IsPlace (chain_at t.chains 0) wake next left → Coming t who wake next left
@@ -250,9 +250,9 @@ coming t who wake next left one a none place =
 pub next_there : (c : Cells) (wake : ℕ) (next : Option ℕ) (left x : ℕ) → IsPlace c wake next left → next ≡ Some x → IsSome (value_in c x)
 next_there c wake next left x place e = subst (λ zs. IsSome (value_in zs x)) (sym place.whole) (there place.back (sym place.next_is ∙ e))
   where
-    there : (ys : Cells) → first_key ys ≡ Some x → IsSome (value_in (place.front ++ ys) x)
+    there : (ys : Cells) → first_key ys ≡ Some x → IsSome (value_in (place.prefix ++ ys) x)
     there [] q = absurd (cc)
-    there (y ∷ ys) q = subst (λ k. IsSome (value_in (place.front ++ y ∷ ys) k)) (same_Some y.0 x q) (value_there place.front y.0 y.1 ys)
+    there (y ∷ ys) q = subst (λ k. IsSome (value_in (place.prefix ++ y ∷ ys) k)) (same_Some y.0 x q) (value_there place.prefix y.0 y.1 ys)
 
 -- what is known of a list while a task is removed
 pub record Going (t : Chains ℕ) (who : ℕ) (next : Option ℕ) (gap : ℕ) : Type 0 where
@@ -280,9 +280,9 @@ pub going : (t : Chains ℕ) (who gap : ℕ) (next : Option ℕ) → IsTimed t.c
 going t who gap next is a value after =
     let found = found_list t.chains who gap value in
     let zero_is : found.list ≡ 0 = omega (arith, found.within, is.one) in
-    let whole = subst (λ l. chain_at t.chains l ≡ found.spot.front ++ (who, gap) ∷ found.spot.back) zero_is found.spot.whole in
+    let whole = subst (λ l. chain_at t.chains l ≡ found.spot.prefix ++ (who, gap) ∷ found.spot.back) zero_is found.spot.whole in
     subst (λ u. Going u who next gap) (sym (is_single t is.one))
-    (going_single (chain_at t.chains 0) t.room who gap next found.spot.front found.spot.back a whole (after 0 found.spot.front found.spot.back gap whole) is.wakes)
+    (going_single (chain_at t.chains 0) t.room who gap next found.spot.prefix found.spot.back a whole (after 0 found.spot.prefix found.spot.back gap whole) is.wakes)
 
 -- removing a task that isn't there changes nothing
 pub none_goes : (t : Chains ℕ) (who : ℕ) → length t.chains ≡ 1 → value_of t.chains who ≡ None → without_cell t who ≡ t
@@ -328,25 +328,25 @@ pub passed_value : (cs : List Cells) (wake : ℕ) (next : Option ℕ) (left pass
 passed_value cs wake next left passed id one p e =
     subst (λ zs. IsSome (value_in zs id)) (sym (one_cells cs one ∙ p.whole)) (there p.back (sym p.next_is ∙ e))
   where
-    there : (ys : Cells) → first_key ys ≡ Some id → IsSome (value_in (p.front ++ ys) id)
+    there : (ys : Cells) → first_key ys ≡ Some id → IsSome (value_in (p.prefix ++ ys) id)
     there [] q = absurd (cc)
-    there (y ∷ ys) q = subst (λ k. IsSome (value_in (p.front ++ y ∷ ys) k)) (same_Some y.0 id q) (value_there p.front y.0 y.1 ys)
+    there (y ∷ ys) q = subst (λ k. IsSome (value_in (p.prefix ++ y ∷ ys) k)) (same_Some y.0 id q) (value_there p.prefix y.0 y.1 ys)
 
 -- the first task that wasn't passed, with its gap
-pub record Further (c front : Cells) (id gap : ℕ) (back : Cells) : Type 0 where
+pub record Further (c prefix : Cells) (id gap : ℕ) (back : Cells) : Type 0 where
   pub rest : Cells
   pub back_is : back ≡ (id, gap) ∷ rest
 
 pub further : (cs : List Cells) (wake : ℕ) (next : Option ℕ) (left passed id gap : ℕ) → length cs ≡ 1 → Apart (chain_at cs 0) → (p : Passed (chain_at cs 0) wake next left passed) → next ≡ Some id → value_of cs id ≡ Some gap
-    → Further (chain_at cs 0) p.front id gap p.back
+    → Further (chain_at cs 0) p.prefix id gap p.back
 further cs wake next left passed id gap one a p e value =
     seen p.back (sym p.next_is ∙ e) (subst Apart p.whole a) (ap (λ zs. value_in zs id) (sym (one_cells cs one ∙ p.whole)) ∙ value)
   where
-    seen : (ys : Cells) → first_key ys ≡ Some id → Apart (p.front ++ ys) → value_in (p.front ++ ys) id ≡ Some gap → Further (chain_at cs 0) p.front id gap ys
+    seen : (ys : Cells) → first_key ys ≡ Some id → Apart (p.prefix ++ ys) → value_in (p.prefix ++ ys) id ≡ Some gap → Further (chain_at cs 0) p.prefix id gap ys
     seen [] q b v = absurd (cc)
     seen (y ∷ ys) q b v =
         let key = same_Some y.0 id q in
-        let held = same_Some y.1 gap (sym (value_at p.front y.0 y.1 ys (apart_middle p.front y ys b)) ∙ ap (value_in (p.front ++ y ∷ ys)) key ∙ v) in
+        let held = same_Some y.1 gap (sym (value_at p.prefix y.0 y.1 ys (apart_middle p.prefix y ys b)) ∙ ap (value_in (p.prefix ++ y ∷ ys)) key ∙ v) in
         record { rest = ys; back_is = λ i. (key i, held i) ∷ ys }
 
 total-push : (xs : Cells) (y : ℕ × ℕ) → total (xs ++ y ∷ []) ≡ total xs + y.1
@@ -357,14 +357,14 @@ pub passed_more : (cs : List Cells) (wake : ℕ) (next after : Option ℕ) (left
     → gap ≤ left → NextIs cs id after → Passed (chain_at cs 0) wake after (left - gap) (passed + 1)
 passed_more cs wake next after left passed id gap one a p e value few follows =
     let f = further cs wake next left passed id gap one a p e value in
-    let whole = p.whole ∙ ap (λ zs. p.front ++ zs) f.back_is in
+    let whole = p.whole ∙ ap (λ zs. p.prefix ++ zs) f.back_is in
     record {
-      front = p.front ++ (id, gap) ∷ [];
+      prefix = p.prefix ++ (id, gap) ∷ [];
       back = f.rest;
-      whole = whole ∙ sym (append_assoc p.front ((id, gap) ∷ []) f.rest);
-      next_is = follows 0 p.front f.rest gap whole;
-      sum = omega (arith, p.sum, few, total-push p.front (id, gap));
-      count = omega (arith, p.count, length-append p.front ((id, gap) ∷ []));
+      whole = whole ∙ sym (append_assoc p.prefix ((id, gap) ∷ []) f.rest);
+      next_is = follows 0 p.prefix f.rest gap whole;
+      sum = omega (arith, p.sum, few, total-push p.prefix (id, gap));
+      count = omega (arith, p.count, length-append p.prefix ((id, gap) ∷ []));
     }
 
 pub placed : (cs : List Cells) (wake : ℕ) (next : Option ℕ) (left passed id gap : ℕ) → length cs ≡ 1 → Apart (chain_at cs 0) → Passed (chain_at cs 0) wake next left passed → next ≡ Some id → value_of cs id ≡ Some gap → left < gap
@@ -372,7 +372,7 @@ pub placed : (cs : List Cells) (wake : ℕ) (next : Option ℕ) (left passed id 
 placed cs wake next left passed id gap one a p e value less =
     let f = further cs wake next left passed id gap one a p e value in
     record {
-      front = p.front;
+      prefix = p.prefix;
       back = p.back;
       whole = p.whole;
       next_is = p.next_is;

@@ -20,11 +20,11 @@ pub record IsTimed (cs : List (List (ℕ × ℕ))) : Type 0 where
 
 -- the place of a wake: after all tasks with that wake or an earlier one, and the given number of ticks after the last of them
 pub record IsPlace (c : List (ℕ × ℕ)) (wake : ℕ) (next : Option ℕ) (left : ℕ) : Type 0 where
-  pub front : List (ℕ × ℕ)
+  pub prefix : List (ℕ × ℕ)
   pub back : List (ℕ × ℕ)
-  pub whole : c ≡ front ++ back
+  pub whole : c ≡ prefix ++ back
   pub next_is : next ≡ first_key back
-  pub sum : total front + left ≡ wake
+  pub sum : total prefix + left ≡ wake
   pub later : (gap : ℕ) → first_value back ≡ Some gap → left < gap
 
 -- the list with another gap before a task, if the task has a gap

@@ -3,7 +3,7 @@
 use Rattle.std.specs.Prelude.{ℕ, nat_le, if◌then◌else◌, List, [], ◌∷◌, Option, None, Some}
 use Rattle.std.specs.Option.{option_map}
 use Rattle.wind_lists.specs.Records as records
-use Rattle.wind_lists.specs.Arrivals.{put_behind}
+use Rattle.wind_lists.specs.Arrivals.{put_after}
 
 -- the tasks, each as its id and the tick at which it is due, and the room
 pub record Order : Type 0 where
@@ -24,7 +24,7 @@ wake_of ts id = option_map task_wake (records.of_id task_id ts id)
 
 -- the tasks with one more, after all with the same wake or an earlier one
 abbrev pub put_in : List (ℕ × ℕ) → ℕ × ℕ → List (ℕ × ℕ)
-put_in ts t = put_behind task_id task_wake ts t
+put_in ts t = put_after task_id task_wake ts t
 
 -- one more task, after all with the same wake or an earlier one
 abbrev pub with_task : Order → ℕ × ℕ → Order

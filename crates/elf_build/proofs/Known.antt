@@ -17,7 +17,7 @@ use Rattle.elf_build.specs.File.{tables_of, header_total, contents_of, symbols_o
 use Rattle.elf_build.specs.Buildable.{Buildable}
 use Rattle.elf_build.proofs.Good.{GoodRel, good_sects, good_syms, good_rels}
 use Rattle.elf_build.proofs.TableLemmas.{flat_tables, are_tables}
-use Rattle.elf_build.proofs.Stands.{Stands, stands_whole, stands_behind, part_is}
+use Rattle.elf_build.proofs.Stands.{Stands, stands_whole, stands_suffix, part_is}
 use Rattle.elf_build.proofs.EntryLemmas.{HeaderFits, header_is, length_symbol}
 use Rattle.elf_build.proofs.Spread.{Parts, Headers, headers_place, headers_count, names_number}
 use Rattle.elf_build.proofs.Names.{below}
@@ -73,13 +73,13 @@ known bytes m p h b =
     let w3 = p.names.within in
     let w4 = p.headers.within in
     let locals = locals_low 1 1 m.symbols (omega arith) in
-    let place = headers_place bytes (headers_at m) (header_total m) (n + 3) p.front (omega arith) in
-    let number = names_number bytes (headers_at m) (header_total m) (n + 3) p.front (omega arith) in
+    let place = headers_place bytes (headers_at m) (header_total m) (n + 3) p.header_fits (omega arith) in
+    let number = names_number bytes (headers_at m) (header_total m) (n + 3) p.header_fits (omega arith) in
     let names = header_is bytes (headers_at m) (n + 3) (strings_header 17 (names_at m) (length (names_of m.sections))) place h.names (strings_fit 17 (names_at m) (length (names_of m.sections)) (omega arith) (omega arith) (omega arith)) in
     let strings = header_is bytes (headers_at m) (n + 2) (strings_header 9 (strings_at m) (length (strings_of m.symbols))) place h.strings (strings_fit 9 (strings_at m) (length (strings_of m.symbols)) (omega arith) (omega arith) (omega arith)) in
     record {
       place_is = place;
-      count_is = headers_count bytes (headers_at m) (header_total m) (n + 3) p.front (omega arith);
+      count_is = headers_count bytes (headers_at m) (header_total m) (n + 3) p.header_fits (omega arith);
       number_is = number;
       null_is = header_is bytes (headers_at m) 0 null_header place h.null null_fits;
       symtab_is = header_is bytes (headers_at m) (n + 1) (symtab_header (symbols_at m) (length (symbols_of m.symbols)) (n + 2) (locals_end m.symbols)) place h.symtab
@@ -101,7 +101,7 @@ sects_held bytes m p h k b =
     sects_are bytes (names_of m.sections) (headers_at m) (header_total m) 1 33 52 m.sections
     (record { place_is = k.place_is; count_is = k.count_is; names_is = k.section_names_are; short = short; names_short = omega arith })
     (omega arith) h.sects
-    (stands_behind (names_of m.sections) 0 33 fixed_names (flat_map sect_name m.sections) (stands_whole (names_of m.sections)) refl)
+    (stands_suffix (names_of m.sections) 0 33 fixed_names (flat_map sect_name m.sections) (stands_whole (names_of m.sections)) refl)
     p.contents (good_sects m b)
 
 and_false : (a : Bool) → (a && false) ≡ false
@@ -203,8 +203,8 @@ syms_held bytes m p k b loads t =
       short = omega arith;
       loads = loads;
     })
-    (stands_behind bytes (symbols_at m) (symbols_at m + 16 * 1) none (symbols_from 1 m.symbols) p.symbols (omega arith))
-    (stands_behind (strings_of m.symbols) 0 1 (0 ∷ []) (flat_map sym_name m.symbols) (stands_whole (strings_of m.symbols)) refl)
+    (stands_suffix bytes (symbols_at m) (symbols_at m + 16 * 1) none (symbols_from 1 m.symbols) p.symbols (omega arith))
+    (stands_suffix (strings_of m.symbols) 0 1 (0 ∷ []) (flat_map sym_name m.symbols) (stands_whole (strings_of m.symbols)) refl)
     (good_syms m b)
 
 -- ---- relocations

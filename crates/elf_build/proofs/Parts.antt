@@ -6,15 +6,15 @@ use Rattle.elf_read.specs.declared.module.SymPlace.TheVariants.{Undefined, Absol
 use Rattle.elf_read.specs.declared.module.Rel.{Rel}
 use Rattle.elf_read.specs.declared.module.Module.{Module}
 use Rattle.elf_build.specs.Entries.{relocation_bytes}
-use Rattle.elf_build.specs.File.{header_total, contents_of, relocs_of, symbols_at, relocs_at, strings_at, names_at, headers_at, headers_of, front_of, file_of, rel_bytes, count_of}
+use Rattle.elf_build.specs.File.{header_total, contents_of, relocs_of, symbols_at, relocs_at, strings_at, names_at, headers_at, headers_of, elf_header, file_of, rel_bytes, count_of}
 use Rattle.elf_build.specs.Buildable.{Buildable}
 use Rattle.elf_read.specs.Modules.{IsPlaced}
 use Rattle.elf_build.specs.Writable.{Writable, parts_of, HasNumber}
 use Rattle.elf_build.proofs.Sizes.{length_flat}
 
-pub length_front : (headers count names : ℕ) → length (front_of headers count names) ≡ 52
-unfolding front_of
-length_front headers count names = refl
+pub length_elf_header : (headers count names : ℕ) → length (elf_header headers count names) ≡ 52
+unfolding elf_header
+length_elf_header headers count names = refl
 
 length_relocation : (r : Rel) → length (rel_bytes r) ≡ 12
 unfolding relocation_bytes
@@ -25,14 +25,14 @@ unfolding relocs_of
 length_relocs rs = length_flat rel_bytes 12 length_relocation rs
 
 -- the file, with its parts in the order in which they are written
-pub joined : (m : Module) → (front_of (headers_at m) (header_total m) (count_of m + 3) ++ parts_of m) ++ headers_of m ≡ file_of m
+pub joined : (m : Module) → (elf_header (headers_at m) (header_total m) (count_of m + 3) ++ parts_of m) ++ headers_of m ≡ file_of m
 unfolding parts_of file_of
 joined m = simp append_assoc
 
 pub length_file : (m : Module) → length (file_of m) ≡ headers_at m + length (headers_of m)
 unfolding file_of headers_at names_at strings_at relocs_at symbols_at
 length_file m =
-    let f = length_front (headers_at m) (header_total m) (count_of m + 3) in
+    let f = length_elf_header (headers_at m) (header_total m) (count_of m + 3) in
     simp length-append (omega arith)
 
 numbered : (ss : List Sect) (p : SymPlace) (value size : ℕ) → IsPlaced ss p value size → length ss < 4096 → HasNumber p
@@ -46,9 +46,9 @@ tables : (m : Module) → relocs_at m + 12 * length m.relocs ≤ headers_at m
 unfolding headers_at names_at strings_at
 tables m = let f = length_relocs m.relocs in omega arith
 
-in_front : (m : Module) → 52 + length (contents_of m.sections) ≤ headers_at m
+contents_before : (m : Module) → 52 + length (contents_of m.sections) ≤ headers_at m
 unfolding headers_at names_at strings_at relocs_at symbols_at
-in_front m = omega arith
+contents_before m = omega arith
 
 pub writable : (m : Module) → Buildable m → Writable m
 writable m b =
@@ -63,5 +63,5 @@ writable m b =
       relocs = λ k d l. let h = b.sound.relocs k d l in let s = h.symbol in let n = h.section in record { symbol = omega arith; section = omega arith };
       ends = let f = length_file m in let g = b.short in omega arith;
       tables = tables m;
-      front = let f = length_file m in let g = b.short in let h = in_front m in omega arith;
+      header_fits = let f = length_file m in let g = b.short in let h = contents_before m in omega arith;
     }

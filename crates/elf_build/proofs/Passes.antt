@@ -15,7 +15,7 @@ use Rattle.elf_read.specs.Rules.{length_rule, ident_from, ident_rule, machine_ru
 use Rattle.elf_read.specs.Tables.{header, header_place, is_loaded, symtab, symbol_count, has_name, is_zero, is_applied, rela_count}
 use Rattle.elf_read.specs.Contents.{ModuleOf}
 use Rattle.elf_build.specs.Entries.{header_bytes, kind_of}
-use Rattle.elf_build.specs.File.{RelocTable, tables_of, header_total, symbols_of, strings_of, names_of, symbols_at, relocs_at, strings_at, names_at, headers_at, count_of, front_of, file_of, null_header, symtab_header, strings_header, locals_end, table_header, table_headers, fixed_names}
+use Rattle.elf_build.specs.File.{RelocTable, tables_of, header_total, symbols_of, strings_of, names_of, symbols_at, relocs_at, strings_at, names_at, headers_at, count_of, elf_header, file_of, null_header, symtab_header, strings_header, locals_end, table_header, table_headers, fixed_names}
 use Rattle.elf_build.specs.Buildable.{Buildable}
 use Rattle.elf_build.specs.Laws.{ReadsBack}
 use Rattle.elf_build.proofs.Stands.{Stands, stands_in, half_is, byte_is}
@@ -28,50 +28,50 @@ use Rattle.elf_build.proofs.Relocs.{TableAt, tables_total}
 use Rattle.elf_build.proofs.Splits.{and_ok, when_not, each_header, total_zero}
 use Rattle.elf_read.proofs.Counting.{total_up}
 use Rattle.elf_build.proofs.Known.{Known, length_symbols, not_loaded, null_flags}
-use Rattle.elf_build.proofs.Parts.{length_front}
-use Rattle.elf_build.proofs.RoundTrip.{Held, held, table_flags, strings_flags, names_flags, kind_not_four, null_kind, table_kind, strings_kind, names_kind, none_in_front, module_holds}
+use Rattle.elf_build.proofs.Parts.{length_elf_header}
+use Rattle.elf_build.proofs.RoundTrip.{Held, held, table_flags, strings_flags, names_flags, kind_not_four, null_kind, table_kind, strings_kind, names_kind, none_in_header, module_holds}
 
 -- ---- the ELF header
 
 ident_by : (bytes : List ℕ) (i : ℕ) (m : ℕ) (ms : List ℕ) → slice_index bytes i ≡ m → ident_from (i + 1) ms bytes ≡ Ok tt → ident_from i (m ∷ ms) bytes ≡ Ok tt
 ident_by bytes i m ms h rest = and_ok (unless (slice_index bytes i == m) (NotElf i)) (ident_from (i + 1) ms bytes) (ap (λ b. unless b (NotElf i)) (equals (slice_index bytes i) m h)) rest
 
-front_byte : (bytes : List ℕ) (headers count names i x : ℕ) (ys : List ℕ) → Stands bytes 0 (front_of headers count names) → i ≤ 52 → drop i (front_of headers count names) ≡ x ∷ ys → slice_index bytes i ≡ x
-front_byte bytes headers count names i x ys s l e =
-    let w = length_front headers count names in
+elf_header_byte : (bytes : List ℕ) (headers count names i x : ℕ) (ys : List ℕ) → Stands bytes 0 (elf_header headers count names) → i ≤ 52 → drop i (elf_header headers count names) ≡ x ∷ ys → slice_index bytes i ≡ x
+elf_header_byte bytes headers count names i x ys s l e =
+    let w = length_elf_header headers count names in
     let z : 0 + i ≡ i = omega arith in
-    let inside = stands_in bytes 0 i (front_of headers count names) s (omega arith) in
+    let inside = stands_in bytes 0 i (elf_header headers count names) s (omega arith) in
     byte_is bytes i x ys (subst (λ k. Stands bytes k (x ∷ ys)) z (subst (Stands bytes (0 + i)) e inside))
 
-ident_passes : (bytes : List ℕ) (headers count names : ℕ) → Stands bytes 0 (front_of headers count names) → ident_rule bytes ≡ Ok tt
-unfolding front_of
+ident_passes : (bytes : List ℕ) (headers count names : ℕ) → Stands bytes 0 (elf_header headers count names) → ident_rule bytes ≡ Ok tt
+unfolding elf_header
 ident_passes bytes headers count names s =
-    let f = front_of headers count names in
-    ident_by bytes 0 0x7f (0x45 ∷ 0x4c ∷ 0x46 ∷ 1 ∷ 2 ∷ 1 ∷ []) (front_byte bytes headers count names 0 0x7f (drop 1 f) s (omega arith) refl)
-    (ident_by bytes 1 0x45 (0x4c ∷ 0x46 ∷ 1 ∷ 2 ∷ 1 ∷ []) (front_byte bytes headers count names 1 0x45 (drop 2 f) s (omega arith) refl)
-    (ident_by bytes 2 0x4c (0x46 ∷ 1 ∷ 2 ∷ 1 ∷ []) (front_byte bytes headers count names 2 0x4c (drop 3 f) s (omega arith) refl)
-    (ident_by bytes 3 0x46 (1 ∷ 2 ∷ 1 ∷ []) (front_byte bytes headers count names 3 0x46 (drop 4 f) s (omega arith) refl)
-    (ident_by bytes 4 1 (2 ∷ 1 ∷ []) (front_byte bytes headers count names 4 1 (drop 5 f) s (omega arith) refl)
-    (ident_by bytes 5 2 (1 ∷ []) (front_byte bytes headers count names 5 2 (drop 6 f) s (omega arith) refl)
-    (ident_by bytes 6 1 [] (front_byte bytes headers count names 6 1 (drop 7 f) s (omega arith) refl) refl))))))
+    let f = elf_header headers count names in
+    ident_by bytes 0 0x7f (0x45 ∷ 0x4c ∷ 0x46 ∷ 1 ∷ 2 ∷ 1 ∷ []) (elf_header_byte bytes headers count names 0 0x7f (drop 1 f) s (omega arith) refl)
+    (ident_by bytes 1 0x45 (0x4c ∷ 0x46 ∷ 1 ∷ 2 ∷ 1 ∷ []) (elf_header_byte bytes headers count names 1 0x45 (drop 2 f) s (omega arith) refl)
+    (ident_by bytes 2 0x4c (0x46 ∷ 1 ∷ 2 ∷ 1 ∷ []) (elf_header_byte bytes headers count names 2 0x4c (drop 3 f) s (omega arith) refl)
+    (ident_by bytes 3 0x46 (1 ∷ 2 ∷ 1 ∷ []) (elf_header_byte bytes headers count names 3 0x46 (drop 4 f) s (omega arith) refl)
+    (ident_by bytes 4 1 (2 ∷ 1 ∷ []) (elf_header_byte bytes headers count names 4 1 (drop 5 f) s (omega arith) refl)
+    (ident_by bytes 5 2 (1 ∷ []) (elf_header_byte bytes headers count names 5 2 (drop 6 f) s (omega arith) refl)
+    (ident_by bytes 6 1 [] (elf_header_byte bytes headers count names 6 1 (drop 7 f) s (omega arith) refl) refl))))))
 
-machine_passes : (bytes : List ℕ) (headers count names : ℕ) → Stands bytes 0 (front_of headers count names) → machine_rule bytes ≡ Ok tt
-unfolding front_of
+machine_passes : (bytes : List ℕ) (headers count names : ℕ) → Stands bytes 0 (elf_header headers count names) → machine_rule bytes ≡ Ok tt
+unfolding elf_header
 machine_passes bytes headers count names s =
-    let f = front_of headers count names in
+    let f = elf_header headers count names in
     let machine = half_is bytes 18 20 (drop 20 f) (stands_in bytes 0 18 f s (omega arith)) (omega arith) in
     ap (λ b. unless b (NotPpc 18)) (equals (half bytes 18) 20 machine)
 
-type_passes : (bytes : List ℕ) (headers count names : ℕ) → Stands bytes 0 (front_of headers count names) → type_rule bytes ≡ Ok tt
-unfolding front_of
+type_passes : (bytes : List ℕ) (headers count names : ℕ) → Stands bytes 0 (elf_header headers count names) → type_rule bytes ≡ Ok tt
+unfolding elf_header
 type_passes bytes headers count names s =
-    let f = front_of headers count names in
+    let f = elf_header headers count names in
     let type = half_is bytes 16 1 (drop 18 f) (stands_in bytes 0 16 f s (omega arith)) (omega arith) in
     ap (λ b. unless b (NotRel 16)) (equals (half bytes 16) 1 type)
 
-size_word : (bytes : List ℕ) (headers count names : ℕ) → Stands bytes 0 (front_of headers count names) → half bytes 46 ≡ 40
-unfolding front_of
-size_word bytes headers count names s = half_is bytes 46 40 (drop 48 (front_of headers count names)) (stands_in bytes 0 46 (front_of headers count names) s (omega arith)) (omega arith)
+size_word : (bytes : List ℕ) (headers count names : ℕ) → Stands bytes 0 (elf_header headers count names) → half bytes 46 ≡ 40
+unfolding elf_header
+size_word bytes headers count names s = half_is bytes 46 40 (drop 48 (elf_header headers count names)) (stands_in bytes 0 46 (elf_header headers count names) s (omega arith)) (omega arith)
 
 pub length_table_headers : (table at : ℕ) (ts : List RelocTable) → length (table_headers table at ts) ≡ 40 * length ts
 length_table_headers table at [] = refl
@@ -88,7 +88,7 @@ headers_pass bytes m h b =
     let count = h.facts.count_is in
     let number = h.facts.number_is in
     let place = h.facts.place_is in
-    let size = size_word bytes (headers_at m) (header_total m) (n + 3) h.parts.front in
+    let size = size_word bytes (headers_at m) (header_total m) (n + 3) h.parts.header_fits in
     let w = h.headers.relas.within in
     let l = length_table_headers (n + 1) (relocs_at m) (tables_of m.relocs) in
     and_ok (unless (half bytes 46 == 40) (BadSection 46)) (unless (not (half bytes 48 == 0)) (BadSection 48) and_then unless (nat_lt (half bytes 50) (half bytes 48)) (BadSection 50) and_then unless (nat_le (half bytes 48) 4096) (TooMany 48) and_then unless (nat_le (word bytes 32 + 40 * half bytes 48) (length bytes)) (Short 32))
@@ -299,7 +299,7 @@ total_low : (bytes : List ℕ) (m : Module) → Held bytes m → Buildable m →
 total_low bytes m h b i l =
     let n = count_of m in
     let gs = tables_of m.relocs in
-    let front = total_zero (n + 4) (rela_count bytes) (none_in_front bytes m h) in
+    let header_fits = total_zero (n + 4) (rela_count bytes) (none_in_header bytes m h) in
     let all = tables_total bytes (n + 4) gs h.relas in
     let flat = ap length (flat_tables m.relocs) in
     let few = b.sound.few_relocs in
@@ -349,21 +349,21 @@ no_rela bytes i k e d = ap (λ x. if x == 4 && is_loaded bytes (header bytes i).
 entries_pass : (bytes : List ℕ) (m : Module) → Held bytes m → each 0 (half bytes 48) (relocations_rule bytes) ≡ Ok tt
 entries_pass bytes m h =
     let n = count_of m in
-    let front = none_in_front bytes m h in
+    let header_fits = none_in_header bytes m h in
     each_passes bytes m (relocations_rule bytes) h
-    (no_entries bytes 0 (front 0 (omega arith)))
+    (no_entries bytes 0 (header_fits 0 (omega arith)))
     (λ i s x. no_entries bytes i (no_rela bytes i (kind_of s.body) x.kind (kind_not_four s.body)))
-    (no_entries bytes (n + 1) (front (n + 1) (omega arith)))
-    (no_entries bytes (n + 2) (front (n + 2) (omega arith)))
-    (no_entries bytes (n + 3) (front (n + 3) (omega arith)))
+    (no_entries bytes (n + 1) (header_fits (n + 1) (omega arith)))
+    (no_entries bytes (n + 2) (header_fits (n + 2) (omega arith)))
+    (no_entries bytes (n + 3) (header_fits (n + 3) (omega arith)))
     (relas_pass bytes m (relocations_rule bytes) h (λ i g x. x.right))
 
 -- ---- all of them
 
 long_passes : (bytes : List ℕ) (m : Module) → Held bytes m → length_rule bytes ≡ Ok tt
 long_passes bytes m h =
-    let w = h.parts.front.within in
-    let l = length_front (headers_at m) (header_total m) (count_of m + 3) in
+    let w = h.parts.header_fits.within in
+    let l = length_elf_header (headers_at m) (header_total m) (count_of m + 3) in
     ap (λ b. unless b (Short (length bytes))) (at_most 52 (length bytes) (omega arith))
 
 -- a list of rules that all hold
@@ -378,11 +378,11 @@ all_pass bytes m h b =
     rules_pass (rules_of bytes) (
       long_passes bytes m h,
       (
-        ident_passes bytes (headers_at m) (header_total m) (n + 3) h.parts.front,
+        ident_passes bytes (headers_at m) (header_total m) (n + 3) h.parts.header_fits,
         (
-          machine_passes bytes (headers_at m) (header_total m) (n + 3) h.parts.front,
+          machine_passes bytes (headers_at m) (header_total m) (n + 3) h.parts.header_fits,
           (
-            type_passes bytes (headers_at m) (header_total m) (n + 3) h.parts.front,
+            type_passes bytes (headers_at m) (header_total m) (n + 3) h.parts.header_fits,
             (
               headers_pass bytes m h b,
               (

@@ -22,7 +22,7 @@ use Rattle.elf_build.specs.File.{RelocTable, rel_bytes, table_header, table_head
 use Rattle.elf_read.specs.Modules.{HoldsBytes}
 use Rattle.elf_build.proofs.Good.{GoodRel}
 use Rattle.elf_build.proofs.TableLemmas.{relocs_in, IsRelocTable}
-use Rattle.elf_build.proofs.Stands.{Stands, stands_front, stands_behind}
+use Rattle.elf_build.proofs.Stands.{Stands, stands_prefix, stands_suffix}
 use Rattle.elf_build.proofs.EntryLemmas.{header_is, relocation_is, length_header, length_relocation}
 use Rattle.elf_build.proofs.Names.{or_true, and_true, not_false, equals, below, at_most, then_branch, all_first, all_rest}
 use Rattle.elf_build.proofs.Sections.{AllAt, gathered_are, each_are}
@@ -139,10 +139,10 @@ rels_are : (bytes : List ℕ) (sections : List Sect) (place table symbols i q at
 rels_are bytes sections place table symbols i q at j [] c o e s good of d = tt
 rels_are bytes sections place table symbols i q at j (r ∷ rs) c o e s good of d =
     let size = length_relocation (rel_entry r) in
-    let next = stands_behind bytes (at + 12 * q) (at + 12 * (q + 1)) (rel_bytes r) (flat_map rel_bytes rs) s (omega arith) in
+    let next = stands_suffix bytes (at + 12 * q) (at + 12 * (q + 1)) (rel_bytes r) (flat_map rel_bytes rs) s (omega arith) in
     let same = all_first (λ x. x.section ≡ j) r rs of in
     let n : j + 1 ≡ suc r.section = omega arith in (
-      rel_is bytes sections place table symbols i q at r c o (e ∙ n) (stands_front bytes (at + 12 * q) (rel_bytes r) (flat_map rel_bytes rs) s) (all_first (GoodRel sections symbols) r rs good) d,
+      rel_is bytes sections place table symbols i q at r c o (e ∙ n) (stands_prefix bytes (at + 12 * q) (rel_bytes r) (flat_map rel_bytes rs) s) (all_first (GoodRel sections symbols) r rs good) d,
       rels_are bytes sections place table symbols i (q + 1) at j rs c o e next (all_rest (GoodRel sections symbols) r rs good) (all_rest (λ x. x.section ≡ j) r rs of) d,
     )
 
@@ -234,11 +234,11 @@ section_low sections symbols t d of good =
     let same = of.same 0 d of.some in
     omega arith
 
-all_front : {X : Type 0} (P : X → Type 0) (xs ys : List X) → All P (xs ++ ys) → All P xs
-all_front P xs ys h = All-same P xs (take (length xs) (xs ++ ys)) (sym (take_at xs ys (length xs) refl)) (All-take P (length xs) (xs ++ ys) h)
+all_prefix : {X : Type 0} (P : X → Type 0) (xs ys : List X) → All P (xs ++ ys) → All P xs
+all_prefix P xs ys h = All-same P xs (take (length xs) (xs ++ ys)) (sym (take_at xs ys (length xs) refl)) (All-take P (length xs) (xs ++ ys) h)
 
-all_behind : {X : Type 0} (P : X → Type 0) (xs ys : List X) → All P (xs ++ ys) → All P ys
-all_behind P xs ys h = All-same P ys (drop (length xs) (xs ++ ys)) (sym (drop_at xs ys (length xs) refl)) (All-drop P (length xs) (xs ++ ys) h)
+all_suffix : {X : Type 0} (P : X → Type 0) (xs ys : List X) → All P (xs ++ ys) → All P ys
+all_suffix P xs ys h = All-same P ys (drop (length xs) (xs ++ ys)) (sym (drop_at xs ys (length xs) refl)) (All-drop P (length xs) (xs ++ ys) h)
 
 flat_parts : (t : RelocTable) (ts : List RelocTable) → flat_map rel_bytes (t.relocs ++ flat_map relocs_in ts) ≡ flat_map rel_bytes t.relocs ++ flat_map rel_bytes (flat_map relocs_in ts)
 flat_parts t ts = flat_map-append rel_bytes t.relocs (flat_map relocs_in ts)
@@ -249,16 +249,16 @@ tables_are bytes sections place table symbols i at (t ∷ ts) c h s good of d r 
     let here = header_bytes (table_header table at t.section (length t.relocs)) in
     let rest = table_headers table (at + 12 * length t.relocs) ts in
     let size = length_header (table_header table at t.section (length t.relocs)) in
-    let next = stands_behind bytes (place + 40 * i) (place + 40 * (i + 1)) here rest h (omega arith) in
+    let next = stands_suffix bytes (place + 40 * i) (place + 40 * (i + 1)) here rest h (omega arith) in
     let long = flat_length t.relocs in
     let both = subst (Stands bytes at) (flat_parts t ts) s in
-    let held = stands_front bytes at (flat_map rel_bytes t.relocs) (flat_map rel_bytes (flat_map relocs_in ts)) both in
-    let after = stands_behind bytes at (at + 12 * length t.relocs) (flat_map rel_bytes t.relocs) (flat_map rel_bytes (flat_map relocs_in ts)) both (omega arith) in
+    let held = stands_prefix bytes at (flat_map rel_bytes t.relocs) (flat_map rel_bytes (flat_map relocs_in ts)) both in
+    let after = stands_suffix bytes at (at + 12 * length t.relocs) (flat_map rel_bytes t.relocs) (flat_map rel_bytes (flat_map relocs_in ts)) both (omega arith) in
     let within = held.within in
     let one = all_first IsRelocTable t ts of in
-    let good_here = all_front (GoodRel sections symbols) t.relocs (flat_map relocs_in ts) good in
-    let good_rest = all_behind (GoodRel sections symbols) t.relocs (flat_map relocs_in ts) good in (
-      table_is_at bytes sections place table symbols i at t c (stands_front bytes (place + 40 * i) here rest h) held (omega arith) (section_low sections symbols t r one good_here) good_here one d,
+    let good_here = all_prefix (GoodRel sections symbols) t.relocs (flat_map relocs_in ts) good in
+    let good_rest = all_suffix (GoodRel sections symbols) t.relocs (flat_map relocs_in ts) good in (
+      table_is_at bytes sections place table symbols i at t c (stands_prefix bytes (place + 40 * i) here rest h) held (omega arith) (section_low sections symbols t r one good_here) good_here one d,
       tables_are bytes sections place table symbols (i + 1) (at + 12 * length t.relocs) ts c next after good_rest (all_rest IsRelocTable t ts of) d r,
     )
 

@@ -17,7 +17,7 @@ use Rattle.elf_build.proofs.Sections.{SectAt, AllAt, sects_gathered}
 use Rattle.elf_build.proofs.Symbols.{Loads, SymAt, syms_gathered}
 use Rattle.elf_build.proofs.TableLemmas.{flat_tables}
 use Rattle.elf_build.proofs.Relocs.{TableAt, tables_gathered}
-use Rattle.elf_build.proofs.Splits.{gathered_headers, gathered_none_at, front_headers}
+use Rattle.elf_build.proofs.Splits.{gathered_headers, gathered_none_at, prefix_headers}
 use Rattle.elf_build.proofs.Known.{Known, known, sects_held, loads_held, table_held, table_there, count_held, syms_held, relas_held, not_loaded, null_flags, sect_at, no_sect}
 
 -- what is known of a built file
@@ -124,9 +124,9 @@ pub names_kind : (bytes : List ℕ) (m : Module) → Known bytes m → (header b
 unfolding strings_header
 names_kind bytes m k = ap (λ h. h.kind) k.names_is
 
-pub none_in_front : (bytes : List ℕ) (m : Module) → Held bytes m → (i : ℕ) → i < count_of m + 4 → rela_count bytes i ≡ 0
-none_in_front bytes m h =
-    front_headers (count_of m) (λ i. rela_count bytes i ≡ 0)
+pub none_in_header : (bytes : List ℕ) (m : Module) → Held bytes m → (i : ℕ) → i < count_of m + 4 → rela_count bytes i ≡ 0
+none_in_header bytes m h =
+    prefix_headers (count_of m) (λ i. rela_count bytes i ≡ 0)
     (no_rels bytes 0 (ap (λ x. x == 4) (null_kind bytes m h.facts)))
     (λ k l. no_rels bytes (suc k) (ap (λ x. x == 4) (sect_at bytes m h.sects k l no_sect).kind ∙ kind_not_four (get_or m.sections k no_sect).body))
     (no_rels bytes (count_of m + 1) (ap (λ x. x == 4) (table_kind bytes m h.facts)))
@@ -137,18 +137,18 @@ relocs_hold : (bytes : List ℕ) (m : Module) → Held bytes m → gathered 0 (h
 relocs_hold bytes m h =
     let n = count_of m in
     let gs = tables_of m.relocs in
-    let front = none_in_front bytes m h in
+    let header_fits = none_in_header bytes m h in
     let relas : gathered (n + 4) (length gs) (rels_at bytes) ≡ m.relocs = tables_gathered bytes (n + 4) gs h.relas ∙ flat_tables m.relocs in
     let sects : gathered 1 n (rels_at bytes) ≡ [] =
     gathered_none_at (SectAt bytes) (rels_at bytes) 1 m.sections
     (λ j s x. no_rels_at bytes j (no_rels bytes j (ap (λ y. y == 4) x.kind ∙ kind_not_four s.body))) h.sects in
     ap (λ k. gathered 0 k (rels_at bytes)) h.facts.count_is
     ∙ gathered_headers n (length gs) (rels_at bytes) [] m.relocs
-    (no_rels_at bytes 0 (front 0 (omega arith)))
+    (no_rels_at bytes 0 (header_fits 0 (omega arith)))
     sects
-    (no_rels_at bytes (n + 1) (front (n + 1) (omega arith)))
-    (no_rels_at bytes (n + 2) (front (n + 2) (omega arith)))
-    (no_rels_at bytes (n + 3) (front (n + 3) (omega arith)))
+    (no_rels_at bytes (n + 1) (header_fits (n + 1) (omega arith)))
+    (no_rels_at bytes (n + 2) (header_fits (n + 2) (omega arith)))
+    (no_rels_at bytes (n + 3) (header_fits (n + 3) (omega arith)))
     relas
 
 same_module : (a m : Module) → a.sections ≡ m.sections → a.symbols ≡ m.symbols → a.relocs ≡ m.relocs → a ≡ m

@@ -20,7 +20,7 @@ use Rattle.elf_build.specs.File.{sect_headers, sect_name, sect_content}
 use Rattle.elf_read.specs.Modules.{IsName}
 use Rattle.elf_build.proofs.Good.{GoodSect}
 use Rattle.elf_read.proofs.AlignmentLemmas.{alignment_between}
-use Rattle.elf_build.proofs.Stands.{Stands, stands_front, stands_behind, part_is}
+use Rattle.elf_build.proofs.Stands.{Stands, stands_prefix, stands_suffix, part_is}
 use Rattle.elf_build.proofs.EntryLemmas.{HeaderFits, header_is, length_header}
 use Rattle.elf_build.proofs.Names.{or_true, and_true, not_false, differs, below, at_most, else_branch, then_branch, all_first, all_rest, name_is, name_there}
 
@@ -148,13 +148,13 @@ sects_are bytes names place count i name at (s ∷ ss) r l h n c good =
     let size = length_header (sect_header name at s) in
     let long = length-append s.name (0 ∷ []) in
     let headers = sect_headers (name + length s.name + 1) (at + length (sect_content s)) ss in
-    let next = stands_behind bytes (place + 40 * i) (place + 40 * (i + 1)) here headers h (omega arith) in
-    let names_next = stands_behind names name (name + length s.name + 1) (ended s.name) (flat_map sect_name ss) n (omega arith) in
-    let content_next = stands_behind bytes at (at + length (sect_content s)) (sect_content s) (flat_map sect_content ss) c refl in (
+    let next = stands_suffix bytes (place + 40 * i) (place + 40 * (i + 1)) here headers h (omega arith) in
+    let names_next = stands_suffix names name (name + length s.name + 1) (ended s.name) (flat_map sect_name ss) n (omega arith) in
+    let content_next = stands_suffix bytes at (at + length (sect_content s)) (sect_content s) (flat_map sect_content ss) c refl in (
       sect_is bytes names place count i name at s r (omega arith)
-          (stands_front bytes (place + 40 * i) here headers h)
-          (stands_front names name (ended s.name) (flat_map sect_name ss) n)
-          (stands_front bytes at (sect_content s) (flat_map sect_content ss) c)
+          (stands_prefix bytes (place + 40 * i) here headers h)
+          (stands_prefix names name (ended s.name) (flat_map sect_name ss) n)
+          (stands_prefix bytes at (sect_content s) (flat_map sect_content ss) c)
           (all_first GoodSect s ss good),
       sects_are bytes names place count (i + 1) (name + length s.name + 1) (at + length (sect_content s)) ss r (omega arith) next names_next content_next (all_rest GoodSect s ss good),
     )

@@ -80,9 +80,9 @@ split_at (suc n) zero = inl (omega arith)
 split_at (suc n) (suc k) = elim (split_at n k) [ inl l ↦ inl (omega arith) | inr q ↦ inr (q.0, (let a = q.1 in let e : suc k ≡ suc n + q.0 = omega arith in e)) ]
 
 -- a property of each header before those of the tables of relocations
-pub front_headers : (n : ℕ) (Q : ℕ → Type 0) → Q 0 → ((k : ℕ) → k < n → Q (suc k)) → Q (n + 1) → Q (n + 2) → Q (n + 3) → (i : ℕ) → i < n + 4 → Q i
-front_headers n Q q0 qs q1 q2 q3 zero l = q0
-front_headers n Q q0 qs q1 q2 q3 (suc k) l =
+pub prefix_headers : (n : ℕ) (Q : ℕ → Type 0) → Q 0 → ((k : ℕ) → k < n → Q (suc k)) → Q (n + 1) → Q (n + 2) → Q (n + 3) → (i : ℕ) → i < n + 4 → Q i
+prefix_headers n Q q0 qs q1 q2 q3 zero l = q0
+prefix_headers n Q q0 qs q1 q2 q3 (suc k) l =
     elim (split_at n k) [
       | inl below ↦ qs k below
       | inr q ↦ three n Q q1 q2 q3 k q.0 q.1 l

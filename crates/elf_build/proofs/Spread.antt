@@ -4,14 +4,14 @@ use Rattle.elf_read.specs.declared.module.Sect.{Sect}
 use Rattle.elf_read.specs.declared.module.Module.{Module}
 use Rattle.elf_read.specs.Places.{half, word}
 use Rattle.elf_build.specs.Entries.{header_bytes, sect_header}
-use Rattle.elf_build.specs.File.{tables_of, header_total, contents_of, symbols_of, relocs_of, strings_of, names_of, symbols_at, relocs_at, strings_at, names_at, headers_at, headers_of, front_of, file_of, count_of, sect_headers, table_headers, null_header, symtab_header, strings_header, locals_end, sect_content}
+use Rattle.elf_build.specs.File.{tables_of, header_total, contents_of, symbols_of, relocs_of, strings_of, names_of, symbols_at, relocs_at, strings_at, names_at, headers_at, headers_of, elf_header, file_of, count_of, sect_headers, table_headers, null_header, symtab_header, strings_header, locals_end, sect_content}
 use Rattle.elf_build.specs.Buildable.{Buildable}
-use Rattle.elf_build.proofs.Parts.{length_front}
-use Rattle.elf_build.proofs.Stands.{Stands, stands_whole, stands_front, stands_behind, stands_in, word_is, half_is}
+use Rattle.elf_build.proofs.Parts.{length_elf_header}
+use Rattle.elf_build.proofs.Stands.{Stands, stands_whole, stands_prefix, stands_suffix, stands_in, word_is, half_is}
 use Rattle.elf_build.proofs.EntryLemmas.{length_header}
 
 pub record Parts (bytes : List ℕ) (m : Module) : Type 0 where
-  pub front : Stands bytes 0 (front_of (headers_at m) (header_total m) (count_of m + 3))
+  pub header_fits : Stands bytes 0 (elf_header (headers_at m) (header_total m) (count_of m + 3))
   pub contents : Stands bytes 52 (contents_of m.sections)
   pub symbols : Stands bytes (symbols_at m) (symbols_of m.symbols)
   pub relocs : Stands bytes (relocs_at m) (relocs_of m.relocs)
@@ -23,7 +23,7 @@ pub record Parts (bytes : List ℕ) (m : Module) : Type 0 where
 pub parts_stand : (m : Module) → Buildable m → Parts (file_of m) m
 unfolding file_of symbols_at relocs_at strings_at names_at headers_at
 parts_stand m b =
-    let front = front_of (headers_at m) (header_total m) (count_of m + 3) in
+    let header_fits = elf_header (headers_at m) (header_total m) (count_of m + 3) in
     let s0 = stands_whole (file_of m) in
     let r6 = headers_of m in
     let r5 = names_of m.sections ++ r6 in
@@ -31,35 +31,35 @@ parts_stand m b =
     let r3 = relocs_of m.relocs ++ r4 in
     let r2 = symbols_of m.symbols ++ r3 in
     let r1 = contents_of m.sections ++ r2 in
-    let s1 = stands_behind (file_of m) 0 52 front r1 s0 (let e = length_front (headers_at m) (header_total m) (count_of m + 3) in omega arith) in
-    let s2 = stands_behind (file_of m) 52 (symbols_at m) (contents_of m.sections) r2 s1 refl in
-    let s3 = stands_behind (file_of m) (symbols_at m) (relocs_at m) (symbols_of m.symbols) r3 s2 refl in
-    let s4 = stands_behind (file_of m) (relocs_at m) (strings_at m) (relocs_of m.relocs) r4 s3 refl in
-    let s5 = stands_behind (file_of m) (strings_at m) (names_at m) (strings_of m.symbols) r5 s4 refl in
+    let s1 = stands_suffix (file_of m) 0 52 header_fits r1 s0 (let e = length_elf_header (headers_at m) (header_total m) (count_of m + 3) in omega arith) in
+    let s2 = stands_suffix (file_of m) 52 (symbols_at m) (contents_of m.sections) r2 s1 refl in
+    let s3 = stands_suffix (file_of m) (symbols_at m) (relocs_at m) (symbols_of m.symbols) r3 s2 refl in
+    let s4 = stands_suffix (file_of m) (relocs_at m) (strings_at m) (relocs_of m.relocs) r4 s3 refl in
+    let s5 = stands_suffix (file_of m) (strings_at m) (names_at m) (strings_of m.symbols) r5 s4 refl in
     record {
-      front = stands_front (file_of m) 0 front r1 s0;
-      contents = stands_front (file_of m) 52 (contents_of m.sections) r2 s1;
-      symbols = stands_front (file_of m) (symbols_at m) (symbols_of m.symbols) r3 s2;
-      relocs = stands_front (file_of m) (relocs_at m) (relocs_of m.relocs) r4 s3;
-      strings = stands_front (file_of m) (strings_at m) (strings_of m.symbols) r5 s4;
-      names = stands_front (file_of m) (names_at m) (names_of m.sections) r6 s5;
-      headers = stands_behind (file_of m) (names_at m) (headers_at m) (names_of m.sections) r6 s5 refl;
+      header_fits = stands_prefix (file_of m) 0 header_fits r1 s0;
+      contents = stands_prefix (file_of m) 52 (contents_of m.sections) r2 s1;
+      symbols = stands_prefix (file_of m) (symbols_at m) (symbols_of m.symbols) r3 s2;
+      relocs = stands_prefix (file_of m) (relocs_at m) (relocs_of m.relocs) r4 s3;
+      strings = stands_prefix (file_of m) (strings_at m) (strings_of m.symbols) r5 s4;
+      names = stands_prefix (file_of m) (names_at m) (names_of m.sections) r6 s5;
+      headers = stands_suffix (file_of m) (names_at m) (headers_at m) (names_of m.sections) r6 s5 refl;
       short = b.short;
     }
 
 -- ---- the ELF header
 
-pub headers_place : (bytes : List ℕ) (headers count names : ℕ) → Stands bytes 0 (front_of headers count names) → headers < 2 ^ 32 → word bytes 32 ≡ headers
-unfolding front_of
-headers_place bytes headers count names s h = word_is bytes 32 headers (drop 36 (front_of headers count names)) (stands_in bytes 0 32 (front_of headers count names) s (omega arith)) h
+pub headers_place : (bytes : List ℕ) (headers count names : ℕ) → Stands bytes 0 (elf_header headers count names) → headers < 2 ^ 32 → word bytes 32 ≡ headers
+unfolding elf_header
+headers_place bytes headers count names s h = word_is bytes 32 headers (drop 36 (elf_header headers count names)) (stands_in bytes 0 32 (elf_header headers count names) s (omega arith)) h
 
-pub headers_count : (bytes : List ℕ) (headers count names : ℕ) → Stands bytes 0 (front_of headers count names) → count < 2 ^ 16 → half bytes 48 ≡ count
-unfolding front_of
-headers_count bytes headers count names s h = half_is bytes 48 count (drop 50 (front_of headers count names)) (stands_in bytes 0 48 (front_of headers count names) s (omega arith)) h
+pub headers_count : (bytes : List ℕ) (headers count names : ℕ) → Stands bytes 0 (elf_header headers count names) → count < 2 ^ 16 → half bytes 48 ≡ count
+unfolding elf_header
+headers_count bytes headers count names s h = half_is bytes 48 count (drop 50 (elf_header headers count names)) (stands_in bytes 0 48 (elf_header headers count names) s (omega arith)) h
 
-pub names_number : (bytes : List ℕ) (headers count names : ℕ) → Stands bytes 0 (front_of headers count names) → names < 2 ^ 16 → half bytes 50 ≡ names
-unfolding front_of
-names_number bytes headers count names s h = half_is bytes 50 names [] (stands_in bytes 0 50 (front_of headers count names) s (omega arith)) h
+pub names_number : (bytes : List ℕ) (headers count names : ℕ) → Stands bytes 0 (elf_header headers count names) → names < 2 ^ 16 → half bytes 50 ≡ names
+unfolding elf_header
+names_number bytes headers count names s h = half_is bytes 50 names [] (stands_in bytes 0 50 (elf_header headers count names) s (omega arith)) h
 
 -- ---- the section headers
 
@@ -101,15 +101,15 @@ headers_stand bytes m s =
     let l2 = length_header (symtab_header (symbols_at m) (length (symbols_of m.symbols)) (n + 2) (locals_end m.symbols)) in
     let l3 = length_header (strings_header 9 (strings_at m) (length (strings_of m.symbols))) in
     let l4 = length_header (strings_header 17 (names_at m) (length (names_of m.sections))) in
-    let s1 = stands_behind bytes (p + 40 * 0) (p + 40 * 1) h0 r1 s0 (omega arith) in
-    let s2 = stands_behind bytes (p + 40 * 1) (p + 40 * (n + 1)) h1 r2 s1 (omega arith) in
-    let s3 = stands_behind bytes (p + 40 * (n + 1)) (p + 40 * (n + 2)) h2 r3 s2 (omega arith) in
-    let s4 = stands_behind bytes (p + 40 * (n + 2)) (p + 40 * (n + 3)) h3 r4 s3 (omega arith) in
+    let s1 = stands_suffix bytes (p + 40 * 0) (p + 40 * 1) h0 r1 s0 (omega arith) in
+    let s2 = stands_suffix bytes (p + 40 * 1) (p + 40 * (n + 1)) h1 r2 s1 (omega arith) in
+    let s3 = stands_suffix bytes (p + 40 * (n + 1)) (p + 40 * (n + 2)) h2 r3 s2 (omega arith) in
+    let s4 = stands_suffix bytes (p + 40 * (n + 2)) (p + 40 * (n + 3)) h3 r4 s3 (omega arith) in
     record {
-      null = stands_front bytes (p + 40 * 0) h0 r1 s0;
-      sects = stands_front bytes (p + 40 * 1) h1 r2 s1;
-      symtab = stands_front bytes (p + 40 * (n + 1)) h2 r3 s2;
-      strings = stands_front bytes (p + 40 * (n + 2)) h3 r4 s3;
-      names = stands_front bytes (p + 40 * (n + 3)) h4 r5 s4;
-      relas = stands_behind bytes (p + 40 * (n + 3)) (p + 40 * (n + 4)) h4 r5 s4 (omega arith);
+      null = stands_prefix bytes (p + 40 * 0) h0 r1 s0;
+      sects = stands_prefix bytes (p + 40 * 1) h1 r2 s1;
+      symtab = stands_prefix bytes (p + 40 * (n + 1)) h2 r3 s2;
+      strings = stands_prefix bytes (p + 40 * (n + 2)) h3 r4 s3;
+      names = stands_prefix bytes (p + 40 * (n + 3)) h4 r5 s4;
+      relas = stands_suffix bytes (p + 40 * (n + 3)) (p + 40 * (n + 4)) h4 r5 s4 (omega arith);
     }

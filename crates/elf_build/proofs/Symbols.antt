@@ -18,7 +18,7 @@ use Rattle.elf_build.specs.Entries.{symbol_bytes, sym_entry, number_of, ended}
 use Rattle.elf_read.specs.Modules.{size_of}
 use Rattle.elf_build.specs.File.{symbols_from, sym_name}
 use Rattle.elf_build.proofs.Good.{GoodSym, GoodPlace}
-use Rattle.elf_build.proofs.Stands.{Stands, stands_front, stands_behind}
+use Rattle.elf_build.proofs.Stands.{Stands, stands_prefix, stands_suffix}
 use Rattle.elf_build.proofs.EntryLemmas.{symbol_is, length_symbol}
 use Rattle.elf_build.proofs.Names.{or_true, or_first, and_true, not_false, differs, below, above, at_most, else_branch, then_branch, all_first, all_rest, name_is, name_there}
 use Rattle.elf_build.proofs.Sections.{AllAt, gathered_are}
@@ -221,11 +221,11 @@ syms_are bytes strings sections d place k name (s ∷ ss) r e n good =
     let rest = symbols_from (name + length s.name + 1) ss in
     let size = length_symbol (sym_entry name s) in
     let long = length-append s.name (0 ∷ []) in
-    let next = stands_behind bytes (place + 16 * k) (place + 16 * (k + 1)) here rest e (omega arith) in
-    let names_next = stands_behind strings name (name + length s.name + 1) (ended s.name) (flat_map sym_name ss) n (omega arith) in (
+    let next = stands_suffix bytes (place + 16 * k) (place + 16 * (k + 1)) here rest e (omega arith) in
+    let names_next = stands_suffix strings name (name + length s.name + 1) (ended s.name) (flat_map sym_name ss) n (omega arith) in (
       sym_is bytes strings sections d place k name s r
-          (stands_front bytes (place + 16 * k) here rest e)
-          (stands_front strings name (ended s.name) (flat_map sym_name ss) n)
+          (stands_prefix bytes (place + 16 * k) here rest e)
+          (stands_prefix strings name (ended s.name) (flat_map sym_name ss) n)
           (all_first (GoodSym sections) s ss good),
       syms_are bytes strings sections d place (k + 1) (name + length s.name + 1) ss r next names_next (all_rest (GoodSym sections) s ss good),
     )

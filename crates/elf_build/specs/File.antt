@@ -226,8 +226,8 @@ headers_of m =
     ++ table_headers (count_of m + 1) (relocs_at m) (tables_of m.relocs)))))
 
 -- the ELF header, from the offset and number of the section headers, and the number of the one for the section names
-unfoldable pub front_of : ℕ → ℕ → ℕ → List ℕ
-front_of headers count names =
+unfoldable pub elf_header : ℕ → ℕ → ℕ → List ℕ
+elf_header headers count names =
     0x7f ∷ 0x45 ∷ 0x4c ∷ 0x46 ∷ 1 ∷ 2 ∷ 1 ∷ 0 ∷ 0 ∷ 0 ∷ 0 ∷ 0 ∷ 0 ∷ 0 ∷ 0 ∷ 0
     ∷ 0 ∷ 1 ∷ 0 ∷ 20 ∷ 0 ∷ 0 ∷ 0 ∷ 1 ∷ 0 ∷ 0 ∷ 0 ∷ 0 ∷ 0 ∷ 0 ∷ 0 ∷ 0
     ∷ (big_bytes 4 headers
@@ -237,7 +237,7 @@ front_of headers count names =
 -- the whole file
 unfoldable pub file_of : Module → List ℕ
 file_of m =
-    front_of (headers_at m) (header_total m) (count_of m + 3)
+    elf_header (headers_at m) (header_total m) (count_of m + 3)
     ++ (contents_of m.sections
     ++ (symbols_of m.symbols
     ++ (relocs_of m.relocs

@@ -47,7 +47,7 @@ pub record Writable (m : Module) : Type 0 where
   pub sections : All IsShort m.sections
   pub symbols : All HasEntry m.symbols
   pub relocs : All HasNumbers m.relocs
-  pub front : 52 + length (contents_of m.sections) < 2 ^ 32
+  pub header_fits : 52 + length (contents_of m.sections) < 2 ^ 32
   pub ends : headers_at m < 2 ^ 32
   pub tables : relocs_at m + rela_bytes * length m.relocs ≤ headers_at m
 

@@ -8,7 +8,7 @@ ghost use Rattle.elf_build.specs.Writable.{Writable, layout_of, parts_of};
 
 use crate::groups::table_count;
 use crate::headers::{
-    SHSTRTAB_NAME, STRTAB_NAME, locals_end, null_header, put_front, put_sect_headers,
+    SHSTRTAB_NAME, STRTAB_NAME, locals_end, null_header, put_elf_header, put_sect_headers,
     put_table_headers, strings_header, symtab_header,
 };
 use crate::put::{put_bytes, put_header};
@@ -98,7 +98,7 @@ fn put_file(alloc: Global, m: &Module) -> Result<Vec<u8>, AllocError>
     let mut parts = Vec::new(alloc);
     let at = put_parts(&mut parts, m)?;
     let mut out = Vec::new(alloc);
-    put_front(&mut out, at.headers, count + tables + 4, count + 3)?;
+    put_elf_header(&mut out, at.headers, count + tables + 4, count + 3)?;
     put_bytes(&mut out, &parts)?;
     put_headers(&mut out, m, at)?;
     Ok(out)

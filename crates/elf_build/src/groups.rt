@@ -29,7 +29,7 @@ pub(crate) fn first_len(relocs: &[Rel]) -> usize
 }
 
 /// The relocations after the first `n`.
-pub(crate) fn behind(relocs: &[Rel], n: usize) -> &[Rel]
+pub(crate) fn relocs_after(relocs: &[Rel], n: usize) -> &[Rel]
     requires { n ≤ length relocs.now }
     ensures { result.now ≡ drop n relocs.now }
 {
@@ -44,7 +44,7 @@ pub(crate) fn table_count(relocs: &[Rel]) -> usize
     let mut count = 0;
     let mut rest = relocs;
     while !rest.is_empty() {
-        rest = behind(rest, first_len(rest));
+        rest = relocs_after(rest, first_len(rest));
         count += 1;
     }
     count

@@ -6,10 +6,10 @@ ghost use Rattle.wind_base.specs.Limits.{most_section_headers, most_symbol_entri
 ghost use Rattle.elf_read.specs.Standard.{ehdr_bytes, rela_bytes};
 ghost use Rattle.elf_read.specs.Modules.{size_of as size_of_body};
 ghost use Rattle.elf_build.specs.Entries.{kind_of as kind_of_body, sect_header as sect_header_of};
-ghost use Rattle.elf_build.specs.File.{contents_of, sect_headers, first_name, tables_of, table_header as table_header_of, table_headers, null_header as null_header_of, strings_header as strings_header_of, symtab_header as symtab_header_of, locals_end as locals_end_of, front_of};
+ghost use Rattle.elf_build.specs.File.{contents_of, sect_headers, first_name, tables_of, table_header as table_header_of, table_headers, null_header as null_header_of, strings_header as strings_header_of, symtab_header as symtab_header_of, locals_end as locals_end_of, elf_header};
 ghost use Rattle.elf_build.specs.Writable.{IsShort, HasNumbers};
 
-use crate::groups::{behind, first_len};
+use crate::groups::{first_len, relocs_after};
 use crate::put::{put_bytes, put_half, put_header, put_word};
 use crate::tables::content;
 use elf_read::standard::{
@@ -145,7 +145,7 @@ pub(crate) fn put_table_headers(
         let n = first_len(rest);
         put_header(out, table_header(symtab, place, section, n as u32))?;
         place += RELA_BYTES as u32 * n as u32;
-        rest = behind(rest, n);
+        rest = relocs_after(rest, n);
     }
     Ok(())
 }
@@ -206,14 +206,14 @@ pub(crate) fn symtab_header(at: u32, size: u32, link: u32, locals: u32) -> Secti
 
 /// Appends the ELF header, from the offset and number of the section headers, and the number of the
 /// one for the section names.
-#[tactic(auto, unfolding(crate::specs::File::front_of), using(crate::proofs::Joins::five))]
-pub(crate) fn put_front(
+#[tactic(auto, unfolding(crate::specs::File::elf_header), using(crate::proofs::Joins::five))]
+pub(crate) fn put_elf_header(
     out: &mut Vec<u8>,
     headers: u32,
     count: u16,
     names: u16,
 ) -> Result<(), AllocError>
-    ensures { IfOk result (λ u. out.new.items ≡ out.old.items ++ front_of headers count names) }
+    ensures { IfOk result (λ u. out.new.items ≡ out.old.items ++ elf_header headers count names) }
 {
     put_bytes(
         out,

@@ -11,15 +11,15 @@ before_more rs n h zero l = refl
 before_more rs n h (suc i) l = h i (omega arith)
 
 -- one rule before others
-in_front : (r : Rule) (rs : List Rule) (e : ElfErr) → (first_of rs ≡ Err e → IsFirst rs e) → (r and_then first_of rs) ≡ Err e → IsFirst (r ∷ rs) e
-in_front (Err d) rs e more h = record { number = 0; fails = ap Some h; before = λ i l. absurd (omega arith) }
-in_front (Ok tt') rs e more h =
+one_earlier : (r : Rule) (rs : List Rule) (e : ElfErr) → (first_of rs ≡ Err e → IsFirst rs e) → (r and_then first_of rs) ≡ Err e → IsFirst (r ∷ rs) e
+one_earlier (Err d) rs e more h = record { number = 0; fails = ap Some h; before = λ i l. absurd (omega arith) }
+one_earlier (Ok tt') rs e more h =
     let m = more h in
     record { number = suc m.number; fails = m.fails; before = before_more rs m.number m.before }
 
 first_fails : (rules : List Rule) (e : ElfErr) → first_of rules ≡ Err e → IsFirst rules e
 first_fails [] e h = cc
-first_fails (r ∷ rs) e h = in_front r rs e (first_fails rs e) h
+first_fails (r ∷ rs) e h = one_earlier r rs e (first_fails rs e) h
 
 abbrev Stops : ℕ → ℕ → (ℕ → Rule) → ElfErr → Type 0
 Stops a n rule e = (k : ℕ) × ((k < n) × ((rule (a + k) ≡ Err e) × ((i : ℕ) → i < k → rule (a + i) ≡ Ok tt)))

@@ -4,7 +4,7 @@ ghost use Rattle.std.specs.Prelude.{◌≡◌};
 ghost use Rattle.elf_read.specs.Rules.{checked};
 
 use crate::error::ElfErr;
-use crate::front_rules::{check_headers, check_ident, check_length, check_machine, check_type};
+use crate::header_rules::{check_headers, check_ident, check_length, check_machine, check_type};
 use crate::relocation_rules::{check_relocations, check_tables};
 use crate::section_rules::{check_contents, check_loads, check_names};
 use crate::symbol_rules::{check_symbols, check_symtabs};

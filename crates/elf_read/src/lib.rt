@@ -5,7 +5,7 @@
 mod checking;
 mod entries;
 mod error;
-mod front_rules;
+mod header_rules;
 mod items;
 mod laws;
 mod module;

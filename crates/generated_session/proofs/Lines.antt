@@ -9,6 +9,7 @@ use Rattle.std.specs.Str.Parse.{digits_value}
 use Rattle.std.proofs.lemmas.Fmt.{digits_decimal, decimal_is_IsNumeral, decimal_nonempty, length-decimal-le}
 use Rattle.std.proofs.lemmas.Str.Parse.{IsNumeralModel, numerals_by_value, tells_all_ascii_digits}
 use Rattle.std.proofs.lemmas.Bool.Decides.{nat_tests}
+use Rattle.tick_file.specs.declared.event.Event.TheVariants.{Tick}
 use Rattle.tick_file.specs.declared.event.Rule.TheVariants.{Every}
 use Rattle.tick_file.specs.declared.event.Said.TheVariants.{Says}
 use Rattle.tick_file.specs.Grammar.{said}
@@ -37,7 +38,7 @@ small_number n h = record {
 }
 
 -- it is a line of `every`
-every_line : (count : ℕ) → 1 ≤ count → count < 10 ^ 5 → IsLineOf (Every 100 count) (codes "every 100 " ++ decimal count)
+every_line : (count : ℕ) → 1 ≤ count → count < 10 ^ 5 → IsLineOf (Every 100 count Tick) (codes "every 100 " ++ decimal count)
 every_line count some h = (
   record {
     gap = 32 ∷ [];
@@ -82,6 +83,6 @@ pub ticks_are_good : (n : ℕ) → n ≤ most_rounds → GrammarLaw → first_ba
 unfolding first_bad_line tick_lines generated_ticks
 ticks_are_good n h law =
     let text = codes "every 100 " ++ decimal (n + 8) in
-    let says : said text ≡ Says (Every 100 (n + 8)) = ((law text).0 (Every 100 (n + 8))).1 (every_line (n + 8) (omega arith) (omega arith)) in
+    let says : said text ≡ Says (Every 100 (n + 8) Tick) = ((law text).0 (Every 100 (n + 8) Tick)).1 (every_line (n + 8) (omega arith) (omega arith)) in
     let alone : pieces text ≡ text ∷ [] = one_piece text (digits_no_end (decimal (n + 8)) (decimal_digits (n + 8) (omega arith))) in
     ap (λ (ps : List (List ℕ)). bad_from 1 (lines_of ps)) alone ∙ ap (bad_or 1 None) says

@@ -3,7 +3,7 @@
 ghost use Rattle.std.specs.Prelude.{◌≡◌, ◌≤◌, map};
 ghost use Rattle.std.specs.List.{concat};
 ghost use Rattle.wind_outside.specs.Counts.{Rose};
-ghost use Rattle.wind_outside.specs.Told.{Appended, AppendedFront};
+ghost use Rattle.wind_outside.specs.Appending.{Appended, AppendedPrefix};
 ghost use Rattle.wind_outside.specs.declared.sink.Put.TheVariants as puts;
 ghost use Rattle.generated_session.specs.Session.{most_rounds, summary_line};
 
@@ -28,7 +28,7 @@ pub struct Summary {
 // Puts pieces, and stops at the first that fails.
 fn put_all<O: Sink>(out: &mut O, pieces: &[&[u8]]) -> Put
     ensures done { result ≡ puts.Done → Appended (O.bytes out.old) (O.bytes out.new) (concat (map (λ p. p.now) pieces.now)) }
-    ensures part { result ≡ puts.Failed → AppendedFront (O.bytes out.old) (O.bytes out.new) (concat (map (λ p. p.now) pieces.now)) }
+    ensures part { result ≡ puts.Failed → AppendedPrefix (O.bytes out.old) (O.bytes out.new) (concat (map (λ p. p.now) pieces.now)) }
     ensures failed { result ≡ puts.Failed → Rose (O.faults out.old) (O.faults out.new) }
     ensures never_falls { O.faults out.old ≤ O.faults out.new }
 {
@@ -47,7 +47,7 @@ impl Summary {
         requires { self.now.rounds ≤ most_rounds }
         ensures done { result ≡ puts.Done → Appended (O.bytes out.old) (O.bytes out.new)
             (summary_line self.now.rounds self.now.bytes self.now.steps self.now.ticks self.now.status) }
-        ensures part { result ≡ puts.Failed → AppendedFront (O.bytes out.old) (O.bytes out.new)
+        ensures part { result ≡ puts.Failed → AppendedPrefix (O.bytes out.old) (O.bytes out.new)
             (summary_line self.now.rounds self.now.bytes self.now.steps self.now.ticks self.now.status) }
         ensures failed { result ≡ puts.Failed → Rose (O.faults out.old) (O.faults out.new) }
         ensures never_falls { O.faults out.old ≤ O.faults out.new }

@@ -10,4 +10,4 @@ pub mod Normals
 pub mod Exact
 pub mod Places
 pub mod Lending
-pub mod Turn
+pub mod Iteration

@@ -13,7 +13,7 @@ use Rattle.inheritance.specs.declared.mutex.Mutex.{Mutex}
 use Rattle.inheritance.specs.Reach.{boss, live_one, wait_of, owner_at, pri_of, pri_in, is_on, path, lifted, repried, raised_kern, heir, heir_of}
 use Rattle.inheritance.specs.Laws.{GoodBut, OwnersUrgentBut}
 use Rattle.inheritance.proofs.Lookups.{live_is, on_ids, place_on, each_lives}
-use Rattle.inheritance.proofs.Walk.{path_cases, on_here, on_later, front, front_cases, front_step, from_front, walk_law}
+use Rattle.inheritance.proofs.Walk.{path_cases, on_here, on_later, prefix, prefix_cases, prefix_step, from_prefix, walk_law}
 use Rattle.inheritance.proofs.Raising.{boss-alike, boss_lives}
 use Rattle.inheritance.proofs.Same.{urgent_but}
 use Rattle.inheritance.proofs.Inheriting.{inherited, waits_on, pri_on, none_on, alike_on, again, untouched, one_more}
@@ -116,16 +116,16 @@ module _ (k : KernState) (ms : List (ℕ × Mutex)) (w : ℕ) (is : IsKern k) (l
   good : GoodBut up pri w
   good = urgent_but w k.tasks ms urgent
 
-  abbrev fronts : ℕ → ℕ → List ℕ
-  fronts n y = front up pri w good n y
+  abbrev prefixes : ℕ → ℕ → List ℕ
+  prefixes n y = prefix up pri w good n y
 
   -- the tasks that pass the test have the priority of w
   abbrev with_heirs : (ℕ → Bool) → KernState
   with_heirs on = inherited k (pri w) (end_of up 256 w) on
 
-  goes : (on : ℕ → Bool) (x : ℕ) (t : Task) → task_of k.tasks x ≡ Some t → is_on (fronts 256 w) x ≡ true → on x ≡ false → change_pri (with_heirs on) x (pri w) ≡ with_heirs (λ y. eqb y x || on y)
+  goes : (on : ℕ → Bool) (x : ℕ) (t : Task) → task_of k.tasks x ≡ Some t → is_on (prefixes 256 w) x ≡ true → on x ≡ false → change_pri (with_heirs on) x (pri w) ≡ with_heirs (λ y. eqb y x || on y)
   goes on x t e f off =
-      let s = from_front up pri w good 256 w x f in
+      let s = from_prefix up pri w good 256 w x f in
       one_more k (pri w) (end_of up 256 w) is on x t e off (λ ready. only_end up 256 w x s.0 (ready_free k.tasks ms x t e ready)) (λ q. let own : pri x ≡ t.pri = ap pri_in e in let less = s.1 in omega arith)
 
   bosses_on : (on : ℕ → Bool) (y : ℕ) → boss (with_heirs on).tasks ms y ≡ up y
@@ -148,34 +148,34 @@ module _ (k : KernState) (ms : List (ℕ × Mutex)) (w : ℕ) (is : IsKern k) (l
 
   -- from `at` on, the owners before the first that is at least as urgent get it too
   abbrev IsWalk : ℕ → Type 0
-  IsWalk n = (at : ℕ) (on : ℕ → Bool) → IsClosed on at → ((x : ℕ) → is_on (fronts n at) x ≡ true → is_on (fronts 256 w) x ≡ true)
-      → walked ms (pri w) n (with_heirs on) at ≡ with_heirs (λ x. on x || is_on (fronts n at) x)
+  IsWalk n = (at : ℕ) (on : ℕ → Bool) → IsClosed on at → ((x : ℕ) → is_on (prefixes n at) x ≡ true → is_on (prefixes 256 w) x ≡ true)
+      → walked ms (pri w) n (with_heirs on) at ≡ with_heirs (λ x. on x || is_on (prefixes n at) x)
 
   -- one step, if the rest of the walk does so
-  module _ (n at : ℕ) (on : ℕ → Bool) (closed : IsClosed on at) (within : (x : ℕ) → is_on (fronts (suc n) at) x ≡ true → is_on (fronts 256 w) x ≡ true) (rest : IsWalk n) where
+  module _ (n at : ℕ) (on : ℕ → Bool) (closed : IsClosed on at) (within : (x : ℕ) → is_on (prefixes (suc n) at) x ≡ true → is_on (prefixes 256 w) x ≡ true) (rest : IsWalk n) where
     abbrev goes_to : Option ℕ → KernState
     goes_to o = elim o [ None ↦ with_heirs on | Some x ↦ walked ms (pri w) n (change_pri (with_heirs on) x (pri w)) x ]
 
     abbrev wanted : KernState
-    wanted = with_heirs (λ y. on y || is_on (fronts (suc n) at) y)
+    wanted = with_heirs (λ y. on y || is_on (prefixes (suc n) at) y)
 
-    stays : ((y : ℕ) → is_on (fronts (suc n) at) y ≡ true → on y ≡ true) → with_heirs on ≡ wanted
-    stays h = alike_on k (pri w) (end_of up 256 w) on (λ y. on y || is_on (fronts (suc n) at) y) (λ y l. sym (or_within (on y) (is_on (fronts (suc n) at) y) (h y)))
+    stays : ((y : ℕ) → is_on (prefixes (suc n) at) y ≡ true → on y ≡ true) → with_heirs on ≡ wanted
+    stays h = alike_on k (pri w) (end_of up 256 w) on (λ y. on y || is_on (prefixes (suc n) at) y) (λ y l. sym (or_within (on y) (is_on (prefixes (suc n) at) y) (h y)))
 
     module _ (x : ℕ) (e : up at ≡ Some x) where
       further : pri w < pri x → on x ≡ false → goes_to (Some x) ≡ wanted
       further less off =
           let t = live_is (task_of k.tasks x) (boss_lives k.tasks ms at x e).1 in
-          let here : is_on (fronts 256 w) x ≡ true = within x (front_step up pri w good n at x x e less ∙ on_here x (fronts n x)) in
+          let here : is_on (prefixes 256 w) x ≡ true = within x (prefix_step up pri w good n at x x e less ∙ on_here x (prefixes n x)) in
           ap (λ r. walked ms (pri w) n r x) (goes on x t.0 t.1 here off)
           ∙ rest x (λ y. eqb y x || on y)
           (λ y v h other q. or_true (eqb v x) (on v) (⊎_elim
           (λ (same : y ≡ at). inl (eq-eqb v x (same_Some v x (sym q ∙ ap up same ∙ e))))
           (λ (not : y ≡ at → ⊥). inr (closed y v (or_right (eqb y x) (on y) (ne_eqb y x other) h) not q))
           (cases_eq y at)))
-          (λ v h. within v (front_step up pri w good n at x v e less ∙ on_later x v (fronts n x) h))
-          ∙ alike_on k (pri w) (end_of up 256 w) (λ y. (eqb y x || on y) || is_on (fronts n x) y) (λ y. on y || is_on (fronts (suc n) at) y)
-          (λ y l. or_moved (eqb y x) (on y) (is_on (fronts n x) y) ∙ ap (λ b. on y || (b || is_on (fronts n x) y)) (eqb_sym y x) ∙ sym (ap (λ b. on y || b) (front_step up pri w good n at x y e less)))
+          (λ v h. within v (prefix_step up pri w good n at x v e less ∙ on_later x v (prefixes n x) h))
+          ∙ alike_on k (pri w) (end_of up 256 w) (λ y. (eqb y x || on y) || is_on (prefixes n x) y) (λ y. on y || is_on (prefixes (suc n) at) y)
+          (λ y l. or_moved (eqb y x) (on y) (is_on (prefixes n x) y) ∙ ap (λ b. on y || (b || is_on (prefixes n x) y)) (eqb_sym y x) ∙ sym (ap (λ b. on y || b) (prefix_step up pri w good n at x y e less)))
 
       -- a cycle
       met_again : on x ≡ true → with_heirs on ≡ wanted
@@ -185,16 +185,16 @@ module _ (k : KernState) (ms : List (ℕ × Mutex)) (w : ℕ) (is : IsKern k) (l
           (λ (not : u ≡ at → ⊥). closed u v r not f)
           (cases_eq u at) in
           stays (λ y h.
-          let s = front_cases up pri w good n at y h in
+          let s = prefix_cases up pri w good n at y h in
           let same : s.0 ≡ x = same_Some s.0 x (sym s.1 ∙ e) in
           ⊎_elim
           (λ (f : s.0 ≡ y). subst (λ v. on v ≡ true) (sym same ∙ f) q)
-          (λ (f : is_on (fronts n s.0) y ≡ true). closed_path on all n s.0 y (subst (λ v. on v ≡ true) (sym same) q) (from_front up pri w good n s.0 y f).0)
+          (λ (f : is_on (prefixes n s.0) y ≡ true). closed_path on all n s.0 y (subst (λ v. on v ≡ true) (sym same) q) (from_prefix up pri w good n s.0 y f).0)
           s.3)
 
       as_urgent : pri x ≤ pri w → with_heirs on ≡ wanted
       as_urgent enough = stays (λ y h.
-          let s = front_cases up pri w good n at y h in
+          let s = prefix_cases up pri w good n at y h in
           let same : pri s.0 ≡ pri x = ap pri (same_Some s.0 x (sym s.1 ∙ e)) in
           let less = s.2 in
           absurd (omega (arith, same, less, enough)))
@@ -213,7 +213,7 @@ module _ (k : KernState) (ms : List (ℕ × Mutex)) (w : ℕ) (is : IsKern k) (l
           ] refl
 
     step : (o : Option ℕ) → up at ≡ o → goes_to (heir_of (with_heirs on).tasks (pri w) o) ≡ wanted
-    step None e = stays (λ y h. let s = front_cases up pri w good n at y h in let no : None ≡ Some s.0 = sym e ∙ s.1 in absurd (cc))
+    step None e = stays (λ y h. let s = prefix_cases up pri w good n at y h in let no : None ≡ Some s.0 = sym e ∙ s.1 in absurd (cc))
     step (Some x) e = some_boss x e
 
   walk_is : (n : ℕ) → IsWalk n
@@ -222,52 +222,52 @@ module _ (k : KernState) (ms : List (ℕ × Mutex)) (w : ℕ) (is : IsKern k) (l
       ap (goes_to n at on closed within (walk_is n)) (heir_on on at) ∙ step n at on closed within (walk_is n) (up at) refl
 
   -- ---- the same by a scan of all tasks
-  goal_is : (x : ℕ) → lifted One k ms x ≡ cond (is_on (fronts 256 w) x) (pri w) (pri x)
+  goal_is : (x : ℕ) → lifted One k ms x ≡ cond (is_on (prefixes 256 w) x) (pri w) (pri x)
   goal_is x = walk_law up pri w 256 (ids k.tasks) good (place_on (ids k.tasks) w (on_ids k.tasks w lives)) x
 
-  pass_is : (us : List Task) (on : ℕ → Bool) → ((i : ℕ) (d : Task) → i < length us → is_some (task_of k.tasks (get_or us i d).id) ≡ true) → ((x : ℕ) → on x ≡ true → is_on (fronts 256 w) x ≡ true)
-      → repried (with_heirs on) (lifted One k ms) us ≡ with_heirs (λ x. on x || (is_on (fronts 256 w) x && is_on (ids us) x))
-  pass_is [] on live within = alike_on k (pri w) (end_of up 256 w) on (λ x. on x || (is_on (fronts 256 w) x && false)) (λ x l. sym (ap (λ b. on x || b) (and_none (is_on (fronts 256 w) x)) ∙ or_none (on x)))
+  pass_is : (us : List Task) (on : ℕ → Bool) → ((i : ℕ) (d : Task) → i < length us → is_some (task_of k.tasks (get_or us i d).id) ≡ true) → ((x : ℕ) → on x ≡ true → is_on (prefixes 256 w) x ≡ true)
+      → repried (with_heirs on) (lifted One k ms) us ≡ with_heirs (λ x. on x || (is_on (prefixes 256 w) x && is_on (ids us) x))
+  pass_is [] on live within = alike_on k (pri w) (end_of up 256 w) on (λ x. on x || (is_on (prefixes 256 w) x && false)) (λ x l. sym (ap (λ b. on x || b) (and_none (is_on (prefixes 256 w) x)) ∙ or_none (on x)))
   pass_is (u ∷ us) on live within =
       let t = live_is (task_of k.tasks u.id) (live 0 u (omega arith)) in
       let later : (i : ℕ) (d : Task) → i < length us → is_some (task_of k.tasks (get_or us i d).id) ≡ true = λ i d hi. live (suc i) d (omega arith) in
       ap (λ g. repried (change_pri (with_heirs on) u.id g) (lifted One k ms) us) (goal_is u.id)
-      ∙ elim (is_on (fronts 256 w) u.id) as (λ b. is_on (fronts 256 w) u.id ≡ b → repried (change_pri (with_heirs on) u.id (cond b (pri w) (pri u.id))) (lifted One k ms) us ≡ with_heirs (λ x. on x || (is_on (fronts 256 w) x && is_on (ids (u ∷ us)) x))) [
-        | true ↦ λ f. elim (on u.id) as (λ b. on u.id ≡ b → repried (change_pri (with_heirs on) u.id (pri w)) (lifted One k ms) us ≡ with_heirs (λ x. on x || (is_on (fronts 256 w) x && is_on (ids (u ∷ us)) x))) [
+      ∙ elim (is_on (prefixes 256 w) u.id) as (λ b. is_on (prefixes 256 w) u.id ≡ b → repried (change_pri (with_heirs on) u.id (cond b (pri w) (pri u.id))) (lifted One k ms) us ≡ with_heirs (λ x. on x || (is_on (prefixes 256 w) x && is_on (ids (u ∷ us)) x))) [
+        | true ↦ λ f. elim (on u.id) as (λ b. on u.id ≡ b → repried (change_pri (with_heirs on) u.id (pri w)) (lifted One k ms) us ≡ with_heirs (λ x. on x || (is_on (prefixes 256 w) x && is_on (ids (u ∷ us)) x))) [
           | true ↦ λ q.
               ap (λ r. repried r (lifted One k ms) us) (again k (pri w) (end_of up 256 w) on u.id t.0 t.1 q)
               ∙ pass_is us on later within
-              ∙ alike_on k (pri w) (end_of up 256 w) (λ x. on x || (is_on (fronts 256 w) x && is_on (ids us) x)) (λ x. on x || (is_on (fronts 256 w) x && is_on (ids (u ∷ us)) x))
+              ∙ alike_on k (pri w) (end_of up 256 w) (λ x. on x || (is_on (prefixes 256 w) x && is_on (ids us) x)) (λ x. on x || (is_on (prefixes 256 w) x && is_on (ids (u ∷ us)) x))
               (λ x l. ⊎_elim
-              (λ (same : u.id ≡ x). let yes : on x ≡ true = ap on (sym same) ∙ q in ap (λ b. b || (is_on (fronts 256 w) x && is_on (ids us) x)) yes ∙ sym (ap (λ b. b || (is_on (fronts 256 w) x && is_on (ids (u ∷ us)) x)) yes))
-              (λ (other : u.id ≡ x → ⊥). sym (ap (λ b. on x || (is_on (fronts 256 w) x && (b || is_on (ids us) x))) (ne_eqb u.id x other)))
+              (λ (same : u.id ≡ x). let yes : on x ≡ true = ap on (sym same) ∙ q in ap (λ b. b || (is_on (prefixes 256 w) x && is_on (ids us) x)) yes ∙ sym (ap (λ b. b || (is_on (prefixes 256 w) x && is_on (ids (u ∷ us)) x)) yes))
+              (λ (other : u.id ≡ x → ⊥). sym (ap (λ b. on x || (is_on (prefixes 256 w) x && (b || is_on (ids us) x))) (ne_eqb u.id x other)))
               (cases_eq u.id x))
           | false ↦ λ q.
               let next : ℕ → Bool = λ y. eqb y u.id || on y in
               ap (λ r. repried r (lifted One k ms) us) (goes on u.id t.0 t.1 f q)
               ∙ pass_is us next later (λ x h. ⊎_elim
-              (λ (same : x ≡ u.id). ap (is_on (fronts 256 w)) same ∙ f)
+              (λ (same : x ≡ u.id). ap (is_on (prefixes 256 w)) same ∙ f)
               (λ (other : x ≡ u.id → ⊥). within x (or_right (eqb x u.id) (on x) (ne_eqb x u.id other) h))
               (cases_eq x u.id))
-              ∙ alike_on k (pri w) (end_of up 256 w) (λ x. (eqb x u.id || on x) || (is_on (fronts 256 w) x && is_on (ids us) x)) (λ x. on x || (is_on (fronts 256 w) x && is_on (ids (u ∷ us)) x))
+              ∙ alike_on k (pri w) (end_of up 256 w) (λ x. (eqb x u.id || on x) || (is_on (prefixes 256 w) x && is_on (ids us) x)) (λ x. on x || (is_on (prefixes 256 w) x && is_on (ids (u ∷ us)) x))
               (λ x l. ⊎_elim
               (λ (same : u.id ≡ x).
-              let yes : is_on (fronts 256 w) x ≡ true = ap (is_on (fronts 256 w)) (sym same) ∙ f in
-              ap (λ b. (b || on x) || (is_on (fronts 256 w) x && is_on (ids us) x)) (eq-eqb x u.id (sym same))
+              let yes : is_on (prefixes 256 w) x ≡ true = ap (is_on (prefixes 256 w)) (sym same) ∙ f in
+              ap (λ b. (b || on x) || (is_on (prefixes 256 w) x && is_on (ids us) x)) (eq-eqb x u.id (sym same))
               ∙ sym (ap (λ b. on x || (b && is_on (ids (u ∷ us)) x)) yes ∙ ap (λ b. on x || (b || is_on (ids us) x)) (eq-eqb u.id x same) ∙ or_all (on x)))
               (λ (other : u.id ≡ x → ⊥).
-              ap (λ b. (b || on x) || (is_on (fronts 256 w) x && is_on (ids us) x)) (ne_eqb x u.id (λ e. other (sym e)))
-              ∙ sym (ap (λ b. on x || (is_on (fronts 256 w) x && (b || is_on (ids us) x))) (ne_eqb u.id x other)))
+              ap (λ b. (b || on x) || (is_on (prefixes 256 w) x && is_on (ids us) x)) (ne_eqb x u.id (λ e. other (sym e)))
+              ∙ sym (ap (λ b. on x || (is_on (prefixes 256 w) x && (b || is_on (ids us) x))) (ne_eqb u.id x other)))
               (cases_eq u.id x))
         ] refl
         | false ↦ λ f.
             let off : on u.id ≡ false = not_on (on u.id) (λ h. let no : true ≡ false = sym (within u.id h) ∙ f in absurd (cc)) in
             ap (λ r. repried r (lifted One k ms) us) (untouched k (pri w) (end_of up 256 w) on u.id t.0 t.1 off)
             ∙ pass_is us on later within
-            ∙ alike_on k (pri w) (end_of up 256 w) (λ x. on x || (is_on (fronts 256 w) x && is_on (ids us) x)) (λ x. on x || (is_on (fronts 256 w) x && is_on (ids (u ∷ us)) x))
+            ∙ alike_on k (pri w) (end_of up 256 w) (λ x. on x || (is_on (prefixes 256 w) x && is_on (ids us) x)) (λ x. on x || (is_on (prefixes 256 w) x && is_on (ids (u ∷ us)) x))
             (λ x l. ⊎_elim
-            (λ (same : u.id ≡ x). let no : is_on (fronts 256 w) x ≡ false = ap (is_on (fronts 256 w)) (sym same) ∙ f in ap (λ b. on x || (b && is_on (ids us) x)) no ∙ sym (ap (λ b. on x || (b && is_on (ids (u ∷ us)) x)) no))
-            (λ (other : u.id ≡ x → ⊥). sym (ap (λ b. on x || (is_on (fronts 256 w) x && (b || is_on (ids us) x))) (ne_eqb u.id x other)))
+            (λ (same : u.id ≡ x). let no : is_on (prefixes 256 w) x ≡ false = ap (is_on (prefixes 256 w)) (sym same) ∙ f in ap (λ b. on x || (b && is_on (ids us) x)) no ∙ sym (ap (λ b. on x || (b && is_on (ids (u ∷ us)) x)) no))
+            (λ (other : u.id ≡ x → ⊥). sym (ap (λ b. on x || (is_on (prefixes 256 w) x && (b || is_on (ids us) x))) (ne_eqb u.id x other)))
             (cases_eq u.id x))
       ] refl
     where
@@ -281,5 +281,5 @@ module _ (k : KernState) (ms : List (ℕ × Mutex)) (w : ℕ) (is : IsKern k) (l
       ∙ walk_is 256 w (λ _. false) (λ y x h other q. absurd (cc)) (λ x h. h)
       ∙ sym (ap (λ r. repried r (lifted One k ms) k.tasks) (sym (none_on k (pri w) (end_of up 256 w)))
       ∙ pass_is k.tasks (λ _. false) (each_lives k.tasks) (λ x h. absurd (cc))
-      ∙ alike_on k (pri w) (end_of up 256 w) (λ x. false || (is_on (fronts 256 w) x && is_on (ids k.tasks) x)) (λ x. false || is_on (fronts 256 w) x)
-      (λ x l. ap (λ b. is_on (fronts 256 w) x && b) (on_ids k.tasks x l) ∙ and_true (is_on (fronts 256 w) x)))
+      ∙ alike_on k (pri w) (end_of up 256 w) (λ x. false || (is_on (prefixes 256 w) x && is_on (ids k.tasks) x)) (λ x. false || is_on (prefixes 256 w) x)
+      (λ x l. ap (λ b. is_on (prefixes 256 w) x && b) (on_ids k.tasks x l) ∙ and_true (is_on (prefixes 256 w) x)))

@@ -2,7 +2,7 @@
 use Rattle.std.proofs.Common.{◌≡◌, ℕ, zero, suc, ◌<◌, ◌≤◌, min, Bool, true, false, cond, eqb, ltb, List, [], ◌∷◌, map, length, get_or, Option, None, Some, refl, sym, ap, ◌∙◌, subst, arith, ◌⊎◌, inl, inr, ⊎_elim}
 use Rattle.std.specs.List.{filter, Contains}
 use Rattle.std.proofs.lemmas.Bool.{cases_eq, cases_lt, eqb-true, eq-eqb, ltb-true, lt-ltb, or_cases}
-use Rattle.inheritance.specs.Reach.{path, is_on, reaches, urgency, most, front_while}
+use Rattle.inheritance.specs.Reach.{path, is_on, reaches, urgency, most, prefix_while}
 use Rattle.inheritance.specs.Laws.{GoodBut, WalkLaw}
 
 -- ---- on a list
@@ -95,25 +95,25 @@ module _ (up : ℕ → Option ℕ) (pri : ℕ → ℕ) (w : ℕ) (good : GoodBut
       s.2
 
   -- the walk that stops at the first one at least as urgent as w
-  abbrev pub front : ℕ → ℕ → List ℕ
-  front n y = front_while lower (path up n y)
+  abbrev pub prefix : ℕ → ℕ → List ℕ
+  prefix n y = prefix_while lower (path up n y)
 
-  pub front_step : (n y z x : ℕ) → up y ≡ Some z → pri w < pri z → is_on (front (suc n) y) x ≡ is_on (z ∷ front n z) x
-  front_step n y z x e h =
-      ap (λ o. is_on (front_while lower (elim o [ None ↦ [] | Some v ↦ v ∷ path up n v ])) x) e
-      ∙ ap (λ b. is_on (cond b (z ∷ front n z) []) x) (lt-ltb (pri w) (pri z) h)
+  pub prefix_step : (n y z x : ℕ) → up y ≡ Some z → pri w < pri z → is_on (prefix (suc n) y) x ≡ is_on (z ∷ prefix n z) x
+  prefix_step n y z x e h =
+      ap (λ o. is_on (prefix_while lower (elim o [ None ↦ [] | Some v ↦ v ∷ path up n v ])) x) e
+      ∙ ap (λ b. is_on (cond b (z ∷ prefix n z) []) x) (lt-ltb (pri w) (pri z) h)
 
-  front_or_through : (n y x : ℕ) → is_on (path up n y) x ≡ true → pri w < pri x → (is_on (front n y) x ≡ true) ⊎ ((k : ℕ) × (k < n) × (is_on (path up k w) x ≡ true))
-  front_or_through zero y x h less = absurd (cc)
-  front_or_through (suc n) y x h less =
+  prefix_or_through : (n y x : ℕ) → is_on (path up n y) x ≡ true → pri w < pri x → (is_on (prefix n y) x ≡ true) ⊎ ((k : ℕ) × (k < n) × (is_on (path up k w) x ≡ true))
+  prefix_or_through zero y x h less = absurd (cc)
+  prefix_or_through (suc n) y x h less =
       let s = path_cases up n y x h in
       ⊎_elim
       (λ (l : pri w < pri s.0). ⊎_elim
-      (λ (e : s.0 ≡ x). inl (front_step n y s.0 x s.1 l ∙ subst (λ v. is_on (s.0 ∷ front n s.0) v ≡ true) e (on_here s.0 (front n s.0))))
+      (λ (e : s.0 ≡ x). inl (prefix_step n y s.0 x s.1 l ∙ subst (λ v. is_on (s.0 ∷ prefix n s.0) v ≡ true) e (on_here s.0 (prefix n s.0))))
       (λ (r : is_on (path up n s.0) x ≡ true). ⊎_elim
-      (λ (f : is_on (front n s.0) x ≡ true). inl (front_step n y s.0 x s.1 l ∙ on_later s.0 x (front n s.0) f))
+      (λ (f : is_on (prefix n s.0) x ≡ true). inl (prefix_step n y s.0 x s.1 l ∙ on_later s.0 x (prefix n s.0) f))
       (λ (p : (k : ℕ) × (k < n) × (is_on (path up k w) x ≡ true)). inr (p.0, omega (arith, p.1), p.2))
-      (front_or_through n s.0 x r less))
+      (prefix_or_through n s.0 x r less))
       s.2)
       (λ (g : pri s.0 ≤ pri w). ⊎_elim
       (λ (e : s.0 ≡ x). let l : pri x ≤ pri w = subst (λ v. pri v ≤ pri w) e g in absurd (omega arith))
@@ -124,60 +124,60 @@ module _ (up : ℕ → Option ℕ) (pri : ℕ → ℕ) (w : ℕ) (good : GoodBut
       s.2)
       (cases_lt (pri w) (pri s.0))
 
-  pub front_cases : (n y x : ℕ) → is_on (front (suc n) y) x ≡ true → (z : ℕ) × (up y ≡ Some z) × (pri w < pri z) × ((z ≡ x) ⊎ (is_on (front n z) x ≡ true))
-  front_cases n y x =
-      elim (up y) as (λ o. up y ≡ o → is_on (front_while lower (elim o [ None ↦ [] | Some z ↦ z ∷ path up n z ])) x ≡ true → (z : ℕ) × (up y ≡ Some z) × (pri w < pri z) × ((z ≡ x) ⊎ (is_on (front n z) x ≡ true))) [
+  pub prefix_cases : (n y x : ℕ) → is_on (prefix (suc n) y) x ≡ true → (z : ℕ) × (up y ≡ Some z) × (pri w < pri z) × ((z ≡ x) ⊎ (is_on (prefix n z) x ≡ true))
+  prefix_cases n y x =
+      elim (up y) as (λ o. up y ≡ o → is_on (prefix_while lower (elim o [ None ↦ [] | Some z ↦ z ∷ path up n z ])) x ≡ true → (z : ℕ) × (up y ≡ Some z) × (pri w < pri z) × ((z ≡ x) ⊎ (is_on (prefix n z) x ≡ true))) [
         | None ↦ λ e h. absurd (cc)
-        | Some z ↦ λ e. elim (lower z) as (λ b. lower z ≡ b → is_on (cond b (z ∷ front n z) []) x ≡ true → (v : ℕ) × (up y ≡ Some v) × (pri w < pri v) × ((v ≡ x) ⊎ (is_on (front n v) x ≡ true))) [
-          | true ↦ λ l h. (z, e, ltb-true (pri w) (pri z) l, on_cases z x (front n z) h)
+        | Some z ↦ λ e. elim (lower z) as (λ b. lower z ≡ b → is_on (cond b (z ∷ prefix n z) []) x ≡ true → (v : ℕ) × (up y ≡ Some v) × (pri w < pri v) × ((v ≡ x) ⊎ (is_on (prefix n v) x ≡ true))) [
+          | true ↦ λ l h. (z, e, ltb-true (pri w) (pri z) l, on_cases z x (prefix n z) h)
           | false ↦ λ l h. absurd (cc)
         ] refl
       ] refl
 
-  front_more : (n y x : ℕ) → is_on (front n y) x ≡ true → is_on (front (suc n) y) x ≡ true
-  front_more zero y x h = absurd (cc)
-  front_more (suc n) y x h =
-      let s = front_cases n y x h in
-      front_step (suc n) y s.0 x s.1 s.2 ∙ ⊎_elim
-      (λ (e : s.0 ≡ x). subst (λ v. is_on (s.0 ∷ front (suc n) s.0) v ≡ true) e (on_here s.0 (front (suc n) s.0)))
-      (λ (r : is_on (front n s.0) x ≡ true). on_later s.0 x (front (suc n) s.0) (front_more n s.0 x r))
+  prefix_more : (n y x : ℕ) → is_on (prefix n y) x ≡ true → is_on (prefix (suc n) y) x ≡ true
+  prefix_more zero y x h = absurd (cc)
+  prefix_more (suc n) y x h =
+      let s = prefix_cases n y x h in
+      prefix_step (suc n) y s.0 x s.1 s.2 ∙ ⊎_elim
+      (λ (e : s.0 ≡ x). subst (λ v. is_on (s.0 ∷ prefix (suc n) s.0) v ≡ true) e (on_here s.0 (prefix (suc n) s.0)))
+      (λ (r : is_on (prefix n s.0) x ≡ true). on_later s.0 x (prefix (suc n) s.0) (prefix_more n s.0 x r))
       s.3
 
-  front_upto : (n k x : ℕ) → k ≤ n → is_on (front k w) x ≡ true → is_on (front n w) x ≡ true
-  front_upto zero k x le h = let e : k ≡ 0 = omega arith in subst (λ m. is_on (front m w) x ≡ true) e h
-  front_upto (suc n) k x le h =
+  prefix_upto : (n k x : ℕ) → k ≤ n → is_on (prefix k w) x ≡ true → is_on (prefix n w) x ≡ true
+  prefix_upto zero k x le h = let e : k ≡ 0 = omega arith in subst (λ m. is_on (prefix m w) x ≡ true) e h
+  prefix_upto (suc n) k x le h =
       ⊎_elim
-      (λ (e : k ≡ suc n). subst (λ m. is_on (front m w) x ≡ true) e h)
-      (λ (ne : k ≡ suc n → ⊥). front_more n w x (front_upto n k x (omega arith) h))
+      (λ (e : k ≡ suc n). subst (λ m. is_on (prefix m w) x ≡ true) e h)
+      (λ (ne : k ≡ suc n → ⊥). prefix_more n w x (prefix_upto n k x (omega arith) h))
       (cases_eq k (suc n))
 
   -- a task that w reaches and that is less urgent than w comes before the first one at least as urgent as w, even in cycles
-  pub in_front : (fuel n x : ℕ) → n ≤ fuel → is_on (path up n w) x ≡ true → pri w < pri x → is_on (front n w) x ≡ true
-  in_front zero n x le h less =
+  pub in_prefix : (fuel n x : ℕ) → n ≤ fuel → is_on (path up n w) x ≡ true → pri w < pri x → is_on (prefix n w) x ≡ true
+  in_prefix zero n x le h less =
       let e : n ≡ 0 = omega arith in
       let none : is_on [] x ≡ true = subst (λ m. is_on (path up m w) x ≡ true) e h in
       absurd (cc)
-  in_front (suc fuel) n x le h less =
+  in_prefix (suc fuel) n x le h less =
       ⊎_elim
-      (λ (f : is_on (front n w) x ≡ true). f)
-      (λ (p : (k : ℕ) × (k < n) × (is_on (path up k w) x ≡ true)). front_upto n p.0 x (omega (arith, p.1)) (in_front fuel p.0 x (omega (arith, p.1)) p.2 less))
-      (front_or_through n w x h less)
+      (λ (f : is_on (prefix n w) x ≡ true). f)
+      (λ (p : (k : ℕ) × (k < n) × (is_on (path up k w) x ≡ true)). prefix_upto n p.0 x (omega (arith, p.1)) (in_prefix fuel p.0 x (omega (arith, p.1)) p.2 less))
+      (prefix_or_through n w x h less)
 
   -- and conversely
-  pub from_front : (n y x : ℕ) → is_on (front n y) x ≡ true → (is_on (path up n y) x ≡ true) × (pri w < pri x)
-  from_front zero y x h = absurd (cc)
-  from_front (suc n) y x h =
-      let s = front_cases n y x h in
+  pub from_prefix : (n y x : ℕ) → is_on (prefix n y) x ≡ true → (is_on (path up n y) x ≡ true) × (pri w < pri x)
+  from_prefix zero y x h = absurd (cc)
+  from_prefix (suc n) y x h =
+      let s = prefix_cases n y x h in
       ⊎_elim
       (λ (e : s.0 ≡ x). (path_step up n y s.0 x s.1 ∙ subst (λ v. is_on (s.0 ∷ path up n s.0) v ≡ true) e (on_here s.0 (path up n s.0)), subst (λ v. pri w < pri v) e s.2))
-      (λ (r : is_on (front n s.0) x ≡ true). let ih = from_front n s.0 x r in (path_step up n y s.0 x s.1 ∙ on_later s.0 x (path up n s.0) ih.0, ih.1))
+      (λ (r : is_on (prefix n s.0) x ≡ true). let ih = from_prefix n s.0 x r in (path_step up n y s.0 x s.1 ∙ on_later s.0 x (path up n s.0) ih.0, ih.1))
       s.3
 
-  pub walk : (n : ℕ) (ids : List ℕ) → Contains ids w → (x : ℕ) → urgency up pri n ids x ≡ cond (is_on (front n w) x) (pri w) (pri x)
+  pub walk : (n : ℕ) (ids : List ℕ) → Contains ids w → (x : ℕ) → urgency up pri n ids x ≡ cond (is_on (prefix n w) x) (pri w) (pri x)
   walk n ids there x =
-      elim (is_on (front n w) x) as (λ b. is_on (front n w) x ≡ b → urgency up pri n ids x ≡ cond b (pri w) (pri x)) [
+      elim (is_on (prefix n w) x) as (λ b. is_on (prefix n w) x ≡ b → urgency up pri n ids x ≡ cond b (pri w) (pri x)) [
         | true ↦ λ f.
-            let on = from_front n w x f in
+            let on = from_prefix n w x f in
             let low = most_of pri (pri x) (λ y. reaches up n y x) ids there.0 w there.1 there.2 on.0 in
             let high = most_least pri (pri w) (pri x) (λ y. reaches up n y x) ids (omega (arith, on.1)) (λ y r.
             ⊎_elim (λ (l : pri x ≤ pri y). let less = on.1 in omega arith) (λ (p : (pri w ≤ pri y) × (is_on (path up n w) x ≡ true)). p.0) (through n y x r)) in
@@ -185,7 +185,7 @@ module _ (up : ℕ → Option ℕ) (pri : ℕ → ℕ) (w : ℕ) (good : GoodBut
         | false ↦ λ f.
             let high = most_least pri (pri x) (pri x) (λ y. reaches up n y x) ids (omega arith) (λ y r.
             ⊎_elim (λ (l : pri x ≤ pri y). l) (λ (p : (pri w ≤ pri y) × (is_on (path up n w) x ≡ true)).
-            let not_less : pri w < pri x → ⊥ = λ l. let g = in_front n n x (omega arith) p.1 l in cc in
+            let not_less : pri w < pri x → ⊥ = λ l. let g = in_prefix n n x (omega arith) p.1 l in cc in
             let below = p.0 in omega arith) (through n y x r)) in
             let low = most_own pri (pri x) (map pri (filter (λ y. reaches up n y x) ids)) in
             omega arith

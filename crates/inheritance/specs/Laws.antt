@@ -7,7 +7,7 @@ use Rattle.task_block.specs.declared.task.Task.{Task}
 use Rattle.wind_core.specs.State.{IsKern, Lives, task_id}
 use Rattle.inheritance.specs.declared.mutex.Mutex.{Mutex}
 use Rattle.inheritance.specs.Mutexes.{MutexState}
-use Rattle.inheritance.specs.Reach.{boss, owner_at, pri_of, lent_pri, raised, IsExact, path, is_on, urgency, front_while}
+use Rattle.inheritance.specs.Reach.{boss, owner_at, pri_of, lent_pri, raised, IsExact, path, is_on, urgency, prefix_while}
 
 -- each owner is at least as urgent as its waiters, except the waiter w
 abbrev pub GoodBut : (ℕ → Option ℕ) → (ℕ → ℕ) → ℕ → Type 0
@@ -17,7 +17,7 @@ GoodBut up pri w = (y x : ℕ) → (y ≡ w → ⊥) → up y ≡ Some x → pri
 abbrev pub WalkLaw : Type 0
 WalkLaw = (up : ℕ → Option ℕ) (pri : ℕ → ℕ) (w n : ℕ) (ids : List ℕ) → GoodBut up pri w → Contains ids w
     → (x : ℕ)
-    → urgency up pri n ids x ≡ cond (is_on (front_while (λ z. nat_lt (pri w) (pri z)) (path up n w)) x) (pri w) (pri x)
+    → urgency up pri n ids x ≡ cond (is_on (prefix_while (λ z. nat_lt (pri w) (pri z)) (path up n w)) x) (pri w) (pri x)
 
 -- all tasks that a task waits for are among these
 abbrev pub StaysIn : (ℕ → Option ℕ) → List ℕ → Type 0
@@ -85,6 +85,6 @@ PremiseLaw = (w : ℕ) (ms : List (ℕ × Mutex)) (ts : List Task) → OwnersUrg
 abbrev pub HeirsLaw : Type 0
 HeirsLaw = (s : MutexState) (w x : ℕ) → s.profile ≡ One → OwnersUrgentBut w s.mutexes s.kern.tasks → Lives s.kern w → Lives s.kern x
     → pri_of (raised s).kern.tasks x
-    ≡ cond (is_on (front_while (λ z. nat_lt (pri_of s.kern.tasks w) (pri_of s.kern.tasks z))
+    ≡ cond (is_on (prefix_while (λ z. nat_lt (pri_of s.kern.tasks w) (pri_of s.kern.tasks z))
     (path (boss s.kern.tasks s.mutexes) 256 w)) x)
     (pri_of s.kern.tasks w) (pri_of s.kern.tasks x)

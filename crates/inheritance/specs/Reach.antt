@@ -107,9 +107,9 @@ abbrev pub IsExact : MutexState → Type 0
 IsExact s = All (λ t. t.pri ≡ lifted s.profile s.kern s.mutexes t.id) s.kern.tasks
 
 -- the longest prefix of a list whose elements pass the test
-abbrev pub front_while : (ℕ → Bool) → List ℕ → List ℕ
-front_while test [] = []
-front_while test (x ∷ xs) = cond (test x) (x ∷ front_while test xs) []
+abbrev pub prefix_while : (ℕ → Bool) → List ℕ → List ℕ
+prefix_while test [] = []
+prefix_while test (x ∷ xs) = cond (test x) (x ∷ prefix_while test xs) []
 
 -- ---- which task inherits next
 -- the owner, if it is less urgent than p

@@ -47,5 +47,6 @@ ids_stay n s all = record {
   counting = λ id tick delay routine. next_started s id tick delay routine (watchdog_of s.watchdogs id);
   cancelling = λ id. cancelled_below n s id (watchdog_of s.watchdogs id) all;
   ticking = λ tick top. due_below n tick s.watchdogs all;
+  beginning = λ routines top. all;
   finishing = λ top. all;
 }

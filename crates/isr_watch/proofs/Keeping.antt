@@ -10,7 +10,7 @@ use Rattle.wind_lists.specs.Records.{Rising, change, without}
 use Rattle.isr_watch.specs.declared.watchdog.Watchdog.{Watchdog}
 use Rattle.isr_watch.specs.declared.watchdog.Routine.{Routine}
 use Rattle.isr_watch.specs.State.{WatchState, IsWatch, watchdog_id, watchdog_of, is_due}
-use Rattle.isr_watch.specs.Calls.{new_watchdog, create_refusal, created, deleted, started, start_found, stopped, cancel_found, stop_due, level_of, rest_of, due, finish}
+use Rattle.isr_watch.specs.Calls.{new_watchdog, create_refusal, created, deleted, started, start_found, stopped, cancel_found, stop_due, level_of, rest_of, due, begun, finish}
 use Rattle.isr_watch.specs.Laws.{AllBelow, KeptLaw}
 
 -- ---- ids rise
@@ -48,11 +48,11 @@ rising_push : (ws : List Watchdog) (v : Watchdog) → All (λ w. w.id < v.id) ws
 rising_push [] v below all = AllPairs-cons (λ w u. watchdog_id w < watchdog_id u) v [] (λ k d within. absurd (omega (arith, within))) all
 rising_push (w ∷ ws) v below all =
     let rest = rising_push ws v (All-tail (λ u. u.id < v.id) w ws below) (rises_tail w ws all) in
-    AllPairs-cons (λ u x. watchdog_id u < watchdog_id x) w (ws ++ v ∷ []) (behind ws (rises_head w ws all)) rest
+    AllPairs-cons (λ u x. watchdog_id u < watchdog_id x) w (ws ++ v ∷ []) (after ws (rises_head w ws all)) rest
   where
-    behind : (us : List Watchdog) → All (λ u. w.id < u.id) us → All (λ u. w.id < u.id) (us ++ v ∷ [])
-    behind [] each = All-cons (λ u. w.id < u.id) v [] (All-head (λ u. u.id < v.id) w ws below) each
-    behind (u ∷ us) each = All-cons (λ x. w.id < x.id) u (us ++ v ∷ []) (All-head (λ x. w.id < x.id) u us each) (behind us (All-tail (λ x. w.id < x.id) u us each))
+    after : (us : List Watchdog) → All (λ u. w.id < u.id) us → All (λ u. w.id < u.id) (us ++ v ∷ [])
+    after [] each = All-cons (λ u. w.id < u.id) v [] (All-head (λ u. u.id < v.id) w ws below) each
+    after (u ∷ us) each = All-cons (λ x. w.id < x.id) u (us ++ v ∷ []) (All-head (λ x. w.id < x.id) u us each) (after us (All-tail (λ x. w.id < x.id) u us each))
 
 -- ---- the number of live watchdogs
 few_without : (ws : List Watchdog) (id : ℕ) → length (without watchdog_id ws id) ≤ length ws
@@ -103,6 +103,9 @@ module _ (n : ℕ) (s : WatchState) (is : IsWatch s) (below : AllBelow n s) wher
     idle = idle_next top _;
   }
 
+  begun_is : (routines : List Routine) (top : ℕ) → IsWatch (begun s routines top)
+  begun_is routines top = record { few = is.few; rising = is.rising; idle = idle_next top (s.listed ++ routines) }
+
   finished_is : (top : ℕ) → IsWatch (finish s top)
   finished_is top = record { few = is.few; rising = is.rising; idle = idle_next top s.listed }
 
@@ -120,6 +123,7 @@ watch_stays n s is below = record {
   starting = λ id tick delay routine. started_is n s is below id tick delay routine (watchdog_of s.watchdogs id);
   cancelling = λ id. cancelled_is n s is below id (watchdog_of s.watchdogs id);
   ticking = due_is n s is below;
+  beginning = begun_is n s is below;
   finishing = finished_is n s is below;
   going_on = λ regs some. record { few = is.few; rising = is.rising; idle = λ none. absurd (cc) };
 }

@@ -45,7 +45,7 @@ none_due tick (w ∷ ws) all =
     ∙ ap (λ vs. w ∷ vs) (none_due tick ws (All-tail (λ (v : Watchdog). is_due tick v ≡ false) w ws all))
 
 -- one iteration of the loop
-pub record Turn (t u : Rows Watchdog) (tick : ℕ) (f : Alarm) : Type 0 where
+pub record Iteration (t u : Rows Watchdog) (tick : ℕ) (f : Alarm) : Type 0 where
   pub own : SameIds u.rows
   pub watchdogs : stop_due tick (objects u.rows) ≡ stop_due tick (objects t.rows)
   pub routines : f.routine ∷ map watchdog_routine (due_watchdogs (objects u.rows) tick) ≡ map watchdog_routine (due_watchdogs (objects t.rows) tick)
@@ -65,9 +65,9 @@ alarm_lives t tick f own up e =
     let found = front_found watchdog_id starts_before starts_before-order (is_due tick) (objects t.rows) x.0 (rising_of t.rows own up) x.1 in
     subst (λ o. IsSome o) (sym (object-record watchdog_id t.rows f.id own ∙ ap (λ (u : Alarm). of_id watchdog_id (objects t.rows) u.id) x.2 ∙ found)) refl
 
-pub turn : (t : Rows Watchdog) (tick : ℕ) (f : Alarm) (v : Watchdog) → SameIds t.rows → Rising row_id t.rows → Some f ≡ option_map alarm_of (first_due (objects t.rows) tick) → object_of t.rows f.id ≡ Some v
-    → Turn t (rewritten t f.id (stopped v)) tick f
-turn t tick f v own up e value =
+pub iteration : (t : Rows Watchdog) (tick : ℕ) (f : Alarm) (v : Watchdog) → SameIds t.rows → Rising row_id t.rows → Some f ≡ option_map alarm_of (first_due (objects t.rows) tick) → object_of t.rows f.id ≡ Some v
+    → Iteration t (rewritten t f.id (stopped v)) tick f
+iteration t tick f v own up e value =
     let ws = objects t.rows in
     let rising = rising_of t.rows own up in
     let x = alarm_found (first_due ws tick) f e in

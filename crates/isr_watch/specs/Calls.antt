@@ -98,6 +98,10 @@ rest_of (x ∷ xs) = xs
 abbrev pub finish : WatchState → ℕ → WatchState
 finish s top = record s { level = level_of top s.listed; listed = rest_of s.listed }
 
+-- routines are listed, and the first listed one becomes active
+abbrev pub begun : WatchState → List Routine → ℕ → WatchState
+begun s routines top = finish (record s { listed = s.listed ++ routines }) top
+
 -- the watchdogs that are due stop
 abbrev pub stop_due : ℕ → List Watchdog → List Watchdog
 stop_due tick ws = map (λ w. if is_due tick w then stopped w else w) ws

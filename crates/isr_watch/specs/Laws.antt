@@ -1,10 +1,10 @@
 -- What follows from the definitions of watchdogs alone.
-use Rattle.std.specs.Prelude.{◌≡◌, ℕ, ◌+◌, ◌<◌, ◌≤◌, length, None, IsSome}
+use Rattle.std.specs.Prelude.{◌≡◌, ℕ, ◌+◌, ◌<◌, ◌≤◌, List, length, None, IsSome}
 use Rattle.std.specs.List.{All}
 use Rattle.wind_base.specs.declared.regs.Regs.{Regs}
 use Rattle.isr_watch.specs.declared.watchdog.Routine.{Routine}
 use Rattle.isr_watch.specs.State.{WatchState, IsWatch}
-use Rattle.isr_watch.specs.Calls.{create_refusal, created, delete, start, cancel, due, finish, with_level}
+use Rattle.isr_watch.specs.Calls.{create_refusal, created, delete, start, cancel, due, begun, finish, with_level}
 
 -- each watchdog's id is below this number
 abbrev pub AllBelow : ℕ → WatchState → Type 0
@@ -18,6 +18,7 @@ pub record IdsStay (n : ℕ) (s : WatchState) : Type 0 where
   pub counting : (id tick delay : ℕ) (routine : Routine) → (start s id tick delay routine).next_start ≤ s.next_start + 1
   pub cancelling : (id : ℕ) → AllBelow n (cancel s id)
   pub ticking : (tick top : ℕ) → AllBelow n (due s tick top)
+  pub beginning : (routines : List Routine) (top : ℕ) → AllBelow n (begun s routines top)
   pub finishing : (top : ℕ) → AllBelow n (finish s top)
 
 -- ids below a number stay below it
@@ -31,6 +32,7 @@ pub record WatchStays (n : ℕ) (s : WatchState) : Type 0 where
   pub starting : (id tick delay : ℕ) (routine : Routine) → IsWatch (start s id tick delay routine)
   pub cancelling : (id : ℕ) → IsWatch (cancel s id)
   pub ticking : (tick top : ℕ) → IsWatch (due s tick top)
+  pub beginning : (routines : List Routine) (top : ℕ) → IsWatch (begun s routines top)
   pub finishing : (top : ℕ) → IsWatch (finish s top)
   -- so does a change of the active routine's registers
   pub going_on : (regs : Regs) → IsSome s.level → IsWatch (with_level s regs)

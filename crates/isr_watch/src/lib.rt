@@ -1,5 +1,5 @@
 //! Watchdog timers (VxWorks 5.4 Reference Manual, wdLib), and the interrupt level at which their
-//! routines run.
+//! routines and those of devices run.
 #![tactic(auto)]
 
 mod laws;

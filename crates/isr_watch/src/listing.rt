@@ -1,4 +1,4 @@
-//! The routines that a tick lists.
+//! The routines that a tick or a device's interrupt lists.
 
 ghost use Rattle.std.specs.Prelude.{◌≡◌, ◌≤◌, ◌+◌, ◌++◌, map, length, option_copied};
 ghost use Rattle.std.specs.Option.{option_map};
@@ -48,6 +48,17 @@ pub(crate) fn list_due(watchdogs: &mut Table<Watchdog>, listed: &mut VecDeque<Ro
     while let Some(next) = front_due(watchdogs, tick) {
         watchdogs.object_mut(next.id).timer = None;
         listed.push_back_reserved(next.routine);
+    }
+}
+
+// Lists these routines, in this order, after those that are listed.
+pub(crate) fn list_routines(listed: &mut VecDeque<Routine>, routines: &[Routine])
+    requires { deque_len listed.old + length routines.now ≤ deque_capacity listed.old }
+    ensures listed { listed.new.items ≡ listed.old.items ++ routines.now }
+    ensures capacity { deque_capacity listed.new ≡ deque_capacity listed.old }
+{
+    for routine in routines {
+        listed.push_back_reserved(*routine);
     }
 }
 

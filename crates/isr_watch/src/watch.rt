@@ -4,14 +4,14 @@ ghost use Rattle.std.specs.Prelude.{◌≡◌, ◌<◌, ◌≤◌, ◌+◌, ◌^
 ghost use Rattle.std.specs.Borrow.{sem};
 ghost use Rattle.std.specs.List.{All};
 ghost use Rattle.std.specs.Option.{option_copied_mut};
-ghost use Rattle.wind_base.specs.Limits.{frame_bytes};
+ghost use Rattle.wind_base.specs.Limits.{frame_bytes, most_watchdogs};
 ghost use Rattle.wind_base.specs.declared.errno.Errno.TheVariants.{ObjIdError};
 ghost use Rattle.id_table.specs.Rows.{IdsBelow, added};
 ghost use Rattle.id_table.specs.Source.{one_given};
 ghost use Rattle.isr_watch.specs.State.{IsWatch, watchdog_of};
-ghost use Rattle.isr_watch.specs.Calls.{new_watchdog as new_watchdog_lem, create_refusal, created, delete, start, cancel, due, finish};
+ghost use Rattle.isr_watch.specs.Calls.{new_watchdog as new_watchdog_lem, create_refusal, created, delete, start, cancel, due, begun, finish};
 
-use crate::listing::{list_due, next_level};
+use crate::listing::{list_due, list_routines, next_level};
 use crate::watchdog::{Routine, Watchdog, begin, new_watchdog, stop};
 use id_table::{IdSource, Ident, Table};
 use std::alloc::Global;
@@ -21,7 +21,8 @@ use wind_base::limits::WATCHDOGS;
 use wind_base::{Errno, NoMemory, Regs};
 use wind_core::Kern;
 
-/// The watchdogs, the routines listed by a tick, and the registers of the active routine.
+/// The watchdogs, the routines listed by a tick or a device's interrupt, and the registers of the
+/// active routine.
 #[derive(Drop)]
 pub struct Watch {
     watchdogs: Table<Watchdog>,
@@ -250,6 +251,19 @@ impl Watch {
     {
         self.watchdogs.facts();
         list_due(&mut self.watchdogs, &mut self.listed, tick);
+        self.level = next_level(&mut self.listed, top);
+    }
+
+    /// A device's interrupt. Its routines are listed in this order, and the first becomes active.
+    /// Its stack begins below `top`, the end of the interrupt stack.
+    pub fn begin(&mut self, routines: &[Routine], top: u32)
+        requires some { 0 < length routines.now }
+        requires few { length routines.now ≤ most_watchdogs }
+        requires top { frame_bytes ≤ top }
+        requires level { self.old.level ≡ None }
+        ensures { self.new ≡ begun self.old routines.now top }
+    {
+        list_routines(&mut self.listed, routines);
         self.level = next_level(&mut self.listed, top);
     }
 

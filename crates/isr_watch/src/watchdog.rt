@@ -15,7 +15,7 @@ use wind_base::limits::{FRAME_BYTES, GATE_BYTES, GATES_START};
 const ROUTINE_GATE: u32 = GATES_START + 2 * GATE_BYTES;
 
 /// A routine and its parameter.
-#[derive(Clone, Copy, Debug, PartialEq, Eq)]
+#[derive(Clone, Copy, Debug, Default, PartialEq, Eq)]
 pub struct Routine {
     /// The address of its first instruction.
     pub entry: u32,

@@ -28,7 +28,7 @@ created c w a k o max_msgs max_len options (Err e) is made rest = tt
 
 -- ---- taskNameToId: it changes nothing
 pub named : (c : Call) (w : WorldState) (a : Actor) (name : ℕ) (reply : Reply) → c ≡ calls.TaskNameToId name → reply ≡ (name_row w.kern (string_at w.ram name)).reply → with_reply w reply ≡ row c w a
-named c w a name reply is told = ap (λ t. with_reply w t) told ∙ still (string_at w.ram name) ∙ ap (λ d. row d w a) (sym is)
+named c w a name reply is same = ap (λ t. with_reply w t) same ∙ still (string_at w.ram name) ∙ ap (λ d. row d w a) (sym is)
   where
     still : (o : Option (List ℕ)) → with_reply w (name_row w.kern o).reply ≡ of_kern w (name_row w.kern o)
     still None = refl

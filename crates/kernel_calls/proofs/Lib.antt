@@ -8,3 +8,4 @@ pub mod Deletions
 pub mod Passing
 pub mod Serving
 pub mod Shows
+pub mod Removing

@@ -20,9 +20,10 @@ use Rattle.task_calls.specs.SafetyRows.{delete_row}
 use Rattle.object_calls.specs.SemRows.{ObjectRow, is_mutex}
 use Rattle.object_calls.specs.QueueRows.{QueueRow, sending}
 use Rattle.object_calls.specs.WatchRows.{WatchRow, routine_of}
+use Rattle.object_calls.specs.IrqRows.{IrqRow}
 use Rattle.kernel_calls.specs.ShowRows.{ShowRow}
 use Rattle.task_calls.specs.Spawning.{spawned_if, task_wanted, quick_wanted, quick_text, after_spawn, spawn_state}
-use Rattle.kernel_calls.specs.Calls.{with_reply, of_kern, of_objects, scene_of, of_queues, of_watch, of_text, of_deletion, of_ram, row_of, refusal_before, row_unless, made, call}
+use Rattle.kernel_calls.specs.Calls.{with_reply, of_kern, of_objects, scene_of, of_queues, of_watch, of_irqs, of_text, of_deletion, of_ram, row_of, refusal_before, row_unless, made, call}
 use Rattle.kernel_world.specs.CallWords.{ten_arguments, quick_arguments, call_of}
 use Rattle.kernel_world.specs.Replies.{left_gate}
 use Rattle.kernel_world.specs.Kept.{IsWorld, Within, call_sinces}
@@ -35,14 +36,14 @@ use Rattle.kernel_world.proofs.Goes.{Goes}
 use Rattle.task_calls.proofs.TaskMoves.{suspend_goes, resume_goes, delay_goes, lock_goes, unlock_goes, self_goes, verify_goes, name_goes, slice_goes, int_lock_goes, int_unlock_goes, int_context_goes, safe_goes, unsafe_goes}
 use Rattle.kernel_world.proofs.Replying.{safe_left, may_left, left_advances, replied_advances}
 use Rattle.task_calls.proofs.KernRows.{objects-suspend_row, objects-resume_row, objects-delay_row, objects-lock_row, objects-unlock_row, objects-self_row, objects-verify_row, objects-name_row, objects-slice_row, objects-int_lock_row, objects-int_unlock_row, objects-int_context_row}
-use Rattle.kernel_world.proofs.Advancing.{Advances, as_call, advances_on, advances_more, beside, nowhere, of_tasks, of_both, of_scene, of_list, of_memory, errno_advances}
+use Rattle.kernel_world.proofs.Advancing.{Advances, as_call, advances_on, advances_more, beside, of_devices, nowhere, of_tasks, of_both, of_scene, of_list, of_memory, errno_advances}
 use Rattle.task_calls.proofs.RowMoves.{align_advances, free_advances, symbol_few, spawn_advances}
 use Rattle.object_calls.proofs.QueueKept.{keeps-create_row, keeps-send_row, keeps-receive_row, keeps-delete_row as keeps-queue_delete_row}
 use Rattle.object_calls.proofs.QueueCalls.{is_caller}
 use Rattle.object_calls.proofs.QueueGoes.{IsNear, near_itself, create_near, send_near, receive_row_near, delete_near}
 use Rattle.object_calls.proofs.WatchGoes.{create_advances, start_advances, cancel_advances, delete_advances}
 use Rattle.kernel_calls.proofs.Unloading.{unload_advances}
-use Rattle.kernel_calls.proofs.Serves.{Serves, served, acts_on, passes_behind, passes_before}
+use Rattle.kernel_calls.proofs.Serves.{Serves, served, acts_on, passes_after, passes_before}
 use Rattle.object_calls.proofs.Callers.{mutex_callers, queue_callers}
 use Rattle.kernel_calls.proofs.Deletions.{delete_serves}
 use Rattle.task_calls.proofs.Deleting.{objects-safe_row, objects-unsafe_row}
@@ -61,9 +62,9 @@ delete_row_serves w kept n within Interrupt id may = served w Interrupt (of_dele
 
 -- a priority that is reported
 module _ (w : WorldState) (kept : IsWorld w) (n : ℕ) (within : Within n w) where
-  told_advances : (at : ℕ) (o : Option TaskRecord) → Advances w (of_ram w (priority_in w.ram at o)).world (n + 1) call_sinces 1
-  told_advances at None = nowhere w kept n within
-  told_advances at (Some t) = go (has w.ram at 4) refl where
+  priority_advances : (at : ℕ) (o : Option TaskRecord) → Advances w (of_ram w (priority_in w.ram at o)).world (n + 1) call_sinces 1
+  priority_advances at None = nowhere w kept n within
+  priority_advances at (Some t) = go (has w.ram at 4) refl where
     go : (b : Bool) → has w.ram at 4 ≡ b
         → Advances w (of_ram w (cond b (ram_row (with_word w.ram at t.pri) (Answer 0)) (ram_row w.ram (Refusal errors.BadAddress)))).world (n + 1) call_sinces 1
     go true e = of_memory w kept n within (with_word w.ram at t.pri) (length-with_number 4 w.ram at t.pri e)
@@ -106,6 +107,9 @@ module _ (w : WorldState) (kept : IsWorld w) (n : ℕ) (within : Within n w) (a 
   of_watch_row : (r : WatchRow) → Advances w (of_watch w r).world n 0 1 → Serves w a (of_watch w r) (n + 1)
   of_watch_row r g = served w a (of_watch w r) (n + 1) (advances_more w (of_watch w r).world n (n + 1) 0 call_sinces 1 1 (omega arith) (omega arith) (omega arith) g)
 
+  of_irq_row : (r : IrqRow) → Serves w a (of_irqs w r) (n + 1)
+  of_irq_row r = served w a (of_irqs w r) (n + 1) (as_call w kept n within _ (of_devices w kept n within r.irqs r.slots))
+
   -- the invariant doesn't mention what is written
   writing : (v : WorldState) (text : List ℕ) → Advances w v (n + 1) call_sinces 1 → Advances w (record v { output = text }) (n + 1) call_sinces 1
   writing v text g =
@@ -134,7 +138,7 @@ module _ (w : WorldState) (kept : IsWorld w) (n : ℕ) (within : Within n w) (a 
   row_serves gates.TaskIdVerify ram r live there may = of_kern_row _ (verify_goes w.kern n kept.kern within.0 (live_id w.kern.tasks (slice_index r 3))) (objects-verify_row w.kern w.objects kept.kern kept.objects (live_id w.kern.tasks (slice_index r 3)))
   row_serves gates.TaskNameToId ram r live there may = of_kern_row _ (name_goes w.kern n kept.kern within.0 (string_at w.ram (slice_index r 3))) (objects-name_row w.kern w.objects kept.kern kept.objects (string_at w.ram (slice_index r 3)))
   row_serves gates.KernelTimeSlice ram r live there may = of_kern_row _ (slice_goes w.kern n kept.kern within.0 (slice_index r 3)) (objects-slice_row w.kern w.objects kept.kern kept.objects (slice_index r 3))
-  row_serves gates.TaskPriorityGet ram r live there may = served w a _ (n + 1) (told_advances w kept n within (slice_index r 4) (task_at w.kern (target w.kern a (slice_index r 3))))
+  row_serves gates.TaskPriorityGet ram r live there may = served w a _ (n + 1) (priority_advances w kept n within (slice_index r 4) (task_at w.kern (target w.kern a (slice_index r 3))))
   row_serves gates.TickGet ram r live there may = idle _
   row_serves gates.TaskPrioritySet ram r live there may = of_still_row _ (priority_goes w.kern w.objects n kept.kern within.0 (slice_index r 4) (target w.kern a (slice_index r 3))) (keeps-priority_row w.kern w.objects kept.kern kept.objects (slice_index r 4) (target w.kern a (slice_index r 3))) (priority_depths w.kern w.objects n within.1 (slice_index r 4) (target w.kern a (slice_index r 3)))
       (priority_stays w.kern w.objects (slice_index r 4) (target w.kern a (slice_index r 3))) (priority_owned w.kern w.objects kept.kern MayOwn tt tasks_may kept.ids.owners (slice_index r 4) (target w.kern a (slice_index r 3)))
@@ -193,6 +197,12 @@ module _ (w : WorldState) (kept : IsWorld w) (n : ℕ) (within : Within n w) (a 
   row_serves gates.Lkup ram r live there may = of_text_row _
   row_serves gates.ModuleShow ram r live there may = of_text_row _
   row_serves gates.D ram r live there may = of_text_row _
+  row_serves gates.IntConnect ram r live there may = of_irq_row _
+  row_serves gates.IntDisconnect ram r live there may = of_irq_row _
+  row_serves gates.IntEnable ram r live there may = of_irq_row _
+  row_serves gates.IntDisable ram r live there may = of_irq_row _
+  row_serves gates.IntPending ram r live there may = of_irq_row _
+  row_serves gates.DevRemove ram r live there may = of_irq_row _
   row_serves g ram r live there may = idle Later
 
 unless_row : (w : WorldState) (kept : IsWorld w) (n : ℕ) (within : Within n w) (o : Option Errno) (g : Gate) (a : Actor) (ram r : List ℕ) → (is_mutex w.objects (slice_index r 3) ≡ true → Acts w.kern a)
@@ -208,7 +218,7 @@ made_serves g w a n kept may within =
     let there : is_some (object_of v.objects.queues.queues (slice_index (caller_words w a) 3)) ≡ true → Acts v.kern a = λ h. acts_on w v a n 0 0 left (queue_callers w a kept.objects h) in
     let rowed = unless_row v left.kept n left.within (refusal_before g a) g a w.ram (caller_words w a) live there (may_left w a may) in
     record {
-      passes = passes_behind w v (made g w a).world a n (n + 1) call_sinces 1 left (safe_left w a) rowed.passes;
+      passes = passes_after w v (made g w a).world a n (n + 1) call_sinces 1 left (safe_left w a) rowed.passes;
       acts = λ stays lives. rowed.acts stays (acts_on w v a n 0 0 left lives);
     }
 

@@ -3,7 +3,7 @@ use Rattle.std.proofs.Common.{◌≡◌, ℕ, true, false, List, Option, None, S
 use Rattle.wind_base.specs.declared.gate.Gate.{Gate}
 use Rattle.wind_base.specs.declared.gate.Gate.TheVariants as gates
 use Rattle.kernel_world.specs.State.{WorldState}
-use Rattle.kernel_world.specs.Allowed.{is_call, may_lack_memory}
+use Rattle.kernel_world.specs.Allowed.{is_call, may_exhaust_memory}
 use Rattle.kernel_world.specs.Actors.{is_interrupt}
 use Rattle.kernel_world.specs.CallWords.{call_of, call_by, gate_of}
 use Rattle.kernel_world.specs.Replies.{left_gate}
@@ -29,7 +29,7 @@ pub gate_back : (g : Gate) (ram r : List ℕ) (c : Call) → Some c ≡ call_of 
 gate_back g ram r c e = subst (IsOf g) (sym e) (of_gate g ram r)
 
 -- ---- a call that needs a file may run out of memory, and no interrupt routine makes it
-pub asks_lack : (g : Gate) (w : WorldState) (a : Actor) → IsSome (file_wanted g w a) → may_lack_memory g ≡ true
+pub asks_lack : (g : Gate) (w : WorldState) (a : Actor) → IsSome (file_wanted g w a) → may_exhaust_memory g ≡ true
 asks_lack gates.Ld w a some = refl
 asks_lack g w a some = absurd (cc)
 

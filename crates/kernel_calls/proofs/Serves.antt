@@ -41,9 +41,9 @@ pub served : (w : WorldState) (a : Actor) (r : Row) (n : ℕ) → Advances w r.w
 served w a r n g = record { passes = passes_by w r.world a n call_sinces 1 g; acts = λ stays live. acts_on w r.world a n call_sinces 1 g live }
 
 -- first all live on, as safe as they were
-pub passes_behind : (w v u : WorldState) (a : Actor) (l n d m : ℕ) → Advances w v l 0 0 → ((id : ℕ) → safe_of (task_of v.kern.tasks id) ≡ safe_of (task_of w.kern.tasks id))
+pub passes_after : (w v u : WorldState) (a : Actor) (l n d m : ℕ) → Advances w v l 0 0 → ((id : ℕ) → safe_of (task_of v.kern.tasks id) ≡ safe_of (task_of w.kern.tasks id))
     → Passes v u a n d m → Passes w u a n d m
-passes_behind w v u a l n d m g safes p = record {
+passes_after w v u a l n d m g safes p = record {
   kept = p.kept;
   gone = λ id live dead. ⊎_elim
       (λ (z : safe_of (task_of v.kern.tasks id) ≡ 0). inl (sym (safes id) ∙ z))

@@ -12,7 +12,7 @@ use Rattle.kernel_world.specs.Actors.{is_interrupt, Acts, MayCall, shell_id}
 use Rattle.kernel_world.specs.Kept.{KeepsWatch, IsWorld, IsEarly}
 use Rattle.kernel_calls.specs.Calls.{Row, scene_of, with_reply, refusal_before, made}
 use Rattle.kernel_world.specs.Replies.{left_gate, replied}
-use Rattle.kernel_world.specs.Allowed.{is_isr_callable, is_shells_own, may_lack_memory}
+use Rattle.kernel_world.specs.Allowed.{is_isr_callable, is_shells_own, may_exhaust_memory}
 use Rattle.kernel_world.specs.declared.actor.Actor.{Actor}
 use Rattle.kernel_world.specs.declared.actor.Actor.TheVariants.{Task, Interrupt}
 use Rattle.kernel_world.specs.declared.reply.Reply.{Reply}
@@ -45,21 +45,21 @@ pub left_watch : (w : WorldState) (a : Actor) → IsWorld w → MayCall w.kern a
 left_watch w a kept may early = (left_advances w kept (2 ^ 60) (early_within w early) a may).kept.watch
 
 -- a call that may run out of memory is that of a task, because a routine's is refused before
-none_lacks : (g : Gate) → may_lack_memory g ≡ true → is_isr_callable g ≡ false
-none_lacks gates.SymAdd h = refl
-none_lacks gates.MsgQCreate h = refl
-none_lacks gates.Ld h = refl
-none_lacks gates.I h = refl
-none_lacks gates.Lkup h = refl
-none_lacks gates.ModuleShow h = refl
-none_lacks gates.D h = refl
-none_lacks g h = absurd (cc)
+none_exhausts : (g : Gate) → may_exhaust_memory g ≡ true → is_isr_callable g ≡ false
+none_exhausts gates.SymAdd h = refl
+none_exhausts gates.MsgQCreate h = refl
+none_exhausts gates.Ld h = refl
+none_exhausts gates.I h = refl
+none_exhausts gates.Lkup h = refl
+none_exhausts gates.ModuleShow h = refl
+none_exhausts gates.D h = refl
+none_exhausts g h = absurd (cc)
 
-pub by_task : (g : Gate) (a : Actor) → None ≡ refusal_before g a → may_lack_memory g ≡ true → is_interrupt a ≡ false
-by_task g (Task who) fine lacks = refl
-by_task g Interrupt fine lacks =
+pub by_task : (g : Gate) (a : Actor) → None ≡ refusal_before g a → may_exhaust_memory g ≡ true → is_interrupt a ≡ false
+by_task g (Task who) fine exhausts = refl
+by_task g Interrupt fine exhausts =
     let refused : refusal_before g Interrupt ≡ Some errors.NotIsrCallable =
-    ap (λ b. cond (not b) (Some errors.NotIsrCallable) (cond (is_shells_own g && true) (Some errors.NotShell) None)) (none_lacks g lacks) in
+    ap (λ b. cond (not b) (Some errors.NotIsrCallable) (cond (is_shells_own g && true) (Some errors.NotShell) None)) (none_exhausts g exhausts) in
     let clash : None ≡ Some errors.NotIsrCallable = fine ∙ refused in
     absurd (cc)
 

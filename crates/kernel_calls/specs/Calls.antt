@@ -20,6 +20,7 @@ use Rattle.kernel_world.specs.declared.reply.Reply.TheVariants.{Answer, Refusal,
 use Rattle.object_calls.specs.SemRows as sem
 use Rattle.object_calls.specs.QueueRows as queue
 use Rattle.object_calls.specs.WatchRows as watch
+use Rattle.object_calls.specs.IrqRows as irq
 use Rattle.task_calls.specs.TaskRows.{KernRow, RamRow, task_at, priority_in, suspend_row, resume_row, delay_row, lock_row, unlock_row, self_row, verify_row, name_row, slice_row, tick_row, int_lock_row, int_unlock_row, int_context_row}
 use Rattle.task_calls.specs.SafetyRows.{DeleteRow, safe_row, unsafe_row, delete_row}
 use Rattle.task_calls.specs.MemoryRows.{PartRow, malloc_row, align_row, free_row}
@@ -38,8 +39,8 @@ pub record Row : Type 0 where
 abbrev pub with_reply : WorldState → Reply → Row
 with_reply w r = record { world = w; reply = r }
 
--- the world and the reply after a row of one kind: of tasks, objects, queues, watchdogs, texts, a deletion, RAM, the
--- partition, symbols
+-- the world and the reply after a row of one kind: of tasks, objects, queues, watchdogs, interrupts of devices, texts,
+-- a deletion, RAM, the partition, symbols
 abbrev pub of_kern : WorldState → KernRow → Row
 of_kern w r = with_reply (record w { kern = r.kern }) r.reply
 
@@ -54,6 +55,9 @@ of_queues w r = with_reply (record w { kern = r.scene.kern; objects = record w.o
 
 abbrev pub of_watch : WorldState → watch.WatchRow → Row
 of_watch w r = with_reply (record w { kern = r.kern; watch = r.watch }) r.reply
+
+abbrev pub of_irqs : WorldState → irq.IrqRow → Row
+of_irqs w r = with_reply (record w { irqs = r.irqs; slots = r.slots }) r.reply
 
 abbrev pub of_text : WorldState → show.ShowRow → Row
 of_text w r = with_reply (record w { output = w.output ++ r.text }) r.reply
@@ -131,6 +135,12 @@ row (calls.Unld which options) w a = of_modules w (unload_row w.symbols w.module
 row (calls.Lkup text) w a = of_text w (show.lookup_row w.symbols w.ram text)
 row calls.ModuleShow w a = of_text w (show.modules_row w.modules.rows)
 row (calls.D address units width) w a = of_text w (show.dump_row w.ram address units width)
+row (calls.IntConnect slot routine parameter) w a = of_irqs w (irq.connect_row w.irqs w.slots slot (watch.routine_of routine parameter))
+row (calls.IntDisconnect slot routine) w a = of_irqs w (irq.disconnect_row w.irqs w.slots slot routine)
+row (calls.IntEnable slot) w a = of_irqs w (irq.enable_row w.irqs w.slots slot true)
+row (calls.IntDisable slot) w a = of_irqs w (irq.enable_row w.irqs w.slots slot false)
+row (calls.IntPending slot) w a = of_irqs w (irq.pending_row w.irqs w.slots slot)
+row (calls.DevRemove slot) w a = of_irqs w (irq.remove_row w.irqs w.slots slot)
 
 -- the row of the call at a gate; if the gate has no call, nothing happens
 abbrev pub row_of : Option Call → WorldState → Actor → Row
@@ -165,14 +175,14 @@ abbrev pub call : Gate → WorldState → Actor → WorldState
 call g w a = answered g a (made g w a)
 
 -- what the board is told after a reply
-abbrev pub told_by : Reply → Called
-told_by (Answer value) = called.Done
-told_by (Refusal e) = called.Done
-told_by Later = called.Pended
-told_by Gone = called.Ended
+abbrev pub outcome_by : Reply → Called
+outcome_by (Answer value) = called.Done
+outcome_by (Refusal e) = called.Done
+outcome_by Later = called.Pended
+outcome_by Gone = called.Ended
 
-abbrev pub told : Gate → WorldState → Actor → Called
-told g w a = told_by (made g w a).reply
+abbrev pub outcome : Gate → WorldState → Actor → Called
+outcome g w a = outcome_by (made g w a).reply
 
 -- ---- the file that a call needs
 -- a name has 1 to 255 bytes

@@ -1,13 +1,14 @@
 //! A kernel call: the gate that it leaves, its refusals and its answer.
 
-ghost use Rattle.std.specs.Prelude.{◌≡◌, ◌<◌, ◌≤◌, [], true, false, None, Some, IfOk, IfSome, OnOk, OnErr};
+ghost use Rattle.std.specs.Prelude.{◌≡◌, ℕ, ◌<◌, ◌≤◌, [], true, false, None, Some, IfOk, IfSome, OnOk, OnErr};
 ghost use Rattle.wind_base.specs.OutBuf.{KeepsSpace};
 ghost use Rattle.wind_core.specs.State.{Lives};
 ghost use Rattle.kernel_world.specs.Actors.{Acts, MayCall, is_interrupt as is_interrupt_lem, shell_id as shell_id_lem};
 ghost use Rattle.kernel_world.specs.Kept.{IsWorld, IsEarly};
-ghost use Rattle.kernel_world.specs.Allowed.{may_lack_memory};
+ghost use Rattle.kernel_world.specs.Allowed.{may_exhaust_memory};
 ghost use Rattle.kernel_calls.specs.Standing.{counter_of, standing_at};
-ghost use Rattle.kernel_calls.specs.Calls.{refusal_before as refusal_before_lem, with_reply, told_by, told as told_lem, made, call, file_wanted as file_wanted_lem, is_made, asked_for};
+ghost use Rattle.kernel_calls.specs.Removing.{Removes, OnlyRemoves, IsNoneBack};
+ghost use Rattle.kernel_calls.specs.Calls.{refusal_before as refusal_before_lem, with_reply, outcome_by, outcome as outcome_lem, made, call, file_wanted as file_wanted_lem, is_made, asked_for};
 ghost use Rattle.kernel_calls.specs.declared.calls.Called.TheVariants as called;
 ghost use Rattle.kernel_world.specs.Seen.{world_seen, world_with};
 ghost use Rattle.kernel_calls.specs.Space.{makes_room, HoldsSpace};
@@ -58,8 +59,8 @@ fn refusal_before(gate: Gate, who: &Actor) -> Option<Errno>
 }
 
 // What the board is told after a reply.
-fn told(reply: &Reply) -> Called
-    ensures answer { result ≡ told_by reply.now }
+fn outcome(reply: &Reply) -> Called
+    ensures answer { result ≡ outcome_by reply.now }
     ensures made { is_made result ≡ true }
 {
     match reply {
@@ -106,7 +107,7 @@ fn make(alloc: Global, w: &mut World, gate: Gate, who: &Actor) -> Result<Reply, 
     requires room { 4096 ≤ w.old.out.room }
     ensures ok { IfOk result (λ r. with_reply (world_seen ⟦<dyn Device as Device>⟧ w.new) r
         ≡ made gate (world_seen ⟦<dyn Device as Device>⟧ w.old) who.now) }
-    ensures memory { OnErr result (may_lack_memory gate ≡ true) }
+    ensures memory { OnErr result (may_exhaust_memory gate ≡ true) }
     ensures task { OnErr result (is_interrupt_lem who.now ≡ false) }
     ensures err { OnErr result (world_seen ⟦<dyn Device as Device>⟧ w.new ≡ world_seen ⟦<dyn Device as Device>⟧ w.old) }
     ensures space { makes_room gate ≡ false → KeepsSpace w.old.out w.new.out }
@@ -146,7 +147,7 @@ pub fn make_call(alloc: Global, w: &mut World, gate: Gate, who: &Actor) -> Resul
     ensures made { OnOk result
         (world_seen ⟦<dyn Device as Device>⟧ w.new ≡ call gate (world_seen ⟦<dyn Device as Device>⟧ w.old) who.now) }
     ensures reply { IfOk result (λ r. r ≡ (made gate (world_seen ⟦<dyn Device as Device>⟧ w.old) who.now).reply) }
-    ensures memory { OnErr result (may_lack_memory gate ≡ true) }
+    ensures memory { OnErr result (may_exhaust_memory gate ≡ true) }
     ensures task { OnErr result (is_interrupt_lem who.now ≡ false) }
     ensures err { OnErr result (world_seen ⟦<dyn Device as Device>⟧ w.new ≡ world_seen ⟦<dyn Device as Device>⟧ w.old) }
     ensures kept { IsWorld (world_with [] w.new) }
@@ -161,9 +162,11 @@ pub fn make_call(alloc: Global, w: &mut World, gate: Gate, who: &Actor) -> Resul
     Ok(reply)
 }
 
-/// Makes the call of a gate as `make_call` does, unless it needs a file. A call of `ld` that needs a
-/// file is not made, and the result names the file. Host memory may run out only at `symAdd`,
-/// `msgQCreate`, `ld`, `i`, `lkup`, `moduleShow` and `d` of a task, and the world is then as it was.
+/// Makes the call of a gate as `make_call` does, unless it needs a file. A call of `ld` that needs
+/// a file isn't made, and the result names the file. Host memory may run out only at `symAdd`,
+/// `msgQCreate`, `ld`, `i`, `lkup`, `moduleShow` and `d` of a task; the world is then as it was.
+/// `devRemove` of a device removes that device and its interrupts, and changes nothing else but its
+/// caller's answer. No call puts a device back.
 #[tactic(auto, using(crate::proofs::Reading::asks_lack, crate::proofs::Reading::asks_as_task))]
 pub fn kernel_call(alloc: Global, w: &mut World, gate: Gate, who: &Actor) -> Called
     requires caller { Acts w.old.kern who.now }
@@ -174,15 +177,19 @@ pub fn kernel_call(alloc: Global, w: &mut World, gate: Gate, who: &Actor) -> Cal
     ensures made { is_made result ≡ true →
         world_seen ⟦<dyn Device as Device>⟧ w.new ≡ call gate (world_seen ⟦<dyn Device as Device>⟧ w.old) who.now }
     ensures answer { is_made result ≡ true →
-        result ≡ told_lem gate (world_seen ⟦<dyn Device as Device>⟧ w.old) who.now }
+        result ≡ outcome_lem gate (world_seen ⟦<dyn Device as Device>⟧ w.old) who.now }
     ensures ready { is_made result ≡ true →
         file_wanted_lem gate (world_seen ⟦<dyn Device as Device>⟧ w.old) who.now ≡ None }
     ensures file { IfSome (asked_for result) (λ name.
         file_wanted_lem gate (world_seen ⟦<dyn Device as Device>⟧ w.old) who.now ≡ Some name) }
-    ensures memory { result ≡ called.NoMemory → may_lack_memory gate ≡ true }
+    ensures memory { result ≡ called.NoMemory → may_exhaust_memory gate ≡ true }
     ensures task { result ≡ called.NoMemory → is_interrupt_lem who.now ≡ false }
     ensures unchanged { is_made result ≡ false →
         world_seen ⟦<dyn Device as Device>⟧ w.new ≡ world_seen ⟦<dyn Device as Device>⟧ w.old }
+    ensures removed { (task slot : ℕ) → Removes gate (world_seen ⟦<dyn Device as Device>⟧ w.old) who.now task slot
+        → OnlyRemoves (world_seen ⟦<dyn Device as Device>⟧ w.old) (world_seen ⟦<dyn Device as Device>⟧ w.new)
+        task slot }
+    ensures back { IsNoneBack (world_seen ⟦<dyn Device as Device>⟧ w.old) (world_seen ⟦<dyn Device as Device>⟧ w.new) }
     ensures kept { IsWorld (world_with [] w.new) }
     ensures shell { Lives w.old.kern shell_id_lem → Lives w.new.kern shell_id_lem }
     ensures space { makes_room gate ≡ false → KeepsSpace w.old.out w.new.out }
@@ -196,5 +203,5 @@ pub fn kernel_call(alloc: Global, w: &mut World, gate: Gate, who: &Actor) -> Cal
     let Ok(reply) = make_call(alloc, w, gate, who) else {
         return Called::NoMemory;
     };
-    told(&reply)
+    outcome(&reply)
 }

@@ -10,4 +10,4 @@ mod show_rows;
 
 pub use calls::{Called, kernel_call, make_call};
 pub use files::file_wanted;
-pub use laws::world_law;
+pub use laws::{removal_law, world_law};

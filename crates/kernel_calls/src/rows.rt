@@ -7,7 +7,7 @@ ghost use Rattle.msg_queue.specs.Kept.{IsKept};
 ghost use Rattle.module_loader.specs.Holding.{AreHeld};
 ghost use Rattle.kernel_world.specs.Actors.{Acts, MayCall};
 ghost use Rattle.kernel_world.specs.CallWords.{gate_of};
-ghost use Rattle.kernel_world.specs.Allowed.{may_lack_memory};
+ghost use Rattle.kernel_world.specs.Allowed.{may_exhaust_memory};
 ghost use Rattle.kernel_world.specs.Kept.{IsEarly, KeepsWatch};
 ghost use Rattle.kernel_world.specs.Objects.{KeepsObjects};
 ghost use Rattle.kernel_world.specs.Seen.{world_seen, world_with};
@@ -19,7 +19,7 @@ use crate::show_rows::{print, show_memory, show_modules, show_symbols, show_task
 use isr_watch::Routine;
 use kernel_world::{Actor, Call, DONE, Reply, World, errno_of, set_errno};
 use object_calls::queue_rows::{self, ReceiveWords, SendWords};
-use object_calls::{sem_rows, watch_rows};
+use object_calls::{irq_rows, sem_rows, watch_rows};
 use std::alloc::Global;
 use task_calls::memory_rows::{free, malloc, memalign};
 use task_calls::safety_rows::{delete, make_safe, make_unsafe};
@@ -48,7 +48,7 @@ pub(crate) fn row(alloc: Global, w: &mut World, call: &Call, who: Actor) -> Resu
     ensures ok { IfOk result (λ r. with_reply (world_seen ⟦<dyn Device as Device>⟧ w.new) r
         ≡ row_lem call.now (world_seen ⟦<dyn Device as Device>⟧ w.old) who) }
     ensures err { OnErr result (world_seen ⟦<dyn Device as Device>⟧ w.new ≡ world_seen ⟦<dyn Device as Device>⟧ w.old) }
-    ensures memory { OnErr result (may_lack_memory (gate_of call.now) ≡ true) }
+    ensures memory { OnErr result (may_exhaust_memory (gate_of call.now) ≡ true) }
     ensures space { makes_room (gate_of call.now) ≡ false → KeepsSpace w.old.out w.new.out }
     ensures holds { HoldsSpace w.old.out w.new.out }
 {
@@ -217,5 +217,23 @@ pub(crate) fn row(alloc: Global, w: &mut World, call: &Call, who: Actor) -> Resu
             let bus = &w.bus;
             show_memory(alloc, &bus.ram, address, units, width, &mut w.out)
         }
+        Call::IntConnect {
+            slot,
+            routine,
+            parameter,
+        } => {
+            let routine = Routine {
+                entry: routine,
+                param: parameter,
+            };
+            Ok(irq_rows::connect(&mut w.irqs, &w.bus, slot, routine))
+        }
+        Call::IntDisconnect { slot, routine } => {
+            Ok(irq_rows::disconnect(&mut w.irqs, &w.bus, slot, routine))
+        }
+        Call::IntEnable { slot } => Ok(irq_rows::enable(&mut w.irqs, &w.bus, slot, true)),
+        Call::IntDisable { slot } => Ok(irq_rows::enable(&mut w.irqs, &w.bus, slot, false)),
+        Call::IntPending { slot } => Ok(irq_rows::pending(&w.irqs, &w.bus, slot)),
+        Call::DevRemove { slot } => Ok(irq_rows::remove(&mut w.irqs, &mut w.bus, slot)),
     }
 }

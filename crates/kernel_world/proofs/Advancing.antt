@@ -13,6 +13,7 @@ use Rattle.wind_core.specs.State.{KernState, Lives}
 use Rattle.wind_core.specs.Move.{SetErrno}
 use Rattle.wind_core.proofs.Ids.{lives_by}
 use Rattle.msg_queue.specs.State.{Scene}
+use Rattle.dev_irq.specs.declared.line.Line.{Line}
 use Rattle.isr_watch.specs.State.{WatchState, IsWatch, watchdog_id}
 use Rattle.kernel_world.specs.State.{WorldState, choice_of}
 use Rattle.kernel_world.specs.Objects.{KeepsObjects, DepthsWithin}
@@ -150,6 +151,21 @@ module _ (w : WorldState) (kept : IsWorld w) where
     -- only what the invariant doesn't mention changes
     pub beside : (slots : List (Option DeviceState)) (output : List ℕ) (errno : ℕ) → Advances w (record w { slots = slots; output = output; int_errno = errno }) n 0 0
     beside slots output errno = of_parts w.part w.symbols w.modules.rows w.ram slots output errno kept.pool kept.stacks kept.modules kept.symbols refl same_modules
+
+    -- only the devices and their interrupts change
+    pub of_devices : (irqs : List Line) (slots : List (Option DeviceState)) → Advances w (record w { irqs = irqs; slots = slots }) n 0 0
+    of_devices irqs slots = record {
+      kept = record { kern = kept.kern; home = kept.home; kind = kept.kind; objects = kept.objects; pool = kept.pool; stacks = kept.stacks; modules = kept.modules; ram = kept.ram; symbols = kept.symbols; watch = kept.watch; ids = kept.ids };
+      lives = λ who h. h;
+      within = within;
+      last = refl;
+      reserves = λ who h. h;
+      sinces = omega arith;
+      count = refl;
+      names = omega arith;
+      starts = omega arith;
+      choice = refl;
+    }
 
     -- a move that hands out no numbers, seen as a call that may
     pub as_call : (v : WorldState) → Advances w v n 0 0 → Advances w v (n + 1) call_sinces 1

@@ -21,7 +21,7 @@ use Rattle.task_safety.specs.Safety.{deletion, safe_of, make_safe, lessen}
 use Rattle.wind_base.specs.declared.profile.Profile.{Profile}
 use Rattle.inheritance.specs.declared.mutex.Mutex.{Mutex}
 use Rattle.inheritance.specs.Reach.{lifted, repried, raised_kern}
-use Rattle.msg_queue.proofs.Calm.{next-move}
+use Rattle.wind_core.proofs.NextId.{next-move}
 use Rattle.kernel_world.specs.Kept.{stack_of, task_stacks, HasCounts, CountsWithin}
 
 -- the reservations of tasks

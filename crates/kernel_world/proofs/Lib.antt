@@ -1,5 +1,6 @@
 pub mod Boards
 pub mod Living
+pub mod OneTask
 pub mod Early
 pub mod Stacks
 pub mod Holding

@@ -44,17 +44,17 @@ fewer_same xs ys e n = let q : occurs n ys ≡ occurs n xs = ap (occurs n) e in 
 pub fewer_before : (zs xs ys : List ℕ) → Fewer ys xs → Fewer (zs ++ ys) (zs ++ xs)
 fewer_before zs xs ys h n = omega (arith, h n, occurs-append n zs ys, occurs-append n zs xs)
 
-pub fewer_behind : (zs xs ys : List ℕ) → Fewer ys xs → Fewer (ys ++ zs) (xs ++ zs)
-fewer_behind zs xs ys h n = omega (arith, h n, occurs-append n ys zs, occurs-append n xs zs)
+pub fewer_after : (zs xs ys : List ℕ) → Fewer ys xs → Fewer (ys ++ zs) (xs ++ zs)
+fewer_after zs xs ys h n = omega (arith, h n, occurs-append n ys zs, occurs-append n xs zs)
 
 -- ---- kinds one after the other
 pub given_before : (next after : ℕ) (zs xs ys : List ℕ) → Given next after xs ys → Given next after (zs ++ xs) (zs ++ ys)
 given_before next after zs xs ys (Nothing more few) = Nothing more (fewer_before zs xs ys few)
 given_before next after zs xs ys (One own more) = One own (λ n. omega (arith, more n, occurs-append n zs ys, occurs-append n zs xs))
 
-pub given_behind : (next after : ℕ) (zs xs ys : List ℕ) → Given next after xs ys → Given next after (xs ++ zs) (ys ++ zs)
-given_behind next after zs xs ys (Nothing more few) = Nothing more (fewer_behind zs xs ys few)
-given_behind next after zs xs ys (One own more) = One own (λ n. omega (arith, more n, occurs-append n ys zs, occurs-append n xs zs))
+pub given_after : (next after : ℕ) (zs xs ys : List ℕ) → Given next after xs ys → Given next after (xs ++ zs) (ys ++ zs)
+given_after next after zs xs ys (Nothing more few) = Nothing more (fewer_after zs xs ys few)
+given_after next after zs xs ys (One own more) = One own (λ n. omega (arith, more n, occurs-append n ys zs, occurs-append n xs zs))
 
 pub given_none : (next after : ℕ) (xs : List ℕ) → next ≤ after → Given next after xs xs
 given_none next after xs more = Nothing more (λ n. omega arith)

@@ -11,7 +11,7 @@ use Rattle.std.specs.Int.RustNames.{count_ones}
 use Rattle.std.proofs.lemmas.List.{length-replicate}
 use Rattle.std.proofs.lemmas.List.Elements.{All-cons}
 use Rattle.std.proofs.lemmas.List.Kept.{AllPairs-cons}
-use Rattle.wind_base.specs.Limits.{pool_start}
+use Rattle.wind_base.specs.Limits.{pool_start, most_slots}
 use Rattle.wind_base.specs.Boards.{board_rules}
 use Rattle.wind_base.specs.declared.board_kind.BoardKind.{BoardKind}
 use Rattle.wind_base.specs.declared.board_kind.Side.TheVariants.{Low}
@@ -28,6 +28,8 @@ use Rattle.mem_partition.proofs.Places.{hole_place}
 use Rattle.mem_partition.proofs.Allocs.{after_is}
 use Rattle.wind_core.specs.State.{KernState, IsKern}
 use Rattle.isr_watch.specs.State.{WatchState}
+use Rattle.dev_irq.specs.declared.line.Line.{Line}
+use Rattle.dev_irq.specs.State.{idle_line}
 use Rattle.symbol_table.specs.declared.symbol.Symbol.{Symbol}
 use Rattle.module_loader.specs.Modules.{LoadedModules, modules_on}
 use Rattle.wind_core.specs.Moves.{new_task}
@@ -45,7 +47,7 @@ use Rattle.kernel_world.specs.State.{WorldState}
 use Rattle.kernel_world.specs.declared.objects.Objects.{Objects}
 use Rattle.kernel_world.specs.Objects.{no_objects, is_live, WaitsRight, KeepsObjects}
 use Rattle.module_image.specs.Opening.{stack_block, symbol_if_named, symbols_of_gate, gate_symbols}
-use Rattle.kernel_world.specs.Opening.{empty_kern, opening_kern, shell_record, opening_part, no_watch, zeros, opening_world}
+use Rattle.kernel_world.specs.Opening.{empty_kern, opening_kern, shell_record, opening_part, no_watch, no_irqs, zeros, opening_world}
 use Rattle.kernel_world.specs.Kept.{Stack, stack_of, routine_stack, IsStack, AreApart, AreStacks, IsWorld}
 use Rattle.kernel_world.proofs.Boards.{boards_alike}
 use Rattle.kernel_world.proofs.Holding.{IsNoModules}
@@ -126,7 +128,7 @@ module _ (board : BoardKind) where
       after_is (pool board (stack_block 65536 20000 ∷ [])) 4096 16 85536 Kernel second_stack
       ∙ ap (λ n. pool board (stack_block 65536 20000 ∷ stack_block 85536 n ∷ [])) rounded_second
 
-pub count_gates : length gates ≡ 52
+pub count_gates : length gates ≡ 58
 unfolding gates
 count_gates = refl
 
@@ -261,9 +263,9 @@ opens slots profile board = record {
 }
 
 module _ (profile : Profile) (board : BoardKind) where
-  abbrev with_parts : KernState → Objects → PartState → List Symbol → LoadedModules → List ℕ → List (Option DeviceState) → List ℕ → WatchState → WorldState
-  with_parts k o p ss ms ram slots output watch =
-      record { kern = k; objects = o; part = p; symbols = ss; modules = ms; ram = ram; slots = slots; output = output; names = 1; watch = watch; int_errno = 0; board = board }
+  abbrev with_parts : KernState → Objects → PartState → List Symbol → LoadedModules → List ℕ → List (Option DeviceState) → List Line → List ℕ → WatchState → WorldState
+  with_parts k o p ss ms ram slots irqs output watch =
+      record { kern = k; objects = o; part = p; symbols = ss; modules = ms; ram = ram; slots = slots; irqs = irqs; output = output; names = 1; watch = watch; int_errno = 0; board = board }
 
   abbrev opening_symbols : List Symbol
   opening_symbols = gate_symbols (board_rules board).gates_start gates
@@ -272,17 +274,18 @@ module _ (profile : Profile) (board : BoardKind) where
   opening_ram = zeros (board_rules board).ram_bytes
 
   -- a world with these parts is the world at the start
-  pub opened_by : (slots mine : List (Option DeviceState)) (k : KernState) (o : Objects) (p : PartState) (ss : List Symbol) (ms : LoadedModules) (ram output : List ℕ) (watch : WatchState)
-      → k ≡ opening_kern → o ≡ no_objects profile → p ≡ opening_part board → ss ≡ opening_symbols → ms ≡ modules_on board [] → ram ≡ opening_ram → mine ≡ slots → output ≡ [] → watch ≡ no_watch
-      → with_parts k o p ss ms ram mine output watch ≡ opening_world slots profile board
-  unfolding opening_world
-  opened_by slots mine k o p ss ms ram output watch kern objects part symbols modules bytes devices written watches =
-      ap (λ x. with_parts x o p ss ms ram mine output watch) kern
-      ∙ ap (λ x. with_parts opening_kern x p ss ms ram mine output watch) objects
-      ∙ ap (λ x. with_parts opening_kern (no_objects profile) x ss ms ram mine output watch) part
-      ∙ ap (λ x. with_parts opening_kern (no_objects profile) (opening_part board) x ms ram mine output watch) symbols
-      ∙ ap (λ x. with_parts opening_kern (no_objects profile) (opening_part board) opening_symbols x ram mine output watch) modules
-      ∙ ap (λ x. with_parts opening_kern (no_objects profile) (opening_part board) opening_symbols (modules_on board []) x mine output watch) bytes
-      ∙ ap (λ x. with_parts opening_kern (no_objects profile) (opening_part board) opening_symbols (modules_on board []) opening_ram x output watch) devices
-      ∙ ap (λ x. with_parts opening_kern (no_objects profile) (opening_part board) opening_symbols (modules_on board []) opening_ram slots x watch) written
-      ∙ ap (λ x. with_parts opening_kern (no_objects profile) (opening_part board) opening_symbols (modules_on board []) opening_ram slots [] x) watches
+  pub opened_by : (slots mine : List (Option DeviceState)) (k : KernState) (o : Objects) (p : PartState) (ss : List Symbol) (ms : LoadedModules) (ram : List ℕ) (irqs : List Line) (output : List ℕ) (watch : WatchState)
+      → k ≡ opening_kern → o ≡ no_objects profile → p ≡ opening_part board → ss ≡ opening_symbols → ms ≡ modules_on board [] → ram ≡ opening_ram → mine ≡ slots → irqs ≡ replicate most_slots idle_line → output ≡ [] → watch ≡ no_watch
+      → with_parts k o p ss ms ram mine irqs output watch ≡ opening_world slots profile board
+  unfolding opening_world no_irqs
+  opened_by slots mine k o p ss ms ram irqs output watch kern objects part symbols modules bytes devices lines written watches =
+      ap (λ x. with_parts x o p ss ms ram mine irqs output watch) kern
+      ∙ ap (λ x. with_parts opening_kern x p ss ms ram mine irqs output watch) objects
+      ∙ ap (λ x. with_parts opening_kern (no_objects profile) x ss ms ram mine irqs output watch) part
+      ∙ ap (λ x. with_parts opening_kern (no_objects profile) (opening_part board) x ms ram mine irqs output watch) symbols
+      ∙ ap (λ x. with_parts opening_kern (no_objects profile) (opening_part board) opening_symbols x ram mine irqs output watch) modules
+      ∙ ap (λ x. with_parts opening_kern (no_objects profile) (opening_part board) opening_symbols (modules_on board []) x mine irqs output watch) bytes
+      ∙ ap (λ x. with_parts opening_kern (no_objects profile) (opening_part board) opening_symbols (modules_on board []) opening_ram x irqs output watch) devices
+      ∙ ap (λ x. with_parts opening_kern (no_objects profile) (opening_part board) opening_symbols (modules_on board []) opening_ram slots x output watch) lines
+      ∙ ap (λ x. with_parts opening_kern (no_objects profile) (opening_part board) opening_symbols (modules_on board []) opening_ram slots no_irqs x watch) written
+      ∙ ap (λ x. with_parts opening_kern (no_objects profile) (opening_part board) opening_symbols (modules_on board []) opening_ram slots no_irqs [] x) watches

@@ -9,7 +9,7 @@ use Rattle.isr_watch.specs.State.{WatchState, watchdog_id}
 use Rattle.kernel_world.specs.State.{WorldState}
 use Rattle.kernel_world.specs.LiveIds.{task_ids, waited_ids, other_ids, object_ids, AreIds, KeepsIds}
 use Rattle.kernel_world.specs.declared.objects.Objects.{Objects}
-use Rattle.kernel_world.proofs.LiveIds.{Owns, HasOwner, all_by_id, task_owns, Fewer, Given, fewer_same, fewer_before, given_before, given_behind, given_none, given_push, ids_fewer, ids_given, ids_task}
+use Rattle.kernel_world.proofs.LiveIds.{Owns, HasOwner, all_by_id, task_owns, Fewer, Given, fewer_same, fewer_before, given_before, given_after, given_none, given_push, ids_fewer, ids_given, ids_task}
 
 module _ (w : WorldState) (kept : KeepsIds w) where
   -- the same tasks live, and the waited-for objects get at most the next id
@@ -17,7 +17,7 @@ module _ (w : WorldState) (kept : KeepsIds w) where
       → All (HasOwner w.kern.next_id (object_ids w)) o.mutexes.rows → KeepsIds (record w { kern = j; objects = o })
   ids_objects j o alone given owners =
       ids_given w.kern.next_id (task_ids w) (object_ids w) w.objects.mutexes.rows kept j.next_id (ids j.tasks) (waited_ids o ++ other_ids w) o.mutexes.rows
-      (fewer_same (task_ids w) (ids j.tasks) alone) (given_behind w.kern.next_id j.next_id (other_ids w) (waited_ids w.objects) (waited_ids o) given) owners
+      (fewer_same (task_ids w) (ids j.tasks) alone) (given_after w.kern.next_id j.next_id (other_ids w) (waited_ids w.objects) (waited_ids o) given) owners
 
   -- the objects are as they were
   pub ids_kern : (j : KernState) → ids j.tasks ≡ ids w.kern.tasks → w.kern.next_id ≤ j.next_id → KeepsIds (record w { kern = j })
@@ -32,7 +32,7 @@ module _ (w : WorldState) (kept : KeepsIds w) where
       ids_given w.kern.next_id (task_ids w) (object_ids w) w.objects.mutexes.rows kept j.next_id (ids j.tasks) (waited_ids w.objects ++ (new ++ table.ids w.modules.rows)) w.objects.mutexes.rows
       (fewer_same (task_ids w) (ids j.tasks) alone)
       (given_before w.kern.next_id j.next_id (waited_ids w.objects) (other_ids w) (new ++ table.ids w.modules.rows)
-      (given_behind w.kern.next_id j.next_id (table.ids w.modules.rows) old new given)) kept.owners
+      (given_after w.kern.next_id j.next_id (table.ids w.modules.rows) old new given)) kept.owners
 
   -- some modules are gone
   pub ids_modules : (ms : List (ℕ × LoadedModule)) → Fewer (table.ids ms) (table.ids w.modules.rows) → KeepsIds (record w { modules = record w.modules { rows = ms } })

@@ -35,5 +35,5 @@ abbrev pub refusal_word : Gate → ℕ
 refusal_word g = (rules_of g).refusal
 
 -- host memory may run out in it
-abbrev pub may_lack_memory : Gate → Bool
-may_lack_memory g = (rules_of g).memory
+abbrev pub may_exhaust_memory : Gate → Bool
+may_exhaust_memory g = (rules_of g).memory

@@ -100,6 +100,12 @@ call_of gates.I ram r = Some calls.I
 call_of gates.Lkup ram r = one calls.Lkup r
 call_of gates.ModuleShow ram r = Some calls.ModuleShow
 call_of gates.D ram r = three calls.D r
+call_of gates.IntConnect ram r = three calls.IntConnect r
+call_of gates.IntDisconnect ram r = two calls.IntDisconnect r
+call_of gates.IntEnable ram r = one calls.IntEnable r
+call_of gates.IntDisable ram r = one calls.IntDisable r
+call_of gates.IntPending ram r = one calls.IntPending r
+call_of gates.DevRemove ram r = one calls.DevRemove r
 
 -- the call that a caller makes at a gate
 abbrev pub call_by : Gate → WorldState → Actor → Option Call
@@ -156,3 +162,9 @@ gate_of calls.I = gates.I
 gate_of (calls.Lkup text) = gates.Lkup
 gate_of calls.ModuleShow = gates.ModuleShow
 gate_of (calls.D address units width) = gates.D
+gate_of (calls.IntConnect slot routine parameter) = gates.IntConnect
+gate_of (calls.IntDisconnect slot routine) = gates.IntDisconnect
+gate_of (calls.IntEnable slot) = gates.IntEnable
+gate_of (calls.IntDisable slot) = gates.IntDisable
+gate_of (calls.IntPending slot) = gates.IntPending
+gate_of (calls.DevRemove slot) = gates.DevRemove

@@ -1,6 +1,6 @@
 -- The world at the start.
 use Rattle.std.specs.Prelude.{ℕ, List, [], Option, None, false, replicate, codes}
-use Rattle.wind_base.specs.Limits.{pool_start, shell_stack_bytes}
+use Rattle.wind_base.specs.Limits.{pool_start, shell_stack_bytes, most_slots}
 use Rattle.wind_base.specs.Boards.{board_rules}
 use Rattle.wind_base.specs.Gates.{gates}
 use Rattle.wind_base.specs.declared.board_kind.BoardKind.{BoardKind}
@@ -12,6 +12,8 @@ use Rattle.module_image.specs.Opening.{gate_symbols, opening_blocks}
 use Rattle.module_loader.specs.Modules.{modules_on}
 use Rattle.wind_core.specs.State.{KernState}
 use Rattle.isr_watch.specs.State.{WatchState}
+use Rattle.dev_irq.specs.declared.line.Line.{Line}
+use Rattle.dev_irq.specs.State.{idle_line}
 use Rattle.wind_core.specs.Moves.{spawn}
 use Rattle.kernel_world.specs.Objects.{no_objects}
 use Rattle.kernel_world.specs.State.{WorldState}
@@ -41,6 +43,10 @@ opening_part board = record {
 abbrev pub no_watch : WatchState
 no_watch = record { watchdogs = []; level = None; listed = []; next_start = 0 }
 
+-- every slot is enabled, without a routine, and nothing is pending
+unfoldable pub no_irqs : List Line
+no_irqs = replicate most_slots idle_line
+
 -- n zeros
 unfoldable pub zeros : ℕ → List ℕ
 zeros n = replicate n 0
@@ -55,6 +61,7 @@ opening_world slots profile board = record {
   modules = modules_on board [];
   ram = zeros (board_rules board).ram_bytes;
   slots = slots;
+  irqs = no_irqs;
   output = [];
   names = 1;
   watch = no_watch;

@@ -18,6 +18,7 @@ world_with slots w = record {
   modules = w.mods;
   ram = w.bus.ram.bytes;
   slots = slots;
+  irqs = w.irqs;
   output = w.out.bytes;
   names = w.names;
   watch = w.watch;

@@ -8,6 +8,7 @@ use Rattle.symbol_table.specs.declared.symbol.Symbol.{Symbol}
 use Rattle.module_loader.specs.Modules.{LoadedModules}
 use Rattle.wind_core.specs.State.{KernState}
 use Rattle.isr_watch.specs.State.{WatchState}
+use Rattle.dev_irq.specs.declared.line.Line.{Line}
 use Rattle.kernel_world.specs.declared.objects.Objects.{Objects}
 
 -- all that a kernel call may read or change
@@ -25,6 +26,8 @@ pub record WorldState : Type 0 where
   -- the bytes of RAM, from address 0 on
   pub ram : List ℕ
   pub slots : List (Option DeviceState)
+  -- the interrupt line of each slot
+  pub irqs : List Line
   -- the bytes that the step has written
   pub output : List ℕ
   -- the number that the next task without a name takes

@@ -17,6 +17,7 @@ use crate::starting::no_regs;
 use crate::world::World;
 use board_bus::BoardBus;
 use board_mem::Ram;
+use dev_irq::Irqs;
 use isr_watch::Watch;
 use mem_partition::{Class, GRAIN, Part};
 use module_loader::Modules;
@@ -213,6 +214,7 @@ impl World {
             syms: loadable.syms,
             mods: loadable.mods,
             bus: BoardBus::new(ram, slots),
+            irqs: Irqs::new(),
             out,
             names: 1,
             watch: started.watch,

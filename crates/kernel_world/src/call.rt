@@ -228,6 +228,33 @@ pub enum Call {
         units: u32,
         width: u32,
     },
+    /// intConnect: connects a routine, with its parameter, to the interrupts of a slot's device.
+    IntConnect {
+        slot: u32,
+        routine: u32,
+        parameter: u32,
+    },
+    /// intDisconnect: disconnects the earliest connection of a routine.
+    IntDisconnect {
+        slot: u32,
+        routine: u32,
+    },
+    /// intEnable: enables the interrupts of a slot's device.
+    IntEnable {
+        slot: u32,
+    },
+    /// intDisable: disables them; they stay pending.
+    IntDisable {
+        slot: u32,
+    },
+    /// intPending: answers how many are pending.
+    IntPending {
+        slot: u32,
+    },
+    /// devRemove: removes a slot's device.
+    DevRemove {
+        slot: u32,
+    },
 }
 
 // The seven words after those in registers.
@@ -394,6 +421,19 @@ fn call_of(gate: Gate, ram: &Ram, gpr: &[u32; 32]) -> Option<Call>
             units: b,
             width: c,
         },
+        Gate::IntConnect => Call::IntConnect {
+            slot: a,
+            routine: b,
+            parameter: c,
+        },
+        Gate::IntDisconnect => Call::IntDisconnect {
+            slot: a,
+            routine: b,
+        },
+        Gate::IntEnable => Call::IntEnable { slot: a },
+        Gate::IntDisable => Call::IntDisable { slot: a },
+        Gate::IntPending => Call::IntPending { slot: a },
+        Gate::DevRemove => Call::DevRemove { slot: a },
     })
 }
 
@@ -463,6 +503,12 @@ impl Call {
             Call::Lkup { .. } => Gate::Lkup,
             Call::ModuleShow => Gate::ModuleShow,
             Call::D { .. } => Gate::D,
+            Call::IntConnect { .. } => Gate::IntConnect,
+            Call::IntDisconnect { .. } => Gate::IntDisconnect,
+            Call::IntEnable { .. } => Gate::IntEnable,
+            Call::IntDisable { .. } => Gate::IntDisable,
+            Call::IntPending { .. } => Gate::IntPending,
+            Call::DevRemove { .. } => Gate::DevRemove,
         }
     }
 }

@@ -1,7 +1,7 @@
 //! What each gate's call permits: who may make it, and whether it may run out of memory.
 
 ghost use Rattle.std.specs.Prelude.{◌≡◌};
-ghost use Rattle.kernel_world.specs.Allowed.{is_call as is_call_lem, is_isr_callable as is_isr_callable_lem, is_shells_own as is_shells_own_lem, refusal_word as refusal_word_lem, may_lack_memory as may_lack_memory_lem};
+ghost use Rattle.kernel_world.specs.Allowed.{is_call as is_call_lem, is_isr_callable as is_isr_callable_lem, is_shells_own as is_shells_own_lem, refusal_word as refusal_word_lem, may_exhaust_memory as may_exhaust_memory_lem};
 
 use wind_base::{Callers, Gate};
 
@@ -37,8 +37,8 @@ pub(crate) fn refusal_word(gate: Gate) -> u32
 }
 
 /// Whether host memory may run out in the gate's call.
-pub fn may_lack_memory(gate: Gate) -> bool
-    ensures { result ≡ may_lack_memory_lem gate }
+pub fn may_exhaust_memory(gate: Gate) -> bool
+    ensures { result ≡ may_exhaust_memory_lem gate }
 {
     gate.rules().memory
 }

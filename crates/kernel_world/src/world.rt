@@ -2,6 +2,7 @@
 
 use crate::objects::Objects;
 use board_bus::BoardBus;
+use dev_irq::Irqs;
 use isr_watch::Watch;
 use mem_partition::Part;
 use module_loader::Modules;
@@ -24,6 +25,8 @@ pub struct World {
     pub mods: Modules,
     /// RAM and the device slots.
     pub bus: BoardBus,
+    /// The interrupt line of each slot.
+    pub irqs: Irqs,
     /// The bytes that the step has written.
     pub out: OutBuf,
     /// The number that the next task without a name takes.

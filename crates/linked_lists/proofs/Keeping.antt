@@ -13,8 +13,8 @@ use Rattle.wind_lists.proofs.Places.{none_without}
 use Rattle.linked_lists.specs.declared.node.Node.{Node}
 use Rattle.linked_lists.specs.declared.node.Ends.{Ends}
 use Rattle.linked_lists.specs.Chains.{Chains, cell_key, all_cells, chain_at, is_key, put_before, value_in, value_of, Apart}
-use Rattle.linked_lists.specs.Inside.{IsKept, Linked, first_or, last_or, ends_of, no_ends, walked, chains_in, goes_on, goes_back, behind, with_node, aimed, aim_first, aim_last}
-use Rattle.linked_lists.proofs.Links.{Absent, changed_at, absent_append, append_absent, absent_cons, apart_middle, apart_insert, apart_remove, without_middle, linked_absent, linked_elsewhere, linked_other, linked_node, linked_front, linked_back, linked_same, same_unnamed, apart_back, node_in, inserted, removed, relinked_other, walked_is}
+use Rattle.linked_lists.specs.Inside.{IsKept, Linked, first_or, last_or, ends_of, no_ends, walked, chains_in, goes_on, goes_back, key_before, with_node, aimed, aim_first, aim_last}
+use Rattle.linked_lists.proofs.Links.{Absent, changed_at, absent_append, append_absent, absent_cons, apart_middle, apart_insert, apart_remove, without_middle, linked_absent, linked_elsewhere, linked_other, linked_node, linked_prefix, linked_back, linked_same, same_unnamed, apart_back, node_in, inserted, removed, relinked_other, walked_is}
 
 -- ---- options
 module _ {X : Type 0} where
@@ -71,12 +71,12 @@ module _ {T : Type 0} where
       ends_aimed ends p xs ys (Some c.0) (Some c.0) hp
       ∙ ap (set ends p)
       (alike_ends (or_end xs (Some c.0) (get_or ends p no_ends).first) (or_end ys (Some c.0) (get_or ends p no_ends).last) (first_or None (xs ++ c ∷ ys)) (last_or None (xs ++ c ∷ ys))
-      (ap (λ (e : Ends). or_end xs (Some c.0) e.first) is ∙ fronts xs)
+      (ap (λ (e : Ends). or_end xs (Some c.0) e.first) is ∙ firsts xs)
       (ap (λ (e : Ends). or_end ys (Some c.0) e.last) is ∙ backs ys))
     where
-      fronts : (zs : List (ℕ × T)) → or_end zs (Some c.0) (first_or None (zs ++ ys)) ≡ first_or None (zs ++ c ∷ ys)
-      fronts [] = refl
-      fronts (z ∷ zs) = refl
+      firsts : (zs : List (ℕ × T)) → or_end zs (Some c.0) (first_or None (zs ++ ys)) ≡ first_or None (zs ++ c ∷ ys)
+      firsts [] = refl
+      firsts (z ∷ zs) = refl
 
       backs : (zs : List (ℕ × T)) → or_end zs (Some c.0) (last_or None (xs ++ zs)) ≡ last_or None (xs ++ c ∷ zs)
       backs [] = sym (last_or-append None xs (c ∷ []))
@@ -88,12 +88,12 @@ module _ {T : Type 0} where
       ends_aimed ends p xs ys (first_or None ys) (last_or None xs) hp
       ∙ ap (set ends p)
       (alike_ends (or_end xs (first_or None ys) (get_or ends p no_ends).first) (or_end ys (last_or None xs) (get_or ends p no_ends).last) (first_or None (xs ++ ys)) (last_or None (xs ++ ys))
-      (ap (λ (e : Ends). or_end xs (first_or None ys) e.first) is ∙ fronts xs)
+      (ap (λ (e : Ends). or_end xs (first_or None ys) e.first) is ∙ firsts xs)
       (ap (λ (e : Ends). or_end ys (last_or None xs) e.last) is ∙ backs ys))
     where
-      fronts : (zs : List (ℕ × T)) → or_end zs (first_or None ys) (first_or None (zs ++ c ∷ ys)) ≡ first_or None (zs ++ ys)
-      fronts [] = refl
-      fronts (z ∷ zs) = refl
+      firsts : (zs : List (ℕ × T)) → or_end zs (first_or None ys) (first_or None (zs ++ c ∷ ys)) ≡ first_or None (zs ++ ys)
+      firsts [] = refl
+      firsts (z ∷ zs) = refl
 
       backs : (zs : List (ℕ × T)) → or_end zs (last_or None xs) (last_or None (xs ++ c ∷ zs)) ≡ last_or None (xs ++ zs)
       backs [] = sym (last_or-append None xs [])
@@ -203,17 +203,17 @@ module _ {T : Type 0} where
   -- ---- a cell is added
   -- the place at which a cell is inserted into a list
   pub record Split (cs : List (ℕ × T)) (next : Option ℕ) (cell : ℕ × T) : Type 0 where
-    pub front : List (ℕ × T)
+    pub prefix : List (ℕ × T)
     pub back : List (ℕ × T)
-    pub whole : cs ≡ front ++ back
+    pub whole : cs ≡ prefix ++ back
     pub next_is : next ≡ first_or None back
-    pub put : put_before next cell cs ≡ front ++ cell ∷ back
+    pub put : put_before next cell cs ≡ prefix ++ cell ∷ back
 
   pub split_end : (cs : List (ℕ × T)) (cell : ℕ × T) → Split cs None cell
-  split_end [] cell = record { front = []; back = []; whole = refl; next_is = refl; put = refl }
+  split_end [] cell = record { prefix = []; back = []; whole = refl; next_is = refl; put = refl }
   split_end (c ∷ cs) cell =
       let s = split_end cs cell in
-      record { front = c ∷ s.front; back = s.back; whole = ap (λ zs. c ∷ zs) s.whole; next_is = s.next_is; put = ap (λ zs. c ∷ zs) s.put }
+      record { prefix = c ∷ s.prefix; back = s.back; whole = ap (λ zs. c ∷ zs) s.whole; next_is = s.next_is; put = ap (λ zs. c ∷ zs) s.put }
 
   pub split_at : (cs : List (ℕ × T)) (k : ℕ) (cell : ℕ × T) → IsSome (value_in cs k) → Split cs (Some k) cell
   split_at [] k cell h = absurd (cc)
@@ -221,7 +221,7 @@ module _ {T : Type 0} where
       elim (eqb c.0 k) as (λ b. eqb c.0 k ≡ b → IsSome (option_map (λ (x : ℕ × T). x.1) (cond b (Some c) (of_id cell_key cs k))) → Split (c ∷ cs) (Some k) cell) [
         | true ↦ λ e q.
             record {
-              front = [];
+              prefix = [];
               back = c ∷ cs;
               whole = refl;
               next_is = ap (λ j. Some j) (sym (eqb-true c.0 k e));
@@ -230,7 +230,7 @@ module _ {T : Type 0} where
         | false ↦ λ e q.
             let s = split_at cs k cell q in
             record {
-              front = c ∷ s.front;
+              prefix = c ∷ s.prefix;
               back = s.back;
               whole = ap (λ zs. c ∷ zs) s.whole;
               next_is = s.next_is;
@@ -249,14 +249,14 @@ module _ {T : Type 0} where
   split_next cs (Some k) cell h = split_at cs k cell (h k refl)
 
   -- the node before the place, from the link of the node after it, or the list's last node
-  pub behind_is : (nodes : Slab (Node T)) (ends : List Ends) (cs : List (List (ℕ × T))) (room p : ℕ) (next : Option ℕ) (cell : ℕ × T) → IsKept nodes ends cs room → p < length cs
-      → (s : Split (chain_at cs p) next cell) → behind nodes ends p next ≡ last_or None s.front
-  behind_is nodes ends cs room p None cell is hp s = ap (λ (e : Ends). e.last) (ended_at nodes ends cs room p no_ends is hp) ∙ ap (last_or None) s.whole ∙ no_back s.back s.next_is
+  pub key_before_is : (nodes : Slab (Node T)) (ends : List Ends) (cs : List (List (ℕ × T))) (room p : ℕ) (next : Option ℕ) (cell : ℕ × T) → IsKept nodes ends cs room → p < length cs
+      → (s : Split (chain_at cs p) next cell) → key_before nodes ends p next ≡ last_or None s.prefix
+  key_before_is nodes ends cs room p None cell is hp s = ap (λ (e : Ends). e.last) (ended_at nodes ends cs room p no_ends is hp) ∙ ap (last_or None) s.whole ∙ no_back s.back s.next_is
     where
-      no_back : (ys : List (ℕ × T)) → None ≡ first_or None ys → last_or None (s.front ++ ys) ≡ last_or None s.front
-      no_back [] q = last_or-append None s.front []
+      no_back : (ys : List (ℕ × T)) → None ≡ first_or None ys → last_or None (s.prefix ++ ys) ≡ last_or None s.prefix
+      no_back [] q = last_or-append None s.prefix []
       no_back (y ∷ ys) q = absurd (cc)
-  behind_is nodes ends cs room p (Some k) cell is hp s = back_to s.front s.back s.next_is (subst (λ c. Linked (get nodes) p None c None) s.whole (is.linked p hp))
+  key_before_is nodes ends cs room p (Some k) cell is hp s = back_to s.prefix s.back s.next_is (subst (λ c. Linked (get nodes) p None c None) s.whole (is.linked p hp))
     where
       back_to : (xs ys : List (ℕ × T)) → Some k ≡ first_or None ys → Linked (get nodes) p None (xs ++ ys) None → option_and_then (λ (n : Node T). n.before) (get nodes k) ≡ last_or None xs
       back_to xs [] q l = absurd (cc)
@@ -286,12 +286,12 @@ module _ {T : Type 0} where
       (cases_eq k key)
 
   -- the node before the place exists
-  pub behind_there : (nodes : Slab (Node T)) (ends : List Ends) (cs : List (List (ℕ × T))) (room p : ℕ) (next : Option ℕ) (cell : ℕ × T) (k : ℕ) → IsKept nodes ends cs room → p < length cs
-      → (s : Split (chain_at cs p) next cell) → behind nodes ends p next ≡ Some k → IsSome (get nodes k)
-  behind_there nodes ends cs room p next cell k is hp s e =
-      last_there (get nodes) p None s.front (first_or None s.back) k
-      (linked_front (get nodes) p None s.front s.back None (subst (λ c. Linked (get nodes) p None c None) s.whole (is.linked p hp)))
-      (sym (behind_is nodes ends cs room p next cell is hp s) ∙ e)
+  pub before_there : (nodes : Slab (Node T)) (ends : List Ends) (cs : List (List (ℕ × T))) (room p : ℕ) (next : Option ℕ) (cell : ℕ × T) (k : ℕ) → IsKept nodes ends cs room → p < length cs
+      → (s : Split (chain_at cs p) next cell) → key_before nodes ends p next ≡ Some k → IsSome (get nodes k)
+  before_there nodes ends cs room p next cell k is hp s e =
+      last_there (get nodes) p None s.prefix (first_or None s.back) k
+      (linked_prefix (get nodes) p None s.prefix s.back None (subst (λ c. Linked (get nodes) p None c None) s.whole (is.linked p hp)))
+      (sym (key_before_is nodes ends cs room p next cell is hp s) ∙ e)
 
   -- a key that is in a list has a node
   pub value_node : (nodes : Slab (Node T)) (ends : List Ends) (cs : List (List (ℕ × T))) (room p k : ℕ) → IsKept nodes ends cs room → p < length cs → IsSome (value_in (chain_at cs p) k) → IsSome (get nodes k)
@@ -306,7 +306,7 @@ module _ {T : Type 0} where
           ] refl h
 
   pub kept_inserted : (nodes more : Slab (Node T)) (ends : List Ends) (cs : List (List (ℕ × T))) (room p key : ℕ) (next before : Option ℕ) (value : T) → IsKept nodes ends cs room → p < length cs
-      → (s : Split (chain_at cs p) next (key, value)) → before ≡ last_or None s.front
+      → (s : Split (chain_at cs p) next (key, value)) → before ≡ last_or None s.prefix
       → get nodes key ≡ None → Updates nodes more key (Some (record { list = p; before = before; after = next; value = value }))
       → slab_len more ≡ slab_len nodes + 1 → more.capacity ≡ nodes.capacity → slab_len nodes < room
       → IsKept (aimed (aimed more before (goes_on (Some key))) next (goes_back (Some key))) (aim_last (aim_first ends p before (Some key)) p next (Some key)) (set cs p (put_before next (key, value) (chain_at cs p))) room
@@ -314,28 +314,28 @@ module _ {T : Type 0} where
       let c : ℕ × T = (key, value) in
       let linked = subst (λ d. Linked (get nodes) p None d None) s.whole (is.linked p hp) in
       let apart = subst Apart s.whole (is.apart p hp) in
-      let none = linked_absent (get nodes) p None (s.front ++ s.back) None key vacant linked in
+      let none = linked_absent (get nodes) p None (s.prefix ++ s.back) None key vacant linked in
       let more2 = aimed more before (goes_on (Some key)) in
       let more3 = aimed more2 next (goes_back (Some key)) in
-      let says1 : (j : ℕ) → get more2 j ≡ changed_at (last_or None s.front) (goes_on (Some key)) (get more) j =
+      let says1 : (j : ℕ) → get more2 j ≡ changed_at (last_or None s.prefix) (goes_on (Some key)) (get more) j =
       λ j. get_aimed more before (goes_on (Some key)) j ∙ ap (λ o. changed_at o (goes_on (Some key)) (get more) j) before_is in
       let says2 : (j : ℕ) → get more3 j ≡ changed_at (first_or None s.back) (goes_back (Some key)) (get more2) j =
       λ j. get_aimed more2 next (goes_back (Some key)) j ∙ ap (λ o. changed_at o (goes_back (Some key)) (get more2) j) s.next_is in
       let len = len_aimed more2 next (goes_back (Some key)) ∙ len_aimed more before (goes_on (Some key)) ∙ count in
       let cap = capacity_aimed more2 next (goes_back (Some key)) ∙ capacity_aimed more before (goes_on (Some key)) ∙ capacity in
-      let here : get_or ends p no_ends ≡ ends_of (s.front ++ s.back) = ended_at nodes ends cs room p no_ends is hp ∙ ap ends_of s.whole in
-      let new : get more key ≡ Some (node_in p c s.front s.back) = updates.changed ∙ (λ i. Some (record { list = p; before = before_is i; after = s.next_is i; value = value })) in
+      let here : get_or ends p no_ends ≡ ends_of (s.prefix ++ s.back) = ended_at nodes ends cs room p no_ends is hp ∙ ap ends_of s.whole in
+      let new : get more key ≡ Some (node_in p c s.prefix s.back) = updates.changed ∙ (λ i. Some (record { list = p; before = before_is i; after = s.next_is i; value = value })) in
       kept_set nodes more3 ends (aim_last (aim_first ends p before (Some key)) p next (Some key)) cs room p (put_before next c (chain_at cs p)) is hp
       (λ k node e other.
-      let far = linked_elsewhere (get nodes) p None (s.front ++ s.back) None k node e other linked in
-      relinked_other (get more) (get more2) (get more3) s.front s.back (Some key) (Some key) k far says1 says2
+      let far = linked_elsewhere (get nodes) p None (s.prefix ++ s.back) None k node e other linked in
+      relinked_other (get more) (get more2) (get more3) s.prefix s.back (Some key) (Some key) k far says1 says2
       ∙ updates.others k (λ q. let gone : get nodes k ≡ None = ap (get nodes) q ∙ vacant in absurd (cc)))
-      (subst (λ d. Linked (get more3) p None d None) (sym s.put) (inserted (get nodes) (get more) (get more2) (get more3) p s.front c s.back apart vacant new updates.others says1 says2 linked))
-      (subst Apart (sym s.put) (apart_insert s.front c s.back apart none))
+      (subst (λ d. Linked (get more3) p None d None) (sym s.put) (inserted (get nodes) (get more) (get more2) (get more3) p s.prefix c s.back apart vacant new updates.others says1 says2 linked))
+      (subst Apart (sym s.put) (apart_insert s.prefix c s.back apart none))
       ((λ i. aim_last (aim_first ends p (before_is i) (Some key)) p (s.next_is i) (Some key))
-      ∙ ends_inserted ends p s.front c s.back (subst (λ n. p < n) (sym (ends_length nodes ends cs room is)) hp) here
+      ∙ ends_inserted ends p s.prefix c s.back (subst (λ n. p < n) (sym (ends_length nodes ends cs room is)) hp) here
       ∙ ap (λ d. set ends p (ends_of d)) (sym s.put))
-      (omega (arith, len, ap length s.whole, ap length s.put, length-append s.front s.back, length-append s.front (c ∷ s.back)))
+      (omega (arith, len, ap length s.whole, ap length s.put, length-append s.prefix s.back, length-append s.prefix (c ∷ s.back)))
       (omega (arith, len, few))
       (omega (arith, cap, is.space))
 
@@ -354,9 +354,9 @@ module _ {T : Type 0} where
 
   -- the place of the cell with a key
   pub record Spot (cs : List (ℕ × T)) (key : ℕ) (value : T) : Type 0 where
-    pub front : List (ℕ × T)
+    pub prefix : List (ℕ × T)
     pub back : List (ℕ × T)
-    pub whole : cs ≡ front ++ (key, value) ∷ back
+    pub whole : cs ≡ prefix ++ (key, value) ∷ back
 
   pub record Found (cs : List (List (ℕ × T))) (key : ℕ) (value : T) : Type 0 where
     pub list : ℕ
@@ -370,10 +370,10 @@ module _ {T : Type 0} where
         | true ↦ λ b q.
             let key_is = eqb-true c.0 k b in
             let value_is = same_Some c.1 v q in
-            inl (record { front = []; back = cs; whole = λ i. (key_is i, value_is i) ∷ cs })
+            inl (record { prefix = []; back = cs; whole = λ i. (key_is i, value_is i) ∷ cs })
         | false ↦ λ b q.
             ⊎_elim
-            (λ (s : Spot cs k v). let found : Spot (c ∷ cs) k v = record { front = c ∷ s.front; back = s.back; whole = ap (λ zs. c ∷ zs) s.whole } in inl found)
+            (λ (s : Spot cs k v). let found : Spot (c ∷ cs) k v = record { prefix = c ∷ s.prefix; back = s.back; whole = ap (λ zs. c ∷ zs) s.whole } in inl found)
             (λ (r : value_in rest k ≡ Some v). inr r)
             (spot_or_rest cs rest k v q)
       ] refl e
@@ -402,18 +402,18 @@ module _ {T : Type 0} where
   some_back [] ys k h = h
   some_back (x ∷ xs) ys k h = elim (eqb x.0 k) as (λ b. IsSome (option_map (λ (c : ℕ × T). c.1) (cond b (Some x) (of_id cell_key (xs ++ ys) k)))) [ true ↦ refl | false ↦ some_back xs ys k h ]
 
-  pub some_front : (xs ys : List (ℕ × T)) (k : ℕ) → IsSome (value_in xs k) → IsSome (value_in (xs ++ ys) k)
-  some_front [] ys k h = absurd (cc)
-  some_front (x ∷ xs) ys k h =
+  pub some_prefix : (xs ys : List (ℕ × T)) (k : ℕ) → IsSome (value_in xs k) → IsSome (value_in (xs ++ ys) k)
+  some_prefix [] ys k h = absurd (cc)
+  some_prefix (x ∷ xs) ys k h =
       elim (eqb x.0 k) as (λ b. IsSome (option_map (λ (c : ℕ × T). c.1) (cond b (Some x) (of_id cell_key xs k))) → IsSome (option_map (λ (c : ℕ × T). c.1) (cond b (Some x) (of_id cell_key (xs ++ ys) k)))) [
         | true ↦ λ q. refl
-        | false ↦ λ q. some_front xs ys k q
+        | false ↦ λ q. some_prefix xs ys k q
       ] h
 
   -- a key with a value in one list has one in the lists
   pub value_in_all : (cs : List (List (ℕ × T))) (p k : ℕ) → p < length cs → IsSome (value_in (chain_at cs p) k) → IsSome (value_of cs k)
   value_in_all [] p k hp h = absurd (omega (arith, hp))
-  value_in_all (c ∷ cs) zero k hp h = some_front c (all_cells cs) k h
+  value_in_all (c ∷ cs) zero k hp h = some_prefix c (all_cells cs) k h
   value_in_all (c ∷ cs) (suc p) k hp h = some_back c (all_cells cs) k (value_in_all cs p k (omega (arith, hp)) h)
 
   -- a key without a node is new
@@ -423,18 +423,18 @@ module _ {T : Type 0} where
 
   -- the node of a cell
   pub found_node : (nodes : Slab (Node T)) (ends : List Ends) (cs : List (List (ℕ × T))) (room p k : ℕ) (v : T) → IsKept nodes ends cs room → p < length cs → (s : Spot (chain_at cs p) k v)
-      → get nodes k ≡ Some (node_in p (k, v) s.front s.back)
-  found_node nodes ends cs room p k v is hp s = linked_node (get nodes) p s.front (k, v) s.back (subst (λ c. Linked (get nodes) p None c None) s.whole (is.linked p hp))
+      → get nodes k ≡ Some (node_in p (k, v) s.prefix s.back)
+  found_node nodes ends cs room p k v is hp s = linked_node (get nodes) p s.prefix (k, v) s.back (subst (λ c. Linked (get nodes) p None c None) s.whole (is.linked p hp))
 
   -- the lists without the cell
   pub cell_gone : (nodes : Slab (Node T)) (ends : List Ends) (cs : List (List (ℕ × T))) (room p k : ℕ) (v : T) → IsKept nodes ends cs room → (hp : p < length cs) → (s : Spot (chain_at cs p) k v)
-      → map (λ c. without cell_key c k) cs ≡ set cs p (s.front ++ s.back)
+      → map (λ c. without cell_key c k) cs ≡ set cs p (s.prefix ++ s.back)
   cell_gone nodes ends cs room p k v is hp s =
       map_one (λ c. without cell_key c k) cs p hp
       (λ q hq ne.
       none_without cell_key (chain_at cs q) k
-      (linked_elsewhere (get nodes) q None (chain_at cs q) None k (node_in p (k, v) s.front s.back) (found_node nodes ends cs room p k v is hp s) (λ e. ne (sym e)) (is.linked q hq)))
-      ∙ ap (set cs p) (ap (λ c. without cell_key c k) s.whole ∙ without_middle s.front (k, v) s.back (subst Apart s.whole (is.apart p hp)))
+      (linked_elsewhere (get nodes) q None (chain_at cs q) None k (node_in p (k, v) s.prefix s.back) (found_node nodes ends cs room p k v is hp s) (λ e. ne (sym e)) (is.linked q hq)))
+      ∙ ap (set cs p) (ap (λ c. without cell_key c k) s.whole ∙ without_middle s.prefix (k, v) s.back (subst Apart s.whole (is.apart p hp)))
 
   -- nodes and ends after a node is removed and its neighbours are linked
   abbrev pub closed_nodes : Slab (Node T) → Node T → Slab (Node T)
@@ -445,10 +445,10 @@ module _ {T : Type 0} where
 
   kept_closed : (nodes fewer : Slab (Node T)) (ends : List Ends) (cs : List (List (ℕ × T))) (room p key : ℕ) (value : T) → IsKept nodes ends cs room → (hp : p < length cs)
       → (s : Spot (chain_at cs p) key value) → Updates nodes fewer key None → slab_len fewer + 1 ≡ slab_len nodes → fewer.capacity ≡ nodes.capacity
-      → IsKept (closed_nodes fewer (node_in p (key, value) s.front s.back)) (closed_ends ends (node_in p (key, value) s.front s.back)) (map (λ c. without cell_key c key) cs) room
+      → IsKept (closed_nodes fewer (node_in p (key, value) s.prefix s.back)) (closed_ends ends (node_in p (key, value) s.prefix s.back)) (map (λ c. without cell_key c key) cs) room
   kept_closed nodes fewer ends cs room p key value is hp s updates count capacity =
       let c : ℕ × T = (key, value) in
-      let before = last_or None s.front in
+      let before = last_or None s.prefix in
       let after = first_or None s.back in
       let linked = subst (λ d. Linked (get nodes) p None d None) s.whole (is.linked p hp) in
       let apart = subst Apart s.whole (is.apart p hp) in
@@ -458,19 +458,19 @@ module _ {T : Type 0} where
       let says2 : (j : ℕ) → get fewer3 j ≡ changed_at after (goes_back before) (get fewer2) j = get_aimed fewer2 after (goes_back before) in
       let len = len_aimed fewer2 after (goes_back before) ∙ len_aimed fewer before (goes_on after) in
       let cap = capacity_aimed fewer2 after (goes_back before) ∙ capacity_aimed fewer before (goes_on after) ∙ capacity in
-      let here : get_or ends p no_ends ≡ ends_of (s.front ++ c ∷ s.back) = ended_at nodes ends cs room p no_ends is hp ∙ ap ends_of s.whole in
-      subst (λ ds. IsKept fewer3 (closed_ends ends (node_in p c s.front s.back)) ds room) (sym (cell_gone nodes ends cs room p key value is hp s))
-      (kept_set nodes fewer3 ends (closed_ends ends (node_in p c s.front s.back)) cs room p (s.front ++ s.back) is hp
+      let here : get_or ends p no_ends ≡ ends_of (s.prefix ++ c ∷ s.back) = ended_at nodes ends cs room p no_ends is hp ∙ ap ends_of s.whole in
+      subst (λ ds. IsKept fewer3 (closed_ends ends (node_in p c s.prefix s.back)) ds room) (sym (cell_gone nodes ends cs room p key value is hp s))
+      (kept_set nodes fewer3 ends (closed_ends ends (node_in p c s.prefix s.back)) cs room p (s.prefix ++ s.back) is hp
       (λ k node e other.
-      let far = linked_elsewhere (get nodes) p None (s.front ++ c ∷ s.back) None k node e other linked in
-      let parts = absent_append k s.front (c ∷ s.back) far in
-      let behind = absent_cons k c s.back parts.1 in
-      relinked_other (get fewer) (get fewer2) (get fewer3) s.front s.back after before k (append_absent k s.front s.back parts.0 behind.1) says1 says2
-      ∙ updates.others k (λ q. eqb-false c.0 k behind.0 (sym q)))
-      (removed (get nodes) (get fewer) (get fewer2) (get fewer3) p s.front c s.back apart updates.others says1 says2 linked)
-      (apart_remove s.front c s.back apart)
-      (ends_removed ends p s.front c s.back (subst (λ n. p < n) (sym (ends_length nodes ends cs room is)) hp) here)
-      (omega (arith, len, count, ap length s.whole, length-append s.front s.back, length-append s.front (c ∷ s.back)))
+      let far = linked_elsewhere (get nodes) p None (s.prefix ++ c ∷ s.back) None k node e other linked in
+      let parts = absent_append k s.prefix (c ∷ s.back) far in
+      let key_before = absent_cons k c s.back parts.1 in
+      relinked_other (get fewer) (get fewer2) (get fewer3) s.prefix s.back after before k (append_absent k s.prefix s.back parts.0 key_before.1) says1 says2
+      ∙ updates.others k (λ q. eqb-false c.0 k key_before.0 (sym q)))
+      (removed (get nodes) (get fewer) (get fewer2) (get fewer3) p s.prefix c s.back apart updates.others says1 says2 linked)
+      (apart_remove s.prefix c s.back apart)
+      (ends_removed ends p s.prefix c s.back (subst (λ n. p < n) (sym (ends_length nodes ends cs room is)) hp) here)
+      (omega (arith, len, count, ap length s.whole, length-append s.prefix s.back, length-append s.prefix (c ∷ s.back)))
       (omega (arith, len, count, is.fits))
       (omega (arith, cap, is.space)))
 
@@ -478,7 +478,7 @@ module _ {T : Type 0} where
       → (s : Spot (chain_at cs p) key value) → get nodes key ≡ Some node → Updates nodes fewer key None → slab_len fewer + 1 ≡ slab_len nodes → fewer.capacity ≡ nodes.capacity
       → IsKept (closed_nodes fewer node) (closed_ends ends node) (map (λ c. without cell_key c key) cs) room
   kept_removed nodes fewer ends cs room p key value node is hp s at updates count capacity =
-      let same = same_Some node (node_in p (key, value) s.front s.back) (sym at ∙ found_node nodes ends cs room p key value is hp s) in
+      let same = same_Some node (node_in p (key, value) s.prefix s.back) (sym at ∙ found_node nodes ends cs room p key value is hp s) in
       subst (λ n. IsKept (closed_nodes fewer n) (closed_ends ends n) (map (λ c. without cell_key c key) cs) room) (sym same)
       (kept_closed nodes fewer ends cs room p key value is hp s updates count capacity)
 
@@ -490,10 +490,10 @@ module _ {T : Type 0} where
       let c : ℕ × T = (key, value) in
       let linked = subst (λ d. Linked (get nodes) p None d None) s.whole (is.linked p hp) in
       let apart = subst Apart s.whole (is.apart p hp) in
-      let same = same_Some node (node_in p c s.front s.back) (sym at ∙ found_node nodes ends cs room p key value is hp s) in
+      let same = same_Some node (node_in p c s.prefix s.back) (sym at ∙ found_node nodes ends cs room p key value is hp s) in
       let kept : (j : ℕ) → is_key (Some key) j ≡ false → get fewer j ≡ get nodes j = λ j e. updates.others j (λ q. eqb-false key j e (sym q)) in
-      let fronts = linked_same (get nodes) (get fewer) p None s.front (Some key) (same_unnamed (get nodes) (get fewer) (Some key) s.front kept (apart_middle s.front c s.back apart)) (linked_front (get nodes) p None s.front (c ∷ s.back) None linked) in
-      let backs = linked_same (get nodes) (get fewer) p (Some key) s.back None (same_unnamed (get nodes) (get fewer) (Some key) s.back kept (apart_back s.front (c ∷ s.back) apart).0) (linked_back (get nodes) p None s.front (c ∷ s.back) None linked).1 in (
-        λ k e. last_there (get fewer) p None s.front (Some key) k fronts (sym (ap (λ (n : Node T). n.before) same) ∙ e),
+      let firsts = linked_same (get nodes) (get fewer) p None s.prefix (Some key) (same_unnamed (get nodes) (get fewer) (Some key) s.prefix kept (apart_middle s.prefix c s.back apart)) (linked_prefix (get nodes) p None s.prefix (c ∷ s.back) None linked) in
+      let backs = linked_same (get nodes) (get fewer) p (Some key) s.back None (same_unnamed (get nodes) (get fewer) (Some key) s.back kept (apart_back s.prefix (c ∷ s.back) apart).0) (linked_back (get nodes) p None s.prefix (c ∷ s.back) None linked).1 in (
+        λ k e. last_there (get fewer) p None s.prefix (Some key) k firsts (sym (ap (λ (n : Node T). n.before) same) ∙ e),
         λ k e. first_there (get fewer) p (Some key) s.back None k backs (sym (ap (λ (n : Node T). n.after) same) ∙ e),
       )

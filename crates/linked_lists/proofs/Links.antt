@@ -57,9 +57,9 @@ module _ {T : Type 0} where
   not_last k (c ∷ d ∷ cs) none = not_last k (d ∷ cs) (absent_cons k c (d ∷ cs) none).1
 
   -- ---- cells with different keys
-  pub apart_front : (xs ys : List (ℕ × T)) → Apart (xs ++ ys) → Apart xs
-  apart_front [] ys a = tt
-  apart_front (x ∷ xs) ys a = ((absent_append x.0 xs ys a.0).0, apart_front xs ys a.1)
+  pub apart_prefix : (xs ys : List (ℕ × T)) → Apart (xs ++ ys) → Apart xs
+  apart_prefix [] ys a = tt
+  apart_prefix (x ∷ xs) ys a = ((absent_append x.0 xs ys a.0).0, apart_prefix xs ys a.1)
 
   pub apart_back : (xs ys : List (ℕ × T)) → Apart (xs ++ ys) → Apart ys
   apart_back [] ys a = a
@@ -102,10 +102,10 @@ module _ {T : Type 0} where
   first_or-append o [] ys = refl
   first_or-append o (x ∷ xs) ys = refl
 
-  pub linked_front : (g : ℕ → Option (Node T)) (p : ℕ) (b : Option ℕ) (xs ys : List (ℕ × T)) (n : Option ℕ) → Linked g p b (xs ++ ys) n → Linked g p b xs (first_or n ys)
-  linked_front g p b [] ys n l = tt
-  linked_front g p b (x ∷ xs) ys n l =
-      (l.0 ∙ ap (λ a. Some (record { list = p; before = b; after = a; value = x.1 })) (first_or-append n xs ys), linked_front g p (Some x.0) xs ys n l.1)
+  pub linked_prefix : (g : ℕ → Option (Node T)) (p : ℕ) (b : Option ℕ) (xs ys : List (ℕ × T)) (n : Option ℕ) → Linked g p b (xs ++ ys) n → Linked g p b xs (first_or n ys)
+  linked_prefix g p b [] ys n l = tt
+  linked_prefix g p b (x ∷ xs) ys n l =
+      (l.0 ∙ ap (λ a. Some (record { list = p; before = b; after = a; value = x.1 })) (first_or-append n xs ys), linked_prefix g p (Some x.0) xs ys n l.1)
 
   pub linked_back : (g : ℕ → Option (Node T)) (p : ℕ) (b : Option ℕ) (xs ys : List (ℕ × T)) (n : Option ℕ) → Linked g p b (xs ++ ys) n → Linked g p (last_or b xs) ys n
   linked_back g p b [] ys n l = l
@@ -183,7 +183,7 @@ module _ {T : Type 0} where
       → Linked g p b xs after → Linked g p before ys None → Linked i p b xs to × Linked i p back ys None
   relinked g h i p b after before xs ys to back a says1 says2 l1 l2 = (
     linked_same h i p b xs to (same_unnamed h i (first_or None ys) xs (kept_but h i (first_or None ys) (goes_back back) says2) (apart_first xs ys a))
-        (linked_after g h p b xs after to (apart_front xs ys a) says1 l1),
+        (linked_after g h p b xs after to (apart_prefix xs ys a) says1 l1),
     linked_before h i p before back ys None (apart_back xs ys a) says2
         (linked_same g h p before ys None (same_unnamed g h (last_or None xs) ys (kept_but g h (last_or None xs) (goes_on to) says1) (apart_last xs ys a)) l2),
   )
@@ -207,7 +207,7 @@ module _ {T : Type 0} where
       let kept : (j : ℕ) → is_key (Some c.0) j ≡ false → f j ≡ g j = λ j e. others j (λ q. eqb-false c.0 j e (sym q)) in
       let parts = absent_append c.0 xs ys none in
       let both = relinked f h i p None (first_or None ys) (last_or None xs) xs ys (Some c.0) (Some c.0) a says1 says2
-      (linked_same g f p None xs (first_or None ys) (same_unnamed g f (Some c.0) xs kept parts.0) (linked_front g p None xs ys None l))
+      (linked_same g f p None xs (first_or None ys) (same_unnamed g f (Some c.0) xs kept parts.0) (linked_prefix g p None xs ys None l))
       (linked_same g f p (last_or None xs) ys None (same_unnamed g f (Some c.0) ys kept parts.1) (linked_back g p None xs ys None l)) in
       linked_join i p None xs (c ∷ ys) None both.0 (relinked_other f h i xs ys (Some c.0) (Some c.0) c.0 none says1 says2 ∙ new, both.1)
 
@@ -219,7 +219,7 @@ module _ {T : Type 0} where
       let kept : (j : ℕ) → is_key (Some c.0) j ≡ false → f j ≡ g j = λ j e. others j (λ q. eqb-false c.0 j e (sym q)) in
       let last = linked_back g p None xs (c ∷ ys) None l in
       let both = relinked f h i p None (Some c.0) (Some c.0) xs ys (first_or None ys) (last_or None xs) (apart_remove xs c ys a) says1 says2
-      (linked_same g f p None xs (Some c.0) (same_unnamed g f (Some c.0) xs kept (apart_middle xs c ys a)) (linked_front g p None xs (c ∷ ys) None l))
+      (linked_same g f p None xs (Some c.0) (same_unnamed g f (Some c.0) xs kept (apart_middle xs c ys a)) (linked_prefix g p None xs (c ∷ ys) None l))
       (linked_same g f p (Some c.0) ys None (same_unnamed g f (Some c.0) ys kept (apart_back xs (c ∷ ys) a).0) last.1) in
       linked_join i p None xs ys None both.0 both.1
 

@@ -65,9 +65,9 @@ module _ {T : Type 0} where
       subst (λ zs. IsSome (value_in (zs ++ all_cells cs) k)) (sym cell.2) (rw (eq-eqb k k refl) refl)
   first_there (c ∷ cs) (suc p) k hp e = some_back c (all_cells cs) k (first_there cs p k (omega (arith, hp)) e)
 
-  pub all_front : (P : ℕ × T → Type 0) (xs ys : List (ℕ × T)) → All P (xs ++ ys) → All P xs
-  all_front P [] ys all = λ k d h. absurd (omega (arith, h))
-  all_front P (x ∷ xs) ys all = All-cons P x xs (All-head P x (xs ++ ys) all) (all_front P xs ys (All-tail P x (xs ++ ys) all))
+  pub all_prefix : (P : ℕ × T → Type 0) (xs ys : List (ℕ × T)) → All P (xs ++ ys) → All P xs
+  all_prefix P [] ys all = λ k d h. absurd (omega (arith, h))
+  all_prefix P (x ∷ xs) ys all = All-cons P x xs (All-head P x (xs ++ ys) all) (all_prefix P xs ys (All-tail P x (xs ++ ys) all))
 
   pub all_back : (P : ℕ × T → Type 0) (xs ys : List (ℕ × T)) → All P (xs ++ ys) → All P ys
   all_back P [] ys all = all
@@ -76,7 +76,7 @@ module _ {T : Type 0} where
   -- a property of all cells holds for those of each list
   pub all_chain : (P : ℕ × T → Type 0) (cs : List (List (ℕ × T))) (p : ℕ) → p < length cs → All P (all_cells cs) → All P (chain_at cs p)
   all_chain P [] p hp all = absurd (omega (arith, hp))
-  all_chain P (c ∷ cs) zero hp all = all_front P c (all_cells cs) all
+  all_chain P (c ∷ cs) zero hp all = all_prefix P c (all_cells cs) all
   all_chain P (c ∷ cs) (suc p) hp all = all_chain P cs p (omega (arith, hp)) (all_back P c (all_cells cs) all)
 
   pub cells_without : (cs : List (List (ℕ × T))) (key : ℕ) → all_cells (map (λ c. without cell_key c key) cs) ≡ without cell_key (all_cells cs) key
@@ -86,27 +86,27 @@ module _ {T : Type 0} where
 
   -- all cells, with one added between two parts of them
   pub record Parted (cs ds : List (List (ℕ × T))) (cell : ℕ × T) : Type 0 where
-    pub front : List (ℕ × T)
+    pub prefix : List (ℕ × T)
     pub back : List (ℕ × T)
-    pub before : all_cells cs ≡ front ++ back
-    pub after : all_cells ds ≡ front ++ cell ∷ back
+    pub before : all_cells cs ≡ prefix ++ back
+    pub after : all_cells ds ≡ prefix ++ cell ∷ back
 
   pub parted : (cs : List (List (ℕ × T))) (p : ℕ) (next : Option ℕ) (cell : ℕ × T) → p < length cs → Split (chain_at cs p) next cell → Parted cs (set cs p (put_before next cell (chain_at cs p))) cell
   parted [] p next cell hp s = absurd (omega (arith, hp))
   parted (c ∷ cs) zero next cell hp s =
       record {
-        front = s.front;
+        prefix = s.prefix;
         back = s.back ++ all_cells cs;
-        before = ap (λ zs. zs ++ all_cells cs) s.whole ∙ append_assoc s.front s.back (all_cells cs);
-        after = ap (λ zs. zs ++ all_cells cs) s.put ∙ append_assoc s.front (cell ∷ s.back) (all_cells cs);
+        before = ap (λ zs. zs ++ all_cells cs) s.whole ∙ append_assoc s.prefix s.back (all_cells cs);
+        after = ap (λ zs. zs ++ all_cells cs) s.put ∙ append_assoc s.prefix (cell ∷ s.back) (all_cells cs);
       }
   parted (c ∷ cs) (suc p) next cell hp s =
       let rest = parted cs p next cell (omega (arith, hp)) s in
       record {
-        front = c ++ rest.front;
+        prefix = c ++ rest.prefix;
         back = rest.back;
-        before = ap (λ zs. c ++ zs) rest.before ∙ sym (append_assoc c rest.front rest.back);
-        after = ap (λ zs. c ++ zs) rest.after ∙ sym (append_assoc c rest.front (cell ∷ rest.back));
+        before = ap (λ zs. c ++ zs) rest.before ∙ sym (append_assoc c rest.prefix rest.back);
+        after = ap (λ zs. c ++ zs) rest.after ∙ sym (append_assoc c rest.prefix (cell ∷ rest.back));
       }
 
   -- a look-up after a cell is added in between
@@ -167,7 +167,7 @@ module _ {T : Type 0} where
   pub chains_without : (key who : ℕ) (cs : List (List (ℕ × Member T))) → All (IsAlike key who) (all_cells cs)
       → named_chains (map (λ c. without cell_key c key) cs) ≡ map (λ c. without cell_key c who) (named_chains cs)
   chains_without key who [] all = refl
-  chains_without key who (c ∷ cs) all = λ i. without_alike key who c (all_front (IsAlike key who) c (all_cells cs) all) i ∷ chains_without key who cs (all_back (IsAlike key who) c (all_cells cs) all) i
+  chains_without key who (c ∷ cs) all = λ i. without_alike key who c (all_prefix (IsAlike key who) c (all_cells cs) all) i ∷ chains_without key who cs (all_back (IsAlike key who) c (all_cells cs) all) i
 
   put_alike : (nk nw : Option ℕ) (cell : ℕ × Member T) (cs : List (ℕ × Member T)) → All (λ c. is_key nk c.0 ≡ is_key nw c.1.who) cs → map named_cell (put_before nk cell cs) ≡ put_before nw (named_cell cell) (map named_cell cs)
   put_alike nk nw cell [] all = refl
@@ -274,7 +274,7 @@ module _ {T : Type 0} where
 
         all_same : (ds : List (List (ℕ × Member T))) → All (λ c. eqb c.1.who who ≡ false) (all_cells ds) → map (λ c. without cell_key c who) (named_chains ds) ≡ named_chains ds
         all_same [] all = refl
-        all_same (d ∷ ds) all = λ i. one_same d (all_front (λ c. eqb c.1.who who ≡ false) d (all_cells ds) all) i ∷ all_same ds (all_back (λ c. eqb c.1.who who ≡ false) d (all_cells ds) all) i
+        all_same (d ∷ ds) all = λ i. one_same d (all_prefix (λ c. eqb c.1.who who ≡ false) d (all_cells ds) all) i ∷ all_same ds (all_back (λ c. eqb c.1.who who ≡ false) d (all_cells ds) all) i
 
     -- ---- an id is added
     pub same_next : (next : Option ℕ) (p : ℕ) → p < length cs → ((id : ℕ) → next ≡ Some id → IsSome (value_in (chain_at (named_chains cs) p) id))
@@ -287,11 +287,11 @@ module _ {T : Type 0} where
               λ k d within. sym (ne_eqb id (get_or (chain_at cs p) k d).1.who (λ e. eqb-false (get_or (chain_at cs p) k d).1.who id (all k d within) (sym e)))
           | Some e ↦ λ q.
               let all = all_chain (IsAlike e.key id) cs p hp (cells_alike id e q) in
-              λ k d within. turned e.key (get_or (chain_at cs p) k d).0 id (get_or (chain_at cs p) k d).1.who (all k d within)
+              λ k d within. keyed e.key (get_or (chain_at cs p) k d).0 id (get_or (chain_at cs p) k d).1.who (all k d within)
         ] refl
       where
-        turned : (a b m n : ℕ) → eqb b a ≡ eqb n m → eqb a b ≡ eqb m n
-        turned a b m n e = eqb_comm a b ∙ e ∙ eqb_comm n m
+        keyed : (a b m n : ℕ) → eqb b a ≡ eqb n m → eqb a b ≡ eqb m n
+        keyed a b m n e = eqb_comm a b ∙ e ∙ eqb_comm n m
 
     -- the node of an id in a list
     pub node_of_next : (next : Option ℕ) (p : ℕ) → p < length cs → ((id : ℕ) → next ≡ Some id → IsSome (value_in (chain_at (named_chains cs) p) id))
@@ -316,7 +316,7 @@ module _ {T : Type 0} where
     indexed_inserted ds key who value parts fresh none =
         let e : Entry = record { id = who; key = key } in
         let m : Member T = record { who = who; value = value } in
-        let old : value_in (parts.front ++ parts.back) key ≡ None = ap (λ zs. value_in zs key) (sym parts.before) ∙ fresh in
+        let old : value_in (parts.prefix ++ parts.back) key ≡ None = ap (λ zs. value_in zs key) (sym parts.before) ∙ fresh in
         record {
           rising = Rising-with_record entry_id es e is.rising none;
           known = λ id x at.
@@ -325,14 +325,14 @@ module _ {T : Type 0} where
                     let key_is : key ≡ x.key = ap (λ (y : Entry). y.key) (same_Some e x q) in
                     ap (λ k. option_map member_id (value_of ds k)) (sym key_is)
                     ∙ ap (λ zs. option_map member_id (value_in zs key)) parts.after
-                    ∙ ap (option_map member_id) (value_new parts.front (key, m) parts.back old)
+                    ∙ ap (option_map member_id) (value_new parts.prefix (key, m) parts.back old)
                     ∙ ap (λ n. Some n) (eqb-true who id b)
                 | false ↦ λ b q.
                     let known = is.known id x q in
                     let apart : eqb key x.key ≡ false =
                     ne_eqb key x.key (λ r. let there : ◌≡◌ {A = Option ℕ} None (Some id) = ap (option_map member_id) (sym fresh ∙ ap (value_of cs) r) ∙ known in absurd (cc)) in
                     ap (λ zs. option_map member_id (value_in zs x.key)) parts.after
-                    ∙ ap (option_map member_id) (value_past parts.front (key, m) parts.back x.key apart)
+                    ∙ ap (option_map member_id) (value_past parts.prefix (key, m) parts.back x.key apart)
                     ∙ ap (λ zs. option_map member_id (value_in zs x.key)) (sym parts.before)
                     ∙ known
               ] refl (sym (of_id-with_record entry_id es e id none) ∙ at);
@@ -346,11 +346,11 @@ module _ {T : Type 0} where
               ∙ listed in
               let all = subst (All Listed) parts.before is.listed in
               subst (All P) (sym parts.after)
-              (All-append P parts.front ((key, m) ∷ parts.back)
-              (All-weaker Listed P keeps parts.front (all_front Listed parts.front parts.back all))
+              (All-append P parts.prefix ((key, m) ∷ parts.back)
+              (All-weaker Listed P keeps parts.prefix (all_prefix Listed parts.prefix parts.back all))
               (All-cons P (key, m) parts.back
               (of_id-with_record entry_id es e who none ∙ ap (λ b. cond b (Some e) (of_id entry_id es who)) (eq-eqb who who refl))
-              (All-weaker Listed P keeps parts.back (all_back Listed parts.front parts.back all))));
+              (All-weaker Listed P keeps parts.back (all_back Listed parts.prefix parts.back all))));
           count =
               omega (
                 arith,
@@ -358,8 +358,8 @@ module _ {T : Type 0} where
                 is.count,
                 ap length parts.before,
                 ap length parts.after,
-                length-append parts.front parts.back,
-                length-append parts.front ((key, m) ∷ parts.back),
+                length-append parts.prefix parts.back,
+                length-append parts.prefix ((key, m) ∷ parts.back),
               );
         }
 

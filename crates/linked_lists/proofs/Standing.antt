@@ -11,7 +11,7 @@ use Rattle.linked_lists.specs.declared.index.Entry.{Entry}
 use Rattle.linked_lists.specs.declared.id_lists.Member.{Member}
 use Rattle.linked_lists.specs.Chains.{cell_key, all_cells, chain_at, first_key, value_in, value_of, first_value, hold, ValueIs, NextIs, Apart}
 use Rattle.linked_lists.specs.Named.{entry_id, member_id, named_cell, named_chains, entry_of, IsIndexed}
-use Rattle.linked_lists.proofs.Naming.{IsAlike, all_back, all_chain, all_front, cells_alike, first_cell, head_same, named_at, no_cell, one_cell, tail_same, value_alike}
+use Rattle.linked_lists.proofs.Naming.{IsAlike, all_back, all_chain, all_prefix, cells_alike, first_cell, head_same, named_at, no_cell, one_cell, tail_same, value_alike}
 
 module _ {T : Type 0} where
   -- ---- the contents of one list
@@ -48,54 +48,54 @@ module _ {T : Type 0} where
 
   -- ---- the id after an id
   record Unnamed_at (xs : List (ℕ × Member T)) (who : ℕ) (back : List (ℕ × T)) : Type 0 where
-    front : List (ℕ × Member T)
+    prefix : List (ℕ × Member T)
     cell : ℕ × Member T
     rest : List (ℕ × Member T)
-    whole : xs ≡ front ++ cell ∷ rest
+    whole : xs ≡ prefix ++ cell ∷ rest
     id_is : cell.1.who ≡ who
     back_is : map named_cell rest ≡ back
 
-  unnamed_at : (xs : List (ℕ × Member T)) (who : ℕ) (value : T) (front back : List (ℕ × T)) → map named_cell xs ≡ front ++ (who, value) ∷ back → Unnamed_at xs who back
+  unnamed_at : (xs : List (ℕ × Member T)) (who : ℕ) (value : T) (prefix back : List (ℕ × T)) → map named_cell xs ≡ prefix ++ (who, value) ∷ back → Unnamed_at xs who back
   unnamed_at [] who value [] back e = absurd (cc)
   unnamed_at [] who value (f ∷ fs) back e = absurd (cc)
   unnamed_at (x ∷ xs) who value [] back e =
-      record { front = []; cell = x; rest = xs; whole = refl; id_is = ap (λ c. c.0) (head_same (named_cell x) (who, value) (map named_cell xs) back e); back_is = tail_same (named_cell x) (who, value) (map named_cell xs) back e }
+      record { prefix = []; cell = x; rest = xs; whole = refl; id_is = ap (λ c. c.0) (head_same (named_cell x) (who, value) (map named_cell xs) back e); back_is = tail_same (named_cell x) (who, value) (map named_cell xs) back e }
   unnamed_at (x ∷ xs) who value (f ∷ fs) back e =
       let found = unnamed_at xs who value fs back (tail_same (named_cell x) f (map named_cell xs) (fs ++ (who, value) ∷ back) e) in
-      record { front = x ∷ found.front; cell = found.cell; rest = found.rest; whole = ap (λ zs. x ∷ zs) found.whole; id_is = found.id_is; back_is = found.back_is }
+      record { prefix = x ∷ found.prefix; cell = found.cell; rest = found.rest; whole = ap (λ zs. x ∷ zs) found.whole; id_is = found.id_is; back_is = found.back_is }
 
   -- the key after an entry's key has the id after its id
   pub next_key : (cs : List (List (ℕ × Member T))) (es : List Entry) (who : ℕ) (e : Entry) (next : Option ℕ) → IsIndexed cs es → of_id entry_id es who ≡ Some e → NextIs cs e.key next
-      → (list : ℕ) (front back : List (ℕ × T)) (value : T) → chain_at (named_chains cs) list ≡ front ++ (who, value) ∷ back
+      → (list : ℕ) (prefix back : List (ℕ × T)) (value : T) → chain_at (named_chains cs) list ≡ prefix ++ (who, value) ∷ back
       → (rest : List (ℕ × Member T)) × (next ≡ first_key rest) × (map named_cell rest ≡ back) × All (IsListed es) rest
-  next_key cs es who e next is at after list front back value whole =
+  next_key cs es who e next is at after list prefix back value whole =
       ⊎_elim
       (λ (hp : list < length cs).
-      let found = unnamed_at (chain_at cs list) who value front back (sym (named_at cs list hp) ∙ whole) in
+      let found = unnamed_at (chain_at cs list) who value prefix back (sym (named_at cs list hp) ∙ whole) in
       let listed = subst (All (IsListed es)) found.whole (all_chain (IsListed es) cs list hp is.listed) in
-      let tail = all_back (IsListed es) found.front (found.cell ∷ found.rest) listed in
+      let tail = all_back (IsListed es) found.prefix (found.cell ∷ found.rest) listed in
       let here : of_id entry_id es found.cell.1.who ≡ Some (entry_of found.cell) = All-head (IsListed es) found.cell found.rest tail in
       let key : found.cell.0 ≡ e.key = ap (λ (x : Entry). x.key) (same_Some (entry_of found.cell) e (sym here ∙ ap (of_id entry_id es) found.id_is ∙ at)) in (
         found.rest,
-        after list found.front found.rest found.cell.1 (found.whole ∙ ap (λ k. found.front ++ (k, found.cell.1) ∷ found.rest) key),
+        after list found.prefix found.rest found.cell.1 (found.whole ∙ ap (λ k. found.prefix ++ (k, found.cell.1) ∷ found.rest) key),
         found.back_is,
         All-tail (IsListed es) found.cell found.rest tail,
       ))
       (λ (past : length cs ≤ list).
-      absurd (omega (arith, ap length (sym (get_or_past (named_chains cs) list [] (omega (arith, past, length-map cs (map named_cell)))) ∙ whole), length-append front ((who, value) ∷ back))))
+      absurd (omega (arith, ap length (sym (get_or_past (named_chains cs) list [] (omega (arith, past, length-map cs (map named_cell)))) ∙ whole), length-append prefix ((who, value) ∷ back))))
       (cases_lt list (length cs))
 
   -- an id without an entry is in no list
   pub no_stand : (cs : List (List (ℕ × Member T))) (es : List Entry) (who : ℕ) → IsIndexed cs es → of_id entry_id es who ≡ None
-      → (list : ℕ) (front back : List (ℕ × T)) (value : T) → chain_at (named_chains cs) list ≡ front ++ (who, value) ∷ back → ⊥
-  no_stand cs es who is none list front back value whole =
+      → (list : ℕ) (prefix back : List (ℕ × T)) (value : T) → chain_at (named_chains cs) list ≡ prefix ++ (who, value) ∷ back → ⊥
+  no_stand cs es who is none list prefix back value whole =
       ⊎_elim
       (λ (hp : list < length cs).
-      let found = unnamed_at (chain_at cs list) who value front back (sym (named_at cs list hp) ∙ whole) in
+      let found = unnamed_at (chain_at cs list) who value prefix back (sym (named_at cs list hp) ∙ whole) in
       let all = subst (All (λ (c : ℕ × Member T). eqb c.1.who who ≡ false)) found.whole (all_chain (λ c. eqb c.1.who who ≡ false) cs list hp (no_cell cs es is who none)) in
-      eqb-false found.cell.1.who who (All-head (λ (c : ℕ × Member T). eqb c.1.who who ≡ false) found.cell found.rest (all_back (λ c. eqb c.1.who who ≡ false) found.front (found.cell ∷ found.rest) all)) found.id_is)
+      eqb-false found.cell.1.who who (All-head (λ (c : ℕ × Member T). eqb c.1.who who ≡ false) found.cell found.rest (all_back (λ c. eqb c.1.who who ≡ false) found.prefix (found.cell ∷ found.rest) all)) found.id_is)
       (λ (past : length cs ≤ list).
-      absurd (omega (arith, ap length (sym (get_or_past (named_chains cs) list [] (omega (arith, past, length-map cs (map named_cell)))) ∙ whole), length-append front ((who, value) ∷ back))))
+      absurd (omega (arith, ap length (sym (get_or_past (named_chains cs) list [] (omega (arith, past, length-map cs (map named_cell)))) ∙ whole), length-append prefix ((who, value) ∷ back))))
       (cases_lt list (length cs))
 
   pub next_none : (rest : List (ℕ × Member T)) (back : List (ℕ × T)) → None ≡ first_key rest → map named_cell rest ≡ back → None ≡ first_key back
@@ -126,7 +126,7 @@ module _ {T : Type 0} where
       → named_chains (map (hold key (record { who = who; value = value })) cs) ≡ map (hold who value) (named_chains cs)
   chains_hold key who value [] all = refl
   chains_hold key who value (c ∷ cs) all =
-      λ i. hold_alike key who value c (all_front (IsAlike key who) c (all_cells cs) all) i ∷ chains_hold key who value cs (all_back (IsAlike key who) c (all_cells cs) all) i
+      λ i. hold_alike key who value c (all_prefix (IsAlike key who) c (all_cells cs) all) i ∷ chains_hold key who value cs (all_back (IsAlike key who) c (all_cells cs) all) i
 
   cells_hold : (key : ℕ) (m : Member T) (cs : List (List (ℕ × Member T))) → all_cells (map (hold key m) cs) ≡ hold key m (all_cells cs)
   cells_hold key m [] = refl

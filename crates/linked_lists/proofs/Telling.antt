@@ -17,7 +17,7 @@ use Rattle.linked_lists.proofs.Keeping.{Found, Spot, alike_ends, capacity_aimed,
 module _ {T : Type 0} where
   -- ---- what a node says
   pub found_at : (nodes : Slab (Node T)) (ends : List Ends) (cs : List (List (ℕ × T))) (room key : ℕ) → IsKept nodes ends cs room → IsSome (value_of cs key)
-      → (v : T) × (value_of cs key ≡ Some v) × (f : Found cs key v) × (get nodes key ≡ Some (node_in f.list (key, v) f.spot.front f.spot.back))
+      → (v : T) × (value_of cs key ≡ Some v) × (f : Found cs key v) × (get nodes key ≡ Some (node_in f.list (key, v) f.spot.prefix f.spot.back))
   found_at nodes ends cs room key is h =
       let v = is_some_of (value_of cs key) h in
       let f = found_list cs key v.0 v.1 in
@@ -29,10 +29,10 @@ module _ {T : Type 0} where
   only_in nodes ends cs room key node is h at =
       let found = found_at nodes ends cs room key is h in
       let spot = found.2.spot in
-      let list : node.list ≡ found.2.list = ap (λ (n : Node T). n.list) (same_Some node (node_in found.2.list (key, found.0) spot.front spot.back) (sym at ∙ found.3)) in
+      let list : node.list ≡ found.2.list = ap (λ (n : Node T). n.list) (same_Some node (node_in found.2.list (key, found.0) spot.prefix spot.back) (sym at ∙ found.3)) in
       record {
         within = subst (λ l. l < length cs) (sym list) found.2.within;
-        here = subst (λ l. IsSome (value_in (chain_at cs l) key)) (sym list) (subst (λ c. IsSome (value_in c key)) (sym spot.whole) (value_there spot.front key found.0 spot.back));
+        here = subst (λ l. IsSome (value_in (chain_at cs l) key)) (sym list) (subst (λ c. IsSome (value_in c key)) (sym spot.whole) (value_there spot.prefix key found.0 spot.back));
         elsewhere = λ other ne.
             ⊎_elim
             (λ (hp : other < length cs).
@@ -42,14 +42,14 @@ module _ {T : Type 0} where
       }
 
   pub after_is : (nodes : Slab (Node T)) (ends : List Ends) (cs : List (List (ℕ × T))) (room key : ℕ) (node : Node T) → IsKept nodes ends cs room → get nodes key ≡ Some node
-      → (list : ℕ) (front back : List (ℕ × T)) (value : T) → chain_at cs list ≡ front ++ (key, value) ∷ back → node.after ≡ first_key back
-  after_is nodes ends cs room key node is at list front back value whole =
+      → (list : ℕ) (prefix back : List (ℕ × T)) (value : T) → chain_at cs list ≡ prefix ++ (key, value) ∷ back → node.after ≡ first_key back
+  after_is nodes ends cs room key node is at list prefix back value whole =
       ⊎_elim
       (λ (hp : list < length cs).
-      let spot : Spot (chain_at cs list) key value = record { front = front; back = back; whole = whole } in
-      let same = same_Some node (node_in list (key, value) front back) (sym at ∙ found_node nodes ends cs room list key value is hp spot) in
+      let spot : Spot (chain_at cs list) key value = record { prefix = prefix; back = back; whole = whole } in
+      let same = same_Some node (node_in list (key, value) prefix back) (sym at ∙ found_node nodes ends cs room list key value is hp spot) in
       ap (λ (n : Node T). n.after) same ∙ firsts back)
-      (λ (past : length cs ≤ list). absurd (omega (arith, ap length (sym (get_or_past cs list [] past) ∙ whole), length-append front ((key, value) ∷ back))))
+      (λ (past : length cs ≤ list). absurd (omega (arith, ap length (sym (get_or_past cs list [] past) ∙ whole), length-append prefix ((key, value) ∷ back))))
       (cases_lt list (length cs))
     where
       firsts : (xs : List (ℕ × T)) → first_or None xs ≡ first_key xs
@@ -57,12 +57,12 @@ module _ {T : Type 0} where
       firsts (x ∷ xs) = refl
 
   pub value_is : (nodes : Slab (Node T)) (ends : List Ends) (cs : List (List (ℕ × T))) (room key : ℕ) (node : Node T) → IsKept nodes ends cs room → get nodes key ≡ Some node → ValueIs cs key node.value
-  value_is nodes ends cs room key node is at list front back value whole =
+  value_is nodes ends cs room key node is at list prefix back value whole =
       ⊎_elim
       (λ (hp : list < length cs).
-      let spot : Spot (chain_at cs list) key value = record { front = front; back = back; whole = whole } in
-      ap (λ (n : Node T). n.value) (same_Some (node_in list (key, value) front back) node (sym (found_node nodes ends cs room list key value is hp spot) ∙ at)))
-      (λ (past : length cs ≤ list). absurd (omega (arith, ap length (sym (get_or_past cs list [] past) ∙ whole), length-append front ((key, value) ∷ back))))
+      let spot : Spot (chain_at cs list) key value = record { prefix = prefix; back = back; whole = whole } in
+      ap (λ (n : Node T). n.value) (same_Some (node_in list (key, value) prefix back) node (sym (found_node nodes ends cs room list key value is hp spot) ∙ at)))
+      (λ (past : length cs ≤ list). absurd (omega (arith, ap length (sym (get_or_past cs list [] past) ∙ whole), length-append prefix ((key, value) ∷ back))))
       (cases_lt list (length cs))
 
   -- ---- empty lists
@@ -126,8 +126,8 @@ module _ {T : Type 0} where
       let v = is_some_of (value_of cs key) h in
       let found = found_list cs key v.0 v.1 in
       let spot = found.spot in
-      let back = after found.list spot.front spot.back v.0 spot.whole in
-      some_after cs found.list k spot.front (key, v.0) spot.back found.within spot.whole (sym back ∙ e)
+      let back = after found.list spot.prefix spot.back v.0 spot.whole in
+      some_after cs found.list k spot.prefix (key, v.0) spot.back found.within spot.whole (sym back ∙ e)
     where
       some_after : (ds : List (List (ℕ × T))) (p j : ℕ) (xs : List (ℕ × T)) (c : ℕ × T) (ys : List (ℕ × T)) → p < length ds → chain_at ds p ≡ xs ++ c ∷ ys → first_key ys ≡ Some j → IsSome (value_of ds j)
       some_after ds p j xs c [] hp whole q = absurd (cc)

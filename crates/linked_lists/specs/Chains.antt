@@ -95,11 +95,11 @@ module _ {T : Type 0} where
 
   -- in whichever list the key is, this is its value
   abbrev pub ValueIs : List (List (ℕ × T)) → ℕ → T → Type 0
-  ValueIs cs key held = (list : ℕ) (front back : List (ℕ × T)) (value : T) → chain_at cs list ≡ front ++ (key, value) ∷ back → value ≡ held
+  ValueIs cs key held = (list : ℕ) (prefix back : List (ℕ × T)) (value : T) → chain_at cs list ≡ prefix ++ (key, value) ∷ back → value ≡ held
 
   -- in whichever list the key is, this is the key after it
   abbrev pub NextIs : List (List (ℕ × T)) → ℕ → Option ℕ → Type 0
-  NextIs cs key next = (list : ℕ) (front back : List (ℕ × T)) (value : T) → chain_at cs list ≡ front ++ (key, value) ∷ back → next ≡ first_key back
+  NextIs cs key next = (list : ℕ) (prefix back : List (ℕ × T)) (value : T) → chain_at cs list ≡ prefix ++ (key, value) ∷ back → next ≡ first_key back
 
   -- the invariant of lists: there are at most as many cells as room, and no two cells of a list have the same key
   pub record AreChains (t : Chains T) : Type 0 where

@@ -69,9 +69,9 @@ module _ {T : Type 0} where
   aimed nodes (Some key) f = with_node nodes key f (get nodes key)
 
   -- the node before the one with a key; without a key, the last of the list
-  abbrev pub behind : Slab (Node T) → List Ends → ℕ → Option ℕ → Option ℕ
-  behind nodes ends list None = (slice_index_or ends list no_ends).last
-  behind nodes ends list (Some key) = option_and_then (λ node. node.before) (get nodes key)
+  abbrev pub key_before : Slab (Node T) → List Ends → ℕ → Option ℕ → Option ℕ
+  key_before nodes ends list None = (slice_index_or ends list no_ends).last
+  key_before nodes ends list (Some key) = option_and_then (λ node. node.before) (get nodes key)
 
   -- the invariant: the nodes and ends spell these lists; no two cells of a list have the same key; each node is in a list;
   -- there are at most `room` nodes, and the slab has that capacity

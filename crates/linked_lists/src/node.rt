@@ -3,7 +3,7 @@
 ghost use Rattle.std.specs.Option.{ForSome};
 ghost use Rattle.std.specs.Prelude.{◌≡◌, ◌<◌, length};
 ghost use Rattle.slab.specs.Slab.{ContainsKey};
-ghost use Rattle.linked_lists.specs.Inside.{aimed, behind, goes_on, goes_back, aim_first, aim_last};
+ghost use Rattle.linked_lists.specs.Inside.{aimed, key_before, goes_on, goes_back, aim_first, aim_last};
 
 use slab::Slab;
 
@@ -33,7 +33,7 @@ pub(crate) fn node_before<T>(
 ) -> Option<usize>
     requires list { list < length ends.now }
     requires next { ForSome next (λ key. ContainsKey nodes.now key) }
-    ensures { result ≡ behind nodes.now ends.now list next }
+    ensures { result ≡ key_before nodes.now ends.now list next }
 {
     match next {
         Some(key) => nodes[key].before,

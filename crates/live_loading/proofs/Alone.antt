@@ -1,13 +1,11 @@
 -- What a load leaves as it was.
-use Rattle.std.proofs.Common.{◌≡◌, ℕ, ◌+◌, ◌<◌, ◌≤◌, cond, eqb, List, [], ◌∷◌, length, Some, Result, Ok, Err, refl, sym, ap, ◌∙◌, subst, inl, inr, arith}
+use Rattle.std.proofs.Common.{◌≡◌, ℕ, ◌+◌, ◌<◌, ◌≤◌, List, length, Result, Ok, Err, refl, sym, ◌∙◌, subst, inl, inr, arith}
 use Rattle.std.specs.Prelude.{slice_index, codes}
 use Rattle.std.specs.List.{Contains}
-use Rattle.std.proofs.lemmas.Bool.{cases_eq, eq-eqb, ne_eqb}
 use Rattle.std.proofs.lemmas.List.Elements.{All-contains}
 use Rattle.wind_base.specs.Limits.{ok_word}
 use Rattle.wind_base.specs.Errno.{errno_number}
 use Rattle.wind_base.specs.declared.errno.Errno.TheVariants as errors
-use Rattle.wind_lists.specs.Records.{change}
 use Rattle.task_block.specs.declared.task.Task.{Task}
 use Rattle.mem_partition.specs.Laws.{IsIn, Meets}
 use Rattle.mem_partition.specs.State.{PartState}
@@ -21,13 +19,14 @@ use Rattle.module_loader.specs.Loading.{Piece, pieces_of, count_refusal, verdict
 use Rattle.module_loader.specs.Live.{IsPiece}
 use Rattle.module_loader.proofs.Files.{is_file}
 use Rattle.module_loader.proofs.Owning.{write_law}
-use Rattle.wind_core.specs.State.{KernState, task_id, task_of}
+use Rattle.wind_core.specs.State.{KernState, task_of}
 use Rattle.wind_core.specs.Moves.{change_task, past_gate, leave_gate, set_errno, answer, with_answer as answered}
 use Rattle.kernel_world.specs.State.{WorldState}
 use Rattle.kernel_world.specs.Actors.{shell_id, caller_words}
 use Rattle.kernel_world.specs.Replies.{left_gate}
 use Rattle.kernel_world.specs.Kept.{IsWorld}
 use Rattle.kernel_world.proofs.Goes.{drawn}
+use Rattle.kernel_world.proofs.OneTask.{other_task}
 use Rattle.live_loading.specs.Said.{FileSaid, Held, Missing, TooLong}
 use Rattle.live_loading.specs.Texts.{reason}
 use Rattle.live_loading.specs.Loading.{shell, loader_state, accepted, refused, by_verdict, effect, load_call}
@@ -53,21 +52,8 @@ alike_on k j i a b = record {
   ids = omega (arith, a.ids, b.ids);
 }
 
--- a change of the shell's task changes no other
-others_stay : (f : Task → Task) → ((t : Task) → (f t).id ≡ t.id) → (ts : List Task) (id : ℕ) → (id ≡ shell_id → ⊥) → task_of (change task_id ts shell_id f) id ≡ task_of ts id
-others_stay f keeps [] id other = refl
-others_stay f keeps (t ∷ ts) id other =
-    ap (λ o. cond (eqb (cond (eqb t.id shell_id) (f t) t).id id) (Some (cond (eqb t.id shell_id) (f t) t)) o) (others_stay f keeps ts id other)
-    ∙ elim (cases_eq t.id shell_id) [
-      | inl same ↦
-          ap (λ b. cond (eqb (cond b (f t) t).id id) (Some (cond b (f t) t)) (task_of ts id)) (eq-eqb t.id shell_id same)
-          ∙ ap (λ b. cond b (Some (f t)) (task_of ts id)) (ne_eqb (f t).id id (λ e. other (sym e ∙ (keeps t ∙ same))))
-          ∙ sym (ap (λ b. cond b (Some t) (task_of ts id)) (ne_eqb t.id id (λ e. other (sym e ∙ same))))
-      | inr differs ↦ ap (λ b. cond (eqb (cond b (f t) t).id id) (Some (cond b (f t) t)) (task_of ts id)) (ne_eqb t.id shell_id differs)
-    ]
-
 alike_change : (k : KernState) (f : Task → Task) → ((t : Task) → (f t).id ≡ t.id) → Alike k (change_task k shell_id f)
-alike_change k f keeps = record { others = λ id other. others_stay f keeps k.tasks id other; tick = refl; slice = refl; sinces = refl; last = refl; ids = omega arith }
+alike_change k f keeps = record { others = λ id other. other_task k.tasks shell_id f keeps id other; tick = refl; slice = refl; sinces = refl; last = refl; ids = omega arith }
 
 alike_left : (k : KernState) → Alike k (leave_gate k shell_id)
 alike_left k = alike_change k past_gate (λ t. refl)
@@ -94,7 +80,7 @@ alike_accepted k value =
 refused_alone : (w : WorldState) (name words : List ℕ) → OnlyLoads w (refused (left_gate w shell) name words)
 refused_alone w name words =
     let a = alike_refused w.kern in
-    record { objects = refl; slots = refl; names = refl; watch = refl; int_errno = refl; others = a.others; tick = a.tick; slice = a.slice; sinces = a.sinces; last = a.last; ids = a.ids; ram = λ a out. refl }
+    record { objects = refl; slots = refl; irqs = refl; names = refl; watch = refl; int_errno = refl; others = a.others; tick = a.tick; slice = a.slice; sinces = a.sinces; last = a.last; ids = a.ids; ram = λ a out. refl }
 
 -- ---- an accepted load
 module _ (w : WorldState) (kept : IsWorld w) (name : List ℕ) (m : Module) (mode : ℕ) (at : Places) (known : IsModule m) (ok : verdict (loader_state (left_gate w shell)) m mode ≡ Ok at) where
@@ -126,6 +112,7 @@ module _ (w : WorldState) (kept : IsWorld w) (name : List ℕ) (m : Module) (mod
       record {
         objects = refl;
         slots = refl;
+        irqs = refl;
         names = refl;
         watch = refl;
         int_errno = refl;

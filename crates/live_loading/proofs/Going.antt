@@ -22,7 +22,7 @@ use Rattle.module_image.proofs.Counts.{count_law}
 use Rattle.module_loader.specs.declared.module.LoadErr.{LoadErr}
 use Rattle.module_loader.specs.declared.module.LoadedModule.{LoadedModule}
 use Rattle.module_loader.specs.Placing.{with_seg, with_text, with_data, with_needs}
-use Rattle.module_loader.specs.Loading.{LoaderState, side_of, count_refusal, verdict, file_verdict, loaded, record_of, told, IsLoaded}
+use Rattle.module_loader.specs.Loading.{LoaderState, side_of, count_refusal, verdict, file_verdict, loaded, record_of, loaded_answer, IsLoaded}
 use Rattle.module_loader.specs.Live.{IsLoader}
 use Rattle.module_loader.proofs.Files.{is_file}
 use Rattle.module_loader.proofs.Applying.{is_accepted}
@@ -160,7 +160,7 @@ accepted_advances : (w : WorldState) (kept : IsWorld w) (n : ℕ) → Within n w
 accepted_advances w kept n within name m mode at known ok =
     let a = loaded_advances w kept name m mode at known ok n within in
     let v = with_loader w (loaded (loader_state w) name m mode at) in
-    let text = undefined_text (told (loader_state w) m).undefined in
+    let text = undefined_text (loaded_answer (loader_state w) m).undefined in
     let b = writing_advances v a.kept n a.within text in
     let u = writing v text in
     advances_on w u (accepted w name mode m at) n n 0 0 0 0 (advances_on w v u n n 0 0 0 0 a b) (answer_advances u b.kept n b.within w.kern.next_id)

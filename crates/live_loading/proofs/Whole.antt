@@ -11,7 +11,7 @@ use Rattle.module_image.specs.declared.segments.Places.{Places}
 use Rattle.module_loader.specs.declared.module.LoadErr.{LoadErr}
 use Rattle.module_loader.specs.declared.module.LoadErr.TheVariants as refusal
 use Rattle.module_loader.specs.declared.module.Loaded.{Loaded}
-use Rattle.module_loader.specs.Loading.{LoaderState, count_refusal, verdict, file_verdict, loaded, told, IsLoaded, IsVerdict}
+use Rattle.module_loader.specs.Loading.{LoaderState, count_refusal, verdict, file_verdict, loaded, loaded_answer, IsLoaded, IsVerdict}
 use Rattle.module_loader.proofs.Files.{read_verdict}
 use Rattle.kernel_world.specs.State.{WorldState}
 use Rattle.kernel_world.specs.Actors.{shell_id, caller_regs, caller_words}
@@ -26,7 +26,7 @@ use Rattle.live_loading.specs.Loading.{shell, loader_state, with_loader, writing
 -- ---- a module that has been read
 -- it is loaded: this commutes with leaving the gate
 at_places : (w : WorldState) (name : List ℕ) (m : Module) (mode : ℕ) (at : Places)
-    → with_answer (writing (left_gate (with_loader w (loaded (loader_state w) name m mode at)) shell) (undefined_text (told (loader_state w) m).undefined)) shell (told (loader_state w) m).id
+    → with_answer (writing (left_gate (with_loader w (loaded (loader_state w) name m mode at)) shell) (undefined_text (loaded_answer (loader_state w) m).undefined)) shell (loaded_answer (loader_state w) m).id
     ≡ by_verdict (left_gate w shell) name mode m (Ok at)
 unfolding loaded
 at_places w name m mode at = refl
@@ -40,14 +40,14 @@ abbrev pub with_output : WorldState → List ℕ → WorldState
 with_output w bytes = record w { output = bytes }
 
 pub loaded_world : (w x : WorldState) (name : List ℕ) (m : Module) (mode : ℕ) (v : Result Places LoadErr) (t : LoaderState) (l : Loaded) (bytes : List ℕ)
-    → IsLoaded v (loader_state w) name m mode t → l ≡ told (loader_state w) m → bytes ≡ w.output
+    → IsLoaded v (loader_state w) name m mode t → l ≡ loaded_answer (loader_state w) m → bytes ≡ w.output
     → x ≡ with_answer (writing (left_gate (with_output (with_loader w t) bytes) shell) (undefined_text l.undefined)) shell l.id → x ≡ by_verdict (left_gate w shell) name mode m v
 loaded_world w x name m mode (Err e) t l bytes to answer same is = absurd to
 loaded_world w x name m mode (Ok at) t l bytes to answer same is =
     is
     ∙ ap (λ b. with_answer (writing (left_gate (with_output (with_loader w t) b) shell) (undefined_text l.undefined)) shell l.id) same
     ∙ ap (λ (q : Loaded). with_answer (writing (left_gate (with_loader w t) shell) (undefined_text q.undefined)) shell q.id) answer
-    ∙ ap (λ (u : LoaderState). with_answer (writing (left_gate (with_loader w u) shell) (undefined_text (told (loader_state w) m).undefined)) shell (told (loader_state w) m).id) to
+    ∙ ap (λ (u : LoaderState). with_answer (writing (left_gate (with_loader w u) shell) (undefined_text (loaded_answer (loader_state w) m).undefined)) shell (loaded_answer (loader_state w) m).id) to
     ∙ at_places w name m mode at
 
 -- or refused

@@ -20,11 +20,12 @@ LoadLaw = (w : WorldState) (name : List ℕ) (said : FileSaid) (n : ℕ) → IsW
 abbrev pub IsFresh : WorldState → WorldState → ℕ → Type 0
 IsFresh w v a = (b : Block) × Contains v.part.blocks b × (Contains w.part.blocks b → ⊥) × IsIn a b.addr b.size
 
--- what a load leaves as it was: the objects, the devices, the watchdogs, the other tasks and the counters, and
--- each byte of RAM outside the blocks that it takes
+-- what a load leaves as it was: the objects, the devices and their interrupts, the watchdogs, the other tasks, the
+-- counters, and each byte of RAM outside the blocks that it takes
 pub record OnlyLoads (w v : WorldState) : Type 0 where
   pub objects : v.objects ≡ w.objects
   pub slots : v.slots ≡ w.slots
+  pub irqs : v.irqs ≡ w.irqs
   pub names : v.names ≡ w.names
   pub watch : v.watch ≡ w.watch
   pub int_errno : v.int_errno ≡ w.int_errno

@@ -7,7 +7,7 @@ use Rattle.elf_read.specs.declared.module.Module.{Module}
 use Rattle.elf_read.specs.Contents.{module_at}
 use Rattle.module_image.specs.declared.segments.Places.{Places}
 use Rattle.module_loader.specs.declared.module.LoadErr.{LoadErr}
-use Rattle.module_loader.specs.Loading.{LoaderState, file_verdict, loaded, told}
+use Rattle.module_loader.specs.Loading.{LoaderState, file_verdict, loaded, loaded_answer}
 use Rattle.kernel_world.specs.State.{WorldState}
 use Rattle.kernel_world.specs.Actors.{shell_id, caller_words}
 use Rattle.kernel_world.specs.Replies.{left_gate, with_answer, with_errno}
@@ -34,7 +34,7 @@ writing w text = record w { output = w.output ++ text }
 -- the module is loaded at these places: the undefined names are written, and the answer is the module's id
 abbrev pub accepted : WorldState → List ℕ → ℕ → Module → Places → WorldState
 accepted w name mode m at =
-    with_answer (writing (with_loader w (loaded (loader_state w) name m mode at)) (undefined_text (told (loader_state w) m).undefined)) shell w.kern.next_id
+    with_answer (writing (with_loader w (loaded (loader_state w) name m mode at)) (undefined_text (loaded_answer (loader_state w) m).undefined)) shell w.kern.next_id
 
 -- nothing is loaded: the reason is written, and the answer is 0
 abbrev pub refused : WorldState → List ℕ → List ℕ → WorldState

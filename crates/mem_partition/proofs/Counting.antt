@@ -73,8 +73,8 @@ in_first b bs a low high =
     (and_from (leb b.addr a) (ltb a (b.addr + b.size)) (le-leb b.addr a low) (lt-ltb a (b.addr + b.size) high))
 
 -- after the first block, the others decide
-pub behind_first : (b : Block) (bs : List Block) (a : ℕ) → b.addr + b.size ≤ a → is_free (b ∷ bs) a ≡ is_free bs a
-behind_first b bs a h =
+pub after_first : (b : Block) (bs : List Block) (a : ℕ) → b.addr + b.size ≤ a → is_free (b ∷ bs) a ≡ is_free bs a
+after_first b bs a h =
     ap (λ t. not (t || list_any (λ c. in_block c a) bs))
     (and_right (leb b.addr a) (ltb a (b.addr + b.size)) (le-ltb a (b.addr + b.size) h))
 
@@ -87,7 +87,7 @@ free_counts lo hi (b ∷ bs) h (low, some, high, laid) =
     let two = in_parts p b.addr b.size (hi - end) (hi - b.addr) end (omega arith) refl in
     let before = all_pass p lo (b.addr - lo) (λ a l r. before_all b.addr hi a (b ∷ bs) (omega arith, some, high, laid) (omega arith)) in
     let inside = none_pass p b.addr b.size (λ a l r. in_first b bs a l r) in
-    let behind = same_pass p (is_free bs) end (hi - end) (λ a l. behind_first b bs a l) in
+    let after = same_pass p (is_free bs) end (hi - end) (λ a l. after_first b bs a l) in
     let rest = free_counts end hi bs high laid in
     let sizes = sum_by-cons (λ (c : Block). c.size) b bs in omega arith
 

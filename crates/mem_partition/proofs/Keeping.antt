@@ -72,8 +72,8 @@ with_laid lo hi (c ∷ cs) b (c_low, c_some, c_high, laid) low some high free =
           (low, some, high, (before, c_some, c_high, laid))
       | false ↦ λ e.
           let k = ltb-false b.addr c.addr e in
-          let behind : c.addr + c.size ≤ b.addr = elim apart [ inl h ↦ absurd (omega arith) | inr h ↦ h ] in
-          (c_low, c_some, c_high, with_laid (c.addr + c.size) hi cs b laid behind some high parts.1)
+          let after : c.addr + c.size ≤ b.addr = elim apart [ inl h ↦ absurd (omega arith) | inr h ↦ h ] in
+          (c_low, c_some, c_high, with_laid (c.addr + c.size) hi cs b laid after some high parts.1)
     ] refl
 
 pub length-with_block : (b : Block) (bs : List Block) → length (with_block b bs) ≡ length bs + 1
@@ -84,11 +84,11 @@ length-with_block b (c ∷ cs) = elim (ltb b.addr c.addr) as (λ t. length (cond
 ]
 
 -- blocks that begin after an address are not the one at it
-pub none_behind : (lo hi at : ℕ) (bs : List Block) → Laid lo hi bs → at < lo → without_block at bs ≡ bs
-none_behind lo hi at [] laid h = refl
-none_behind lo hi at (b ∷ bs) (low, some, high, laid) h =
+pub none_after : (lo hi at : ℕ) (bs : List Block) → Laid lo hi bs → at < lo → without_block at bs ≡ bs
+none_after lo hi at [] laid h = refl
+none_after lo hi at (b ∷ bs) (low, some, high, laid) h =
     ap (λ t. cond (not t) (b ∷ without_block at bs) (without_block at bs)) (ne_eqb b.addr at (λ e. omega arith))
-    ∙ ap (λ xs. b ∷ xs) (none_behind (b.addr + b.size) hi at bs laid (omega arith))
+    ∙ ap (λ xs. b ∷ xs) (none_after (b.addr + b.size) hi at bs laid (omega arith))
 
 pub without_laid : (lo hi at : ℕ) (bs : List Block) → Laid lo hi bs → Laid lo hi (without_block at bs)
 without_laid lo hi at [] laid = tt
@@ -108,11 +108,11 @@ length-without at (b ∷ bs) =
     ]
 
 -- the block at a place begins at or after lo
-pub place_behind : (lo hi : ℕ) (bs : List Block) (k : ℕ) (d : Block) → Laid lo hi bs → k < length bs → lo ≤ (get_or bs k d).addr
-place_behind lo hi [] k d laid h = omega arith
-place_behind lo hi (b ∷ bs) zero d (low, some, high, laid) h = low
-place_behind lo hi (b ∷ bs) (suc k) d (low, some, high, laid) h =
-    let rest = place_behind (b.addr + b.size) hi bs k d laid (omega arith) in omega arith
+pub place_after : (lo hi : ℕ) (bs : List Block) (k : ℕ) (d : Block) → Laid lo hi bs → k < length bs → lo ≤ (get_or bs k d).addr
+place_after lo hi [] k d laid h = omega arith
+place_after lo hi (b ∷ bs) zero d (low, some, high, laid) h = low
+place_after lo hi (b ∷ bs) (suc k) d (low, some, high, laid) h =
+    let rest = place_after (b.addr + b.size) hi bs k d laid (omega arith) in omega arith
 
 -- it isn't empty, and ends in the pool
 pub place_full : (lo hi : ℕ) (bs : List Block) (k : ℕ) (d : Block) → Laid lo hi bs → k < length bs → 0 < (get_or bs k d).size
@@ -128,9 +128,9 @@ place_inside lo hi (b ∷ bs) (suc k) d (low, some, high, laid) h = place_inside
 pub removed_at : (lo hi at : ℕ) (bs : List Block) (k : ℕ) (d : Block) → Laid lo hi bs → k < length bs → (get_or bs k d).addr ≡ at → remove bs k ≡ without_block at bs
 removed_at lo hi at [] k d laid h e = absurd (omega arith)
 removed_at lo hi at (b ∷ bs) zero d (low, some, high, laid) h e =
-    sym (ap (λ t. cond (not t) (b ∷ without_block at bs) (without_block at bs)) (eq-eqb b.addr at e) ∙ none_behind (b.addr + b.size) hi at bs laid (omega arith))
+    sym (ap (λ t. cond (not t) (b ∷ without_block at bs) (without_block at bs)) (eq-eqb b.addr at e) ∙ none_after (b.addr + b.size) hi at bs laid (omega arith))
 removed_at lo hi at (b ∷ bs) (suc k) d (low, some, high, laid) h e =
-    let behind = place_behind (b.addr + b.size) hi bs k d laid (omega arith) in
+    let after = place_after (b.addr + b.size) hi bs k d laid (omega arith) in
     ap (λ xs. b ∷ xs) (removed_at (b.addr + b.size) hi at bs k d laid (omega arith) e)
     ∙ sym (ap (λ t. cond (not t) (b ∷ without_block at bs) (without_block at bs)) (ne_eqb b.addr at (λ q. omega arith)))
 
@@ -146,7 +146,7 @@ given_back lo hi (c ∷ cs) b (c_low, c_some, c_high, laid) some free =
           let k = ltb-true b.addr c.addr e in
           let before : b.addr + b.size ≤ c.addr = elim apart [ inl h ↦ h | inr h ↦ absurd (omega arith) ] in
           ap (λ t. cond (not t) (b ∷ without_block b.addr (c ∷ cs)) (without_block b.addr (c ∷ cs))) (eq-eqb b.addr b.addr refl)
-          ∙ none_behind c.addr hi b.addr (c ∷ cs) (omega arith, c_some, c_high, laid) (omega arith)
+          ∙ none_after c.addr hi b.addr (c ∷ cs) (omega arith, c_some, c_high, laid) (omega arith)
       | false ↦ λ e.
           ap (λ t. cond (not t) (c ∷ without_block b.addr (with_block b cs)) (without_block b.addr (with_block b cs))) (ne_eqb c.addr b.addr differ)
           ∙ ap (λ xs. c ∷ xs) (given_back (c.addr + c.size) hi cs b laid some parts.1)

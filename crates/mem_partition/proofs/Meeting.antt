@@ -77,16 +77,16 @@ alloc_multiple side s n align at e =
     (and_parts (eqb (at % max align 16) 0) (leb (at + rounded n) s.end && meets_none s.blocks (rounded n) at) is.0.1).0
 
 -- the blocks after an address don't overlap one that ends there
-behind_apart : (b : Block) (lo hi : ℕ) (bs : List Block) → b.addr + b.size ≤ lo → Laid lo hi bs → All (λ c. Meets b.size b.addr c → ⊥) bs
-behind_apart b lo hi [] h laid = λ k d j. absurd (omega arith)
-behind_apart b lo hi (c ∷ cs) h (low, some, high, laid) =
+after_apart : (b : Block) (lo hi : ℕ) (bs : List Block) → b.addr + b.size ≤ lo → Laid lo hi bs → All (λ c. Meets b.size b.addr c → ⊥) bs
+after_apart b lo hi [] h laid = λ k d j. absurd (omega arith)
+after_apart b lo hi (c ∷ cs) h (low, some, high, laid) =
     All-cons (λ x. Meets b.size b.addr x → ⊥) c cs (λ (a, (l, r), (from, to)). omega arith)
-    (behind_apart b (c.addr + c.size) hi cs (omega arith) laid)
+    (after_apart b (c.addr + c.size) hi cs (omega arith) laid)
 
 laid_apart : (lo hi : ℕ) (bs : List Block) → Laid lo hi bs → AllPairs (λ b c. Meets b.size b.addr c → ⊥) bs
 laid_apart lo hi [] laid = λ i j d h k. absurd (omega arith)
 laid_apart lo hi (b ∷ bs) (low, some, high, laid) =
-    AllPairs-cons (λ x y. Meets x.size x.addr y → ⊥) b bs (behind_apart b (b.addr + b.size) hi bs (omega arith) laid)
+    AllPairs-cons (λ x y. Meets x.size x.addr y → ⊥) b bs (after_apart b (b.addr + b.size) hi bs (omega arith) laid)
     (laid_apart (b.addr + b.size) hi bs laid)
 
 laid_inside : (lo from hi : ℕ) (bs : List Block) → from ≤ lo → Laid lo hi bs → All (λ b. (from ≤ b.addr) × (b.addr + b.size ≤ hi)) bs

@@ -6,9 +6,9 @@ use Rattle.mem_partition.specs.declared.block.Block.{Block}
 use Rattle.mem_partition.specs.declared.hole.Hole.{Hole}
 use Rattle.mem_partition.specs.State.{Laid, without_block}
 use Rattle.mem_partition.specs.Holes.{gap, holes_of, put_gap, reach_down, reach_up, touches, apart_from, rank, merged}
-use Rattle.mem_partition.proofs.Keeping.{none_behind, place_behind, place_full}
+use Rattle.mem_partition.proofs.Keeping.{none_after, place_after, place_full}
 use Rattle.mem_partition.proofs.Places.{nothing_more}
-use Rattle.mem_partition.proofs.Splitting.{put_first, put_behind}
+use Rattle.mem_partition.proofs.Splitting.{put_first, put_after}
 
 abbrev hole : ℕ → ℕ → Hole
 hole lo hi = record { start = lo; end = hi }
@@ -27,7 +27,7 @@ record Far (lo hi from : ℕ) (hs : List Hole) : Type 0 where
   pub first : rank from hs ≡ 0
 
 far_gap : (lo hi from x y : ℕ) (hs : List Hole) → lo < hi → hi < x → from ≤ hi → Far lo hi from hs → Far lo hi from (gap x y ++ hs)
-far_gap lo hi from x y hs some behind below far =
+far_gap lo hi from x y hs some after below far =
     elim (ltb x y) as (λ t. ltb x y ≡ t → Far lo hi from (cond t (record { start = x; end = y } ∷ []) [] ++ hs)) [
       | false ↦ λ q. far
       | true ↦ λ q.
@@ -48,10 +48,10 @@ far_none : (lo hi from : ℕ) → Far lo hi from []
 far_none lo hi from = record { ends = refl; begins = refl; kept = refl; first = refl }
 
 far_holes : (lo hi from x y : ℕ) (bs : List Block) → lo < hi → hi < x → from ≤ hi → Laid x y bs → Far lo hi from (holes_of x y bs)
-far_holes lo hi from x y [] some behind below laid =
-    subst (λ hs. Far lo hi from hs) (nothing_more (gap x y)) (far_gap lo hi from x y [] some behind below (far_none lo hi from))
-far_holes lo hi from x y (b ∷ bs) some behind below (low, full, high, laid) =
-    far_gap lo hi from x b.addr (holes_of (b.addr + b.size) y bs) some behind below
+far_holes lo hi from x y [] some after below laid =
+    subst (λ hs. Far lo hi from hs) (nothing_more (gap x y)) (far_gap lo hi from x y [] some after below (far_none lo hi from))
+far_holes lo hi from x y (b ∷ bs) some after below (low, full, high, laid) =
+    far_gap lo hi from x b.addr (holes_of (b.addr + b.size) y bs) some after below
     (far_holes lo hi from (b.addr + b.size) y bs some (omega arith) below laid)
 
 -- ---- addresses between the gaps on their sides
@@ -118,8 +118,8 @@ merged_here lo at end hi hs low some high far =
 
 -- ---- addresses after a gap
 
-merged_behind : (x y at end : ℕ) (hs : List Hole) → y < at → at < end → x ≤ reach_down at (ending at hs) → merged at end (gap x y ++ hs) ≡ gap x y ++ merged at end hs
-merged_behind x y at end hs behind some reach =
+merged_after : (x y at end : ℕ) (hs : List Hole) → y < at → at < end → x ≤ reach_down at (ending at hs) → merged at end (gap x y ++ hs) ≡ gap x y ++ merged at end hs
+merged_after x y at end hs after some reach =
     elim (ltb x y) as (λ t. ltb x y ≡ t → merged at end (cond t (hole x y ∷ []) [] ++ hs) ≡ cond t (hole x y ∷ []) [] ++ merged at end hs) [
       | false ↦ λ q. refl
       | true ↦ λ q.
@@ -138,7 +138,7 @@ merged_behind x y at end hs behind some reach =
           ∙ ap (λ o. put_over from (reach_up end o) (apart_from at end (hole x y ∷ hs))) begins
           ∙ ap (λ ys. put_over from to ys) kept
           ∙ ap (λ k. put_gap k from to (hole x y ∷ rest)) place
-          ∙ put_behind (rank from rest) from to (hole x y) rest
+          ∙ put_after (rank from rest) from to (hole x y) rest
     ] refl
 
 -- a hole begins no lower than the first hole
@@ -172,13 +172,13 @@ taken_out lo hi [] k d laid less = absurd (omega arith)
 taken_out lo hi (b ∷ bs) zero d (low, full, high, laid) less =
     head_merged lo hi b bs (low, full, high, laid)
     ∙ sym (ap (holes_of lo hi) (ap (λ t. cond (not t) (b ∷ without_block b.addr bs) (without_block b.addr bs)) (eq-eqb b.addr b.addr refl)
-    ∙ none_behind (b.addr + b.size) hi b.addr bs laid (omega arith)))
+    ∙ none_after (b.addr + b.size) hi b.addr bs laid (omega arith)))
 taken_out lo hi (b ∷ bs) (suc k) d (low, full, high, laid) less =
     let c = get_or bs k d in
-    let behind : b.addr + b.size ≤ c.addr = place_behind (b.addr + b.size) hi bs k d laid (omega arith) in
+    let after : b.addr + b.size ≤ c.addr = place_after (b.addr + b.size) hi bs k d laid (omega arith) in
     let some : 0 < c.size = place_full (b.addr + b.size) hi bs k d laid (omega arith) in
     let reach : lo ≤ reach_down c.addr (ending c.addr (holes_of (b.addr + b.size) hi bs)) = reach_above lo (b.addr + b.size) hi c.addr bs (omega arith) (omega arith) laid in
-    merged_behind lo b.addr c.addr (c.addr + c.size) (holes_of (b.addr + b.size) hi bs) (omega arith) (omega arith) reach
+    merged_after lo b.addr c.addr (c.addr + c.size) (holes_of (b.addr + b.size) hi bs) (omega arith) (omega arith) reach
     ∙ ap (λ hs. gap lo b.addr ++ hs) (taken_out (b.addr + b.size) hi bs k d laid (omega arith))
     ∙ sym (ap (holes_of lo hi) (ap (λ t. cond (not t) (b ∷ without_block c.addr bs) (without_block c.addr bs)) (ne_eqb b.addr c.addr (λ e. omega arith))))
 

@@ -8,7 +8,7 @@ use Rattle.mem_partition.specs.declared.hole.Hole.{Hole}
 use Rattle.mem_partition.specs.State.{Laid, is_free}
 use Rattle.mem_partition.specs.Holes.{HolesState, AreHoles, gap, holes_of, Rise, is_in_hole}
 use Rattle.mem_partition.proofs.Places.{nothing_more}
-use Rattle.mem_partition.proofs.Counting.{before_all, in_first, behind_first}
+use Rattle.mem_partition.proofs.Counting.{before_all, in_first, after_first}
 
 -- each is between two addresses
 abbrev Within : ℕ → ℕ → List Hole → Type 0
@@ -30,13 +30,13 @@ within lo x hi (b ∷ bs) low (b_low, full, high, laid) =
     within_gap lo hi x b.addr (holes_of (b.addr + b.size) hi bs) low (λ h. omega arith) (within lo (b.addr + b.size) hi bs (omega arith) laid)
 
 -- all holes after an address begin after what ends there
-begin_behind : (end lo hi : ℕ) (hs : List Hole) → end < lo → Within lo hi hs → All (λ g. end < g.start) hs
-begin_behind end lo hi hs less all = λ k d h. let low = (all k d h).0 in omega arith
+begin_after : (end lo hi : ℕ) (hs : List Hole) → end < lo → Within lo hi hs → All (λ g. end < g.start) hs
+begin_after end lo hi hs less all = λ k d h. let low = (all k d h).0 in omega arith
 
 rise_gap : (x y lo hi : ℕ) (hs : List Hole) → y < lo → Within lo hi hs → Rise hs → Rise (gap x y ++ hs)
 rise_gap x y lo hi hs less all rest =
     elim (ltb x y) as (λ t. ltb x y ≡ t → Rise (cond t (record { start = x; end = y } ∷ []) [] ++ hs)) [
-      | true ↦ λ q. (ltb-true x y q, begin_behind y lo hi hs less all, rest)
+      | true ↦ λ q. (ltb-true x y q, begin_after y lo hi hs less all, rest)
       | false ↦ λ q. rest
     ] refl
 
@@ -85,7 +85,7 @@ in_hole lo hi at (b ∷ bs) (b_low, full, high, laid) low less =
           gap_ends lo b.addr at (holes_of (b.addr + b.size) hi bs) from
           ∙ elim (cases_lt at (b.addr + b.size)) as (λ c. is_in_hole (holes_of (b.addr + b.size) hi bs) at ≡ is_free (b ∷ bs) at) [
             | inl inside ↦ none_below (b.addr + b.size) hi at bs laid inside ∙ sym (in_first b bs at from inside)
-            | inr behind ↦ in_hole (b.addr + b.size) hi at bs laid behind less ∙ sym (behind_first b bs at behind)
+            | inr after ↦ in_hole (b.addr + b.size) hi at bs laid after less ∙ sym (after_first b bs at after)
           ]
     ]
 

@@ -17,8 +17,8 @@ cut_here lo at end hi hs low some high =
     ap (λ t. cut_out at end (cond t (record { start = lo; end = hi } ∷ []) [] ++ hs)) (lt-ltb lo hi (omega arith))
     ∙ ap (λ t. cond t (gap lo at ++ (gap end hi ++ hs)) (record { start = lo; end = hi } ∷ cut_out at end hs)) (le-leb end hi high)
 
-cut_behind : (lo hi at end : ℕ) (hs : List Hole) → hi ≤ at → at < end → cut_out at end (gap lo hi ++ hs) ≡ gap lo hi ++ cut_out at end hs
-cut_behind lo hi at end hs high some =
+cut_after : (lo hi at end : ℕ) (hs : List Hole) → hi ≤ at → at < end → cut_out at end (gap lo hi ++ hs) ≡ gap lo hi ++ cut_out at end hs
+cut_after lo hi at end hs high some =
     elim (ltb lo hi) as (λ t. cut_out at end (cond t (record { start = lo; end = hi } ∷ []) [] ++ hs) ≡ cond t (record { start = lo; end = hi } ∷ []) [] ++ cut_out at end hs) [
       | true ↦ ap (λ t. cond t (gap lo at ++ (gap end hi ++ hs)) (record { start = lo; end = hi } ∷ cut_out at end hs)) (lt-leb end hi (omega arith))
       | false ↦ refl
@@ -41,9 +41,9 @@ split lo hi (c ∷ cs) b (c_low, c_some, c_high, laid) some lies =
           cut_here lo b.addr (b.addr + b.size) c.addr (holes_of (c.addr + c.size) hi cs) low (omega arith) before
       | false ↦ λ e.
           let k = ltb-false b.addr c.addr e in
-          let behind : c.addr + c.size ≤ b.addr = elim apart [ inl h ↦ absurd (omega arith) | inr h ↦ h ] in
-          cut_behind lo c.addr b.addr (b.addr + b.size) (holes_of (c.addr + c.size) hi cs) (omega arith) (omega arith)
-          ∙ ap (λ x. gap lo c.addr ++ x) (split (c.addr + c.size) hi cs b laid some (record { low = behind; high = high; apart = parts.1 }))
+          let after : c.addr + c.size ≤ b.addr = elim apart [ inl h ↦ absurd (omega arith) | inr h ↦ h ] in
+          cut_after lo c.addr b.addr (b.addr + b.size) (holes_of (c.addr + c.size) hi cs) (omega arith) (omega arith)
+          ∙ ap (λ x. gap lo c.addr ++ x) (split (c.addr + c.size) hi cs b laid some (record { low = after; high = high; apart = parts.1 }))
     ] refl
 
 -- ---- as the code cuts
@@ -51,8 +51,8 @@ split lo hi (c ∷ cs) b (c_low, c_some, c_high, laid) some lies =
 pub put_first : (lo hi : ℕ) (hs : List Hole) → put_gap 0 lo hi hs ≡ gap lo hi ++ hs
 put_first lo hi hs = elim (ltb lo hi) as (λ t. cond t (insert hs 0 (record { start = lo; end = hi })) hs ≡ cond t (record { start = lo; end = hi } ∷ []) [] ++ hs) [ true ↦ refl | false ↦ refl ]
 
-pub put_behind : (k lo hi : ℕ) (h : Hole) (hs : List Hole) → put_gap (suc k) lo hi (h ∷ hs) ≡ h ∷ put_gap k lo hi hs
-put_behind k lo hi h hs =
+pub put_after : (k lo hi : ℕ) (h : Hole) (hs : List Hole) → put_gap (suc k) lo hi (h ∷ hs) ≡ h ∷ put_gap k lo hi hs
+put_after k lo hi h hs =
     elim (ltb lo hi) as (λ t. cond t (insert (h ∷ hs) (suc k) (record { start = lo; end = hi })) (h ∷ hs) ≡ h ∷ cond t (insert hs k (record { start = lo; end = hi })) hs) [ true ↦ refl | false ↦ refl ]
 
 -- the hole at a place left out, and what remains of it on both sides put in
@@ -75,8 +75,8 @@ cut_there lo hi (h ∷ hs) d less =
           let next : 1 + j ≡ suc j = omega arith in
           let g = get_or hs j d in
           ap (λ i. cut_at i lo hi (get_or (h ∷ hs) i d) (h ∷ hs)) next
-          ∙ ap (put_gap (suc j) g.start lo) (put_behind j hi g.end h (remove hs j))
-          ∙ put_behind j g.start lo h (put_gap j hi g.end (remove hs j))
+          ∙ ap (put_gap (suc j) g.start lo) (put_after j hi g.end h (remove hs j))
+          ∙ put_after j g.start lo h (put_gap j hi g.end (remove hs j))
           ∙ ap (λ x. h ∷ x) (cut_there lo hi hs d (omega (arith, q)))
     ] less
 

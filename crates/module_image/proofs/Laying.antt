@@ -91,15 +91,15 @@ order e (s ∷ ss) zero (suc j) d all h low same =
 order e (s ∷ ss) (suc i) (suc j) d all h low same = order (after_section e s) ss i j d (small_tail s ss all) (omega arith) (omega arith) same
 
 -- bytes after others, and after zeros
-behind : (xs ys : List ℕ) (n k : ℕ) → n ≡ length xs + k → get_or (xs ++ ys) n 0 ≡ get_or ys k 0
-behind xs ys n k e = grind (arith, places)
+bss_after : (xs ys : List ℕ) (n k : ℕ) → n ≡ length xs + k → get_or (xs ++ ys) n 0 ≡ get_or ys k 0
+bss_after xs ys n k e = grind (arith, places)
 
 before : (xs ys : List ℕ) (k : ℕ) → k < length xs → get_or (xs ++ ys) k 0 ≡ get_or xs k 0
 before xs ys k h = grind (arith, places)
 
 in_padded : (from : ℕ) (s : Sect) (n k : ℕ) → n ≡ aligned from s.align - from + k → get_or (padded from s) n 0 ≡ get_or (body_bytes s.body) k 0
 in_padded from s n k e =
-    behind (replicate (aligned from s.align - from) 0) (body_bytes s.body) n k
+    bss_after (replicate (aligned from s.align - from) 0) (body_bytes s.body) n k
     (let z : length (replicate {A = ℕ} (aligned from s.align - from) 0) ≡ aligned from s.align - from = length-replicate (aligned from s.align - from) 0 in omega arith)
 
 held : (e : Ends) (ss : List Sect) (k : ℕ) (d : Sect) (n j : ℕ) → All IsSectRoom ss → k < length ss → j < size_of (get_or ss k d).body
@@ -125,7 +125,7 @@ held e (s ∷ ss) (suc k) d n j all h low at =
     let far = above (after_section e s) ss k d (small_tail s ss all) (omega arith) in
     elim (same_segment g (segment_of s)) as (λ b. end_in (after_section e s) g ≡ cond b next from → get_or (cond b (padded from s ++ laid g next ss) (laid g from ss)) n 0 ≡ body) [
       | true ↦ λ q.
-          behind (padded from s) (laid g next ss) n (n - length (padded from s)) (omega arith)
+          bss_after (padded from s) (laid g next ss) n (n - length (padded from s)) (omega arith)
           ∙ subst (λ t. get_or (laid g t ss) (n - length (padded from s)) 0 ≡ body) q
           (held (after_section e s) ss k d (n - length (padded from s)) j (small_tail s ss all) (omega arith) low (omega arith))
       | false ↦ λ q. subst (λ t. get_or (laid g t ss) n 0 ≡ body) q (held (after_section e s) ss k d n j (small_tail s ss all) (omega arith) low (omega arith))

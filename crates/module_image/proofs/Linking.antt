@@ -5,7 +5,7 @@ use Rattle.symbol_table.specs.declared.symbol.Symbol.{Symbol}
 use Rattle.module_image.specs.Binding.{bind}
 use Rattle.module_image.specs.Exports.{exports}
 use Rattle.module_image.specs.Image.{image, image_by}
-use Rattle.module_image.specs.Link.{Load, told_by, value_else, meaning, link_after, link, images_of, LinkLaw}
+use Rattle.module_image.specs.Link.{Load, export_by, value_else, meaning, link_after, link, images_of, LinkLaw}
 use Rattle.module_image.proofs.Tables.{bind-exports}
 
 -- a table says what the loads so far say
@@ -14,7 +14,7 @@ Tells tab earlier now = (name : List ℕ) → bind now name ≡ meaning tab earl
 
 goes_on : (tab : List Symbol) (earlier : List Load) (now : List Symbol) (l : Load) (id : ℕ)
     → Tells tab earlier now → Tells tab (l ∷ earlier) (now ++ exports l.body l.mode l.at id)
-goes_on tab earlier now l id tells name = bind-exports now l id name ∙ ap (value_else (told_by l name)) (tells name)
+goes_on tab earlier now l id tells name = bind-exports now l id name ∙ ap (value_else (export_by l name)) (tells name)
 
 same_image : (tab : List Symbol) (earlier : List Load) (now : List Symbol) (l : Load)
     → Tells tab earlier now → image l.body now l.at ≡ image_by l.body (meaning tab earlier) l.at

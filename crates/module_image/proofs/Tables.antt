@@ -9,7 +9,7 @@ use Rattle.elf_read.specs.declared.module.Sym.{Sym}
 use Rattle.module_image.specs.Layout.{values}
 use Rattle.module_image.specs.Exports.{is_wanted, exported, export_of, exports_from, exports}
 use Rattle.module_image.specs.Binding.{value_or_zero, bind}
-use Rattle.module_image.specs.Link.{Load, told_by, value_else}
+use Rattle.module_image.specs.Link.{Load, export_by, value_else}
 
 -- only the value
 abbrev valued : Option Symbol → Option ℕ
@@ -61,19 +61,19 @@ valued_from ss mode id name (y ∷ ys) (v ∷ vs) =
     ∙ sym (valued-or (newest p (exports_from ss mode 0 ys vs)) (newest p (export_of ss mode 0 y v)))
     ∙ ap valued (sym (newest-append p (export_of ss mode 0 y v) (exports_from ss mode 0 ys vs)))
 
-same_told : (l : Load) (id : ℕ) (name : List ℕ) (n : ℕ)
+same_export : (l : Load) (id : ℕ) (name : List ℕ) (n : ℕ)
     → value_else (newest (is_global_named name) (exports_from l.body.sections l.mode id l.body.symbols (values l.body l.at))) n
     ≡ value_else (newest (is_global_named name) (exports_from l.body.sections l.mode 0 l.body.symbols (values l.body l.at))) n
-same_told l id name n =
+same_export l id name n =
     value_else-valued (newest (is_global_named name) (exports_from l.body.sections l.mode id l.body.symbols (values l.body l.at))) n
     ∙ ap (λ o. value_at o n) (valued_from l.body.sections l.mode id name l.body.symbols (values l.body l.at))
     ∙ sym (value_else-valued (newest (is_global_named name) (exports_from l.body.sections l.mode 0 l.body.symbols (values l.body l.at))) n)
 
 -- what a name means once a load is accepted
 pub bind-exports : (tab : List Symbol) (l : Load) (id : ℕ) (name : List ℕ)
-    → bind (tab ++ exports l.body l.mode l.at id) name ≡ value_else (told_by l name) (bind tab name)
+    → bind (tab ++ exports l.body l.mode l.at id) name ≡ value_else (export_by l name) (bind tab name)
 unfolding bind exports
 bind-exports tab l id name =
     let p = is_global_named name in
     let added = exports_from l.body.sections l.mode id l.body.symbols (values l.body l.at) in
-    ap value_or_zero (newest-append p tab added) ∙ value_or_zero-or (newest p added) (newest p tab) ∙ same_told l id name (value_or_zero (newest p tab))
+    ap value_or_zero (newest-append p tab added) ∙ value_or_zero-or (newest p added) (newest p tab) ∙ same_export l id name (value_or_zero (newest p tab))

@@ -16,8 +16,8 @@ pub record Load : Type 0 where
 
 -- ---- all at once
 -- the last global with a name among what a load exports; the group doesn't matter
-abbrev pub told_by : Load → List ℕ → Option Symbol
-told_by l name = find_global (exports l.body l.mode l.at 0) name
+abbrev pub export_by : Load → List ℕ → Option Symbol
+export_by l name = find_global (exports l.body l.mode l.at 0) name
 
 abbrev pub value_else : Option Symbol → ℕ → ℕ
 value_else (Some s) n = s.value
@@ -27,7 +27,7 @@ value_else None n = n
 -- the table
 abbrev pub meaning : List Symbol → List Load → List ℕ → ℕ
 meaning tab [] name = bind tab name
-meaning tab (l ∷ earlier) name = value_else (told_by l name) (meaning tab earlier name)
+meaning tab (l ∷ earlier) name = value_else (export_by l name) (meaning tab earlier name)
 
 -- the images of loads that come after these, the latest first
 abbrev pub link_after : List Symbol → List Load → List Load → List Images

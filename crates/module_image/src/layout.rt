@@ -168,7 +168,7 @@ fn value(places: &[u64], at: Places, end: u64, y: &Sym) -> Option<u32>
 }
 
 /// The end of bss after a symbol.
-fn behind(end: u64, y: &Sym, n: u64) -> u64
+fn bss_after(end: u64, y: &Sym, n: u64) -> u64
     requires room { IsSymRoom y.now }
     requires within { end ≤ n }
     requires bound { n ≤ 2 ^ 59 }
@@ -192,7 +192,7 @@ pub(crate) fn find_commons(start: u64, symbols: &[Sym]) -> u64
 {
     let mut end = start;
     for (i, y) in symbols.iter().enumerate() {
-        end = behind(end, y, start + i as u64 * LONGEST_STEP);
+        end = bss_after(end, y, start + i as u64 * LONGEST_STEP);
     }
     end
 }
@@ -214,7 +214,7 @@ pub(crate) fn symbol_values(
     let mut end = start;
     for (i, y) in symbols.iter().enumerate() {
         list.push(value(places, at, end, y))?;
-        end = behind(end, y, start + i as u64 * LONGEST_STEP);
+        end = bss_after(end, y, start + i as u64 * LONGEST_STEP);
     }
     Ok(list)
 }

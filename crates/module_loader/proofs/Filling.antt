@@ -42,23 +42,23 @@ zeros_in_block n =
     ∙ replicate-append-replicate n (block_size n - n) 0 ∙ ap zeros sum
 
 -- bytes written over the first of the zeros are the bytes followed by zeros, in the parts of RAM
-over_parts : (ram front behind bytes rest : List ℕ) (at m : ℕ) → length front ≡ at → length bytes ≤ m → take at front ≡ front → rest ≡ zeros (m - length bytes)
-    → take at (front ++ zeros m ++ behind) ++ bytes ++ drop (at + length bytes) (front ++ zeros m ++ behind) ≡ front ++ (bytes ++ rest) ++ behind
-over_parts ram front behind bytes rest at m lf few same re =
+over_parts : (ram prefix suffix bytes rest : List ℕ) (at m : ℕ) → length prefix ≡ at → length bytes ≤ m → take at prefix ≡ prefix → rest ≡ zeros (m - length bytes)
+    → take at (prefix ++ zeros m ++ suffix) ++ bytes ++ drop (at + length bytes) (prefix ++ zeros m ++ suffix) ≡ prefix ++ (bytes ++ rest) ++ suffix
+over_parts ram prefix suffix bytes rest at m lf few same re =
     let n : ℕ = length bytes in
     let lz = length-zeros m in
-    let lb = length-append front (zeros m) in
-    let before : take at (front ++ zeros m ++ behind) ≡ front =
-    take-append-le at (front ++ zeros m) behind (omega arith) ∙ take-append-le at front (zeros m) (omega arith) ∙ same in
-    let none : drop at front ≡ [] = drop_all at front (omega arith) in
-    let inner : drop (at + n) (front ++ zeros m) ≡ rest =
-    sym (drop-drop n at (front ++ zeros m)) ∙ ap (drop n) (drop-append-le at front (zeros m) (omega arith) ∙ ap (λ x. x ++ zeros m) none) ∙ drop-replicate n m 0 ∙ sym re in
-    let after : drop (at + n) (front ++ zeros m ++ behind) ≡ rest ++ behind =
-    drop-append-le (at + n) (front ++ zeros m) behind (omega arith) ∙ ap (λ x. x ++ behind) inner in
-    ap (λ x. x ++ bytes ++ drop (at + n) (front ++ zeros m ++ behind)) before
-    ∙ ap (λ x. front ++ bytes ++ x) after
-    ∙ sym (append_assoc (front ++ bytes) rest behind)
-    ∙ ap (λ x. x ++ behind) (append_assoc front bytes rest)
+    let lb = length-append prefix (zeros m) in
+    let before : take at (prefix ++ zeros m ++ suffix) ≡ prefix =
+    take-append-le at (prefix ++ zeros m) suffix (omega arith) ∙ take-append-le at prefix (zeros m) (omega arith) ∙ same in
+    let none : drop at prefix ≡ [] = drop_all at prefix (omega arith) in
+    let inner : drop (at + n) (prefix ++ zeros m) ≡ rest =
+    sym (drop-drop n at (prefix ++ zeros m)) ∙ ap (drop n) (drop-append-le at prefix (zeros m) (omega arith) ∙ ap (λ x. x ++ zeros m) none) ∙ drop-replicate n m 0 ∙ sym re in
+    let after : drop (at + n) (prefix ++ zeros m ++ suffix) ≡ rest ++ suffix =
+    drop-append-le (at + n) (prefix ++ zeros m) suffix (omega arith) ∙ ap (λ x. x ++ suffix) inner in
+    ap (λ x. x ++ bytes ++ drop (at + n) (prefix ++ zeros m ++ suffix)) before
+    ∙ ap (λ x. prefix ++ bytes ++ x) after
+    ∙ sym (append_assoc (prefix ++ bytes) rest suffix)
+    ∙ ap (λ x. x ++ suffix) (append_assoc prefix bytes rest)
 
 pub over_zeros : (ram bytes : List ℕ) (at m : ℕ) → length bytes ≤ m → at + m ≤ length ram
     → with_bytes (with_bytes ram at (replicate m 0)) at bytes ≡ with_bytes ram at (bytes ++ replicate (m - length bytes) 0)

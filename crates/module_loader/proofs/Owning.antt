@@ -20,7 +20,7 @@ use Rattle.module_loader.specs.Loading.{LoaderState, side_of, Piece, block_size,
 use Rattle.module_loader.specs.Steps.{three_pieces}
 use Rattle.module_loader.specs.Live.{IsPiece, IsLoader}
 use Rattle.module_loader.specs.Writes.{HasBlock, WriteLaw}
-use Rattle.module_loader.proofs.Ram.{Block, block_of, Apart, IsAmong, Clear, byte_before, byte_behind, fits_at, same_size, size_all}
+use Rattle.module_loader.proofs.Ram.{Block, block_of, Apart, IsAmong, Clear, byte_before, byte_after, fits_at, same_size, size_all}
 use Rattle.module_loader.proofs.Standing.{Stands, block_none, total_small}
 use Rattle.module_loader.proofs.Applying.{is_accepted, pair_of, pairs, AllStand, FillBlocks, all_stand, fill_blocks, clear_all}
 
@@ -93,7 +93,7 @@ outside_one ram q a fits out = elim (cases_lt a q.0) [
   | inl low ↦ byte_before ram q a fits low
   | inr high ↦ elim (cases_lt a (q.0 + length q.1)) [
     | inl inside ↦ absurd (out (omega arith, inside))
-    | inr behind ↦ byte_behind ram q a fits (omega arith)
+    | inr later ↦ byte_after ram q a fits (omega arith)
   ]
 ]
 

@@ -61,9 +61,9 @@ pub byte_before : (ram : List ℕ) (q : Piece) (i : ℕ) → q.0 + length q.1 �
 unfolding stored
 byte_before ram q i fits h = grind (arith, places)
 
-pub byte_behind : (ram : List ℕ) (q : Piece) (i : ℕ) → q.0 + length q.1 ≤ length ram → q.0 + length q.1 ≤ i → get_or (stored ram q) i 0 ≡ get_or ram i 0
+pub byte_after : (ram : List ℕ) (q : Piece) (i : ℕ) → q.0 + length q.1 ≤ length ram → q.0 + length q.1 ≤ i → get_or (stored ram q) i 0 ≡ get_or ram i 0
 unfolding stored
-byte_behind ram q i fits h = grind (arith, places)
+byte_after ram q i fits h = grind (arith, places)
 
 pub stored_is_held : (ram : List ℕ) (p : Piece) → p.0 + length p.1 ≤ length ram → IsHeld (stored ram p) p
 unfolding stored
@@ -81,7 +81,7 @@ pub held_apart : (ram : List ℕ) (p q : Piece) → q.0 + length q.1 ≤ length 
 held_apart ram p q fits (inl empty) held k h = absurd (omega arith)
 held_apart ram p q fits (inr (inl empty)) held k h = empty_stored ram q (p.0 + k) empty ∙ held k h
 held_apart ram p q fits (inr (inr (inl before))) held k h = byte_before ram q (p.0 + k) fits (omega arith) ∙ held k h
-held_apart ram p q fits (inr (inr (inr behind))) held k h = byte_behind ram q (p.0 + k) fits (omega arith) ∙ held k h
+held_apart ram p q fits (inr (inr (inr after))) held k h = byte_after ram q (p.0 + k) fits (omega arith) ∙ held k h
 
 -- a piece is nothing or is held by a block
 abbrev pub Has : List Block → Piece → Type 0

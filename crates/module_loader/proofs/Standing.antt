@@ -125,10 +125,10 @@ stands_free side s n at (inl h) = inl h.0
 stands_free side s n at (inr (b, h)) = inr (b.size, h.holds, subst (λ a. meets_none s.blocks b.size a ≡ true) h.addr h.lies.apart)
 
 -- what overlaps none of the blocks after a segment
-pub behind_free : (side : Side) (s : PartState) (n : Need) (at size to : ℕ) → Stands side s n at → meets_none (with_seg side s n).blocks size to ≡ true
+pub after_free : (side : Side) (s : PartState) (n : Need) (at size to : ℕ) → Stands side s n at → meets_none (with_seg side s n).blocks size to ≡ true
     → (meets_none s.blocks size to ≡ true) × ((n.size ≡ 0) ⊎ ((to + size ≤ at) ⊎ (at + n.size ≤ to)))
-behind_free side s n at size to (inl h) free = (subst (λ (x : PartState). meets_none x.blocks size to ≡ true) h.1 free, inl h.0)
-behind_free side s n at size to (inr (b, h)) free =
+after_free side s n at size to (inl h) free = (subst (λ (x : PartState). meets_none x.blocks size to ≡ true) h.1 free, inl h.0)
+after_free side s n at size to (inr (b, h)) free =
     let two = meets_with b s.blocks size to (subst (λ (x : PartState). meets_none x.blocks size to ≡ true) h.after free) in
     let holds = h.holds in
     let addr = h.addr in
@@ -148,7 +148,7 @@ total_small side s z at k e =
       | inl none ↦ omega arith
       | inr some ↦
           let size = some.1 in
-          elim (behind_free side s z.text at.text some.0 at.«data» one some.2).1 [
+          elim (after_free side s z.text at.text some.0 at.«data» one some.2).1 [
             | inl none ↦ omega arith
             | inr apart ↦ elim apart [ inl before ↦ omega arith | inr after ↦ omega arith ]
           ]

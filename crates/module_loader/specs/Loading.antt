@@ -132,8 +132,8 @@ loaded s name m mode at = record {
 }
 
 -- what it answers: the module's id, and the undefined names, in symbol order
-abbrev pub told : LoaderState → Module → Loaded
-told s m = record { id = s.kern.next_id; undefined = unbound s.symbols m.symbols }
+abbrev pub loaded_answer : LoaderState → Module → Loaded
+loaded_answer s m = record { id = s.kern.next_id; undefined = unbound s.symbols m.symbols }
 
 -- ---- a load of a file
 -- the load was accepted, and left this state

@@ -15,7 +15,7 @@ ghost use Rattle.module_image.specs.Binding.{unbound};
 ghost use Rattle.module_image.specs.Image.{image};
 ghost use Rattle.module_image.specs.Making.{IsMade};
 ghost use Rattle.module_loader.specs.Placing.{places_of, with_needs};
-ghost use Rattle.module_loader.specs.Loading.{place_verdict, verdict, file_verdict, told, IsLoaded, IsVerdict, ReachesRelocations};
+ghost use Rattle.module_loader.specs.Loading.{place_verdict, verdict, file_verdict, loaded_answer, IsLoaded, IsVerdict, ReachesRelocations};
 ghost use Rattle.module_loader.specs.Modules.{HasIdent, modules_on};
 ghost use Rattle.module_loader.specs.Steps.{IsFileRefusal, state_of};
 
@@ -98,7 +98,7 @@ pub(crate) fn load_module(
     requires idents { All HasIdent table.old.rows }
     requires pool { part.old.end ≤ length ram.old.bytes }
     ensures answer { IfOk result
-        (λ l. l ≡ told
+        (λ l. l ≡ loaded_answer
         (state_of kern.old syms.old.list (modules_on board table.old.rows) part.old ram.old.bytes) m.now) }
     ensures accepted { OnOk result (IsLoaded
         (verdict
@@ -225,7 +225,7 @@ pub(crate) fn load_file(
     requires idents { All HasIdent table.old.rows }
     requires pool { part.old.end ≤ length ram.old.bytes }
     ensures answer { IfOk result
-        (λ l. l ≡ told
+        (λ l. l ≡ loaded_answer
         (state_of kern.old syms.old.list (modules_on board table.old.rows) part.old ram.old.bytes)
         (module_at file.now)) }
     ensures accepted { OnOk result (IsLoaded

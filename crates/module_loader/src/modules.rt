@@ -7,7 +7,7 @@ ghost use Rattle.symbol_table.specs.State.{without_group};
 ghost use Rattle.elf_read.specs.Contents.{ModuleOf, module_at};
 ghost use Rattle.elf_read.specs.Outline.{outline_of};
 ghost use Rattle.elf_read.specs.Modules.{IsModule};
-ghost use Rattle.module_loader.specs.Loading.{file_verdict, verdict, told, IsLoaded, IsVerdict, ReachesRelocations};
+ghost use Rattle.module_loader.specs.Loading.{file_verdict, verdict, loaded_answer, IsLoaded, IsVerdict, ReachesRelocations};
 ghost use Rattle.module_loader.specs.Steps.{state_of};
 ghost use Rattle.module_loader.specs.Holding.{AreHeld, KeepsModules};
 ghost use Rattle.module_loader.specs.Modules.{HasIdent, modules_on, newest_named, without_segment, without_segments};
@@ -76,7 +76,7 @@ impl Modules {
     ) -> Result<Loaded, LoadErr>
         requires { KeepsModules (state_of kern.old syms.old.list self.old part.old ram.old.bytes) }
         ensures answer { IfOk result
-            (λ l. l ≡ told (state_of kern.old syms.old.list self.old part.old ram.old.bytes) (module_at file.now)) }
+            (λ l. l ≡ loaded_answer (state_of kern.old syms.old.list self.old part.old ram.old.bytes) (module_at file.now)) }
         ensures accepted { OnOk result (IsLoaded
             (file_verdict (state_of kern.old syms.old.list self.old part.old ram.old.bytes) file.now mode)
             (state_of kern.old syms.old.list self.old part.old ram.old.bytes) name (module_at file.now) mode
@@ -149,7 +149,7 @@ impl Modules {
         requires module { IsModule m.now }
         requires kept { KeepsModules (state_of kern.old syms.old.list self.old part.old ram.old.bytes) }
         ensures answer { IfOk result
-            (λ l. l ≡ told (state_of kern.old syms.old.list self.old part.old ram.old.bytes) m.now) }
+            (λ l. l ≡ loaded_answer (state_of kern.old syms.old.list self.old part.old ram.old.bytes) m.now) }
         ensures accepted { OnOk result (IsLoaded
             (verdict (state_of kern.old syms.old.list self.old part.old ram.old.bytes) m.now mode)
             (state_of kern.old syms.old.list self.old part.old ram.old.bytes) name m.now mode

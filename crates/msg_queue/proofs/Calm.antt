@@ -1,6 +1,6 @@
 -- The kernel's moves begin no wait at a queue.
-use Rattle.std.proofs.Common.{◌≡◌, ℕ, ◌+◌, ◌≤◌, Bool, true, false, not, cond, eqb, is_some, List, [], ◌∷◌, Option, None, Some, refl, sym, ◌∙◌, subst, arith, ◌⊎◌, inl, inr, ⊎_elim}
-use Rattle.std.specs.List.{All, fold}
+use Rattle.std.proofs.Common.{◌≡◌, ℕ, ◌+◌, ◌≤◌, Bool, true, false, not, cond, eqb, List, [], ◌∷◌, Option, None, Some, refl, sym, ◌∙◌, subst, arith, ◌⊎◌, inl, inr, ⊎_elim}
+use Rattle.std.specs.List.{All}
 use Rattle.std.proofs.lemmas.List.Elements.{All-contains, All-filter, All-push}
 use Rattle.std.proofs.lemmas.Option.{same_Some}
 use Rattle.wind_base.specs.declared.errno.Errno.{Errno}
@@ -8,47 +8,28 @@ use Rattle.wind_base.specs.declared.errno.Errno.TheVariants as errors
 use Rattle.id_table.specs.declared.ident.Place.{Place}
 use Rattle.task_block.specs.declared.task.Task.{Task}
 use Rattle.wind_core.specs.State.{KernState, IsKern, task_of}
-use Rattle.wind_core.specs.Orders.{running, due, waiters}
-use Rattle.wind_core.specs.Moves.{renewed, new_task, remove, wake_at, pended, pend, delayed, delay, released, release, answered, end_wait, end_waits, wake_all, suspended, is_suspended, resumed, resume, unmarked, reset, with_pri, has_pri, change_pri, move_found, move_task, change_task, renew_task, past_gate, with_answer, with_refusal, unreserved}
+use Rattle.wind_core.specs.Orders.{waiters}
+use Rattle.wind_core.specs.Moves.{renewed, new_task, remove, wake_at, pended, pend, delayed, delay, released, release, answered, end_wait, end_waits, wake_all, suspended, is_suspended, resumed, resume, unmarked, reset, with_pri, has_pri, change_pri, move_task, change_task, renew_task, past_gate, with_answer, with_refusal, unreserved}
 use Rattle.wind_core.specs.Releases.{releases}
-use Rattle.wind_core.specs.Tick.{tick, tick_counted, take_turn, turn_of, turn_found, time_out, late_answer, late_errno}
+use Rattle.wind_core.specs.Tick.{tick}
 use Rattle.wind_core.specs.Move.{Spawn, Remove, Pend, Delay, Release, ReleaseAll, EndWait, WakeAll, Tick, Suspend, Resume, ChangePri, Reset, SetLocks, SetNormal, SetSafe, SetHeld, SetErrno, SetIntLocked, SetAgain, SetRegs, Unreserve, LeaveGate, Answer, Refuse, SetLast, SetSlice, DrawIds, Lend, apply}
 use Rattle.wind_core.specs.Move.{after as after_moves}
 use Rattle.wind_core.proofs.Stable as stable
 use Rattle.wind_core.proofs.Moving.{move_keeps}
 use Rattle.wind_core.proofs.Ticking.{tick_keeps}
+use Rattle.wind_core.proofs.NextId.{next-move, next-end_waits}
+pub use Rattle.wind_core.proofs.NextId.{next-tick}
 use Rattle.msg_queue.specs.State.{QueueState, receivers, senders}
 use Rattle.msg_queue.specs.Comings.{awakened}
 use Rattle.msg_queue.specs.Kept.{Waited, IsElsewhere, BeginsNone, IsCalm}
 use Rattle.msg_queue.specs.Laws.{CalmLaw, ThenLaw, SeriesLaw}
 use Rattle.msg_queue.proofs.Members.{each}
 
--- ---- the next id stays
-pub next-move : (k : KernState) (who : ℕ) (f : Task → Task) → (move_task k who f).next_id ≡ k.next_id
-next-move k who f = elim (task_of k.tasks who) as (λ o. (move_found k who f o).next_id ≡ k.next_id) [ None ↦ refl | Some t ↦ refl ]
-
-pub next-end_waits : (k : KernState) (ts : List Task) (answer : ℕ) (errno : Option Errno) → (end_waits k ts answer errno).next_id ≡ k.next_id
-next-end_waits k [] answer errno = refl
-next-end_waits k (t ∷ ts) answer errno = next-end_waits (end_wait k t.id answer errno) ts answer errno ∙ next-move k t.id (answered answer errno)
-
+-- ---- the next id stays if a queue is deleted
 pub next-awakened : (k : KernState) (id : ℕ) → (awakened k id).next_id ≡ k.next_id
 next-awakened k id =
     let first = wake_all k (receivers id) 4294967295 (Some errors.ObjDeleted) in
     next-end_waits first (waiters first.tasks (senders id)) 4294967295 (Some errors.ObjDeleted) ∙ next-end_waits k (waiters k.tasks (receivers id)) 4294967295 (Some errors.ObjDeleted)
-
-next-turn_of : (k : KernState) (o : Option Task) → (turn_of k o).next_id ≡ k.next_id
-next-turn_of k None = refl
-next-turn_of k (Some t) = elim (eqb t.locks 0) as (λ b. (cond b (turn_found k t) k).next_id ≡ k.next_id) [ true ↦ refl | false ↦ refl ]
-
-next-take_turn : (k : KernState) → (take_turn k).next_id ≡ k.next_id
-next-take_turn k = elim (eqb k.slice 0) as (λ b. (cond b k (turn_of k (running k))).next_id ≡ k.next_id) [ true ↦ refl | false ↦ next-turn_of k (running k) ]
-
-next-time_outs : (k : KernState) (ts : List Task) → (fold time_out k ts).next_id ≡ k.next_id
-next-time_outs k [] = refl
-next-time_outs k (t ∷ ts) = next-time_outs (time_out k t) ts ∙ next-move k t.id (answered (late_answer (is_some t.wait)) (late_errno (is_some t.wait)))
-
-pub next-tick : (k : KernState) → (tick k).next_id ≡ k.next_id
-next-tick k = let turned = take_turn (tick_counted k) in next-time_outs turned (due turned.tasks (k.tick + 1)) ∙ next-take_turn (tick_counted k)
 
 -- ---- no wait at a queue begins
 module _ (rs : List (ℕ × QueueState)) (k : KernState) (n : ℕ) where

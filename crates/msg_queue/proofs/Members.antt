@@ -40,7 +40,7 @@ module _ {X : Type 0} where
       ] refl e
 
   -- after others that don't pass
-  pub find_behind : (p : X → Bool) (xs : List X) (y : X) → All (λ x. p x ≡ false) xs → p y ≡ true → find p (xs ++ y ∷ []) ≡ Some y
-  find_behind p [] y none e = ap (λ b. cond b (Some y) None) e
-  find_behind p (x ∷ xs) y none e =
-      ap (λ b. cond b (Some x) (find p (xs ++ y ∷ []))) (All-head (λ v. p v ≡ false) x xs none) ∙ find_behind p xs y (All-tail (λ v. p v ≡ false) x xs none) e
+  pub find_after : (p : X → Bool) (xs : List X) (y : X) → All (λ x. p x ≡ false) xs → p y ≡ true → find p (xs ++ y ∷ []) ≡ Some y
+  find_after p [] y none e = ap (λ b. cond b (Some y) None) e
+  find_after p (x ∷ xs) y none e =
+      ap (λ b. cond b (Some x) (find p (xs ++ y ∷ []))) (All-head (λ v. p v ≡ false) x xs none) ∙ find_after p xs y (All-tail (λ v. p v ≡ false) x xs none) e

@@ -14,8 +14,8 @@ contents-append : (ps rs : List Parcel) → contents (ps ++ rs) ≡ contents ps 
 contents-append [] rs = refl
 contents-append (p ∷ ps) rs = ap (λ ms. p.bytes ∷ ms) (contents-append ps rs)
 
-plain_front : (ps rs : List Parcel) → AllPlain (ps ++ rs) → AllPlain ps
-plain_front ps rs all = λ k d h. subst (λ p. p.urgent ≡ false) (get_or_append_left ps rs d k h) (all k d (omega (arith, length-append ps rs)))
+plain_prefix : (ps rs : List Parcel) → AllPlain (ps ++ rs) → AllPlain ps
+plain_prefix ps rs all = λ k d h. subst (λ p. p.urgent ≡ false) (get_or_append_left ps rs d k h) (all k d (omega (arith, length-append ps rs)))
 
 plain_back : (ps rs : List Parcel) → AllPlain (ps ++ rs) → AllPlain rs
 plain_back [] rs all = all
@@ -30,20 +30,20 @@ module _ (old more : List Parcel) (gone out held rest : List (List ℕ)) where
   same_more before step =
       let first : IsPermutation (contents old ++ contents more) ((gone ++ held) ++ contents more) =
       IsPermutation-append (contents old) (gone ++ held) (contents more) (contents more) before (IsPermutation-refl (contents more)) in
-      let turned : IsPermutation (gone ++ (held ++ contents more)) (gone ++ (out ++ rest)) =
+      let swapped : IsPermutation (gone ++ (held ++ contents more)) (gone ++ (out ++ rest)) =
       IsPermutation-append gone gone (held ++ contents more) (out ++ rest) (IsPermutation-refl gone)
       (IsPermutation-trans (held ++ contents more) (contents more ++ held) (out ++ rest) (IsPermutation-append_comm held (contents more)) step) in
       subst (λ ms. IsPermutation ms ((gone ++ out) ++ rest)) joined
       (IsPermutation-trans (contents old ++ contents more) ((gone ++ held) ++ contents more) ((gone ++ out) ++ rest) first
       (subst (λ ms. IsPermutation ms ((gone ++ out) ++ rest)) (sym (append_assoc gone held (contents more)))
-      (subst (IsPermutation (gone ++ (held ++ contents more))) (sym (append_assoc gone out rest)) turned)))
+      (subst (IsPermutation (gone ++ (held ++ contents more))) (sym (append_assoc gone out rest)) swapped)))
 
   order_more : contents old ≡ gone ++ held → held ++ contents more ≡ out ++ rest → contents (old ++ more) ≡ (gone ++ out) ++ rest
   order_more before step =
       sym joined ∙ ap (λ ms. ms ++ contents more) before ∙ append_assoc gone held (contents more) ∙ ap (λ ms. gone ++ ms) step ∙ sym (append_assoc gone out rest)
 
 -- what was accepted and taken up to a state
-pub record IsTold (here : Stock) (accepted : ℕ → List Parcel) (taken : ℕ → List (List ℕ)) : Type 0 where
+pub record IsConserving (here : Stock) (accepted : ℕ → List Parcel) (taken : ℕ → List (List ℕ)) : Type 0 where
   -- nothing was accepted or taken for queues that are yet to be made
   pub unborn : (q : ℕ) → here.next_id ≤ q → (accepted q ≡ []) × (taken q ≡ [])
   pub live : (q : ℕ) (y : QueueState) → object_of here.queues q ≡ Some y → IsConserved (accepted q) (taken q) y.held
@@ -53,16 +53,16 @@ nothing_yet accepted accepts taken takes held a b c d e =
     rw (a, b, c, d, e) (record { same = IsPermutation-refl []; in_order = λ _. refl })
 
 -- there is no queue yet
-pub told_nothing : (s : Stock) → s.queues ≡ [] → IsTold s (λ q. []) (λ q. [])
-told_nothing s none = record {
+pub conserving_none : (s : Stock) → s.queues ≡ [] → IsConserving s (λ q. []) (λ q. [])
+conserving_none s none = record {
   unborn = λ q h. (refl, refl);
   live = λ q y here. let lost = sym (ap (λ rs. object_of rs q) none) ∙ here in absurd (cc);
 }
 
 -- one more step
-pub told_more : (s t : Stock) (accepts accepted : ℕ → List Parcel) (takes taken : ℕ → List (List ℕ)) → IdsBelow s.next_id s.queues → IsBalanced s t accepts takes → IsTold s accepted taken
-    → IsTold t (λ q. accepted q ++ accepts q) (λ q. taken q ++ takes q)
-told_more s t accepts accepted takes taken below step so_far = record {
+pub conserving_more : (s t : Stock) (accepts accepted : ℕ → List Parcel) (takes taken : ℕ → List (List ℕ)) → IdsBelow s.next_id s.queues → IsBalanced s t accepts takes → IsConserving s accepted taken
+    → IsConserving t (λ q. accepted q ++ accepts q) (λ q. taken q ++ takes q)
+conserving_more s t accepts accepted takes taken below step so_far = record {
   unborn = λ q h.
       let more : s.next_id ≤ q = omega (arith, step.ids) in
       let first = so_far.unborn q more in
@@ -80,18 +80,18 @@ told_more s t accepts accepted takes taken below step so_far = record {
             record {
               same = same_more (accepted q) (accepts q) (taken q) (takes q) x.held y.held first.same (step.stays q x y e here);
               in_order = λ plain.
-                  order_more (accepted q) (accepts q) (taken q) (takes q) x.held y.held (first.in_order (plain_front (accepted q) (accepts q) plain))
+                  order_more (accepted q) (accepts q) (taken q) (takes q) x.held y.held (first.in_order (plain_prefix (accepted q) (accepts q) plain))
                   (step.in_order q x y e here (plain_back (accepted q) (accepts q) plain));
             }
       ] refl;
 }
 
 -- a whole run
-told : (stock : ℕ → Stock) (accepts : ℕ → ℕ → List Parcel) (takes : ℕ → ℕ → List (List ℕ)) → IsRun stock accepts takes
-    → (k : ℕ) → IsTold (stock k) (λ q. gathered accepts q k) (λ q. gathered takes q k)
-told stock accepts takes run zero = told_nothing (stock 0) run.none
-told stock accepts takes run (suc k) =
-    told_more (stock k) (stock (suc k)) (accepts k) (λ q. gathered accepts q k) (takes k) (λ q. gathered takes q k) (run.below k) (run.balanced k) (told stock accepts takes run k)
+conserving : (stock : ℕ → Stock) (accepts : ℕ → ℕ → List Parcel) (takes : ℕ → ℕ → List (List ℕ)) → IsRun stock accepts takes
+    → (k : ℕ) → IsConserving (stock k) (λ q. gathered accepts q k) (λ q. gathered takes q k)
+conserving stock accepts takes run zero = conserving_none (stock 0) run.none
+conserving stock accepts takes run (suc k) =
+    conserving_more (stock k) (stock (suc k)) (accepts k) (λ q. gathered accepts q k) (takes k) (λ q. gathered takes q k) (run.below k) (run.balanced k) (conserving stock accepts takes run k)
 
 pub run_conserved : RunLaw
-run_conserved stock accepts takes run k q y here = (told stock accepts takes run k).live q y here
+run_conserved stock accepts takes run k q y here = (conserving stock accepts takes run k).live q y here

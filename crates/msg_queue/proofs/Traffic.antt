@@ -30,7 +30,8 @@ use Rattle.msg_queue.specs.Laws.{Stock, IsBalanced}
 use Rattle.msg_queue.proofs.Tables.{not_live, written_same, written_other, taken_same, taken_other, added_other, added_same}
 use Rattle.msg_queue.proofs.Members.{find_passes}
 use Rattle.msg_queue.proofs.Deeds.{SendIs, send_is, ReceiveIs, receive_is}
-use Rattle.msg_queue.proofs.Calm.{next-move, next-awakened, next-tick}
+use Rattle.wind_core.proofs.NextId.{next-move, next-tick}
+use Rattle.msg_queue.proofs.Calm.{next-awakened}
 
 abbrev pub stock : Scene → Stock
 stock s = record { queues = s.queues.queues; next_id = s.kern.next_id }
@@ -46,7 +47,7 @@ of_none {X} id q = elim (eqb id q) as (λ b. ◌≡◌ {A = List X} (cond b [] [
 pub balanced_at : (s t : Stock) (id : ℕ) (x y : QueueState) (ps : List Parcel) (ms : List (List ℕ)) → object_of s.queues id ≡ Some x → object_of t.queues id ≡ Some y
     → ((q : ℕ) → (id ≡ q → ⊥) → object_of t.queues q ≡ object_of s.queues q) → IsPermutation (contents ps ++ x.held) (ms ++ y.held) → (AllPlain ps → x.held ++ contents ps ≡ ms ++ y.held)
     → s.next_id ≤ t.next_id → IsBalanced s t (λ q. of_queue id q ps) (λ q. of_queue id q ms)
-balanced_at s t id x y ps ms before behind other same order ids = record {
+balanced_at s t id x y ps ms before later other same order ids = record {
   born = λ q v here none.
       elim (eqb id q) as (λ b. eqb id q ≡ b → (s.next_id ≤ q) × (v.held ≡ [])) [
         | true ↦ λ e. let there : object_of s.queues q ≡ Some x = subst (λ n. object_of s.queues n ≡ Some x) (eqb-true id q e) before in absurd (cc)
@@ -61,7 +62,7 @@ balanced_at s t id x y ps ms before behind other same order ids = record {
       elim (eqb id q) as (λ b. eqb id q ≡ b → IsPermutation (contents (cond b ps []) ++ u.held) (cond b ms [] ++ v.held)) [
         | true ↦ λ e.
             let is_x = same_Some x u (sym before ∙ ap (object_of s.queues) (eqb-true id q e) ∙ first) in
-            let is_y = same_Some y v (sym behind ∙ ap (object_of t.queues) (eqb-true id q e) ∙ second) in
+            let is_y = same_Some y v (sym later ∙ ap (object_of t.queues) (eqb-true id q e) ∙ second) in
             subst (λ w. IsPermutation (contents ps ++ w.held) (ms ++ v.held)) is_x (subst (λ w. IsPermutation (contents ps ++ x.held) (ms ++ w.held)) is_y same)
         | false ↦ λ e.
             let is_u = same_Some u v (sym first ∙ sym (other q (eqb-false id q e)) ∙ second) in
@@ -71,7 +72,7 @@ balanced_at s t id x y ps ms before behind other same order ids = record {
       elim (eqb id q) as (λ b. eqb id q ≡ b → AllPlain (cond b ps []) → u.held ++ contents (cond b ps []) ≡ cond b ms [] ++ v.held) [
         | true ↦ λ e plain.
             let is_x = same_Some x u (sym before ∙ ap (object_of s.queues) (eqb-true id q e) ∙ first) in
-            let is_y = same_Some y v (sym behind ∙ ap (object_of t.queues) (eqb-true id q e) ∙ second) in
+            let is_y = same_Some y v (sym later ∙ ap (object_of t.queues) (eqb-true id q e) ∙ second) in
             ap (λ (w : QueueState). w.held ++ contents ps) (sym is_x) ∙ order plain ∙ ap (λ (w : QueueState). ms ++ w.held) is_y
         | false ↦ λ e plain.
             let is_u = same_Some u v (sym first ∙ sym (other q (eqb-false id q e)) ∙ second) in

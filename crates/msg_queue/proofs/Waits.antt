@@ -21,7 +21,7 @@ use Rattle.msg_queue.specs.declared.asks.Ask.{Ask}
 use Rattle.msg_queue.specs.State.{QueueState, QueuesState, Scene, queue_of, ask_of, lies_in, waits_there, counts, with_new_ask, waiting}
 use Rattle.msg_queue.specs.Kept.{IsServable, AtObject, WaitsWell, SendsToLive, WaitsForOld, IsKept}
 use Rattle.id_table.proofs.Lookups.{found_below}
-use Rattle.msg_queue.proofs.Members.{each, contains_map, find_passes, find_kept, find_behind}
+use Rattle.msg_queue.proofs.Members.{each, contains_map, find_passes, find_kept, find_after}
 
 pub waits_itself : (place : Place) (o : Option Place) → o ≡ Some place → is_place place o ≡ true
 waits_itself place o e =
@@ -87,7 +87,7 @@ module _ (s : Scene) (a : Ask) (fifo : Bool) (n : ℕ) (q : QueueState) (t : Tas
                   subst (λ p. IsServable (length s.ram) asks u p z) at_place
                   (subst (IsServable (length s.ram) asks u a.place) is_q (record {
                     ask = a;
-                    own = ap (ask_of asks) own ∙ find_behind (λ (b : Ask). eqb b.who a.who) (filter (counts k) s.queues.asks) a others (eq-eqb a.who a.who refl);
+                    own = ap (ask_of asks) own ∙ find_after (λ (b : Ask). eqb b.who a.who) (filter (counts k) s.queues.asks) a others (eq-eqb a.who a.who refl);
                     there = refl;
                     receiver = anew.receiver;
                     sender = anew.sender;

@@ -28,7 +28,7 @@ pub enum Act {
 
 /// The outcome of a call.
 #[derive(Clone, Copy, PartialEq, Eq)]
-pub enum Told {
+pub enum Outcome {
     /// The call is done.
     Done,
     /// The caller waits.
@@ -93,7 +93,7 @@ pub fn create(k: &mut Kern, mutexes: &mut Mutexes) -> Option<()>
 }
 
 // The task with this number takes a mutex.
-fn take(k: &mut Kern, mutexes: &mut Mutexes, who: u32, id: u32, timeout: u32) -> Option<Told>
+fn take(k: &mut Kern, mutexes: &mut Mutexes, who: u32, id: u32, timeout: u32) -> Option<Outcome>
     requires { KeepsMutexes (both k.old mutexes.old) }
     ensures { KeepsMutexes (both k.new mutexes.new) }
 {
@@ -102,22 +102,22 @@ fn take(k: &mut Kern, mutexes: &mut Mutexes, who: u32, id: u32, timeout: u32) ->
         return None;
     }
     match mutexes.take(k, who, id, timeout) {
-        Ok(Took::Taken) => Some(Told::Done),
-        Ok(Took::Pended) => Some(Told::Pended),
-        Err(errno) => Some(Told::Refused(errno)),
+        Ok(Took::Taken) => Some(Outcome::Done),
+        Ok(Took::Pended) => Some(Outcome::Pended),
+        Err(errno) => Some(Outcome::Refused(errno)),
     }
 }
 
 // The outcome of a call that returns no value.
-fn outcome(done: Result<(), Errno>) -> Told {
+fn outcome_of(done: Result<(), Errno>) -> Outcome {
     match done {
-        Ok(()) => Told::Done,
-        Err(errno) => Told::Refused(errno),
+        Ok(()) => Outcome::Done,
+        Err(errno) => Outcome::Refused(errno),
     }
 }
 
 // The task with this number gives a mutex.
-fn give(k: &mut Kern, mutexes: &mut Mutexes, who: u32, id: u32) -> Option<Told>
+fn give(k: &mut Kern, mutexes: &mut Mutexes, who: u32, id: u32) -> Option<Outcome>
     requires { KeepsMutexes (both k.old mutexes.old) }
     ensures { KeepsMutexes (both k.new mutexes.new) }
 {
@@ -125,22 +125,22 @@ fn give(k: &mut Kern, mutexes: &mut Mutexes, who: u32, id: u32) -> Option<Told>
     if !mutexes.is_early(k) || k.task(who).is_none() {
         return None;
     }
-    Some(outcome(mutexes.give(k, who, id)))
+    Some(outcome_of(mutexes.give(k, who, id)))
 }
 
 // Deletes a mutex.
-fn delete(k: &mut Kern, mutexes: &mut Mutexes, id: u32) -> Option<Told>
+fn delete(k: &mut Kern, mutexes: &mut Mutexes, id: u32) -> Option<Outcome>
     requires { KeepsMutexes (both k.old mutexes.old) }
     ensures { KeepsMutexes (both k.new mutexes.new) }
 {
     if !mutexes.is_early(k) {
         return None;
     }
-    Some(outcome(mutexes.delete(k, id)))
+    Some(outcome_of(mutexes.delete(k, id)))
 }
 
 // Sets the normal priority of the task with this number.
-fn set_priority(k: &mut Kern, mutexes: &mut Mutexes, who: u32, pri: u32) -> Option<Told>
+fn set_priority(k: &mut Kern, mutexes: &mut Mutexes, who: u32, pri: u32) -> Option<Outcome>
     requires { KeepsMutexes (both k.old mutexes.old) }
     ensures { KeepsMutexes (both k.new mutexes.new) }
 {
@@ -149,11 +149,11 @@ fn set_priority(k: &mut Kern, mutexes: &mut Mutexes, who: u32, pri: u32) -> Opti
         return None;
     }
     mutexes.priority_set(k, who, pri);
-    Some(Told::Done)
+    Some(Outcome::Done)
 }
 
 /// Makes a call. None if its arguments are invalid.
-pub fn apply(k: &mut Kern, mutexes: &mut Mutexes, act: Act) -> Option<Told>
+pub fn apply(k: &mut Kern, mutexes: &mut Mutexes, act: Act) -> Option<Outcome>
     requires { KeepsMutexes (both k.old mutexes.old) }
     ensures { KeepsMutexes (both k.new mutexes.new) }
 {

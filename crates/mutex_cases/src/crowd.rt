@@ -4,7 +4,7 @@ ghost use Rattle.std.specs.Prelude.{◌≡◌, false, []};
 ghost use Rattle.inheritance.specs.Mutexes.{both};
 ghost use Rattle.sem_mutex.specs.Kept.{KeepsMutexes};
 
-use crate::bench::{Act, Told, apply, create, pri, spawn};
+use crate::bench::{Act, Outcome, apply, create, pri, spawn};
 use crate::verdict::Verdict;
 use sem_mutex::Mutexes;
 use wind_core::Kern;
@@ -49,7 +49,7 @@ fn own_all(k: &mut Kern, mutexes: &mut Mutexes) -> Option<()>
 {
     for place in 0..OWNERS {
         let owner = place + 1;
-        if apply(k, mutexes, Act::Take(owner, mutex_of(owner))) != Some(Told::Done) {
+        if apply(k, mutexes, Act::Take(owner, mutex_of(owner))) != Some(Outcome::Done) {
             return None;
         }
     }
@@ -62,7 +62,7 @@ fn wait_all(k: &mut Kern, mutexes: &mut Mutexes) -> Option<()>
     ensures { KeepsMutexes (both k.new mutexes.new) }
 {
     for before in 1..OWNERS {
-        if apply(k, mutexes, Act::Take(before + 1, mutex_of(before))) != Some(Told::Pended) {
+        if apply(k, mutexes, Act::Take(before + 1, mutex_of(before))) != Some(Outcome::Pended) {
             return None;
         }
     }
@@ -92,7 +92,7 @@ fn counts(k: &mut Kern, mutexes: &mut Mutexes) -> Option<(u32, u32)>
     wait_all(k, mutexes)?;
     let before = count_of(k, 1);
     let last = Act::Take(OWNERS + 1, mutex_of(OWNERS));
-    if apply(k, mutexes, last) != Some(Told::Pended) {
+    if apply(k, mutexes, last) != Some(Outcome::Pended) {
         return None;
     }
     Some((before, count_of(k, 0)))

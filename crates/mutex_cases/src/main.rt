@@ -5,7 +5,7 @@
 mod bench;
 mod crowd;
 mod four;
-mod turns;
+mod slices;
 mod verdict;
 
 ghost use Rattle.std.specs.Prelude.{◌≡◌, false, []};
@@ -21,7 +21,7 @@ use wind_core::Kern;
 // A case.
 #[derive(Clone, Copy)]
 enum Case {
-    Turns,
+    Slices,
     // calls of four tasks of these priorities
     Four(Profile, [u32; 4], &'static [Row]),
     Crowd,
@@ -29,7 +29,7 @@ enum Case {
 
 // The cases and their names.
 const CASES: [(&str, Case); 9] = [
-    ("turns of two ticks", Case::Turns),
+    ("turns of two ticks", Case::Slices),
     (
         "a chain of three owners",
         Case::Four(Profile::One, [150, 160, 170, 10], &CHAIN),
@@ -73,7 +73,7 @@ fn main(rt: HostRuntime) -> io::Result<()> {
 fn profile(case: Case) -> Profile {
     match case {
         Case::Four(profile, _, _) => profile,
-        Case::Turns | Case::Crowd => Profile::One,
+        Case::Slices | Case::Crowd => Profile::One,
     }
 }
 
@@ -100,7 +100,7 @@ fn play_with(alloc: Global, k: &mut Kern, mutexes: &mut Mutexes, case: Case) -> 
     requires fresh { (k.old.tasks ≡ []) × (mutexes.old.rows ≡ []) }
 {
     match case {
-        Case::Turns => turns::play(alloc, k),
+        Case::Slices => slices::play(alloc, k),
         Case::Four(_, pris, rows) => four::play(k, mutexes, pris, rows),
         Case::Crowd => crowd::play(k, mutexes),
     }

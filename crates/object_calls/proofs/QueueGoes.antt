@@ -69,9 +69,9 @@ queue_id_left live next max_msgs max_len options e =
 -- writing bytes where there is room for them
 size_put : (ram : List ℕ) (at n : ℕ) (bytes : List ℕ) → lies_in (length ram) at n ≡ true → length bytes ≤ n → length (with_bytes ram at bytes) ≡ length ram
 size_put ram at n bytes there short =
-    let front = length-take at ram in
+    let prefix = length-take at ram in
     let back = length-drop (at + length bytes) ram in
-    let whole : length (with_bytes ram at bytes) ≡ min at (length ram) + (length bytes + (length ram - (at + length bytes))) = simp (length-append, front, back) (omega arith) in
+    let whole : length (with_bytes ram at bytes) ≡ min at (length ram) + (length bytes + (length ram - (at + length bytes))) = simp (length-append, prefix, back) (omega arith) in
     ⊎_elim (λ none. let zero_n = eqb-true n 0 none in omega arith) (λ some. let fits = leb-true (at + n) (length ram) some in omega arith) (or_cases (eqb n 0) (leb (at + n) (length ram)) there)
 
 -- ---- the rows

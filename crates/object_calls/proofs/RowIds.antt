@@ -34,7 +34,7 @@ use Rattle.kernel_world.specs.declared.actor.Actor.{Actor}
 use Rattle.kernel_world.specs.declared.actor.Actor.TheVariants.{Task, Interrupt}
 use Rattle.kernel_world.specs.declared.reply.Reply.TheVariants.{Answer}
 use Rattle.kernel_world.specs.Actors.{Acts}
-use Rattle.kernel_world.proofs.LiveIds.{Fewer, Given, fewer_same, fewer_before, fewer_behind, fewer_without, ids_write, given_before, given_behind, given_none, given_push}
+use Rattle.kernel_world.proofs.LiveIds.{Fewer, Given, fewer_same, fewer_before, fewer_after, fewer_without, ids_write, given_before, given_after, given_none, given_push}
 use Rattle.object_calls.specs.SemRows.{ObjectRow, refused, live_in, by_mutexes, sems, mutexes, is_mutex, of_task, made_unless, made, binary_with, binary_row, counting_with, counting_row, mutex_unless, mutex_with, mutex_row, plain_take_unless, plain_take, mutex_take_unless, mutex_take, take_row, plain_give_unless, plain_give, mutex_give_unless, mutex_give, give_row, flush_unless, flush_row, plain_delete_unless, delete_row, priority_row}
 use Rattle.object_calls.specs.QueueRows as queue_rows
 
@@ -48,11 +48,11 @@ module _ (o : Objects) where
   none_comes = (fewer_same (waited_ids o) (waited_ids o) refl, refl)
 
   by_semaphores : (ss : List (ℕ × Semaphore)) → Fewer (ids ss) (ids o.semaphores) → NoneComes (record o { semaphores = ss })
-  by_semaphores ss few = (fewer_behind (ids o.mutexes.rows ++ ids o.queues.queues) (ids o.semaphores) (ids ss) few, refl)
+  by_semaphores ss few = (fewer_after (ids o.mutexes.rows ++ ids o.queues.queues) (ids o.semaphores) (ids ss) few, refl)
 
   by_mutex_rows : (live : LiveMutexes) → Fewer (ids live.rows) (ids o.mutexes.rows) → live.profile ≡ o.mutexes.profile → NoneComes (record o { mutexes = live })
   by_mutex_rows live few rule = (
-    fewer_before (ids o.semaphores) (ids o.mutexes.rows ++ ids o.queues.queues) (ids live.rows ++ ids o.queues.queues) (fewer_behind (ids o.queues.queues) (ids o.mutexes.rows) (ids live.rows) few),
+    fewer_before (ids o.semaphores) (ids o.mutexes.rows ++ ids o.queues.queues) (ids live.rows ++ ids o.queues.queues) (fewer_after (ids o.queues.queues) (ids o.mutexes.rows) (ids live.rows) few),
     rule,
   )
 
@@ -81,7 +81,7 @@ module _ (k : KernState) (o : Objects) where
   made_comes v = go (plain.create_refusal (sems k o)) where
     go : (r : Option Errno) → Comes (made_unless r k o v)
     go (Some e) = still
-    go None = (given_behind k.next_id (k.next_id + 1) (ids o.mutexes.rows ++ ids o.queues.queues) (ids o.semaphores) (ids (o.semaphores ++ (k.next_id, v) ∷ [])) (given_push o.semaphores k.next_id v), refl)
+    go None = (given_after k.next_id (k.next_id + 1) (ids o.mutexes.rows ++ ids o.queues.queues) (ids o.semaphores) (ids (o.semaphores ++ (k.next_id, v) ∷ [])) (given_push o.semaphores k.next_id v), refl)
 
   binary_with_comes : (state : ℕ) (options : Option SemOptions) → Comes (binary_with k o state options)
   binary_with_comes state None = still
@@ -106,7 +106,7 @@ module _ (k : KernState) (o : Objects) where
   mutex_unless_comes options None =
       let new : List (ℕ × Mutex) = o.mutexes.rows ++ (k.next_id, making.new_mutex options) ∷ [] in (
         given_before k.next_id (k.next_id + 1) (ids o.semaphores) (ids o.mutexes.rows ++ ids o.queues.queues) (ids new ++ ids o.queues.queues)
-            (given_behind k.next_id (k.next_id + 1) (ids o.queues.queues) (ids o.mutexes.rows) (ids new) (given_push o.mutexes.rows k.next_id (making.new_mutex options))),
+            (given_after k.next_id (k.next_id + 1) (ids o.queues.queues) (ids o.mutexes.rows) (ids new) (given_push o.mutexes.rows k.next_id (making.new_mutex options))),
         refl,
       )
 

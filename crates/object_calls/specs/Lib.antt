@@ -1,3 +1,4 @@
 pub mod SemRows
 pub mod QueueRows
 pub mod WatchRows
+pub mod IrqRows

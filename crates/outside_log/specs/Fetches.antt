@@ -21,5 +21,5 @@ abbrev pub request_seen : LoggedFetch → Request
 request_seen entry = record { name = string_bytes entry.name; limit = entry.limit; outcome = outcome_seen entry.outcome }
 
 -- the requests of a log
-abbrev pub requests_told : Option (Vec LoggedFetch Global) → Option (List Request)
-requests_told log = option_map (λ entries. map request_seen entries.items) log
+abbrev pub requests_seen : Option (Vec LoggedFetch Global) → Option (List Request)
+requests_seen log = option_map (λ entries. map request_seen entries.items) log

@@ -10,5 +10,5 @@ abbrev pub piece_seen : LoggedPut → Piece
 piece_seen entry = record { bytes = entry.bytes.items; outcome = entry.outcome }
 
 -- the pieces of a log
-abbrev pub pieces_told : Option (Vec LoggedPut Global) → Option (List Piece)
-pieces_told log = option_map (λ entries. map piece_seen entries.items) log
+abbrev pub pieces_seen : Option (Vec LoggedPut Global) → Option (List Piece)
+pieces_seen log = option_map (λ entries. map piece_seen entries.items) log

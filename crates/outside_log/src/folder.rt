@@ -3,7 +3,7 @@
 ghost use Rattle.std.specs.Prelude.{◌≡◌, [], ◌∷◌, Some, IfOk};
 ghost use Rattle.std.specs.Option.{option_map};
 ghost use Rattle.wind_outside.specs.Requests.{request_of, outcome_of as outcome_of_lem};
-ghost use Rattle.outside_log.specs.Fetches.{outcome_seen, request_seen, requests_told};
+ghost use Rattle.outside_log.specs.Fetches.{outcome_seen, request_seen, requests_seen};
 
 use crate::entries::with_entry;
 use std::alloc::{AllocError, Global};
@@ -47,7 +47,7 @@ impl<F: Folder + Drop> LoggedFolder<F> {
     /// A log of this folder, without fetches.
     pub fn new(alloc: Global, folder: F) -> LoggedFolder<F>
         ensures folder { result.folder ≡ folder }
-        ensures log { requests_told result.log ≡ Some [] }
+        ensures log { requests_seen result.log ≡ Some [] }
     {
         LoggedFolder {
             folder,
@@ -95,11 +95,11 @@ fn entry_of(
 }
 
 impl<F: Folder + Drop> Folder for LoggedFolder<F> {
-    ghost use Rattle.outside_log.specs.Fetches.{requests_told};
+    ghost use Rattle.outside_log.specs.Fetches.{requests_seen};
 
     ghost files = { λ f. F.files f.folder };
 
-    ghost requests = { λ f. requests_told f.log };
+    ghost requests = { λ f. requests_seen f.log };
 
     ghost faults = { λ f. F.faults f.folder };
 

@@ -3,7 +3,7 @@
 ghost use Rattle.std.specs.Prelude.{◌≡◌, [], ◌∷◌, Some, IfOk};
 ghost use Rattle.std.specs.Option.{option_map};
 ghost use Rattle.wind_outside.specs.Requests.{piece_of};
-ghost use Rattle.outside_log.specs.Pieces.{piece_seen, pieces_told};
+ghost use Rattle.outside_log.specs.Pieces.{piece_seen, pieces_seen};
 
 use crate::entries::with_entry;
 use std::alloc::{AllocError, Global};
@@ -31,7 +31,7 @@ impl<S: Sink + Drop> LoggedSink<S> {
     /// A log of this sink, without puts.
     pub fn new(alloc: Global, sink: S) -> LoggedSink<S>
         ensures sink { result.sink ≡ sink }
-        ensures log { pieces_told result.log ≡ Some [] }
+        ensures log { pieces_seen result.log ≡ Some [] }
     {
         LoggedSink {
             alloc,
@@ -57,11 +57,11 @@ fn entry_of(alloc: Global, piece: &[u8], outcome: Put) -> Result<LoggedPut, Allo
 }
 
 impl<S: Sink + Drop> Sink for LoggedSink<S> {
-    ghost use Rattle.outside_log.specs.Pieces.{pieces_told};
+    ghost use Rattle.outside_log.specs.Pieces.{pieces_seen};
 
     ghost bytes = { λ s. S.bytes s.sink };
 
-    ghost pieces = { λ s. pieces_told s.log };
+    ghost pieces = { λ s. pieces_seen s.log };
 
     ghost faults = { λ s. S.faults s.sink };
 

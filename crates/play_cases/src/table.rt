@@ -67,13 +67,13 @@ fn tell_put<R: Print + AllocGlobal>(
     session: &Session,
     failing: Failing,
     outcome: &Outcome,
-    told: &str,
+    verdict: &str,
 ) -> io::Result<()> {
     let name = session.name;
     let steps = steps_text(rt.alloc(), &outcome.left)?;
     let status = outcome.left.status.number();
     let count = outcome.bytes().len();
-    println!(rt; "{name}, {failing}: status {status}, {steps}, {count} bytes: {told}")
+    println!(rt; "{name}, {failing}: status {status}, {steps}, {count} bytes: {verdict}")
 }
 
 // Plays a session in which a put fails, and prints how it ended.
@@ -87,8 +87,8 @@ fn put_row<R: Print + AllocGlobal>(
     let outcome = session.play(rt.alloc(), failing, STEPS)?;
     let earlier = outcome.left.steps.unwrap_or(0).saturating_sub(1);
     let before = session.play(rt.alloc(), Failing::Nothing, earlier)?;
-    let told = standing(&outcome, whole, &before);
-    tell_put(rt, session, failing, &outcome, told)
+    let verdict = standing(&outcome, whole, &before);
+    tell_put(rt, session, failing, &outcome, verdict)
 }
 
 // Plays the sessions in which the first put fails, the second, and so on.

@@ -21,8 +21,8 @@ use Rattle.ppc_asm.proofs.Sound.{Sound}
 eq_self : (a : List ℕ) → bytes_eq a a ≡ true
 eq_self a = (bytes_eq-Decides a a).1 refl
 
-eq_turned : (a b : List ℕ) → bytes_eq a b ≡ true → bytes_eq b a ≡ true
-eq_turned a b h = subst (λ x. bytes_eq x a ≡ true) ((bytes_eq-Decides a b).0 h) (eq_self a)
+eq_symm : (a b : List ℕ) → bytes_eq a b ≡ true → bytes_eq b a ≡ true
+eq_symm a b h = subst (λ x. bytes_eq x a ≡ true) ((bytes_eq-Decides a b).0 h) (eq_self a)
 
 no : false ≡ true → ⊥
 no e = cc
@@ -35,7 +35,7 @@ both false false f g = refl
 eq_laws : IsEquivalence bytes_eq
 eq_laws = record {
   refl = eq_self;
-  symm = λ a b. both (bytes_eq a b) (bytes_eq b a) (eq_turned a b) (eq_turned b a);
+  symm = λ a b. both (bytes_eq a b) (bytes_eq b a) (eq_symm a b) (eq_symm b a);
   congr = λ a b c h. ap (λ x. bytes_eq x c) ((bytes_eq-Decides a b).0 h);
 }
 
@@ -43,7 +43,7 @@ eq_laws = record {
 has_member : (names : List (List ℕ)) (q : List ℕ) → is_member bytes_eq names q ≡ has_name names q
 unfolding has_name
 has_member [] q = refl
-has_member (n ∷ ns) q = ap (λ b. b || is_member bytes_eq ns q) (both (bytes_eq q n) (bytes_eq n q) (eq_turned q n) (eq_turned n q)) ∙ ap (λ b. bytes_eq n q || b) (has_member ns q)
+has_member (n ∷ ns) q = ap (λ b. b || is_member bytes_eq ns q) (both (bytes_eq q n) (bytes_eq n q) (eq_symm q n) (eq_symm n q)) ∙ ap (λ b. bytes_eq n q || b) (has_member ns q)
 
 or_right : (a b : Bool) → b ≡ true → (a || b) ≡ true
 or_right true b h = refl

@@ -10,7 +10,7 @@ use Rattle.ppc_word.specs.Rows.{row_of, fields_of, word_with, are_fields}
 use Rattle.ppc_word.proofs.Found.{row_of-insn}
 use Rattle.ppc_word.proofs.Placed.{insn-fields}
 use Rattle.ppc_text.specs.declared.line.Item.{Item}
-use Rattle.ppc_text.specs.declared.line.Item.TheVariants.{Nothing, Text, Data, Global, Long, Ascii, Space, Align, Instruction}
+use Rattle.ppc_text.specs.declared.line.Item.TheVariants.{Instruction}
 use Rattle.ppc_text.specs.declared.line.Line.{Line}
 use Rattle.ppc_text.specs.Lines.{line_of}
 use Rattle.asm_lines.specs.declared.error.Cause.{Cause}
@@ -29,15 +29,8 @@ not_false true h = refl
 not_false false h = cc
 
 decodes_item : (item : Item) → is_bad_word item ≡ false → Decodes item
-decodes_item Nothing h = tt
-decodes_item Text h = tt
-decodes_item Data h = tt
-decodes_item (Global name) h = tt
-decodes_item (Long vs) h = tt
-decodes_item (Ascii bs) h = tt
-decodes_item (Space n) h = tt
-decodes_item (Align n) h = tt
 decodes_item (Instruction i) h = decodes_fields i.row i.fields (not_false (are_fields i.row i.fields) h)
+decodes_item item h = tt
 
 good_word : (ps : List Placed) (l : Line) → cause_of ps l ≡ None → is_bad_word l.item ≡ false
 unfolding cause_of item_cause

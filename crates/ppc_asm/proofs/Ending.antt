@@ -11,7 +11,7 @@ pub made : (text : List ℕ) (ps : List Placed) (m : Module) → items text ≡ 
 unfolding assembly
 made text ps m e h = ap module_or e ∙ ap (λ (n : Module). Ok n) (sym h)
 
-pub told : (text : List ℕ) (e : AsmErr) → Tells (items text) e → Tells (assembly text) e
+pub module_tells : (text : List ℕ) (e : AsmErr) → Tells (items text) e → Tells (assembly text) e
 unfolding assembly
-told text (Bad n c) h = ap module_or h
-told text NoMemory h = tt
+module_tells text (Bad n c) h = ap module_or h
+module_tells text NoMemory h = tt

@@ -7,7 +7,7 @@ use Rattle.std.specs.Option.{option_map}
 use Rattle.std.proofs.lemmas.Bool.{cases_eq}
 use Rattle.std.proofs.lemmas.List.{append-nil, take-append-drop}
 use Rattle.wind_outside.specs.Counts.{Rose}
-use Rattle.wind_outside.specs.Told.{Appended, AppendedFront}
+use Rattle.wind_outside.specs.Appending.{Appended, AppendedPrefix}
 use Rattle.wind_outside.specs.declared.sink.Put.{Put}
 use Rattle.wind_outside.specs.declared.sink.Put.TheVariants.{Done, Failed}
 use Rattle.ppc_word.specs.declared.insn.Insn.{Insn}
@@ -44,21 +44,21 @@ appended_none : (old : Option (List ℕ)) → Appended old old []
 appended_none None = refl
 appended_none (Some x) = ap Some (sym (append-nil x))
 
-take_front : (front rest : List ℕ) → take (length front) (front ++ rest) ≡ front
-take_front [] rest = refl
-take_front (b ∷ bs) rest = ap (λ bytes. b ∷ bytes) (take_front bs rest)
+take_prefix : (prefix rest : List ℕ) → take (length prefix) (prefix ++ rest) ≡ prefix
+take_prefix [] rest = refl
+take_prefix (b ∷ bs) rest = ap (λ bytes. b ∷ bytes) (take_prefix bs rest)
 
-front_of : (old new : Option (List ℕ)) (front rest text : List ℕ) → front ++ rest ≡ text → Appended old new front → AppendedFront old new text
-front_of old new front rest text whole gained =
-    (length front, subst (Appended old new) (sym (take_front front rest) ∙ ap (take (length front)) whole) gained)
+prefix_of : (old new : Option (List ℕ)) (prefix rest text : List ℕ) → prefix ++ rest ≡ text → Appended old new prefix → AppendedPrefix old new text
+prefix_of old new prefix rest text whole gained =
+    (length prefix, subst (Appended old new) (sym (take_prefix prefix rest) ∙ ap (take (length prefix)) whole) gained)
 
-front_behind : (old mid new : Option (List ℕ)) (a b : List ℕ) → Appended old mid a → AppendedFront mid new b → AppendedFront old new (a ++ b)
-front_behind old mid new a b p q =
-    front_of old new (a ++ take q.0 b) (drop q.0 b) (a ++ b) (append_assoc a (take q.0 b) (drop q.0 b) ∙ ap (λ t. a ++ t) (take-append-drop q.0 b)) (appended_both old mid new a (take q.0 b) p q.1)
+prefix_after : (old mid new : Option (List ℕ)) (a b : List ℕ) → Appended old mid a → AppendedPrefix mid new b → AppendedPrefix old new (a ++ b)
+prefix_after old mid new a b p q =
+    prefix_of old new (a ++ take q.0 b) (drop q.0 b) (a ++ b) (append_assoc a (take q.0 b) (drop q.0 b) ∙ ap (λ t. a ++ t) (take-append-drop q.0 b)) (appended_both old mid new a (take q.0 b) p q.1)
 
-front_before : (old new : Option (List ℕ)) (a b : List ℕ) → AppendedFront old new a → AppendedFront old new (a ++ b)
-front_before old new a b q =
-    front_of old new (take q.0 a) (drop q.0 a ++ b) (a ++ b) (sym (append_assoc (take q.0 a) (drop q.0 a) b) ∙ ap (λ t. t ++ b) (take-append-drop q.0 a)) q.1
+prefix_before : (old new : Option (List ℕ)) (a b : List ℕ) → AppendedPrefix old new a → AppendedPrefix old new (a ++ b)
+prefix_before old new a b q =
+    prefix_of old new (take q.0 a) (drop q.0 a ++ b) (a ++ b) (sym (append_assoc (take q.0 a) (drop q.0 a) b) ∙ ap (λ t. t ++ b) (take-append-drop q.0 a)) q.1
 
 -- ---- lines
 pub puts_none : (old : Option (List ℕ)) (n : ℕ) → PutsLines [] Done old old n n
@@ -67,13 +67,13 @@ puts_none old n = record { done = λ e. appended_none old; part = (0, appended_n
 pub puts_both : (old mid new : Option (List ℕ)) (k m n : ℕ) (a b : List ℕ) (end : Put) → PutsLines a Done old mid k m → PutsLines b end mid new m n → PutsLines (a ++ b) end old new k n
 puts_both old mid new k m n a b end p q = record {
   done = λ e. appended_both old mid new a b (p.done refl) (q.done e);
-  part = front_behind old mid new a b (p.done refl) q.part;
+  part = prefix_after old mid new a b (p.done refl) q.part;
   failed = λ e. rose_earlier k m n p.never_falls q.never_falls (q.failed e);
   never_falls = omega (arith, p.never_falls, q.never_falls);
 }
 
 pub puts_cut : (old new : Option (List ℕ)) (k n : ℕ) (a b : List ℕ) → PutsLines a Failed old new k n → PutsLines (a ++ b) Failed old new k n
-puts_cut old new k n a b p = record { done = λ e. cc; part = front_before old new a b p.part; failed = p.failed; never_falls = p.never_falls }
+puts_cut old new k n a b p = record { done = λ e. cc; part = prefix_before old new a b p.part; failed = p.failed; never_falls = p.never_falls }
 
 pub puts_as : (old new : Option (List ℕ)) (k n : ℕ) (a b : List ℕ) (end : Put) → a ≡ b → PutsLines a end old new k n → PutsLines b end old new k n
 puts_as old new k n a b end e p = subst (λ t. PutsLines t end old new k n) e p

@@ -3,7 +3,7 @@ use Rattle.std.specs.Prelude.{◌≡◌, ◌⊎◌, ℕ, ◌<◌, ◌≤◌, Boo
 use Prim.Native.Char.{code}
 use Rattle.wind_base.specs.Limits.{longest_text_file}
 use Rattle.wind_outside.specs.Files.{Files}
-use Rattle.wind_outside.specs.Told.{Appended, AppendedFront}
+use Rattle.wind_outside.specs.Appending.{Appended, AppendedPrefix}
 use Rattle.elf_read.specs.declared.module.Module.{Module}
 use Rattle.elf_read.specs.Contents.{ModuleOf}
 use Rattle.elf_read.specs.Rules.{Refused}
@@ -50,17 +50,17 @@ pub record Written (text : List ℕ) (old new : Option (List ℕ)) : Type 0 wher
   pub added : Appended old new file
 
 -- a prefix of a file of this text's module is added to the output
-pub record WrittenFront (text : List ℕ) (old new : Option (List ℕ)) : Type 0 where
+pub record WrittenPrefix (text : List ℕ) (old new : Option (List ℕ)) : Type 0 where
   pub it : Module
   pub file : List ℕ
   pub assembled : assembly text ≡ Ok it
   pub holds : ModuleOf file it
-  pub added : AppendedFront old new file
+  pub added : AppendedPrefix old new file
 
 -- how a call that assembles this text ends; `rose` says that the sink's count of faults rose
 abbrev pub Assembles : Option (List ℕ) → Option (List ℕ) → Type 0 → List ℕ → AsmStatus → Type 0
 Assembles old new rose text status.Done = Written text old new
-Assembles old new rose text status.WriteFault = WrittenFront text old new × rose
+Assembles old new rose text status.WriteFault = WrittenPrefix text old new × rose
 Assembles old new rose text (status.BadSource line cause) = (assembly text ≡ Err (line, cause)) × (new ≡ old)
 Assembles old new rose text status.NoMemory = new ≡ old
 Assembles old new rose text _ = ⊥
@@ -72,15 +72,15 @@ pub record Listed (bytes : List ℕ) (old new : Option (List ℕ)) : Type 0 wher
   pub added : Appended old new (listing it)
 
 -- a prefix of the listing of this file's module is added to the output
-pub record ListedFront (bytes : List ℕ) (old new : Option (List ℕ)) : Type 0 where
+pub record ListedPrefix (bytes : List ℕ) (old new : Option (List ℕ)) : Type 0 where
   pub it : Module
   pub holds : ModuleOf bytes it
-  pub added : AppendedFront old new (listing it)
+  pub added : AppendedPrefix old new (listing it)
 
 -- how a call that lists the module of these bytes ends
 abbrev pub Lists : Option (List ℕ) → Option (List ℕ) → Type 0 → List ℕ → AsmStatus → Type 0
 Lists old new rose bytes status.Done = Listed bytes old new
-Lists old new rose bytes status.WriteFault = ListedFront bytes old new × rose
+Lists old new rose bytes status.WriteFault = ListedPrefix bytes old new × rose
 Lists old new rose bytes (status.BadObject error) = Refused bytes error × (new ≡ old)
 Lists old new rose bytes status.NoMemory = new ≡ old
 Lists old new rose bytes _ = ⊥

@@ -10,7 +10,7 @@ use Rattle.elf_read.specs.declared.module.Module.{Module}
 use Rattle.wind_outside.specs.declared.sink.Put.{Put}
 use Rattle.wind_outside.specs.declared.sink.Put.TheVariants as puts
 use Rattle.wind_outside.specs.Counts.{Rose}
-use Rattle.wind_outside.specs.Told.{Appended, AppendedFront}
+use Rattle.wind_outside.specs.Appending.{Appended, AppendedPrefix}
 use Rattle.ppc_word.specs.declared.row.Row.{Row}
 use Rattle.ppc_word.specs.Rows.{row_of, fields_of}
 use Rattle.ppc_text.specs.Mnemonics.{named_as}
@@ -52,6 +52,6 @@ listing m = flat_map section_lines m.sections
 -- how lines are written to a sink: all of them if it ends with Done, and a prefix if it fails
 pub record PutsLines (text : List ℕ) (end : Put) (old new : Option (List ℕ)) (faults_old faults_new : ℕ) : Type 0 where
   pub done : end ≡ puts.Done → Appended old new text
-  pub part : AppendedFront old new text
+  pub part : AppendedPrefix old new text
   pub failed : end ≡ puts.Failed → Rose faults_old faults_new
   pub never_falls : faults_old ≤ faults_new

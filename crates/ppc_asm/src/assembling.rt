@@ -240,7 +240,7 @@ fn module_of(alloc: Global, draft: &Draft) -> Result<Module, AllocError>
 
 /// Assembles a source text into a relocatable module. Every such module has an ELF file. The error is the text's first
 /// refused line, counted from 1, with its first cause, or that host memory ran out.
-#[tactic(auto, using(crate::proofs::Ending::told))]
+#[tactic(auto, using(crate::proofs::Ending::module_tells))]
 pub fn assemble(alloc: Global, text: &[u8]) -> Result<Module, AsmErr>
     ensures good { IfOk result (λ m. assembly text.now ≡ Ok m) }
     ensures bad { IfErr result (Tells (assembly text.now)) }

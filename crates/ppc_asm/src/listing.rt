@@ -11,7 +11,7 @@ use elf_read::{Body, Module, Sect};
 use ppc_text::show;
 use ppc_word::decode;
 use wind_base::text::add;
-use wind_base::{OutBuf, behind};
+use wind_base::{OutBuf, bytes_after};
 use wind_outside::{Put, Sink};
 
 /// SHF_EXECINSTR.
@@ -91,7 +91,7 @@ fn list_bytes<O: Sink>(out: &mut O, line: &mut OutBuf, bytes: &[u8]) -> Put
             Put::Failed => return Put::Failed,
             Put::Done => {}
         }
-        left = behind(left, 4);
+        left = bytes_after(left, 4);
         offset += 4;
     }
     Put::Done

@@ -185,7 +185,7 @@ fn a_file_has_at_most_1_mib(rt: HostRuntime) -> Result<(), Fail> {
 
 // The status of a call and its text, over a folder with a file `bad.s`, whose fetches with these numbers fail, and an
 // output with this room.
-fn told(
+fn run_of(
     alloc: Global,
     words: &[&str],
     failing: Vec<u64>,
@@ -229,7 +229,7 @@ fn tells_each_end(rt: HostRuntime) -> Result<(), Fail> {
         ),
     ];
     for (words, status, text) in cases {
-        let (end, said) = told(alloc, words, Vec::new(alloc), 4096)?;
+        let (end, said) = run_of(alloc, words, Vec::new(alloc), 4096)?;
         assert_eq!(rt; end, status);
         assert_eq!(rt; said.as_slice(), text);
     }
@@ -241,10 +241,10 @@ fn tells_faults(rt: HostRuntime) -> Result<(), Fail> {
     let alloc = rt.alloc();
     let mut failing = Vec::new(alloc);
     failing.push(1)?;
-    let (end, said) = told(alloc, &["ppcasm", "f.s"], failing, 4096)?;
+    let (end, said) = run_of(alloc, &["ppcasm", "f.s"], failing, 4096)?;
     assert_eq!(rt; end, AsmStatus::ReadFault);
     assert_eq!(rt; said.as_slice(), b"ppcasm: reading failed\n".as_slice());
-    let (end, said) = told(alloc, &["ppcasm", "f.s"], Vec::new(alloc), 3)?;
+    let (end, said) = run_of(alloc, &["ppcasm", "f.s"], Vec::new(alloc), 3)?;
     assert_eq!(rt; end, AsmStatus::WriteFault);
     assert_eq!(rt; said.as_slice(), b"ppcasm: writing failed\n".as_slice());
     Ok(())

@@ -50,8 +50,8 @@ module _ (w first last value : ℕ) (order : first ≤ last) (end : last < 32) (
   above_low = ap (λ n. n / 2 ^ (31 - last)) is ∙ div-mul-add (w / 2 ^ (32 - first) * 2 ^ (last + 1 - first) + value) (2 ^ (31 - last)) (w % 2 ^ (31 - last)) (mod_below w (2 ^ (31 - last)) (pow_pos (31 - last)))
 
   -- the bits after the number stay
-  pub bits-behind : (i : ℕ) → last < i → i < 32 → bits (with_bits w first last value) i i ≡ bits w i i
-  bits-behind i h lt =
+  pub bits-after : (i : ℕ) → last < i → i < 32 → bits (with_bits w first last value) i i ≡ bits w i i
+  bits-after i h lt =
       one-bit (with_bits w first last value) i
       ∙ ap (λ n. n / 2 ^ (31 - i) % 2) is
       ∙ lower-bit (w / 2 ^ (32 - first) * 2 ^ (last + 1 - first) + value) (31 - last) (w % 2 ^ (31 - last)) (31 - i) (omega arith)

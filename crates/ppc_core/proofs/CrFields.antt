@@ -5,7 +5,7 @@ use Rattle.std.proofs.lemmas.Nat.{mod_below, pow_pos}
 use Rattle.ppc_core.specs.Words.{bits, with_bits}
 use Rattle.ppc_core.specs.Fields.{fxm}
 use Rattle.ppc_core.specs.Conditions.{moved_fields}
-use Rattle.ppc_core.proofs.Bits.{field-bit, one-bit, bits-before, bits-inside, bits-behind}
+use Rattle.ppc_core.proofs.Bits.{field-bit, one-bit, bits-before, bits-inside, bits-after}
 
 -- the bits of field k of a word
 field_bits : (s k : ℕ) → bits s (4 * k) (4 * k + 3) ≡ s / 2 ^ (31 - (4 * k + 3)) % 2 ^ 4
@@ -29,7 +29,7 @@ one_moved t before s k = if t then with_bits before (4 * k) (4 * k + 3) (bits s 
 elsewhere : (t : Bool) (before s k i : ℕ) → k < 8 → i < 32 → (i < 4 * k) ⊎ (4 * k + 3 < i) → bits (one_moved t before s k) i i ≡ bits before i i
 elsewhere false before s k i lt h side = refl
 elsewhere true before s k i lt h (inl a) = bits-before before (4 * k) (4 * k + 3) (bits s (4 * k) (4 * k + 3)) (omega arith) (omega arith) (field-lt s k) i a
-elsewhere true before s k i lt h (inr a) = bits-behind before (4 * k) (4 * k + 3) (bits s (4 * k) (4 * k + 3)) (omega arith) (omega arith) (field-lt s k) i a h
+elsewhere true before s k i lt h (inr a) = bits-after before (4 * k) (4 * k + 3) (bits s (4 * k) (4 * k + 3)) (omega arith) (omega arith) (field-lt s k) i a h
 
 here : (t : Bool) (before s k i : ℕ) → k < 8 → 4 * k ≤ i → i ≤ 4 * k + 3 → bits (one_moved t before s k) i i ≡ (if t then bits s i i else bits before i i)
 here false before s k i lt a b = refl

@@ -55,12 +55,12 @@ abbrev pub quotient : ℕ → ℕ → ℕ
 quotient x y = if y == 0 then 0 else x / y
 
 -- whether two words, read as signed, have no quotient that fits: a division by 0, and -2 ^ 31 by -1
-abbrev pub lacks_quotient : ℕ → ℕ → Bool
-lacks_quotient x y = y == 0 || (x == 2 ^ 31 && y == 2 ^ 32 - 1)
+abbrev pub has_no_quotient : ℕ → ℕ → Bool
+has_no_quotient x y = y == 0 || (x == 2 ^ 31 && y == 2 ^ 32 - 1)
 
 -- the quotient of two words, read as signed, rounded toward 0; 0 if there is none
 abbrev pub signed_quotient : ℕ → ℕ → ℕ
-signed_quotient x y = if lacks_quotient x y then 0 else cast_unsigned w32 (int_div (signed x) (signed y))
+signed_quotient x y = if has_no_quotient x y then 0 else cast_unsigned w32 (int_div (signed x) (signed y))
 
 -- RT becomes the low word of a product; OE and Rc are respected
 abbrev pub with_product : Regs → ℕ → ℕ → ℕ → Regs
@@ -72,4 +72,4 @@ with_quotient r w x y = with_checked_result r w (quotient x y) (y == 0)
 
 -- RT becomes a signed quotient; OE and Rc are respected
 abbrev pub with_signed_quotient : Regs → ℕ → ℕ → ℕ → Regs
-with_signed_quotient r w x y = with_checked_result r w (signed_quotient x y) (lacks_quotient x y)
+with_signed_quotient r w x y = with_checked_result r w (signed_quotient x y) (has_no_quotient x y)

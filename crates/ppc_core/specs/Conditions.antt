@@ -36,8 +36,8 @@ unfoldable pub with_bt : Regs → ℕ → ℕ → Regs
 with_bt r w value = record r { cr = with_bits r.cr (rt w) (rt w) value }
 
 -- the other bit
-abbrev pub turned : ℕ → ℕ
-turned bit = 1 - bit
+abbrev pub inverted : ℕ → ℕ
+inverted bit = 1 - bit
 
 -- a field of the condition register
 abbrev pub cr_field : Regs → ℕ → ℕ

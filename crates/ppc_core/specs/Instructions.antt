@@ -16,7 +16,7 @@ use Rattle.ppc_core.specs.Fields.{rt, ra, rb, si, ui, high_ui, bf, bfa, spr, li,
 use Rattle.ppc_core.specs.Registers.{in_rs, in_ra, in_rb, in_ra_or_0, ca, with_gpr, with_cr0, with_cr_field, with_recorded, with_result, next}
 use Rattle.ppc_core.specs.Arithmetic.{sum, with_carrying, with_sum, with_sum_carrying, low_signed, high_signed, high_unsigned, with_product, with_quotient, with_signed_quotient}
 use Rattle.ppc_core.specs.Logic.{mask_of, rotated, merged, distance, shifted_left, shifted_right, with_signed_shift}
-use Rattle.ppc_core.specs.Conditions.{with_signed_order, with_order, traps, in_ba, in_bb, with_bt, turned, cr_field, flags, moved_fields, special, with_special}
+use Rattle.ppc_core.specs.Conditions.{with_signed_order, with_order, traps, in_ba, in_bb, with_bt, inverted, cr_field, flags, moved_fields, special, with_special}
 use Rattle.ppc_core.specs.Branches.{from_here, with_branch, with_test_and_branch}
 use Rattle.ppc_core.specs.Storage.{offset, indexed, load_of, store_of}
 use Rattle.ppc_core.specs.Multiples.{load_multiple_of, store_multiple_of, load_and_reserve_of, store_conditional_of}
@@ -41,11 +41,11 @@ module _ {B : Type 0} (m : Meaning B) where
   effect_of row.Crand r w b = done (with_bt r w (bit_and (in_ba r w) (in_bb r w))) b
   effect_of row.Cror r w b = done (with_bt r w (bit_or (in_ba r w) (in_bb r w))) b
   effect_of row.Crxor r w b = done (with_bt r w (bit_xor (in_ba r w) (in_bb r w))) b
-  effect_of row.Crnand r w b = done (with_bt r w (turned (bit_and (in_ba r w) (in_bb r w)))) b
-  effect_of row.Crnor r w b = done (with_bt r w (turned (bit_or (in_ba r w) (in_bb r w)))) b
-  effect_of row.Creqv r w b = done (with_bt r w (turned (bit_xor (in_ba r w) (in_bb r w)))) b
-  effect_of row.Crandc r w b = done (with_bt r w (bit_and (in_ba r w) (turned (in_bb r w)))) b
-  effect_of row.Crorc r w b = done (with_bt r w (bit_or (in_ba r w) (turned (in_bb r w)))) b
+  effect_of row.Crnand r w b = done (with_bt r w (inverted (bit_and (in_ba r w) (in_bb r w)))) b
+  effect_of row.Crnor r w b = done (with_bt r w (inverted (bit_or (in_ba r w) (in_bb r w)))) b
+  effect_of row.Creqv r w b = done (with_bt r w (inverted (bit_xor (in_ba r w) (in_bb r w)))) b
+  effect_of row.Crandc r w b = done (with_bt r w (bit_and (in_ba r w) (inverted (in_bb r w)))) b
+  effect_of row.Crorc r w b = done (with_bt r w (bit_or (in_ba r w) (inverted (in_bb r w)))) b
   effect_of row.Mcrf r w b = done (with_cr_field r (bf w) (cr_field r (bfa w))) b
   -- loads (3.3.2)
   effect_of row.Lbz r w b = load_of m load.Byte address.Offset r w b

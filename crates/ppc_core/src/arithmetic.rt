@@ -134,8 +134,8 @@ pub fn set_quotient(x: u32, y: u32, regs: &mut Regs, word: u32)
 
 /// Whether two words, read as signed, have no quotient that fits a word.
 #[inline(always)]
-fn lacks_quotient(x: u32, y: u32) -> bool
-    ensures { result ≡ arithmetic.lacks_quotient x y }
+fn has_no_quotient(x: u32, y: u32) -> bool
+    ensures { result ≡ arithmetic.has_no_quotient x y }
 {
     y == 0 || (x == 0x8000_0000 && y == 0xffff_ffff)
 }
@@ -145,7 +145,7 @@ fn lacks_quotient(x: u32, y: u32) -> bool
 fn signed_quotient(x: u32, y: u32) -> u32
     ensures { result ≡ arithmetic.signed_quotient x y }
 {
-    if lacks_quotient(x, y) {
+    if has_no_quotient(x, y) {
         return 0;
     }
     (x.cast_signed() / y.cast_signed()).cast_unsigned()
@@ -156,5 +156,5 @@ fn signed_quotient(x: u32, y: u32) -> u32
 pub fn set_signed_quotient(x: u32, y: u32, regs: &mut Regs, word: u32)
     ensures { regs.new ≡ arithmetic.with_signed_quotient regs.old word x y }
 {
-    registers::set_checked_result(signed_quotient(x, y), lacks_quotient(x, y), regs, word);
+    registers::set_checked_result(signed_quotient(x, y), has_no_quotient(x, y), regs, word);
 }

@@ -75,9 +75,9 @@ pub fn in_bb(regs: &Regs, word: u32) -> u32
 
 /// The other bit: 1 for 0, 0 for 1.
 #[inline(always)]
-pub fn turn(bit: u32) -> u32
+pub fn invert(bit: u32) -> u32
     requires { bit < 2 }
-    ensures is { result ≡ condition.turned bit }
+    ensures is { result ≡ condition.inverted bit }
     ensures below { result < 2 }
 {
     1 - bit

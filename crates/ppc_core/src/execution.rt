@@ -7,7 +7,7 @@ ghost use Rattle.ppc_core.specs.Outcomes.{Leaves};
 use crate::arithmetic::{set_carrying, set_signed_quotient, set_sum, set_sum_carrying};
 use crate::branch::from_here;
 use crate::bus::Bus;
-use crate::condition::{in_ba, in_bb, is_trapped, turn};
+use crate::condition::{in_ba, in_bb, invert, is_trapped};
 use crate::fields::{bd, bf, bfa, high_ui, li, ra, rb, rt, si, spr, ui};
 use crate::logic::{mask_of, rotate};
 use crate::registers::{ca, in_ra, in_ra_or_0, in_rb, in_rs, set_ra};
@@ -62,11 +62,11 @@ fn run<B: Bus>(row: Row, regs: &mut Regs, word: u32, bus: &mut B) -> Result<(), 
         Row::Crand => condition::set_bt(in_ba(regs, word) & in_bb(regs, word), regs, word),
         Row::Cror => condition::set_bt(in_ba(regs, word) | in_bb(regs, word), regs, word),
         Row::Crxor => condition::set_bt(in_ba(regs, word) ^ in_bb(regs, word), regs, word),
-        Row::Crnand => condition::set_bt(turn(in_ba(regs, word) & in_bb(regs, word)), regs, word),
-        Row::Crnor => condition::set_bt(turn(in_ba(regs, word) | in_bb(regs, word)), regs, word),
-        Row::Creqv => condition::set_bt(turn(in_ba(regs, word) ^ in_bb(regs, word)), regs, word),
-        Row::Crandc => condition::set_bt(in_ba(regs, word) & turn(in_bb(regs, word)), regs, word),
-        Row::Crorc => condition::set_bt(in_ba(regs, word) | turn(in_bb(regs, word)), regs, word),
+        Row::Crnand => condition::set_bt(invert(in_ba(regs, word) & in_bb(regs, word)), regs, word),
+        Row::Crnor => condition::set_bt(invert(in_ba(regs, word) | in_bb(regs, word)), regs, word),
+        Row::Creqv => condition::set_bt(invert(in_ba(regs, word) ^ in_bb(regs, word)), regs, word),
+        Row::Crandc => condition::set_bt(in_ba(regs, word) & invert(in_bb(regs, word)), regs, word),
+        Row::Crorc => condition::set_bt(in_ba(regs, word) | invert(in_bb(regs, word)), regs, word),
         Row::Mcrf => {
             let value = condition::cr_field(regs, bfa(word));
             registers::set_cr_field(bf(word), value, regs);

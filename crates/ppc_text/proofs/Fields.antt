@@ -9,7 +9,7 @@ use Rattle.ppc_word.specs.Words.{bits, fit, joined, meets, parts, fields, field_
 use Rattle.ppc_word.specs.Rules.{allowed, rt_of, ra_of, spr_of, bo2_of}
 use Rattle.ppc_word.specs.Table.{Form, table, no_form, number, form_of}
 use Rattle.ppc_word.specs.Rows.{word_with, are_fields}
-use Rattle.ppc_word.proofs.Digits.{joined-one, meets-joined, fit-parts, joined-behind, joined-parts, joined-lt}
+use Rattle.ppc_word.proofs.Digits.{joined-one, meets-joined, fit-parts, joined-after, joined-parts, joined-lt}
 use Rattle.ppc_word.proofs.Read.{whole-parts}
 use Rattle.ppc_word.proofs.Whole.{length-table, number-below, whole-at}
 use Rattle.ppc_word.proofs.Placed.{at_place, parts-placed, form-test}
@@ -118,7 +118,7 @@ joined_fields row fs six h =
     let t = whole-parts ps (whole-at (number row) (number-below row)) in
     let m : meets ps n ≡ true = meets-joined ps fs n 0 t.2 h (omega arith) in
     let lt : n < 2 ^ bits ps = joined-lt ps fs t.2 h in
-    let again : joined ps (parts ps n ++ zs) ≡ n = joined-behind ps n zs ∙ joined-parts ps n m ∙ mod-eq_of_lt lt in
+    let again : joined ps (parts ps n ++ zs) ≡ n = joined-after ps n zs ∙ joined-parts ps n m ∙ mod-eq_of_lt lt in
     let placed : parts ps n ≡ map (at_place n) (field_places ps) = parts-placed ps n (omega (arith, t.0)) in
     let many : length (field_places ps) ≡ fields ps = eqb-true _ _ (form-test (λ (g : Form). nat_eq (length (field_places g.pieces)) (fields g.pieces)) counts row) in
     let long : length (parts ps n ++ zs) ≡ 6 =

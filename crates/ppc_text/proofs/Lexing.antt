@@ -21,8 +21,8 @@ token_taken b bs len t u h =
     ∙ ap (λ ts. (token_at b bs).0 ∷ ts) (tokens_passed (token_at b bs).1 bs ∙ ap (λ n. tokens_from 0 (drop n bs)) (sym h))
 
 -- the word that begins the bytes is the longest prefix of bytes that may stand in one
-pub word_front : (b : ℕ) (bs bytes : List ℕ) (n : ℕ) → bytes ≡ b ∷ bs → n ≡ word_len bs → ◌≡◌ {A = Token × ℕ} (word_token b (take (n + 1) bytes), n) (plain_at b bs)
-word_front b bs bytes n e h =
+pub word_first : (b : ℕ) (bs bytes : List ℕ) (n : ℕ) → bytes ≡ b ∷ bs → n ≡ word_len bs → ◌≡◌ {A = Token × ℕ} (word_token b (take (n + 1) bytes), n) (plain_at b bs)
+word_first b bs bytes n e h =
     ap (λ (xs : List ℕ). (word_token b (take (n + 1) xs), n)) e
     ∙ ap (λ (k : ℕ). (word_token b (take k (b ∷ bs)), n)) (add-one n)
     ∙ ap (λ (k : ℕ). (word_token b (b ∷ take k bs), k)) h

@@ -4,7 +4,7 @@ use Rattle.std.specs.Prelude.{if◌then◌else◌, ◌==◌}
 use Rattle.ppc_text.specs.declared.token.Token.{Token}
 use Rattle.ppc_text.specs.declared.token.Token.TheVariants as tokens
 use Rattle.ppc_text.specs.declared.values.Value.{Value}
-use Rattle.ppc_text.specs.Operands.{first_number, behind_minus, addend_at, address_with, is_comma}
+use Rattle.ppc_text.specs.Operands.{first_number, after_minus, addend_at, address_with, is_comma}
 use Rattle.ppc_text.specs.Lines.{address_value, number_or, value_at, and_values, with_value_at, values_from}
 
 count_in : Option (Value × ℕ) → ℕ
@@ -16,7 +16,7 @@ pub counted : (ts : List Token) (v : Value) (n : ℕ) → value_at ts ≡ Some (
 unfolding value_at count_in
 counted [] v n e = absurd (cc)
 counted (tokens.Minus ∷ ts) v n e = go (first_number ts) e where
-  go : (o : Option ℕ) → number_or (behind_minus o) None ≡ Some (v, n) → 1 ≤ n
+  go : (o : Option ℕ) → number_or (after_minus o) None ≡ Some (v, n) → 1 ≤ n
   go None e = absurd (cc)
   go (Some k) e = let h : 2 ≡ n = ap count_in e in omega arith
 counted (tokens.Number k ∷ ts) v n e = let h : 1 ≡ n = ap count_in e in omega arith
@@ -67,9 +67,9 @@ pub all_taken : (pushed : List Value) (left : List Token) (whole : Option (List 
 all_taken pushed left whole h e = ap Some (sym (append-nil pushed)) ∙ ap (and_values pushed) (sym (ended left e)) ∙ sym h
 
 -- there are no words, if a word has neither a comma nor the end after it
-pub none_behind : (pushed : List Value) (left : List Token) (whole : Option (List Value)) → whole ≡ and_values pushed (values_from false 0 left) → (length left == 0) ≡ false → is_comma left ≡ false → None ≡ whole
-none_behind pushed [] whole h e c = absurd (cc)
-none_behind pushed (t ∷ ts) whole h e c = sym (h ∙ ap (λ b. and_values pushed (if b then values_from true 0 ts else None)) c)
+pub none_after : (pushed : List Value) (left : List Token) (whole : Option (List Value)) → whole ≡ and_values pushed (values_from false 0 left) → (length left == 0) ≡ false → is_comma left ≡ false → None ≡ whole
+none_after pushed [] whole h e c = absurd (cc)
+none_after pushed (t ∷ ts) whole h e c = sym (h ∙ ap (λ b. and_values pushed (if b then values_from true 0 ts else None)) c)
 
 -- a comma is skipped
 pub comma_passed : (pushed : List Value) (left : List Token) (whole : Option (List Value)) → whole ≡ and_values pushed (values_from false 0 left) → is_comma left ≡ true → and_values pushed (values_from true 0 (drop 1 left)) ≡ whole

@@ -33,7 +33,7 @@ use Rattle.source_literals.specs.Numbers.{are_digits, value_within, number_in, n
 use Rattle.source_literals.specs.Strings.{string_at}
 use Rattle.ppc_text.specs.Tokens.{number_token, name_token, word_len, name_len, plain_at, word_at, half_of, half_token, string_token, mark_of, token_at, tokens_from, tokens_of}
 use Rattle.ppc_text.specs.Shapes.{parts_of}
-use Rattle.ppc_text.specs.Operands.{first_number, number_at, taken_away, addend_at, address_with, address_at, half_kind, first_half, half_behind, with_address, half_operand, plain, by_number, residue, immediate_at, reach_of, target_kind, words_of, target_address, register_of, register_at, swapped, is_comma, is_open, is_close, mark_operand, part_at, with_value, later, finished, with_operand, operands_from, operands_at}
+use Rattle.ppc_text.specs.Operands.{first_number, number_at, taken_away, addend_at, address_with, address_at, half_kind, first_half, with_half, with_address, half_operand, plain, by_number, residue, immediate_at, reach_of, target_kind, words_of, target_address, register_of, register_at, swapped, is_comma, is_open, is_close, mark_operand, part_at, with_value, later, finished, with_operand, operands_from, operands_at}
 use Rattle.ppc_text.specs.Mnemonics.{spelling_of}
 use Rattle.ppc_text.specs.Lines.{colon_first, name_first, label_of, label_tokens, address_value, number_or, value_at, with_value_at, and_values, values_from, values_of, none_left, number_alone, name_alone, text_alone, is_alignment, alignment_item, instruction_with, spelled_instruction, instruction_of, item_of, item_at, line_of}
 
@@ -77,9 +77,9 @@ not_zero : (b : ℕ) → is_word_byte b ≡ true → b ≢ 0
 not_zero zero h e = no h
 not_zero (suc b) h e = omega arith
 
-front_word : (bs : List ℕ) → All (λ b. b ≢ 0) (take (word_len bs) bs)
-front_word [] = All-nil (λ b. b ≢ 0)
-front_word (b ∷ bs) = go (is_word_byte b) refl (front_word bs) where
+prefix_word : (bs : List ℕ) → All (λ b. b ≢ 0) (take (word_len bs) bs)
+prefix_word [] = All-nil (λ b. b ≢ 0)
+prefix_word (b ∷ bs) = go (is_word_byte b) refl (prefix_word bs) where
   go : (c : Bool) → is_word_byte b ≡ c → All (λ b. b ≢ 0) (take (word_len bs) bs) → All (λ b. b ≢ 0) (take (if c then 1 + word_len bs else 0) (b ∷ bs))
   go true h a =
       let e : suc (word_len bs) ≡ 1 + word_len bs = omega arith in
@@ -106,7 +106,7 @@ good_plain : (b : ℕ) (bs : List ℕ) → is_word_byte b ≡ true → GoodFirst
 good_plain b bs h =
     pick GoodToken (is_ascii_digit b) (number_token (number_of (b ∷ take (word_len bs) bs))) (name_token (b ∷ take (word_len bs) bs))
     (λ k. good_number (number_of (b ∷ take (word_len bs) bs)) (word_of (b ∷ take (word_len bs) bs)))
-    (λ k. good_name (b ∷ take (word_len bs) bs) (All-cons (λ b. b ≢ 0) b (take (word_len bs) bs) (not_zero b h) (front_word bs)))
+    (λ k. good_name (b ∷ take (word_len bs) bs) (All-cons (λ b. b ≢ 0) b (take (word_len bs) bs) (not_zero b h) (prefix_word bs)))
 
 good_word : (b : ℕ) (bs : List ℕ) → is_word_byte b ≡ true → GoodFirst (word_at b bs)
 good_word b bs h =
@@ -207,12 +207,12 @@ kind_target Long true = omega arith
 kind_target Short false = omega arith
 kind_target Short true = omega arith
 
-good_behind : (a : Address) (o : Option Half) → GoodAddress a → Holds GoodOperand (half_behind a o)
-good_behind a (Some h) g = record { name = g.name; addend = g.addend; kind = kind_half h }
-good_behind a None g = tt
+good_after : (a : Address) (o : Option Half) → GoodAddress a → Holds GoodOperand (with_half a o)
+good_after a (Some h) g = record { name = g.name; addend = g.addend; kind = kind_half h }
+good_after a None g = tt
 
-good_halves : (ts : List Token) (o : Option Address) → Holds GoodAddress o → Holds GoodOperand (with_address o (λ a. half_behind a (first_half (drop a.count ts))))
-good_halves ts (Some a) g = good_behind a (first_half (drop a.count ts)) g
+good_halves : (ts : List Token) (o : Option Address) → Holds GoodAddress o → Holds GoodOperand (with_address o (λ a. with_half a (first_half (drop a.count ts))))
+good_halves ts (Some a) g = good_after a (first_half (drop a.count ts)) g
 good_halves ts None g = tt
 
 good_target : (kind : ℕ) (o : Option Address) → kind < 2 ^ 8 → Holds GoodAddress o → Holds GoodOperand (target_address kind o)

@@ -22,13 +22,13 @@ first_number (tokens.Number n ∷ ts) = Some n
 first_number _ = None
 
 -- the number after a `-`
-abbrev pub behind_minus : Option ℕ → Option Signed
-behind_minus (Some n) = Some (record { negative = true; size = n; count = 2 })
-behind_minus None = None
+abbrev pub after_minus : Option ℕ → Option Signed
+after_minus (Some n) = Some (record { negative = true; size = n; count = 2 })
+after_minus None = None
 
 -- the number that the tokens begin with: an optional `-`, then a number
 abbrev pub number_at : List Token → Option Signed
-number_at (tokens.Minus ∷ ts) = behind_minus (first_number ts)
+number_at (tokens.Minus ∷ ts) = after_minus (first_number ts)
 number_at (tokens.Number n ∷ ts) = Some (record { negative = false; size = n; count = 1 })
 number_at _ = None
 
@@ -73,9 +73,9 @@ first_half (tokens.Part h ∷ ts) = Some h
 first_half _ = None
 
 -- half an address as an operand
-abbrev pub half_behind : Address → Option Half → Option Operand
-half_behind a (Some h) = Some (record { value = 0; count = a.count + 1; reference = Some (record { symbol = a.symbol; addend = a.addend; kind = half_kind h }) })
-half_behind a None = None
+abbrev pub with_half : Address → Option Half → Option Operand
+with_half a (Some h) = Some (record { value = 0; count = a.count + 1; reference = Some (record { symbol = a.symbol; addend = a.addend; kind = half_kind h }) })
+with_half a None = None
 
 -- what follows an address, if there is one
 abbrev pub with_address : Option Address → (Address → Option Operand) → Option Operand
@@ -84,7 +84,7 @@ with_address None go = None
 
 -- an address, then the half that is meant
 abbrev pub half_operand : List Token → Option Operand
-half_operand ts = with_address (address_at ts) (λ a. half_behind a (first_half (drop a.count ts)))
+half_operand ts = with_address (address_at ts) (λ a. with_half a (first_half (drop a.count ts)))
 
 -- ---- the kinds of operands
 -- an operand without a relocation

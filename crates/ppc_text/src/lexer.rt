@@ -8,7 +8,7 @@ ghost use Rattle.ppc_text.specs.Tokens.{number_token as number_token_lem, name_t
 use crate::token::{Half, Token, Word};
 use source_literals::{Text, is_blank, is_word_byte, number_of, string, word_len};
 use std::alloc::{AllocError, Global};
-use wind_base::behind;
+use wind_base::bytes_after;
 use wind_base::limits::NAME_BYTES;
 
 fn dot_first(bytes: &[u8]) -> usize
@@ -70,7 +70,7 @@ fn word<'a>(first: u8, rest: &[u8], bytes: &'a [u8]) -> (Token<'a>, usize)
         return plain_word(first, rest, bytes);
     }
     let len = word_len(rest);
-    let whole = len + dot_first(behind(rest, len));
+    let whole = len + dot_first(bytes_after(rest, len));
     if whole == len {
         return plain_word(first, rest, bytes);
     }
@@ -139,7 +139,7 @@ fn mark<'a>(byte: u8) -> Token<'a>
 
 // The token that the bytes begin with, and its number of bytes after the first. The first byte isn't a blank.
 #[tactic(auto, unfolding(crate::specs::Tokens::token_at))]
-fn front<'a>(
+fn first_token<'a>(
     alloc: Global,
     first: u8,
     rest: &[u8],
@@ -174,9 +174,9 @@ pub(crate) fn tokens<'a>(alloc: Global, line: &'a [u8]) -> Result<Vec<Token<'a>>
         if *first == b'#' {
             break;
         }
-        let (token, len) = front(alloc, *first, rest, left)?;
+        let (token, len) = first_token(alloc, *first, rest, left)?;
         tokens.push(token)?;
-        left = behind(rest, len);
+        left = bytes_after(rest, len);
     }
     Ok(tokens)
 }

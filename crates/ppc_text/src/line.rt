@@ -7,7 +7,7 @@ ghost use Rattle.ppc_text.specs.Lines.{colon_first as colon_first_lem, name_firs
 use crate::lexer::tokens;
 use crate::mnemonic::spelling_of;
 use crate::operand::{
-    Address, Signed, address_at, behind_tokens, is_comma, number_at, operands_at, residue,
+    Address, Signed, address_at, is_comma, number_at, operands_at, residue, tokens_after,
 };
 use crate::part::parts_of;
 use crate::token::{Reference, Token, Word};
@@ -87,7 +87,7 @@ fn name_first<'a>(tokens: &[Token<'a>]) -> Option<Word<'a>>
 fn label_of<'a>(tokens: &[Token<'a>]) -> Option<Word<'a>>
     ensures { result ≡ label_of_lem tokens.now }
 {
-    if colon_first(behind_tokens(tokens, 1)) {
+    if colon_first(tokens_after(tokens, 1)) {
         name_first(tokens)
     } else {
         None
@@ -145,14 +145,14 @@ fn values_of<'a>(alloc: Global, tokens: &[Token<'a>]) -> Result<Option<Values<'a
     let mut left = tokens;
     while let Some((value, count)) = value_at(left) {
         kept.push(value)?;
-        left = behind_tokens(left, count);
+        left = tokens_after(left, count);
         if left.is_empty() {
             return Ok(Some(Values { kept }));
         }
         if !is_comma(left) {
             return Ok(None);
         }
-        left = behind_tokens(left, 1);
+        left = tokens_after(left, 1);
     }
     Ok(None)
 }
@@ -163,7 +163,7 @@ fn number_alone(greatest: u32, tokens: &[Token]) -> Option<u32>
     let Some(number) = number_at(tokens) else {
         return None;
     };
-    match behind_tokens(tokens, number.count) {
+    match tokens_after(tokens, number.count) {
         [] => residue(0, greatest, number),
         _ => None,
     }
@@ -336,8 +336,8 @@ pub fn parse<'a>(alloc: Global, bytes: &'a [u8]) -> Result<Option<Line<'a>>, All
 {
     let tokens = tokens(alloc, bytes)?;
     let label = label_of(&tokens);
-    let behind = label_tokens(&label);
-    match item_at(alloc, behind_tokens(&tokens, behind)) {
+    let label_len = label_tokens(&label);
+    match item_at(alloc, tokens_after(&tokens, label_len)) {
         Ok(Some(item)) => Ok(Some(Line { label, item })),
         Ok(None) => Ok(None),
         Err(error) => Err(error),

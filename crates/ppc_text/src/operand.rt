@@ -1,7 +1,7 @@
 //! Operands, read from tokens. Relocation types are those of the PowerPC ABI supplement.
 
 ghost use Rattle.std.specs.Prelude.{◌≡◌, ◌<◌, ◌≤◌, ◌*◌, ◌^◌, ◌+◌, drop, length, slice_set, map, option_map};
-ghost use Rattle.ppc_text.specs.Operands.{first_number as first_number_lem, behind_minus as behind_minus_lem, number_at as number_at_lem, address_with as address_with_lem, taken_away as taken_away_lem, addend_at as addend_at_lem, first_half as first_half_lem, finished as finished_lem, operands_from as operands_from_lem, residue as residue_lem, address_at as address_at_lem, half_kind as half_kind_lem, half_behind as half_behind_lem, half_operand as half_operand_lem, plain as plain_lem, immediate_at as immediate_at_lem, number_operand as number_operand_lem, target_at as target_at_lem, register_of as register_of_lem, register_at as register_at_lem, special_at as special_at_lem, mark_operand as mark_operand_lem, is_comma as is_comma_lem, is_open as is_open_lem, is_close as is_close_lem, part_at as part_at_lem, with_field as with_field_lem, with_value as with_value_lem, later as later_lem, operands_at as operands_at_lem, reach_of as reach_of_lem, target_kind as target_kind_lem, words_of as words_of_lem, swapped as swapped_lem, target_address as target_address_lem};
+ghost use Rattle.ppc_text.specs.Operands.{first_number as first_number_lem, after_minus as after_minus_lem, number_at as number_at_lem, address_with as address_with_lem, taken_away as taken_away_lem, addend_at as addend_at_lem, first_half as first_half_lem, finished as finished_lem, operands_from as operands_from_lem, residue as residue_lem, address_at as address_at_lem, half_kind as half_kind_lem, with_half as with_half_lem, half_operand as half_operand_lem, plain as plain_lem, immediate_at as immediate_at_lem, number_operand as number_operand_lem, target_at as target_at_lem, register_of as register_of_lem, register_at as register_at_lem, special_at as special_at_lem, mark_operand as mark_operand_lem, is_comma as is_comma_lem, is_open as is_open_lem, is_close as is_close_lem, part_at as part_at_lem, with_field as with_field_lem, with_value as with_value_lem, later as later_lem, operands_at as operands_at_lem, reach_of as reach_of_lem, target_kind as target_kind_lem, words_of as words_of_lem, swapped as swapped_lem, target_address as target_address_lem};
 
 use crate::part::{Part, Reach};
 use crate::token::{Half, Reference, Token, Word};
@@ -61,8 +61,8 @@ fn first_number(tokens: &[Token]) -> Option<u32>
     }
 }
 
-fn behind_minus(number: Option<u32>) -> Option<Signed>
-    ensures { result ≡ behind_minus_lem number }
+fn after_minus(number: Option<u32>) -> Option<Signed>
+    ensures { result ≡ after_minus_lem number }
 {
     match number {
         Some(size) => Some(Signed {
@@ -82,7 +82,7 @@ pub(crate) fn number_at(tokens: &[Token]) -> Option<Signed>
         return None;
     };
     match first {
-        Token::Minus => behind_minus(first_number(rest)),
+        Token::Minus => after_minus(first_number(rest)),
         Token::Number(size) => Some(Signed {
             negative: false,
             size: *size,
@@ -180,7 +180,7 @@ fn half_kind(half: Half) -> u8
 }
 
 /// The tokens after the first `n`; an empty slice if there are fewer than `n`.
-pub(crate) fn behind_tokens<'b, 'a>(tokens: &'b [Token<'a>], n: usize) -> &'b [Token<'a>]
+pub(crate) fn tokens_after<'b, 'a>(tokens: &'b [Token<'a>], n: usize) -> &'b [Token<'a>]
     ensures { result.now ≡ drop n tokens.now }
 {
     if n <= tokens.len() { &tokens[n..] } else { &[] }
@@ -198,9 +198,9 @@ fn first_half(tokens: &[Token]) -> Option<Half>
     }
 }
 
-fn half_behind<'a>(address: Address<'a>, half: Option<Half>) -> Option<Operand<'a>>
+fn with_half<'a>(address: Address<'a>, half: Option<Half>) -> Option<Operand<'a>>
     requires { address.count ≤ 3 }
-    ensures { result ≡ half_behind_lem address.entry half }
+    ensures { result ≡ with_half_lem address.entry half }
 {
     match half {
         Some(half) => Some(Operand {
@@ -222,8 +222,8 @@ fn half_operand<'a>(tokens: &[Token<'a>]) -> Option<Operand<'a>>
     let Some(address) = address_at(tokens) else {
         return None;
     };
-    let half = first_half(behind_tokens(tokens, address.count));
-    half_behind(address, half)
+    let half = first_half(tokens_after(tokens, address.count));
+    with_half(address, half)
 }
 
 fn plain<'a>(value: Option<u32>, count: usize) -> Option<Operand<'a>>
@@ -491,7 +491,7 @@ fn operands_from<'a>(
         return None;
     };
     let fields = with_value(fields, *part, operand.value);
-    let left = behind_tokens(tokens, operand.count);
+    let left = tokens_after(tokens, operand.count);
     let reference = later(reference, operand.reference);
     operands_from(rest, absolute, fields, reference, left)
 }

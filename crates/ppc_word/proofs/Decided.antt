@@ -32,9 +32,9 @@ opcode-meets (Fixed v m ∷ ps) n w h e =
     let c = and_parts (nat_eq (bits ps) 26) (only_fields ps) b.1 in
     let width : v ≡ 6 = eqb-true _ _ a.0 in
     let value : w / 2 ^ 26 % 2 ^ 6 ≡ m = e ∙ sym (eqb-true _ _ b.0) in
-    let behind : bits ps ≡ 26 = eqb-true _ _ c.0 in
+    let after : bits ps ≡ 26 = eqb-true _ _ c.0 in
     let rest : meets ps w ≡ true = fields-meet ps w c.1 in
-    ap (λ k. nat_eq (w / 2 ^ k % 2 ^ v) m && meets ps w) behind
+    ap (λ k. nat_eq (w / 2 ^ k % 2 ^ v) m && meets ps w) after
     ∙ ap (λ k. nat_eq (w / 2 ^ 26 % 2 ^ k) m && meets ps w) width
     ∙ ap (λ t. t && meets ps w) (eq-eqb _ _ value)
     ∙ rest

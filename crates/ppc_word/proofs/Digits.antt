@@ -77,10 +77,10 @@ fit-parts (Field w ∷ ps) n k =
     ap (λ t. t && fit ps (parts ps n ++ replicate k 0)) (lt-ltb (n / 2 ^ bits ps % 2 ^ w) (2 ^ w) (mod_below (n / 2 ^ bits ps) (2 ^ w) (pow_pos w))) ∙ fit-parts ps n k
 
 -- numbers after the last field change nothing
-pub joined-behind : (ps : List Piece) (n : ℕ) (fs : List ℕ) → joined ps (parts ps n ++ fs) ≡ joined ps (parts ps n)
-joined-behind [] n fs = refl
-joined-behind (Fixed w v ∷ ps) n fs = ap (λ m. v * 2 ^ bits ps + m) (joined-behind ps n fs)
-joined-behind (Field w ∷ ps) n fs = ap (λ m. n / 2 ^ bits ps % 2 ^ w * 2 ^ bits ps + m) (joined-behind ps n fs)
+pub joined-after : (ps : List Piece) (n : ℕ) (fs : List ℕ) → joined ps (parts ps n ++ fs) ≡ joined ps (parts ps n)
+joined-after [] n fs = refl
+joined-after (Fixed w v ∷ ps) n fs = ap (λ m. v * 2 ^ bits ps + m) (joined-after ps n fs)
+joined-after (Field w ∷ ps) n fs = ap (λ m. n / 2 ^ bits ps % 2 ^ w * 2 ^ bits ps + m) (joined-after ps n fs)
 
 -- a word has one list of fields
 pub joined-one : (ps : List Piece) (fs gs : List ℕ) → sound ps ≡ true → fit ps fs ≡ true → fit ps gs ≡ true → length fs ≡ length gs → joined ps fs ≡ joined ps gs → fs ≡ gs

@@ -14,7 +14,7 @@ pub record IsReadTo (ps : List Piece) (word k rest count : ℕ) (found : List �
   pub place : rest ≡ bits (drop k ps)
   pub counted : count + fields (drop k ps) ≡ fields ps
   pub size : length found ≡ 6
-  pub front : take count found ++ parts (drop k ps) word ≡ parts ps word
+  pub prefix : take count found ++ parts (drop k ps) word ≡ parts ps word
   pub after : drop count found ≡ replicate (6 - count) 0
 
 -- the first k pieces are written
@@ -46,7 +46,7 @@ fixed_step ps word k rest count found w v e i =
       place = place;
       counted = ap (λ n. count + n) (sym (ap fields e)) ∙ i.counted;
       size = i.size;
-      front = ap (λ ns. take count found ++ ns) (sym (ap (λ qs. parts qs word) e)) ∙ i.front;
+      prefix = ap (λ ns. take count found ++ ns) (sym (ap (λ qs. parts qs word) e)) ∙ i.prefix;
       after = i.after;
     }
 
@@ -64,9 +64,9 @@ field_step ps word k rest count found w e i le =
       place = place;
       counted = omega (arith, i.counted);
       size = length-set found count x ∙ i.size;
-      front =
+      prefix =
           rw (add-one, take-suc-set found count x lt, append_assoc (take count found) (x ∷ []) (parts (drop (k + 1) ps) word))
-          (ap (λ ns. take count found ++ ns) (ap (λ n. word / 2 ^ n % 2 ^ w ∷ parts (drop (k + 1) ps) word) place ∙ sym (ap (λ qs. parts qs word) e)) ∙ i.front);
+          (ap (λ ns. take count found ++ ns) (ap (λ n. word / 2 ^ n % 2 ^ w ∷ parts (drop (k + 1) ps) word) place ∙ sym (ap (λ qs. parts qs word) e)) ∙ i.prefix);
       after =
           drop-set-lt (count + 1) found count x (omega arith) ∙ rest_after found count i.after;
     }

@@ -14,7 +14,7 @@ use Rattle.ppc_word.specs.Table.{number, form_at, form_of}
 use Rattle.ppc_word.specs.Rows.{is_word_of, are_fields, word_with}
 use Rattle.ppc_word.specs.Insn.{word_of}
 use Rattle.ppc_word.proofs.Read.{whole-parts}
-use Rattle.ppc_word.proofs.Digits.{joined-one, meets-joined, fit-parts, joined-behind, joined-parts}
+use Rattle.ppc_word.proofs.Digits.{joined-one, meets-joined, fit-parts, joined-after, joined-parts}
 use Rattle.ppc_word.proofs.Whole.{number-below, number-one, whole-at, one_place}
 
 insn_one : (i j : Insn) → i.row ≡ j.row → i.fields ≡ j.fields → i ≡ j
@@ -75,7 +75,7 @@ reading-word : (k word : ℕ) (fs : List ℕ) → k < ROWS → word < 2 ^ 32 →
 reading-word k word fs h lt r =
     let t = (whole-parts (form_at k).pieces (whole-at k h)).0 in
     let e : word % 2 ^ bits (form_at k).pieces ≡ word = rw t (omega arith) in
-    ap (joined (form_at k).pieces) r.1 ∙ joined-behind (form_at k).pieces word (replicate (6 - fields (form_at k).pieces) 0) ∙ joined-parts (form_at k).pieces word r.0 ∙ e
+    ap (joined (form_at k).pieces) r.1 ∙ joined-after (form_at k).pieces word (replicate (6 - fields (form_at k).pieces) 0) ∙ joined-parts (form_at k).pieces word r.0 ∙ e
 
 pub reading-made : (k word : ℕ) (fs : List ℕ) (row : Row) → k < ROWS → word < 2 ^ 32 → number row ≡ k → IsReading k word fs → word_with row fs ≡ word
 unfolding word_with

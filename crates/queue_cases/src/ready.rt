@@ -135,7 +135,7 @@ fn answer(ready: &mut Ready, step: Step) -> Option<Answer> {
 }
 
 // Adds a task; removes it first if it is there.
-#[tactic(auto, using(ready_queue::proofs::Turns::taken_absent))]
+#[tactic(auto, using(ready_queue::proofs::Rotation::taken_absent))]
 fn put(ready: &mut Ready, pri: Pri, who: Ident) -> Answer {
     let again = ready.take(who);
     let room = ready.len() < ready.room();

@@ -166,7 +166,7 @@ fn answer(waits: &mut Waits, step: Step) -> Option<Answer> {
 }
 
 // Adds a task; removes it first if it is there.
-#[tactic(auto, using(wait_order::proofs::Turns::taken_absent))]
+#[tactic(auto, using(wait_order::proofs::LineOrder::taken_absent))]
 fn put(waits: &mut Waits, place: Place, who: Ident, pri: u32, since: u64) -> Answer {
     let again = waits.take(who);
     let room = waits.len() < waits.room();

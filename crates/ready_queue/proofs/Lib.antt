@@ -1,3 +1,3 @@
 pub mod Bits
-pub mod Turns
+pub mod Rotation
 pub mod Coming

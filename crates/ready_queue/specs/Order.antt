@@ -3,7 +3,7 @@ use Rattle.std.specs.Prelude.{ℕ, List, Option, None, Some}
 use Rattle.std.specs.Option.{option_map}
 use Rattle.wind_lists.specs.Records as records
 use Rattle.wind_lists.specs.Sorting.{first}
-use Rattle.wind_lists.specs.Arrivals.{put_behind}
+use Rattle.wind_lists.specs.Arrivals.{put_after}
 
 -- the tasks, each as its priority and id, and the room
 pub record Order : Type 0 where
@@ -24,7 +24,7 @@ pri_of ts id = option_map task_pri (records.of_id task_id ts id)
 
 -- the tasks with one more, after all others of its priority
 abbrev pub put_in : List (ℕ × ℕ) → ℕ × ℕ → List (ℕ × ℕ)
-put_in ts t = put_behind task_id task_pri ts t
+put_in ts t = put_after task_id task_pri ts t
 
 -- one more task, after all others of its priority
 abbrev pub with_task : Order → ℕ × ℕ → Order

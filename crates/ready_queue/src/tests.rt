@@ -6,7 +6,7 @@ use std::test::Fail;
 use wind_base::Pri;
 
 // Adds a task if there is room for one more; removes it first if it is there.
-#[tactic(auto, using(crate::proofs::Turns::taken_absent))]
+#[tactic(auto, using(crate::proofs::Rotation::taken_absent))]
 fn put(ready: &mut Ready, pri: u32, who: u32) -> Option<()> {
     let pri = Pri::new(pri)?;
     let who = Ident::new(who)?;
@@ -27,7 +27,7 @@ fn next(ready: &mut Ready) -> Option<u32> {
 }
 
 #[test]
-fn of_one_priority_each_has_its_turn(rt: HostRuntime) -> Result<(), Fail> {
+fn one_priority_rotates(rt: HostRuntime) -> Result<(), Fail> {
     let mut ready = Ready::reserved(rt.alloc(), 256).or(Err("memory"))?;
     for who in 1..257 {
         put(&mut ready, 100, who).ok_or("room")?;

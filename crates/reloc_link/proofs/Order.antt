@@ -81,14 +81,14 @@ each_done i image (b ∷ bs) all apart e =
 later_refused : (i : ℕ) (image : List ℕ) (b : Binding) (bs : List Binding) (v : ℕ) (e : RelocErr) → asked image b ≡ Ok v
     → IsFirstRefused (i + 1) (written image b v) bs e → IsFirstRefused i image (b ∷ bs) e
 later_refused i image b bs v e asks h =
-    let front : patched i image (b ∷ take h.place bs) ≡ patched (i + 1) (written image b v) (take h.place bs) =
+    let prefix : patched i image (b ∷ take h.place bs) ≡ patched (i + 1) (written image b v) (take h.place bs) =
     ap (step i image b (take h.place bs)) asks in record {
       place = suc h.place;
       within = (let w = h.within in omega arith);
-      before = ap (λ (p : Patched). p.fault) front ∙ h.before;
+      before = ap (λ (p : Patched). p.fault) prefix ∙ h.before;
       fault = h.fault;
-      refused = λ d. ap (λ (p : Patched). asked p.image (get_or bs h.place d)) front ∙ h.refused d;
-      held = ap (λ r. (step i image b bs r).image) asks ∙ h.held ∙ sym (ap (λ (p : Patched). p.image) front);
+      refused = λ d. ap (λ (p : Patched). asked p.image (get_or bs h.place d)) prefix ∙ h.refused d;
+      held = ap (λ r. (step i image b bs r).image) asks ∙ h.held ∙ sym (ap (λ (p : Patched). p.image) prefix);
       named = (let n : i + 1 + h.place ≡ i + suc h.place = omega arith in h.named ∙ ap (numbered h.fault) n);
     }
 

@@ -25,23 +25,23 @@ unfolding written
 byte_before image b v at h low =
     let n : length (big_bytes (width_of b.kind) v) ≡ width_of b.kind = length-bytes_high_first (width_of b.kind) v in grind (arith, places)
 
-byte_behind : (image : List ℕ) (b : Binding) (v at : ℕ) → LiesWithin (length image) b → b.offset + width_of b.kind ≤ at → get_or (written image b v) at 0 ≡ get_or image at 0
+byte_after : (image : List ℕ) (b : Binding) (v at : ℕ) → LiesWithin (length image) b → b.offset + width_of b.kind ≤ at → get_or (written image b v) at 0 ≡ get_or image at 0
 unfolding written
-byte_behind image b v at h high =
+byte_after image b v at h high =
     let n : length (big_bytes (width_of b.kind) v) ≡ width_of b.kind = length-bytes_high_first (width_of b.kind) v in grind (arith, places)
 
 pub written_outside : (image : List ℕ) (b : Binding) (v at : ℕ) → LiesWithin (length image) b → IsOutside at b → get_or (written image b v) at 0 ≡ get_or image at 0
 written_outside image b v at h (inl low) = byte_before image b v at h low
-written_outside image b v at h (inr high) = byte_behind image b v at h high
+written_outside image b v at h (inr high) = byte_after image b v at h high
 
 -- a byte of a field is outside every field apart from it
 pub outside_of : (b c : Binding) (k : ℕ) → Apart b c → k < width_of c.kind → IsOutside (c.offset + k) b
 outside_of b c k (inl before) low = inr (omega arith)
-outside_of b c k (inr behind) low = inl (omega arith)
+outside_of b c k (inr after) low = inl (omega arith)
 
 pub outside_other : (b c : Binding) (k : ℕ) → Apart b c → k < width_of b.kind → IsOutside (b.offset + k) c
 outside_other b c k (inl before) low = inl (omega arith)
-outside_other b c k (inr behind) low = inr (omega arith)
+outside_other b c k (inr after) low = inr (omega arith)
 
 -- the same bytes make the same number
 same_number : (xs ys : List ℕ) (i n : ℕ) → ((k : ℕ) → i ≤ k → k < i + n → get_or xs k 0 ≡ get_or ys k 0) → big_from i n xs ≡ big_from i n ys

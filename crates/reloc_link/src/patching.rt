@@ -39,7 +39,7 @@ pub enum RelocErr {
 }
 
 /// The number in the first `width` bytes, highest byte first.
-fn read_front(bytes: &[u8], width: u32) -> u32
+fn read_number(bytes: &[u8], width: u32) -> u32
     requires within { width ≤ length bytes.now }
     requires form { IsWidth width }
     ensures { result ≡ big_number width bytes.now }
@@ -52,7 +52,7 @@ fn read_front(bytes: &[u8], width: u32) -> u32
 }
 
 /// Writes a number over the first `width` bytes, highest byte first.
-fn write_front(bytes: &mut [u8], width: u32, v: u32)
+fn write_number(bytes: &mut [u8], width: u32, v: u32)
     requires within { width ≤ length bytes.old }
     requires form { IsWidth width }
     requires small { v < 256 ^ width }
@@ -75,9 +75,9 @@ fn patch_one(image: &mut [u8], binding: &Binding) -> Result<(), FieldFault>
 {
     let width = width(binding.kind);
     let start = binding.offset as usize;
-    let old = read_front(&image[start..], width);
+    let old = read_number(&image[start..], width);
     let v = field(binding.kind, binding.s, binding.a, binding.p, old)?;
-    write_front(&mut image[start..], width, v);
+    write_number(&mut image[start..], width, v);
     Ok(())
 }
 

@@ -31,7 +31,7 @@ use Rattle.sem_mutex.proofs.Handing.{found_row, hand_keeps, deepen_keeps, await_
 use Rattle.sem_mutex.proofs.Counting.{object_of-write}
 use Rattle.inheritance.proofs.Raising.{since-change_pri}
 use Rattle.sem_mutex.proofs.Giving.{kern_hand, ids_hand, next_owner, passed}
-use Rattle.inheritance.proofs.Turn.{ids-change_pri}
+use Rattle.inheritance.proofs.Iteration.{ids-change_pri}
 use Rattle.sem_mutex.proofs.AtOnce.{at_once_same}
 use Rattle.sem_mutex.proofs.Keeping.{kern_guarded, take_keeps, give_same}
 use Rattle.sem_mutex.proofs.Ending.{delete_same, priority_urgent}

@@ -1,6 +1,6 @@
 -- Each kernel call that doesn't concern mutexes keeps their invariant.
-use Rattle.std.proofs.Common.{◌≡◌, ℕ, ◌+◌, ◌-◌, ◌<◌, ◌≤◌, Bool, true, false, cond, ◌&&◌, not, eqb, ltb, leb, List, [], ◌∷◌, Option, None, Some, is_some, refl, ◌∙◌, arith, inr}
-use Rattle.std.specs.List.{All, fold}
+use Rattle.std.proofs.Common.{◌≡◌, ℕ, ◌+◌, ◌-◌, ◌<◌, ◌≤◌, Bool, true, false, cond, ◌&&◌, not, eqb, ltb, leb, List, [], ◌∷◌, Option, None, Some, refl, ◌∙◌, arith, inr}
+use Rattle.std.specs.List.{All}
 use Rattle.std.proofs.lemmas.List.Elements.{All-filter, All-push}
 use Rattle.wind_base.specs.declared.errno.Errno.{Errno}
 use Rattle.wind_base.specs.declared.regs.Regs.{Regs}
@@ -8,15 +8,16 @@ use Rattle.id_table.specs.declared.ident.Place.{Place}
 use Rattle.task_block.specs.declared.task.Task.{Task}
 use Rattle.task_block.specs.declared.task.NewTask.{NewTask}
 use Rattle.wind_core.specs.State.{KernState, task_of}
-use Rattle.wind_core.specs.Orders.{waiters, due, running}
+use Rattle.wind_core.specs.Orders.{waiters}
 use Rattle.wind_core.specs.Moves.{move_task, new_task, spawn, remove, wake_at, pended, pend, delayed, delay, released, release, answered, end_wait, end_waits, wake_all, suspended, suspend, resumed, is_suspended, resume, unmarked, reset, set_locks, set_safe, set_errno, set_int_locked, set_again, set_regs, past_gate, leave_gate, with_answer, answer, with_refusal, refuse, unreserved, unreserve}
 use Rattle.wind_core.specs.Releases.{releases, release_all}
-use Rattle.wind_core.specs.Tick.{turn_found, turn_of, take_turn, late_answer, late_errno, time_out, tick_counted, tick}
+use Rattle.wind_core.specs.Tick.{tick}
 use Rattle.wind_core.proofs.Stable.{move_task-stable, tick-stable}
+use Rattle.wind_core.proofs.NextId.{next-move, next-tick}
 use Rattle.task_safety.specs.Safety.{deletion, safe_of, lessen}
 use Rattle.inheritance.specs.declared.mutex.Mutex.{Mutex}
 use Rattle.inheritance.specs.Reach.{mutex_at}
-use Rattle.sem_mutex.proofs.Following.{Same, Comes, Follows, alike, goes_on, comes_on, themselves, renews, next-move, by_change, by_renewal, by_move}
+use Rattle.sem_mutex.proofs.Following.{Same, Comes, Follows, alike, goes_on, comes_on, themselves, renews, by_change, by_renewal, by_move}
 
 -- from a to b, and from b to c
 pub follows_on : (ms : List (ℕ × Mutex)) (k m n : KernState) → m.next_id ≡ k.next_id → All (Comes ms k) n.tasks → n.next_id ≡ m.next_id → Follows ms k n
@@ -32,28 +33,17 @@ module _ (ms : List (ℕ × Mutex)) where
 
   end_waits_on : (k r : KernState) (ts : List Task) (a : ℕ) (e : Option Errno) → r.next_id ≡ k.next_id → All (Comes ms k) r.tasks → Follows ms k (end_waits r ts a e)
   end_waits_on k r [] a e same all = record { next = omega (arith, same); tasks = all }
-  end_waits_on k r (t ∷ ts) a e same all = end_waits_on k (end_wait r t.id a e) ts a e (next-move ms r t.id (answered a e) ∙ same) (answers_on k r t.id a e all)
+  end_waits_on k r (t ∷ ts) a e same all = end_waits_on k (end_wait r t.id a e) ts a e (next-move r t.id (answered a e) ∙ same) (answers_on k r t.id a e all)
 
   all_released : (k r : KernState) (ts : List Task) → r.next_id ≡ k.next_id → All (Comes ms k) r.tasks → Follows ms k (releases r ts)
   all_released k r [] same all = record { next = omega (arith, same); tasks = all }
-  all_released k r (t ∷ ts) same all = all_released k (release r t.id) ts (next-move ms r t.id released ∙ same) (releases_on k r t.id all)
+  all_released k r (t ∷ ts) same all = all_released k (release r t.id) ts (next-move r t.id released ∙ same) (releases_on k r t.id all)
 
   -- ---- a tick
-  next-time_outs : (k : KernState) (ts : List Task) → (fold time_out k ts).next_id ≡ k.next_id
-  next-time_outs k [] = refl
-  next-time_outs k (t ∷ ts) = next-time_outs (time_out k t) ts ∙ next-move ms k t.id (answered (late_answer (is_some t.wait)) (late_errno (is_some t.wait)))
-
-  next-turn_of : (k : KernState) (o : Option Task) → (turn_of k o).next_id ≡ k.next_id
-  next-turn_of k None = refl
-  next-turn_of k (Some t) = elim (eqb t.locks 0) as (λ b. (cond b (turn_found k t) k).next_id ≡ k.next_id) [ true ↦ refl | false ↦ refl ]
-
-  next-take_turn : (k : KernState) → (take_turn k).next_id ≡ k.next_id
-  next-take_turn k = elim (eqb k.slice 0) as (λ b. (cond b k (turn_of k (running k))).next_id ≡ k.next_id) [ true ↦ refl | false ↦ next-turn_of k (running k) ]
-
   module _ (k : KernState) where
     pub follows-tick : Follows ms k (tick k)
     follows-tick = record {
-      next = omega (arith, next-time_outs (take_turn (tick_counted k)) (due (take_turn (tick_counted k)).tasks (k.tick + 1)), next-take_turn (tick_counted k));
+      next = omega (arith, next-tick k);
       tasks = tick-stable (Comes ms k) (renews ms k)
           (λ a e t comes. comes_on ms k t (answered a e t) comes (goes_on ms k t (answered a e t) refl refl refl refl refl))
           (λ n t comes. comes_on ms k t (record t { turns = n }) comes (alike ms k t (record t { turns = n }) refl refl refl refl refl refl))

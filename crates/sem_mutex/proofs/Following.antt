@@ -9,9 +9,10 @@ use Rattle.id_table.specs.Rows.{object_of}
 use Rattle.id_table.specs.declared.ident.Place.{Place}
 use Rattle.wind_base.specs.declared.profile.Profile.{Profile}
 use Rattle.task_block.specs.declared.task.Task.{Task}
-use Rattle.wind_core.specs.State.{KernState, task_of}
-use Rattle.wind_core.specs.Moves.{renewed, change_task, renew_task, move_found, move_task}
+use Rattle.wind_core.specs.State.{KernState}
+use Rattle.wind_core.specs.Moves.{renewed, change_task, renew_task, move_task}
 use Rattle.wind_core.proofs.Stable.{All-change, renew_task-stable, move_task-stable}
+use Rattle.wind_core.proofs.NextId.{next-move}
 use Rattle.inheritance.specs.declared.mutex.Mutex.{Mutex}
 use Rattle.inheritance.specs.Mutexes.{MutexState, is_id, holds, held_count}
 use Rattle.inheritance.specs.Reach.{mutex_at, lent_to, owner_at}
@@ -223,9 +224,6 @@ module _ (ms : List (ℕ × Mutex)) (k : KernState) where
   pub renews : (since : ℕ) (t : Task) → Comes ms k t → Comes ms k (renewed since t)
   renews since t comes = comes_on t (renewed since t) comes (alike t (renewed since t) refl refl refl refl refl refl)
 
-  pub next-move : (who : ℕ) (f : Task → Task) → (move_task k who f).next_id ≡ k.next_id
-  next-move who f = elim (task_of k.tasks who) as (λ o. (move_found k who f o).next_id ≡ k.next_id) [ None ↦ refl | Some t ↦ refl ]
-
   -- the three ways in which one task is changed
   pub by_change : (who : ℕ) (f : Task → Task) → ((t : Task) → Same ms k.next_id t (f t)) → Follows ms k (change_task k who f)
   by_change who f mild = record { next = omega arith; tasks = All-change (Comes ms k) k.tasks who f (λ t comes. comes_on t (f t) comes (mild t)) themselves }
@@ -234,4 +232,4 @@ module _ (ms : List (ℕ × Mutex)) (k : KernState) where
   by_renewal who f mild = record { next = omega arith; tasks = renew_task-stable (Comes ms k) renews k who f (λ t comes. comes_on t (f t) comes (mild t)) themselves }
 
   pub by_move : (who : ℕ) (f : Task → Task) → ((t : Task) → Same ms k.next_id t (f t)) → Follows ms k (move_task k who f)
-  by_move who f mild = record { next = omega (arith, next-move who f); tasks = move_task-stable (Comes ms k) renews k who f (λ t comes. comes_on t (f t) comes (mild t)) themselves }
+  by_move who f mild = record { next = omega (arith, next-move k who f); tasks = move_task-stable (Comes ms k) renews k who f (λ t comes. comes_on t (f t) comes (mild t)) themselves }

@@ -67,6 +67,9 @@ record Lowered (count : ℕ → ℕ) (t u : Task) : Type 0 where
   fifo : u.fifo ≡ t.fifo
   held : u.held ≡ count u.id
 
+lowers : (count : ℕ → ℕ) (t : Task) (n : ℕ) → n ≡ count t.id → Lowered count t (record t { held = n })
+lowers count t n h = record { id = refl; pri = refl; normal = refl; wait = refl; fifo = refl; held = h }
+
 two_not_one : Two ≡ One → ⊥
 two_not_one e = absurd (cc)
 
@@ -91,30 +94,8 @@ module _ (p : Profile) (count : ℕ → ℕ) (ms : List (ℕ × Mutex)) (k : Ker
       let x = live_task (task_of k.tasks who) lives in
       let was : held_of (task_of k.tasks who) ≡ count who = ap held_of x.1 ∙ (found_all (TaskKept p ms count k.next_id) k.tasks who x.0 h.tasks x.1).held ∙ ap count (found_id task_id k.tasks who x.0 x.1) in
       All-change_at (TaskKept p ms count k.next_id) (From (Lowered (less who count)) k.tasks) k.tasks who (λ t. record t { held = held_of (task_of k.tasks who) - 1 })
-      (λ t at same kept. (
-        t,
-        at,
-        record {
-          id = refl;
-          pri = refl;
-          normal = refl;
-          wait = refl;
-          fifo = refl;
-          held = let own = ap count same in let b = ap {B = ℕ} one (eq-eqb who t.id (sym same)) in omega (arith, was, own, b);
-        },
-      ))
-      (λ t at other kept. (
-        t,
-        at,
-        record {
-          id = refl;
-          pri = refl;
-          normal = refl;
-          wait = refl;
-          fifo = refl;
-          held = let b = ap {B = ℕ} one (ne_eqb who t.id (λ e. other (sym e))) in omega (arith, kept.held, b);
-        },
-      ))
+      (λ t at same kept. (t, at, lowers (less who count) t (held_of (task_of k.tasks who) - 1) (let own = ap count same in let b = ap {B = ℕ} one (eq-eqb who t.id (sym same)) in omega (arith, was, own, b))))
+      (λ t at other kept. (t, at, lowers (less who count) t t.held (let b = ap {B = ℕ} one (ne_eqb who t.id (λ e. other (sym e))) in omega (arith, kept.held, b))))
       h.tasks
 
   kept1 : IsKern k1

@@ -41,7 +41,7 @@ impl Mutexes {
     }
 
     // Begins the task's wait for it.
-    fn await_turn(&self, k: &mut Kern, who: Ident, id: Ident, timeout: u32)
+    fn await_mutex(&self, k: &mut Kern, who: Ident, id: Ident, timeout: u32)
         requires live { Lives k.old who }
         requires there { IsSome (object_of self.now.rows id) }
         requires timeout { 0 < timeout }
@@ -94,7 +94,7 @@ impl Mutexes {
         if timeout == NO_WAIT {
             return Err(Errno::ObjUnavailable);
         }
-        self.await_turn(k, caller, id, timeout);
+        self.await_mutex(k, caller, id, timeout);
         self.inherit_at_once(k, caller);
         Ok(Took::Pended)
     }

@@ -4,9 +4,10 @@ use Rattle.std.specs.List.{All, Contains}
 use Rattle.std.proofs.lemmas.List.Elements.{All-contains, All-contains_itself, All-weaker}
 use Rattle.id_table.specs.declared.ident.Place.{Place}
 use Rattle.task_block.specs.declared.task.Task.{Task}
-use Rattle.wind_core.specs.State.{KernState, task_of}
-use Rattle.wind_core.specs.Moves.{change_task, renew_task, move_found, move_task}
+use Rattle.wind_core.specs.State.{KernState}
+use Rattle.wind_core.specs.Moves.{change_task, renew_task, move_task}
 use Rattle.wind_core.proofs.Stable.{All-change, renew_task-stable, move_task-stable}
+use Rattle.wind_core.proofs.NextId.{next-move}
 use Rattle.sem_plain.specs.Kept.{IsOldOr, BeginsOnly}
 use Rattle.sem_plain.specs.Laws.{ThenLaw}
 
@@ -38,9 +39,6 @@ module _ (begins : Place → Bool) (k : KernState) where
   pub themselves : All IsOld k.tasks
   themselves = λ i d within. old_itself (get_or k.tasks i d) (All-contains_itself k.tasks i d within)
 
-  pub next-move : (who : ℕ) (f : Task → Task) → (move_task k who f).next_id ≡ k.next_id
-  next-move who f = elim (task_of k.tasks who) as (λ o. (move_found k who f o).next_id ≡ k.next_id) [ None ↦ refl | Some t ↦ refl ]
-
   pub by_change : (who : ℕ) (f : Task → Task) → ((t : Task) → IsOld t → IsOld (f t)) → BeginsOnly begins k (change_task k who f)
   by_change who f keeps = record { next = omega arith; waits = All-change IsOld k.tasks who f keeps themselves }
 
@@ -48,7 +46,7 @@ module _ (begins : Place → Bool) (k : KernState) where
   by_renewal who f keeps = record { next = omega arith; waits = renew_task-stable IsOld (λ since t old. old) k who f keeps themselves }
 
   pub by_move : (who : ℕ) (f : Task → Task) → ((t : Task) → IsOld t → IsOld (f t)) → BeginsOnly begins k (move_task k who f)
-  by_move who f keeps = record { next = omega (arith, next-move who f); waits = move_task-stable IsOld (λ since t old. old) k who f keeps themselves }
+  by_move who f keeps = record { next = omega (arith, next-move k who f); waits = move_task-stable IsOld (λ since t old. old) k who f keeps themselves }
 
   -- only the tasks change, and the next id doesn't fall
   pub by_tasks : (n : KernState) → k.next_id ≤ n.next_id → All IsOld n.tasks → BeginsOnly begins k n

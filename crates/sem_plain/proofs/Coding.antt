@@ -7,7 +7,7 @@ use Rattle.id_table.specs.Rows.{IdsBelow}
 use Rattle.id_table.specs.declared.ident.Place.{Place}
 use Rattle.wind_core.specs.State.{KernState, IsKern, Lives, task_id}
 use Rattle.wind_core.specs.Orders.{first_waiter}
-use Rattle.wind_core.proofs.Waking.{wake_turn}
+use Rattle.wind_core.proofs.Waking.{woken_first}
 use Rattle.sem_plain.specs.declared.semaphore.Semaphore.{Semaphore}
 use Rattle.wind_core.specs.declared.took.Took.TheVariants.{Taken, Pended}
 use Rattle.sem_plain.specs.State.{SemState, both}
@@ -16,7 +16,7 @@ use Rattle.sem_plain.proofs.Keeping.{below_create}
 
 -- the first waiting task is live
 pub next_lives : (k : KernState) (place : Place) (who : ℕ) → IsKern k → Some who ≡ option_map task_id (first_waiter k.tasks place) → Lives k who
-next_lives k place who is e = (wake_turn k place 0 None who is.rising e).lives
+next_lives k place who is e = (woken_first k place 0 None who is.rising e).lives
 
 -- a take of an empty semaphore that waits
 pub pended_take : (s : SemState) (who id number n : ℕ) (v : Semaphore) (k : KernState)

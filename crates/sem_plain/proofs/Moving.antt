@@ -1,6 +1,5 @@
 -- No move of the kernel begins a wait, except a pend.
-use Rattle.std.proofs.Common.{◌≡◌, ℕ, ◌+◌, Bool, true, false, not, cond, eqb, List, [], ◌∷◌, Option, None, Some, is_some, refl, ◌∙◌, arith, inr}
-use Rattle.std.specs.List.{fold}
+use Rattle.std.proofs.Common.{◌≡◌, ℕ, ◌+◌, Bool, true, false, not, cond, eqb, List, [], ◌∷◌, Option, Some, refl, ◌∙◌, arith, inr}
 use Rattle.std.proofs.lemmas.Bool.{eq-eqb, and_from}
 use Rattle.std.proofs.lemmas.List.Elements.{All-filter, All-push}
 use Rattle.wind_base.specs.declared.errno.Errno.{Errno}
@@ -8,15 +7,16 @@ use Rattle.id_table.specs.declared.ident.Place.{Place}
 use Rattle.task_block.specs.declared.task.Task.{Task}
 use Rattle.task_block.specs.declared.task.NewTask.{NewTask}
 use Rattle.wind_core.specs.State.{KernState, task_of}
-use Rattle.wind_core.specs.Orders.{same_place, waiters, due, running}
+use Rattle.wind_core.specs.Orders.{same_place, waiters}
 use Rattle.wind_core.specs.Moves.{change_task, move_task, new_task, spawn, remove, wake_at, pended, pend, delayed, delay, released, release, answered, end_wait, end_waits, wake_all, suspended, resumed, is_suspended, resume, unmarked, with_pri, has_pri, change_pri, past_gate, with_answer, with_refusal, unreserved}
 use Rattle.wind_core.specs.Releases.{releases}
-use Rattle.wind_core.specs.Tick.{turn_found, turn_of, take_turn, late_answer, late_errno, time_out, tick_counted, tick}
+use Rattle.wind_core.specs.Tick.{tick}
 use Rattle.wind_core.specs.Move.{Spawn, Remove, Pend, Delay, Release, ReleaseAll, EndWait, WakeAll, Tick, Suspend, Resume, ChangePri, Reset, SetLocks, SetNormal, SetSafe, SetHeld, SetErrno, SetIntLocked, SetAgain, SetRegs, Unreserve, LeaveGate, Answer, Refuse, SetLast, SetSlice, DrawIds, Lend, apply, after}
 use Rattle.wind_core.proofs.Stable.{tick-stable}
+use Rattle.wind_core.proofs.NextId.{next-tick}
 use Rattle.sem_plain.specs.Kept.{BeginsOnly}
 use Rattle.sem_plain.specs.Laws.{nowhere, begun_by, KernelLaw, SeriesLaw}
-use Rattle.sem_plain.proofs.Beginning.{IsOld, themselves, next-move, by_change, by_renewal, by_move, by_tasks, begins_more, then}
+use Rattle.sem_plain.proofs.Beginning.{IsOld, themselves, by_change, by_renewal, by_move, by_tasks, begins_more, then}
 
 pub stays : (k : KernState) → BeginsOnly nowhere k k
 stays k = by_tasks nowhere k k (omega arith) (themselves nowhere k)
@@ -52,20 +52,6 @@ begins-releases k [] = stays k
 begins-releases k (t ∷ ts) = then nowhere k (release k t.id) (releases (release k t.id) ts) (begins-release k t.id) (begins-releases (release k t.id) ts)
 
 -- ---- a tick
-next-time_outs : (k : KernState) (ts : List Task) → (fold time_out k ts).next_id ≡ k.next_id
-next-time_outs k [] = refl
-next-time_outs k (t ∷ ts) = next-time_outs (time_out k t) ts ∙ next-move nowhere k t.id (answered (late_answer (is_some t.wait)) (late_errno (is_some t.wait)))
-
-next-turn_of : (k : KernState) (o : Option Task) → (turn_of k o).next_id ≡ k.next_id
-next-turn_of k None = refl
-next-turn_of k (Some t) = elim (eqb t.locks 0) as (λ b. (cond b (turn_found k t) k).next_id ≡ k.next_id) [ true ↦ refl | false ↦ refl ]
-
-next-take_turn : (k : KernState) → (take_turn k).next_id ≡ k.next_id
-next-take_turn k = elim (eqb k.slice 0) as (λ b. (cond b k (turn_of k (running k))).next_id ≡ k.next_id) [ true ↦ refl | false ↦ next-turn_of k (running k) ]
-
-next-tick : (k : KernState) → (tick k).next_id ≡ k.next_id
-next-tick k = next-time_outs (take_turn (tick_counted k)) (due (take_turn (tick_counted k)).tasks (k.tick + 1)) ∙ next-take_turn (tick_counted k)
-
 begins-tick : (k : KernState) → BeginsOnly nowhere k (tick k)
 begins-tick k =
     by_tasks nowhere k (tick k) (omega (arith, next-tick k))

@@ -3,8 +3,8 @@ use Rattle.std.proofs.Common.{◌≡◌, ℕ, List, [], ◌∷◌, None, refl, a
 use Rattle.shell_eval.specs.declared.fault.EvalFault.{EvalFault}
 use Rattle.shell_parse.specs.declared.tree.BinOp.{BinOp}
 use Rattle.shell_parse.specs.declared.tree.BinOp.TheVariants as ops
-use Rattle.shell_eval.specs.declared.code.Turn.{Turn}
-use Rattle.shell_eval.specs.declared.code.Turn.TheVariants as turns
+use Rattle.shell_eval.specs.declared.code.LeftSide.{LeftSide}
+use Rattle.shell_eval.specs.declared.code.LeftSide.TheVariants as sides
 use Rattle.shell_eval.specs.declared.code.Entry.{Entry}
 use Rattle.shell_eval.specs.declared.code.Entry.TheVariants as entries
 use Rattle.shell_eval.specs.Operators.{before_word}
@@ -12,9 +12,9 @@ use Rattle.shell_eval.specs.State.{State}
 use Rattle.shell_eval.specs.Words.{combined, word_read, word_stored, variable_made}
 use Rattle.shell_eval.specs.Pending.{Pending, Number, Word, Unary, Binary, Choice, SetWord, New, Call, Hole, Args, Then, All, Any, begun, begun_all}
 use Rattle.shell_eval.specs.Reduce.{Outcome, Is, Steps, Calls, Faults, Waits, reduce, reduce_all, within, given, padded, chosen, set_at}
-use Rattle.shell_eval.specs.Code.{turned}
+use Rattle.shell_eval.specs.Code.{form_of}
 use Rattle.shell_eval.specs.Evaluate.{Call as CallEnd, Fault, goes_on, ended, evaluate}
-use Rattle.shell_eval.specs.Frames.{Frame, InWord, InUnary, OnLeft, OnRight, OnTurn, Over, AsCallee, AsArgument, over, before, plugged}
+use Rattle.shell_eval.specs.Frames.{Frame, InWord, InUnary, OnLeft, OnRight, OnLeftSide, Over, AsCallee, AsArgument, over, before, plugged}
 use Rattle.shell_eval.proofs.Smaller.{repeats}
 
 -- something is due
@@ -65,10 +65,10 @@ due_within w Waits around go h = refl
 part_within : {V T W U : Type 0} (w : W) (p r : Outcome V T) (around : T → U) (go : V → Outcome W U) → p ≡ r → IsDue r → within p around go ≡ mapped w around r
 part_within w p r around go e h = ap (λ q. within q around go) e ∙ due_within w r around go h
 
-one_round : (w : Turn) (s : State) (t b : Pending) (r : Outcome ℕ Pending) → reduce s t ≡ r → IsDue r → reduce s (turned w t b) ≡ mapped 0 (λ u. turned w u b) r
-one_round turns.All s t b r e h = part_within 0 (reduce s t) r (λ u. Choice All u b) (λ n. Steps s (chosen All n b)) e h
-one_round turns.Any s t b r e h = part_within 0 (reduce s t) r (λ u. Choice Any u b) (λ n. Steps s (chosen Any n b)) e h
-one_round (turns.Place aop) s t b r e h = part_within 0 (reduce s t) r (λ u. SetWord aop u b) (λ at. set_at s aop at b (reduce s b)) e h
+one_round : (w : LeftSide) (s : State) (t b : Pending) (r : Outcome ℕ Pending) → reduce s t ≡ r → IsDue r → reduce s (form_of w t b) ≡ mapped 0 (λ u. form_of w u b) r
+one_round sides.All s t b r e h = part_within 0 (reduce s t) r (λ u. Choice All u b) (λ n. Steps s (chosen All n b)) e h
+one_round sides.Any s t b r e h = part_within 0 (reduce s t) r (λ u. Choice Any u b) (λ n. Steps s (chosen Any n b)) e h
+one_round (sides.Place aop) s t b r e h = part_within 0 (reduce s t) r (λ u. SetWord aop u b) (λ at. set_at s aop at b (reduce s b)) e h
 
 right_round : (s : State) (o : BinOp) (m : ℕ) (t : Pending) (r : Outcome ℕ Pending) → reduce s t ≡ r → IsDue r → reduce s (Binary o (Number m) t) ≡ mapped 0 (Binary o (Number m)) r
 right_round s o m t r e h = part_within 0 (reduce s t) r (Binary o (Number m)) (λ n. given (combined s o m n)) e h
@@ -122,8 +122,8 @@ due_round (OnLeft o b ∷ fs) s t r e h =
 due_round (OnRight o n ∷ fs) s t r e h =
     let one : reduce s (Binary o (Number n) t) ≡ mapped 0 (Binary o (Number n)) r = right_round s o n t r e h in
     due_round fs s (Binary o (Number n) t) (mapped 0 (Binary o (Number n)) r) one (mapped_due 0 (Binary o (Number n)) r h) ∙ mapped_twice 0 0 (Binary o (Number n)) (plugged fs) r
-due_round (OnTurn w b ∷ fs) s t r e h =
-    let form : Pending → Pending = λ u. turned w u (begun b) in
+due_round (OnLeftSide w b ∷ fs) s t r e h =
+    let form : Pending → Pending = λ u. form_of w u (begun b) in
     due_round fs s (form t) (mapped 0 form r) (one_round w s t (begun b) r e h) (mapped_due 0 form r h) ∙ mapped_twice 0 0 form (plugged fs) r
 due_round (Over n ∷ fs) s t r e h =
     due_round fs s (over n t) (mapped 0 (over n) r) (over_round n s t r e h) (mapped_due 0 (over n) r h) ∙ mapped_twice 0 0 (over n) (plugged fs) r

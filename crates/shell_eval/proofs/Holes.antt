@@ -1,16 +1,16 @@
 -- A call's answer fills the one hole.
 use Rattle.std.proofs.Common.{◌≡◌, ℕ, ◌+◌, List, [], ◌∷◌, Option, Some, None, refl, ap, ◌∙◌, arith}
 use Rattle.shell_parse.specs.declared.tree.BinOp.{BinOp}
-use Rattle.shell_eval.specs.declared.code.Turn.{Turn}
-use Rattle.shell_eval.specs.declared.code.Turn.TheVariants as turns
+use Rattle.shell_eval.specs.declared.code.LeftSide.{LeftSide}
+use Rattle.shell_eval.specs.declared.code.LeftSide.TheVariants as sides
 use Rattle.shell_eval.specs.declared.code.Entry.{Entry}
 use Rattle.shell_eval.specs.declared.code.Entry.TheVariants as entries
 use Rattle.shell_parse.specs.Trees as trees
 use Rattle.shell_parse.specs.Trees.{PlainTree, Arguments}
 use Rattle.shell_eval.specs.Pending.{Pending, Number, Word, Unary, Binary, SetName, SetWord, Call, Args, Then, Logic, logic_of, two_sided, begun, begun_all, begun_expr, filled, filled_all}
 use Rattle.shell_eval.specs.Laws.{holes, holes_all, BegunLaw}
-use Rattle.shell_eval.specs.Code.{turned}
-use Rattle.shell_eval.specs.Frames.{Frame, InWord, InUnary, OnLeft, OnRight, OnTurn, Over, AsCallee, AsArgument, over, before, plugged}
+use Rattle.shell_eval.specs.Code.{form_of}
+use Rattle.shell_eval.specs.Frames.{Frame, InWord, InUnary, OnLeft, OnRight, OnLeftSide, Over, AsCallee, AsArgument, over, before, plugged}
 
 -- a tree of the grammar has no hole
 holes_two : (l : Option Logic) (o : BinOp) (a b : Pending) → holes (two_sided l o a b) ≡ holes a + holes b
@@ -47,10 +47,10 @@ holes_over (entries.Place at) t = omega arith
 holes_over (entries.Mixed o at w) t = omega arith
 holes_over (entries.Unknown x) t = refl
 
-holes_turned : (w : Turn) (a b : Pending) → holes (turned w a b) ≡ holes a + holes b
-holes_turned turns.All a b = refl
-holes_turned turns.Any a b = refl
-holes_turned (turns.Place aop) a b = refl
+holes_form : (w : LeftSide) (a b : Pending) → holes (form_of w a b) ≡ holes a + holes b
+holes_form sides.All a b = refl
+holes_form sides.Any a b = refl
+holes_form (sides.Place aop) a b = refl
 
 pub holes_round : (fs : List Frame) (t : Pending) → holes (plugged fs t) ≡ holes t
 holes_round [] t = refl
@@ -58,7 +58,7 @@ holes_round (InWord ∷ fs) t = holes_round fs (Word t)
 holes_round (InUnary o ∷ fs) t = holes_round fs (Unary o t)
 holes_round (OnLeft o b ∷ fs) t = holes_round fs (Binary o t (begun b)) ∙ (omega (arith, no_hole b))
 holes_round (OnRight o n ∷ fs) t = holes_round fs (Binary o (Number n) t) ∙ (omega arith)
-holes_round (OnTurn w b ∷ fs) t = holes_round fs (turned w t (begun b)) ∙ (omega (arith, holes_turned w t (begun b), no_hole b))
+holes_round (OnLeftSide w b ∷ fs) t = holes_round fs (form_of w t (begun b)) ∙ (omega (arith, holes_form w t (begun b), no_hole b))
 holes_round (Over e ∷ fs) t = holes_round fs (over e t) ∙ holes_over e t
 holes_round (AsCallee es ∷ fs) t = holes_round fs (Call t (begun_all es)) ∙ (omega (arith, no_holes es))
 holes_round (AsArgument callee vs es ∷ fs) t =
@@ -98,10 +98,10 @@ filled_over v (entries.Place at) t = refl
 filled_over v (entries.Mixed o at w) t = refl
 filled_over v (entries.Unknown x) t = refl
 
-filled_turned : (v : ℕ) (w : Turn) (a b : Pending) → filled v (turned w a b) ≡ turned w (filled v a) (filled v b)
-filled_turned v turns.All a b = refl
-filled_turned v turns.Any a b = refl
-filled_turned v (turns.Place aop) a b = refl
+filled_form : (v : ℕ) (w : LeftSide) (a b : Pending) → filled v (form_of w a b) ≡ form_of w (filled v a) (filled v b)
+filled_form v sides.All a b = refl
+filled_form v sides.Any a b = refl
+filled_form v (sides.Place aop) a b = refl
 
 -- an answer fills the part, and what is around it stays
 pub filled_round : (v : ℕ) (fs : List Frame) (t : Pending) → filled v (plugged fs t) ≡ plugged fs (filled v t)
@@ -110,8 +110,8 @@ filled_round v (InWord ∷ fs) t = filled_round v fs (Word t)
 filled_round v (InUnary o ∷ fs) t = filled_round v fs (Unary o t)
 filled_round v (OnLeft o b ∷ fs) t = filled_round v fs (Binary o t (begun b)) ∙ ap (λ c. plugged fs (Binary o (filled v t) c)) (same_filled v b)
 filled_round v (OnRight o n ∷ fs) t = filled_round v fs (Binary o (Number n) t)
-filled_round v (OnTurn w b ∷ fs) t =
-    filled_round v fs (turned w t (begun b)) ∙ (ap (plugged fs) (filled_turned v w t (begun b)) ∙ ap (λ c. plugged fs (turned w (filled v t) c)) (same_filled v b))
+filled_round v (OnLeftSide w b ∷ fs) t =
+    filled_round v fs (form_of w t (begun b)) ∙ (ap (plugged fs) (filled_form v w t (begun b)) ∙ ap (λ c. plugged fs (form_of w (filled v t) c)) (same_filled v b))
 filled_round v (Over e ∷ fs) t = filled_round v fs (over e t) ∙ ap (plugged fs) (filled_over v e t)
 filled_round v (AsCallee es ∷ fs) t = filled_round v fs (Call t (begun_all es)) ∙ ap (λ c. plugged fs (Call (filled v t) c)) (all_filled v es)
 filled_round v (AsArgument callee vs es ∷ fs) t =

@@ -1,7 +1,7 @@
 -- Code and entries show the tree around the part where they are.
 use Rattle.std.proofs.Common.{◌≡◌, ℕ, suc, List, [], ◌∷◌, length, Option, Some, None, refl, ap, ◌∙◌}
 use Rattle.shell_parse.specs.declared.tree.BinOp.{BinOp}
-use Rattle.shell_eval.specs.declared.code.Turn.TheVariants as turns
+use Rattle.shell_eval.specs.declared.code.LeftSide.TheVariants as sides
 use Rattle.shell_eval.specs.declared.code.Op.{Op}
 use Rattle.shell_eval.specs.declared.code.Op.TheVariants as op
 use Rattle.shell_eval.specs.declared.code.Entry.{Entry}
@@ -9,8 +9,8 @@ use Rattle.shell_eval.specs.declared.code.Entry.TheVariants as entries
 use Rattle.shell_parse.specs.Trees as trees
 use Rattle.shell_parse.specs.Trees.{PlainTree, Arguments}
 use Rattle.shell_eval.specs.Pending.{Pending, Number, Lone, Word, Unary, Binary, Choice, SetName, SetWord, Call, Args, End, Then, Logic, All, Any, logic_of, two_sided, begun, begun_all}
-use Rattle.shell_eval.specs.Code.{compiled, compiled_all, count_onto, turned, behind_left, Item, Whole, Left, item_of, items_of, shown, gathered, on_right}
-use Rattle.shell_eval.specs.Frames.{Frame, InWord, InUnary, OnLeft, OnRight, OnTurn, Over, AsCallee, AsArgument, Part, Source, Alone, Value, over, before, plugged, code_after, stack_under, words_onto, code_at, stack_at, part_tree}
+use Rattle.shell_eval.specs.Code.{compiled, compiled_all, count_onto, form_of, after_left, Item, Whole, Left, item_of, items_of, shown, gathered, on_right}
+use Rattle.shell_eval.specs.Frames.{Frame, InWord, InUnary, OnLeft, OnRight, OnLeftSide, Over, AsCallee, AsArgument, Part, Source, Alone, Value, over, before, plugged, code_after, stack_under, words_onto, code_at, stack_at, part_tree}
 
 -- arguments before others
 abbrev joined : Args → Args → Args
@@ -32,7 +32,7 @@ gathers (trees.Then e es) m st ds = gathers es (suc m) (Whole (begun e) ∷ st) 
 
 -- the code after the left operand makes the form of both
 shows_two : (l : Option Logic) (o : BinOp) (right : List Op → List Op) (k : List Op) (a b : Pending) (st : List Item) →
-    ((c : List Op) (ts : List Item) → shown (right c) ts ≡ shown c (Whole b ∷ ts)) → shown (behind_left l o right k) (Whole a ∷ st) ≡ shown k (Whole (two_sided l o a b) ∷ st)
+    ((c : List Op) (ts : List Item) → shown (right c) ts ≡ shown c (Whole b ∷ ts)) → shown (after_left l o right k) (Whole a ∷ st) ≡ shown k (Whole (two_sided l o a b) ∷ st)
 shows_two None o right k a b st h = h (op.Binary o ∷ k) (Whole a ∷ st)
 shows_two (Some All) o right k a b st h = h (op.Close ∷ k) (Left (Choice All a) ∷ st)
 shows_two (Some Any) o right k a b st h = h (op.Close ∷ k) (Left (Choice Any a) ∷ st)
@@ -46,11 +46,11 @@ mutual
   shows (trees.Word a) k st = shows a (op.Word ∷ k) st
   shows (trees.Unary o a) k st = shows a (op.Unary o ∷ k) st
   shows (trees.Binary o a b) k st =
-      shows a (behind_left (logic_of o) o (compiled b) k) st
+      shows a (after_left (logic_of o) o (compiled b) k) st
       ∙ shows_two (logic_of o) o (compiled b) k (begun a) (begun b) st (λ c ts. shows b c ts)
   shows (trees.SetName aop x e) k st = shows e (op.Close ∷ k) (Left (SetName aop x) ∷ st)
   shows (trees.SetWord aop a e) k st =
-      shows a (op.Turn (turns.Place aop) (length k) ∷ compiled e (op.Close ∷ k)) st ∙ shows e (op.Close ∷ k) (Left (SetWord aop (begun a)) ∷ st)
+      shows a (op.LeftSide (sides.Place aop) (length k) ∷ compiled e (op.Close ∷ k)) st ∙ shows e (op.Close ∷ k) (Left (SetWord aop (begun a)) ∷ st)
   shows (trees.Call f es) k st =
       shows f (compiled_all es (op.Call (count_onto es 0) ∷ k)) st
       ∙ (shows_all es (op.Call (count_onto es 0) ∷ k) (Whole (begun f) ∷ st)
@@ -78,7 +78,7 @@ shows_part (InWord ∷ fs) t = shows_part fs (Word t)
 shows_part (InUnary o ∷ fs) t = shows_part fs (Unary o t)
 shows_part (OnLeft o b ∷ fs) t = shows b (op.Binary o ∷ code_after fs) (Whole t ∷ items_of (stack_under fs)) ∙ shows_part fs (Binary o t (begun b))
 shows_part (OnRight o n ∷ fs) t = shows_part fs (Binary o (Number n) t)
-shows_part (OnTurn w b ∷ fs) t = shows b (op.Close ∷ code_after fs) (Left (turned w t) ∷ items_of (stack_under fs)) ∙ shows_part fs (turned w t (begun b))
+shows_part (OnLeftSide w b ∷ fs) t = shows b (op.Close ∷ code_after fs) (Left (form_of w t) ∷ items_of (stack_under fs)) ∙ shows_part fs (form_of w t (begun b))
 shows_part (Over e ∷ fs) t = ap (shown (code_after fs)) (closes e t (items_of (stack_under fs))) ∙ shows_part fs (over e t)
 shows_part (AsCallee es ∷ fs) t =
     shows_all es (op.Call (count_onto es 0) ∷ code_after fs) (Whole t ∷ items_of (stack_under fs))

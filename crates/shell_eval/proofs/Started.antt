@@ -24,15 +24,7 @@ first_of (trees.Expr t) = first_of_expr t
 
 expr_code : (t : PlainTree) → compiled_expr t ≡ code_at (first_of_expr t) []
 expr_code (trees.Name x) = refl
-expr_code (trees.Number n) = refl
-expr_code (trees.Str b) = refl
-expr_code (trees.Address x) = refl
-expr_code (trees.Word a) = refl
-expr_code (trees.Unary o a) = refl
-expr_code (trees.Binary o a b) = refl
-expr_code (trees.SetName aop x e) = refl
-expr_code (trees.SetWord aop a e) = refl
-expr_code (trees.Call f es) = refl
+expr_code t = refl
 
 first_code : (s : PlainStmt) → compiled_stmt s ≡ code_at (first_of s) []
 first_code trees.Nothing = refl
@@ -42,15 +34,7 @@ first_code (trees.Expr t) = expr_code t
 
 expr_stack : (t : PlainTree) → ◌≡◌ {A = List Entry} [] (stack_at (first_of_expr t) [])
 expr_stack (trees.Name x) = refl
-expr_stack (trees.Number n) = refl
-expr_stack (trees.Str b) = refl
-expr_stack (trees.Address x) = refl
-expr_stack (trees.Word a) = refl
-expr_stack (trees.Unary o a) = refl
-expr_stack (trees.Binary o a b) = refl
-expr_stack (trees.SetName aop x e) = refl
-expr_stack (trees.SetWord aop a e) = refl
-expr_stack (trees.Call f es) = refl
+expr_stack t = refl
 
 first_stack : (s : PlainStmt) → ◌≡◌ {A = List Entry} [] (stack_at (first_of s) [])
 first_stack trees.Nothing = refl
@@ -60,15 +44,7 @@ first_stack (trees.Expr t) = expr_stack t
 
 expr_tree : (t : PlainTree) → part_tree (first_of_expr t) ≡ begun_expr t
 expr_tree (trees.Name x) = refl
-expr_tree (trees.Number n) = refl
-expr_tree (trees.Str b) = refl
-expr_tree (trees.Address x) = refl
-expr_tree (trees.Word a) = refl
-expr_tree (trees.Unary o a) = refl
-expr_tree (trees.Binary o a b) = refl
-expr_tree (trees.SetName aop x e) = refl
-expr_tree (trees.SetWord aop a e) = refl
-expr_tree (trees.Call f es) = refl
+expr_tree t = refl
 
 first_tree : (s : PlainStmt) → part_tree (first_of s) ≡ begun_stmt s
 first_tree trees.Nothing = refl

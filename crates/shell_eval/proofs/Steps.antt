@@ -7,8 +7,8 @@ use Rattle.std.proofs.lemmas.Bool.{cases_lt, lt-ltb, le-ltb}
 use Rattle.shell_eval.specs.declared.fault.EvalFault.TheVariants.{Undefined, AccessAt}
 use Rattle.shell_parse.specs.declared.tree.BinOp.{BinOp}
 use Rattle.shell_parse.specs.declared.tree.BinOp.TheVariants as ops
-use Rattle.shell_eval.specs.declared.code.Turn.{Turn}
-use Rattle.shell_eval.specs.declared.code.Turn.TheVariants as turns
+use Rattle.shell_eval.specs.declared.code.LeftSide.{LeftSide}
+use Rattle.shell_eval.specs.declared.code.LeftSide.TheVariants as sides
 use Rattle.shell_eval.specs.declared.code.Op.{Op}
 use Rattle.shell_eval.specs.declared.code.Op.TheVariants as op
 use Rattle.shell_eval.specs.declared.code.Entry.{Entry}
@@ -27,9 +27,9 @@ use Rattle.shell_eval.specs.Pending.{Pending, Number, Str, Name, Lone, Address, 
 use Rattle.shell_eval.specs.Reduce.{Is, Steps, Calls, Faults, reduce, reduce_all, within, given, padded, decides, lone_by, kind_or_data, old_read, resolved, left_by}
 use Rattle.shell_eval.specs.Evaluate.{ended, evaluate}
 use Rattle.shell_eval.specs.Evaluate.{Call as CallEnd}
-use Rattle.shell_eval.specs.Code.{compiled, turned, behind_left}
-use Rattle.shell_eval.specs.Machine.{Fails, Moved, Ends, Goes, Makes, Stops, onward, top_word, below, pushes, argument, arguments, asks, alone_by, mixes, places, left_effect, turn_step, mixed_effect, close_effect, move}
-use Rattle.shell_eval.specs.Frames.{Frame, InWord, InUnary, OnLeft, OnRight, OnTurn, Over, AsCallee, AsArgument, Part, Source, Alone, Value, over, before, plugged, code_after, stack_under, words_onto, code_at, stack_at, part_tree, Stands}
+use Rattle.shell_eval.specs.Code.{compiled, form_of, after_left}
+use Rattle.shell_eval.specs.Machine.{Fails, Moved, Ends, Goes, Makes, Stops, onward, top_word, below, pushes, argument, arguments, asks, alone_by, mixes, places, left_effect, side_step, mixed_effect, close_effect, move}
+use Rattle.shell_eval.specs.Frames.{Frame, InWord, InUnary, OnLeft, OnRight, OnLeftSide, Over, AsCallee, AsArgument, Part, Source, Alone, Value, over, before, plugged, code_after, stack_under, words_onto, code_at, stack_at, part_tree, Stands}
 use Rattle.shell_eval.specs.Follows.{tree_of, tree_with_hole, Goes_on, Comes_to_call, Follows}
 use Rattle.shell_eval.proofs.Shown.{shows_at, shows_part}
 use Rattle.shell_eval.proofs.Smaller.{repeats}
@@ -107,10 +107,10 @@ alone_follows None k fs s x t h = to_given fs s t (name_word s x) h
 -- what the code of a tree begins with
 two_follow : (l : Option Logic) (fs : List Frame) (s : State) (o : BinOp) (a b : PlainTree) →
     ((gs : List Frame) → Follows s (plugged gs (begun a)) (move s (compiled a (code_after gs)) (stack_under gs))) →
-    Follows s (plugged fs (two_sided l o (begun a) (begun b))) (move s (compiled a (behind_left l o (compiled b) (code_after fs))) (stack_under fs))
+    Follows s (plugged fs (two_sided l o (begun a) (begun b))) (move s (compiled a (after_left l o (compiled b) (code_after fs))) (stack_under fs))
 two_follow None fs s o a b go = go (OnLeft o b ∷ fs)
-two_follow (Some All) fs s o a b go = go (OnTurn turns.All b ∷ fs)
-two_follow (Some Any) fs s o a b go = go (OnTurn turns.Any b ∷ fs)
+two_follow (Some All) fs s o a b go = go (OnLeftSide sides.All b ∷ fs)
+two_follow (Some Any) fs s o a b go = go (OnLeftSide sides.Any b ∷ fs)
 
 source_follows : (t : PlainTree) (fs : List Frame) (s : State) → Follows s (plugged fs (begun t)) (move s (compiled t (code_after fs)) (stack_under fs))
 source_follows (trees.Number n) fs s = goes s (plugged fs (Number n)) s (Value n) fs refl
@@ -121,7 +121,7 @@ source_follows (trees.Word a) fs s = source_follows a (InWord ∷ fs) s
 source_follows (trees.Unary o a) fs s = source_follows a (InUnary o ∷ fs) s
 source_follows (trees.Binary o a b) fs s = two_follow (logic_of o) fs s o a b (λ gs. source_follows a gs s)
 source_follows (trees.SetName aop x e) fs s = left_follows (find s.symbols x) fs s aop x e (SetName aop x (begun e)) refl
-source_follows (trees.SetWord aop a e) fs s = source_follows a (OnTurn (turns.Place aop) e ∷ fs) s
+source_follows (trees.SetWord aop a e) fs s = source_follows a (OnLeftSide (sides.Place aop) e ∷ fs) s
 source_follows (trees.Call f es) fs s = source_follows f (AsCallee es ∷ fs) s
 
 -- the arguments of a call, the last first, in their order
@@ -142,12 +142,12 @@ found_back : (vs ws : List ℕ) (p : ℕ) → length vs ≤ p → slice_index (i
 found_back [] ws p h = let e : p ≡ p - 0 = omega arith in ap (slice_index ws) e
 found_back (v ∷ vs) ws p h = let e : p - length vs ≡ suc (p - suc (length vs)) = omega arith in found_back vs (v ∷ ws) p (omega arith) ∙ ap (slice_index (v ∷ ws)) e
 
-found_front : (vs ws : List ℕ) (st : List Entry) (p : ℕ) → p < length vs → slice_index (in_order vs ws) p ≡ top_word (drop (length vs - 1 - p) (words_onto vs st))
-found_front [] ws st p h = absurd (omega arith)
-found_front (v ∷ vs) ws st p h = elim (cases_lt p (length vs)) [
+found_in_prefix : (vs ws : List ℕ) (st : List Entry) (p : ℕ) → p < length vs → slice_index (in_order vs ws) p ≡ top_word (drop (length vs - 1 - p) (words_onto vs st))
+found_in_prefix [] ws st p h = absurd (omega arith)
+found_in_prefix (v ∷ vs) ws st p h = elim (cases_lt p (length vs)) [
   | inl l ↦
       let e : suc (length vs) - 1 - p ≡ suc (length vs - 1 - p) = omega arith in
-      found_front vs (v ∷ ws) st p l ∙ sym (ap (λ k. top_word (drop k (entries.Word v ∷ words_onto vs st))) e)
+      found_in_prefix vs (v ∷ ws) st p l ∙ sym (ap (λ k. top_word (drop k (entries.Word v ∷ words_onto vs st))) e)
   | inr g ↦
       let e : p - length vs ≡ 0 = omega arith in
       let d : suc (length vs) - 1 - p ≡ 0 = omega arith in
@@ -156,7 +156,7 @@ found_front (v ∷ vs) ws st p h = elim (cases_lt p (length vs)) [
 
 argument_is : (vs : List ℕ) (st : List Entry) (p : ℕ) → argument (length vs) (words_onto vs st) p ≡ slice_index (in_order vs []) p
 argument_is vs st p = elim (cases_lt p (length vs)) [
-  | inl h ↦ ap (λ b. if b then top_word (drop (length vs - 1 - p) (words_onto vs st)) else 0) (lt-ltb p (length vs) h) ∙ sym (found_front vs [] st p h)
+  | inl h ↦ ap (λ b. if b then top_word (drop (length vs - 1 - p) (words_onto vs st)) else 0) (lt-ltb p (length vs) h) ∙ sym (found_in_prefix vs [] st p h)
   | inr g ↦ ap (λ b. if b then top_word (drop (length vs - 1 - p) (words_onto vs st)) else 0) (le-ltb p (length vs) g) ∙ sym (found_back vs [] p g)
 ]
 
@@ -189,12 +189,12 @@ decided false fs s b n t h c e =
     subst (λ d. Goes_on s (plugged fs t) s d (entries.Truth ∷ stack_under fs)) (sym e)
     (goes s (plugged fs t) s (Source b) (Over entries.Truth ∷ fs) (stepped fs s t s (Binary ops.Ne (begun b) (Number 0)) h))
 
-turn_follows : (w : Turn) (fs : List Frame) (s : State) (b : PlainTree) (n : ℕ) →
-    Follows s (plugged fs (turned w (Number n) (begun b))) (turn_step s w (length (code_after fs)) n (compiled b (op.Close ∷ code_after fs)) (stack_under fs))
-turn_follows turns.All fs s b n = decided (decides All n) fs s b (bit (not (n == 0))) (Choice All (Number n) (begun b)) refl (compiled b (op.Close ∷ code_after fs)) refl
-turn_follows turns.Any fs s b n = decided (decides Any n) fs s b (bit (not (n == 0))) (Choice Any (Number n) (begun b)) refl (compiled b (op.Close ∷ code_after fs)) refl
-turn_follows (turns.Place None) fs s b n = goes s (plugged fs (SetWord None (Number n) (begun b))) s (Source b) (Over (entries.Place n) ∷ fs) refl
-turn_follows (turns.Place (Some o)) fs s b n = places_follow fs s (Some o) n b (SetWord (Some o) (Number n) (begun b)) refl
+side_follows : (w : LeftSide) (fs : List Frame) (s : State) (b : PlainTree) (n : ℕ) →
+    Follows s (plugged fs (form_of w (Number n) (begun b))) (side_step s w (length (code_after fs)) n (compiled b (op.Close ∷ code_after fs)) (stack_under fs))
+side_follows sides.All fs s b n = decided (decides All n) fs s b (bit (not (n == 0))) (Choice All (Number n) (begun b)) refl (compiled b (op.Close ∷ code_after fs)) refl
+side_follows sides.Any fs s b n = decided (decides Any n) fs s b (bit (not (n == 0))) (Choice Any (Number n) (begun b)) refl (compiled b (op.Close ∷ code_after fs)) refl
+side_follows (sides.Place None) fs s b n = goes s (plugged fs (SetWord None (Number n) (begun b))) s (Source b) (Over (entries.Place n) ∷ fs) refl
+side_follows (sides.Place (Some o)) fs s b n = places_follow fs s (Some o) n b (SetWord (Some o) (Number n) (begun b)) refl
 
 mixed_follows : (r : Tried) (fs : List Frame) (s : State) (at : ℕ) (t : Pending) → reduce s t ≡ given r →
     Follows s (plugged fs (SetWord None (Number at) t)) (onward (code_after fs) (mixed_effect s at r (stack_under fs)))
@@ -226,7 +226,7 @@ value_follows n (InWord ∷ fs) s = to_given fs s (Word (Number n)) (word_read s
 value_follows n (InUnary o ∷ fs) s = to_value fs s (Unary o (Number n)) s (before_word o n) refl
 value_follows n (OnLeft o b ∷ fs) s = source_follows b (OnRight o n ∷ fs) s
 value_follows n (OnRight o m ∷ fs) s = to_given fs s (Binary o (Number m) (Number n)) (combined s o m n) refl
-value_follows n (OnTurn w b ∷ fs) s = turn_follows w fs s b n
+value_follows n (OnLeftSide w b ∷ fs) s = side_follows w fs s b n
 value_follows n (Over e ∷ fs) s = close_follows e fs s n
 value_follows n (AsCallee trees.End ∷ fs) s = call_follows [] fs s n
 value_follows n (AsCallee (trees.Then e es) ∷ fs) s = source_follows e (AsArgument n [] es ∷ fs) s

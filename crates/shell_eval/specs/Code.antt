@@ -2,8 +2,8 @@
 use Rattle.std.specs.Prelude.{ℕ, zero, suc, List, [], ◌∷◌, length, Option, Some, None, codes}
 use Rattle.shell_parse.specs.declared.tree.BinOp.{BinOp}
 use Rattle.shell_parse.specs.declared.tree.BinOp.TheVariants as ops
-use Rattle.shell_eval.specs.declared.code.Turn.{Turn}
-use Rattle.shell_eval.specs.declared.code.Turn.TheVariants as turns
+use Rattle.shell_eval.specs.declared.code.LeftSide.{LeftSide}
+use Rattle.shell_eval.specs.declared.code.LeftSide.TheVariants as sides
 use Rattle.shell_eval.specs.declared.code.Op.{Op}
 use Rattle.shell_eval.specs.declared.code.Op.TheVariants as op
 use Rattle.shell_eval.specs.declared.code.Entry.{Entry}
@@ -13,9 +13,9 @@ use Rattle.shell_parse.specs.Trees.{PlainTree, Arguments, PlainStmt}
 use Rattle.shell_eval.specs.Pending.{Pending, Number, Str, Name, Lone, Address, Word, Unary, Binary, Choice, SetName, SetWord, New, Call, Args, End, Then, Logic, All, Any, logic_of}
 
 -- how the left side of `&&` or `||` acts
-abbrev pub turn_of : Logic → Turn
-turn_of All = turns.All
-turn_of Any = turns.Any
+abbrev pub side_of : Logic → LeftSide
+side_of All = sides.All
+side_of Any = sides.Any
 
 -- how many arguments there are, counted from m
 abbrev pub count_onto : Arguments → ℕ → ℕ
@@ -23,9 +23,9 @@ count_onto trees.End m = m
 count_onto (trees.Then e es) m = count_onto es (suc m)
 
 -- the code after the left operand
-abbrev pub behind_left : Option Logic → BinOp → (List Op → List Op) → List Op → List Op
-behind_left None o right k = right (op.Binary o ∷ k)
-behind_left (Some w) o right k = op.Turn (turn_of w) (length k) ∷ right (op.Close ∷ k)
+abbrev pub after_left : Option Logic → BinOp → (List Op → List Op) → List Op → List Op
+after_left None o right k = right (op.Binary o ∷ k)
+after_left (Some w) o right k = op.LeftSide (side_of w) (length k) ∷ right (op.Close ∷ k)
 
 -- the code of a tree, followed by this code
 abbrev mutual
@@ -36,9 +36,9 @@ abbrev mutual
   compiled (trees.Address x) k = op.Address x ∷ k
   compiled (trees.Word a) k = compiled a (op.Word ∷ k)
   compiled (trees.Unary o a) k = compiled a (op.Unary o ∷ k)
-  compiled (trees.Binary o a b) k = compiled a (behind_left (logic_of o) o (compiled b) k)
+  compiled (trees.Binary o a b) k = compiled a (after_left (logic_of o) o (compiled b) k)
   compiled (trees.SetName aop x e) k = op.Left aop x ∷ compiled e (op.Close ∷ k)
-  compiled (trees.SetWord aop a e) k = compiled a (op.Turn (turns.Place aop) (length k) ∷ compiled e (op.Close ∷ k))
+  compiled (trees.SetWord aop a e) k = compiled a (op.LeftSide (sides.Place aop) (length k) ∷ compiled e (op.Close ∷ k))
   compiled (trees.Call f es) k = compiled f (compiled_all es (op.Call (count_onto es 0) ∷ k))
 
   pub compiled_all : Arguments → List Op → List Op
@@ -76,10 +76,10 @@ items_of [] = []
 items_of (e ∷ es) = item_of e ∷ items_of es
 
 -- the form that a left side begins
-abbrev pub turned : Turn → Pending → Pending → Pending
-turned turns.All a b = Choice All a b
-turned turns.Any a b = Choice Any a b
-turned (turns.Place aop) a b = SetWord aop a b
+abbrev pub form_of : LeftSide → Pending → Pending → Pending
+form_of sides.All a b = Choice All a b
+form_of sides.Any a b = Choice Any a b
+form_of (sides.Place aop) a b = SetWord aop a b
 
 -- the tree on top, put into a form
 abbrev pub on_one : (Pending → Pending) → List Item → List Item
@@ -92,8 +92,8 @@ on_two f (Whole b ∷ Whole a ∷ st) = Whole (f a b) ∷ st
 on_two f st = st
 
 -- the tree on top becomes a left side
-abbrev pub on_left : Turn → List Item → List Item
-on_left w (Whole a ∷ st) = Left (turned w a) ∷ st
+abbrev pub on_left : LeftSide → List Item → List Item
+on_left w (Whole a ∷ st) = Left (form_of w a) ∷ st
 on_left w st = st
 
 -- the tree on top becomes the right side of the form below, or replaces the tree below
@@ -120,7 +120,7 @@ shown (op.Address x ∷ c) st = shown c (Whole (Address x) ∷ st)
 shown (op.Word ∷ c) st = shown c (on_one Word st)
 shown (op.Unary o ∷ c) st = shown c (on_one (Unary o) st)
 shown (op.Binary o ∷ c) st = shown c (on_two (Binary o) st)
-shown (op.Turn w keep ∷ c) st = shown c (on_left w st)
+shown (op.LeftSide w keep ∷ c) st = shown c (on_left w st)
 shown (op.Left aop x ∷ c) st = shown c (Left (SetName aop x) ∷ st)
 shown (op.Close ∷ c) st = shown c (on_right st)
 shown (op.Call n ∷ c) st = shown c (gathered n st End)

@@ -3,14 +3,14 @@ use Rattle.std.specs.Prelude.{◌≡◌, ℕ, suc, List, [], ◌∷◌, length, 
 use Rattle.shell_parse.specs.declared.tree.BinOp.{BinOp}
 use Rattle.shell_parse.specs.declared.tree.BinOp.TheVariants as ops
 use Rattle.shell_parse.specs.declared.tree.UnOp.{UnOp}
-use Rattle.shell_eval.specs.declared.code.Turn.{Turn}
+use Rattle.shell_eval.specs.declared.code.LeftSide.{LeftSide}
 use Rattle.shell_eval.specs.declared.code.Op.{Op}
 use Rattle.shell_eval.specs.declared.code.Op.TheVariants as op
 use Rattle.shell_eval.specs.declared.code.Entry.{Entry}
 use Rattle.shell_eval.specs.declared.code.Entry.TheVariants as entries
 use Rattle.shell_parse.specs.Trees.{PlainTree, Arguments}
 use Rattle.shell_eval.specs.Pending.{Pending, Number, Lone, Word, Unary, Binary, SetWord, New, Call, Args, Then, begun, begun_all}
-use Rattle.shell_eval.specs.Code.{compiled, compiled_all, count_onto, turned}
+use Rattle.shell_eval.specs.Code.{compiled, compiled_all, count_onto, form_of}
 
 -- what is around the part: an operator before it; an operator whose right side is still to come, or whose left
 -- value is known;
@@ -22,7 +22,7 @@ pub data Frame : Type 0 where
   InUnary : UnOp → Frame
   OnLeft : BinOp → PlainTree → Frame
   OnRight : BinOp → ℕ → Frame
-  OnTurn : Turn → PlainTree → Frame
+  OnLeftSide : LeftSide → PlainTree → Frame
   Over : Entry → Frame
   AsCallee : Arguments → Frame
   AsArgument : ℕ → List ℕ → Arguments → Frame
@@ -47,7 +47,7 @@ plugged (InWord ∷ fs) t = plugged fs (Word t)
 plugged (InUnary o ∷ fs) t = plugged fs (Unary o t)
 plugged (OnLeft o b ∷ fs) t = plugged fs (Binary o t (begun b))
 plugged (OnRight o n ∷ fs) t = plugged fs (Binary o (Number n) t)
-plugged (OnTurn w b ∷ fs) t = plugged fs (turned w t (begun b))
+plugged (OnLeftSide w b ∷ fs) t = plugged fs (form_of w t (begun b))
 plugged (Over e ∷ fs) t = plugged fs (over e t)
 plugged (AsCallee es ∷ fs) t = plugged fs (Call t (begun_all es))
 plugged (AsArgument callee vs es ∷ fs) t = plugged fs (Call (Number callee) (before vs (Then t (begun_all es))))
@@ -59,7 +59,7 @@ code_after (InWord ∷ fs) = op.Word ∷ code_after fs
 code_after (InUnary o ∷ fs) = op.Unary o ∷ code_after fs
 code_after (OnLeft o b ∷ fs) = compiled b (op.Binary o ∷ code_after fs)
 code_after (OnRight o n ∷ fs) = op.Binary o ∷ code_after fs
-code_after (OnTurn w b ∷ fs) = op.Turn w (length (code_after fs)) ∷ compiled b (op.Close ∷ code_after fs)
+code_after (OnLeftSide w b ∷ fs) = op.LeftSide w (length (code_after fs)) ∷ compiled b (op.Close ∷ code_after fs)
 code_after (Over e ∷ fs) = op.Close ∷ code_after fs
 code_after (AsCallee es ∷ fs) = compiled_all es (op.Call (count_onto es 0) ∷ code_after fs)
 code_after (AsArgument callee vs es ∷ fs) = compiled_all es (op.Call (count_onto es (suc (length vs))) ∷ code_after fs)
@@ -76,7 +76,7 @@ stack_under (InWord ∷ fs) = stack_under fs
 stack_under (InUnary o ∷ fs) = stack_under fs
 stack_under (OnLeft o b ∷ fs) = stack_under fs
 stack_under (OnRight o n ∷ fs) = entries.Word n ∷ stack_under fs
-stack_under (OnTurn w b ∷ fs) = stack_under fs
+stack_under (OnLeftSide w b ∷ fs) = stack_under fs
 stack_under (Over e ∷ fs) = e ∷ stack_under fs
 stack_under (AsCallee es ∷ fs) = stack_under fs
 stack_under (AsArgument callee vs es ∷ fs) = words_onto vs (entries.Word callee ∷ stack_under fs)

@@ -34,26 +34,26 @@ pub record Keeps (old new : State) : Type 0 where
 
 -- the total length in bytes of the announcements of a tree's assignments
 abbrev mutual
-  pub told : Pending → ℕ
-  told (Number n) = 0
-  told (Str text) = 0
-  told (Name x) = 0
-  told (Lone x) = 0
-  told (Address x) = 0
-  told (Word a) = told a
-  told (Unary op a) = told a
-  told (Binary op a b) = told a + told b
-  told (Choice w a b) = told a + told b
-  told (SetName None x e) = told e + length (announcement x)
-  told (SetName (Some op) x e) = told e
-  told (SetWord aop a e) = told a + told e
-  told (New x e) = told e + length (announcement x)
-  told (Call f es) = told f + told_all es
-  told Hole = 0
+  pub announced : Pending → ℕ
+  announced (Number n) = 0
+  announced (Str text) = 0
+  announced (Name x) = 0
+  announced (Lone x) = 0
+  announced (Address x) = 0
+  announced (Word a) = announced a
+  announced (Unary op a) = announced a
+  announced (Binary op a b) = announced a + announced b
+  announced (Choice w a b) = announced a + announced b
+  announced (SetName None x e) = announced e + length (announcement x)
+  announced (SetName (Some op) x e) = announced e
+  announced (SetWord aop a e) = announced a + announced e
+  announced (New x e) = announced e + length (announcement x)
+  announced (Call f es) = announced f + announced_all es
+  announced Hole = 0
 
-  pub told_all : Args → ℕ
-  told_all End = 0
-  told_all (Then e es) = told e + told_all es
+  pub announced_all : Args → ℕ
+  announced_all End = 0
+  announced_all (Then e es) = announced e + announced_all es
 
 -- evaluation keeps this if the pool is inside RAM
 abbrev pub KeepsLaw : Type 0
@@ -61,4 +61,4 @@ KeepsLaw = (s : State) (p : Pending) → IsPoolInRam s → Keeps s (evaluate s p
 
 -- and writes no more than the announcements
 abbrev pub OutputLaw : Type 0
-OutputLaw = (s : State) (p : Pending) → IsPoolInRam s → length (evaluate s p).state.output ≤ length s.output + told p
+OutputLaw = (s : State) (p : Pending) → IsPoolInRam s → length (evaluate s p).state.output ≤ length s.output + announced p

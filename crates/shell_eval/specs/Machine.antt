@@ -2,8 +2,8 @@
 use Rattle.std.specs.Prelude.{ℕ, ◌-◌, Bool, ◌==◌, not, if◌then◌else◌, List, [], ◌∷◌, length, map, drop, Option, Some, None, Ok, Err, nat_lt}
 use Rattle.std.specs.List.{range_with_len}
 use Rattle.shell_parse.specs.declared.tree.BinOp.{BinOp}
-use Rattle.shell_eval.specs.declared.code.Turn.{Turn}
-use Rattle.shell_eval.specs.declared.code.Turn.TheVariants as turns
+use Rattle.shell_eval.specs.declared.code.LeftSide.{LeftSide}
+use Rattle.shell_eval.specs.declared.code.LeftSide.TheVariants as sides
 use Rattle.shell_eval.specs.declared.code.Op.{Op}
 use Rattle.shell_eval.specs.declared.code.Op.TheVariants as op
 use Rattle.shell_eval.specs.declared.code.Entry.{Entry}
@@ -117,10 +117,10 @@ decides_step s decided keep n c st =
     if decided then Goes s (drop (length c - keep) c) (entries.Word (bit (not (n == 0))) ∷ st) else Goes s c (entries.Truth ∷ st)
 
 -- a left side, by its value
-abbrev pub turn_step : State → Turn → ℕ → ℕ → List Op → List Entry → Moved
-turn_step s turns.All keep n c st = decides_step s (decides All n) keep n c st
-turn_step s turns.Any keep n c st = decides_step s (decides Any n) keep n c st
-turn_step s (turns.Place aop) keep n c st = onward c (places s aop n st)
+abbrev pub side_step : State → LeftSide → ℕ → ℕ → List Op → List Entry → Moved
+side_step s sides.All keep n c st = decides_step s (decides All n) keep n c st
+side_step s sides.Any keep n c st = decides_step s (decides Any n) keep n c st
+side_step s (sides.Place aop) keep n c st = onward c (places s aop n st)
 
 -- what an operation does
 abbrev pub op_step : State → Op → List Op → List Entry → Moved
@@ -132,7 +132,7 @@ op_step s (op.Address x) c st = onward c (pushes s (name_value s x) st)
 op_step s op.Word c st = onward c (pushes s (word_read s (top_word st)) (below st))
 op_step s (op.Unary o) c st = Goes s c (entries.Word (before_word o (top_word st)) ∷ below st)
 op_step s (op.Binary o) c st = onward c (pushes s (combined s o (top_word (below st)) (top_word st)) (below (below st)))
-op_step s (op.Turn w keep) c st = turn_step s w keep (top_word st) c (below st)
+op_step s (op.LeftSide w keep) c st = side_step s w keep (top_word st) c (below st)
 op_step s (op.Left aop x) c st = onward c (left_effect s aop x (find s.symbols x) st)
 op_step s op.Close c st = onward c (close_effect s (top_word st) (top_entry (below st)) (below (below st)))
 op_step s (op.Call n) c st = onward c (asks s n st)

@@ -10,7 +10,7 @@ use wind_base::{Name, NoMemory};
 
 /// How a left side acts before its right side runs.
 #[derive(Clone, Copy, Debug, PartialEq, Eq)]
-pub enum Turn {
+pub enum LeftSide {
     /// It decides if it is 0: `&&`.
     All,
     /// It decides if it isn't 0: `||`.
@@ -39,7 +39,7 @@ pub enum Op {
     /// Replaces two operands by the value of the operator.
     Binary(BinOp),
     /// Takes a left side. If it decides, only this many of the last operations stay.
-    Turn(Turn, usize),
+    LeftSide(LeftSide, usize),
     /// Looks up the name of an assignment.
     Left(Option<BinOp>, Name),
     /// Pushes the value of the form that a left side began; its right side is on top.

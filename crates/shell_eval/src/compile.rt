@@ -3,9 +3,9 @@
 ghost use Rattle.std.specs.Prelude.{◌≡◌, ◌∷◌, ◌<◌, ◌≤◌, ◌+◌, length, [], IfOk, OnOk, option_map};
 ghost use Rattle.shell_parse.specs.Trees.{plain_tree, plain_arguments, plain_stmt, Load};
 ghost use Rattle.shell_eval.specs.Pending.{logic_of};
-ghost use Rattle.shell_eval.specs.Code.{compiled, compiled_all, compiled_stmt, compiled_expr, behind_left, turn_of as turn_of_lem, count_onto};
+ghost use Rattle.shell_eval.specs.Code.{compiled, compiled_all, compiled_stmt, compiled_expr, after_left, side_of as side_of_lem, count_onto};
 
-use crate::code::{Code, Op, Text, Turn};
+use crate::code::{Code, LeftSide, Op, Text};
 use shell_parse::{BinOp, Stmt, Tree};
 use std::alloc::Global;
 use wind_base::{Name, NoMemory};
@@ -21,27 +21,27 @@ fn copied(alloc: Global, name: &Name) -> Result<Name, NoMemory>
 }
 
 // How an operator that may skip its right side treats its left side.
-fn turn_of(op: BinOp) -> Option<Turn>
-    ensures { result ≡ option_map turn_of_lem (logic_of op) }
+fn side_of(op: BinOp) -> Option<LeftSide>
+    ensures { result ≡ option_map side_of_lem (logic_of op) }
 {
     match op {
-        BinOp::OrElse => Some(Turn::Any),
-        BinOp::AndAlso => Some(Turn::All),
+        BinOp::OrElse => Some(LeftSide::Any),
+        BinOp::AndAlso => Some(LeftSide::All),
         _ => None,
     }
 }
 
 // The code after the left operand.
 #[cycle(emit)]
-fn emit_behind(code: &mut Code, alloc: Global, op: BinOp, right: &Tree) -> Result<(), NoMemory>
-    ensures { OnOk result (code.new ≡ behind_left (logic_of op) op (compiled (plain_tree right.now)) code.old) }
+fn emit_after(code: &mut Code, alloc: Global, op: BinOp, right: &Tree) -> Result<(), NoMemory>
+    ensures { OnOk result (code.new ≡ after_left (logic_of op) op (compiled (plain_tree right.now)) code.old) }
 {
-    match turn_of(op) {
-        Some(turn) => {
+    match side_of(op) {
+        Some(side) => {
             let keep = code.len();
             code.push(Op::Close)?;
             emit(code, alloc, right)?;
-            code.push(Op::Turn(turn, keep))
+            code.push(Op::LeftSide(side, keep))
         }
         None => {
             code.push(Op::Binary(op))?;
@@ -59,12 +59,12 @@ fn emit_place(
     right: &Tree,
 ) -> Result<(), NoMemory>
     ensures { OnOk result (code.new
-        ≡ Op.Turn (Turn.Place aop) (length code.old) ∷ compiled (plain_tree right.now) (Op.Close ∷ code.old)) }
+        ≡ Op.LeftSide (LeftSide.Place aop) (length code.old) ∷ compiled (plain_tree right.now) (Op.Close ∷ code.old)) }
 {
     let keep = code.len();
     code.push(Op::Close)?;
     emit(code, alloc, right)?;
-    code.push(Op::Turn(Turn::Place(aop), keep))
+    code.push(Op::LeftSide(LeftSide::Place(aop), keep))
 }
 
 // The code of a tree, put before other code.
@@ -86,7 +86,7 @@ fn emit(code: &mut Code, alloc: Global, tree: &Tree) -> Result<(), NoMemory>
             emit(code, alloc, a)
         }
         Tree::Binary(op, a, b) => {
-            emit_behind(code, alloc, *op, b)?;
+            emit_after(code, alloc, *op, b)?;
             emit(code, alloc, a)
         }
         Tree::SetName(aop, name, e) => {

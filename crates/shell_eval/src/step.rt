@@ -7,10 +7,10 @@ ghost use Rattle.ppc_core.specs.Words.{bit};
 ghost use Rattle.symbol_table.specs.Newest.{find};
 ghost use Rattle.shell_eval.specs.State.{State};
 ghost use Rattle.shell_eval.specs.Seen.{seen, SameEnv, SameSize, KeptParts, Ready, most_announced};
-ghost use Rattle.shell_eval.specs.Machine.{pushes, places, left_effect, decides_step, turn_step, mixed_effect, close_effect, alone as alone_lem, asks, op_step, argument as argument_lem, top_word, top_entry, below};
+ghost use Rattle.shell_eval.specs.Machine.{pushes, places, left_effect, decides_step, side_step, mixed_effect, close_effect, alone as alone_lem, asks, op_step, argument as argument_lem, top_word, top_entry, below};
 ghost use Rattle.shell_eval.specs.Moved.{attempt, effect_of, moved, held};
 
-use crate::code::{Code, Entry, Op, Stack, Turn, take_word};
+use crate::code::{Code, Entry, LeftSide, Op, Stack, take_word};
 use crate::env::Env;
 use crate::fault::EvalFault;
 use crate::operators::{before, combine};
@@ -127,10 +127,16 @@ fn decide(code: &mut Code, stack: &mut Stack, decides: bool, n: u32, keep: usize
 }
 
 // Takes a left side.
-fn turned(env: &mut Env<'_>, code: &mut Code, stack: &mut Stack, turn: Turn, keep: usize) -> Stepped
+fn take_left_side(
+    env: &mut Env<'_>,
+    code: &mut Code,
+    stack: &mut Stack,
+    side: LeftSide,
+    keep: usize,
+) -> Stepped
     requires { 0 < stack.old.room }
     ensures stepped { moved result (seen ⟦<dyn Device as Device>⟧ env.new) code.new stack.new.list
-        ≡ turn_step (seen ⟦<dyn Device as Device>⟧ env.old) turn keep (top_word stack.old.list) code.old
+        ≡ side_step (seen ⟦<dyn Device as Device>⟧ env.old) side keep (top_word stack.old.list) code.old
         (below stack.old.list) }
     ensures room { stack.old.room + held result ≤ stack.new.room + 1 }
     ensures code { length code.new ≤ length code.old }
@@ -139,10 +145,10 @@ fn turned(env: &mut Env<'_>, code: &mut Code, stack: &mut Stack, turn: Turn, kee
     ensures size { SameSize env.old env.new }
 {
     let n = take_word(stack);
-    match turn {
-        Turn::All => decide(code, stack, n == 0, n, keep),
-        Turn::Any => decide(code, stack, n != 0, n, keep),
-        Turn::Place(aop) => place(env, stack, aop, n),
+    match side {
+        LeftSide::All => decide(code, stack, n == 0, n, keep),
+        LeftSide::Any => decide(code, stack, n != 0, n, keep),
+        LeftSide::Place(aop) => place(env, stack, aop, n),
     }
 }
 
@@ -294,7 +300,7 @@ pub(crate) fn step(op: Op, code: &mut Code, stack: &mut Stack, env: &mut Env<'_>
             let a = take_word(stack);
             put_word(stack, combine(op, a, b))
         }
-        Op::Turn(turn, keep) => turned(env, code, stack, turn, keep),
+        Op::LeftSide(side, keep) => take_left_side(env, code, stack, side, keep),
         Op::Left(aop, name) => left(env, stack, aop, name),
         Op::Close => closed(env, stack),
         Op::Call(n) => called(stack, n),

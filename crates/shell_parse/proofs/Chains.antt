@@ -34,14 +34,14 @@ climb_stop zero a ts = flat
 climb_stop (suc n) a ts = up (climb_stop n a ts) stop
 
 -- one more operator and operand at the beginning
-operator_in_front : {n : ℕ} {b e : PlainTree} {ts mid rest : List Token} (op : BinOp) → Unary ts b mid → Climb n b mid e rest → level_of op < n → (a : PlainTree)
+operator_first : {n : ℕ} {b e : PlainTree} {ts mid rest : List Token} (op : BinOp) → Unary ts b mid → Climb n b mid e rest → level_of op < n → (a : PlainTree)
     → (e' : PlainTree) × Climb n a (Operator op ∷ ts) e' rest
-operator_in_front op u flat h a = absurd (omega arith)
-operator_in_front {ts = ts} op u (up {n = n} {b = c} k m) h a =
+operator_first op u flat h a = absurd (omega arith)
+operator_first {ts = ts} op u (up {n = n} {b = c} k m) h a =
     elim (cases_eq (level_of op) n) [
       | inl same ↦ let g = more_any m (trees.Binary op a c) in (g.0, up (climb_stop n a (Operator op ∷ ts)) (operator same (climb_level u k) g.1))
       | inr other ↦
-          let g = operator_in_front op u k (omega arith) a in
+          let g = operator_first op u k (omega arith) a in
           let f = more_any m g.0 in (f.0, up g.1 f.1)
     ]
 
@@ -67,7 +67,7 @@ below_ten Rest = lit< tt
 
 chain_climbs : {ts rest : List Token} → Chain ts rest → (a : PlainTree) → (e : PlainTree) × Climb 10 a ts e rest
 chain_climbs {ts = ts} ends a = (a, climb_stop 10 a ts)
-chain_climbs (goes_on {op = op} {b = b} u c) a = let h = chain_climbs c b in operator_in_front op u h.1 (below_ten op) a
+chain_climbs (goes_on {op = op} {b = b} u c) a = let h = chain_climbs c b in operator_first op u h.1 (below_ten op) a
 
 join_chains : {ts mid rest : List Token} → Chain ts mid → Chain mid rest → Chain ts rest
 join_chains ends d = d

@@ -7,7 +7,7 @@ use Rattle.shell_parse.specs.declared.tree.BinOp.{BinOp}
 use Rattle.shell_parse.specs.declared.tree.BinOp.TheVariants.{OrElse, AndAlso, Or, Xor, And, Lt, Le, Gt, Ge, Shl, Shr, Plus, Minus, Times, Over, Rest}
 use Rattle.shell_parse.specs.declared.token.Token.{Token}
 use Rattle.shell_parse.specs.declared.token.Spot.{Spot}
-use Rattle.shell_parse.specs.declared.token.Spot.TheVariants.{AtStart, BehindLd, AtFile, Within}
+use Rattle.shell_parse.specs.declared.token.Spot.TheVariants.{AtStart, AfterLd, AtFile, Within}
 use Rattle.source_literals.specs.Words.{is_word_byte}
 use Rattle.source_literals.specs.Strings.{escaped, string_at}
 use Rattle.source_literals.proofs.Within.{string_len, string_within}
@@ -95,7 +95,7 @@ any_fits b bs =
 fits : (spot : Spot) (b : ℕ) (bs : List ℕ) → Fits (length bs) (token_at spot b bs)
 unfolding token_at
 fits AtStart b bs = any_fits b bs
-fits BehindLd b bs = record { few = (any_fits b bs).few }
+fits AfterLd b bs = record { few = (any_fits b bs).few }
 fits AtFile b bs = either (b == code ";") (alone _ _) (record { few = prefix_len-le-length is_file_byte bs })
 fits Within b bs = any_fits b bs
 

@@ -68,11 +68,11 @@ CommandGoesOn n (Comma ∷ ts) = ListedThen n AfterStmt ts
 CommandGoesOn n ts = AfterStmt ts
 
 -- ---- after a whole expression, by what is open
-abbrev pub Behind : List Frame → List Token → Type 0
-Behind [] ts = AfterStmt ts
-Behind (InCommand n ∷ fs) ts = CommandGoesOn n ts
-Behind (InGroup mark ∷ fs) ts = CloseThen (λ r. CallsThen (λ q. Tail mark (λ p. Behind fs p) q) r) ts
-Behind (InCall n mark ∷ fs) ts = CallGoesOn n (λ r. CallsThen (λ q. Tail mark (λ p. Behind fs p) q) r) ts
+abbrev pub After : List Frame → List Token → Type 0
+After [] ts = AfterStmt ts
+After (InCommand n ∷ fs) ts = CommandGoesOn n ts
+After (InGroup mark ∷ fs) ts = CloseThen (λ r. CallsThen (λ q. Tail mark (λ p. After fs p) q) r) ts
+After (InCall n mark ∷ fs) ts = CallGoesOn n (λ r. CallsThen (λ q. Tail mark (λ p. After fs p) q) r) ts
 
 abbrev pub IsClose : List Token → Type 0
 IsClose (Close ∷ ts) = Unit {0}
@@ -80,14 +80,14 @@ IsClose _ = ⊥
 
 -- after an opening parenthesis: an argument, or the closing parenthesis
 abbrev pub OpenedThen : List Frame → List Token → Type 0
-OpenedThen fs ts = WholeThen (Behind fs) ts ⊎ (IsClose ts × Behind fs ts)
+OpenedThen fs ts = WholeThen (After fs) ts ⊎ (IsClose ts × After fs ts)
 
 -- after a callee, and after a name that begins an expression
 abbrev pub CalleeThen : Bool → List Frame → List Token → Type 0
-CalleeThen mark fs ts = CallsThen (Tail mark (Behind fs)) ts
+CalleeThen mark fs ts = CallsThen (Tail mark (After fs)) ts
 
 abbrev pub VariableThen : List Frame → List Token → Type 0
-VariableThen fs ts = SetThen (Behind fs) ts ⊎ CalleeThen false fs ts
+VariableThen fs ts = SetThen (After fs) ts ⊎ CalleeThen false fs ts
 
 -- after the name that begins a statement: arguments, a file, or what follows a name in an expression
 abbrev pub CommandThen : List Token → Type 0
@@ -104,11 +104,11 @@ NamedThen ld ts = CommandThen ts ⊎ (LoadThen ld ts ⊎ VariableThen [] ts)
 abbrev pub Lang : Mode → List Frame → List Token → Type 0
 Lang Start fs ts = (ss : List PlainStmt) × IsLine ts ss
 Lang (Named ld) fs ts = NamedThen ld ts
-Lang Whole fs ts = WholeThen (Behind fs) ts
+Lang Whole fs ts = WholeThen (After fs) ts
 Lang Variable fs ts = VariableThen fs ts
-Lang (Want mark) fs ts = UnaryThen (Tail mark (Behind fs)) ts
-Lang (Target mark) fs ts = NameThen (Tail mark (Behind fs)) ts
-Lang (Done mark) fs ts = Tail mark (Behind fs) ts
+Lang (Want mark) fs ts = UnaryThen (Tail mark (After fs)) ts
+Lang (Target mark) fs ts = NameThen (Tail mark (After fs)) ts
+Lang (Done mark) fs ts = Tail mark (After fs) ts
 Lang (Callee mark) fs ts = CalleeThen mark fs ts
 Lang Opened fs ts = OpenedThen fs ts
 Lang AtFile fs ts = FileThen ts
@@ -133,34 +133,34 @@ pub plain_then : (B : List Token → Type 0) (ts : List Token) → UnaryThen (Ch
 plain_then B ts (a, (mid, (u, (rest, (c, k))))) = let l = chain_level u c in (l.0, (rest, (plain l.1, k)))
 
 -- ---- every place has a way to the end
-abbrev pub word_behind : List Frame → List Token
-word_behind [] = []
-word_behind (InCommand n ∷ fs) = []
-word_behind (InGroup mark ∷ fs) = Close ∷ word_behind fs
-word_behind (InCall n mark ∷ fs) = Close ∷ word_behind fs
+abbrev pub word_after : List Frame → List Token
+word_after [] = []
+word_after (InCommand n ∷ fs) = []
+word_after (InGroup mark ∷ fs) = Close ∷ word_after fs
+word_after (InCall n mark ∷ fs) = Close ∷ word_after fs
 
-callee_word : (mark : Bool) (fs : List Frame) (ts : List Token) → Behind fs ts → CalleeThen mark fs ts
-callee_word mark fs ts b = no_calls (Tail mark (Behind fs)) ts (no_tail mark (Behind fs) ts b)
+callee_word : (mark : Bool) (fs : List Frame) (ts : List Token) → After fs ts → CalleeThen mark fs ts
+callee_word mark fs ts b = no_calls (Tail mark (After fs)) ts (no_tail mark (After fs) ts b)
 
-behind_word : (fs : List Frame) → Behind fs (word_behind fs)
-behind_word [] = tt
-behind_word (InCommand n ∷ fs) = tt
-behind_word (InGroup mark ∷ fs) = callee_word mark fs (word_behind fs) (behind_word fs)
-behind_word (InCall n mark ∷ fs) = callee_word mark fs (word_behind fs) (behind_word fs)
+after_word : (fs : List Frame) → After fs (word_after fs)
+after_word [] = tt
+after_word (InCommand n ∷ fs) = tt
+after_word (InGroup mark ∷ fs) = callee_word mark fs (word_after fs) (after_word fs)
+after_word (InCall n mark ∷ fs) = callee_word mark fs (word_after fs) (after_word fs)
 
-whole_word : (fs : List Frame) → WholeThen (Behind fs) (Number 0 ∷ word_behind fs)
-whole_word fs = plain_then (Behind fs) (Number 0 ∷ word_behind fs) (trees.Number 0, (word_behind fs, (number, (word_behind fs, (ends, behind_word fs)))))
+whole_word : (fs : List Frame) → WholeThen (After fs) (Number 0 ∷ word_after fs)
+whole_word fs = plain_then (After fs) (Number 0 ∷ word_after fs) (trees.Number 0, (word_after fs, (number, (word_after fs, (ends, after_word fs)))))
 
 abbrev pub word : Mode → List Frame → List Token
 word Start fs = []
 word (Named ld) fs = []
-word Whole fs = Number 0 ∷ word_behind fs
-word Variable fs = word_behind fs
-word (Want mark) fs = Number 0 ∷ word_behind fs
-word (Target mark) fs = Name (codes "x") ∷ word_behind fs
-word (Done mark) fs = word_behind fs
-word (Callee mark) fs = word_behind fs
-word Opened fs = Number 0 ∷ word_behind fs
+word Whole fs = Number 0 ∷ word_after fs
+word Variable fs = word_after fs
+word (Want mark) fs = Number 0 ∷ word_after fs
+word (Target mark) fs = Name (codes "x") ∷ word_after fs
+word (Done mark) fs = word_after fs
+word (Callee mark) fs = word_after fs
+word Opened fs = Number 0 ∷ word_after fs
 word AtFile fs = File (codes "x") ∷ []
 word Loaded fs = []
 
@@ -168,11 +168,11 @@ pub completes : (mode : Mode) (fs : List Frame) → Lang mode fs (word mode fs)
 completes Start fs = (Nothing ∷ [], last nothing)
 completes (Named ld) fs = inr (inr (inr (callee_word false [] [] tt)))
 completes Whole fs = whole_word fs
-completes Variable fs = inr (callee_word false fs (word_behind fs) (behind_word fs))
-completes (Want mark) fs = (trees.Number 0, (word_behind fs, (number, no_tail mark (Behind fs) (word_behind fs) (behind_word fs))))
-completes (Target mark) fs = no_tail mark (Behind fs) (word_behind fs) (behind_word fs)
-completes (Done mark) fs = no_tail mark (Behind fs) (word_behind fs) (behind_word fs)
-completes (Callee mark) fs = callee_word mark fs (word_behind fs) (behind_word fs)
+completes Variable fs = inr (callee_word false fs (word_after fs) (after_word fs))
+completes (Want mark) fs = (trees.Number 0, (word_after fs, (number, no_tail mark (After fs) (word_after fs) (after_word fs))))
+completes (Target mark) fs = no_tail mark (After fs) (word_after fs) (after_word fs)
+completes (Done mark) fs = no_tail mark (After fs) (word_after fs) (after_word fs)
+completes (Callee mark) fs = callee_word mark fs (word_after fs) (after_word fs)
 completes Opened fs = inl (whole_word fs)
 completes AtFile fs = tt
 completes Loaded fs = tt
@@ -202,21 +202,21 @@ may_end Loaded fs = true
 no_unary : {e : PlainTree} {mid : List Token} → Unary [] e mid → ⊥
 no_unary h = elim h [ ]
 
-behind_end : (fs : List Frame) → Behind fs [] → is_bottom fs ≡ true
-behind_end [] k = refl
-behind_end (InCommand n ∷ fs) k = refl
-behind_end (InGroup mark ∷ fs) k = absurd k
-behind_end (InCall n mark ∷ fs) k = absurd k
+after_end : (fs : List Frame) → After fs [] → is_bottom fs ≡ true
+after_end [] k = refl
+after_end (InCommand n ∷ fs) k = refl
+after_end (InGroup mark ∷ fs) k = absurd k
+after_end (InCall n mark ∷ fs) k = absurd k
 
-chain_end : (fs : List Frame) {rest : List Token} → Chain [] rest → Behind fs rest → is_bottom fs ≡ true
-chain_end fs ends k = behind_end fs k
+chain_end : (fs : List Frame) {rest : List Token} → Chain [] rest → After fs rest → is_bottom fs ≡ true
+chain_end fs ends k = after_end fs k
 
-tail_end : (mark : Bool) (fs : List Frame) → Tail mark (Behind fs) [] → is_bottom fs ≡ true
+tail_end : (mark : Bool) (fs : List Frame) → Tail mark (After fs) [] → is_bottom fs ≡ true
 tail_end false fs (rest, (c, k)) = chain_end fs c k
 tail_end true fs (inl (rest, (c, k))) = chain_end fs c k
 tail_end true fs (inr s) = absurd s
 
-calls_end : (mark : Bool) (fs : List Frame) {a e : PlainTree} {rest : List Token} → Calls a [] e rest → Tail mark (Behind fs) rest → is_bottom fs ≡ true
+calls_end : (mark : Bool) (fs : List Frame) {a e : PlainTree} {rest : List Token} → Calls a [] e rest → Tail mark (After fs) rest → is_bottom fs ≡ true
 calls_end mark fs no_call k = tail_end mark fs k
 
 callee_end : (mark : Bool) (fs : List Frame) → CalleeThen mark fs [] → is_bottom fs ≡ true
@@ -237,7 +237,7 @@ ends_there Opened fs (inr (c, k)) = absurd c
 ends_there AtFile fs h = absurd h
 ends_there Loaded fs h = refl
 
-bottom_end : (fs : List Frame) → is_bottom fs ≡ true → Behind fs []
+bottom_end : (fs : List Frame) → is_bottom fs ≡ true → After fs []
 bottom_end [] h = tt
 bottom_end (InCommand n ∷ fs) h = tt
 bottom_end (InGroup mark ∷ fs) h = cc
@@ -250,7 +250,7 @@ ends_back Whole fs h = cc
 ends_back Variable fs h = inr (callee_word false fs [] (bottom_end fs h))
 ends_back (Want mark) fs h = cc
 ends_back (Target mark) fs h = cc
-ends_back (Done mark) fs h = no_tail mark (Behind fs) [] (bottom_end fs h)
+ends_back (Done mark) fs h = no_tail mark (After fs) [] (bottom_end fs h)
 ends_back (Callee mark) fs h = callee_word mark fs [] (bottom_end fs h)
 ends_back Opened fs h = cc
 ends_back AtFile fs h = cc

@@ -35,8 +35,8 @@ token_taken spot column b bs len t h =
     ∙ ap (λ n. tokens_from after (column + (len + 1)) 0 (drop n bs)) (sym h))
 
 -- a word that comes first is its bytes as far as they may be in a word
-pub word_front : (b : ℕ) (bs bytes : List ℕ) (n : ℕ) → bytes ≡ b ∷ bs → n ≡ prefix_len is_word_byte bs → ◌≡◌ {A = Token × ℕ} (word_token b (take (n + 1) bytes), n) (word_at b bs)
-word_front b bs bytes n e h =
+pub word_first : (b : ℕ) (bs bytes : List ℕ) (n : ℕ) → bytes ≡ b ∷ bs → n ≡ prefix_len is_word_byte bs → ◌≡◌ {A = Token × ℕ} (word_token b (take (n + 1) bytes), n) (word_at b bs)
+word_first b bs bytes n e h =
     ap (λ (xs : List ℕ). (word_token b (take (n + 1) xs), n)) e
     ∙ ap (λ (k : ℕ). (word_token b (take k (b ∷ bs)), n)) (add-one n)
     ∙ ap (λ (k : ℕ). (word_token b (b ∷ take k bs), k)) h

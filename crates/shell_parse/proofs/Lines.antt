@@ -42,21 +42,21 @@ name_alone (suc (suc (suc (suc n)))) x ts h a o p =
     (climb_stops (suc (suc n)) levels (trees.Name x) ts (omega arith) p)
 
 -- so no such token comes after a name that is a statement's expression
-behind_name : (n : ℕ) (x : List ℕ) (t : Token) (ts : List Token) (e : PlainTree) (rest : List Token) → 14 ≤ n → EndsStmt rest → whole_at n (Name x ∷ t ∷ ts) ≡ Some (e, rest)
+after_name : (n : ℕ) (x : List ℕ) (t : Token) (ts : List Token) (e : PlainTree) (rest : List Token) → 14 ≤ n → EndsStmt rest → whole_at n (Name x ∷ t ∷ ts) ≡ Some (e, rest)
     → name_assigned (Name x ∷ t ∷ ts) ≡ None → opened (t ∷ ts) ≡ None → ((i : ℕ) → operator_at i (t ∷ ts) ≡ None) → EndsStmt (t ∷ ts)
-behind_name n x t ts e rest h k w a o p = pair_is (λ y us. EndsStmt us) (sym w ∙ name_alone n x (t ∷ ts) h a o p) k
+after_name n x t ts e rest h k w a o p = pair_is (λ y us. EndsStmt us) (sym w ∙ name_alone n x (t ∷ ts) h a o p) k
 
 read_value : (n : ℕ) (ts : List Token) (e : PlainTree) (rest : List Token) → 14 ≤ n → EndsStmt rest → Opens ts → whole_at n ts ≡ Some (e, rest) → stmt_at n ts ≡ Some (Expr e, rest)
 unfolding stmt_at
 read_value n [] e rest h k b w = absurd b
 read_value n (Semi ∷ ts) e rest h k b w = absurd b
 read_value n (Name x ∷ []) e rest h k b w = first (λ y. Some (Expr y.0, y.1)) w refl
-read_value n (Name x ∷ Number m ∷ ts) e rest h k b w = absurd (behind_name n x (Number m) ts e rest h k w refl refl (λ i. refl))
-read_value n (Name x ∷ Str text ∷ ts) e rest h k b w = absurd (behind_name n x (Str text) ts e rest h k w refl refl (λ i. refl))
-read_value n (Name x ∷ Name y ∷ ts) e rest h k b w = absurd (behind_name n x (Name y) ts e rest h k w refl refl (λ i. refl))
-read_value n (Name x ∷ Not ∷ ts) e rest h k b w = absurd (behind_name n x Not ts e rest h k w refl refl (λ i. refl))
-read_value n (Name x ∷ Com ∷ ts) e rest h k b w = absurd (behind_name n x Com ts e rest h k w refl refl (λ i. refl))
-read_value n (Name x ∷ Redirect ∷ ts) e rest h k b w = absurd (behind_name n x Redirect ts e rest h k w refl refl (λ i. refl))
+read_value n (Name x ∷ Number m ∷ ts) e rest h k b w = absurd (after_name n x (Number m) ts e rest h k w refl refl (λ i. refl))
+read_value n (Name x ∷ Str text ∷ ts) e rest h k b w = absurd (after_name n x (Str text) ts e rest h k w refl refl (λ i. refl))
+read_value n (Name x ∷ Name y ∷ ts) e rest h k b w = absurd (after_name n x (Name y) ts e rest h k w refl refl (λ i. refl))
+read_value n (Name x ∷ Not ∷ ts) e rest h k b w = absurd (after_name n x Not ts e rest h k w refl refl (λ i. refl))
+read_value n (Name x ∷ Com ∷ ts) e rest h k b w = absurd (after_name n x Com ts e rest h k w refl refl (λ i. refl))
+read_value n (Name x ∷ Redirect ∷ ts) e rest h k b w = absurd (after_name n x Redirect ts e rest h k w refl refl (λ i. refl))
 read_value n (Name x ∷ t ∷ ts) e rest h k b w = first (λ y. Some (Expr y.0, y.1)) w refl
 read_value n (t ∷ ts) e rest h k b w = first (λ y. Some (Expr y.0, y.1)) w refl
 

@@ -14,7 +14,7 @@ use Rattle.shell_parse.specs.Trees as trees
 use Rattle.shell_parse.specs.Grammar.{Expression, plain, set_name, set_word, Unary, negated, inverted, complement, word, address, number, string, name, group, Calls, no_call, call, Args, none, some, Listed, one, next, begins_argument, is_ld, IsStmt, nothing, load, command, value, IsLine, last, followed}
 use Rattle.shell_parse.specs.Allowed.{on_operand, on_whole, on_target, on_close, on_comma, on_semi, on_done, on_callee, on_variable, on_opened, on_named, on_start, on_file, on_loaded, step}
 use Rattle.shell_parse.proofs.Chains.{Chain, ends, goes_on, level_chain}
-use Rattle.shell_parse.proofs.Follow.{AfterStmt, WholeThen, ListedThen, UnaryThen, CallsThen, ChainThen, SetThen, NameThen, CloseThen, FileThen, Tail, CallGoesOn, CommandGoesOn, Behind, IsClose, OpenedThen, CalleeThen, VariableThen, CommandThen, LoadThen, NamedThen, Lang, LangOf, tail_of, no_tail, no_calls, plain_then}
+use Rattle.shell_parse.proofs.Follow.{AfterStmt, WholeThen, ListedThen, UnaryThen, CallsThen, ChainThen, SetThen, NameThen, CloseThen, FileThen, Tail, CallGoesOn, CommandGoesOn, After, IsClose, OpenedThen, CalleeThen, VariableThen, CommandThen, LoadThen, NamedThen, Lang, LangOf, tail_of, no_tail, no_calls, plain_then}
 
 -- ---- the callee does not decide what calls may follow
 calls_any : {a e : PlainTree} {ts rest : List Token} → Calls a ts e rest → (b : PlainTree) → (e' : PlainTree) × Calls b ts e' rest
@@ -78,11 +78,11 @@ back_group B [] w k = absurd k
 back_group B {e = e} (Close ∷ r) w (a, (d, (rest, (c, k)))) = let h = calls_any c e in (h.0, (rest, (group w h.1, k)))
 back_group B (t ∷ r) w k = absurd k
 
-back_target : (mark : Bool) (fs : List Frame) (t : Token) (ts : List Token) → LangOf (on_target mark fs t) ts → NameThen (Tail mark (Behind fs)) (t ∷ ts)
+back_target : (mark : Bool) (fs : List Frame) (t : Token) (ts : List Token) → LangOf (on_target mark fs t) ts → NameThen (Tail mark (After fs)) (t ∷ ts)
 back_target mark fs (Name x) ts h = h
 back_target mark fs t ts h = absurd h
 
-forth_target : (mark : Bool) (fs : List Frame) (t : Token) (ts : List Token) → NameThen (Tail mark (Behind fs)) (t ∷ ts) → LangOf (on_target mark fs t) ts
+forth_target : (mark : Bool) (fs : List Frame) (t : Token) (ts : List Token) → NameThen (Tail mark (After fs)) (t ∷ ts) → LangOf (on_target mark fs t) ts
 forth_target mark fs (Name x) ts h = h
 forth_target mark fs t ts h = absurd h
 
@@ -91,19 +91,19 @@ back_address B [] k = absurd k
 back_address B (Name x ∷ ts) k = (trees.Address x, (ts, (address, k)))
 back_address B (t ∷ ts) k = absurd k
 
-back_operand : (mark : Bool) (fs : List Frame) (t : Token) (ts : List Token) → LangOf (on_operand mark fs t) ts → UnaryThen (Tail mark (Behind fs)) (t ∷ ts)
+back_operand : (mark : Bool) (fs : List Frame) (t : Token) (ts : List Token) → LangOf (on_operand mark fs t) ts → UnaryThen (Tail mark (After fs)) (t ∷ ts)
 back_operand mark fs (Number n) ts h = (trees.Number n, (ts, (number, h)))
 back_operand mark fs (Str text) ts h = (trees.Str text, (ts, (string, h)))
-back_operand mark fs (Name x) ts h = back_name (Tail mark (Behind fs)) x ts h
+back_operand mark fs (Name x) ts h = back_name (Tail mark (After fs)) x ts h
 back_operand mark fs (Operator Minus) ts (e, (rest, (u, k))) = (trees.Unary before.Neg e, (rest, (negated u, k)))
 back_operand mark fs (Operator Times) ts (e, (rest, (u, k))) = (trees.Word e, (rest, (word u, k)))
-back_operand mark fs (Operator And) ts h = back_address (Tail mark (Behind fs)) ts h
+back_operand mark fs (Operator And) ts h = back_address (Tail mark (After fs)) ts h
 back_operand mark fs Not ts (e, (rest, (u, k))) = (trees.Unary before.Not e, (rest, (inverted u, k)))
 back_operand mark fs Com ts (e, (rest, (u, k))) = (trees.Unary before.Com e, (rest, (complement u, k)))
-back_operand mark fs Open ts (e, (rest, (w, k))) = back_group (Tail mark (Behind fs)) rest w k
+back_operand mark fs Open ts (e, (rest, (w, k))) = back_group (Tail mark (After fs)) rest w k
 back_operand mark fs t ts h = absurd h
 
-forth_unary : (mark : Bool) (fs : List Frame) {t : Token} {ts mid : List Token} {e : PlainTree} → Unary (t ∷ ts) e mid → Tail mark (Behind fs) mid → LangOf (on_operand mark fs t) ts
+forth_unary : (mark : Bool) (fs : List Frame) {t : Token} {ts mid : List Token} {e : PlainTree} → Unary (t ∷ ts) e mid → Tail mark (After fs) mid → LangOf (on_operand mark fs t) ts
 forth_unary mark fs (negated u) k = (_, (_, (u, k)))
 forth_unary mark fs (inverted u) k = (_, (_, (u, k)))
 forth_unary mark fs (complement u) k = (_, (_, (u, k)))
@@ -114,7 +114,7 @@ forth_unary mark fs string k = k
 forth_unary mark fs (name c) k = (_, (_, (_, (c, k))))
 forth_unary mark fs (group w c) k = (_, (_, (w, (_, (_, (_, (c, k)))))))
 
-forth_operand : (mark : Bool) (fs : List Frame) (t : Token) (ts : List Token) → UnaryThen (Tail mark (Behind fs)) (t ∷ ts) → LangOf (on_operand mark fs t) ts
+forth_operand : (mark : Bool) (fs : List Frame) (t : Token) (ts : List Token) → UnaryThen (Tail mark (After fs)) (t ∷ ts) → LangOf (on_operand mark fs t) ts
 forth_operand mark fs t ts (e, (mid, (u, k))) = forth_unary mark fs u k
 
 -- ---- an expression
@@ -136,12 +136,12 @@ back_star : (B : List Token → Type 0) {ts : List Token} {a : PlainTree} (mid :
 back_star B {ts = ts} {a = a} mid u (inl c) = plain_then B (Operator Times ∷ ts) (trees.Word a, (mid, (word u, c)))
 back_star B mid u (inr s) = set_word_back B mid u s
 
-back_whole : (fs : List Frame) (t : Token) (ts : List Token) → LangOf (on_whole fs t) ts → WholeThen (Behind fs) (t ∷ ts)
-back_whole fs (Name x) ts h = back_variable_name (Behind fs) x ts h
-back_whole fs (Operator Times) ts (a, (mid, (u, k))) = back_star (Behind fs) mid u k
-back_whole fs t ts h = plain_then (Behind fs) (t ∷ ts) (back_operand false fs t ts h)
+back_whole : (fs : List Frame) (t : Token) (ts : List Token) → LangOf (on_whole fs t) ts → WholeThen (After fs) (t ∷ ts)
+back_whole fs (Name x) ts h = back_variable_name (After fs) x ts h
+back_whole fs (Operator Times) ts (a, (mid, (u, k))) = back_star (After fs) mid u k
+back_whole fs t ts h = plain_then (After fs) (t ∷ ts) (back_operand false fs t ts h)
 
-forth_plain : (fs : List Frame) {t : Token} {ts mid : List Token} {a : PlainTree} → Unary (t ∷ ts) a mid → ChainThen (Behind fs) mid → LangOf (on_whole fs t) ts
+forth_plain : (fs : List Frame) {t : Token} {ts mid : List Token} {a : PlainTree} → Unary (t ∷ ts) a mid → ChainThen (After fs) mid → LangOf (on_whole fs t) ts
 forth_plain fs (negated u) k = (_, (_, (u, k)))
 forth_plain fs (inverted u) k = (_, (_, (u, k)))
 forth_plain fs (complement u) k = (_, (_, (u, k)))
@@ -152,22 +152,22 @@ forth_plain fs string k = k
 forth_plain fs (name c) k = inr (_, (_, (_, (c, k))))
 forth_plain fs (group w c) k = (_, (_, (w, (_, (_, (_, (c, k)))))))
 
-forth_expression : (fs : List Frame) {t : Token} {ts rest : List Token} {e : PlainTree} → Expression (t ∷ ts) e rest → Behind fs rest → LangOf (on_whole fs t) ts
+forth_expression : (fs : List Frame) {t : Token} {ts rest : List Token} {e : PlainTree} → Expression (t ∷ ts) e rest → After fs rest → LangOf (on_whole fs t) ts
 forth_expression fs (plain l) k = let h = level_chain l in forth_plain fs h.1.1.0 (_, (h.1.1.1, k))
 forth_expression fs (set_name w) k = inl (_, (_, (w, k)))
 forth_expression fs (set_word u w) k = (_, (_, (u, inr (_, (_, (w, k))))))
 
-forth_whole : (fs : List Frame) (t : Token) (ts : List Token) → WholeThen (Behind fs) (t ∷ ts) → LangOf (on_whole fs t) ts
+forth_whole : (fs : List Frame) (t : Token) (ts : List Token) → WholeThen (After fs) (t ∷ ts) → LangOf (on_whole fs t) ts
 forth_whole fs t ts (e, (rest, (w, k))) = forth_expression fs w k
 
 -- ---- after an operand
-back_close : (fs : List Frame) (ts : List Token) → LangOf (on_close fs) ts → Behind fs (Close ∷ ts)
+back_close : (fs : List Frame) (ts : List Token) → LangOf (on_close fs) ts → After fs (Close ∷ ts)
 back_close [] ts h = absurd h
 back_close (InCommand n ∷ fs) ts h = absurd h
 back_close (InGroup mark ∷ fs) ts h = h
 back_close (InCall n mark ∷ fs) ts h = h
 
-back_comma : (fs : List Frame) (ts : List Token) → LangOf (on_comma fs) ts → Behind fs (Comma ∷ ts)
+back_comma : (fs : List Frame) (ts : List Token) → LangOf (on_comma fs) ts → After fs (Comma ∷ ts)
 back_comma [] ts h = absurd h
 back_comma (InCommand zero ∷ fs) ts h = absurd h
 back_comma (InCommand (suc n) ∷ fs) ts h = command_listed n ts h
@@ -175,7 +175,7 @@ back_comma (InGroup mark ∷ fs) ts h = absurd h
 back_comma (InCall zero mark ∷ fs) ts h = absurd h
 back_comma (InCall (suc n) mark ∷ fs) ts h = call_listed n (CalleeThen mark fs) ts h
 
-back_semi : (fs : List Frame) (ts : List Token) → LangOf (on_semi fs) ts → Behind fs (Semi ∷ ts)
+back_semi : (fs : List Frame) (ts : List Token) → LangOf (on_semi fs) ts → After fs (Semi ∷ ts)
 back_semi [] ts h = h
 back_semi (InCommand n ∷ fs) ts h = h
 back_semi (InGroup mark ∷ fs) ts h = absurd h
@@ -184,38 +184,38 @@ back_semi (InCall n mark ∷ fs) ts h = absurd h
 back_operator : (B : List Token → Type 0) (mark : Bool) {t : Token} {ts : List Token} → ChainThen B (t ∷ ts) → Tail mark B (t ∷ ts)
 back_operator B mark {t = t} {ts = ts} h = tail_of mark B (t ∷ ts) h
 
-back_done : (mark : Bool) (fs : List Frame) (t : Token) (ts : List Token) → LangOf (on_done mark fs t) ts → Tail mark (Behind fs) (t ∷ ts)
-back_done mark fs (Operator op) ts (b, (mid, (u, (rest, (c, k))))) = tail_of mark (Behind fs) (Operator op ∷ ts) (rest, (goes_on u c, k))
+back_done : (mark : Bool) (fs : List Frame) (t : Token) (ts : List Token) → LangOf (on_done mark fs t) ts → Tail mark (After fs) (t ∷ ts)
+back_done mark fs (Operator op) ts (b, (mid, (u, (rest, (c, k))))) = tail_of mark (After fs) (Operator op ∷ ts) (rest, (goes_on u c, k))
 back_done true fs (Set op) ts h = inr h
 back_done false fs (Set op) ts h = absurd h
-back_done mark fs Close ts h = no_tail mark (Behind fs) (Close ∷ ts) (back_close fs ts h)
-back_done mark fs Comma ts h = no_tail mark (Behind fs) (Comma ∷ ts) (back_comma fs ts h)
-back_done mark fs Semi ts h = no_tail mark (Behind fs) (Semi ∷ ts) (back_semi fs ts h)
+back_done mark fs Close ts h = no_tail mark (After fs) (Close ∷ ts) (back_close fs ts h)
+back_done mark fs Comma ts h = no_tail mark (After fs) (Comma ∷ ts) (back_comma fs ts h)
+back_done mark fs Semi ts h = no_tail mark (After fs) (Semi ∷ ts) (back_semi fs ts h)
 back_done mark fs t ts h = absurd h
 
-forth_behind : (mark : Bool) (fs : List Frame) (t : Token) (ts : List Token) → Behind fs (t ∷ ts) → LangOf (on_done mark fs t) ts
-forth_behind mark [] Semi ts k = k
-forth_behind mark [] t ts k = absurd k
-forth_behind mark (InCommand zero ∷ fs) Comma ts k = absurd (none_listed AfterStmt ts k)
-forth_behind mark (InCommand (suc n) ∷ fs) Comma ts k = listed_command_on n ts k
-forth_behind mark (InCommand n ∷ fs) Semi ts k = k
-forth_behind mark (InCommand n ∷ fs) t ts k = absurd k
-forth_behind mark (InGroup m ∷ fs) Close ts k = k
-forth_behind mark (InGroup m ∷ fs) t ts k = absurd k
-forth_behind mark (InCall n m ∷ fs) Close ts k = k
-forth_behind mark (InCall zero m ∷ fs) Comma ts k = absurd (none_listed (CloseThen (CalleeThen m fs)) ts k)
-forth_behind mark (InCall (suc n) m ∷ fs) Comma ts k = listed_call_on n (CalleeThen m fs) ts k
-forth_behind mark (InCall n m ∷ fs) t ts k = absurd k
+forth_after : (mark : Bool) (fs : List Frame) (t : Token) (ts : List Token) → After fs (t ∷ ts) → LangOf (on_done mark fs t) ts
+forth_after mark [] Semi ts k = k
+forth_after mark [] t ts k = absurd k
+forth_after mark (InCommand zero ∷ fs) Comma ts k = absurd (none_listed AfterStmt ts k)
+forth_after mark (InCommand (suc n) ∷ fs) Comma ts k = listed_command_on n ts k
+forth_after mark (InCommand n ∷ fs) Semi ts k = k
+forth_after mark (InCommand n ∷ fs) t ts k = absurd k
+forth_after mark (InGroup m ∷ fs) Close ts k = k
+forth_after mark (InGroup m ∷ fs) t ts k = absurd k
+forth_after mark (InCall n m ∷ fs) Close ts k = k
+forth_after mark (InCall zero m ∷ fs) Comma ts k = absurd (none_listed (CloseThen (CalleeThen m fs)) ts k)
+forth_after mark (InCall (suc n) m ∷ fs) Comma ts k = listed_call_on n (CalleeThen m fs) ts k
+forth_after mark (InCall n m ∷ fs) t ts k = absurd k
 
-forth_chain : (mark : Bool) (fs : List Frame) {t : Token} {ts rest : List Token} → Chain (t ∷ ts) rest → Behind fs rest → LangOf (on_done mark fs t) ts
-forth_chain mark fs {t = t} {ts = ts} ends k = forth_behind mark fs t ts k
+forth_chain : (mark : Bool) (fs : List Frame) {t : Token} {ts rest : List Token} → Chain (t ∷ ts) rest → After fs rest → LangOf (on_done mark fs t) ts
+forth_chain mark fs {t = t} {ts = ts} ends k = forth_after mark fs t ts k
 forth_chain mark fs (goes_on u c) k = (_, (_, (u, (_, (c, k)))))
 
-forth_set : (fs : List Frame) (t : Token) (ts : List Token) → SetThen (Behind fs) (t ∷ ts) → LangOf (on_done true fs t) ts
+forth_set : (fs : List Frame) (t : Token) (ts : List Token) → SetThen (After fs) (t ∷ ts) → LangOf (on_done true fs t) ts
 forth_set fs (Set op) ts k = k
 forth_set fs t ts k = absurd k
 
-forth_done : (mark : Bool) (fs : List Frame) (t : Token) (ts : List Token) → Tail mark (Behind fs) (t ∷ ts) → LangOf (on_done mark fs t) ts
+forth_done : (mark : Bool) (fs : List Frame) (t : Token) (ts : List Token) → Tail mark (After fs) (t ∷ ts) → LangOf (on_done mark fs t) ts
 forth_done false fs t ts (rest, (c, k)) = forth_chain false fs c k
 forth_done true fs t ts (inl (rest, (c, k))) = forth_chain true fs c k
 forth_done true fs t ts (inr s) = forth_set fs t ts s
@@ -226,18 +226,18 @@ args_back B [] args k = absurd k
 args_back B {es = es} (Close ∷ r) args (a, (e, (rest, (c, k)))) = let h = calls_any c (trees.Call (trees.Number 0) es) in (trees.Number 0, (h.0, (rest, (call args h.1, k))))
 args_back B (t ∷ r) args k = absurd k
 
-no_args_back : (mark : Bool) (fs : List Frame) (ts : List Token) → IsClose ts → Behind (InCall 9 mark ∷ fs) ts → CalleeThen mark fs (Open ∷ ts)
+no_args_back : (mark : Bool) (fs : List Frame) (ts : List Token) → IsClose ts → After (InCall 9 mark ∷ fs) ts → CalleeThen mark fs (Open ∷ ts)
 no_args_back mark fs [] c k = absurd c
-no_args_back mark fs (Close ∷ r) c k = args_back (Tail mark (Behind fs)) (Close ∷ r) none k
+no_args_back mark fs (Close ∷ r) c k = args_back (Tail mark (After fs)) (Close ∷ r) none k
 no_args_back mark fs (t ∷ r) c k = absurd c
 
 opened_back : (mark : Bool) (fs : List Frame) (ts : List Token) → OpenedThen (InCall 9 mark ∷ fs) ts → CalleeThen mark fs (Open ∷ ts)
-opened_back mark fs ts (inl w) = let h = call_listed 9 (CalleeThen mark fs) ts w in args_back (Tail mark (Behind fs)) h.1.0 (some h.1.1.0) h.1.1.1
+opened_back mark fs ts (inl w) = let h = call_listed 9 (CalleeThen mark fs) ts w in args_back (Tail mark (After fs)) h.1.0 (some h.1.1.0) h.1.1.1
 opened_back mark fs ts (inr (c, k)) = no_args_back mark fs ts c k
 
 back_callee : (mark : Bool) (fs : List Frame) (t : Token) (ts : List Token) → LangOf (on_callee mark fs t) ts → CalleeThen mark fs (t ∷ ts)
 back_callee mark fs Open ts h = opened_back mark fs ts h
-back_callee mark fs t ts h = no_calls (Tail mark (Behind fs)) (t ∷ ts) (back_done mark fs t ts h)
+back_callee mark fs t ts h = no_calls (Tail mark (After fs)) (t ∷ ts) (back_done mark fs t ts h)
 
 callee_from_done : (mark : Bool) (fs : List Frame) (t : Token) (ts : List Token) → LangOf (on_done mark fs t) ts → LangOf (on_callee mark fs t) ts
 callee_from_done mark fs Open ts h = absurd h
@@ -247,7 +247,7 @@ forth_args : (mark : Bool) (fs : List Frame) {ts mid : List Token} {es : Argumen
 forth_args mark fs none k = inr (tt, k)
 forth_args mark fs (some l) k = inl (call_whole 9 (CalleeThen mark fs) l k)
 
-forth_calls : (mark : Bool) (fs : List Frame) {t : Token} {ts rest : List Token} {a e : PlainTree} → Calls a (t ∷ ts) e rest → Tail mark (Behind fs) rest → LangOf (on_callee mark fs t) ts
+forth_calls : (mark : Bool) (fs : List Frame) {t : Token} {ts rest : List Token} {a e : PlainTree} → Calls a (t ∷ ts) e rest → Tail mark (After fs) rest → LangOf (on_callee mark fs t) ts
 forth_calls mark fs {t = t} {ts = ts} no_call k = callee_from_done mark fs t ts (forth_done mark fs t ts k)
 forth_calls mark fs (call args c) k = forth_args mark fs args (_, (_, (_, (c, k))))
 
@@ -259,7 +259,7 @@ back_variable : (fs : List Frame) (t : Token) (ts : List Token) → LangOf (on_v
 back_variable fs (Set op) ts h = inl h
 back_variable fs t ts h = inr (back_callee false fs t ts h)
 
-variable_from_set : (fs : List Frame) (t : Token) (ts : List Token) → SetThen (Behind fs) (t ∷ ts) → LangOf (on_variable fs t) ts
+variable_from_set : (fs : List Frame) (t : Token) (ts : List Token) → SetThen (After fs) (t ∷ ts) → LangOf (on_variable fs t) ts
 variable_from_set fs (Set op) ts h = h
 variable_from_set fs t ts h = absurd h
 
@@ -280,8 +280,8 @@ opened_from_whole : (fs : List Frame) (t : Token) (ts : List Token) → LangOf (
 opened_from_whole fs Close ts h = absurd h
 opened_from_whole fs t ts h = h
 
-opened_from_close : (fs : List Frame) (t : Token) (ts : List Token) → IsClose (t ∷ ts) → Behind fs (t ∷ ts) → LangOf (on_opened fs t) ts
-opened_from_close fs Close ts c k = forth_behind false fs Close ts k
+opened_from_close : (fs : List Frame) (t : Token) (ts : List Token) → IsClose (t ∷ ts) → After fs (t ∷ ts) → LangOf (on_opened fs t) ts
+opened_from_close fs Close ts c k = forth_after false fs Close ts k
 opened_from_close fs t ts c k = absurd c
 
 forth_opened : (fs : List Frame) (t : Token) (ts : List Token) → OpenedThen fs (t ∷ ts) → LangOf (on_opened fs t) ts

@@ -14,8 +14,8 @@ use Rattle.shell_parse.proofs.Lines.{stmts_complete}
 
 -- these tokens, and then what may follow
 abbrev pub GoesOn : Mode → List Frame → List Token → Option Token → Type 0
-GoesOn mode fs front (Some t) = (more : List Token) × Lang mode fs (front ++ t ∷ more)
-GoesOn mode fs front None = Lang mode fs front
+GoesOn mode fs prefix (Some t) = (more : List Token) × Lang mode fs (prefix ++ t ∷ more)
+GoesOn mode fs prefix None = Lang mode fs prefix
 
 -- token number i after this place is the first that is refused
 pub record Stops (mode : Mode) (fs : List Frame) (ts : List Token) (i : ℕ) : Type 0 where
@@ -36,9 +36,9 @@ onward mode fs t p e us h = back mode fs t us (subst (λ o. LangOf o us) (sym e)
 inward : (mode : Mode) (fs : List Frame) (t : Token) (p : Place) → step mode fs t ≡ Some p → (us : List Token) → Lang mode fs (t ∷ us) → Lang p.mode p.frames us
 inward mode fs t p e us h = subst (λ o. LangOf o us) e (forth mode fs t us h)
 
-goes_inward : (mode : Mode) (fs : List Frame) (t : Token) (p : Place) → step mode fs t ≡ Some p → (front : List Token) (o : Option Token) → GoesOn mode fs (t ∷ front) o → GoesOn p.mode p.frames front o
-goes_inward mode fs t p e front (Some u) (more, h) = (more, inward mode fs t p e (front ++ u ∷ more) h)
-goes_inward mode fs t p e front None h = inward mode fs t p e front h
+goes_inward : (mode : Mode) (fs : List Frame) (t : Token) (p : Place) → step mode fs t ≡ Some p → (prefix : List Token) (o : Option Token) → GoesOn mode fs (t ∷ prefix) o → GoesOn p.mode p.frames prefix o
+goes_inward mode fs t p e prefix (Some u) (more, h) = (more, inward mode fs t p e (prefix ++ u ∷ more) h)
+goes_inward mode fs t p e prefix None h = inward mode fs t p e prefix h
 
 later : (mode : Mode) (fs : List Frame) (t : Token) (ts : List Token) (p : Place) (i : ℕ) → step mode fs t ≡ Some p → Outcome p.mode p.frames ts i → Outcome mode fs (t ∷ ts) (suc i)
 later mode fs t ts p i e (inl h) = inl (onward mode fs t p e ts h)
@@ -62,9 +62,9 @@ outcome (t ∷ ts) mode fs = by_step mode fs t ts (step mode fs t) refl (λ m gs
 at_start : (ts : List Token) (i : ℕ) → Stops Start [] ts i → IsRefusedAt ts i
 at_start ts i stops = record { begins = stops.begins; refused = λ m. stops.refused (by_token (take i ts) (slice_get ts i) m) }
   where
-    by_token : (front : List Token) (o : Option Token) → MayCome front o → GoesOn Start [] front o
-    by_token front (Some t) m = m
-    by_token front None m = m
+    by_token : (prefix : List Token) (o : Option Token) → MayCome prefix o → GoesOn Start [] prefix o
+    by_token prefix (Some t) m = m
+    by_token prefix None m = m
 
 no_line : (ts : List Token) → stmts_of ts ≡ None → Outcome Start [] ts (begun_from ts Start []) → IsRefusedAt ts (begun_from ts Start [])
 no_line ts h (inl (ss, line)) = let found : stmts_of ts ≡ Some ss = stmts_complete ts ss line in cc

@@ -99,9 +99,9 @@ whole_goes_on : (n : ℕ) (ts : List Token) (e : PlainTree) (rest : List Token)
     → ((us : List Token) (b : PlainTree) (r : List Token) → whole_at n us ≡ Some (b, r) → Expression us b r)
     → ((us : List Token) (b : PlainTree) (r : List Token) → star_at n us ≡ Some (b, r) → Expression (Operator Times ∷ us) b r)
     → ((us : List Token) (b : PlainTree) (r : List Token) → level_at n levels us ≡ Some (b, r) → Level levels us b r)
-    → (left : Option (List ℕ × Option BinOp × List Token)) (behind : Option (List Token)) → name_assigned ts ≡ left → starred ts ≡ behind
-    → whole_by (λ us. whole_at n us) (λ us. star_at n us) (λ us. level_at n levels us) ts left behind ≡ Some (e, rest) → Expression ts e rest
-whole_goes_on n ts e rest whole star operands (Some (x, op, us)) behind p q h =
+    → (left : Option (List ℕ × Option BinOp × List Token)) (after : Option (List Token)) → name_assigned ts ≡ left → starred ts ≡ after
+    → whole_by (λ us. whole_at n us) (λ us. star_at n us) (λ us. level_at n levels us) ts left after ≡ Some (e, rest) → Expression ts e rest
+whole_goes_on n ts e rest whole star operands (Some (x, op, us)) after p q h =
     let b = bind_some (whole_at n us) (λ y. Some (trees.SetName op x y.0, y.1)) h in
     subst (λ vs. Expression vs e rest) (sym (left_is ts x op us p)) (pair_is (λ y z. Expression (Name x ∷ Set op ∷ us) y z) b.1.1 (set_name (whole us b.0.0 b.0.1 b.1.0)))
 whole_goes_on n ts e rest whole star operands None (Some us) p q h = subst (λ vs. Expression vs e rest) (sym (starred_is ts us q)) (star us e rest h)

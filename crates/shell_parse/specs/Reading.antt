@@ -9,12 +9,12 @@ use Rattle.shell_parse.specs.Allowed.{begun}
 
 -- some line begins with these tokens
 abbrev pub Begins : List Token → Type 0
-Begins front = (more : List Token) × ((ss : List PlainStmt) × IsLine (front ++ more) ss)
+Begins prefix = (more : List Token) × ((ss : List PlainStmt) × IsLine (prefix ++ more) ss)
 
 -- some line continues after these tokens with this one; the end, given as none, may come if they are a whole line
 abbrev pub MayCome : List Token → Option Token → Type 0
-MayCome front (Some t) = (more : List Token) × ((ss : List PlainStmt) × IsLine (front ++ t ∷ more) ss)
-MayCome front None = (ss : List PlainStmt) × IsLine front ss
+MayCome prefix (Some t) = (more : List Token) × ((ss : List PlainStmt) × IsLine (prefix ++ t ∷ more) ss)
+MayCome prefix None = (ss : List PlainStmt) × IsLine prefix ss
 
 -- token number k is the first with which no line continues
 pub record IsRefusedAt (ts : List Token) (k : ℕ) : Type 0 where

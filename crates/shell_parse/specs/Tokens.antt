@@ -7,7 +7,7 @@ use Rattle.shell_parse.specs.declared.tree.BinOp.TheVariants.{Lt}
 use Rattle.shell_parse.specs.declared.token.Token.{Token}
 use Rattle.shell_parse.specs.declared.token.Token.TheVariants.{Number, Name, Operator, Semi, Redirect, File, Unknown}
 use Rattle.shell_parse.specs.declared.token.Spot.{Spot}
-use Rattle.shell_parse.specs.declared.token.Spot.TheVariants.{AtStart, BehindLd, AtFile, Within}
+use Rattle.shell_parse.specs.declared.token.Spot.TheVariants.{AtStart, AfterLd, AtFile, Within}
 use Rattle.source_literals.specs.Words.{is_blank, is_word_byte}
 use Rattle.source_literals.specs.Numbers.{number_of}
 use Rattle.source_literals.specs.Strings.{string_at}
@@ -49,19 +49,19 @@ redirected t = t
 -- the token at this spot that begins with the byte b, and how many of the bytes bs belong to it
 unfoldable pub token_at : Spot → ℕ → List ℕ → Token × ℕ
 token_at AtStart b bs = any_at b bs
-token_at BehindLd b bs = (redirected (any_at b bs).0, (any_at b bs).1)
+token_at AfterLd b bs = (redirected (any_at b bs).0, (any_at b bs).1)
 token_at AtFile b bs = file_at b bs
 token_at Within b bs = any_at b bs
 
 -- the spot after a name that begins a statement
-abbrev pub behind_name : List ℕ → Spot
-behind_name name = if bytes_eq name (codes "ld") then BehindLd else Within
+abbrev pub after_name : List ℕ → Spot
+after_name name = if bytes_eq name (codes "ld") then AfterLd else Within
 
 -- the spot after a token
 abbrev pub spot_after : Spot → Token → Spot
 spot_after spot Semi = AtStart
-spot_after AtStart (Name x) = behind_name x
-spot_after BehindLd Redirect = AtFile
+spot_after AtStart (Name x) = after_name x
+spot_after AfterLd Redirect = AtFile
 spot_after spot t = Within
 
 -- a token with the column of its first byte, counted from 1

@@ -122,7 +122,7 @@ fn one_argument(alloc: Global, argument: Tree) -> Result<Vec<Tree>, ReadErr>
     Ok(arguments)
 }
 
-fn in_front(first: Tree, mut rest: Vec<Tree>) -> Result<Vec<Tree>, ReadErr>
+fn with_first(first: Tree, mut rest: Vec<Tree>) -> Result<Vec<Tree>, ReadErr>
     ensures { Gives (λ v. plain_arguments v.items) result (Some (trees.Then (plain_tree first) (plain_arguments rest.items))) }
 {
     rest.insert(0, first)?;
@@ -222,7 +222,7 @@ fn name_assigned<'a>(
 }
 
 // The first token, if it is an operator of this level.
-fn front_operator<'a>(at: u32, tokens: &'a [Token<'a>]) -> Option<(BinOp, &'a [Token<'a>])>
+fn first_operator<'a>(at: u32, tokens: &'a [Token<'a>]) -> Option<(BinOp, &'a [Token<'a>])>
     ensures { option_map (λ x. (x.0, x.1.now)) result ≡ operator_at at tokens.now }
 {
     let [first, rest @ ..] = tokens else {
@@ -245,7 +245,7 @@ fn address<'a>(alloc: Global, tokens: &'a [Token<'a>]) -> Reads<'a, Tree>
 }
 
 // The tokens after a closing parenthesis, which must come first.
-fn behind_close<'a>(tokens: &'a [Token<'a>]) -> Result<&'a [Token<'a>], ReadErr>
+fn after_close<'a>(tokens: &'a [Token<'a>]) -> Result<&'a [Token<'a>], ReadErr>
     ensures { Gives (λ rest. rest.now) result (closed_lem tokens.now) }
 {
     match closed(tokens) {
@@ -327,7 +327,7 @@ fn more<'a>(
     if depth == 0 {
         return Err(ReadErr::NoTree);
     }
-    match front_operator(at, tokens) {
+    match first_operator(at, tokens) {
         Some((op, rest)) => {
             let (right, rest) = operands(alloc, depth - 1, at, rest)?;
             let left = join(alloc, op, left, right)?;
@@ -383,7 +383,7 @@ fn unary<'a>(alloc: Global, depth: u32, tokens: &'a [Token<'a>]) -> Reads<'a, Tr
         Token::Name(word) => calls(alloc, depth - 1, named_tree(alloc, word)?, rest),
         Token::Open => {
             let (callee, rest) = whole(alloc, depth - 1, rest)?;
-            let rest = behind_close(rest)?;
+            let rest = after_close(rest)?;
             calls(alloc, depth - 1, callee, rest)
         }
         _ => Err(ReadErr::NoTree),
@@ -420,7 +420,7 @@ fn args<'a>(alloc: Global, depth: u32, tokens: &'a [Token<'a>]) -> Reads<'a, Vec
         Some(rest) => Ok((Vec::new(alloc), rest)),
         None => {
             let (arguments, rest) = listed(alloc, depth - 1, ARGUMENTS, tokens)?;
-            let rest = behind_close(rest)?;
+            let rest = after_close(rest)?;
             Ok((arguments, rest))
         }
     }
@@ -441,9 +441,9 @@ pub(crate) fn listed<'a>(
     }
     let (argument, rest) = whole(alloc, depth - 1, tokens)?;
     match parted(rest) {
-        Some(behind) => {
-            let (arguments, behind) = listed(alloc, depth - 1, most - 1, behind)?;
-            Ok((in_front(argument, arguments)?, behind))
+        Some(after) => {
+            let (arguments, after) = listed(alloc, depth - 1, most - 1, after)?;
+            Ok((with_first(argument, arguments)?, after))
         }
         None => Ok((one_argument(alloc, argument)?, rest)),
     }

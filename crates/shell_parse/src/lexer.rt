@@ -5,7 +5,7 @@ ghost use Rattle.std.specs.List.{prefix_len};
 ghost use Rattle.wind_base.specs.Limits.{longest_line};
 ghost use Rattle.source_literals.specs.Numbers.{number_of as number_of_lem};
 ghost use Rattle.shell_parse.specs.Ascii.{is_file_byte as is_file_byte_lem};
-ghost use Rattle.shell_parse.specs.Tokens.{number_token as number_token_lem, word_token as word_token_lem, word_at, file_at, any_at, redirected as redirected_lem, token_at, behind_name as behind_name_lem, spot_after as spot_after_lem, tokens_of, bare, columns};
+ghost use Rattle.shell_parse.specs.Tokens.{number_token as number_token_lem, word_token as word_token_lem, word_at, file_at, any_at, redirected as redirected_lem, token_at, after_name as after_name_lem, spot_after as spot_after_lem, tokens_of, bare, columns};
 
 use crate::literal::{character, string_token};
 use crate::sign::sign;
@@ -13,7 +13,7 @@ use crate::token::{Spot, Token, Word};
 use crate::tree::BinOp;
 use source_literals::{is_blank, is_word_byte, number_of, string, word_len};
 use std::alloc::{AllocError, Global};
-use wind_base::behind;
+use wind_base::bytes_after;
 
 /// The tokens of a line, and the column of the first byte of each, counted from 1.
 #[derive(Drop)]
@@ -117,7 +117,7 @@ fn redirected(token: Token) -> Token
 // The token at this spot that these bytes begin with, and how many bytes it has after its first.
 // The first byte isn't a blank.
 #[tactic(auto, unfolding(crate::specs::Tokens::token_at))]
-fn front<'a>(
+fn first_token<'a>(
     alloc: Global,
     spot: Spot,
     first: u8,
@@ -130,7 +130,7 @@ fn front<'a>(
 {
     match spot {
         Spot::AtFile => Ok(file(first, rest, bytes)),
-        Spot::BehindLd => {
+        Spot::AfterLd => {
             let (token, len) = any(alloc, first, rest, bytes)?;
             Ok((redirected(token), len))
         }
@@ -138,11 +138,11 @@ fn front<'a>(
     }
 }
 
-fn behind_name(name: &Word) -> Spot
-    ensures { result ≡ behind_name_lem name.now }
+fn after_name(name: &Word) -> Spot
+    ensures { result ≡ after_name_lem name.now }
 {
     if name.bytes() == b"ld".as_slice() {
-        Spot::BehindLd
+        Spot::AfterLd
     } else {
         Spot::Within
     }
@@ -153,8 +153,8 @@ fn spot_after(spot: Spot, token: &Token) -> Spot
 {
     match (spot, token) {
         (_, Token::Semi) => Spot::AtStart,
-        (Spot::AtStart, Token::Name(name)) => behind_name(name),
-        (Spot::BehindLd, Token::Redirect) => Spot::AtFile,
+        (Spot::AtStart, Token::Name(name)) => after_name(name),
+        (Spot::AfterLd, Token::Redirect) => Spot::AtFile,
         _ => Spot::Within,
     }
 }
@@ -178,11 +178,11 @@ pub(crate) fn tokens<'a>(alloc: Global, line: &'a [u8]) -> Result<Lexed<'a>, All
             column += 1;
             continue;
         }
-        let (token, len) = front(alloc, spot, *first, rest, left)?;
+        let (token, len) = first_token(alloc, spot, *first, rest, left)?;
         spot = spot_after(spot, &token);
         tokens.push(token)?;
         columns.push(column)?;
-        left = behind(rest, len);
+        left = bytes_after(rest, len);
         column += len as u32 + 1;
     }
     Ok(Lexed { tokens, columns })

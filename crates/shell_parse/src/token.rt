@@ -73,7 +73,7 @@ pub(crate) enum Spot {
     /// At the beginning of a statement.
     AtStart,
     /// After the name `ld` that begins a statement.
-    BehindLd,
+    AfterLd,
     /// After `ld <`.
     AtFile,
     /// Everywhere else.

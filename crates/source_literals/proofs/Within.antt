@@ -2,7 +2,7 @@
 use Rattle.std.proofs.Common.{ℕ, ◌+◌, ◌≤◌, Bool, true, false, List, [], ◌∷◌, ◌++◌, length, Option, Some, None, ◌≡◌, arith}
 use Rattle.std.specs.Prelude.{if◌then◌else◌, ◌==◌}
 use Prim.Native.Char.{code}
-use Rattle.source_literals.specs.Strings.{escaped, behind_escape, string_from, string_at}
+use Rattle.source_literals.specs.Strings.{escaped, after_escape, string_from, string_at}
 
 -- the number of bytes that belong to a string: 0 if there is none
 abbrev pub string_len : Option (List ℕ × ℕ) → ℕ
@@ -20,16 +20,16 @@ either false p q = q
 none : (n : ℕ) → Fits n None
 none n = record { few = omega arith }
 
-behind_fits : (n : ℕ) (value : Option ℕ) (go : ℕ → Option (List ℕ × ℕ)) → ((v : ℕ) → Fits n (go v)) → Fits n (behind_escape value go)
-behind_fits n None go h = none n
-behind_fits n (Some v) go h = h v
+after_fits : (n : ℕ) (value : Option ℕ) (go : ℕ → Option (List ℕ × ℕ)) → ((v : ℕ) → Fits n (go v)) → Fits n (after_escape value go)
+after_fits n None go h = none n
+after_fits n (Some v) go h = h v
 
 wider : {x : Option (List ℕ × ℕ)} (n m : ℕ) → Fits n x → n ≡ m → Fits m x
 wider n m p e = record { few = omega (arith, p.few) }
 
 string_fits : (mark : Bool) (text : List ℕ) (n : ℕ) (bs : List ℕ) → Fits (n + length bs) (string_from mark text n bs)
 string_fits mark text n [] = none _
-string_fits true text n (b ∷ bs) = behind_fits (n + length (b ∷ bs)) (escaped b) _ (λ v. wider _ _ (string_fits false (text ++ v ∷ []) (n + 1) bs) (omega arith))
+string_fits true text n (b ∷ bs) = after_fits (n + length (b ∷ bs)) (escaped b) _ (λ v. wider _ _ (string_fits false (text ++ v ∷ []) (n + 1) bs) (omega arith))
 string_fits false text n (b ∷ bs) =
     either (b == code "\"") (record { few = omega arith }) (either (b == code "\\")
     (wider _ _ (string_fits true text (n + 1) bs) (omega arith))

@@ -8,14 +8,14 @@ escaped b = if b == code "n" then Some 10 else (if b == code "t" then Some 9 els
     else (if b == code "\\" || (b == code "'" || b == code "\"") then Some b else None))))
 
 -- what follows an escape, if the escape is valid
-abbrev pub behind_escape : Option ℕ → (ℕ → Option (List ℕ × ℕ)) → Option (List ℕ × ℕ)
-behind_escape (Some v) go = go v
-behind_escape None go = None
+abbrev pub after_escape : Option ℕ → (ℕ → Option (List ℕ × ℕ)) → Option (List ℕ × ℕ)
+after_escape (Some v) go = go v
+after_escape None go = None
 
 -- the string, after n bytes of it that stand for this text; the mark says that the last of them is a backslash that begins an escape
 abbrev pub string_from : Bool → List ℕ → ℕ → List ℕ → Option (List ℕ × ℕ)
 string_from mark text n [] = None
-string_from true text n (b ∷ bs) = behind_escape (escaped b) (λ v. string_from false (text ++ v ∷ []) (n + 1) bs)
+string_from true text n (b ∷ bs) = after_escape (escaped b) (λ v. string_from false (text ++ v ∷ []) (n + 1) bs)
 string_from false text n (b ∷ bs) = if b == code "\"" then Some (text, n + 1) else (if b == code "\\"
     then string_from true text (n + 1) bs
     else string_from false (text ++ b ∷ []) (n + 1) bs)

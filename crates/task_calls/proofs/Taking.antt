@@ -68,34 +68,34 @@ stack-asked : (p : PartState) (k : KernState) (caller who : ℕ) → without_sta
 stack-asked p k caller who = without_same p (asked k caller).tasks k.tasks who (ids-asked k caller) (stacks-asked k caller)
 
 -- ---- the record that a deletion hands on
-abbrev told_by : (Task → Deleted) → Task → Result Deleted Errno
-told_by as_deleted t = Ok (as_deleted t)
+abbrev handed : (Task → Deleted) → Task → Result Deleted Errno
+handed as_deleted t = Ok (as_deleted t)
 
-handed_removed : (o : Option Task) (t : Task) → option_map (told_by Removed) o ≡ Some (told_by Removed t) → o ≡ Some t
+handed_removed : (o : Option Task) (t : Task) → option_map (handed Removed) o ≡ Some (handed Removed t) → o ≡ Some t
 handed_removed None t e = absurd (cc)
 handed_removed (Some u) t e = one u t e
   where
-    one : (a b : Task) → Some (told_by Removed a) ≡ Some (told_by Removed b) → Some a ≡ Some b
+    one : (a b : Task) → Some (handed Removed a) ≡ Some (handed Removed b) → Some a ≡ Some b
     one a b h = cc
 
-handed_ended : (o : Option Task) (t : Task) → option_map (told_by SelfEnded) o ≡ Some (told_by SelfEnded t) → o ≡ Some t
+handed_ended : (o : Option Task) (t : Task) → option_map (handed SelfEnded) o ≡ Some (handed SelfEnded t) → o ≡ Some t
 handed_ended None t e = absurd (cc)
 handed_ended (Some u) t e = one u t e
   where
-    one : (a b : Task) → Some (told_by SelfEnded a) ≡ Some (told_by SelfEnded b) → Some a ≡ Some b
+    one : (a b : Task) → Some (handed SelfEnded a) ≡ Some (handed SelfEnded b) → Some a ≡ Some b
     one a b h = cc
 
 -- an answer of one kind is none of the other
-never_removed : (o : Option Task) (t : Task) → option_map (told_by SelfEnded) o ≡ Some (told_by Removed t) → ⊥
+never_removed : (o : Option Task) (t : Task) → option_map (handed SelfEnded) o ≡ Some (handed Removed t) → ⊥
 never_removed None t e = cc
 never_removed (Some u) t e = cc
 
-never_ended : (o : Option Task) (t : Task) → option_map (told_by Removed) o ≡ Some (told_by SelfEnded t) → ⊥
+never_ended : (o : Option Task) (t : Task) → option_map (handed Removed) o ≡ Some (handed SelfEnded t) → ⊥
 never_ended None t e = cc
 never_ended (Some u) t e = cc
 
 module _ (board : BoardKind) (k : KernState) (p : PartState) (caller : ℕ) where
-  removed_row : (d : Deed) (t : Task) → answer_of k caller d ≡ Some (told_by Removed t) → deletion (after k caller d) (without_stack p (Some t)) (Answer 0) ≡ deletes board k p caller d
+  removed_row : (d : Deed) (t : Task) → answer_of k caller d ≡ Some (handed Removed t) → deletion (after k caller d) (without_stack p (Some t)) (Answer 0) ≡ deletes board k p caller d
   removed_row (Refuses e) t h = absurd (cc)
   removed_row (EndsItself n) t h = absurd (never_removed (task_of (unguarded_by k caller n).tasks caller) t h)
   removed_row (Removes who) t h =
@@ -103,7 +103,7 @@ module _ (board : BoardKind) (k : KernState) (p : PartState) (caller : ℕ) wher
       ap (λ q. deletion (after k caller (Removes who)) q (Answer 0)) (ap (without_stack p) (sym same) ∙ stack-asked p k caller who)
   removed_row (Awaits who) t h = absurd (cc)
 
-  ended_row : (d : Deed) (t : Task) → answer_of k caller d ≡ Some (told_by SelfEnded t) → deletion (after k caller d) (without_stack p (Some t)) Gone ≡ deletes board k p caller d
+  ended_row : (d : Deed) (t : Task) → answer_of k caller d ≡ Some (handed SelfEnded t) → deletion (after k caller d) (without_stack p (Some t)) Gone ≡ deletes board k p caller d
   ended_row (Refuses e) t h = absurd (cc)
   ended_row (EndsItself n) t h =
       let same : task_of (unguarded_by k caller n).tasks caller ≡ Some t = handed_ended (task_of (unguarded_by k caller n).tasks caller) t h in
@@ -119,11 +119,11 @@ module _ (board : BoardKind) (k j : KernState) (p q : PartState) (who : Actor) (
       ap (λ x. deletion x q r) gone ∙ ap (λ x. deletion (delete k caller n) x r) freed ∙ e
       ∙ ap (λ m. deletes board k p caller (deed_of k.tasks caller m)) named ∙ ap (λ a. delete_row board k p a id) (sym own)
 
-  pub removed_is : delete_answer k caller n ≡ Some (told_by Removed t) → deletion j q (Answer 0) ≡ delete_row board k p who id
-  removed_is told = row_by (Answer 0) (removed_row board k p caller (deed_of k.tasks caller n) t told)
+  pub removed_is : delete_answer k caller n ≡ Some (handed Removed t) → deletion j q (Answer 0) ≡ delete_row board k p who id
+  removed_is answers = row_by (Answer 0) (removed_row board k p caller (deed_of k.tasks caller n) t answers)
 
-  pub ended_is : delete_answer k caller n ≡ Some (told_by SelfEnded t) → deletion j q Gone ≡ delete_row board k p who id
-  ended_is told = row_by Gone (ended_row board k p caller (deed_of k.tasks caller n) t told)
+  pub ended_is : delete_answer k caller n ≡ Some (handed SelfEnded t) → deletion j q Gone ≡ delete_row board k p who id
+  ended_is answers = row_by Gone (ended_row board k p caller (deed_of k.tasks caller n) t answers)
 
 pub end_is : (w : WorldState) (k j : KernState) (p : PartState) (t : Option Task) (who : ℕ) → k ≡ unguarded w.kern who → j ≡ remove k who → t ≡ task_of k.tasks who → p ≡ without_stack w.part t → record w { kern = j; part = p } ≡ ended w who
 end_is w k j p t who eased gone found freed =

@@ -20,8 +20,8 @@ pub record KernRow : Type 0 where
 abbrev pub done : KernState → KernRow
 done k = record { kern = k; reply = Answer ok_word }
 
-abbrev pub told : KernState → ℕ → KernRow
-told k value = record { kern = k; reply = Answer value }
+abbrev pub answers : KernState → ℕ → KernRow
+answers k value = record { kern = k; reply = Answer value }
 
 abbrev pub refused : KernState → Errno → KernRow
 refused k e = record { kern = k; reply = Refusal e }
@@ -80,7 +80,7 @@ unlock_row k a = by_task k a (λ who. done (set_locks k who (locks_of k who - 1)
 
 -- taskIdSelf
 abbrev pub self_row : KernState → Actor → KernRow
-self_row k a = by_task k a (told k)
+self_row k a = by_task k a (answers k)
 
 -- taskIdVerify: no task has id 0
 abbrev pub verify_row : KernState → Option ℕ → KernRow
@@ -90,7 +90,7 @@ verify_row k (Some id) = done k
 -- taskNameToId: the task with the name that the string holds
 abbrev pub found_row : KernState → Option TaskRecord → KernRow
 found_row k None = refused k errors.TaskNotFound
-found_row k (Some t) = told k t.id
+found_row k (Some t) = answers k t.id
 
 abbrev pub name_row : KernState → Option (List ℕ) → KernRow
 name_row k None = refused k errors.BadAddress
@@ -102,7 +102,7 @@ slice_row k n = done (record k { slice = n })
 
 -- tickGet: the low word of the count
 abbrev pub tick_row : KernState → KernRow
-tick_row k = told k (k.tick % 2 ^ 32)
+tick_row k = answers k (k.tick % 2 ^ 32)
 
 -- ---- interrupts held back: a mark of the task, in force while it runs; an interrupt routine always holds them back
 abbrev pub mark_of : Option TaskRecord → Bool
@@ -114,8 +114,8 @@ mark_word on = if on then 1 else 0
 
 -- intLock: answers the mark as it was
 abbrev pub int_lock_row : KernState → Actor → KernRow
-int_lock_row k (Task who) = told (set_int_locked k who true) (mark_word (mark_of (task_of k.tasks who)))
-int_lock_row k Interrupt = told k 1
+int_lock_row k (Task who) = answers (set_int_locked k who true) (mark_word (mark_of (task_of k.tasks who)))
+int_lock_row k Interrupt = answers k 1
 
 -- intUnlock: the mark becomes the lowest bit of the key
 abbrev pub int_unlock_row : KernState → Actor → ℕ → KernRow
@@ -124,5 +124,5 @@ int_unlock_row k Interrupt key = done k
 
 -- intContext
 abbrev pub int_context_row : KernState → Actor → KernRow
-int_context_row k (Task who) = told k 0
-int_context_row k Interrupt = told k 1
+int_context_row k (Task who) = answers k 0
+int_context_row k Interrupt = answers k 1

@@ -17,9 +17,9 @@ module _ (base : ℕ) (upper : Bool) where
   onto_append zero n acc = refl
   onto_append (suc k) n acc =
       let g = digit_glyph upper (n % base) in
-      let front = digits_onto k base upper (n / base) [] in
+      let prefix = digits_onto k base upper (n / base) [] in
       let more : digits_onto k base upper (n / base) (g ∷ acc) ≡ digits_onto k base upper (n / base) (g ∷ []) ++ acc =
-      onto_append k (n / base) (g ∷ acc) ∙ sym (append_assoc front (g ∷ []) acc) ∙ ap (λ ds. ds ++ acc) (sym (onto_append k (n / base) (g ∷ []))) in
+      onto_append k (n / base) (g ∷ acc) ∙ sym (append_assoc prefix (g ∷ []) acc) ∙ ap (λ ds. ds ++ acc) (sym (onto_append k (n / base) (g ∷ []))) in
       elim (n / base == 0) as (λ t. (if t then g ∷ acc else digits_onto k base upper (n / base) (g ∷ acc)) ≡ (if t then g ∷ [] else digits_onto k base upper (n / base) (g ∷ [])) ++ acc) [
         | true ↦ refl
         | false ↦ more
@@ -48,25 +48,25 @@ module _ (base : ℕ) (upper : Bool) where
   last_digit zero n some pos small = absurd (omega arith)
   last_digit (suc k) n some pos small = one_digit k n pos small
 
-  pub front_digits : (k n : ℕ) → 0 < k → 0 < base → base ≤ n → digits_within base upper k n ≡ digits_within base upper (k - 1) (n / base) ++ digit_glyph upper (n % base) ∷ []
-  front_digits zero n some pos big = absurd (omega arith)
-  front_digits (suc k) n some pos big = let e : suc k - 1 ≡ k = omega arith in rw e (more_digits k n pos big)
+  pub leading_digits : (k n : ℕ) → 0 < k → 0 < base → base ≤ n → digits_within base upper k n ≡ digits_within base upper (k - 1) (n / base) ++ digit_glyph upper (n % base) ∷ []
+  leading_digits zero n some pos big = absurd (omega arith)
+  leading_digits (suc k) n some pos big = let e : suc k - 1 ≡ k = omega arith in rw e (more_digits k n pos big)
 
   -- a number above 0 has places
   places_left : (k q : ℕ) → q < base ^ k → (q ≡ 0 → ⊥) → 0 < k
   places_left zero q below some = let one : base ^ 0 ≡ 1 = pow-zero base in absurd (some (omega arith))
   places_left (suc k) q below some = omega arith
 
-  pub front_below : (k n : ℕ) → 0 < k → 0 < base → n < base ^ k → n / base < base ^ (k - 1)
-  front_below zero n some pos small = absurd (omega arith)
-  front_below (suc k) n some pos small =
+  pub leading_below : (k n : ℕ) → 0 < k → 0 < base → n < base ^ k → n / base < base ^ (k - 1)
+  leading_below zero n some pos small = absurd (omega arith)
+  leading_below (suc k) n some pos small =
       let e : suc k - 1 ≡ k = omega arith in
       rw e (div_below n base (base ^ k) pos (subst (λ w. n < w) (pow-suc base k) small))
 
-  pub front_places : (k n : ℕ) → 0 < k → 0 < base → n < base ^ k → base ≤ n → 0 < k - 1
-  front_places k n some pos small big =
+  pub leading_places : (k n : ℕ) → 0 < k → 0 < base → n < base ^ k → base ≤ n → 0 < k - 1
+  leading_places k n some pos small big =
       let left = some_left n pos big in
-      places_left (k - 1) (n / base) (front_below k n some pos small) (λ (none : n / base ≡ 0). omega arith)
+      places_left (k - 1) (n / base) (leading_below k n some pos small) (λ (none : n / base ≡ 0). omega arith)
 
   -- more places than a number needs change nothing
   onto_wide : (k m n : ℕ) (acc : List ℕ) → k ≤ m → 0 < k → 0 < base → n < base ^ k → digits_onto m base upper n acc ≡ digits_onto k base upper n acc

@@ -52,9 +52,9 @@ line_is ram at n k le =
     let left = n - k in
     let rest = drop (at + k) ram in
     let whole : k + left ≡ n = omega arith in
-    let behind : drop k (bytes_at ram at n) ≡ take left rest =
+    let bytes_after : drop k (bytes_at ram at n) ≡ take left rest =
     ap (λ m. drop k (bytes_at ram at m)) (sym whole) ∙ drop-take k left (drop at ram) ∙ ap (take left) (drop-drop k at ram) in
-    ap (take 16) behind ∙ elim (cases_lt left 16) as (λ _. take 16 (take left rest) ≡ take (min left 16) rest) [
+    ap (take 16) bytes_after ∙ elim (cases_lt left 16) as (λ _. take 16 (take left rest) ≡ take (min left 16) rest) [
       | inl less ↦
           let least : left ≡ min left 16 = omega arith in
           take_all 16 (take left rest) (omega (arith, take_within left rest)) ∙ ap (λ m. take m rest) least

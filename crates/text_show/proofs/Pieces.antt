@@ -11,18 +11,18 @@ use Rattle.text_show.specs.Printf.{Source, Prints, conversion_text, values_of, p
 use Rattle.text_show.proofs.Cut.{cut_more}
 
 -- the pieces after some bytes
-pieces_behind : (k : ℕ) (bytes : List ℕ) → pieces k bytes ≡ pieces 0 (drop k bytes)
-pieces_behind zero bytes = refl
-pieces_behind (suc k) [] = refl
-pieces_behind (suc k) (b ∷ bytes) = pieces_behind k bytes
+pieces_after : (k : ℕ) (bytes : List ℕ) → pieces k bytes ≡ pieces 0 (drop k bytes)
+pieces_after zero bytes = refl
+pieces_after (suc k) [] = refl
+pieces_after (suc k) (b ∷ bytes) = pieces_after k bytes
 
 -- a text after two others
-behind_two : (a b : List ℕ) (o : Option (List ℕ)) → Some a ++? (Some b ++? o) ≡ Some (a ++ b) ++? o
-behind_two a b None = refl
-behind_two a b (Some c) = ap Some (sym (append_assoc a b c))
+after_two : (a b : List ℕ) (o : Option (List ℕ)) → Some a ++? (Some b ++? o) ≡ Some (a ++ b) ++? o
+after_two a b None = refl
+after_two a b (Some c) = ap Some (sym (append_assoc a b c))
 
-nothing_behind : (a : List ℕ) (o : Option (List ℕ)) → Some a ++? (None ++? o) ≡ None
-nothing_behind a o = refl
+nothing_after : (a : List ℕ) (o : Option (List ℕ)) → Some a ++? (None ++? o) ≡ None
+nothing_after a o = refl
 
 -- n values are taken, and the text of what is before the rest of a format is done
 pub record IsDone (s : Source) (format : List ℕ) (n : ℕ) (rest items : List ℕ) : Type 0 where
@@ -42,20 +42,20 @@ rest_text : (s : Source) (n b : ℕ) (bytes : List ℕ) (o : Option Conversion) 
     → text_of s n (pieces 0 (b ∷ bytes)) ≡ piece_text s n (converted_or b o) ++? text_of s (n + piece_values (converted_or b o)) (pieces 0 (drop (more_of (converted_or b o)) bytes))
 rest_text s n b bytes o e =
     ap (λ (o : Option Conversion). piece_text s n (converted_or b o) ++? text_of s (n + piece_values (converted_or b o)) (pieces (more_of (converted_or b o)) bytes)) e
-    ∙ ap (λ ps. piece_text s n (converted_or b o) ++? text_of s (n + piece_values (converted_or b o)) ps) (pieces_behind (more_of (converted_or b o)) bytes)
+    ∙ ap (λ ps. piece_text s n (converted_or b o) ++? text_of s (n + piece_values (converted_or b o)) ps) (pieces_after (more_of (converted_or b o)) bytes)
 
 -- one more piece is done
 piece_done : (s : Source) (format : List ℕ) (n b : ℕ) (bytes rest items new text : List ℕ) (o : Option Conversion) → rest ≡ b ∷ bytes → conversion_of b bytes ≡ o
     → IsDone s format n rest items → piece_text s n (converted_or b o) ≡ Some text → new ≡ take longest_print (items ++ text)
     → IsDone s format (n + piece_values (converted_or b o)) (drop (more_of (converted_or b o)) bytes) new
 piece_done s format n b bytes rest items new text o r e d t w =
-    let behind = text_of s (n + piece_values (converted_or b o)) (pieces 0 (drop (more_of (converted_or b o)) bytes)) in
+    let bytes_after = text_of s (n + piece_values (converted_or b o)) (pieces 0 (drop (more_of (converted_or b o)) bytes)) in
     record {
       done = d.done ++ text;
       whole = d.whole ∙ ap (λ xs. Some d.done ++? text_of s n (pieces 0 xs)) r
           ∙ ap (λ (x : Option (List ℕ)). Some d.done ++? x) (rest_text s n b bytes o e)
-          ∙ ap (λ (x : Option (List ℕ)). Some d.done ++? (x ++? behind)) t
-          ∙ behind_two d.done text behind;
+          ∙ ap (λ (x : Option (List ℕ)). Some d.done ++? (x ++? bytes_after)) t
+          ∙ after_two d.done text bytes_after;
       shown = w ∙ ap (λ xs. take longest_print (xs ++ text)) d.shown ∙ cut_more longest_print d.done text;
     }
 

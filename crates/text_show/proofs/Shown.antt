@@ -5,9 +5,9 @@ use Rattle.std.specs.List.{filter}
 use Rattle.text_show.specs.Symbols.{begins_with, has_part}
 
 -- a text that begins with a part has it
-pub front_has : (part text : List ℕ) → true ≡ begins_with part text → true ≡ has_part part text
-front_has part [] e = e
-front_has part (b ∷ bytes) e = rw (← e) refl
+pub prefix_has : (part text : List ℕ) → true ≡ begins_with part text → true ≡ has_part part text
+prefix_has part [] e = e
+prefix_has part (b ∷ bytes) e = rw (← e) refl
 
 drop_one : {X : Type 0} (xs : List X) (n : ℕ) (x : X) → slice_get xs n ≡ Some x → drop n xs ≡ x ∷ drop (suc n) xs
 drop_one [] n x e = absurd (cc)

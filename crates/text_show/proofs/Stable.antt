@@ -105,9 +105,9 @@ module _ {X : Type 0} (lt : X → X → Bool) (w : IsStrictWeakOrder lt) where
     in_order_of ys (λ i j d le less. far (suc i) (suc j) d (omega arith) (omega arith)),
   )
 
-  at_front : (x : X) (ys : List X) → AllByRecursion (λ z. lt z x ≡ false) ys → insert_sorted lt x ys ≡ x ∷ ys
-  at_front x [] h = refl
-  at_front x (y ∷ ys) h = rw h.0 refl
+  at_head : (x : X) (ys : List X) → AllByRecursion (λ z. lt z x ≡ false) ys → insert_sorted lt x ys ≡ x ∷ ys
+  at_head x [] h = refl
+  at_head x (y ∷ ys) h = rw h.0 refl
 
   -- a list of ties is in order
   all_tie : (x : X) (ys : List X) → AllByRecursion (λ y. ties lt x y ≡ true) ys → sorted lt ys ≡ ys
@@ -115,7 +115,7 @@ module _ {X : Type 0} (lt : X → X → Bool) (w : IsStrictWeakOrder lt) where
   all_tie x (y ∷ ys) ps =
       let first = both_false (lt x y) (lt y x) ps.0 in
       ap (insert_sorted lt y) (all_tie x ys ps.1)
-      ∙ at_front y ys (all_more (λ z. ties lt x z ≡ true) (λ z. lt z y ≡ false) (λ z p. w.chain z x y (both_false (lt x z) (lt z x) p).1 first.0) ys ps.1)
+      ∙ at_head y ys (all_more (λ z. ties lt x z ≡ true) (λ z. lt z y ≡ false) (λ z p. w.chain z x y (both_false (lt x z) (lt z x) p).1 first.0) ys ps.1)
 
   ties_stay : (x : X) (xs : List X) → filter (ties lt x) (sorted lt xs) ≡ filter (ties lt x) xs
   ties_stay x xs = filter-sorted lt w (ties lt x) xs ∙ all_tie x (filter (ties lt x) xs) (all_kept (ties lt x) xs)

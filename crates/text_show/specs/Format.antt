@@ -75,11 +75,11 @@ with_letter flags (Some width) (Some letter) taken = Some record { style = style
 unfoldable pub conversion_at : List ℕ → Option Conversion
 conversion_at bytes =
     let flags = run_of is_flag bytes in
-    let behind_flags = drop flags bytes in
-    let digits = run_of is_ascii_digit behind_flags in
-    let behind_width = drop digits behind_flags in
-    let size = size_of behind_width in
-    with_letter (take flags bytes) (width_of (take digits behind_flags)) (first_letter (drop size behind_width)) (flags + digits + size + 1)
+    let after_flags = drop flags bytes in
+    let digits = run_of is_ascii_digit after_flags in
+    let after_width = drop digits after_flags in
+    let size = size_of after_width in
+    with_letter (take flags bytes) (width_of (take digits after_flags)) (first_letter (drop size after_width)) (flags + digits + size + 1)
 
 -- a piece: a byte that stands for itself, or a conversion
 pub data Piece : Type 0 where

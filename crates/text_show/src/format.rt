@@ -5,7 +5,7 @@ ghost use Rattle.std.specs.Char.{is_ascii_digit};
 ghost use Rattle.std.specs.List.{list_any};
 ghost use Rattle.text_show.specs.Format.{widest, is_minus, is_zero, is_flag as is_flag_lem, run_of, width_of as width_of_lem, size_of as size_of_lem, letter_of as letter_of_lem, first_letter as first_letter_lem, style_of as style_of_lem, conversion_at as conversion_at_lem};
 
-use wind_base::{behind, decimal};
+use wind_base::{bytes_after, decimal};
 
 // The greatest width.
 const WIDEST: u64 = 999;
@@ -159,12 +159,12 @@ pub(crate) fn conversion_at(bytes: &[u8]) -> Option<Conversion>
     ensures width { IfSome result (λ c. c.style.width ≤ widest) }
 {
     let flags = flag_run(bytes);
-    let behind_flags = behind(bytes, flags);
-    let digits = digit_run(behind_flags);
-    let behind_width = behind(behind_flags, digits);
-    let size = size_of(behind_width);
-    let width = width_of(&behind_flags[..digits])?;
-    let letter = first_letter(behind(behind_width, size))?;
+    let after_flags = bytes_after(bytes, flags);
+    let digits = digit_run(after_flags);
+    let after_width = bytes_after(after_flags, digits);
+    let size = size_of(after_width);
+    let width = width_of(&after_flags[..digits])?;
+    let letter = first_letter(bytes_after(after_width, size))?;
     Some(Conversion {
         style: style_of(&bytes[..flags], width),
         letter,

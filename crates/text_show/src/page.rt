@@ -16,7 +16,7 @@ pub(crate) enum Cell<'a> {
 }
 
 /// The first `most` bytes, or all if there are fewer.
-pub(crate) fn front(bytes: &[u8], most: usize) -> &[u8]
+pub(crate) fn prefix(bytes: &[u8], most: usize) -> &[u8]
     ensures value { result.now ≡ take most bytes.now }
     ensures within { length result.now ≤ most }
 {

@@ -11,7 +11,7 @@ use crate::text::{self, Text};
 use crate::values::Values;
 use arrayvec::ArrayVec;
 use board_mem::{Ram, RamString};
-use wind_base::{OutBuf, behind};
+use wind_base::{OutBuf, bytes_after};
 
 // Whether a word is negative as a signed number.
 fn is_minus_word(v: u32) -> bool
@@ -139,18 +139,18 @@ fn format_text(values: &Values, format: &[u8]) -> Option<Text>
     let mut text = ArrayVec::new();
     let mut rest = format;
     let mut n = 0;
-    while let Some((&byte, behind_byte)) = rest.split_first() {
-        match conversion_of(byte, behind_byte) {
+    while let Some((&byte, after_byte)) = rest.split_first() {
+        match conversion_of(byte, after_byte) {
             None => {
                 text::add(&mut text, &[byte]);
-                rest = behind_byte;
+                rest = after_byte;
             }
             Some(c) => {
                 if !add_conversion(&mut text, values, n, c.style, c.letter) {
                     return None;
                 }
                 n += values_of(c.letter);
-                rest = behind(behind_byte, c.taken);
+                rest = bytes_after(after_byte, c.taken);
             }
         }
     }

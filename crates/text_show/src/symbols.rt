@@ -19,7 +19,7 @@ fn has_part(text: &[u8], part: &[u8]) -> bool
     let mut rest = text;
     while !rest.starts_with(part) {
         match rest.split_first() {
-            Some((_, behind)) => rest = behind,
+            Some((_, after)) => rest = after,
             None => return false,
         }
     }

@@ -6,7 +6,7 @@ ghost use Rattle.text_show.specs.Columns.{blanks, zeros};
 ghost use Rattle.text_show.specs.Printf.{filled};
 
 use crate::format::Style;
-use crate::page::front;
+use crate::page::prefix;
 use arrayvec::ArrayVec;
 use wind_base::limits::PRINTF_BYTES;
 
@@ -29,7 +29,7 @@ pub(crate) fn add(text: &mut Text, piece: &[u8])
     ensures { text.new.items ≡ take longest_print (text.old.items ++ piece.now) }
 {
     let room = TEXT_ROOM - text.len();
-    push_all(text, front(piece, room));
+    push_all(text, prefix(piece, room));
 }
 
 // Adds a byte `times` times.

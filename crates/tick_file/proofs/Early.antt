@@ -16,7 +16,7 @@ small_product a b h k = omega (arith, mul-le a b (2 ^ 32 - 1) (2 ^ 32 - 1) h k)
 
 asked_early : (n : ℕ) (rule : Rule) (e : Timed) → IsBounded rule → AsksAt n rule e → IsEarly e
 asked_early n (At time event) e small asks = let same : e.time ≡ time = ap (λ (t : Timed). t.time) asks in omega (arith, same, small)
-asked_early n (Every period count) e small asks =
+asked_early n (Every period count event) e small asks =
     let same : e.time ≡ asks.0 * period = ap (λ (t : Timed). t.time) asks.3 in
     let few : asks.0 ≤ 2 ^ 32 - 1 = omega (arith, asks.2, small.0.1) in
     omega (arith, same, small_product asks.0 period few small.0.0)

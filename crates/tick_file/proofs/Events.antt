@@ -16,12 +16,11 @@ use Rattle.std.proofs.lemmas.List.Elements.{All-contains}
 use Rattle.std.specs.declared.cmp.Reverse.{Reverse}
 use Rattle.wind_lists.specs.Sorting.{sorted}
 use Rattle.tick_file.specs.declared.event.Event.{Event}
-use Rattle.tick_file.specs.declared.event.Event.TheVariants.{Tick}
 use Rattle.tick_file.specs.declared.event.Rule.{Rule}
 use Rattle.tick_file.specs.declared.event.Rule.TheVariants.{At, Every}
 use Rattle.tick_file.specs.declared.pending.Pending.{Pending}
 use Rattle.tick_file.specs.Lines.{Numbered}
-use Rattle.tick_file.specs.Schedule.{Timed, ticks_from, events_at, events_of, place_of, before}
+use Rattle.tick_file.specs.Schedule.{Timed, events_from, events_at, events_of, place_of, before}
 use Rattle.tick_file.specs.Inside.{coming, next_of, upcoming, pending_at, pending_of, waiting_of, events_in, Agree}
 use Rattle.tick_file.proofs.Merging.{all_weaker, all_both, count-flat_map, sorted_alike}
 
@@ -70,13 +69,13 @@ pub coming_alike : (period : ℕ) (t : Timed) (left : ℕ) → AllByRecursion (I
 coming_alike period t zero = tt
 coming_alike period t (suc left) = ((refl, refl), coming_alike period (record t { time = t.time + period; number = suc t.number }) left)
 
--- the ticks from number k on are one period apart
-pub ticks_coming : (n period k count : ℕ) → ticks_from n period k count ≡ coming period (record { time = k * period; line = n; number = k; event = Tick }) count
-ticks_coming n period k zero = refl
-ticks_coming n period k (suc count) =
+-- the events from number k on are one period apart
+pub events_coming : (n period : ℕ) (event : Event) (k count : ℕ) → events_from n period event k count ≡ coming period (record { time = k * period; line = n; number = k; event = event }) count
+events_coming n period event k zero = refl
+events_coming n period event k (suc count) =
     let e : suc k * period ≡ k * period + period = omega arith in
-    ap (λ es. record { time = k * period; line = n; number = k; event = Tick } ∷ es)
-    (ticks_coming n period (suc k) count ∙ ap (λ t. coming period (record { time = t; line = n; number = suc k; event = Tick }) count) e)
+    ap (λ es. record { time = k * period; line = n; number = k; event = event } ∷ es)
+    (events_coming n period event (suc k) count ∙ ap (λ t. coming period (record { time = t; line = n; number = suc k; event = event }) count) e)
 
 -- before its first event, a rule has all its events left
 pub all_to_come : (r : Numbered) → upcoming (pending_of r) ≡ events_of r
@@ -84,9 +83,9 @@ all_to_come r = by r.line r.rule
   where
     by : (n : ℕ) (rule : Rule) → upcoming (pending_at n rule) ≡ events_at n rule
     by n (At time event) = refl
-    by n (Every period count) =
+    by n (Every period count event) =
         let e : 1 * period ≡ period = omega arith in
-        sym (ticks_coming n period 1 count ∙ ap (λ t. coming period (record { time = t; line = n; number = 1; event = Tick }) count) e)
+        sym (events_coming n period event 1 count ∙ ap (λ t. coming period (record { time = t; line = n; number = 1; event = event }) count) e)
 
 -- ---- the events of several rules
 pub events_waiting : (rs : List Numbered) → events_in (map waiting_of rs) ≡ flat_map events_of rs

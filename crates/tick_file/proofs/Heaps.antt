@@ -13,7 +13,7 @@ use Rattle.wind_lists.specs.Sorting.{sorted, first}
 use Rattle.tick_file.specs.declared.pending.Pending.{Pending}
 use Rattle.tick_file.specs.Schedule.{Timed, before}
 use Rattle.tick_file.specs.Inside.{coming, next_of, upcoming, moved_on, IsSound, Agree, by_next, IsKept, events_in, waiting}
-use Rattle.tick_file.proofs.Merging.{sorted_front}
+use Rattle.tick_file.proofs.Merging.{sorted_head}
 use Rattle.tick_file.proofs.Events.{all_late, same_events}
 
 -- ---- the first of the future events
@@ -25,7 +25,7 @@ coming_next period t (suc left) h =
     ap (λ k. t ∷ coming period (record t { time = t.time + period; number = k }) left) n
     ∙ ap (λ k. t ∷ coming period (record t { time = t.time + period; number = t.number + 1 }) k) l
 
-upcoming_next : (p : Pending) → 0 < p.left → upcoming p ≡ next_of p ∷ upcoming (moved_on p)
+pub upcoming_next : (p : Pending) → 0 < p.left → upcoming p ≡ next_of p ∷ upcoming (moved_on p)
 upcoming_next p h = coming_next p.period (next_of p) p.left h
 
 then_equal : (r : Ordering) → ordering_then r Equal ≡ r
@@ -83,11 +83,11 @@ module _ (ps rest : List (Reverse Pending)) (top : Reverse Pending) (kept : IsKe
       (subst (λ es. AllByRecursion (λ e. before e (next_of top.0) ≡ false) (es ++ events_in rest)) (upcoming_next top.0 own_sound.some) (all_late (next_of top.0) (top ∷ rest) rules)).1
 
   -- its event is the first in order, and the others are the future events once it has moved on
-  pub front : waiting ps ≡ next_of top.0 ∷ sorted before (upcoming (moved_on top.0) ++ events_in rest)
-  front =
+  pub top_waits : waiting ps ≡ next_of top.0 ∷ sorted before (upcoming (moved_on top.0) ++ events_in rest)
+  top_waits =
       same_events ps (top ∷ rest) kept.agree moved
       ∙ ap (λ es. sorted before (es ++ events_in rest)) (upcoming_next top.0 own_sound.some)
-      ∙ sorted_front before (next_of top.0) (upcoming (moved_on top.0) ++ events_in rest) late
+      ∙ sorted_head before (next_of top.0) (upcoming (moved_on top.0) ++ events_in rest) late
 
   -- after it has moved on
   pub moved_kept : (x : Reverse Pending) (new : List (Reverse Pending)) → 1 < top.0.left → x.0 ≡ moved_on top.0 → IsPermutation (x ∷ rest) new → IsHeap by_next new → IsKept new × (waiting new ≡ drop 1 (waiting ps))
@@ -100,7 +100,7 @@ module _ (ps rest : List (Reverse Pending)) (top : Reverse Pending) (kept : IsKe
           sound = All-permutation (λ p. IsSound p.0) (x ∷ rest) new put (All-cons (λ p. IsSound p.0) x rest (subst IsSound (sym is) sound) rest_sound);
           agree = agree_moved (x ∷ rest) new put agree;
         },
-        sym (same_events (x ∷ rest) new agree put) ∙ ap (λ p. sorted before (upcoming p ++ events_in rest)) is ∙ ap (drop 1) (sym front),
+        sym (same_events (x ∷ rest) new agree put) ∙ ap (λ p. sorted before (upcoming p ++ events_in rest)) is ∙ ap (drop 1) (sym top_waits),
       )
 
   -- after it has left with its last event
@@ -116,9 +116,9 @@ module _ (ps rest : List (Reverse Pending)) (top : Reverse Pending) (kept : IsKe
         },
         sym (same_events rest new agree put)
             ∙ ap (λ n. sorted before (coming top.0.period (next_of (moved_on top.0)) n ++ events_in rest)) none
-            ∙ ap (drop 1) (sym front),
+            ∙ ap (drop 1) (sym top_waits),
       )
 
 -- the event of the rule at the top is the first in order
 pub top_first : (ps : List (Reverse Pending)) (top : Reverse Pending) → IsKept ps → 0 < length ps → top ≡ get_or ps 0 top → IsUpperBound by_next top ps → first (waiting ps) ≡ Some (next_of top.0)
-top_first ps top kept some is least = ap first (front ps (remove ps 0) top kept (IsPermutation-remove ps 0 top some is) least)
+top_first ps top kept some is least = ap first (top_waits ps (remove ps 0) top kept (IsPermutation-remove ps 0 top some is) least)

@@ -7,3 +7,5 @@ pub mod FormLemmas
 pub mod TimetableLemmas
 pub mod SayLemmas
 mod Early
+pub mod Writing
+pub mod Adding

@@ -13,7 +13,7 @@ use Rattle.tick_file.specs.declared.event.Said.{Said}
 use Rattle.tick_file.specs.declared.event.Said.TheVariants.{Nothing}
 use Rattle.tick_file.specs.declared.reading.TickErr.{TickErr}
 use Rattle.tick_file.specs.declared.pending.Pending.{Pending}
-use Rattle.tick_file.specs.Lines.{pieces, onto_first, without_return, lines_of, tick_lines, front_line, behind_line, rule_at, rules_from, bad_or, bad_from, Tells}
+use Rattle.tick_file.specs.Lines.{pieces, onto_first, without_return, lines_of, tick_lines, first_line, after_line, rule_at, rules_from, bad_or, bad_from, Tells}
 use Rattle.tick_file.specs.Inside.{waiting_of}
 
 -- a blank line says nothing
@@ -57,23 +57,23 @@ more_pieces (b ∷ bs) h =
     ∙ ap (λ n. take n (b ∷ bs) ∷ pieces (drop (suc n) (b ∷ bs))) (sym (length_more b bs e)))
     (cases_eq b 10)
 
-lines_more : (piece : List ℕ) (bs : List ℕ) → lines_of (piece ∷ pieces bs) ≡ without_return piece ∷ lines_of (pieces bs)
+pub lines_more : (piece : List ℕ) (bs : List ℕ) → lines_of (piece ∷ pieces bs) ≡ without_return piece ∷ lines_of (pieces bs)
 lines_more piece bs =
     let k = first_piece bs in ap (λ ps. lines_of (piece ∷ ps)) k.2 ∙ ap (λ ps. without_return piece ∷ lines_of ps) (sym k.2)
 
 -- if the first line has an end, the other lines come after it
-first_line : (bs : List ℕ) → line_length bs < length bs → tick_lines bs ≡ front_line bs ∷ tick_lines (behind_line bs)
+line_and_others : (bs : List ℕ) → line_length bs < length bs → tick_lines bs ≡ first_line bs ∷ tick_lines (after_line bs)
 unfolding tick_lines
-first_line bs h =
+line_and_others bs h =
     let t : nat_lt (line_length bs) (length bs) ≡ true = grind (arith, nat_tests) in
     let e : suc (line_length bs) ≡ line_length bs + 1 = omega arith in
     ap lines_of (more_pieces bs h)
     ∙ lines_more (take (line_length bs) bs) (drop (suc (line_length bs)) bs)
     ∙ ap (λ b. cond b (without_return (take (line_length bs) bs)) bs ∷ lines_of (pieces (drop (suc (line_length bs)) bs))) (sym t)
-    ∙ ap (λ n. front_line bs ∷ lines_of (pieces (drop n bs))) e
+    ∙ ap (λ n. first_line bs ∷ lines_of (pieces (drop n bs))) e
 
 -- otherwise it is the only line, and nothing comes after it
-last_line : (bs : List ℕ) → length bs ≤ line_length bs → (tick_lines bs ≡ front_line bs ∷ []) × (tick_lines (behind_line bs) ≡ [] ∷ [])
+last_line : (bs : List ℕ) → length bs ≤ line_length bs → (tick_lines bs ≡ first_line bs ∷ []) × (tick_lines (after_line bs) ≡ [] ∷ [])
 unfolding tick_lines
 last_line bs h =
     let t : nat_lt (line_length bs) (length bs) ≡ false = grind (arith, nat_tests) in (
@@ -98,49 +98,49 @@ unfolding tick_lines
 bad_done n = bad_blank n
 
 -- the rules of a text are that of its first line and those of the lines after it
-pub rules_step : (n : ℕ) (bs : List ℕ) → rules_from n (tick_lines bs) ≡ rule_at n (said (front_line bs)) ++ rules_from (n + 1) (tick_lines (behind_line bs))
+pub rules_step : (n : ℕ) (bs : List ℕ) → rules_from n (tick_lines bs) ≡ rule_at n (said (first_line bs)) ++ rules_from (n + 1) (tick_lines (after_line bs))
 rules_step n bs =
     ⊎_elim
-    (λ h. ap (rules_from n) (first_line bs h))
+    (λ h. ap (rules_from n) (line_and_others bs h))
     (λ h.
     ap (rules_from n) (last_line bs h).0
-    ∙ ap (λ rs. rule_at n (said (front_line bs)) ++ rs) (sym (rules_blank (n + 1)) ∙ ap (rules_from (n + 1)) (sym (last_line bs h).1)))
+    ∙ ap (λ rs. rule_at n (said (first_line bs)) ++ rs) (sym (rules_blank (n + 1)) ∙ ap (rules_from (n + 1)) (sym (last_line bs h).1)))
     (cases_lt (line_length bs) (length bs))
 
 -- and its first bad line is its first line, or the first bad line after it
-pub bad_step : (n : ℕ) (bs : List ℕ) → bad_from n (tick_lines bs) ≡ bad_or n (bad_from (n + 1) (tick_lines (behind_line bs))) (said (front_line bs))
+pub bad_step : (n : ℕ) (bs : List ℕ) → bad_from n (tick_lines bs) ≡ bad_or n (bad_from (n + 1) (tick_lines (after_line bs))) (said (first_line bs))
 bad_step n bs =
     ⊎_elim
-    (λ h. ap (bad_from n) (first_line bs h))
+    (λ h. ap (bad_from n) (line_and_others bs h))
     (λ h.
     ap (bad_from n) (last_line bs h).0
-    ∙ ap (λ o. bad_or n o (said (front_line bs))) (sym (bad_blank (n + 1)) ∙ ap (bad_from (n + 1)) (sym (last_line bs h).1)))
+    ∙ ap (λ o. bad_or n o (said (first_line bs))) (sym (bad_blank (n + 1)) ∙ ap (bad_from (n + 1)) (sym (last_line bs h).1)))
     (cases_lt (line_length bs) (length bs))
 
-module _ (n : ℕ) (bs front after : List ℕ) (s : Said) (says : s ≡ said front) (first : front ≡ front_line bs) where
-  front_says : s ≡ said (front_line bs)
-  front_says = says ∙ ap said first
+module _ (n : ℕ) (bs prefix after : List ℕ) (s : Said) (says : s ≡ said prefix) (first : prefix ≡ first_line bs) where
+  first_says : s ≡ said (first_line bs)
+  first_says = says ∙ ap said first
 
   -- after the rule of line n is added, the rules so far and those to come are the same rules together
-  pub kept_step : (ks more : List (Reverse Pending)) → after ≡ behind_line bs → more ≡ ks ++ map waiting_of (rule_at n s)
+  pub kept_step : (ks more : List (Reverse Pending)) → after ≡ after_line bs → more ≡ ks ++ map waiting_of (rule_at n s)
       → more ++ map waiting_of (rules_from (n + 1) (tick_lines after)) ≡ ks ++ map waiting_of (rules_from n (tick_lines bs))
   kept_step ks more rest e =
       ap (λ (xs : List (Reverse Pending)). xs ++ map waiting_of (rules_from (n + 1) (tick_lines after))) e
       ∙ append_assoc ks (map waiting_of (rule_at n s)) (map waiting_of (rules_from (n + 1) (tick_lines after)))
       ∙ ap (λ (xs : List (Reverse Pending)). ks ++ xs) (sym (map-append waiting_of (rule_at n s) (rules_from (n + 1) (tick_lines after))))
-      ∙ ap (λ t. ks ++ map waiting_of (rule_at n t ++ rules_from (n + 1) (tick_lines after))) front_says
-      ∙ ap (λ (b : List ℕ). ks ++ map waiting_of (rule_at n (said (front_line bs)) ++ rules_from (n + 1) (tick_lines b))) rest
+      ∙ ap (λ t. ks ++ map waiting_of (rule_at n t ++ rules_from (n + 1) (tick_lines after))) first_says
+      ∙ ap (λ (b : List ℕ). ks ++ map waiting_of (rule_at n (said (first_line bs)) ++ rules_from (n + 1) (tick_lines b))) rest
       ∙ ap (λ rs. ks ++ map waiting_of rs) (sym (rules_step n bs))
 
   -- if line n isn't bad, the first bad line comes after it
-  pub good_step : after ≡ behind_line bs → ((o : Option ℕ) → bad_or n o s ≡ o) → bad_from (n + 1) (tick_lines after) ≡ bad_from n (tick_lines bs)
+  pub good_step : after ≡ after_line bs → ((o : Option ℕ) → bad_or n o s ≡ o) → bad_from (n + 1) (tick_lines after) ≡ bad_from n (tick_lines bs)
   good_step rest good =
       sym (good (bad_from (n + 1) (tick_lines after)))
-      ∙ ap (λ t. bad_or n (bad_from (n + 1) (tick_lines after)) t) front_says
-      ∙ ap (λ (b : List ℕ). bad_or n (bad_from (n + 1) (tick_lines b)) (said (front_line bs))) rest
+      ∙ ap (λ t. bad_or n (bad_from (n + 1) (tick_lines after)) t) first_says
+      ∙ ap (λ (b : List ℕ). bad_or n (bad_from (n + 1) (tick_lines b)) (said (first_line bs))) rest
       ∙ sym (bad_step n bs)
 
   -- and an error of line n tells of the first bad line
-  pub told : (e : TickErr) → ((o : Option ℕ) → Tells (bad_or n o s) e) → Tells (bad_from n (tick_lines bs)) e
-  told e tells =
-      subst (λ o. Tells o e) (ap (λ t. bad_or n (bad_from (n + 1) (tick_lines (behind_line bs))) t) front_says ∙ sym (bad_step n bs)) (tells (bad_from (n + 1) (tick_lines (behind_line bs))))
+  pub bad_tells : (e : TickErr) → ((o : Option ℕ) → Tells (bad_or n o s) e) → Tells (bad_from n (tick_lines bs)) e
+  bad_tells e tells =
+      subst (λ o. Tells o e) (ap (λ t. bad_or n (bad_from (n + 1) (tick_lines (after_line bs))) t) first_says ∙ sym (bad_step n bs)) (tells (bad_from (n + 1) (tick_lines (after_line bs))))

@@ -22,13 +22,13 @@ module _ {X : Type 0} where
   pub all_sorted : (lt : X → X → Bool) (P : X → Type 0) (xs : List X) → AllByRecursion P xs → AllByRecursion P (sorted lt xs)
   all_sorted lt P xs ps = recursion_from_All P (sorted lt xs) (All-permutation P xs (sorted lt xs) (IsPermutation-sorted lt xs) (All-from_recursion P xs ps))
 
-  at_front : (lt : X → X → Bool) (x : X) (ys : List X) → AllByRecursion (λ y. lt y x ≡ false) ys → insert_sorted lt x ys ≡ x ∷ ys
-  at_front lt x [] h = refl
-  at_front lt x (y ∷ ys) h = rw h.0 refl
+  at_head : (lt : X → X → Bool) (x : X) (ys : List X) → AllByRecursion (λ y. lt y x ≡ false) ys → insert_sorted lt x ys ≡ x ∷ ys
+  at_head lt x [] h = refl
+  at_head lt x (y ∷ ys) h = rw h.0 refl
 
   -- if no other element is before the first, it is also the first in order
-  pub sorted_front : (lt : X → X → Bool) (x : X) (xs : List X) → AllByRecursion (λ y. lt y x ≡ false) xs → sorted lt (x ∷ xs) ≡ x ∷ sorted lt xs
-  sorted_front lt x xs h = at_front lt x (sorted lt xs) (all_sorted lt (λ y. lt y x ≡ false) xs h)
+  pub sorted_head : (lt : X → X → Bool) (x : X) (xs : List X) → AllByRecursion (λ y. lt y x ≡ false) xs → sorted lt (x ∷ xs) ≡ x ∷ sorted lt xs
+  sorted_head lt x xs h = at_head lt x (sorted lt xs) (all_sorted lt (λ y. lt y x ≡ false) xs h)
 
   -- how many pass a test in several lists together
   pub count-flat_map : {Y : Type 0} (p : X → Bool) (f : Y → List X) (ys : List Y) → count_by p (flat_map f ys) ≡ sum_by (λ y. count_by p (f y)) ys

@@ -1,6 +1,6 @@
 -- The rules of a text: their numbers are bounded, and those of one line have the same event.
-use Rattle.std.proofs.Common.{◌≡◌, ℕ, ◌+◌, ◌-◌, ◌^◌, ◌≤◌, Bool, true, false, cond, List, [], ◌∷◌, ◌++◌, map, Option, None, Some, length, refl, sym, ap, ◌∙◌, arith}
-use Rattle.std.specs.Prelude.{nat_le, ◌&&◌, ◌||◌, codes}
+use Rattle.std.proofs.Common.{◌≡◌, ℕ, ◌+◌, ◌-◌, ◌^◌, ◌≤◌, Bool, true, false, not, cond, List, [], ◌∷◌, ◌++◌, map, Option, None, Some, length, refl, sym, ap, ◌∙◌, arith}
+use Rattle.std.specs.Prelude.{nat_le, nat_lt, ◌&&◌, ◌||◌, codes}
 use Rattle.std.specs.Str.{bytes_eq}
 use Rattle.std.specs.Str.Parse.{digits_value}
 use Rattle.std.specs.List.{AllByRecursion, All, list_all}
@@ -8,16 +8,16 @@ use Rattle.std.specs.declared.cmp.Reverse.{Reverse}
 use Rattle.std.proofs.lemmas.Bool.Decides.{nat_tests}
 use Rattle.std.proofs.lemmas.List.Elements.{All-from_recursion}
 use Rattle.wind_base.specs.Decimal.{decimal_value, number_within, is_numeral}
-use Rattle.wind_base.specs.Limits.{greatest_word, longest_chunk}
-use Rattle.tick_file.specs.declared.event.Event.TheVariants.{Rx}
+use Rattle.wind_base.specs.Limits.{greatest_word, longest_chunk, most_slots}
+use Rattle.tick_file.specs.declared.event.Event.TheVariants.{Tick, Rx, Irq}
 use Rattle.tick_file.specs.declared.event.Rule.{Rule}
 use Rattle.tick_file.specs.declared.event.Rule.TheVariants.{At, Every}
 use Rattle.tick_file.specs.declared.event.Said.{Said}
 use Rattle.tick_file.specs.declared.event.Said.TheVariants.{Nothing, Says, Outside}
 use Rattle.tick_file.specs.declared.pending.Pending.{Pending}
-use Rattle.tick_file.specs.Grammar.{is_blank, is_comment, word_number, first_word, behind_word, of_both, tick_at, rx_at, every_at, tick_rule, rx_rule, every_rule, rule_of, by_rule, said}
+use Rattle.tick_file.specs.Grammar.{is_blank, is_comment, word_number, first_word, after_word, of_both, of_three, tick_at, rx_at, every_at, irq_at, irqs_at, tick_rule, rx_rule, every_rule, irq_rule, irqs_rule, rule_of, by_rule, said}
 use Rattle.tick_file.specs.Lines.{Numbered, rule_at, rules_from, rules_of, tick_lines}
-use Rattle.tick_file.specs.Schedule.{is_tick, asks_ticks}
+use Rattle.tick_file.specs.Schedule.{brings_bytes, event_of}
 use Rattle.tick_file.specs.Inside.{pending_at, pending_of, waiting_of, IsSound, Agree}
 use Rattle.tick_file.proofs.Merging.{all_both, all_weaker}
 
@@ -42,7 +42,7 @@ number_small text = elim (nat_le (length text) 10) as (λ b. SmallIf (cond b (de
 -- the numbers of a rule
 abbrev pub IsBounded : Rule → Type 0
 IsBounded (At time event) = Small time
-IsBounded (Every period count) = (Small period × Small count) × (1 ≤ count)
+IsBounded (Every period count event) = (Small period × Small count) × (1 ≤ count)
 
 abbrev BoundedIf : Option Rule → Type 0
 BoundedIf None = Unit {0}
@@ -68,7 +68,21 @@ rx_bounded t k a b = elim (nat_le 1 k && nat_le k longest_chunk) as (λ c. Bound
 
 every_bounded : (p c : ℕ) → Small p → Small c → BoundedIf (every_at p c)
 every_bounded p c a b =
-    elim (nat_le 1 p && nat_le 1 c) as (λ d. (nat_le 1 p && nat_le 1 c) ≡ d → BoundedIf (cond d (Some (Every p c)) None)) [
+    elim (nat_le 1 p && nat_le 1 c) as (λ d. (nat_le 1 p && nat_le 1 c) ≡ d → BoundedIf (cond d (Some (Every p c Tick)) None)) [
+      | true ↦ λ e. let some : 1 ≤ c = grind (arith, nat_tests) in ((a, b), some)
+      | false ↦ λ e. tt
+    ] refl
+
+three_bounded : (f : ℕ → ℕ → ℕ → Option Rule) → ((a b c : ℕ) → Small a → Small b → Small c → BoundedIf (f a b c)) → (o p q : Option ℕ) → SmallIf o → SmallIf p → SmallIf q → BoundedIf (of_three f o p q)
+three_bounded f h None p q a b c = tt
+three_bounded f h (Some n) p q a b c = both_bounded (f n) (λ m k d e. h n m k a d e) p q b c
+
+irq_bounded : (t s : ℕ) → Small t → Small s → BoundedIf (irq_at t s)
+irq_bounded t s a b = elim (nat_lt s most_slots) as (λ c. BoundedIf (cond c (Some (At t (Irq s))) None)) [ true ↦ a | false ↦ tt ]
+
+irqs_bounded : (p c s : ℕ) → Small p → Small c → Small s → BoundedIf (irqs_at p c s)
+irqs_bounded p c s a b d =
+    elim (nat_le 1 p && nat_le 1 c && nat_lt s most_slots) as (λ t. (nat_le 1 p && nat_le 1 c && nat_lt s most_slots) ≡ t → BoundedIf (cond t (Some (Every p c (Irq s))) None)) [
       | true ↦ λ e. let some : 1 ≤ c = grind (arith, nat_tests) in ((a, b), some)
       | false ↦ λ e. tt
     ] refl
@@ -79,12 +93,16 @@ pick_bounded false o p h k = k
 
 rule_bounded : (line : List ℕ) → BoundedIf (rule_of line)
 rule_bounded line =
-    let rest = behind_word line in
+    let rest = after_word line in
     let first = number_small (first_word rest) in
-    let second = number_small (behind_word rest) in
+    let second = number_small (after_word rest) in
     pick_bounded (bytes_eq (first_word line) (codes "tick")) (tick_rule rest) _ (tick_bounded (word_number rest) (number_small rest))
-    (pick_bounded (bytes_eq (first_word line) (codes "rx")) (rx_rule rest) _ (both_bounded rx_at rx_bounded (word_number (first_word rest)) (word_number (behind_word rest)) first second)
-    (pick_bounded (bytes_eq (first_word line) (codes "every")) (every_rule rest) None (both_bounded every_at every_bounded (word_number (first_word rest)) (word_number (behind_word rest)) first second) tt))
+    (pick_bounded (bytes_eq (first_word line) (codes "rx")) (rx_rule rest) _ (both_bounded rx_at rx_bounded (word_number (first_word rest)) (word_number (after_word rest)) first second)
+    (pick_bounded (bytes_eq (first_word line) (codes "every")) (every_rule rest) _ (both_bounded every_at every_bounded (word_number (first_word rest)) (word_number (after_word rest)) first second)
+    (pick_bounded (bytes_eq (first_word line) (codes "irq")) (irq_rule rest) _ (both_bounded irq_at irq_bounded (word_number (first_word rest)) (word_number (after_word rest)) first second)
+    (pick_bounded (bytes_eq (first_word line) (codes "irqs")) (irqs_rule rest) None
+    (three_bounded irqs_at irqs_bounded (word_number (first_word rest)) (word_number (first_word (after_word rest))) (word_number (after_word (after_word rest)))
+    first (number_small (first_word (after_word rest))) (number_small (after_word (after_word rest)))) tt))))
 
 by_rule_bounded : (o : Option Rule) → BoundedIf o → BoundedSaid (by_rule o)
 by_rule_bounded None h = tt
@@ -122,7 +140,7 @@ rules_bounded text =
 -- ---- the rules as they are stored
 sound_at : (n : ℕ) (rule : Rule) → IsBounded rule → IsSound (pending_at n rule)
 sound_at n (At time event) h = let t : time ≤ 2 ^ 32 - 1 = h in record { some = omega arith; numbers = omega arith; apart = omega arith; times = omega arith }
-sound_at n (Every period count) h = record { some = omega (arith, h.1); numbers = omega (arith, h.0.1); apart = h.0.0; times = omega (arith, h.0.0) }
+sound_at n (Every period count event) h = record { some = omega (arith, h.1); numbers = omega (arith, h.0.1); apart = h.0.0; times = omega (arith, h.0.0) }
 
 all_sound : (rs : List Numbered) → AllByRecursion (λ r. IsBounded r.rule) rs → AllByRecursion (λ (p : Reverse Pending). IsSound p.0) (map waiting_of rs)
 all_sound [] h = tt
@@ -140,7 +158,7 @@ AreAlike r s = Agree (pending_of r) (pending_of s)
 
 line_kept : (n : ℕ) (rule : Rule) → (pending_at n rule).line ≡ n
 line_kept n (At time event) = refl
-line_kept n (Every period count) = refl
+line_kept n (Every period count event) = refl
 
 apart : (r s : Numbered) → r.line + 1 ≤ s.line → (pending_of r).line ≡ (pending_of s).line → ⊥
 apart r s h e = omega (arith, line_kept r.line r.rule, line_kept s.line s.rule, e)
@@ -183,11 +201,13 @@ rules_agree text =
     (λ r h. All-from_recursion (λ q. Agree (pending_of r) q.0) ps (all_map waiting_of (λ q. Agree (pending_of r) q.0) rs h))
     rs (all_alike 1 (tick_lines text))))
 
--- input comes on demand if each stored rule is for ticks
-pub on_demand_kept : (rs : List Numbered) → list_all (λ (p : Reverse Pending). is_tick p.0.event) (map waiting_of rs) ≡ list_all (λ r. asks_ticks r.rule) rs
+-- input comes on demand if no stored rule brings bytes
+pub on_demand_kept : (rs : List Numbered) → list_all (λ (p : Reverse Pending). not (brings_bytes p.0.event)) (map waiting_of rs) ≡ list_all (λ r. not (brings_bytes (event_of r.rule))) rs
 on_demand_kept [] = refl
-on_demand_kept (r ∷ rs) = ap (λ b. b && list_all (λ (p : Reverse Pending). is_tick p.0.event) (map waiting_of rs)) (by r.line r.rule) ∙ ap (λ b. asks_ticks r.rule && b) (on_demand_kept rs)
+on_demand_kept (r ∷ rs) =
+    ap (λ e. not (brings_bytes e) && list_all (λ (p : Reverse Pending). not (brings_bytes p.0.event)) (map waiting_of rs)) (by r.line r.rule)
+    ∙ ap (λ b. not (brings_bytes (event_of r.rule)) && b) (on_demand_kept rs)
   where
-    by : (n : ℕ) (rule : Rule) → is_tick (pending_at n rule).event ≡ asks_ticks rule
+    by : (n : ℕ) (rule : Rule) → (pending_at n rule).event ≡ event_of rule
     by n (At time event) = refl
-    by n (Every period count) = refl
+    by n (Every period count event) = refl

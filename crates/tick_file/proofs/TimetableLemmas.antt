@@ -14,14 +14,14 @@ use Rattle.std.proofs.lemmas.Grind.{flat_map-append}
 use Rattle.wind_lists.specs.Sorting.{sorted}
 use Rattle.wind_lists.proofs.Sorting.{InOrder, in_order_sorted}
 use Rattle.wind_lists.proofs.Orders.{IsPermutation-sorted, not_before_itself}
-use Rattle.tick_file.specs.declared.event.Event.TheVariants.{Tick}
+use Rattle.tick_file.specs.declared.event.Event.{Event}
 use Rattle.tick_file.specs.declared.event.Rule.{Rule}
 use Rattle.tick_file.specs.declared.event.Rule.TheVariants.{At, Every}
 use Rattle.tick_file.specs.declared.event.Said.{Said}
 use Rattle.tick_file.specs.declared.event.Said.TheVariants.{Nothing, Says, Outside}
 use Rattle.tick_file.specs.Grammar.{said}
 use Rattle.tick_file.specs.Lines.{pieces, onto_first, rule_at, rules_from, tick_lines, rules_of}
-use Rattle.tick_file.specs.Schedule.{Timed, ticks_from, events_at, events_of, place_of, before, timetable_of}
+use Rattle.tick_file.specs.Schedule.{Timed, events_from, events_at, events_of, place_of, before, timetable_of}
 use Rattle.tick_file.specs.Laws.{joined, HasNoEnd, PiecesLaw, AsksAt, TimetableLaw}
 use Rattle.tick_file.proofs.LineLemmas.{first_piece, pieces_end, pieces_on}
 use Rattle.tick_file.proofs.Events.{order, one_place}
@@ -80,33 +80,33 @@ module _ {X : Type 0} where
     in_all (z ∷ ys) y zero l q h = Contains-append_left (f z) (flat_map f ys) e (subst (λ x. Contains (f x) e) (sym q) h)
     in_all (z ∷ ys) y (suc k) l q h = Contains-append_right (f z) (flat_map f ys) e (in_all ys y k (omega arith) q h)
 
-module _ (n period : ℕ) where
-  abbrev tick : ℕ → Timed
-  tick k = record { time = k * period; line = n; number = k; event = Tick }
+module _ (n period : ℕ) (event : Event) where
+  abbrev nth : ℕ → Timed
+  nth k = record { time = k * period; line = n; number = k; event = event }
 
-  ticks_are : (k count : ℕ) (e : Timed) → Contains (ticks_from n period k count) e → (m : ℕ) × (k ≤ m) × (m < k + count) × (e ≡ tick m)
-  ticks_are k zero e h = absurd (omega (arith, h.1))
-  ticks_are k (suc count) e h =
+  events_are : (k count : ℕ) (e : Timed) → Contains (events_from n period event k count) e → (m : ℕ) × (k ≤ m) × (m < k + count) × (e ≡ nth m)
+  events_are k zero e h = absurd (omega (arith, h.1))
+  events_are k (suc count) e h =
       ⊎_elim
       (λ q. (k, omega arith, omega arith, sym q))
-      (λ r. let m = ticks_are (suc k) count e r in (m.0, omega (arith, m.1), omega (arith, m.2), m.3))
-      (split_at (tick k) (ticks_from n period (suc k) count) e h.0 h.1 h.2)
+      (λ r. let m = events_are (suc k) count e r in (m.0, omega (arith, m.1), omega (arith, m.2), m.3))
+      (split_at (nth k) (events_from n period event (suc k) count) e h.0 h.1 h.2)
 
-  ticks_have : (k count m : ℕ) → k ≤ m → m < k + count → Contains (ticks_from n period k count) (tick m)
-  ticks_have k zero m l h = absurd (omega arith)
-  ticks_have k (suc count) m l h =
+  events_have : (k count m : ℕ) → k ≤ m → m < k + count → Contains (events_from n period event k count) (nth m)
+  events_have k zero m l h = absurd (omega arith)
+  events_have k (suc count) m l h =
       ⊎_elim
-      (λ q. (0, omega arith, ap tick q))
-      (λ q. let r = ticks_have (suc k) count m (omega arith) (omega arith) in (suc r.0, omega (arith, r.1), r.2))
+      (λ q. (0, omega arith, ap nth q))
+      (λ q. let r = events_have (suc k) count m (omega arith) (omega arith) in (suc r.0, omega (arith, r.1), r.2))
       (cases_eq k m)
 
 asked_at : (n : ℕ) (rule : Rule) (e : Timed) → Contains (events_at n rule) e → AsksAt n rule e
 asked_at n (At time event) e h = ⊎_elim (λ q. sym q) (λ r. absurd (omega (arith, r.1))) (split_at (record { time = time; line = n; number = 1; event = event }) [] e h.0 h.1 h.2)
-asked_at n (Every period count) e h = let m = ticks_are n period 1 count e h in (m.0, m.1, omega (arith, m.2), m.3)
+asked_at n (Every period count event) e h = let m = events_are n period event 1 count e h in (m.0, m.1, omega (arith, m.2), m.3)
 
 given_at : (n : ℕ) (rule : Rule) (e : Timed) → AsksAt n rule e → Contains (events_at n rule) e
 given_at n (At time event) e h = (0, omega arith, sym h)
-given_at n (Every period count) e h = subst (Contains (ticks_from n period 1 count)) (sym h.3) (ticks_have n period 1 count h.0 h.1 (omega (arith, h.2)))
+given_at n (Every period count event) e h = subst (Contains (events_from n period event 1 count)) (sym h.3) (events_have n period event 1 count h.0 h.1 (omega (arith, h.2)))
 
 -- ---- no two at one place
 tie_none : (z e : Timed) → (place_of z ≡ place_of e → ⊥) → ties before z e ≡ false
@@ -123,40 +123,40 @@ at_most_one : (b : Bool) → cond b 1 0 ≤ 1
 at_most_one true = omega arith
 at_most_one false = omega arith
 
-module _ (z : Timed) (n period : ℕ) where
-  -- ticks after a number
-  later_ticks : (k count : ℕ) → z.number < k → count_by (ties before z) (ticks_from n period k count) ≡ 0
-  later_ticks k zero h = refl
-  later_ticks k (suc count) h =
-      count-cons z (tick n period k) (ticks_from n period (suc k) count)
-      ∙ ap (λ b. cond b 1 0 + count_by (ties before z) (ticks_from n period (suc k) count)) (tie_none z (tick n period k) (λ q. let e : z.number ≡ k = cc in omega arith))
-      ∙ ap (λ m. 0 + m) (later_ticks (suc k) count (omega arith))
+module _ (z : Timed) (n period : ℕ) (event : Event) where
+  -- events after a number
+  later_events : (k count : ℕ) → z.number < k → count_by (ties before z) (events_from n period event k count) ≡ 0
+  later_events k zero h = refl
+  later_events k (suc count) h =
+      count-cons z (nth n period event k) (events_from n period event (suc k) count)
+      ∙ ap (λ b. cond b 1 0 + count_by (ties before z) (events_from n period event (suc k) count)) (tie_none z (nth n period event k) (λ q. let e : z.number ≡ k = cc in omega arith))
+      ∙ ap (λ m. 0 + m) (later_events (suc k) count (omega arith))
 
-  other_ticks : (k count : ℕ) → z.line ≢ n → count_by (ties before z) (ticks_from n period k count) ≡ 0
-  other_ticks k zero h = refl
-  other_ticks k (suc count) h =
-      count-cons z (tick n period k) (ticks_from n period (suc k) count)
-      ∙ ap (λ b. cond b 1 0 + count_by (ties before z) (ticks_from n period (suc k) count)) (tie_none z (tick n period k) (λ q. let e : z.line ≡ n = cc in h e))
-      ∙ ap (λ m. 0 + m) (other_ticks (suc k) count h)
+  other_events : (k count : ℕ) → z.line ≢ n → count_by (ties before z) (events_from n period event k count) ≡ 0
+  other_events k zero h = refl
+  other_events k (suc count) h =
+      count-cons z (nth n period event k) (events_from n period event (suc k) count)
+      ∙ ap (λ b. cond b 1 0 + count_by (ties before z) (events_from n period event (suc k) count)) (tie_none z (nth n period event k) (λ q. let e : z.line ≡ n = cc in h e))
+      ∙ ap (λ m. 0 + m) (other_events (suc k) count h)
 
-  one_tick : (k count : ℕ) → count_by (ties before z) (ticks_from n period k count) ≤ 1
-  one_tick k zero = omega arith
-  one_tick k (suc count) =
+  at_most_once : (k count : ℕ) → count_by (ties before z) (events_from n period event k count) ≤ 1
+  at_most_once k zero = omega arith
+  at_most_once k (suc count) =
       ⊎_elim
-      (λ q. omega (arith, count-cons z (tick n period k) (ticks_from n period (suc k) count), at_most_one (ties before z (tick n period k)), later_ticks (suc k) count (omega arith)))
-      (λ q. omega (arith, count-cons z (tick n period k) (ticks_from n period (suc k) count), ap {B = ℕ} (λ b. cond b 1 0) (tie_none z (tick n period k) (λ p. let e : z.number ≡ k = cc in q e)), one_tick (suc k) count))
+      (λ q. omega (arith, count-cons z (nth n period event k) (events_from n period event (suc k) count), at_most_one (ties before z (nth n period event k)), later_events (suc k) count (omega arith)))
+      (λ q. omega (arith, count-cons z (nth n period event k) (events_from n period event (suc k) count), ap {B = ℕ} (λ b. cond b 1 0) (tie_none z (nth n period event k) (λ p. let e : z.number ≡ k = cc in q e)), at_most_once (suc k) count))
       (cases_eq z.number k)
 
 other_line : (z : Timed) (n : ℕ) (rule : Rule) → z.line ≢ n → count_by (ties before z) (events_at n rule) ≡ 0
 other_line z n (At time event) h =
     let x : Timed = record { time = time; line = n; number = 1; event = event } in
     count-cons z x [] ∙ ap (λ b. cond b 1 0 + 0) (tie_none z x (λ q. let e : z.line ≡ n = cc in h e))
-other_line z n (Every period count) h = other_ticks z n period 1 count h
+other_line z n (Every period count event) h = other_events z n period event 1 count h
 
 one_event : (z : Timed) (n : ℕ) (rule : Rule) → count_by (ties before z) (events_at n rule) ≤ 1
 one_event z n (At time event) =
     let x : Timed = record { time = time; line = n; number = 1; event = event } in omega (arith, count-cons z x [], at_most_one (ties before z x))
-one_event z n (Every period count) = one_tick z n period 1 count
+one_event z n (Every period count event) = at_most_once z n period event 1 count
 
 -- how many events of line n are at a place
 abbrev in_line : Timed → ℕ → Said → ℕ

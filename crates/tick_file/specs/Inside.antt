@@ -6,7 +6,6 @@ use Rattle.std.specs.Ordering.{nat_cmp, ordering_then}
 use Rattle.std.specs.declared.cmp.Ordering.{Ordering}
 use Rattle.std.specs.declared.cmp.Reverse.{Reverse}
 use Rattle.wind_lists.specs.Sorting.{sorted}
-use Rattle.tick_file.specs.declared.event.Event.TheVariants.{Tick}
 use Rattle.tick_file.specs.declared.event.Rule.{Rule}
 use Rattle.tick_file.specs.declared.event.Rule.TheVariants.{At, Every}
 use Rattle.tick_file.specs.declared.pending.Pending.{Pending}
@@ -29,7 +28,7 @@ upcoming p = coming p.period (next_of p) p.left
 -- a rule before its first event
 abbrev pub pending_at : ℕ → Rule → Pending
 pending_at n (At time event) = record { time = time; line = n; number = 1; event = event; left = 1; period = 0 }
-pending_at n (Every period count) = record { time = period; line = n; number = 1; event = Tick; left = count; period = period }
+pending_at n (Every period count event) = record { time = period; line = n; number = 1; event = event; left = count; period = period }
 
 abbrev pub pending_of : Numbered → Pending
 pending_of r = pending_at r.line r.rule

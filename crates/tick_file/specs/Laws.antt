@@ -1,7 +1,6 @@
 -- What the lines and the timetable of a text are, apart from how they are made.
 use Rattle.std.specs.Prelude.{◌≡◌, ℕ, ◌+◌, ◌*◌, ◌^◌, ◌<◌, ◌≤◌, true, not, ◌==◌, ◌↔◌, List, [], ◌∷◌, ◌++◌, length, slice_index_or, Some}
 use Rattle.std.specs.List.{All, AllPairs, Contains, list_all}
-use Rattle.tick_file.specs.declared.event.Event.TheVariants.{Tick}
 use Rattle.tick_file.specs.declared.event.Rule.{Rule}
 use Rattle.tick_file.specs.declared.event.Rule.TheVariants.{At, Every}
 use Rattle.tick_file.specs.declared.event.Said.{Said}
@@ -36,7 +35,7 @@ LinesLaw = (text : List ℕ) → ((r : Numbered) → Contains (rules_of text) r 
 -- line n asks for an event, if it has this rule
 abbrev pub AsksAt : ℕ → Rule → Timed → Type 0
 AsksAt n (At time event) e = e ≡ record { time = time; line = n; number = 1; event = event }
-AsksAt n (Every period count) e = (k : ℕ) × (1 ≤ k) × (k ≤ count) × (e ≡ record { time = k * period; line = n; number = k; event = Tick })
+AsksAt n (Every period count event) e = (k : ℕ) × (1 ≤ k) × (k ≤ count) × (e ≡ record { time = k * period; line = n; number = k; event = event })
 
 -- one of the rules of a text asks for an event
 abbrev pub IsAsked : List ℕ → Timed → Type 0

@@ -4,3 +4,4 @@ pub mod Schedule
 pub mod Inside
 pub mod Forms
 pub mod Laws
+pub mod Writing

@@ -33,11 +33,11 @@ unfoldable pub tick_lines : List ℕ → List (List ℕ)
 tick_lines text = lines_of (pieces text)
 
 -- the first line of a text, and what comes after its end
-abbrev pub front_line : List ℕ → List ℕ
-front_line text = if nat_lt (line_length text) (length text) then without_return (take (line_length text) text) else text
+abbrev pub first_line : List ℕ → List ℕ
+first_line text = if nat_lt (line_length text) (length text) then without_return (take (line_length text) text) else text
 
-abbrev pub behind_line : List ℕ → List ℕ
-behind_line text = drop (line_length text + 1) text
+abbrev pub after_line : List ℕ → List ℕ
+after_line text = drop (line_length text + 1) text
 
 -- a rule, with the number of its line
 pub record Numbered : Type 0 where

@@ -1,11 +1,11 @@
 -- The events that a tick file asks for.
-use Rattle.std.specs.Prelude.{ℕ, zero, suc, ◌*◌, Bool, true, false, List, [], ◌∷◌}
+use Rattle.std.specs.Prelude.{ℕ, zero, suc, ◌*◌, Bool, true, false, not, List, [], ◌∷◌}
 use Rattle.std.specs.List.{flat_map, list_all}
 use Rattle.std.specs.Ordering.{is_lt, nat_cmp}
 use Rattle.std.specs.Cmp.Lexicographic.{slice_cmp}
 use Rattle.wind_lists.specs.Sorting.{sorted}
 use Rattle.tick_file.specs.declared.event.Event.{Event}
-use Rattle.tick_file.specs.declared.event.Event.TheVariants.{Tick, Rx}
+use Rattle.tick_file.specs.declared.event.Event.TheVariants.{Tick, Rx, Irq}
 use Rattle.tick_file.specs.declared.event.Rule.{Rule}
 use Rattle.tick_file.specs.declared.event.Rule.TheVariants.{At, Every}
 use Rattle.tick_file.specs.Lines.{Numbered, rules_of}
@@ -17,15 +17,15 @@ pub record Timed : Type 0 where
   pub number : ℕ
   pub event : Event
 
--- `count` ticks of line n from number k on: tick number k comes at k periods
-abbrev pub ticks_from : ℕ → ℕ → ℕ → ℕ → List Timed
-ticks_from n period k zero = []
-ticks_from n period k (suc count) = record { time = k * period; line = n; number = k; event = Tick } ∷ ticks_from n period (suc k) count
+-- `count` events of line n from number k on: event number k comes at k periods
+abbrev pub events_from : ℕ → ℕ → Event → ℕ → ℕ → List Timed
+events_from n period event k zero = []
+events_from n period event k (suc count) = record { time = k * period; line = n; number = k; event = event } ∷ events_from n period event (suc k) count
 
 -- the events of line n, if it has this rule
 abbrev pub events_at : ℕ → Rule → List Timed
 events_at n (At time event) = record { time = time; line = n; number = 1; event = event } ∷ []
-events_at n (Every period count) = ticks_from n period 1 count
+events_at n (Every period count event) = events_from n period event 1 count
 
 abbrev pub events_of : Numbered → List Timed
 events_of r = events_at r.line r.rule
@@ -42,15 +42,16 @@ before a b = is_lt (slice_cmp nat_cmp (place_of a) (place_of b))
 abbrev pub in_order : List Numbered → List Timed
 in_order rules = sorted before (flat_map events_of rules)
 
--- a tick interrupt
-abbrev pub is_tick : Event → Bool
-is_tick Tick = true
-is_tick (Rx bytes) = false
+-- console bytes arrive
+abbrev pub brings_bytes : Event → Bool
+brings_bytes Tick = false
+brings_bytes (Rx bytes) = true
+brings_bytes (Irq slot) = false
 
--- a rule that asks for ticks
-abbrev pub asks_ticks : Rule → Bool
-asks_ticks (At time event) = is_tick event
-asks_ticks (Every period count) = true
+-- the event that a rule asks for, once or several times
+abbrev pub event_of : Rule → Event
+event_of (At time event) = event
+event_of (Every period count event) = event
 
 -- what a contract sees of a schedule: the future events, and whether input comes on demand
 pub record Timetable : Type 0 where
@@ -63,4 +64,4 @@ at t = (t.time, t.event)
 
 -- the timetable that a text asks for; input comes on demand if no line is an `rx` line
 unfoldable pub timetable_of : List ℕ → Timetable
-timetable_of text = record { events = in_order (rules_of text); on_demand = list_all (λ r. asks_ticks r.rule) (rules_of text) }
+timetable_of text = record { events = in_order (rules_of text); on_demand = list_all (λ r. not (brings_bytes (event_of r.rule))) (rules_of text) }

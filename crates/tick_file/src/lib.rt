@@ -1,9 +1,10 @@
-//! The tick file: a text that says when tick interrupts occur and when console bytes arrive.
-//! `read_ticks` reads it, and a `Schedule` gives its events, one after another.
+//! The tick file: a text that says when ticks occur, when devices interrupt and when console bytes
+//! arrive. `read_ticks` reads it, and a `Schedule` gives its events, one after another.
 #![tactic(auto)]
 
 ghost use Rattle.tick_file.specs.Forms.{GrammarLaw};
 ghost use Rattle.tick_file.specs.Laws.{PiecesLaw, LinesLaw, TimetableLaw, EarlyLaw};
+ghost use Rattle.tick_file.specs.Writing.{WritingLaw, MoreLaw, LongerLaw};
 
 mod event;
 mod line;
@@ -43,4 +44,13 @@ pub fn timetable_law()
 /// The law of early events: whatever a text asks for comes before 2^64.
 pub fn early_law()
     ensures { EarlyLaw }
+{}
+
+/// The law of written tick files. If a text has one line for each event of a list, none earlier than
+/// the one before, its timetable is that list, and no line is invalid. One more event is one more
+/// line.
+pub fn writing_law()
+    ensures written { WritingLaw }
+    ensures more { MoreLaw }
+    ensures longer { LongerLaw }
 {}

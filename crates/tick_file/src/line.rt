@@ -2,10 +2,11 @@
 
 ghost use Rattle.std.specs.Prelude.{◌≡◌, ◌≤◌, length};
 ghost use Rattle.std.specs.List.{list_all};
-ghost use Rattle.tick_file.specs.Grammar.{is_blank as is_blank_lem, word_length, gap_length, first_word as first_word_lem, behind_word as behind_word_lem, word_number, tick_rule as tick_rule_lem, rx_rule as rx_rule_lem, every_rule as every_rule_lem, rule_of as rule_of_lem, is_comment as is_comment_lem, said as said_lem};
+ghost use Rattle.tick_file.specs.Grammar.{is_blank as is_blank_lem, word_length, gap_length, first_word as first_word_lem, after_word as after_word_lem, word_number, tick_rule as tick_rule_lem, rx_rule as rx_rule_lem, every_rule as every_rule_lem, irq_rule as irq_rule_lem, irqs_rule as irqs_rule_lem, rule_of as rule_of_lem, is_comment as is_comment_lem, said as said_lem};
 
 use crate::event::{Event, Rule, Said};
-use wind_base::{behind, decimal};
+use wind_base::limits::SLOTS;
+use wind_base::{bytes_after, decimal};
 
 // The largest number of a tick file.
 const MOST: u64 = 4_294_967_295;
@@ -47,11 +48,11 @@ fn first_word(text: &[u8]) -> &[u8]
 }
 
 // What comes after the first word and the blanks after it.
-fn behind_word(text: &[u8]) -> &[u8]
-    ensures { result.now ≡ behind_word_lem text.now }
+fn after_word(text: &[u8]) -> &[u8]
+    ensures { result.now ≡ after_word_lem text.now }
 {
-    let rest = behind(text, word_len(text));
-    behind(rest, gap_len(rest))
+    let rest = bytes_after(text, word_len(text));
+    bytes_after(rest, gap_len(rest))
 }
 
 // The number that a text spells.
@@ -77,7 +78,7 @@ fn rx_rule(text: &[u8]) -> Option<Rule>
     ensures { result ≡ rx_rule_lem text.now }
 {
     let time = number(first_word(text))?;
-    let bytes = number(behind_word(text))?;
+    let bytes = number(after_word(text))?;
     if bytes < 1 || bytes > BYTES_MOST {
         return None;
     }
@@ -89,11 +90,37 @@ fn every_rule(text: &[u8]) -> Option<Rule>
     ensures { result ≡ every_rule_lem text.now }
 {
     let period = number(first_word(text))?;
-    let count = number(behind_word(text))?;
+    let count = number(after_word(text))?;
     if period < 1 || count < 1 {
         return None;
     }
-    Some(Rule::Every(period, count))
+    Some(Rule::Every(period, count, Event::Tick))
+}
+
+// The rule of what comes after `irq`.
+fn irq_rule(text: &[u8]) -> Option<Rule>
+    ensures { result ≡ irq_rule_lem text.now }
+{
+    let time = number(first_word(text))?;
+    let slot = number(after_word(text))?;
+    if slot >= SLOTS as u64 {
+        return None;
+    }
+    Some(Rule::At(time, Event::Irq(slot as u32)))
+}
+
+// The rule of what comes after `irqs`.
+fn irqs_rule(text: &[u8]) -> Option<Rule>
+    ensures { result ≡ irqs_rule_lem text.now }
+{
+    let rest = after_word(text);
+    let period = number(first_word(text))?;
+    let count = number(first_word(rest))?;
+    let slot = number(after_word(rest))?;
+    if period < 1 || count < 1 || slot >= SLOTS as u64 {
+        return None;
+    }
+    Some(Rule::Every(period, count, Event::Irq(slot as u32)))
 }
 
 // The rule of a line that is neither blank nor a comment.
@@ -101,7 +128,7 @@ fn rule_of(line: &[u8]) -> Option<Rule>
     ensures { result ≡ rule_of_lem line.now }
 {
     let word = first_word(line);
-    let rest = behind_word(line);
+    let rest = after_word(line);
     if word == b"tick".as_slice() {
         return tick_rule(rest);
     }
@@ -110,6 +137,12 @@ fn rule_of(line: &[u8]) -> Option<Rule>
     }
     if word == b"every".as_slice() {
         return every_rule(rest);
+    }
+    if word == b"irq".as_slice() {
+        return irq_rule(rest);
+    }
+    if word == b"irqs".as_slice() {
+        return irqs_rule(rest);
     }
     None
 }

@@ -39,11 +39,11 @@ pub(crate) fn at_start(line: u64, rule: Rule) -> Pending
             left: 1,
             period: 0,
         },
-        Rule::Every(period, count) => Pending {
+        Rule::Every(period, count, event) => Pending {
             time: period,
             line,
             number: 1,
-            event: Event::Tick,
+            event,
             left: count,
             period,
         },

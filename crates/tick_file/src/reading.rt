@@ -1,14 +1,14 @@
 //! Reads a tick file.
 
-ghost use Rattle.std.specs.Prelude.{◌≡◌, ℕ, ◌++◌, None, Option, map, OnOk, IfOk, IfErr};
+ghost use Rattle.std.specs.Prelude.{◌≡◌, ℕ, ◌++◌, not, None, Option, map, OnOk, IfOk, IfErr};
 ghost use Rattle.std.specs.List.{list_all};
 ghost use Rattle.tick_file.specs.Lines.{rule_at, bad_or, rules_of, first_bad_line, Tells};
-ghost use Rattle.tick_file.specs.Schedule.{timetable_of, is_tick as is_tick_lem};
+ghost use Rattle.tick_file.specs.Schedule.{timetable_of, brings_bytes as brings_bytes_lem};
 ghost use Rattle.tick_file.specs.Inside.{waiting_of};
 
-use crate::event::{Event, Said};
+use crate::event::{Said, brings_bytes};
 use crate::line::said;
-use crate::lines::{behind_line, front_line};
+use crate::lines::{after_line, first_line};
 use crate::pending::{Pending, at_start};
 use crate::schedule::Schedule;
 use std::alloc::Global;
@@ -55,27 +55,17 @@ fn kept_rules(alloc: Global, text: &[u8]) -> Result<Vec<Reverse<Pending>>, TickE
     let mut rest = text;
     while !rest.is_empty() {
         line += 1;
-        keep(&mut kept, line, said(front_line(rest)))?;
-        rest = behind_line(rest);
+        keep(&mut kept, line, said(first_line(rest)))?;
+        rest = after_line(rest);
     }
     Ok(kept)
 }
 
-// Whether an event is a tick.
-fn is_tick(event: Event) -> bool
-    ensures { result ≡ is_tick_lem event }
+// Whether no rule brings console bytes.
+fn bring_no_bytes(rules: &[Reverse<Pending>]) -> bool
+    ensures { result ≡ list_all (λ p. not (brings_bytes_lem p.0.event)) rules.now }
 {
-    match event {
-        Event::Tick => true,
-        Event::Rx(_) => false,
-    }
-}
-
-// Whether all rules are for ticks.
-fn all_ticks(rules: &[Reverse<Pending>]) -> bool
-    ensures { result ≡ list_all (λ p. is_tick_lem p.0.event) rules.now }
-{
-    rules.iter().all(|rule| is_tick(rule.0.event))
+    rules.iter().all(|rule| !brings_bytes(rule.0.event))
 }
 
 /// Reads a tick file, and makes the schedule of all events that its lines ask for. Only this call
@@ -86,6 +76,6 @@ pub fn read_ticks(alloc: Global, text: &[u8]) -> Result<Schedule, TickErr>
     ensures bad { IfErr result (Tells (first_bad_line text.now)) }
 {
     let kept = kept_rules(alloc, text)?;
-    let on_demand = all_ticks(&kept);
+    let on_demand = bring_no_bytes(&kept);
     Ok(Schedule::of_rules(kept, on_demand))
 }

@@ -1,19 +1,20 @@
 //! The events of a tick file, one after another.
 
-ghost use Rattle.std.specs.Prelude.{◌≡◌, drop};
+ghost use Rattle.std.specs.Prelude.{◌≡◌, ◌<◌, ◌≤◌, ◌-◌, ◌^◌, ◌&&◌, ◌++◌, ◌∷◌, [], not, drop, OnOk, OnErr};
 ghost use Rattle.std.specs.List.{All};
 ghost use Rattle.std.specs.Option.{option_map};
 ghost use Rattle.std.specs.BinaryHeap.{heap_items};
 ghost use Rattle.wind_lists.specs.Sorting.{first};
-ghost use Rattle.tick_file.specs.Schedule.{at};
+ghost use Rattle.tick_file.specs.Schedule.{at, brings_bytes as brings_bytes_lem};
 ghost use Rattle.tick_file.specs.Inside.{IsKept, IsSound, Agree, waiting};
 
-use crate::event::Event;
-use crate::pending::{Pending, moved_on};
+use crate::event::{Event, Rule, brings_bytes};
+use crate::pending::{Pending, at_start, moved_on};
 use std::cmp::Reverse;
 use std::collections::BinaryHeap;
 use std::collections::binary_heap::PeekMut;
 use std::marker::Model;
+use wind_base::NoMemory;
 
 /// The future events that a tick file asks for: by time, then by line, then by their order in the
 /// line.
@@ -53,6 +54,28 @@ fn drop_next(heap: &mut BinaryHeap<Reverse<Pending>>)
     let _ = PeekMut::pop(top);
 }
 
+// Adds the rule of one event, which comes after all future events. If memory runs out, nothing
+// changes.
+fn add_event(
+    heap: &mut BinaryHeap<Reverse<Pending>>,
+    line: u64,
+    time: u64,
+    event: Event,
+) -> Result<(), NoMemory>
+    requires kept { IsKept (heap_items heap.old) }
+    requires small { time ≤ 2 ^ 32 - 1 }
+    requires last { All (λ e. (e.time ≤ time) × (e.line < line)) (waiting (heap_items heap.old)) }
+    ensures kept { IsKept (heap_items heap.new) }
+    ensures ok { OnOk result (waiting (heap_items heap.new)
+        ≡ waiting (heap_items heap.old) ++ record { time = time; line = line; number = 1; event = event } ∷ []) }
+    ensures err { OnErr result (waiting (heap_items heap.new) ≡ waiting (heap_items heap.old)) }
+{
+    match heap.push(Reverse(at_start(line, Rule::At(time, event)))) {
+        Ok(()) => Ok(()),
+        Err(_) => Err(NoMemory),
+    }
+}
+
 impl Schedule {
     // Makes the schedule of these rules.
     pub(crate) fn of_rules(rules: Vec<Reverse<Pending>>, on_demand: bool) -> Schedule
@@ -89,5 +112,21 @@ impl Schedule {
         ensures { result ≡ self.now.on_demand }
     {
         self.on_demand
+    }
+
+    /// Adds the event that line `line` of a longer file asks for. No future event may come later, or
+    /// be asked for by that line or a later one. If memory runs out, nothing changes.
+    pub fn add(&mut self, line: u64, time: u64, event: Event) -> Result<(), NoMemory>
+        requires small { time ≤ 2 ^ 32 - 1 }
+        requires last { All (λ e. (e.time ≤ time) × (e.line < line)) self.old.events }
+        ensures ok { OnOk result (self.new ≡ record {
+          events = self.old.events ++ record { time = time; line = line; number = 1; event = event } ∷ [];
+          on_demand = self.old.on_demand && not (brings_bytes_lem event);
+        }) }
+        ensures err { OnErr result (self.new ≡ self.old) }
+    {
+        add_event(&mut self.heap, line, time, event)?;
+        self.on_demand = self.on_demand && !brings_bytes(event);
+        Ok(())
     }
 }

@@ -17,11 +17,11 @@ use Rattle.wait_order.specs.declared.waits.Waiter.{Waiter}
 use Rattle.wait_order.specs.declared.fronts.Front.{Front}
 use Rattle.wait_order.specs.Line.{waiter_id, waiter_of, stands_at}
 use Rattle.wait_order.specs.Fronts.{same_place, place_before, Rises, first_id, front_of, first_from}
-use Rattle.wait_order.specs.Inside.{precedes, cell_of, waiters_in, first_who, run, AreFronts, IsOwn, IsKept, IsBehind, IsPlace, IsGone}
-use Rattle.wait_order.proofs.Turns.{named}
+use Rattle.wait_order.specs.Inside.{precedes, cell_of, waiters_in, first_who, run, AreFronts, IsOwn, IsKept, IsAfter, IsPlace, IsGone}
+use Rattle.wait_order.proofs.LineOrder.{named}
 use Rattle.wait_order.proofs.Places.{place_order, one_place, same_itself, apart_places, before_apart, all_are, passed}
 use Rattle.wait_order.proofs.Standing.{list_order, earlier_place, more_in_order, fewer_in_order, own_chain, own_value, own_apart, owned, value_cell}
-use Rattle.wait_order.proofs.Walking.{joined_cells, first_cell, found_behind, none_ahead, none_behind, put_in_run}
+use Rattle.wait_order.proofs.Walking.{joined_cells, first_cell, found_after, none_ahead, none_after, put_in_run}
 use Rattle.wait_order.proofs.Firsts.{foremost, not_earlier}
 
 -- ---- entries and waiters
@@ -87,19 +87,19 @@ from_least (g ∷ gs) p q f up e some later =
           subst (λ h. place_before q h.place ≡ false) same
           (elim (same_place g.place q) as (λ c. same_place g.place q ≡ c → IsSome (option_map first_id (cond c (Some g) (find (λ h. same_place h.place q) gs))) → place_before q g.place ≡ false) [
             | true ↦ λ c s. subst (λ x. place_before x g.place ≡ false) (one_place g.place q c) (itself g.place)
-            | false ↦ λ c s. place_order.one_way g.place q (behind gs up.0 s)
+            | false ↦ λ c s. place_order.one_way g.place q (preceded gs up.0 s)
           ] refl some)
     ] refl e
   where
     itself : (r : Place) → place_before r r ≡ false
     itself r = elim (place_before r r) as (λ b. place_before r r ≡ b → place_before r r ≡ false) [ true ↦ λ h. place_order.one_way r r h | false ↦ λ h. h ] refl
 
-    behind : (hs : List Front) → AllByRecursion (λ h. place_before g.place h.place ≡ true) hs → IsSome (front_of hs q) → place_before g.place q ≡ true
-    behind [] all s = absurd (cc)
-    behind (h ∷ hs) all s =
+    preceded : (hs : List Front) → AllByRecursion (λ h. place_before g.place h.place ≡ true) hs → IsSome (front_of hs q) → place_before g.place q ≡ true
+    preceded [] all s = absurd (cc)
+    preceded (h ∷ hs) all s =
         elim (same_place h.place q) as (λ c. same_place h.place q ≡ c → IsSome (option_map first_id (cond c (Some h) (find (λ k. same_place k.place q) hs))) → place_before g.place q ≡ true) [
           | true ↦ λ c t. subst (λ x. place_before g.place x ≡ true) (one_place h.place q c) all.0
-          | false ↦ λ c t. behind hs all.1 t
+          | false ↦ λ c t. preceded hs all.1 t
         ] refl s
 
 -- if no entry is of such a place, all places in use are before it
@@ -122,15 +122,15 @@ entry_found (g ∷ gs) p f up e =
     elim (place_before g.place p) as (λ b. place_before g.place p ≡ b → cond (not b) (Some g) (find (λ h. not (place_before h.place p)) gs) ≡ Some f → front_of (g ∷ gs) f.place ≡ Some f.first) [
       | true ↦ λ b r.
           let rest = entry_found gs p f up.1 r in
-          passed g gs f.place (before_apart g.place f.place (behind gs up.0 r)) ∙ rest
+          passed g gs f.place (before_apart g.place f.place (preceded gs up.0 r)) ∙ rest
       | false ↦ λ b r. subst (λ h. front_of (g ∷ gs) h.place ≡ Some h.first) (same_Some g f r) (ap (λ c. option_map first_id (cond c (Some g) (find (λ h. same_place h.place g.place) gs))) (same_itself g.place))
     ] refl e
   where
-    behind : (hs : List Front) → AllByRecursion (λ h. place_before g.place h.place ≡ true) hs → find (λ h. not (place_before h.place p)) hs ≡ Some f → place_before g.place f.place ≡ true
-    behind [] all s = absurd (cc)
-    behind (h ∷ hs) all s =
+    preceded : (hs : List Front) → AllByRecursion (λ h. place_before g.place h.place ≡ true) hs → find (λ h. not (place_before h.place p)) hs ≡ Some f → place_before g.place f.place ≡ true
+    preceded [] all s = absurd (cc)
+    preceded (h ∷ hs) all s =
         elim (place_before h.place p) as (λ c. cond (not c) (Some h) (find (λ k. not (place_before k.place p)) hs) ≡ Some f → place_before g.place f.place ≡ true) [
-          | true ↦ λ t. behind hs all.1 t
+          | true ↦ λ t. preceded hs all.1 t
           | false ↦ λ t. subst (λ k. place_before g.place k.place ≡ true) (same_Some h f t) all.0
         ] s
 
@@ -158,12 +158,12 @@ ahead_of (x ∷ xs) z ys o = (middle xs o.0, ahead_of xs z ys o.1)
     middle (u ∷ us) all = middle us all.1
 
 -- all waiters before the first of a place, or of the next place in use, precede each waiter of that place
-pub start_behind : (ws : List Waiter) (fs : List Front) (w : Waiter) → ws ≡ sorted precedes ws → AreFronts ws fs → IsBehind ws (first_from fs w.place) w
-start_behind ws fs w order are =
-    elim (find (λ g. not (place_before g.place w.place)) fs) as (λ o. find (λ g. not (place_before g.place w.place)) fs ≡ o → IsBehind ws (option_map first_id o) w) [
+pub start_after : (ws : List Waiter) (fs : List Front) (w : Waiter) → ws ≡ sorted precedes ws → AreFronts ws fs → IsAfter ws (first_from fs w.place) w
+start_after ws fs w order are =
+    elim (find (λ g. not (place_before g.place w.place)) fs) as (λ o. find (λ g. not (place_before g.place w.place)) fs ≡ o → IsAfter ws (option_map first_id o) w) [
       | None ↦ λ e.
           record {
-            front = ws;
+            prefix = ws;
             back = [];
             whole = sym (append-nil ws);
             next_is = refl;
@@ -173,24 +173,24 @@ start_behind ws fs w order are =
           let n = named (first (run ws f.place)) f.first (sym (are.firsts f.place) ∙ entry_found fs w.place f are.rising e) in
           let m = foremost ws f.place n.0 n.1 in
           let o = subst (InOrder precedes) (sym order ∙ m.whole) (in_order_sorted precedes list_order ws) in
-          let after = All-from_recursion (λ x. precedes n.0 x ≡ false) m.front (ahead_of m.front n.0 m.back o) in
-          let apart = All-from_recursion (λ x. stands_at f.place x ≡ false) m.front m.none in
+          let after = All-from_recursion (λ x. precedes n.0 x ≡ false) m.prefix (ahead_of m.prefix n.0 m.back o) in
+          let apart = All-from_recursion (λ x. stands_at f.place x ≡ false) m.prefix m.none in
           record {
-            front = m.front;
+            prefix = m.prefix;
             back = n.0 ∷ m.back;
             whole = m.whole;
             next_is = ap (λ k. Some k) (sym n.2);
             before = λ k d h.
-                let x = get_or m.front k d in
-                let used = in_use ws fs are x (subst (λ vs. Contains vs x) (sym m.whole) (Contains-append_left m.front (n.0 ∷ m.back) x (Contains-get_or m.front k d h))) in
+                let x = get_or m.prefix k d in
+                let used = in_use ws fs are x (subst (λ vs. Contains vs x) (sym m.whole) (Contains-append_left m.prefix (n.0 ∷ m.back) x (Contains-get_or m.prefix k d h))) in
                 earlier_place x w
                 (elim (place_before x.place w.place) as (λ b. place_before x.place w.place ≡ b → place_before x.place w.place ≡ true) [
                   | true ↦ λ b. b
                   | false ↦ λ b.
                       let least = from_least fs w.place x.place f are.rising e used b in
                       let here : n.0.place ≡ f.place = one_place n.0.place f.place m.here in
-                      let behind = apart_places x.place f.place (apart k d h) least in
-                      absurd (true≢false (sym (subst (λ p. place_before p x.place ≡ true) (sym here) behind) ∙ not_earlier n.0 x (after k d h)))
+                      let preceded = apart_places x.place f.place (apart k d h) least in
+                      absurd (true≢false (sym (subst (λ p. place_before p x.place ≡ true) (sym here) preceded) ∙ not_earlier n.0 x (after k d h)))
                 ] refl);
           }
     ] refl
@@ -204,11 +204,11 @@ pub record Comes (t : Chains Waiter) (next : Option ℕ) (w : Waiter) : Type 0 w
 pub comes : (t : Chains Waiter) (next : Option ℕ) (w : Waiter) → IsOwn t.chains → waiters_in t.chains ≡ sorted precedes (waiters_in t.chains) → Apart (chain_at t.chains 0) → IsPlace (waiters_in t.chains) next w → Comes t next w
 comes t next w own order a place =
     let ws = waiters_in t.chains in
-    let b = place.behind in
+    let b = place.preceded in
     let apart = own_apart t.chains own a in
     let put : put_before next (cell_of w) (map cell_of ws) ≡ map cell_of (insert_sorted precedes w ws) =
     (λ i. put_before (b.next_is i) (cell_of w) (map cell_of (b.whole i)))
-    ∙ put_in_run b.front b.back w (subst (λ vs. Apart (map cell_of vs)) b.whole apart) (recursion_from_All (λ v. precedes v w ≡ true) b.front b.before) place.later
+    ∙ put_in_run b.prefix b.back w (subst (λ vs. Apart (map cell_of vs)) b.whole apart) (recursion_from_All (λ v. precedes v w ≡ true) b.prefix b.before) place.later
     ∙ ap (λ vs. map cell_of (insert_sorted precedes w vs)) (sym b.whole) in
     let made : set t.chains 0 (put_before next (cell_of w) (chain_at t.chains 0)) ≡ map cell_of (insert_sorted precedes w ws) ∷ [] =
     ap (λ cs. set cs 0 (put_before next (cell_of w) (chain_at cs 0))) own ∙ ap (λ c. c ∷ []) put in
@@ -218,21 +218,21 @@ comes t next w own order a place =
 -- the next waiter is in the list
 pub place_there : (cs : List (List (ℕ × Waiter))) (next : Option ℕ) (w : Waiter) → IsOwn cs → Apart (chain_at cs 0) → IsPlace (waiters_in cs) next w → (id : ℕ) → next ≡ Some id → IsSome (value_in (chain_at cs 0) id)
 place_there cs next w own a place id e =
-    let b = place.behind in
+    let b = place.preceded in
     subst (λ c. IsSome (value_in c id)) (sym (own_chain cs own ∙ ap (map cell_of) b.whole)) (seen b.back (sym b.next_is ∙ e) (subst (λ vs. Apart (map cell_of vs)) b.whole (own_apart cs own a)))
   where
-    seen : (ys : List Waiter) → first_who ys ≡ Some id → Apart (map cell_of (place.behind.front ++ ys)) → IsSome (value_in (map cell_of (place.behind.front ++ ys)) id)
+    seen : (ys : List Waiter) → first_who ys ≡ Some id → Apart (map cell_of (place.preceded.prefix ++ ys)) → IsSome (value_in (map cell_of (place.preceded.prefix ++ ys)) id)
     seen [] q b = absurd (cc)
     seen (y ∷ ys) q b =
-        subst (λ k. IsSome (value_in (map cell_of (place.behind.front ++ y ∷ ys)) k)) (same_Some y.who id q)
-        (subst IsSome (sym (value_cell (place.behind.front ++ y ∷ ys) y.who ∙ found_behind place.behind.front y ys (none_ahead place.behind.front y ys b))) refl)
+        subst (λ k. IsSome (value_in (map cell_of (place.preceded.prefix ++ y ∷ ys)) k)) (same_Some y.who id q)
+        (subst IsSome (sym (value_cell (place.preceded.prefix ++ y ∷ ys) y.who ∙ found_after place.preceded.prefix y ys (none_ahead place.preceded.prefix y ys b))) refl)
 
 -- ---- a waiter is removed
 -- a waiter in the list, with those before and after it
 record Spot (ws : List Waiter) (who : ℕ) (w : Waiter) : Type 0 where
-  front : List Waiter
+  prefix : List Waiter
   back : List Waiter
-  whole : ws ≡ front ++ w ∷ back
+  whole : ws ≡ prefix ++ w ∷ back
   own : w.who ≡ who
 
 spot : (ws : List Waiter) (who : ℕ) (w : Waiter) → waiter_of ws who ≡ Some w → Spot ws who w
@@ -241,8 +241,8 @@ spot (x ∷ xs) who w e =
     elim (eqb x.who who) as (λ b. eqb x.who who ≡ b → cond b (Some x) (waiter_of xs who) ≡ Some w → Spot (x ∷ xs) who w) [
       | true ↦ λ b q.
           let same : x ≡ w = same_Some x w q in
-          record { front = []; back = xs; whole = ap (λ y. y ∷ xs) same; own = ap (λ (y : Waiter). y.who) (sym same) ∙ eqb-true x.who who b }
-      | false ↦ λ b q. let s = spot xs who w q in record { front = x ∷ s.front; back = s.back; whole = ap (λ ys. x ∷ ys) s.whole; own = s.own }
+          record { prefix = []; back = xs; whole = ap (λ y. y ∷ xs) same; own = ap (λ (y : Waiter). y.who) (sym same) ∙ eqb-true x.who who b }
+      | false ↦ λ b q. let s = spot xs who w q in record { prefix = x ∷ s.prefix; back = s.back; whole = ap (λ ys. x ∷ ys) s.whole; own = s.own }
     ] refl e
 
 pub record Goes (t : Chains Waiter) (fs : List Front) (who : ℕ) (next : Option ℕ) (w : Waiter) : Type 0 where
@@ -268,20 +268,20 @@ goes t fs who next w k a value follows =
     let ws = waiters_in cs in
     let s = spot ws who w (sym (own_value cs k.own who) ∙ value) in
     let apart = subst (λ vs. Apart (map cell_of vs)) s.whole (own_apart cs k.own a) in
-    let left : without waiter_id ws who ≡ s.front ++ s.back = (λ i. without waiter_id (s.whole i) (sym s.own i)) ∙ without_here s.front w s.back (none_ahead s.front w s.back apart) (none_behind s.front w s.back apart) in
+    let left : without waiter_id ws who ≡ s.prefix ++ s.back = (λ i. without waiter_id (s.whole i) (sym s.own i)) ∙ without_here s.prefix w s.back (none_ahead s.prefix w s.back apart) (none_after s.prefix w s.back apart) in
     let chains = fewer_chains t who k.own in
     let o = owned (without_cell t who).chains (without waiter_id ws who) chains in
-    let cells : chain_at cs 0 ≡ map cell_of s.front ++ (who, w) ∷ map cell_of s.back =
-    own_chain cs k.own ∙ ap (map cell_of) s.whole ∙ joined_cells s.front (w ∷ s.back) ∙ ap (λ n. map cell_of s.front ++ (n, w) ∷ map cell_of s.back) s.own in
+    let cells : chain_at cs 0 ≡ map cell_of s.prefix ++ (who, w) ∷ map cell_of s.back =
+    own_chain cs k.own ∙ ap (map cell_of) s.whole ∙ joined_cells s.prefix (w ∷ s.back) ∙ ap (λ n. map cell_of s.prefix ++ (n, w) ∷ map cell_of s.back) s.own in
     record {
       waiters = o.0;
       own = o.1;
       order = o.0 ∙ fewer_in_order ws who k.order ∙ ap (sorted precedes) (sym o.0);
       gone = record {
-        front = s.front;
+        prefix = s.prefix;
         back = s.back;
         left = chains ∙ ap (λ vs. map cell_of vs ∷ []) left;
-        next_is = follows 0 (map cell_of s.front) (map cell_of s.back) w cells ∙ first_cell s.back;
+        next_is = follows 0 (map cell_of s.prefix) (map cell_of s.back) w cells ∙ first_cell s.back;
         order = subst (λ vs. vs ≡ sorted precedes vs) s.whole k.order;
         apart = apart;
         ahead = subst (λ vs. AreFronts vs fs) s.whole k.ahead;

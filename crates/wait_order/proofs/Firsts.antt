@@ -14,20 +14,20 @@ use Rattle.wait_order.specs.declared.waits.Waiter.{Waiter}
 use Rattle.wait_order.specs.declared.fronts.Front.{Front}
 use Rattle.wait_order.specs.Line.{waiter_id, waiter_of, stands_at}
 use Rattle.wait_order.specs.Fronts.{same_place, place_before, front_of, IsPut}
-use Rattle.wait_order.specs.Inside.{precedes, cell_of, waiters_in, first_who, run, AreFronts, IsOwn, IsKept, is_behind, stays, IsGone, if_there, next_there}
-use Rattle.wait_order.proofs.Turns.{named}
+use Rattle.wait_order.specs.Inside.{precedes, cell_of, waiters_in, first_who, run, AreFronts, IsOwn, IsKept, is_after, stays, IsGone, if_there, next_there}
+use Rattle.wait_order.proofs.LineOrder.{named}
 use Rattle.wait_order.proofs.Places.{one_place, apart_places}
 use Rattle.wait_order.proofs.Standing.{list_order, earlier_place, run_more, own_chain, own_value, owned}
-use Rattle.wait_order.proofs.Walking.{joined_cells, found_behind, none_ahead}
+use Rattle.wait_order.proofs.Walking.{joined_cells, found_after, none_ahead}
 
 -- ---- which waiter is first at a place
 -- the first waiter of a place, with those before it, which wait elsewhere
 pub record Foremost (ws : List Waiter) (p : Place) (w : Waiter) : Type 0 where
-  pub front : List Waiter
+  pub prefix : List Waiter
   pub back : List Waiter
-  pub whole : ws ≡ front ++ w ∷ back
+  pub whole : ws ≡ prefix ++ w ∷ back
   pub here : stands_at p w ≡ true
-  pub none : AllByRecursion (λ x. stands_at p x ≡ false) front
+  pub none : AllByRecursion (λ x. stands_at p x ≡ false) prefix
 
 pub foremost : (ws : List Waiter) (p : Place) (w : Waiter) → first (run ws p) ≡ Some w → Foremost ws p w
 foremost [] p w e = absurd (cc)
@@ -35,10 +35,10 @@ foremost (x ∷ xs) p w e =
     elim (stands_at p x) as (λ b. stands_at p x ≡ b → first (cond b (x ∷ run xs p) (run xs p)) ≡ Some w → Foremost (x ∷ xs) p w) [
       | true ↦ λ b q.
           let same : x ≡ w = same_Some x w q in
-          record { front = []; back = xs; whole = ap (λ y. y ∷ xs) same; here = subst (λ y. stands_at p y ≡ true) same b; none = tt }
+          record { prefix = []; back = xs; whole = ap (λ y. y ∷ xs) same; here = subst (λ y. stands_at p y ≡ true) same b; none = tt }
       | false ↦ λ b q.
           let f = foremost xs p w q in
-          record { front = x ∷ f.front; back = f.back; whole = ap (λ ys. x ∷ ys) f.whole; here = f.here; none = (b, f.none) }
+          record { prefix = x ∷ f.prefix; back = f.back; whole = ap (λ ys. x ∷ ys) f.whole; here = f.here; none = (b, f.none) }
     ] refl e
 
 pub record IsFoundFirst (cs : List (List (ℕ × Waiter))) (p : Place) (id : ℕ) : Type 0 where
@@ -56,15 +56,15 @@ first_found cs fs p id k a e =
     record {
       waiter = n.0;
       leads = n.1;
-      found = own_value cs k.own id ∙ (λ i. waiter_of (f.whole i) (sym n.2 i)) ∙ found_behind f.front n.0 f.back (none_ahead f.front n.0 f.back apart);
+      found = own_value cs k.own id ∙ (λ i. waiter_of (f.whole i) (sym n.2 i)) ∙ found_after f.prefix n.0 f.back (none_ahead f.prefix n.0 f.back apart);
     }
 
 -- ---- a waiter is added
-stays_first : (vs : List Waiter) (w : Waiter) → is_behind (first vs) w ≡ true → first (insert_sorted precedes w vs) ≡ first vs
+stays_first : (vs : List Waiter) (w : Waiter) → is_after (first vs) w ≡ true → first (insert_sorted precedes w vs) ≡ first vs
 stays_first [] w e = absurd (true≢false (sym e))
 stays_first (v ∷ vs) w e = ap (λ b. first (cond b (v ∷ insert_sorted precedes w vs) (w ∷ v ∷ vs))) e
 
-comes_first : (vs : List Waiter) (w : Waiter) → is_behind (first vs) w ≡ false → first (insert_sorted precedes w vs) ≡ Some w
+comes_first : (vs : List Waiter) (w : Waiter) → is_after (first vs) w ≡ false → first (insert_sorted precedes w vs) ≡ Some w
 comes_first [] w e = refl
 comes_first (v ∷ vs) w e = ap (λ b. first (cond b (v ∷ insert_sorted precedes w vs) (w ∷ v ∷ vs))) e
 
@@ -75,7 +75,7 @@ firsts_stay ws fs w order are e = record {
       are.firsts p
       ∙ sym (ap first_who (run_more ws w p order)
       ∙ elim (stands_at p w) as (λ b. stands_at p w ≡ b → first_who (cond b (insert_sorted precedes w (run ws p)) (run ws p)) ≡ first_who (run ws p)) [
-        | true ↦ λ b. ap (option_map waiter_id) (stays_first (run ws p) w (subst (λ q. is_behind (first (run ws q)) w ≡ true) (one_place w.place p b) e))
+        | true ↦ λ b. ap (option_map waiter_id) (stays_first (run ws p) w (subst (λ q. is_after (first (run ws q)) w ≡ true) (one_place w.place p b) e))
         | false ↦ λ b. refl
       ] refl);
 }
@@ -87,7 +87,7 @@ firsts_change ws fs gs w order are e put = record {
       put.found p
       ∙ sym (ap first_who (run_more ws w p order)
       ∙ elim (stands_at p w) as (λ b. stands_at p w ≡ b → first_who (cond b (insert_sorted precedes w (run ws p)) (run ws p)) ≡ cond b (Some w.who) (front_of fs p)) [
-        | true ↦ λ b. ap (option_map waiter_id) (comes_first (run ws p) w (subst (λ q. is_behind (first (run ws q)) w ≡ false) (one_place w.place p b) e))
+        | true ↦ λ b. ap (option_map waiter_id) (comes_first (run ws p) w (subst (λ q. is_after (first (run ws q)) w ≡ false) (one_place w.place p b) e))
         | false ↦ λ b. sym (are.firsts p)
       ] refl);
 }
@@ -109,15 +109,15 @@ first_other (x ∷ xs) w ys p other =
     ] other
 
 -- if it was the first, those after it follow
-first_behind : (xs : List Waiter) (w : Waiter) (ys : List Waiter) (p : Place) → waiter_of xs w.who ≡ None → first_who (run (xs ++ w ∷ ys) p) ≡ Some w.who → first_who (run (xs ++ ys) p) ≡ first_who (run ys p)
-first_behind [] w ys p none e = refl
-first_behind (x ∷ xs) w ys p none e =
+first_after : (xs : List Waiter) (w : Waiter) (ys : List Waiter) (p : Place) → waiter_of xs w.who ≡ None → first_who (run (xs ++ w ∷ ys) p) ≡ Some w.who → first_who (run (xs ++ ys) p) ≡ first_who (run ys p)
+first_after [] w ys p none e = refl
+first_after (x ∷ xs) w ys p none e =
     elim (eqb x.who w.who) as (λ c. eqb x.who w.who ≡ c → cond c (Some x) (waiter_of xs w.who) ≡ None → first_who (run (x ∷ xs ++ ys) p) ≡ first_who (run ys p)) [
       | true ↦ λ c q. absurd (cc)
       | false ↦ λ c q.
           elim (stands_at p x) as (λ b. first_who (cond b (x ∷ run (xs ++ w ∷ ys) p) (run (xs ++ w ∷ ys) p)) ≡ Some w.who → first_who (cond b (x ∷ run (xs ++ ys) p) (run (xs ++ ys) p)) ≡ first_who (run ys p)) [
             | true ↦ λ r. absurd (eqb-false x.who w.who c (same_Some x.who w.who r))
-            | false ↦ λ r. first_behind xs w ys p q r
+            | false ↦ λ r. first_after xs w ys p q r
           ] e
     ] refl none
 
@@ -147,7 +147,7 @@ next_first xs w (y ∷ ys) o a =
       | true ↦ λ b. refl
       | false ↦ λ b. ap first_who (none_later w y ys o.0.0 b o.1.0)
     ] refl
-    ∙ sym (ap (if_there w.place y.who) (found_behind xs y ys (none_ahead xs y ys a)))
+    ∙ sym (ap (if_there w.place y.who) (found_after xs y ys (none_ahead xs y ys a)))
 
 apart_left : (xs : List Waiter) (w : Waiter) (ys : List Waiter) → Apart (map cell_of (xs ++ w ∷ ys)) → Apart (map cell_of (xs ++ ys))
 apart_left xs w ys a =
@@ -155,13 +155,13 @@ apart_left xs w ys a =
 
 module _ (cs : List (List (ℕ × Waiter))) (fs : List Front) (w : Waiter) (next : Option ℕ) (g : IsGone cs fs w next) where
   abbrev left : List Waiter
-  left = g.front ++ g.back
+  left = g.prefix ++ g.back
 
   -- the new first waiter of its place, if it was the first itself
   follows : front_of fs w.place ≡ Some w.who → first_who (run left w.place) ≡ next_there (waiters_in cs) next w.place
   follows e =
-      first_behind g.front w g.back w.place (none_ahead g.front w g.back g.apart) (sym (g.ahead.firsts w.place) ∙ e)
-      ∙ next_first g.front w g.back (order_back g.front (w ∷ g.back) (subst (InOrder precedes) (sym g.order) (in_order_sorted precedes list_order (g.front ++ w ∷ g.back)))) (apart_left g.front w g.back g.apart)
+      first_after g.prefix w g.back w.place (none_ahead g.prefix w g.back g.apart) (sym (g.ahead.firsts w.place) ∙ e)
+      ∙ next_first g.prefix w g.back (order_back g.prefix (w ∷ g.back) (subst (InOrder precedes) (sym g.order) (in_order_sorted precedes list_order (g.prefix ++ w ∷ g.back)))) (apart_left g.prefix w g.back g.apart)
       ∙ (λ i. next_there (sym (owned cs left g.left).0 i) (sym g.next_is i) w.place)
 
   pub firsts_left : (front_of fs w.place ≡ Some w.who → ⊥) → AreFronts (waiters_in cs) fs
@@ -171,9 +171,9 @@ module _ (cs : List (List (ℕ × Waiter))) (fs : List Front) (w : Waiter) (next
         rising = g.ahead.rising;
         firsts = λ p.
             g.ahead.firsts p
-            ∙ elim (stands_at p w) as (λ b. stands_at p w ≡ b → first_who (run (g.front ++ w ∷ g.back) p) ≡ first_who (run left p)) [
-              | true ↦ λ b. first_other g.front w g.back p (λ q. other (ap (front_of fs) (one_place w.place p b) ∙ g.ahead.firsts p ∙ q))
-              | false ↦ λ b. ap first_who (run_other g.front w g.back p b)
+            ∙ elim (stands_at p w) as (λ b. stands_at p w ≡ b → first_who (run (g.prefix ++ w ∷ g.back) p) ≡ first_who (run left p)) [
+              | true ↦ λ b. first_other g.prefix w g.back p (λ q. other (ap (front_of fs) (one_place w.place p b) ∙ g.ahead.firsts p ∙ q))
+              | false ↦ λ b. ap first_who (run_other g.prefix w g.back p b)
             ] refl;
       })
 
@@ -186,7 +186,7 @@ module _ (cs : List (List (ℕ × Waiter))) (fs : List Front) (w : Waiter) (next
             put.found p
             ∙ elim (stands_at p w) as (λ b. stands_at p w ≡ b → cond b o (front_of fs p) ≡ first_who (run left p)) [
               | true ↦ λ b. is ∙ sym (follows e) ∙ ap (λ q. first_who (run left q)) (one_place w.place p b)
-              | false ↦ λ b. g.ahead.firsts p ∙ ap first_who (run_other g.front w g.back p b)
+              | false ↦ λ b. g.ahead.firsts p ∙ ap first_who (run_other g.prefix w g.back p b)
             ] refl;
       })
 
@@ -194,8 +194,8 @@ module _ (cs : List (List (ℕ × Waiter))) (fs : List Front) (w : Waiter) (next
   left_own = (owned cs left g.left).1
 
   pub next_found : (id : ℕ) → next ≡ Some id → IsSome (value_of cs id)
-  next_found id e = subst IsSome (sym (own_value cs left_own id ∙ ap (λ vs. waiter_of vs id) (owned cs left g.left).0)) (seen g.back (sym g.next_is ∙ e) (apart_left g.front w g.back g.apart))
+  next_found id e = subst IsSome (sym (own_value cs left_own id ∙ ap (λ vs. waiter_of vs id) (owned cs left g.left).0)) (seen g.back (sym g.next_is ∙ e) (apart_left g.prefix w g.back g.apart))
     where
-      seen : (ys : List Waiter) → first_who ys ≡ Some id → Apart (map cell_of (g.front ++ ys)) → IsSome (waiter_of (g.front ++ ys) id)
+      seen : (ys : List Waiter) → first_who ys ≡ Some id → Apart (map cell_of (g.prefix ++ ys)) → IsSome (waiter_of (g.prefix ++ ys) id)
       seen [] q a = absurd (cc)
-      seen (y ∷ ys) q a = subst (λ k. IsSome (waiter_of (g.front ++ y ∷ ys) k)) (same_Some y.who id q) (subst IsSome (sym (found_behind g.front y ys (none_ahead g.front y ys a))) refl)
+      seen (y ∷ ys) q a = subst (λ k. IsSome (waiter_of (g.prefix ++ y ∷ ys) k)) (same_Some y.who id q) (subst IsSome (sym (found_after g.prefix y ys (none_ahead g.prefix y ys a))) refl)

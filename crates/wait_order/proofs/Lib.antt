@@ -1,4 +1,4 @@
-pub mod Turns
+pub mod LineOrder
 pub mod Places
 pub mod Standing
 pub mod Walking

@@ -81,8 +81,8 @@ pub parted : (fs : List Front) (p : Place) → Rises fs → IsPartitionedBy (λ 
 parted [] p up i j d hij hj e = absurd (omega (arith, hj))
 parted (f ∷ fs) p up zero zero d hij hj e = e
 parted (f ∷ fs) p up zero (suc j) d hij hj e =
-    let behind = All-from_recursion (λ g. place_before f.place g.place ≡ true) fs up.0 j d (omega (arith, hj)) in
-    before_chain place_before place_order f.place (get_or fs j d).place p behind e
+    let preceded = All-from_recursion (λ g. place_before f.place g.place ≡ true) fs up.0 j d (omega (arith, hj)) in
+    before_chain place_before place_order f.place (get_or fs j d).place p preceded e
 parted (f ∷ fs) p up (suc i) zero d hij hj e = absurd (omega (arith, hij))
 parted (f ∷ fs) p up (suc i) (suc j) d hij hj e = parted fs p up.1 i j d (omega (arith, hij)) (omega (arith, hj)) e
 

@@ -56,36 +56,36 @@ pub record IsKept (cs : List (List (ℕ × Waiter))) (fronts : List Front) : Typ
   pub ahead : AreFronts (waiters_in cs) fronts
 
 -- all waiters ahead of `next` precede this waiter
-pub record IsBehind (ws : List Waiter) (next : Option ℕ) (w : Waiter) : Type 0 where
-  pub front : List Waiter
+pub record IsAfter (ws : List Waiter) (next : Option ℕ) (w : Waiter) : Type 0 where
+  pub prefix : List Waiter
   pub back : List Waiter
-  pub whole : ws ≡ front ++ back
+  pub whole : ws ≡ prefix ++ back
   pub next_is : next ≡ first_who back
-  pub before : All (λ v. precedes v w ≡ true) front
+  pub before : All (λ v. precedes v w ≡ true) prefix
 
 -- `next` is the first that doesn't precede this waiter
 pub record IsPlace (ws : List Waiter) (next : Option ℕ) (w : Waiter) : Type 0 where
-  pub behind : IsBehind ws next w
-  pub later : (v : Waiter) → first behind.back ≡ Some v → precedes v w ≡ false
+  pub preceded : IsAfter ws next w
+  pub later : (v : Waiter) → first preceded.back ≡ Some v → precedes v w ≡ false
 
 -- a waiter, if there is one, precedes another
-abbrev pub is_behind : Option Waiter → Waiter → Bool
-is_behind None w = false
-is_behind (Some v) w = precedes v w
+abbrev pub is_after : Option Waiter → Waiter → Bool
+is_after None w = false
+is_after (Some v) w = precedes v w
 
 -- the first waiter at this waiter's place precedes it
 abbrev pub stays : List Waiter → Waiter → Bool
-stays ws w = is_behind (first (run ws w.place)) w
+stays ws w = is_after (first (run ws w.place)) w
 
 -- the waiter before `next` was removed, and the index isn't updated yet
 pub record IsGone (cs : List (List (ℕ × Waiter))) (fs : List Front) (w : Waiter) (next : Option ℕ) : Type 0 where
-  pub front : List Waiter
+  pub prefix : List Waiter
   pub back : List Waiter
-  pub left : cs ≡ map cell_of (front ++ back) ∷ []
+  pub left : cs ≡ map cell_of (prefix ++ back) ∷ []
   pub next_is : next ≡ first_who back
-  pub order : front ++ w ∷ back ≡ sorted precedes (front ++ w ∷ back)
-  pub apart : Apart (map cell_of (front ++ w ∷ back))
-  pub ahead : AreFronts (front ++ w ∷ back) fs
+  pub order : prefix ++ w ∷ back ≡ sorted precedes (prefix ++ w ∷ back)
+  pub apart : Apart (map cell_of (prefix ++ w ∷ back))
+  pub ahead : AreFronts (prefix ++ w ∷ back) fs
 
 -- this waiter, if it waits at a place
 abbrev pub if_there : Place → ℕ → Option Waiter → Option ℕ

@@ -19,7 +19,7 @@ fn rank_of(fronts: &[Front], place: &Place) -> usize
     ensures within { result ≤ length fronts.now }
     ensures split { IsRank fronts.now place.now result }
 {
-    fronts.partition_point(|front| place_before(&front.place, place))
+    fronts.partition_point(|prefix| place_before(&prefix.place, place))
 }
 
 // The index of a place in use, or the index at which to insert it.

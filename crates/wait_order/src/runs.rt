@@ -3,7 +3,7 @@
 ghost use Rattle.std.specs.Option.{ForSome};
 ghost use Rattle.std.specs.Prelude.{◌≡◌, ◌≤◌, ◌<◌, IsSome, length, vec_capacity};
 ghost use Rattle.linked_lists.specs.Chains.{value_of};
-ghost use Rattle.wait_order.specs.Inside.{waiters_in, put_in, AreFronts, IsOwn, IsKept, IsBehind, IsPlace, IsGone, stays, next_there};
+ghost use Rattle.wait_order.specs.Inside.{waiters_in, put_in, AreFronts, IsOwn, IsKept, IsAfter, IsPlace, IsGone, stays, next_there};
 
 use crate::fronts::{Front, first_at, put, remove};
 use crate::order::{precedes, stands_at};
@@ -21,7 +21,7 @@ pub(crate) fn place_of(
     waiter: &Waiter,
 ) -> Option<Ident>
     requires own { IsOwn waiters.now.chains }
-    requires start { IsBehind (waiters_in waiters.now.chains) start waiter.now }
+    requires start { IsAfter (waiters_in waiters.now.chains) start waiter.now }
     ensures { IsPlace (waiters_in waiters.now.chains) result waiter.now }
 {
     waiters.facts();

@@ -11,7 +11,7 @@ fn place(side: u8) -> Option<Place> {
 }
 
 // Adds a task if there is room for one more; removes it first if it is there.
-#[tactic(auto, using(crate::proofs::Turns::taken_absent))]
+#[tactic(auto, using(crate::proofs::LineOrder::taken_absent))]
 fn put(waits: &mut Waits, side: u8, who: u32, pri: u32, since: u64) -> Option<()> {
     let place = place(side)?;
     let who = Ident::new(who)?;

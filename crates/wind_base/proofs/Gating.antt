@@ -80,6 +80,12 @@ own_place variants.I = refl
 own_place variants.Lkup = refl
 own_place variants.ModuleShow = refl
 own_place variants.D = refl
+own_place variants.IntConnect = refl
+own_place variants.IntDisconnect = refl
+own_place variants.IntEnable = refl
+own_place variants.IntDisable = refl
+own_place variants.IntPending = refl
+own_place variants.DevRemove = refl
 
 pub only_place : (n : ℕ) (g : Gate) → gate_of n ≡ Some g → gate_number g ≡ n
 unfolding gate_of

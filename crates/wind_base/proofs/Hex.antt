@@ -13,9 +13,9 @@ onto_append : (k n : ℕ) (acc : List ℕ) → digits_onto k 16 false n acc ≡ 
 onto_append zero n acc = refl
 onto_append (suc k) n acc =
     let g = digit_glyph false (n % 16) in
-    let front = digits_onto k 16 false (n / 16) [] in
+    let prefix = digits_onto k 16 false (n / 16) [] in
     let more : digits_onto k 16 false (n / 16) (g ∷ acc) ≡ digits_onto k 16 false (n / 16) (g ∷ []) ++ acc =
-    onto_append k (n / 16) (g ∷ acc) ∙ sym (append_assoc front (g ∷ []) acc) ∙ ap (λ ds. ds ++ acc) (sym (onto_append k (n / 16) (g ∷ []))) in
+    onto_append k (n / 16) (g ∷ acc) ∙ sym (append_assoc prefix (g ∷ []) acc) ∙ ap (λ ds. ds ++ acc) (sym (onto_append k (n / 16) (g ∷ []))) in
     elim (n / 16 == 0) as (λ t. (if t then g ∷ acc else digits_onto k 16 false (n / 16) (g ∷ acc)) ≡ (if t then g ∷ [] else digits_onto k 16 false (n / 16) (g ∷ [])) ++ acc) [
       | true ↦ refl
       | false ↦ more

@@ -80,6 +80,12 @@ found variants.I = refl
 found variants.Lkup = refl
 found variants.ModuleShow = refl
 found variants.D = refl
+found variants.IntConnect = refl
+found variants.IntDisconnect = refl
+found variants.IntEnable = refl
+found variants.IntDisable = refl
+found variants.IntPending = refl
+found variants.DevRemove = refl
 
 entry : {A : Type 0} (a b : A) → Some a ≡ Some b → a ≡ b
 entry a b e = cc

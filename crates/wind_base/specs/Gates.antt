@@ -61,6 +61,12 @@ gates = variants.TaskReturn
     ∷ variants.Lkup
     ∷ variants.ModuleShow
     ∷ variants.D
+    ∷ variants.IntConnect
+    ∷ variants.IntDisconnect
+    ∷ variants.IntEnable
+    ∷ variants.IntDisable
+    ∷ variants.IntPending
+    ∷ variants.DevRemove
     ∷ []
 
 -- the gate with a number
@@ -138,6 +144,12 @@ rules_of variants.I = call 48 (codes "i") Shell error_word true
 rules_of variants.Lkup = call 49 (codes "lkup") Shell error_word true
 rules_of variants.ModuleShow = call 50 (codes "moduleShow") Shell error_word true
 rules_of variants.D = call 51 (codes "d") Shell error_word true
+rules_of variants.IntConnect = call 52 (codes "intConnect") Tasks error_word false
+rules_of variants.IntDisconnect = call 53 (codes "intDisconnect") Tasks error_word false
+rules_of variants.IntEnable = call 54 (codes "intEnable") All error_word false
+rules_of variants.IntDisable = call 55 (codes "intDisable") All error_word false
+rules_of variants.IntPending = call 56 (codes "intPending") All error_word false
+rules_of variants.DevRemove = call 57 (codes "devRemove") Tasks error_word false
 
 -- the number of a gate
 abbrev pub gate_number : Gate → ℕ
@@ -151,6 +163,6 @@ gate_address base g = base + gate_bytes * gate_number g
 abbrev pub gate_at : ℕ → ℕ → Option Gate
 gate_at base at = if nat_le base at && ((at - base) % gate_bytes == 0) then gate_of ((at - base) / gate_bytes) else None
 
--- the name of the call of the gate with a number; gates 0 to 2 and those above 51 have none
+-- the name of the call of the gate with a number; gates 0 to 2 and those above 57 have none
 unfoldable pub gate_name : ℕ → Option (List ℕ)
 gate_name n = option_and_then (λ g. (rules_of g).name) (gate_of n)

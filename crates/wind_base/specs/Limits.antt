@@ -89,6 +89,10 @@ longest_string = 1023
 abbrev pub most_slots : ℕ
 most_slots = 16
 
+-- the greatest number of routines that may be connected to the interrupts of one slot's device
+abbrev pub most_connections : ℕ
+most_connections = 4
+
 -- the address of the first device slot
 abbrev pub slots_start : ℕ
 slots_start = 0xe0000000

@@ -114,10 +114,22 @@ pub enum Gate {
     ModuleShow,
     /// `d` (usrLib).
     D,
+    /// `intConnect` (intArchLib), of the device in a slot.
+    IntConnect,
+    /// `intDisconnect`, this project's own.
+    IntDisconnect,
+    /// `intEnable` (intArchLib), of the device in a slot.
+    IntEnable,
+    /// `intDisable` (intArchLib), of the device in a slot.
+    IntDisable,
+    /// `intPending`, this project's own.
+    IntPending,
+    /// `devRemove`, this project's own.
+    DevRemove,
 }
 
 // All gates, by rising number.
-const GATES: [Gate; 52] = [
+const GATES: [Gate; 58] = [
     Gate::TaskReturn,
     Gate::ShellReturn,
     Gate::InterruptReturn,
@@ -170,6 +182,12 @@ const GATES: [Gate; 52] = [
     Gate::Lkup,
     Gate::ModuleShow,
     Gate::D,
+    Gate::IntConnect,
+    Gate::IntDisconnect,
+    Gate::IntEnable,
+    Gate::IntDisable,
+    Gate::IntPending,
+    Gate::DevRemove,
 ];
 
 // The gate at an index of a list. None if the index is beyond its end.
@@ -188,7 +206,7 @@ impl Gate {
         &GATES
     }
 
-    /// The gate of this number. None above 51.
+    /// The gate of this number. None above 57.
     #[tactic(auto, unfolding(crate::specs::Gates::gate_of, crate::specs::Gates::gates))]
     pub fn new(number: u32) -> Option<Gate>
         ensures { result ≡ gate_of number }
@@ -196,10 +214,10 @@ impl Gate {
         gate_in(&GATES, number as usize)
     }
 
-    /// Its number, from 0 to 51.
+    /// Its number, from 0 to 57.
     pub fn number(self) -> u32
         ensures value { result ≡ gate_number self }
-        ensures few { result < 52 }
+        ensures few { result < 58 }
     {
         self as u32
     }

@@ -22,7 +22,7 @@ pub enum Callers {
 /// The table's entry for a gate. The table is this project's own.
 #[derive(Clone, Copy, Debug, PartialEq, Eq)]
 pub struct GateRules {
-    /// Its number, from 0 to 51.
+    /// Its number, from 0 to 57.
     pub number: u32,
     /// The name of its call. None if the gate is a return.
     pub name: Option<&'static str>,
@@ -141,6 +141,12 @@ impl Gate {
             Gate::Lkup => call(49, "lkup", Shell, ERROR, true),
             Gate::ModuleShow => call(50, "moduleShow", Shell, ERROR, true),
             Gate::D => call(51, "d", Shell, ERROR, true),
+            Gate::IntConnect => call(52, "intConnect", Tasks, ERROR, false),
+            Gate::IntDisconnect => call(53, "intDisconnect", Tasks, ERROR, false),
+            Gate::IntEnable => call(54, "intEnable", All, ERROR, false),
+            Gate::IntDisable => call(55, "intDisable", All, ERROR, false),
+            Gate::IntPending => call(56, "intPending", All, ERROR, false),
+            Gate::DevRemove => call(57, "devRemove", Tasks, ERROR, false),
         }
     }
 
@@ -153,7 +159,7 @@ impl Gate {
     }
 }
 
-/// The name of the call of the gate with this number. None for gates 0, 1 and 2, and above 51.
+/// The name of the call of the gate with this number. None for gates 0, 1 and 2, and above 57.
 #[tactic(auto, unfolding(crate::specs::Gates::gate_name))]
 pub fn gate_name(gate: u32) -> Option<&'static str>
     ensures { option_map (λ n. n.now) result ≡ gate_name_lem gate }

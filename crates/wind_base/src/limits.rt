@@ -79,6 +79,9 @@ pub const STRING_BYTES: u32 = 1023;
 /// The greatest number of device slots of a board.
 pub const SLOTS: usize = 16;
 
+/// The greatest number of routines that may be connected to the interrupts of one slot's device.
+pub const CONNECTIONS: usize = 4;
+
 /// The greatest length in bytes of the console line that is being edited, without its end.
 pub const LINE_BYTES: usize = 255;
 

@@ -12,7 +12,7 @@ pub fn line_len(bytes: &[u8]) -> usize
 }
 
 /// The bytes after the first `n`. `bytes` has at least `n` of them.
-pub fn behind(bytes: &[u8], n: usize) -> &[u8]
+pub fn bytes_after(bytes: &[u8], n: usize) -> &[u8]
     requires { n ≤ length bytes.now }
     ensures value { result.now ≡ drop n bytes.now }
     ensures len { length result.now + n ≡ length bytes.now }

@@ -16,7 +16,7 @@ use Rattle.task_block.specs.Standing.{is_ready}
 use Rattle.wind_lists.specs.Records.{without}
 use Rattle.wind_lists.proofs.Passing.{length-filter}
 use Rattle.wait_order.specs.Line.{Line, waiter_id, without_waiter}
-use Rattle.wait_order.proofs.Turns.{line_alike}
+use Rattle.wait_order.proofs.LineOrder.{line_alike}
 use Rattle.ready_queue.specs.Order as urgent
 use Rattle.delay_queue.specs.Wakes as timed
 use Rattle.wind_base.specs.Limits.{most_tasks}

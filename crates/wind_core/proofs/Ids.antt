@@ -7,9 +7,9 @@ use Rattle.wind_lists.specs.Records.{change}
 use Rattle.wind_core.specs.State.{KernState, task_id, task_of}
 use Rattle.wind_core.specs.Orders.{due}
 use Rattle.wind_core.specs.Moves.{move_task}
-use Rattle.wind_core.specs.Tick.{take_turn, late_answer, late_errno, time_out, tick_counted, tick}
-use Rattle.wind_core.proofs.Unwritten.{map-change, map-move, map-take_turn, map-tick}
-use Rattle.wind_core.proofs.Ticks.{since-take_turn}
+use Rattle.wind_core.specs.Tick.{count_slice, late_answer, late_errno, time_out, tick_counted, tick}
+use Rattle.wind_core.proofs.Unwritten.{map-change, map-move, map-count_slice, map-tick}
+use Rattle.wind_core.proofs.Ticks.{since-count_slice}
 use Rattle.wind_core.proofs.Waking.{since-end_wait, length-due}
 
 -- the ids of tasks
@@ -22,8 +22,8 @@ ids-change = map-change task_id
 pub ids-move : (s : KernState) (who : ℕ) (f : Task → Task) → ((t : Task) → (f t).id ≡ t.id) → ids (move_task s who f).tasks ≡ ids s.tasks
 ids-move = map-move task_id (λ n t. refl)
 
-ids-take_turn : (s : KernState) → ids (take_turn s).tasks ≡ ids s.tasks
-ids-take_turn = map-take_turn task_id (λ n t. refl) (λ answer errno t. refl) (λ n t. refl)
+ids-count_slice : (s : KernState) → ids (count_slice s).tasks ≡ ids s.tasks
+ids-count_slice = map-count_slice task_id (λ n t. refl) (λ answer errno t. refl) (λ n t. refl)
 
 pub ids-tick : (s : KernState) → ids (tick s).tasks ≡ ids s.tasks
 ids-tick = map-tick task_id (λ n t. refl) (λ answer errno t. refl) (λ n t. refl)
@@ -61,5 +61,5 @@ length_by ts us e = sym (length-map ts task_id) ∙ ap length e ∙ length-map u
 
 pub since-tick : (s : KernState) → (tick s).next_since ≤ s.next_since + 1 + length s.tasks
 since-tick s =
-    let r = take_turn (tick_counted s) in
-    omega (arith, since-time_outs r (due r.tasks (s.tick + 1)), length-due r.tasks (s.tick + 1), since-take_turn (tick_counted s), length_by r.tasks s.tasks (ids-take_turn (tick_counted s)))
+    let r = count_slice (tick_counted s) in
+    omega (arith, since-time_outs r (due r.tasks (s.tick + 1)), length-due r.tasks (s.tick + 1), since-count_slice (tick_counted s), length_by r.tasks s.tasks (ids-count_slice (tick_counted s)))

@@ -8,7 +8,7 @@ use Rattle.std.proofs.lemmas.List.{append-nil, length-map, length-append, map-ap
 use Rattle.std.proofs.lemmas.List.Elements.{All-head, All-tail, All-cons, All-filter, All-append, recursion_from_All, filter-append}
 use Rattle.wind_lists.specs.Records.{of_id, replace, without, Rising}
 use Rattle.wind_lists.specs.Sorting.{insert_sorted, sorted, in_line}
-use Rattle.wind_lists.specs.Arrivals.{put_behind}
+use Rattle.wind_lists.specs.Arrivals.{put_after}
 use Rattle.wind_lists.proofs.Records.{rising_head, rising_tail, found_id}
 use Rattle.wind_lists.proofs.Places.{above_none, none_without, not_there, gone, fewer_without}
 use Rattle.wind_lists.proofs.Passing.{length-in_line}
@@ -21,11 +21,11 @@ get_or_middle (u ∷ us) x vs d = get_or_middle us x vs d
 -- ---- a record with an id splits its list
 module _ {X : Type 0} (id : X → ℕ) where
   pub record Split (xs : List X) (n : ℕ) (x : X) : Type 0 where
-    pub front : List X
+    pub prefix : List X
     pub back : List X
-    pub whole : xs ≡ front ++ x ∷ back
-    pub replaced : (y : X) → replace id xs n y ≡ front ++ y ∷ back
-    pub left : without id xs n ≡ front ++ back
+    pub whole : xs ≡ prefix ++ x ∷ back
+    pub replaced : (y : X) → replace id xs n y ≡ prefix ++ y ∷ back
+    pub left : without id xs n ≡ prefix ++ back
 
   pub split : (xs : List X) (n : ℕ) (x : X) → Rising id xs → of_id id xs n ≡ Some x → Split xs n x
   split [] n x up e = absurd (cc)
@@ -35,7 +35,7 @@ module _ {X : Type 0} (id : X → ℕ) where
             let here = eqb-true (id z) n b in
             let none = above_none id zs n (λ k d hk. let above = rising_head id z zs up k d hk in omega arith) in
             record {
-              front = [];
+              prefix = [];
               back = zs;
               whole = ap (λ u. u ∷ zs) (same_Some z x q);
               replaced = λ y. ap (λ c. cond c y z ∷ replace id zs n y) b ∙ ap (λ us. y ∷ us) (not_there id zs n (λ _. y) none);
@@ -44,7 +44,7 @@ module _ {X : Type 0} (id : X → ℕ) where
         | false ↦ λ b q.
             let rest = split zs n x (rising_tail id z zs up) q in
             record {
-              front = z ∷ rest.front;
+              prefix = z ∷ rest.prefix;
               back = rest.back;
               whole = ap (λ us. z ∷ us) rest.whole;
               replaced = λ y. ap (λ c. cond c y z ∷ replace id zs n y) b ∙ ap (λ us. z ∷ us) (rest.replaced y);
@@ -60,8 +60,8 @@ module _ {X : Type 0} (lt : X → X → Bool) (w : IsStrictWeakOrder lt) (p : X 
   swap_less x y (z ∷ zs) less = grind (arith, w.one_way, w.chain, swap_less x y zs)
 
   -- one that passes the test is inserted at its place in the line
-  pub passes_in : (front back : List X) (y : X) → p y ≡ true → All (λ x. lt x y ≡ not (lt y x)) front
-      → sorted lt (filter p (front ++ y ∷ back)) ≡ insert_sorted lt y (sorted lt (filter p (front ++ back)))
+  pub passes_in : (prefix back : List X) (y : X) → p y ≡ true → All (λ x. lt x y ≡ not (lt y x)) prefix
+      → sorted lt (filter p (prefix ++ y ∷ back)) ≡ insert_sorted lt y (sorted lt (filter p (prefix ++ back)))
   passes_in [] back y py apart = ap (λ b. sorted lt (cond b (y ∷ filter p back) (filter p back))) py
   passes_in (x ∷ xs) back y py apart =
       let rest = passes_in xs back y py (All-tail (λ u. lt u y ≡ not (lt y u)) x xs apart) in
@@ -77,11 +77,11 @@ module _ {X : Type 0} (lt : X → X → Bool) (w : IsStrictWeakOrder lt) (p : X 
       ]
 
   -- one that doesn't pass makes no difference
-  pub skips : (front back : List X) (y : X) → p y ≡ false → filter p (front ++ y ∷ back) ≡ filter p (front ++ back)
-  skips front back y py =
-      filter-append p front (y ∷ back)
-      ∙ ap (λ b. filter p front ++ cond b (y ∷ filter p back) (filter p back)) py
-      ∙ sym (filter-append p front back)
+  pub skips : (prefix back : List X) (y : X) → p y ≡ false → filter p (prefix ++ y ∷ back) ≡ filter p (prefix ++ back)
+  skips prefix back y py =
+      filter-append p prefix (y ∷ back)
+      ∙ ap (λ b. filter p prefix ++ cond b (y ∷ filter p back) (filter p back)) py
+      ∙ sym (filter-append p prefix back)
 
   filters_commute : (q : X → Bool) (xs : List X) → filter p (filter q xs) ≡ filter q (filter p xs)
   filters_commute q [] = refl
@@ -98,12 +98,12 @@ module _ {X Y : Type 0} (id : X → ℕ) (own rank : Y → ℕ) (show : X → Y)
   line xs = map show (in_line lt p xs)
 
   -- x is before y exactly if its rank is at most that of y; otherwise y is before x
-  pub record Behind (y x : X) : Type 0 where
+  pub record After (y x : X) : Type 0 where
     pub ahead : lt x y ≡ leb (rank (show x)) (rank (show y))
-    pub behind : lt y x ≡ not (leb (rank (show x)) (rank (show y)))
+    pub later : lt y x ≡ not (leb (rank (show x)) (rank (show y)))
 
-  apart : (y x : X) → Behind y x → lt x y ≡ not (lt y x)
-  apart y x b = grind (arith, b.ahead, b.behind)
+  apart : (y x : X) → After y x → lt x y ≡ not (lt y x)
+  apart y x b = grind (arith, b.ahead, b.later)
 
   shown_without : (xs : List X) (n : ℕ) → map show (without id xs n) ≡ without own (map show xs) n
   shown_without [] n = refl
@@ -122,11 +122,11 @@ module _ {X Y : Type 0} (id : X → ℕ) (own rank : Y → ℕ) (show : X → Y)
       ∙ ap (map show) (sym (filter-sorted lt w other (filter p xs)))
       ∙ shown_without (in_line lt p xs) n
 
-  shown_insert : (y : X) (zs : List X) → AllByRecursion (Behind y) zs → map show (insert_sorted lt y zs) ≡ put_behind own rank (map show zs) (show y)
+  shown_insert : (y : X) (zs : List X) → AllByRecursion (After y) zs → map show (insert_sorted lt y zs) ≡ put_after own rank (map show zs) (show y)
   shown_insert y [] h = refl
   shown_insert y (z ∷ zs) h =
       ap (λ b. map show (cond b (z ∷ insert_sorted lt y zs) (y ∷ z ∷ zs))) h.0.ahead
-      ∙ elim (leb (rank (show z)) (rank (show y))) as (λ b. map show (cond b (z ∷ insert_sorted lt y zs) (y ∷ z ∷ zs)) ≡ cond b (show z ∷ put_behind own rank (map show zs) (show y)) (show y ∷ show z ∷ map show zs)) [
+      ∙ elim (leb (rank (show z)) (rank (show y))) as (λ b. map show (cond b (z ∷ insert_sorted lt y zs) (y ∷ z ∷ zs)) ≡ cond b (show z ∷ put_after own rank (map show zs) (show y)) (show y ∷ show z ∷ map show zs)) [
         | true ↦ ap (λ us. show z ∷ us) (shown_insert y zs h.1)
         | false ↦ refl
       ]
@@ -135,25 +135,25 @@ module _ {X Y : Type 0} (id : X → ℕ) (own rank : Y → ℕ) (show : X → Y)
   in_line_all P xs all = all_sorted lt w p P (filter p xs) (recursion_from_All P (filter p xs) (All-filter p P xs all))
 
   -- an element that comes after all of its rank, wherever it was, is inserted there
-  put_in : (front back : List X) (y : X) → p y ≡ true → All (Behind y) front → All (Behind y) back → line (front ++ y ∷ back) ≡ put_behind own rank (line (front ++ back)) (show y)
-  put_in front back y py first last =
-      ap (map show) (passes_in lt w p front back y py (λ k d h. apart y (get_or front k d) (first k d h)))
-      ∙ shown_insert y (in_line lt p (front ++ back)) (in_line_all (Behind y) (front ++ back) (All-append (Behind y) front back first last))
+  put_in : (prefix back : List X) (y : X) → p y ≡ true → All (After y) prefix → All (After y) back → line (prefix ++ y ∷ back) ≡ put_after own rank (line (prefix ++ back)) (show y)
+  put_in prefix back y py first last =
+      ap (map show) (passes_in lt w p prefix back y py (λ k d h. apart y (get_or prefix k d) (first k d h)))
+      ∙ shown_insert y (in_line lt p (prefix ++ back)) (in_line_all (After y) (prefix ++ back) (All-append (After y) prefix back first last))
 
   -- ---- one element changes
   -- it then passes, and comes after all of its rank
-  pub line_renewed : (xs : List X) (n : ℕ) (x y : X) → Rising id xs → of_id id xs n ≡ Some x → p y ≡ true → All (Behind y) xs → line (replace id xs n y) ≡ put_behind own rank (without own (line xs) n) (show y)
+  pub line_renewed : (xs : List X) (n : ℕ) (x y : X) → Rising id xs → of_id id xs n ≡ Some x → p y ≡ true → All (After y) xs → line (replace id xs n y) ≡ put_after own rank (without own (line xs) n) (show y)
   line_renewed xs n x y up e py all =
       let s = split id xs n x up e in
-      let parts : All (Behind y) (s.front ++ x ∷ s.back) = subst (All (Behind y)) s.whole all in
+      let parts : All (After y) (s.prefix ++ x ∷ s.back) = subst (All (After y)) s.whole all in
       ap line (s.replaced y)
-      ∙ put_in s.front s.back y py (front_all (Behind y) s.front (x ∷ s.back) parts) (All-tail (Behind y) x s.back (back_all (Behind y) s.front (x ∷ s.back) parts))
-      ∙ ap (λ us. put_behind own rank (line us) (show y)) (sym s.left)
-      ∙ ap (λ us. put_behind own rank us (show y)) (line_without xs n)
+      ∙ put_in s.prefix s.back y py (prefix_all (After y) s.prefix (x ∷ s.back) parts) (All-tail (After y) x s.back (back_all (After y) s.prefix (x ∷ s.back) parts))
+      ∙ ap (λ us. put_after own rank (line us) (show y)) (sym s.left)
+      ∙ ap (λ us. put_after own rank us (show y)) (line_without xs n)
     where
-      front_all : (P : X → Type 0) (us vs : List X) → All P (us ++ vs) → All P us
-      front_all P [] vs h = λ k d hk. absurd (omega arith)
-      front_all P (u ∷ us) vs h = All-cons P u us (All-head P u (us ++ vs) h) (front_all P us vs (All-tail P u (us ++ vs) h))
+      prefix_all : (P : X → Type 0) (us vs : List X) → All P (us ++ vs) → All P us
+      prefix_all P [] vs h = λ k d hk. absurd (omega arith)
+      prefix_all P (u ∷ us) vs h = All-cons P u us (All-head P u (us ++ vs) h) (prefix_all P us vs (All-tail P u (us ++ vs) h))
 
       back_all : (P : X → Type 0) (us vs : List X) → All P (us ++ vs) → All P vs
       back_all P [] vs h = h
@@ -164,7 +164,7 @@ module _ {X Y : Type 0} (id : X → ℕ) (own rank : Y → ℕ) (show : X → Y)
   line_gone xs n x y up e py =
       let s = split id xs n x up e in
       ap line (s.replaced y)
-      ∙ ap (λ us. map show (sorted lt us)) (skips lt w p s.front s.back y py)
+      ∙ ap (λ us. map show (sorted lt us)) (skips lt w p s.prefix s.back y py)
       ∙ ap line (sym s.left)
       ∙ line_without xs n
 
@@ -173,14 +173,14 @@ module _ {X Y : Type 0} (id : X → ℕ) (own rank : Y → ℕ) (show : X → Y)
   line_unmoved xs n x y up e px py =
       let s = split id xs n x up e in
       ap line (s.replaced y)
-      ∙ ap (λ us. map show (sorted lt us)) (skips lt w p s.front s.back y py ∙ sym (skips lt w p s.front s.back x px))
+      ∙ ap (λ us. map show (sorted lt us)) (skips lt w p s.prefix s.back y py ∙ sym (skips lt w p s.prefix s.back x px))
       ∙ ap line (sym s.whole)
 
   -- ---- one element is added, and comes after all of its rank
-  pub line_push : (xs : List X) (y : X) → p y ≡ true → All (Behind y) xs → line (xs ++ y ∷ []) ≡ put_behind own rank (line xs) (show y)
+  pub line_push : (xs : List X) (y : X) → p y ≡ true → All (After y) xs → line (xs ++ y ∷ []) ≡ put_after own rank (line xs) (show y)
   line_push xs y py all =
       put_in xs [] y py all (λ k d h. absurd (omega arith))
-      ∙ ap (λ us. put_behind own rank (line us) (show y)) (append-nil xs)
+      ∙ ap (λ us. put_after own rank (line us) (show y)) (append-nil xs)
 
   -- one is added that doesn't pass
   pub line_pushed : (xs : List X) (y : X) → p y ≡ false → line (xs ++ y ∷ []) ≡ line xs
@@ -206,10 +206,10 @@ module _ {X Y : Type 0} (id : X → ℕ) (own rank : Y → ℕ) (show : X → Y)
       let s = split id xs n x up e in
       let own_id : own (show x) ≡ n = same_id x ∙ found_id id xs n x e in
       ap (λ us. of_id own (line us) n) s.whole
-      ∙ ap (λ us. of_id own (map show us) n) (passes_in lt w p s.front s.back x px (λ k d h. one_way (get_or s.front k d) (before s.front (subst (Rising id) s.whole up) k d h)))
-      ∙ found_insert (in_line lt p (s.front ++ s.back)) own_id (ap (λ us. of_id own (line us) n) (sym s.left) ∙ ap (λ us. of_id own us n) (line_without xs n) ∙ gone own (line xs) n)
+      ∙ ap (λ us. of_id own (map show us) n) (passes_in lt w p s.prefix s.back x px (λ k d h. one_way (get_or s.prefix k d) (before s.prefix (subst (Rising id) s.whole up) k d h)))
+      ∙ found_insert (in_line lt p (s.prefix ++ s.back)) own_id (ap (λ us. of_id own (line us) n) (sym s.left) ∙ ap (λ us. of_id own us n) (line_without xs n) ∙ gone own (line xs) n)
     where
-      before : (front : List X) → Rising id (front ++ x ∷ (split id xs n x up e).back) → (k : ℕ) (d : X) → k < length front → id (get_or front k d) < id x
+      before : (prefix : List X) → Rising id (prefix ++ x ∷ (split id xs n x up e).back) → (k : ℕ) (d : X) → k < length prefix → id (get_or prefix k d) < id x
       before [] rise k d h = absurd (omega (arith, h))
       before (u ∷ us) rise zero d h =
           let back = (split id xs n x up e).back in
@@ -265,8 +265,8 @@ module _ {X Y E : Type 0} (see : X → E) (show : E → Y) (lt : E → E → Boo
       let s = split id xs n x up e in
       let seen : map see (replace id xs n y) ≡ map see xs =
       ap (map see) (s.replaced y)
-      ∙ map-append see s.front (y ∷ s.back)
-      ∙ ap (λ d. map see s.front ++ d ∷ map see s.back) same
-      ∙ sym (map-append see s.front (x ∷ s.back))
+      ∙ map-append see s.prefix (y ∷ s.back)
+      ∙ ap (λ d. map see s.prefix ++ d ∷ map see s.back) same
+      ∙ sym (map-append see s.prefix (x ∷ s.back))
       ∙ ap (map see) (sym s.whole) in
       seen_line (replace id xs n y) ∙ ap (λ es. map show (in_line lt p es)) seen ∙ sym (seen_line xs)

@@ -13,7 +13,7 @@ use Rattle.wind_lists.specs.Records.{replace, without}
 use Rattle.wind_lists.proofs.Records.{found_id}
 use Rattle.wait_order.specs.declared.waits.Waiter.{Waiter}
 use Rattle.wait_order.specs.Line.{Line, waiter_id, without_waiter, first_at}
-use Rattle.wait_order.proofs.Turns.{line_alike}
+use Rattle.wait_order.proofs.LineOrder.{line_alike}
 use Rattle.ready_queue.specs.Order as urgent
 use Rattle.delay_queue.specs.Wakes as timed
 use Rattle.wind_core.specs.State.{KernState, WakesAhead, task_id}
@@ -21,7 +21,7 @@ use Rattle.wind_core.specs.Orders.{first_waiter, sleeps}
 use Rattle.wind_core.specs.Waiting.{waiter_at, as_waiter, waits_of, task_waits, mended}
 use Rattle.wind_core.specs.Queues.{HaveRoom, as_ready, ready_of, ready_tasks, delayed_of, delayed_tasks, ready_mended, delays_mended}
 use Rattle.wind_core.specs.Moves.{renewed, settled, suspended}
-use Rattle.wind_core.specs.Tick.{turn_task}
+use Rattle.wind_core.specs.Tick.{slice_counted}
 use Rattle.wind_core.specs.declared.kern.Kern.TheInside.{Inside}
 use Rattle.wind_core.specs.contracts.kern.Kern.{the_view}
 use Rattle.wind_core.proofs.Waiting.{waits_same, mended_is, fewer_wait, first_waits}
@@ -96,8 +96,8 @@ module _ (k : Inside) (who : ℕ) (x y : Task) (kept : Kept k) (value : object_o
       ∙ ap (λ b. cond b (urgent.with_task (urgent.without_task k.ready y.id) (as_ready y)) (urgent.without_task k.ready y.id)) (sym out))
 
   -- y is ready with the next order number, as x was, and goes after all of its priority
-  pub ready_turns : (r : urgent.Order) → y.id ≡ x.id → y.pri ≡ x.pri → is_ready x ≡ true → is_ready y ≡ true → y.since ≡ k.next_since → r ≡ urgent.rotated k.ready who → r ≡ ready_tasks (tasks_with k who y)
-  ready_turns r id pri before after fresh e =
+  pub ready_sliced : (r : urgent.Order) → y.id ≡ x.id → y.pri ≡ x.pri → is_ready x ≡ true → is_ready y ≡ true → y.since ≡ k.next_since → r ≡ urgent.rotated k.ready who → r ≡ ready_tasks (tasks_with k who y)
+  ready_sliced r id pri before after fresh e =
       let there = ready_found (objects k.tasks.rows) who x kept.2.rising (found k who x kept value) before in
       ready_mends r id (λ _. fresh)
       (e
@@ -279,21 +279,21 @@ module _ (k : Inside) (who n : ℕ) (x u w y : Task) (kept : Kept k) (value : ob
       })
 
 -- ---- a time slice
-abbrev turn_by : Bool → ℕ → Task → Task
-turn_by over since t = cond over (renewed since (record t { turns = 0 })) (record t { turns = t.turns + 1 })
+abbrev sliced : Bool → ℕ → Task → Task
+sliced over since t = cond over (renewed since (record t { turns = 0 })) (record t { turns = t.turns + 1 })
 
-turned_by : (k : Inside) (who n : ℕ) (x y : Task) (r : urgent.Order) (over : Bool) → Kept k → object_of k.tasks.rows who ≡ Some x → is_ready x ≡ true → y ≡ turn_by over k.next_since x
+sliced_keeps_by : (k : Inside) (who n : ℕ) (x y : Task) (r : urgent.Order) (over : Bool) → Kept k → object_of k.tasks.rows who ≡ Some x → is_ready x ≡ true → y ≡ sliced over k.next_since x
     → n ≡ k.next_since + cond over 1 0 → r ≡ cond over (urgent.rotated k.ready who) k.ready → Kept (requeued k who y n k.waits r k.delays)
-turned_by k who n x y r true kept value ready e next out =
+sliced_keeps_by k who n x y r true kept value ready e next out =
     let id : y.id ≡ x.id = ap task_id e in
     let free = free_ready x ready in
     written_keeps k who n x y k.waits r k.delays kept value (record { id = id; since = inr (ap (λ (t : Task). t.since) e, next); ahead = subst (λ w. IfSome w (λ v. k.tick < v)) (sym (ap (λ (t : Task). t.wake) e)) })
     (record {
       waits_held = waits_stay k who x y kept value (ap (option_map (waiter_at y)) (ap (λ (t : Task). t.wait) e ∙ free.0) ∙ sym (ap (option_map (waiter_at x)) free.0));
-      ready_held = ready_turns k who x y kept value r id (ap (λ (t : Task). t.pri) e) ready (ap is_ready e ∙ ready) (ap (λ (t : Task). t.since) e) out;
+      ready_held = ready_sliced k who x y kept value r id (ap (λ (t : Task). t.pri) e) ready (ap is_ready e ∙ ready) (ap (λ (t : Task). t.since) e) out;
       delays_held = delays_apart k who x y kept value free.1 (ap (λ (t : Task). t.wake) e ∙ free.1);
     })
-turned_by k who n x y r false kept value ready e next out =
+sliced_keeps_by k who n x y r false kept value ready e next out =
     let id : y.id ≡ x.id = ap task_id e in
     let since : y.since ≡ x.since = ap (λ (t : Task). t.since) e in
     let wake : y.wake ≡ x.wake = ap (λ (t : Task). t.wake) e in
@@ -305,10 +305,10 @@ turned_by k who n x y r false kept value ready e next out =
     })
 
 -- the time slice of a ready task is one tick longer, and if it ends, the task goes after its equals
-pub turned_keeps : (k : Inside) (who n : ℕ) (x y : Task) (r : urgent.Order) (over : Bool) → Kept k → object_of k.tasks.rows who ≡ Some x → is_ready x ≡ true → y ≡ turn_task k.slice k.next_since x
+pub sliced_keeps : (k : Inside) (who n : ℕ) (x y : Task) (r : urgent.Order) (over : Bool) → Kept k → object_of k.tasks.rows who ≡ Some x → is_ready x ≡ true → y ≡ slice_counted k.slice k.next_since x
     → n ≡ k.next_since + cond (leb k.slice (x.turns + 1)) 1 0 → over ≡ leb k.slice (x.turns + 1) → r ≡ cond over (urgent.rotated k.ready who) k.ready → Kept (requeued k who y n k.waits r k.delays)
-turned_keeps k who n x y r over kept value ready e next is out =
-    turned_by k who n x y r (leb k.slice (x.turns + 1)) kept value ready e next (out ∙ ap (λ b. cond b (urgent.rotated k.ready who) k.ready) is)
+sliced_keeps k who n x y r over kept value ready e next is out =
+    sliced_keeps_by k who n x y r (leb k.slice (x.turns + 1)) kept value ready e next (out ∙ ap (λ b. cond b (urgent.rotated k.ready who) k.ready) is)
 
 -- ---- the first waiter of a place, in the line and from the tasks
 pub first_kept : (k : Inside) (s : KernState) (place : Place) → Kept k → the_view k ≡ s → first_at k.waits.waiters place ≡ option_map task_id (first_waiter s.tasks place)

@@ -6,7 +6,7 @@ use Rattle.task_block.specs.declared.task.Task.{Task}
 use Rattle.wind_core.specs.State.{KernState, task_of}
 use Rattle.wind_core.specs.Orders.{due, running}
 use Rattle.wind_core.specs.Moves.{move_found, move_task, answered, end_wait, end_waits}
-use Rattle.wind_core.specs.Tick.{turn_found, turn_of, take_turn, late_answer, late_errno, time_out, tick_counted, tick}
+use Rattle.wind_core.specs.Tick.{count_found_slice, count_slice_of, count_slice, late_answer, late_errno, time_out, tick_counted, tick}
 
 -- ---- a move
 pub next-move : (k : KernState) (who : ℕ) (f : Task → Task) → (move_task k who f).next_id ≡ k.next_id
@@ -17,16 +17,16 @@ next-end_waits k [] answer errno = refl
 next-end_waits k (t ∷ ts) answer errno = next-end_waits (end_wait k t.id answer errno) ts answer errno ∙ next-move k t.id (answered answer errno)
 
 -- ---- a tick
-next-turn_of : (k : KernState) (o : Option Task) → (turn_of k o).next_id ≡ k.next_id
-next-turn_of k None = refl
-next-turn_of k (Some t) = elim (eqb t.locks 0) as (λ b. (cond b (turn_found k t) k).next_id ≡ k.next_id) [ true ↦ refl | false ↦ refl ]
+next-count_slice_of : (k : KernState) (o : Option Task) → (count_slice_of k o).next_id ≡ k.next_id
+next-count_slice_of k None = refl
+next-count_slice_of k (Some t) = elim (eqb t.locks 0) as (λ b. (cond b (count_found_slice k t) k).next_id ≡ k.next_id) [ true ↦ refl | false ↦ refl ]
 
-next-take_turn : (k : KernState) → (take_turn k).next_id ≡ k.next_id
-next-take_turn k = elim (eqb k.slice 0) as (λ b. (cond b k (turn_of k (running k))).next_id ≡ k.next_id) [ true ↦ refl | false ↦ next-turn_of k (running k) ]
+next-count_slice : (k : KernState) → (count_slice k).next_id ≡ k.next_id
+next-count_slice k = elim (eqb k.slice 0) as (λ b. (cond b k (count_slice_of k (running k))).next_id ≡ k.next_id) [ true ↦ refl | false ↦ next-count_slice_of k (running k) ]
 
 next-time_outs : (k : KernState) (ts : List Task) → (fold time_out k ts).next_id ≡ k.next_id
 next-time_outs k [] = refl
 next-time_outs k (t ∷ ts) = next-time_outs (time_out k t) ts ∙ next-move k t.id (answered (late_answer (is_some t.wait)) (late_errno (is_some t.wait)))
 
 pub next-tick : (k : KernState) → (tick k).next_id ≡ k.next_id
-next-tick k = let turned = take_turn (tick_counted k) in next-time_outs turned (due turned.tasks (k.tick + 1)) ∙ next-take_turn (tick_counted k)
+next-tick k = let turned = count_slice (tick_counted k) in next-time_outs turned (due turned.tasks (k.tick + 1)) ∙ next-count_slice (tick_counted k)

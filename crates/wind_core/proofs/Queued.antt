@@ -19,7 +19,7 @@ use Rattle.wind_core.specs.State.{task_id, task_of}
 use Rattle.wind_core.specs.Orders.{is_less, urgency, is_before, most_urgent, sleeps, waking_tick, wake_key, wakes_before}
 use Rattle.wind_core.specs.Queues.{as_ready, ready_of, ready_tasks, as_sleeper, delayed_of, delayed_tasks, ready_mended, with_wake, delays_mended}
 use Rattle.wind_core.proofs.Passes.{neither, is_before-order, wakes_before-order}
-use Rattle.wind_core.proofs.Lines.{Behind, line_without, line_renewed, line_gone, line_unmoved, line_push, line_pushed, line_absent, fewer_in_line, line_found, length-line, line_same}
+use Rattle.wind_core.proofs.Lines.{After, line_without, line_renewed, line_gone, line_unmoved, line_push, line_pushed, line_absent, fewer_in_line, line_found, length-line, line_same}
 
 -- ---- two keys with different second numbers
 -- the first numbers decide; if they are equal, the second ones
@@ -33,16 +33,16 @@ pub more_first : (a b c d : ℕ) (xs ys : List ℕ) → c < d → is_less (b ∷
 more_first a b c d xs ys h = grind (arith, lt-ltb c d h, le-ltb d c (omega arith))
 
 -- a later task comes after
-behind_ready : (y x : Task) → x.since < y.since → Behind task_id urgent.task_id urgent.task_pri as_ready (λ _. refl) is_before is_before-order is_ready y x
-behind_ready y x h = record {
+after_ready : (y x : Task) → x.since < y.since → After task_id urgent.task_id urgent.task_pri as_ready (λ _. refl) is_before is_before-order is_ready y x
+after_ready y x h = record {
   ahead = less_first x.pri y.pri x.since y.since (x.id ∷ []) (y.id ∷ []) h;
-  behind = more_first x.pri y.pri x.since y.since (x.id ∷ []) (y.id ∷ []) h;
+  later = more_first x.pri y.pri x.since y.since (x.id ∷ []) (y.id ∷ []) h;
 }
 
-behind_asleep : (y x : Task) → x.since < y.since → Behind task_id timed.task_id timed.task_wake as_sleeper (λ _. refl) wakes_before wakes_before-order sleeps y x
-behind_asleep y x h = record {
+after_asleep : (y x : Task) → x.since < y.since → After task_id timed.task_id timed.task_wake as_sleeper (λ _. refl) wakes_before wakes_before-order sleeps y x
+after_asleep y x h = record {
   ahead = less_first (waking_tick x) (waking_tick y) x.since y.since (x.id ∷ []) (y.id ∷ []) h;
-  behind = more_first (waking_tick x) (waking_tick y) x.since y.since (x.id ∷ []) (y.id ∷ []) h;
+  later = more_first (waking_tick x) (waking_tick y) x.since y.since (x.id ∷ []) (y.id ∷ []) h;
 }
 
 -- y is later than all of these
@@ -65,7 +65,7 @@ ready_mended_is ts who x y up e own last =
       | true ↦ λ b.
           ap (λ n. ready_as (urgent.put_in (urgent.taken_out (ready_of ts) n) (as_ready y))) own
           ∙ ap ready_as (sym (line_renewed task_id urgent.task_id urgent.task_pri as_ready (λ _. refl) is_before is_before-order is_ready ts who x y up e b
-          (All-weaker (λ t. t.since < y.since) (Behind task_id urgent.task_id urgent.task_pri as_ready (λ _. refl) is_before is_before-order is_ready y) (λ t h. behind_ready y t h) ts (last b))))
+          (All-weaker (λ t. t.since < y.since) (After task_id urgent.task_id urgent.task_pri as_ready (λ _. refl) is_before is_before-order is_ready y) (λ t h. after_ready y t h) ts (last b))))
       | false ↦ λ b.
           ap (λ n. ready_as (urgent.taken_out (ready_of ts) n)) own
           ∙ ap ready_as (sym (line_gone task_id urgent.task_id urgent.task_pri as_ready (λ _. refl) is_before is_before-order is_ready ts who x y up e b))
@@ -82,7 +82,7 @@ ready_same ts who x y up e same = ap ready_as (line_same seen_ready (λ s. s.1) 
 pub ready_push : (ts : List Task) (y : Task) → is_ready y ≡ true → IsLast y ts → ready_tasks (ts ++ y ∷ []) ≡ urgent.with_task (ready_tasks ts) (as_ready y)
 ready_push ts y ready last =
     ap ready_as (line_push task_id urgent.task_id urgent.task_pri as_ready (λ _. refl) is_before is_before-order is_ready ts y ready
-    (All-weaker (λ t. t.since < y.since) (Behind task_id urgent.task_id urgent.task_pri as_ready (λ _. refl) is_before is_before-order is_ready y) (λ t h. behind_ready y t h) ts last))
+    (All-weaker (λ t. t.since < y.since) (After task_id urgent.task_id urgent.task_pri as_ready (λ _. refl) is_before is_before-order is_ready y) (λ t h. after_ready y t h) ts last))
 
 pub length-ready : (ts : List Task) → length (ready_of ts) ≤ length ts
 length-ready ts = length-line task_id urgent.task_id urgent.task_pri as_ready (λ _. refl) is_before is_before-order is_ready ts
@@ -127,7 +127,7 @@ delays_mended_is ts who x y up e own last =
           ap (λ n. delayed_as (timed.put_in (timed.taken_out (delayed_of ts) n) (y.id, v))) own
           ∙ ap (λ o. delayed_as (timed.put_in (timed.taken_out (delayed_of ts) who) (y.id, unwrap_or o 0))) (sym q)
           ∙ ap delayed_as (sym (line_renewed task_id timed.task_id timed.task_wake as_sleeper (λ _. refl) wakes_before wakes_before-order sleeps ts who x y up e (ap is_some q)
-          (All-weaker (λ t. t.since < y.since) (Behind task_id timed.task_id timed.task_wake as_sleeper (λ _. refl) wakes_before wakes_before-order sleeps y) (λ t h. behind_asleep y t h) ts (last (ap is_some q)))))
+          (All-weaker (λ t. t.since < y.since) (After task_id timed.task_id timed.task_wake as_sleeper (λ _. refl) wakes_before wakes_before-order sleeps y) (λ t h. after_asleep y t h) ts (last (ap is_some q)))))
     ] refl
 
 -- what the queue reads of a task

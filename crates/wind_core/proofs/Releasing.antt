@@ -46,8 +46,8 @@ front_freed s place x up e =
       sinces = since-release s x.id;
     }
 
-pub free_turn : (s : KernState) (place : Place) (who : ℕ) → Rising task_id s.tasks → Some who ≡ option_map task_id (first_waiter s.tasks place) → Freed s place who
-free_turn s place who up e =
+pub freed_first : (s : KernState) (place : Place) (who : ℕ) → Rising task_id s.tasks → Some who ≡ option_map task_id (first_waiter s.tasks place) → Freed s place who
+freed_first s place who up e =
     let x = id_found (first_waiter s.tasks place) who e in
     subst (Freed s place) (sym x.2) (front_freed s place x.0 up x.1)
 

@@ -9,7 +9,7 @@ use Rattle.wind_lists.specs.Records.{change}
 use Rattle.wind_core.specs.State.{KernState, task_id, task_of}
 use Rattle.wind_core.specs.Orders.{running, due}
 use Rattle.wind_core.specs.Moves.{renewed, settled, renew_task, move_found, move_task, answered}
-use Rattle.wind_core.specs.Tick.{turn_task, turn_found, turn_of, take_turn, late_answer, late_errno, time_out, tick_counted, tick}
+use Rattle.wind_core.specs.Tick.{slice_counted, count_found_slice, count_slice_of, count_slice, late_answer, late_errno, time_out, tick_counted, tick}
 
 module _ (P : Task → Type 0) where
   pub All-change : (ts : List Task) (who : ℕ) (f : Task → Task) → ((t : Task) → P t → P (f t)) → All P ts → All P (change task_id ts who f)
@@ -39,23 +39,23 @@ module _ (P : Task → Type 0) where
 
     -- a tick: whatever the result of a wait, and however many ticks of a slice are used
     module _ (answers : (answer : ℕ) (errno : Option Errno) (t : Task) → P t → P (answered answer errno t)) (turns : (n : ℕ) (t : Task) → P t → P (record t { turns = n })) where
-      turn_task-stable : (slice since : ℕ) (t : Task) → P t → P (turn_task slice since t)
-      turn_task-stable slice since t p =
+      slice_counted-stable : (slice since : ℕ) (t : Task) → P t → P (slice_counted slice since t)
+      slice_counted-stable slice since t p =
           elim (leb slice (t.turns + 1)) as (λ b. P (cond b (renewed since (record t { turns = 0 })) (record t { turns = t.turns + 1 }))) [
             | true ↦ renews since (record t { turns = 0 }) (turns 0 t p)
             | false ↦ turns (t.turns + 1) t p
           ]
 
-      turn_of-stable : (s : KernState) (o : Option Task) → All P s.tasks → All P (turn_of s o).tasks
-      turn_of-stable s None all = all
-      turn_of-stable s (Some t) all =
-          elim (eqb t.locks 0) as (λ b. All P (cond b (turn_found s t) s).tasks) [
-            | true ↦ All-change s.tasks t.id (turn_task s.slice s.next_since) (turn_task-stable s.slice s.next_since) all
+      count_slice_of-stable : (s : KernState) (o : Option Task) → All P s.tasks → All P (count_slice_of s o).tasks
+      count_slice_of-stable s None all = all
+      count_slice_of-stable s (Some t) all =
+          elim (eqb t.locks 0) as (λ b. All P (cond b (count_found_slice s t) s).tasks) [
+            | true ↦ All-change s.tasks t.id (slice_counted s.slice s.next_since) (slice_counted-stable s.slice s.next_since) all
             | false ↦ all
           ]
 
-      take_turn-stable : (s : KernState) → All P s.tasks → All P (take_turn s).tasks
-      take_turn-stable s all = elim (eqb s.slice 0) as (λ b. All P (cond b s (turn_of s (running s))).tasks) [ true ↦ all | false ↦ turn_of-stable s (running s) all ]
+      count_slice-stable : (s : KernState) → All P s.tasks → All P (count_slice s).tasks
+      count_slice-stable s all = elim (eqb s.slice 0) as (λ b. All P (cond b s (count_slice_of s (running s))).tasks) [ true ↦ all | false ↦ count_slice_of-stable s (running s) all ]
 
       time_outs-stable : (s : KernState) (ts : List Task) → All P s.tasks → All P (fold time_out s ts).tasks
       time_outs-stable s [] all = all
@@ -65,4 +65,4 @@ module _ (P : Task → Type 0) where
 
       pub tick-stable : (s : KernState) → All P s.tasks → All P (tick s).tasks
       tick-stable s all =
-          time_outs-stable (take_turn (tick_counted s)) (due (take_turn (tick_counted s)).tasks (s.tick + 1)) (take_turn-stable (tick_counted s) all)
+          time_outs-stable (count_slice (tick_counted s)) (due (count_slice (tick_counted s)).tasks (s.tick + 1)) (count_slice-stable (tick_counted s) all)

@@ -7,30 +7,30 @@ use Rattle.wind_lists.specs.Sorting.{first}
 use Rattle.wind_core.specs.State.{KernState, IsKern, WakesAhead, task_of}
 use Rattle.wind_core.specs.Orders.{running, due}
 use Rattle.wind_core.specs.Moves.{move_found, answered}
-use Rattle.wind_core.specs.Tick.{turn_task, turn_found, turn_of, take_turn, late_answer, late_errno, time_out, tick_counted, tick}
+use Rattle.wind_core.specs.Tick.{slice_counted, count_found_slice, count_slice_of, count_slice, late_answer, late_errno, time_out, tick_counted, tick}
 use Rattle.wind_core.specs.Laws.{TickLaw, AheadLaw}
 use Rattle.wind_core.proofs.Writes.{MayFollow}
 use Rattle.wind_core.proofs.Waking.{due-end_wait}
-use Rattle.wind_core.proofs.Ticks.{running_found, at_tick, turn_follows, tick-take_turn, none_due}
+use Rattle.wind_core.proofs.Ticks.{running_found, at_tick, slice_follows, tick-count_slice, none_due}
 use Rattle.wind_core.proofs.Keeping.{change_keeps, end_wait_keeps}
 
 -- ---- the running task's time slice
-turn_found_keeps : (n : ℕ) (s : KernState) (t : Task) → IsKern (at_tick n s) → running s ≡ Some t → IsKern (at_tick n (turn_found s t))
-turn_found_keeps n s t is runs =
-    change_keeps (at_tick n s) t.id (s.next_since + cond (leb s.slice (t.turns + 1)) 1 0) (turn_task s.slice s.next_since) is (omega arith)
+count_found_slice_keeps : (n : ℕ) (s : KernState) (t : Task) → IsKern (at_tick n s) → running s ≡ Some t → IsKern (at_tick n (count_found_slice s t))
+count_found_slice_keeps n s t is runs =
+    change_keeps (at_tick n s) t.id (s.next_since + cond (leb s.slice (t.turns + 1)) 1 0) (slice_counted s.slice s.next_since) is (omega arith)
     (λ x found.
-    subst (λ v. MayFollow (at_tick n s) v (turn_task s.slice s.next_since v) (s.next_since + cond (leb s.slice (t.turns + 1)) 1 0))
+    subst (λ v. MayFollow (at_tick n s) v (slice_counted s.slice s.next_since v) (s.next_since + cond (leb s.slice (t.turns + 1)) 1 0))
     (same_Some t x (sym (running_found s t is.rising runs) ∙ found))
-    (turn_follows (at_tick n s) s.slice t))
+    (slice_follows (at_tick n s) s.slice t))
 
-turn_keeps : (n : ℕ) (s : KernState) → IsKern (at_tick n s) → IsKern (at_tick n (take_turn s))
-turn_keeps n s is =
-    elim (eqb s.slice 0) as (λ b. IsKern (at_tick n (cond b s (turn_of s (running s))))) [
+count_slice_keeps : (n : ℕ) (s : KernState) → IsKern (at_tick n s) → IsKern (at_tick n (count_slice s))
+count_slice_keeps n s is =
+    elim (eqb s.slice 0) as (λ b. IsKern (at_tick n (cond b s (count_slice_of s (running s))))) [
       | true ↦ is
       | false ↦
-          elim (running s) as (λ o. running s ≡ o → IsKern (at_tick n (turn_of s o))) [
+          elim (running s) as (λ o. running s ≡ o → IsKern (at_tick n (count_slice_of s o))) [
             | None ↦ λ e. is
-            | Some t ↦ λ e. elim (eqb t.locks 0) as (λ b. IsKern (at_tick n (cond b (turn_found s t) s))) [ true ↦ turn_found_keeps n s t is e | false ↦ is ]
+            | Some t ↦ λ e. elim (eqb t.locks 0) as (λ b. IsKern (at_tick n (cond b (count_found_slice s t) s))) [ true ↦ count_found_slice_keeps n s t is e | false ↦ is ]
           ] refl
     ]
 
@@ -79,7 +79,7 @@ past_kept n now s past = record {
 -- ---- a tick
 ticked : (s : KernState) → IsKern s → IsPast s.tick (s.tick + 1) (tick s)
 ticked s is =
-    past_each s.tick (s.tick + 1) (due (take_turn (tick_counted s)).tasks (s.tick + 1)) (take_turn (tick_counted s)) (turn_keeps s.tick (tick_counted s) is) (tick-take_turn (tick_counted s)) refl
+    past_each s.tick (s.tick + 1) (due (count_slice (tick_counted s)).tasks (s.tick + 1)) (count_slice (tick_counted s)) (count_slice_keeps s.tick (tick_counted s) is) (tick-count_slice (tick_counted s)) refl
 
 pub tick_keeps : TickLaw
 tick_keeps s is = past_kept s.tick (s.tick + 1) (tick s) (ticked s is)

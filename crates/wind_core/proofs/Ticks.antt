@@ -19,12 +19,12 @@ use Rattle.wind_core.specs.Queues.{delayed_of}
 use Rattle.wind_core.specs.State.{KernState, Lives, WakesAhead, task_id, task_of}
 use Rattle.wind_core.specs.Orders.{keeps_running, keeper, last_task, or_else, most_urgent, is_before, running, has_come, is_due, arrives_before, due, first_due}
 use Rattle.wind_core.specs.Moves.{renewed, move_found, answered, end_wait}
-use Rattle.wind_core.specs.Tick.{turn_task, turn_found, is_free, turn_of, take_turn, late_answer, late_errno, late_of, time_out, wake_due, tick}
+use Rattle.wind_core.specs.Tick.{slice_counted, count_found_slice, is_free, count_slice_of, count_slice, late_answer, late_errno, late_of, time_out, wake_due, tick}
 use Rattle.wind_core.specs.declared.kern.Kern.TheInside.{Inside}
 use Rattle.wind_core.specs.declared.clock.Late.{Late}
 use Rattle.wind_core.specs.contracts.kern.Kern.{the_view}
 use Rattle.wind_core.proofs.Passes.{is_before-order, arrives_before-order}
-use Rattle.wind_core.proofs.Waking.{time_out_turn}
+use Rattle.wind_core.proofs.Waking.{timed_out_first}
 use Rattle.wind_core.proofs.Writes.{MayFollow, Kept, written, written_is, found}
 use Rattle.wind_core.proofs.Queued.{first_ready}
 use Rattle.wind_core.proofs.Due.{due_first}
@@ -114,64 +114,64 @@ runner_lives s who up e =
     let x = named (running s) who e in
     subst (λ o. IsSome o) (runs s who up e) (subst (λ o. IsSome o) (sym x.1) refl)
 
-pub nobody_runs : (s : KernState) → None ≡ option_map task_id (running s) → turn_of s (running s) ≡ s
-nobody_runs s e = ap (turn_of s) (none_named (running s) e)
+pub nobody_runs : (s : KernState) → None ≡ option_map task_id (running s) → count_slice_of s (running s) ≡ s
+nobody_runs s e = ap (count_slice_of s) (none_named (running s) e)
 
 -- ---- a time slice
-pub locked_turn : (s : KernState) (o : Option Task) → false ≡ is_free o → s ≡ turn_of s o
-locked_turn s None e = refl
-locked_turn s (Some t) e = ap (λ b. cond b (turn_found s t) s) e
+pub locked_slice : (s : KernState) (o : Option Task) → false ≡ is_free o → s ≡ count_slice_of s o
+locked_slice s None e = refl
+locked_slice s (Some t) e = ap (λ b. cond b (count_found_slice s t) s) e
 
-free_turn : (s : KernState) (x : Task) → true ≡ eqb x.locks 0 → turn_found s x ≡ turn_of s (Some x)
-free_turn s x e = ap (λ b. cond b (turn_found s x) s) e
+freed_first : (s : KernState) (x : Task) → true ≡ eqb x.locks 0 → count_found_slice s x ≡ count_slice_of s (Some x)
+freed_first s x e = ap (λ b. cond b (count_found_slice s x) s) e
 
 -- a task with one more tick of its slice can follow it
-pub turn_follows : (s : KernState) (slice : ℕ) (t : Task) → MayFollow s t (turn_task slice s.next_since t) (s.next_since + cond (leb slice (t.turns + 1)) 1 0)
-turn_follows s slice t =
+pub slice_follows : (s : KernState) (slice : ℕ) (t : Task) → MayFollow s t (slice_counted slice s.next_since t) (s.next_since + cond (leb slice (t.turns + 1)) 1 0)
+slice_follows s slice t =
     elim (leb slice (t.turns + 1)) as (λ b. MayFollow s t (cond b (renewed s.next_since (record t { turns = 0 })) (record t { turns = t.turns + 1 })) (s.next_since + cond b 1 0)) [
       | true ↦ record { id = refl; since = inr (refl, refl); ahead = λ h. h }
       | false ↦ record { id = refl; since = inl (refl, omega arith); ahead = λ h. h }
     ]
 
 -- the task's slice is one tick longer
-pub turned_is : (k : Inside) (s : KernState) (who n : ℕ) (x y : Task) → Kept k → the_view k ≡ s → object_of k.tasks.rows who ≡ Some x → true ≡ is_free (task_of s.tasks who)
-    → y ≡ turn_task k.slice k.next_since x → n ≡ k.next_since + cond (leb k.slice (x.turns + 1)) 1 0
-    → the_view (written k who y n) ≡ turn_of s (task_of s.tasks who)
-turned_is k s who n x y kept is value free e next =
+pub sliced_is : (k : Inside) (s : KernState) (who n : ℕ) (x y : Task) → Kept k → the_view k ≡ s → object_of k.tasks.rows who ≡ Some x → true ≡ is_free (task_of s.tasks who)
+    → y ≡ slice_counted k.slice k.next_since x → n ≡ k.next_since + cond (leb k.slice (x.turns + 1)) 1 0
+    → the_view (written k who y n) ≡ count_slice_of s (task_of s.tasks who)
+sliced_is k s who n x y kept is value free e next =
     let here = found k who x kept value in
-    let f : Task → Task = turn_task k.slice k.next_since in
+    let f : Task → Task = slice_counted k.slice k.next_since in
     written_is k who n x y f kept value e
     ∙ ap {B = KernState} (λ m. record (the_view k) { tasks = change task_id (the_view k).tasks who f; next_since = m }) next
     ∙ ap {B = KernState} (λ i. record (the_view k) { tasks = change task_id (the_view k).tasks i f; next_since = k.next_since + cond (leb k.slice (x.turns + 1)) 1 0 }) (sym (found_id task_id (the_view k).tasks who x here))
-    ∙ free_turn (the_view k) x (free ∙ ap (λ r. is_free (task_of r.tasks who)) (sym is) ∙ ap is_free here)
-    ∙ ap (turn_of (the_view k)) (sym here)
-    ∙ ap (λ r. turn_of r (task_of r.tasks who)) is
+    ∙ freed_first (the_view k) x (free ∙ ap (λ r. is_free (task_of r.tasks who)) (sym is) ∙ ap is_free here)
+    ∙ ap (count_slice_of (the_view k)) (sym here)
+    ∙ ap (λ r. count_slice_of r (task_of r.tasks who)) is
 
 -- at most one order number is given
-pub since-turn_of : (s : KernState) (o : Option Task) → (turn_of s o).next_since ≤ s.next_since + 1
-since-turn_of s None = omega arith
-since-turn_of s (Some t) =
-    elim (eqb t.locks 0) as (λ b. (cond b (turn_found s t) s).next_since ≤ s.next_since + 1) [
+pub since-count_slice_of : (s : KernState) (o : Option Task) → (count_slice_of s o).next_since ≤ s.next_since + 1
+since-count_slice_of s None = omega arith
+since-count_slice_of s (Some t) =
+    elim (eqb t.locks 0) as (λ b. (cond b (count_found_slice s t) s).next_since ≤ s.next_since + 1) [
       | true ↦ elim (leb s.slice (t.turns + 1)) as (λ b. s.next_since + cond b 1 0 ≤ s.next_since + 1) [ true ↦ omega arith | false ↦ omega arith ]
       | false ↦ omega arith
     ]
 
-pub since-take_turn : (s : KernState) → (take_turn s).next_since ≤ s.next_since + 1
-since-take_turn s = elim (eqb s.slice 0) as (λ b. (cond b s (turn_of s (running s))).next_since ≤ s.next_since + 1) [ true ↦ omega arith | false ↦ since-turn_of s (running s) ]
+pub since-count_slice : (s : KernState) → (count_slice s).next_since ≤ s.next_since + 1
+since-count_slice s = elim (eqb s.slice 0) as (λ b. (cond b s (count_slice_of s (running s))).next_since ≤ s.next_since + 1) [ true ↦ omega arith | false ↦ since-count_slice_of s (running s) ]
 
 -- ---- the count
 abbrev pub at_tick : ℕ → KernState → KernState
 at_tick n s = record s { tick = n }
 
-turn_of-at_tick : (s : KernState) (n : ℕ) (o : Option Task) → turn_of (at_tick n s) o ≡ at_tick n (turn_of s o)
-turn_of-at_tick s n None = refl
-turn_of-at_tick s n (Some t) = elim (eqb t.locks 0) as (λ b. cond b (turn_found (at_tick n s) t) (at_tick n s) ≡ at_tick n (cond b (turn_found s t) s)) [ true ↦ refl | false ↦ refl ]
+count_slice_of-at_tick : (s : KernState) (n : ℕ) (o : Option Task) → count_slice_of (at_tick n s) o ≡ at_tick n (count_slice_of s o)
+count_slice_of-at_tick s n None = refl
+count_slice_of-at_tick s n (Some t) = elim (eqb t.locks 0) as (λ b. cond b (count_found_slice (at_tick n s) t) (at_tick n s) ≡ at_tick n (cond b (count_found_slice s t) s)) [ true ↦ refl | false ↦ refl ]
 
-take_turn-at_tick : (s : KernState) (n : ℕ) → take_turn (at_tick n s) ≡ at_tick n (take_turn s)
-take_turn-at_tick s n =
-    elim (eqb s.slice 0) as (λ b. cond b (at_tick n s) (turn_of (at_tick n s) (running s)) ≡ at_tick n (cond b s (turn_of s (running s)))) [
+count_slice-at_tick : (s : KernState) (n : ℕ) → count_slice (at_tick n s) ≡ at_tick n (count_slice s)
+count_slice-at_tick s n =
+    elim (eqb s.slice 0) as (λ b. cond b (at_tick n s) (count_slice_of (at_tick n s) (running s)) ≡ at_tick n (cond b s (count_slice_of s (running s)))) [
       | true ↦ refl
-      | false ↦ turn_of-at_tick s n (running s)
+      | false ↦ count_slice_of-at_tick s n (running s)
     ]
 
 time_out-at_tick : (s : KernState) (n : ℕ) (t : Task) → time_out (at_tick n s) t ≡ at_tick n (time_out s t)
@@ -184,9 +184,9 @@ time_outs-at_tick s n [] = refl
 time_outs-at_tick s n (t ∷ ts) = ap (λ r. fold time_out r ts) (time_out-at_tick s n t) ∙ time_outs-at_tick (time_out s t) n ts
 
 -- the tick count can rise first or last
-pub tick_is : (s : KernState) → at_tick (s.tick + 1) (wake_due (take_turn s) (s.tick + 1)) ≡ tick s
+pub tick_is : (s : KernState) → at_tick (s.tick + 1) (wake_due (count_slice s) (s.tick + 1)) ≡ tick s
 tick_is s =
-    sym (ap (λ r. wake_due r (s.tick + 1)) (take_turn-at_tick s (s.tick + 1)) ∙ time_outs-at_tick (take_turn s) (s.tick + 1) (due (take_turn s).tasks (s.tick + 1)))
+    sym (ap (λ r. wake_due r (s.tick + 1)) (count_slice-at_tick s (s.tick + 1)) ∙ time_outs-at_tick (count_slice s) (s.tick + 1) (due (count_slice s).tasks (s.tick + 1)))
 
 not_come : (n : ℕ) (wake : Option ℕ) → has_come n wake ≡ false → IfSome wake (λ w. n < w)
 not_come n None e = tt
@@ -215,12 +215,12 @@ counted_keeps k n kept e = (
 )
 
 -- counting a slice doesn't change the tick count
-tick-turn_of : (s : KernState) (o : Option Task) → (turn_of s o).tick ≡ s.tick
-tick-turn_of s None = refl
-tick-turn_of s (Some t) = elim (eqb t.locks 0) as (λ b. (cond b (turn_found s t) s).tick ≡ s.tick) [ true ↦ refl | false ↦ refl ]
+tick-count_slice_of : (s : KernState) (o : Option Task) → (count_slice_of s o).tick ≡ s.tick
+tick-count_slice_of s None = refl
+tick-count_slice_of s (Some t) = elim (eqb t.locks 0) as (λ b. (cond b (count_found_slice s t) s).tick ≡ s.tick) [ true ↦ refl | false ↦ refl ]
 
-pub tick-take_turn : (s : KernState) → (take_turn s).tick ≡ s.tick
-tick-take_turn s = elim (eqb s.slice 0) as (λ b. (cond b s (turn_of s (running s))).tick ≡ s.tick) [ true ↦ refl | false ↦ tick-turn_of s (running s) ]
+pub tick-count_slice : (s : KernState) → (count_slice s).tick ≡ s.tick
+tick-count_slice s = elim (eqb s.slice 0) as (λ b. (cond b s (count_slice_of s (running s))).tick ≡ s.tick) [ true ↦ refl | false ↦ tick-count_slice_of s (running s) ]
 
 -- ---- the late tasks, as the code reads them
 late_found : (o : Option Task) (late : Late) → Some late ≡ option_map late_of o → (x : Task) × (o ≡ Some x) × (late ≡ late_of x)
@@ -236,18 +236,18 @@ tick-end_wait : (s : KernState) (who answer : ℕ) (errno : Option Errno) → (e
 tick-end_wait s who answer errno = elim (task_of s.tasks who) as (λ o. (move_found s who (answered answer errno) o).tick ≡ s.tick) [ None ↦ refl | Some t ↦ refl ]
 
 -- one iteration of the loop that wakes the tasks that are due
-pub record LateTurn (s : KernState) (n : ℕ) (late : Late) : Type 0 where
+pub record LateWoken (s : KernState) (n : ℕ) (late : Late) : Type 0 where
   pub lives : Lives s late.who
   pub same : wake_due (end_wait s late.who (late_answer late.waits) (late_errno late.waits)) n ≡ wake_due s n
   pub fewer : length (due (end_wait s late.who (late_answer late.waits) (late_errno late.waits)).tasks n) + 1 ≡ length (due s.tasks n)
   pub sinces : (end_wait s late.who (late_answer late.waits) (late_errno late.waits)).next_since ≤ s.next_since + 1
   pub tick : (end_wait s late.who (late_answer late.waits) (late_errno late.waits)).tick ≡ s.tick
 
-pub late_turn : (s : KernState) (n : ℕ) (late : Late) → Rising task_id s.tasks → Some late ≡ option_map late_of (first_due s.tasks n) → LateTurn s n late
-late_turn s n late up e =
+pub late_woken : (s : KernState) (n : ℕ) (late : Late) → Rising task_id s.tasks → Some late ≡ option_map late_of (first_due s.tasks n) → LateWoken s n late
+late_woken s n late up e =
     let x = late_found (first_due s.tasks n) late e in
-    let turn = time_out_turn s n x.0 up x.1 in
-    subst (LateTurn s n) (sym x.2) (record { lives = turn.lives; same = turn.same; fewer = turn.fewer; sinces = turn.sinces; tick = tick-end_wait s x.0.id (late_answer (is_some x.0.wait)) (late_errno (is_some x.0.wait)) })
+    let woken = timed_out_first s n x.0 up x.1 in
+    subst (LateWoken s n) (sym x.2) (record { lives = woken.lives; same = woken.same; fewer = woken.fewer; sinces = woken.sinces; tick = tick-end_wait s x.0.id (late_answer (is_some x.0.wait)) (late_errno (is_some x.0.wait)) })
 
 -- the task at the head of the queue is the first that is due
 pub due_kept : (k : Inside) (s : KernState) (n : ℕ) → Kept k → the_view k ≡ s → n ≡ s.tick + 1 → timed.due_at k.delays.tasks n ≡ option_map task_id (first_due s.tasks n)

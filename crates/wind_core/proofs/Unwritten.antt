@@ -11,7 +11,7 @@ use Rattle.wind_core.specs.State.{KernState, task_id, task_of}
 use Rattle.wind_core.specs.Orders.{running, due}
 use Rattle.wind_core.specs.Moves.{renewed, settled, renew_task, move_found, move_task, answered, released}
 use Rattle.wind_core.specs.Releases.{releases}
-use Rattle.wind_core.specs.Tick.{turn_task, turn_found, turn_of, take_turn, late_answer, late_errno, time_out, tick_counted, tick}
+use Rattle.wind_core.specs.Tick.{slice_counted, count_found_slice, count_slice_of, count_slice, late_answer, late_errno, time_out, tick_counted, tick}
 
 module _ {A : Type 0} (field : Task → A) where
   pub map-change : (ts : List Task) (who : ℕ) (f : Task → Task) → ((t : Task) → field (f t) ≡ field t) → map field (change task_id ts who f) ≡ map field ts
@@ -45,23 +45,23 @@ module _ {A : Type 0} (field : Task → A) where
 
     -- a tick: whatever the result of a wait, and however many ticks of a slice are used
     module _ (answers : (answer : ℕ) (errno : Option Errno) (t : Task) → field (answered answer errno t) ≡ field t) (turns : (n : ℕ) (t : Task) → field (record t { turns = n }) ≡ field t) where
-      turn_task-same : (slice since : ℕ) (t : Task) → field (turn_task slice since t) ≡ field t
-      turn_task-same slice since t =
+      slice_counted-same : (slice since : ℕ) (t : Task) → field (slice_counted slice since t) ≡ field t
+      slice_counted-same slice since t =
           elim (leb slice (t.turns + 1)) as (λ b. field (cond b (renewed since (record t { turns = 0 })) (record t { turns = t.turns + 1 })) ≡ field t) [
             | true ↦ renews since (record t { turns = 0 }) ∙ turns 0 t
             | false ↦ turns (t.turns + 1) t
           ]
 
-      map-turn_of : (s : KernState) (o : Option Task) → map field (turn_of s o).tasks ≡ map field s.tasks
-      map-turn_of s None = refl
-      map-turn_of s (Some t) =
-          elim (eqb t.locks 0) as (λ b. map field (cond b (turn_found s t) s).tasks ≡ map field s.tasks) [
-            | true ↦ map-change s.tasks t.id (turn_task s.slice s.next_since) (turn_task-same s.slice s.next_since)
+      map-count_slice_of : (s : KernState) (o : Option Task) → map field (count_slice_of s o).tasks ≡ map field s.tasks
+      map-count_slice_of s None = refl
+      map-count_slice_of s (Some t) =
+          elim (eqb t.locks 0) as (λ b. map field (cond b (count_found_slice s t) s).tasks ≡ map field s.tasks) [
+            | true ↦ map-change s.tasks t.id (slice_counted s.slice s.next_since) (slice_counted-same s.slice s.next_since)
             | false ↦ refl
           ]
 
-      pub map-take_turn : (s : KernState) → map field (take_turn s).tasks ≡ map field s.tasks
-      map-take_turn s = elim (eqb s.slice 0) as (λ b. map field (cond b s (turn_of s (running s))).tasks ≡ map field s.tasks) [ true ↦ refl | false ↦ map-turn_of s (running s) ]
+      pub map-count_slice : (s : KernState) → map field (count_slice s).tasks ≡ map field s.tasks
+      map-count_slice s = elim (eqb s.slice 0) as (λ b. map field (cond b s (count_slice_of s (running s))).tasks ≡ map field s.tasks) [ true ↦ refl | false ↦ map-count_slice_of s (running s) ]
 
       map-time_outs : (s : KernState) (ts : List Task) → map field (fold time_out s ts).tasks ≡ map field s.tasks
       map-time_outs s [] = refl
@@ -71,7 +71,7 @@ module _ {A : Type 0} (field : Task → A) where
           map-time_outs (time_out s t) ts ∙ map-move s t.id (answered answer errno) (answers answer errno)
 
       pub map-tick : (s : KernState) → map field (tick s).tasks ≡ map field s.tasks
-      map-tick s = map-time_outs (take_turn (tick_counted s)) (due (take_turn (tick_counted s)).tasks (s.tick + 1)) ∙ map-take_turn (tick_counted s)
+      map-tick s = map-time_outs (count_slice (tick_counted s)) (due (count_slice (tick_counted s)).tasks (s.tick + 1)) ∙ map-count_slice (tick_counted s)
 
 -- a field of the task with an id, if two lists have the same ids with the same field
 module _ {A : Type 0} (field : Task → A) where

@@ -15,7 +15,7 @@ use Rattle.wind_lists.proofs.Places.{gone, above_none, none_without, not_there, 
 use Rattle.wind_lists.proofs.Sorting.{seen_sorted}
 use Rattle.wait_order.specs.declared.waits.Waiter.{Waiter}
 use Rattle.wait_order.specs.Line.{Line, waiter_id, waiter_of, without_waiter, stands_before, stands_at, first_at}
-use Rattle.wait_order.proofs.Turns.{line_alike}
+use Rattle.wait_order.proofs.LineOrder.{line_alike}
 use Rattle.wind_core.specs.State.{task_id, task_of}
 use Rattle.wind_core.specs.Orders.{waits_at, same_place, is_place, waiters, first_waiter}
 use Rattle.wind_core.specs.Waiting.{waiter_at, as_waiter, waits_of, task_waits, with_found, mended}
@@ -63,9 +63,9 @@ tasks_above : (t : Task) (ts : List Task) → Rising task_id (t ∷ ts) → All 
 tasks_above t ts up k d hk = rising_head task_id t ts up k d hk
 
 -- if all waiters have ids above its own, a waiter goes to the beginning
-in_front : (w : Waiter) (ws : List Waiter) → All (λ v. w.who < v.who) ws → with_record waiter_id ws w ≡ w ∷ ws
-in_front w [] above = refl
-in_front w (v ∷ vs) above =
+at_head : (w : Waiter) (ws : List Waiter) → All (λ v. w.who < v.who) ws → with_record waiter_id ws w ≡ w ∷ ws
+at_head w [] above = refl
+at_head w (v ∷ vs) above =
     let here : w.who < v.who = All-head (λ (u : Waiter). w.who < u.who) v vs above in
     ap (λ b. cond b (v ∷ with_record waiter_id vs w) (w ∷ v ∷ vs)) (le-ltb v.who w.who (omega arith))
 
@@ -76,13 +76,13 @@ put_into ws (Some w) = with_record waiter_id ws w
 
 front_found : (y : Task) (p : Option Place) (ws : List Waiter) → All (λ v. y.id < v.who) ws → keyed p y ws ≡ put_into ws (option_map (waiter_at y) p)
 front_found y None ws above = refl
-front_found y (Some p) ws above = sym (in_front (waiter_at y p) ws above)
+front_found y (Some p) ws above = sym (at_head (waiter_at y p) ws above)
 
 -- it goes after one with a lesser id
-behind : (t y : Task) (p q : Option Place) (ws : List Waiter) → t.id < y.id → keyed p t (put_into ws (option_map (waiter_at y) q)) ≡ put_into (keyed p t ws) (option_map (waiter_at y) q)
-behind t y None q ws less = refl
-behind t y (Some p) None ws less = refl
-behind t y (Some p) (Some q) ws less = ap (λ b. cond b (waiter_at t p ∷ with_record waiter_id ws (waiter_at y q)) (waiter_at y q ∷ waiter_at t p ∷ ws)) (sym (lt-ltb t.id y.id less))
+later : (t y : Task) (p q : Option Place) (ws : List Waiter) → t.id < y.id → keyed p t (put_into ws (option_map (waiter_at y) q)) ≡ put_into (keyed p t ws) (option_map (waiter_at y) q)
+later t y None q ws less = refl
+later t y (Some p) None ws less = refl
+later t y (Some p) (Some q) ws less = ap (λ b. cond b (waiter_at t p ∷ with_record waiter_id ws (waiter_at y q)) (waiter_at y q ∷ waiter_at t p ∷ ws)) (sym (lt-ltb t.id y.id less))
 
 -- the line after the task with an id changed: it is there as it waits now, or not at all
 pub waits_replace : (ts : List Task) (who : ℕ) (x y : Task) → Rising task_id ts → task_of ts who ≡ Some x → y.id ≡ who
@@ -104,7 +104,7 @@ waits_replace (t ∷ ts) who x y up e own =
       | false ↦ λ b q.
           let less : t.id < y.id = subst (λ n. t.id < n) (found_id task_id ts who x q ∙ sym own) (All-contains (λ u. t.id < u.id) ts x (tasks_above t ts up) (found_at task_id ts who x q)) in
           ap (keyed t.wait t) (waits_replace ts who x y (rising_tail task_id t ts up) q own)
-          ∙ behind t y t.wait y.wait (without waiter_id (waits_of ts) who) less
+          ∙ later t y t.wait y.wait (without waiter_id (waits_of ts) who) less
           ∙ ap (λ ws. put_into ws (as_waiter y))
           (ap (λ c. cond (not c) (keyed t.wait t (without waiter_id (waits_of ts) who)) (without waiter_id (waits_of ts) who)) (sym b)
           ∙ sym (keyed_without t t.wait (waits_of ts) who))

@@ -77,9 +77,9 @@ wake_front s place answer errno x up e =
       sinces = since-end_wait s x.id answer errno;
     }
 
-pub wake_turn : (s : KernState) (place : Place) (answer : ℕ) (errno : Option Errno) (who : ℕ) → Rising task_id s.tasks → Some who ≡ option_map task_id (first_waiter s.tasks place)
+pub woken_first : (s : KernState) (place : Place) (answer : ℕ) (errno : Option Errno) (who : ℕ) → Rising task_id s.tasks → Some who ≡ option_map task_id (first_waiter s.tasks place)
     → Woken s place answer errno who
-wake_turn s place answer errno who up e =
+woken_first s place answer errno who up e =
     let x = id_found (first_waiter s.tasks place) who e in
     subst (Woken s place answer errno) (sym x.2) (wake_front s place answer errno x.0 up x.1)
 
@@ -103,8 +103,8 @@ pub record TimedOut (s : KernState) (tick : ℕ) (x : Task) : Type 0 where
   pub fewer : length (due (time_out s x).tasks tick) + 1 ≡ length (due s.tasks tick)
   pub sinces : (time_out s x).next_since ≤ s.next_since + 1
 
-pub time_out_turn : (s : KernState) (tick : ℕ) (x : Task) → Rising task_id s.tasks → first_due s.tasks tick ≡ Some x → TimedOut s tick x
-time_out_turn s tick x up e =
+pub timed_out_first : (s : KernState) (tick : ℕ) (x : Task) → Rising task_id s.tasks → first_due s.tasks tick ≡ Some x → TimedOut s tick x
+timed_out_first s tick x up e =
     let split = first_is arrives_before (due s.tasks tick) x e in
     let left = due-end_wait s tick (late_answer (is_some x.wait)) (late_errno (is_some x.wait)) x split.0 up split.1 in
     record {

@@ -102,12 +102,12 @@ IsKern-replace s who n x y is here may =
 -- if the task with an id is written and the queues agree with it, the invariant of the kernel's type holds again
 pub written_keeps : (k : Inside) (who n : ℕ) (x y : Task) (l : Line) (r : urgent.Order) (d : timed.Order) → Kept k → object_of k.tasks.rows who ≡ Some x → MayFollow (the_view k) x y n
     → AreQueued l r d (tasks_with k who y) → Kept (requeued k who y n l r d)
-written_keeps k who n x y l r d kept value may told =
+written_keeps k who n x y l r d kept value may queued =
     let here = found k who x kept value in (
       kept.0,
       OwnIds-write task_id k.tasks.rows who y kept.1 (may.id ∙ found_id task_id (objects k.tasks.rows) who x here),
       subst (λ ts. IsKern (record (the_view k) { tasks = ts; next_since = n })) (sym (objects-replace task_id k.tasks.rows who y kept.1)) (IsKern-replace (the_view k) who n x y kept.2 here may),
-      subst (AreQueued l r d) (sym (objects-replace task_id k.tasks.rows who y kept.1)) told,
+      subst (AreQueued l r d) (sym (objects-replace task_id k.tasks.rows who y kept.1)) queued,
     )
 
 -- and the state is the one in which f changes the task

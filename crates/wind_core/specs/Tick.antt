@@ -12,15 +12,15 @@ use Rattle.wind_core.specs.Orders.{running, due}
 use Rattle.wind_core.specs.Moves.{renewed, end_wait}
 
 -- one more tick of a time slice; if that ends it, a new one begins, and the task gets a new order number
-abbrev pub turn_task : ℕ → ℕ → Task → Task
-turn_task slice since t =
+abbrev pub slice_counted : ℕ → ℕ → Task → Task
+slice_counted slice since t =
     if nat_le slice (t.turns + 1) then renewed since (record t { turns = 0 })
     else record t { turns = t.turns + 1 }
 
 -- one more tick of the time slice of this task
-abbrev pub turn_found : KernState → Task → KernState
-turn_found s t = record s {
-  tasks = change task_id s.tasks t.id (turn_task s.slice s.next_since);
+abbrev pub count_found_slice : KernState → Task → KernState
+count_found_slice s t = record s {
+  tasks = change task_id s.tasks t.id (slice_counted s.slice s.next_since);
   next_since = s.next_since + (if nat_le s.slice (t.turns + 1) then 1 else 0);
 }
 
@@ -30,13 +30,13 @@ is_free None = false
 is_free (Some t) = t.locks == 0
 
 -- the time slice of a task that holds the scheduler lock isn't counted
-abbrev pub turn_of : KernState → Option Task → KernState
-turn_of s None = s
-turn_of s (Some t) = if t.locks == 0 then turn_found s t else s
+abbrev pub count_slice_of : KernState → Option Task → KernState
+count_slice_of s None = s
+count_slice_of s (Some t) = if t.locks == 0 then count_found_slice s t else s
 
 -- one more tick of the running task's time slice; with a slice of 0, time slices aren't counted (Reference Manual, kernelTimeSlice)
-abbrev pub take_turn : KernState → KernState
-take_turn s = if s.slice == 0 then s else turn_of s (running s)
+abbrev pub count_slice : KernState → KernState
+count_slice s = if s.slice == 0 then s else count_slice_of s (running s)
 
 -- a wait that times out has the result ERROR and the error OBJ_TIMEOUT, a delay has the result 0
 abbrev pub late_answer : Bool → ℕ
@@ -64,4 +64,4 @@ tick_counted s = record s { tick = s.tick + 1 }
 
 -- a tick: the count rises, the running task's time slice is one tick longer, and the tasks whose wake has come go on
 abbrev pub tick : KernState → KernState
-tick s = wake_due (take_turn (tick_counted s)) (s.tick + 1)
+tick s = wake_due (count_slice (tick_counted s)) (s.tick + 1)

@@ -5,12 +5,12 @@ ghost use Rattle.std.specs.Option.{option_map};
 ghost use Rattle.task_block.specs.Standing.{is_ready};
 ghost use Rattle.wind_core.specs.State.{Lives, IsKern, task_of};
 ghost use Rattle.wind_core.specs.Orders.{keeper as keeper_lem, last_task, most_urgent as most_urgent_lem, running, runner, first_due};
-ghost use Rattle.wind_core.specs.Tick.{late_of, late_answer, late_errno, is_free as is_free_lem, turn_of, take_turn, wake_due, tick};
+ghost use Rattle.wind_core.specs.Tick.{late_of, late_answer, late_errno, is_free as is_free_lem, count_slice_of, count_slice, wake_due, tick};
 ghost use Rattle.wind_core.specs.Moves.{end_wait};
 
 use crate::kern::Kern;
 use crate::queues::rotate_over;
-use crate::tasks::count_turn;
+use crate::tasks::count_slice_tick;
 use id_table::Ident;
 use task_block::Task;
 use wind_base::Errno;
@@ -92,24 +92,24 @@ impl Kern {
     }
 
     // Counts one more tick of the time slice of this ready task, if it holds no scheduler lock.
-    fn turn(&mut self, who: Ident)
+    fn count_task_slice(&mut self, who: Ident)
         requires ready { IsSomeAnd (task_of self.old.tasks who) (λ t. is_ready t ≡ true) }
         requires since { self.old.next_since + 1 < 2 ^ 64 }
-        ensures { self.new ≡ turn_of self.old (task_of self.old.tasks who) }
+        ensures { self.new ≡ count_slice_of self.old (task_of self.old.tasks who) }
     {
         if !self.is_free(who) {
             return;
         }
         let slice = self.slice;
         let task = self.tasks.object_mut(who);
-        let over = count_turn(task, &mut self.next_since, slice);
+        let over = count_slice_tick(task, &mut self.next_since, slice);
         rotate_over(&mut self.ready, who, over);
     }
 
     // Counts one more tick of the running task's time slice, if time slices are counted.
-    fn take_turn(&mut self)
+    fn count_slice(&mut self)
         requires { self.old.next_since + 1 < 2 ^ 64 }
-        ensures turn { self.new ≡ take_turn self.old }
+        ensures slice { self.new ≡ count_slice self.old }
     {
         if self.slice == 0 {
             return;
@@ -117,7 +117,7 @@ impl Kern {
         let Some(who) = self.runner() else {
             return;
         };
-        self.turn(who);
+        self.count_task_slice(who);
     }
 
     // The task with this id as one whose wake has come, if it is live.
@@ -179,7 +179,7 @@ impl Kern {
         requires tick { self.old.tick < 2 ^ 63 }
         ensures { self.new ≡ tick self.old }
     {
-        self.take_turn();
+        self.count_slice();
         let tick = self.tick + 1;
         self.wake_due(tick);
         self.tick = tick;

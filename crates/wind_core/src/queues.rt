@@ -34,7 +34,7 @@ pub(crate) fn mend_waits(waits: &mut Waits, task: &Task)
 }
 
 // Updates the task in the queue of ready tasks: after all others of its priority, or not at all.
-#[tactic(auto, using(ready_queue::proofs::Turns::taken_absent))]
+#[tactic(auto, using(ready_queue::proofs::Rotation::taken_absent))]
 pub(crate) fn mend_ready(ready: &mut Ready, task: &Task)
     requires { length (ready_without ready.old.tasks task.now.id) < ready.old.room }
     ensures { ready.new ≡ ready_mended ready.old task.now }

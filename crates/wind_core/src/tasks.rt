@@ -3,7 +3,7 @@
 ghost use Rattle.std.specs.Prelude.{◌≡◌, ◌<◌, ◌+◌, ◌^◌, nat_le, if◌then◌else◌};
 ghost use Rattle.task_block.specs.Standing.{is_ready};
 ghost use Rattle.wind_core.specs.Moves.{new_task, renewed, pended, delayed, wake_at, is_endless as is_endless_lem, released, answered, settled, suspended, resumed, unmarked, with_pri, past_gate, with_answer, with_refusal, unreserved};
-ghost use Rattle.wind_core.specs.Tick.{turn_task};
+ghost use Rattle.wind_core.specs.Tick.{slice_counted};
 
 use id_table::sides::{CONSOLE, DELETION};
 use id_table::{Ident, Place};
@@ -165,10 +165,10 @@ pub(crate) fn renew(task: &mut Task, next_since: &mut u64)
 
 // Counts one more tick of the task's time slice. If that ends the slice, a new one begins, the task
 // gets a new order number, and the result is `true`.
-pub(crate) fn count_turn(task: &mut Task, next_since: &mut u64, slice: u32) -> bool
+pub(crate) fn count_slice_tick(task: &mut Task, next_since: &mut u64, slice: u32) -> bool
     requires { next_since.old + 1 < 2 ^ 64 }
     ensures over { result ≡ nat_le slice (task.old.turns + 1) }
-    ensures task { task.new ≡ turn_task slice next_since.old task.old }
+    ensures task { task.new ≡ slice_counted slice next_since.old task.old }
     ensures next { next_since.new ≡ next_since.old + (if nat_le slice (task.old.turns + 1) then 1 else 0) }
 {
     if u64::from(task.turns) + 1 >= u64::from(slice) {

@@ -10,7 +10,7 @@ use Rattle.reloc_link.specs.declared.patching.RelocErr.{RelocErr}
 use Rattle.module_image.specs.declared.segments.SegmentKind.{SegmentKind}
 use Rattle.module_image.specs.Binding.{bind}
 use Rattle.module_image.specs.Image.{Images, image_by}
-use Rattle.module_image.specs.Link.{Load, told_by, value_else, meaning, link_after, link}
+use Rattle.module_image.specs.Link.{Load, export_by, value_else, meaning, link_after, link}
 use Rattle.module_image.specs.Linkable.{IsLinkable}
 use Rattle.symbol_table.specs.Newest.{find_global}
 use Rattle.elf_read.specs.declared.module.Module.{Module}
@@ -72,7 +72,7 @@ passes i one is h = ap (λ f. relocation_or i f (wrong_relocation (i + 1) is)) h
 pub goes_on : (low n : ℕ) (p : Placed) (ps : List Placed) (v w : Values) (bytes more : List ℕ) (i : ℕ) (all : List Load) → IsLinking low n (p ∷ ps) v bytes i all
     → more ≡ with_all low bytes (segments_of (load_of p).at (image_by p.module (value_of v) (load_of p).at))
     → (image_by p.module (value_of v) (load_of p).at).fault ≡ None
-    → ((q : List ℕ) → value_of w q ≡ value_else (told_by (load_of p) q) (value_of v q))
+    → ((q : List ℕ) → value_of w q ≡ value_else (export_by (load_of p) q) (value_of v q))
     → length more ≡ length bytes → IsLinking low n ps w more (i + 1) all
 goes_on low n p ps v w bytes more i all k written fault values size =
     let l = load_of p in
@@ -81,7 +81,7 @@ goes_on low n p ps v w bytes more i all k written fault values size =
     let rest = link_after opening_symbols (l ∷ k.earlier) (loads ps) in
     record {
       earlier = l ∷ k.earlier;
-      means = λ q. values q ∙ ap (value_else (told_by l q)) (k.means q);
+      means = λ q. values q ∙ ap (value_else (export_by l q)) (k.means q);
       image = ap (λ b. with_all low b (segments (loads ps) rest)) (written ∙ ap (λ (x : Images). with_all low bytes (segments_of l.at x)) same) ∙ k.image;
       whole = sym (passes i one rest (ap (λ (x : Images). x.fault) (sym same) ∙ fault)) ∙ k.whole;
       inside = (k.inside).1;
@@ -167,7 +167,7 @@ index_within i n (making.Reloc r) h = omega (arith, h)
 index_within i n making.NoMemory h = omega arith
 
 pub told_is : (l : Load) (ys : List Sym) (vs : List (Option ℕ)) (q : List ℕ) (n : ℕ) → ys ≡ l.body.symbols → vs ≡ values l.body l.at
-    → value_else (find_global (exports_from l.body.sections l.mode 0 ys vs) q) n ≡ value_else (told_by l q) n
+    → value_else (find_global (exports_from l.body.sections l.mode 0 ys vs) q) n ≡ value_else (export_by l q) n
 unfolding exports
 told_is l ys vs q n y v =
     ap (λ x. value_else (find_global (exports_from l.body.sections l.mode 0 x vs) q) n) y

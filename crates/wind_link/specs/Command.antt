@@ -3,7 +3,7 @@ use Rattle.std.specs.Prelude.{◌≡◌, ◌⊎◌, ℕ, ◌+◌, ◌<◌, ◌�
 use Rattle.wind_base.specs.Limits.{longest_text_file, longest_module_file}
 use Rattle.wind_outside.specs.Counts.{Rose}
 use Rattle.wind_outside.specs.Files.{Files}
-use Rattle.wind_outside.specs.Told.{Appended, AppendedFront}
+use Rattle.wind_outside.specs.Appending.{Appended, AppendedPrefix}
 use Rattle.mem_partition.specs.declared.block.Block.{Block}
 use Rattle.elf_read.specs.declared.module.Module.{Module}
 use Rattle.elf_read.specs.declared.error.ElfErr.{ElfErr}
@@ -52,7 +52,7 @@ pub record Faults : Type 0 where
   pub before : ℕ
   pub after : ℕ
 
--- the file with this name has these bytes, at most so many
+-- the file with this name has these bytes, at most that many
 abbrev pub HasBytes : ℕ → Option Files → List ℕ → List ℕ → Type 0
 HasBytes most files name bytes = IfSome files (λ held. held name ≡ Some bytes) × (length bytes ≤ most)
 
@@ -128,7 +128,7 @@ NoModules files dir rows faults end = FirstRefused files dir rows faults end
 -- how a call ends that links these modules; `rose` says that the sink's count of faults rose
 abbrev pub Links : Option (List ℕ) → Option (List ℕ) → Type 0 → List Load → LinkStatus → Type 0
 Links old new rose ls status.Done = (bytes : List ℕ) × (static_image ls ≡ Ok bytes) × Appended old new bytes
-Links old new rose ls status.WriteFault = (bytes : List ℕ) × (static_image ls ≡ Ok bytes) × AppendedFront old new bytes × rose
+Links old new rose ls status.WriteFault = (bytes : List ℕ) × (static_image ls ≡ Ok bytes) × AppendedPrefix old new bytes × rose
 Links old new rose ls (status.BadReloc line number error) =
     (index : ℕ) × (line ≡ index + 1) × (static_image ls ≡ Err (refusal.BadReloc index number error)) × (new ≡ old)
 Links old new rose ls status.NoMemory = new ≡ old

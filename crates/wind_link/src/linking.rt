@@ -5,7 +5,7 @@ ghost use Rattle.std.specs.List.{All};
 ghost use Rattle.wind_base.specs.Limits.{ram_bytes};
 ghost use Rattle.module_image.specs.Image.{image_by};
 ghost use Rattle.module_image.specs.Layout.{addresses, ends_of, values as values_lem};
-ghost use Rattle.module_image.specs.Link.{told_by, value_else};
+ghost use Rattle.module_image.specs.Link.{export_by, value_else};
 ghost use Rattle.module_image.specs.Linkable.{IsLinkable};
 ghost use Rattle.module_image.specs.Making.{IsMade, IsRefusal as IsMakeRefusal};
 ghost use Rattle.module_image.specs.Needs.{needs_of};
@@ -126,7 +126,7 @@ fn link_module<'a>(
         (image_by placed.now.module (value_of values.old) (load_of placed.now).at))) }
     ensures whole { OnOk result ((image_by placed.now.module (value_of values.old) (load_of placed.now).at).fault ≡ None) }
     ensures values { OnOk result ((q : List ℕ) → value_of values.new q
-        ≡ value_else (told_by (load_of placed.now) q) (value_of values.old q)) }
+        ≡ value_else (export_by (load_of placed.now) q) (value_of values.old q)) }
     ensures length { length image.new ≡ length image.old }
     ensures fault { IfErr result (IsMakeRefusal
         (image_by placed.now.module (value_of values.old) (load_of placed.now).at).fault) }

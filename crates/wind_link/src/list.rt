@@ -10,7 +10,7 @@ ghost use Rattle.wind_link.specs.Rows.{row as row_lem, name_of, first_line as fi
 use module_image::Places;
 use std::alloc::Global;
 use std::str;
-use wind_base::{behind, line_len};
+use wind_base::{bytes_after, line_len};
 
 /// The most lines of a list.
 const LINES: usize = 256;
@@ -74,8 +74,8 @@ fn first_word(text: &[u8]) -> &[u8]
 fn after_word(text: &[u8]) -> &[u8]
     ensures { result.now ≡ after_word_lem text.now }
 {
-    let rest = behind(text, word_len(text));
-    behind(rest, blank_len(rest))
+    let rest = bytes_after(text, word_len(text));
+    bytes_after(rest, blank_len(rest))
 }
 
 // The name that a word is.
@@ -192,9 +192,9 @@ fn after_line(text: &[u8]) -> &[u8]
 {
     let n = line_len(text);
     if n < text.len() {
-        behind(text, n + 1)
+        bytes_after(text, n + 1)
     } else {
-        behind(text, n)
+        bytes_after(text, n)
     }
 }
 

@@ -7,7 +7,7 @@ use Rattle.std.proofs.lemmas.List.Elements.{All-cons, All-append, All-weaker}
 use Rattle.std.proofs.lemmas.Option.{same_Some}
 use Rattle.wind_lists.specs.Sorting.{insert_sorted, sorted, first}
 use Rattle.wind_lists.specs.Records.{without}
-use Rattle.wind_lists.specs.Arrivals.{Change, comes, goes, put_behind, after_changes, arrivals, ranks_below, IsEarliest, ArrivalLaw}
+use Rattle.wind_lists.specs.Arrivals.{Change, comes, goes, put_after, after_changes, arrivals, ranks_below, IsEarliest, ArrivalLaw}
 use Rattle.wind_lists.proofs.Sorting.{filter-sorted}
 
 module _ {X : Type 0} (id rank : X → ℕ) where
@@ -18,18 +18,18 @@ module _ {X : Type 0} (id rank : X → ℕ) where
   }
 
   -- putting one element before those of its rank, and another after those of its rank, can be done in either order
-  change_places : (x t : X) (ts : List X) → insert_sorted (ranks_below id rank) x (put_behind id rank ts t) ≡ put_behind id rank (insert_sorted (ranks_below id rank) x ts) t
+  change_places : (x t : X) (ts : List X) → insert_sorted (ranks_below id rank) x (put_after id rank ts t) ≡ put_after id rank (insert_sorted (ranks_below id rank) x ts) t
   change_places x t [] = grind arith
   change_places x t (u ∷ us) = grind (arith, change_places x t us)
 
   -- the last to come goes after all of its rank
-  sorted_push : (ts : List X) (t : X) → put_behind id rank (sorted (ranks_below id rank) ts) t ≡ sorted (ranks_below id rank) (ts ++ t ∷ [])
+  sorted_push : (ts : List X) (t : X) → put_after id rank (sorted (ranks_below id rank) ts) t ≡ sorted (ranks_below id rank) (ts ++ t ∷ [])
   sorted_push [] t = refl
   sorted_push (x ∷ xs) t = sym (change_places x t (sorted (ranks_below id rank) xs)) ∙ ap (insert_sorted (ranks_below id rank) x) (sorted_push xs t)
 
   pub arrivals_sorted : ArrivalLaw id rank
   arrivals_sorted [] = refl
-  arrivals_sorted (comes t ∷ earlier) = ap (λ ts. put_behind id rank ts t) (arrivals_sorted earlier) ∙ sorted_push (arrivals id rank earlier) t
+  arrivals_sorted (comes t ∷ earlier) = ap (λ ts. put_after id rank ts t) (arrivals_sorted earlier) ∙ sorted_push (arrivals id rank earlier) t
   arrivals_sorted (goes n ∷ earlier) = ap (λ ts. without id ts n) (arrivals_sorted earlier) ∙ filter-sorted (ranks_below id rank) by_rank (λ t. not (eqb (id t) n)) (arrivals id rank earlier)
 
   -- ---- the first

@@ -76,9 +76,9 @@ module _ {X : Type 0} (lt : X → X → Bool) where
   in_order_sorted w (x ∷ xs) = in_order_insert w x (sorted lt xs) (in_order_sorted w xs)
 
   -- x goes to the beginning if no element is before it
-  at_front : (x : X) (ys : List X) → AllByRecursion (λ z. lt z x ≡ false) ys → insert_sorted lt x ys ≡ x ∷ ys
-  at_front x [] h = refl
-  at_front x (y ∷ ys) h = rw h.0 refl
+  at_head : (x : X) (ys : List X) → AllByRecursion (λ z. lt z x ≡ false) ys → insert_sorted lt x ys ≡ x ∷ ys
+  at_head x [] h = refl
+  at_head x (y ∷ ys) h = rw h.0 refl
 
   all_filter : (P : X → Type 0) (q : X → Bool) (ys : List X) → AllByRecursion P ys → AllByRecursion P (filter q ys)
   all_filter P q [] ps = tt
@@ -98,7 +98,7 @@ module _ {X : Type 0} (lt : X → X → Bool) where
   filter-insert w q x (y ∷ ys) o =
       elim (lt y x) as (λ b. lt y x ≡ b → filter q (cond b (y ∷ insert_sorted lt x ys) (x ∷ y ∷ ys)) ≡ cond (q x) (insert_sorted lt x (filter q (y ∷ ys))) (filter q (y ∷ ys))) [
         | true ↦ λ e. later q x y ys e (filter-insert w q x ys o.1)
-        | false ↦ λ e. ap (λ zs. cond (q x) zs (filter q (y ∷ ys))) (sym (at_front x (filter q (y ∷ ys)) (all_filter (λ z. lt z x ≡ false) q (y ∷ ys) (e, all_weaker (λ z. lt z y ≡ false) (λ z. lt z x ≡ false) (λ z r. w.chain z y x r e) ys o.0))))
+        | false ↦ λ e. ap (λ zs. cond (q x) zs (filter q (y ∷ ys))) (sym (at_head x (filter q (y ∷ ys)) (all_filter (λ z. lt z x ≡ false) q (y ∷ ys) (e, all_weaker (λ z. lt z y ≡ false) (λ z. lt z x ≡ false) (λ z r. w.chain z y x r e) ys o.0))))
       ] refl
 
   -- filtering before a sort and after it gives the same

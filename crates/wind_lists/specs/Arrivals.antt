@@ -15,8 +15,8 @@ module _ {X : Type 0} (id rank : X → ℕ) where
   stays_ahead x later = nat_le (rank x) (rank later)
 
   -- a list in order of rank with one more element, after all of its rank
-  abbrev pub put_behind : List X → X → List X
-  put_behind xs x = insert_sorted stays_ahead x xs
+  abbrev pub put_after : List X → X → List X
+  put_after xs x = insert_sorted stays_ahead x xs
 
   -- x has a lesser rank than y
   abbrev pub ranks_below : X → X → Bool
@@ -25,7 +25,7 @@ module _ {X : Type 0} (id rank : X → ℕ) where
   -- the elements after changes; the list of changes begins with the last one
   abbrev pub after_changes : List (Change X) → List X
   after_changes [] = []
-  after_changes (comes x ∷ earlier) = put_behind (after_changes earlier) x
+  after_changes (comes x ∷ earlier) = put_after (after_changes earlier) x
   after_changes (goes n ∷ earlier) = without id (after_changes earlier) n
 
   -- the same elements in order of arrival, whatever their ranks

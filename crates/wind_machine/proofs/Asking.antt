@@ -18,7 +18,7 @@ use Rattle.wind_machine.specs.Good.{Good}
 use Rattle.wind_machine.specs.Processor.{gate_under}
 use Rattle.wind_machine.specs.ActorSteps.{shell_world, file_at, file_in}
 use Rattle.wind_machine.specs.Next.{next}
-use Rattle.wind_machine.specs.Machine.{actor_of, stepping, file_of, file_asked, may_lack_memory, next_may}
+use Rattle.wind_machine.specs.Machine.{actor_of, stepping, file_of, file_asked, may_exhaust_memory, next_may}
 use Rattle.wind_machine.specs.declared.next.Next.{Next}
 use Rattle.wind_machine.specs.declared.next.Next.TheVariants.{Load}
 use Rattle.wind_machine.specs.declared.phase.Phase.{Phase}
@@ -34,8 +34,9 @@ pub record IsShells (s : State) (o : Option Actor) (name : List ℕ) : Type 0 wh
 pub shells : (s : State) (name : List ℕ) → file_asked s ≡ Some name → IsShells s (stepping s) name
 unfolding file_asked
 shells s name = by_next s (λ n. file_of n ≡ Some name → IsShells s (actor_of n) name) (record {
-  come = λ e due q. absurd (cc);
-  arrive = λ quiet due q. absurd (cc);
+  deliver = λ i due q. absurd (cc);
+  come = λ held e due q. absurd (cc);
+  arrive = λ held quiet due q. absurd (cc);
   routine = λ nothing active q. absurd (cc);
   act = λ left t runs none q. absurd (cc);
   load = λ left t runs own given found q. record { who = refl; file = found ∙ q };
@@ -66,8 +67,9 @@ at_load phases.Eval w name e = absurd (cc)
 -- the shell's task is ready if it makes the next step
 pub shell_ready : (s : State) → Good s → stepping s ≡ Some shell → IsReady s.world.kern shell_id
 shell_ready s g = by_next s (λ n. actor_of n ≡ Some shell → IsReady s.world.kern shell_id) (record {
-  come = λ e due q. absurd (cc);
-  arrive = λ quiet due q. absurd (cc);
+  deliver = λ i due q. absurd (cc);
+  come = λ held e due q. absurd (cc);
+  arrive = λ held quiet due q. absurd (cc);
   routine = λ nothing active q. absurd (cc);
   act = λ left t runs none q. let own : t.id ≡ shell_id = cc in subst (IsReady s.world.kern) own (runner_ready s.world.kern g.kept.world.kern t runs);
   load = λ left t runs own name found q. subst (IsReady s.world.kern) own (runner_ready s.world.kern g.kept.world.kern t runs);
@@ -80,16 +82,16 @@ pub same_gate : (s : State) → gate_under (shell_world s) shell_id ≡ gate_und
 same_gate s = ap (λ o. gate_at (board_rules s.world.board).gates_start (unwrap_or (option_map (λ t. t.regs) o) no_regs).pc) (own_found s.world.kern.tasks shell_id)
 
 -- ---- a step that needs a file may run out of memory
-pub asked_may : (s : State) (name : List ℕ) → file_asked s ≡ Some name → may_lack_memory s ≡ true
+pub asked_may : (s : State) (name : List ℕ) → file_asked s ≡ Some name → may_exhaust_memory s ≡ true
 unfolding file_asked
 asked_may s name e = may (next s) e where
   may : (n : Next) → file_of n ≡ Some name → next_may s n ≡ true
   may (Load given) q = refl
   may n q = absurd (cc)
 
-pub asked_lacks : (s : State) → IsSome (file_asked s) → may_lack_memory s ≡ true
-asked_lacks s some =
-    elim (file_asked s) as (λ o. file_asked s ≡ o → IsSome o → may_lack_memory s ≡ true) [
+pub asked_exhausts : (s : State) → IsSome (file_asked s) → may_exhaust_memory s ≡ true
+asked_exhausts s some =
+    elim (file_asked s) as (λ o. file_asked s ≡ o → IsSome o → may_exhaust_memory s ≡ true) [
       | None ↦ λ e h. absurd (cc)
       | Some name ↦ λ e h. asked_may s name e
     ] refl some

@@ -1,7 +1,7 @@
 -- Every step is counted.
 use Rattle.std.proofs.Common.{◌≡◌, ℕ, ◌+◌, true, false, cond, eqb, Some, IfSome, refl, subst}
 use Rattle.tick_file.specs.declared.event.Event.{Event}
-use Rattle.tick_file.specs.declared.event.Event.TheVariants.{Tick, Rx}
+use Rattle.tick_file.specs.declared.event.Event.TheVariants.{Tick, Rx, Irq}
 use Rattle.kernel_world.specs.Actors.{shell_id}
 use Rattle.live_loading.specs.Said.{FileSaid}
 use Rattle.wind_machine.specs.State.{State}
@@ -11,7 +11,7 @@ use Rattle.wind_machine.specs.Next.{next}
 use Rattle.wind_machine.specs.Machine.{machine_step, state_after}
 use Rattle.wind_machine.proofs.Steps.{if_settled}
 use Rattle.wind_machine.specs.declared.next.Next.{Next}
-use Rattle.wind_machine.specs.declared.next.Next.TheVariants.{Come, Arrive, Routine, Act, Load, Jump, Over}
+use Rattle.wind_machine.specs.declared.next.Next.TheVariants.{Deliver, Come, Arrive, Routine, Act, Load, Jump, Over}
 use Rattle.wind_machine.specs.declared.phase.Phase.{Phase}
 use Rattle.wind_machine.specs.declared.phase.Phase.TheVariants as phases
 
@@ -31,8 +31,10 @@ task_counted s who = elim (eqb who shell_id) as (λ b. IsCounted s (cond b (shel
 event_counted : (s : State) (e : Event) → IsCounted s (event_comes s e)
 event_counted s Tick = refl
 event_counted s (Rx n) = refl
+event_counted s (Irq i) = refl
 
 after_counted : (said : FileSaid) (s : State) (n : Next) → IfSome (state_after said s n) (IsCounted s)
+after_counted said s (Deliver i) = refl
 after_counted said s (Come e) = event_counted (record s { schedule = without_next s.schedule; world = unreserved_world s.world }) e
 after_counted said s Arrive = refl
 after_counted said s Routine = refl

@@ -8,7 +8,7 @@ use Rattle.wind_outside.specs.Devices.{DeviceState}
 use Rattle.wind_lists.specs.Sorting.{first}
 use Rattle.tick_file.specs.Schedule.{Timed, Timetable, timetable_of}
 use Rattle.tick_file.specs.declared.event.Event.{Event}
-use Rattle.tick_file.specs.declared.event.Event.TheVariants.{Tick, Rx}
+use Rattle.tick_file.specs.declared.event.Event.TheVariants.{Tick, Rx, Irq}
 use Rattle.kernel_world.specs.State.{Choice, choice_of}
 use Rattle.kernel_world.specs.Actors.{shell_id}
 use Rattle.live_loading.specs.Said.{FileSaid}
@@ -25,7 +25,7 @@ use Rattle.wind_machine.specs.Machine.{opening, machine_step, state_after}
 use Rattle.kernel_world.specs.Opening.{opening_world}
 use Rattle.wind_machine.proofs.Steps.{if_settled}
 use Rattle.wind_machine.specs.declared.next.Next.{Next}
-use Rattle.wind_machine.specs.declared.next.Next.TheVariants.{Come, Arrive, Routine, Act, Load, Jump, Over}
+use Rattle.wind_machine.specs.declared.next.Next.TheVariants.{Deliver, Come, Arrive, Routine, Act, Load, Jump, Over}
 use Rattle.wind_machine.specs.declared.phase.Phase.{Phase}
 use Rattle.wind_machine.specs.declared.phase.Phase.TheVariants as phases
 
@@ -49,8 +49,10 @@ whoever_early s who h = elim (eqb who shell_id) as (λ b. IsOnTime (cond b (shel
 event_early : (s : State) (e : Event) → IsOnTime s → IsOnTime (event_comes s e)
 event_early s Tick h = h
 event_early s (Rx n) h = h
+event_early s (Irq i) h = h
 
 after_early : (said : FileSaid) (s : State) (n : Next) → IsOnTime s → IfSome (state_after said s n) IsOnTime
+after_early said s (Deliver i) h = h
 after_early said s (Come e) h = event_early (record s { schedule = without_next s.schedule; world = unreserved_world s.world }) e (All-drop IsEarly 1 s.schedule.events h)
 after_early said s Arrive h = h
 after_early said s Routine h = h

@@ -31,5 +31,5 @@ own_found (t ∷ ts) who =
       | false ↦ λ e. ap (λ c. cond c (Some (unreserved t)) (task_of (map (unless_own who) ts) who)) e ∙ own_found ts who
     ] refl
 
-pub turn_ready : (k : KernState) (who : ℕ) → IsReady k who → IsReady (drop_others k who) who
-turn_ready k who ready = subst ReadyIf (sym (own_found k.tasks who)) ready
+pub step_start_ready : (k : KernState) (who : ℕ) → IsReady k who → IsReady (drop_others k who) who
+step_start_ready k who ready = subst ReadyIf (sym (own_found k.tasks who)) ready

@@ -4,14 +4,14 @@ use Rattle.std.specs.Prelude.{take, drop}
 use Rattle.std.proofs.lemmas.Bool.{eqb-true}
 use Rattle.task_block.specs.declared.task.Task.{Task}
 use Rattle.tick_file.specs.declared.event.Event.{Event}
-use Rattle.tick_file.specs.declared.event.Event.TheVariants.{Tick, Rx}
+use Rattle.tick_file.specs.declared.event.Event.TheVariants.{Tick, Rx, Irq}
 use Rattle.wind_core.specs.State.{KernState, Lives, task_of}
 use Rattle.wind_core.specs.Moves.{unreserved}
 use Rattle.wind_core.specs.Tick.{tick}
 use Rattle.wind_core.proofs.Ids.{ids-tick, lives_by}
 use Rattle.task_safety.specs.Safety.{safe_of}
 use Rattle.shell_parse.specs.Reading.{read_line}
-use Rattle.con_line.specs.Lines.{has_line, front_line, line_dropped}
+use Rattle.con_line.specs.Lines.{has_line, first_line, line_dropped}
 use Rattle.kernel_world.specs.State.{choice_of}
 use Rattle.kernel_world.specs.Actors.{shell_id}
 use Rattle.kernel_world.specs.Objects.{IsReady}
@@ -30,7 +30,7 @@ use Rattle.wind_machine.specs.Processor.{without_own, task_part}
 use Rattle.wind_machine.proofs.Steps.{if_settled}
 use Rattle.wind_machine.specs.Laws.{ChoiceLaw, OnlyUnsafeGo, SafetyLaw}
 use Rattle.wind_machine.specs.Events.{Heard, heard_by, arrived, event_comes, event_step, unreserved_world, without_next}
-use Rattle.wind_machine.specs.ActorSteps.{at_turn, shell_world, task_step, shell_step, step_of, routine_step, load_step}
+use Rattle.wind_machine.specs.ActorSteps.{at_step_start, shell_world, task_step, shell_step, step_of, routine_step, load_step}
 use Rattle.wind_machine.specs.Next.{is_active, next}
 use Rattle.std.specs.Option.{option_map}
 use Rattle.inheritance.proofs.Raising.{raised_to}
@@ -43,7 +43,7 @@ use Rattle.wind_machine.proofs.Free.{runner_ready, runner_there}
 use Rattle.wind_machine.proofs.Hearing.{heard_keeps}
 use Rattle.wind_machine.proofs.Dropping.{all_advance}
 use Rattle.wind_machine.proofs.Parts.{PartKeeps}
-use Rattle.wind_machine.proofs.Steps.{at_turn_advances, routine_turns, prompts, reads, evaluates, loads, acts, unreserved_keeps}
+use Rattle.wind_machine.proofs.Steps.{step_start_advances, routine_keeps_world, prompts, reads, evaluates, loads, acts, unreserved_keeps}
 
 -- a task is as safe at the beginning of a step as before it
 same_safe : (ts : List Task) (who id : ℕ) → safe_of (task_of (map (unless_own who) ts) id) ≡ safe_of (task_of ts id)
@@ -68,16 +68,16 @@ module _ (s : State) (g : Keeps 0 (bare s)) where
   own_step who id (inl safe) = inl safe
   own_step who id (inr own) = inr (ap (λ n. Some (by_task n)) own)
 
-  of_part : (who n : ℕ) (finished : List ℕ) (p : Part) → PartKeeps (at_turn s.world who) p who n finished → GoBy s (Some (by_task who)) p.world.kern
+  of_part : (who n : ℕ) (finished : List ℕ) (p : Part) → PartKeeps (at_step_start s.world who) p who n finished → GoBy s (Some (by_task who)) p.world.kern
   of_part who n finished p part id live dead =
-      own_step who id (subst (λ m. (m ≡ 0) ⊎ (who ≡ id)) (same_safe s.world.kern.tasks who id) (part.turns.gone id ((at_turn_advances s g who).lives id live) dead))
+      own_step who id (subst (λ m. (m ≡ 0) ⊎ (who ≡ id)) (same_safe s.world.kern.tasks who id) (part.keeps_world.gone id ((step_start_advances s g who).lives id live) dead))
 
   task_goes : (who : ℕ) → Lives s.world.kern who → IsReady s.world.kern who → GoBy s (Some (by_task who)) (task_step s who).world.kern
-  task_goes who live ready = of_part who (s.steps + 1) s.console.finished (task_part s.shell (at_turn s.world who) who) (acts s g who live ready)
+  task_goes who live ready = of_part who (s.steps + 1) s.console.finished (task_part s.shell (at_step_start s.world who) who) (acts s g who live ready)
 
   shell_goes : (p : Phase) → IsReady s.world.kern shell_id → GoBy s (Some shell) (shell_step p s).world.kern
   shell_goes phases.Prompt ready = of_part shell_id (s.steps + 1) s.console.finished (prompt_part (has_line s.console) s.shell (shell_world s)) (prompts s g)
-  shell_goes phases.Read ready = of_part shell_id (s.steps + 1) (line_dropped s.console).finished (read_part (read_line (front_line s.console)) (shell_world s)) (reads s g)
+  shell_goes phases.Read ready = of_part shell_id (s.steps + 1) (line_dropped s.console).finished (read_part (read_line (first_line s.console)) (shell_world s)) (reads s g)
   shell_goes phases.Eval ready = of_part shell_id (s.steps + 1) s.console.finished (eval_part s.shell.trees (shell_world s)) (evaluates s g ready)
   shell_goes phases.Call ready = task_goes shell_id g.shell ready
 
@@ -105,6 +105,7 @@ module _ (s : State) (g : Keeps 0 (bare s)) where
   -- and when an event occurs
   comes_stay : (e : Event) (id : ℕ) → Lives s.world.kern id → Lives (event_comes s e).world.kern id
   comes_stay Tick id live = lives_by (tick s.world.kern).tasks s.world.kern.tasks id (ids-tick s.world.kern) live
+  comes_stay (Irq i) id live = live
   comes_stay (Rx n) id live = let bytes = take (brought n) s.left in arrived_stay (drop (brought n) s.left) bytes (heard_by s bytes) refl id live
 
   -- no safe task ends in a step of an interrupt routine
@@ -113,7 +114,7 @@ module _ (s : State) (g : Keeps 0 (bare s)) where
       ⊎_elim
       (λ (safe : safe_of (task_of (drop_all s.world.kern).tasks id) ≡ 0). inl (sym (all_safe s.world.kern.tasks id) ∙ safe))
       (λ (itself : Interrupt ≡ by_task id). absurd (cc))
-      ((routine_turns s g active).gone id ((all_advance s.world s.steps g.world g.within).lives id live) dead)
+      ((routine_keeps_world s g active).gone id ((all_advance s.world s.steps g.world g.within).lives id live) dead)
 
 event_goes : (s : State) (e : Event) → Keeps 0 (bare s) → GoBy s None (event_step s e).world.kern
 event_goes s e g id live dead =
@@ -124,8 +125,9 @@ event_goes s e g id live dead =
 -- ---- by the order of the next step
 next_goes : LoadLaw → (said : FileSaid) (s : State) → Keeps 0 (bare s) → IfSome (state_after said s (next s)) (OnlyUnsafeGo s)
 next_goes law said s g = by_next s (λ n. IfSome (state_after said s n) (λ t. GoBy s (actor_of n) t.world.kern)) (record {
-  come = λ e due. event_goes s e.event g;
-  arrive = λ quiet due id live dead. absurd (dead (arrived_stay s g (after_chunk s.left) (chunk s.left) (heard_by s (chunk s.left)) refl id live));
+  deliver = λ i due id live dead. absurd (dead ((all_advance s.world s.steps g.world g.within).lives id live));
+  come = λ held e due. event_goes s e.event g;
+  arrive = λ held quiet due id live dead. absurd (dead (arrived_stay s g (after_chunk s.left) (chunk s.left) (heard_by s (chunk s.left)) refl id live));
   routine = λ nothing active. routine_goes s g active;
   act = λ left t runs none. whoever_goes s g t.id (runner_there s.world.kern g.world.kern t runs) (runner_ready s.world.kern g.world.kern t runs);
   load = λ left t runs own name found. load_goes s g law (subst (IsReady s.world.kern) own (runner_ready s.world.kern g.world.kern t runs)) name said;
@@ -153,15 +155,15 @@ abbrev SameChoice : State → State → Type 0
 SameChoice s t = choice_of t.world ≡ choice_of s.world
 
 module _ (s : State) (g : Keeps 0 (bare s)) where
-  part_choice : (who n : ℕ) (finished : List ℕ) (p : Part) → PartKeeps (at_turn s.world who) p who n finished → choice_of p.world ≡ choice_of s.world
-  part_choice who n finished p part = part.turns.choice ∙ (at_turn_advances s g who).choice
+  part_choice : (who n : ℕ) (finished : List ℕ) (p : Part) → PartKeeps (at_step_start s.world who) p who n finished → choice_of p.world ≡ choice_of s.world
+  part_choice who n finished p part = part.keeps_world.choice ∙ (step_start_advances s g who).choice
 
   task_choice : (who : ℕ) → Lives s.world.kern who → IsReady s.world.kern who → SameChoice s (task_step s who)
-  task_choice who live ready = part_choice who (s.steps + 1) s.console.finished (task_part s.shell (at_turn s.world who) who) (acts s g who live ready)
+  task_choice who live ready = part_choice who (s.steps + 1) s.console.finished (task_part s.shell (at_step_start s.world who) who) (acts s g who live ready)
 
   shell_choice : (p : Phase) → IsReady s.world.kern shell_id → SameChoice s (shell_step p s)
   shell_choice phases.Prompt ready = part_choice shell_id (s.steps + 1) s.console.finished (prompt_part (has_line s.console) s.shell (shell_world s)) (prompts s g)
-  shell_choice phases.Read ready = part_choice shell_id (s.steps + 1) (line_dropped s.console).finished (read_part (read_line (front_line s.console)) (shell_world s)) (reads s g)
+  shell_choice phases.Read ready = part_choice shell_id (s.steps + 1) (line_dropped s.console).finished (read_part (read_line (first_line s.console)) (shell_world s)) (reads s g)
   shell_choice phases.Eval ready = part_choice shell_id (s.steps + 1) s.console.finished (eval_part s.shell.trees (shell_world s)) (evaluates s g ready)
   shell_choice phases.Call ready = task_choice shell_id g.shell ready
 
@@ -180,12 +182,14 @@ module _ (s : State) (g : Keeps 0 (bare s)) where
 event_choice : (s : State) (e : Event) → SameChoice s (event_comes s e)
 event_choice s Tick = refl
 event_choice s (Rx n) = refl
+event_choice s (Irq i) = refl
 
 next_choice : LoadLaw → (said : FileSaid) (s : State) → Keeps 0 (bare s) → IfSome (state_after said s (next s)) (SameChoice s)
 next_choice law said s g = by_next s (λ n. IfSome (state_after said s n) (SameChoice s)) (record {
-  come = λ e due. event_choice (record s { schedule = without_next s.schedule; world = unreserved_world s.world }) e.event;
-  arrive = λ quiet due. refl;
-  routine = λ nothing active. (routine_turns s g active).choice;
+  deliver = λ i due. refl;
+  come = λ held e due. event_choice (record s { schedule = without_next s.schedule; world = unreserved_world s.world }) e.event;
+  arrive = λ held quiet due. refl;
+  routine = λ nothing active. (routine_keeps_world s g active).choice;
   act = λ left t runs none. whoever_choice s g t.id (runner_there s.world.kern g.world.kern t runs) (runner_ready s.world.kern g.world.kern t runs);
   load = λ left t runs own name found. load_choice s g law (subst (IsReady s.world.kern) own (runner_ready s.world.kern g.world.kern t runs)) name said;
   jump = λ left nobody e there. refl;

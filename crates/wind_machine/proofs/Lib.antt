@@ -3,7 +3,7 @@ pub mod TaskLemmas
 pub mod Executing
 pub mod Dropping
 pub mod Free
-pub mod Turns
+pub mod PartLaws
 pub mod Moves
 pub mod Kept
 pub mod Hearing
@@ -19,3 +19,9 @@ pub mod Courses
 pub mod Counting
 pub mod Silence
 pub mod Alike
+pub mod LongerSteps
+pub mod Joining
+pub mod Evaluating
+pub mod Slotted
+pub mod SlotSteps
+pub mod SlotRuns

@@ -5,7 +5,7 @@ use Rattle.task_block.specs.declared.task.Task.{Task}
 use Rattle.wind_core.specs.State.{KernState, IsKern, task_of}
 use Rattle.wind_core.specs.Orders.{running, due}
 use Rattle.wind_core.specs.Moves.{renewed, move_found, move_task, wake_at, pended, release, answered}
-use Rattle.wind_core.specs.Tick.{turn_found, turn_of, take_turn, late_answer, late_errno, time_out, tick_counted, tick}
+use Rattle.wind_core.specs.Tick.{count_found_slice, count_slice_of, count_slice, late_answer, late_errno, time_out, tick_counted, tick}
 use Rattle.wind_core.specs.Move.{Pend, Release, Reset}
 use Rattle.wind_core.proofs.Ids.{ids-change, ids-tick}
 use Rattle.wind_core.proofs.Moving.{move_keeps}
@@ -50,19 +50,19 @@ module _ {A : Type 0} (part : KernState → A) (apart : (k : KernState) (ts : Li
   apart-move : (k : KernState) (who : ℕ) (f : Task → Task) → part (move_task k who f) ≡ part k
   apart-move k who f = elim (task_of k.tasks who) as (λ o. part (move_found k who f o) ≡ part k) [ None ↦ refl | Some t ↦ apart k _ _ ]
 
-  apart-turn_of : (k : KernState) (o : Option Task) → part (turn_of k o) ≡ part k
-  apart-turn_of k None = refl
-  apart-turn_of k (Some t) = elim (eqb t.locks 0) as (λ b. part (cond b (turn_found k t) k) ≡ part k) [ true ↦ apart k _ _ | false ↦ refl ]
+  apart-count_slice_of : (k : KernState) (o : Option Task) → part (count_slice_of k o) ≡ part k
+  apart-count_slice_of k None = refl
+  apart-count_slice_of k (Some t) = elim (eqb t.locks 0) as (λ b. part (cond b (count_found_slice k t) k) ≡ part k) [ true ↦ apart k _ _ | false ↦ refl ]
 
-  apart-take_turn : (k : KernState) → part (take_turn k) ≡ part k
-  apart-take_turn k = elim (eqb k.slice 0) as (λ b. part (cond b k (turn_of k (running k))) ≡ part k) [ true ↦ refl | false ↦ apart-turn_of k (running k) ]
+  apart-count_slice : (k : KernState) → part (count_slice k) ≡ part k
+  apart-count_slice k = elim (eqb k.slice 0) as (λ b. part (cond b k (count_slice_of k (running k))) ≡ part k) [ true ↦ refl | false ↦ apart-count_slice_of k (running k) ]
 
   apart-time_outs : (k : KernState) (ts : List Task) → part (fold time_out k ts) ≡ part k
   apart-time_outs k [] = refl
   apart-time_outs k (t ∷ ts) = apart-time_outs (time_out k t) ts ∙ apart-move k t.id (answered (late_answer (is_some t.wait)) (late_errno (is_some t.wait)))
 
   apart-tick : (k : KernState) → part (tick_counted k) ≡ part k → part (tick k) ≡ part k
-  apart-tick k counted = apart-time_outs (take_turn (tick_counted k)) (due (take_turn (tick_counted k)).tasks (k.tick + 1)) ∙ apart-take_turn (tick_counted k) ∙ counted
+  apart-tick k counted = apart-time_outs (count_slice (tick_counted k)) (due (count_slice (tick_counted k)).tasks (k.tick + 1)) ∙ apart-count_slice (tick_counted k) ∙ counted
 
 pub lent-tick : (k : KernState) → (tick k).lent ≡ k.lent
 lent-tick k = apart-tick (λ j. j.lent) (λ j ts n. refl) k refl

@@ -39,61 +39,61 @@ use Rattle.wind_machine.specs.Task.{aborted, listening, stack_pointer, call_regs
 use Rattle.text_show.specs.Value.{value_text}
 use Rattle.wind_machine.specs.Text.{prompt_text, fault_text}
 use Rattle.wind_machine.specs.Shell.{at_prompt, shell_with, returned, prompt_part, read_part, read_text, eval_state, with_eval, calling, came_to, eval_part}
-use Rattle.wind_machine.specs.Processor.{bus_of, regs_of, told_of, trapped, is_return, without_own, return_part, call_part, gate_part, executed, word_part, part_at, gate_under, task_part}
+use Rattle.wind_machine.specs.Processor.{bus_of, regs_of, trap_text, trapped, is_return, without_own, return_part, call_part, gate_part, executed, word_part, part_at, gate_under, task_part}
 use Rattle.wind_machine.specs.declared.phase.Phase.TheVariants as phases
 use Rattle.wind_machine.proofs.Executing.{IfDone, executing_lasts, sizes_last}
 use Rattle.wind_machine.proofs.Dropping.{unreserve_advances}
 use Rattle.wind_machine.proofs.Moves.{goes-listening, goes-aborted}
-use Rattle.wind_machine.proofs.Turns.{Turns, turns_by, turns_passed, turns_then, nowhere, more_counts, touched, wrote, gave_regs, ended_turns, framed_size, evaluated_turns}
+use Rattle.wind_machine.proofs.PartLaws.{KeepsWorld, keeps_by, keeps_passed, keeps_then, nowhere, more_counts, touched, wrote, gave_regs, ended_keeps_world, framed_size, evaluated_keeps_world}
 use Rattle.wind_machine.proofs.Kept.{needs_none}
 
 -- what a step of a task leaves: the world went on, and a shell that reads has its line
 pub record PartKeeps (w : WorldState) (p : Part) (who n : ℕ) (finished : List ℕ) : Type 0 where
-  pub turns : Turns w p.world who n
+  pub keeps_world : KeepsWorld w p.world who n
   pub read : HasItsLine p.shell.phase finished
 
 module _ (w : WorldState) (n : ℕ) (kept : IsWorld w) (within : Within n w) where
-  here : (who : ℕ) → Turns w w who (n + 1)
+  here : (who : ℕ) → KeepsWorld w w who (n + 1)
   here who = more_counts w w who n (nowhere w who n kept within)
 
   -- ---- the shell's own steps
-  pub prompt_turns : Lives w.kern shell_id → (has : Bool) (shell : ShellState) → Turns w (prompt_part has shell w).world shell_id (n + 1)
-  prompt_turns live has shell =
-      elim has as (λ b. Turns w (writing (with_kern w (cond b w.kern (listening w.kern))) prompt_text) shell_id (n + 1)) [
+  pub prompt_keeps_world : Lives w.kern shell_id → (has : Bool) (shell : ShellState) → KeepsWorld w (prompt_part has shell w).world shell_id (n + 1)
+  prompt_keeps_world live has shell =
+      elim has as (λ b. KeepsWorld w (writing (with_kern w (cond b w.kern (listening w.kern))) prompt_text) shell_id (n + 1)) [
         | true ↦ wrote w w shell_id (n + 1) (here shell_id) (w.output ++ prompt_text)
         | false ↦
             let v = with_kern w (listening w.kern) in
-            let goes = turns_by w v shell_id n 1 0 (omega arith) (omega arith) (by_kern w kept (listening w.kern) n 1 (goes-listening w.kern n kept.kern within.0) (objects-listen w.kern w.objects kept.kern kept.objects false 4294967295 live (omega arith)) within.1) in
+            let goes = keeps_by w v shell_id n 1 0 (omega arith) (omega arith) (by_kern w kept (listening w.kern) n 1 (goes-listening w.kern n kept.kern within.0) (objects-listen w.kern w.objects kept.kern kept.objects false 4294967295 live (omega arith)) within.1) in
             wrote w v shell_id (n + 1) (more_counts w v shell_id n goes) (w.output ++ prompt_text)
       ]
 
-  pub read_turns : (reading : Reading) → Turns w (read_part reading w).world shell_id (n + 1)
-  read_turns reading = wrote w w shell_id (n + 1) (here shell_id) (w.output ++ read_text reading)
+  pub read_keeps_world : (reading : Reading) → KeepsWorld w (read_part reading w).world shell_id (n + 1)
+  read_keeps_world reading = wrote w w shell_id (n + 1) (here shell_id) (w.output ++ read_text reading)
 
   module _ (finished : List ℕ) where
     -- a shell after a statement doesn't read
-    behind_phase : (behind : List (Option Pending)) → (shell_with behind).phase ≢ phases.Read
-    behind_phase [] = λ e. cc
-    behind_phase (p ∷ ps) = λ e. cc
+    after_phase : (later : List (Option Pending)) → (shell_with later).phase ≢ phases.Read
+    after_phase [] = λ e. cc
+    after_phase (p ∷ ps) = λ e. cc
 
-    called : (v : WorldState) → IsFree v.kern shell_id → Turns w v shell_id (n + 1) → (callee : ℕ) (words : List ℕ) → Turns w (calling v callee words) shell_id (n + 1)
+    called : (v : WorldState) → IsFree v.kern shell_id → KeepsWorld w v shell_id (n + 1) → (callee : ℕ) (words : List ℕ) → KeepsWorld w (calling v callee words) shell_id (n + 1)
     called v free t callee words =
         let u = with_kern v (calling v callee words).kern in
         touched w u shell_id (n + 1) (gave_regs w v shell_id (n + 1) t (call_regs v.board callee words) free) (calling v callee words).ram v.slots v.output (framed_size v.ram stack_pointer words)
 
-    comes_to : (e : Ending) (behind : List (Option Pending)) (v : WorldState) → IsFree v.kern shell_id → Turns w v shell_id (n + 1) → PartKeeps w (came_to e behind v) shell_id (n + 1) finished
-    comes_to (Value value) behind v free t = record { turns = wrote w v shell_id (n + 1) t (v.output ++ value_text value); read = needs_none (shell_with behind).phase finished (behind_phase behind) }
-    comes_to (Call callee words p) behind v free t = record { turns = called v free t callee words; read = needs_none phases.Call finished (λ e. cc) }
-    comes_to (Fault f) behind v free t = record { turns = wrote w v shell_id (n + 1) t (v.output ++ fault_text f); read = needs_none phases.Prompt finished (λ e. cc) }
-    comes_to Waiting behind v free t = record { turns = t; read = needs_none phases.Prompt finished (λ e. cc) }
+    comes_to : (e : Ending) (later : List (Option Pending)) (v : WorldState) → IsFree v.kern shell_id → KeepsWorld w v shell_id (n + 1) → PartKeeps w (came_to e later v) shell_id (n + 1) finished
+    comes_to (Value value) later v free t = record { keeps_world = wrote w v shell_id (n + 1) t (v.output ++ value_text value); read = needs_none (shell_with later).phase finished (after_phase later) }
+    comes_to (Call callee words p) later v free t = record { keeps_world = called v free t callee words; read = needs_none phases.Call finished (λ e. cc) }
+    comes_to (Fault f) later v free t = record { keeps_world = wrote w v shell_id (n + 1) t (v.output ++ fault_text f); read = needs_none phases.Prompt finished (λ e. cc) }
+    comes_to Waiting later v free t = record { keeps_world = t; read = needs_none phases.Prompt finished (λ e. cc) }
 
     pub eval_keeps : (trees : List (Option Pending)) → IsReady w.kern shell_id → PartKeeps w (eval_part trees w) shell_id (n + 1) finished
-    eval_keeps [] ready = record { turns = here shell_id; read = needs_none phases.Prompt finished (λ e. cc) }
-    eval_keeps (None ∷ behind) ready = record { turns = here shell_id; read = needs_none (shell_with behind).phase finished (behind_phase behind) }
-    eval_keeps (Some p ∷ behind) ready =
+    eval_keeps [] ready = record { keeps_world = here shell_id; read = needs_none phases.Prompt finished (λ e. cc) }
+    eval_keeps (None ∷ later) ready = record { keeps_world = here shell_id; read = needs_none (shell_with later).phase finished (after_phase later) }
+    eval_keeps (Some p ∷ later) ready =
         let e = evaluate (eval_state w) p in
         let v = with_eval w e.state in
-        comes_to e.ending behind v (ready_free w.kern shell_id ready) (more_counts w v shell_id n (evaluated_turns w shell_id n e.state kept within (keeps (eval_state w) p)))
+        comes_to e.ending later v (ready_free w.kern shell_id ready) (more_counts w v shell_id n (evaluated_keeps_world w shell_id n e.state kept within (keeps (eval_state w) p)))
 
     -- ---- the load of a file
     pub load_keeps : LoadLaw → (shell : ShellState) → HasItsLine shell.phase finished → IsReady w.kern shell_id → (name : List ℕ) (said : FileSaid)
@@ -103,7 +103,7 @@ module _ (w : WorldState) (n : ℕ) (kept : IsWorld w) (within : Within n w) whe
         let u = without_own v shell_id in
         let made = law w name said n kept ready within in
         record {
-          turns = turns_then w v u shell_id (n + 1) (turns_passed w v shell_id (n + 1) call_sinces 1 (omega arith) (omega arith) made) (unreserve_advances v (n + 1) made.kept made.within shell_id);
+          keeps_world = keeps_then w v u shell_id (n + 1) (keeps_passed w v shell_id (n + 1) call_sinces 1 (omega arith) (omega arith) made) (unreserve_advances v (n + 1) made.kept made.within shell_id);
           read = read;
         }
 
@@ -112,18 +112,18 @@ module _ (w : WorldState) (n : ℕ) (kept : IsWorld w) (within : Within n w) whe
       suspended_keeps : (text : List ℕ) → PartKeeps w (part_of shell (writing (with_kern w (suspend w.kern who)) text)) who (n + 1) finished
       suspended_keeps text =
           let v = with_kern w (suspend w.kern who) in
-          let goes = turns_by w v who n 0 0 (omega arith) (omega arith) (by_kern w kept (suspend w.kern who) n 0 (goes-move w.kern n kept.kern within.0 (Suspend who) tt) (objects-move w.kern w.objects kept.kern kept.objects (Suspend who) (tt, tt, tt, tt)) within.1) in
-          record { turns = wrote w v who (n + 1) (more_counts w v who n goes) (w.output ++ text); read = read }
+          let goes = keeps_by w v who n 0 0 (omega arith) (omega arith) (by_kern w kept (suspend w.kern who) n 0 (goes-move w.kern n kept.kern within.0 (Suspend who) tt) (objects-move w.kern w.objects kept.kern kept.objects (Suspend who) (tt, tt, tt, tt)) within.1) in
+          record { keeps_world = wrote w v who (n + 1) (more_counts w v who n goes) (w.output ++ text); read = read }
 
       aborted_keeps : (text : List ℕ) → PartKeeps w (part_of at_prompt (writing (with_kern w (aborted w.kern)) text)) who (n + 1) finished
       aborted_keeps text =
           let v = with_kern w (aborted w.kern) in
-          let goes = turns_by w v who n 2 0 (omega arith) (omega arith) (by_kern w kept (aborted w.kern) n 2 (goes-aborted w.kern n kept.kern within.0) (objects-aborted w.kern w.objects kept.kern kept.objects) within.1) in
-          record { turns = wrote w v who (n + 1) (more_counts w v who n goes) (w.output ++ text); read = needs_none phases.Prompt finished (λ e. cc) }
+          let goes = keeps_by w v who n 2 0 (omega arith) (omega arith) (by_kern w kept (aborted w.kern) n 2 (goes-aborted w.kern n kept.kern within.0) (objects-aborted w.kern w.objects kept.kern kept.objects) within.1) in
+          record { keeps_world = wrote w v who (n + 1) (more_counts w v who n goes) (w.output ++ text); read = needs_none phases.Prompt finished (λ e. cc) }
 
       trapped_keeps : (trap : Trap) → PartKeeps w (trapped trap shell w who) who (n + 1) finished
       trapped_keeps trap =
-          let text = told_of trap (task_of w.kern.tasks who) in
+          let text = trap_text trap (task_of w.kern.tasks who) in
           elim (eqb who shell_id) as (λ b. PartKeeps w (cond b (part_of at_prompt (writing (with_kern w (aborted w.kern)) text)) (part_of shell (writing (with_kern w (suspend w.kern who)) text))) who (n + 1) finished) [
             | true ↦ aborted_keeps text
             | false ↦ suspended_keeps text
@@ -136,9 +136,9 @@ module _ (w : WorldState) (n : ℕ) (kept : IsWorld w) (within : Within n w) whe
           let v = without_own w who in
           elim (eqb who shell_id) as (λ b. eqb who shell_id ≡ b → PartKeeps w (cond b (part_of back v) (part_of shell (ended w who))) who (n + 1) finished) [
             | true ↦ λ e.
-                let goes = turns_by w v who n 0 0 (omega arith) (omega arith) (unreserve_advances w n kept within who) in
-                record { turns = more_counts w v who n goes; read = needs_none phases.Eval finished (λ q. cc) }
-            | false ↦ λ e. record { turns = more_counts w (ended w who) who n (ended_turns w who n e kept within); read = read }
+                let goes = keeps_by w v who n 0 0 (omega arith) (omega arith) (unreserve_advances w n kept within who) in
+                record { keeps_world = more_counts w v who n goes; read = needs_none phases.Eval finished (λ q. cc) }
+            | false ↦ λ e. record { keeps_world = more_counts w (ended w who) who n (ended_keeps_world w who n e kept within); read = read }
           ] refl
 
       call_keeps : (g : Gate) → PartKeeps w (call_part g shell w who) who (n + 1) finished
@@ -147,7 +147,7 @@ module _ (w : WorldState) (n : ℕ) (kept : IsWorld w) (within : Within n w) whe
           let u = without_own v who in
           let made = call_passes g w (by_task who) n kept ready within in
           record {
-            turns = turns_then w v u who (n + 1) (turns_passed w v who (n + 1) call_sinces 1 (omega arith) (omega arith) made) (unreserve_advances v (n + 1) made.kept made.within who);
+            keeps_world = keeps_then w v u who (n + 1) (keeps_passed w v who (n + 1) call_sinces 1 (omega arith) (omega arith) made) (unreserve_advances v (n + 1) made.kept made.within who);
             read = read;
           }
 
@@ -162,7 +162,7 @@ module _ (w : WorldState) (n : ℕ) (kept : IsWorld w) (within : Within n w) whe
       executed_keeps : (o : Outcome BusState) → IfDone (λ b. length b.ram ≡ length w.ram) o → PartKeeps w (executed o shell w who) who (n + 1) finished
       executed_keeps (Done regs bus) same =
           let t = gave_regs w w who (n + 1) (here who) regs (ready_free w.kern who ready) in
-          record { turns = touched w _ who (n + 1) t bus.ram bus.slots w.output same; read = read }
+          record { keeps_world = touched w _ who (n + 1) t bus.ram bus.slots w.output same; read = read }
       executed_keeps (Trapped trap) same = trapped_keeps trap
 
       word_keeps : (o : Option ℕ) → PartKeeps w (word_part o shell w who) who (n + 1) finished

@@ -74,9 +74,9 @@ module _ (w : WorldState) (n : ℕ) (kept : IsWorld w) (within : Within n w) whe
 
   gives_up : (trap : Trap) → RoutinePasses w (given_up trap w) n
   gives_up trap =
-      let told = beside w kept n within w.slots (w.output ++ routine_text trap (routine_regs w).pc) w.int_errno in
+      let written = beside w kept n within w.slots (w.output ++ routine_text trap (routine_regs w).pc) w.int_errno in
       let v = record w { output = w.output ++ routine_text trap (routine_regs w).pc } in
-      by_move (given_up trap w) (advances_on w v (given_up trap w) n n 0 0 0 0 told (done_advances v n told.kept told.within))
+      by_move (given_up trap w) (advances_on w v (given_up trap w) n n 0 0 0 0 written (done_advances v n written.kept written.within))
 
   calls : (g : Gate) → RoutinePasses w (routine_call g w) n
   calls g =

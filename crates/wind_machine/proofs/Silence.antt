@@ -1,5 +1,5 @@
 -- Silent steps are steps of a run.
-use Rattle.std.proofs.Common.{◌≡◌, ℕ, zero, suc, ◌+◌, ◌<◌, ◌≤◌, ◌++◌, Some, None, IsSome, refl, sym, ap, ◌∙◌, subst, arith, append-nil, below_more}
+use Rattle.std.proofs.Common.{◌≡◌, ℕ, zero, suc, ◌+◌, ◌≤◌, ◌++◌, Some, None, IsSome, refl, sym, ap, ◌∙◌, subst, arith, append-nil, below_more}
 use Rattle.std.specs.Prelude.{unwrap_or}
 use Rattle.wind_machine.specs.State.{State}
 use Rattle.wind_machine.specs.Machine.{file_asked, machine_step}

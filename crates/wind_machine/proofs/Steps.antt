@@ -5,7 +5,7 @@ use Rattle.std.proofs.lemmas.List.{length-take}
 use Rattle.tick_file.specs.Schedule.{Timed, Timetable}
 use Rattle.tick_file.specs.Laws.{IsEarly}
 use Rattle.tick_file.specs.declared.event.Event.{Event}
-use Rattle.tick_file.specs.declared.event.Event.TheVariants.{Tick, Rx}
+use Rattle.tick_file.specs.declared.event.Event.TheVariants.{Tick, Rx, Irq}
 use Rattle.wind_core.specs.State.{Lives}
 use Rattle.wind_core.specs.Tick.{tick}
 use Rattle.wind_core.specs.Move.{Tick, SetLast}
@@ -14,12 +14,15 @@ use Rattle.wind_core.proofs.Moving.{move_keeps}
 use Rattle.wind_core.proofs.Ticking.{tick_keeps, tick_ahead}
 use Rattle.shell_parse.specs.Reading.{read_line}
 use Rattle.con_line.specs.State.{ConsoleState}
-use Rattle.con_line.specs.Lines.{KeepsLines, has_line, front_line, line_dropped}
+use Rattle.con_line.specs.Lines.{KeepsLines, has_line, first_line, line_dropped}
 use Rattle.con_line.proofs.Kept.{drop_keeps}
 use Rattle.kernel_world.specs.Actors.{shell_id}
 use Rattle.isr_watch.specs.declared.watchdog.Watchdog.{Watchdog}
 use Rattle.isr_watch.specs.State.{watchdog_id, is_due}
-use Rattle.isr_watch.specs.Calls.{stopped, due}
+use Rattle.isr_watch.specs.declared.watchdog.Routine.{Routine}
+use Rattle.isr_watch.specs.Calls.{stopped, due, begun}
+use Rattle.dev_irq.specs.declared.line.Line.{Line}
+use Rattle.dev_irq.specs.State.{routines_of}
 use Rattle.isr_watch.proofs.Ids.{ids_stay}
 use Rattle.isr_watch.proofs.Keeping.{watch_stays}
 use Rattle.kernel_world.specs.Kept.{routine_stack, AreStacks, KeepsWatch, IsWorld, ReservedBy, Within}
@@ -39,8 +42,8 @@ use Rattle.wind_machine.specs.Part.{Part, part_of}
 use Rattle.wind_machine.specs.Shell.{prompt_part, read_part, shell_read, eval_part}
 use Rattle.wind_machine.specs.Processor.{without_own, task_part}
 use Rattle.wind_machine.specs.Routine.{interrupt_top, routine_return, with_return}
-use Rattle.wind_machine.specs.Events.{Heard, heard_by, arrived, arrival, ticked, received, event_comes, event_step, unreserved_world, without_next, jump, cleared, next_event}
-use Rattle.wind_machine.specs.ActorSteps.{at_turn, shell_world, stepped, prompt_step, read_step, eval_step, task_step, shell_step, step_of, routine_step}
+use Rattle.wind_machine.specs.Events.{Heard, heard_by, arrived, arrival, ticked, received, lines_raised, event_comes, event_step, delivered_world, delivery_step, unreserved_world, without_next, jump, cleared, next_event}
+use Rattle.wind_machine.specs.ActorSteps.{at_step_start, shell_world, stepped, prompt_step, read_step, eval_step, task_step, shell_step, step_of, routine_step}
 use Rattle.wind_machine.specs.Next.{is_active, next}
 use Rattle.std.specs.Option.{option_map}
 use Rattle.inheritance.specs.Mutexes.{both as with_mutexes}
@@ -54,11 +57,11 @@ use Rattle.wind_machine.specs.declared.phase.Phase.TheVariants as phases
 use Rattle.wind_machine.proofs.Kept.{needs_none, prompt_has_line, read_phase}
 use Rattle.wind_machine.proofs.Dropping.{others_advance, all_advance, others_reserved, all_reserved}
 use Rattle.wind_machine.proofs.Moves.{lent-tick, next-tick, last-tick, stacks-tick, reserved-tick, counts-tick}
-use Rattle.wind_machine.proofs.Free.{runner_ready, runner_there, turn_ready}
+use Rattle.wind_machine.proofs.Free.{runner_ready, runner_there, step_start_ready}
 use Rattle.wind_machine.proofs.Hearing.{heard_keeps, chunk_short}
 use Rattle.wind_machine.proofs.Routines.{RoutinePasses, routine_passes}
 use Rattle.wind_machine.proofs.Order.{by_next}
-use Rattle.wind_machine.proofs.Parts.{PartKeeps, prompt_turns, read_turns, eval_keeps, load_keeps, task_keeps}
+use Rattle.wind_machine.proofs.Parts.{PartKeeps, prompt_keeps_world, read_keeps_world, eval_keeps, load_keeps, task_keeps}
 
 -- from a good state
 module _ (s : State) (g : Keeps 0 (bare s)) where
@@ -67,8 +70,8 @@ module _ (s : State) (g : Keeps 0 (bare s)) where
 
   -- ---- a task makes a step
   -- the world at the beginning of the step
-  pub at_turn_advances : (who : ℕ) → Advances s.world (at_turn s.world who) s.steps 0 0
-  at_turn_advances who =
+  pub step_start_advances : (who : ℕ) → Advances s.world (at_step_start s.world who) s.steps 0 0
+  step_start_advances who =
       let a = others_advance s.world s.steps g.world g.within who in
       record {
         kept = record { kern = a.kept.kern; home = a.kept.home; kind = a.kept.kind; objects = a.kept.objects; pool = a.kept.pool; stacks = a.kept.stacks; modules = a.kept.modules; ram = a.kept.ram; symbols = a.kept.symbols; watch = a.kept.watch; ids = a.kept.ids };
@@ -83,64 +86,64 @@ module _ (s : State) (g : Keeps 0 (bare s)) where
         choice = a.choice;
       }
 
-  stepped_keeps : (console : ConsoleState) (who : ℕ) (p : Part) → KeepsLines console.edited console.finished → PartKeeps (at_turn s.world who) p who (s.steps + 1) console.finished
+  stepped_keeps : (console : ConsoleState) (who : ℕ) (p : Part) → KeepsLines console.edited console.finished → PartKeeps (at_step_start s.world who) p who (s.steps + 1) console.finished
       → KeepsEffect (stepped (record s { console = console }) who p)
   stepped_keeps console who p lines part =
-      let turns = part.turns in
-      let kept = turns.kept in
+      let keeps_world = part.keeps_world in
+      let kept = keeps_world.kept in
       record {
         console = lines;
         read = part.read;
         world = record { kern = move_keeps p.world.kern (SetLast (Some who)) kept.kern tt; home = kept.home; kind = kept.kind; objects = objects-move p.world.kern p.world.objects kept.kern kept.objects (SetLast (Some who)) (tt, tt, tt, tt); pool = kept.pool; stacks = kept.stacks; modules = kept.modules; ram = kept.ram; symbols = kept.symbols; watch = kept.watch; ids = kept.ids };
-        shell = turns.shell ((at_turn_advances who).lives shell_id g.shell);
-        reserved = turns.reserves (others_reserved s.world.kern who);
-        sinces = omega (arith, turns.sinces, g.sinces);
-        ticks = omega (arith, turns.count, g.ticks);
-        within = turns.within;
-        names = omega (arith, turns.names, g.names);
-        starts = omega (arith, turns.starts, g.starts);
+        shell = keeps_world.shell ((step_start_advances who).lives shell_id g.shell);
+        reserved = keeps_world.reserves (others_reserved s.world.kern who);
+        sinces = omega (arith, keeps_world.sinces, g.sinces);
+        ticks = omega (arith, keeps_world.count, g.ticks);
+        within = keeps_world.within;
+        names = omega (arith, keeps_world.names, g.names);
+        starts = omega (arith, keeps_world.starts, g.starts);
         time = omega (arith, g.time);
       }
 
   -- what each of them does
   pub prompts : PartKeeps (shell_world s) (prompt_part (has_line s.console) s.shell (shell_world s)) shell_id (s.steps + 1) s.console.finished
   prompts =
-      let a = at_turn_advances shell_id in
-      record { turns = prompt_turns (shell_world s) s.steps a.kept a.within (a.lives shell_id g.shell) (has_line s.console) s.shell; read = prompt_has_line s.console.finished s.shell g.read }
+      let a = step_start_advances shell_id in
+      record { keeps_world = prompt_keeps_world (shell_world s) s.steps a.kept a.within (a.lives shell_id g.shell) (has_line s.console) s.shell; read = prompt_has_line s.console.finished s.shell g.read }
 
-  pub reads : PartKeeps (shell_world s) (read_part (read_line (front_line s.console)) (shell_world s)) shell_id (s.steps + 1) (line_dropped s.console).finished
+  pub reads : PartKeeps (shell_world s) (read_part (read_line (first_line s.console)) (shell_world s)) shell_id (s.steps + 1) (line_dropped s.console).finished
   reads =
-      let a = at_turn_advances shell_id in
-      let reading = read_line (front_line s.console) in
-      record { turns = read_turns (shell_world s) s.steps a.kept a.within reading; read = needs_none (shell_read reading).phase (line_dropped s.console).finished (read_phase reading) }
+      let a = step_start_advances shell_id in
+      let reading = read_line (first_line s.console) in
+      record { keeps_world = read_keeps_world (shell_world s) s.steps a.kept a.within reading; read = needs_none (shell_read reading).phase (line_dropped s.console).finished (read_phase reading) }
 
   pub evaluates : IsReady s.world.kern shell_id → PartKeeps (shell_world s) (eval_part s.shell.trees (shell_world s)) shell_id (s.steps + 1) s.console.finished
   evaluates ready =
-      let a = at_turn_advances shell_id in
-      eval_keeps (shell_world s) s.steps a.kept a.within s.console.finished s.shell.trees (turn_ready s.world.kern shell_id ready)
+      let a = step_start_advances shell_id in
+      eval_keeps (shell_world s) s.steps a.kept a.within s.console.finished s.shell.trees (step_start_ready s.world.kern shell_id ready)
 
-  pub acts : (who : ℕ) → Lives s.world.kern who → IsReady s.world.kern who → PartKeeps (at_turn s.world who) (task_part s.shell (at_turn s.world who) who) who (s.steps + 1) s.console.finished
+  pub acts : (who : ℕ) → Lives s.world.kern who → IsReady s.world.kern who → PartKeeps (at_step_start s.world who) (task_part s.shell (at_step_start s.world who) who) who (s.steps + 1) s.console.finished
   acts who live ready =
-      let a = at_turn_advances who in
-      task_keeps (at_turn s.world who) s.steps a.kept a.within s.console.finished s.shell g.read who (a.lives who live) (turn_ready s.world.kern who ready)
+      let a = step_start_advances who in
+      task_keeps (at_step_start s.world who) s.steps a.kept a.within s.console.finished s.shell g.read who (a.lives who live) (step_start_ready s.world.kern who ready)
 
   pub loads : LoadLaw → IsReady s.world.kern shell_id → (name : List ℕ) (said : FileSaid)
       → PartKeeps (shell_world s) (part_of s.shell (without_own (load_call (shell_world s) name said) shell_id)) shell_id (s.steps + 1) s.console.finished
   loads law ready name said =
-      let a = at_turn_advances shell_id in
-      load_keeps (shell_world s) s.steps a.kept a.within s.console.finished law s.shell g.read (turn_ready s.world.kern shell_id ready) name said
+      let a = step_start_advances shell_id in
+      load_keeps (shell_world s) s.steps a.kept a.within s.console.finished law s.shell g.read (step_start_ready s.world.kern shell_id ready) name said
 
   prompt_keeps : KeepsEffect (prompt_step s)
   prompt_keeps = stepped_keeps s.console shell_id (prompt_part (has_line s.console) s.shell (shell_world s)) g.console prompts
 
   read_keeps : KeepsEffect (read_step s)
-  read_keeps = stepped_keeps (line_dropped s.console) shell_id (read_part (read_line (front_line s.console)) (shell_world s)) (drop_keeps s.console g.console) reads
+  read_keeps = stepped_keeps (line_dropped s.console) shell_id (read_part (read_line (first_line s.console)) (shell_world s)) (drop_keeps s.console g.console) reads
 
   evals_keep : IsReady s.world.kern shell_id → KeepsEffect (eval_step s)
   evals_keep ready = stepped_keeps s.console shell_id (eval_part s.shell.trees (shell_world s)) g.console (evaluates ready)
 
   tasks_keep : (who : ℕ) → Lives s.world.kern who → IsReady s.world.kern who → KeepsEffect (task_step s who)
-  tasks_keep who live ready = stepped_keeps s.console who (task_part s.shell (at_turn s.world who) who) g.console (acts who live ready)
+  tasks_keep who live ready = stepped_keeps s.console who (task_part s.shell (at_step_start s.world who) who) g.console (acts who live ready)
 
   shell_keeps : (p : Phase) → IsReady s.world.kern shell_id → KeepsEffect (shell_step p s)
   shell_keeps phases.Prompt ready = prompt_keeps
@@ -156,8 +159,8 @@ module _ (s : State) (g : Keeps 0 (bare s)) where
       ] refl
 
   -- ---- an interrupt routine makes a step
-  pub routine_turns : is_active s.world ≡ true → RoutinePasses (cleared (unreserved_world s.world)) (routine_step s).world s.steps
-  routine_turns active =
+  pub routine_keeps_world : is_active s.world ≡ true → RoutinePasses (cleared (unreserved_world s.world)) (routine_step s).world s.steps
+  routine_keeps_world active =
       let a = all_advance s.world s.steps g.world g.within in
       let w = cleared (unreserved_world s.world) in
       let kept : IsWorld w = record { kern = a.kept.kern; home = a.kept.home; kind = a.kept.kind; objects = a.kept.objects; pool = a.kept.pool; stacks = a.kept.stacks; modules = a.kept.modules; ram = a.kept.ram; symbols = a.kept.symbols; watch = a.kept.watch; ids = a.kept.ids } in
@@ -166,7 +169,7 @@ module _ (s : State) (g : Keeps 0 (bare s)) where
   routine_keeps : is_active s.world ≡ true → KeepsEffect (routine_step s)
   routine_keeps active =
       let a = all_advance s.world s.steps g.world g.within in
-      let goes = routine_turns active in
+      let goes = routine_keeps_world active in
       let last = (routine_step s).world.kern.last in
       record {
         console = g.console;
@@ -251,9 +254,50 @@ module _ (s : State) (g : Keeps 0 (bare s)) where
         time = omega (arith, g.time);
       }
 
+  -- ---- a device interrupts, which the invariant doesn't mention
+  raised_keeps : (irqs : List Line) → KeepsEffect (record s { world = cleared (record s.world { irqs = irqs }); steps = s.steps + 1 })
+  raised_keeps irqs = record {
+    console = g.console;
+    read = g.read;
+    world = record { kern = g.world.kern; home = g.world.home; kind = g.world.kind; objects = g.world.objects; pool = g.world.pool; stacks = g.world.stacks; modules = g.world.modules; ram = g.world.ram; symbols = g.world.symbols; watch = g.world.watch; ids = g.world.ids };
+    shell = g.shell;
+    reserved = g.reserved;
+    sinces = omega (arith, g.sinces);
+    ticks = omega (arith, g.ticks);
+    within = more_counts;
+    names = omega (arith, g.names);
+    starts = omega (arith, g.starts);
+    time = omega (arith, g.time);
+  }
+
+  -- ---- an interrupt is delivered: its routines begin
+  begins_watch : (routines : List Routine) → KeepsWatch s.world.kern.next_id (with_return s.world.board (begun s.world.watch routines interrupt_top))
+  begins_watch routines =
+      let w = g.world.watch in
+      record {
+        watch = level_is (λ r. record r { lr = routine_return s.world.board }) (begun s.world.watch routines interrupt_top) ((watch_stays s.world.kern.next_id s.world.watch w.watch w.ids).beginning routines interrupt_top);
+        ids = (ids_stay s.world.kern.next_id s.world.watch w.ids).beginning routines interrupt_top;
+      }
+
+  delivered_keeps : (i : ℕ) → KeepsEffect (record s { world = cleared (delivered_world s.world i); steps = s.steps + 1 })
+  delivered_keeps i = record {
+    console = g.console;
+    read = g.read;
+    world = record { kern = g.world.kern; home = g.world.home; kind = g.world.kind; objects = g.world.objects; pool = g.world.pool; stacks = g.world.stacks; modules = g.world.modules; ram = g.world.ram; symbols = g.world.symbols; watch = begins_watch (routines_of s.world.irqs i); ids = g.world.ids };
+    shell = g.shell;
+    reserved = g.reserved;
+    sinces = omega (arith, g.sinces);
+    ticks = omega (arith, g.ticks);
+    within = more_counts;
+    names = omega (arith, g.names);
+    starts = omega (arith, g.starts);
+    time = omega (arith, g.time);
+  }
+
   comes_keeps : (e : Event) → KeepsEffect (event_comes s e)
   comes_keeps Tick = ticked_keeps
   comes_keeps (Rx n) = received_keeps n
+  comes_keeps (Irq i) = raised_keeps (lines_raised s.world.irqs s.world.slots i)
 
   -- nobody has a reservation when an event occurs; the invariant doesn't mention the future events
   pub unreserved_keeps : (t : Timetable) → Keeps 0 (bare (record s { schedule = t; world = unreserved_world s.world }))
@@ -294,11 +338,15 @@ event_keeps s e g =
     let t = without_next s.schedule in
     comes_keeps (record s { schedule = t; world = unreserved_world s.world }) (unreserved_keeps s g t) e
 
+delivery_keeps : (s : State) (i : ℕ) → Keeps 0 (bare s) → KeepsEffect (delivery_step s i)
+delivery_keeps s i g = delivered_keeps (record s { world = unreserved_world s.world }) (unreserved_keeps s g s.schedule) i
+
 -- ---- a step of the machine
 next_keeps : LoadLaw → (said : FileSaid) (s : State) → IfSome (next_event s) IsEarly → Keeps 0 (bare s) → IfSome (state_after said s (next s)) KeepsEffect
 next_keeps law said s early g = by_next s (λ n. IfSome (state_after said s n) KeepsEffect) (record {
-  come = λ e due. event_keeps s e.event g;
-  arrive = λ quiet due. arrival_keeps s g;
+  deliver = λ i due. delivery_keeps s i g;
+  come = λ held e due. event_keeps s e.event g;
+  arrive = λ held quiet due. arrival_keeps s g;
   routine = λ nothing active. routine_keeps s g active;
   act = λ left t runs none. whoever_keeps s g t.id (runner_there s.world.kern g.world.kern t runs) (runner_ready s.world.kern g.world.kern t runs);
   load = λ left t runs own name found.
@@ -343,7 +391,7 @@ pub if_settled : (P : State → Type 0) (o : Option State) → IfSome o (λ u. P
 if_settled P None h = tt
 if_settled P (Some u) h = h
 
-if_each : (P Q : State → Type 0) → ((u : State) → P u → Q u) → (o : Option State) → IfSome o P → IfSome o Q
+pub if_each : (P Q : State → Type 0) → ((u : State) → P u → Q u) → (o : Option State) → IfSome o P → IfSome o Q
 if_each P Q to None h = tt
 if_each P Q to (Some u) h = to u h
 

@@ -2,7 +2,7 @@
 use Rattle.std.specs.Prelude.{ℕ, ◌+◌, List, Option, Some, None, ◌==◌, if◌then◌else◌}
 use Rattle.wind_base.specs.declared.gate.Gate.{Gate}
 use Rattle.shell_parse.specs.Reading.{read_line}
-use Rattle.con_line.specs.Lines.{has_line, front_line, line_dropped}
+use Rattle.con_line.specs.Lines.{has_line, first_line, line_dropped}
 use Rattle.kernel_world.specs.State.{WorldState}
 use Rattle.kernel_world.specs.Actors.{shell_id}
 use Rattle.kernel_calls.specs.Calls.{file_wanted}
@@ -20,8 +20,8 @@ use Rattle.wind_machine.specs.declared.phase.Phase.TheVariants as phases
 
 -- ---- a task makes a step
 -- the world at the beginning of the step: the output is empty, and no other task has a reservation
-abbrev pub at_turn : WorldState → ℕ → WorldState
-at_turn w who = cleared (with_kern w (drop_others w.kern who))
+abbrev pub at_step_start : WorldState → ℕ → WorldState
+at_step_start w who = cleared (with_kern w (drop_others w.kern who))
 
 -- the world in which the task ran last
 abbrev pub noted : WorldState → ℕ → WorldState
@@ -32,21 +32,21 @@ abbrev pub stepped : State → ℕ → Part → State
 stepped s who p = record s { shell = p.shell; world = noted p.world who; time = s.time + 1; steps = s.steps + 1 }
 
 abbrev pub shell_world : State → WorldState
-shell_world s = at_turn s.world shell_id
+shell_world s = at_step_start s.world shell_id
 
 abbrev pub prompt_step : State → State
 prompt_step s = stepped s shell_id (prompt_part (has_line s.console) s.shell (shell_world s))
 
 -- the line that the shell reads is dropped from the console
 abbrev pub read_step : State → State
-read_step s = stepped (record s { console = line_dropped s.console }) shell_id (read_part (read_line (front_line s.console)) (shell_world s))
+read_step s = stepped (record s { console = line_dropped s.console }) shell_id (read_part (read_line (first_line s.console)) (shell_world s))
 
 abbrev pub eval_step : State → State
 eval_step s = stepped s shell_id (eval_part s.shell.trees (shell_world s))
 
 -- what the task does at a gate, or an instruction
 abbrev pub task_step : State → ℕ → State
-task_step s who = stepped s who (task_part s.shell (at_turn s.world who) who)
+task_step s who = stepped s who (task_part s.shell (at_step_start s.world who) who)
 
 -- the step of the shell's task, by the shell's phase
 abbrev pub shell_step : Phase → State → State

@@ -1,14 +1,19 @@
--- What comes from outside: bytes of the console and events of the tick file. They take no board time; a jump moves
--- board time to the next event.
+-- What comes from outside: interrupts of devices, bytes of the console and events of the tick file. They take no board
+-- time; a jump moves board time to the next event.
 use Rattle.std.specs.Prelude.{ℕ, ◌+◌, List, [], ◌++◌, Option, Bool, if◌then◌else◌, fold, take, drop}
 use Rattle.wind_lists.specs.Sorting.{first}
 use Rattle.tick_file.specs.Schedule.{Timed, Timetable}
 use Rattle.tick_file.specs.declared.event.Event.{Event}
-use Rattle.tick_file.specs.declared.event.Event.TheVariants.{Tick, Rx}
+use Rattle.tick_file.specs.declared.event.Event.TheVariants.{Tick, Rx, Irq}
 use Rattle.wind_core.specs.State.{KernState}
 use Rattle.wind_core.specs.Moves.{release}
 use Rattle.wind_core.specs.Tick.{tick}
-use Rattle.isr_watch.specs.Calls.{due}
+use Rattle.isr_watch.specs.Calls.{due, begun}
+use Rattle.wind_outside.specs.Devices.{DeviceState}
+use Rattle.dev_irq.specs.declared.line.Line.{Line}
+use Rattle.dev_irq.specs.State.{routines_of}
+use Rattle.dev_irq.specs.Calls.{raised, delivered}
+use Rattle.object_calls.specs.IrqRows.{is_device}
 use Rattle.con_line.specs.State.{ConsoleState}
 use Rattle.con_line.specs.Keys.{after_byte, byte_echo, byte_done}
 use Rattle.con_line.specs.declared.console.ByteDone.{ByteDone}
@@ -100,13 +105,34 @@ ticked s = record s { world = cleared (tick_world s.world); steps = s.steps + 1 
 abbrev pub received : State → ℕ → State
 received s n = arrived s (drop (brought n) s.left) (heard_by s (take (brought n) s.left))
 
+-- the device in a slot interrupts: one more interrupt of it is pending; nothing if the slot is empty
+abbrev pub lines_raised : List Line → List (Option DeviceState) → ℕ → List Line
+lines_raised irqs slots i = if is_device slots i then raised irqs i else irqs
+
+abbrev pub irq_world : WorldState → ℕ → WorldState
+irq_world w i = record w { irqs = lines_raised w.irqs w.slots i }
+
+abbrev pub interrupted : State → ℕ → State
+interrupted s i = record s { world = cleared (irq_world s.world i); steps = s.steps + 1 }
+
 abbrev pub event_comes : State → Event → State
 event_comes s Tick = ticked s
 event_comes s (Rx n) = received s n
+event_comes s (Irq i) = interrupted s i
 
 -- the next event of the tick file occurs, which takes no board time
 abbrev pub event_step : State → Event → State
 event_step s e = event_comes (record s { schedule = without_next s.schedule; world = unreserved_world s.world }) e
+
+-- ---- a delivery
+-- one interrupt of a slot fewer is pending, and the slot's routines begin at the interrupt level; each returns to the
+-- board's gate
+abbrev pub delivered_world : WorldState → ℕ → WorldState
+delivered_world w i = record w { irqs = delivered w.irqs i; watch = with_return w.board (begun w.watch (routines_of w.irqs i) interrupt_top) }
+
+-- an interrupt is delivered, which takes no board time and drops all reservations
+abbrev pub delivery_step : State → ℕ → State
+delivery_step s i = record s { world = cleared (delivered_world (unreserved_world s.world) i); steps = s.steps + 1 }
 
 -- board time becomes this: the time of the next event
 abbrev pub jump : State → ℕ → State

@@ -1,8 +1,10 @@
 pub mod ActorSteps
 pub mod Events
+pub mod Extending
 pub mod Feed
 pub mod Good
 pub mod Instants
+pub mod Interrupts
 pub mod Laws
 pub mod Machine
 pub mod Next

@@ -8,7 +8,7 @@ use Rattle.wind_outside.specs.Devices.{DeviceState}
 use Rattle.tick_file.specs.Schedule.{Timetable}
 use Rattle.con_line.specs.State.{opening_console}
 use Rattle.kernel_world.specs.Actors.{shell_id}
-use Rattle.kernel_world.specs.Allowed.{may_lack_memory as call_may_lack_memory}
+use Rattle.kernel_world.specs.Allowed.{may_exhaust_memory as call_may_exhaust_memory}
 use Rattle.kernel_world.specs.Opening.{opening_world}
 use Rattle.kernel_world.specs.Settling.{settled_world}
 use Rattle.kernel_world.specs.declared.actor.Actor.{Actor}
@@ -18,11 +18,11 @@ use Rattle.live_loading.specs.Loading.{shell}
 use Rattle.wind_machine.specs.State.{State}
 use Rattle.wind_machine.specs.Shell.{at_prompt}
 use Rattle.wind_machine.specs.Processor.{gate_under}
-use Rattle.wind_machine.specs.Events.{event_step, arrival, jump}
+use Rattle.wind_machine.specs.Events.{delivery_step, event_step, arrival, jump}
 use Rattle.wind_machine.specs.ActorSteps.{step_of, routine_step, load_step}
 use Rattle.wind_machine.specs.Next.{next}
 use Rattle.wind_machine.specs.declared.next.Next.{Next}
-use Rattle.wind_machine.specs.declared.next.Next.TheVariants.{Come, Arrive, Routine, Act, Load, Jump, Over}
+use Rattle.wind_machine.specs.declared.next.Next.TheVariants.{Deliver, Come, Arrive, Routine, Act, Load, Jump, Over}
 use Rattle.wind_machine.specs.declared.phase.Phase.{Phase}
 use Rattle.wind_machine.specs.declared.phase.Phase.TheVariants as phases
 
@@ -46,6 +46,7 @@ settled_state s = record s { world = settled_world s.world }
 
 -- its effect, given what is said of the file that it needs; if it needs none, that is not used
 abbrev pub state_after : FileSaid → State → Next → Option State
+state_after said s (Deliver i) = Some (delivery_step s i)
 state_after said s (Come e) = Some (event_step s e)
 state_after said s Arrive = Some (arrival s)
 state_after said s Routine = Some (routine_step s)
@@ -95,7 +96,7 @@ phase_may phases.Call call = call
 
 abbrev pub gate_may : Option Gate → Bool
 gate_may None = false
-gate_may (Some g) = call_may_lack_memory g
+gate_may (Some g) = call_may_exhaust_memory g
 
 -- whether the step of the task with this id may
 abbrev pub who_may : State → ℕ → Bool
@@ -107,5 +108,5 @@ next_may s (Act who) = who_may s who
 next_may s (Load name) = true
 next_may s _ = false
 
-abbrev pub may_lack_memory : State → Bool
-may_lack_memory s = next_may s (next s)
+abbrev pub may_exhaust_memory : State → Bool
+may_exhaust_memory s = next_may s (next s)

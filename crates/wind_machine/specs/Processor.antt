@@ -39,16 +39,16 @@ regs_of w who = caller_regs w.kern w.watch.level (by_task who)
 
 -- ---- exceptions
 -- what an exception of a task writes
-abbrev pub told_of : Trap → Option Task → List ℕ
-told_of trap None = []
-told_of trap (Some t) = exception_text trap t.name t.id t.regs.pc
+abbrev pub trap_text : Trap → Option Task → List ℕ
+trap_text trap None = []
+trap_text trap (Some t) = exception_text trap t.name t.id t.regs.pc
 
 -- a task that causes an exception is suspended, and keeps its registers; if it was in a call of the shell, the
 -- shell aborts the line
 abbrev pub trapped : Trap → ShellState → WorldState → ℕ → Part
 trapped trap shell w who =
-    if who == shell_id then part_of at_prompt (writing (with_kern w (aborted w.kern)) (told_of trap (task_of w.kern.tasks who)))
-    else part_of shell (writing (with_kern w (suspend w.kern who)) (told_of trap (task_of w.kern.tasks who)))
+    if who == shell_id then part_of at_prompt (writing (with_kern w (aborted w.kern)) (trap_text trap (task_of w.kern.tasks who)))
+    else part_of shell (writing (with_kern w (suspend w.kern who)) (trap_text trap (task_of w.kern.tasks who)))
 
 -- ---- at a gate
 -- the gate at which a task ends, or at which a call of the shell returns

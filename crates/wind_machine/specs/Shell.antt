@@ -87,16 +87,16 @@ calling w callee words = record w { kern = set_regs w.kern shell_id (call_regs w
 -- at its value, the value is written; at a call, the call begins; at a fault, its text is written, and the rest of
 -- the line is dropped
 abbrev pub came_to : Ending → List (Option Pending) → WorldState → Part
-came_to (Value v) behind w = part_of (shell_with behind) (writing w (value_text v))
-came_to (Call callee words p) behind w = part_of (record { phase = phases.Call; trees = Some p ∷ behind }) (calling w callee words)
-came_to (Fault f) behind w = part_of at_prompt (writing w (fault_text f))
-came_to Waiting behind w = part_of at_prompt w
+came_to (Value v) later w = part_of (shell_with later) (writing w (value_text v))
+came_to (Call callee words p) later w = part_of (record { phase = phases.Call; trees = Some p ∷ later }) (calling w callee words)
+came_to (Fault f) later w = part_of at_prompt (writing w (fault_text f))
+came_to Waiting later w = part_of at_prompt w
 
 abbrev pub evaluated_part : Evaluated → List (Option Pending) → WorldState → Part
-evaluated_part e behind w = came_to e.ending behind (with_eval w e.state)
+evaluated_part e later w = came_to e.ending later (with_eval w e.state)
 
 -- the shell goes on with its first statement; one without a token writes nothing
 abbrev pub eval_part : List (Option Pending) → WorldState → Part
 eval_part [] w = part_of at_prompt w
-eval_part (None ∷ behind) w = part_of (shell_with behind) w
-eval_part (Some p ∷ behind) w = evaluated_part (evaluate (eval_state w) p) behind w
+eval_part (None ∷ later) w = part_of (shell_with later) w
+eval_part (Some p ∷ later) w = evaluated_part (evaluate (eval_state w) p) later w

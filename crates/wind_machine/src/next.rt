@@ -8,6 +8,8 @@ use wind_base::Name;
 /// for them.
 #[derive(Drop)]
 pub enum Next {
+    /// An interrupt of the device in this slot is delivered.
+    Deliver(u32),
     /// This event of the tick file occurs.
     Come(Event),
     /// The next chunk of the console arrives.

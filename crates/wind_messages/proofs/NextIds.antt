@@ -19,7 +19,7 @@ use Rattle.sem_mutex.proofs.Giving.{next_hand}
 use Rattle.sem_plain.specs.declared.semaphore.Semaphore.{Semaphore}
 use Rattle.sem_plain.specs.State.{SemState}
 use Rattle.sem_plain.specs.Calls as plain
-use Rattle.msg_queue.proofs.Calm.{next-move, next-end_waits}
+use Rattle.wind_core.proofs.NextId.{next-move, next-end_waits}
 
 -- the next id is the same
 abbrev pub NextSame : KernState → KernState → Type 0

@@ -27,7 +27,7 @@ use Rattle.wind_machine.specs.Part.{part_of, with_kern, writing}
 use Rattle.wind_machine.specs.Task.{shell_task, is_held, listening, aborted}
 use Rattle.wind_machine.specs.Text.{prompt_text}
 use Rattle.wind_machine.specs.Shell.{at_prompt, returned, prompted, prompt_part, eval_state, with_eval, came_to, eval_part}
-use Rattle.wind_machine.specs.Processor.{bus_of, regs_of, told_of, trapped, is_return, without_own, return_part, call_part, gate_part, executed, word_part, part_at, gate_under, task_part}
+use Rattle.wind_machine.specs.Processor.{bus_of, regs_of, trap_text, trapped, is_return, without_own, return_part, call_part, gate_part, executed, word_part, part_at, gate_under, task_part}
 use Rattle.wind_messages.specs.Messages.{call_at, call_under}
 use Rattle.wind_messages.proofs.NextIds.{NextSame, next-if, next-release, next-lessen}
 use Rattle.wind_messages.proofs.Rows.{Balances, leaves}
@@ -50,22 +50,22 @@ module _ (w : WorldState) (s : Scene) where
         | false ↦ left_alone (writing (with_kern w (listening w.kern)) prompt_text) refl refl
       ]
 
-  comes_to : (e : Ending) (behind : List (Option Pending)) (v : WorldState) → v.objects.queues.queues ≡ w.objects.queues.queues → NextSame w.kern v.kern → Balances w (came_to e behind v).world s None
-  comes_to (Value x) behind v same ids = left_alone (came_to (Value x) behind v).world same ids
-  comes_to (Call callee words p) behind v same ids = left_alone (came_to (Call callee words p) behind v).world same ids
-  comes_to (Fault f) behind v same ids = left_alone (came_to (Fault f) behind v).world same ids
-  comes_to Waiting behind v same ids = left_alone v same ids
+  comes_to : (e : Ending) (later : List (Option Pending)) (v : WorldState) → v.objects.queues.queues ≡ w.objects.queues.queues → NextSame w.kern v.kern → Balances w (came_to e later v).world s None
+  comes_to (Value x) later v same ids = left_alone (came_to (Value x) later v).world same ids
+  comes_to (Call callee words p) later v same ids = left_alone (came_to (Call callee words p) later v).world same ids
+  comes_to (Fault f) later v same ids = left_alone (came_to (Fault f) later v).world same ids
+  comes_to Waiting later v same ids = left_alone v same ids
 
   pub evaluates : (trees : List (Option Pending)) → Balances w (eval_part trees w).world s None
   evaluates [] = left_alone w refl refl
-  evaluates (None ∷ behind) = left_alone w refl refl
-  evaluates (Some p ∷ behind) = let e = evaluate (eval_state w) p in comes_to e.ending behind (with_eval w e.state) refl refl
+  evaluates (None ∷ later) = left_alone w refl refl
+  evaluates (Some p ∷ later) = let e = evaluate (eval_state w) p in comes_to e.ending later (with_eval w e.state) refl refl
 
   -- ---- a step of any task
   module _ (shell : ShellState) (who : ℕ) where
     traps_balance : (trap : Trap) → Balances w (trapped trap shell w who).world s None
     traps_balance trap =
-        let text = told_of trap (task_of w.kern.tasks who) in
+        let text = trap_text trap (task_of w.kern.tasks who) in
         elim (eqb who shell_id) as (λ b. Balances w (cond b (part_of at_prompt (writing (with_kern w (aborted w.kern)) text)) (part_of shell (writing (with_kern w (suspend w.kern who)) text))).world s None) [
           | true ↦ left_alone (writing (with_kern w (aborted w.kern)) text) refl (next-aborted w.kern)
           | false ↦ left_alone (writing (with_kern w (suspend w.kern who)) text) refl refl

@@ -66,27 +66,30 @@ module _ (w : WorldState) (kept : IsKept (scene_of w)) (ram r : List ℕ) where
         | false ↦ plain_gives w.kern w.objects id (plain.give_refusal (sem.sems w.kern w.objects) id)
       ]
 
-  abbrev behind : Gate → WorldState
-  behind g = (row_of (call_of g ram r) w Interrupt).world
+  abbrev after : Gate → WorldState
+  after g = (row_of (call_of g ram r) w Interrupt).world
 
-  rows_balance : (g : Gate) → is_isr_callable g ≡ true → Balances w (behind g) (scene_of w) (sent_in (call_of g ram r))
-  rows_balance gates.TaskSuspend e = leaves w (behind gates.TaskSuspend) (scene_of w) refl (omega (arith, suspends w.kern (target w.kern Interrupt (slice_index r 3))))
-  rows_balance gates.TaskResume e = leaves w (behind gates.TaskResume) (scene_of w) refl (omega (arith, resumes w.kern (target w.kern Interrupt (slice_index r 3))))
-  rows_balance gates.TaskPrioritySet e = by_objects _ (behind gates.TaskPrioritySet) refl refl (priorities w.kern w.objects (slice_index r 4) (target w.kern Interrupt (slice_index r 3)))
+  rows_balance : (g : Gate) → is_isr_callable g ≡ true → Balances w (after g) (scene_of w) (sent_in (call_of g ram r))
+  rows_balance gates.TaskSuspend e = leaves w (after gates.TaskSuspend) (scene_of w) refl (omega (arith, suspends w.kern (target w.kern Interrupt (slice_index r 3))))
+  rows_balance gates.TaskResume e = leaves w (after gates.TaskResume) (scene_of w) refl (omega (arith, resumes w.kern (target w.kern Interrupt (slice_index r 3))))
+  rows_balance gates.TaskPrioritySet e = by_objects _ (after gates.TaskPrioritySet) refl refl (priorities w.kern w.objects (slice_index r 4) (target w.kern Interrupt (slice_index r 3)))
   rows_balance gates.TaskPriorityGet e = tells w kept 0 ram r (slice_index r 4) (task_at w.kern (target w.kern Interrupt (slice_index r 3)))
-  rows_balance gates.TaskIdVerify e = leaves w (behind gates.TaskIdVerify) (scene_of w) refl (omega (arith, verifies w.kern (live_id w.kern.tasks (slice_index r 3))))
+  rows_balance gates.TaskIdVerify e = leaves w (after gates.TaskIdVerify) (scene_of w) refl (omega (arith, verifies w.kern (live_id w.kern.tasks (slice_index r 3))))
   rows_balance gates.TickGet e = still
-  rows_balance gates.SemGive e = by_objects _ (behind gates.SemGive) refl refl (gives (slice_index r 3))
-  rows_balance gates.SemFlush e = by_objects _ (behind gates.SemFlush) refl refl (flushes w.kern w.objects (slice_index r 3))
+  rows_balance gates.SemGive e = by_objects _ (after gates.SemGive) refl refl (gives (slice_index r 3))
+  rows_balance gates.SemFlush e = by_objects _ (after gates.SemFlush) refl refl (flushes w.kern w.objects (slice_index r 3))
   rows_balance gates.MsgQSend e = balanced_send (scene_of w) (slice_index r 3) (sending Interrupt (slice_index r 4) (slice_index r 5) (slice_index r 6) (slice_index r 7)) kept
   rows_balance gates.MsgQNumMsgs e = still
-  rows_balance gates.WdStart e = leaves w (behind gates.WdStart) (scene_of w) refl (omega arith)
-  rows_balance gates.WdCancel e = leaves w (behind gates.WdCancel) (scene_of w) refl (omega arith)
+  rows_balance gates.WdStart e = leaves w (after gates.WdStart) (scene_of w) refl (omega arith)
+  rows_balance gates.WdCancel e = leaves w (after gates.WdCancel) (scene_of w) refl (omega arith)
   rows_balance gates.IntLock e = still
   rows_balance gates.IntUnlock e = still
   rows_balance gates.IntContext e = still
   rows_balance gates.ErrnoGet e = still
-  rows_balance gates.ErrnoSet e = leaves w (behind gates.ErrnoSet) (scene_of w) refl (omega arith)
+  rows_balance gates.ErrnoSet e = leaves w (after gates.ErrnoSet) (scene_of w) refl (omega arith)
+  rows_balance gates.IntEnable e = leaves w (after gates.IntEnable) (scene_of w) refl (omega arith)
+  rows_balance gates.IntDisable e = leaves w (after gates.IntDisable) (scene_of w) refl (omega arith)
+  rows_balance gates.IntPending e = leaves w (after gates.IntPending) (scene_of w) refl (omega arith)
   rows_balance g e = absurd (cc)
 
   -- one that is refused before changes nothing

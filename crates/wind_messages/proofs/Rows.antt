@@ -202,11 +202,11 @@ module _ (w : WorldState) (kept : IsKept (scene_of w)) (who : ℕ) (ram r : List
   none : (v : WorldState) → v.objects.queues.queues ≡ w.objects.queues.queues → w.kern.next_id ≤ v.kern.next_id → Balances w v (scene_of w) None
   none v same ids = leaves w v (scene_of w) same ids
 
-  abbrev behind : Gate → WorldState
-  behind g = (row_of (call_of g ram r) w (by_task who)).world
+  abbrev later : Gate → WorldState
+  later g = (row_of (call_of g ram r) w (by_task who)).world
 
-  by_tasks : (g : Gate) → (behind g).objects.queues.queues ≡ w.objects.queues.queues → NextSame w.kern (behind g).kern → Balances w (behind g) (scene_of w) None
-  by_tasks g queues same = none (behind g) queues (omega (arith, same))
+  by_tasks : (g : Gate) → (later g).objects.queues.queues ≡ w.objects.queues.queues → NextSame w.kern (later g).kern → Balances w (later g) (scene_of w) None
+  by_tasks g queues same = none (later g) queues (omega (arith, same))
 
   by_objects : (x : sem.ObjectRow) → LeavesQueues w.kern w.objects x → Balances w (of_objects w x).world (scene_of w) None
   by_objects x p = none (of_objects w x).world p.queues p.ids
@@ -232,8 +232,8 @@ module _ (w : WorldState) (kept : IsKept (scene_of w)) (who : ℕ) (ram r : List
       ]
 
   pub row_balances : (g : Gate) → Balances w (row_of (call_of g ram r) w (by_task who)).world (scene_of w) (event_in who (call_of g ram r))
-  row_balances gates.TaskSpawn = none (behind gates.TaskSpawn) refl (spawns (spawn_state w) (task_wanted w.ram (slice_index r 3) (slice_index r 4) (slice_index r 6) (slice_index r 7) (ten_arguments ram r)))
-  row_balances gates.Sp = none (behind gates.Sp) refl (spawns (spawn_state w) (quick_wanted (slice_index r 3) (quick_arguments ram r)))
+  row_balances gates.TaskSpawn = none (later gates.TaskSpawn) refl (spawns (spawn_state w) (task_wanted w.ram (slice_index r 3) (slice_index r 4) (slice_index r 6) (slice_index r 7) (ten_arguments ram r)))
+  row_balances gates.Sp = none (later gates.Sp) refl (spawns (spawn_state w) (quick_wanted (slice_index r 3) (quick_arguments ram r)))
   row_balances gates.TaskDelete =
       by_tasks gates.TaskDelete refl (deletions w.board w.kern w.part who (deed_of w.kern.tasks who (meant who (slice_index r 3))))
   row_balances gates.TaskSuspend = by_tasks gates.TaskSuspend refl (suspends w.kern (target w.kern (by_task who) (slice_index r 3)))
@@ -263,7 +263,13 @@ module _ (w : WorldState) (kept : IsKept (scene_of w)) (who : ℕ) (ram r : List
       balanced_receive (scene_of w) (slice_index r 3) (record { caller = who; buffer = slice_index r 4; room = slice_index r 5; timeout = slice_index r 6 }) kept
   row_balances gates.MsgQDelete = balanced_gone (scene_of w) (slice_index r 3) (queue_of (scene_of w) (slice_index r 3))
   row_balances gates.WdCreate = watch_creates
-  row_balances gates.WdStart = none (behind gates.WdStart) refl (omega arith)
-  row_balances gates.WdCancel = none (behind gates.WdCancel) refl (omega arith)
-  row_balances gates.WdDelete = none (behind gates.WdDelete) refl (omega arith)
+  row_balances gates.WdStart = none (later gates.WdStart) refl (omega arith)
+  row_balances gates.WdCancel = none (later gates.WdCancel) refl (omega arith)
+  row_balances gates.WdDelete = none (later gates.WdDelete) refl (omega arith)
+  row_balances gates.IntConnect = none (later gates.IntConnect) refl (omega arith)
+  row_balances gates.IntDisconnect = none (later gates.IntDisconnect) refl (omega arith)
+  row_balances gates.IntEnable = none (later gates.IntEnable) refl (omega arith)
+  row_balances gates.IntDisable = none (later gates.IntDisable) refl (omega arith)
+  row_balances gates.IntPending = none (later gates.IntPending) refl (omega arith)
+  row_balances gates.DevRemove = none (later gates.DevRemove) refl (omega arith)
   row_balances g = none w refl (omega arith)

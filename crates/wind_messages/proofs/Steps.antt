@@ -4,12 +4,12 @@ use Rattle.std.specs.Prelude.{unwrap_or, take, drop}
 use Rattle.std.specs.List.{fold}
 use Rattle.std.proofs.lemmas.Bool.{eqb-true}
 use Rattle.tick_file.specs.declared.event.Event.{Event}
-use Rattle.tick_file.specs.declared.event.Event.TheVariants.{Tick, Rx}
+use Rattle.tick_file.specs.declared.event.Event.TheVariants.{Tick, Rx, Irq}
 use Rattle.wind_core.specs.State.{KernState}
 use Rattle.wind_core.specs.Moves.{release}
 use Rattle.wind_core.specs.Move.{LeaveGate}
 use Rattle.con_line.specs.Keys.{byte_done}
-use Rattle.con_line.specs.Lines.{has_line, front_line}
+use Rattle.con_line.specs.Lines.{has_line, first_line}
 use Rattle.con_line.specs.declared.console.ByteDone.{ByteDone}
 use Rattle.con_line.specs.declared.console.ByteDone.TheVariants as done
 use Rattle.shell_parse.specs.Reading.{read_line}
@@ -33,7 +33,7 @@ use Rattle.wind_machine.specs.Feed.{chunk, after_chunk, brought}
 use Rattle.wind_machine.specs.Task.{waits_for_console}
 use Rattle.wind_machine.specs.Shell.{read_part}
 use Rattle.wind_machine.specs.Processor.{gate_under}
-use Rattle.wind_machine.specs.Events.{Heard, hear, heard_all, heard_from, heard_by, kern_after, arrived, event_comes, event_step, unreserved_world, without_next, jump}
+use Rattle.wind_machine.specs.Events.{Heard, hear, heard_all, heard_from, heard_by, kern_after, arrived, delivery_step, event_comes, event_step, unreserved_world, without_next, jump}
 use Rattle.wind_machine.specs.ActorSteps.{shell_world, task_step, shell_step, step_of, routine_step, load_step, file_in}
 use Rattle.std.specs.Option.{option_map}
 use Rattle.msg_queue.specs.Machine.{accepted_next, taken_next}
@@ -46,9 +46,9 @@ use Rattle.wind_machine.specs.declared.phase.Phase.TheVariants as phases
 use Rattle.wind_machine.proofs.Dropping.{all_advance}
 use Rattle.wind_machine.proofs.Order.{by_next}
 use Rattle.wind_machine.proofs.Asking.{at_load, same_gate}
-use Rattle.wind_machine.proofs.Free.{runner_ready, turn_ready}
-use Rattle.wind_machine.proofs.Steps.{at_turn_advances}
-use Rattle.wind_messages.specs.Messages.{is_call, is_at_work, turn_world, task_call, task_scene, call_under, call_of, scene_by, routine_world, routine_scene}
+use Rattle.wind_machine.proofs.Free.{runner_ready, step_start_ready}
+use Rattle.wind_machine.proofs.Steps.{step_start_advances}
+use Rattle.wind_messages.specs.Messages.{is_call, is_at_work, step_start_world, task_call, task_scene, call_under, call_of, scene_by, routine_world, routine_scene}
 use Rattle.wind_messages.proofs.NextIds.{NextSame, next-if, next-release, next-raised}
 use Rattle.wind_messages.proofs.Rows.{Balances, stock_in, leaves}
 use Rattle.wind_messages.proofs.Parts.{next-aborted, prompts, evaluates, task_balances}
@@ -82,6 +82,7 @@ arrivals s left bytes = left_alone s (arrived s left (heard_by s bytes)) refl (n
 events : (s : State) (e : Event) → Goes s (event_comes s e) None
 events s Tick = left_alone s (event_comes s Tick) refl (next-tick s.world.kern)
 events s (Rx n) = arrivals s (drop (brought n) s.left) (take (brought n) s.left)
+events s (Irq i) = left_alone s (event_comes s (Irq i)) refl refl
 
 due_events : (s : State) (e : Event) → Goes s (event_step s e) None
 due_events s e = events (record s { schedule = without_next s.schedule; world = unreserved_world s.world }) e
@@ -91,21 +92,21 @@ module _ (s : State) (g : Good s) where
   -- what its call sees keeps the queues' invariant
   scene_kept : (who : ℕ) → IsKept (task_scene s who)
   scene_kept who =
-      let w : WorldState = turn_world s who in
-      let kept = (at_turn_advances s g.kept who).kept in
+      let w : WorldState = step_start_world s who in
+      let kept = (step_start_advances s g.kept who).kept in
       let calm = calms w.objects.queues.queues w.kern (LeaveGate who) kept.kern tt tt in
       queues-calm w.board w.kern (left_gate w (by_task who)).kern w.objects calm kept.objects.queues w.ram kept.ram
 
   -- the call at its gate
   abbrev gate_call : ℕ → Option Call
-  gate_call who = call_under (gate_under (turn_world s who) who) (turn_world s who) who
+  gate_call who = call_under (gate_under (step_start_world s who) who) (step_start_world s who) who
 
   tasks_go : (who : ℕ) → Balances s.world (task_step s who).world (task_scene s who) (gate_call who)
-  tasks_go who = task_balances (turn_world s who) s.shell who (scene_kept who)
+  tasks_go who = task_balances (step_start_world s who) s.shell who (scene_kept who)
 
   shell_goes : (p : Phase) → Balances s.world (shell_step p s).world (task_scene s shell_id) (cond (is_call p) (gate_call shell_id) None)
   shell_goes phases.Prompt = prompts (shell_world s) (task_scene s shell_id) (has_line s.console) s.shell
-  shell_goes phases.Read = leaves (shell_world s) (read_part (read_line (front_line s.console)) (shell_world s)).world (task_scene s shell_id) refl (omega arith)
+  shell_goes phases.Read = leaves (shell_world s) (read_part (read_line (first_line s.console)) (shell_world s)).world (task_scene s shell_id) refl (omega arith)
   shell_goes phases.Eval = evaluates (shell_world s) (task_scene s shell_id) s.shell.trees
   shell_goes phases.Call = tasks_go shell_id
 
@@ -135,7 +136,7 @@ module _ (s : State) (g : Good s) where
   load_goes : AloneLaw → IsReady s.world.kern shell_id → (said : FileSaid) (name : List ℕ) → file_in s.shell.phase s.world ≡ Some name → Goes s (load_step said s name) (Some shell)
   load_goes law ready said name found =
       let w : WorldState = shell_world s in
-      let alone = law w name said (at_turn_advances s g.kept shell_id).kept (turn_ready s.world.kern shell_id ready) in
+      let alone = law w name said (step_start_advances s g.kept shell_id).kept (step_start_ready s.world.kern shell_id ready) in
       let here : Balances s.world (load_step said s name).world (task_scene s shell_id) None
       = leaves w (load_step said s name).world (task_scene s shell_id) (ap (λ o. o.queues.queues) alone.objects) alone.ids in
       subst (Balances s.world (load_step said s name).world (task_scene s shell_id)) (sym (no_call name found)) here
@@ -143,8 +144,9 @@ module _ (s : State) (g : Good s) where
   -- ---- by the order of the next step
   pub effect_goes : AloneLaw → (said : FileSaid) → Goes s (unwrap_or (state_after said s (next s)) s) (stepping s)
   effect_goes law said = by_next s (λ n. Goes s (unwrap_or (state_after said s n) s) (actor_of n)) (record {
-    come = λ e due. due_events s e.event;
-    arrive = λ quiet due. arrivals s (after_chunk s.left) (chunk s.left);
+    deliver = λ i due. left_alone s (delivery_step s i) refl refl;
+    come = λ held e due. due_events s e.event;
+    arrive = λ held quiet due. arrivals s (after_chunk s.left) (chunk s.left);
     routine = λ nothing active. routines_go;
     act = λ left t runs none. whoever_goes t.id;
     load = λ left t runs own name found. load_goes law (subst (IsReady s.world.kern) own (runner_ready s.world.kern g.kept.world.kern t runs)) said name found;

@@ -17,7 +17,7 @@ use Rattle.kernel_world.specs.declared.actor.Actor.TheVariants.{Task as by_task,
 use Rattle.wind_machine.specs.State.{State}
 use Rattle.wind_machine.specs.Run.{Answers, after}
 use Rattle.wind_machine.specs.Events.{cleared, unreserved_world}
-use Rattle.wind_machine.specs.ActorSteps.{at_turn}
+use Rattle.wind_machine.specs.ActorSteps.{at_step_start}
 use Rattle.wind_machine.specs.Machine.{stepping}
 use Rattle.wind_machine.specs.Processor.{gate_under}
 use Rattle.wind_machine.specs.Routine.{routine_under}
@@ -51,17 +51,17 @@ abbrev pub is_at_work : State → ℕ → Bool
 is_at_work s who = if who == shell_id then is_call s.shell.phase else true
 
 -- the world at the beginning of a task's step
-abbrev pub turn_world : State → ℕ → WorldState
-turn_world s who = at_turn s.world who
+abbrev pub step_start_world : State → ℕ → WorldState
+step_start_world s who = at_step_start s.world who
 
 -- the queue call that the task's step is, if it is one
 abbrev pub task_call : State → ℕ → Option Event
 task_call s who =
-    if is_at_work s who then call_under (gate_under (turn_world s who) who) (turn_world s who) who else None
+    if is_at_work s who then call_under (gate_under (step_start_world s who) who) (step_start_world s who) who else None
 
 -- what such a call sees: the caller has left its gate
 abbrev pub task_scene : State → ℕ → Scene
-task_scene s who = scene_of (left_gate (turn_world s who) (by_task who))
+task_scene s who = scene_of (left_gate (step_start_world s who) (by_task who))
 
 -- ---- an interrupt routine, which may send but never receives
 abbrev pub sent_of : Call → Option Event

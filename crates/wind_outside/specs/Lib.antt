@@ -1,3 +1,4 @@
+pub mod Appending
 pub mod Calls
 pub mod Counts
 pub mod Devices
@@ -6,4 +7,3 @@ pub mod Host
 pub mod MemFolder
 pub mod MemSink
 pub mod Requests
-pub mod Told

@@ -41,4 +41,4 @@ piece_of bytes outcome = record { bytes = bytes; outcome = outcome }
 
 -- if anything is told now, it is what was told before with these more at its end; so a log can stop, for good
 abbrev pub GrowsBy : {X : Type 0} → Option (List X) → Option (List X) → List X → Type 0
-GrowsBy old new more = IfSome new (λ told. IsSomeAnd old (λ before. told ≡ before ++ more))
+GrowsBy old new more = IfSome new (λ grown. IsSomeAnd old (λ before. grown ≡ before ++ more))

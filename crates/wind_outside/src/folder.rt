@@ -39,7 +39,7 @@ pub trait Folder {
     /// ends.
     fn fetch(&mut self, alloc: Global, name: &str, limit: u32) -> Fetched
         ensures kept { files self.new ≡ files self.old }
-        ensures told { IfSome (files self.old) (λ held. IsFetchOf (held name.now) limit result) }
+        ensures answers { IfSome (files self.old) (λ held. IsFetchOf (held name.now) limit result) }
         ensures within { IsWithin limit result }
         ensures requested { GrowsBy (requests self.old) (requests self.new) (request_of name.now limit result ∷ []) }
         ensures failed { result ≡ fetched.Failed → Rose (faults self.old) (faults self.new) }

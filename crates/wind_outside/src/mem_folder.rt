@@ -63,7 +63,7 @@ impl Folder for MemFolder {
 
     fn fetch(&mut self, alloc: Global, name: &str, limit: u32) -> Fetched
         ensures kept { Some (files_of self.new) ≡ Some (files_of self.old) }
-        ensures told { IfSome (Some (files_of self.old)) (λ held. IsFetchOf (held name.now) limit result) }
+        ensures answers { IfSome (Some (files_of self.old)) (λ held. IsFetchOf (held name.now) limit result) }
         ensures within { IsWithin limit result }
         ensures requested { GrowsBy None None (request_of name.now limit result ∷ []) }
         ensures failed { result ≡ fetched.Failed → Rose (calls_of self.old).faults (calls_of self.new).faults }

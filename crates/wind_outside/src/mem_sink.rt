@@ -2,7 +2,7 @@
 
 ghost use Rattle.std.specs.Prelude.{◌≡◌, ◌<◌, ◌≤◌, ◌⊎◌, ◌↔◌, ℕ, [], ◌∷◌, Some, None, IfOk, Contains, length};
 ghost use Rattle.wind_outside.specs.Counts.{Rose};
-ghost use Rattle.wind_outside.specs.Told.{Appended, AppendedFront};
+ghost use Rattle.wind_outside.specs.Appending.{Appended, AppendedPrefix};
 ghost use Rattle.wind_outside.specs.Requests.{GrowsBy, piece_of};
 ghost use Rattle.wind_outside.specs.MemSink.{after_put};
 ghost use Rattle.wind_outside.specs.declared.sink.Put.TheVariants as puts;
@@ -64,7 +64,7 @@ impl Sink for MemSink {
 
     fn put(&mut self, piece: &[u8]) -> Put
         ensures done { result ≡ puts.Done → Appended (Some self.old.out.bytes) (Some self.new.out.bytes) piece.now }
-        ensures part { AppendedFront (Some self.old.out.bytes) (Some self.new.out.bytes) piece.now }
+        ensures part { AppendedPrefix (Some self.old.out.bytes) (Some self.new.out.bytes) piece.now }
         ensures noted { GrowsBy None None (piece_of piece.now result ∷ []) }
         ensures failed { result ≡ puts.Failed → Rose self.old.calls.faults self.new.calls.faults }
         ensures never_falls { self.old.calls.faults ≤ self.new.calls.faults }

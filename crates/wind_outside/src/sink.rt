@@ -2,7 +2,7 @@
 
 ghost use Rattle.std.specs.Prelude.{◌≡◌, ℕ, ◌≤◌, List, [], ◌∷◌, Option};
 ghost use Rattle.wind_outside.specs.Counts.{Rose};
-ghost use Rattle.wind_outside.specs.Told.{Appended, AppendedFront};
+ghost use Rattle.wind_outside.specs.Appending.{Appended, AppendedPrefix};
 ghost use Rattle.wind_outside.specs.Requests.{GrowsBy, Piece, piece_of};
 ghost use Rattle.wind_outside.specs.declared.sink.Put.TheVariants as puts;
 
@@ -30,7 +30,7 @@ pub trait Sink {
     /// Adds a piece at the end. Every put is one more piece, however it ends.
     fn put(&mut self, piece: &[u8]) -> Put
         ensures done { result ≡ puts.Done → Appended (bytes self.old) (bytes self.new) piece.now }
-        ensures part { AppendedFront (bytes self.old) (bytes self.new) piece.now }
+        ensures part { AppendedPrefix (bytes self.old) (bytes self.new) piece.now }
         ensures noted { GrowsBy (pieces self.old) (pieces self.new) (piece_of piece.now result ∷ []) }
         ensures failed { result ≡ puts.Failed → Rose (faults self.old) (faults self.new) }
         ensures never_falls { faults self.old ≤ faults self.new };

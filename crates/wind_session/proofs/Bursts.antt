@@ -12,7 +12,7 @@ use Rattle.wind_machine.specs.Silent.{SilentSteps, SilentLaw}
 use Rattle.wind_session.specs.Modules.{Shelf, IsSaid}
 use Rattle.wind_session.specs.Pieces.{output_piece, pieces_of}
 use Rattle.wind_session.proofs.FetchLemmas.{unasked_requests}
-use Rattle.wind_session.proofs.RunLemmas.{Behind}
+use Rattle.wind_session.proofs.RunLemmas.{After}
 
 -- a number below i + k is below i, or not
 either_part : (i j : ℕ) → (j < i) ⊎ (i ≤ j)
@@ -23,7 +23,7 @@ either_part i j =
     ] refl
 
 -- silent steps continue a run of at most n steps, whatever was said of files
-pub runs_on : SilentLaw → (shelf : Shelf) (said : Answers) (s : State) (n i : ℕ) (u : State) (old mid : Option (List Request)) → Behind shelf said s n i u old mid → (k : ℕ) → i + k ≤ n → (t : State) → SilentSteps k u t → Behind shelf said s n (i + k) t old mid
+pub runs_on : SilentLaw → (shelf : Shelf) (said : Answers) (s : State) (n i : ℕ) (u : State) (old mid : Option (List Request)) → After shelf said s n i u old mid → (k : ℕ) → i + k ≤ n → (t : State) → SilentSteps k u t → After shelf said s n (i + k) t old mid
 runs_on law shelf said s n i u old mid run k h t steps =
     let on = law said s u t i k run.state steps in
     record {
@@ -43,7 +43,7 @@ runs_on law shelf said s n i u old mid run k h t steps =
     step j below (inr more) = (law said s u t i k run.state steps).made j more below
 
 -- they write nothing
-pub as_written : SilentLaw → (shelf : Shelf) (said : Answers) (s : State) (n i : ℕ) (u : State) (old mid : Option (List Request)) → Behind shelf said s n i u old mid → (k : ℕ) (t : State) → SilentSteps k u t → text said s i ≡ text said s (i + k)
+pub as_written : SilentLaw → (shelf : Shelf) (said : Answers) (s : State) (n i : ℕ) (u : State) (old mid : Option (List Request)) → After shelf said s n i u old mid → (k : ℕ) (t : State) → SilentSteps k u t → text said s i ≡ text said s (i + k)
 as_written law shelf said s n i u old mid run k t steps = sym (law said s u t i k run.state steps).text_is
 
 -- so they add no piece
@@ -59,5 +59,5 @@ silent_pieces law said s u i here (suc k) t steps =
     ∙ append-nil (pieces_of said s n)
     ∙ silent_pieces law said s u i here k steps.0 steps.1
 
-pub as_put : SilentLaw → (shelf : Shelf) (said : Answers) (s : State) (n i : ℕ) (u : State) (old mid : Option (List Request)) → Behind shelf said s n i u old mid → (k : ℕ) (t : State) → SilentSteps k u t → pieces_of said s i ≡ pieces_of said s (i + k)
+pub as_put : SilentLaw → (shelf : Shelf) (said : Answers) (s : State) (n i : ℕ) (u : State) (old mid : Option (List Request)) → After shelf said s n i u old mid → (k : ℕ) (t : State) → SilentSteps k u t → pieces_of said s i ≡ pieces_of said s (i + k)
 as_put law shelf said s n i u old mid run k t steps = sym (silent_pieces law said s u i run.state k t steps)

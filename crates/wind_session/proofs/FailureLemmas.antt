@@ -61,12 +61,12 @@ no_failure (status.BadTicks line) some = refl
 no_failure (status.TooLong file) some = refl
 
 module _ (s : Status) (old new : Option (List Request)) where
-  pub none_failed : (front : List Request) → s ≢ status.ReadFault → All IsFine front → GrowsBy old new front → FailsLast s old new
-  none_failed front some fine grown = record { front = front; last = []; requests = subst (GrowsBy old new) (sym (append-nil front)) grown; fine = fine; failure = no_failure s some }
+  pub none_failed : (prefix : List Request) → s ≢ status.ReadFault → All IsFine prefix → GrowsBy old new prefix → FailsLast s old new
+  none_failed prefix some fine grown = record { prefix = prefix; last = []; requests = subst (GrowsBy old new) (sym (append-nil prefix)) grown; fine = fine; failure = no_failure s some }
 
   -- the last one did
-  last_failed : (front : List Request) (r : Request) → s ≡ status.ReadFault → r.outcome ≡ outcomes.Failed → All IsFine front → GrowsBy old new (front ++ r ∷ []) → FailsLast s old new
-  last_failed front r is failed fine grown = record { front = front; last = r ∷ []; requests = grown; fine = fine; failure = subst (λ x. IsFailure x (r ∷ [])) (sym is) (r, refl, failed) }
+  last_failed : (prefix : List Request) (r : Request) → s ≡ status.ReadFault → r.outcome ≡ outcomes.Failed → All IsFine prefix → GrowsBy old new (prefix ++ r ∷ []) → FailsLast s old new
+  last_failed prefix r is failed fine grown = record { prefix = prefix; last = r ∷ []; requests = grown; fine = fine; failure = subst (λ x. IsFailure x (r ∷ [])) (sym is) (r, refl, failed) }
 
   -- nothing was fetched
   pub unfetched : s ≢ status.ReadFault → new ≡ old → FailsLast s old new
@@ -183,9 +183,9 @@ left_fails (suc n) s end shelf start limit board old new h =
 -- after the files of a command
 pub fails_after : (s : Status) (n : ℕ) (c : CommandState) (old mid new : Option (List Request)) → GrowsBy old mid (rounds_requests n c) → FailsLast s mid new → FailsLast s old new
 fails_after s n c old mid new first h = record {
-  front = rounds_requests n c ++ h.front;
+  prefix = rounds_requests n c ++ h.prefix;
   last = h.last;
-  requests = subst (GrowsBy old new) (sym (append_assoc (rounds_requests n c) h.front h.last)) (grows_both old mid new (rounds_requests n c) (h.front ++ h.last) first h.requests);
-  fine = All-append IsFine (rounds_requests n c) h.front (rounds_fine n c) h.fine;
+  requests = subst (GrowsBy old new) (sym (append_assoc (rounds_requests n c) h.prefix h.last)) (grows_both old mid new (rounds_requests n c) (h.prefix ++ h.last) first h.requests);
+  fine = All-append IsFine (rounds_requests n c) h.prefix (rounds_fine n c) h.fine;
   failure = h.failure;
 }

@@ -34,7 +34,7 @@ module _ {X : Type 0} where
   grows_none (Some x) = sym (append-nil x)
 
   pub grows_same : (old new : Option (List X)) → new ≡ old → GrowsBy old new []
-  grows_same old new same = subst (λ told. GrowsBy old told []) (sym same) (grows_none old)
+  grows_same old new same = subst (λ now. GrowsBy old now []) (sym same) (grows_none old)
 
   -- if a list grew by a and then by b, it grew by b from the list that the first growth gives
   pub grows_from : (old mid new : Option (List X)) (a b : List X) → GrowsBy old mid a → GrowsBy mid new b → GrowsBy (option_map (λ xs. xs ++ a) old) new b

@@ -16,12 +16,12 @@ use Rattle.wind_session.specs.declared.ending.Status.{Status}
 use Rattle.wind_session.proofs.FetchLemmas.{grows_from}
 
 -- what a folder tells after its requests grew to `mid`, and what it would tell if it told them all
-module _ (first : List Request) (told : Outside) (mid : Option (List Request)) (grown : GrowsBy told.requests mid first) where
+module _ (first : List Request) (old : Outside) (mid : Option (List Request)) (grown : GrowsBy old.requests mid first) where
   abbrev pub here : Outside
-  here = record told { requests = mid }
+  here = record old { requests = mid }
 
   abbrev pub there : Outside
-  there = record told { requests = option_map (λ xs. xs ++ first) told.requests }
+  there = record old { requests = option_map (λ xs. xs ++ first) old.requests }
 
   made_there : (end : RunEnd) (shelf : Shelf) (said : Answers) (s : State) (n k : ℕ) (board : State) (new : Option (List Request)) → Made end shelf said s n k board mid new → Made end shelf said s n k board there.requests new
   made_there end shelf said s n k board new made = record {
@@ -33,7 +33,7 @@ module _ (first : List Request) (told : Outside) (mid : Option (List Request)) (
     fetches = record {
       last = made.fetches.last;
       last_is = made.fetches.last_is;
-      requests = grows_from told.requests mid new first (requests_of shelf.name said s k ++ made.fetches.last) grown made.fetches.requests;
+      requests = grows_from old.requests mid new first (requests_of shelf.name said s k ++ made.fetches.last) grown made.fetches.requests;
     };
   }
 

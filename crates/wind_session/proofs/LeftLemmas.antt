@@ -2,7 +2,7 @@
 use Rattle.std.proofs.Common.{◌≡◌, ◌≢◌, ℕ, zero, suc, true, false, List, Option, refl, ap, subst, ◌∙◌, inl, inr, length}
 use Rattle.std.specs.Prelude.{◌⊎◌}
 use Rattle.wind_outside.specs.Requests.{Request, Piece}
-use Rattle.wind_outside.specs.Told.{Appended, AppendedFront}
+use Rattle.wind_outside.specs.Appending.{Appended, AppendedPrefix}
 use Rattle.generated_session.specs.Session.{summary_line}
 use Rattle.wind_machine.specs.State.{State}
 use Rattle.wind_machine.specs.Run.{Answers, after, text}
@@ -19,7 +19,7 @@ use Rattle.wind_session.specs.declared.ending.Status.TheVariants as status
 
 -- a line was put, or a prefix of it, after a run that wasn't given up
 summed : (end : RunEnd) (s : Status) (line : List ℕ) (old new : Option (List ℕ)) → is_given_up end ≡ false
-    → ((s ≡ status_of end) × Appended old new line) ⊎ ((s ≡ status.WriteFault) × AppendedFront old new line) → IsSummed end s line old new
+    → ((s ≡ status_of end) × Appended old new line) ⊎ ((s ≡ status.WriteFault) × AppendedPrefix old new line) → IsSummed end s line old new
 summed ends.Quiet s line old new some h = h
 summed ends.Limit s line old new some h = h
 summed ends.WriteFault s line old new some h = h
@@ -43,16 +43,16 @@ module _ (n bytes steps ticks k tick number : ℕ) (end : RunEnd) (s : Status) (
 
   -- the line was put, and a put failed inside it
   pub summed_whole : Appended old new (summary_line n bytes steps ticks number) → IsSummed end s (summary_line n bytes k tick (status_number (status_of end))) old new
-  summed_whole told = summed end s (summary_line n bytes k tick (status_number (status_of end))) old new some (inl (own, subst (Appended old new) line told))
+  summed_whole appended = summed end s (summary_line n bytes k tick (status_number (status_of end))) old new some (inl (own, subst (Appended old new) line appended))
 
-  pub summed_cut : AppendedFront old new (summary_line n bytes steps ticks number) → IsSummed end status.WriteFault (summary_line n bytes k tick (status_number (status_of end))) old new
-  summed_cut told = summed end status.WriteFault (summary_line n bytes k tick (status_number (status_of end))) old new some (inr (refl, subst (AppendedFront old new) line told))
+  pub summed_cut : AppendedPrefix old new (summary_line n bytes steps ticks number) → IsSummed end status.WriteFault (summary_line n bytes k tick (status_number (status_of end))) old new
+  summed_cut appended = summed end status.WriteFault (summary_line n bytes k tick (status_number (status_of end))) old new some (inr (refl, subst (AppendedPrefix old new) line appended))
 
 -- the line of a run that was counted
 line_of : (n bytes k x : ℕ) (said : Answers) (s board : State) → bytes ≡ length (text said s k) → board.steps ≡ k → board ≡ after said s k → summary_line n bytes board.steps board.world.kern.tick x ≡ summary n said s k x
 unfolding summary
-line_of n bytes k x said s board told counted same =
-    ap (λ b. summary_line n b board.steps board.world.kern.tick x) told
+line_of n bytes k x said s board appended counted same =
+    ap (λ b. summary_line n b board.steps board.world.kern.tick x) appended
     ∙ ap (λ m. summary_line n (length (text said s k)) m board.world.kern.tick x) counted
     ∙ ap (λ (u : State). summary_line n (length (text said s k)) k u.world.kern.tick x) same
 

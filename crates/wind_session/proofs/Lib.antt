@@ -8,5 +8,7 @@ pub mod ProgramLemmas
 pub mod ModuleLemmas
 pub mod RunLemmas
 pub mod Saying
-pub mod ToldLemmas
+pub mod AppendingLemmas
 pub mod Bursts
+pub mod Continuing
+pub mod Growing

@@ -62,29 +62,29 @@ refusal_up (status.TooLong file) plan rose later up h = h
 module _ (files : Option Files) (name : List ℕ) where
   -- the file that a fetch found
   pub held_found : (bytes : List ℕ) → length bytes ≤ longest_text_file → IfSome files (λ held. (held name ≡ Some bytes) × (length bytes ≤ longest_text_file)) → IsHeld files name bytes
-  held_found bytes within h = record { told = found_entry longest_text_file files name bytes h; within = within }
+  held_found bytes within h = record { entry = found_entry longest_text_file files name bytes h; within = within }
 
   module _ (file : Which) (rose : Type 0) where
     -- no file, and one that is too long
     pub unread_missing : IfSome files (λ held. IsFetchOf (held name) longest_text_file fetched.Missing) → IsUnread (status.Absent file) file files name rose
-    unread_missing h = record { file = None; told = missing_entry files name h; refused = λ next. refl }
+    unread_missing h = record { file = None; entry = missing_entry files name h; refused = λ next. refl }
 
     pub unread_long : IfSome files (λ held. IsFetchOf (held name) longest_text_file fetched.TooLong) → IsUnread (status.TooLong file) file files name rose
-    unread_long h = let long = long_entry longest_text_file files name h in record { file = long.0; told = long.1; refused = λ next. long_file file next long.0 long.2 }
+    unread_long h = let long = long_entry longest_text_file files name h in record { file = long.0; entry = long.1; refused = λ next. long_file file next long.0 long.2 }
 
     -- a read fault, and memory that ran out
     pub unread_fault : rose → IsUnread status.ReadFault file files name rose
-    unread_fault h = let some = some_entry files name in record { file = some.0; told = some.1; refused = λ next. h }
+    unread_fault h = let some = some_entry files name in record { file = some.0; entry = some.1; refused = λ next. h }
 
     pub unread_memory : IsUnread status.NoMemory file files name rose
-    unread_memory = let some = some_entry files name in record { file = some.0; told = some.1; refused = λ next. tt }
+    unread_memory = let some = some_entry files name in record { file = some.0; entry = some.1; refused = λ next. tt }
 
 -- the arguments ask for some plan, even if it isn't known which
 some_plan_of : (n : ℕ) (files : Option Files) (c : CommandState) → (plan : Plan) × IsPlanOf n files c plan
 some_plan_of zero files c =
     let console = some_entry files c.console in
     let ticks = some_entry files c.ticks in
-    (plan_of console.0 ticks.0, record { console = console.0; ticks = ticks.0; console_told = console.1; ticks_told = ticks.1; plan_is = refl })
+    (plan_of console.0 ticks.0, record { console = console.0; ticks = ticks.0; console_entry = console.1; ticks_entry = ticks.1; plan_is = refl })
 some_plan_of (suc n) files c = (generated_plan (suc n), refl)
 
 pub some_plan : (files : Option Files) (command : Option CommandState) → (plan : Plan) × IsPlan files command plan
@@ -97,7 +97,7 @@ module _ (files : Option Files) (command : CommandState) where
   refuses_console s rose unread =
       let ticks = some_entry files command.ticks in (
         plan_of unread.file ticks.0,
-        record { console = unread.file; ticks = ticks.0; console_told = unread.told; ticks_told = ticks.1; plan_is = refl },
+        record { console = unread.file; ticks = ticks.0; console_entry = unread.entry; ticks_entry = ticks.1; plan_is = refl },
         unread.refused (λ bytes. plan_file which.Ticks (plan_ticks bytes) ticks.0),
       )
 
@@ -109,8 +109,8 @@ module _ (files : Option Files) (command : CommandState) where
       record {
         console = Some console;
         ticks = unread.file;
-        console_told = first.told;
-        ticks_told = unread.told;
+        console_entry = first.entry;
+        ticks_entry = unread.entry;
         plan_is = sym (short_file which.Console (λ bytes. plan_file which.Ticks (plan_ticks bytes) unread.file) console first.within);
       },
       refusal_up s (plan_file which.Ticks (plan_ticks console) unread.file) rose later up (unread.refused (plan_ticks console)),
@@ -121,8 +121,8 @@ module _ (files : Option Files) (command : CommandState) where
     both_held ticks plan second e = record {
       console = Some console;
       ticks = Some ticks;
-      console_told = first.told;
-      ticks_told = second.told;
+      console_entry = first.entry;
+      ticks_entry = second.entry;
       plan_is =
           e
           ∙ sym (short_file which.Ticks (plan_ticks console) ticks second.within)
@@ -151,7 +151,7 @@ refused_of : (n : ℕ) (s : Status) (files : Option Files) (command : CommandSta
 refused_of zero s None command rose plan planned refused there fine = absurd there
 refused_of zero s (Some held) command rose plan planned refused there fine =
     refusal_played s plan there.0 there.1 rose
-    (planned.plan_is ∙ ap (λ file. plan_of file planned.ticks) planned.console_told ∙ ap (plan_of (held command.console)) planned.ticks_told ∙ there.2)
+    (planned.plan_is ∙ ap (λ file. plan_of file planned.ticks) planned.console_entry ∙ ap (plan_of (held command.console)) planned.ticks_entry ∙ there.2)
     fine refused
 refused_of (suc n) s files command rose plan planned refused there fine =
     refusal_played s plan (generated_console (suc n)) (timetable_of (generated_ticks (suc n))) ⊥ planned (λ never. never) refused

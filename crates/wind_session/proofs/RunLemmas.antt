@@ -4,11 +4,11 @@ use Rattle.std.specs.Prelude.{take}
 use Rattle.std.proofs.lemmas.List.{append-nil}
 use Rattle.wind_outside.specs.Files.{Files}
 use Rattle.wind_outside.specs.Requests.{GrowsBy, Request, Piece}
-use Rattle.wind_outside.specs.Told.{Appended, AppendedFront}
+use Rattle.wind_outside.specs.Appending.{Appended, AppendedPrefix}
 use Rattle.wind_outside.specs.declared.sink.Put.TheVariants as puts
 use Rattle.live_loading.specs.Said.{FileSaid, Missing}
 use Rattle.wind_machine.specs.State.{State}
-use Rattle.wind_machine.specs.Machine.{IsOver, file_asked, machine_step, may_lack_memory}
+use Rattle.wind_machine.specs.Machine.{IsOver, file_asked, machine_step, may_exhaust_memory}
 use Rattle.wind_machine.specs.Run.{Answers, after, text, IsPart}
 use Rattle.wind_session.specs.Modules.{Shelf, IsSaid, AreSaid}
 use Rattle.wind_session.specs.Fetches.{IsLastRequest, Stops, outcome_said, requests_of, step_request}
@@ -17,13 +17,13 @@ use Rattle.wind_session.specs.Pieces.{output_piece, pieces_of}
 use Rattle.wind_session.specs.Runs.{IsEnd, Made, Ran}
 use Rattle.wind_session.proofs.FetchLemmas.{grows_both, grows_none, stops_quiet}
 use Rattle.wind_session.proofs.Saying.{saying, state_now, part_now, answers_now, text_now, same_before, requests_now, pieces_now, same_pieces_before}
-use Rattle.wind_session.proofs.ToldLemmas.{appended_both}
+use Rattle.wind_session.proofs.AppendingLemmas.{appended_both}
 use Rattle.wind_session.specs.declared.run.RunEnd.{RunEnd}
 use Rattle.wind_session.specs.declared.run.RunEnd.TheVariants as ends
 
 -- after i steps of a run of at most n, this is the board, and the files that the steps needed were as the folder
 -- of modules says
-pub record Behind (shelf : Shelf) (said : Answers) (s : State) (n i : ℕ) (board : State) (old mid : Option (List Request)) : Type 0 where
+pub record After (shelf : Shelf) (said : Answers) (s : State) (n i : ℕ) (board : State) (old mid : Option (List Request)) : Type 0 where
   pub counted : board.steps ≡ i
   pub answers : AreSaid shelf said s i
   pub part : IsPart said s n i
@@ -40,7 +40,7 @@ none_asked shelf s j below = absurd (omega (arith, below))
 none_made : (s : State) (n : ℕ) → IsPart nothing_said s n 0
 none_made s n = record { within = omega arith; steps = λ j below. absurd (omega (arith, below)) }
 
-pub begun : (shelf : Shelf) (s : State) (n : ℕ) (old : Option (List Request)) → s.steps ≡ 0 → Behind shelf nothing_said s n 0 s old old
+pub begun : (shelf : Shelf) (s : State) (n : ℕ) (old : Option (List Request)) → s.steps ≡ 0 → After shelf nothing_said s n 0 s old old
 begun shelf s n old fresh = record { counted = fresh; answers = none_asked shelf s; part = none_made s n; state = refl; requests = grows_none old }
 
 -- a step is made, with what a folder with these files says, and its file is fetched
@@ -48,7 +48,7 @@ abbrev pub Makes : Option Files → List ℕ → State → State → Option (Lis
 Makes files name u t old new =
     (said : FileSaid) × IsSaid (record { files = files; name = name }) u said × (machine_step said u ≡ Some t) × GrowsBy old new (step_request name (file_asked u) (outcome_said said))
 
-module _ (shelf : Shelf) (said : Answers) (s u : State) (n i : ℕ) (first mid : Option (List Request)) (run : Behind shelf said s n i u first mid) where
+module _ (shelf : Shelf) (said : Answers) (s u : State) (n i : ℕ) (first mid : Option (List Request)) (run : After shelf said s n i u first mid) where
   -- ---- after i steps another one was made, and the folder keeps its files
   module _ (files : Option Files) (same : files ≡ shelf.files) (t : State) (last : Option (List Request)) (made : Makes files shelf.name u t mid last) where
     abbrev pub said_on : Answers
@@ -57,7 +57,7 @@ module _ (shelf : Shelf) (said : Answers) (s u : State) (n i : ℕ) (first mid :
     own : IsSaid shelf u made.0
     own = subst (λ f. IsSaid (record { files = f; name = shelf.name }) u made.0) same made.1
 
-    one_more : i < n → t.steps ≡ u.steps + 1 → Behind shelf said_on s n (suc i) t first last
+    one_more : i < n → t.steps ≡ u.steps + 1 → After shelf said_on s n (suc i) t first last
     one_more h count = record {
       counted = count ∙ ap (λ m. m + 1) run.counted ∙ add-one i;
       answers = answers_now shelf said s u t i made.0 run.state made.2 run.answers own;
@@ -68,33 +68,33 @@ module _ (shelf : Shelf) (said : Answers) (s u : State) (n i : ℕ) (first mid :
           (grows_both first mid last (requests_of shelf.name said s i) (step_request shelf.name (file_asked u) (outcome_said made.0)) run.requests made.3);
     }
 
-    pub further : i < n → t.steps ≡ u.steps + 1 → Behind shelf said_on s n (i + 1) t first last
-    further h count = subst (λ k. Behind shelf said_on s n k t first last) (sym (add-one i)) (one_more h count)
+    pub further : i < n → t.steps ≡ u.steps + 1 → After shelf said_on s n (i + 1) t first last
+    further h count = subst (λ k. After shelf said_on s n k t first last) (sym (add-one i)) (one_more h count)
 
     pub text_on : (old mid new : Option (List ℕ)) → Appended old mid (text said s i) → Appended mid new t.world.output → Appended old new (text said_on s (i + 1))
-    text_on old mid new told more =
+    text_on old mid new appended more =
         subst (λ k. Appended old new (text said_on s k)) (sym (add-one i))
-        (subst (Appended old new) (sym (text_now shelf said s u t i made.0 run.state made.2)) (appended_both old mid new (text said s i) t.world.output told more))
+        (subst (Appended old new) (sym (text_now shelf said s u t i made.0 run.state made.2)) (appended_both old mid new (text said s i) t.world.output appended more))
 
     pub pieces_on : (old now new : Option (List Piece)) → GrowsBy old now (pieces_of said s i) → GrowsBy now new (output_piece t.world.output puts.Done) → GrowsBy old new (pieces_of said_on s (i + 1))
-    pieces_on old now new told more =
+    pieces_on old now new appended more =
         subst (λ k. GrowsBy old new (pieces_of said_on s k)) (sym (add-one i))
-        (subst (GrowsBy old new) (sym (pieces_now shelf said s u t i made.0 run.state made.2)) (grows_both old now new (pieces_of said s i) (output_piece t.world.output puts.Done) told more))
+        (subst (GrowsBy old new) (sym (pieces_now shelf said s u t i made.0 run.state made.2)) (grows_both old now new (pieces_of said s i) (output_piece t.world.output puts.Done) appended more))
 
     -- the steps wrote this many more bytes
     pub bytes_on : (bytes : ℕ) → bytes ≡ length (text said s i) → bytes + length t.world.output ≡ length (text said_on s (i + 1))
-    bytes_on bytes told =
-        ap (λ m. m + length t.world.output) told
+    bytes_on bytes appended =
+        ap (λ m. m + length t.world.output) appended
         ∙ sym (length-append (text said s i) t.world.output)
         ∙ ap length (sym (text_now shelf said s u t i made.0 run.state made.2))
         ∙ ap (λ k. length (text said_on s k)) (sym (add-one i))
 
     -- a put that failed after it cut the run off
     pub cut_off : i < n → t.steps ≡ u.steps + 1 → (old now new : Option (List ℕ)) (old_pieces now_pieces new_pieces : Option (List Piece))
-        → Appended old now (text said s i) → AppendedFront now new t.world.output → t.world.output ≢ []
+        → Appended old now (text said s i) → AppendedPrefix now new t.world.output → t.world.output ≢ []
         → GrowsBy old_pieces now_pieces (pieces_of said s i) → GrowsBy now_pieces new_pieces (output_piece t.world.output puts.Failed)
         → Ran ends.WriteFault shelf s n t (outside first old old_pieces) (outside last new new_pieces)
-    cut_off h count old now new old_pieces now_pieces new_pieces told part some put failed =
+    cut_off h count old now new old_pieces now_pieces new_pieces appended part some put failed =
         let on = one_more h count in
         record {
           said = said_on;
@@ -113,7 +113,7 @@ module _ (shelf : Shelf) (said : Answers) (s u : State) (n i : ℕ) (first mid :
             wrote = subst (λ (v : State). v.world.output ≢ []) on.state some;
             part = part.0;
             gained = subst (λ (v : State). Appended old new (text said_on s i ++ take part.0 v.world.output)) on.state
-                (subst (λ w. Appended old new (w ++ take part.0 t.world.output)) (same_before shelf said s u t i made.0 run.state made.2) (appended_both old now new (text said s i) _ told part.1));
+                (subst (λ w. Appended old new (w ++ take part.0 t.world.output)) (same_before shelf said s u t i made.0 run.state made.2) (appended_both old now new (text said s i) _ appended part.1));
             pieces = subst (λ (v : State). GrowsBy old_pieces new_pieces (pieces_of said_on s i ++ output_piece v.world.output puts.Failed)) on.state
                 (subst (λ w. GrowsBy old_pieces new_pieces (w ++ output_piece t.world.output puts.Failed)) (same_pieces_before shelf said s u t i made.0 run.state made.2)
                 (grows_both old_pieces now_pieces new_pieces (pieces_of said s i) (output_piece t.world.output puts.Failed) put failed));
@@ -140,8 +140,8 @@ module _ (shelf : Shelf) (said : Answers) (s u : State) (n i : ℕ) (first mid :
     quiet h over kept = ended ends.Quiet (h, subst (λ (v : State). IsOver v) run.state over) (stops_quiet shelf.name (file_asked u) mid last kept)
 
     -- memory ran out
-    pub lacking : i < n → may_lack_memory u ≡ true → Stops ends.NoMemory shelf.name (file_asked u) mid last → Made ends.NoMemory shelf said s n i t first last
-    lacking h may stops = ended ends.NoMemory (h, subst (λ (v : State). may_lack_memory v ≡ true) run.state may) stops
+    pub exhausted : i < n → may_exhaust_memory u ≡ true → Stops ends.NoMemory shelf.name (file_asked u) mid last → Made ends.NoMemory shelf said s n i t first last
+    exhausted h may stops = ended ends.NoMemory (h, subst (λ (v : State). may_exhaust_memory v ≡ true) run.state may) stops
 
     -- a file could not be read
     pub unread : i < n → IsSome (file_asked u) → Stops ends.ReadFault shelf.name (file_asked u) mid last → Made ends.ReadFault shelf said s n i t first last

@@ -82,12 +82,12 @@ module _ (shelf : Shelf) (said : Answers) (s u t : State) (i : ℕ) (x : FileSai
           (subst (λ y. IsSome (machine_step y (after said s j))) (as_before said i x j below) (p.steps j below))
 
   pub answers_now : AreSaid shelf said s i → IsSaid shelf u x → AreSaid shelf now s (suc i)
-  answers_now told own = λ j below. below_more (λ k. IsSaid shelf (after now s k) (now k)) i earlier (subst (IsSaid shelf (after now s i)) (sym (said_now said i x)) (subst (λ (v : State). IsSaid shelf v x) (here ∙ still) own)) j (rw add-one below)
+  answers_now appended_now own = λ j below. below_more (λ k. IsSaid shelf (after now s k) (now k)) i earlier (subst (IsSaid shelf (after now s i)) (sym (said_now said i x)) (subst (λ (v : State). IsSaid shelf v x) (here ∙ still) own)) j (rw add-one below)
     where
       earlier : (j : ℕ) → j < i → IsSaid shelf (after now s j) (now j)
       earlier j below =
           subst (λ (v : State). IsSaid shelf v (now j)) (same_after said now s j (λ k less. as_before said i x k (omega (arith, less, below))))
-          (subst (IsSaid shelf (after said s j)) (as_before said i x j below) (told j below))
+          (subst (IsSaid shelf (after said s j)) (as_before said i x j below) (appended_now j below))
 
   pub text_now : text now s (suc i) ≡ text said s i ++ t.world.output
   text_now =

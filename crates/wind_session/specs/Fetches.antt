@@ -130,8 +130,8 @@ IsFailure s last = last ≡ []
 
 -- none of a session's requests failed except the last, and that one failed exactly if the status is ReadFault
 pub record FailsLast (s : Status) (old new : Option (List Request)) : Type 0 where
-  pub front : List Request
+  pub prefix : List Request
   pub last : List Request
-  pub requests : GrowsBy old new (front ++ last)
-  pub fine : All IsFine front
+  pub requests : GrowsBy old new (prefix ++ last)
+  pub fine : All IsFine prefix
   pub failure : IsFailure s last

@@ -4,7 +4,7 @@ use Rattle.std.specs.declared.dyn_box.DynBox.{DynBox}
 use Rattle.std.specs.declared.alloc.Global.{Global}
 use Rattle.wind_outside.specs.Devices.{DeviceState}
 use Rattle.wind_outside.specs.Files.{Files}
-use Rattle.wind_outside.specs.Told.{Appended, AppendedFront}
+use Rattle.wind_outside.specs.Appending.{Appended, AppendedPrefix}
 use Rattle.wind_machine.specs.State.{State}
 use Rattle.wind_machine.specs.Good.{Good}
 use Rattle.wind_machine.specs.Instants.{IsInstant}
@@ -46,7 +46,7 @@ IsRefusal s plan rose = plan ≡ Refuse s
 -- the status refuses the file with this name, whatever would follow it
 pub record IsUnread (s : Status) (which : Which) (files : Option Files) (name : List ℕ) (rose : Type 0) : Type 0 where
   pub file : Option (List ℕ)
-  pub told : IsEntry files name file
+  pub entry : IsEntry files name file
   pub refused : (next : List ℕ → Plan) → IsRefusal s (plan_file which next file) rose
 
 -- whether a fetch can have failed: the folder's count of faults rose; for a generated session nothing is fetched
@@ -102,7 +102,7 @@ shelf_of files command = record { files = files; name = modules_of command }
 abbrev pub IsSummed : RunEnd → Status → List ℕ → Option (List ℕ) → Option (List ℕ) → Type 0
 IsSummed ends.ReadFault s line old new = (s ≡ status.ReadFault) × (new ≡ old)
 IsSummed ends.NoMemory s line old new = (s ≡ status.NoMemory) × (new ≡ old)
-IsSummed end s line old new = ((s ≡ status_of end) × Appended old new line) ⊎ ((s ≡ status.WriteFault) × AppendedFront old new line)
+IsSummed end s line old new = ((s ≡ status_of end) × Appended old new line) ⊎ ((s ≡ status.WriteFault) × AppendedPrefix old new line)
 
 -- a run of a session generated with n rounds, after which one line is put
 pub record SumsUp (n : ℕ) (s : Status) (end : RunEnd) (shelf : Shelf) (start : State) (limit : ℕ) (board : State) (old new : Outside) : Type 0 where

@@ -3,6 +3,7 @@ pub mod Fetches
 pub mod Generated
 pub mod Headline
 pub mod Laws
+pub mod Live
 pub mod Modules
 pub mod Outside
 pub mod Pieces

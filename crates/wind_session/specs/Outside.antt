@@ -16,4 +16,4 @@ outside requests bytes pieces = record { requests = requests; bytes = bytes; pie
 
 -- the same when the files of a command were found
 abbrev pub with_inputs : Option CommandState → Outside → Outside
-with_inputs command told = record told { requests = option_map (λ xs. xs ++ inputs_requests command) told.requests }
+with_inputs command seen = record seen { requests = option_map (λ xs. xs ++ inputs_requests command) seen.requests }

@@ -41,15 +41,15 @@ IsEntry (Some held) name file = file ≡ held name
 
 -- the file with this name has these bytes, and at most 1 MiB of them
 pub record IsHeld (files : Option Files) (name bytes : List ℕ) : Type 0 where
-  pub told : IsEntry files name (Some bytes)
+  pub entry : IsEntry files name (Some bytes)
   pub within : length bytes ≤ longest_text_file
 
 -- the plan of a command, given the folder's two files
 pub record IsFilePlan (files : Option Files) (command : CommandState) (plan : Plan) : Type 0 where
   pub console : Option (List ℕ)
   pub ticks : Option (List ℕ)
-  pub console_told : IsEntry files command.console console
-  pub ticks_told : IsEntry files command.ticks ticks
+  pub console_entry : IsEntry files command.console console
+  pub ticks_entry : IsEntry files command.ticks ticks
   pub plan_is : plan ≡ plan_of console ticks
 
 -- the plan of a session generated with n rounds, for which no file is read

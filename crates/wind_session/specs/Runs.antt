@@ -1,10 +1,10 @@
 -- What a run of the wind machine leaves.
 use Rattle.std.specs.Prelude.{◌≡◌, ◌≢◌, ℕ, suc, ◌<◌, List, [], ◌++◌, Option, IsSome, Bool, true, false, take, length}
-use Rattle.wind_outside.specs.Told.{Appended}
+use Rattle.wind_outside.specs.Appending.{Appended}
 use Rattle.wind_outside.specs.Requests.{GrowsBy, Request}
 use Rattle.wind_outside.specs.declared.sink.Put.TheVariants as puts
 use Rattle.wind_machine.specs.State.{State}
-use Rattle.wind_machine.specs.Machine.{file_asked, IsOver, may_lack_memory}
+use Rattle.wind_machine.specs.Machine.{file_asked, IsOver, may_exhaust_memory}
 use Rattle.wind_machine.specs.Run.{Answers, after, text, IsPart}
 use Rattle.wind_session.specs.Modules.{Shelf, AreSaid}
 use Rattle.wind_session.specs.Fetches.{Requests}
@@ -20,7 +20,7 @@ IsEnd ends.Quiet said s n k = (k < n) × IsOver (after said s k)
 IsEnd ends.Limit said s n k = k ≡ n
 IsEnd ends.ReadFault said s n k = (k < n) × IsSome (file_asked (after said s k))
 IsEnd ends.WriteFault said s n k = Unit {0}
-IsEnd ends.NoMemory said s n k = (k < n) × (may_lack_memory (after said s k) ≡ true)
+IsEnd ends.NoMemory said s n k = (k < n) × (may_exhaust_memory (after said s k) ≡ true)
 
 -- the last of k steps wrote something; the sink gained a part of it, after all that the steps before wrote, and the
 -- put of its piece failed

@@ -1,7 +1,7 @@
 -- The texts on the second sink, one for each status. They are this project's own, except the one for invalid arguments.
 use Rattle.std.specs.Prelude.{◌≡◌, ℕ, List, [], ◌++◌, Option, Some, None, ◌⊎◌, codes}
 use Rattle.std.specs.Fmt.{decimal}
-use Rattle.wind_outside.specs.Told.{Appended}
+use Rattle.wind_outside.specs.Appending.{Appended}
 use Rattle.wind_session.specs.Command.{CommandState}
 use Rattle.wind_session.specs.declared.ending.Status.{Status}
 use Rattle.wind_session.specs.declared.ending.Status.TheVariants as status
@@ -41,18 +41,18 @@ IsText None s text = Unit {0}
 
 -- a prefix of the text was added, and the count of faults rose
 pub record IsCutShort (old new : Option (List ℕ)) (text : List ℕ) (rose : Type 0) : Type 0 where
-  pub front : List ℕ
+  pub prefix : List ℕ
   pub rest : List ℕ
-  pub whole : front ++ rest ≡ text
-  pub gained : Appended old new front
+  pub whole : prefix ++ rest ≡ text
+  pub gained : Appended old new prefix
   pub fault : rose
 
 -- the text was added, or a prefix of it and the count of faults rose
-abbrev pub IsTold : Option (List ℕ) → Option (List ℕ) → List ℕ → Type 0 → Type 0
-IsTold old new text rose = Appended old new text ⊎ IsCutShort old new text rose
+abbrev pub IsPrinted : Option (List ℕ) → Option (List ℕ) → List ℕ → Type 0 → Type 0
+IsPrinted old new text rose = Appended old new text ⊎ IsCutShort old new text rose
 
 -- the text for the status was reported
 pub record Tells (s : Status) (command : Option CommandState) (old new : Option (List ℕ)) (rose : Type 0) : Type 0 where
   pub text : List ℕ
   pub text_is : IsText command s text
-  pub told : IsTold old new text rose
+  pub printed : IsPrinted old new text rose

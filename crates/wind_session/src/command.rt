@@ -67,15 +67,17 @@ const BAD_ROUNDS: &str = "'--generate <N>' takes 1 to 13 digits, and at most 100
 // The greatest number of a rule of inheritance.
 const PROFILES: u64 = 2;
 
-const BAD_PROFILE: &str = "'--profile <N>' takes 1 or 2";
+/// The message for an invalid rule of inheritance.
+pub const BAD_PROFILE: &str = "'--profile <N>' takes 1 or 2";
 
 // The greatest number of a kind of board.
 const BOARDS: u64 = 2;
 
-const BAD_BOARD: &str = "'--board <N>' takes 1 or 2";
+/// The message for an invalid kind of board.
+pub const BAD_BOARD: &str = "'--board <N>' takes 1 or 2";
 
-// The value of decimal digits, at most `most`.
-fn number(text: &str, most: u64) -> Option<u64>
+/// The value of decimal digits, at most `most`.
+pub fn number(text: &str, most: u64) -> Option<u64>
     ensures value { result ≡ number_value most text.now }
     ensures within { IfSome result (λ n. n ≤ most) }
 {
@@ -85,8 +87,8 @@ fn number(text: &str, most: u64) -> Option<u64>
     decimal(text.as_bytes(), most)
 }
 
-// The rule of inheritance with this number.
-fn profile(text: &str) -> Option<Profile>
+/// The rule of inheritance with this number.
+pub fn profile(text: &str) -> Option<Profile>
     ensures { result ≡ profile_value text.now }
 {
     match number(text, PROFILES)? {
@@ -96,8 +98,8 @@ fn profile(text: &str) -> Option<Profile>
     }
 }
 
-// The kind of board with this number.
-fn board(text: &str) -> Option<BoardKind>
+/// The kind of board with this number.
+pub fn board(text: &str) -> Option<BoardKind>
     ensures { result ≡ board_value text.now }
 {
     match number(text, BOARDS)? {
@@ -107,8 +109,8 @@ fn board(text: &str) -> Option<BoardKind>
     }
 }
 
-// An option that takes one value.
-fn option<'a>(
+/// An option that takes one value.
+pub fn option<'a>(
     alloc: Global,
     name: &'a str,
     value: &'a str,
@@ -159,23 +161,23 @@ fn app<'a>(alloc: Global) -> Result<clap::Command<'a>, AllocError>
         .arg(option(alloc, "board", "N", "1", "The kind of board, 1 or 2"))
 }
 
-// The value of an option.
-fn value_of<'a>(matches: &ArgMatches<'a>, name: &str) -> &'a str
+/// The value of an option.
+pub fn value_of<'a>(matches: &ArgMatches<'a>, name: &str) -> &'a str
     ensures { result.now ≡ value_of_lem name.now (rows_of (found_of matches.now)) }
 {
     matches.get_str(name).unwrap_or("")
 }
 
-// The message of clap for these arguments.
-fn usage(alloc: Global, error: &Error) -> CommandErr {
+/// The message of clap for these arguments.
+pub fn usage(alloc: Global, error: &Error) -> CommandErr {
     match format!(in alloc; "{error}") {
         Ok(text) => CommandErr::Usage(text),
         Err(_) => CommandErr::NoMemory,
     }
 }
 
-// The message for an invalid value, as clap prints it.
-fn bad_value(alloc: Global, app: &mut clap::Command<'_>, text: &str) -> CommandErr {
+/// The message for an invalid value, as clap prints it.
+pub fn bad_value(alloc: Global, app: &mut clap::Command<'_>, text: &str) -> CommandErr {
     match app.error(ErrorKind::ValueValidation, text) {
         Ok(error) => usage(alloc, &error),
         Err(_) => CommandErr::NoMemory,

@@ -9,12 +9,17 @@ mod modules;
 mod playing;
 mod program;
 mod report;
+mod resuming;
 mod run;
 
-pub use command::{Command, CommandErr, command_of};
+pub use command::{
+    BAD_BOARD, BAD_PROFILE, Command, CommandErr, bad_value, board, command_of, number, option,
+    profile, usage, value_of,
+};
 pub use ending::{Ending, Stand, Status, Which};
-pub use laws::words_law;
+pub use laws::{growing_law, words_law};
 pub use playing::play;
 pub use program::play_program;
-pub use report::{tell, tell_no_memory, tell_usage};
+pub use report::{put_pieces, tell, tell_no_memory, tell_usage};
+pub use resuming::resume_board;
 pub use run::{RunEnd, Tally, count_board, run_board};

@@ -4,7 +4,7 @@ ghost use Rattle.std.specs.Prelude.{◌≡◌, ◌≢◌, ◌+◌, ◌<◌, ◌�
 ghost use Rattle.wind_base.specs.Limits.{most_steps};
 ghost use Rattle.wind_outside.specs.Counts.{Rose};
 ghost use Rattle.live_loading.specs.Said.{FileSaid, said_of};
-ghost use Rattle.wind_machine.specs.Machine.{file_asked, machine_step, IsOver, may_lack_memory};
+ghost use Rattle.wind_machine.specs.Machine.{file_asked, machine_step, IsOver, may_exhaust_memory};
 ghost use Rattle.board_player.specs.Seen.{seen};
 ghost use Rattle.wind_session.specs.Modules.{IsSaid, IsSaidOf, module_path as module_path_lem};
 ghost use Rattle.wind_outside.specs.Requests.{GrowsBy};
@@ -154,7 +154,7 @@ pub(crate) fn step<F: Folder>(
     ensures quiet { result ≡ moves.Quiet → IsOver (seen ⟦<dyn Device as Device>⟧ board.old) }
     ensures asked { result ≡ moves.ReadFault → IsSome (file_asked (seen ⟦<dyn Device as Device>⟧ board.old)) }
     ensures fault { result ≡ moves.ReadFault → Rose (F.faults folder.old) (F.faults folder.new) }
-    ensures no_memory { result ≡ moves.NoMemory → may_lack_memory (seen ⟦<dyn Device as Device>⟧ board.old) ≡ true }
+    ensures no_memory { result ≡ moves.NoMemory → may_exhaust_memory (seen ⟦<dyn Device as Device>⟧ board.old) ≡ true }
     ensures unchanged { result ≢ moves.Made → seen ⟦<dyn Device as Device>⟧ board.new
         ≡ seen ⟦<dyn Device as Device>⟧ board.old }
     ensures files { F.files folder.new ≡ F.files folder.old }

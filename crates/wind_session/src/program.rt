@@ -51,7 +51,7 @@ fn play_with_devices<F: Folder, O: Sink, E: Sink>(
         (Rose (E.faults err.old) (E.faults err.new))) }
     ensures unchanged { IfErr result (λ e. outside (F.requests folder.new) (O.bytes out.new) (O.pieces out.new)
         ≡ outside (F.requests folder.old) (O.bytes out.old) (O.pieces out.old)) }
-    ensures untold { IfErr result (λ e. E.bytes err.new ≡ E.bytes err.old) }
+    ensures unprinted { IfErr result (λ e. E.bytes err.new ≡ E.bytes err.old) }
     ensures unfailed { IfErr result (λ e. E.faults err.new ≡ E.faults err.old) }
 {
     let latch = Box::new(alloc, Latch::new())?;

@@ -3,9 +3,9 @@
 ghost use Rattle.std.specs.Prelude.{◌≡◌, ◌≤◌, ◌++◌, Some, codes};
 ghost use Rattle.std.specs.Fmt.{decimal};
 ghost use Rattle.wind_outside.specs.Counts.{Rose};
-ghost use Rattle.wind_outside.specs.Told.{Appended};
+ghost use Rattle.wind_outside.specs.Appending.{Appended};
 ghost use Rattle.wind_outside.specs.declared.sink.Put.TheVariants as puts;
-ghost use Rattle.wind_session.specs.Texts.{memory_text, line_text, name_of as name_of_lem, status_text, IsCutShort, IsTold};
+ghost use Rattle.wind_session.specs.Texts.{memory_text, line_text, name_of as name_of_lem, status_text, IsCutShort, IsPrinted};
 ghost use Rattle.wind_session.specs.Words.{command_state};
 
 use crate::command::Command;
@@ -33,9 +33,9 @@ fn put_three<E: Sink>(err: &mut E, first: &[u8], second: &[u8], third: &[u8]) ->
     }
 }
 
-// Puts a text of three pieces, or a prefix of it.
-fn put_pieces<E: Sink>(err: &mut E, first: &[u8], second: &[u8], third: &[u8])
-    ensures told { IsTold (E.bytes err.old) (E.bytes err.new) (first.now ++ second.now ++ third.now) (Rose (E.faults err.old) (E.faults err.new)) }
+/// Puts a text of three pieces, or a prefix of it.
+pub fn put_pieces<E: Sink>(err: &mut E, first: &[u8], second: &[u8], third: &[u8])
+    ensures printed { IsPrinted (E.bytes err.old) (E.bytes err.new) (first.now ++ second.now ++ third.now) (Rose (E.faults err.old) (E.faults err.new)) }
     ensures faults { E.faults err.old ≤ E.faults err.new }
 {
     match put_three(err, first, second, third) {
@@ -46,7 +46,7 @@ fn put_pieces<E: Sink>(err: &mut E, first: &[u8], second: &[u8], third: &[u8])
 
 /// Reports why the arguments give no command.
 pub fn tell_usage<E: Sink>(err: &mut E, text: &str)
-    ensures told { IsTold (E.bytes err.old) (E.bytes err.new) text.now (Rose (E.faults err.old) (E.faults err.new)) }
+    ensures printed { IsPrinted (E.bytes err.old) (E.bytes err.new) text.now (Rose (E.faults err.old) (E.faults err.new)) }
     ensures faults { E.faults err.old ≤ E.faults err.new }
 {
     put_pieces(err, text.as_bytes(), b"", b"");
@@ -54,7 +54,7 @@ pub fn tell_usage<E: Sink>(err: &mut E, text: &str)
 
 /// Reports that host memory ran out.
 pub fn tell_no_memory<E: Sink>(err: &mut E)
-    ensures told { IsTold (E.bytes err.old) (E.bytes err.new) memory_text (Rose (E.faults err.old) (E.faults err.new)) }
+    ensures printed { IsPrinted (E.bytes err.old) (E.bytes err.new) memory_text (Rose (E.faults err.old) (E.faults err.new)) }
     ensures faults { E.faults err.old ≤ E.faults err.new }
 {
     put_pieces(err, b"windplay: ", b"out of memory", b"\n");
@@ -62,7 +62,7 @@ pub fn tell_no_memory<E: Sink>(err: &mut E)
 
 // Reports that a line of the tick file with this name is invalid.
 fn tell_bad_line<E: Sink>(err: &mut E, name: &[u8], line: u64)
-    ensures told { IsTold (E.bytes err.old) (E.bytes err.new) (line_text name.now (codes ": line " ++ decimal line ++ codes " is not understood\n")) (Rose (E.faults err.old) (E.faults err.new)) }
+    ensures printed { IsPrinted (E.bytes err.old) (E.bytes err.new) (line_text name.now (codes ": line " ++ decimal line ++ codes " is not understood\n")) (Rose (E.faults err.old) (E.faults err.new)) }
     ensures faults { E.faults err.old ≤ E.faults err.new }
 {
     let mut digits = Buffer::new();
@@ -88,7 +88,7 @@ fn name_of<'a>(command: &Command<'a>, file: Which) -> &'a [u8]
 /// is never `Usage`.
 #[tactic(auto, unfolding(crate::specs::Texts::status_text))]
 pub fn tell<E: Sink>(err: &mut E, command: &Command, status: Status)
-    ensures told { IsTold (E.bytes err.old) (E.bytes err.new) (status_text (command_state command.now) status) (Rose (E.faults err.old) (E.faults err.new)) }
+    ensures printed { IsPrinted (E.bytes err.old) (E.bytes err.new) (status_text (command_state command.now) status) (Rose (E.faults err.old) (E.faults err.new)) }
     ensures faults { E.faults err.old ≤ E.faults err.new }
 {
     match status {

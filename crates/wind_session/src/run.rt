@@ -3,7 +3,7 @@
 ghost use Rattle.std.specs.Prelude.{◌≡◌, ◌≢◌, ◌^◌, ◌≤◌, []};
 ghost use Rattle.wind_base.specs.Limits.{most_steps};
 ghost use Rattle.wind_outside.specs.Counts.{Rose};
-ghost use Rattle.wind_outside.specs.Told.{Appended, AppendedFront};
+ghost use Rattle.wind_outside.specs.Appending.{Appended, AppendedPrefix};
 ghost use Rattle.wind_outside.specs.declared.sink.Put.TheVariants as puts;
 ghost use Rattle.board_player.specs.Seen.{seen};
 ghost use Rattle.wind_outside.specs.Requests.{GrowsBy};
@@ -33,10 +33,10 @@ pub enum RunEnd {
     NoMemory,
 }
 
-// Puts what a step wrote, if it wrote anything.
-fn put_some<O: Sink>(out: &mut O, bytes: &[u8]) -> Put
+/// Puts what a step wrote, if it wrote anything.
+pub(crate) fn put_some<O: Sink>(out: &mut O, bytes: &[u8]) -> Put
     ensures done { result ≡ puts.Done → Appended (O.bytes out.old) (O.bytes out.new) bytes.now }
-    ensures part { result ≡ puts.Failed → AppendedFront (O.bytes out.old) (O.bytes out.new) bytes.now }
+    ensures part { result ≡ puts.Failed → AppendedPrefix (O.bytes out.old) (O.bytes out.new) bytes.now }
     ensures pieces { GrowsBy (O.pieces out.old) (O.pieces out.new) (output_piece bytes.now result) }
     ensures some { result ≡ puts.Failed → bytes.now ≢ [] }
     ensures failed { result ≡ puts.Failed → Rose (O.faults out.old) (O.faults out.new) }

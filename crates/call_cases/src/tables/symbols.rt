@@ -30,7 +30,7 @@ const REFUSED: [Step; 13] = [
     Step::Call(SHELL, Gate::SymAdd, [0, PUMP, 5, 5], ERROR, BAD_KIND),
     Step::Call(SHELL, Gate::SymAdd, [0, TOO_LONG, 5, 1], ERROR, BAD_ADDRESS),
     Step::Call(SHELL, Gate::SymAdd, [0, ENDLESS, 5, 0], ERROR, BAD_ADDRESS),
-    Step::See(Look::Symbols(49)),
+    Step::See(Look::Symbols(55)),
     // a name may have 255 bytes
     Step::Call(
         SHELL,
@@ -39,7 +39,7 @@ const REFUSED: [Step; 13] = [
         OK,
         BAD_ADDRESS,
     ),
-    Step::See(Look::Symbols(50)),
+    Step::See(Look::Symbols(56)),
 ];
 
 const ADDED: [Step; 9] = [
@@ -48,16 +48,16 @@ const ADDED: [Step; 9] = [
     Step::Call(SHELL, Gate::SymAdd, [0, PUMP, 60, 2], OK, 0),
     Step::Call(SHELL, Gate::SymAdd, [0, PUMP, 70, 3], OK, 0),
     Step::Call(SHELL, Gate::SymAdd, [0, PUMP, 80, 4], OK, 0),
-    Step::See(Look::Symbol(49, b"pump", 50, SymKind::TextSym)),
-    Step::See(Look::Symbol(50, b"pump", 60, SymKind::DataSym)),
-    Step::See(Look::Symbol(51, b"pump", 70, SymKind::BssSym)),
-    Step::See(Look::Symbol(52, b"pump", 80, SymKind::AbsSym)),
+    Step::See(Look::Symbol(55, b"pump", 50, SymKind::TextSym)),
+    Step::See(Look::Symbol(56, b"pump", 60, SymKind::DataSym)),
+    Step::See(Look::Symbol(57, b"pump", 70, SymKind::BssSym)),
+    Step::See(Look::Symbol(58, b"pump", 80, SymKind::AbsSym)),
 ];
 
-// There are at most 65,536 symbols, 49 of them for calls. The kind is checked before.
+// There are at most 65,536 symbols, 55 of them for calls. The kind is checked before.
 const FULL: [Step; 5] = [
     Step::Write(PUMP, b"pump\0"),
-    Step::AddAll(PUMP, 65_487),
+    Step::AddAll(PUMP, 65_481),
     Step::Call(SHELL, Gate::SymAdd, [0, PUMP, 5, 2], ERROR, SYMBOLS_FULL),
     Step::Call(SHELL, Gate::SymAdd, [0, PUMP, 5, 5], ERROR, BAD_KIND),
     Step::See(Look::Symbols(65_536)),

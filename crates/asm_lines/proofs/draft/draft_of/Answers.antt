@@ -24,12 +24,12 @@ loop-len-preserved c =
     let x = c.in_default.ensures.good g.0 g.1 in
     record {
       len = c.line_len-len-in-loop-len.ensures.exact;
-      count = omega (arith, c.behind-left.ensures.len, k.invariant.count);
+      count = omega (arith, c.bytes_after-left.ensures.len, k.invariant.count);
       small = c.in_default.ensures.small;
       good = (
         x.0,
         x.1,
-        ap (λ bs. judged x.0 (k.number + 1) (map line_of (lines_of bs))) c.behind-left.ensures.value
+        ap (λ bs. judged x.0 (k.number + 1) (map line_of (lines_of bs))) c.bytes_after-left.ensures.value
             ∙ sym (x.2 (map line_of (lines_of (drop (k.len + 1) k.left.now))))
             ∙ ap (λ ls. judged g.0 k.number (map line_of ls)) (sym (cut_at k.len k.left.now k.invariant.len c.loop-len-test.true)) ∙ g.2,
       );

@@ -2,6 +2,7 @@ use Rattle.std.proofs.Common.{rules, ◌≡◌, true, ap}
 use Rattle.board_player.specs.declared.clock.Clock.{Clock}
 use Rattle.board_player.specs.Inside.{parts_by}
 use Rattle.board_player.proofs.RoutineBursts.{routine_gone, still_routine}
+use Rattle.board_player.proofs.Fetching.{ram_below_gates}
 use Rattle.board_player.proofs.bursts.burst_of_routine.Goals as goal
 
 pub returns-clause-made : goal.returns-clause-made
@@ -13,3 +14,6 @@ returns-clause-made g c =
 
 pub returns-clause-routine : goal.returns-clause-routine
 returns-clause-routine g c = still_routine _ _ _ c.execute_many_of_routine-made.ensures.ran c.requires.routine
+
+pub execute_many_of_routine-made-requires-clause-ram : goal.execute_many_of_routine-made-requires-clause-ram
+execute_many_of_routine-made-requires-clause-ram g c = ram_below_gates c.args.parts.now.world.board c.args.parts.now.world.bus.ram.bytes c.requires.good.kept.world.ram

@@ -16,5 +16,6 @@ returns-in-Some g c = λ quiet.
       last = last;
       alone = alone_by (parts_by (λ d. (goal.Device-dyn g (d.vtable, d.value)).kind_of d.value) (λ d. (goal.Device-dyn g (d.vtable, d.value)).words_of d.value) c.args.parts.now) c.args.who c.requires.good.kept.reserved last;
       silent = sym c.bytes.ensures ∙ nil_from_length c.bytes.result.now none;
+      delivery = search rules;
       console = search rules;
     }

@@ -1,6 +1,6 @@
 use Rattle.std.proofs.Common.{◌≡◌, Ok, sym, subst}
 use Rattle.wind_machine.specs.State.{State}
-use Rattle.board_turns.specs.declared.step_kind.StepKind.TheVariants as kinds
+use Rattle.board_actors.specs.declared.step_kind.StepKind.TheVariants as kinds
 use Rattle.board_player.specs.Inside.{parts_by}
 use Rattle.board_player.specs.Settling.{CanSettle}
 use Rattle.board_player.proofs.Deciding.{act_idle, act_runs, act_asks_none, act_lives, act_ready}

@@ -1,6 +1,6 @@
-use Rattle.std.proofs.Common.{◌≡◌, sym, ◌∙◌, subst}
+use Rattle.std.proofs.Common.{◌≡◌, sym, subst}
 use Rattle.wind_machine.specs.State.{State}
-use Rattle.board_turns.specs.declared.step_kind.StepKind.TheVariants as kinds
+use Rattle.board_actors.specs.declared.step_kind.StepKind.TheVariants as kinds
 use Rattle.board_player.specs.Inside.{parts_by}
 use Rattle.board_player.specs.Settling.{CanSettle}
 use Rattle.board_player.proofs.Settled.{routine_still}

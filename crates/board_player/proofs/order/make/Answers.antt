@@ -1,7 +1,7 @@
 use Rattle.std.proofs.Common.{refl, sym, ◌∙◌}
 use Rattle.live_loading.specs.Said.{Missing}
-use Rattle.board_player.proofs.Settled.{left_by, makes, come_left, come_makes, arrive_left, arrive_makes, jumps}
-use Rattle.board_player.proofs.Deciding.{event_idle, routine_active}
+use Rattle.board_player.proofs.Settled.{left_by, makes, deliver_left, deliver_makes, come_left, come_makes, arrive_left, arrive_makes, jumps}
+use Rattle.board_player.proofs.Deciding.{delivery_due, event_idle, routine_active}
 use Rattle.board_player.proofs.order.make.Goals as goal
 
 pub come-requires-clause-idle : goal.come-requires-clause-idle
@@ -16,14 +16,23 @@ act_routine-requires-clause-left g c = left_by Missing _ _ _ _ _ c.in-Routine.is
 pub act-requires-clause-left : goal.act-requires-clause-left
 act-requires-clause-left g c = left_by Missing _ _ _ _ _ c.in-Act.is refl refl (c.requires.left Missing)
 
+pub deliver-requires-clause-due : goal.deliver-requires-clause-due
+deliver-requires-clause-due g c = delivery_due _ c.in-Deliver.slot (sym c.in-Deliver.is ∙ c.requires.next)
+
 pub settle-requires-clause-left : goal.settle-requires-clause-left
-settle-requires-clause-left g c = come_left Missing _ _ _ c.in-Come.event c.requires.next c.in-Come.is c.come.ensures.step (c.requires.left Missing)
+settle-requires-clause-left g c = deliver_left Missing _ _ _ c.in-Deliver.slot c.in-Deliver.is c.deliver.ensures.step (c.requires.left Missing)
+
+pub settle-requires-in-Come-clause-left : goal.settle-requires-in-Come-clause-left
+settle-requires-in-Come-clause-left g c = come_left Missing _ _ _ c.in-Come.event c.requires.next c.in-Come.is c.come.ensures.step (c.requires.left Missing)
 
 pub settle-requires-in-Arrive-clause-left : goal.settle-requires-in-Arrive-clause-left
 settle-requires-in-Arrive-clause-left g c = arrive_left Missing _ _ _ c.in-Arrive.is c.arrive.ensures.step (c.requires.left Missing)
 
+pub returns-in-Deliver-clause-stepped : goal.returns-in-Deliver-clause-stepped
+returns-in-Deliver-clause-stepped g c = λ e. deliver_makes _ _ _ _ c.in-Deliver.slot c.in-Deliver.is c.deliver.ensures.step c.settle.ensures.step
+
 pub returns-in-Come-clause-stepped : goal.returns-in-Come-clause-stepped
-returns-in-Come-clause-stepped g c = λ e. come_makes _ _ _ _ c.in-Come.event c.requires.next c.in-Come.is c.come.ensures.step c.settle.ensures.step
+returns-in-Come-clause-stepped g c = λ e. come_makes _ _ _ _ c.in-Come.event c.requires.next c.in-Come.is c.come.ensures.step c.settle-in-Come.ensures.step
 
 pub returns-in-Arrive-clause-stepped : goal.returns-in-Arrive-clause-stepped
 returns-in-Arrive-clause-stepped g c = λ e. arrive_makes _ _ _ _ c.in-Arrive.is c.arrive.ensures.step c.settle-in-Arrive.ensures.step

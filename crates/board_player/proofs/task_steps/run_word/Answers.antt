@@ -11,12 +11,12 @@ pub returns-clause-step : goal.returns-clause-step
 returns-clause-step g c =
     c.end.ensures.step
     ∙ word_stepped (parts_by (λ d. (goal.Device-dyn g (d.vtable, d.value)).kind_of d.value) (λ d. (goal.Device-dyn g (d.vtable, d.value)).words_of d.value) c.args.parts.now)
-    c.args.who c.args.at _ _ _ c.turn.ensures.world c.execute-kind.ensures.part (c.requires.counter ∙ ap (λ (r : Regs). r.pc) (sym c.turn.ensures.ready.regs)) c.requires.gate
+    c.args.who c.args.at _ _ _ c.start_step.ensures.world c.execute-kind.ensures.part (c.requires.counter ∙ ap (λ (r : Regs). r.pc) (sym c.start_step.ensures.ready.regs)) c.requires.gate
 
 pub returns-clause-only : goal.returns-clause-only
 returns-clause-only g c done =
-    only_stepped _ _ _ _ c.args.who (ap (λ (w : WorldState). w.kern) c.turn.ensures.world) (c.execute-kind.ensures.registers done) (ap (λ (s : State). s.world.kern) c.end.ensures.step)
+    only_stepped _ _ _ _ c.args.who (ap (λ (w : WorldState). w.kern) c.start_step.ensures.world) (c.execute-kind.ensures.registers done) (ap (λ (s : State). s.world.kern) c.end.ensures.step)
 
 pub returns-clause-objects : goal.returns-clause-objects
 returns-clause-objects g c done =
-    ap (λ (s : State). s.world.objects) c.end.ensures.step ∙ c.execute-kind.ensures.objects done ∙ ap (λ (w : WorldState). w.objects) c.turn.ensures.world
+    ap (λ (s : State). s.world.objects) c.end.ensures.step ∙ c.execute-kind.ensures.objects done ∙ ap (λ (w : WorldState). w.objects) c.start_step.ensures.world

@@ -11,9 +11,9 @@ loop-rest-preserved c =
     let some = lead.some in
     let within = lead.within in
     let step = count_step n rest lead (omega arith) in
-    let behind = c.behind-rest.ensures in
-    let tables : length (tables_of c.behind-rest.result.now) ≡ length (tables_of (drop n rest)) = ap (λ xs. length (tables_of xs)) behind in
-    let size : length c.behind-rest.result.now ≡ length rest - n = ap length behind ∙ length-drop n rest in
+    let relocs_after = c.relocs_after-rest.ensures in
+    let tables : length (tables_of c.relocs_after-rest.result.now) ≡ length (tables_of (drop n rest)) = ap (λ xs. length (tables_of xs)) relocs_after in
+    let size : length c.relocs_after-rest.result.now ≡ length rest - n = ap length relocs_after ∙ length-drop n rest in
     let all = c.loop-rest.invariant.all in
     let few = c.loop-rest.invariant.few in
     record { all = omega arith; few = omega arith }

@@ -2,7 +2,7 @@ use Rattle.std.proofs.Common.{◌<◌, length, ap, ◌∙◌, arith}
 use Rattle.wind_core.specs.State.{KernState}
 use Rattle.wind_core.proofs.Ids.{ids}
 use Rattle.inheritance.proofs.Raising.{since-change_pri}
-use Rattle.inheritance.proofs.Turn.{ids-change_pri, here_lives, turn}
+use Rattle.inheritance.proofs.Iteration.{ids-change_pri, here_lives, one_more}
 use Rattle.inheritance.proofs.settling.take_goals.Goals as goal
 
 pub change_pri-requires-clause-live : goal.change_pri-requires-clause-live
@@ -18,6 +18,6 @@ loop-place-preserved c =
     record {
       alike = ap (λ (k : KernState). ids k.tasks) c.change_pri.ensures ∙ ids-change_pri r t.id pri ∙ c.loop-place.invariant.alike;
       same = λ goal are. c.change_pri.ensures
-          ∙ turn c.args.k.now r c.args.goals.now c.loop-place.place t pri c.loop-place.invariant.alike within c.task_at.ensures c.index-goals-place.is goal are (c.loop-place.invariant.same goal are);
+          ∙ one_more c.args.k.now r c.args.goals.now c.loop-place.place t pri c.loop-place.invariant.alike within c.task_at.ensures c.index-goals-place.is goal are (c.loop-place.invariant.same goal are);
       room = omega (arith, ap (λ (k : KernState). k.next_since) c.change_pri.ensures, since-change_pri r t.id pri, c.loop-place.invariant.room);
     }

@@ -3,7 +3,7 @@ use Rattle.std.proofs.lemmas.List.{length-map}
 use Rattle.id_table.specs.Rows.{row_object, objects, with_object}
 use Rattle.isr_watch.specs.State.{watchdog_routine, due_watchdogs}
 use Rattle.isr_watch.specs.Calls.{stopped}
-use Rattle.isr_watch.proofs.Stops.{turn, alarm_lives, length-due, done_stop}
+use Rattle.isr_watch.proofs.Stops.{iteration, alarm_lives, length-due, done_stop}
 use Rattle.isr_watch.proofs.listing.list_due.Goals as goal
 
 pub loop-next-init : goal.loop-next-init
@@ -21,12 +21,12 @@ object_mut-requires c = alarm_lives c.loop-next.watchdogs c.args.tick c.in-Some.
 
 pub loop-next-smaller : goal.loop-next-smaller
 loop-next-smaller c =
-    let one = turn c.loop-next.watchdogs c.args.tick c.in-Some.next c.object_mut.result.now c.loop-next.invariant.own c.in-Some.ensures.sound.rising c.in-Some.ensures.first c.object_mut.ensures.value in
+    let one = iteration c.loop-next.watchdogs c.args.tick c.in-Some.next c.object_mut.result.now c.loop-next.invariant.own c.in-Some.ensures.sound.rising c.in-Some.ensures.first c.object_mut.ensures.value in
     omega (arith, one.fewer)
 
 pub loop-next-preserved : goal.loop-next-preserved
 loop-next-preserved c =
-    let one = turn c.loop-next.watchdogs c.args.tick c.in-Some.next c.object_mut.result.now c.loop-next.invariant.own c.in-Some.ensures.sound.rising c.in-Some.ensures.first c.object_mut.ensures.value in
+    let one = iteration c.loop-next.watchdogs c.args.tick c.in-Some.next c.object_mut.result.now c.loop-next.invariant.own c.in-Some.ensures.sound.rising c.in-Some.ensures.first c.object_mut.ensures.value in
     let rows = with_object c.loop-next.watchdogs.rows c.in-Some.next.id (stopped c.object_mut.result.now) in
     let routines = map watchdog_routine (due_watchdogs (objects rows) c.args.tick) in
     record {

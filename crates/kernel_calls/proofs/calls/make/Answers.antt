@@ -4,7 +4,7 @@ use Rattle.module_loader.specs.Holding.{AreHeld}
 use Rattle.msg_queue.specs.Kept.{IsKept}
 use Rattle.kernel_world.specs.State.{WorldState}
 use Rattle.kernel_world.specs.Actors.{Acts, MayCall}
-use Rattle.kernel_world.specs.Allowed.{may_lack_memory}
+use Rattle.kernel_world.specs.Allowed.{may_exhaust_memory}
 use Rattle.kernel_world.specs.Objects.{KeepsObjects}
 use Rattle.kernel_world.specs.Kept.{KeepsWatch, IsEarly}
 use Rattle.kernel_world.proofs.Living.{left_acts}
@@ -52,8 +52,8 @@ stand_again-requires g c =
 
 pub returns-in_default-row-clause-err : goal.returns-in_default-row-clause-err
 returns-in_default-row-clause-err g c =
-    let lacks = subst (λ h. may_lack_memory h ≡ true) (gate_back c.args.gate _ _ c.in-Some-read.call (sym c.in-Some-read.is ∙ c.read_call-read.ensures)) c.in_default-row.ensures.memory in
-    same_again _ _ _ _ c.args.who.now c.counter-pc.result c.facts.ensures c.requires.caller (by_task c.args.gate c.args.who.now c.in_default.ensures lacks)
+    let exhausts = subst (λ h. may_exhaust_memory h ≡ true) (gate_back c.args.gate _ _ c.in-Some-read.call (sym c.in-Some-read.is ∙ c.read_call-read.ensures)) c.in_default-row.ensures.memory in
+    same_again _ _ _ _ c.args.who.now c.counter-pc.result c.facts.ensures c.requires.caller (by_task c.args.gate c.args.who.now c.in_default.ensures exhausts)
     c.counter-pc.ensures c.leave_gate-2.ensures.world c.in_default-row.ensures.err c.stand_again.ensures.world
 
 pub returns-clause-space : goal.returns-clause-space

@@ -21,7 +21,7 @@ returns-in-Failed g c =
     (flat_more section_lines [] c.as_slice-section-items.result.now i s c.loop-section-test.true c.section-item.is) in
     puts_as _ _ _ _ ((before ++ section_lines s) ++ rest) (flat_map section_lines ss) Failed
     (ap (λ x. x ++ rest) more ∙ flat_cut section_lines ss (i + 1))
-    (puts_cut _ _ _ _ (before ++ section_lines s) rest (puts_both _ _ _ _ _ _ before (section_lines s) Failed k.invariant.told c.in-Failed.ensures.put))
+    (puts_cut _ _ _ _ (before ++ section_lines s) rest (puts_both _ _ _ _ _ _ before (section_lines s) Failed k.invariant.listed c.in-Failed.ensures.put))
 
 pub loop-section-preserved : goal.loop-section-preserved
 loop-section-preserved g c =
@@ -34,7 +34,7 @@ loop-section-preserved g c =
     subst (λ (xs : List Sect). flat_map section_lines (take i xs) ++ section_lines s ≡ flat_map section_lines (take (i + 1) xs)) c.as_slice-section-items.ensures
     (flat_more section_lines [] c.as_slice-section-items.result.now i s c.loop-section-test.true c.section-item.is) in
     record {
-      told = puts_as _ _ _ _ (before ++ section_lines s) (flat_map section_lines (take (i + 1) ss)) Done more
-          (puts_both _ _ _ _ _ _ before (section_lines s) Done k.invariant.told c.in-Done.ensures.put);
+      listed = puts_as _ _ _ _ (before ++ section_lines s) (flat_map section_lines (take (i + 1) ss)) Done more
+          (puts_both _ _ _ _ _ _ before (section_lines s) Done k.invariant.listed c.in-Done.ensures.put);
       space = omega (arith, k.invariant.space, c.list_section.ensures.space);
     }

@@ -8,6 +8,6 @@ use Rattle.ppc_asm.proofs.listing.list.Given as goal
 -- the lines of the sections so far are written
 abbrev pub invariant-loop-section : goal.invariant-loop-section
 invariant-loop-section g l = record {
-  told : PutsLines (flat_map section_lines (take l.section-index l.module.sections)) Done (g.O.Sink.bytes l.fn.out) (g.O.Sink.bytes l.out) (g.O.Sink.faults l.fn.out) (g.O.Sink.faults l.out);
+  listed : PutsLines (flat_map section_lines (take l.section-index l.module.sections)) Done (g.O.Sink.bytes l.fn.out) (g.O.Sink.bytes l.out) (g.O.Sink.faults l.fn.out) (g.O.Sink.faults l.out);
   space : KeepsSpace l.fn.line l.line;
 }

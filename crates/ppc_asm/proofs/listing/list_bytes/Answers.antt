@@ -8,7 +8,7 @@ use Rattle.ppc_asm.proofs.listing.list_bytes.Goals as goal
 pub returns-in-Failed-clause-put : goal.returns-in-Failed-clause-put
 returns-in-Failed-clause-put g c =
     let k = c.loop-left in
-    let t = k.invariant.told in
+    let t = k.invariant.listed in
     let bs = k.left.now in
     let line = c.bytes.result.now in
     let rest = lines_from (k.offset + 4) (drop 4 bs) in
@@ -22,17 +22,17 @@ returns-in-Failed-clause-put g c =
 pub loop-left-preserved : goal.loop-left-preserved
 loop-left-preserved g c =
     let k = c.loop-left in
-    let t = k.invariant.told in
+    let t = k.invariant.listed in
     let bs = k.left.now in
     let line = c.bytes.result.now in
-    let rest = lines_from (k.offset + 4) c.behind-left.result.now in
+    let rest = lines_from (k.offset + 4) c.bytes_after-left.result.now in
     let shown : line ≡ line_text k.offset c.first_word.result = c.bytes.ensures ∙ c.put_line.ensures.bytes ∙ ap (λ (o : Output). o.bytes ++ line_text k.offset c.first_word.result) c.clear.ensures in
     let next : line ++ rest ≡ lines_from k.offset bs =
-    line_next k.offset bs line c.behind-left.result.now c.first_word.result (omega (arith, c.loop-left-test.true)) shown c.first_word.ensures c.behind-left.ensures.value in
+    line_next k.offset bs line c.bytes_after-left.result.now c.first_word.result (omega (arith, c.loop-left-test.true)) shown c.first_word.ensures c.bytes_after-left.ensures.value in
     let put : PutsLines line Done (g.O.Sink.bytes k.out) (g.O.Sink.bytes c.put.new.self) (g.O.Sink.faults k.out) (g.O.Sink.faults c.put.new.self) =
     record { done = c.in-Done.ensures.done; part = c.in-Done.ensures.part; failed = c.in-Done.ensures.failed; never_falls = c.in-Done.ensures.never_falls } in
     record {
-      told = (t.0 ++ line, puts_both _ _ _ _ _ _ t.0 line Done t.1 put, append_assoc t.0 line rest ∙ ap (λ x. t.0 ++ x) next ∙ t.2);
+      listed = (t.0 ++ line, puts_both _ _ _ _ _ _ t.0 line Done t.1 put, append_assoc t.0 line rest ∙ ap (λ x. t.0 ++ x) next ∙ t.2);
       space = omega (arith, k.invariant.space, c.put_line.ensures.space, ap (λ (o : Output). o.room + length o.bytes) c.clear.ensures);
-      place = omega (arith, k.invariant.place, c.behind-left.ensures.len);
+      place = omega (arith, k.invariant.place, c.bytes_after-left.ensures.len);
     }

@@ -7,7 +7,7 @@ use Rattle.ppc_asm.proofs.listing.list_bytes.Given as goal
 -- the lines so far are written, and those of the bytes left follow them
 abbrev pub invariant-loop-left : goal.invariant-loop-left
 invariant-loop-left g l = record {
-  told : (before : List ℕ) × PutsLines before Done (g.O.Sink.bytes l.fn.out) (g.O.Sink.bytes l.out) (g.O.Sink.faults l.fn.out) (g.O.Sink.faults l.out) × (before ++ lines_from l.offset l.left ≡ lines_from 0 l.bytes);
+  listed : (before : List ℕ) × PutsLines before Done (g.O.Sink.bytes l.fn.out) (g.O.Sink.bytes l.out) (g.O.Sink.faults l.fn.out) (g.O.Sink.faults l.out) × (before ++ lines_from l.offset l.left ≡ lines_from 0 l.bytes);
   space : KeepsSpace l.fn.line l.line;
   place : l.offset + length l.left ≡ length l.bytes;
 }

@@ -6,8 +6,8 @@ use Rattle.shell_eval.proofs.compile.+emit.Given as goal
 abbrev pub decreases-emit : goal.decreases-emit
 decreases-emit l = 3 * goal.size-emit l
 
-abbrev pub decreases-emit_behind : goal.decreases-emit_behind
-decreases-emit_behind l = 3 * goal.size-emit_behind l + 1
+abbrev pub decreases-emit_after : goal.decreases-emit_after
+decreases-emit_after l = 3 * goal.size-emit_after l + 1
 
 abbrev pub decreases-emit_place : goal.decreases-emit_place
 decreases-emit_place l = 3 * goal.size-emit_place l + 1

@@ -3,7 +3,7 @@ use Rattle.std.proofs.lemmas.List.{append-nil, nil_from_length}
 use Rattle.std.proofs.lemmas.Result.{err_from_is_err_and}
 use Rattle.tick_file.specs.Lines.{tick_lines, rules_from, bad_from, rules_of, first_bad_line, Tells}
 use Rattle.tick_file.specs.Inside.{waiting_of}
-use Rattle.tick_file.proofs.LineLemmas.{kept_step, good_step, told, rules_done, bad_done}
+use Rattle.tick_file.proofs.LineLemmas.{kept_step, good_step, bad_tells, rules_done, bad_done}
 use Rattle.tick_file.proofs.reading.kept_rules.Goals as goal
 
 pub returns-in_err-keep-clause-bad : goal.returns-in_err-keep-clause-bad
@@ -12,15 +12,15 @@ returns-in_err-keep-clause-bad c =
     let p = err_from_is_err_and c.from_residual.result c.from_residual.ensures.1 in
     rw (p.1, p.2) (
     subst (λ o. Tells o c.in_err-keep.field-0.0) c.loop-rest.invariant.bad
-    (told (c.loop-rest.line + 1) c.loop-rest.rest.now c.front_line.result.now c.front_line.result.now c.said.result c.said.ensures c.front_line.ensures c.in_err-keep.field-0.0 c.in_err-keep.ensures.bad))
+    (bad_tells (c.loop-rest.line + 1) c.loop-rest.rest.now c.first_line.result.now c.first_line.result.now c.said.result c.said.ensures c.first_line.ensures c.in_err-keep.field-0.0 c.in_err-keep.ensures.bad))
 
 pub loop-rest-preserved : goal.loop-rest-preserved
 loop-rest-preserved c = record {
-  rules = kept_step (c.loop-rest.line + 1) c.loop-rest.rest.now c.front_line.result.now c.behind_line-rest.result.now c.said.result c.said.ensures c.front_line.ensures
-      c.loop-rest.kept.items c.keep.new.kept.items c.behind_line-rest.ensures.value c.in_ok-keep.ensures.rule
+  rules = kept_step (c.loop-rest.line + 1) c.loop-rest.rest.now c.first_line.result.now c.after_line-rest.result.now c.said.result c.said.ensures c.first_line.ensures
+      c.loop-rest.kept.items c.keep.new.kept.items c.after_line-rest.ensures.value c.in_ok-keep.ensures.rule
       ∙ c.loop-rest.invariant.rules;
-  bad = good_step (c.loop-rest.line + 1) c.loop-rest.rest.now c.front_line.result.now c.behind_line-rest.result.now c.said.result c.said.ensures c.front_line.ensures
-      c.behind_line-rest.ensures.value c.in_ok-keep.ensures.good
+  bad = good_step (c.loop-rest.line + 1) c.loop-rest.rest.now c.first_line.result.now c.after_line-rest.result.now c.said.result c.said.ensures c.first_line.ensures
+      c.after_line-rest.ensures.value c.in_ok-keep.ensures.good
       ∙ c.loop-rest.invariant.bad;
   lines = omega arith;
 }

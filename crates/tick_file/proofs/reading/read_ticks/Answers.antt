@@ -1,10 +1,10 @@
-use Rattle.std.proofs.Common.{◌≡◌, ap, sym, ◌∙◌, subst}
+use Rattle.std.proofs.Common.{◌≡◌, not, ap, sym, ◌∙◌, subst}
 use Rattle.std.specs.List.{All, list_all}
 use Rattle.std.specs.declared.cmp.Reverse.{Reverse}
 use Rattle.wind_lists.specs.Sorting.{sorted}
 use Rattle.tick_file.specs.declared.pending.Pending.{Pending}
 use Rattle.tick_file.specs.Lines.{rules_of}
-use Rattle.tick_file.specs.Schedule.{Timetable, before, is_tick, timetable_of, in_order, asks_ticks}
+use Rattle.tick_file.specs.Schedule.{Timetable, before, brings_bytes, event_of, timetable_of, in_order}
 use Rattle.tick_file.specs.Inside.{IsSound, waiting}
 use Rattle.tick_file.proofs.Events.{events_waiting}
 use Rattle.tick_file.proofs.Heaps.{AllAgree}
@@ -22,8 +22,8 @@ unfolding timetable_of
 returns-clause-value c =
     let rs = rules_of c.args.text.now in
     let events : waiting c.in_ok-kept.kept.items ≡ in_order rs = ap waiting c.in_ok-kept.ensures.rules ∙ ap (sorted before) (events_waiting rs) in
-    let ticks : c.all_ticks-on_demand.result ≡ list_all (λ r. asks_ticks r.rule) rs =
-    c.all_ticks-on_demand.ensures ∙ ap (list_all (λ (p : Reverse Pending). is_tick p.0.event)) (c.deref.ensures.value ∙ c.in_ok-kept.ensures.rules) ∙ on_demand_kept rs in
+    let demand : c.bring_no_bytes-on_demand.result ≡ list_all (λ r. not (brings_bytes (event_of r.rule))) rs =
+    c.bring_no_bytes-on_demand.ensures ∙ ap (list_all (λ (p : Reverse Pending). not (brings_bytes p.0.event))) (c.deref.ensures.value ∙ c.in_ok-kept.ensures.rules) ∙ on_demand_kept rs in
     c.of_rules.ensures
-    ∙ ap {B = Timetable} (λ es. record { events = es; on_demand = c.all_ticks-on_demand.result }) events
-    ∙ ap {B = Timetable} (λ d. record { events = in_order rs; on_demand = d }) ticks
+    ∙ ap {B = Timetable} (λ es. record { events = es; on_demand = c.bring_no_bytes-on_demand.result }) events
+    ∙ ap {B = Timetable} (λ d. record { events = in_order rs; on_demand = d }) demand

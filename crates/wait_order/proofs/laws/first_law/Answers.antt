@@ -1,4 +1,4 @@
-use Rattle.wait_order.proofs.Turns.{first_is_least, nobody_waits}
+use Rattle.wait_order.proofs.LineOrder.{first_is_least, nobody_waits}
 use Rattle.wait_order.proofs.laws.first_law.Goals as goal
 
 pub returns : goal.returns

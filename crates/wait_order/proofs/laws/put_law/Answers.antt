@@ -1,4 +1,4 @@
-use Rattle.wait_order.proofs.Turns.{put_in}
+use Rattle.wait_order.proofs.LineOrder.{put_in}
 use Rattle.wait_order.proofs.laws.put_law.Goals as goal
 
 pub returns : goal.returns

@@ -6,5 +6,5 @@ use Rattle.wind_outside.proofs.host.read_within.Goals as goal
 pub returns-clause-whole : goal.returns-clause-whole
 returns-clause-whole g c =
     whole_read g.F.Read.remaining c.take.result c.args.file c.read_to_end.new.buf.items c.args.limit c.take.ensures.limit c.take.ensures.inner
-    (subst (λ front. IfSome (take_remaining g.F.Read.remaining c.take.result) (λ xs. c.read_to_end.new.buf.items ≡ front ++ xs)) c.new-bytes.ensures.items c.in_ok-read_to_end.ensures.bytes)
+    (subst (λ prefix. IfSome (take_remaining g.F.Read.remaining c.take.result) (λ xs. c.read_to_end.new.buf.items ≡ prefix ++ xs)) c.new-bytes.ensures.items c.in_ok-read_to_end.ensures.bytes)
     (omega (arith, c.len.ensures, c.if-len-limit.false))

@@ -19,21 +19,21 @@ returns-in-Found-clause-said g c =
     let files = g.F.Folder.files c.args.folder.now in
     let at = c.deref.ensures ∙ c.in-Ok-module_path.ensures ∙ ap (module_path c.args.modules.now) (c.in-Ok.ensures.cases.0 ∙ c.bytes.ensures.value) in
     of_text files c.args.name.now (module_path c.args.modules.now c.args.name.now) (Held c.in-Found.bytes.items) (subst IsUtf8 c.bytes.ensures.value c.in-Ok.ensures.cases.1)
-    (subst (λ path. IsSaidBy true files path (Held c.in-Found.bytes.items)) at (found_said files c.deref.result.now c.in-Found.bytes.items c.in-Found.ensures.told c.in-Found.ensures.within))
+    (subst (λ path. IsSaidBy true files path (Held c.in-Found.bytes.items)) at (found_said files c.deref.result.now c.in-Found.bytes.items c.in-Found.ensures.answers c.in-Found.ensures.within))
 
 pub returns-in-Missing-clause-said : goal.returns-in-Missing-clause-said
 returns-in-Missing-clause-said g c =
     let files = g.F.Folder.files c.args.folder.now in
     let at = c.deref.ensures ∙ c.in-Ok-module_path.ensures ∙ ap (module_path c.args.modules.now) (c.in-Ok.ensures.cases.0 ∙ c.bytes.ensures.value) in
     of_text files c.args.name.now (module_path c.args.modules.now c.args.name.now) Missing (subst IsUtf8 c.bytes.ensures.value c.in-Ok.ensures.cases.1)
-    (subst (λ path. IsSaidBy true files path Missing) at (missing_said files c.deref.result.now c.in-Missing.ensures.told))
+    (subst (λ path. IsSaidBy true files path Missing) at (missing_said files c.deref.result.now c.in-Missing.ensures.answers))
 
 pub returns-in-TooLong-clause-said : goal.returns-in-TooLong-clause-said
 returns-in-TooLong-clause-said g c =
     let files = g.F.Folder.files c.args.folder.now in
     let at = c.deref.ensures ∙ c.in-Ok-module_path.ensures ∙ ap (module_path c.args.modules.now) (c.in-Ok.ensures.cases.0 ∙ c.bytes.ensures.value) in
     of_text files c.args.name.now (module_path c.args.modules.now c.args.name.now) TooLong (subst IsUtf8 c.bytes.ensures.value c.in-Ok.ensures.cases.1)
-    (subst (λ path. IsSaidBy true files path TooLong) at (long_said files c.deref.result.now c.in-TooLong.ensures.told))
+    (subst (λ path. IsSaidBy true files path TooLong) at (long_said files c.deref.result.now c.in-TooLong.ensures.answers))
 
 -- ---- the requests
 -- the name isn't UTF-8
@@ -45,42 +45,42 @@ returns-in_default-clause-requested g c =
 pub returns-in-Found-clause-requested : goal.returns-in-Found-clause-requested
 returns-in-Found-clause-requested g c =
     let before = g.F.Folder.requests c.args.folder.now in
-    let behind = g.F.Folder.requests c.fetch.new.self in
+    let after = g.F.Folder.requests c.fetch.new.self in
     let at = c.deref.ensures ∙ c.in-Ok-module_path.ensures ∙ ap (module_path c.args.modules.now) (c.in-Ok.ensures.cases.0 ∙ c.bytes.ensures.value) in
-    requested c.args.modules.now c.args.name.now before behind outcomes.Found (subst IsUtf8 c.bytes.ensures.value c.in-Ok.ensures.cases.1)
-    (subst (λ path. GrowsBy before behind (path_request path outcomes.Found ∷ [])) at c.in-Found.ensures.requested)
+    requested c.args.modules.now c.args.name.now before after outcomes.Found (subst IsUtf8 c.bytes.ensures.value c.in-Ok.ensures.cases.1)
+    (subst (λ path. GrowsBy before after (path_request path outcomes.Found ∷ [])) at c.in-Found.ensures.requested)
 
 pub returns-in-Missing-clause-requested : goal.returns-in-Missing-clause-requested
 returns-in-Missing-clause-requested g c =
     let before = g.F.Folder.requests c.args.folder.now in
-    let behind = g.F.Folder.requests c.fetch.new.self in
+    let after = g.F.Folder.requests c.fetch.new.self in
     let at = c.deref.ensures ∙ c.in-Ok-module_path.ensures ∙ ap (module_path c.args.modules.now) (c.in-Ok.ensures.cases.0 ∙ c.bytes.ensures.value) in
-    requested c.args.modules.now c.args.name.now before behind outcomes.Missing (subst IsUtf8 c.bytes.ensures.value c.in-Ok.ensures.cases.1)
-    (subst (λ path. GrowsBy before behind (path_request path outcomes.Missing ∷ [])) at c.in-Missing.ensures.requested)
+    requested c.args.modules.now c.args.name.now before after outcomes.Missing (subst IsUtf8 c.bytes.ensures.value c.in-Ok.ensures.cases.1)
+    (subst (λ path. GrowsBy before after (path_request path outcomes.Missing ∷ [])) at c.in-Missing.ensures.requested)
 
 pub returns-in-TooLong-clause-requested : goal.returns-in-TooLong-clause-requested
 returns-in-TooLong-clause-requested g c =
     let before = g.F.Folder.requests c.args.folder.now in
-    let behind = g.F.Folder.requests c.fetch.new.self in
+    let after = g.F.Folder.requests c.fetch.new.self in
     let at = c.deref.ensures ∙ c.in-Ok-module_path.ensures ∙ ap (module_path c.args.modules.now) (c.in-Ok.ensures.cases.0 ∙ c.bytes.ensures.value) in
-    requested c.args.modules.now c.args.name.now before behind outcomes.TooLong (subst IsUtf8 c.bytes.ensures.value c.in-Ok.ensures.cases.1)
-    (subst (λ path. GrowsBy before behind (path_request path outcomes.TooLong ∷ [])) at c.in-TooLong.ensures.requested)
+    requested c.args.modules.now c.args.name.now before after outcomes.TooLong (subst IsUtf8 c.bytes.ensures.value c.in-Ok.ensures.cases.1)
+    (subst (λ path. GrowsBy before after (path_request path outcomes.TooLong ∷ [])) at c.in-TooLong.ensures.requested)
 
 -- reading failed
 pub returns-in-Failed-clause-stops : goal.returns-in-Failed-clause-stops
 returns-in-Failed-clause-stops g c =
     let before = g.F.Folder.requests c.args.folder.now in
-    let behind = g.F.Folder.requests c.fetch.new.self in
+    let after = g.F.Folder.requests c.fetch.new.self in
     let at = c.deref.ensures ∙ c.in-Ok-module_path.ensures ∙ ap (module_path c.args.modules.now) (c.in-Ok.ensures.cases.0 ∙ c.bytes.ensures.value) in
-    λ e. stops_unread c.args.modules.now c.args.name.now before behind (subst IsUtf8 c.bytes.ensures.value c.in-Ok.ensures.cases.1)
-    (subst (λ path. GrowsBy before behind (path_request path outcomes.Failed ∷ [])) at c.in-Failed.ensures.requested)
+    λ e. stops_unread c.args.modules.now c.args.name.now before after (subst IsUtf8 c.bytes.ensures.value c.in-Ok.ensures.cases.1)
+    (subst (λ path. GrowsBy before after (path_request path outcomes.Failed ∷ [])) at c.in-Failed.ensures.requested)
 
 -- memory ran out in the fetch
 pub returns-clause-gives_up : goal.returns-clause-gives_up
 returns-clause-gives_up g c =
     let before = g.F.Folder.requests c.args.folder.now in
-    let behind = g.F.Folder.requests c.fetch.new.self in
+    let after = g.F.Folder.requests c.fetch.new.self in
     let at = c.deref.ensures ∙ c.in-Ok-module_path.ensures ∙ ap (module_path c.args.modules.now) (c.in-Ok.ensures.cases.0 ∙ c.bytes.ensures.value) in
-    λ e. stops_after c.args.modules.now (Some c.args.name.now) outcomes.NoMemory before behind (λ e. cc)
-    (requested c.args.modules.now c.args.name.now before behind outcomes.NoMemory (subst IsUtf8 c.bytes.ensures.value c.in-Ok.ensures.cases.1)
-    (subst (λ path. GrowsBy before behind (path_request path outcomes.NoMemory ∷ [])) at c.in-NoMemory.ensures.requested))
+    λ e. stops_after c.args.modules.now (Some c.args.name.now) outcomes.NoMemory before after (λ e. cc)
+    (requested c.args.modules.now c.args.name.now before after outcomes.NoMemory (subst IsUtf8 c.bytes.ensures.value c.in-Ok.ensures.cases.1)
+    (subst (λ path. GrowsBy before after (path_request path outcomes.NoMemory ∷ [])) at c.in-NoMemory.ensures.requested))

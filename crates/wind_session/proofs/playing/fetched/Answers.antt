@@ -5,15 +5,15 @@ use Rattle.wind_session.proofs.PlanLemmas.{held_found, unread_missing, unread_lo
 use Rattle.wind_session.proofs.playing.fetched.Goals as goal
 
 pub returns-in-Found-clause-held : goal.returns-in-Found-clause-held
-returns-in-Found-clause-held g c = held_found (g.F.Folder.files c.args.folder.now) c.args.name.now c.in-Found.bytes.items c.in-Found.ensures.within c.in-Found.ensures.told
+returns-in-Found-clause-held g c = held_found (g.F.Folder.files c.args.folder.now) c.args.name.now c.in-Found.bytes.items c.in-Found.ensures.within c.in-Found.ensures.answers
 
 pub returns-in-Missing-clause-refused : goal.returns-in-Missing-clause-refused
 returns-in-Missing-clause-refused g c =
-    unread_missing (g.F.Folder.files c.args.folder.now) c.args.name.now c.args.file (Rose (g.F.Folder.faults c.args.folder.now) (g.F.Folder.faults c.fetch.new.self)) c.in-Missing.ensures.told
+    unread_missing (g.F.Folder.files c.args.folder.now) c.args.name.now c.args.file (Rose (g.F.Folder.faults c.args.folder.now) (g.F.Folder.faults c.fetch.new.self)) c.in-Missing.ensures.answers
 
 pub returns-in-TooLong-clause-refused : goal.returns-in-TooLong-clause-refused
 returns-in-TooLong-clause-refused g c =
-    unread_long (g.F.Folder.files c.args.folder.now) c.args.name.now c.args.file (Rose (g.F.Folder.faults c.args.folder.now) (g.F.Folder.faults c.fetch.new.self)) c.in-TooLong.ensures.told
+    unread_long (g.F.Folder.files c.args.folder.now) c.args.name.now c.args.file (Rose (g.F.Folder.faults c.args.folder.now) (g.F.Folder.faults c.fetch.new.self)) c.in-TooLong.ensures.answers
 
 pub returns-in-Failed-clause-refused : goal.returns-in-Failed-clause-refused
 returns-in-Failed-clause-refused g c =

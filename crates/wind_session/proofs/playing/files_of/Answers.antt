@@ -5,7 +5,7 @@ use Rattle.wind_session.specs.Plan.{plan_ticks}
 use Rattle.wind_session.specs.Words.{command_state}
 use Rattle.wind_session.proofs.FetchLemmas.{console_unfound, ticks_unfound, both_found, both_unplayed}
 use Rattle.wind_session.proofs.PlanLemmas.{refuses_console, refuses_ticks, refuses_both}
-use Rattle.wind_session.proofs.ToldLemmas.{rose_earlier}
+use Rattle.wind_session.proofs.AppendingLemmas.{rose_earlier}
 use Rattle.wind_session.proofs.playing.files_of.Goals as goal
 
 pub returns-in_err-console-clause-refused : goal.returns-in_err-console-clause-refused

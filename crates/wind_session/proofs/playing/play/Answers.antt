@@ -8,7 +8,7 @@ use Rattle.wind_session.specs.declared.ending.Status.TheVariants as status
 use Rattle.wind_session.proofs.FailureLemmas.{unfetched}
 use Rattle.wind_session.proofs.FetchLemmas.{inputs_unread}
 use Rattle.wind_session.proofs.PlanLemmas.{some_plan}
-use Rattle.wind_session.proofs.ToldLemmas.{memory_is_text}
+use Rattle.wind_session.proofs.AppendingLemmas.{memory_is_text}
 use Rattle.wind_session.proofs.playing.play.Goals as goal
 
 -- the arguments are invalid
@@ -24,7 +24,7 @@ returns-in-Err-NoMemory-clause-machine g c =
 
 pub returns-in-Err-NoMemory-clause-err : goal.returns-in-Err-NoMemory-clause-err
 returns-in-Err-NoMemory-clause-err g c =
-    rw c.refused-in-Err-NoMemory.ensures (record { text = memory_text; text_is = memory_is_text _; told = c.tell_no_memory.ensures.told })
+    rw c.refused-in-Err-NoMemory.ensures (record { text = memory_text; text_is = memory_is_text _; printed = c.tell_no_memory.ensures.printed })
 
 -- playing is complete if the session of the command is
 pub returns-clause-complete : goal.returns-clause-complete

@@ -16,7 +16,7 @@ use Rattle.wind_session.proofs.playing.session.Goals as goal
 pub returns-clause-machine : goal.returns-clause-machine
 returns-clause-machine g c =
     let n = c.args.command.now.generate in
-    let told = outside (g.F.Folder.requests c.args.folder.now) (g.O.Sink.bytes c.args.out.now) (g.O.Sink.pieces c.args.out.now) in
+    let outside_now = outside (g.F.Folder.requests c.args.folder.now) (g.O.Sink.bytes c.args.out.now) (g.O.Sink.pieces c.args.out.now) in
     let left = c.played-status.ensures.left in
     record {
       plan = _;
@@ -27,7 +27,7 @@ returns-clause-machine g c =
         schedule = _;
         planned = refl;
         left =
-            left_after (rounds_requests n (command_state c.args.command.now)) told (g.F.Folder.requests c.inputs_of.new.folder) c.in-Ok.ensures.found n c.played-status.result left.0 _ _ c.args.command.now.modules.now _ _ _ _ _
+            left_after (rounds_requests n (command_state c.args.command.now)) outside_now (g.F.Folder.requests c.inputs_of.new.folder) c.in-Ok.ensures.found n c.played-status.result left.0 _ _ c.args.command.now.modules.now _ _ _ _ _
             c.inputs_of.ensures.files c.in-Ok-boot.ensures.ok left.1;
       };
     }

@@ -1,15 +1,15 @@
 use Rattle.std.proofs.Common.{subst}
 use Rattle.wind_outside.specs.Counts.{Rose}
-use Rattle.wind_session.specs.Texts.{IsTold, memory_text}
+use Rattle.wind_session.specs.Texts.{IsPrinted, memory_text}
 use Rattle.wind_session.specs.declared.ending.Status.TheVariants as status
 use Rattle.wind_session.proofs.ProgramLemmas.{session_unmade}
-use Rattle.wind_session.proofs.ToldLemmas.{memory_is_text}
+use Rattle.wind_session.proofs.AppendingLemmas.{memory_is_text}
 use Rattle.wind_session.proofs.program.play_program.Goals as goal
 
 -- memory ran out for the devices
 pub returns-in-Err : goal.returns-in-Err
 returns-in-Err g c =
-    let behind = g.E.Sink.bytes c.tell_no_memory.new.err in
+    let after = g.E.Sink.bytes c.tell_no_memory.new.err in
     let faults = g.E.Sink.faults c.tell_no_memory.new.err in
     record {
       ended = status.NoMemory;
@@ -18,8 +18,8 @@ returns-in-Err g c =
       tells = record {
         text = memory_text;
         text_is = memory_is_text _;
-        told =
-            subst (λ b. IsTold b behind memory_text (Rose (g.E.Sink.faults c.args.err.now) faults)) c.in-Err.ensures.untold
-            (subst (λ n. IsTold (g.E.Sink.bytes c.play_with_devices.new.err) behind memory_text (Rose n faults)) c.in-Err.ensures.unfailed c.tell_no_memory.ensures.told);
+        printed =
+            subst (λ b. IsPrinted b after memory_text (Rose (g.E.Sink.faults c.args.err.now) faults)) c.in-Err.ensures.unprinted
+            (subst (λ n. IsPrinted (g.E.Sink.bytes c.play_with_devices.new.err) after memory_text (Rose n faults)) c.in-Err.ensures.unfailed c.tell_no_memory.ensures.printed);
       };
     }

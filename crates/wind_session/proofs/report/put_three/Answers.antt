@@ -1,6 +1,6 @@
 use Rattle.std.proofs.Common.{refl, arith}
 use Rattle.wind_outside.specs.Counts.{Rose}
-use Rattle.wind_session.proofs.ToldLemmas.{rose_earlier, appended_both, cut_first, cut_short, cut_last}
+use Rattle.wind_session.proofs.AppendingLemmas.{rose_earlier, appended_both, cut_first, cut_short, cut_last}
 use Rattle.wind_session.proofs.report.put_three.Goals as goal
 
 pub returns-in-Failed-clause-failed : goal.returns-in-Failed-clause-failed

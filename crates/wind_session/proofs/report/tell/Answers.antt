@@ -2,30 +2,30 @@ use Rattle.std.proofs.Common.{◌∙◌}
 use Rattle.wind_session.specs.Texts.{status_text}
 use Rattle.wind_session.proofs.report.tell.Goals as goal
 
-pub returns-in-Absent-clause-told : goal.returns-in-Absent-clause-told
+pub returns-in-Absent-clause-printed : goal.returns-in-Absent-clause-printed
 unfolding status_text
-returns-in-Absent-clause-told g c = rw c.in-Absent.is (rw c.name_of-name.ensures at c.put_pieces.ensures.told)
+returns-in-Absent-clause-printed g c = rw c.in-Absent.is (rw c.name_of-name.ensures at c.put_pieces.ensures.printed)
 
-pub returns-in-Limit-clause-told : goal.returns-in-Limit-clause-told
+pub returns-in-Limit-clause-printed : goal.returns-in-Limit-clause-printed
 unfolding status_text
-returns-in-Limit-clause-told g c = rw c.in-Limit.is (rw (c.as_bytes-limit.ensures.value ∙ c.format.ensures.text) at c.put_pieces-in-Limit.ensures.told)
+returns-in-Limit-clause-printed g c = rw c.in-Limit.is (rw (c.as_bytes-limit.ensures.value ∙ c.format.ensures.text) at c.put_pieces-in-Limit.ensures.printed)
 
-pub returns-in-ReadFault-clause-told : goal.returns-in-ReadFault-clause-told
+pub returns-in-ReadFault-clause-printed : goal.returns-in-ReadFault-clause-printed
 unfolding status_text
-returns-in-ReadFault-clause-told g c = rw c.in-ReadFault.is c.put_pieces-in-ReadFault.ensures.told
+returns-in-ReadFault-clause-printed g c = rw c.in-ReadFault.is c.put_pieces-in-ReadFault.ensures.printed
 
-pub returns-in-WriteFault-clause-told : goal.returns-in-WriteFault-clause-told
+pub returns-in-WriteFault-clause-printed : goal.returns-in-WriteFault-clause-printed
 unfolding status_text
-returns-in-WriteFault-clause-told g c = rw c.in-WriteFault.is c.put_pieces-in-WriteFault.ensures.told
+returns-in-WriteFault-clause-printed g c = rw c.in-WriteFault.is c.put_pieces-in-WriteFault.ensures.printed
 
-pub returns-in-NoMemory-clause-told : goal.returns-in-NoMemory-clause-told
+pub returns-in-NoMemory-clause-printed : goal.returns-in-NoMemory-clause-printed
 unfolding status_text
-returns-in-NoMemory-clause-told g c = rw c.in-NoMemory.is c.tell_no_memory.ensures.told
+returns-in-NoMemory-clause-printed g c = rw c.in-NoMemory.is c.tell_no_memory.ensures.printed
 
-pub returns-in-BadTicks-clause-told : goal.returns-in-BadTicks-clause-told
+pub returns-in-BadTicks-clause-printed : goal.returns-in-BadTicks-clause-printed
 unfolding status_text
-returns-in-BadTicks-clause-told g c = rw c.in-BadTicks.is (rw c.name_of.ensures at c.tell_bad_line.ensures.told)
+returns-in-BadTicks-clause-printed g c = rw c.in-BadTicks.is (rw c.name_of.ensures at c.tell_bad_line.ensures.printed)
 
-pub returns-in-TooLong-clause-told : goal.returns-in-TooLong-clause-told
+pub returns-in-TooLong-clause-printed : goal.returns-in-TooLong-clause-printed
 unfolding status_text
-returns-in-TooLong-clause-told g c = rw c.in-TooLong.is (rw c.name_of-name-in-TooLong.ensures at c.put_pieces-in-TooLong.ensures.told)
+returns-in-TooLong-clause-printed g c = rw c.in-TooLong.is (rw c.name_of-name-in-TooLong.ensures at c.put_pieces-in-TooLong.ensures.printed)

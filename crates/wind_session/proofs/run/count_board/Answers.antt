@@ -1,7 +1,7 @@
 use Rattle.std.proofs.Common.{◌+◌, ◌∙◌, ap, arith, refl, length}
 use Rattle.wind_session.specs.Modules.{Shelf}
 use Rattle.wind_session.proofs.Saying.{saying}
-use Rattle.wind_session.proofs.RunLemmas.{nothing_said, begun, further, bytes_on, quiet, lacking, unread, at_limit}
+use Rattle.wind_session.proofs.RunLemmas.{nothing_said, begun, further, bytes_on, quiet, exhausted, unread, at_limit}
 use Rattle.wind_session.proofs.Bursts.{runs_on, as_written}
 use Rattle.wind_session.proofs.run.count_board.Goals as goal
 
@@ -85,7 +85,7 @@ returns-in-NoMemory-clause-counted g c =
     record {
       said = c.loop-made.invariant.said;
       k = c.loop-made.made + c.burst-made.result;
-      made = lacking shelf _ _ _ _ _ _ _ run _ _ (c.in-NoMemory.ensures.unchanged (λ e. cc)) (omega arith) (c.in-NoMemory.ensures.no_memory refl) (c.in-NoMemory.ensures.gives_up refl);
+      made = exhausted shelf _ _ _ _ _ _ _ run _ _ (c.in-NoMemory.ensures.unchanged (λ e. cc)) (omega arith) (c.in-NoMemory.ensures.no_memory refl) (c.in-NoMemory.ensures.gives_up refl);
       bytes_are = c.loop-made.invariant.bytes ∙ ap length (as_written c.silent_law.ensures shelf _ _ _ _ _ _ _ c.loop-made.invariant.run _ _ c.burst-made.ensures.made);
       all_put = λ e. cc;
     }

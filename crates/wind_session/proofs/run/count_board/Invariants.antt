@@ -1,7 +1,7 @@
 use Rattle.std.proofs.Common.{◌≡◌, ◌-◌, ◌≤◌, ◌*◌, ◌^◌, length}
 use Rattle.wind_machine.specs.Run.{Answers, text}
 use Rattle.board_player.specs.Seen.{board_by}
-use Rattle.wind_session.proofs.RunLemmas.{Behind}
+use Rattle.wind_session.proofs.RunLemmas.{After}
 use Rattle.wind_session.proofs.run.count_board.Given as goal
 
 -- this many steps were made, and all that they wrote was counted
@@ -11,7 +11,7 @@ invariant-loop-made g l =
     let start = state l.fn.board in
     record {
       said : Answers;
-      run : Behind (record { files = g.F.Folder.files l.fn.folder; name = l.modules }) said start l.limit l.made (state l.board) (g.F.Folder.requests l.fn.folder) (g.F.Folder.requests l.folder);
+      run : After (record { files = g.F.Folder.files l.fn.folder; name = l.modules }) said start l.limit l.made (state l.board) (g.F.Folder.requests l.fn.folder) (g.F.Folder.requests l.folder);
       bytes : l.bytes ≡ length (text said start l.made);
       small : l.bytes ≤ l.made * 2 ^ 64;
       files : g.F.Folder.files l.folder ≡ g.F.Folder.files l.fn.folder;

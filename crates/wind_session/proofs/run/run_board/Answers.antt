@@ -1,12 +1,12 @@
 use Rattle.std.proofs.Common.{◌+◌, ◌∙◌, subst, arith, refl}
-use Rattle.wind_outside.specs.Told.{Appended}
+use Rattle.wind_outside.specs.Appending.{Appended}
 use Rattle.wind_session.specs.Modules.{Shelf}
 use Rattle.wind_session.proofs.Saying.{saying}
-use Rattle.wind_session.proofs.RunLemmas.{nothing_said, begun, further, text_on, pieces_on, cut_off, quiet, lacking, unread, at_limit}
+use Rattle.wind_session.proofs.RunLemmas.{nothing_said, begun, further, text_on, pieces_on, cut_off, quiet, exhausted, unread, at_limit}
 use Rattle.wind_outside.specs.Requests.{GrowsBy}
 use Rattle.wind_session.proofs.Bursts.{runs_on, as_written, as_put}
 use Rattle.wind_session.proofs.FetchLemmas.{grows_none}
-use Rattle.wind_session.proofs.ToldLemmas.{appended_none}
+use Rattle.wind_session.proofs.AppendingLemmas.{appended_none}
 use Rattle.wind_session.proofs.run.run_board.Goals as goal
 
 -- before the first step
@@ -101,7 +101,7 @@ returns-in-NoMemory-clause-ran g c =
     record {
       said = c.loop-made.invariant.said;
       k = c.loop-made.made + c.burst-made.result;
-      made = lacking shelf _ _ _ _ _ _ _ run _ _ (c.in-NoMemory.ensures.unchanged (λ e. cc)) (omega arith) (c.in-NoMemory.ensures.no_memory refl) (c.in-NoMemory.ensures.gives_up refl);
+      made = exhausted shelf _ _ _ _ _ _ _ run _ _ (c.in-NoMemory.ensures.unchanged (λ e. cc)) (omega arith) (c.in-NoMemory.ensures.no_memory refl) (c.in-NoMemory.ensures.gives_up refl);
       written = record {
         gained = (subst (Appended _ _) (as_written c.silent_law.ensures shelf _ _ _ _ _ _ _ c.loop-made.invariant.run _ _ c.burst-made.ensures.made) c.loop-made.invariant.written);
         pieces = (subst (GrowsBy _ _) (as_put c.silent_law.ensures shelf _ _ _ _ _ _ _ c.loop-made.invariant.run _ _ c.burst-made.ensures.made) c.loop-made.invariant.pieces);

@@ -1,10 +1,10 @@
 use Rattle.std.proofs.Common.{◌≡◌, ◌-◌, ◌≤◌}
-use Rattle.wind_outside.specs.Told.{Appended}
+use Rattle.wind_outside.specs.Appending.{Appended}
 use Rattle.wind_machine.specs.Run.{Answers, text}
 use Rattle.board_player.specs.Seen.{board_by}
 use Rattle.wind_outside.specs.Requests.{GrowsBy}
 use Rattle.wind_session.specs.Pieces.{pieces_of}
-use Rattle.wind_session.proofs.RunLemmas.{Behind}
+use Rattle.wind_session.proofs.RunLemmas.{After}
 use Rattle.wind_session.proofs.run.run_board.Given as goal
 
 -- this many steps were made, and all that they wrote was put
@@ -14,7 +14,7 @@ invariant-loop-made g l =
     let start = state l.fn.board in
     record {
       said : Answers;
-      run : Behind (record { files = g.F.Folder.files l.fn.folder; name = l.modules }) said start l.limit l.made (state l.board) (g.F.Folder.requests l.fn.folder) (g.F.Folder.requests l.folder);
+      run : After (record { files = g.F.Folder.files l.fn.folder; name = l.modules }) said start l.limit l.made (state l.board) (g.F.Folder.requests l.fn.folder) (g.F.Folder.requests l.folder);
       written : Appended (g.O.Sink.bytes l.fn.out) (g.O.Sink.bytes l.out) (text said start l.made);
       pieces : GrowsBy (g.O.Sink.pieces l.fn.out) (g.O.Sink.pieces l.out) (pieces_of said start l.made);
       files : g.F.Folder.files l.folder ≡ g.F.Folder.files l.fn.folder;

@@ -22,5 +22,5 @@ loop-done-preserved c =
     let size : length piece ≡ done + count - done = omega (arith, c.copy_from_slice.ensures.len, length-take (done + count - done) (drop done dst), length-drop done dst) in
     let kept : length (put_mid done (done + count - done) dst piece) ≡ length dst = length-put_mid done (done + count - done) dst piece (omega arith) size in
     let copied : piece ≡ bytes_at bytes (c.args.at + done) count = c.copy_from_slice.ensures.after ∙ c.piece.ensures in
-    let front = take-put_mid done (done + count - done) dst piece (done + count) (omega (arith, size)) c.loop-done.invariant.0 in
-    (omega (arith, kept), kept ∙ c.loop-done.invariant.1, front ∙ ap₂ (λ xs ys. xs ++ ys) c.loop-done.invariant.2 copied ∙ bytes_at-append bytes c.args.at done count)
+    let prefix = take-put_mid done (done + count - done) dst piece (done + count) (omega (arith, size)) c.loop-done.invariant.0 in
+    (omega (arith, kept), kept ∙ c.loop-done.invariant.1, prefix ∙ ap₂ (λ xs ys. xs ++ ys) c.loop-done.invariant.2 copied ∙ bytes_at-append bytes c.args.at done count)

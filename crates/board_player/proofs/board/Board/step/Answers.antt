@@ -1,4 +1,3 @@
-use Rattle.std.proofs.Common.{◌∙◌}
 use Rattle.live_loading.specs.Said.{Missing}
 use Rattle.board_player.proofs.Answering.{steps_on}
 use Rattle.board_player.proofs.Keeping.{kept}
@@ -16,3 +15,6 @@ returns-clause-counted g c = λ e. c.step_law.ensures.count Missing _ _ (steps_o
 
 pub make-requires-clause-left : goal.make-requires-clause-left
 make-requires-clause-left g c = leaves c.step_law.ensures.effect c.step_law.ensures.count _ c.is_early.ensures c.args.self.now.good c.requires c.in-Ok.next c.in-Ok.ensures.next
+
+pub returns-clause-slots : goal.returns-clause-slots
+returns-clause-slots g c = λ e i. c.slot_law.ensures.step Missing _ _ i c.facts.ensures (steps_on _ _ c.in-Ok.next c.in-Ok.ensures.next (c.make.ensures.stepped e) Missing)

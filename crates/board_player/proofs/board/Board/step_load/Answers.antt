@@ -1,5 +1,5 @@
 use Rattle.std.proofs.Common.{refl}
-use Rattle.board_player.proofs.Answering.{loaded_step, load_lacks, load_left}
+use Rattle.board_player.proofs.Answering.{loaded_step, loaded_slots, load_exhausts, load_left}
 use Rattle.board_player.proofs.Keeping.{kept_loading}
 use Rattle.board_player.proofs.Settled.{leaves}
 use Rattle.board_player.proofs.board.Board.step_load.Goals as goal
@@ -15,4 +15,7 @@ pub returns-clause-stepped : goal.returns-clause-stepped
 returns-clause-stepped g c = loaded_step _ c.load.result _ _ _ c.requires.asked c.load.ensures.ok
 
 pub returns-clause-no_memory : goal.returns-clause-no_memory
-returns-clause-no_memory g c = load_lacks c.load.result _ _ c.requires.asked
+returns-clause-no_memory g c = load_exhausts c.load.result _ _ c.requires.asked
+
+pub returns-clause-slots : goal.returns-clause-slots
+returns-clause-slots g c = loaded_slots c.slot_law.ensures.step _ c.load.result _ _ _ c.facts.ensures c.requires.asked c.load.ensures.ok

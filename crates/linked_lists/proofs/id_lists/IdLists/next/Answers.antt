@@ -6,18 +6,18 @@ use Rattle.linked_lists.proofs.Standing.{no_stand, next_key, next_none, next_nam
 use Rattle.linked_lists.proofs.id_lists.IdLists.next.Goals as goal
 
 pub returns-in_err-place-clause-after : goal.returns-in_err-place-clause-after
-returns-in_err-place-clause-after g c list front back value whole =
+returns-in_err-place-clause-after g c list prefix back value whole =
     let k = c.self.inside in
-    absurd (no_stand k.lists.chains k.index.items c.args.who c.self.invariant.1 (rw c.deref.ensures.value at c.in_err-place.ensures) list front back value (ap (λ t. chain_at t.chains list) c.self.view_is ∙ whole))
+    absurd (no_stand k.lists.chains k.index.items c.args.who c.self.invariant.1 (rw c.deref.ensures.value at c.in_err-place.ensures) list prefix back value (ap (λ t. chain_at t.chains list) c.self.view_is ∙ whole))
 
 pub next-requires : goal.next-requires
 next-requires g c = node_there c.self.inside.lists.chains c.self.inside.index.items c.self.invariant.1 c.args.who c.in_ok-place.place c.index.result.now (rw c.deref.ensures.value at c.in_ok-place.ensures) c.index.ensures
 
 pub returns-in_err-next-clause-after : goal.returns-in_err-next-clause-after
-returns-in_err-next-clause-after g c list front back value whole =
+returns-in_err-next-clause-after g c list prefix back value whole =
     let k = c.self.inside in
     let entry = entry_found k.index.items c.args.who c.in_ok-place.place c.index.result.now (rw c.deref.ensures.value at c.in_ok-place.ensures) c.self.invariant.1.rising c.index.ensures in
-    let found = next_key k.lists.chains k.index.items c.args.who c.index.result.now c.next.result c.self.invariant.1 entry c.next.ensures list front back value (ap (λ t. chain_at t.chains list) c.self.view_is ∙ whole) in
+    let found = next_key k.lists.chains k.index.items c.args.who c.index.result.now c.next.result c.self.invariant.1 entry c.next.ensures list prefix back value (ap (λ t. chain_at t.chains list) c.self.view_is ∙ whole) in
     c.from_residual-in_err-next.ensures ∙ next_none found.0 back (sym c.in_err-next.was ∙ found.1) found.2
 
 pub value-requires : goal.value-requires
@@ -27,10 +27,10 @@ value-requires g c =
     next_value k.lists.chains c.index.result.now.key c.in_ok-next.next c.next.result there c.next.ensures c.in_ok-next.was
 
 pub returns-clause-after : goal.returns-clause-after
-returns-clause-after g c list front back value whole =
+returns-clause-after g c list prefix back value whole =
     let k = c.self.inside in
     let entry = entry_found k.index.items c.args.who c.in_ok-place.place c.index.result.now (rw c.deref.ensures.value at c.in_ok-place.ensures) c.self.invariant.1.rising c.index.ensures in
-    let found = next_key k.lists.chains k.index.items c.args.who c.index.result.now c.next.result c.self.invariant.1 entry c.next.ensures list front back value (ap (λ t. chain_at t.chains list) c.self.view_is ∙ whole) in
+    let found = next_key k.lists.chains k.index.items c.args.who c.index.result.now c.next.result c.self.invariant.1 entry c.next.ensures list prefix back value (ap (λ t. chain_at t.chains list) c.self.view_is ∙ whole) in
     next_named k.lists.chains k.index.items found.0 back c.in_ok-next.next c.value.result.now c.self.invariant.1 (sym c.in_ok-next.was ∙ found.1) found.2 found.3 c.value.ensures.value
 
 pub returns-clause-absent : goal.returns-clause-absent

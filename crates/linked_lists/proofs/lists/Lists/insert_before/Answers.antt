@@ -2,8 +2,8 @@ use Rattle.std.proofs.Common.{ap, ◌∙◌, sym, subst, arith, length, set, Som
 use Rattle.std.specs.Prelude.{IsSome}
 use Rattle.slab.specs.Slab as slabs
 use Rattle.linked_lists.specs.Chains.{value_of, value_in, chain_at, all_cells, put_before, with_cell}
-use Rattle.linked_lists.specs.Inside.{IsKept, chains_in, behind, goes_on}
-use Rattle.linked_lists.proofs.Keeping.{behind_is, behind_there, value_node, split_next, some_updated, some_aimed, kept_inserted, kept_view, key_is_new, chains_alike, ends_length}
+use Rattle.linked_lists.specs.Inside.{IsKept, chains_in, key_before, goes_on}
+use Rattle.linked_lists.proofs.Keeping.{key_before_is, before_there, value_node, split_next, some_updated, some_aimed, kept_inserted, kept_view, key_is_new, chains_alike, ends_length}
 use Rattle.linked_lists.proofs.Nodes.{kept_again}
 use Rattle.linked_lists.proofs.lists.Lists.insert_before.Goals as goal
 
@@ -24,9 +24,9 @@ link_after-requires-clause-before g c x e =
     let cs = chains_in k.nodes k.ends.items in
     let within = subst (λ t. c.args.list < length t.chains) (sym c.self.view_is) c.requires.list in
     let split = split_next (chain_at cs c.args.list) c.args.next (c.insert_reserved-key.result, c.args.value) (λ j q. subst (λ t. IsSome (value_in (chain_at t.chains c.args.list) j)) (sym c.self.view_is) (c.requires.next j q)) in
-    let behind_that = sym (ap (λ es. behind k.nodes es c.args.list c.args.next) c.deref.ensures.value) ∙ sym c.node_before-before.ensures ∙ e in
+    let before_that = sym (ap (λ es. key_before k.nodes es c.args.list c.args.next) c.deref.ensures.value) ∙ sym c.node_before-before.ensures ∙ e in
     some_updated k.nodes c.insert_reserved-key.new.self c.insert_reserved-key.result _ x c.insert_reserved-key.ensures.updates
-    (behind_there k.nodes k.ends.items cs k.room c.args.list c.args.next (c.insert_reserved-key.result, c.args.value) x c.self.invariant within split behind_that)
+    (before_there k.nodes k.ends.items cs k.room c.args.list c.args.next (c.insert_reserved-key.result, c.args.value) x c.self.invariant within split before_that)
 
 pub link_before-requires-clause-after : goal.link_before-requires-clause-after
 link_before-requires-clause-after g c x e =
@@ -45,7 +45,7 @@ invariant_of-self g c =
     let within = subst (λ t. c.args.list < length t.chains) (sym c.self.view_is) c.requires.list in
     let split = split_next (chain_at cs c.args.list) c.args.next (c.insert_reserved-key.result, c.args.value) (λ j q. subst (λ t. IsSome (value_in (chain_at t.chains c.args.list) j)) (sym c.self.view_is) (c.requires.next j q)) in
     let is = kept_inserted k.nodes c.insert_reserved-key.new.self k.ends.items cs k.room c.args.list c.insert_reserved-key.result c.args.next c.node_before-before.result c.args.value c.self.invariant within split
-    (c.node_before-before.ensures ∙ ap (λ es. behind k.nodes es c.args.list c.args.next) c.deref.ensures.value ∙ behind_is k.nodes k.ends.items cs k.room c.args.list c.args.next (c.insert_reserved-key.result, c.args.value) c.self.invariant within split)
+    (c.node_before-before.ensures ∙ ap (λ es. key_before k.nodes es c.args.list c.args.next) c.deref.ensures.value ∙ key_before_is k.nodes k.ends.items cs k.room c.args.list c.args.next (c.insert_reserved-key.result, c.args.value) c.self.invariant within split)
     c.insert_reserved-key.ensures.was_vacant c.insert_reserved-key.ensures.updates c.insert_reserved-key.ensures.len c.insert_reserved-key.ensures.capacity
     (omega (arith, c.self.invariant.all, ap (λ t. length (all_cells t.chains)) c.self.view_is, ap (λ t. t.room) c.self.view_is, c.requires.room)) in
     let nodes = c.link_before.new.nodes in
@@ -68,7 +68,7 @@ returns-clause-chains g c =
     let within = subst (λ t. c.args.list < length t.chains) (sym c.self.view_is) c.requires.list in
     let split = split_next (chain_at cs c.args.list) c.args.next (c.insert_reserved-key.result, c.args.value) (λ j q. subst (λ t. IsSome (value_in (chain_at t.chains c.args.list) j)) (sym c.self.view_is) (c.requires.next j q)) in
     let is = kept_inserted k.nodes c.insert_reserved-key.new.self k.ends.items cs k.room c.args.list c.insert_reserved-key.result c.args.next c.node_before-before.result c.args.value c.self.invariant within split
-    (c.node_before-before.ensures ∙ ap (λ es. behind k.nodes es c.args.list c.args.next) c.deref.ensures.value ∙ behind_is k.nodes k.ends.items cs k.room c.args.list c.args.next (c.insert_reserved-key.result, c.args.value) c.self.invariant within split)
+    (c.node_before-before.ensures ∙ ap (λ es. key_before k.nodes es c.args.list c.args.next) c.deref.ensures.value ∙ key_before_is k.nodes k.ends.items cs k.room c.args.list c.args.next (c.insert_reserved-key.result, c.args.value) c.self.invariant within split)
     c.insert_reserved-key.ensures.was_vacant c.insert_reserved-key.ensures.updates c.insert_reserved-key.ensures.len c.insert_reserved-key.ensures.capacity
     (omega (arith, c.self.invariant.all, ap (λ t. length (all_cells t.chains)) c.self.view_is, ap (λ t. t.room) c.self.view_is, c.requires.room)) in
     let nodes = c.link_before.new.nodes in

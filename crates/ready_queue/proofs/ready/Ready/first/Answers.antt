@@ -1,6 +1,6 @@
 use Rattle.std.proofs.Common.{ap, ◌∙◌, sym, subst, arith, ◌<◌}
 use Rattle.ready_queue.specs.Order.{first_id}
-use Rattle.ready_queue.proofs.Turns.{first_from, nobody_from}
+use Rattle.ready_queue.proofs.Rotation.{first_from, nobody_from}
 use Rattle.ready_queue.proofs.ready.Ready.first.Goals as goal
 
 pub returns-in_err-list : goal.returns-in_err-list

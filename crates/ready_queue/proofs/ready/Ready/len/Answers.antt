@@ -1,5 +1,5 @@
 use Rattle.std.proofs.Common.{ap, ◌∙◌, sym, length}
-use Rattle.ready_queue.proofs.Turns.{length-tasks}
+use Rattle.ready_queue.proofs.Rotation.{length-tasks}
 use Rattle.ready_queue.proofs.ready.Ready.len.Goals as goal
 
 pub returns : goal.returns

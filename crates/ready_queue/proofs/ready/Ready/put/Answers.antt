@@ -3,7 +3,7 @@ use Rattle.linked_lists.specs.Chains.{chain_at, put_before}
 use Rattle.ready_queue.specs.Order.{pri_of, put_in, with_task}
 use Rattle.ready_queue.specs.Map.{IsMarked}
 use Rattle.ready_queue.specs.Inside.{tasks_from, IsMapped}
-use Rattle.ready_queue.proofs.Turns.{no_value, length-tasks, order_alike, mapped_put, tasks_put}
+use Rattle.ready_queue.proofs.Rotation.{no_value, length-tasks, order_alike, mapped_put, tasks_put}
 use Rattle.ready_queue.proofs.ready.Ready.put.Goals as goal
 
 pub insert_before-requires-clause-absent : goal.insert_before-requires-clause-absent

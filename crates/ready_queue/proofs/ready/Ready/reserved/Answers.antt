@@ -1,5 +1,5 @@
 use Rattle.std.proofs.Common.{ap}
-use Rattle.ready_queue.proofs.Turns.{mapped_empty}
+use Rattle.ready_queue.proofs.Rotation.{mapped_empty}
 use Rattle.ready_queue.proofs.ready.Ready.reserved.Goals as goal
 
 pub invariant_of-result : goal.invariant_of-result

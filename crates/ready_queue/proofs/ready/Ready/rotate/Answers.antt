@@ -4,7 +4,7 @@ use Rattle.wind_lists.specs.Records.{without}
 use Rattle.std.proofs.lemmas.List.{length-map}
 use Rattle.ready_queue.specs.Order.{pri_of, put_in, taken_out, rotated, moved_back}
 use Rattle.ready_queue.specs.Inside.{tasks_from, IsMapped}
-use Rattle.ready_queue.proofs.Turns.{no_pri, order_alike, pri_found, mapped_rotated, tasks_without, tasks_put, value_gone, fewer_cells}
+use Rattle.ready_queue.proofs.Rotation.{no_pri, order_alike, pri_found, mapped_rotated, tasks_without, tasks_put, value_gone, fewer_cells}
 use Rattle.ready_queue.proofs.ready.Ready.rotate.Goals as goal
 
 pub returns-in_default-clause-value : goal.returns-in_default-clause-value

@@ -3,7 +3,7 @@ use Rattle.linked_lists.specs.Chains.{cell_key, chain_at}
 use Rattle.wind_lists.specs.Records.{without}
 use Rattle.ready_queue.specs.Order.{pri_of, taken_out, without_task}
 use Rattle.ready_queue.specs.Inside.{tasks_from, filled, IsMapped}
-use Rattle.ready_queue.proofs.Turns.{no_pri, none_taken, order_alike, pri_found, mapped_without, filled_first, tasks_without}
+use Rattle.ready_queue.proofs.Rotation.{no_pri, none_taken, order_alike, pri_found, mapped_without, filled_first, tasks_without}
 use Rattle.ready_queue.proofs.ready.Ready.take.Goals as goal
 
 pub returns-in_default-clause-value : goal.returns-in_default-clause-value

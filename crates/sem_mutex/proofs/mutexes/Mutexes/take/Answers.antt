@@ -41,18 +41,18 @@ begun k r live who id n number lives kept e state =
 
 pub inherit_at_once-requires-clause-live : goal.inherit_at_once-requires-clause-live
 inherit_at_once-requires-clause-live c =
-    (begun c.args.k.now c.await_turn.new.k c.args.self.now c.args.caller c.in-Some.id c.args.timeout c.args.id c.requires.live c.requires.kept c.in-Some.ensures c.await_turn.ensures).lives
+    (begun c.args.k.now c.await_mutex.new.k c.args.self.now c.args.caller c.in-Some.id c.args.timeout c.args.id c.requires.live c.requires.kept c.in-Some.ensures c.await_mutex.ensures).lives
 
 pub inherit_at_once-requires-clause-urgent : goal.inherit_at_once-requires-clause-urgent
 inherit_at_once-requires-clause-urgent c =
-    (begun c.args.k.now c.await_turn.new.k c.args.self.now c.args.caller c.in-Some.id c.args.timeout c.args.id c.requires.live c.requires.kept c.in-Some.ensures c.await_turn.ensures).urgent
+    (begun c.args.k.now c.await_mutex.new.k c.args.self.now c.args.caller c.in-Some.id c.args.timeout c.args.id c.requires.live c.requires.kept c.in-Some.ensures c.await_mutex.ensures).urgent
 
 pub inherit_at_once-requires-clause-since : goal.inherit_at_once-requires-clause-since
 inherit_at_once-requires-clause-since c =
     omega (
       arith,
       c.requires.early.sinces,
-      (begun c.args.k.now c.await_turn.new.k c.args.self.now c.args.caller c.in-Some.id c.args.timeout c.args.id c.requires.live c.requires.kept c.in-Some.ensures c.await_turn.ensures).sinces,
+      (begun c.args.k.now c.await_mutex.new.k c.args.self.now c.args.caller c.in-Some.id c.args.timeout c.args.id c.requires.live c.requires.kept c.in-Some.ensures c.await_mutex.ensures).sinces,
     )
 
 pub returns : goal.returns
@@ -64,5 +64,5 @@ returns c =
     (eqb-false c.in-Some-owner_by.owner c.args.caller (sym c.eq.ensures ∙ c.if-eq.false)) c.if-timeout-eq-NO_WAIT.false f.there
     (both c.inherit_at_once.new.k c.args.self.now)
     (c.inherit_at_once.ensures
-    ∙ ap raised_at_once (subst (λ j. both c.await_turn.new.k c.args.self.now ≡ awaited s c.args.caller j c.args.timeout (object_of c.args.self.now.rows j)) f.same c.await_turn.ensures)) in
+    ∙ ap raised_at_once (subst (λ j. both c.await_mutex.new.k c.args.self.now ≡ awaited s c.args.caller j c.args.timeout (object_of c.args.self.now.rows j)) f.same c.await_mutex.ensures)) in
     record { ok = (m.fine, m.how_is, m.state); err = tt; kept = m.keeps }

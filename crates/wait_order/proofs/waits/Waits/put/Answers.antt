@@ -5,10 +5,10 @@ use Rattle.wind_lists.proofs.Sorting.{length-sorted}
 use Rattle.wait_order.specs.declared.waits.Waiter.{Waiter}
 use Rattle.wait_order.specs.Line.{Line, waiter_id, waiter_of, with_waiter}
 use Rattle.wait_order.specs.Fronts.{first_from}
-use Rattle.wait_order.specs.Inside.{waiters_in, by_id, precedes, IsOwn, IsBehind, AreFronts}
-use Rattle.wait_order.proofs.Turns.{line_alike}
+use Rattle.wait_order.specs.Inside.{waiters_in, by_id, precedes, IsOwn, IsAfter, AreFronts}
+use Rattle.wait_order.proofs.LineOrder.{line_alike}
 use Rattle.wait_order.proofs.Standing.{own_one, own_length, own_value, absent_in_list, by_id_more}
-use Rattle.wait_order.proofs.Changing.{start_behind, few_fronts, comes, place_there}
+use Rattle.wait_order.proofs.Changing.{start_after, few_fronts, comes, place_there}
 use Rattle.wait_order.proofs.waits.Waits.put.Goals as goal
 
 pub place_of-next-requires-clause-start : goal.place_of-next-requires-clause-start
@@ -16,7 +16,7 @@ place_of-next-requires-clause-start c =
     let k = c.self.inside in
     let kept = c.self.invariant.1 in
     let w : Waiter = record { place = c.args.place; who = c.args.who; pri = c.args.pri; since = c.args.since } in
-    subst (λ o. IsBehind (waiters_in k.waiters.chains) o w) (sym (c.first_from-start.ensures ∙ ap (λ fs. first_from fs c.args.place) c.deref.ensures.value)) (start_behind (waiters_in k.waiters.chains) k.fronts.items w kept.order kept.ahead)
+    subst (λ o. IsAfter (waiters_in k.waiters.chains) o w) (sym (c.first_from-start.ensures ∙ ap (λ fs. first_from fs c.args.place) c.deref.ensures.value)) (start_after (waiters_in k.waiters.chains) k.fronts.items w kept.order kept.ahead)
 
 pub come-requires-clause-room : goal.come-requires-clause-room
 come-requires-clause-room c =

@@ -4,7 +4,7 @@ use Rattle.wind_lists.proofs.Places.{none_without}
 use Rattle.wait_order.specs.Line.{Line, waiter_id, waiter_of, without_waiter}
 use Rattle.wait_order.specs.Inside.{waiters_in, by_id, IsOwn, IsKept, IsGone, precedes}
 use Rattle.wind_lists.specs.Sorting.{sorted}
-use Rattle.wait_order.proofs.Turns.{line_alike}
+use Rattle.wait_order.proofs.LineOrder.{line_alike}
 use Rattle.wait_order.proofs.Standing.{own_one, own_value, by_id_fewer, there_by_id, absent_by_id}
 use Rattle.wait_order.proofs.Changing.{goes, none_goes}
 use Rattle.wait_order.proofs.waits.Waits.take.Goals as goal

@@ -1,7 +1,7 @@
 use Rattle.std.proofs.Common.{◌≡◌, ap, ◌∙◌, ◌+◌}
 use Rattle.wind_core.specs.Orders.{first_due}
-use Rattle.wind_core.specs.Tick.{take_turn, wake_due}
-use Rattle.wind_core.proofs.Ticks.{at_tick, tick_is, tick-take_turn, counted_keeps}
+use Rattle.wind_core.specs.Tick.{count_slice, wake_due}
+use Rattle.wind_core.proofs.Ticks.{at_tick, tick_is, tick-count_slice, counted_keeps}
 use Rattle.wind_core.proofs.kern.Kern.tick.Goals as goal
 
 pub invariant_of-self : goal.invariant_of-self
@@ -13,7 +13,7 @@ pub returns : goal.returns
 returns c =
     let s = c.args.self.now in
     let n = c.self.inside.tick + 1 in
-    let count : n ≡ s.tick + 1 = ap (λ r. r.tick + 1) (c.self.view_is ∙ c.take_turn.ensures.turn) ∙ ap (λ m. m + 1) (tick-take_turn s) in
-    ap (at_tick n) (c.self-2.view_is ∙ c.wake_due.ensures.state ∙ ap (λ r. wake_due r n) c.take_turn.ensures.turn)
-    ∙ ap (λ m. at_tick m (wake_due (take_turn s) m)) count
+    let count : n ≡ s.tick + 1 = ap (λ r. r.tick + 1) (c.self.view_is ∙ c.count_slice.ensures.slice) ∙ ap (λ m. m + 1) (tick-count_slice s) in
+    ap (at_tick n) (c.self-2.view_is ∙ c.wake_due.ensures.state ∙ ap (λ r. wake_due r n) c.count_slice.ensures.slice)
+    ∙ ap (λ m. at_tick m (wake_due (count_slice s) m)) count
     ∙ tick_is s

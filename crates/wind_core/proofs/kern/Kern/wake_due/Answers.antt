@@ -1,10 +1,10 @@
 use Rattle.std.proofs.Common.{◌∙◌, arith, ap, length}
 use Rattle.wind_core.proofs.Waking.{length-due}
-use Rattle.wind_core.proofs.Ticks.{late_turn}
+use Rattle.wind_core.proofs.Ticks.{late_woken}
 use Rattle.wind_core.proofs.kern.Kern.wake_due.Goals as goal
 
 pub time_out-requires-clause-live : goal.time_out-requires-clause-live
-time_out-requires-clause-live c = (late_turn c.loop-late.self c.args.tick c.in-Some.late c.in-Some.ensures.sound.rising c.in-Some.ensures.first).lives
+time_out-requires-clause-live c = (late_woken c.loop-late.self c.args.tick c.in-Some.late c.in-Some.ensures.sound.rising c.in-Some.ensures.first).lives
 
 pub time_out-requires-clause-since : goal.time_out-requires-clause-since
 time_out-requires-clause-since c =
@@ -12,14 +12,14 @@ time_out-requires-clause-since c =
 
 pub loop-late-smaller : goal.loop-late-smaller
 loop-late-smaller c =
-    let turn = late_turn c.loop-late.self c.args.tick c.in-Some.late c.in-Some.ensures.sound.rising c.in-Some.ensures.first in
-    rw c.time_out.ensures (omega (arith, turn.fewer))
+    let woken = late_woken c.loop-late.self c.args.tick c.in-Some.late c.in-Some.ensures.sound.rising c.in-Some.ensures.first in
+    rw c.time_out.ensures (omega (arith, woken.fewer))
 
 pub loop-late-preserved : goal.loop-late-preserved
 loop-late-preserved c =
-    let turn = late_turn c.loop-late.self c.args.tick c.in-Some.late c.in-Some.ensures.sound.rising c.in-Some.ensures.first in
+    let woken = late_woken c.loop-late.self c.args.tick c.in-Some.late c.in-Some.ensures.sound.rising c.in-Some.ensures.first in
     rw c.time_out.ensures (record {
-      same = turn.same ∙ c.loop-late.invariant.same;
-      tick = turn.tick ∙ c.loop-late.invariant.tick;
-      room = omega (arith, turn.fewer, turn.sinces, c.loop-late.invariant.room);
+      same = woken.same ∙ c.loop-late.invariant.same;
+      tick = woken.tick ∙ c.loop-late.invariant.tick;
+      room = omega (arith, woken.fewer, woken.sinces, c.loop-late.invariant.room);
     })

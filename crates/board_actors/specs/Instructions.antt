@@ -1,0 +1,46 @@
+-- Instructions of one context, one after the other.
+use Rattle.std.specs.Prelude.{◌≡◌, ℕ, zero, suc, Option, None, Some}
+use Rattle.wind_base.specs.Gates.{gate_at}
+use Rattle.wind_base.specs.declared.regs.Regs.{Regs}
+use Rattle.wind_core.specs.Moves.{set_regs}
+use Rattle.isr_watch.specs.Calls.{with_level}
+use Rattle.ppc_core.specs.Instructions.{exec_of}
+use Rattle.ppc_core.specs.Outcomes.{Outcome, Done, Trapped}
+use Rattle.board_bus.specs.BusState.{BusState}
+use Rattle.board_bus.specs.Access.{board_meaning, fetched}
+use Rattle.kernel_world.specs.State.{WorldState}
+use Rattle.wind_machine.specs.Part.{with_kern}
+use Rattle.wind_machine.specs.Processor.{with_bus}
+use Rattle.wind_machine.specs.Routine.{with_watch}
+use Rattle.board_actors.specs.declared.step_kind.StepKind.{StepKind}
+use Rattle.board_actors.specs.declared.step_kind.StepKind.TheVariants as kinds
+
+-- the kind of a step at this word, if one can be fetched: an instruction, unless its effect is a trap
+abbrev pub outcome_kind : Outcome BusState → StepKind
+outcome_kind (Done regs bus) = kinds.Instruction
+outcome_kind (Trapped trap) = kinds.Other
+
+abbrev pub word_kind : Option ℕ → Regs → BusState → StepKind
+word_kind None regs bus = kinds.Other
+word_kind (Some word) regs bus = outcome_kind (exec_of board_meaning regs word bus)
+
+-- one instruction leads from these registers and this bus to those: no gate, among those from a start on, is at the
+-- program counter, the word there can be fetched, and its effect is no trap
+pub record Executes (start : ℕ) (r : Regs) (b : BusState) (after : Regs) (bus : BusState) : Type 0 where
+  pub no_gate : gate_at start r.pc ≡ None
+  pub word : ℕ
+  pub there : fetched b r.pc ≡ Some word
+  pub done : exec_of board_meaning r word b ≡ Done after bus
+
+-- k instructions lead there, one after the other
+abbrev pub ExecutesMany : ℕ → ℕ → Regs → BusState → Regs → BusState → Type 0
+ExecutesMany start zero r b after bus = (after ≡ r) × (bus ≡ b)
+ExecutesMany start (suc k) r b after bus = (m : Regs) × (c : BusState) × ExecutesMany start k r b m c × Executes start m c after bus
+
+-- the world with these registers of the task, and this bus
+abbrev pub executed_to : WorldState → ℕ → Regs → BusState → WorldState
+executed_to w who regs bus = with_bus (with_kern w (set_regs w.kern who regs)) bus
+
+-- the world with these registers of the active interrupt routine, and this bus
+abbrev pub routine_executed_to : WorldState → Regs → BusState → WorldState
+routine_executed_to w regs bus = with_bus (with_watch w (with_level w.watch regs)) bus

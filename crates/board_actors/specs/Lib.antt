@@ -1,0 +1,4 @@
+pub mod Instructions
+pub mod ShellInside
+pub mod StepStart
+pub mod Running

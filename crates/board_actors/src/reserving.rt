@@ -1,0 +1,83 @@
+//! When reservations are dropped.
+
+ghost use Rattle.std.specs.Prelude.{◌≡◌, IfSome};
+ghost use Rattle.wind_core.specs.State.{Lives};
+ghost use Rattle.wind_core.specs.Moves.{unreserve};
+ghost use Rattle.kernel_world.specs.Kept.{ReservedBy};
+ghost use Rattle.board_actors.specs.StepStart.{if_live as if_live_lem, if_other, other_holder as other_holder_lem, without};
+ghost use Rattle.wind_machine.specs.Reserving.{drop_others as drop_others_lem, drop_all as drop_all_lem};
+
+use id_table::Ident;
+use wind_core::Kern;
+
+// The task, if it lives.
+fn if_live(kern: &Kern, who: Option<Ident>) -> Option<Ident>
+    ensures task { result ≡ if_live_lem kern.now.tasks who }
+    ensures live { IfSome result (λ id. Lives kern.now id) }
+{
+    match who {
+        Some(id) if kern.task(id).is_some() => Some(id),
+        _ => None,
+    }
+}
+
+// The task that ran last, if it is another one.
+fn other_last(kern: &Kern, who: Ident) -> Option<Ident>
+    ensures { result ≡ if_other who kern.now.last }
+{
+    match kern.last() {
+        Some(last) if last != who => Some(last),
+        _ => None,
+    }
+}
+
+/// The task whose reservation is dropped at a step of `who`. Only the task that ran last can have
+/// one.
+pub(crate) fn other_holder(kern: &Kern, who: Ident) -> Option<Ident>
+    ensures holder { result ≡ other_holder_lem kern.now who }
+    ensures live { IfSome result (λ last. Lives kern.now last) }
+{
+    if_live(kern, other_last(kern, who))
+}
+
+// Drops the reservation of this task, if one is given.
+#[inline]
+fn drop_of(kern: &mut Kern, holder: Option<Ident>)
+    requires { IfSome holder (λ last. Lives kern.old last) }
+    ensures { kern.new ≡ without kern.old holder }
+{
+    if let Some(last) = holder {
+        kern.unreserve(last);
+    }
+}
+
+/// Drops the reservations of all tasks except this one.
+#[tactic(auto, using(crate::proofs::Dropped::dropped_others))]
+#[inline]
+pub(crate) fn drop_others(kern: &mut Kern, who: Ident)
+    requires { ReservedBy kern.old.last kern.old }
+    ensures { kern.new ≡ drop_others_lem kern.old who }
+{
+    let holder = other_holder(kern, who);
+    drop_of(kern, holder);
+}
+
+/// Drops the reservations of all tasks.
+#[tactic(auto, using(crate::proofs::Dropped::dropped_all))]
+pub fn drop_all(kern: &mut Kern)
+    requires { ReservedBy kern.old.last kern.old }
+    ensures { kern.new ≡ drop_all_lem kern.old }
+{
+    let holder = if_live(kern, kern.last());
+    drop_of(kern, holder);
+}
+
+/// Drops the reservation of this task.
+#[tactic(auto, using(crate::proofs::Dropped::not_own))]
+pub fn drop_own(kern: &mut Kern, who: Ident)
+    ensures { kern.new ≡ unreserve kern.old who }
+{
+    if kern.task(who).is_some() {
+        kern.unreserve(who);
+    }
+}

@@ -1,5 +1,0 @@
-use Rattle.board_turns.proofs.Readied.{all_ready}
-use Rattle.board_turns.proofs.turns.routine_turn.Goals as goal
-
-pub returns-clause-ready : goal.returns-clause-ready
-returns-clause-ready g c = rw (c.clear.ensures, c.drop_all.ensures) (all_ready _ c.requires.kept c.requires.early)

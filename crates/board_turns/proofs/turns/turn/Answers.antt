@@ -1,5 +1,0 @@
-use Rattle.board_turns.proofs.Readied.{readies}
-use Rattle.board_turns.proofs.turns.turn.Goals as goal
-
-pub returns-clause-ready : goal.returns-clause-ready
-returns-clause-ready g c = rw (c.clear.ensures, c.drop_others.ensures) (readies _ c.args.who c.requires.kept c.requires.early)

@@ -1,4 +1,0 @@
-pub mod Instructions
-pub mod ShellInside
-pub mod Turns
-pub mod Running

@@ -1,6 +1,0 @@
-use Rattle.std.proofs.Common.{◌≡◌, drop}
-use Rattle.elf_read.specs.Rules.{ident_from}
-use Rattle.elf_read.proofs.front_rules.check_front.Given as goal
-
-abbrev pub invariant-loop-i : goal.invariant-loop-i
-invariant-loop-i l = ident_from l.i (drop l.i l.front) l.bytes ≡ ident_from 0 l.front l.bytes

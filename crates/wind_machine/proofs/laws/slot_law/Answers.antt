@@ -1,0 +1,11 @@
+use Rattle.wind_machine.proofs.SlotRuns.{slot_steps, lines_open, lines_valid}
+use Rattle.wind_machine.proofs.laws.slot_law.Goals as goal
+
+pub returns-clause-step : goal.returns-clause-step
+returns-clause-step c = slot_steps
+
+pub returns-clause-open : goal.returns-clause-open
+returns-clause-open c = lines_open
+
+pub returns-clause-lines : goal.returns-clause-lines
+returns-clause-lines c = lines_valid

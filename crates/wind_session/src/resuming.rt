@@ -1,0 +1,71 @@
+//! A run that goes on after it has reached its limit.
+
+ghost use Rattle.std.specs.Prelude.{◌≡◌, ◌≤◌, ℕ, ◌+◌};
+ghost use Rattle.wind_base.specs.Limits.{most_steps};
+ghost use Rattle.wind_outside.specs.Counts.{Rose};
+ghost use Rattle.board_player.specs.Seen.{seen};
+ghost use Rattle.wind_machine.specs.State.{State};
+ghost use Rattle.wind_machine.specs.Machine.{IsOver};
+ghost use Rattle.wind_machine.specs.Extending.{IsRoom};
+ghost use Rattle.wind_session.specs.Outside.{Outside, outside};
+ghost use Rattle.wind_session.specs.Runs.{Ran};
+ghost use Rattle.wind_session.specs.declared.run.RunEnd.TheVariants as ends;
+
+use crate::modules::{Move, step};
+use crate::run::{RunEnd, put_some};
+use board_player::Board;
+use std::alloc::Global;
+use wind_machine::{extend_law, silent_law};
+use wind_outside::{Device, Folder, Put, Sink};
+
+/// Makes at most `most` further steps, and puts what each of them writes. The modules that the
+/// steps need are fetched from the folder. If the board has made all its steps in a run that
+/// reached its limit, that run goes on, with a limit higher by `most`.
+pub fn resume_board<F: Folder, O: Sink>(
+    alloc: Global,
+    board: &mut Board,
+    folder: &mut F,
+    modules: &str,
+    out: &mut O,
+    most: u64,
+) -> RunEnd
+    requires bound { (seen ⟦<dyn Device as Device>⟧ board.old).steps + most ≤ most_steps }
+    ensures ran { (start : State) (first : Outside)
+        → Ran ends.Limit (record { files = F.files folder.old; name = modules.now }) start
+        (seen ⟦<dyn Device as Device>⟧ board.old).steps (seen ⟦<dyn Device as Device>⟧ board.old) first
+        (outside (F.requests folder.old) (O.bytes out.old) (O.pieces out.old))
+        → Ran result (record { files = F.files folder.old; name = modules.now }) start
+        ((seen ⟦<dyn Device as Device>⟧ board.old).steps + most) (seen ⟦<dyn Device as Device>⟧ board.new) first
+        (outside (F.requests folder.new) (O.bytes out.new) (O.pieces out.new)) }
+    ensures quiet { result ≡ ends.Quiet → IsOver (seen ⟦<dyn Device as Device>⟧ board.new) }
+    ensures steps { (seen ⟦<dyn Device as Device>⟧ board.new).steps
+        ≤ (seen ⟦<dyn Device as Device>⟧ board.old).steps + most }
+    ensures room { (time line : ℕ) → IsRoom time line (seen ⟦<dyn Device as Device>⟧ board.old)
+        → IsRoom time line (seen ⟦<dyn Device as Device>⟧ board.new) }
+    ensures read_fault { result ≡ ends.ReadFault → Rose (F.faults folder.old) (F.faults folder.new) }
+    ensures fault { result ≡ ends.WriteFault → Rose (O.faults out.old) (O.faults out.new) }
+    ensures files { F.files folder.new ≡ F.files folder.old }
+    ensures folder_faults { F.faults folder.old ≤ F.faults folder.new }
+    ensures faults { O.faults out.old ≤ O.faults out.new }
+{
+    silent_law();
+    extend_law();
+    let mut made = 0;
+    while made < most {
+        made += board.burst(most - made);
+        if made == most {
+            return RunEnd::Limit;
+        }
+        match step(alloc, board, folder, modules) {
+            Move::Made => made += 1,
+            Move::Quiet => return RunEnd::Quiet,
+            Move::ReadFault => return RunEnd::ReadFault,
+            Move::NoMemory => return RunEnd::NoMemory,
+        }
+        match put_some(out, board.output()) {
+            Put::Done => {}
+            Put::Failed => return RunEnd::WriteFault,
+        }
+    }
+    RunEnd::Limit
+}
