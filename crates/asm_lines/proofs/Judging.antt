@@ -72,18 +72,18 @@ pub exceeds_lines : (d : Draft) (ps : List Placed) → IsDraft d ps → exceeds 
 unfolding exceeds is_too_large
 exceeds_lines d ps a = rw (a.in_text.bytes, a.in_data.bytes, a.names.entries, a.labels, a.in_text.fixes, a.in_data.fixes) refl
 
-or_parts : (a b : Bool) → (a || b) ≡ false → (a ≡ false) × (b ≡ false)
-or_parts true b h = cc
-or_parts false b h = (refl, h)
+pub none_of_five : (a b c d e : Bool) → (a || (b || (c || (d || e)))) ≡ false → (a ≡ false) × (b ≡ false) × (c ≡ false) × (d ≡ false) × (e ≡ false)
+none_of_five true b c d e h = cc
+none_of_five false true c d e h = cc
+none_of_five false false true d e h = cc
+none_of_five false false false true e h = cc
+none_of_five false false false false e h = (refl, refl, refl, refl, h)
 
 pub small_draft : (d : Draft) → exceeds d ≡ false → IsSmall d
 unfolding exceeds
 small_draft d h =
-    let a = or_parts _ _ h in
-    let b = or_parts _ _ a.1 in
-    let e = or_parts _ _ b.1 in
-    let f = or_parts _ _ e.1 in
-    record { small_text = ltb-false _ _ a.0; small_data = ltb-false _ _ b.0; few_names = ltb-false _ _ e.0; few_labels = ltb-false _ _ f.0 }
+    let (a, b, c, e, f) = none_of_five _ _ _ _ _ h in
+    record { small_text = ltb-false _ _ a; small_data = ltb-false _ _ b; few_names = ltb-false _ _ c; few_labels = ltb-false _ _ e }
 
 pub some_not_none : (o : Option Cause) → is_some o ≡ true → o ≡ None → ⊥
 some_not_none None h e = cc

@@ -1,5 +1,6 @@
 -- Why a line is refused. A source text gives its lines, or the first refused line with its first cause.
 use Rattle.std.specs.Prelude.{◌≡◌, ℕ, ◌+◌, ◌%◌, Bool, false, not, ◌==◌, ◌&&◌, ◌||◌, nat_lt, if◌then◌else◌, List, [], ◌∷◌, ◌++◌, length, map, Option, Some, None, Result, Ok, Err}
+use Rattle.text_lines.specs.Lines.{pieces}
 use Rattle.ppc_word.specs.Rows.{are_fields}
 use Rattle.ppc_text.specs.declared.line.Item.{Item}
 use Rattle.ppc_text.specs.declared.line.Item.TheVariants as kinds
@@ -9,7 +10,7 @@ use Rattle.asm_lines.specs.declared.error.Cause.{Cause}
 use Rattle.asm_lines.specs.declared.error.Cause.TheVariants as causes
 use Rattle.asm_lines.specs.declared.error.AsmErr.{AsmErr}
 use Rattle.asm_lines.specs.declared.error.AsmErr.TheVariants as errors
-use Rattle.asm_lines.specs.Items.{Placed, section_at, next, size, lines_of}
+use Rattle.asm_lines.specs.Items.{Placed, section_at, next, size}
 use Rattle.asm_lines.specs.Names.{has_name, defined, mentions, first_names, labels, fixes}
 
 -- the most bytes of a section: 1 MiB
@@ -74,7 +75,7 @@ judged ps n (Some l ∷ ls) = or_refused n (cause_of ps l) (judged (ps ++ next p
 
 -- the lines of a source text with their sections, or the first refused line, counted from 1, with its first cause
 unfoldable pub items : List ℕ → Result (List Placed) (ℕ × Cause)
-items text = judged [] 1 (map line_of (lines_of text))
+items text = judged [] 1 (map line_of (pieces text))
 
 -- an error is this refusal, or says that memory ran out
 abbrev pub Tells : {A : Type 0} → Result A (ℕ × Cause) → AsmErr → Type 0

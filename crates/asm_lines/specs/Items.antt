@@ -9,17 +9,6 @@ use Rattle.ppc_text.specs.declared.line.Item.{Item}
 use Rattle.ppc_text.specs.declared.line.Item.TheVariants as items
 use Rattle.ppc_text.specs.declared.line.Line.{Line}
 
--- ---- lines of a text
--- the lines, with a byte more at the start of the first
-abbrev pub onto_first : ℕ → List (List ℕ) → List (List ℕ)
-onto_first b [] = (b ∷ []) ∷ []
-onto_first b (line ∷ lines) = (b ∷ line) ∷ lines
-
--- the lines of a text: each 0x0A ends one, and belongs to none
-abbrev pub lines_of : List ℕ → List (List ℕ)
-lines_of [] = [] ∷ []
-lines_of (b ∷ bs) = if b == 10 then [] ∷ lines_of bs else onto_first b (lines_of bs)
-
 -- ---- sections
 -- a line, with the section `before` of its label and the section of its item: 0 is text, 1 is data
 pub record Placed : Type 0 where

@@ -1,7 +1,6 @@
 -- Instructions, one after the other.
 use Rattle.std.proofs.Common.{◌≡◌, ℕ, ◌+◌, ◌-◌, ◌/◌, ◌%◌, ◌<◌, ◌≤◌, ◌&&◌, ◌==◌, Bool, true, false, cond, eqb, List, length, Option, None, Some, Result, refl, sym, ap, ◌∙◌, subst, add-one, arith}
 use Rattle.std.specs.Prelude.{is_err, unwrap_or, nat_le, if◌then◌else◌}
-use Rattle.std.specs.Option.{option_map}
 use Rattle.std.proofs.lemmas.Bool.Decides.{nat_tests}
 use Rattle.wind_base.specs.Limits.{gate_bytes}
 use Rattle.wind_base.specs.Boards.{board_rules}
@@ -13,14 +12,14 @@ use Rattle.ppc_core.specs.declared.trap.Trap.{Trap}
 use Rattle.board_bus.specs.BusState.{BusState}
 use Rattle.board_mem.specs.Memory.{number_at, read}
 use Rattle.board_bus.specs.Access.{board_meaning, fetched}
-use Rattle.wind_core.specs.State.{task_of}
 use Rattle.kernel_world.specs.State.{WorldState}
 use Rattle.kernel_world.specs.Starting.{no_regs}
+use Rattle.kernel_world.specs.Actors.{regs_of as found_regs}
+use Rattle.kernel_world.specs.declared.actor.Actor.{Actor}
 use Rattle.wind_machine.specs.Processor.{bus_of, regs_of}
-use Rattle.wind_machine.specs.Routine.{routine_regs}
 use Rattle.wind_machine.proofs.Executing.{IfDone, executing_lasts, sizes_last}
-use Rattle.board_actors.specs.Instructions.{ExecutesMany, executed_to, routine_executed_to}
-use Rattle.board_actors.specs.Running.{RanMany, RoutineRanMany}
+use Rattle.board_actors.specs.Instructions.{ExecutesMany, executed_to}
+use Rattle.board_actors.specs.Running.{RanMany}
 
 -- no gate is below the first
 no_gate : (start at : ℕ) → at < start → gate_at start at ≡ None
@@ -69,26 +68,14 @@ one_more k word r m after b c bus found res bad runs fetch there leaves err ok =
       size = subst (λ o. IfDone (λ d. length d.ram ≡ length c.ram) o) done (executing_lasts board_meaning (λ d. length d.ram ≡ length c.ram) (sizes_last (length c.ram)) m word c refl) ∙ runs.size;
     }
 
--- a task has executed k instructions
-pub ran_many : (w : WorldState) (who k : ℕ) (old regs : Regs) (bus : BusState) → option_map (λ t. t.regs) (task_of w.kern.tasks who) ≡ Some old
-    → ExecutesMany (board_rules w.board).gates_start k old (bus_of w) regs bus → RanMany k who w (executed_to w who regs bus)
-ran_many w who k old regs bus e many =
-    let same : regs_of w who ≡ old = ap (λ o. unwrap_or o no_regs) e in
+-- the actor, which is this one, has executed k instructions
+pub ran_many : (w : WorldState) (who a : Actor) → who ≡ a → (k : ℕ) (old regs : Regs) (bus : BusState) → found_regs w.kern w.watch.level a ≡ Some old
+    → ExecutesMany (board_rules w.board).gates_start k old (bus_of w) regs bus → RanMany k who w (executed_to w a regs bus)
+ran_many w who a is k old regs bus e many =
+    let same : regs_of w who ≡ old = ap (regs_of w) is ∙ ap (λ o. unwrap_or o no_regs) e in
     record {
       regs = regs;
       bus = bus;
       many = subst (λ x. ExecutesMany (board_rules w.board).gates_start k x (bus_of w) regs bus) (sym same) many;
-      world = refl;
-    }
-
--- the interrupt routine has
-pub routine_ran_many : (w : WorldState) (k : ℕ) (old regs : Regs) (bus : BusState) → w.watch.level ≡ Some old
-    → ExecutesMany (board_rules w.board).gates_start k old (bus_of w) regs bus → RoutineRanMany k w (routine_executed_to w regs bus)
-routine_ran_many w k old regs bus e many =
-    let same : routine_regs w ≡ old = ap (λ o. unwrap_or o no_regs) e in
-    record {
-      regs = regs;
-      bus = bus;
-      many = subst (λ x. ExecutesMany (board_rules w.board).gates_start k x (bus_of w) regs bus) (sym same) many;
-      world = refl;
+      world = ap (λ x. executed_to w x regs bus) (sym is);
     }

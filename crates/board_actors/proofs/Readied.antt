@@ -18,7 +18,7 @@ use Rattle.wind_machine.specs.Reserving.{drop_others, drop_all}
 use Rattle.wind_machine.proofs.Free.{own_found, step_start_ready}
 use Rattle.wind_machine.proofs.Dropping.{others_advance, all_advance}
 use Rattle.wind_machine.proofs.Reserving.{regs_again}
-use Rattle.board_actors.specs.StepStart.{other_holder, with_regs, kept_if, kept_of, put_back, restored, without, Readies, IsReadied}
+use Rattle.board_actors.specs.StepStart.{other_holder, kept_with, kept_if, kept_of, put_back, restored, without, Readies, IsReadied}
 use Rattle.board_actors.proofs.Dropped.{dropped_others, not_own}
 
 within : (w : WorldState) → IsEarly w → Within (2 ^ 60 - 1) w
@@ -68,7 +68,7 @@ all_ready w kept early =
 given : (k : KernState) (o : Option ℕ) → IsKern k → put_back (without k o) (kept_if k.tasks o) ≡ k
 given k None is = refl
 given k (Some last) is = by_task (task_of k.tasks last) refl where
-  by_task : (o : Option Task) → task_of k.tasks last ≡ o → put_back (unreserve k last) (with_regs o) ≡ k
+  by_task : (o : Option Task) → task_of k.tasks last ≡ o → put_back (unreserve k last) (kept_with o) ≡ k
   by_task None e = not_own k last (ap is_some e)
   by_task (Some t) e = ap (λ n. set_regs (unreserve k last) n t.regs) (found_id task_id k.tasks last t e) ∙ regs_again k last t is e
 

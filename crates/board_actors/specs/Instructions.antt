@@ -1,17 +1,14 @@
--- Instructions of one context, one after the other.
+-- Instructions of one actor, one after the other.
 use Rattle.std.specs.Prelude.{◌≡◌, ℕ, zero, suc, Option, None, Some}
 use Rattle.wind_base.specs.Gates.{gate_at}
 use Rattle.wind_base.specs.declared.regs.Regs.{Regs}
-use Rattle.wind_core.specs.Moves.{set_regs}
-use Rattle.isr_watch.specs.Calls.{with_level}
 use Rattle.ppc_core.specs.Instructions.{exec_of}
 use Rattle.ppc_core.specs.Outcomes.{Outcome, Done, Trapped}
 use Rattle.board_bus.specs.BusState.{BusState}
 use Rattle.board_bus.specs.Access.{board_meaning, fetched}
 use Rattle.kernel_world.specs.State.{WorldState}
-use Rattle.wind_machine.specs.Part.{with_kern}
-use Rattle.wind_machine.specs.Processor.{with_bus}
-use Rattle.wind_machine.specs.Routine.{with_watch}
+use Rattle.kernel_world.specs.declared.actor.Actor.{Actor}
+use Rattle.wind_machine.specs.Processor.{with_bus, with_regs}
 use Rattle.board_actors.specs.declared.step_kind.StepKind.{StepKind}
 use Rattle.board_actors.specs.declared.step_kind.StepKind.TheVariants as kinds
 
@@ -37,10 +34,6 @@ abbrev pub ExecutesMany : ℕ → ℕ → Regs → BusState → Regs → BusStat
 ExecutesMany start zero r b after bus = (after ≡ r) × (bus ≡ b)
 ExecutesMany start (suc k) r b after bus = (m : Regs) × (c : BusState) × ExecutesMany start k r b m c × Executes start m c after bus
 
--- the world with these registers of the task, and this bus
-abbrev pub executed_to : WorldState → ℕ → Regs → BusState → WorldState
-executed_to w who regs bus = with_bus (with_kern w (set_regs w.kern who regs)) bus
-
--- the world with these registers of the active interrupt routine, and this bus
-abbrev pub routine_executed_to : WorldState → Regs → BusState → WorldState
-routine_executed_to w regs bus = with_bus (with_watch w (with_level w.watch regs)) bus
+-- the world with these registers of the actor, and this bus
+abbrev pub executed_to : WorldState → Actor → Regs → BusState → WorldState
+executed_to w who regs bus = with_bus (with_regs w who regs) bus

@@ -7,6 +7,7 @@ use Rattle.wind_core.specs.Moves.{set_regs, unreserve}
 use Rattle.kernel_world.specs.Objects.{IsReady}
 use Rattle.kernel_world.specs.State.{WorldState}
 use Rattle.kernel_world.specs.Kept.{IsWorld, IsEarly}
+use Rattle.kernel_world.specs.declared.actor.Actor.TheVariants.{Task as by_task}
 use Rattle.wind_machine.specs.Processor.{regs_of}
 
 -- the task, if there is one and it lives
@@ -24,13 +25,13 @@ abbrev pub other_holder : KernState → ℕ → Option ℕ
 other_holder k who = if_live k.tasks (if_other who k.last)
 
 -- that task with its registers
-abbrev pub with_regs : Option Task → Option (ℕ × Regs)
-with_regs None = None
-with_regs (Some t) = Some (t.id, t.regs)
+abbrev pub kept_with : Option Task → Option (ℕ × Regs)
+kept_with None = None
+kept_with (Some t) = Some (t.id, t.regs)
 
 abbrev pub kept_if : List Task → Option ℕ → Option (ℕ × Regs)
 kept_if ts None = None
-kept_if ts (Some last) = with_regs (task_of ts last)
+kept_if ts (Some last) = kept_with (task_of ts last)
 
 abbrev pub kept_of : KernState → ℕ → Option (ℕ × Regs)
 kept_of k who = kept_if k.tasks (other_holder k who)
@@ -56,7 +57,7 @@ pub record Readies (old new : WorldState) (who : ℕ) : Type 0 where
   pub early : IsEarly new
   pub lives : (id : ℕ) → Lives old.kern id → Lives new.kern id
   pub ready : IsReady old.kern who → IsReady new.kern who
-  pub regs : regs_of new who ≡ regs_of old who
+  pub regs : regs_of new (by_task who) ≡ regs_of old (by_task who)
 
 -- the invariant of a world after the beginning of a step
 pub record IsReadied (w : WorldState) : Type 0 where

@@ -1,16 +1,14 @@
-//! Instructions of one context, one after the other, with nothing in between.
+//! Instructions of one actor, one after the other, with nothing in between.
 
-ghost use Rattle.std.specs.Prelude.{◌≡◌, ℕ, ◌≤◌, true, is_some, length};
+ghost use Rattle.std.specs.Prelude.{◌≡◌, ℕ, ◌≤◌, length};
 ghost use Rattle.wind_base.specs.Boards.{board_rules};
-ghost use Rattle.wind_core.specs.State.{Lives, IsKern};
 ghost use Rattle.board_bus.specs.Seen.{bus_seen};
 ghost use Rattle.kernel_world.specs.Seen.{world_seen};
 ghost use Rattle.board_actors.specs.Instructions.{ExecutesMany};
-ghost use Rattle.board_actors.specs.Running.{RanMany, RoutineRanMany};
+ghost use Rattle.board_actors.specs.Running.{IsThere, RanMany};
 
 use board_bus::BoardBus;
-use id_table::Ident;
-use kernel_world::World;
+use kernel_world::{Actor, World};
 use ppc_core::exec_inline;
 use wind_base::Regs;
 use wind_outside::Device;
@@ -37,31 +35,22 @@ fn run_words(regs: &mut Regs, bus: &mut BoardBus, most: u64) -> u64
     most
 }
 
-/// Executes at most `most` instructions of a task, as long as each can be fetched and causes no
+/// Executes at most `most` instructions of an actor, as long as each can be fetched and causes no
 /// exception. The gates come after RAM, so none of them is at a gate. Returns how many it executed.
-pub fn execute_many(world: &mut World, who: Ident, most: u64) -> u64
-    requires live { Lives world.old.kern who }
-    requires kern { IsKern world.old.kern }
+#[inline(always)]
+pub fn execute_many(world: &mut World, who: &Actor, most: u64) -> u64
+    requires there { IsThere (world_seen ⟦<dyn Device as Device>⟧ world.old) who.now }
     requires ram { length world.old.bus.ram.bytes ≤ (board_rules world.old.board).gates_start }
-    ensures ran { RanMany result who (world_seen ⟦<dyn Device as Device>⟧ world.old)
+    ensures ran { RanMany result who.now (world_seen ⟦<dyn Device as Device>⟧ world.old)
         (world_seen ⟦<dyn Device as Device>⟧ world.new) }
     ensures within { result ≤ most }
     ensures out { world.new.out ≡ world.old.out }
 {
-    run_words(world.kern.regs_of(who), &mut world.bus, most)
-}
-
-/// The same for the active interrupt routine.
-pub fn execute_many_of_routine(world: &mut World, most: u64) -> u64
-    requires active { is_some world.old.watch.level ≡ true }
-    requires ram { length world.old.bus.ram.bytes ≤ (board_rules world.old.board).gates_start }
-    ensures ran { RoutineRanMany result (world_seen ⟦<dyn Device as Device>⟧ world.old)
-        (world_seen ⟦<dyn Device as Device>⟧ world.new) }
-    ensures within { result ≤ most }
-    ensures out { world.new.out ≡ world.old.out }
-{
-    match world.watch.regs_mut() {
-        Some(regs) => run_words(regs, &mut world.bus, most),
-        None => unreachable!(),
+    match who {
+        Actor::Task(id) => run_words(world.kern.regs_of(*id), &mut world.bus, most),
+        Actor::Interrupt => match world.watch.regs_mut() {
+            Some(regs) => run_words(regs, &mut world.bus, most),
+            None => unreachable!(),
+        },
     }
 }

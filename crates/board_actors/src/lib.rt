@@ -16,10 +16,10 @@ mod text;
 
 pub use arrival::hear_chunk;
 pub use feed::{Feed, brought, chunk_len};
-pub use instructions::{execute_many, execute_many_of_routine};
-pub use processor::{at_gate, counter, execute};
+pub use instructions::execute_many;
+pub use processor::{at_gate, counter, execute, run_routine};
 pub use reserving::{drop_all, drop_own};
-pub use routine::{INTERRUPT_TOP, put_return, run_routine};
+pub use routine::{INTERRUPT_TOP, put_return};
 pub use shell::Shell;
 pub use shell_task::{listen, shell_id, waits_for_console};
 pub use step_kind::StepKind;

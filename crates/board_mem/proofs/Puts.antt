@@ -1,16 +1,16 @@
 -- Bytes written into one page: the store and the pages afterwards.
 use Rattle.std.proofs.Common.{◌≡◌, ℕ, List, length, refl, sym, ap, ap₂, ◌∙◌, arith}
 use Rattle.board_mem.specs.Memory.{with_bytes}
-use Rattle.board_mem.specs.Pages.{PagesState, made_with, written_at}
+use Rattle.board_mem.specs.Pages.{PagesState, made_with, page_of, written_at}
 use Rattle.board_mem.specs.Store.{place_of, bytes_of, made_of, IsMade, IsStore}
 use Rattle.board_mem.proofs.Stores.{length-made_of}
-use Rattle.board_mem.proofs.Windows.{IsWindow, window_page, bytes_of-put, IsStore-put}
+use Rattle.board_mem.proofs.Windows.{IsWindow, pages_of, window_page, bytes_of-put, IsStore-put}
 use Rattle.board_mem.proofs.Writings.{made_with-page}
 
 -- bytes are written at an address, in a page that was created for it: from index and store over index₁ and store₁ to index₂ and store₂
 pub record IsPut (size : ℕ) (index store index₁ store₁ index₂ store₂ : List ℕ) (capacity capacity₁ at : ℕ) (src : List ℕ) : Type 0 where
   pub window : IsWindow size index store capacity at (length src)
-  pub page : IsMade index store index₁ store₁ capacity₁ at
+  pub page : IsMade index store index₁ store₁ capacity₁ (page_of at)
   pub size_same : length index₁ ≡ length index
   pub index_same : index₂ ≡ index₁
   pub put : store₂ ≡ with_bytes store₁ (place_of index₁ at) src
@@ -41,3 +41,12 @@ made_after {index = index} {at = at} {src = src} p s b m =
     let here = window_page p.window in
     ap made_of p.index_same ∙ p.page.made
     ∙ sym (ap (λ made. made_with made at (length src)) m ∙ made_with-page (made_of index) at (length src) p.window.some p.window.page (omega (arith, here, length-made_of index)))
+
+-- both together
+pub put_pages : {size : ℕ} {index store index₁ store₁ index₂ store₂ : List ℕ} {capacity capacity₁ at : ℕ} {src : List ℕ} → IsPut size index store index₁ store₁ index₂ store₂ capacity capacity₁ at src → (s : PagesState) → pages_of size index store ≡ s → pages_of size index₂ store₂ ≡ written_at s at src
+put_pages p s is =
+    let bytes = ap (λ (q : PagesState). q.bytes) (sym is) in
+    let made = ap (λ (q : PagesState). q.made) (sym is) in
+    let b = pages_after p s bytes made in
+    let m = made_after p s bytes made in
+    λ i. record { bytes = b i; made = m i }

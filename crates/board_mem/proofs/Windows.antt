@@ -3,8 +3,8 @@ use Rattle.std.proofs.Common.{◌≡◌, ℕ, ◌+◌, ◌-◌, ◌*◌, ◌%◌
 use Rattle.std.proofs.lemmas.Bool.{cases_eq, cases_lt}
 use Rattle.std.proofs.lemmas.List.{ext_get_or, get_or-take, get_or-drop, length-take-le, length-drop}
 use Rattle.board_mem.specs.Memory.{bytes_at, with_bytes}
-use Rattle.board_mem.specs.Pages.{page_of, page_bytes}
-use Rattle.board_mem.specs.Store.{place_of, bytes_of, IsStore}
+use Rattle.board_mem.specs.Pages.{PagesState, page_of, page_bytes}
+use Rattle.board_mem.specs.Store.{place_of, bytes_of, made_of, IsStore}
 use Rattle.board_mem.proofs.Sizes.{length-with_bytes}
 use Rattle.board_mem.proofs.Splices.{get_or-with_inside, get_or-with_below, get_or-with_after}
 use Rattle.board_mem.proofs.Stores.{get_or-bytes_of, length-bytes_of, bytes_of-is}
@@ -15,6 +15,20 @@ pub record IsWindow (size : ℕ) (index store : List ℕ) (capacity at n : ℕ) 
   pub some : 0 < n
   pub page : at % page_bytes + n ≤ page_bytes
   pub there : at + n ≤ size
+
+-- the pages of a store
+abbrev pub pages_of : ℕ → List ℕ → List ℕ → PagesState
+pages_of size index store = record { bytes = bytes_of size index store; made = made_of index }
+
+-- a range of the pages' bytes that is in one page
+pub window_in : {size : ℕ} {index store : List ℕ} {capacity at n : ℕ} (s : PagesState) → IsStore size index store capacity → pages_of size index store ≡ s → 0 < n
+    → at % page_bytes + n ≤ page_bytes → at + n ≤ length s.bytes → IsWindow size index store capacity at n
+window_in {size} {index} {store} s kept is some page there = record {
+  kept = kept;
+  some = some;
+  page = page;
+  there = omega (arith, there, ap (λ (p : PagesState). length p.bytes) is, length-bytes_of size index store);
+}
 
 -- their page is in the index
 pub window_page : {size : ℕ} {index store : List ℕ} {capacity at n : ℕ} → IsWindow size index store capacity at n → page_of at < length index

@@ -41,9 +41,9 @@ pub record IsStore (size : ℕ) (index store : List ℕ) (capacity : ℕ) : Type
   pub cover : length index ≡ pages_for size
   pub addressed : size < 2 ^ 32
 
--- the page of an address is created, if it wasn't yet, and no byte changes
-pub record IsMade (index store index_after store_after : List ℕ) (capacity at : ℕ) : Type 0 where
+-- a page is created, if it wasn't yet, and no byte changes
+pub record IsMade (index store index_after store_after : List ℕ) (capacity page : ℕ) : Type 0 where
   pub stored : AreStored index_after store_after capacity
-  pub numbered : 0 < slice_index index_after (page_of at)
-  pub made : made_of index_after ≡ slice_set (made_of index) (page_of at) true
+  pub numbered : 0 < slice_index index_after page
+  pub made : made_of index_after ≡ slice_set (made_of index) page true
   pub bytes : (size : ℕ) → size ≤ page_bytes * length index → bytes_of size index_after store_after ≡ bytes_of size index store

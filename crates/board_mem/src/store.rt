@@ -1,9 +1,9 @@
 //! The store of the pages, and the number that each page of addresses has in it.
 
-ghost use Rattle.std.specs.Prelude.{◌≡◌, ◌+◌, ◌*◌, ◌%◌, ◌<◌, ◌≤◌, ℕ, true, length, replicate, slice_index, slice_set, vec_capacity};
+ghost use Rattle.std.specs.Prelude.{◌≡◌, ◌+◌, ◌<◌, ◌≤◌, length, replicate, slice_index, vec_capacity};
 ghost use Rattle.board_mem.specs.Memory.{with_bytes};
-ghost use Rattle.board_mem.specs.Pages.{page_bytes, page_of};
-ghost use Rattle.board_mem.specs.Store.{AreStored, IsMade, bytes_of, made_of, place_of};
+ghost use Rattle.board_mem.specs.Pages.{page_of};
+ghost use Rattle.board_mem.specs.Store.{AreStored, IsMade, place_of};
 
 /// The size of a page in bytes.
 pub(crate) const PAGE: usize = 4_096;
@@ -15,12 +15,8 @@ fn make(index: &mut [u32], store: &mut Vec<u8>, page: usize) -> usize
     requires stored { AreStored index.old store.old.items (vec_capacity store.old) }
     requires there { page < length index.old }
     requires unmade { slice_index index.old page ≡ 0 }
-    ensures stored { AreStored index.new store.new.items (vec_capacity store.new) }
-    ensures some { 0 < result }
+    ensures made { IsMade index.old store.old.items index.new store.new.items (vec_capacity store.new) page }
     ensures number { slice_index index.new page ≡ result }
-    ensures made { made_of index.new ≡ slice_set (made_of index.old) page true }
-    ensures bytes { (size : ℕ) → size ≤ page_bytes * length index.old
-        → bytes_of size index.new store.new.items ≡ bytes_of size index.old store.old.items }
 {
     let len = store.len();
     let Ok(()) = store.resize(len + PAGE, 0) else {
@@ -36,12 +32,8 @@ fn make(index: &mut [u32], store: &mut Vec<u8>, page: usize) -> usize
 fn number_made(index: &mut [u32], store: &mut Vec<u8>, page: usize) -> usize
     requires stored { AreStored index.old store.old.items (vec_capacity store.old) }
     requires there { page < length index.old }
-    ensures stored { AreStored index.new store.new.items (vec_capacity store.new) }
-    ensures some { 0 < result }
+    ensures made { IsMade index.old store.old.items index.new store.new.items (vec_capacity store.new) page }
     ensures number { slice_index index.new page ≡ result }
-    ensures made { made_of index.new ≡ slice_set (made_of index.old) page true }
-    ensures bytes { (size : ℕ) → size ≤ page_bytes * length index.old
-        → bytes_of size index.new store.new.items ≡ bytes_of size index.old store.old.items }
 {
     let number = index[page] as usize;
     if number != 0 {
@@ -55,7 +47,7 @@ fn number_made(index: &mut [u32], store: &mut Vec<u8>, page: usize) -> usize
 pub(crate) fn place_made(index: &mut [u32], store: &mut Vec<u8>, at: usize) -> usize
     requires stored { AreStored index.old store.old.items (vec_capacity store.old) }
     requires there { page_of at < length index.old }
-    ensures made { IsMade index.old store.old.items index.new store.new.items (vec_capacity store.new) at }
+    ensures made { IsMade index.old store.old.items index.new store.new.items (vec_capacity store.new) (page_of at) }
     ensures place { result ≡ place_of index.new at }
 {
     number_made(index, store, at / PAGE) * PAGE + at % PAGE

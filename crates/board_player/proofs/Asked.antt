@@ -48,14 +48,14 @@ same_wanted : (s : State) (g : Gate) → file_wanted g (shell_world s) shell ≡
 same_wanted s gates.Ld = ap (λ r. file_name (string_at s.world.ram (slice_index r.gpr 5))) (same_regs s)
 same_wanted s g = refl
 
-pub unasked_call : (s : State) (who at : ℕ) (g : Gate) (v : WorldState) → v ≡ at_step_start s.world who → at ≡ (regs_of s.world who).pc → gate_at (board_rules s.world.board).gates_start at ≡ Some g
+pub unasked_call : (s : State) (who at : ℕ) (g : Gate) (v : WorldState) → v ≡ at_step_start s.world who → at ≡ (regs_of s.world (by_task who)).pc → gate_at (board_rules s.world.board).gates_start at ≡ Some g
     → file_for s who ≡ None → (who ≡ 1 → s.shell.phase ≡ phases.Call) → file_wanted g v (by_task who) ≡ None
 unasked_call s who at g v said_no here some none call =
     elim (eqb who shell_id) as (λ b. eqb who shell_id ≡ b → cond b (file_in s.shell.phase s.world) None ≡ None → file_wanted g v (by_task who) ≡ None) [
       | true ↦ λ own asks.
           let one : who ≡ shell_id = eqb-true who shell_id own in
           let start_step : v ≡ shell_world s = said_no ∙ ap (at_step_start s.world) one in
-          let stands : gate_under s.world shell_id ≡ Some g = ap (λ n. gate_under s.world n) (sym one) ∙ ap (gate_at (board_rules s.world.board).gates_start) (sym here) ∙ some in
+          let stands : gate_under s.world shell ≡ Some g = ap (λ n. gate_under s.world (by_task n)) (sym one) ∙ ap (gate_at (board_rules s.world.board).gates_start) (sym here) ∙ some in
           ap (λ n. file_wanted g v (by_task n)) one ∙ ap (λ u. file_wanted g u shell) start_step ∙ same_wanted s g
           ∙ ap (λ o. file_at o s.world) (sym stands) ∙ ap (λ p. file_in p s.world) (sym (call one)) ∙ asks
       | false ↦ λ own asks. others_want g v who own

@@ -2,7 +2,7 @@
 use Rattle.std.proofs.Common.{◌≡◌, ◌≤◌, ℕ, List, length, arith}
 use Rattle.wind_base.specs.Boards.{board_rules}
 use Rattle.wind_base.specs.declared.board_kind.BoardKind.{BoardKind}
-use Rattle.kernel_world.proofs.Boards.{boards_alike}
+use Rattle.wind_base.proofs.Boarding.{boards_alike}
 
 -- RAM ends where the gates begin
 pub ram_below_gates : (board : BoardKind) (ram : List ℕ) → length ram ≡ (board_rules board).ram_bytes → length ram ≤ (board_rules board).gates_start

@@ -15,6 +15,8 @@ use Rattle.wind_core.specs.Moves.{set_regs, unreserved}
 use Rattle.wind_core.proofs.Ticks.{running_found}
 use Rattle.wind_core.proofs.Waking.{id_found}
 use Rattle.isr_watch.specs.State.{WatchState}
+use Rattle.kernel_world.specs.State.{WorldState}
+use Rattle.kernel_world.specs.declared.actor.Actor.TheVariants.{Task as by_task}
 use Rattle.wind_machine.specs.Reserving.{unless_own, drop_others}
 use Rattle.wind_machine.specs.Next.{holds_back}
 use Rattle.board_actors.specs.Running.{OnlyRegs}
@@ -158,9 +160,9 @@ goes_on old new level r who up is some stepped =
     (subst (λ n. IsRunner (record (set_regs (drop_others old n) n stepped.0) { last = Some n }) level r) (sym x.2) (runs_on old level r stepped.0 x.0 up x.1 is))
 
 -- ---- what the step of an instruction leaves of the kernel
-pub only_stepped : (k said_no done new : KernState) (who : ℕ) → said_no ≡ drop_others k who → OnlyRegs said_no done who → new ≡ record done { last = Some who } → OnlyStepped k new who
-only_stepped k said_no done new who began others ended =
-    (others.0, ended ∙ ap (λ (j : KernState). record j { last = Some who }) others.1 ∙ ap (λ (j : KernState). record (set_regs j who others.0) { last = Some who }) began)
+pub only_stepped : (k : KernState) (began done : WorldState) (new : KernState) (who : ℕ) → began.kern ≡ drop_others k who → OnlyRegs began done (by_task who) → new ≡ record done.kern { last = Some who } → OnlyStepped k new who
+only_stepped k began done new who dropped only ended =
+    (only.regs, ended ∙ ap (λ (w : WorldState). record w.kern { last = Some who }) only.world ∙ ap (λ (j : KernState). record (set_regs j who only.regs) { last = Some who }) dropped)
 
 -- what is known stays so after such an instruction
 pub stays_known : (old new : KernState) (watch then : WatchState) (who : ℕ) (known : Known) → Rising task_id old.tasks → is_some watch.level ≡ false → Some who ≡ runner old

@@ -10,5 +10,6 @@ pub mod Fetching
 pub mod Stepping
 pub mod Going
 pub mod Settled
+pub mod ManySteps
 pub mod TaskBursts
 pub mod RoutineBursts

@@ -1,4 +1,4 @@
--- Instructions of a task, one after the other, are silent steps.
+-- An instruction of a task is a silent step, and the task goes on.
 use Rattle.std.proofs.Common.{◌≡◌, ℕ, zero, suc, ◌+◌, ◌≤◌, Bool, true, false, cond, eqb, not, ◌&&◌, length, List, [], ◌∷◌, map, Option, None, Some, IfSome, refl, sym, ap, ap₂, ◌∙◌, subst, arith}
 use Rattle.std.specs.Prelude.{unwrap_or, nat_le}
 use Rattle.std.specs.Option.{option_map}
@@ -22,6 +22,7 @@ use Rattle.dev_irq.specs.State.{is_waiting}
 use Rattle.board_bus.specs.BusState.{BusState}
 use Rattle.isr_watch.specs.State.{WatchState}
 use Rattle.kernel_world.specs.State.{WorldState}
+use Rattle.kernel_world.specs.declared.actor.Actor.TheVariants.{Task as by_task}
 use Rattle.kernel_world.specs.Actors.{shell_id}
 use Rattle.kernel_world.specs.Kept.{ReservedBy}
 use Rattle.kernel_world.specs.Settling.{HasExact}
@@ -33,9 +34,9 @@ use Rattle.wind_machine.specs.Laws.{StepLaw}
 use Rattle.wind_machine.specs.Task.{is_at_console, waits_for_console}
 use Rattle.wind_machine.specs.Reserving.{unless_own, drop_others}
 use Rattle.wind_machine.specs.Part.{with_kern, part_of}
-use Rattle.wind_machine.specs.Processor.{bus_of, regs_of, gate_under, executed, word_part, task_part}
+use Rattle.wind_machine.specs.Processor.{bus_of, with_bus, regs_of, gate_under, actor_part}
 use Rattle.wind_machine.specs.Silent.{IsSilentStep, SilentSteps}
-use Rattle.board_actors.specs.Instructions.{Executes, ExecutesMany, executed_to}
+use Rattle.board_actors.specs.Instructions.{Executes, executed_to}
 use Rattle.wind_machine.specs.Events.{next_event}
 use Rattle.wind_machine.specs.ActorSteps.{at_step_start, stepped, file_at, file_in, file_for, shell_step, task_step, step_of}
 use Rattle.wind_machine.specs.Next.{event_of, holds_back, is_open, is_active, due_at, due_event, next}
@@ -43,11 +44,11 @@ use Rattle.wind_machine.specs.Machine.{file_of, file_asked, settled_state, Steps
 use Rattle.wind_machine.specs.declared.next.Next.TheVariants.{Act}
 use Rattle.wind_machine.proofs.Reserving.{last_own, own_regs}
 use Rattle.board_player.specs.declared.order.Running.{Running}
-use Rattle.board_actors.specs.Running.{RanMany}
 use Rattle.board_player.specs.Going.{IsRunner}
 use Rattle.board_player.specs.Bursts.{RunsOn, HasRoom, moved}
 use Rattle.board_player.proofs.Going.{find_changed, goes_on}
-use Rattle.board_player.proofs.Stepping.{by_word}
+use Rattle.board_player.proofs.Stepping.{by_instruction}
+use Rattle.board_player.proofs.ManySteps.{GoesOn}
 use Rattle.wind_machine.proofs.Order.{comes_alone}
 use Rattle.board_player.proofs.Deciding.{left_to_tasks}
 use Rattle.board_player.proofs.Delivering.{none_due}
@@ -115,7 +116,7 @@ module _ (who : ℕ) (m : Regs) where
   over r k = ap (λ ts. record k { tasks = ts }) (again r k.tasks)
 
 -- ---- whose registers they are
-regs_by : (w : WorldState) (who : ℕ) (o : Option Task) → task_of w.kern.tasks who ≡ o → regs_of w who ≡ unwrap_or (option_map (λ t. t.regs) o) no_regs
+regs_by : (w : WorldState) (who : ℕ) (o : Option Task) → task_of w.kern.tasks who ≡ o → regs_of w (by_task who) ≡ unwrap_or (option_map (λ t. t.regs) o) no_regs
 regs_by w who o e = ap (λ q. unwrap_or (option_map (λ t. t.regs) q) no_regs) e
 
 -- the running task is found among the tasks
@@ -145,18 +146,14 @@ module _ (s : State) (who : ℕ) (is : IsKern s.world.kern) (exact : HasExact s.
   started : at_step_start s.world who ≡ s.world
   started = ap₂ (λ k o. record s.world { kern = k; output = o }) on.alone (sym on.silent)
 
-  module _ (r : Regs) (b : BusState) (ex : Executes (board_rules s.world.board).gates_start (regs_of s.world who) (bus_of s.world) r b) where
-    part : task_part s.shell (at_step_start s.world who) who ≡ part_of s.shell (executed_to s.world who r b)
-    part =
-        ap (λ w. task_part s.shell w who) started
-        ∙ by_word s.shell s.world who (regs_of s.world who).pc refl ex.no_gate
-        ∙ ap (λ o. word_part o s.shell s.world who) ex.there
-        ∙ ap (λ o. executed o s.shell s.world who) ex.done
+  module _ (r : Regs) (b : BusState) (ex : Executes (board_rules s.world.board).gates_start (regs_of s.world (by_task who)) (bus_of s.world) r b) where
+    part : actor_part s.shell (at_step_start s.world who) (by_task who) ≡ part_of s.shell (executed_to s.world (by_task who) r b)
+    part = ap (λ w. actor_part s.shell w (by_task who)) started ∙ by_instruction s.shell s.world (by_task who) r b ex
 
-    made : task_step s who ≡ moved s who r b 1
+    made : task_step s who ≡ moved s (by_task who) r b 1
     made =
         ap (stepped s who) part
-        ∙ ap (λ l. record s { world = with_kern (executed_to s.world who r b) (record (set_regs s.world.kern who r) { last = l }); time = s.time + 1; steps = s.steps + 1 }) (sym on.last)
+        ∙ ap (λ l. record s { world = with_kern (executed_to s.world (by_task who) r b) (record (set_regs s.world.kern who r) { last = l }); time = s.time + 1; steps = s.steps + 1 }) (sym on.last)
 
     -- its step is that of its task, also in a call of the shell
     own_step : step_of s who ≡ task_step s who
@@ -174,7 +171,7 @@ module _ (s : State) (who : ℕ) (is : IsKern s.world.kern) (exact : HasExact s.
         elim (eqb who shell_id) as (λ b. eqb who shell_id ≡ b → cond b (file_in s.shell.phase s.world) None ≡ None) [
           | true ↦ λ e.
               let one : who ≡ shell_id = eqb-true who shell_id e in
-              ap (λ p. file_in p s.world) (on.calls one) ∙ ap (λ n. file_at (gate_under s.world n) s.world) (sym one) ∙ ap (λ o. file_at o s.world) ex.no_gate
+              ap (λ p. file_in p s.world) (on.calls one) ∙ ap (λ n. file_at (gate_under s.world (by_task n)) s.world) (sym one) ∙ ap (λ o. file_at o s.world) ex.no_gate
           | false ↦ λ e. refl
         ] refl
 
@@ -187,13 +184,13 @@ module _ (s : State) (who : ℕ) (is : IsKern s.world.kern) (exact : HasExact s.
     unasked = ap file_of (sym comes)
 
     -- it leaves priorities settled
-    stays : settled_state (moved s who r b 1) ≡ moved s who r b 1
-    stays = still_settled s (moved s who r b 1) (regs_keep s.world.kern who r is) refl (regs_lend s.world.kern.tasks who r) exact
+    stays : settled_state (moved s (by_task who) r b 1) ≡ moved s (by_task who) r b 1
+    stays = still_settled s (moved s (by_task who) r b 1) (regs_keep s.world.kern who r is) refl (regs_lend s.world.kern.tasks who r) exact
 
-    steps : Steps s (moved s who r b 1)
-    steps = steps_on s (moved s who r b 1) (Act who) comes (λ said. ap (λ t. Some (settled_state t)) (own_step ∙ made) ∙ ap Some stays)
+    steps : Steps s (moved s (by_task who) r b 1)
+    steps = steps_on s (moved s (by_task who) r b 1) (Act who) comes (λ said. ap (λ t. Some (settled_state t)) (own_step ∙ made) ∙ ap Some stays)
 
-    one_step : IsSilentStep s (moved s who r b 1)
+    one_step : IsSilentStep s (moved s (by_task who) r b 1)
     one_step = record { unasked = unasked; steps = steps; silent = on.silent; counted = refl; uneventful = refl }
 
 -- ---- the task runs on after them
@@ -221,7 +218,7 @@ module _ (s : State) (who : ℕ) (up : Rising task_id s.world.kern.tasks) (on : 
   same_open : (m : Regs) → (not (is_active s.world) && not (holds_back (running (there m)))) ≡ is_open s
   same_open m = ap (λ b. not (is_active s.world) && b) (sym (now_running m).back)
 
-  pub on_after : (m : Regs) (c : BusState) (k : ℕ) → RunsOn (moved s who m c k) who
+  pub on_after : (m : Regs) (c : BusState) (k : ℕ) → RunsOn (moved s (by_task who) m c k) who
   on_after m c k = record {
     idle = on.idle;
     runs = (now_running m).who;
@@ -233,43 +230,34 @@ module _ (s : State) (who : ℕ) (up : Rising task_id s.world.kern.tasks) (on : 
     console = on.console ∙ sym (ap₂ (λ o w. o && (s.schedule.on_demand && (not (eqb (length s.left) 0) && (w && not (has_line s.console))))) (same_open m) (same_waits who m s.world.kern));
   }
 
-  same_regs : (m : Regs) (c : BusState) → regs_of (executed_to s.world who m c) who ≡ m
+  same_regs : (m : Regs) (c : BusState) → regs_of (executed_to s.world (by_task who) m c) (by_task who) ≡ m
   same_regs m c =
       let x = found s.world.kern who up on.runs in
-      regs_by (executed_to s.world who m c) who (Some (changed who m x.task)) (task_changed who m s.world.kern.tasks who ∙ ap (option_map (changed who m)) x.there)
+      regs_by (executed_to s.world (by_task who) m c) who (Some (changed who m x.task)) (task_changed who m s.world.kern.tasks who ∙ ap (option_map (changed who m)) x.there)
       ∙ own_changed who m x.task x.own
 
-  room_on : (can : Bool) (next : Option Timed) (time n k : ℕ) → suc k ≤ n → HasRoom can next time n → HasRoom can next (time + k) 1
+  room_on : (can : Bool) (next : Option Timed) (time n k : ℕ) → k + 1 ≤ n → HasRoom can next time n → HasRoom can next (time + k) 1
   room_on false next time n k h room = tt
   room_on true None time n k h room = tt
   room_on true (Some e) time n k h room = λ some. omega (arith, h, room (omega (arith, h)))
 
-  -- ---- none so far
+  -- ---- each of its next instructions is a silent step
   module _ (is : IsKern s.world.kern) (exact : HasExact s.world) where
-    as_it_was : (r : Regs) (b : BusState) → r ≡ regs_of s.world who → b ≡ bus_of s.world → moved s who r b 0 ≡ s
-    as_it_was r b e f =
+    as_it_was : executed_to s.world (by_task who) (regs_of s.world (by_task who)) (bus_of s.world) ≡ s.world
+    as_it_was =
         let x = found s.world.kern who up on.runs in
-        let own : r ≡ x.task.regs = e ∙ regs_by s.world who (Some x.task) x.there in
-        let kern : set_regs s.world.kern who r ≡ s.world.kern = ap (set_regs s.world.kern who) own ∙ own_regs s.world.kern who x.task is x.there in
-        ap₂ (λ (c : BusState) (k : KernState). record s { world = record s.world { kern = k; ram = c.ram; slots = c.slots }; time = s.time + 0; steps = s.steps + 0 }) f kern
-        ∙ ap₂ (λ t n. record s { time = t; steps = n }) (omega arith) (omega arith)
+        ap (with_kern s.world) (ap (set_regs s.world.kern who) (regs_by s.world who (Some x.task) x.there) ∙ own_regs s.world.kern who x.task is x.there)
 
-    further : (m r : Regs) (c b : BusState) (k : ℕ) → moved (moved s who m c k) who r b 1 ≡ moved s who r b (suc k)
-    further m r c b k =
-        ap (λ (j : KernState). record s { world = record s.world { kern = j; ram = b.ram; slots = b.slots }; time = s.time + k + 1; steps = s.steps + k + 1 }) (over who m r s.world.kern)
-        ∙ ap₂ (λ t n. record s { world = executed_to s.world who r b; time = t; steps = n }) (omega arith) (omega arith)
-
-    pub bursts : (n : ℕ) → HasRoom (is_open s) (next_event s) s.time n → (k : ℕ) → k ≤ n → (r : Regs) (b : BusState) → ExecutesMany (board_rules s.world.board).gates_start k (regs_of s.world who) (bus_of s.world) r b → SilentSteps k s (moved s who r b k)
-    bursts n room zero h r b many = as_it_was r b many.0 many.1
-    bursts n room (suc k) h r b many =
-        let m = many.0 in
-        let c = many.1 in
-        let u = moved s who m c k in
-        let here : HasRoom (is_open u) (next_event s) (s.time + k) 1 = subst (λ o. HasRoom o (next_event s) (s.time + k) 1) (sym (same_open m)) (room_on (is_open s) (next_event s) s.time n k h room) in
-        let ex : Executes (board_rules s.world.board).gates_start (regs_of u.world who) (bus_of u.world) r b = subst (λ x. Executes (board_rules s.world.board).gates_start x c r b) (sym (same_regs m c)) many.3 in
-        let is_after : IsKern u.world.kern = regs_keep s.world.kern who m is in
-        let exact_after : HasExact u.world = still_exact s u refl (regs_lend s.world.kern.tasks who m) exact in
-        (u, bursts n room k (omega (arith, h)) m c many.2, subst (IsSilentStep u) (further m r c b k) (one_step u who is_after exact_after (on_after m c k) here r b ex))
+    pub task_goes_on : (n : ℕ) → HasRoom (is_open s) (next_event s) s.time n → GoesOn s (by_task who) n
+    task_goes_on n room = record {
+      one = λ k h m r c b ex.
+          let u = moved s (by_task who) m c k in
+          let here : HasRoom (is_open u) (next_event s) (s.time + k) 1 = subst (λ o. HasRoom o (next_event s) (s.time + k) 1) (sym (same_open m)) (room_on (is_open s) (next_event s) s.time n k h room) in
+          let again : Executes (board_rules s.world.board).gates_start (regs_of u.world (by_task who)) (bus_of u.world) r b = subst (λ x. Executes (board_rules s.world.board).gates_start x c r b) (sym (same_regs m c)) ex in
+          one_step u who (regs_keep s.world.kern who m is) (still_exact s u refl (regs_lend s.world.kern.tasks who m) exact) (on_after m c k) here r b again;
+      same = as_it_was;
+      over = λ m r c b. ap (λ (j : KernState). with_bus (with_kern s.world j) b) (over who m r s.world.kern);
+    }
 
 -- ---- the invariant is kept
 pub record Holds (s t : State) : Type 0 where
@@ -290,14 +278,6 @@ holds_on law (suc k) s t early good steps =
 -- only the task that ran last may have a reservation
 pub alone_by : (s : State) (who : ℕ) → ReservedBy s.world.kern.last s.world.kern → s.world.kern.last ≡ Some who → drop_others s.world.kern who ≡ s.world.kern
 alone_by s who by last = ap (λ ts. record s.world.kern { tasks = ts }) (last_own s.world.kern.tasks who (subst (λ o. ReservedBy o s.world.kern) last by))
-
--- ---- what a call for them leaves
-pub gone : (s : State) (who k n time count : ℕ) (w : WorldState) → IsKern s.world.kern → HasExact s.world → RunsOn s who → HasRoom (is_open s) (next_event s) s.time n → k ≤ n → RanMany k who s.world w
-    → time ≡ s.time + k → count ≡ s.steps + k → SilentSteps k s (record s { world = w; time = time; steps = count })
-gone s who k n time count w is exact on room h ran t c =
-    subst (SilentSteps k s)
-    (ap (λ v. record s { world = v; time = s.time + k; steps = s.steps + k }) (sym ran.world) ∙ ap₂ (λ x y. record s { world = w; time = x; steps = y }) (sym t) (sym c))
-    (bursts s who is.rising on is exact n room k h ran.regs ran.bus ran.many)
 
 -- the same task runs as before
 pub known_after : (s : State) (who : ℕ) (regs : Regs) (new : KernState) (watch : WatchState) (now : Running) → Rising task_id s.world.kern.tasks → RunsOn s who → IsRunner s.world.kern s.world.watch.level now

@@ -5,12 +5,13 @@ use Rattle.board_bus.specs.BusState.{BusState}
 use Rattle.tick_file.specs.Schedule.{Timed}
 use Rattle.wind_core.specs.Orders.{runner}
 use Rattle.kernel_world.specs.Actors.{shell_id}
+use Rattle.kernel_world.specs.declared.actor.Actor.{Actor}
 use Rattle.wind_machine.specs.State.{State}
 use Rattle.wind_machine.specs.Reserving.{drop_others, drop_all}
 use Rattle.wind_machine.specs.Next.{is_active, console_is_due}
 use Rattle.wind_machine.specs.declared.phase.Phase.TheVariants as phases
 use Rattle.board_player.specs.Knowing.{may_deliver}
-use Rattle.board_actors.specs.Instructions.{executed_to, routine_executed_to}
+use Rattle.board_actors.specs.Instructions.{executed_to}
 
 -- this task runs and goes on: it ran last, it wrote nothing, its steps are instructions and kernel calls, and only
 -- an event of the tick file can be due
@@ -37,10 +38,6 @@ HasRoom false next time k = Unit {0}
 HasRoom true None time k = Unit {0}
 HasRoom true (Some e) time k = 0 < k → time + k ≤ e.time
 
--- the state after k instructions of a task, with these registers and this bus
-abbrev pub moved : State → ℕ → Regs → BusState → ℕ → State
+-- the state after k instructions of an actor, with these registers and this bus
+abbrev pub moved : State → Actor → Regs → BusState → ℕ → State
 moved s who regs bus k = record s { world = executed_to s.world who regs bus; time = s.time + k; steps = s.steps + k }
-
--- and after k instructions of the active interrupt routine
-abbrev pub routine_moved : State → Regs → BusState → ℕ → State
-routine_moved s regs bus k = record s { world = routine_executed_to s.world regs bus; time = s.time + k; steps = s.steps + k }

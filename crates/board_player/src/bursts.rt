@@ -18,8 +18,9 @@ ghost use Rattle.board_player.specs.Going.{IsRunner, IsRoutine, IsKnown};
 
 use crate::order::{Known, Running, console_is_due, may_deliver};
 use crate::parts::Parts;
-use board_actors::{execute_many, execute_many_of_routine, shell_id};
+use board_actors::{execute_many, shell_id};
 use id_table::Ident;
+use kernel_world::Actor;
 use tick_file::Event;
 use wind_machine::Phase;
 use wind_outside::Device;
@@ -102,7 +103,7 @@ fn go_on(parts: &mut Parts, who: Ident, most: u64) -> u64
     ensures watch { parts.new.world.watch ≡ parts.old.world.watch }
     ensures space { IsSpacious parts.new }
 {
-    let made = execute_many(&mut parts.world, who, most);
+    let made = execute_many(&mut parts.world, &Actor::Task(who), most);
     parts.clock.advance(made);
     made
 }
@@ -154,7 +155,7 @@ fn burst_of_routine(parts: &mut Parts, most: u64) -> u64
     if !routine_runs_on(parts) {
         return 0;
     }
-    let made = execute_many_of_routine(&mut parts.world, most);
+    let made = execute_many(&mut parts.world, &Actor::Interrupt, most);
     parts.clock.advance(made);
     made
 }

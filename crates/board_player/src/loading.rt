@@ -3,6 +3,7 @@
 ghost use Rattle.std.specs.Prelude.{◌≡◌, ◌<◌, ◌↔◌, true, Some, IfOk, OnOk, OnErr, IsSome};
 ghost use Rattle.wind_base.specs.Limits.{most_steps};
 ghost use Rattle.wind_base.specs.declared.gate.Gate.TheVariants as gates;
+ghost use Rattle.kernel_world.specs.declared.actor.Actor.TheVariants as actors;
 ghost use Rattle.live_loading.specs.Said.{said_of};
 ghost use Rattle.wind_machine.specs.Good.{Good};
 ghost use Rattle.wind_machine.specs.declared.phase.Phase.TheVariants as phases;
@@ -27,9 +28,13 @@ use wind_outside::Device;
 // Whether the shell's task is at the gate of `ld`.
 fn is_at_load(parts: &Parts) -> bool
     ensures { (result ≡ true)
-        ↔ (gate_under (parts_seen ⟦<dyn Device as Device>⟧ parts.now).world 1 ≡ Some gates.Ld) }
+        ↔ (gate_under (parts_seen ⟦<dyn Device as Device>⟧ parts.now).world (actors.Task 1)
+        ≡ Some gates.Ld) }
 {
-    match gate_at(parts.world.board, counter(&parts.world, shell_id())) {
+    match gate_at(
+        parts.world.board,
+        counter(&parts.world, &Actor::Task(shell_id())),
+    ) {
         Some(gate) => gate == Gate::Ld,
         None => false,
     }

@@ -31,7 +31,7 @@ pub(crate) fn step_routine(parts: &mut Parts) -> StepKind
     ensures space { IsSpacious parts.new }
 {
     start_routine_step(&mut parts.world);
-    let kind = run_routine(parts.alloc, &mut parts.world);
+    let kind = run_routine(parts.alloc, &mut parts.shell, &mut parts.world);
     parts.clock.step();
     kind
 }

@@ -4,6 +4,7 @@ ghost use Rattle.std.specs.Prelude.{◌≡◌, ◌<◌, ◌≤◌, true, None, O
 ghost use Rattle.wind_base.specs.Limits.{most_steps, longest_line};
 ghost use Rattle.con_line.specs.Lines.{first_line};
 ghost use Rattle.kernel_world.specs.Objects.{IsReady};
+ghost use Rattle.kernel_world.specs.declared.actor.Actor.TheVariants as actors;
 ghost use Rattle.wind_machine.specs.Good.{Good};
 ghost use Rattle.wind_machine.specs.Processor.{gate_under};
 ghost use Rattle.wind_machine.specs.ActorSteps.{prompt_step, read_step, eval_step, shell_step, file_for as file_for_lem};
@@ -115,7 +116,7 @@ pub(crate) fn run_shell(parts: &mut Parts) -> Result<StepKind, NoMemory>
     ensures ok { OnOk result (parts_seen ⟦<dyn Device as Device>⟧ parts.new
         ≡ shell_step parts.old.shell.phase (parts_seen ⟦<dyn Device as Device>⟧ parts.old)) }
     ensures memory { OnErr result (phase_may parts.old.shell.phase
-        (gate_may (gate_under (parts_seen ⟦<dyn Device as Device>⟧ parts.old).world 1)) ≡ true) }
+        (gate_may (gate_under (parts_seen ⟦<dyn Device as Device>⟧ parts.old).world (actors.Task 1))) ≡ true) }
     ensures err { OnErr result (parts_seen ⟦<dyn Device as Device>⟧ parts.new
         ≡ parts_seen ⟦<dyn Device as Device>⟧ parts.old) }
     ensures only { result ≡ Ok kinds.Instruction → OnlyStepped parts.old.world.kern parts.new.world.kern 1 }

@@ -6,6 +6,7 @@ ghost use Rattle.wind_base.specs.Boards.{board_rules};
 ghost use Rattle.wind_base.specs.Gates.{gate_at as gate_at_lem};
 ghost use Rattle.wind_core.specs.State.{Lives};
 ghost use Rattle.kernel_world.specs.Objects.{IsReady};
+ghost use Rattle.kernel_world.specs.declared.actor.Actor.TheVariants as actors;
 ghost use Rattle.kernel_world.specs.Allowed.{may_exhaust_memory as may_exhaust_memory_lem};
 ghost use Rattle.wind_machine.specs.Good.{Good};
 ghost use Rattle.wind_machine.specs.Processor.{gate_under, regs_of};
@@ -22,7 +23,7 @@ use board_actors::{
     StepKind, at_gate, counter, execute, give_back, start_revocable_step, start_step,
 };
 use id_table::Ident;
-use kernel_world::{gate_at, may_exhaust_memory};
+use kernel_world::{Actor, gate_at, may_exhaust_memory};
 use wind_base::{Gate, NoMemory};
 use wind_outside::Device;
 
@@ -47,7 +48,7 @@ fn run_word(parts: &mut Parts, who: Ident, at: u32) -> StepKind
     requires few { parts.old.clock.steps < most_steps }
     requires space { IsSpacious parts.old }
     requires live { Lives parts.old.world.kern who }
-    requires counter { at ≡ (regs_of (parts_seen ⟦<dyn Device as Device>⟧ parts.old).world who).pc }
+    requires counter { at ≡ (regs_of (parts_seen ⟦<dyn Device as Device>⟧ parts.old).world (actors.Task who)).pc }
     requires gate { gate_at_lem (board_rules parts.old.world.board).gates_start at ≡ None }
     ensures step { parts_seen ⟦<dyn Device as Device>⟧ parts.new
         ≡ task_step (parts_seen ⟦<dyn Device as Device>⟧ parts.old) who }
@@ -57,7 +58,7 @@ fn run_word(parts: &mut Parts, who: Ident, at: u32) -> StepKind
     ensures space { IsSpacious parts.new }
 {
     start_step(&mut parts.world, who);
-    let kind = execute(&mut parts.shell, &mut parts.world, who, at);
+    let kind = execute(&mut parts.shell, &mut parts.world, &Actor::Task(who), at);
     end(parts, who);
     kind
 }
@@ -72,7 +73,7 @@ fn run_sure_gate(parts: &mut Parts, who: Ident, at: u32, gate: Gate)
     requires live { Lives parts.old.world.kern who }
     requires ready { IsReady parts.old.world.kern who }
     requires phase { who ≡ 1 → parts.old.shell.phase ≡ phases.Call }
-    requires counter { at ≡ (regs_of (parts_seen ⟦<dyn Device as Device>⟧ parts.old).world who).pc }
+    requires counter { at ≡ (regs_of (parts_seen ⟦<dyn Device as Device>⟧ parts.old).world (actors.Task who)).pc }
     requires gate { gate_at_lem (board_rules parts.old.world.board).gates_start at ≡ Some gate }
     requires asks { file_for (parts_seen ⟦<dyn Device as Device>⟧ parts.old) who ≡ None }
     requires sure { may_exhaust_memory_lem gate ≡ false }
@@ -82,7 +83,13 @@ fn run_sure_gate(parts: &mut Parts, who: Ident, at: u32, gate: Gate)
 {
     let _ = at;
     start_step(&mut parts.world, who);
-    match at_gate(parts.alloc, &mut parts.shell, &mut parts.world, who, gate) {
+    match at_gate(
+        parts.alloc,
+        &mut parts.shell,
+        &mut parts.world,
+        &Actor::Task(who),
+        gate,
+    ) {
         Ok(()) => end(parts, who),
         Err(NoMemory) => unreachable!(),
     }
@@ -99,7 +106,7 @@ fn run_revocable_gate(parts: &mut Parts, who: Ident, at: u32, gate: Gate) -> Res
     requires live { Lives parts.old.world.kern who }
     requires ready { IsReady parts.old.world.kern who }
     requires phase { who ≡ 1 → parts.old.shell.phase ≡ phases.Call }
-    requires counter { at ≡ (regs_of (parts_seen ⟦<dyn Device as Device>⟧ parts.old).world who).pc }
+    requires counter { at ≡ (regs_of (parts_seen ⟦<dyn Device as Device>⟧ parts.old).world (actors.Task who)).pc }
     requires gate { gate_at_lem (board_rules parts.old.world.board).gates_start at ≡ Some gate }
     requires asks { file_for (parts_seen ⟦<dyn Device as Device>⟧ parts.old) who ≡ None }
     ensures ok { OnOk result (parts_seen ⟦<dyn Device as Device>⟧ parts.new
@@ -111,7 +118,13 @@ fn run_revocable_gate(parts: &mut Parts, who: Ident, at: u32, gate: Gate) -> Res
 {
     let _ = at;
     let kept = start_revocable_step(&mut parts.world, &mut parts.spare, who);
-    match at_gate(parts.alloc, &mut parts.shell, &mut parts.world, who, gate) {
+    match at_gate(
+        parts.alloc,
+        &mut parts.shell,
+        &mut parts.world,
+        &Actor::Task(who),
+        gate,
+    ) {
         Ok(()) => {
             end(parts, who);
             Ok(())
@@ -131,7 +144,7 @@ fn run_gate(parts: &mut Parts, who: Ident, at: u32, gate: Gate) -> Result<(), No
     requires live { Lives parts.old.world.kern who }
     requires ready { IsReady parts.old.world.kern who }
     requires phase { who ≡ 1 → parts.old.shell.phase ≡ phases.Call }
-    requires counter { at ≡ (regs_of (parts_seen ⟦<dyn Device as Device>⟧ parts.old).world who).pc }
+    requires counter { at ≡ (regs_of (parts_seen ⟦<dyn Device as Device>⟧ parts.old).world (actors.Task who)).pc }
     requires gate { gate_at_lem (board_rules parts.old.world.board).gates_start at ≡ Some gate }
     requires asks { file_for (parts_seen ⟦<dyn Device as Device>⟧ parts.old) who ≡ None }
     ensures ok { OnOk result (parts_seen ⟦<dyn Device as Device>⟧ parts.new
@@ -161,8 +174,8 @@ pub(crate) fn run(parts: &mut Parts, who: Ident) -> Result<StepKind, NoMemory>
     requires asks { file_for (parts_seen ⟦<dyn Device as Device>⟧ parts.old) who ≡ None }
     ensures ok { OnOk result (parts_seen ⟦<dyn Device as Device>⟧ parts.new
         ≡ task_step (parts_seen ⟦<dyn Device as Device>⟧ parts.old) who) }
-    ensures memory { OnErr result (gate_may (gate_under (parts_seen ⟦<dyn Device as Device>⟧ parts.old).world who)
-        ≡ true) }
+    ensures memory { OnErr result (gate_may
+        (gate_under (parts_seen ⟦<dyn Device as Device>⟧ parts.old).world (actors.Task who)) ≡ true) }
     ensures err { OnErr result (parts_seen ⟦<dyn Device as Device>⟧ parts.new
         ≡ parts_seen ⟦<dyn Device as Device>⟧ parts.old) }
     ensures only { result ≡ Ok kinds.Instruction → OnlyStepped parts.old.world.kern parts.new.world.kern who }
@@ -170,7 +183,7 @@ pub(crate) fn run(parts: &mut Parts, who: Ident) -> Result<StepKind, NoMemory>
     ensures objects { result ≡ Ok kinds.Instruction → parts.new.world.objects ≡ parts.old.world.objects }
     ensures space { IsSpacious parts.new }
 {
-    let at = counter(&parts.world, who);
+    let at = counter(&parts.world, &Actor::Task(who));
     match gate_at(parts.world.board, at) {
         Some(gate) => {
             run_gate(parts, who, at, gate)?;

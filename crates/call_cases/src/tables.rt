@@ -1,5 +1,28 @@
 //! Calls over a world from its start on, with their answers worked out by hand.
 
+// The first words of a call. The words that aren't given are 0.
+macro_rules! words {
+    () => { [0; 4] };
+    ($a:expr) => { [$a, 0, 0, 0] };
+    ($a:expr, $b:expr) => { [$a, $b, 0, 0] };
+    ($a:expr, $b:expr, $c:expr) => { [$a, $b, $c, 0] };
+    ($a:expr, $b:expr, $c:expr, $d:expr) => { [$a, $b, $c, $d] };
+}
+
+// A call, as a row: the caller, the gate and its words, and then r3 and the error number.
+macro_rules! call {
+    ($who:expr, $gate:ident($($word:expr),*) => $answer:expr, $errno:expr) => {
+        crate::steps::Step::Call($who, wind_base::Gate::$gate, words!($($word),*), $answer, $errno)
+    };
+}
+
+// The same for a caller that is answered later.
+macro_rules! wait {
+    ($who:expr, $gate:ident($($word:expr),*) => $answer:expr, $errno:expr) => {
+        crate::steps::Step::Wait($who, wind_base::Gate::$gate, words!($($word),*), $answer, $errno)
+    };
+}
+
 mod blocks;
 mod devices;
 mod files;
@@ -42,6 +65,24 @@ const SYMBOLS_FULL: u32 = 0x1c_0001;
 const BAD_KIND: u32 = 0x1c_0002;
 
 const NOT_ISR_CALLABLE: u32 = 0x43_0001;
+
+const NOT_SHELL: u32 = 0x43_0002;
+
+const BAD_SIZE: u32 = 0x41_0003;
+
+const NO_SUCH_MODULE: u32 = 0x1d_0002;
+
+// Where names are put: one of a few bytes, an empty one, one of 40 bytes, one of 256 bytes, and
+// 1,024 bytes without an end.
+const PUMP: u32 = 0x1000;
+
+const NO_NAME: u32 = 0x1020;
+
+const FORTY: u32 = 0x1100;
+
+const TOO_LONG: u32 = 0x1200;
+
+const ENDLESS: u32 = 0x2000;
 
 // The first address after RAM.
 const RAM_END: u32 = 0x0100_0000;

@@ -1,5 +1,5 @@
--- The texts of a kernel call and of its reply, for a trace: `semTake(2, -1)` and ` = -1 OBJ_TIMEOUT`. Names and words are
--- those of the call; how they are written is this project's own.
+-- The texts of a kernel call and of its reply, for a trace: `semTake(2, -1)` and ` = -1 OBJ_TIMEOUT`. Names and words
+-- are those of the call; how they are written is this project's own.
 use Rattle.std.specs.Prelude.{ℕ, List, [], ◌∷◌, ◌++◌, map, false, Option, None, Some, codes}
 use Rattle.std.specs.Fmt.{signed_decimal, digits}
 use Rattle.std.specs.Int.{cast_signed, w32}
@@ -117,7 +117,8 @@ name_text (Some name) = name
 unfoldable pub call_text : Call → List ℕ
 call_text c = name_text (rules_of (gate_of c)).name ++ codes "(" ++ list_text (words_of c) ++ codes ")"
 
--- the result of a gate's call as a word: an address of malloc and memalign, an error number of errnoGet, otherwise a number
+-- the result of a gate's call as a word: an address of malloc and memalign, an error number of errnoGet, otherwise a
+-- number
 abbrev pub result_word : Gate → ℕ → Word
 result_word gates.Malloc v = Hex v
 result_word gates.Memalign v = Hex v
@@ -128,7 +129,8 @@ result_word g v = Number v
 abbrev pub result_text : Gate → ℕ → List ℕ
 result_text g v = codes " = " ++ word_text (result_word g v)
 
--- the text of a reply: the result; the result and the error's name if the call is refused; that the caller waits or has ended
+-- the text of a reply: the result; the result and the error's name if the call is refused; that the caller waits or has
+-- ended
 unfoldable pub reply_text : Gate → Reply → List ℕ
 reply_text g (Answer v) = result_text g v
 reply_text g (Refusal e) = result_text g (rules_of g).refusal ++ codes " " ++ errno_name e

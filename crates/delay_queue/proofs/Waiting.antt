@@ -379,3 +379,30 @@ placed cs wake next left passed id gap one a p e value less =
       sum = p.sum;
       later = λ g q. let same = same_Some gap g (sym (ap first_value f.back_is) ∙ q) in omega (arith, less, same);
     }
+
+-- a task is inserted at its place, before the gap after it is lessened
+module _ (t : Chains ℕ) (who wake : ℕ) (next after : Option ℕ) (left : ℕ) (inserted : Chains ℕ) (one : length t.chains ≡ 1) (apart : Apart (chain_at t.chains 0))
+    (absent : wake_of (wakes_from 0 (chain_at t.chains 0)) who ≡ None) (place : IsPlace (chain_at t.chains 0) wake next left)
+    (is : inserted ≡ with_cell t 0 next (who, left)) (goes_on : NextIs inserted.chains who after) where
+  comes : Coming t who wake next left
+  comes = coming t who wake next left one apart (ap (λ zs. value_in zs who) (one_cells t.chains one) ∙ no_value 0 who (chain_at t.chains 0) absent) place
+
+  follows : after ≡ next
+  follows = comes.follows after (subst (λ u. NextIs u.chains who after) is goes_on)
+
+  pub lessened_fits : (x : ℕ) → after ≡ Some x → IsSomeAnd (value_of inserted.chains x) (λ gap. left ≤ gap)
+  lessened_fits x e = subst (λ u. IsSomeAnd (value_of u.chains x) (λ gap. left ≤ gap)) (sym is) (comes.fits x (sym follows ∙ e))
+
+  lessened : (new : Chains ℕ) → new ≡ with_gap inserted after (λ gap. gap - left) → new ≡ single comes.came.list t.room
+  lessened new e = e ∙ (λ i. with_gap (is i) (follows i) (λ gap. gap - left)) ∙ comes.came.chains
+
+  pub put_timed : (new : Chains ℕ) → new ≡ with_gap inserted after (λ gap. gap - left) → wake < 2 ^ 64 → All (λ d. d.1 < 2 ^ 64) (wakes_from 0 (chain_at t.chains 0)) → IsTimed new.chains
+  put_timed new e fits all =
+      timed_single new comes.came.list t.room (lessened new e)
+      (subst (All (λ d. d.1 < 2 ^ 64)) (sym comes.came.wakes) (all_put (λ d. d.1 < 2 ^ 64) (who, wake) (wakes_from 0 (chain_at t.chains 0)) fits all))
+
+  pub put_order : (new : Chains ℕ) → new ≡ with_gap inserted after (λ gap. gap - left)
+      → ◌≡◌ {A = Order} (record { tasks = wakes_from 0 (chain_at new.chains 0); room = new.room }) (record { tasks = put_in (wakes_from 0 (chain_at t.chains 0)) (who, wake); room = t.room })
+  put_order new e =
+      ap (λ u. record { tasks = wakes_from 0 (chain_at u.chains 0); room = u.room }) (lessened new e)
+      ∙ order_alike (wakes_from 0 comes.came.list) (put_in (wakes_from 0 (chain_at t.chains 0)) (who, wake)) t.room comes.came.wakes

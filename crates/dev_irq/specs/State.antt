@@ -29,7 +29,7 @@ is_waiting l = l.on && nat_lt 0 (length l.routines.items) && nat_lt 0 l.pending
 abbrev pub is_deliverable : Bool × Line → Bool
 is_deliverable (full, l) = full && is_waiting l
 
--- the least slot of which an interrupt can be delivered; `full` says which slots hold a device
+-- the least slot with an interrupt that can be delivered; `full` says which slots hold a device
 unfoldable pub next : List Bool → List Line → Option ℕ
 next full lines = position is_deliverable (zip full lines)
 

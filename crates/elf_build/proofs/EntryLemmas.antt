@@ -36,16 +36,7 @@ in_header : (bytes : List ℕ) (at k : ℕ) (h : SectionHeader) → Stands bytes
 in_header bytes at k h s l = stands_in bytes at k (header_bytes h) s (let e = length_header h in omega arith)
 
 same_header : (a h : SectionHeader) → a.name ≡ h.name → a.kind ≡ h.kind → a.flags ≡ h.flags → a.offset ≡ h.offset → a.size ≡ h.size → a.link ≡ h.link → a.info ≡ h.info → a.align ≡ h.align → a.entry_size ≡ h.entry_size → a ≡ h
-same_header a h p1 p2 p3 p4 p5 p6 p7 p8 p9 =
-    ap (λ x. record { name = x; kind = a.kind; flags = a.flags; offset = a.offset; size = a.size; link = a.link; info = a.info; align = a.align; entry_size = a.entry_size }) p1
-    ∙ (ap (λ x. record { name = h.name; kind = x; flags = a.flags; offset = a.offset; size = a.size; link = a.link; info = a.info; align = a.align; entry_size = a.entry_size }) p2
-    ∙ (ap (λ x. record { name = h.name; kind = h.kind; flags = x; offset = a.offset; size = a.size; link = a.link; info = a.info; align = a.align; entry_size = a.entry_size }) p3
-    ∙ (ap (λ x. record { name = h.name; kind = h.kind; flags = h.flags; offset = x; size = a.size; link = a.link; info = a.info; align = a.align; entry_size = a.entry_size }) p4
-    ∙ (ap (λ x. record { name = h.name; kind = h.kind; flags = h.flags; offset = h.offset; size = x; link = a.link; info = a.info; align = a.align; entry_size = a.entry_size }) p5
-    ∙ (ap (λ x. record { name = h.name; kind = h.kind; flags = h.flags; offset = h.offset; size = h.size; link = x; info = a.info; align = a.align; entry_size = a.entry_size }) p6
-    ∙ (ap (λ x. record { name = h.name; kind = h.kind; flags = h.flags; offset = h.offset; size = h.size; link = h.link; info = x; align = a.align; entry_size = a.entry_size }) p7
-    ∙ (ap (λ x. record { name = h.name; kind = h.kind; flags = h.flags; offset = h.offset; size = h.size; link = h.link; info = h.info; align = x; entry_size = a.entry_size }) p8
-    ∙ ap (λ x. record { name = h.name; kind = h.kind; flags = h.flags; offset = h.offset; size = h.size; link = h.link; info = h.info; align = h.align; entry_size = x }) p9)))))))
+same_header a h p1 p2 p3 p4 p5 p6 p7 p8 p9 = λ i. record { name = p1 i; kind = p2 i; flags = p3 i; offset = p4 i; size = p5 i; link = p6 i; info = p7 i; align = p8 i; entry_size = p9 i }
 
 pub header_at_is : (bytes : List ℕ) (at : ℕ) (h : SectionHeader) → Stands bytes at (header_bytes h) → HeaderFits h → header_at bytes at ≡ h
 unfolding header_at header_bytes
@@ -77,12 +68,7 @@ in_symbol : (bytes : List ℕ) (at k : ℕ) (e : SymbolEntry) → Stands bytes a
 in_symbol bytes at k e s l = stands_in bytes at k (symbol_bytes e) s (let h = length_symbol e in omega arith)
 
 same_symbol_entry : (a e : SymbolEntry) → a.name ≡ e.name → a.value ≡ e.value → a.size ≡ e.size → a.info ≡ e.info → a.section ≡ e.section → a ≡ e
-same_symbol_entry a e p1 p2 p3 p4 p5 =
-    ap (λ x. record { name = x; value = a.value; size = a.size; info = a.info; section = a.section }) p1
-    ∙ (ap (λ x. record { name = e.name; value = x; size = a.size; info = a.info; section = a.section }) p2
-    ∙ (ap (λ x. record { name = e.name; value = e.value; size = x; info = a.info; section = a.section }) p3
-    ∙ (ap (λ x. record { name = e.name; value = e.value; size = e.size; info = x; section = a.section }) p4
-    ∙ ap (λ x. record { name = e.name; value = e.value; size = e.size; info = e.info; section = x }) p5)))
+same_symbol_entry a e p1 p2 p3 p4 p5 = λ i. record { name = p1 i; value = p2 i; size = p3 i; info = p4 i; section = p5 i }
 
 pub symbol_is : (bytes : List ℕ) (at : ℕ) (e : SymbolEntry) → Stands bytes at (symbol_bytes e) → SymbolFits e → symbol_at bytes at ≡ e
 unfolding symbol_at symbol_bytes
@@ -105,10 +91,7 @@ in_relocation : (bytes : List ℕ) (at k : ℕ) (r : RelaEntry) → Stands bytes
 in_relocation bytes at k r s l = stands_in bytes at k (relocation_bytes r) s (let h = length_relocation r in omega arith)
 
 same_relocation : (a r : RelaEntry) → a.offset ≡ r.offset → a.info ≡ r.info → a.addend ≡ r.addend → a ≡ r
-same_relocation a r p1 p2 p3 =
-    ap (λ x. record { offset = x; info = a.info; addend = a.addend }) p1
-    ∙ (ap (λ x. record { offset = r.offset; info = x; addend = a.addend }) p2
-    ∙ ap (λ x. record { offset = r.offset; info = r.info; addend = x }) p3)
+same_relocation a r p1 p2 p3 = λ i. record { offset = p1 i; info = p2 i; addend = p3 i }
 
 pub relocation_is : (bytes : List ℕ) (at : ℕ) (r : RelaEntry) → Stands bytes at (relocation_bytes r) → RelocationFits r → rela_at bytes at ≡ r
 unfolding rela_at relocation_bytes

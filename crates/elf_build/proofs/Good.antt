@@ -12,15 +12,11 @@ use Rattle.elf_read.specs.declared.module.Module.{Module}
 use Rattle.elf_read.specs.Standard.{shf_alloc, shf_tls_or_compressed, stb_weak, stt_common}
 use Rattle.elf_read.specs.Tables.{width}
 use Rattle.elf_read.specs.Rules.{is_alignment}
-use Rattle.elf_read.specs.Modules.{IsName, size_of, IsPlaced, HoldsBytes}
+use Rattle.elf_read.specs.Modules.{IsName, IsSect, size_of, IsPlaced, HoldsBytes}
 use Rattle.elf_build.specs.Buildable.{Buildable}
 
 pub record GoodSect (s : Sect) : Type 0 where
-  pub name : IsName s.name
-  pub loaded : (bit_and s.flags shf_alloc == 0) ≡ false
-  pub plain : (bit_and s.flags shf_tls_or_compressed == 0) ≡ true
-  pub align : is_alignment s.align ≡ true
-  pub size : size_of s.body ≤ most_section_bytes
+  pub sound : IsSect s
   pub flags : s.flags < 2 ^ 32
 
 -- a symbol's place is one that a file with only loaded sections has
@@ -47,9 +43,7 @@ pub record GoodRel (ss : List Sect) (symbols : ℕ) (r : Rel) : Type 0 where
   pub addend : r.addend < 2 ^ 32
 
 pub good_sects : (m : Module) → Buildable m → All GoodSect m.sections
-good_sects m b = λ k d l.
-    let s = b.sound.sections k d l in
-    record { name = s.name; loaded = s.loaded; plain = s.plain; align = s.align; size = s.size; flags = b.sections_fit k d l }
+good_sects m b = λ k d l. record { sound = b.sound.sections k d l; flags = b.sections_fit k d l }
 
 good_place : (ss : List Sect) (p : SymPlace) (value size : ℕ) → IsPlaced ss p value size → p ≢ Elsewhere → GoodPlace ss p value size
 good_place ss Undefined value size h e = tt

@@ -15,13 +15,15 @@ length_headers : (m : Module) → length (headers_of m) ≡ 40 * (header_total m
 unfolding headers_of
 length_headers m =
     let n = count_of m in
-    let l0 = length_header null_header in
-    let l1 = length_sect_headers 33 52 m.sections in
-    let l2 = length_header (symtab_header (symbols_at m) (length (symbols_of m.symbols)) (n + 2) (locals_end m.symbols)) in
-    let l3 = length_header (strings_header 9 (strings_at m) (length (strings_of m.symbols))) in
-    let l4 = length_header (strings_header 17 (names_at m) (length (names_of m.sections))) in
-    let l5 = length_table_headers (n + 1) (relocs_at m) (tables_of m.relocs) in
-    simp length-append (omega arith)
+    simp length-append (omega (
+      arith,
+      length_header null_header,
+      length_sect_headers 33 52 m.sections,
+      length_header (symtab_header (symbols_at m) (length (symbols_of m.symbols)) (n + 2) (locals_end m.symbols)),
+      length_header (strings_header 9 (strings_at m) (length (strings_of m.symbols))),
+      length_header (strings_header 17 (names_at m) (length (names_of m.sections))),
+      length_table_headers (n + 1) (relocs_at m) (tables_of m.relocs),
+    ))
 
 length_names : (ss : List Sect) → length (names_of ss) ≡ 33 + length (flat_map sect_name ss)
 unfolding names_of fixed_names

@@ -58,16 +58,12 @@ ident_passes bytes headers count names s =
 machine_passes : (bytes : List ℕ) (headers count names : ℕ) → Stands bytes 0 (elf_header headers count names) → machine_rule bytes ≡ Ok tt
 unfolding elf_header
 machine_passes bytes headers count names s =
-    let f = elf_header headers count names in
-    let machine = half_is bytes 18 20 (drop 20 f) (stands_in bytes 0 18 f s (omega arith)) (omega arith) in
-    ap (λ b. unless b (NotPpc 18)) (equals (half bytes 18) 20 machine)
+    ap (λ b. unless b (NotPpc 18)) (equals (half bytes 18) 20 (half_is bytes 18 20 (drop 20 (elf_header headers count names)) (stands_in bytes 0 18 (elf_header headers count names) s (omega arith)) (omega arith)))
 
 type_passes : (bytes : List ℕ) (headers count names : ℕ) → Stands bytes 0 (elf_header headers count names) → type_rule bytes ≡ Ok tt
 unfolding elf_header
 type_passes bytes headers count names s =
-    let f = elf_header headers count names in
-    let type = half_is bytes 16 1 (drop 18 f) (stands_in bytes 0 16 f s (omega arith)) (omega arith) in
-    ap (λ b. unless b (NotRel 16)) (equals (half bytes 16) 1 type)
+    ap (λ b. unless b (NotRel 16)) (equals (half bytes 16) 1 (half_is bytes 16 1 (drop 18 (elf_header headers count names)) (stands_in bytes 0 16 (elf_header headers count names) s (omega arith)) (omega arith)))
 
 size_word : (bytes : List ℕ) (headers count names : ℕ) → Stands bytes 0 (elf_header headers count names) → half bytes 46 ≡ 40
 unfolding elf_header
@@ -158,25 +154,17 @@ name_by bytes m i k f e t =
     ∙ (ap (λ x. unless (has_name (names_of m.sections) x) (BadSection (header_place bytes i))) e
     ∙ ap (λ b. unless b (BadSection (header_place bytes i))) t)
 
-null_name : (ss : List Sect) → has_name (names_of ss) 0 ≡ true
-unfolding has_name names_of fixed_names
-null_name ss = refl
+-- the names of the headers that no section has
+record HaveNames (names : List ℕ) : Type 0 where
+  null : has_name names 0 ≡ true
+  symtab : has_name names 1 ≡ true
+  strtab : has_name names 9 ≡ true
+  shstrtab : has_name names 17 ≡ true
+  rela : has_name names 27 ≡ true
 
-symtab_name : (ss : List Sect) → has_name (names_of ss) 1 ≡ true
+have_names : (ss : List Sect) → HaveNames (names_of ss)
 unfolding has_name names_of fixed_names
-symtab_name ss = refl
-
-strtab_name : (ss : List Sect) → has_name (names_of ss) 9 ≡ true
-unfolding has_name names_of fixed_names
-strtab_name ss = refl
-
-shstrtab_name : (ss : List Sect) → has_name (names_of ss) 17 ≡ true
-unfolding has_name names_of fixed_names
-shstrtab_name ss = refl
-
-rela_name : (ss : List Sect) → has_name (names_of ss) 27 ≡ true
-unfolding has_name names_of fixed_names
-rela_name ss = refl
+have_names ss = record { null = refl; symtab = refl; strtab = refl; shstrtab = refl; rela = refl }
 
 null_named : (bytes : List ℕ) (m : Module) → Known bytes m → (header bytes 0).name ≡ 0
 unfolding null_header
@@ -199,12 +187,12 @@ names_pass bytes m h =
     let n = count_of m in
     let k = h.facts in
     each_passes bytes m (name_rule bytes) h
-    (name_by bytes m 0 0 k (null_named bytes m k) (null_name m.sections))
+    (name_by bytes m 0 0 k (null_named bytes m k) (have_names m.sections).null)
     (λ i s x. x.named)
-    (name_by bytes m (n + 1) 1 k (table_named bytes m k) (symtab_name m.sections))
-    (name_by bytes m (n + 2) 9 k (strings_named bytes m k) (strtab_name m.sections))
-    (name_by bytes m (n + 3) 17 k (names_named bytes m k) (shstrtab_name m.sections))
-    (relas_pass bytes m (name_rule bytes) h (λ i g x. name_by bytes m i 27 k x.name (rela_name m.sections)))
+    (name_by bytes m (n + 1) 1 k (table_named bytes m k) (have_names m.sections).symtab)
+    (name_by bytes m (n + 2) 9 k (strings_named bytes m k) (have_names m.sections).strtab)
+    (name_by bytes m (n + 3) 17 k (names_named bytes m k) (have_names m.sections).shstrtab)
+    (relas_pass bytes m (name_rule bytes) h (λ i g x. name_by bytes m i 27 k x.name (have_names m.sections).rela))
 
 -- ---- loaded sections
 

@@ -61,12 +61,7 @@ holds_kind (Bytes bs) n h = refl
 holds_kind (Size k) n h = absurd h
 
 same_rel : (a r : Rel) → a.section ≡ r.section → a.offset ≡ r.offset → a.kind ≡ r.kind → a.symbol ≡ r.symbol → a.addend ≡ r.addend → a ≡ r
-same_rel a r p1 p2 p3 p4 p5 =
-    ap (λ x. record { section = x; offset = a.offset; kind = a.kind; symbol = a.symbol; addend = a.addend }) p1
-    ∙ (ap (λ x. record { section = r.section; offset = x; kind = a.kind; symbol = a.symbol; addend = a.addend }) p2
-    ∙ (ap (λ x. record { section = r.section; offset = r.offset; kind = x; symbol = a.symbol; addend = a.addend }) p3
-    ∙ (ap (λ x. record { section = r.section; offset = r.offset; kind = r.kind; symbol = x; addend = a.addend }) p4
-    ∙ ap (λ x. record { section = r.section; offset = r.offset; kind = r.kind; symbol = r.symbol; addend = x }) p5)))
+same_rel a r p1 p2 p3 p4 p5 = λ i. record { section = p1 i; offset = p2 i; kind = p3 i; symbol = p4 i; addend = p5 i }
 
 high : (s k : ℕ) → k < 256 → (256 * s + k) / 256 ≡ s
 high s k h = omega arith

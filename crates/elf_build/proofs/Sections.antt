@@ -59,23 +59,19 @@ kind_ok (Bytes bs) = refl
 kind_ok (Size n) = refl
 
 same_sect : (a s : Sect) → a.name ≡ s.name → a.flags ≡ s.flags → a.align ≡ s.align → a.body ≡ s.body → a ≡ s
-same_sect a s p1 p2 p3 p4 =
-    ap (λ x. record { name = x; flags = a.flags; align = a.align; body = a.body }) p1
-    ∙ (ap (λ x. record { name = s.name; flags = x; align = a.align; body = a.body }) p2
-    ∙ (ap (λ x. record { name = s.name; flags = s.flags; align = x; body = a.body }) p3
-    ∙ ap (λ x. record { name = s.name; flags = s.flags; align = s.align; body = x }) p4))
+same_sect a s p1 p2 p3 p4 = λ i. record { name = p1 i; flags = p2 i; align = p3 i; body = p4 i }
 
 fits : (bytes names : List ℕ) (place count name at : ℕ) (s : Sect) → Reads bytes place count names → Stands names name (ended s.name) → Stands bytes at (sect_content s) → GoodSect s → HeaderFits (sect_header name at s)
 unfolding sect_header
 fits bytes names place count name at s r n c good =
-    let p = alignment_between s.align good.align in
+    let p = alignment_between s.align good.sound.align in
     let p1 = p.1 in
     let w1 = n.within in
     let w2 = c.within in
     let s1 = r.short in
     let s2 = r.names_short in
     let k = kind_low s.body in
-    let z = good.size in
+    let z = good.sound.size in
     record { name = omega arith; kind = omega arith; flags = good.flags; offset = omega arith; size = omega arith; link = omega arith; info = omega arith; align = omega arith; entry_size = omega arith }
 
 loaded_by : (bytes : List ℕ) (i count : ℕ) (h : SectionHeader) → half bytes 48 ≡ count → i < count → header bytes i ≡ h → (bit_and h.flags 2 == 0) ≡ false → is_loaded bytes i ≡ true
@@ -88,10 +84,10 @@ loaded_by bytes i count h c l e f =
 same_by : (bytes names : List ℕ) (i name at : ℕ) (s : Sect) → section_names bytes ≡ names → header bytes i ≡ sect_header name at s → Stands names name (ended s.name) → Stands bytes at (sect_content s) → GoodSect s → sect_of bytes i ≡ s
 unfolding sect_of sect_header content
 same_by bytes names i name at s ns e n c good =
-    let p = alignment_between s.align good.align in
+    let p = alignment_between s.align good.sound.align in
     let p0 = p.0 in
     same_sect (sect_of bytes i) s
-    (ap (λ x. name_at x (header bytes i).name) ns ∙ (ap (λ x. name_at names x.name) e ∙ name_is names name s.name n good.name))
+    (ap (λ x. name_at x (header bytes i).name) ns ∙ (ap (λ x. name_at names x.name) e ∙ name_is names name s.name n good.sound.name))
     (ap (λ x. x.flags) e)
     (ap (λ x. if x.align == 0 then 1 else x.align) e ∙ else_branch (s.align == 0) 1 s.align (differs s.align 0 (λ z. omega arith)))
     (ap (λ x. if x.kind == 8 then Size x.size else Bytes (part bytes x.offset x.size)) e ∙ body_is bytes at s.body c)
@@ -101,8 +97,8 @@ unfolding sect_header is_loadable
 loads_by bytes i name at s e l good =
     let right : is_loadable (sect_header name at s) ≡ true =
     and_true (kind_of s.body == 1 || (kind_of s.body == 7 || kind_of s.body == 8)) ((bit_and s.flags 0xc00 == 0) && ((s.align == 0 || is_alignment s.align) && nat_le (size_of s.body) 16777216)) (kind_ok s.body)
-    (and_true (bit_and s.flags 0xc00 == 0) ((s.align == 0 || is_alignment s.align) && nat_le (size_of s.body) 16777216) good.plain
-    (and_true (s.align == 0 || is_alignment s.align) (nat_le (size_of s.body) 16777216) (or_true (s.align == 0) (is_alignment s.align) good.align) (at_most (size_of s.body) 16777216 good.size))) in
+    (and_true (bit_and s.flags 0xc00 == 0) ((s.align == 0 || is_alignment s.align) && nat_le (size_of s.body) 16777216) good.sound.plain
+    (and_true (s.align == 0 || is_alignment s.align) (nat_le (size_of s.body) 16777216) (or_true (s.align == 0) (is_alignment s.align) good.sound.align) (at_most (size_of s.body) 16777216 good.sound.size))) in
     ap (λ b. when b (unless (is_loadable (header bytes i)) (BadSection (header_place bytes i)))) l
     ∙ (ap (λ h. unless (is_loadable h) (BadSection (header_place bytes i))) e
     ∙ ap (λ b. unless b (BadSection (header_place bytes i))) right)
@@ -123,14 +119,14 @@ pub sect_is : (bytes names : List ℕ) (place count i name at : ℕ) (s : Sect) 
 unfolding sect_header
 sect_is bytes names place count i name at s r l h n c good =
     let e : header bytes i ≡ sect_header name at s = header_is bytes place i (sect_header name at s) r.place_is h (fits bytes names place count name at s r n c good) in
-    let loaded = loaded_by bytes i count (sect_header name at s) r.count_is l e good.loaded in
+    let loaded = loaded_by bytes i count (sect_header name at s) r.count_is l e good.sound.loaded in
     record {
       loaded = loaded;
       same = same_by bytes names i name at s r.names_is e n c good;
       kind = ap (λ x. x.kind) e;
       size = ap (λ x. x.size) e;
       content = content_by bytes i name at s e c;
-      named = named_by bytes names i name (sect_header name at s) s.name r.names_is e refl n good.name;
+      named = named_by bytes names i name (sect_header name at s) s.name r.names_is e refl n good.sound.name;
       loads = loads_by bytes i name at s e loaded good;
     }
 

@@ -1,5 +1,5 @@
 -- Sizes of a file's parts, and steps of its headers.
-use Rattle.std.proofs.Common.{◌≡◌, ℕ, suc, ◌+◌, ◌*◌, ◌<◌, List, [], ◌∷◌, length, drop, get_or, ◌∙◌, ap, arith, length-append}
+use Rattle.std.proofs.Common.{◌≡◌, ℕ, suc, ◌+◌, ◌*◌, ◌<◌, List, [], ◌∷◌, ◌++◌, length, drop, get_or, refl, ◌∙◌, ap, arith, length-append}
 use Rattle.std.specs.List.{flat_map}
 use Rattle.std.proofs.lemmas.List.{drop_more}
 use Rattle.elf_read.specs.declared.module.Sect.{Sect}
@@ -24,16 +24,17 @@ length_flat f n h (x ∷ xs) =
     mul-suc_flip : (n k : ℕ) → n * suc k ≡ n + n * k
     mul-suc_flip n k = grind arith
 
-pub sect_names_left : (ss : List Sect) (i : ℕ) (d : Sect) → i < length ss → length (flat_map sect_name (drop i ss)) ≡ length (get_or ss i d).name + 1 + length (flat_map sect_name (drop (i + 1) ss))
-sect_names_left ss i d h =
-    let a = ap (λ xs. length (flat_map sect_name xs)) (drop_more ss i d h) in
-    let b = length-append (sect_name (get_or ss i d)) (flat_map sect_name (drop (i + 1) ss)) in
-    let c = length-append (get_or ss i d).name (0 ∷ []) in
+-- the rest of the names, one further
+names_left : {X : Type 0} (ended name : X → List ℕ) → ((x : X) → ended x ≡ name x ++ 0 ∷ []) → (xs : List X) (i : ℕ) (d : X) → i < length xs
+    → length (flat_map ended (drop i xs)) ≡ length (name (get_or xs i d)) + 1 + length (flat_map ended (drop (i + 1) xs))
+names_left ended name is xs i d h =
+    let a = ap (λ ys. length (flat_map ended ys)) (drop_more xs i d h) in
+    let b = length-append (ended (get_or xs i d)) (flat_map ended (drop (i + 1) xs)) in
+    let c = ap length (is (get_or xs i d)) ∙ length-append (name (get_or xs i d)) (0 ∷ []) in
     omega arith
 
+pub sect_names_left : (ss : List Sect) (i : ℕ) (d : Sect) → i < length ss → length (flat_map sect_name (drop i ss)) ≡ length (get_or ss i d).name + 1 + length (flat_map sect_name (drop (i + 1) ss))
+sect_names_left ss i d h = names_left sect_name (λ s. s.name) (λ s. refl) ss i d h
+
 pub sym_names_left : (ss : List Sym) (i : ℕ) (d : Sym) → i < length ss → length (flat_map sym_name (drop i ss)) ≡ length (get_or ss i d).name + 1 + length (flat_map sym_name (drop (i + 1) ss))
-sym_names_left ss i d h =
-    let a = ap (λ xs. length (flat_map sym_name xs)) (drop_more ss i d h) in
-    let b = length-append (sym_name (get_or ss i d)) (flat_map sym_name (drop (i + 1) ss)) in
-    let c = length-append (get_or ss i d).name (0 ∷ []) in
-    omega arith
+sym_names_left ss i d h = names_left sym_name (λ s. s.name) (λ s. refl) ss i d h

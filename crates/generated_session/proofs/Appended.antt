@@ -2,7 +2,7 @@
 use Rattle.std.proofs.Common.{◌≡◌, ℕ, ◌+◌, ◌≤◌, ◌<◌, List, [], ◌∷◌, ◌++◌, Option, Some, None, Bor, map, length, take, drop, refl, ap, sym, subst, ◌∙◌, append_assoc}
 use Rattle.std.specs.List.{concat}
 use Rattle.std.specs.Option.{option_map}
-use Rattle.std.proofs.lemmas.List.{append-nil, take-append-drop}
+use Rattle.std.proofs.lemmas.List.{append-nil, take_at, take-append-drop}
 use Rattle.wind_outside.specs.Appending.{Appended, AppendedPrefix}
 
 -- two pieces, one after the other
@@ -27,13 +27,9 @@ bytes_more : (ps : List (Bor (List ℕ))) (p : Bor (List ℕ)) → bytes_of (ps 
 bytes_more ps p = bytes_both ps (p ∷ []) ∙ ap (λ bytes. bytes_of ps ++ bytes) (append-nil p.now)
 
 -- a prefix of a text
-take_prefix : (prefix rest : List ℕ) → take (length prefix) (prefix ++ rest) ≡ prefix
-take_prefix [] rest = refl
-take_prefix (b ∷ bs) rest = ap (λ bytes. b ∷ bytes) (take_prefix bs rest)
-
 prefix_of : (old new : Option (List ℕ)) (prefix rest text : List ℕ) → prefix ++ rest ≡ text → Appended old new prefix → AppendedPrefix old new text
 prefix_of old new prefix rest text whole gained =
-    (length prefix, subst (Appended old new) (sym (take_prefix prefix rest) ∙ ap (take (length prefix)) whole) gained)
+    (length prefix, subst (Appended old new) (sym (take_at prefix rest (length prefix) refl) ∙ ap (take (length prefix)) whole) gained)
 
 module _ (ps : List (Bor (List ℕ))) (i : ℕ) (p : Bor (List ℕ)) (on : take (i + 1) ps ≡ take i ps ++ p ∷ []) (old mid new : Option (List ℕ))
     (appended : Appended old mid (bytes_of (take i ps))) where

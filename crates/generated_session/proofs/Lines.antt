@@ -4,38 +4,16 @@ use Rattle.std.specs.Prelude.{◌==◌, ◌&&◌, not, codes}
 use Rattle.std.specs.List.{list_all}
 use Rattle.std.specs.Fmt.{decimal}
 use Rattle.std.specs.Char.{is_ascii_digit}
-use Rattle.std.specs.Str.{all_ascii_digits}
-use Rattle.std.specs.Str.Parse.{digits_value}
-use Rattle.std.proofs.lemmas.Fmt.{digits_decimal, decimal_is_IsNumeral, decimal_nonempty, length-decimal-le}
-use Rattle.std.proofs.lemmas.Str.Parse.{IsNumeralModel, numerals_by_value, tells_all_ascii_digits}
 use Rattle.std.proofs.lemmas.Bool.Decides.{nat_tests}
 use Rattle.tick_file.specs.declared.event.Event.TheVariants.{Tick}
 use Rattle.tick_file.specs.declared.event.Rule.TheVariants.{Every}
 use Rattle.tick_file.specs.declared.event.Said.TheVariants.{Says}
 use Rattle.tick_file.specs.Grammar.{said}
-use Rattle.tick_file.specs.Forms.{GrammarLaw, IsLineOf, IsNumber}
-use Rattle.tick_file.specs.Lines.{pieces, onto_first, lines_of, bad_from, bad_or, tick_lines, first_bad_line}
+use Rattle.tick_file.specs.Forms.{GrammarLaw, IsLineOf}
+use Rattle.text_lines.specs.Lines.{pieces, onto_first}
+use Rattle.tick_file.specs.Lines.{lines_of, bad_from, bad_or, tick_lines, first_bad_line}
+use Rattle.tick_file.proofs.Writing.{decimal_digits, number}
 use Rattle.generated_session.specs.Session.{most_rounds, generated_ticks}
-
-all_digits : (ds : List ℕ) → list_all is_ascii_digit ds ≡ all_ascii_digits ds
-all_digits [] = refl
-all_digits (d ∷ ds) = ap (λ b. is_ascii_digit d && b) (all_digits ds)
-
-own : IsNumeralModel (λ ds. all_ascii_digits ds ≡ true) (digits_value 10)
-own = numerals_by_value _ tells_all_ascii_digits
-
-decimal_digits : (n : ℕ) → n < 2 ^ 64 → list_all is_ascii_digit (decimal n) ≡ true
-decimal_digits n h = all_digits (decimal n) ∙ digits_decimal own n h
-
--- a number of up to ten digits
-small_number : (n : ℕ) → n < 10 ^ 5 → IsNumber n (decimal n)
-small_number n h = record {
-  some = decimal_nonempty n (omega arith);
-  few = omega (arith, length-decimal-le 5 n (omega arith) h (omega arith));
-  decimal = decimal_digits n (omega arith);
-  value = (decimal_is_IsNumeral n (omega arith)).1;
-  small = omega arith;
-}
 
 -- it is a line of `every`
 every_line : (count : ℕ) → 1 ≤ count → count < 10 ^ 5 → IsLineOf (Every 100 count Tick) (codes "every 100 " ++ decimal count)
@@ -48,7 +26,7 @@ every_line count some h = (
     next_gap = 32 ∷ [];
     next_digits = decimal count;
     next_apart = record { some = omega arith; blank = refl };
-    next_number = small_number count h;
+    next_number = number count (omega arith);
     is = refl;
   },
   omega arith,

@@ -1,6 +1,7 @@
 //! The line that sums up a generated session.
 
 ghost use Rattle.std.specs.Prelude.{◌≡◌, ◌≤◌, map};
+ghost use Rattle.std.specs.Fmt.{decimal};
 ghost use Rattle.std.specs.List.{concat};
 ghost use Rattle.wind_outside.specs.Counts.{Rose};
 ghost use Rattle.wind_outside.specs.Appending.{Appended, AppendedPrefix};
@@ -41,6 +42,13 @@ fn put_all<O: Sink>(out: &mut O, pieces: &[&[u8]]) -> Put
     Put::Done
 }
 
+// The digits of a number.
+fn digits(buffer: &mut Buffer, number: u128) -> &[u8]
+    ensures { result.now ≡ decimal number }
+{
+    buffer.format(number).as_bytes()
+}
+
 impl Summary {
     /// Puts the line piece by piece, and stops at the first piece that fails.
     pub fn put<O: Sink>(&self, out: &mut O) -> Put
@@ -58,17 +66,17 @@ impl Summary {
             out,
             &[
                 b"generated ",
-                rounds.format(self.rounds).as_bytes(),
+                digits(&mut rounds, self.rounds as u128),
                 b": ",
-                lines.format(3 * self.rounds + 3).as_bytes(),
+                digits(&mut lines, (3 * self.rounds + 3) as u128),
                 b" lines, ",
-                bytes.format(self.bytes).as_bytes(),
+                digits(&mut bytes, self.bytes),
                 b" console bytes, ",
-                steps.format(self.steps).as_bytes(),
+                digits(&mut steps, self.steps as u128),
                 b" steps, ",
-                ticks.format(self.ticks).as_bytes(),
+                digits(&mut ticks, self.ticks as u128),
                 b" ticks, status ",
-                status.format(self.status).as_bytes(),
+                digits(&mut status, self.status as u128),
                 b"\n",
             ],
         )

@@ -1,9 +1,11 @@
 -- What a contract sees of a table: its objects by rising id, and the greatest number of them.
-use Rattle.std.specs.Prelude.{ℕ, ◌<◌, ◌≤◌, nat_lt, List, [], ◌∷◌, ◌++◌, map, length, Option, refl}
+use Rattle.std.specs.Prelude.{ℕ, ◌<◌, ◌≤◌, nat_le, nat_lt, if◌then◌else◌, List, [], ◌∷◌, ◌++◌, map, length, Option, None, Some, refl}
 use Rattle.std.specs.List.{All, AllPairs, find}
 use Rattle.std.specs.Option.{option_map}
 use Rattle.std.specs.Coded.{Coded, code_by, coded×, coded_ℕ, coded_list}
 use Rattle.wind_base.specs.Limits.{greatest_id}
+use Rattle.wind_base.specs.declared.errno.Errno.{Errno}
+use Rattle.wind_base.specs.declared.errno.Errno.TheVariants as errors
 use Rattle.wind_lists.specs.Records as records
 
 -- the ids with their objects, and the room
@@ -14,6 +16,14 @@ pub record Rows (T : Type 0) : Type 0 where
 -- a number is a valid id
 abbrev pub IsId : ℕ → Type 0
 IsId n = (0 < n) × (n ≤ greatest_id)
+
+-- why no object can be added, if a table may have `most` objects, this many are live and this id is next: the table is
+-- full, otherwise no id is left
+abbrev pub add_refusal : ℕ → ℕ → ℕ → Option Errno
+add_refusal most live next =
+    if nat_le most live then Some errors.TooMany
+    else if nat_lt greatest_id next then Some errors.IdsSpent
+    else None
 
 -- a table, coded as a pair
 abbrev pub rows_code : {T : Type 0} → Coded T → Coded (Rows T)

@@ -1,10 +1,10 @@
 //! Tables of objects by id.
 
-ghost use Rattle.std.specs.Prelude.{◌≡◌, ◌<◌, ◌≤◌, ◌+◌, [], false, length, IfOk, IfErr, IsOk, ◌↔◌, Some, IsSome, is_some, option_copied, slice_index_or};
+ghost use Rattle.std.specs.Prelude.{◌≡◌, ◌<◌, ◌≤◌, ◌+◌, [], false, length, IfOk, IfErr, IsOk, ◌↔◌, None, Some, IsSome, MatchOption, is_some, option_copied, slice_index_or};
 ghost use Rattle.std.specs.Option.{option_copied_mut};
 ghost use Rattle.std.specs.Borrow.{sem};
 ghost use Rattle.wind_base.specs.Limits.{greatest_id};
-ghost use Rattle.id_table.specs.Rows.{object_of, objects, added, removed, IdsBelow, IsTable, Rises, next_above};
+ghost use Rattle.id_table.specs.Rows.{object_of, objects, add_refusal, added, removed, IdsBelow, IsTable, Rises, next_above};
 ghost use Rattle.id_table.specs.Source.{one_given};
 
 use crate::entry::{Entry, entry_above, place_near};
@@ -13,7 +13,7 @@ use crate::source::IdSource;
 use slab::Slab;
 use std::alloc::Global;
 use std::marker::Model;
-use wind_base::NoMemory;
+use wind_base::{Errno, NoMemory};
 
 /// Objects by id, with a limit on their number.
 #[derive(Drop)]
@@ -100,6 +100,33 @@ impl<T> Table<T> {
         ensures { result ≡ is_some (object_of self.now.rows id) }
     {
         self.get(id).is_some()
+    }
+
+    /// The id with this number, if it is live in this table.
+    pub fn find(&self, number: u32) -> Option<Ident>
+        ensures { MatchOption result (object_of self.now.rows number ≡ None)
+            (λ id. (id ≡ number) × IsSome (object_of self.now.rows id)) }
+    {
+        self.facts();
+        let id = Ident::new(number)?;
+        if self.contains(id) { Some(id) } else { None }
+    }
+
+    /// The id under which the next object will be added.
+    ///
+    /// # Errors
+    ///
+    /// `TooMany` if the table is full; otherwise `IdsSpent` if no id is left.
+    pub fn next_id(&self, ids: &IdSource) -> Result<Ident, Errno>
+        ensures ok { IfOk result (λ id. (add_refusal self.now.room (length self.now.rows) ids.now.next ≡ None)
+            × (id ≡ ids.now.next)) }
+        ensures err { IfErr result (λ e. add_refusal self.now.room (length self.now.rows) ids.now.next ≡ Some e) }
+        ensures when { IsOk result ↔ (length self.now.rows < self.now.room) × (ids.now.next ≤ greatest_id) }
+    {
+        if self.len() >= self.room {
+            return Err(Errno::TooMany);
+        }
+        ids.peek().ok_or(Errno::IdsSpent)
     }
 
     /// The least live id above `id`. None if there is none.

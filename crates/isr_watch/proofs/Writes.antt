@@ -13,9 +13,9 @@ use Rattle.wind_lists.specs.Records.{of_id, change, Rising}
 use Rattle.wind_lists.proofs.Records.{found_id, replace-change}
 use Rattle.isr_watch.specs.declared.watchdog.Watchdog.{Watchdog}
 use Rattle.isr_watch.specs.declared.watchdog.Routine.{Routine}
-use Rattle.isr_watch.specs.State.{WatchState, watchdog_id}
+use Rattle.isr_watch.specs.State.{WatchState, watchdog_id, watchdog_of}
 use Rattle.isr_watch.specs.Calls.{create_refusal, new_watchdog, started, start_found, start, stopped, cancel_found, cancel, deleted, delete}
-use Rattle.isr_watch.specs.Inside.{SameIds, watch_state}
+use Rattle.isr_watch.specs.Inside.{SameIds, IsLevel, watch_state}
 
 -- the ids rise along the records too
 pub rising_of : (rs : List (ℕ × Watchdog)) → SameIds rs → Rising row_id rs → Rising watchdog_id (objects rs)
@@ -46,12 +46,20 @@ write_is rs n v f own up value =
     objects-replace watchdog_id rs n (f v) own ∙ replace-change watchdog_id (objects rs) n v f (rising_of rs own up) (found_record rs n v own value)
 
 -- a watchdog among the records is in the table
+pub live_object : (rs : List (ℕ × Watchdog)) (ws : List Watchdog) (n : ℕ) → SameIds rs → objects rs ≡ ws → IsSome (watchdog_of ws n) → IsSome (object_of rs n)
+live_object rs ws n own seen lives = subst (λ o. IsSome o) (sym (object-record watchdog_id rs n own ∙ ap (λ us. watchdog_of us n) seen)) lives
+
 pub lives_in : (rs : List (ℕ × Watchdog)) (n : ℕ) → SameIds rs → IsSome (of_id watchdog_id (objects rs) n) → (v : Watchdog) × (object_of rs n ≡ Some v)
-lives_in rs n own lives = some_of (object_of rs n) (subst (λ o. IsSome o) (sym (object-record watchdog_id rs n own)) lives)
+lives_in rs n own lives = some_of (object_of rs n) (live_object rs (objects rs) n own refl lives)
   where
     some_of : (o : Option Watchdog) → IsSome o → (v : Watchdog) × (o ≡ Some v)
     some_of None h = absurd (cc)
     some_of (Some v) h = (v, refl)
+
+-- the invariant after one is overwritten
+pub write_level : (t : Rows Watchdog) (level : Option Regs) (listed : List Routine) (n : ℕ) (v y : Watchdog) → IsLevel t level listed → object_of t.rows n ≡ Some v → y.id ≡ v.id
+    → IsLevel (table.rewritten t n y) level listed
+write_level t level listed n v y is value id = record { own = write_own t.rows n v y is.own value id; room = is.room; idle = is.idle }
 
 -- ---- the calls
 -- a watchdog is added, or nothing changes

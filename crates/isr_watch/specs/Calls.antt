@@ -1,9 +1,10 @@
 -- What the calls on watchdogs do (VxWorks 5.4 Reference Manual, wdLib), and the interrupt level.
-use Rattle.std.specs.Prelude.{ℕ, ◌+◌, ◌*◌, ◌-◌, nat_lt, nat_le, if◌then◌else◌, max, List, [], ◌∷◌, ◌++◌, map, replicate, slice_set, Option, None, Some}
-use Rattle.wind_base.specs.Limits.{most_watchdogs, greatest_id, frame_bytes, gates_start, gate_bytes}
+use Rattle.std.specs.Prelude.{ℕ, ◌+◌, ◌*◌, ◌-◌, if◌then◌else◌, max, List, [], ◌∷◌, ◌++◌, map, replicate, slice_set, Option, None, Some}
+use Rattle.wind_base.specs.Limits.{most_watchdogs, frame_bytes, gates_start, gate_bytes}
 use Rattle.wind_base.specs.declared.errno.Errno.{Errno}
 use Rattle.wind_base.specs.declared.errno.Errno.TheVariants as errors
 use Rattle.wind_base.specs.declared.regs.Regs.{Regs}
+use Rattle.id_table.specs.Rows.{add_refusal}
 use Rattle.wind_lists.specs.Records.{change, without}
 use Rattle.isr_watch.specs.declared.watchdog.Watchdog.{Watchdog}
 use Rattle.isr_watch.specs.declared.watchdog.Routine.{Routine}
@@ -16,10 +17,7 @@ new_watchdog id = record { id = id; routine = record { entry = 0; param = 0 }; t
 
 -- why no watchdog can be made, if this many are live and this id is next
 abbrev pub create_refusal : ℕ → ℕ → Option Errno
-create_refusal live next_id =
-    if nat_le most_watchdogs live then Some errors.TooMany
-    else if nat_lt greatest_id next_id then Some errors.IdsSpent
-    else None
+create_refusal live next_id = add_refusal most_watchdogs live next_id
 
 -- the watchdog is added under this id
 abbrev pub created : WatchState → ℕ → WatchState

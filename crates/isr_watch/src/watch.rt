@@ -6,7 +6,7 @@ ghost use Rattle.std.specs.List.{All};
 ghost use Rattle.std.specs.Option.{option_copied_mut};
 ghost use Rattle.wind_base.specs.Limits.{frame_bytes, most_watchdogs};
 ghost use Rattle.wind_base.specs.declared.errno.Errno.TheVariants.{ObjIdError};
-ghost use Rattle.id_table.specs.Rows.{IdsBelow, added};
+ghost use Rattle.id_table.specs.Rows.{IdsBelow, added, objects};
 ghost use Rattle.id_table.specs.Source.{one_given};
 ghost use Rattle.isr_watch.specs.State.{IsWatch, watchdog_of};
 ghost use Rattle.isr_watch.specs.Calls.{new_watchdog as new_watchdog_lem, create_refusal, created, delete, start, cancel, due, begun, finish};
@@ -55,12 +55,7 @@ fn add_watchdog(watchdogs: &mut Table<Watchdog>, ids: &mut IdSource) -> Result<I
     ensures err { IfErr result (λ e. (create_refusal (length watchdogs.old.rows) ids.old.next ≡ Some e)
         × (ids.new ≡ ids.old) × (watchdogs.new ≡ watchdogs.old)) }
 {
-    if watchdogs.len() >= WATCHDOGS as usize {
-        return Err(Errno::TooMany);
-    }
-    let Some(id) = ids.peek() else {
-        return Err(Errno::IdsSpent);
-    };
+    let id = watchdogs.next_id(ids)?;
     let Ok(id) = watchdogs.add(ids, new_watchdog(id)) else {
         unreachable!()
     };
@@ -100,6 +95,13 @@ impl Watch {
         self.next_start
     }
 
+    /// The watchdogs by id.
+    pub fn watchdogs(&self) -> &Table<Watchdog>
+        ensures { objects result.now.rows ≡ self.now.watchdogs }
+    {
+        &self.watchdogs
+    }
+
     /// Makes a watchdog that isn't running (VxWorks 5.4 Reference Manual, wdCreate).
     ///
     /// # Errors
@@ -126,15 +128,7 @@ impl Watch {
         ensures { MatchOption result (watchdog_of self.now.watchdogs number ≡ None)
             (λ id. (id ≡ number) × IsSome (watchdog_of self.now.watchdogs id)) }
     {
-        self.watchdogs.facts();
-        let Some(id) = Ident::new(number) else {
-            return None;
-        };
-        if self.watchdogs.contains(id) {
-            Some(id)
-        } else {
-            None
-        }
+        self.watchdogs.find(number)
     }
 
     /// Starts a watchdog, or restarts it if it is running (VxWorks 5.4 Reference Manual, wdStart).

@@ -19,9 +19,9 @@ use Rattle.kernel_world.specs.Kept.{IsWorld, Within, call_sinces}
 use Rattle.kernel_calls.specs.Laws.{Passes}
 use Rattle.kernel_world.specs.declared.actor.Actor.TheVariants.{Task}
 use Rattle.kernel_world.proofs.Goes.{goes_further}
-use Rattle.task_calls.proofs.SafetyGoes.{refuses_goes, awaits_goes, leaves_further, itself_leaves, removed_leaves}
+use Rattle.task_calls.proofs.SafetyGoes.{refuses_goes, awaits_goes, itself_leaves, removed_leaves}
 use Rattle.task_calls.proofs.Deleting.{objects-delete_row}
-use Rattle.kernel_world.proofs.Advancing.{of_tasks, within_more}
+use Rattle.kernel_world.proofs.Advancing.{of_tasks, keeps_more, within_more}
 use Rattle.kernel_calls.proofs.Departing.{Departs, parted, departs}
 use Rattle.kernel_calls.proofs.Serves.{Serves, served}
 
@@ -33,20 +33,12 @@ module _ (w : WorldState) (kept : IsWorld w) (n : ℕ) (within : Within n w) (ca
   -- a task is taken out that was not safe, or is the caller itself, and that is not the shell's
   taking : (v : WorldState) (who : ℕ) → GoesUnsafe w.kern caller v.kern → (who ≡ 1 → ⊥) → Departs w v who (n + 1) 256 → Passes w v (Task caller) (n + 1) call_sinces 1
   taking v who goes other d = record {
-    kept = d.kept;
+    steps = keeps_more w v (n + 1) (n + 1) 256 call_sinces 0 1 (omega arith) (omega arith) (omega arith) d.steps;
     gone = λ id live dead. ⊎_elim
         (λ (z : safe_of (task_of w.kern.tasks id) ≡ 0). inl z)
         (λ (e : id ≡ caller). inr (ap Task (sym e)))
         (goes id live dead);
     shell = λ live. d.lives 1 (λ e. other (sym e)) live;
-    within = d.within;
-    last = d.last;
-    reserves = d.reserves;
-    sinces = omega (arith, d.sinces);
-    count = d.count;
-    names = omega (arith, d.names);
-    starts = omega (arith, d.starts);
-    choice = d.choice;
   }
 
   more : Within (n + 1) w
@@ -64,8 +56,7 @@ module _ (w : WorldState) (kept : IsWorld w) (n : ℕ) (within : Within n w) (ca
       record { passes = taking (parted w j caller) caller goes other out; acts = λ stays live. absurd (stays refl) }
   by_deed id (Removes who) is said goes objects =
       let j : KernState = after w.kern caller (Removes who) in
-      let leaves = leaves_further w.kern j who (n + 1) (n + 1) 0 256 (omega arith) (omega arith) (removed_leaves w.kern (n + 1) kept.kern more.0 caller who) in
-      let out = departs w j who (n + 1) 256 kept leaves objects more.1 in
+      let out = departs w j who (n + 1) 256 kept (removed_leaves w.kern (n + 1) kept.kern more.0 caller who) objects more.1 in
       let other : who ≡ 1 → ⊥ = λ e. not_shell w.kern.tasks caller id (Removes who) is (λ f x. absurd (cc)) (sym said.0 ∙ e) in
       record { passes = taking (parted w j who) who goes other out; acts = λ stays live. out.lives caller (λ e. said.3 (sym e)) live }
   by_deed id (Awaits who) is said goes objects =

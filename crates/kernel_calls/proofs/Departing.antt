@@ -1,5 +1,5 @@
 -- What holds when a task is removed.
-use Rattle.std.proofs.Common.{◌≡◌, ℕ, suc, ◌+◌, ◌<◌, ◌≤◌, true, false, not, cond, eqb, List, [], ◌∷◌, get_or, Option, Some, None, IsSome, refl, sym, ap, ◌∙◌, subst, arith}
+use Rattle.std.proofs.Common.{◌≡◌, ℕ, suc, ◌<◌, ◌≤◌, true, false, not, cond, eqb, List, [], ◌∷◌, get_or, Option, Some, None, IsSome, refl, sym, ap, ◌∙◌, subst, arith}
 use Rattle.std.specs.List.{All, AllPairs}
 use Rattle.std.proofs.lemmas.Bool.{eqb-true, ne_eqb}
 use Rattle.std.proofs.lemmas.List.Elements.{All-weaker, All-head, All-tail, All-cons}
@@ -15,10 +15,10 @@ use Rattle.wind_lists.specs.Records.{without}
 use Rattle.wind_core.specs.State.{KernState, Lives, task_id, task_of}
 use Rattle.wind_core.specs.Moves.{remove}
 use Rattle.wind_core.proofs.Ids.{ids, lives_by}
-use Rattle.kernel_world.specs.State.{WorldState, choice_of}
+use Rattle.kernel_world.specs.State.{WorldState}
 use Rattle.kernel_world.specs.Objects.{KeepsObjects, DepthsWithin}
 use Rattle.task_calls.specs.Ending.{without_stack, unguarded}
-use Rattle.kernel_world.specs.Kept.{Stack, stack_of, routine_stack, IsStack, AreApart, KeepsPool, AreStacks, KeepsLoaded, task_stacks, IsWorld, Within, ReservedBy}
+use Rattle.kernel_world.specs.Kept.{Stack, stack_of, routine_stack, IsStack, AreApart, KeepsPool, AreStacks, KeepsLoaded, task_stacks, IsWorld, StepKeeps}
 use Rattle.kernel_calls.specs.Laws.{EndLaw}
 use Rattle.kernel_world.proofs.LiveIds.{Fewer, fewer_records}
 use Rattle.kernel_world.proofs.WorldIds.{ids_leave}
@@ -149,18 +149,11 @@ pool_left : {board : BoardKind} (p : PartState) (o : Option Task) → KeepsPool 
 pool_left p None k = k
 pool_left p (Some t) k = pool-free p t.stack Kernel k
 
--- from one world to another, when a task is removed and all others live on
+-- from one world to another, when a task is removed: a step keeps what it must, and all others live on
 pub record Departs (w v : WorldState) (who n d : ℕ) : Type 0 where
-  pub kept : IsWorld v
+  pub steps : StepKeeps w v n d 0
+  pub open steps use *
   pub lives : (id : ℕ) → (id ≡ who → ⊥) → Lives w.kern id → Lives v.kern id
-  pub within : Within n v
-  pub last : v.kern.last ≡ w.kern.last
-  pub reserves : (o : Option ℕ) → ReservedBy o w.kern → ReservedBy o v.kern
-  pub sinces : v.kern.next_since ≤ w.kern.next_since + d
-  pub count : v.kern.tick ≡ w.kern.tick
-  pub names : v.names ≡ w.names
-  pub starts : v.watch.next_start ≡ w.watch.next_start
-  pub choice : choice_of v ≡ choice_of w
 
 -- the world after that: the task's stack is freed
 abbrev pub parted : WorldState → KernState → ℕ → WorldState
@@ -170,32 +163,34 @@ pub departs : (w : WorldState) (j : KernState) (who n d : ℕ) → IsWorld w →
 departs w j who n d kept l objects depths =
     let part : PartState = without_stack w.part (task_of w.kern.tasks who) in
     record {
-      kept = record {
-        kern = l.kern;
-        home = l.lent ∙ kept.home;
-        kind = kept.kind;
-        objects = objects;
-        pool = pool_left w.part (task_of w.kern.tasks who) kept.pool;
-        stacks = subst (λ s. AreStacks part (routine_stack ∷ s)) (sym l.stacks) (stacks_left w.part w.kern.tasks who (task_of w.kern.tasks who) refl kept.stacks);
-        modules = loaded_left w.kern w.part w.modules.rows kept.modules who (task_of w.kern.tasks who) refl j l.next l.stacks;
-        ram = kept.ram;
-        symbols = kept.symbols;
-        watch = watch_on w.kern.next_id j.next_id w.watch l.next kept.watch;
-        ids = ids_leave w kept.ids j (subst (λ is. Fewer is (ids w.kern.tasks)) (sym l.alone) (fewer_records task_id w.kern.tasks who)) l.next;
+      steps = record {
+        kept = record {
+          kern = l.kern;
+          home = l.lent ∙ kept.home;
+          kind = kept.kind;
+          objects = objects;
+          pool = pool_left w.part (task_of w.kern.tasks who) kept.pool;
+          stacks = subst (λ s. AreStacks part (routine_stack ∷ s)) (sym l.stacks) (stacks_left w.part w.kern.tasks who (task_of w.kern.tasks who) refl kept.stacks);
+          modules = loaded_left w.kern w.part w.modules.rows kept.modules who (task_of w.kern.tasks who) refl j l.next l.stacks;
+          ram = kept.ram;
+          symbols = kept.symbols;
+          watch = watch_on w.kern.next_id j.next_id w.watch l.next kept.watch;
+          ids = ids_leave w kept.ids j (subst (λ is. Fewer is (ids w.kern.tasks)) (sym l.alone) (fewer_records task_id w.kern.tasks who)) l.next;
+        };
+        within = (l.counts, depths);
+        last = l.last;
+        reserves = l.reserves;
+        sinces = l.sinces;
+        count = l.count;
+        names = omega arith;
+        starts = omega arith;
+        choice = refl;
       };
       lives = λ id differ live. lives_by j.tasks (without task_id w.kern.tasks who) id l.alone (others_live w.kern.tasks who id differ live);
-      within = (l.counts, depths);
-      last = l.last;
-      reserves = l.reserves;
-      sinces = l.sinces;
-      count = l.count;
-      names = refl;
-      starts = refl;
-      choice = refl;
     }
 
 pub ends : EndLaw
 ends w who n kept within =
     let j : KernState = remove (unguarded w.kern who) who in
     let d = departs w j who n 256 kept (ended_leaves w.kern n kept.kern within.0 who) (objects-ended w.kern w.objects kept.kern kept.objects who) within.1 in
-    record { kept = d.kept; lives = d.lives; within = d.within; reserves = d.reserves; sinces = omega (arith, d.sinces); count = d.count; names = d.names; starts = d.starts; choice = d.choice }
+    record { kept = d.kept; lives = d.lives; within = d.within; reserves = d.reserves; sinces = omega (arith, d.sinces); count = d.count; names = refl; starts = refl; choice = d.choice }

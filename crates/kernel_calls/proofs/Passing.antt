@@ -1,5 +1,5 @@
 -- What every call keeps.
-use Rattle.std.proofs.Common.{◌≡◌, ℕ, ◌+◌, Bool, List, ◌++◌, Option, None, Some, is_some, true, false, cond, refl, ◌∙◌, arith}
+use Rattle.std.proofs.Common.{◌≡◌, ℕ, ◌+◌, ◌≤◌, Bool, List, ◌++◌, Option, None, Some, is_some, true, false, cond, refl, ◌∙◌, subst, arith}
 use Rattle.std.specs.Prelude.{slice_index}
 use Rattle.wind_base.specs.declared.gate.Gate.{Gate}
 use Rattle.wind_base.specs.declared.gate.Gate.TheVariants as gates
@@ -11,6 +11,7 @@ use Rattle.task_block.specs.declared.task.Task.{Task as TaskRecord}
 use Rattle.board_mem.specs.Memory.{has, with_word}
 use Rattle.board_mem.proofs.Sizes.{length-with_number}
 use Rattle.board_mem.specs.Memory.{string_at}
+use Rattle.wind_core.specs.State.{Lives}
 use Rattle.wind_core.specs.Moves.{live_id}
 use Rattle.kernel_world.specs.State.{WorldState}
 use Rattle.kernel_world.specs.Objects.{KeepsObjects, DepthsWithin}
@@ -52,8 +53,9 @@ use Rattle.object_calls.proofs.SemGoes.{binary_goes, counting_goes, mutex_goes, 
 use Rattle.kernel_world.specs.LiveIds.{object_ids}
 use Rattle.kernel_world.proofs.LiveIds.{Owns, Given, Nothing, given_none}
 use Rattle.kernel_world.proofs.WorldIds.{tasks_own, ids_objects}
-use Rattle.object_calls.proofs.RowIds.{NoneComes, Comes, binary_comes, counting_comes, mutex_comes, take_stays, give_stays, flush_stays, delete_stays, priority_stays, send_stays, receive_row_stays, queue_delete_stays, queue_create_comes, queues_given, mutex_owned, binary_owned, counting_owned, take_owned, give_owned, flush_owned, delete_owned, priority_owned}
-use Rattle.object_calls.proofs.Depths.{binary_depths, counting_depths, mutex_depths, take_depths, give_depths, flush_depths, delete_depths, priority_depths}
+use Rattle.object_calls.proofs.RowIds.{NoneComes, Comes, binary_comes, counting_comes, mutex_comes, take_stays, give_stays, flush_stays, delete_stays, priority_stays, send_stays, receive_row_stays, queue_delete_stays, queue_create_comes, queues_given, owners_may}
+use Rattle.object_calls.proofs.EachMutex.{MayChange, each-binary, each-counting, each-mutex, each-take, each-give, each-flush, each-delete, each-priority}
+use Rattle.object_calls.proofs.Depths.{depths_may}
 
 -- a deletion by any caller
 delete_row_serves : (w : WorldState) (kept : IsWorld w) (n : ℕ) (within : Within n w) (a : Actor) (id : ℕ) → MayCall w.kern a → Serves w a (of_deletion w (delete_row w.board w.kern w.part a id)) (n + 1)
@@ -85,6 +87,12 @@ module _ (w : WorldState) (kept : IsWorld w) (n : ℕ) (within : Within n w) (a 
 
   tasks_may : All (λ t. MayOwn (Some t.id)) w.kern.tasks
   tasks_may = tasks_own w kept.ids
+
+  own : MayChange w.kern w.objects (Lives w.kern) (λ v. MayOwn v.owner)
+  own = owners_may w.kern w.objects kept.kern MayOwn tt tasks_may kept.ids.owners
+
+  deep : MayChange w.kern w.objects (λ who. Unit {0}) (λ v. v.depth ≤ n + 1)
+  deep = depths_may w.kern w.objects n within.1
 
   -- at most one object is added, with the next id
   of_object_row : (r : ObjectRow) → Goes w.kern r.kern (n + 1) call_sinces → KeepsObjects w.board r.kern r.objects → DepthsWithin (n + 1) r.objects → Comes w.kern w.objects r
@@ -140,22 +148,22 @@ module _ (w : WorldState) (kept : IsWorld w) (n : ℕ) (within : Within n w) (a 
   row_serves gates.KernelTimeSlice ram r live there may = of_kern_row _ (slice_goes w.kern n kept.kern within.0 (slice_index r 3)) (objects-slice_row w.kern w.objects kept.kern kept.objects (slice_index r 3))
   row_serves gates.TaskPriorityGet ram r live there may = served w a _ (n + 1) (priority_advances w kept n within (slice_index r 4) (task_at w.kern (target w.kern a (slice_index r 3))))
   row_serves gates.TickGet ram r live there may = idle _
-  row_serves gates.TaskPrioritySet ram r live there may = of_still_row _ (priority_goes w.kern w.objects n kept.kern within.0 (slice_index r 4) (target w.kern a (slice_index r 3))) (keeps-priority_row w.kern w.objects kept.kern kept.objects (slice_index r 4) (target w.kern a (slice_index r 3))) (priority_depths w.kern w.objects n within.1 (slice_index r 4) (target w.kern a (slice_index r 3)))
-      (priority_stays w.kern w.objects (slice_index r 4) (target w.kern a (slice_index r 3))) (priority_owned w.kern w.objects kept.kern MayOwn tt tasks_may kept.ids.owners (slice_index r 4) (target w.kern a (slice_index r 3)))
-  row_serves gates.SemBCreate ram r live there may = of_object_row _ (binary_goes w.kern w.objects n kept.kern within.0 (slice_index r 3) (slice_index r 4)) (keeps-binary_row w.kern w.objects kept.kern kept.objects (slice_index r 3) (slice_index r 4)) (binary_depths w.kern w.objects n within.1 (slice_index r 3) (slice_index r 4))
-      (binary_comes w.kern w.objects (slice_index r 3) (slice_index r 4)) (binary_owned w.kern w.objects kept.kern MayOwn tt tasks_may kept.ids.owners (slice_index r 3) (slice_index r 4))
-  row_serves gates.SemCCreate ram r live there may = of_object_row _ (counting_goes w.kern w.objects n kept.kern within.0 (slice_index r 3) (slice_index r 4)) (keeps-counting_row w.kern w.objects kept.kern kept.objects (slice_index r 3) (slice_index r 4)) (counting_depths w.kern w.objects n within.1 (slice_index r 3) (slice_index r 4))
-      (counting_comes w.kern w.objects (slice_index r 3) (slice_index r 4)) (counting_owned w.kern w.objects kept.kern MayOwn tt tasks_may kept.ids.owners (slice_index r 3) (slice_index r 4))
-  row_serves gates.SemMCreate ram r live there may = of_object_row _ (mutex_goes w.kern w.objects n kept.kern within.0 (slice_index r 3)) (keeps-mutex_row w.kern w.objects kept.kern kept.objects (slice_index r 3)) (mutex_depths w.kern w.objects n within.1 (slice_index r 3))
-      (mutex_comes w.kern w.objects (slice_index r 3)) (mutex_owned w.kern w.objects kept.kern MayOwn tt tasks_may kept.ids.owners (slice_index r 3))
-  row_serves gates.SemTake ram r live there may = of_still_row _ (take_goes w.kern w.objects n kept.kern within.0 a (slice_index r 3) (slice_index r 4)) (keeps-take_row w.kern w.objects kept.kern kept.objects a (slice_index r 3) (slice_index r 4) live) (take_depths w.kern w.objects n within.1 a (slice_index r 3) (slice_index r 4))
-      (take_stays w.kern w.objects a (slice_index r 3) (slice_index r 4)) (take_owned w.kern w.objects kept.kern MayOwn tt tasks_may kept.ids.owners a (slice_index r 3) (slice_index r 4) live)
-  row_serves gates.SemGive ram r live there may = of_still_row _ (give_goes w.kern w.objects n kept.kern within.0 a (slice_index r 3)) (keeps-give_row w.kern w.objects kept.kern kept.objects a (slice_index r 3) live) (give_depths w.kern w.objects n within.1 a (slice_index r 3))
-      (give_stays w.kern w.objects a (slice_index r 3)) (give_owned w.kern w.objects kept.kern MayOwn tt tasks_may kept.ids.owners a (slice_index r 3))
-  row_serves gates.SemFlush ram r live there may = of_still_row _ (flush_goes w.kern w.objects n kept.kern within.0 (slice_index r 3)) (keeps-flush_row w.kern w.objects kept.kern kept.objects (slice_index r 3)) (flush_depths w.kern w.objects n within.1 (slice_index r 3))
-      (flush_stays w.kern w.objects (slice_index r 3)) (flush_owned w.kern w.objects kept.kern MayOwn tt tasks_may kept.ids.owners (slice_index r 3))
-  row_serves gates.SemDelete ram r live there may = of_still_row _ (delete_goes w.kern w.objects n kept.kern within.0 (slice_index r 3)) (keeps-delete_row w.kern w.objects kept.kern kept.objects (slice_index r 3)) (delete_depths w.kern w.objects n within.1 (slice_index r 3))
-      (delete_stays w.kern w.objects (slice_index r 3)) (delete_owned w.kern w.objects kept.kern MayOwn tt tasks_may kept.ids.owners (slice_index r 3))
+  row_serves gates.TaskPrioritySet ram r live there may = of_still_row _ (priority_goes w.kern w.objects n kept.kern within.0 (slice_index r 4) (target w.kern a (slice_index r 3))) (keeps-priority_row w.kern w.objects kept.kern kept.objects (slice_index r 4) (target w.kern a (slice_index r 3))) (each-priority w.kern w.objects _ _ deep (slice_index r 4) (target w.kern a (slice_index r 3)))
+      (priority_stays w.kern w.objects (slice_index r 4) (target w.kern a (slice_index r 3))) (each-priority w.kern w.objects _ _ own (slice_index r 4) (target w.kern a (slice_index r 3)))
+  row_serves gates.SemBCreate ram r live there may = of_object_row _ (binary_goes w.kern w.objects n kept.kern within.0 (slice_index r 3) (slice_index r 4)) (keeps-binary_row w.kern w.objects kept.kern kept.objects (slice_index r 3) (slice_index r 4)) (each-binary w.kern w.objects _ _ deep (slice_index r 3) (slice_index r 4))
+      (binary_comes w.kern w.objects (slice_index r 3) (slice_index r 4)) (each-binary w.kern w.objects _ _ own (slice_index r 3) (slice_index r 4))
+  row_serves gates.SemCCreate ram r live there may = of_object_row _ (counting_goes w.kern w.objects n kept.kern within.0 (slice_index r 3) (slice_index r 4)) (keeps-counting_row w.kern w.objects kept.kern kept.objects (slice_index r 3) (slice_index r 4)) (each-counting w.kern w.objects _ _ deep (slice_index r 3) (slice_index r 4))
+      (counting_comes w.kern w.objects (slice_index r 3) (slice_index r 4)) (each-counting w.kern w.objects _ _ own (slice_index r 3) (slice_index r 4))
+  row_serves gates.SemMCreate ram r live there may = of_object_row _ (mutex_goes w.kern w.objects n kept.kern within.0 (slice_index r 3)) (keeps-mutex_row w.kern w.objects kept.kern kept.objects (slice_index r 3)) (each-mutex w.kern w.objects _ _ deep (slice_index r 3))
+      (mutex_comes w.kern w.objects (slice_index r 3)) (each-mutex w.kern w.objects _ _ own (slice_index r 3))
+  row_serves gates.SemTake ram r live there may = of_still_row _ (take_goes w.kern w.objects n kept.kern within.0 a (slice_index r 3) (slice_index r 4)) (keeps-take_row w.kern w.objects kept.kern kept.objects a (slice_index r 3) (slice_index r 4) live) (each-take w.kern w.objects _ _ deep a (slice_index r 3) (slice_index r 4) (λ who same held. tt))
+      (take_stays w.kern w.objects a (slice_index r 3) (slice_index r 4)) (each-take w.kern w.objects _ _ own a (slice_index r 3) (slice_index r 4) (λ who same held. subst (Acts w.kern) same (live held)))
+  row_serves gates.SemGive ram r live there may = of_still_row _ (give_goes w.kern w.objects n kept.kern within.0 a (slice_index r 3)) (keeps-give_row w.kern w.objects kept.kern kept.objects a (slice_index r 3) live) (each-give w.kern w.objects _ _ deep a (slice_index r 3))
+      (give_stays w.kern w.objects a (slice_index r 3)) (each-give w.kern w.objects _ _ own a (slice_index r 3))
+  row_serves gates.SemFlush ram r live there may = of_still_row _ (flush_goes w.kern w.objects n kept.kern within.0 (slice_index r 3)) (keeps-flush_row w.kern w.objects kept.kern kept.objects (slice_index r 3)) (each-flush w.kern w.objects _ _ deep (slice_index r 3))
+      (flush_stays w.kern w.objects (slice_index r 3)) (each-flush w.kern w.objects _ _ own (slice_index r 3))
+  row_serves gates.SemDelete ram r live there may = of_still_row _ (delete_goes w.kern w.objects n kept.kern within.0 (slice_index r 3)) (keeps-delete_row w.kern w.objects kept.kern kept.objects (slice_index r 3)) (each-delete w.kern w.objects _ _ deep (slice_index r 3))
+      (delete_stays w.kern w.objects (slice_index r 3)) (each-delete w.kern w.objects _ _ own (slice_index r 3))
   row_serves gates.MsgQCreate ram r live there may =
       of_queue_row _ (create_near (scene_of w) n kept.kern within.0 (slice_index r 3) (slice_index r 4) (slice_index r 5))
       (keeps-create_row w.kern w.objects w.ram kept.kern kept.objects kept.ram (slice_index r 3) (slice_index r 4) (slice_index r 5))

@@ -81,28 +81,26 @@ emptied w who i = record w { kern = answered w.kern who; slots = without_device 
 
 emptied_alone : (w : WorldState) (who i : ℕ) → OnlyRemoves w (emptied w who i) who i
 emptied_alone w who i = record {
+  stays = record {
+    counters = record { others = other_tasks w.kern who; tick = refl; slice = refl; sinces = refl; last = refl };
+    objects = refl;
+    watch = refl;
+    names = refl;
+    int_errno = refl;
+    board = refl;
+  };
   gone = removals.empty w.slots i;
   slots = λ j apart. removals.others w.slots i j apart;
   line = own_line w.irqs i;
   lines = λ j apart. other_line w.irqs i j apart;
   ram = refl;
-  objects = refl;
   part = refl;
   symbols = refl;
   modules = refl;
-  watch = refl;
   output = refl;
-  names = refl;
-  int_errno = refl;
-  board = refl;
   own = own_task w.kern who;
-  others = λ id other. other_tasks w.kern who id other;
-  tick = refl;
-  slice = refl;
   ids = refl;
   lent = refl;
-  sinces = refl;
-  last = refl;
 }
 
 -- the world after a row of a task's call on interrupts
@@ -209,27 +207,19 @@ made_stays g w (Task who) i = unless_stays (refusal_before g (Task who)) g w.ram
 made_stays g w Interrupt i = unless_stays (refusal_before g Interrupt) g w.ram (caller_words w Interrupt) (left_gate w Interrupt) Interrupt i
 
 -- an answer changes no slot and no line
-same_slots : (g : Gate) (w : WorldState) (a : Actor) (r : Reply) → (replied g w a r).slots ≡ w.slots
-same_slots g w (Task who) (Answer value) = refl
-same_slots g w (Task who) (Refusal e) = refl
-same_slots g w Interrupt (Answer value) = refl
-same_slots g w Interrupt (Refusal e) = refl
-same_slots g w a Later = refl
-same_slots g w a Gone = refl
-
-same_lines : (g : Gate) (w : WorldState) (a : Actor) (r : Reply) → (replied g w a r).irqs ≡ w.irqs
-same_lines g w (Task who) (Answer value) = refl
-same_lines g w (Task who) (Refusal e) = refl
-same_lines g w Interrupt (Answer value) = refl
-same_lines g w Interrupt (Refusal e) = refl
-same_lines g w a Later = refl
-same_lines g w a Gone = refl
+same_devices : (g : Gate) (w : WorldState) (a : Actor) (r : Reply) → ((replied g w a r).slots ≡ w.slots) × ((replied g w a r).irqs ≡ w.irqs)
+same_devices g w (Task who) (Answer value) = (refl, refl)
+same_devices g w (Task who) (Refusal e) = (refl, refl)
+same_devices g w Interrupt (Answer value) = (refl, refl)
+same_devices g w Interrupt (Refusal e) = (refl, refl)
+same_devices g w a Later = (refl, refl)
+same_devices g w a Gone = (refl, refl)
 
 call_stays : (g : Gate) (w : WorldState) (a : Actor) (i : ℕ) → Stays g (caller_words w a) w.slots (call g w a).slots w.irqs (call g w a).irqs i
 call_stays g w a i =
     let m = made g w a in
-    subst (λ slots. Stays g (caller_words w a) w.slots slots w.irqs (call g w a).irqs i) (sym (same_slots g m.world a m.reply))
-    (subst (λ lines. Stays g (caller_words w a) w.slots m.world.slots w.irqs lines i) (sym (same_lines g m.world a m.reply)) (made_stays g w a i))
+    subst (λ slots. Stays g (caller_words w a) w.slots slots w.irqs (call g w a).irqs i) (sym (same_devices g m.world a m.reply).0)
+    (subst (λ lines. Stays g (caller_words w a) w.slots m.world.slots w.irqs lines i) (sym (same_devices g m.world a m.reply).1) (made_stays g w a i))
 
 -- ---- every call
 -- an interrupt routine's devRemove is refused

@@ -10,7 +10,7 @@ use Rattle.kernel_world.specs.Kept.{call_sinces}
 use Rattle.kernel_world.specs.declared.actor.Actor.{Actor}
 use Rattle.kernel_world.specs.declared.actor.Actor.TheVariants.{Task, Interrupt}
 use Rattle.kernel_world.specs.declared.reply.Reply.TheVariants.{Gone}
-use Rattle.kernel_world.proofs.Advancing.{Advances}
+use Rattle.kernel_world.proofs.Advancing.{Advances, keeps_on}
 
 -- a row keeps what a call keeps, and its caller lives on if it is to be answered
 pub record Serves (w : WorldState) (a : Actor) (r : Row) (n : ℕ) : Type 0 where
@@ -23,19 +23,7 @@ acts_on w v (Task who) n d m g live = g.lives who live
 acts_on w v Interrupt n d m g live = live
 
 pub passes_by : (w v : WorldState) (a : Actor) (n d m : ℕ) → Advances w v n d m → Passes w v a n d m
-passes_by w v a n d m g = record {
-  kept = g.kept;
-  gone = λ id live dead. absurd (dead (g.lives id live));
-  shell = λ live. g.lives 1 live;
-  within = g.within;
-  last = g.last;
-  reserves = g.reserves;
-  sinces = g.sinces;
-  count = g.count;
-  names = g.names;
-  starts = g.starts;
-  choice = g.choice;
-}
+passes_by w v a n d m g = record { steps = g.steps; gone = λ id live dead. absurd (dead (g.lives id live)); shell = g.lives 1 }
 
 pub served : (w : WorldState) (a : Actor) (r : Row) (n : ℕ) → Advances w r.world n call_sinces 1 → Serves w a r n
 served w a r n g = record { passes = passes_by w r.world a n call_sinces 1 g; acts = λ stays live. acts_on w r.world a n call_sinces 1 g live }
@@ -44,34 +32,18 @@ served w a r n g = record { passes = passes_by w r.world a n call_sinces 1 g; ac
 pub passes_after : (w v u : WorldState) (a : Actor) (l n d m : ℕ) → Advances w v l 0 0 → ((id : ℕ) → safe_of (task_of v.kern.tasks id) ≡ safe_of (task_of w.kern.tasks id))
     → Passes v u a n d m → Passes w u a n d m
 passes_after w v u a l n d m g safes p = record {
-  kept = p.kept;
+  steps = keeps_on w v u l n 0 d d 0 m m (omega arith) (omega arith) g.steps p.steps;
   gone = λ id live dead. ⊎_elim
       (λ (z : safe_of (task_of v.kern.tasks id) ≡ 0). inl (sym (safes id) ∙ z))
       (λ (e : a ≡ Task id). inr e)
       (p.gone id (g.lives id live) dead);
   shell = λ live. p.shell (g.lives 1 live);
-  within = p.within;
-  last = p.last ∙ g.last;
-  choice = p.choice ∙ g.choice;
-  reserves = λ who h. p.reserves who (g.reserves who h);
-  sinces = omega (arith, g.sinces, p.sinces);
-  count = p.count ∙ g.count;
-  names = omega (arith, g.names, p.names);
-  starts = omega (arith, g.starts, p.starts);
 }
 
 -- all live on at last
 pub passes_before : (w v u : WorldState) (a : Actor) (l n d m : ℕ) → Passes w v a l d m → Advances v u n 0 0 → Passes w u a n d m
 passes_before w v u a l n d m p g = record {
-  kept = g.kept;
+  steps = keeps_on w v u l n d 0 d m 0 m (omega arith) (omega arith) p.steps g.steps;
   gone = λ id live dead. p.gone id live (λ there. dead (g.lives id there));
   shell = λ live. g.lives 1 (p.shell live);
-  within = g.within;
-  last = g.last ∙ p.last;
-  choice = g.choice ∙ p.choice;
-  reserves = λ who h. g.reserves who (p.reserves who h);
-  sinces = omega (arith, g.sinces, p.sinces);
-  count = g.count ∙ p.count;
-  names = omega (arith, g.names, p.names);
-  starts = omega (arith, g.starts, p.starts);
 }

@@ -14,6 +14,7 @@ use Rattle.kernel_world.specs.Actors.{caller_words}
 use Rattle.kernel_world.specs.declared.actor.Actor.{Actor}
 use Rattle.kernel_world.specs.declared.actor.Actor.TheVariants.{Task}
 use Rattle.kernel_calls.specs.Calls.{call}
+use Rattle.kernel_calls.specs.Laws.{ElseStays}
 
 -- ---- devRemove
 -- a task calls devRemove with the number of slot i, which holds a device
@@ -26,29 +27,21 @@ pub record Removes (g : Gate) (w : WorldState) (a : Actor) (who i : ℕ) : Type 
 -- a task has removed the device of slot i: the slot is empty, its line is as at first, and all else stays but the
 -- task's answer
 pub record OnlyRemoves (w v : WorldState) (who i : ℕ) : Type 0 where
+  pub stays : ElseStays w v who
+  pub open stays use *
   pub gone : is_occupied v.slots i ≡ false
   pub slots : (j : ℕ) → j ≢ i → device_at v.slots j ≡ device_at w.slots j
   pub line : line_of v.irqs i ≡ idle_line
   pub lines : (j : ℕ) → j ≢ i → line_of v.irqs j ≡ line_of w.irqs j
   pub ram : v.ram ≡ w.ram
-  pub objects : v.objects ≡ w.objects
   pub part : v.part ≡ w.part
   pub symbols : v.symbols ≡ w.symbols
   pub modules : v.modules ≡ w.modules
-  pub watch : v.watch ≡ w.watch
   pub output : v.output ≡ w.output
-  pub names : v.names ≡ w.names
-  pub int_errno : v.int_errno ≡ w.int_errno
-  pub board : v.board ≡ w.board
   -- the task is after its gate, with OK in r3
   pub own : task_of v.kern.tasks who ≡ option_map (λ t. with_answer ok_word (past_gate t)) (task_of w.kern.tasks who)
-  pub others : (id : ℕ) → id ≢ who → task_of v.kern.tasks id ≡ task_of w.kern.tasks id
-  pub tick : v.kern.tick ≡ w.kern.tick
-  pub slice : v.kern.slice ≡ w.kern.slice
   pub ids : v.kern.next_id ≡ w.kern.next_id
   pub lent : v.kern.lent ≡ w.kern.lent
-  pub sinces : v.kern.next_since ≡ w.kern.next_since
-  pub last : v.kern.last ≡ w.kern.last
 
 abbrev pub RemoveLaw : Type 0
 RemoveLaw = (g : Gate) (w : WorldState) (a : Actor) (who i : ℕ) → Removes g w a who i → OnlyRemoves w (call g w a) who i

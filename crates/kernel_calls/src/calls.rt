@@ -3,15 +3,9 @@
 ghost use Rattle.std.specs.Prelude.{◌≡◌, ℕ, ◌<◌, ◌≤◌, [], true, false, None, Some, IfOk, IfSome, OnOk, OnErr};
 ghost use Rattle.wind_base.specs.OutBuf.{KeepsSpace};
 ghost use Rattle.wind_core.specs.State.{Lives};
-ghost use Rattle.kernel_world.specs.Actors.{Acts, MayCall, is_interrupt as is_interrupt_lem, shell_id as shell_id_lem};
-ghost use Rattle.kernel_world.specs.Kept.{IsWorld, IsEarly};
-ghost use Rattle.kernel_world.specs.Allowed.{may_exhaust_memory};
-ghost use Rattle.kernel_calls.specs.Standing.{counter_of, standing_at};
-ghost use Rattle.kernel_calls.specs.Removing.{Removes, OnlyRemoves, IsNoneBack};
-ghost use Rattle.kernel_calls.specs.Calls.{refusal_before as refusal_before_lem, with_reply, outcome_by, outcome as outcome_lem, made, call, file_wanted as file_wanted_lem, is_made, asked_for};
+ghost use Rattle.kernel_world.specs.{Actors.{Acts, MayCall, is_interrupt as is_interrupt_lem, shell_id as shell_id_lem}, Kept.{IsWorld, IsEarly}, Allowed.may_exhaust_memory, Seen.{world_seen, world_with}};
+ghost use Rattle.kernel_calls.specs.{Standing.{counter_of, standing_at}, Removing.{Removes, OnlyRemoves, IsNoneBack}, Calls.{refusal_before as refusal_before_lem, with_reply, outcome_by, outcome as outcome_lem, made, call, file_wanted as file_wanted_lem, is_made, asked_for}, Space.{makes_room, HoldsSpace}};
 ghost use Rattle.kernel_calls.specs.declared.calls.Called.TheVariants as called;
-ghost use Rattle.kernel_world.specs.Seen.{world_seen, world_with};
-ghost use Rattle.kernel_calls.specs.Space.{makes_room, HoldsSpace};
 
 use crate::files::file_wanted;
 use crate::rows::row;

@@ -2,17 +2,10 @@
 
 ghost use Rattle.std.specs.Prelude.{◌≡◌, ◌<◌, ◌≤◌, ◌^◌, [], true, false, IfOk, OnErr};
 ghost use Rattle.wind_base.specs.OutBuf.{KeepsSpace};
-ghost use Rattle.msg_queue.specs.State.{scene};
-ghost use Rattle.msg_queue.specs.Kept.{IsKept};
+ghost use Rattle.msg_queue.specs.{State.scene, Kept.IsKept};
 ghost use Rattle.module_loader.specs.Holding.{AreHeld};
-ghost use Rattle.kernel_world.specs.Actors.{Acts, MayCall};
-ghost use Rattle.kernel_world.specs.CallWords.{gate_of};
-ghost use Rattle.kernel_world.specs.Allowed.{may_exhaust_memory};
-ghost use Rattle.kernel_world.specs.Kept.{IsEarly, KeepsWatch};
-ghost use Rattle.kernel_world.specs.Objects.{KeepsObjects};
-ghost use Rattle.kernel_world.specs.Seen.{world_seen, world_with};
-ghost use Rattle.kernel_calls.specs.Calls.{with_reply, row as row_lem};
-ghost use Rattle.kernel_calls.specs.Space.{makes_room, HoldsSpace};
+ghost use Rattle.kernel_world.specs.{Actors.{Acts, MayCall}, CallWords.gate_of, Allowed.may_exhaust_memory, Kept.{IsEarly, KeepsWatch}, Objects.KeepsObjects, Seen.{world_seen, world_with}};
+ghost use Rattle.kernel_calls.specs.{Calls.{with_reply, row as row_lem}, Space.{makes_room, HoldsSpace}};
 
 use crate::module_rows::unload;
 use crate::show_rows::{print, show_memory, show_modules, show_symbols, show_tasks};

@@ -18,7 +18,7 @@ use Rattle.isr_watch.specs.State.{WatchState, IsWatch, watchdog_id}
 use Rattle.kernel_world.specs.State.{WorldState, choice_of}
 use Rattle.kernel_world.specs.Objects.{KeepsObjects, DepthsWithin}
 use Rattle.kernel_world.specs.Replies.{level_by, at_level, with_errno}
-use Rattle.kernel_world.specs.Kept.{routine_stack, KeepsPool, KeepsLoaded, task_stacks, AreStacks, KeepsWatch, IsWorld, ReservedBy, Within, call_sinces}
+use Rattle.kernel_world.specs.Kept.{routine_stack, KeepsPool, KeepsLoaded, task_stacks, AreStacks, KeepsWatch, IsWorld, Within, call_sinces, StepKeeps}
 use Rattle.kernel_world.specs.declared.objects.Objects.{Objects}
 use Rattle.kernel_world.specs.declared.actor.Actor.{Actor}
 use Rattle.kernel_world.specs.declared.actor.Actor.TheVariants.{Task, Interrupt}
@@ -29,21 +29,11 @@ use Rattle.kernel_world.specs.LiveIds.{KeepsIds}
 use Rattle.kernel_world.proofs.LiveIds.{Fewer, Given, fewer_same, given_none}
 use Rattle.kernel_world.proofs.WorldIds.{ids_kern, ids_watch, ids_modules}
 
--- from one world to another: the invariant holds, tasks that live live on, counts stay within n, and the tick
--- count is the same;
--- no task has a reservation that had none; at most d order numbers, m numbers for names and m for starts of
--- watchdogs were handed out; what was chosen at the start is the same
+-- from one world to another: a step keeps what it must, and tasks that live live on
 pub record Advances (w v : WorldState) (n d m : ℕ) : Type 0 where
-  pub kept : IsWorld v
+  pub steps : StepKeeps w v n d m
+  pub open steps use *
   pub lives : (who : ℕ) → Lives w.kern who → Lives v.kern who
-  pub within : Within n v
-  pub last : v.kern.last ≡ w.kern.last
-  pub reserves : (who : Option ℕ) → ReservedBy who w.kern → ReservedBy who v.kern
-  pub sinces : v.kern.next_since ≤ w.kern.next_since + d
-  pub count : v.kern.tick ≡ w.kern.tick
-  pub names : v.names ≤ w.names + m
-  pub starts : v.watch.next_start ≤ w.watch.next_start + m
-  pub choice : choice_of v ≡ choice_of w
 
 -- a bound of counts may rise
 pub within_more : (w : WorldState) (l n : ℕ) → l ≤ n → Within l w → Within n w
@@ -63,24 +53,27 @@ level_is f s is = record {
 }
 
 -- ---- one after the other
-pub advances_on : (w v u : WorldState) (l n d e m o : ℕ) → Advances w v l d m → Advances v u n e o → Advances w u n (d + e) (m + o)
-advances_on w v u l n d e m o a b = record {
+pub keeps_on : (w v u : WorldState) (l n d e f m o p : ℕ) → d + e ≤ f → m + o ≤ p → StepKeeps w v l d m → StepKeeps v u n e o → StepKeeps w u n f p
+keeps_on w v u l n d e f m o p sinces names a b = record {
   kept = b.kept;
-  lives = λ who h. b.lives who (a.lives who h);
   within = b.within;
   last = b.last ∙ a.last;
   reserves = λ who h. b.reserves who (a.reserves who h);
-  sinces = omega (arith, a.sinces, b.sinces);
+  sinces = omega (arith, a.sinces, b.sinces, sinces);
   count = b.count ∙ a.count;
-  names = omega (arith, a.names, b.names);
-  starts = omega (arith, a.starts, b.starts);
+  names = omega (arith, a.names, b.names, names);
+  starts = omega (arith, a.starts, b.starts, names);
   choice = b.choice ∙ a.choice;
 }
 
-pub advances_more : (w v : WorldState) (l n d e m o : ℕ) → l ≤ n → d ≤ e → m ≤ o → Advances w v l d m → Advances w v n e o
-advances_more w v l n d e m o more sinces names a = record {
+pub advances_on : (w v u : WorldState) (l n d e m o : ℕ) → Advances w v l d m → Advances v u n e o → Advances w u n (d + e) (m + o)
+advances_on w v u l n d e m o a b =
+    record { steps = keeps_on w v u l n d e (d + e) m o (m + o) (omega arith) (omega arith) a.steps b.steps; lives = λ who h. b.lives who (a.lives who h) }
+
+-- the bounds may rise
+pub keeps_more : (w v : WorldState) (l n d e m o : ℕ) → l ≤ n → d ≤ e → m ≤ o → StepKeeps w v l d m → StepKeeps w v n e o
+keeps_more w v l n d e m o more sinces names a = record {
   kept = a.kept;
-  lives = a.lives;
   within = within_more v l n more a.within;
   last = a.last;
   reserves = a.reserves;
@@ -91,34 +84,52 @@ advances_more w v l n d e m o more sinces names a = record {
   choice = a.choice;
 }
 
+pub advances_more : (w v : WorldState) (l n d e m o : ℕ) → l ≤ n → d ≤ e → m ≤ o → Advances w v l d m → Advances w v n e o
+advances_more w v l n d e m o more sinces names a = record { steps = keeps_more w v l n d e m o more sinces names a.steps; lives = a.lives }
+
 module _ (w : WorldState) (kept : IsWorld w) where
+  -- the tasks change, and the invariant holds then
+  pub by_goes : (v : WorldState) (n d m : ℕ) → Goes w.kern v.kern n d → IsWorld v → DepthsWithin n v.objects → v.names ≤ w.names + m → v.watch.next_start ≤ w.watch.next_start + m → choice_of v ≡ choice_of w → Advances w v n d m
+  by_goes v n d m g is depths names starts choice = record {
+    steps = record {
+      kept = is;
+      within = (g.counts, depths);
+      last = g.last;
+      reserves = λ who h. reserved_by w.kern.tasks v.kern.tasks who g.alone g.reserves h;
+      sinces = g.sinces;
+      count = g.count;
+      names = names;
+      starts = starts;
+      choice = choice;
+    };
+    lives = λ who h. lives_by v.kern.tasks w.kern.tasks who g.alone h;
+  }
+
+  -- the tasks change, and with them the objects, RAM and the watchdogs
+  by_parts : (j : KernState) (o : Objects) (ram : List ℕ) (s : WatchState) (n d m : ℕ) → Goes w.kern j n d → KeepsObjects w.board j o → DepthsWithin n o → length ram ≡ length w.ram → KeepsWatch j.next_id s → s.next_start ≤ w.watch.next_start + m
+      → KeepsIds (record w { kern = j; objects = o; ram = ram; watch = s }) → o.mutexes.profile ≡ w.objects.mutexes.profile → Advances w (record w { kern = j; objects = o; ram = ram; watch = s }) n d m
+  by_parts j o ram s n d m g objects depths same watch starts own rule =
+      by_goes (record w { kern = j; objects = o; ram = ram; watch = s }) n d m g
+      (record {
+        kern = g.kern;
+        home = g.lent ∙ kept.home;
+        kind = kept.kind;
+        objects = objects;
+        pool = kept.pool;
+        stacks = subst (λ ss. AreStacks w.part (routine_stack ∷ ss)) (sym g.stacks) kept.stacks;
+        modules = loaded_on w.kern w.part w.modules.rows kept.modules j g.next g.stacks;
+        ram = same ∙ kept.ram;
+        symbols = kept.symbols;
+        watch = watch;
+        ids = own;
+      })
+      depths (omega arith) starts (ap (λ p. record { profile = p; board = w.board }) rule)
+
   -- the tasks change, and the objects with them
   pub by_objects : (j : KernState) (o : Objects) (n d : ℕ) → Goes w.kern j n d → KeepsObjects w.board j o → DepthsWithin n o → KeepsIds (record w { kern = j; objects = o })
       → o.mutexes.profile ≡ w.objects.mutexes.profile → Advances w (record w { kern = j; objects = o }) n d 0
-  by_objects j o n d g objects depths own rule = record {
-    kept = record {
-      kern = g.kern;
-      home = g.lent ∙ kept.home;
-      kind = kept.kind;
-      objects = objects;
-      pool = kept.pool;
-      stacks = subst (λ s. AreStacks w.part (routine_stack ∷ s)) (sym g.stacks) kept.stacks;
-      modules = loaded_on w.kern w.part w.modules.rows kept.modules j g.next g.stacks;
-      ram = kept.ram;
-      symbols = kept.symbols;
-      watch = watch_on w.kern.next_id j.next_id w.watch g.next kept.watch;
-      ids = own;
-    };
-    lives = λ who h. lives_by j.tasks w.kern.tasks who g.alone h;
-    within = (g.counts, depths);
-    last = g.last;
-    reserves = λ who h. reserved_by w.kern.tasks j.tasks who g.alone g.reserves h;
-    sinces = g.sinces;
-    count = g.count;
-    names = omega arith;
-    starts = omega arith;
-    choice = ap (λ p. record { profile = p; board = w.board }) rule;
-  }
+  by_objects j o n d g objects depths own rule =
+      by_parts j o w.ram w.watch n d 0 g objects depths refl (watch_on w.kern.next_id j.next_id w.watch g.next kept.watch) (omega arith) own rule
 
   pub by_kern : (j : KernState) (n d : ℕ) → Goes w.kern j n d → KeepsObjects w.board j w.objects → DepthsWithin n w.objects → Advances w (record w { kern = j }) n d 0
   by_kern j n d g objects depths = by_objects j w.objects n d g objects depths (ids_kern w kept.ids j g.alone g.next) refl
@@ -128,21 +139,20 @@ module _ (w : WorldState) (kept : IsWorld w) where
     more = within_more w n (n + 1) (omega arith) within
 
     -- blocks, symbols, modules and RAM change, and so may what the invariant doesn't mention
+    other_parts : (p : PartState) (ss : List Symbol) (ms : List (ℕ × LoadedModule)) (ram : List ℕ) (irqs : List Line) (slots : List (Option DeviceState)) (output : List ℕ) (errno : ℕ)
+        → KeepsPool w.board p → AreStacks p (routine_stack ∷ task_stacks w.kern) → KeepsLoaded w.kern p ms → length ss ≤ most_symbols → length ram ≡ length w.ram → Fewer (table.ids ms) (table.ids w.modules.rows)
+        → Advances w (record w { part = p; symbols = ss; modules = record w.modules { rows = ms }; ram = ram; irqs = irqs; slots = slots; output = output; int_errno = errno }) n 0 0
+    other_parts p ss ms ram irqs slots output errno pool stacks modules few same fewer =
+        by_goes (record w { part = p; symbols = ss; modules = record w.modules { rows = ms }; ram = ram; irqs = irqs; slots = slots; output = output; int_errno = errno }) n 0 0
+        (goes_nowhere w.kern n kept.kern within.0)
+        (record { kern = kept.kern; home = kept.home; kind = kept.kind; objects = kept.objects; pool = pool; stacks = stacks; modules = modules; ram = same ∙ kept.ram; symbols = few; watch = kept.watch; ids = ids_modules w kept.ids ms fewer })
+        within.1 (omega arith) (omega arith) refl
+
+    -- the same, with the interrupts of devices as they were
     pub of_parts : (p : PartState) (ss : List Symbol) (ms : List (ℕ × LoadedModule)) (ram : List ℕ) (slots : List (Option DeviceState)) (output : List ℕ) (errno : ℕ)
         → KeepsPool w.board p → AreStacks p (routine_stack ∷ task_stacks w.kern) → KeepsLoaded w.kern p ms → length ss ≤ most_symbols → length ram ≡ length w.ram → Fewer (table.ids ms) (table.ids w.modules.rows)
         → Advances w (record w { part = p; symbols = ss; modules = record w.modules { rows = ms }; ram = ram; slots = slots; output = output; int_errno = errno }) n 0 0
-    of_parts p ss ms ram slots output errno pool stacks modules few same fewer = record {
-      kept = record { kern = kept.kern; home = kept.home; kind = kept.kind; objects = kept.objects; pool = pool; stacks = stacks; modules = modules; ram = same ∙ kept.ram; symbols = few; watch = kept.watch; ids = ids_modules w kept.ids ms fewer };
-      lives = λ who h. h;
-      within = within;
-      last = refl;
-      reserves = λ who h. h;
-      sinces = omega arith;
-      count = refl;
-      names = omega arith;
-      starts = omega arith;
-      choice = refl;
-    }
+    of_parts p ss ms ram slots output errno = other_parts p ss ms ram w.irqs slots output errno
 
     -- the modules stay
     same_modules : Fewer (table.ids w.modules.rows) (table.ids w.modules.rows)
@@ -154,18 +164,7 @@ module _ (w : WorldState) (kept : IsWorld w) where
 
     -- only the devices and their interrupts change
     pub of_devices : (irqs : List Line) (slots : List (Option DeviceState)) → Advances w (record w { irqs = irqs; slots = slots }) n 0 0
-    of_devices irqs slots = record {
-      kept = record { kern = kept.kern; home = kept.home; kind = kept.kind; objects = kept.objects; pool = kept.pool; stacks = kept.stacks; modules = kept.modules; ram = kept.ram; symbols = kept.symbols; watch = kept.watch; ids = kept.ids };
-      lives = λ who h. h;
-      within = within;
-      last = refl;
-      reserves = λ who h. h;
-      sinces = omega arith;
-      count = refl;
-      names = omega arith;
-      starts = omega arith;
-      choice = refl;
-    }
+    of_devices irqs slots = other_parts w.part w.symbols w.modules.rows w.ram irqs slots w.output w.int_errno kept.pool kept.stacks kept.modules kept.symbols refl same_modules
 
     -- a move that hands out no numbers, seen as a call that may
     pub as_call : (v : WorldState) → Advances w v n 0 0 → Advances w v (n + 1) call_sinces 1
@@ -177,32 +176,7 @@ module _ (w : WorldState) (kept : IsWorld w) where
     -- the watchdogs change, and the next id with them
     pub of_watches : (j : KernState) (s : WatchState) (m : ℕ) → Goes w.kern j n 0 → KeepsObjects w.board j w.objects → KeepsWatch j.next_id s → s.next_start ≤ w.watch.next_start + m
         → Given w.kern.next_id j.next_id (map watchdog_id w.watch.watchdogs) (map watchdog_id s.watchdogs) → Advances w (record w { kern = j; watch = s }) n 0 m
-    of_watches j s m g objects watch starts given =
-        let moved = by_kern j n 0 g objects within.1 in
-        record {
-          kept = record {
-            kern = moved.kept.kern;
-            home = moved.kept.home;
-            kind = moved.kept.kind;
-            objects = moved.kept.objects;
-            pool = moved.kept.pool;
-            stacks = moved.kept.stacks;
-            modules = moved.kept.modules;
-            ram = moved.kept.ram;
-            symbols = moved.kept.symbols;
-            watch = watch;
-            ids = ids_watch w kept.ids j s g.alone given;
-          };
-          lives = moved.lives;
-          within = moved.within;
-          last = moved.last;
-          reserves = moved.reserves;
-          sinces = moved.sinces;
-          count = moved.count;
-          names = omega arith;
-          starts = starts;
-          choice = refl;
-        }
+    of_watches j s m g objects watch starts given = by_parts j w.objects w.ram s n 0 m g objects within.1 refl watch starts (ids_watch w kept.ids j s g.alone given) refl
 
     -- the active routine's registers are others
     pub at_routine : (f : Regs → Regs) → Advances w (at_level w f) n 0 0
@@ -229,31 +203,9 @@ module _ (w : WorldState) (kept : IsWorld w) where
         → KeepsIds (record w { kern = t.kern; objects = record w.objects { queues = t.queues } })
         → Advances w (record w { kern = t.kern; objects = record w.objects { queues = t.queues }; ram = t.ram }) (n + 1) call_sinces 1
     of_scene t g size objects own =
-        let both = of_both t.kern (record w.objects { queues = t.queues }) g objects more.1 own refl in
-        record {
-          kept = record {
-            kern = both.kept.kern;
-            home = both.kept.home;
-            kind = both.kept.kind;
-            objects = both.kept.objects;
-            pool = both.kept.pool;
-            stacks = both.kept.stacks;
-            modules = both.kept.modules;
-            ram = size ∙ kept.ram;
-            symbols = kept.symbols;
-            watch = both.kept.watch;
-            ids = both.kept.ids;
-          };
-          lives = both.lives;
-          within = both.within;
-          last = both.last;
-          reserves = both.reserves;
-          sinces = both.sinces;
-          count = both.count;
-          names = both.names;
-          starts = both.starts;
-          choice = refl;
-        }
+        let o : Objects = record w.objects { queues = t.queues } in
+        advances_more w (record w { kern = t.kern; objects = o; ram = t.ram }) (n + 1) (n + 1) call_sinces call_sinces 0 1 (omega arith) (omega arith) (omega arith)
+        (by_parts t.kern o t.ram w.watch (n + 1) call_sinces 0 g objects more.1 size (watch_on w.kern.next_id t.kern.next_id w.watch g.next kept.watch) (omega arith) own refl)
 
     pub of_blocks : (p : PartState) → KeepsPool w.board p → AreStacks p (routine_stack ∷ task_stacks w.kern) → KeepsLoaded w.kern p w.modules.rows → Advances w (record w { part = p }) (n + 1) call_sinces 1
     of_blocks p pool stacks modules = as_call (record w { part = p }) (of_parts p w.symbols w.modules.rows w.ram w.slots w.output w.int_errno pool stacks modules kept.symbols refl same_modules)

@@ -1,15 +1,10 @@
 -- What holds of the numbers of every board.
-use Rattle.std.proofs.Common.{◌<◌, ◌≤◌, ◌^◌, length, refl, arith}
+use Rattle.std.proofs.Common.{◌<◌, ◌≤◌, ◌^◌, length, arith}
 use Rattle.wind_base.specs.Boards.{board_rules}
-use Rattle.wind_base.specs.Laws.{BoardsLaw}
 use Rattle.wind_base.specs.declared.board_kind.BoardKind.{BoardKind}
-use Rattle.wind_base.specs.declared.board_kind.BoardKind.TheVariants.{One, Two}
+use Rattle.wind_base.proofs.Boarding.{boards_alike}
 use Rattle.kernel_world.specs.State.{WorldState}
 use Rattle.kernel_world.specs.Kept.{IsWorld}
-
-pub boards_alike : BoardsLaw
-boards_alike One = record { pool = refl; gates = refl; least = omega arith; most = omega arith; least_blocks = omega arith; most_blocks = omega arith }
-boards_alike Two = record { pool = refl; gates = refl; least = omega arith; most = omega arith; least_blocks = omega arith; most_blocks = omega arith }
 
 -- the gates are in the lower half of 32-bit addresses
 pub gates_low : (board : BoardKind) → (board_rules board).gates_start < 2 ^ 31

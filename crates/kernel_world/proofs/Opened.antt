@@ -49,7 +49,7 @@ use Rattle.kernel_world.specs.Objects.{no_objects, is_live, WaitsRight, KeepsObj
 use Rattle.module_image.specs.Opening.{stack_block, symbol_if_named, symbols_of_gate, gate_symbols}
 use Rattle.kernel_world.specs.Opening.{empty_kern, opening_kern, shell_record, opening_part, no_watch, no_irqs, zeros, opening_world}
 use Rattle.kernel_world.specs.Kept.{Stack, stack_of, routine_stack, IsStack, AreApart, AreStacks, IsWorld}
-use Rattle.kernel_world.proofs.Boards.{boards_alike}
+use Rattle.wind_base.proofs.Boarding.{boards_alike}
 use Rattle.kernel_world.proofs.Holding.{IsNoModules}
 use Rattle.kernel_world.proofs.LiveIds.{HasOwner, ids_task}
 

@@ -1,5 +1,5 @@
 -- The invariant of the world: it holds at the start, and every call keeps it.
-use Rattle.std.specs.Prelude.{◌≡◌, ℕ, ◌^◌, ◌<◌, ◌≤◌, List, [], ◌∷◌, length, map, false, Option, Some, IsSome}
+use Rattle.std.specs.Prelude.{◌≡◌, ℕ, ◌+◌, ◌^◌, ◌<◌, ◌≤◌, List, [], ◌∷◌, length, map, false, Option, Some, IsSome}
 use Rattle.std.specs.List.{All, AllPairs}
 use Rattle.wind_base.specs.Limits.{pool_start, interrupt_stack_bytes, most_modules, most_symbols}
 use Rattle.wind_base.specs.Boards.{board_rules}
@@ -16,7 +16,7 @@ use Rattle.wind_core.specs.State.{KernState, IsKern}
 use Rattle.isr_watch.specs.State.{WatchState, IsWatch}
 use Rattle.isr_watch.specs.Laws.{AllBelow}
 use Rattle.kernel_world.specs.Objects.{KeepsObjects, DepthsWithin}
-use Rattle.kernel_world.specs.State.{WorldState}
+use Rattle.kernel_world.specs.State.{WorldState, choice_of}
 use Rattle.module_image.specs.Opening.{interrupt_stack, stack_block}
 use Rattle.kernel_world.specs.LiveIds.{KeepsIds}
 
@@ -129,3 +129,17 @@ IsEarly w = Early (record w { slots = [] })
 -- the most order numbers that one call hands out
 abbrev pub call_sinces : ℕ
 call_sinces = 1024
+
+-- from one world to another within a step: the invariant holds; counts stay within n; no task has a reservation that
+-- had none; the tick count is the same; at most d order numbers, m numbers for names and m numbers for starts of
+-- watchdogs were handed out; what was chosen at the start is the same
+pub record StepKeeps (w v : WorldState) (n d m : ℕ) : Type 0 where
+  pub kept : IsWorld v
+  pub within : Within n v
+  pub last : v.kern.last ≡ w.kern.last
+  pub reserves : (who : Option ℕ) → ReservedBy who w.kern → ReservedBy who v.kern
+  pub sinces : v.kern.next_since ≤ w.kern.next_since + d
+  pub count : v.kern.tick ≡ w.kern.tick
+  pub names : v.names ≤ w.names + m
+  pub starts : v.watch.next_start ≤ w.watch.next_start + m
+  pub choice : choice_of v ≡ choice_of w

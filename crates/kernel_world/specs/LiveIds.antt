@@ -32,6 +32,7 @@ pub record AreIds (next : ℕ) (tasks objects : List ℕ) (mutexes : List (ℕ �
   pub below : (n : ℕ) → 0 < occurs n tasks + occurs n objects → n < next
   pub owners : All (λ r. IfSome r.1.owner (λ n. (n < next) × (occurs n objects ≡ 0))) mutexes
 
--- all live ids of all kinds are distinct and below the next; each mutex's owner, live or ended, has an id below the next, and no live object other than a task has it
+-- all live ids of all kinds are distinct and below the next; each mutex's owner, live or ended, has an id below the
+-- next, and no live object other than a task has it
 abbrev pub KeepsIds : WorldState → Type 0
 KeepsIds w = AreIds w.kern.next_id (task_ids w) (object_ids w) w.objects.mutexes.rows

@@ -1,15 +1,11 @@
 //! The world at the start.
 
 ghost use Rattle.std.specs.Prelude.{◌≡◌, ◌+◌, ◌<◌, ◌≤◌, ◌++◌, [], length, IfOk, IfErr, OnOk};
-ghost use Rattle.wind_base.specs.Limits.{most_slots};
-ghost use Rattle.wind_base.specs.Boards.{board_rules};
-ghost use Rattle.wind_base.specs.Gates.{gates};
+ghost use Rattle.wind_base.specs.{Limits.most_slots, Boards.board_rules, Gates.gates};
 ghost use Rattle.wind_outside.specs.Devices.{slots_of};
 ghost use Rattle.module_loader.specs.Modules.{modules_on};
-ghost use Rattle.kernel_world.specs.Objects.{no_objects};
+ghost use Rattle.kernel_world.specs.{Objects.no_objects, Opening.{shell_record as shell_record_lem, opening_kern as opening_kern_lem, opening_part as opening_part_lem, no_watch, zeros, opening_world}, Seen.world_seen};
 ghost use Rattle.module_image.specs.Opening.{symbols_of_gate, gate_symbols as gate_symbols_lem};
-ghost use Rattle.kernel_world.specs.Opening.{shell_record as shell_record_lem, opening_kern as opening_kern_lem, opening_part as opening_part_lem, no_watch, zeros, opening_world};
-ghost use Rattle.kernel_world.specs.Seen.{world_seen};
 
 use crate::board_gates::gate_address;
 use crate::objects::{self, Objects};

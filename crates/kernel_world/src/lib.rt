@@ -1,4 +1,5 @@
-//! The world that the kernel's calls read and change: its parts, its start, who makes a call, and how one is answered.
+//! The world that the kernel's calls read and change: its parts, its start, who makes a call, and
+//! how one is answered.
 #![tactic(auto)]
 
 mod actor;

@@ -431,12 +431,13 @@ module _ {T : Type 0} where
       ∙ is.known cell.0.who (entry_of (k, cell.0)) here
       ∙ sym (ap first_key (named_at cs p hp ∙ ap (map named_cell) cell.2))
 
+  -- a list without a first cell is empty
+  pub no_first : (xs : List (ℕ × Member T)) → first_key xs ≡ None → xs ≡ []
+  no_first [] e = refl
+  no_first (x ∷ xs) e = absurd (cc)
+
   pub first_none : (cs : List (List (ℕ × Member T))) (p : ℕ) → p < length cs → first_key (chain_at cs p) ≡ None → None ≡ first_key (chain_at (named_chains cs) p)
-  first_none cs p hp none = sym (ap first_key (named_at cs p hp) ∙ empty (chain_at cs p) none)
-    where
-      empty : (xs : List (ℕ × Member T)) → first_key xs ≡ None → first_key (map named_cell xs) ≡ None
-      empty [] e = refl
-      empty (x ∷ xs) e = absurd (cc)
+  first_none cs p hp none = sym (ap first_key (named_at cs p hp ∙ ap (map named_cell) (no_first (chain_at cs p) none)))
 
   pub named_alike : (cs ds : List (List (ℕ × T))) (room : ℕ) → cs ≡ ds → ◌≡◌ {A = Chains T} (record { chains = cs; room = room }) (record { chains = ds; room = room })
   named_alike cs ds room e = λ i. record { chains = e i; room = room }

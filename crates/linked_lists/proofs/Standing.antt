@@ -11,7 +11,7 @@ use Rattle.linked_lists.specs.declared.index.Entry.{Entry}
 use Rattle.linked_lists.specs.declared.id_lists.Member.{Member}
 use Rattle.linked_lists.specs.Chains.{cell_key, all_cells, chain_at, first_key, value_in, value_of, first_value, hold, ValueIs, NextIs, Apart}
 use Rattle.linked_lists.specs.Named.{entry_id, member_id, named_cell, named_chains, entry_of, IsIndexed}
-use Rattle.linked_lists.proofs.Naming.{IsAlike, all_back, all_chain, all_prefix, cells_alike, first_cell, head_same, named_at, no_cell, one_cell, tail_same, value_alike}
+use Rattle.linked_lists.proofs.Naming.{IsAlike, all_back, all_chain, all_prefix, cells_alike, first_cell, head_same, named_at, no_cell, no_first, one_cell, tail_same, value_alike}
 
 module _ {T : Type 0} where
   -- ---- the contents of one list
@@ -40,11 +40,7 @@ module _ {T : Type 0} where
       ap (λ (n : Member T). Some n.value) (sym (same p [] cell.1 cell.0 cell.2)) ∙ sym (ap first_value (named_at cs p hp ∙ ap (map named_cell) cell.2))
 
   pub first_value_none : (cs : List (List (ℕ × Member T))) (p : ℕ) → p < length cs → first_key (chain_at cs p) ≡ None → None ≡ first_value (chain_at (named_chains cs) p)
-  first_value_none cs p hp none = sym (ap first_value (named_at cs p hp) ∙ empty (chain_at cs p) none)
-    where
-      empty : (xs : List (ℕ × Member T)) → first_key xs ≡ None → first_value (map named_cell xs) ≡ None
-      empty [] e = refl
-      empty (x ∷ xs) e = absurd (cc)
+  first_value_none cs p hp none = sym (ap first_value (named_at cs p hp ∙ ap (map named_cell) (no_first (chain_at cs p) none)))
 
   -- ---- the id after an id
   record Unnamed_at (xs : List (ℕ × Member T)) (who : ℕ) (back : List (ℕ × T)) : Type 0 where

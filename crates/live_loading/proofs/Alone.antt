@@ -19,7 +19,7 @@ use Rattle.module_loader.specs.Loading.{Piece, pieces_of, count_refusal, verdict
 use Rattle.module_loader.specs.Live.{IsPiece}
 use Rattle.module_loader.proofs.Files.{is_file}
 use Rattle.module_loader.proofs.Owning.{write_law}
-use Rattle.wind_core.specs.State.{KernState, task_of}
+use Rattle.wind_core.specs.State.{KernState}
 use Rattle.wind_core.specs.Moves.{change_task, past_gate, leave_gate, set_errno, answer, with_answer as answered}
 use Rattle.kernel_world.specs.State.{WorldState}
 use Rattle.kernel_world.specs.Actors.{shell_id, caller_words}
@@ -30,30 +30,30 @@ use Rattle.kernel_world.proofs.OneTask.{other_task}
 use Rattle.live_loading.specs.Said.{FileSaid, Held, Missing, TooLong}
 use Rattle.live_loading.specs.Texts.{reason}
 use Rattle.live_loading.specs.Loading.{shell, loader_state, accepted, refused, by_verdict, effect, load_call}
+use Rattle.kernel_calls.specs.Laws.{KernStays}
 use Rattle.live_loading.specs.Laws.{IsFresh, OnlyLoads, AloneLaw}
 use Rattle.live_loading.proofs.Going.{is_loader}
 
 -- ---- the tasks and the counters
 record Alike (k j : KernState) : Type 0 where
-  others : (id : ℕ) → (id ≡ shell_id → ⊥) → task_of j.tasks id ≡ task_of k.tasks id
-  tick : j.tick ≡ k.tick
-  slice : j.slice ≡ k.slice
-  sinces : j.next_since ≡ k.next_since
-  last : j.last ≡ k.last
+  stays : KernStays k j shell_id
+  open stays use *
   ids : k.next_id ≤ j.next_id
 
 alike_on : (k j i : KernState) → Alike k j → Alike j i → Alike k i
 alike_on k j i a b = record {
-  others = λ id other. b.others id other ∙ a.others id other;
-  tick = b.tick ∙ a.tick;
-  slice = b.slice ∙ a.slice;
-  sinces = b.sinces ∙ a.sinces;
-  last = b.last ∙ a.last;
+  stays = record {
+    others = λ id other. b.others id other ∙ a.others id other;
+    tick = b.tick ∙ a.tick;
+    slice = b.slice ∙ a.slice;
+    sinces = b.sinces ∙ a.sinces;
+    last = b.last ∙ a.last;
+  };
   ids = omega (arith, a.ids, b.ids);
 }
 
 alike_change : (k : KernState) (f : Task → Task) → ((t : Task) → (f t).id ≡ t.id) → Alike k (change_task k shell_id f)
-alike_change k f keeps = record { others = λ id other. other_task k.tasks shell_id f keeps id other; tick = refl; slice = refl; sinces = refl; last = refl; ids = omega arith }
+alike_change k f keeps = record { stays = record { others = λ id other. other_task k.tasks shell_id f keeps id other; tick = refl; slice = refl; sinces = refl; last = refl }; ids = omega arith }
 
 alike_left : (k : KernState) → Alike k (leave_gate k shell_id)
 alike_left k = alike_change k past_gate (λ t. refl)
@@ -69,7 +69,7 @@ alike_refused k =
     (alike_on j i (answer i shell_id ok_word) (alike_change j (λ t. record t { errno = errno_number errors.LoadFailed }) (λ t. refl)) (alike_answer i ok_word))
 
 alike_drawn : (k : KernState) → Alike k (drawn k)
-alike_drawn k = record { others = λ id other. refl; tick = refl; slice = refl; sinces = refl; last = refl; ids = omega arith }
+alike_drawn k = record { stays = record { others = λ id other. refl; tick = refl; slice = refl; sinces = refl; last = refl }; ids = omega arith }
 
 alike_accepted : (k : KernState) (value : ℕ) → Alike k (answer (drawn (leave_gate k shell_id)) shell_id value)
 alike_accepted k value =
@@ -80,7 +80,7 @@ alike_accepted k value =
 refused_alone : (w : WorldState) (name words : List ℕ) → OnlyLoads w (refused (left_gate w shell) name words)
 refused_alone w name words =
     let a = alike_refused w.kern in
-    record { objects = refl; slots = refl; irqs = refl; names = refl; watch = refl; int_errno = refl; others = a.others; tick = a.tick; slice = a.slice; sinces = a.sinces; last = a.last; ids = a.ids; ram = λ a out. refl }
+    record { stays = record { counters = a.stays; objects = refl; watch = refl; names = refl; int_errno = refl; board = refl }; slots = refl; irqs = refl; ids = a.ids; ram = λ a out. refl }
 
 -- ---- an accepted load
 module _ (w : WorldState) (kept : IsWorld w) (name : List ℕ) (m : Module) (mode : ℕ) (at : Places) (known : IsModule m) (ok : verdict (loader_state (left_gate w shell)) m mode ≡ Ok at) where
@@ -110,17 +110,9 @@ module _ (w : WorldState) (kept : IsWorld w) (name : List ℕ) (m : Module) (mod
       let k = alike_accepted w.kern w.kern.next_id in
       let v = accepted (left_gate w shell) name mode m at in
       record {
-        objects = refl;
+        stays = record { counters = k.stays; objects = refl; watch = refl; names = refl; int_errno = refl; board = refl };
         slots = refl;
         irqs = refl;
-        names = refl;
-        watch = refl;
-        int_errno = refl;
-        others = k.others;
-        tick = k.tick;
-        slice = k.slice;
-        sinces = k.sinces;
-        last = k.last;
         ids = k.ids;
         ram = λ a out. write_law.outside (loader_state w) name m mode at a (is_loader w kept) known same_verdict (λ p piece inside. out (fresh_byte v a p refl piece inside));
       }

@@ -116,28 +116,30 @@ module _ (w : WorldState) (kept : IsWorld w) (name : List ℕ) (m : Module) (mod
   loaded_advances n within =
       let g = by_kern w kept (drawn w.kern) n 0 (goes-draw w.kern n kept.kern within.0 counts.left) (objects-move w.kern w.objects kept.kern kept.objects (DrawIds (w.kern.next_id + 1)) ((omega arith, omega (arith, counts.left)), omega arith, omega arith, tt)) within.1 in
       record {
-        kept = record {
-          kern = g.kept.kern;
-          home = g.kept.home;
-          kind = kept.kind;
-          objects = g.kept.objects;
-          pool = pool_needs (side_of (loader_state w)) w.part (needs_of m) kept.pool;
-          stacks = stacks_needs (side_of (loader_state w)) w.part (needs_of m) (routine_stack ∷ task_stacks w.kern) kept.pool kept.stacks;
-          modules = modules_loaded;
-          ram = write_law.size (loader_state w) name m mode at (is_loader w kept) known ok ∙ kept.ram;
-          symbols = symbols_few;
-          watch = g.kept.watch;
-          ids = ids_load w kept.ids (drawn w.kern) (record_of name (needs_of m) at) refl refl;
+        steps = record {
+          kept = record {
+            kern = g.kept.kern;
+            home = g.kept.home;
+            kind = kept.kind;
+            objects = g.kept.objects;
+            pool = pool_needs (side_of (loader_state w)) w.part (needs_of m) kept.pool;
+            stacks = stacks_needs (side_of (loader_state w)) w.part (needs_of m) (routine_stack ∷ task_stacks w.kern) kept.pool kept.stacks;
+            modules = modules_loaded;
+            ram = write_law.size (loader_state w) name m mode at (is_loader w kept) known ok ∙ kept.ram;
+            symbols = symbols_few;
+            watch = g.kept.watch;
+            ids = ids_load w kept.ids (drawn w.kern) (record_of name (needs_of m) at) refl refl;
+          };
+          within = g.within;
+          last = g.last;
+          reserves = g.reserves;
+          sinces = g.sinces;
+          count = g.count;
+          names = g.names;
+          starts = g.starts;
+          choice = g.choice;
         };
         lives = g.lives;
-        within = g.within;
-        last = g.last;
-        reserves = g.reserves;
-        sinces = g.sinces;
-        count = g.count;
-        names = g.names;
-        starts = g.starts;
-        choice = g.choice;
       }
 
 -- ---- what is written and answered

@@ -3,11 +3,10 @@ use Rattle.std.specs.Prelude.{◌≡◌, ℕ, ◌+◌, ◌≤◌, List, slice_in
 use Rattle.mem_partition.specs.Laws.{IsIn}
 use Rattle.mem_partition.specs.declared.block.Block.{Block}
 use Rattle.std.specs.List.{Contains}
-use Rattle.wind_core.specs.State.{task_of}
 use Rattle.kernel_world.specs.State.{WorldState}
 use Rattle.kernel_world.specs.Actors.{MayCall, shell_id}
 use Rattle.kernel_world.specs.Kept.{IsWorld, Within, call_sinces}
-use Rattle.kernel_calls.specs.Laws.{Passes}
+use Rattle.kernel_calls.specs.Laws.{Passes, ElseStays}
 use Rattle.live_loading.specs.Said.{FileSaid}
 use Rattle.live_loading.specs.Loading.{shell, load_call}
 
@@ -23,17 +22,10 @@ IsFresh w v a = (b : Block) × Contains v.part.blocks b × (Contains w.part.bloc
 -- what a load leaves as it was: the objects, the devices and their interrupts, the watchdogs, the other tasks, the
 -- counters, and each byte of RAM outside the blocks that it takes
 pub record OnlyLoads (w v : WorldState) : Type 0 where
-  pub objects : v.objects ≡ w.objects
+  pub stays : ElseStays w v shell_id
+  pub open stays use *
   pub slots : v.slots ≡ w.slots
   pub irqs : v.irqs ≡ w.irqs
-  pub names : v.names ≡ w.names
-  pub watch : v.watch ≡ w.watch
-  pub int_errno : v.int_errno ≡ w.int_errno
-  pub others : (id : ℕ) → (id ≡ shell_id → ⊥) → task_of v.kern.tasks id ≡ task_of w.kern.tasks id
-  pub tick : v.kern.tick ≡ w.kern.tick
-  pub slice : v.kern.slice ≡ w.kern.slice
-  pub sinces : v.kern.next_since ≡ w.kern.next_since
-  pub last : v.kern.last ≡ w.kern.last
   pub ids : w.kern.next_id ≤ v.kern.next_id
   pub ram : (a : ℕ) → (IsFresh w v a → ⊥) → slice_index v.ram a ≡ slice_index w.ram a
 

@@ -2,18 +2,11 @@
 
 ghost use Rattle.std.specs.Prelude.{◌≡◌, ◌≤◌, [], Some, OnOk, OnErr};
 ghost use Rattle.wind_base.specs.declared.gate.Gate.TheVariants as gates;
-ghost use Rattle.elf_read.specs.Contents.{ModuleOf, module_at};
-ghost use Rattle.elf_read.specs.Modules.{IsModule};
-ghost use Rattle.elf_read.specs.Outline.{outline_of};
+ghost use Rattle.elf_read.specs.{Contents.{ModuleOf, module_at}, Modules.IsModule, Outline.outline_of};
 ghost use Rattle.module_loader.specs.Loading.{verdict};
-ghost use Rattle.kernel_world.specs.Actors.{Acts, MayCall};
-ghost use Rattle.kernel_calls.specs.Calls.{file_wanted};
-ghost use Rattle.kernel_world.specs.Replies.{left_gate};
-ghost use Rattle.kernel_world.specs.Kept.{IsWorld};
-ghost use Rattle.kernel_world.specs.Seen.{world_seen, world_with};
-ghost use Rattle.kernel_calls.specs.Space.{HoldsSpace};
-ghost use Rattle.live_loading.specs.Said.{Held, said_of};
-ghost use Rattle.live_loading.specs.Loading.{shell, loader_state, by_verdict, load_call};
+ghost use Rattle.kernel_world.specs.{Actors.{Acts, MayCall}, Replies.left_gate, Kept.IsWorld, Seen.{world_seen, world_with}};
+ghost use Rattle.kernel_calls.specs.{Calls.file_wanted, Space.HoldsSpace};
+ghost use Rattle.live_loading.specs.{Said.{Held, said_of}, Loading.{shell, loader_state, by_verdict, load_call}};
 
 use crate::answer::FileAnswer;
 use crate::outcome::{accept, refuse, shell_id};

@@ -3,12 +3,8 @@
 ghost use Rattle.std.specs.Prelude.{◌≡◌, ◌≤◌, length};
 ghost use Rattle.wind_base.specs.OutBuf.{KeepsSpace};
 ghost use Rattle.wind_core.specs.State.{Lives};
-ghost use Rattle.kernel_world.specs.Actors.{shell_id as shell_id_lem};
-ghost use Rattle.kernel_world.specs.Replies.{left_gate, with_answer};
-ghost use Rattle.kernel_world.specs.Seen.{world_seen};
-ghost use Rattle.live_loading.specs.Causes.{cause_text};
-ghost use Rattle.live_loading.specs.Loading.{shell, writing, refused};
-ghost use Rattle.live_loading.specs.Texts.{undefined_text};
+ghost use Rattle.kernel_world.specs.{Actors.{shell_id as shell_id_lem}, Replies.{left_gate, with_answer}, Seen.world_seen};
+ghost use Rattle.live_loading.specs.{Causes.cause_text, Loading.{shell, writing, refused}, Texts.undefined_text};
 
 use crate::text::{Cause, add_refusal, add_undefined};
 use id_table::Ident;

@@ -6,8 +6,7 @@ ghost use Rattle.wind_base.specs.OutBuf.{Added, KeepsSpace};
 ghost use Rattle.symbol_table.specs.declared.symbol.Symbol.{Symbol};
 ghost use Rattle.elf_read.specs.Modules.{IsModule};
 ghost use Rattle.module_image.specs.Binding.{unbound};
-ghost use Rattle.live_loading.specs.Texts.{at_offset, file_reason, numbered, relocation_reason, reason, refused_text, undefined_line, undefined_text};
-ghost use Rattle.live_loading.specs.Causes.{cause_text};
+ghost use Rattle.live_loading.specs.{Texts.{at_offset, file_reason, numbered, relocation_reason, reason, refused_text, undefined_line, undefined_text}, Causes.cause_text};
 
 use elf_read::{ElfErr, Module, Sym, SymPlace};
 use itoa::Buffer;

@@ -64,6 +64,13 @@ impl Holes {
         })
     }
 
+    /// The blocks in order of address.
+    pub fn blocks(&self) -> &[Block]
+        ensures { result.now ≡ self.now.part.blocks }
+    {
+        &self.blocks
+    }
+
     /// The holes in order of address. The contract also gives their invariant.
     pub fn list(&self) -> &[Hole]
         ensures value { result.now ≡ self.now.holes }

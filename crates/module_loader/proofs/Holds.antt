@@ -16,7 +16,6 @@ use Rattle.mem_partition.proofs.Allocs.{find_with}
 use Rattle.mem_partition.proofs.Keeping.{apart_cases, with_blocks}
 use Rattle.mem_partition.proofs.Owners.{find-with_block}
 use Rattle.elf_read.specs.declared.module.Module.{Module}
-use Rattle.elf_read.specs.Contents.{module_at}
 use Rattle.elf_read.specs.Modules.{IsModule}
 use Rattle.module_image.specs.declared.segments.Need.{Need}
 use Rattle.module_image.specs.declared.segments.Needs.{Needs}
@@ -27,10 +26,9 @@ use Rattle.module_loader.specs.declared.module.Loaded.{Loaded}
 use Rattle.module_loader.specs.declared.module.LoadedModule.{LoadedModule}
 use Rattle.module_loader.specs.declared.module.Segment.{Segment}
 use Rattle.module_loader.specs.Placing.{with_seg, with_text, with_data, with_needs}
-use Rattle.module_loader.specs.Loading.{LoaderState, side_of, block_size, segment_at, segments_at, record_of, verdict, file_verdict, loaded, IsLoaded}
+use Rattle.module_loader.specs.Loading.{LoaderState, side_of, block_size, segment_at, segments_at, record_of, verdict, loaded, IsLoaded}
 use Rattle.module_loader.specs.Modules.{without_segment, without_segments, without_all}
 use Rattle.module_loader.specs.Holding.{addr_of, addrs_of, held_by, occurs, is_kernel_block, HasItsBlock, AreHeld, KeepsModules, unloaded, HoldLaw}
-use Rattle.module_loader.proofs.Files.{is_file}
 use Rattle.module_loader.proofs.Taking.{seg_kept}
 use Rattle.module_loader.proofs.Standing.{Stands}
 use Rattle.module_loader.proofs.Applying.{is_accepted, AllStand, all_stand}
@@ -507,14 +505,6 @@ hold_law = record {
 }
 
 -- ---- the same for what the calls answer
-of_verdict : (s t : LoaderState) (name file : List ℕ) (mode : ℕ) (v : Result Places LoadErr) → IsPart s.part → KeepsModules s → file_verdict s file mode ≡ v
-    → IsLoaded v s name (module_at file) mode t → KeepsModules t
-of_verdict s t name file mode (Ok at) k keeps e h =
-    let f = is_file s file mode at e in
-    subst (λ (x : LoaderState). KeepsModules x) (sym h) (load_keeps s name (module_at file) mode at k f.known keeps f.verdict)
-of_verdict s t name file mode (Err e) k keeps q h = absurd h
-
--- of a module that was read
 of_module_verdict : (s t : LoaderState) (name : List ℕ) (m : Module) (mode : ℕ) (v : Result Places LoadErr) → IsPart s.part → IsModule m → KeepsModules s → verdict s m mode ≡ v
     → IsLoaded v s name m mode t → KeepsModules t
 of_module_verdict s t name m mode (Ok at) k known keeps e h = subst (λ (x : LoaderState). KeepsModules x) (sym h) (load_keeps s name m mode at k known keeps e)
@@ -524,11 +514,6 @@ pub kept_after_module : (r : Result Loaded LoadErr) (s t : LoaderState) (name : 
     → OnOk r (IsPart s.part) → OnOk r (IsLoaded (verdict s m mode) s name m mode t) → OnErr r (t ≡ s) → KeepsModules t
 kept_after_module (Ok l) s t name m mode known keeps part ok err = of_module_verdict s t name m mode (verdict s m mode) part known keeps refl ok
 kept_after_module (Err e) s t name m mode known keeps part ok err = subst (λ (x : LoaderState). KeepsModules x) (sym err) keeps
-
-pub kept_after_load : (r : Result Loaded LoadErr) (s t : LoaderState) (name file : List ℕ) (mode : ℕ) → KeepsModules s
-    → OnOk r (IsPart s.part) → OnOk r (IsLoaded (file_verdict s file mode) s name (module_at file) mode t) → OnErr r (t ≡ s) → KeepsModules t
-kept_after_load (Ok l) s t name file mode keeps part ok err = of_verdict s t name file mode (file_verdict s file mode) part keeps refl ok
-kept_after_load (Err e) s t name file mode keeps part ok err = subst (λ (x : LoaderState). KeepsModules x) (sym err) keeps
 
 pub of_module : (rows : List (ℕ × LoadedModule)) (s : PartState) (id : ℕ) (o : Option LoadedModule) → AreHeld rows s → object_of rows id ≡ o → IsSome o
     → AreHeld (without rows id) (without_segments s o)

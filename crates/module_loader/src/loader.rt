@@ -1,35 +1,22 @@
 //! Loads a module.
 
-ghost use Rattle.std.specs.Prelude.{◌≡◌, ◌<◌, ◌≤◌, ◌+◌, ◌^◌, ℕ, List, Ok, Err, false, IfOk, IfErr, IsOk, OnOk, OnErr, length, All};
-ghost use Rattle.wind_base.specs.Boards.{board_rules};
-ghost use Rattle.wind_base.specs.Limits.{most_modules};
+ghost use Rattle.std.specs.Prelude.{◌≡◌, ◌<◌, ◌≤◌, Ok, Err, false, IfOk, IfErr, IsOk, OnOk, OnErr, length, All};
+ghost use Rattle.wind_base.specs.{Boards.board_rules, Limits.most_modules};
 ghost use Rattle.id_table.specs.Rows.{IdsBelow};
 ghost use Rattle.mem_partition.specs.State.{IsPart};
-ghost use Rattle.elf_read.specs.Contents.{ModuleOf, module_at};
-ghost use Rattle.elf_read.specs.Modules.{IsModule};
-ghost use Rattle.elf_read.specs.Outline.{outline_of};
-ghost use Rattle.elf_read.specs.Rules.{checked};
-ghost use Rattle.module_image.specs.Needs.{needs_of};
-ghost use Rattle.module_image.specs.Exports.{exports as exports_lem};
-ghost use Rattle.module_image.specs.Binding.{unbound};
-ghost use Rattle.module_image.specs.Image.{image};
-ghost use Rattle.module_image.specs.Making.{IsMade};
-ghost use Rattle.module_loader.specs.Placing.{places_of, with_needs};
-ghost use Rattle.module_loader.specs.Loading.{place_verdict, verdict, file_verdict, loaded_answer, IsLoaded, IsVerdict, ReachesRelocations};
-ghost use Rattle.module_loader.specs.Modules.{HasIdent, modules_on};
-ghost use Rattle.module_loader.specs.Steps.{IsFileRefusal, state_of};
+ghost use Rattle.elf_read.specs.{Contents.module_at, Modules.IsModule, Outline.outline_of, Rules.checked};
+ghost use Rattle.module_image.specs.{Needs.needs_of, Exports.{exports as exports_lem}, Binding.unbound, Image.image, Making.IsMade};
+ghost use Rattle.module_loader.specs.{Placing.{places_of, with_needs}, Loading.{place_verdict, verdict, loaded_answer, IsLoaded, IsVerdict}, Modules.{HasIdent, modules_on}, Steps.{IsFileRefusal, state_of}};
 
 use crate::blocks::{give_blocks, take_blocks};
 use crate::commit::{commit, make_record};
 use crate::counts::check_counts;
 use crate::module::{LoadErr, Loaded, LoadedModule};
 use board_mem::Ram;
-use elf_read::{ElfErr, Module, Outline, fill, read_outline};
+use elf_read::{ElfErr, Module, Outline, read_outline};
 use id_table::Table;
 use mem_partition::{Part, PartErr};
-use module_image::{
-    Needs, Places, PrepareErr, Prepared, count_added, measure, measure_module, prepare,
-};
+use module_image::{Needs, Places, PrepareErr, Prepared, count_added, measure_module, prepare};
 use std::alloc::Global;
 use symbol_table::Symbols;
 use wind_base::{BoardKind, Name};
@@ -134,7 +121,7 @@ pub(crate) fn load_module(
 }
 
 /// Reads the outline of a file, or finds the rule that refuses the file.
-fn outline_file(alloc: Global, file: &[u8]) -> Result<Outline, LoadErr>
+pub(crate) fn outline_file(alloc: Global, file: &[u8]) -> Result<Outline, LoadErr>
     ensures outline { IfOk result (λ o. o ≡ outline_of (module_at file.now)) }
     ensures passes { IfOk result (λ o. checked file.now ≡ Ok tt) }
     ensures known { IfOk result (λ o. IsModule (module_at file.now)) }
@@ -149,7 +136,7 @@ fn outline_file(alloc: Global, file: &[u8]) -> Result<Outline, LoadErr>
 
 /// Checks that the three segments have places. The partition stays as it is.
 #[tactic(auto, using(crate::proofs::Taking::needs_back))]
-fn check_blocks(part: &mut Part, board: BoardKind, needs: Needs) -> Result<(), PartErr>
+pub(crate) fn check_blocks(part: &mut Part, board: BoardKind, needs: Needs) -> Result<(), PartErr>
     ensures placed { OnOk result (IsOk (places_of (board_rules board).segments part.old needs)) }
     ensures refused { IfErr result (λ e. places_of (board_rules board).segments part.old needs ≡ Err e) }
     ensures same { part.new ≡ part.old }
@@ -162,95 +149,4 @@ fn check_blocks(part: &mut Part, board: BoardKind, needs: Needs) -> Result<(), P
         }
         Err(e) => Err(e),
     }
-}
-
-/// Reads the outline of a file, and checks that no rule, no count and no missing place refuses to
-/// load it. Only the room for symbols may grow.
-#[tactic(auto, using(crate::proofs::Files::file_refused))]
-pub(crate) fn check_file(
-    alloc: Global,
-    board: BoardKind,
-    table: &Table<LoadedModule>,
-    kern: &mut Kern,
-    part: &mut Part,
-    syms: &mut Symbols,
-    file: &[u8],
-    mode: u32,
-) -> Result<Outline, LoadErr>
-    requires { kern.old.lent ≡ false }
-    ensures outline { IfOk result (λ o. o ≡ outline_of (module_at file.now)) }
-    ensures module { IfOk result (λ o. ModuleOf file.now (module_at file.now)) }
-    ensures passed { OnOk result ((ram : List ℕ) → ReachesRelocations
-        (file_verdict
-        (state_of kern.old syms.old.list (modules_on board table.now.rows) part.old ram) file.now mode)) }
-    ensures refused { IfErr result (λ e. (ram : List ℕ) → IsVerdict
-        (file_verdict
-        (state_of kern.old syms.old.list (modules_on board table.now.rows) part.old ram) file.now mode) e) }
-    ensures kern { kern.new ≡ kern.old }
-    ensures list { syms.new.list ≡ syms.old.list }
-    ensures part { part.new ≡ part.old }
-{
-    let outline = match outline_file(alloc, file) {
-        Ok(outline) => outline,
-        Err(e) => return Err(e),
-    };
-    let needs = measure(outline.shapes.as_slice(), outline.symbols.as_slice());
-    let added = count_added(outline.symbols.as_slice(), mode);
-    if let Err(e) = check_counts(table, kern, syms, added) {
-        return Err(e);
-    }
-    match check_blocks(part, board, needs) {
-        Ok(()) => Ok(outline),
-        Err(e) => Err(LoadErr::Part(e)),
-    }
-}
-
-/// Loads the module of a file.
-#[tactic(auto, using(crate::proofs::Files::read_verdict))]
-pub(crate) fn load_file(
-    alloc: Global,
-    board: BoardKind,
-    table: &mut Table<LoadedModule>,
-    kern: &mut Kern,
-    part: &mut Part,
-    syms: &mut Symbols,
-    ram: &mut Ram,
-    name: Name,
-    file: &[u8],
-    mode: u32,
-) -> Result<Loaded, LoadErr>
-    requires room { table.old.room ≡ most_modules }
-    requires ids { kern.old.lent ≡ false }
-    requires below { IdsBelow kern.old.next_id table.old.rows }
-    requires idents { All HasIdent table.old.rows }
-    requires pool { part.old.end ≤ length ram.old.bytes }
-    ensures answer { IfOk result
-        (λ l. l ≡ loaded_answer
-        (state_of kern.old syms.old.list (modules_on board table.old.rows) part.old ram.old.bytes)
-        (module_at file.now)) }
-    ensures accepted { OnOk result (IsLoaded
-        (file_verdict
-        (state_of kern.old syms.old.list (modules_on board table.old.rows) part.old ram.old.bytes) file.now mode)
-        (state_of kern.old syms.old.list (modules_on board table.old.rows) part.old ram.old.bytes) name
-        (module_at file.now) mode
-        (state_of kern.new syms.new.list (modules_on board table.new.rows) part.new ram.new.bytes)) }
-    ensures refused { IfErr result
-        (IsVerdict
-        (file_verdict
-        (state_of kern.old syms.old.list (modules_on board table.old.rows) part.old ram.old.bytes) file.now mode)) }
-    ensures unchanged { OnErr result
-        (state_of kern.new syms.new.list (modules_on board table.new.rows) part.new ram.new.bytes
-        ≡ state_of kern.old syms.old.list (modules_on board table.old.rows) part.old ram.old.bytes) }
-    ensures room { table.new.room ≡ most_modules }
-    ensures idents { All HasIdent table.new.rows }
-    ensures sound { OnOk result (IsPart part.old) }
-{
-    let outline = match check_file(alloc, board, table, kern, part, syms, file, mode) {
-        Ok(outline) => outline,
-        Err(e) => return Err(e),
-    };
-    let Ok(m) = fill(alloc, file, outline) else {
-        return Err(LoadErr::NoMemory);
-    };
-    load_module(alloc, board, table, kern, part, syms, ram, name, &m, mode)
 }

@@ -4,21 +4,18 @@ ghost use Rattle.std.specs.Prelude.{◌≡◌, ◌↔◌, ℕ, List, [], false, 
 ghost use Rattle.wind_lists.specs.Records.{Rising};
 ghost use Rattle.id_table.specs.Rows.{object_of, next_above, row_id, without, removed};
 ghost use Rattle.symbol_table.specs.State.{without_group};
-ghost use Rattle.elf_read.specs.Contents.{ModuleOf, module_at};
-ghost use Rattle.elf_read.specs.Outline.{outline_of};
-ghost use Rattle.elf_read.specs.Modules.{IsModule};
-ghost use Rattle.module_loader.specs.Loading.{file_verdict, verdict, loaded_answer, IsLoaded, IsVerdict, ReachesRelocations};
-ghost use Rattle.module_loader.specs.Steps.{state_of};
-ghost use Rattle.module_loader.specs.Holding.{AreHeld, KeepsModules};
-ghost use Rattle.module_loader.specs.Modules.{HasIdent, modules_on, newest_named, without_segment, without_segments};
+ghost use Rattle.elf_read.specs.{Contents.{ModuleOf, module_at}, Outline.outline_of, Modules.IsModule};
+ghost use Rattle.module_loader.specs.{Loading.{file_verdict, verdict, loaded_answer, IsLoaded, IsVerdict, ReachesRelocations}, Steps.state_of, Holding.{AreHeld, KeepsModules}, Modules.{HasIdent, modules_on, newest_named, without_segment, without_segments}};
 
-use crate::loader::{check_file, load_file, load_module};
+use crate::counts::check_counts;
+use crate::loader::{check_blocks, load_module, outline_file};
 use crate::module::{LoadErr, Loaded, LoadedModule, NoSuchModule, Segment};
 use crate::names::newest_in;
 use board_mem::Ram;
-use elf_read::{Module, Outline};
+use elf_read::{Module, Outline, fill};
 use id_table::{Ident, Table};
 use mem_partition::{Class, Part};
+use module_image::{count_added, measure};
 use std::alloc::Global;
 use std::marker::Model;
 use symbol_table::Symbols;
@@ -64,6 +61,7 @@ impl Modules {
     /// The mode says which symbols are added: 0xffffffff adds none, 1 also adds local ones, and any
     /// other mode adds global and weak ones. A reference that the module doesn't define is bound to
     /// the newest global with its name, or else to 0.
+    #[tactic(auto, using(crate::proofs::Files::read_verdict))]
     pub fn load(
         &mut self,
         kern: &mut Kern,
@@ -76,7 +74,8 @@ impl Modules {
     ) -> Result<Loaded, LoadErr>
         requires { KeepsModules (state_of kern.old syms.old.list self.old part.old ram.old.bytes) }
         ensures answer { IfOk result
-            (λ l. l ≡ loaded_answer (state_of kern.old syms.old.list self.old part.old ram.old.bytes) (module_at file.now)) }
+            (λ l. l ≡ loaded_answer
+            (state_of kern.old syms.old.list self.old part.old ram.old.bytes) (module_at file.now)) }
         ensures accepted { OnOk result (IsLoaded
             (file_verdict (state_of kern.old syms.old.list self.old part.old ram.old.bytes) file.now mode)
             (state_of kern.old syms.old.list self.old part.old ram.old.bytes) name (module_at file.now) mode
@@ -87,23 +86,20 @@ impl Modules {
             ≡ state_of kern.old syms.old.list self.old part.old ram.old.bytes) }
         ensures kept { KeepsModules (state_of kern.new syms.new.list self.new part.new ram.new.bytes) }
     {
-        load_file(
-            self.alloc,
-            self.board,
-            &mut self.table,
-            kern,
-            part,
-            syms,
-            ram,
-            name,
-            file,
-            mode,
-        )
+        let outline = match self.check_file(kern, part, syms, file, mode) {
+            Ok(outline) => outline,
+            Err(e) => return Err(e),
+        };
+        let Ok(m) = fill(self.alloc, file, outline) else {
+            return Err(LoadErr::NoMemory);
+        };
+        self.load_module(kern, part, syms, ram, name, &m, mode)
     }
 
     /// Reads the outline of an object file, and checks whether `load` would get as far as the
     /// file's relocations. The rules of object files, the counts and the partition may refuse the
     /// file, in this order. It copies no bytes of sections and changes nothing.
+    #[tactic(auto, using(crate::proofs::Files::file_refused))]
     pub fn check_file(
         &self,
         kern: &mut Kern,
@@ -123,16 +119,16 @@ impl Modules {
         ensures list { syms.new.list ≡ syms.old.list }
         ensures part { part.new ≡ part.old }
     {
-        check_file(
-            self.alloc,
-            self.board,
-            &self.table,
-            kern,
-            part,
-            syms,
-            file,
-            mode,
-        )
+        let outline = outline_file(self.alloc, file)?;
+        let needs = measure(outline.shapes.as_slice(), outline.symbols.as_slice());
+        let added = count_added(outline.symbols.as_slice(), mode);
+        if let Err(e) = check_counts(&self.table, kern, syms, added) {
+            return Err(e);
+        }
+        match check_blocks(part, self.board, needs) {
+            Ok(()) => Ok(outline),
+            Err(e) => Err(LoadErr::Part(e)),
+        }
     }
 
     /// The same as `load`, for a module that has been read from its file.

@@ -17,6 +17,7 @@ mod words;
 
 pub use asks::Ask;
 pub use laws::{calm_law, conservation_law, count_law, kept_law, run_law};
+pub use queue::Queue;
 pub use queues::Queues;
 pub use size::{LONGEST_MESSAGE, MESSAGES, MSG_Q_FIFO, MSG_Q_PRIORITY, QUEUE_BYTES};
 pub use wind_core::Took;

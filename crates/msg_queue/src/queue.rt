@@ -14,9 +14,9 @@ use std::collections::VecDeque;
 use std::marker::Model;
 use wind_base::NoMemory;
 
-// A queue, with room for all its messages.
+/// A queue, with room for all its messages.
 #[derive(Drop)]
-pub(crate) struct Queue {
+pub struct Queue {
     by_priority: bool,
     max_msgs: u32,
     max_len: u32,
@@ -102,26 +102,33 @@ impl Queue {
         self.held.is_empty()
     }
 
-    // The number of its messages.
-    pub(crate) fn count(&self) -> u32
+    /// The number of its messages.
+    pub fn count(&self) -> u32
         ensures { result ≡ length self.now.held }
     {
         let _most = self.max_msgs;
         self.held.len() as u32
     }
 
-    // The greatest length of its messages, in bytes.
-    pub(crate) fn max_len(&self) -> u32
+    /// The greatest length of its messages, in bytes.
+    pub fn max_len(&self) -> u32
         ensures { result ≡ self.now.max_len }
     {
         self.max_len
     }
 
-    // Whether tasks wait by priority. If not, they wait in order of arrival.
-    pub(crate) fn by_priority(&self) -> bool
+    /// Whether tasks wait by priority. If not, they wait in order of arrival.
+    pub fn by_priority(&self) -> bool
         ensures { result ≡ self.now.by_priority }
     {
         self.by_priority
+    }
+
+    /// The greatest number of its messages.
+    pub fn max_msgs(&self) -> u32
+        ensures { result ≡ self.now.max_msgs }
+    {
+        self.max_msgs
     }
 
     // The bytes of the first message. None if the queue is empty.

@@ -45,18 +45,19 @@ impl Queues {
         Ok(Queues { queues, asks })
     }
 
+    /// The queues by id.
+    pub fn table(&self) -> &Table<Queue>
+        ensures { result.now.rows ≡ self.now.queues }
+    {
+        &self.queues
+    }
+
     // The id with this number, if its queue is live.
     pub(crate) fn find(&self, number: u32) -> Option<Ident>
         ensures { MatchOption result (object_of self.now.queues number ≡ None)
             (λ id. (id ≡ number) × IsSome (object_of self.now.queues id)) }
     {
-        self.queues.facts();
-        let id = Ident::new(number)?;
-        if self.queues.contains(id) {
-            Some(id)
-        } else {
-            None
-        }
+        self.queues.find(number)
     }
 
     // The queue with this id, which must be live.

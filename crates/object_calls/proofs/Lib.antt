@@ -2,6 +2,8 @@ pub mod MutexTables
 pub mod MutexWaits
 pub mod ObjectRows
 pub mod SemGoes
+pub mod RowWalks
+pub mod EachMutex
 pub mod Depths
 pub mod RowIds
 pub mod QueueGoes

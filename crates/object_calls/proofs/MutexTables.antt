@@ -14,6 +14,8 @@ use Rattle.id_table.proofs.Lookups.{object_of-push, object_of-without}
 use Rattle.wind_lists.proofs.Passing.{length-filter}
 use Rattle.wind_core.specs.State.{KernState}
 use Rattle.wind_core.specs.Orders.{is_place}
+use Rattle.sem_plain.specs.State.{both as with_semaphores}
+use Rattle.sem_plain.specs.Kept.{KeepsSemaphores}
 use Rattle.inheritance.specs.declared.mutex.Mutex.{Mutex}
 use Rattle.inheritance.specs.Mutexes.{AreMutexes, LiveMutexes, mutex_place}
 use Rattle.kernel_world.specs.Objects.{is_queue_side, is_live, KeepsWaits}
@@ -98,19 +100,23 @@ monotone false true c e true more h = or_right e true refl
 monotone false true true e false more h = or_left e false (more refl)
 monotone false true false e false more h = absurd (cc)
 
--- each mutex that lived lives among others
-pub waits-more : {board : BoardKind} (k : KernState) (o : Objects) (ns : LiveMutexes) → ((n : ℕ) → is_some (object_of o.mutexes.rows n) ≡ true → is_some (object_of ns.rows n) ≡ true) → KeepsWaits board k o → KeepsWaits board k (with_mutexes o ns)
-waits-more k o ns more kept = record {
-  semaphores = kept.semaphores;
+-- other objects, if each for which a task may wait lives among them
+pub waits_live : {board : BoardKind} (k : KernState) (o p : Objects) → KeepsSemaphores (with_semaphores k p.semaphores) → ((q : Place) → is_live o q ≡ true → is_live p q ≡ true) → KeepsWaits board k o → KeepsWaits board k p
+waits_live k o p semaphores more kept = record {
+  semaphores = semaphores;
   deleters = kept.deleters;
-  live = All-weaker (λ t. IfSome t.wait (λ p. is_live o p ≡ true)) (λ t. IfSome t.wait (λ p. is_live (with_mutexes o ns) p ≡ true)) (λ t. each t.wait) k.tasks kept.live;
+  live = All-weaker (λ t. IfSome t.wait (λ q. is_live o q ≡ true)) (λ t. IfSome t.wait (λ q. is_live p q ≡ true)) (λ t. each t.wait) k.tasks kept.live;
   right = kept.right;
 }
   where
-    each : (w : Option Place) → IfSome w (λ p. is_live o p ≡ true) → IfSome w (λ p. is_live (with_mutexes o ns) p ≡ true)
+    each : (w : Option Place) → IfSome w (λ q. is_live o q ≡ true) → IfSome w (λ q. is_live p q ≡ true)
     each None h = tt
-    each (Some p) h =
-        monotone (eqb p.side 0 && is_some (object_of o.semaphores p.id)) (eqb p.side 0) (is_some (object_of o.mutexes.rows p.id)) (is_some (object_of ns.rows p.id)) (is_beyond o p) (more p.id) h
+    each (Some q) h = more q h
+
+-- each mutex that lived lives among others
+pub waits-more : {board : BoardKind} (k : KernState) (o : Objects) (ns : LiveMutexes) → ((n : ℕ) → is_some (object_of o.mutexes.rows n) ≡ true → is_some (object_of ns.rows n) ≡ true) → KeepsWaits board k o → KeepsWaits board k (with_mutexes o ns)
+waits-more k o ns more kept = waits_live k o (with_mutexes o ns) kept.semaphores (λ p h.
+    monotone (eqb p.side 0 && is_some (object_of o.semaphores p.id)) (eqb p.side 0) (is_some (object_of o.mutexes.rows p.id)) (is_some (object_of ns.rows p.id)) (is_beyond o p) (more p.id) h) kept
 
 -- if the ids are the same
 pub waits-ids : {board : BoardKind} (k : KernState) (o : Objects) (ns : LiveMutexes) → ids ns.rows ≡ ids o.mutexes.rows → KeepsWaits board k o → KeepsWaits board k (with_mutexes o ns)

@@ -3,7 +3,7 @@ use Rattle.std.proofs.Common.{◌≡◌, ℕ, ◌+◌, ◌<◌, ◌≤◌, Bool,
 use Rattle.std.specs.List.{All}
 use Rattle.std.proofs.lemmas.Bool.{eqb-true, eqb-false, leb-false, and_parts, or_left, or_right}
 use Rattle.std.proofs.lemmas.List.Elements.{All-weaker, All-filter, All-push}
-use Rattle.wind_base.specs.SemBits.{has_bits, are_options, is_priority, is_inversion_safe, read_options}
+use Rattle.wind_base.specs.SemBits.{has_bits, are_options, is_priority, is_inversion_safe}
 use Rattle.wind_base.specs.declared.board_kind.BoardKind.{BoardKind}
 use Rattle.wind_base.specs.declared.errno.Errno.{Errno}
 use Rattle.wind_base.specs.declared.errno.Errno.TheVariants as errors
@@ -12,7 +12,7 @@ use Rattle.wind_base.specs.declared.semaphore.SemKind.TheVariants as kinds
 use Rattle.wind_base.specs.declared.semaphore.SemOptions.{SemOptions}
 use Rattle.id_table.specs.Rows.{IdsBelow, IsId, ids, object_of, with_object, without}
 use Rattle.id_table.proofs.Lookups.{found_below, no_object_of}
-use Rattle.wind_core.specs.State.{KernState, IsKern, Lives}
+use Rattle.wind_core.specs.State.{KernState, IsKern}
 use Rattle.wind_core.specs.Orders.{is_place}
 use Rattle.wind_core.specs.Move.{Pend, EndWait, WakeAll, DrawIds}
 use Rattle.sem_plain.specs.declared.semaphore.Semaphore.{Semaphore}
@@ -33,11 +33,11 @@ use Rattle.sem_mutex.specs.Laws as laws
 use Rattle.sem_mutex.proofs.Lawful.{beside_law, calls_law, gone_law}
 use Rattle.msg_queue.proofs.Calm.{calms}
 use Rattle.kernel_world.specs.Objects.{is_live_beside, KeepsObjects}
-use Rattle.object_calls.specs.SemRows.{ObjectRow, live_in, sems, mutexes, is_mutex, refused, by_semaphores, by_mutexes, made_unless, made, binary_with, binary_row, counting_with, counting_row, mutex_unless, mutex_with, mutex_row, took_reply, plain_take_unless, plain_take, mutex_take_unless, mutex_take, take_row, plain_give_unless, plain_give, mutex_give_unless, mutex_give, give_row, flush_unless, flush_row, plain_delete_unless, delete_row, priority_row}
+use Rattle.object_calls.specs.SemRows.{ObjectRow, live_in, sems, mutexes, is_mutex, refused, by_semaphores, by_mutexes, made, binary_row, counting_row, mutex_with, mutex_row, took_reply, take_row, give_row, flush_row, delete_row, priority_row}
+use Rattle.object_calls.proofs.RowWalks.{on_made, on_binary, on_counting, on_mutex_made, on_mutex_take, on_plain_take, on_take, on_plain_give, on_mutex_give, on_give, on_flush, on_delete, on_priority}
 use Rattle.kernel_world.specs.Actors.{Acts}
 use Rattle.kernel_world.specs.declared.objects.Objects.{Objects}
 use Rattle.kernel_world.specs.declared.actor.Actor.{Actor}
-use Rattle.kernel_world.specs.declared.actor.Actor.TheVariants.{Task, Interrupt}
 use Rattle.kernel_world.specs.declared.reply.Reply.TheVariants.{Answer}
 use Rattle.kernel_world.proofs.Calming.{KeepsQueues, queues-calm}
 use Rattle.kernel_world.proofs.Apart.{not_some, by_id, none_from, none_push, none_write, none_without, other_kind, queue_ids}
@@ -138,46 +138,40 @@ module _ {board : BoardKind} (k : KernState) (o : Objects) (is : IsKern k) (kept
   queues_draw : k.next_id ≤ 1048576 → KeepsQueues board (record k { next_id = k.next_id + 1 }) o
   queues_draw left = queues-calm board k (record k { next_id = k.next_id + 1 }) o (calms o.queues.queues k (DrawIds (k.next_id + 1)) is (omega arith, omega (arith, left)) tt) kept.queues
 
+  abbrev RowKeeps : ObjectRow → Type 0
+  RowKeeps r = KeepsRow board r
+
+  none : (e : Errno) → RowKeeps (refused k o e)
+  none e = kept
+
   -- ---- a semaphore is made
   sem_made : (kind : SemKind) (options : SemOptions) (count : ℕ) → may_hold kind count ≡ true → KeepsRow board (made k o (plain.new_semaphore kind options count))
   sem_made kind options count may =
       let v : Semaphore = plain.new_semaphore kind options count in
       let next : ℕ = k.next_id in
       let j : KernState = record k { next_id = next + 1 } in
-      elim (plain.create_refusal (sems k o)) as (λ r. plain.create_refusal (sems k o) ≡ r → KeepsRow board (made_unless r k o v)) [
-        | Some e ↦ λ r. kept
-        | None ↦ λ r.
-            record {
-              waits = record {
-                semaphores = keeps.creating kind options count may;
-                deleters = moves_keep k (DrawIds (next + 1)) is kept.waits.deleters tt;
-                live = lives.creating kind options count;
-                right = kept.waits.right;
-              };
-              mutexes = beside_law (mutexes k o) (DrawIds (next + 1)) kept.mutexes (omega arith);
-              table = kept.table;
-              queues = queues_draw (room_left (length o.semaphores) next errors.TooMany errors.IdsSpent r).1;
-              queues_ranged = kept.queues_ranged;
-              apart = apart_by (o.semaphores ++ (next, v) ∷ []) (stays_push v);
-              queues_apart = queues_apart_by (o.semaphores ++ (next, v) ∷ []) (stays_push v);
-            }
-      ] refl
+      on_made k o RowKeeps none v (λ fine.
+      record {
+        waits = record {
+          semaphores = keeps.creating kind options count may;
+          deleters = moves_keep k (DrawIds (next + 1)) is kept.waits.deleters tt;
+          live = lives.creating kind options count;
+          right = kept.waits.right;
+        };
+        mutexes = beside_law (mutexes k o) (DrawIds (next + 1)) kept.mutexes (omega arith);
+        table = kept.table;
+        queues = queues_draw (room_left (length o.semaphores) next errors.TooMany errors.IdsSpent fine).1;
+        queues_ranged = kept.queues_ranged;
+        apart = apart_by (o.semaphores ++ (next, v) ∷ []) (stays_push v);
+        queues_apart = queues_apart_by (o.semaphores ++ (next, v) ∷ []) (stays_push v);
+      })
 
   -- a binary one, empty or full
   pub keeps-binary_row : (options state : ℕ) → KeepsRow board (binary_row k o options state)
-  keeps-binary_row options state =
-      elim (read_options options kinds.Binary) as (λ q. KeepsRow board (binary_with k o state q)) [
-        | None ↦ kept
-        | Some v ↦
-            elim (leb state 1) as (λ b. leb state 1 ≡ b → KeepsRow board (cond b (made k o (plain.new_semaphore kinds.Binary v state)) (refused k o errors.InvalidState))) [
-              | true ↦ λ b. sem_made kinds.Binary v state b
-              | false ↦ λ b. kept
-            ] refl
-      ]
+  keeps-binary_row options state = on_binary k o RowKeeps none options state (λ v low. sem_made kinds.Binary v state low)
 
   pub keeps-counting_row : (options count : ℕ) → KeepsRow board (counting_row k o options count)
-  keeps-counting_row options count =
-      elim (read_options options kinds.Counting) as (λ q. KeepsRow board (counting_with k o count q)) [ None ↦ kept | Some v ↦ sem_made kinds.Counting v count refl ]
+  keeps-counting_row options count = on_counting k o RowKeeps none options count (λ v. sem_made kinds.Counting v count refl)
 
   -- ---- a semaphore is taken, given, flushed, deleted
   -- a wait for one takes time
@@ -224,23 +218,8 @@ module _ {board : BoardKind} (k : KernState) (o : Objects) (is : IsKern k) (kept
   sem_delete id =
       by_others (plain.delete s id).kern (without o.semaphores id) (objects-move k o is kept (WakeAll (sem_place id) 4294967295 (Some errors.ObjDeleted)) (tt, tt, tt, tt)) (keeps.deleting id) (lives.deleting id) (stays_without id)
 
-  -- the calls on semaphores
-  plain_take_keeps : (who id n : ℕ) → object_of o.mutexes.rows id ≡ None → KeepsRow board (plain_take k o who id n)
-  plain_take_keeps who id n other =
-      elim (plain.take_refusal s id n) as (λ r. plain.take_refusal s id n ≡ r → KeepsRow board (plain_take_unless r k o who id n)) [ Some e ↦ λ r. kept | None ↦ λ r. sem_take who id n other r ] refl
-
-  plain_give_keeps : (id : ℕ) → KeepsRow board (plain_give k o id)
-  plain_give_keeps id = elim (plain.give_refusal s id) as (λ r. KeepsRow board (plain_give_unless r k o id)) [ Some e ↦ kept | None ↦ sem_give id ]
-
   pub keeps-flush_row : (id : ℕ) → KeepsRow board (flush_row k o id)
-  keeps-flush_row id =
-      elim (is_mutex o id) as (λ b. KeepsRow board (cond b (refused k o errors.InvalidOperation) (flush_unless (plain.flush_refusal s id) k o id))) [
-        | true ↦ kept
-        | false ↦ elim (plain.flush_refusal s id) as (λ r. KeepsRow board (flush_unless r k o id)) [ Some e ↦ kept | None ↦ objects-move k o is kept (WakeAll (sem_place id) 0 None) (tt, tt, tt, tt) ]
-      ]
-
-  plain_delete_keeps : (id : ℕ) → KeepsRow board (plain_delete_unless (plain.delete_refusal s id) k o id)
-  plain_delete_keeps id = elim (plain.delete_refusal s id) as (λ r. KeepsRow board (plain_delete_unless r k o id)) [ Some e ↦ kept | None ↦ sem_delete id ]
+  keeps-flush_row id = on_flush k o RowKeeps none id (λ other fine. objects-move k o is kept (WakeAll (sem_place id) 0 None) (tt, tt, tt, tt))
 
   -- ---- mutexes
   abbrev m : MutexState
@@ -275,22 +254,19 @@ module _ {board : BoardKind} (k : KernState) (o : Objects) (is : IsKern k) (kept
       let v : Mutex = making.new_mutex options in
       let next : ℕ = k.next_id in
       let j : KernState = record k { next_id = next + 1 } in
-      elim (making.create_refusal m) as (λ r. making.create_refusal m ≡ r → KeepsRow board (mutex_unless r k o options)) [
-        | Some e ↦ λ r. kept
-        | None ↦ λ r.
-            let left = room_left (length o.mutexes.rows) next errors.TooMany errors.IdsSpent r in
-            record {
-              waits = waits-push j o next v (waits-move k o is kept.waits (DrawIds (next + 1)) (omega arith));
-              mutexes = calls.creating options urgency;
-              table = table-push o.mutexes.rows next v kept.table left.0 is.first_id left.1 below;
-              queues = queues_draw left.1;
-              queues_ranged = kept.queues_ranged;
-              apart = All-push (λ x. object_of o.semaphores x.0 ≡ None) o.mutexes.rows (next, v) kept.apart (none_from o.semaphores next next kept.waits.semaphores.ids (omega arith));
-              queues_apart = λ i d within.
-                  let each = kept.queues_apart i d within in
-                  (each.0, none_push o.mutexes.rows next (get_or o.queues.queues i d).0 v (queue_below i d within) each.1);
-            }
-      ] refl
+      on_mutex_made k o RowKeeps none options (λ fine.
+      let left = room_left (length o.mutexes.rows) next errors.TooMany errors.IdsSpent fine in
+      record {
+        waits = waits-push j o next v (waits-move k o is kept.waits (DrawIds (next + 1)) (omega arith));
+        mutexes = calls.creating options urgency;
+        table = table-push o.mutexes.rows next v kept.table left.0 is.first_id left.1 below;
+        queues = queues_draw left.1;
+        queues_ranged = kept.queues_ranged;
+        apart = All-push (λ x. object_of o.semaphores x.0 ≡ None) o.mutexes.rows (next, v) kept.apart (none_from o.semaphores next next kept.waits.semaphores.ids (omega arith));
+        queues_apart = λ i d within.
+            let each = kept.queues_apart i d within in
+            (each.0, none_push o.mutexes.rows next (get_or o.queues.queues i d).0 v (queue_below i d within) each.1);
+      })
 
   pub keeps-mutex_row : (options : ℕ) → KeepsRow board (mutex_row k o options)
   keeps-mutex_row n =
@@ -309,21 +285,6 @@ module _ {board : BoardKind} (k : KernState) (o : Objects) (is : IsKern k) (kept
     or_right (is_some (object_of o.semaphores id)) (is_mutex o id || (is_some (object_of o.queues.queues id) || false)) (or_left (is_mutex o id) (is_some (object_of o.queues.queues id) || false) e),
     mutex_no_queue id e,
   )
-
-  mutex_take_keeps : (who id n : ℕ) → Lives k who → KeepsRow board (mutex_take k o who id n)
-  mutex_take_keeps who id n acts =
-      elim (mutex.take_refusal who n (object_of o.mutexes.rows id)) as (λ r. mutex.take_refusal who n (object_of o.mutexes.rows id) ≡ r → KeepsRow board (mutex_take_unless r k o who id n)) [
-        | Some e ↦ λ r. kept
-        | None ↦ λ r.
-            by_same (mutex.take m who id n).kern (live_in (mutex.take m who id n)) (still-take o m who id n r (awaitable id) still) (ids-take m who id n) (calls.taking who id n acts r)
-      ] refl
-
-  mutex_give_keeps : (who id : ℕ) → Lives k who → KeepsRow board (mutex_give k o who id)
-  mutex_give_keeps who id acts =
-      elim (mutex.give_refusal who (object_of o.mutexes.rows id)) as (λ r. mutex.give_refusal who (object_of o.mutexes.rows id) ≡ r → KeepsRow board (mutex_give_unless r k o who id)) [
-        | Some e ↦ λ r. kept
-        | None ↦ λ r. by_same (mutex.give m who id).kern (live_in (mutex.give m who id)) (still-give o m who id still) (ids-give m who id) (calls.giving who id acts r)
-      ] refl
 
   mutex_delete_keeps : (id : ℕ) → is_mutex o id ≡ true → KeepsRow board (by_mutexes o (mutex.delete m id) (Answer 0))
   mutex_delete_keeps id there =
@@ -348,33 +309,22 @@ module _ {board : BoardKind} (k : KernState) (o : Objects) (is : IsKern k) (kept
 
   -- ---- the rows of both kinds; a task that takes or gives a mutex lives
   pub keeps-take_row : (a : Actor) (id n : ℕ) → (is_mutex o id ≡ true → Acts k a) → KeepsRow board (take_row k o a id n)
-  keeps-take_row (Task who) id n acts =
-      elim (is_mutex o id) as (λ b. is_mutex o id ≡ b → KeepsRow board (cond b (mutex_take k o who id n) (plain_take k o who id n))) [
-        | true ↦ λ b. mutex_take_keeps who id n (acts b)
-        | false ↦ λ b. plain_take_keeps who id n (not_some (object_of o.mutexes.rows id) b)
-      ] refl
-  keeps-take_row Interrupt id n acts = kept
+  keeps-take_row a id n acts =
+      on_take k o RowKeeps none a id n
+      (λ who same there. on_mutex_take k o RowKeeps none who id n (λ fine.
+      by_same (mutex.take m who id n).kern (live_in (mutex.take m who id n)) (still-take o m who id n fine (awaitable id) still) (ids-take m who id n) (calls.taking who id n (subst (Acts k) same (acts there)) fine)))
+      (λ who other. on_plain_take k o RowKeeps none who id n (sem_take who id n (not_some (object_of o.mutexes.rows id) other)))
 
   pub keeps-give_row : (a : Actor) (id : ℕ) → (is_mutex o id ≡ true → Acts k a) → KeepsRow board (give_row k o a id)
-  keeps-give_row (Task who) id acts =
-      elim (is_mutex o id) as (λ b. is_mutex o id ≡ b → KeepsRow board (cond b (mutex_give k o who id) (plain_give k o id))) [
-        | true ↦ λ b. mutex_give_keeps who id (acts b)
-        | false ↦ λ b. plain_give_keeps id
-      ] refl
-  keeps-give_row Interrupt id acts =
-      elim (is_mutex o id) as (λ b. KeepsRow board (cond b (refused k o errors.NotIsrCallable) (plain_give k o id))) [ true ↦ kept | false ↦ plain_give_keeps id ]
+  keeps-give_row a id acts =
+      on_give k o RowKeeps none a id
+      (λ who same there. on_mutex_give k o RowKeeps none who id (λ fine.
+      by_same (mutex.give m who id).kern (live_in (mutex.give m who id)) (still-give o m who id still) (ids-give m who id) (calls.giving who id (subst (Acts k) same (acts there)) fine)))
+      (λ other. on_plain_give k o RowKeeps none id (λ fine. sem_give id))
 
   pub keeps-delete_row : (id : ℕ) → KeepsRow board (delete_row k o id)
-  keeps-delete_row id =
-      elim (is_mutex o id) as (λ b. is_mutex o id ≡ b → KeepsRow board (cond b (by_mutexes o (mutex.delete m id) (Answer 0)) (plain_delete_unless (plain.delete_refusal s id) k o id))) [
-        | true ↦ λ b. mutex_delete_keeps id b
-        | false ↦ λ b. plain_delete_keeps id
-      ] refl
+  keeps-delete_row id = on_delete k o RowKeeps none id (mutex_delete_keeps id) (λ other fine. sem_delete id)
 
   pub keeps-priority_row : (pri : ℕ) (target : Option ℕ) → KeepsRow board (priority_row k o pri target)
-  keeps-priority_row pri None = kept
-  keeps-priority_row pri (Some id) =
-      elim (leb pri 255) as (λ b. KeepsRow board (cond b (by_mutexes o (mutex.priority_set m id pri) (Answer 0)) (refused k o errors.IllegalPriority))) [
-        | true ↦ by_same (mutex.priority_set m id pri).kern o.mutexes (still-priority_set o m id pri still) refl (calls.setting_priority id pri)
-        | false ↦ kept
-      ]
+  keeps-priority_row pri target = on_priority k o RowKeeps none pri target (λ id.
+      by_same (mutex.priority_set m id pri).kern o.mutexes (still-priority_set o m id pri still) refl (calls.setting_priority id pri))

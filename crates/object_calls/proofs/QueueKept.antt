@@ -43,7 +43,7 @@ use Rattle.kernel_world.specs.declared.actor.Actor.TheVariants.{Task, Interrupt}
 use Rattle.kernel_world.proofs.Apart.{not_some, by_id, none_from}
 use Rattle.kernel_world.proofs.Waiting.{waits-move}
 use Rattle.kernel_world.proofs.ObjectMoves.{objects-move}
-use Rattle.object_calls.proofs.MutexTables.{all-ids, lives-ids, ids-write}
+use Rattle.object_calls.proofs.MutexTables.{all-ids, lives-ids, ids-write, waits_live}
 
 -- the objects with other queues
 abbrev pub with_queues : Objects → QueuesState → Objects
@@ -64,18 +64,9 @@ grows false false true false d false more h = absurd (cc)
 
 -- each queue that lived lives among these
 waits_among : {board : BoardKind} (k : KernState) (o : Objects) (qs : QueuesState) → ((n : ℕ) → is_some (object_of o.queues.queues n) ≡ true → is_some (object_of qs.queues n) ≡ true) → KeepsWaits board k o → KeepsWaits board k (with_queues o qs)
-waits_among k o qs more kept = record {
-  semaphores = kept.semaphores;
-  deleters = kept.deleters;
-  live = All-weaker (λ t. IfSome t.wait (λ p. is_live o p ≡ true)) (λ t. IfSome t.wait (λ p. is_live (with_queues o qs) p ≡ true)) (λ t. each t.wait) k.tasks kept.live;
-  right = kept.right;
-}
-  where
-    each : (w : Option Place) → IfSome w (λ p. is_live o p ≡ true) → IfSome w (λ p. is_live (with_queues o qs) p ≡ true)
-    each None h = tt
-    each (Some p) h =
-        grows (eqb p.side 0 && is_some (object_of o.semaphores p.id)) (eqb p.side 0 && is_some (object_of o.mutexes.rows p.id)) (is_queue_side p.side)
-        (is_some (object_of o.queues.queues p.id)) (is_some (object_of qs.queues p.id)) (eqb p.side 2 || eqb p.side 3) (more p.id) h
+waits_among k o qs more kept = waits_live k o (with_queues o qs) kept.semaphores (λ p h.
+    grows (eqb p.side 0 && is_some (object_of o.semaphores p.id)) (eqb p.side 0 && is_some (object_of o.mutexes.rows p.id)) (is_queue_side p.side)
+    (is_some (object_of o.queues.queues p.id)) (is_some (object_of qs.queues p.id)) (eqb p.side 2 || eqb p.side 3) (more p.id) h) kept
 
 shrinks : (a m b c q e : Bool) (x : Option QueueState) → (b && q) ≡ false → (c && q) ≡ false → (a || (m || (((b || c) && is_some x) || e))) ≡ true → (a || (m || (((b || c) && is_some (cond q None x)) || e))) ≡ true
 shrinks true m b c q e x first second h = refl

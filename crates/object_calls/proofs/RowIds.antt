@@ -1,15 +1,12 @@
 -- Which ids the objects have after each row of the calls on them, and who owns the mutexes.
-use Rattle.std.proofs.Common.{◌≡◌, ℕ, ◌+◌, ◌-◌, true, false, not, cond, eqb, leb, ltb, List, [], ◌∷◌, ◌++◌, length, Option, None, Some, IsSome, is_some, refl, sym, ap, ◌∙◌, subst, arith}
+use Rattle.std.proofs.Common.{◌≡◌, ℕ, ◌+◌, ◌-◌, true, false, cond, eqb, ltb, List, [], ◌∷◌, ◌++◌, length, Option, None, Some, IsSome, refl, sym, ap, ◌∙◌, subst, arith}
 use Rattle.std.specs.List.{All}
 use Rattle.std.specs.Option.{option_map}
-use Rattle.std.proofs.lemmas.List.Elements.{All-push, All-filter, All-contains}
-use Rattle.wind_base.specs.SemBits.{read_options}
+use Rattle.std.proofs.lemmas.List.Elements.{All-contains}
 use Rattle.wind_base.specs.declared.errno.Errno.{Errno}
-use Rattle.wind_base.specs.declared.errno.Errno.TheVariants as errors
 use Rattle.wind_base.specs.declared.semaphore.SemKind.TheVariants as kinds
-use Rattle.wind_base.specs.declared.semaphore.SemOptions.{SemOptions}
 use Rattle.id_table.specs.Rows.{object_of, with_object, without, ids}
-use Rattle.id_table.proofs.Lookups.{All-write, found_has}
+use Rattle.id_table.proofs.Lookups.{found_has}
 use Rattle.task_block.specs.declared.task.Task.{Task as TaskRecord}
 use Rattle.wind_lists.proofs.Records.{found_id, found_at}
 use Rattle.wind_core.specs.State.{KernState, IsKern, Lives, task_id, task_of}
@@ -32,10 +29,10 @@ use Rattle.kernel_world.specs.LiveIds.{waited_ids}
 use Rattle.kernel_world.specs.declared.objects.Objects.{Objects}
 use Rattle.kernel_world.specs.declared.actor.Actor.{Actor}
 use Rattle.kernel_world.specs.declared.actor.Actor.TheVariants.{Task, Interrupt}
-use Rattle.kernel_world.specs.declared.reply.Reply.TheVariants.{Answer}
-use Rattle.kernel_world.specs.Actors.{Acts}
 use Rattle.kernel_world.proofs.LiveIds.{Fewer, Given, fewer_same, fewer_before, fewer_after, fewer_without, ids_write, given_before, given_after, given_none, given_push}
-use Rattle.object_calls.specs.SemRows.{ObjectRow, refused, live_in, by_mutexes, sems, mutexes, is_mutex, of_task, made_unless, made, binary_with, binary_row, counting_with, counting_row, mutex_unless, mutex_with, mutex_row, plain_take_unless, plain_take, mutex_take_unless, mutex_take, take_row, plain_give_unless, plain_give, mutex_give_unless, mutex_give, give_row, flush_unless, flush_row, plain_delete_unless, delete_row, priority_row}
+use Rattle.object_calls.specs.SemRows.{ObjectRow, refused, live_in, sems, mutexes, made, binary_row, counting_row, mutex_row, take_row, give_row, flush_row, delete_row, priority_row}
+use Rattle.object_calls.proofs.RowWalks.{on_made, on_binary, on_counting, on_mutex, on_plain_take, on_mutex_take, on_take, on_plain_give, on_mutex_give, on_give, on_flush, on_delete, on_priority}
+use Rattle.object_calls.proofs.EachMutex.{MayChange}
 use Rattle.object_calls.specs.QueueRows as queue_rows
 
 -- ---- one kind of the objects
@@ -74,48 +71,33 @@ module _ (k : KernState) (o : Objects) where
   abbrev pub Comes : ObjectRow → Type 0
   Comes r = Given k.next_id r.kern.next_id (waited_ids o) (waited_ids r.objects) × (r.objects.mutexes.profile ≡ o.mutexes.profile)
 
-  still : Comes (refused k o errors.ObjIdError)
-  still = (given_none k.next_id k.next_id (waited_ids o) (omega arith), refl)
+  still : (e : Errno) → Comes (refused k o e)
+  still e = (given_none k.next_id k.next_id (waited_ids o) (omega arith), refl)
 
   made_comes : (v : Semaphore) → Comes (made k o v)
-  made_comes v = go (plain.create_refusal (sems k o)) where
-    go : (r : Option Errno) → Comes (made_unless r k o v)
-    go (Some e) = still
-    go None = (given_after k.next_id (k.next_id + 1) (ids o.mutexes.rows ++ ids o.queues.queues) (ids o.semaphores) (ids (o.semaphores ++ (k.next_id, v) ∷ [])) (given_push o.semaphores k.next_id v), refl)
-
-  binary_with_comes : (state : ℕ) (options : Option SemOptions) → Comes (binary_with k o state options)
-  binary_with_comes state None = still
-  binary_with_comes state (Some options) =
-      elim (leb state 1) as (λ b. Comes (cond b (made k o (plain.new_semaphore kinds.Binary options state)) (refused k o errors.InvalidState))) [
-        | true ↦ made_comes (plain.new_semaphore kinds.Binary options state)
-        | false ↦ still
-      ]
+  made_comes v = on_made k o Comes still v (λ fine.
+      (given_after k.next_id (k.next_id + 1) (ids o.mutexes.rows ++ ids o.queues.queues) (ids o.semaphores) (ids (o.semaphores ++ (k.next_id, v) ∷ [])) (given_push o.semaphores k.next_id v), refl))
 
   pub binary_comes : (options state : ℕ) → Comes (binary_row k o options state)
-  binary_comes options state = binary_with_comes state (read_options options kinds.Binary)
-
-  counting_with_comes : (count : ℕ) (options : Option SemOptions) → Comes (counting_with k o count options)
-  counting_with_comes count None = still
-  counting_with_comes count (Some options) = made_comes (plain.new_semaphore kinds.Counting options count)
+  binary_comes options state = on_binary k o Comes still options state (λ v low. made_comes (plain.new_semaphore kinds.Binary v state))
 
   pub counting_comes : (options count : ℕ) → Comes (counting_row k o options count)
-  counting_comes options count = counting_with_comes count (read_options options kinds.Counting)
-
-  mutex_unless_comes : (options : SemOptions) (r : Option Errno) → Comes (mutex_unless r k o options)
-  mutex_unless_comes options (Some e) = still
-  mutex_unless_comes options None =
-      let new : List (ℕ × Mutex) = o.mutexes.rows ++ (k.next_id, making.new_mutex options) ∷ [] in (
-        given_before k.next_id (k.next_id + 1) (ids o.semaphores) (ids o.mutexes.rows ++ ids o.queues.queues) (ids new ++ ids o.queues.queues)
-            (given_after k.next_id (k.next_id + 1) (ids o.queues.queues) (ids o.mutexes.rows) (ids new) (given_push o.mutexes.rows k.next_id (making.new_mutex options))),
-        refl,
-      )
-
-  mutex_with_comes : (options : Option SemOptions) → Comes (mutex_with k o options)
-  mutex_with_comes None = still
-  mutex_with_comes (Some options) = mutex_unless_comes options (making.create_refusal (mutexes k o))
+  counting_comes options count = on_counting k o Comes still options count (λ v. made_comes (plain.new_semaphore kinds.Counting v count))
 
   pub mutex_comes : (options : ℕ) → Comes (mutex_row k o options)
-  mutex_comes options = mutex_with_comes (read_options options kinds.Mutex)
+  mutex_comes options = on_mutex k o Comes still options (λ v fine.
+      let new : List (ℕ × Mutex) = o.mutexes.rows ++ (k.next_id, making.new_mutex v) ∷ [] in (
+        given_before k.next_id (k.next_id + 1) (ids o.semaphores) (ids o.mutexes.rows ++ ids o.queues.queues) (ids new ++ ids o.queues.queues)
+            (given_after k.next_id (k.next_id + 1) (ids o.queues.queues) (ids o.mutexes.rows) (ids new) (given_push o.mutexes.rows k.next_id (making.new_mutex v))),
+        refl,
+      ))
+
+  -- ---- no other row adds one
+  abbrev Stays : ObjectRow → Type 0
+  Stays r = NoneComes o r.objects
+
+  none : (e : Errno) → Stays (refused k o e)
+  none e = none_comes o
 
   -- ---- semTake
   plain_taken : (who id m : ℕ) (v : Option Semaphore) → NoneComes o (record o { semaphores = (plain.take_found (sems k o) who id m v).semaphores })
@@ -125,10 +107,6 @@ module _ (k : KernState) (o : Objects) where
         | true ↦ none_comes o
         | false ↦ semaphore_written o id (plain.emptied v)
       ]
-
-  plain_take_stays : (who id m : ℕ) (r : Option Errno) → NoneComes o (plain_take_unless r k o who id m).objects
-  plain_take_stays who id m (Some e) = none_comes o
-  plain_take_stays who id m None = plain_taken who id m (plain.live (sems k o) id)
 
   taken_stays : (who id m : ℕ) (v : Mutex) (owner : Option ℕ) → NoneComes o (record o { mutexes = live_in (mutex.taken (mutexes k o) who id m v owner) })
   taken_stays who id m v None = mutex_written o id (mutex.owned who v)
@@ -142,17 +120,11 @@ module _ (k : KernState) (o : Objects) where
   take_alone_stays who id m None = none_comes o
   take_alone_stays who id m (Some v) = taken_stays who id m v v.owner
 
-  mutex_take_stays : (who id m : ℕ) (r : Option Errno) → NoneComes o (mutex_take_unless r k o who id m).objects
-  mutex_take_stays who id m (Some e) = none_comes o
-  mutex_take_stays who id m None = take_alone_stays who id m (object_of o.mutexes.rows id)
-
   pub take_stays : (a : Actor) (id m : ℕ) → NoneComes o (take_row k o a id m).objects
-  take_stays (Task who) id m =
-      elim (is_some (object_of o.mutexes.rows id)) as (λ b. NoneComes o (cond b (mutex_take k o who id m) (plain_take k o who id m)).objects) [
-        | true ↦ mutex_take_stays who id m (mutex.take_refusal who m (object_of o.mutexes.rows id))
-        | false ↦ plain_take_stays who id m (plain.take_refusal (sems k o) id m)
-      ]
-  take_stays Interrupt id m = none_comes o
+  take_stays a id m =
+      on_take k o Stays none a id m
+      (λ who is there. on_mutex_take k o Stays none who id m (λ fine. take_alone_stays who id m (object_of o.mutexes.rows id)))
+      (λ who other. on_plain_take k o Stays none who id m (λ fine. plain_taken who id m (plain.live (sems k o) id)))
 
   -- ---- semGive
   plain_handed : (id : ℕ) (v : Semaphore) (t : Option TaskRecord) → NoneComes o (record o { semaphores = (plain.handed (sems k o) id v t).semaphores })
@@ -162,10 +134,6 @@ module _ (k : KernState) (o : Objects) where
   plain_given : (id : ℕ) (v : Option Semaphore) → NoneComes o (record o { semaphores = (plain.give_found (sems k o) id v).semaphores })
   plain_given id None = none_comes o
   plain_given id (Some v) = plain_handed id v (plain.next_of (sems k o) id)
-
-  plain_give_stays : (id : ℕ) (r : Option Errno) → NoneComes o (plain_give_unless r k o id).objects
-  plain_give_stays id (Some e) = none_comes o
-  plain_give_stays id None = plain_given id (plain.live (sems k o) id)
 
   passed_stays : (id : ℕ) (v : Mutex) (next : Option TaskRecord) → NoneComes o (record o { mutexes = live_in (mutex.pass_on (mutexes k o) id v next) })
   passed_stays id v None = mutex_written o id (mutex.freed v)
@@ -179,36 +147,15 @@ module _ (k : KernState) (o : Objects) where
         | false ↦ passed_stays id v (first_waiter k.tasks (mutex_place id))
       ]
 
-  mutex_give_stays : (who id : ℕ) (r : Option Errno) → NoneComes o (mutex_give_unless r k o who id).objects
-  mutex_give_stays who id (Some e) = none_comes o
-  mutex_give_stays who id None = give_alone_stays who id (object_of o.mutexes.rows id)
-
-  owner_gives : (id : ℕ) (a : Actor) → NoneComes o (of_task k o a (λ who. mutex_give k o who id)).objects
-  owner_gives id (Task who) = mutex_give_stays who id (mutex.give_refusal who (object_of o.mutexes.rows id))
-  owner_gives id Interrupt = none_comes o
-
   pub give_stays : (a : Actor) (id : ℕ) → NoneComes o (give_row k o a id).objects
   give_stays a id =
-      elim (is_some (object_of o.mutexes.rows id)) as (λ b. NoneComes o (cond b (of_task k o a (λ who. mutex_give k o who id)) (plain_give k o id)).objects) [
-        | true ↦ owner_gives id a
-        | false ↦ plain_give_stays id (plain.give_refusal (sems k o) id)
-      ]
+      on_give k o Stays none a id
+      (λ who is there. on_mutex_give k o Stays none who id (λ fine. give_alone_stays who id (object_of o.mutexes.rows id)))
+      (λ other. on_plain_give k o Stays none id (λ fine. plain_given id (plain.live (sems k o) id)))
 
-  -- ---- semFlush and semDelete
-  flush_unless_stays : (id : ℕ) (r : Option Errno) → NoneComes o (flush_unless r k o id).objects
-  flush_unless_stays id (Some e) = none_comes o
-  flush_unless_stays id None = none_comes o
-
+  -- ---- semFlush, semDelete and taskPrioritySet
   pub flush_stays : (id : ℕ) → NoneComes o (flush_row k o id).objects
-  flush_stays id =
-      elim (is_some (object_of o.mutexes.rows id)) as (λ b. NoneComes o (cond b (refused k o errors.InvalidOperation) (flush_unless (plain.flush_refusal (sems k o) id) k o id)).objects) [
-        | true ↦ none_comes o
-        | false ↦ flush_unless_stays id (plain.flush_refusal (sems k o) id)
-      ]
-
-  plain_delete_stays : (id : ℕ) (r : Option Errno) → NoneComes o (plain_delete_unless r k o id).objects
-  plain_delete_stays id (Some e) = none_comes o
-  plain_delete_stays id None = by_semaphores o (without o.semaphores id) (fewer_without o.semaphores id)
+  flush_stays id = on_flush k o Stays none id (λ other fine. none_comes o)
 
   delete_alone_stays : (id : ℕ) (v : Option Mutex) → NoneComes o (record o { mutexes = live_in (mutex.delete_alone (mutexes k o) id v) })
   delete_alone_stays id None = none_comes o
@@ -216,19 +163,12 @@ module _ (k : KernState) (o : Objects) where
 
   pub delete_stays : (id : ℕ) → NoneComes o (delete_row k o id).objects
   delete_stays id =
-      elim (is_some (object_of o.mutexes.rows id)) as (λ b. NoneComes o (cond b (by_mutexes o (mutex.delete (mutexes k o) id) (Answer 0)) (plain_delete_unless (plain.delete_refusal (sems k o) id) k o id)).objects) [
-        | true ↦ delete_alone_stays id (object_of o.mutexes.rows id)
-        | false ↦ plain_delete_stays id (plain.delete_refusal (sems k o) id)
-      ]
+      on_delete k o Stays none id
+      (λ there. delete_alone_stays id (object_of o.mutexes.rows id))
+      (λ other fine. by_semaphores o (without o.semaphores id) (fewer_without o.semaphores id))
 
-  -- ---- taskPrioritySet
   pub priority_stays : (pri : ℕ) (who : Option ℕ) → NoneComes o (priority_row k o pri who).objects
-  priority_stays pri None = none_comes o
-  priority_stays pri (Some who) =
-      elim (leb pri 255) as (λ b. NoneComes o (cond b (by_mutexes o (mutex.priority_set (mutexes k o) who pri) (Answer 0)) (refused k o errors.IllegalPriority)).objects) [
-        | true ↦ none_comes o
-        | false ↦ none_comes o
-      ]
+  priority_stays pri who = on_priority k o Stays none pri who (λ id. none_comes o)
 
 -- ---- the ids after a row of queues
 module _ (s : Scene) where
@@ -293,10 +233,6 @@ queues_given o qs next after given =
 -- ---- owners
 -- what holds for every live task, for every owner, and if there is no owner
 module _ (k : KernState) (o : Objects) (is : IsKern k) (Q : Option ℕ → Type 0) (none : Q None) (tasks : All (λ t. Q (Some t.id)) k.tasks) (owners : All (λ r. Q r.1.owner) o.mutexes.rows) where
-  -- it holds of each owner
-  abbrev Owned : List (ℕ × Mutex) → Type 0
-  Owned ms = All (λ r. Q r.1.owner) ms
-
   live_owner : (who : ℕ) → Lives k who → Q (Some who)
   live_owner who live =
       elim (task_of k.tasks who) as (λ q. task_of k.tasks who ≡ q → IsSome q → Q (Some who)) [
@@ -304,141 +240,14 @@ module _ (k : KernState) (o : Objects) (is : IsKern k) (Q : Option ℕ → Type 
         | Some t ↦ λ e h. subst (λ n. Q (Some n)) (found_id task_id k.tasks who t e) (All-contains (λ (u : TaskRecord). Q (Some u.id)) k.tasks t tasks (found_at task_id k.tasks who t e))
       ] refl live
 
-  -- one mutex is written
-  written : (id : ℕ) (v : Mutex) → Q v.owner → Owned (with_object o.mutexes.rows id v)
-  written id v own = All-write (λ (r : ℕ × Mutex). Q r.1.owner) o.mutexes.rows id v owners (λ r h. own)
-
-  new_mutex : (options : SemOptions) (r : Option Errno) → Owned (mutex_unless r k o options).objects.mutexes.rows
-  new_mutex options (Some e) = owners
-  new_mutex options None = All-push (λ (r : ℕ × Mutex). Q r.1.owner) o.mutexes.rows (k.next_id, making.new_mutex options) owners none
-
-  mutex_with_owned : (options : Option SemOptions) → Owned (mutex_with k o options).objects.mutexes.rows
-  mutex_with_owned None = owners
-  mutex_with_owned (Some options) = new_mutex options (making.create_refusal (mutexes k o))
-
-  pub mutex_owned : (options : ℕ) → Owned (mutex_row k o options).objects.mutexes.rows
-  mutex_owned options = mutex_with_owned (read_options options kinds.Mutex)
-
-  made_owned : (v : Semaphore) → Owned (made k o v).objects.mutexes.rows
-  made_owned v = go (plain.create_refusal (sems k o)) where
-    go : (r : Option Errno) → Owned (made_unless r k o v).objects.mutexes.rows
-    go (Some e) = owners
-    go None = owners
-
-  binary_with_owned : (state : ℕ) (options : Option SemOptions) → Owned (binary_with k o state options).objects.mutexes.rows
-  binary_with_owned state None = owners
-  binary_with_owned state (Some options) =
-      elim (leb state 1) as (λ b. Owned (cond b (made k o (plain.new_semaphore kinds.Binary options state)) (refused k o errors.InvalidState)).objects.mutexes.rows) [
-        | true ↦ made_owned (plain.new_semaphore kinds.Binary options state)
-        | false ↦ owners
-      ]
-
-  pub binary_owned : (options state : ℕ) → Owned (binary_row k o options state).objects.mutexes.rows
-  binary_owned options state = binary_with_owned state (read_options options kinds.Binary)
-
-  counting_with_owned : (count : ℕ) (options : Option SemOptions) → Owned (counting_with k o count options).objects.mutexes.rows
-  counting_with_owned count None = owners
-  counting_with_owned count (Some options) = made_owned (plain.new_semaphore kinds.Counting options count)
-
-  pub counting_owned : (options count : ℕ) → Owned (counting_row k o options count).objects.mutexes.rows
-  counting_owned options count = counting_with_owned count (read_options options kinds.Counting)
-
-  -- ---- semTake: the caller may become an owner
-  taken_owned : (who id m : ℕ) (v : Mutex) → Lives k who → object_of o.mutexes.rows id ≡ Some v → (owner : Option ℕ) → Owned (mutex.taken (mutexes k o) who id m v owner).mutexes
-  taken_owned who id m v live found None = written id (mutex.owned who v) (live_owner who live)
-  taken_owned who id m v live found (Some x) =
-      elim (eqb x who) as (λ b. Owned (cond b (mutex.deepen (mutexes k o) who id v) (mutex.await (mutexes k o) who id m v)).mutexes) [
-        | true ↦ written id (record v { depth = v.depth + 1 }) (found_has (λ (u : Mutex). Q u.owner) o.mutexes.rows id v owners found)
-        | false ↦ owners
-      ]
-
-  take_alone_owned : (who id m : ℕ) → Lives k who → Owned (mutex.take_alone (mutexes k o) who id m (object_of o.mutexes.rows id)).mutexes
-  take_alone_owned who id m live = go (object_of o.mutexes.rows id) refl where
-    go : (v : Option Mutex) → object_of o.mutexes.rows id ≡ v → Owned (mutex.take_alone (mutexes k o) who id m v).mutexes
-    go None found = owners
-    go (Some v) found = taken_owned who id m v live found v.owner
-
-  mutex_take_owned : (who id m : ℕ) (r : Option Errno) → Lives k who → Owned (mutex_take_unless r k o who id m).objects.mutexes.rows
-  mutex_take_owned who id m (Some e) live = owners
-  mutex_take_owned who id m None live = take_alone_owned who id m live
-
-  plain_take_owned : (who id m : ℕ) (r : Option Errno) → Owned (plain_take_unless r k o who id m).objects.mutexes.rows
-  plain_take_owned who id m (Some e) = owners
-  plain_take_owned who id m None = owners
-
-  pub take_owned : (a : Actor) (id m : ℕ) → (is_mutex o id ≡ true → Acts k a) → Owned (take_row k o a id m).objects.mutexes.rows
-  take_owned (Task who) id m live =
-      elim (is_some (object_of o.mutexes.rows id)) as (λ b. is_some (object_of o.mutexes.rows id) ≡ b → Owned (cond b (mutex_take k o who id m) (plain_take k o who id m)).objects.mutexes.rows) [
-        | true ↦ λ e. mutex_take_owned who id m (mutex.take_refusal who m (object_of o.mutexes.rows id)) (live e)
-        | false ↦ λ e. plain_take_owned who id m (plain.take_refusal (sems k o) id m)
-      ] refl
-  take_owned Interrupt id m live = owners
-
-  -- ---- semGive: the first waiter may become an owner
-  passed_owned : (id : ℕ) (v : Mutex) (next : Option TaskRecord) → first_waiter k.tasks (mutex_place id) ≡ next → Owned (mutex.pass_on (mutexes k o) id v next).mutexes
-  passed_owned id v None first = written id (mutex.freed v) none
-  passed_owned id v (Some t) first = written id (mutex.owned t.id v) (live_owner t.id (next_lives k id t.id is (sym (ap (option_map task_id) first))))
-
-  give_alone_owned : (who id : ℕ) → Owned (mutex.give_alone (mutexes k o) who id (object_of o.mutexes.rows id)).mutexes
-  give_alone_owned who id = go (object_of o.mutexes.rows id) refl where
-    go : (v : Option Mutex) → object_of o.mutexes.rows id ≡ v → Owned (mutex.give_alone (mutexes k o) who id v).mutexes
-    go None found = owners
-    go (Some v) found =
-        elim (ltb 1 v.depth) as (λ b. Owned (cond b (mutex.shallow (mutexes k o) who id v) (mutex.give_up (mutexes k o) who id v)).mutexes) [
-          | true ↦ written id (record v { depth = v.depth - 1 }) (found_has (λ (u : Mutex). Q u.owner) o.mutexes.rows id v owners found)
-          | false ↦ passed_owned id v (first_waiter k.tasks (mutex_place id)) refl
-        ]
-
-  mutex_give_owned : (who id : ℕ) (r : Option Errno) → Owned (mutex_give_unless r k o who id).objects.mutexes.rows
-  mutex_give_owned who id (Some e) = owners
-  mutex_give_owned who id None = give_alone_owned who id
-
-  owner_gives_owned : (id : ℕ) (a : Actor) → Owned (of_task k o a (λ who. mutex_give k o who id)).objects.mutexes.rows
-  owner_gives_owned id (Task who) = mutex_give_owned who id (mutex.give_refusal who (object_of o.mutexes.rows id))
-  owner_gives_owned id Interrupt = owners
-
-  plain_give_owned : (id : ℕ) (r : Option Errno) → Owned (plain_give_unless r k o id).objects.mutexes.rows
-  plain_give_owned id (Some e) = owners
-  plain_give_owned id None = owners
-
-  pub give_owned : (a : Actor) (id : ℕ) → Owned (give_row k o a id).objects.mutexes.rows
-  give_owned a id =
-      elim (is_some (object_of o.mutexes.rows id)) as (λ b. Owned (cond b (of_task k o a (λ who. mutex_give k o who id)) (plain_give k o id)).objects.mutexes.rows) [
-        | true ↦ owner_gives_owned id a
-        | false ↦ plain_give_owned id (plain.give_refusal (sems k o) id)
-      ]
-
-  -- ---- semFlush, semDelete and taskPrioritySet
-  flush_unless_owned : (id : ℕ) (r : Option Errno) → Owned (flush_unless r k o id).objects.mutexes.rows
-  flush_unless_owned id (Some e) = owners
-  flush_unless_owned id None = owners
-
-  pub flush_owned : (id : ℕ) → Owned (flush_row k o id).objects.mutexes.rows
-  flush_owned id =
-      elim (is_some (object_of o.mutexes.rows id)) as (λ b. Owned (cond b (refused k o errors.InvalidOperation) (flush_unless (plain.flush_refusal (sems k o) id) k o id)).objects.mutexes.rows) [
-        | true ↦ owners
-        | false ↦ flush_unless_owned id (plain.flush_refusal (sems k o) id)
-      ]
-
-  plain_delete_owned : (id : ℕ) (r : Option Errno) → Owned (plain_delete_unless r k o id).objects.mutexes.rows
-  plain_delete_owned id (Some e) = owners
-  plain_delete_owned id None = owners
-
-  delete_alone_owned : (id : ℕ) (v : Option Mutex) → Owned (mutex.delete_alone (mutexes k o) id v).mutexes
-  delete_alone_owned id None = owners
-  delete_alone_owned id (Some v) = All-filter (λ (r : ℕ × Mutex). not (eqb r.0 id)) (λ (r : ℕ × Mutex). Q r.1.owner) o.mutexes.rows owners
-
-  pub delete_owned : (id : ℕ) → Owned (delete_row k o id).objects.mutexes.rows
-  delete_owned id =
-      elim (is_some (object_of o.mutexes.rows id)) as (λ b. Owned (cond b (by_mutexes o (mutex.delete (mutexes k o) id) (Answer 0)) (plain_delete_unless (plain.delete_refusal (sems k o) id) k o id)).objects.mutexes.rows) [
-        | true ↦ delete_alone_owned id (object_of o.mutexes.rows id)
-        | false ↦ plain_delete_owned id (plain.delete_refusal (sems k o) id)
-      ]
-
-  pub priority_owned : (pri : ℕ) (who : Option ℕ) → Owned (priority_row k o pri who).objects.mutexes.rows
-  priority_owned pri None = owners
-  priority_owned pri (Some who) =
-      elim (leb pri 255) as (λ b. Owned (cond b (by_mutexes o (mutex.priority_set (mutexes k o) who pri) (Answer 0)) (refused k o errors.IllegalPriority)).objects.mutexes.rows) [
-        | true ↦ owners
-        | false ↦ owners
-      ]
+  -- a row keeps it of every owner
+  pub owners_may : MayChange k o (Lives k) (λ v. Q v.owner)
+  owners_may = record {
+    all = owners;
+    fresh = λ options. none;
+    taken = λ who v live. live_owner who live;
+    passed = λ id v t first. live_owner t.id (next_lives k id t.id is (sym (ap (option_map task_id) first)));
+    freed = λ v. none;
+    deeper = λ id v found. found_has (λ (u : Mutex). Q u.owner) o.mutexes.rows id v owners found;
+    less = λ id v found. found_has (λ (u : Mutex). Q u.owner) o.mutexes.rows id v owners found;
+  }

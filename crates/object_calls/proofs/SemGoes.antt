@@ -1,11 +1,10 @@
 -- How far the rows of semaphores and mutexes take the kernel's counters.
-use Rattle.std.proofs.Common.{◌≡◌, ℕ, ◌+◌, ◌-◌, ◌<◌, ◌≤◌, true, false, not, ◌&&◌, cond, eqb, leb, ltb, List, length, Option, None, Some, is_some, refl, arith}
+use Rattle.std.proofs.Common.{◌≡◌, ℕ, ◌+◌, ◌-◌, ◌<◌, ◌≤◌, true, false, not, ◌&&◌, cond, eqb, ltb, List, length, Option, None, Some, refl, arith}
 use Rattle.std.proofs.lemmas.Bool.{eqb-false}
-use Rattle.wind_base.specs.SemBits.{is_priority, read_options}
+use Rattle.wind_base.specs.SemBits.{is_priority}
 use Rattle.wind_base.specs.declared.errno.Errno.{Errno}
 use Rattle.wind_base.specs.declared.errno.Errno.TheVariants as errors
 use Rattle.wind_base.specs.declared.semaphore.SemKind.TheVariants as kinds
-use Rattle.wind_base.specs.declared.semaphore.SemOptions.{SemOptions}
 use Rattle.id_table.specs.Rows.{object_of}
 use Rattle.task_block.specs.declared.task.Task.{Task as TaskRecord}
 use Rattle.wind_core.specs.State.{KernState, IsKern, task_of}
@@ -20,13 +19,11 @@ use Rattle.inheritance.specs.declared.mutex.Mutex.{Mutex}
 use Rattle.inheritance.specs.Mutexes.{MutexState, mutex_place}
 use Rattle.inheritance.specs.Reach.{raised_kern}
 use Rattle.sem_mutex.specs.Calls as mutex
-use Rattle.sem_mutex.specs.Making as making
 use Rattle.kernel_world.specs.Kept.{CountsWithin, call_sinces}
-use Rattle.object_calls.specs.SemRows.{refused, by_mutexes, sems, mutexes, of_task, made_unless, made, binary_with, binary_row, counting_with, counting_row, mutex_unless, mutex_with, mutex_row, plain_take_unless, plain_take, mutex_take_unless, mutex_take, take_row, plain_give_unless, plain_give, mutex_give_unless, mutex_give, give_row, flush_unless, flush_row, plain_delete_unless, delete_row, priority_row}
+use Rattle.object_calls.specs.SemRows.{ObjectRow, refused, sems, mutexes, made, binary_row, counting_row, mutex_row, take_row, give_row, flush_row, delete_row, priority_row}
+use Rattle.object_calls.proofs.RowWalks.{on_made, on_binary, on_counting, on_mutex, on_plain_take, on_mutex_take, on_take, on_plain_give, on_mutex_give, on_give, on_flush, on_delete, on_priority}
 use Rattle.kernel_world.specs.declared.objects.Objects.{Objects}
 use Rattle.kernel_world.specs.declared.actor.Actor.{Actor}
-use Rattle.kernel_world.specs.declared.actor.Actor.TheVariants.{Task, Interrupt}
-use Rattle.kernel_world.specs.declared.reply.Reply.TheVariants.{Answer}
 use Rattle.wind_base.specs.declared.profile.Profile.{Profile}
 use Rattle.wind_base.specs.declared.profile.Profile.TheVariants.{One, Two}
 use Rattle.kernel_world.proofs.Goes.{Goes, id_left, drawn, goes-draw, goes_nowhere, goes_on, goes_further, goes-move, goes-raised, goes-make_safe, goes-lessen}
@@ -107,6 +104,12 @@ module _ (k : KernState) (o : Objects) (n : ℕ) (is : IsKern k) (within : Count
   stays : GoesTo k
   stays = within_call k 0 (omega arith) (goes_nowhere k n is within)
 
+  abbrev RowGoes : ObjectRow → Type 0
+  RowGoes r = GoesTo r.kern
+
+  none : (e : Errno) → RowGoes (refused k o e)
+  none e = stays
+
   -- under profile 1 all are raised then
   then_raised : (p : Profile) (j : KernState) (d : ℕ) → d ≤ 768 → Goes k j (n + 1) d → (ms : List (ℕ × Mutex)) → GoesTo (mutex.at_once p j ms)
   then_raised One j d few g ms =
@@ -114,40 +117,20 @@ module _ (k : KernState) (o : Objects) (n : ℕ) (is : IsKern k) (within : Count
       (goes_on k j (raised_kern One j ms) (n + 1) (n + 1) d 256 g (goes-raised j (n + 1) g.kern g.counts One ms))
   then_raised Two j d few g ms = goes_further k j (n + 1) (n + 1) d call_sinces (omega arith) (omega (arith, few)) g
 
-  -- ---- a semaphore is made
+  -- ---- one is made
   made_goes : (v : Semaphore) → GoesTo (made k o v).kern
-  made_goes v = go (plain.create_refusal (sems k o)) refl where
-    go : (r : Option Errno) → plain.create_refusal (sems k o) ≡ r → GoesTo (made_unless r k o v).kern
-    go (Some e) same = stays
-    go None same = within_call (drawn k) 0 (omega arith) (goes-draw k n is within (id_left 1024 (length o.semaphores) k.next_id errors.TooMany errors.IdsSpent same))
-
-  binary_with_goes : (state : ℕ) (options : Option SemOptions) → GoesTo (binary_with k o state options).kern
-  binary_with_goes state None = stays
-  binary_with_goes state (Some options) =
-      elim (leb state 1) as (λ b. GoesTo (cond b (made k o (plain.new_semaphore kinds.Binary options state)) (refused k o errors.InvalidState)).kern) [
-        | true ↦ made_goes (plain.new_semaphore kinds.Binary options state)
-        | false ↦ stays
-      ]
+  made_goes v = on_made k o RowGoes none v (λ fine.
+      within_call (drawn k) 0 (omega arith) (goes-draw k n is within (id_left 1024 (length o.semaphores) k.next_id errors.TooMany errors.IdsSpent fine)))
 
   pub binary_goes : (options state : ℕ) → GoesTo (binary_row k o options state).kern
-  binary_goes options state = binary_with_goes state (read_options options kinds.Binary)
-
-  counting_with_goes : (count : ℕ) (options : Option SemOptions) → GoesTo (counting_with k o count options).kern
-  counting_with_goes count None = stays
-  counting_with_goes count (Some options) = made_goes (plain.new_semaphore kinds.Counting options count)
+  binary_goes options state = on_binary k o RowGoes none options state (λ v low. made_goes (plain.new_semaphore kinds.Binary v state))
 
   pub counting_goes : (options count : ℕ) → GoesTo (counting_row k o options count).kern
-  counting_goes options count = counting_with_goes count (read_options options kinds.Counting)
-
-  mutex_with_goes : (options : Option SemOptions) → GoesTo (mutex_with k o options).kern
-  mutex_with_goes None = stays
-  mutex_with_goes (Some options) = go (making.create_refusal (mutexes k o)) refl where
-    go : (r : Option Errno) → making.create_refusal (mutexes k o) ≡ r → GoesTo (mutex_unless r k o options).kern
-    go (Some e) same = stays
-    go None same = within_call (drawn k) 0 (omega arith) (goes-draw k n is within (id_left 1024 (length o.mutexes.rows) k.next_id errors.TooMany errors.IdsSpent same))
+  counting_goes options count = on_counting k o RowGoes none options count (λ v. made_goes (plain.new_semaphore kinds.Counting v count))
 
   pub mutex_goes : (options : ℕ) → GoesTo (mutex_row k o options).kern
-  mutex_goes options = mutex_with_goes (read_options options kinds.Mutex)
+  mutex_goes options = on_mutex k o RowGoes none options (λ v fine.
+      within_call (drawn k) 0 (omega arith) (goes-draw k n is within (id_left 1024 (length o.mutexes.rows) k.next_id errors.TooMany errors.IdsSpent fine)))
 
   -- ---- semTake
   plain_take_found : (who id m : ℕ) (v : Option Semaphore) → plain.take_refused m v ≡ None → GoesTo (plain.take_found (sems k o) who id m v).kern
@@ -157,12 +140,6 @@ module _ (k : KernState) (o : Objects) (n : ℕ) (is : IsKern k) (within : Count
         | true ↦ λ q. within_call (plain.awaited (sems k o) who id m v).kern 1 (omega arith) (goes-move k n is within (Pend who (sem_place id) (not (is_priority v.options)) m) (above m errors.ObjUnavailable q))
         | false ↦ λ q. stays
       ] fine
-
-  plain_take_goes : (who id m : ℕ) → GoesTo (plain_take k o who id m).kern
-  plain_take_goes who id m = go (plain.take_refusal (sems k o) id m) refl where
-    go : (r : Option Errno) → plain.take_refusal (sems k o) id m ≡ r → GoesTo (plain_take_unless r k o who id m).kern
-    go (Some e) same = stays
-    go None same = plain_take_found who id m (object_of o.semaphores id) same
 
   taken_goes : (who id m : ℕ) (v : Mutex) (owner : Option ℕ) → cond (mutex.is_others who owner && eqb m 0) (Some errors.ObjUnavailable) None ≡ None
       → Goes k (mutex.taken (mutexes k o) who id m v owner).kern (n + 1) 1
@@ -179,18 +156,13 @@ module _ (k : KernState) (o : Objects) (n : ℕ) (is : IsKern k) (within : Count
   mutex_take_alone who id m None fine = goes_further k k n (n + 1) 0 1 (omega arith) (omega arith) (goes_nowhere k n is within)
   mutex_take_alone who id m (Some v) fine = taken_goes who id m v v.owner fine
 
-  mutex_take_goes : (who id m : ℕ) → GoesTo (mutex_take k o who id m).kern
-  mutex_take_goes who id m = go (mutex.take_refusal who m (object_of o.mutexes.rows id)) refl where
-    go : (r : Option Errno) → mutex.take_refusal who m (object_of o.mutexes.rows id) ≡ r → GoesTo (mutex_take_unless r k o who id m).kern
-    go (Some e) same = stays
-    go None same =
-        let alone : MutexState = mutex.take_alone (mutexes k o) who id m (object_of o.mutexes.rows id) in
-        then_raised alone.profile alone.kern 1 (omega arith) (mutex_take_alone who id m (object_of o.mutexes.rows id) same) alone.mutexes
-
   pub take_goes : (a : Actor) (id m : ℕ) → GoesTo (take_row k o a id m).kern
-  take_goes (Task who) id m =
-      elim (is_some (object_of o.mutexes.rows id)) as (λ b. GoesTo (cond b (mutex_take k o who id m) (plain_take k o who id m)).kern) [ true ↦ mutex_take_goes who id m | false ↦ plain_take_goes who id m ]
-  take_goes Interrupt id m = stays
+  take_goes a id m =
+      on_take k o RowGoes none a id m
+      (λ who is there. on_mutex_take k o RowGoes none who id m (λ fine.
+      let alone : MutexState = mutex.take_alone (mutexes k o) who id m (object_of o.mutexes.rows id) in
+      then_raised alone.profile alone.kern 1 (omega arith) (mutex_take_alone who id m (object_of o.mutexes.rows id) fine) alone.mutexes))
+      (λ who other. on_plain_take k o RowGoes none who id m (plain_take_found who id m (object_of o.semaphores id)))
 
   -- ---- semGive
   plain_handed : (id : ℕ) (v : Semaphore) (next : Option TaskRecord) → GoesTo (plain.handed (sems k o) id v next).kern
@@ -200,10 +172,6 @@ module _ (k : KernState) (o : Objects) (n : ℕ) (is : IsKern k) (within : Count
   plain_give_found : (id : ℕ) (v : Option Semaphore) → GoesTo (plain.give_found (sems k o) id v).kern
   plain_give_found id None = stays
   plain_give_found id (Some v) = plain_handed id v (plain.next_of (sems k o) id)
-
-  plain_give_goes : (id : ℕ) (r : Option Errno) → GoesTo (plain_give_unless r k o id).kern
-  plain_give_goes id (Some e) = stays
-  plain_give_goes id None = plain_give_found id (object_of o.semaphores id)
 
   passed_goes : (id : ℕ) (v : Mutex) (next : Option TaskRecord) → Goes k (mutex.pass_on (mutexes k o) id v next).kern (n + 1) 1
   passed_goes id v None = goes_further k k n (n + 1) 0 1 (omega arith) (omega arith) (goes_nowhere k n is within)
@@ -227,41 +195,19 @@ module _ (k : KernState) (o : Objects) (n : ℕ) (is : IsKern k) (within : Count
         | false ↦ given_up who id v
       ]
 
-  mutex_give_goes : (who id : ℕ) (r : Option Errno) → GoesTo (mutex_give_unless r k o who id).kern
-  mutex_give_goes who id (Some e) = stays
-  mutex_give_goes who id None =
-      let alone : MutexState = mutex.give_alone (mutexes k o) who id (object_of o.mutexes.rows id) in
-      then_raised alone.profile alone.kern 258 (omega arith) (mutex_give_alone who id (object_of o.mutexes.rows id)) alone.mutexes
-
-  owner_gives : (id : ℕ) (a : Actor) → GoesTo (of_task k o a (λ who. mutex_give k o who id)).kern
-  owner_gives id (Task who) = mutex_give_goes who id (mutex.give_refusal who (object_of o.mutexes.rows id))
-  owner_gives id Interrupt = stays
-
   pub give_goes : (a : Actor) (id : ℕ) → GoesTo (give_row k o a id).kern
   give_goes a id =
-      elim (is_some (object_of o.mutexes.rows id)) as (λ b. GoesTo (cond b (of_task k o a (λ who. mutex_give k o who id)) (plain_give k o id)).kern) [
-        | true ↦ owner_gives id a
-        | false ↦ plain_give_goes id (plain.give_refusal (sems k o) id)
-      ]
+      on_give k o RowGoes none a id
+      (λ who is there. on_mutex_give k o RowGoes none who id (λ fine.
+      let alone : MutexState = mutex.give_alone (mutexes k o) who id (object_of o.mutexes.rows id) in
+      then_raised alone.profile alone.kern 258 (omega arith) (mutex_give_alone who id (object_of o.mutexes.rows id)) alone.mutexes))
+      (λ other. on_plain_give k o RowGoes none id (λ fine. plain_give_found id (object_of o.semaphores id)))
 
   -- ---- semFlush
-  flush_unless_goes : (id : ℕ) (r : Option Errno) → GoesTo (flush_unless r k o id).kern
-  flush_unless_goes id (Some e) = stays
-  flush_unless_goes id None = within_call (wake_all k (sem_place id) 0 None) 256 (omega arith) (goes-move k n is within (WakeAll (sem_place id) 0 None) tt)
-
   pub flush_goes : (id : ℕ) → GoesTo (flush_row k o id).kern
-  flush_goes id =
-      elim (is_some (object_of o.mutexes.rows id)) as (λ b. GoesTo (cond b (refused k o errors.InvalidOperation) (flush_unless (plain.flush_refusal (sems k o) id) k o id)).kern) [
-        | true ↦ stays
-        | false ↦ flush_unless_goes id (plain.flush_refusal (sems k o) id)
-      ]
+  flush_goes id = on_flush k o RowGoes none id (λ other fine. within_call (wake_all k (sem_place id) 0 None) 256 (omega arith) (goes-move k n is within (WakeAll (sem_place id) 0 None) tt))
 
   -- ---- semDelete
-  plain_delete_goes : (id : ℕ) (r : Option Errno) → GoesTo (plain_delete_unless r k o id).kern
-  plain_delete_goes id (Some e) = stays
-  plain_delete_goes id None =
-      within_call (wake_all k (sem_place id) 4294967295 (Some errors.ObjDeleted)) 256 (omega arith) (goes-move k n is within (WakeAll (sem_place id) 4294967295 (Some errors.ObjDeleted)) tt)
-
   mutex_delete_alone : (id : ℕ) (v : Option Mutex) → Goes k (mutex.delete_alone (mutexes k o) id v).kern (n + 1) 513
   mutex_delete_alone id None = goes_further k k n (n + 1) 0 513 (omega arith) (omega arith) (goes_nowhere k n is within)
   mutex_delete_alone id (Some v) =
@@ -280,10 +226,8 @@ module _ (k : KernState) (o : Objects) (n : ℕ) (is : IsKern k) (within : Count
 
   pub delete_goes : (id : ℕ) → GoesTo (delete_row k o id).kern
   delete_goes id =
-      elim (is_some (object_of o.mutexes.rows id)) as (λ b. GoesTo (cond b (by_mutexes o (mutex.delete (mutexes k o) id) (Answer 0)) (plain_delete_unless (plain.delete_refusal (sems k o) id) k o id)).kern) [
-        | true ↦ mutex_delete_goes id
-        | false ↦ plain_delete_goes id (plain.delete_refusal (sems k o) id)
-      ]
+      on_delete k o RowGoes none id (λ there. mutex_delete_goes id) (λ other fine.
+      within_call (wake_all k (sem_place id) 4294967295 (Some errors.ObjDeleted)) 256 (omega arith) (goes-move k n is within (WakeAll (sem_place id) 4294967295 (Some errors.ObjDeleted)) tt))
 
   -- ---- taskPrioritySet
   followed_goes : (p : Profile) (j : KernState) (who now : ℕ) → IsKern j → CountsWithin n j → Goes j (mutex.followed p j who now) n 1
@@ -299,9 +243,5 @@ module _ (k : KernState) (o : Objects) (n : ℕ) (is : IsKern k) (within : Count
       goes_further k last n (n + 1) 1 1 (omega arith) (omega arith) (goes_on k j last n n 0 1 one (followed_goes o.mutexes.profile j who now one.kern one.counts))
 
   pub priority_goes : (pri : ℕ) (who : Option ℕ) → GoesTo (priority_row k o pri who).kern
-  priority_goes pri None = stays
-  priority_goes pri (Some who) =
-      elim (leb pri 255) as (λ b. GoesTo (cond b (by_mutexes o (mutex.priority_set (mutexes k o) who pri) (Answer 0)) (refused k o errors.IllegalPriority)).kern) [
-        | true ↦ then_raised o.mutexes.profile (mutex.priority_alone (mutexes k o) who pri).kern 1 (omega arith) (priority_alone who pri) o.mutexes.rows
-        | false ↦ stays
-      ]
+  priority_goes pri who = on_priority k o RowGoes none pri who (λ id.
+      then_raised o.mutexes.profile (mutex.priority_alone (mutexes k o) id pri).kern 1 (omega arith) (priority_alone id pri) o.mutexes.rows)

@@ -2,9 +2,7 @@
 
 ghost use Rattle.std.specs.Prelude.{◌≡◌, ◌<◌, ◌^◌, ℕ, false, List, IfOk, OnErr};
 ghost use Rattle.id_table.specs.Rows.{object_of, IdsBelow};
-ghost use Rattle.msg_queue.specs.Kept.{IsKept};
-ghost use Rattle.msg_queue.specs.State.{scene};
-ghost use Rattle.msg_queue.specs.Comings.{count_of};
+ghost use Rattle.msg_queue.specs.{Kept.IsKept, State.scene, Comings.count_of};
 ghost use Rattle.kernel_world.specs.Actors.{Acts, MayCall};
 ghost use Rattle.object_calls.specs.QueueRows.{row_of, task_in as task_in_lem, sending, create_row, send_row, receive_row, delete_row, count_reply};
 

@@ -1,17 +1,37 @@
 //! The calls on semaphores and mutexes, and taskPrioritySet.
 
-ghost use Rattle.std.specs.Prelude.{◌≡◌, false};
+ghost use Rattle.std.specs.Prelude.{◌≡◌, true, false};
 ghost use Rattle.id_table.specs.Rows.{IdsBelow};
 ghost use Rattle.wind_core.specs.State.{Lives};
-ghost use Rattle.sem_plain.specs.State.{IsEarly as PlainEarly};
+ghost use Rattle.sem_plain.specs.{State.{IsEarly as PlainEarly, may_hold}, Calls.new_semaphore};
 ghost use Rattle.sem_mutex.specs.Kept.{FewSafe, FewSinces, IsEarly, KeepsMutexes};
 ghost use Rattle.kernel_world.specs.Actors.{Acts, target as target_lem};
-ghost use Rattle.object_calls.specs.SemRows.{row_of, mutexes, binary_row, counting_row, mutex_row, plain_take, mutex_take, take_row, plain_give, mutex_give, give_row, flush_row, delete_row, priority_row};
+ghost use Rattle.object_calls.specs.SemRows.{row_of, mutexes, made, binary_row, counting_row, mutex_row, plain_take, mutex_take, take_row, plain_give, mutex_give, give_row, flush_row, delete_row, priority_row};
 
 use id_table::Ident;
 use kernel_world::{Actor, DONE, Objects, Reply, target};
 use wind_base::{Errno, Pri, SemKind, SemOptions};
 use wind_core::{Kern, Took};
+
+// Makes a semaphore, unless no more may live or no id is left.
+fn make(
+    kern: &mut Kern,
+    objects: &mut Objects,
+    kind: SemKind,
+    options: SemOptions,
+    count: u32,
+) -> Reply
+    requires count { may_hold kind count ≡ true }
+    requires home { kern.old.lent ≡ false }
+    requires below { IdsBelow kern.old.next_id objects.old.semaphores }
+    ensures row { row_of kern.new objects.new result
+        ≡ made kern.old objects.old (new_semaphore kind options count) }
+{
+    match objects.semaphores.create(kern, kind, options, count) {
+        Ok(id) => Reply::Answer(id.get()),
+        Err(errno) => Reply::Refusal(errno),
+    }
+}
 
 /// semBCreate: makes a binary semaphore with these options, in state 0 or 1. Refused if an option
 /// isn't allowed, if the state is another, if no more semaphores may live, or if no id is left.
@@ -26,13 +46,7 @@ pub fn create_binary(kern: &mut Kern, objects: &mut Objects, options: u32, state
     if state > 1 {
         return Reply::Refusal(Errno::InvalidState);
     }
-    match objects
-        .semaphores
-        .create(kern, SemKind::Binary, options, state)
-    {
-        Ok(id) => Reply::Answer(id.get()),
-        Err(errno) => Reply::Refusal(errno),
-    }
+    make(kern, objects, SemKind::Binary, options, state)
 }
 
 /// semCCreate: makes a counting semaphore with these options and this count. Refused if an option
@@ -45,13 +59,7 @@ pub fn create_counting(kern: &mut Kern, objects: &mut Objects, options: u32, cou
     let Some(options) = SemOptions::read(options, SemKind::Counting) else {
         return Reply::Refusal(Errno::InvalidOption);
     };
-    match objects
-        .semaphores
-        .create(kern, SemKind::Counting, options, count)
-    {
-        Ok(id) => Reply::Answer(id.get()),
-        Err(errno) => Reply::Refusal(errno),
-    }
+    make(kern, objects, SemKind::Counting, options, count)
 }
 
 /// semMCreate: makes a mutex with these options. Refused if an option isn't allowed, if no more

@@ -5,50 +5,35 @@ use outside_log::{LoggedFetch, LoggedPut};
 use std::io;
 
 // Prints each fetch, in order.
-fn tell_fetches<R: Print + AllocGlobal>(
-    rt: &R,
-    name: &str,
-    failing: Failing,
-    fetches: &[LoggedFetch],
-) -> io::Result<()> {
+fn tell_fetches<R: Print>(rt: &R, label: &str, fetches: &[LoggedFetch]) -> io::Result<()> {
     for fetch in fetches {
         let file = fetch.name.as_str();
         let limit = fetch.limit;
         let outcome = fetch.outcome;
-        println!(rt; "{name}, {failing}: fetch {file}, at most {limit} bytes: {outcome:?}")?;
+        println!(rt; "{label}: fetch {file}, at most {limit} bytes: {outcome:?}")?;
     }
     Ok(())
 }
 
 // Prints each put, in order.
-fn tell_puts<R: Print + AllocGlobal>(
-    rt: &R,
-    name: &str,
-    failing: Failing,
-    puts: &[LoggedPut],
-) -> io::Result<()> {
+fn tell_puts<R: Print>(rt: &R, label: &str, puts: &[LoggedPut]) -> io::Result<()> {
     for put in puts {
         let piece = str::from_utf8(&put.bytes).unwrap_or("no text");
         let outcome = put.outcome;
-        println!(rt; "{name}, {failing}: put {piece:?}: {outcome:?}")?;
+        println!(rt; "{label}: put {piece:?}: {outcome:?}")?;
     }
     Ok(())
 }
 
 // Prints the calls of a session.
-fn tell_calls<R: Print + AllocGlobal>(
-    rt: &R,
-    name: &str,
-    failing: Failing,
-    logged: &Logged,
-) -> io::Result<()> {
+fn tell_calls<R: Print>(rt: &R, label: &str, logged: &Logged) -> io::Result<()> {
     match logged.folder.fetches() {
-        Some(fetches) => tell_fetches(rt, name, failing, fetches)?,
-        None => println!(rt; "{name}, {failing}: no memory to log the fetches")?,
+        Some(fetches) => tell_fetches(rt, label, fetches)?,
+        None => println!(rt; "{label}: no memory to log the fetches")?,
     }
     match logged.out.puts() {
-        Some(puts) => tell_puts(rt, name, failing, puts),
-        None => println!(rt; "{name}, {failing}: no memory to log the puts"),
+        Some(puts) => tell_puts(rt, label, puts),
+        None => println!(rt; "{label}: no memory to log the puts"),
     }
 }
 
@@ -65,7 +50,9 @@ const FAILING: [Failing; 4] = [
 pub fn calls<R: Print + AllocGlobal>(rt: &R, session: &Session) -> io::Result<()> {
     for failing in FAILING {
         let logged = session.play_logged(rt.alloc(), failing)?;
-        tell_calls(rt, session.name, failing, &logged)?;
+        let name = session.name;
+        let label = format!(in rt.alloc(); "{name}, {failing}")?;
+        tell_calls(rt, &label, &logged)?;
     }
     Ok(())
 }

@@ -13,20 +13,24 @@ fn steps_text(alloc: Global, left: &Left) -> Result<String, AllocError> {
     }
 }
 
-// Prints how a session ended, and all that it wrote.
-fn tell_whole<R: Print + AllocGlobal>(
-    rt: &R,
+// The text for how a session ended.
+fn end_text(
+    alloc: Global,
     session: &Session,
     failing: Failing,
     outcome: &Outcome,
-) -> io::Result<()> {
+) -> Result<String, AllocError> {
     let name = session.name;
-    let steps = steps_text(rt.alloc(), &outcome.left)?;
+    let steps = steps_text(alloc, &outcome.left)?;
     let status = outcome.left.status.number();
-    let bytes = outcome.bytes();
-    let count = bytes.len();
-    let text = str::from_utf8(bytes).unwrap_or("no text");
-    println!(rt; "{name}, {failing}: status {status}, {steps}, {count} bytes: {text:?}")
+    let count = outcome.bytes().len();
+    format!(in alloc; "{name}, {failing}: status {status}, {steps}, {count} bytes")
+}
+
+// Prints how a session ended, and all that it wrote.
+fn tell_whole<R: Print>(rt: &R, end: &str, outcome: &Outcome) -> io::Result<()> {
+    let text = str::from_utf8(outcome.bytes()).unwrap_or("no text");
+    println!(rt; "{end}: {text:?}")
 }
 
 // Plays a session in which one call fails, and prints how it ended and all that it wrote.
@@ -36,7 +40,8 @@ fn whole_row<R: Print + AllocGlobal>(
     failing: Failing,
 ) -> io::Result<()> {
     let outcome = session.play(rt.alloc(), failing, STEPS)?;
-    tell_whole(rt, session, failing, &outcome)
+    let end = end_text(rt.alloc(), session, failing, &outcome)?;
+    tell_whole(rt, &end, &outcome)
 }
 
 /// Plays a session in which nothing fails, and then those in which the first, the second or the
@@ -61,21 +66,6 @@ fn standing(outcome: &Outcome, whole: &Outcome, before: &Outcome) -> &'static st
     "a front of the whole, with all that the steps before the last wrote"
 }
 
-// Prints how a session ended in which a put fails.
-fn tell_put<R: Print + AllocGlobal>(
-    rt: &R,
-    session: &Session,
-    failing: Failing,
-    outcome: &Outcome,
-    verdict: &str,
-) -> io::Result<()> {
-    let name = session.name;
-    let steps = steps_text(rt.alloc(), &outcome.left)?;
-    let status = outcome.left.status.number();
-    let count = outcome.bytes().len();
-    println!(rt; "{name}, {failing}: status {status}, {steps}, {count} bytes: {verdict}")
-}
-
 // Plays a session in which a put fails, and prints how it ended.
 fn put_row<R: Print + AllocGlobal>(
     rt: &R,
@@ -88,28 +78,20 @@ fn put_row<R: Print + AllocGlobal>(
     let earlier = outcome.left.steps.unwrap_or(0).saturating_sub(1);
     let before = session.play(rt.alloc(), Failing::Nothing, earlier)?;
     let verdict = standing(&outcome, whole, &before);
-    tell_put(rt, session, failing, &outcome, verdict)
-}
-
-// Plays the sessions in which the first put fails, the second, and so on.
-fn put_rows<R: Print + AllocGlobal>(
-    rt: &R,
-    session: &Session,
-    most: u64,
-    whole: &Outcome,
-) -> io::Result<()> {
-    tell_whole(rt, session, Failing::Nothing, whole)?;
-    for call in 1..=most {
-        put_row(rt, session, call, whole)?;
-    }
-    put_row(rt, session, most.saturating_add(1), whole)
+    let end = end_text(rt.alloc(), session, failing, &outcome)?;
+    println!(rt; "{end}: {verdict}")
 }
 
 /// Plays a session in which nothing fails, and then those in which the first put fails, the second,
 /// and so on. The last one fails at put `most` + 1, one more than the session makes.
 pub fn puts<R: Print + AllocGlobal>(rt: &R, session: &Session, most: u64) -> io::Result<()> {
     let whole = session.play(rt.alloc(), Failing::Nothing, STEPS)?;
-    put_rows(rt, session, most, &whole)
+    let end = end_text(rt.alloc(), session, Failing::Nothing, &whole)?;
+    tell_whole(rt, &end, &whole)?;
+    for call in 1..=most {
+        put_row(rt, session, call, &whole)?;
+    }
+    put_row(rt, session, most.saturating_add(1), &whole)
 }
 
 // Plays a session of one line, and prints how many pages of RAM are made when it ends.

@@ -11,9 +11,10 @@ use Rattle.ppc_text.specs.Shown.{text_of}
 use Rattle.ppc_text.specs.Laws.{line_with}
 use Rattle.ppc_text.proofs.Again.{parsed}
 use Rattle.ppc_text.proofs.Unbroken.{unbroken}
+use Rattle.text_lines.specs.Lines.{onto_first, pieces}
 use Rattle.asm_lines.specs.declared.error.Cause.{Cause}
 use Rattle.asm_lines.specs.declared.error.Cause.TheVariants.{BadWord, TooLarge}
-use Rattle.asm_lines.specs.Items.{Placed, next, section_at, item_bytes, section_bytes, lines_of, onto_first}
+use Rattle.asm_lines.specs.Items.{Placed, next, section_at, item_bytes, section_bytes}
 use Rattle.asm_lines.specs.Names.{item_names, defined, globals, mentions, first_names, labels, item_fixes, fixes}
 use Rattle.asm_lines.specs.Causes.{is_too_large, item_cause, cause_or, cause_of, or_refused, judged, items}
 use Rattle.ppc_asm.specs.Assembly.{symbols, relocations, module_of, module_or, assembly}
@@ -23,10 +24,10 @@ not_feed : (b : ℕ) → b ≢ 10 → (b == 10) ≡ false
 not_feed b h = grind arith
 
 -- a text without a line feed is one line
-one_line : (bs : List ℕ) → All (λ b. b ≢ 10) bs → lines_of bs ≡ bs ∷ []
+one_line : (bs : List ℕ) → All (λ b. b ≢ 10) bs → pieces bs ≡ bs ∷ []
 one_line [] h = refl
 one_line (b ∷ bs) h =
-    ap (λ t. if t then [] ∷ lines_of bs else onto_first b (lines_of bs)) (not_feed b (All-head (λ b. b ≢ 10) b bs h))
+    ap (λ t. if t then [] ∷ pieces bs else onto_first b (pieces bs)) (not_feed b (All-head (λ b. b ≢ 10) b bs h))
     ∙ ap (onto_first b) (one_line bs (All-tail (λ b. b ≢ 10) b bs h))
 
 abbrev alone : Insn → Placed

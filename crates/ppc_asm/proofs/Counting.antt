@@ -13,6 +13,7 @@ use Rattle.asm_lines.specs.Gather.{gather}
 use Rattle.asm_lines.specs.Items.{Placed, size}
 use Rattle.asm_lines.specs.Names.{has_name, new_name, first_names, defined, globals, mentions, labels, fixes}
 use Rattle.asm_lines.specs.Causes.{longest_section, most_names, is_too_large}
+use Rattle.asm_lines.proofs.Judging.{none_of_five}
 use Rattle.asm_lines.proofs.Steps.{has_name-snoc}
 use Rattle.ppc_asm.specs.Assembly.{label_symbol, undefined_symbol, binding_of, is_chosen, is_undefined, symbols}
 use Rattle.ppc_asm.proofs.Sound.{Sound}
@@ -92,10 +93,6 @@ first_all P before (x ∷ xs) h = go (has_name before x) (first_all P (before ++
   go false a = All-cons P x (gather new_name (before ++ x ∷ []) xs) (All-head P x xs h) a
 
 -- ---- how many
-or_parts : (a b : Bool) → (a || b) ≡ false → (a ≡ false) × (b ≡ false)
-or_parts true b h = cc
-or_parts false b h = (refl, h)
-
 -- the limits of a module
 pub record Small (ps : List Placed) : Type 0 where
   pub text : size 0 ps ≤ longest_section
@@ -106,11 +103,8 @@ pub record Small (ps : List Placed) : Type 0 where
 pub small : (ps : List Placed) → is_too_large ps ≡ false → Small ps
 unfolding is_too_large
 small ps h =
-    let a = or_parts _ _ h in
-    let b = or_parts _ _ a.1 in
-    let c = or_parts _ _ b.1 in
-    let d = or_parts _ _ c.1 in
-    record { text = ltb-false _ _ a.0; data_size = ltb-false _ _ b.0; names = ltb-false _ _ c.0; relocs = ltb-false _ _ d.1 }
+    let (a, b, c, d, e) = none_of_five _ _ _ _ _ h in
+    record { text = ltb-false _ _ a; data_size = ltb-false _ _ b; names = ltb-false _ _ c; relocs = ltb-false _ _ e }
 
 -- there are at most as many definitions as mentioned names that are defined
 few_defined : (ps : List Placed) → Sound ps → length (defined ps) ≤ length (filter (λ q. has_name (defined ps) q) (first_names (mentions ps)))

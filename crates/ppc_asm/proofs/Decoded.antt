@@ -13,9 +13,10 @@ use Rattle.ppc_text.specs.declared.line.Item.{Item}
 use Rattle.ppc_text.specs.declared.line.Item.TheVariants.{Instruction}
 use Rattle.ppc_text.specs.declared.line.Line.{Line}
 use Rattle.ppc_text.specs.Lines.{line_of}
+use Rattle.text_lines.specs.Lines.{pieces}
 use Rattle.asm_lines.specs.declared.error.Cause.{Cause}
 use Rattle.asm_lines.specs.declared.error.Cause.TheVariants.{BadPlace, BadWord}
-use Rattle.asm_lines.specs.Items.{Placed, next, lines_of}
+use Rattle.asm_lines.specs.Items.{Placed, next}
 use Rattle.asm_lines.specs.Causes.{is_bad_place, is_bad_word, item_cause, cause_or, cause_of, or_refused, judged, items}
 use Rattle.ppc_asm.specs.Laws.{Decodes}
 
@@ -67,4 +68,4 @@ decoded_judged ps n (o ∷ ls) qs a e = decoded_line ps n ls qs a o (λ rs s r. 
 
 pub decoded : (text : List ℕ) (ps : List Placed) → items text ≡ Ok ps → All (λ (p : Placed). Decodes p.item) ps
 unfolding items
-decoded text ps e = decoded_judged [] 1 (map line_of (lines_of text)) ps (All-nil (λ (p : Placed). Decodes p.item)) e
+decoded text ps e = decoded_judged [] 1 (map line_of (pieces text)) ps (All-nil (λ (p : Placed). Decodes p.item)) e

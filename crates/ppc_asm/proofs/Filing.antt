@@ -1,6 +1,6 @@
 -- An assembled module has a file.
 use Rattle.std.proofs.Common.{◌≡◌, ◌≢◌, ℕ, zero, suc, ◌+◌, ◌-◌, ◌*◌, ◌≤◌, ◌<◌, ◌^◌, Bool, true, false, not, List, [], ◌∷◌, ◌++◌, length, map, filter, Some, Result, Ok, Err, refl, sym, ◌∙◌, subst, arith, length-append, inl, inr}
-use Rattle.std.specs.Prelude.{◌⊎◌, if◌then◌else◌, ◌==◌, ◌&&◌, nat_le, codes, slice_index_or, unwrap_or, bytes_eq}
+use Rattle.std.specs.Prelude.{◌⊎◌, if◌then◌else◌, ◌==◌, ◌&&◌, nat_le, codes, slice_index_or, unwrap_or, bytes_eq, bit_and}
 use Rattle.std.specs.List.{All, flat_map, list_all}
 use Rattle.std.proofs.lemmas.List.{length-map}
 use Rattle.std.proofs.lemmas.Bool.{and_parts, leb-true, leb-false}
@@ -10,6 +10,8 @@ use Rattle.elf_read.specs.declared.module.Sect.{Sect}
 use Rattle.elf_read.specs.declared.module.Sym.{Sym}
 use Rattle.elf_read.specs.declared.module.Rel.{Rel}
 use Rattle.elf_read.specs.declared.module.Module.{Module}
+use Rattle.wind_base.specs.Limits.{most_section_bytes}
+use Rattle.elf_read.specs.Standard.{shf_alloc, shf_tls_or_compressed}
 use Rattle.elf_read.specs.Tables.{width}
 use Rattle.elf_read.specs.Rules.{is_alignment}
 use Rattle.elf_read.specs.Modules.{IsName as IsFileName, IsSect, IsSym, HoldsBytes, IsRel, IsModule, size_of}
@@ -43,19 +45,23 @@ no_zeros (suc b ∷ bs) h =
 abbrev two : List Placed → List Sect
 two ps = section_of (codes ".text") 6 (section_bytes 0 ps) ∷ section_of (codes ".data") 3 (section_bytes 1 ps) ∷ []
 
-sect_text : (ps : List Placed) → Small ps → IsSect (section_of (codes ".text") 6 (section_bytes 0 ps))
+-- a section whose name has five bytes
+sect_named : (name bytes : List ℕ) (flags : ℕ) → length name ≡ 5 → list_all (λ b. not (b == 0)) name ≡ true → (bit_and flags shf_alloc == 0) ≡ false
+    → (bit_and flags shf_tls_or_compressed == 0) ≡ true → length bytes ≤ most_section_bytes → IsSect (section_of name flags bytes)
 unfolding is_alignment
-sect_text ps a =
-    let n : length (codes ".text") ≡ 5 = refl in
-    let t = a.text in
-    record { name = record { size = omega arith; no_zero = no_zeros (codes ".text") refl }; loaded = refl; plain = refl; align = refl; size = omega arith }
+sect_named name bytes flags five no_zero loaded plain few = record {
+  name = record { size = omega (arith, five); no_zero = no_zeros name no_zero };
+  loaded = loaded;
+  plain = plain;
+  align = refl;
+  size = few;
+}
+
+sect_text : (ps : List Placed) → Small ps → IsSect (section_of (codes ".text") 6 (section_bytes 0 ps))
+sect_text ps a = sect_named (codes ".text") (section_bytes 0 ps) 6 refl refl refl refl (let t = a.text in omega arith)
 
 sect_data : (ps : List Placed) → Small ps → IsSect (section_of (codes ".data") 3 (section_bytes 1 ps))
-unfolding is_alignment
-sect_data ps a =
-    let n : length (codes ".data") ≡ 5 = refl in
-    let t = a.data_size in
-    record { name = record { size = omega arith; no_zero = no_zeros (codes ".data") refl }; loaded = refl; plain = refl; align = refl; size = omega arith }
+sect_data ps a = sect_named (codes ".data") (section_bytes 1 ps) 3 refl refl refl refl (let t = a.data_size in omega arith)
 
 -- ---- symbols
 file_name : (name : List ℕ) → IsName name → IsFileName name

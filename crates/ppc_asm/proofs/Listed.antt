@@ -1,11 +1,11 @@
 -- Lines that are written to a sink, one after another.
-use Rattle.std.proofs.Common.{◌≡◌, ℕ, ◌+◌, ◌-◌, ◌^◌, ◌≤◌, ◌<◌, List, [], ◌∷◌, ◌++◌, Option, Some, None, length, take, drop, refl, ap, sym, subst, ◌∙◌, append_assoc, arith, inl, inr}
+use Rattle.std.proofs.Common.{◌≡◌, ℕ, ◌+◌, ◌-◌, ◌^◌, ◌≤◌, ◌<◌, List, [], ◌∷◌, ◌++◌, Option, Some, None, length, take, drop, get_or, refl, ap, sym, subst, ◌∙◌, append_assoc, arith, inl, inr}
 use Rattle.std.specs.Prelude.{slice_index}
 use Rattle.std.specs.Int.{from_be_bytes, w32}
 use Rattle.std.specs.List.{flat_map}
 use Rattle.std.specs.Option.{option_map}
 use Rattle.std.proofs.lemmas.Bool.{cases_eq}
-use Rattle.std.proofs.lemmas.List.{append-nil, take-append-drop}
+use Rattle.std.proofs.lemmas.List.{append-nil, take_at, take-append-drop}
 use Rattle.wind_outside.specs.Counts.{Rose}
 use Rattle.wind_outside.specs.Appending.{Appended, AppendedPrefix}
 use Rattle.wind_outside.specs.declared.sink.Put.{Put}
@@ -15,6 +15,7 @@ use Rattle.ppc_word.specs.declared.row.Row.{Row}
 use Rattle.ppc_word.specs.Rows.{row_of, fields_of}
 use Rattle.ppc_text.specs.Mnemonics.{named_as}
 use Rattle.ppc_text.specs.Shown.{text_with, text_of}
+use Rattle.asm_lines.proofs.Steps.{flat_more}
 use Rattle.ppc_asm.specs.Listing.{item_text, line_text, lines_from, PutsLines}
 
 -- an instruction's text is that of its word
@@ -44,13 +45,9 @@ appended_none : (old : Option (List ℕ)) → Appended old old []
 appended_none None = refl
 appended_none (Some x) = ap Some (sym (append-nil x))
 
-take_prefix : (prefix rest : List ℕ) → take (length prefix) (prefix ++ rest) ≡ prefix
-take_prefix [] rest = refl
-take_prefix (b ∷ bs) rest = ap (λ bytes. b ∷ bytes) (take_prefix bs rest)
-
 prefix_of : (old new : Option (List ℕ)) (prefix rest text : List ℕ) → prefix ++ rest ≡ text → Appended old new prefix → AppendedPrefix old new text
 prefix_of old new prefix rest text whole gained =
-    (length prefix, subst (Appended old new) (sym (take_prefix prefix rest) ∙ ap (take (length prefix)) whole) gained)
+    (length prefix, subst (Appended old new) (sym (take_at prefix rest (length prefix) refl) ∙ ap (take (length prefix)) whole) gained)
 
 prefix_after : (old mid new : Option (List ℕ)) (a b : List ℕ) → Appended old mid a → AppendedPrefix mid new b → AppendedPrefix old new (a ++ b)
 prefix_after old mid new a b p q =
@@ -113,3 +110,7 @@ flat_both f (x ∷ xs) ys = ap (λ t. f x ++ t) (flat_both f xs ys) ∙ sym (app
 
 pub flat_cut : {A B : Type 0} (f : A → List B) (xs : List A) (n : ℕ) → flat_map f (take n xs) ++ flat_map f (drop n xs) ≡ flat_map f xs
 flat_cut f xs n = sym (flat_both f (take n xs) (drop n xs)) ∙ ap (flat_map f) (take-append-drop n xs)
+
+-- what a list's items give up to one more, where the loop goes over another name of the list
+pub flat_upto : {A B : Type 0} (f : A → List B) (xs ys : List A) (i : ℕ) (x : A) → xs ≡ ys → i < length xs → x ≡ get_or xs i x → flat_map f (take i ys) ++ f x ≡ flat_map f (take (i + 1) ys)
+flat_upto f xs ys i x e lt is = subst (λ zs. flat_map f (take i zs) ++ f x ≡ flat_map f (take (i + 1) zs)) e (flat_more f [] xs i x lt is)

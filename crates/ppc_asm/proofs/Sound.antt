@@ -12,11 +12,12 @@ use Rattle.ppc_text.specs.declared.line.Item.{Item}
 use Rattle.ppc_text.specs.declared.line.Item.TheVariants.{Nothing, Text, Data, Global, Long, Ascii, Space, Align, Instruction}
 use Rattle.ppc_text.specs.declared.line.Line.{Line}
 use Rattle.ppc_text.specs.Lines.{line_of}
+use Rattle.text_lines.specs.Lines.{pieces}
 use Rattle.asm_lines.specs.declared.error.Cause.{Cause}
 use Rattle.asm_lines.specs.declared.error.Cause.TheVariants.{Twice, TooLarge}
 use Rattle.asm_lines.specs.declared.section.Fix.{Fix}
 use Rattle.asm_lines.specs.declared.names.Label.{Label}
-use Rattle.asm_lines.specs.Items.{Placed, section_from, section_at, next, value_bytes, item_bytes, section_bytes, size, lines_of}
+use Rattle.asm_lines.specs.Items.{Placed, section_from, section_at, next, value_bytes, item_bytes, section_bytes, size}
 use Rattle.asm_lines.specs.Names.{value_names, reference_names, item_names, label_names, defined, mentions, first_names, has_name, label_at, line_label, labels, address_kind, reference_offset, fix, value_fixes, reference_fixes, item_fixes, fixes}
 use Rattle.asm_lines.specs.Causes.{is_twice, is_too_large, item_cause, cause_or, cause_of, or_refused, judged, items}
 use Rattle.asm_lines.proofs.Placing.{known_after}
@@ -297,4 +298,4 @@ sound_nil = record {
 -- the lines of each assembled text meet the invariant
 pub sound_items : (text : List ℕ) (ps : List Placed) → items text ≡ Ok ps → Sound ps
 unfolding items
-sound_items text ps e = sound_judged [] 1 (lines_of text) ps sound_nil e
+sound_items text ps e = sound_judged [] 1 (pieces text) ps sound_nil e

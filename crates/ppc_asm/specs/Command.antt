@@ -41,21 +41,20 @@ number_of status.TooLong = 8
 number_of (status.BadObject error) = 10
 
 -- ---- the bytes of a file
--- a file of this text's module is added to the output
-pub record Written (text : List ℕ) (old new : Option (List ℕ)) : Type 0 where
+-- there is a file of the module of this text, and `Added` says how much of it the output has got
+pub record Adds (Added : Option (List ℕ) → Option (List ℕ) → List ℕ → Type 0) (text : List ℕ) (old new : Option (List ℕ)) : Type 0 where
   pub it : Module
   pub file : List ℕ
   pub assembled : assembly text ≡ Ok it
   pub holds : ModuleOf file it
-  pub added : Appended old new file
+  pub added : Added old new file
 
--- a prefix of a file of this text's module is added to the output
-pub record WrittenPrefix (text : List ℕ) (old new : Option (List ℕ)) : Type 0 where
-  pub it : Module
-  pub file : List ℕ
-  pub assembled : assembly text ≡ Ok it
-  pub holds : ModuleOf file it
-  pub added : AppendedPrefix old new file
+-- a file of this text's module is added to the output, or a prefix of one
+abbrev pub Written : List ℕ → Option (List ℕ) → Option (List ℕ) → Type 0
+Written = Adds Appended
+
+abbrev pub WrittenPrefix : List ℕ → Option (List ℕ) → Option (List ℕ) → Type 0
+WrittenPrefix = Adds AppendedPrefix
 
 -- how a call that assembles this text ends; `rose` says that the sink's count of faults rose
 abbrev pub Assembles : Option (List ℕ) → Option (List ℕ) → Type 0 → List ℕ → AsmStatus → Type 0

@@ -154,6 +154,6 @@ pub fn ppcasm<F: Folder, O: Sink, E: Sink>(
     ensures untouched { result ≡ ends.Usage → O.bytes out.new ≡ O.bytes out.old }
 {
     let status = run(alloc, words, folder, out);
-    tell(err, last(words).as_bytes(), status);
+    tell(err, last(words), status);
     status
 }

@@ -12,5 +12,4 @@ mod tests;
 pub use asm_lines::{AsmErr, Cause};
 pub use assembling::{assemble, decoded_law, shown_law};
 pub use command::ppcasm;
-pub use report::tell_no_memory;
 pub use status::AsmStatus;

@@ -516,6 +516,13 @@ no_colon fs (parts.Unsigned place ∷ ps) h = refl
 no_colon fs (parts.Target place reach ∷ ps) h = signed_colon (reach_of reach) (field_at fs place * 4) (flat_map (part_tokens fs) ps)
 no_colon fs (parts.Fixed place value ∷ ps) h = cc
 
+-- the parts of each instruction's operands are parted, and its fields fit them
+pub row_parted : (row : Row) → parted (parts_of (named_as row).shape) ≡ true
+row_parted row = at_row (λ (m : Named). parted (parts_of m.shape)) all_parted row
+
+pub row_fits : (row : Row) (fs : List ℕ) → are_within (limits_of (named_as row)) fs ≡ true → AllFit fs (parts_of (named_as row).shape)
+row_fits row fs w = all_fit (limits_of (named_as row)) fs (parts_of (named_as row).shape) (at_row (λ (m : Named). ranged (limits_of m) (parts_of m.shape)) all_ranged row) w
+
 lexed : (row : Row) (x y : Bool) (fs : List ℕ) (ps : List Part) → parted ps ≡ true → AllFit fs ps
     → tokens_from 0 (spelled x y (named_as row) ++ operands_text fs ps) ≡ mnemonic_token (spelled x y (named_as row)) ∷ flat_map (part_tokens fs) ps
 unfolding operands_text
@@ -539,10 +546,10 @@ instruction_again row fs six w =
     let y = second_bit m.endings fs in
     let ps = parts_of m.shape in
     let ts = flat_map (part_tokens fs) ps in
-    let f : AllFit fs ps = all_fit (limits_of m) fs ps (at_row (λ (m : Named). ranged (limits_of m) (parts_of m.shape)) all_ranged row) w in
+    let f : AllFit fs ps = row_fits row fs w in
     ap (λ (o : Option Spelling). spelled_instruction o ts) (at_each (λ m. spelling_of (spelled x y m)) (λ m. Some (spells m (flags x y))) (named_again x y) row)
     ∙ ap (λ (o : Option Operands). instruction_with (spells m (flags x y)) o)
-    (parts_again fs ps (is_absolute m.endings (flags x y)) (flagged m.endings (flags x y)) (at_row (λ (m : Named). parted (parts_of m.shape)) all_parted row) f)
+    (parts_again fs ps (is_absolute m.endings (flags x y)) (flagged m.endings (flags x y)) (row_parted row) f)
     ∙ ap (λ (gs : List ℕ). Some (record { row = m.row; fields = gs; reference = None })) (fields_filled row fs six ∙ masked_same (limits_of m) fs w)
 
 rows_alike : map (λ (g : Form). g.row) table ≡ map (λ (m : Named). m.row) instructions
@@ -562,8 +569,8 @@ parsed i =
     let ps = parts_of m.shape in
     let ts = flat_map (part_tokens fs) ps in
     let w = fields_within i.row fs i.in_table in
-    let p = at_row (λ (m : Named). parted (parts_of m.shape)) all_parted i.row in
-    let f : AllFit fs ps = all_fit (limits_of m) fs ps (at_row (λ (m : Named). ranged (limits_of m) (parts_of m.shape)) all_ranged i.row) w in
+    let p = row_parted i.row in
+    let f : AllFit fs ps = row_fits i.row fs w in
     ap (λ bs. line_at (tokens_from 0 bs)) (ap (λ e. (m.name ++ e) ++ operands_text fs ps) (ending_letters fs m.endings))
     ∙ ap line_at (lexed i.row x y fs ps p f)
     ∙ unlabelled (mnemonic_token (spelled x y m)) ts (no_colon fs ps p)

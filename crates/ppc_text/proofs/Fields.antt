@@ -6,15 +6,15 @@ use Rattle.std.proofs.lemmas.List.{get_or-map, length-replicate}
 use Rattle.std.proofs.Math.Nat.{mod-eq_of_lt}
 use Rattle.ppc_word.specs.declared.row.Row.{Row}
 use Rattle.ppc_word.specs.Words.{bits, fit, joined, meets, parts, fields, field_places}
-use Rattle.ppc_word.specs.Rules.{allowed, rt_of, ra_of, spr_of, bo2_of}
+use Rattle.ppc_word.specs.Rules.{allowed, spr_of, bo2_of}
 use Rattle.ppc_word.specs.Table.{Form, table, no_form, number, form_of}
 use Rattle.ppc_word.specs.Rows.{word_with, are_fields}
 use Rattle.ppc_word.proofs.Digits.{joined-one, meets-joined, fit-parts, joined-after, joined-parts, joined-lt}
 use Rattle.ppc_word.proofs.Read.{whole-parts}
 use Rattle.ppc_word.proofs.Whole.{length-table, number-below, whole-at}
 use Rattle.ppc_word.proofs.Placed.{at_place, parts-placed, form-test}
-use Rattle.ppc_text.specs.declared.mnemonic.Condition.{Condition}
-use Rattle.ppc_text.specs.declared.mnemonic.Condition.TheVariants.{Any, LoadUpdate, StoreUpdate, LoadMultiple, SpecialRegister, NoCount}
+use Rattle.ppc_word.specs.declared.rule.Rule.{Rule}
+use Rattle.ppc_word.specs.declared.rule.Rule.TheVariants.{Any, LoadUpdate, StoreUpdate, LoadMultiple, SpecialRegister, NoCount}
 use Rattle.ppc_text.specs.Mnemonics.{Named, instructions, no_name, named_as, flagged}
 use Rattle.ppc_text.specs.Operands.{with_value}
 use Rattle.ppc_text.specs.Limits.{limit_of, limits_of, are_within, special_of, holds}
@@ -46,17 +46,8 @@ fit-within row (a ∷ b ∷ c ∷ d ∷ e ∷ f ∷ []) h =
 fit-within row (a ∷ b ∷ c ∷ d ∷ e ∷ f ∷ g ∷ fs) h = absurd (omega arith)
 
 -- ---- conditions
--- a word meets a condition
-unfoldable word_holds : Condition → ℕ → Bool
-word_holds Any w = true
-word_holds LoadUpdate w = not (nat_eq (ra_of w) 0) && not (nat_eq (ra_of w) (rt_of w))
-word_holds StoreUpdate w = not (nat_eq (ra_of w) 0)
-word_holds LoadMultiple w = nat_lt (ra_of w) (rt_of w)
-word_holds SpecialRegister w = nat_eq (spr_of w) 1 || nat_eq (spr_of w) 8 || nat_eq (spr_of w) 9
-word_holds NoCount w = nat_eq (bo2_of w) 1
-
-allowed_alike : (w : ℕ) → map (λ (g : Form). allowed g.rule w) table ≡ map (λ (m : Named). word_holds m.condition w) instructions
-unfolding table instructions word_holds
+allowed_alike : (w : ℕ) → map (λ (g : Form). allowed g.rule w) table ≡ map (λ (m : Named). allowed m.condition w) instructions
+unfolding table instructions
 allowed_alike w = refl
 
 -- a form's first field has 5 bits, and its second the given number
@@ -66,7 +57,7 @@ begins width (p ∷ []) = false
 begins width (p ∷ q ∷ ps) = nat_eq p.0 6 && (nat_eq p.1 5 && (nat_eq q.0 11 && nat_eq q.1 width))
 
 -- the fields that a condition reads stand where the word has them
-unfoldable placed_for : Condition → List (ℕ × ℕ) → Bool
+unfoldable placed_for : Rule → List (ℕ × ℕ) → Bool
 placed_for Any ps = true
 placed_for LoadUpdate ps = begins 5 ps
 placed_for StoreUpdate ps = begins 5 ps
@@ -148,8 +139,8 @@ count_word : (w : ℕ) → w / 2 ^ 21 % 2 ^ 5 / 4 % 2 ≡ bo2_of w
 count_word w = omega arith
 
 -- a word meets a condition exactly if its first two fields do
-holds_word : (c : Condition) (w : ℕ) (ps : List (ℕ × ℕ)) (zs : List ℕ) → placed_for c ps ≡ true → word_holds c w ≡ holds c (map (at_place w) ps ++ zs)
-unfolding word_holds placed_for holds
+holds_word : (c : Rule) (w : ℕ) (ps : List (ℕ × ℕ)) (zs : List ℕ) → placed_for c ps ≡ true → allowed c w ≡ holds c (map (at_place w) ps ++ zs)
+unfolding placed_for holds
 holds_word Any w ps zs h = refl
 holds_word LoadUpdate w ps zs h = let t = first_two 5 w ps zs h in rw (t.0, t.1) refl
 holds_word StoreUpdate w ps zs h = let t = first_two 5 w ps zs h in rw t.1 refl
@@ -170,7 +161,7 @@ fitting row fs six f =
     let h : fit (form_of row).pieces fs ≡ true = fit-within row fs six ∙ f in
     let w = joined (form_of row).pieces fs in
     let e = joined_fields row fs six h in
-    let a : allowed (form_of row).rule w ≡ word_holds (named_as row).condition w = along (λ (g : Form). allowed g.rule w) (λ (m : Named). word_holds m.condition w) (allowed_alike w) row in
+    let a : allowed (form_of row).rule w ≡ allowed (named_as row).condition w = along (λ (g : Form). allowed g.rule w) (λ (m : Named). allowed m.condition w) (allowed_alike w) row in
     let b = holds_word (named_as row).condition w (field_places (form_of row).pieces) (replicate (6 - fields (form_of row).pieces) 0) (row_placed row) in
     let same : holds (named_as row).condition fs ≡ allowed (form_of row).rule w = ap (holds (named_as row).condition) e ∙ sym b ∙ sym a in
     rw (eq-eqb (length fs) 6 six, h) same

@@ -19,7 +19,7 @@ use Rattle.ppc_text.specs.Limits.{limit_of, limits_of, special_of}
 use Rattle.ppc_text.specs.Shapes.{parts_of}
 use Rattle.ppc_text.specs.Shown.{field_at, signed_text, part_text, operands_text, text_of}
 use Rattle.ppc_text.proofs.Widths.{fields_within, at_row}
-use Rattle.ppc_text.proofs.Again.{is_mark, place_of, is_single, parted, FitsPart, AllFit, special_low, letters, first_bit, second_bit, ending_letters, spelled, all_parted, all_ranged, ranged, all_fit}
+use Rattle.ppc_text.proofs.Again.{is_mark, place_of, is_single, parted, FitsPart, AllFit, special_low, letters, first_bit, second_bit, ending_letters, spelled, row_parted, row_fits}
 
 -- no byte is a line feed
 abbrev no_feed : List ℕ → Bool
@@ -95,14 +95,11 @@ all_plain (b ∷ bs) h =
 pub unbroken : (i : Insn) → All (λ b. b ≢ 10) (text_of i)
 unfolding text_of spelled
 unbroken i =
-    let fs = i.fields in
     let m = named_as i.row in
-    let x = first_bit m.endings fs in
-    let y = second_bit m.endings fs in
+    let x = first_bit m.endings i.fields in
+    let y = second_bit m.endings i.fields in
     let ps = parts_of m.shape in
-    let w = fields_within i.row fs i.in_table in
-    let p = at_row (λ (m : Named). parted (parts_of m.shape)) all_parted i.row in
-    let f : AllFit fs ps = all_fit (limits_of m) fs ps (at_row (λ (m : Named). ranged (limits_of m) (parts_of m.shape)) all_ranged i.row) w in
     all_plain (text_of i)
-    (ap (λ e. no_feed ((m.name ++ e) ++ operands_text fs ps)) (ending_letters fs m.endings)
-    ∙ feed_both (spelled x y m) (operands_text fs ps) (at_row (λ (m : Named). no_feed (spelled x y m)) (names_plain x y) i.row) (operands_plain fs ps p f))
+    (ap (λ e. no_feed ((m.name ++ e) ++ operands_text i.fields ps)) (ending_letters i.fields m.endings)
+    ∙ feed_both (spelled x y m) (operands_text i.fields ps) (at_row (λ (m : Named). no_feed (spelled x y m)) (names_plain x y) i.row)
+    (operands_plain i.fields ps (row_parted i.row) (row_fits i.row i.fields (fields_within i.row i.fields i.in_table))))

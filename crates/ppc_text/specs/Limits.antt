@@ -4,8 +4,8 @@ use Rattle.wind_base.specs.Limits.{greatest_word}
 use Rattle.ppc_text.specs.declared.part.Reach.TheVariants.{Long, Short}
 use Rattle.ppc_text.specs.declared.part.Part.{Part}
 use Rattle.ppc_text.specs.declared.part.Part.TheVariants as parts
-use Rattle.ppc_text.specs.declared.mnemonic.Condition.{Condition}
-use Rattle.ppc_text.specs.declared.mnemonic.Condition.TheVariants.{Any, LoadUpdate, StoreUpdate, LoadMultiple, SpecialRegister, NoCount}
+use Rattle.ppc_word.specs.declared.rule.Rule.{Rule}
+use Rattle.ppc_word.specs.declared.rule.Rule.TheVariants.{Any, LoadUpdate, StoreUpdate, LoadMultiple, SpecialRegister, NoCount}
 use Rattle.ppc_text.specs.Mnemonics.{Named, flagged}
 use Rattle.ppc_text.specs.Operands.{with_value}
 use Rattle.ppc_text.specs.Shapes.{parts_of}
@@ -47,7 +47,7 @@ abbrev pub special_of : ℕ → ℕ
 special_of field = field % 32 * 32 + field / 32
 
 -- fields meet a condition: field 0 is the target or BO, and field 1 is the base or the special register
-unfoldable pub holds : Condition → List ℕ → Bool
+unfoldable pub holds : Rule → List ℕ → Bool
 holds Any fs = true
 holds LoadUpdate fs = not (nat_eq (slice_index fs 1) 0) && not (nat_eq (slice_index fs 1) (slice_index fs 0))
 holds StoreUpdate fs = not (nat_eq (slice_index fs 1) 0)

@@ -9,8 +9,8 @@ use Rattle.ppc_text.specs.declared.part.Shape.{Shape}
 use Rattle.ppc_text.specs.declared.part.Shape.TheVariants.{Immediate, Shifted, LogicalImmediate, CompareImmediate, CompareUnsigned, Compare, TrapImmediate, Trap, Memory, Three, Two, LogicalThree, LogicalTwo, Shift, Rotate, RotateBy, Branch, BranchConditional, BranchRegister, Bits, Fields, Field, One, Mask, FromSpecial, ToSpecial, Nothing, LoadImmediate, LoadShifted, Move, Always, FromLink, ToLink}
 use Rattle.ppc_text.specs.declared.mnemonic.Endings.{Endings}
 use Rattle.ppc_text.specs.declared.mnemonic.Endings.TheVariants.{Bare, Record, Overflow, Link, LinkAbsolute}
-use Rattle.ppc_text.specs.declared.mnemonic.Condition.{Condition}
-use Rattle.ppc_text.specs.declared.mnemonic.Condition.TheVariants.{Any, LoadUpdate, StoreUpdate, LoadMultiple, SpecialRegister, NoCount}
+use Rattle.ppc_word.specs.declared.rule.Rule.{Rule}
+use Rattle.ppc_word.specs.declared.rule.Rule.TheVariants.{Any, LoadUpdate, StoreUpdate, LoadMultiple, SpecialRegister, NoCount}
 use Rattle.ppc_text.specs.declared.mnemonic.Flags.{Flags}
 use Rattle.ppc_text.specs.declared.mnemonic.Spelling.{Spelling}
 use Rattle.ppc_text.specs.declared.mnemonic.Mnemonic.{Mnemonic}
@@ -21,7 +21,7 @@ pub record Named : Type 0 where
   pub row : Row
   pub shape : Shape
   pub endings : Endings
-  pub condition : Condition
+  pub condition : Rule
 
 -- the name without the zeros after it
 abbrev pub name_of : Mnemonic → List ℕ
@@ -79,7 +79,7 @@ abbrev pub mnemonic : List ℕ → Row → Shape → Endings → Named
 mnemonic name row shape endings = record { name = name; row = row; shape = shape; endings = endings; condition = Any }
 
 -- a mnemonic whose fields meet a condition in addition to their ranges
-abbrev pub limited : Condition → Named → Named
+abbrev pub limited : Rule → Named → Named
 limited condition m = record m { condition = condition }
 
 -- the instructions, in the order of their table

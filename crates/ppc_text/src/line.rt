@@ -62,13 +62,7 @@ pub struct Line<'a> {
 fn colon_first(tokens: &[Token]) -> bool
     ensures { result ≡ colon_first_lem tokens.now }
 {
-    let [first, ..] = tokens else {
-        return false;
-    };
-    match first {
-        Token::Colon => true,
-        _ => false,
-    }
+    matches!(tokens, [Token::Colon, ..])
 }
 
 fn name_first<'a>(tokens: &[Token<'a>]) -> Option<Word<'a>>

@@ -5,10 +5,10 @@ ghost use Rattle.ppc_word.specs.Rows.{are_fields};
 ghost use Rattle.ppc_text.specs.Mnemonics.{seen};
 ghost use Rattle.ppc_text.specs.Limits.{limit_of as limit_of_lem, limits_from as limits_from_lem, limits_of, lies_below as lies_below_lem, are_within as are_within_lem, special_of as special_of_lem, holds as holds_lem};
 
-use crate::mnemonic::{Condition, Flags, Mnemonic, flagged, mnemonic_of};
+use crate::mnemonic::{Flags, Mnemonic, flagged, mnemonic_of};
 use crate::operand::with_value;
 use crate::part::{Part, Reach, parts_of};
-use ppc_word::{Insn, Row};
+use ppc_word::{Insn, Row, Rule};
 
 // The number that the field of an operand must lie below. A mark and a fixed field have 0.
 #[tactic(auto, unfolding(crate::specs::Limits::limit_of))]
@@ -83,18 +83,18 @@ fn is_special(number: u64) -> bool
 }
 
 #[tactic(auto, unfolding(crate::specs::Limits::holds))]
-fn holds(condition: Condition, fields: &[u32; 6]) -> bool
+fn holds(condition: Rule, fields: &[u32; 6]) -> bool
     ensures { result ≡ holds_lem condition fields.now }
 {
     let first = fields[0];
     let second = fields[1];
     match condition {
-        Condition::Any => true,
-        Condition::LoadUpdate => second != 0 && second != first,
-        Condition::StoreUpdate => second != 0,
-        Condition::LoadMultiple => second < first,
-        Condition::SpecialRegister => is_special(special_of(second)),
-        Condition::NoCount => first / 4 % 2 == 1,
+        Rule::Any => true,
+        Rule::LoadUpdate => second != 0 && second != first,
+        Rule::StoreUpdate => second != 0,
+        Rule::LoadMultiple => second < first,
+        Rule::SpecialRegister => is_special(special_of(second)),
+        Rule::NoCount => first / 4 % 2 == 1,
     }
 }
 

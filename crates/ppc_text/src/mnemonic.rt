@@ -5,7 +5,7 @@ ghost use Rattle.std.specs.List.{prefix_len};
 ghost use Rattle.ppc_text.specs.Mnemonics.{name_of as name_of_lem, seen, ending_of as ending_of_lem, named as named_lem, spelling_in, spelling_of as spelling_of_lem, named_as, flagged as flagged_lem, is_absolute as is_absolute_lem, spells};
 
 use crate::part::Shape;
-use ppc_word::Row;
+use ppc_word::{Row, Rule};
 
 /// The letters that may follow the name of an instruction, with the place of the first field that they set.
 #[derive(Clone, Copy, Debug, PartialEq, Eq, Drop)]
@@ -22,23 +22,6 @@ pub(crate) enum Endings {
     LinkAbsolute(u8),
 }
 
-/// The condition that the fields of an instruction meet in addition to their ranges.
-#[derive(Clone, Copy, Debug, PartialEq, Eq, Drop)]
-pub(crate) enum Condition {
-    /// Nothing.
-    Any,
-    /// The base register is neither `r0` nor the target.
-    LoadUpdate,
-    /// The base register isn't `r0`.
-    StoreUpdate,
-    /// The base register's number is below the target's, so that it isn't among the loaded registers.
-    LoadMultiple,
-    /// The special register is XER, LR or CTR.
-    SpecialRegister,
-    /// The branch doesn't decrement CTR.
-    NoCount,
-}
-
 /// How an instruction is spelled.
 #[derive(Clone, Copy, Debug, Drop)]
 pub(crate) struct Mnemonic {
@@ -51,7 +34,7 @@ pub(crate) struct Mnemonic {
     /// The letters that may follow the name.
     pub endings: Endings,
     /// The condition on the fields.
-    pub condition: Condition,
+    pub condition: Rule,
 }
 
 /// The values of the one or two fields that an ending sets, in the order of their places.
@@ -83,7 +66,7 @@ macro_rules! mnemonic {
             row: Row::$row,
             shape: Shape::$shape,
             endings: Endings::Bare,
-            condition: Condition::$condition,
+            condition: Rule::$condition,
         }
     };
     ($name:literal, $row:ident, $shape:ident, Link($place:literal) if $condition:ident) => {
@@ -92,7 +75,7 @@ macro_rules! mnemonic {
             row: Row::$row,
             shape: Shape::$shape,
             endings: Endings::Link($place),
-            condition: Condition::$condition,
+            condition: Rule::$condition,
         }
     };
     ($name:literal, $row:ident, $shape:ident, $($endings:tt)*) => {
@@ -101,7 +84,7 @@ macro_rules! mnemonic {
             row: Row::$row,
             shape: Shape::$shape,
             endings: Endings::$($endings)*,
-            condition: Condition::Any,
+            condition: Rule::Any,
         }
     };
 }

@@ -372,37 +372,19 @@ fn mark_operand<'a>(stands: bool) -> Option<Operand<'a>>
 pub(crate) fn is_comma(tokens: &[Token]) -> bool
     ensures { result ≡ is_comma_lem tokens.now }
 {
-    let [first, ..] = tokens else {
-        return false;
-    };
-    match first {
-        Token::Comma => true,
-        _ => false,
-    }
+    matches!(tokens, [Token::Comma, ..])
 }
 
 fn is_open(tokens: &[Token]) -> bool
     ensures { result ≡ is_open_lem tokens.now }
 {
-    let [first, ..] = tokens else {
-        return false;
-    };
-    match first {
-        Token::Open => true,
-        _ => false,
-    }
+    matches!(tokens, [Token::Open, ..])
 }
 
 fn is_close(tokens: &[Token]) -> bool
     ensures { result ≡ is_close_lem tokens.now }
 {
-    let [first, ..] = tokens else {
-        return false;
-    };
-    match first {
-        Token::Close => true,
-        _ => false,
-    }
+    matches!(tokens, [Token::Close, ..])
 }
 
 #[tactic(auto, unfolding(crate::specs::Operands::part_at))]

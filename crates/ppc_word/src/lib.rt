@@ -20,6 +20,7 @@ mod word;
 pub use coding::{decode, encode, row_for};
 pub use insn::Insn;
 pub use row::Row;
+pub use rule::Rule;
 
 /// The law of the table: each form has 32 bits, each instruction has its form, and no word matches
 /// two forms.

@@ -13,8 +13,8 @@ const LR: u32 = 8;
 const CTR: u32 = 9;
 
 /// What a word must meet besides its pieces.
-#[derive(Clone, Copy, Debug, Drop)]
-pub(crate) enum Rule {
+#[derive(Clone, Copy, Debug, PartialEq, Eq, Drop)]
+pub enum Rule {
     /// Nothing.
     Any,
     /// The base register RA is neither 0 nor the target RT.

@@ -1,57 +1,14 @@
 //! ppcasm assembles a file for PowerPC into a relocatable module, or lists the instructions of a module.
 #![tactic(auto)]
 
-use ppc_asm::{AsmStatus, ppcasm, tell_no_memory};
-use std::alloc::{AllocError, Global};
-use std::env;
-use std::io::ErrorKind;
+use ppc_asm::ppcasm;
+use program_main::start;
 use std::process::ExitCode;
-use wind_base::NoMemory;
-use wind_outside::{HostFolder, HostSink, Sink};
-
-// Arguments that `ppcasm` answers with `Usage`, for arguments that aren't UTF-8.
-fn no_text(alloc: Global) -> Result<Vec<String>, AllocError> {
-    let mut words = Vec::new(alloc);
-    words.push("ppcasm".to_string(alloc)?)?;
-    Ok(words)
-}
-
-// The arguments of the command line. If one of them isn't UTF-8, the answer is `no_text`.
-fn words(rt: &HostRuntime) -> Result<Vec<String>, NoMemory> {
-    match env::args(rt) {
-        Ok(args) => args.collect(rt.alloc()).or(Err(NoMemory)),
-        Err(error) if error.kind() == ErrorKind::OutOfMemory => Err(NoMemory),
-        Err(_) => no_text(rt.alloc()).or(Err(NoMemory)),
-    }
-}
-
-// The arguments as borrowed strings.
-fn lent<'a>(alloc: Global, words: &'a [String]) -> Result<Vec<&'a str>, NoMemory> {
-    words
-        .iter()
-        .map(|word| word.as_str())
-        .collect::<Vec<&str>>(alloc)
-        .or(Err(NoMemory))
-}
-
-// Does what the arguments ask for, in the directory in which the program runs.
-fn run<E: Sink>(rt: HostRuntime, err: &mut E) -> Result<AsmStatus, NoMemory> {
-    let alloc = rt.alloc();
-    let args = words(&rt)?;
-    let words = lent(alloc, &args)?;
-    let mut out = HostSink::new(rt.stdout());
-    let mut folder = HostFolder::new(rt);
-    Ok(ppcasm(alloc, &words, &mut folder, &mut out, err))
-}
+use wind_outside::{HostFolder, HostSink};
 
 fn main(rt: HostRuntime) -> ExitCode {
-    let mut err = HostSink::new(rt.stderr());
-    let status = match run(rt, &mut err) {
-        Ok(status) => status,
-        Err(NoMemory) => {
-            tell_no_memory(&mut err);
-            AsmStatus::NoMemory
-        }
-    };
-    ExitCode::from(status.number())
+    start(rt, rt.stderr(), &["ppcasm"], |words, err| {
+        let mut out = HostSink::new(rt.stdout());
+        ppcasm(rt.alloc(), words, &mut HostFolder::new(rt), &mut out, err).number()
+    })
 }

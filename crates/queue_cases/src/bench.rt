@@ -1,9 +1,36 @@
 //! The steps of a queue, played on the queue and on a plain vector.
 
+use crate::plain::Plain;
 use crate::tally::{Answer, Tally};
+use std::alloc::Global;
 use wind_base::NoMemory;
 
+/// The greatest number of tasks in a queue.
+pub const ROOM: u32 = 256;
+
+/// The number of tasks in generated steps.
+pub const TASKS: u32 = 40;
+
 /// A queue of the kernel, and a plain vector for the same entries.
+#[derive(Drop)]
+pub struct Pair<Q, K> {
+    /// The queue.
+    pub queue: Q,
+    /// The vector.
+    pub plain: Plain<K>,
+}
+
+impl<Q, K: Copy + Drop> Pair<Q, K> {
+    /// The queue, and an empty vector with room for `ROOM` tasks.
+    pub fn new(alloc: Global, queue: Q) -> Pair<Q, K> {
+        Pair {
+            queue,
+            plain: Plain::new(alloc, ROOM),
+        }
+    }
+}
+
+/// A queue and a vector that play the same steps.
 pub trait Both<S> {
     /// The queue's answer to a step. None if the step is invalid.
     fn answer(&mut self, step: S) -> Option<Answer>;
@@ -22,6 +49,19 @@ pub struct Bench<B> {
 }
 
 impl<B> Bench<B> {
+    /// Plays these steps first.
+    pub fn begun<S: Copy>(both: B, steps: &[S]) -> Result<Bench<B>, NoMemory>
+    where
+        B: Both<S> + Drop,
+    {
+        let mut bench = Bench {
+            both,
+            tally: Tally::new(),
+        };
+        bench.all(steps)?;
+        Ok(bench)
+    }
+
     /// Plays a step on both.
     pub fn step<S: Copy>(&mut self, step: S) -> Result<(), NoMemory>
     where

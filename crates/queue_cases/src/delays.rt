@@ -1,6 +1,6 @@
 //! The steps of tasks that wait for a tick, on both queues.
 
-use crate::bench::{Bench, Both};
+use crate::bench::{Bench, Both, Pair, ROOM, TASKS};
 use crate::numbers::Numbers;
 use crate::plain::{Entry, Plain};
 use crate::tally::{Answer, Tally};
@@ -9,14 +9,8 @@ use id_table::Ident;
 use std::alloc::Global;
 use wind_base::NoMemory;
 
-/// The greatest number of tasks in a queue.
-const ROOM: u32 = 256;
-
 /// The number of rounds in which steps are generated.
 const GENERATED: u32 = 300;
-
-/// The number of tasks in generated steps.
-const TASKS: u32 = 40;
 
 // A step. Tasks are named by the numbers of their ids.
 #[derive(Clone, Copy)]
@@ -65,34 +59,34 @@ const EDGES: [Step; 25] = [
     Step::Due { tick: u64::MAX },
 ];
 
-// The queue and the vector.
-#[derive(Drop)]
-struct Queues {
-    delays: Delays,
-    plain: Plain<u64>,
-}
+type Queues = Pair<Delays, u64>;
 
 impl Both<Step> for Queues {
+    // The queue's answer to a step. None if the step's task is not a valid id.
     fn answer(&mut self, step: Step) -> Option<Answer> {
-        answer(&mut self.delays, step)
+        let delays = &mut self.queue;
+        let answer = match step {
+            Step::Put { who, wake } => put(delays, Ident::new(who)?, wake),
+            Step::Take { who } => Answer::Found(delays.take(Ident::new(who)?)),
+            Step::Due { tick } => Answer::task(delays.due(tick)),
+        };
+        Some(answer)
     }
 
     fn plain_answer(&mut self, step: Step) -> Result<Answer, NoMemory> {
-        plain_answer(&mut self.plain, step)
+        let plain = &mut self.plain;
+        match step {
+            Step::Put { who, wake } => plain.put(who, wake),
+            Step::Take { who } => Ok(Answer::Found(plain.take(who))),
+            Step::Due { tick } => Ok(Answer::Task(due(plain, tick))),
+        }
     }
 }
 
 /// Plays all steps on both queues.
 pub fn play(alloc: Global) -> Result<Tally, NoMemory> {
-    let both = Queues {
-        delays: Delays::reserved(alloc, ROOM)?,
-        plain: Plain::new(alloc, ROOM),
-    };
-    let mut bench = Bench {
-        both,
-        tally: Tally::new(),
-    };
-    bench.all(&EDGES)?;
+    let queues = Pair::new(alloc, Delays::reserved(alloc, ROOM)?);
+    let mut bench = Bench::begun(queues, &EDGES)?;
     one_tick(&mut bench)?;
     generated(&mut bench)?;
     Ok(bench.tally)
@@ -127,16 +121,6 @@ fn generated(bench: &mut Bench<Queues>) -> Result<(), NoMemory> {
     Ok(())
 }
 
-// The queue's answer to a step. None if the step's task is not a valid id.
-fn answer(delays: &mut Delays, step: Step) -> Option<Answer> {
-    let answer = match step {
-        Step::Put { who, wake } => put(delays, Ident::new(who)?, wake),
-        Step::Take { who } => Answer::Found(delays.take(Ident::new(who)?)),
-        Step::Due { tick } => Answer::task(delays.due(tick)),
-    };
-    Some(answer)
-}
-
 // Adds a task; removes it first if it is there.
 #[tactic(auto, using(delay_queue::proofs::Waiting::taken_absent))]
 fn put(delays: &mut Delays, who: Ident, wake: u64) -> Answer {
@@ -146,14 +130,6 @@ fn put(delays: &mut Delays, who: Ident, wake: u64) -> Answer {
         delays.put(who, wake);
     }
     Answer::Put { again, room }
-}
-
-fn plain_answer(plain: &mut Plain<u64>, step: Step) -> Result<Answer, NoMemory> {
-    match step {
-        Step::Put { who, wake } => plain.put(who, wake),
-        Step::Take { who } => Ok(Answer::Found(plain.take(who))),
-        Step::Due { tick } => Ok(Answer::Task(due(plain, tick))),
-    }
 }
 
 // Removes the first task that is due at a tick and returns its number.

@@ -1,22 +1,16 @@
 //! The steps of ready tasks, on both queues.
 
-use crate::bench::{Bench, Both};
+use crate::bench::{Bench, Both, Pair, ROOM, TASKS};
 use crate::numbers::Numbers;
-use crate::plain::{Entry, Plain};
+use crate::plain::Entry;
 use crate::tally::{Answer, Tally};
 use id_table::Ident;
 use ready_queue::Ready;
 use std::alloc::Global;
 use wind_base::{NoMemory, Pri};
 
-/// The greatest number of tasks in a queue.
-const ROOM: u32 = 256;
-
 /// The number of rounds in which steps are generated.
 const GENERATED: u32 = 300;
-
-/// The number of tasks in generated steps.
-const TASKS: u32 = 40;
 
 // A step. Tasks are named by the numbers of their ids.
 #[derive(Clone, Copy)]
@@ -60,34 +54,36 @@ const EDGES: [Step; 28] = [
     Step::First,
 ];
 
-// The queue and the vector.
-#[derive(Drop)]
-struct Queues {
-    ready: Ready,
-    plain: Plain<u32>,
-}
+type Queues = Pair<Ready, u32>;
 
 impl Both<Step> for Queues {
+    // The queue's answer to a step. None if the step's task or priority is invalid.
     fn answer(&mut self, step: Step) -> Option<Answer> {
-        answer(&mut self.ready, step)
+        let ready = &mut self.queue;
+        let answer = match step {
+            Step::Put { pri, who } => put(ready, Pri::new(pri)?, Ident::new(who)?),
+            Step::Take { who } => Answer::Found(ready.take(Ident::new(who)?)),
+            Step::Rotate { who } => Answer::Found(ready.rotate(Ident::new(who)?)),
+            Step::First => Answer::task(ready.first()),
+        };
+        Some(answer)
     }
 
     fn plain_answer(&mut self, step: Step) -> Result<Answer, NoMemory> {
-        plain_answer(&mut self.plain, step)
+        let plain = &mut self.plain;
+        match step {
+            Step::Put { pri, who } => plain.put(who, pri),
+            Step::Take { who } => Ok(Answer::Found(plain.take(who))),
+            Step::Rotate { who } => Ok(Answer::Found(plain.rotate(who)?)),
+            Step::First => Ok(Answer::Task(first(plain.entries()))),
+        }
     }
 }
 
 /// Plays all steps on both queues.
 pub fn play(alloc: Global) -> Result<Tally, NoMemory> {
-    let both = Queues {
-        ready: Ready::reserved(alloc, ROOM)?,
-        plain: Plain::new(alloc, ROOM),
-    };
-    let mut bench = Bench {
-        both,
-        tally: Tally::new(),
-    };
-    bench.all(&EDGES)?;
+    let queues = Pair::new(alloc, Ready::reserved(alloc, ROOM)?);
+    let mut bench = Bench::begun(queues, &EDGES)?;
     one_list(&mut bench)?;
     generated(&mut bench)?;
     Ok(bench.tally)
@@ -123,17 +119,6 @@ fn generated(bench: &mut Bench<Queues>) -> Result<(), NoMemory> {
     Ok(())
 }
 
-// The queue's answer to a step. None if the step's task or priority is invalid.
-fn answer(ready: &mut Ready, step: Step) -> Option<Answer> {
-    let answer = match step {
-        Step::Put { pri, who } => put(ready, Pri::new(pri)?, Ident::new(who)?),
-        Step::Take { who } => Answer::Found(ready.take(Ident::new(who)?)),
-        Step::Rotate { who } => Answer::Found(ready.rotate(Ident::new(who)?)),
-        Step::First => Answer::task(ready.first()),
-    };
-    Some(answer)
-}
-
 // Adds a task; removes it first if it is there.
 #[tactic(auto, using(ready_queue::proofs::Rotation::taken_absent))]
 fn put(ready: &mut Ready, pri: Pri, who: Ident) -> Answer {
@@ -143,15 +128,6 @@ fn put(ready: &mut Ready, pri: Pri, who: Ident) -> Answer {
         ready.put(pri, who);
     }
     Answer::Put { again, room }
-}
-
-fn plain_answer(plain: &mut Plain<u32>, step: Step) -> Result<Answer, NoMemory> {
-    match step {
-        Step::Put { pri, who } => plain.put(who, pri),
-        Step::Take { who } => Ok(Answer::Found(plain.take(who))),
-        Step::Rotate { who } => Ok(Answer::Found(plain.rotate(who)?)),
-        Step::First => Ok(Answer::Task(first(plain.entries()))),
-    }
 }
 
 // The first of the tasks with the least priority number.

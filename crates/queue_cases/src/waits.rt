@@ -1,22 +1,16 @@
 //! The steps of waiters, on both queues.
 
-use crate::bench::{Bench, Both};
+use crate::bench::{Bench, Both, Pair, ROOM, TASKS};
 use crate::numbers::Numbers;
-use crate::plain::{Entry, Plain};
+use crate::plain::Entry;
 use crate::tally::{Answer, Tally};
 use id_table::{Ident, Place};
 use std::alloc::Global;
 use wait_order::Waits;
 use wind_base::NoMemory;
 
-/// The greatest number of waiters in a queue.
-const ROOM: u32 = 256;
-
 /// The number of rounds in which steps are generated.
 const GENERATED: u32 = 400;
-
-/// The number of tasks in generated steps.
-const TASKS: u32 = 40;
 
 /// The number of objects in generated steps, each with three sides.
 const OBJECTS: u32 = 4;
@@ -85,34 +79,44 @@ struct Key {
     since: u64,
 }
 
-// The queue and the vector.
-#[derive(Drop)]
-struct Queues {
-    waits: Waits,
-    plain: Plain<Key>,
-}
+type Queues = Pair<Waits, Key>;
 
 impl Both<Step> for Queues {
+    // The queue's answer to a step. None if the step's task or object is invalid.
     fn answer(&mut self, step: Step) -> Option<Answer> {
-        answer(&mut self.waits, step)
+        let waits = &mut self.queue;
+        let answer = match step {
+            Step::Put(side, object, who, pri, since) => {
+                put(waits, at(side, object)?, Ident::new(who)?, pri, since)
+            }
+            Step::Take { who } => Answer::Found(waits.take(Ident::new(who)?)),
+            Step::First { side, object } => Answer::task(waits.first(at(side, object)?)),
+        };
+        Some(answer)
     }
 
     fn plain_answer(&mut self, step: Step) -> Result<Answer, NoMemory> {
-        plain_answer(&mut self.plain, step)
+        let plain = &mut self.plain;
+        match step {
+            Step::Put(side, object, who, pri, since) => {
+                let key = Key {
+                    side,
+                    object,
+                    pri,
+                    since,
+                };
+                plain.put(who, key)
+            }
+            Step::Take { who } => Ok(Answer::Found(plain.take(who))),
+            Step::First { side, object } => Ok(Answer::Task(first(plain.entries(), side, object))),
+        }
     }
 }
 
 /// Plays all steps on both queues.
 pub fn play(alloc: Global) -> Result<Tally, NoMemory> {
-    let both = Queues {
-        waits: Waits::reserved(alloc, ROOM)?,
-        plain: Plain::new(alloc, ROOM),
-    };
-    let mut bench = Bench {
-        both,
-        tally: Tally::new(),
-    };
-    bench.all(&EDGES)?;
+    let queues = Pair::new(alloc, Waits::reserved(alloc, ROOM)?);
+    let mut bench = Bench::begun(queues, &EDGES)?;
     bench.all(&BESIDE)?;
     one_place(&mut bench)?;
     generated(&mut bench)?;
@@ -153,18 +157,6 @@ fn at(side: u8, object: u32) -> Option<Place> {
     Some(Place { side, id })
 }
 
-// The queue's answer to a step. None if the step's task or object is invalid.
-fn answer(waits: &mut Waits, step: Step) -> Option<Answer> {
-    let answer = match step {
-        Step::Put(side, object, who, pri, since) => {
-            put(waits, at(side, object)?, Ident::new(who)?, pri, since)
-        }
-        Step::Take { who } => Answer::Found(waits.take(Ident::new(who)?)),
-        Step::First { side, object } => Answer::task(waits.first(at(side, object)?)),
-    };
-    Some(answer)
-}
-
 // Adds a task; removes it first if it is there.
 #[tactic(auto, using(wait_order::proofs::LineOrder::taken_absent))]
 fn put(waits: &mut Waits, place: Place, who: Ident, pri: u32, since: u64) -> Answer {
@@ -174,22 +166,6 @@ fn put(waits: &mut Waits, place: Place, who: Ident, pri: u32, since: u64) -> Ans
         waits.put(place, who, pri, since);
     }
     Answer::Put { again, room }
-}
-
-fn plain_answer(plain: &mut Plain<Key>, step: Step) -> Result<Answer, NoMemory> {
-    match step {
-        Step::Put(side, object, who, pri, since) => {
-            let key = Key {
-                side,
-                object,
-                pri,
-                since,
-            };
-            plain.put(who, key)
-        }
-        Step::Take { who } => Ok(Answer::Found(plain.take(who))),
-        Step::First { side, object } => Ok(Answer::Task(first(plain.entries(), side, object))),
-    }
 }
 
 // The first task that waits at a side of an object.

@@ -236,6 +236,10 @@ pri_found cs who q only =
     let same : 0 + q ≡ q = omega arith in
     pri_is 0 who q cs only.within only.here (λ r h. only.elsewhere r (λ e. omega (arith, h, e))) ∙ ap (λ n. Some n) same
 
+-- a task in a list is among those that are seen
+pub found_told : (cs : List (List Cell)) (who q room : ℕ) (o : Order) → IsOnlyIn cs who q → ◌≡◌ {A = Order} (record { tasks = tasks_from 0 cs; room = room }) o → true ≡ is_some (pri_of o.tasks who)
+found_told cs who q room o only seen = sym (ap is_some (pri_found cs who q only)) ∙ ap (λ (p : Order). is_some (pri_of p.tasks who)) seen
+
 pub value_gone : (cs : List (List Cell)) (who : ℕ) → value_of (map (λ c. without cell_key c who) cs) who ≡ None
 value_gone cs who = ap (λ zs. value_in zs who) (cells_without cs who) ∙ ap (option_map (λ (c : Cell). c.1)) (gone cell_key (all_cells cs) who)
 

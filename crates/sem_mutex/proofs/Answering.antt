@@ -1,11 +1,11 @@
 -- Lemmas for the code of the calls on mutexes.
-use Rattle.std.proofs.Common.{◌≡◌, ℕ, ◌+◌, ◌-◌, ◌<◌, ◌≤◌, ◌^◌, true, false, cond, not, ◌&&◌, eqb, List, [], ◌∷◌, length, Option, None, Some, IsSome, refl, sym, ap, ◌∙◌, subst, arith}
+use Rattle.std.proofs.Common.{◌≡◌, ℕ, ◌+◌, ◌-◌, ◌<◌, ◌≤◌, ◌^◌, true, false, cond, not, ◌&&◌, eqb, List, [], ◌∷◌, length, Option, None, Some, IsSome, MatchOption, is_some, refl, sym, ap, ◌∙◌, subst, arith}
 use Rattle.id_table.specs.declared.ident.Place.{Place}
 use Rattle.std.specs.Option.{option_map}
-use Rattle.std.proofs.lemmas.Bool.{eq-eqb, ne_eqb, lt-ltb, le-ltb}
+use Rattle.std.proofs.lemmas.Bool.{eq-eqb, eqb-true, not-false, false≢true, ne_eqb, lt-ltb, le-ltb}
 use Rattle.std.proofs.lemmas.Option.{same_Some}
 use Rattle.std.proofs.lemmas.List.Sums.{count_by-le-length}
-use Rattle.id_table.specs.Rows.{object_of, without, IsId}
+use Rattle.id_table.specs.Rows.{object_of, without}
 use Rattle.wind_base.specs.declared.profile.Profile.{Profile}
 use Rattle.wind_base.specs.declared.profile.Profile.TheVariants.{One, Two}
 use Rattle.task_block.specs.declared.task.Task.{Task}
@@ -40,11 +40,12 @@ use Rattle.wind_core.proofs.Becoming.{found_all}
 use Rattle.wind_core.proofs.Unwritten.{task_of-change}
 
 -- ---- the list of mutexes
-pub no_mutex : (ms : List (ℕ × Mutex)) (n : ℕ) → AreMutexes ms → ((0 < n) × (n ≤ 1048576) → ⊥) → None ≡ live_mutex ms n
-no_mutex ms n are outside =
-    elim (object_of ms n) as (λ o. object_of ms n ≡ o → None ≡ option_map (λ _. n) o) [
-      | None ↦ λ e. refl
-      | Some m ↦ λ e. absurd (outside (found_row (λ (r : ℕ × Mutex). IsId r.0) ms n m are.ranged e))
+pub found_live : (ms : List (ℕ × Mutex)) (n : ℕ) (found : Option ℕ) → MatchOption found (object_of ms n ≡ None) (λ id. (id ≡ n) × IsSome (object_of ms id)) → found ≡ live_mutex ms n
+found_live ms n None none = sym (ap (option_map (λ (m : Mutex). n)) none)
+found_live ms n (Some id) own =
+    elim (object_of ms n) as (λ o. object_of ms n ≡ o → Some id ≡ option_map (λ _. n) o) [
+      | None ↦ λ e. absurd (false≢true (sym (ap is_some e) ∙ subst (λ k. IsSome (object_of ms k)) own.0 own.1))
+      | Some m ↦ λ e. ap Some own.0
     ] refl
 
 -- ---- one task owns one more
@@ -98,6 +99,27 @@ found ms n id e =
     let p : (id ≡ n) × IsSome (object_of ms n) =
     elim (object_of ms n) as (λ o. Some id ≡ option_map (λ _. n) o → (id ≡ n) × IsSome o) [ None ↦ λ q. absurd (cc) | Some m ↦ λ q. (same_Some id n q, refl) ] e in
     record { same = p.0; there = p.1 }
+
+-- the mutex that is found is the caller's
+pub record IsOwn (ms : List (ℕ × Mutex)) (n id caller depth : ℕ) : Type 0 where
+  pub mutex : Mutex
+  pub same : id ≡ n
+  pub here : object_of ms n ≡ Some mutex
+  pub own : mutex.owner ≡ Some caller
+  pub deep : depth ≡ mutex.depth
+
+pub is_own : (ms : List (ℕ × Mutex)) (n id owner caller depth : ℕ) → Some id ≡ live_mutex ms n → Some owner ≡ owner_in (object_of ms id) → not (eqb owner caller) ≡ false
+    → ((m : Mutex) → object_of ms id ≡ Some m → depth ≡ m.depth) → IsOwn ms n id caller depth
+is_own ms n id owner caller depth e owned alike deep =
+    let f = found ms n id e in
+    let m = live_is (object_of ms n) f.there in
+    record {
+      mutex = m.0;
+      same = f.same;
+      here = m.1;
+      own = sym (ap owner_in m.1) ∙ subst (λ j. owner_in (object_of ms j) ≡ Some owner) f.same (sym owned) ∙ ap Some (eqb-true owner caller (not-false (eqb owner caller) alike));
+      deep = deep m.0 (ap (object_of ms) f.same ∙ m.1);
+    }
 
 pub not_found : (ms : List (ℕ × Mutex)) (n : ℕ) → None ≡ live_mutex ms n → object_of ms n ≡ None
 not_found ms n e = elim (object_of ms n) as (λ o. None ≡ option_map (λ _. n) o → o ≡ None) [ None ↦ λ q. refl | Some m ↦ λ q. absurd (cc) ] e

@@ -25,7 +25,7 @@ use Rattle.sem_mutex.proofs.Following.{follows_keeps}
 use Rattle.sem_mutex.proofs.Beside.{follows-wake_all}
 use Rattle.sem_mutex.proofs.Counting.{one, mutex_at-without, count_without, no_lender}
 use Rattle.sem_mutex.proofs.Owning.{From, SlackBut, urgent_slack_but}
-use Rattle.sem_mutex.proofs.Handing.{IsOwned}
+use Rattle.sem_mutex.proofs.Handing.{IsOwned, with_mutexes}
 use Rattle.sem_mutex.proofs.Giving.{let_go_keeps}
 use Rattle.sem_mutex.proofs.Keeping.{kern_letting_go, kern_eased}
 use Rattle.sem_mutex.proofs.Lifting.{next-change_pri}
@@ -39,14 +39,9 @@ gone p count ms k id h = record {
   tasks = λ i d hi.
       let t : Task = get_or k.tasks i d in
       let kept = h.tasks i d hi in
-      record {
-        raised = kept.raised;
-        held = kept.held;
-        normal = kept.normal;
-        made = kept.made;
-        owned = subst (λ o. IfSome o (IsOwned t.fifo)) (sym (mutex_at-without ms id t.wait))
-            (elim (is_place (mutex_place id) t.wait) as (λ b. IfSome (cond b None (mutex_at ms t.wait)) (IsOwned t.fifo)) [ true ↦ tt | false ↦ kept.owned ]);
-      };
+      with_mutexes p ms (without ms id) count k.next_id t kept
+      (subst (λ o. IfSome o (IsOwned t.fifo)) (sym (mutex_at-without ms id t.wait))
+      (elim (is_place (mutex_place id) t.wait) as (λ b. IfSome (cond b None (mutex_at ms t.wait)) (IsOwned t.fifo)) [ true ↦ tt | false ↦ kept.owned ]));
   mutexes = All-filter (λ r. not (eqb r.0 id)) (MutexKept k.next_id) ms h.mutexes;
 }
 

@@ -45,6 +45,10 @@ mutexes_written ms next id v all new i d hi =
       | false ↦ all i d within
     ])
 
+-- what is known of a task, with other mutexes
+pub with_mutexes : (p : Profile) (ms ns : List (ℕ × Mutex)) (count : ℕ → ℕ) (next : ℕ) (t : Task) → TaskKept p ms count next t → IfSome (mutex_at ns t.wait) (IsOwned t.fifo) → TaskKept p ns count next t
+with_mutexes p ms ns count next t kept owned = record { raised = kept.raised; held = kept.held; normal = kept.normal; made = kept.made; owned = owned }
+
 pub switch : (p : Profile) (count : ℕ → ℕ) (ms : List (ℕ × Mutex)) (k : KernState) (id : ℕ) (m v : Mutex) → object_of ms id ≡ Some m → MutexKept k.next_id (id, v)
     → ((t : Task) → Contains k.tasks t → is_place (mutex_place id) t.wait ≡ true → IsOwned t.fifo v) → Holds p count ms k → Holds p count (with_object ms id v) k
 switch p count ms k id m v e new ok h = record {
@@ -52,17 +56,12 @@ switch p count ms k id m v e new ok h = record {
       let t : Task = get_or k.tasks i d in
       let at = Contains-get_or k.tasks i d hi in
       let kept = h.tasks i d hi in
-      record {
-        raised = kept.raised;
-        held = kept.held;
-        normal = kept.normal;
-        made = kept.made;
-        owned = subst (λ o. IfSome o (IsOwned t.fifo)) (sym (mutex_at-write ms id m v t.wait e))
-            (elim (is_place (mutex_place id) t.wait) as (λ b. is_place (mutex_place id) t.wait ≡ b → IfSome (cond b (Some v) (mutex_at ms t.wait)) (IsOwned t.fifo)) [
-              | true ↦ λ b. ok t at b
-              | false ↦ λ b. kept.owned
-            ] refl);
-      };
+      with_mutexes p ms (with_object ms id v) count k.next_id t kept
+      (subst (λ o. IfSome o (IsOwned t.fifo)) (sym (mutex_at-write ms id m v t.wait e))
+      (elim (is_place (mutex_place id) t.wait) as (λ b. is_place (mutex_place id) t.wait ≡ b → IfSome (cond b (Some v) (mutex_at ms t.wait)) (IsOwned t.fifo)) [
+        | true ↦ λ b. ok t at b
+        | false ↦ λ b. kept.owned
+      ] refl));
   mutexes = mutexes_written ms k.next_id id v h.mutexes new;
 }
 

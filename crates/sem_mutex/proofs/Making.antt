@@ -1,21 +1,24 @@
 -- A new mutex.
-use Rattle.std.proofs.Common.{◌≡◌, ℕ, ◌+◌, ◌<◌, true, false, cond, ◌&&◌, eqb, List, [], ◌∷◌, ◌++◌, get_or, Option, None, Some, IsSome, IfSome, refl, sym, ap, ◌∙◌, subst, arith}
+use Rattle.std.proofs.Common.{◌≡◌, ℕ, ◌+◌, ◌<◌, true, false, cond, ◌&&◌, eqb, List, [], ◌∷◌, ◌++◌, length, get_or, Option, None, Some, IsSome, IfSome, Result, Ok, Err, IfOk, IfErr, refl, sym, ap, ◌∙◌, subst, arith}
 use mathlib.Core.Path.{fun_ext}
 use Rattle.std.proofs.lemmas.Bool.{ne_eqb}
 use Rattle.std.proofs.lemmas.List.Elements.{All-weaker, All-push}
 use Rattle.std.proofs.lemmas.List.Sums.{sum_by_push}
 use Rattle.id_table.proofs.Kept.{object_of-cons}
-use Rattle.id_table.specs.Rows.{object_of, IdsBelow}
+use Rattle.id_table.specs.Rows.{Rows, add_refusal, added, object_of, IdsBelow}
 use Rattle.id_table.specs.declared.ident.Place.{Place}
 use Rattle.task_block.specs.declared.task.Task.{Task}
 use Rattle.wind_core.specs.State.{KernState}
 use Rattle.inheritance.specs.declared.mutex.Mutex.{Mutex}
-use Rattle.inheritance.specs.Mutexes.{MutexState, holds, held_count}
+use Rattle.inheritance.specs.Mutexes.{MutexState, LiveMutexes, both, holds, held_count}
 use Rattle.inheritance.specs.Reach.{mutex_at, lent_to}
-use Rattle.sem_mutex.specs.Making.{new_mutex, create}
+use Rattle.sem_mutex.specs.Making.{new_mutex, create_refusal, create}
 use Rattle.sem_mutex.specs.Kept.{MutexKept, Holds, KeepsMutexes}
 use Rattle.sem_mutex.proofs.Following.{follows_keeps}
 use Rattle.sem_mutex.proofs.Beside.{follows-ids}
+use Rattle.wind_base.specs.Limits.{most_mutexes}
+use Rattle.wind_base.specs.declared.errno.Errno.{Errno}
+use Rattle.wind_base.specs.declared.profile.Profile.{Profile}
 use Rattle.wind_base.specs.declared.semaphore.SemOptions.{SemOptions}
 use Rattle.wind_base.specs.SemBits.{is_priority, is_inversion_safe}
 
@@ -60,3 +63,26 @@ create_keeps s options urgency kept =
 
 pub below_next : (s : MutexState) → KeepsMutexes s → IdsBelow s.kern.next_id s.mutexes
 below_next s kept = All-weaker (MutexKept s.kern.next_id) (λ r. r.0 < s.kern.next_id) (λ r h. h.id) s.mutexes kept.holds.mutexes
+
+-- ---- the call that makes a mutex
+module _ (k l : KernState) (t u : Rows Mutex) (live : LiveMutexes) (p : Profile) (options : SemOptions) (v : Mutex) (new : v ≡ new_mutex options) (room : t.room ≡ most_mutexes)
+    (urgency : is_inversion_safe options ≡ true → is_priority options ≡ true) (kept : KeepsMutexes (both k live)) (seen : ◌≡◌ {A = LiveMutexes} (record { profile = p; rows = t.rows }) live) where
+  -- what the contract says of its result
+  pub record IsMade (r : Result ℕ Errno) : Type 0 where
+    pub ok : IfOk r (λ id. (create_refusal (both k live) ≡ None) × (id ≡ k.next_id) × (both l (record { profile = p; rows = u.rows }) ≡ create (both k live) (new_mutex options)))
+    pub err : IfErr r (λ e. (create_refusal (both k live) ≡ Some e) × (both l (record { profile = p; rows = u.rows }) ≡ both k live))
+    pub keeps : KeepsMutexes (both l (record { profile = p; rows = u.rows }))
+
+  same_refusal : create_refusal (both k live) ≡ add_refusal t.room (length t.rows) k.next_id
+  same_refusal = sym (λ i. add_refusal (room i) (length (seen i).rows) k.next_id)
+
+  pub is_made : (r : Result ℕ Errno)
+      → IfOk r (λ id. (add_refusal t.room (length t.rows) k.next_id ≡ None) × (id ≡ k.next_id) × (l ≡ record k { next_id = k.next_id + 1 }) × (u ≡ added t k.next_id v))
+      → IfErr r (λ e. (add_refusal t.room (length t.rows) k.next_id ≡ Some e) × (l ≡ k) × (u ≡ t)) → IsMade r
+  is_made (Ok id) ok err =
+      let state : both l (record { profile = p; rows = u.rows }) ≡ create (both k live) (new_mutex options) =
+      (λ i. both (ok.2 i) (record { profile = p; rows = (ok.3 i).rows })) ∙ (λ i. create (both k (seen i)) (new i)) in
+      record { ok = (same_refusal ∙ ok.0, ok.1, state); err = tt; keeps = subst KeepsMutexes (sym state) (create_keeps (both k live) options urgency kept) }
+  is_made (Err e) ok err =
+      let same : both l (record { profile = p; rows = u.rows }) ≡ both k live = (λ i. both (err.1 i) (record { profile = p; rows = (err.2 i).rows })) ∙ (λ i. both k (seen i)) in
+      record { ok = tt; err = (same_refusal ∙ err.0, same); keeps = subst KeepsMutexes (sym same) kept }

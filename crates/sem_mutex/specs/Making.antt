@@ -1,10 +1,10 @@
 -- The making of a mutex.
-use Rattle.std.specs.Prelude.{◌+◌, nat_le, nat_lt, if◌then◌else◌, [], ◌∷◌, ◌++◌, length, Option, None, Some}
-use Rattle.wind_base.specs.Limits.{most_mutexes, greatest_id}
+use Rattle.std.specs.Prelude.{◌+◌, [], ◌∷◌, ◌++◌, length, Option, None}
+use Rattle.wind_base.specs.Limits.{most_mutexes}
 use Rattle.wind_base.specs.SemBits.{is_priority, is_delete_safe, is_inversion_safe}
 use Rattle.wind_base.specs.declared.semaphore.SemOptions.{SemOptions}
 use Rattle.wind_base.specs.declared.errno.Errno.{Errno}
-use Rattle.wind_base.specs.declared.errno.Errno.TheVariants as errors
+use Rattle.id_table.specs.Rows.{add_refusal}
 use Rattle.inheritance.specs.declared.mutex.Mutex.{Mutex}
 use Rattle.inheritance.specs.Mutexes.{MutexState}
 
@@ -20,10 +20,7 @@ new_mutex options = record {
 
 -- why no mutex can be made: the limit of live mutexes is reached, otherwise no id is left
 abbrev pub create_refusal : MutexState → Option Errno
-create_refusal s =
-    if nat_le most_mutexes (length s.mutexes) then Some errors.TooMany
-    else if nat_lt greatest_id s.kern.next_id then Some errors.IdsSpent
-    else None
+create_refusal s = add_refusal most_mutexes (length s.mutexes) s.kern.next_id
 
 -- the mutex gets the next id, and goes last, since ids rise
 abbrev pub create : MutexState → Mutex → MutexState

@@ -57,6 +57,13 @@ impl Mutexes {
         self.table.facts();
     }
 
+    /// The mutexes by id.
+    pub fn table(&self) -> &Table<Mutex>
+        ensures { result.now.rows ≡ self.now.rows }
+    {
+        &self.table
+    }
+
     // The mutex with this id, which must exist.
     pub(crate) fn mutex(&self, id: Ident) -> &Mutex
         requires { IsSome (object_of self.now.rows id) }
@@ -72,13 +79,7 @@ impl Mutexes {
     pub(crate) fn find(&self, id: u32) -> Option<Ident>
         ensures { result ≡ live_mutex self.now.rows id }
     {
-        self.facts();
-        let id = Ident::new(id)?;
-        if self.table.contains(id) {
-            Some(id)
-        } else {
-            None
-        }
+        self.table.find(id)
     }
 
     // The owner of the mutex with this id, live or ended. None if it is free.
@@ -104,9 +105,6 @@ impl Mutexes {
             × (both k.new self.new ≡ both k.old self.old)) }
         ensures kept { KeepsMutexes (both k.new self.new) }
     {
-        if self.table.len() >= MUTEXES as usize {
-            return Err(Errno::TooMany);
-        }
         let mutex = Mutex {
             by_priority: options.is_priority(),
             delete_safe: options.is_delete_safe(),
@@ -114,10 +112,7 @@ impl Mutexes {
             owner: None,
             depth: 0,
         };
-        let Ok(id) = k.add_to(&mut self.table, mutex) else {
-            return Err(Errno::IdsSpent);
-        };
-        Ok(id)
+        k.create_in(&mut self.table, mutex)
     }
 
     /// Whether this number is the id of a live mutex.

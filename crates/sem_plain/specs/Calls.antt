@@ -1,13 +1,13 @@
 -- What the calls on binary and counting semaphores return, and the state after them (VxWorks 5.4 Reference Manual, semLib).
-use Rattle.std.specs.Prelude.{◌==◌, ℕ, ◌+◌, ◌-◌, ◌&&◌, not, nat_le, nat_lt, if◌then◌else◌, [], ◌∷◌, ◌++◌, length, Option, None, Some}
-use Rattle.wind_base.specs.Limits.{most_semaphores, greatest_id, greatest_word, error_word, ok_word, no_wait}
+use Rattle.std.specs.Prelude.{◌==◌, ℕ, ◌+◌, ◌-◌, ◌&&◌, not, if◌then◌else◌, [], ◌∷◌, ◌++◌, length, Option, None, Some}
+use Rattle.wind_base.specs.Limits.{most_semaphores, greatest_word, error_word, ok_word, no_wait}
 use Rattle.wind_base.specs.SemBits.{is_priority}
 use Rattle.wind_base.specs.declared.errno.Errno.{Errno}
 use Rattle.wind_base.specs.declared.errno.Errno.TheVariants as errors
 use Rattle.wind_base.specs.declared.semaphore.SemKind.{SemKind}
 use Rattle.wind_base.specs.declared.semaphore.SemKind.TheVariants as kinds
 use Rattle.wind_base.specs.declared.semaphore.SemOptions.{SemOptions}
-use Rattle.id_table.specs.Rows.{object_of, with_object, without}
+use Rattle.id_table.specs.Rows.{add_refusal, object_of, with_object, without}
 use Rattle.task_block.specs.declared.task.Task.{Task}
 use Rattle.wind_core.specs.Orders.{first_waiter}
 use Rattle.wind_core.specs.Moves.{pend, end_wait, wake_all}
@@ -31,10 +31,7 @@ new_semaphore kind options count = record { kind = kind; options = options; coun
 
 -- the limit of live semaphores is reached, otherwise no id is left
 abbrev pub create_refusal : SemState → Option Errno
-create_refusal s =
-    if nat_le most_semaphores (length s.semaphores) then Some errors.TooMany
-    else if nat_lt greatest_id s.kern.next_id then Some errors.IdsSpent
-    else None
+create_refusal s = add_refusal most_semaphores (length s.semaphores) s.kern.next_id
 
 -- the semaphore gets the next id, and goes last, since ids rise
 abbrev pub create : SemState → Semaphore → SemState

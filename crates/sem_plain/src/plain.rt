@@ -55,18 +55,19 @@ impl Plain {
         })
     }
 
+    /// The semaphores by id.
+    pub fn table(&self) -> &Table<Semaphore>
+        ensures { result.now.rows ≡ self.now }
+    {
+        &self.table
+    }
+
     // The id with this number, if its semaphore is live.
     fn find(&self, number: u32) -> Option<Ident>
         ensures { MatchOption result (object_of self.now number ≡ None)
             (λ id. (id ≡ number) × IsSome (object_of self.now id)) }
     {
-        self.table.facts();
-        let id = Ident::new(number)?;
-        if self.table.contains(id) {
-            Some(id)
-        } else {
-            None
-        }
+        self.table.find(number)
     }
 
     // The semaphore with this id.
@@ -116,18 +117,12 @@ impl Plain {
         ensures err { IfErr result (λ e. create_refusal (both kern.old self.old) ≡ Some e) }
         ensures same { IfErr result (λ _. both kern.new self.new ≡ both kern.old self.old) }
     {
-        if self.table.len() >= SEMAPHORES as usize {
-            return Err(Errno::TooMany);
-        }
         let semaphore = Semaphore {
             kind,
             options,
             count,
         };
-        let Ok(id) = kern.add_to(&mut self.table, semaphore) else {
-            return Err(Errno::IdsSpent);
-        };
-        Ok(id)
+        kern.create_in(&mut self.table, semaphore)
     }
 
     /// Takes the semaphore if its count is above 0. Otherwise the caller begins to wait for it, for

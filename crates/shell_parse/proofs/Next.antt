@@ -404,28 +404,21 @@ forth_loaded Semi ts h = h
 forth_loaded t ts h = absurd h
 
 -- ---- one step is exactly what the grammar allows
+exact : (mode : Mode) (fs : List Frame) (t : Token) (ts : List Token) → (LangOf (step mode fs t) ts → Lang mode fs (t ∷ ts)) × (Lang mode fs (t ∷ ts) → LangOf (step mode fs t) ts)
+exact Start fs t ts = (back_start t ts, λ h. forth_line h.1)
+exact (Named ld) fs t ts = (back_named ld t ts, forth_named ld t ts)
+exact Whole fs t ts = (back_whole fs t ts, forth_whole fs t ts)
+exact Variable fs t ts = (back_variable fs t ts, forth_variable fs t ts)
+exact (Want mark) fs t ts = (back_operand mark fs t ts, forth_operand mark fs t ts)
+exact (Target mark) fs t ts = (back_target mark fs t ts, forth_target mark fs t ts)
+exact (Done mark) fs t ts = (back_done mark fs t ts, forth_done mark fs t ts)
+exact (Callee mark) fs t ts = (back_callee mark fs t ts, forth_callee mark fs t ts)
+exact Opened fs t ts = (back_opened fs t ts, forth_opened fs t ts)
+exact AtFile fs t ts = (back_file t ts, forth_file t ts)
+exact Loaded fs t ts = (back_loaded t ts, forth_loaded t ts)
+
 pub back : (mode : Mode) (fs : List Frame) (t : Token) (ts : List Token) → LangOf (step mode fs t) ts → Lang mode fs (t ∷ ts)
-back Start fs t ts h = back_start t ts h
-back (Named ld) fs t ts h = back_named ld t ts h
-back Whole fs t ts h = back_whole fs t ts h
-back Variable fs t ts h = back_variable fs t ts h
-back (Want mark) fs t ts h = back_operand mark fs t ts h
-back (Target mark) fs t ts h = back_target mark fs t ts h
-back (Done mark) fs t ts h = back_done mark fs t ts h
-back (Callee mark) fs t ts h = back_callee mark fs t ts h
-back Opened fs t ts h = back_opened fs t ts h
-back AtFile fs t ts h = back_file t ts h
-back Loaded fs t ts h = back_loaded t ts h
+back mode fs t ts = (exact mode fs t ts).0
 
 pub forth : (mode : Mode) (fs : List Frame) (t : Token) (ts : List Token) → Lang mode fs (t ∷ ts) → LangOf (step mode fs t) ts
-forth Start fs t ts (ss, l) = forth_line l
-forth (Named ld) fs t ts h = forth_named ld t ts h
-forth Whole fs t ts h = forth_whole fs t ts h
-forth Variable fs t ts h = forth_variable fs t ts h
-forth (Want mark) fs t ts h = forth_operand mark fs t ts h
-forth (Target mark) fs t ts h = forth_target mark fs t ts h
-forth (Done mark) fs t ts h = forth_done mark fs t ts h
-forth (Callee mark) fs t ts h = forth_callee mark fs t ts h
-forth Opened fs t ts h = forth_opened fs t ts h
-forth AtFile fs t ts h = forth_file t ts h
-forth Loaded fs t ts h = forth_loaded t ts h
+forth mode fs t ts = (exact mode fs t ts).1

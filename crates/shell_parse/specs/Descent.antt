@@ -5,6 +5,8 @@ use Rattle.shell_parse.specs.declared.tree.BinOp.TheVariants.{Minus, Times, And}
 use Rattle.shell_parse.specs.declared.tree.UnOp.TheVariants as before
 use Rattle.shell_parse.specs.declared.token.Token.{Token}
 use Rattle.shell_parse.specs.declared.token.Token.TheVariants.{Number, Str, Name, Operator, Set, Not, Com, Open, Close, Comma, Semi, Redirect, File}
+use Rattle.shell_parse.specs.declared.descent.Mark.{Mark}
+use Rattle.shell_parse.specs.declared.descent.Mark.TheVariants as marks
 use Rattle.shell_parse.specs.Levels.{level_of, levels}
 use Rattle.shell_parse.specs.Grammar.{most_arguments, is_ld}
 use Rattle.shell_parse.specs.Trees.{PlainTree, Arguments, End, Then, PlainStmt, Nothing, Load, Command, Expr}
@@ -45,6 +47,13 @@ parted _ = None
 abbrev pub starred : List Token → Option (List Token)
 starred (Operator Times ∷ ts) = Some ts
 starred _ = None
+
+-- the tokens after a mark
+abbrev pub after_mark : Mark → List Token → Option (List Token)
+after_mark marks.Close = closed
+after_mark marks.Open = opened
+after_mark marks.Comma = parted
+after_mark marks.Star = starred
 
 -- the name that comes first
 abbrev pub named : List Token → Reads (List ℕ)

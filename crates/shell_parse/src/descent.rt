@@ -5,7 +5,7 @@ ghost use Rattle.shell_parse.specs.Levels.{level_of, levels};
 ghost use Rattle.shell_parse.specs.Trees.{plain_tree, plain_arguments};
 ghost use Rattle.shell_parse.specs.Trees as trees;
 ghost use Rattle.shell_parse.specs.Gives.{Gives};
-ghost use Rattle.shell_parse.specs.Descent.{whole_at, star_at, climb_at, more_at, level_at, unary_at, calls_at, args_at, listed_at, closed as closed_lem, opened as opened_lem, parted as parted_lem, starred as starred_lem, named as named_lem, assigned as assigned_lem, name_assigned as name_assigned_lem, operator_at, mapped};
+ghost use Rattle.shell_parse.specs.Descent.{whole_at, star_at, climb_at, more_at, level_at, unary_at, calls_at, args_at, listed_at, closed, after_mark as after_mark_lem, named as named_lem, assigned as assigned_lem, name_assigned as name_assigned_lem, operator_at, mapped};
 
 use crate::token::{Token, Word};
 use crate::tree::{BinOp, Tree, UnOp};
@@ -147,40 +147,28 @@ fn level(op: BinOp) -> u32
     }
 }
 
-// The tokens after a parenthesis, a comma or a star, if the first token is one.
-
-fn closed<'a>(tokens: &'a [Token<'a>]) -> Option<&'a [Token<'a>]>
-    ensures { option_map (λ rest. rest.now) result ≡ closed_lem tokens.now }
-{
-    match tokens {
-        [Token::Close, rest @ ..] => Some(rest),
-        _ => None,
-    }
+/// A token that parts others.
+#[derive(Clone, Copy, Debug)]
+pub(crate) enum Mark {
+    /// `)`.
+    Close,
+    /// `(`.
+    Open,
+    /// `,`.
+    Comma,
+    /// `*`.
+    Star,
 }
 
-fn opened<'a>(tokens: &'a [Token<'a>]) -> Option<&'a [Token<'a>]>
-    ensures { option_map (λ rest. rest.now) result ≡ opened_lem tokens.now }
+// The tokens after a mark, if the first token is that mark.
+fn after_mark<'a>(mark: Mark, tokens: &'a [Token<'a>]) -> Option<&'a [Token<'a>]>
+    ensures { option_map (λ rest. rest.now) result ≡ after_mark_lem mark tokens.now }
 {
-    match tokens {
-        [Token::Open, rest @ ..] => Some(rest),
-        _ => None,
-    }
-}
-
-fn parted<'a>(tokens: &'a [Token<'a>]) -> Option<&'a [Token<'a>]>
-    ensures { option_map (λ rest. rest.now) result ≡ parted_lem tokens.now }
-{
-    match tokens {
-        [Token::Comma, rest @ ..] => Some(rest),
-        _ => None,
-    }
-}
-
-fn starred<'a>(tokens: &'a [Token<'a>]) -> Option<&'a [Token<'a>]>
-    ensures { option_map (λ rest. rest.now) result ≡ starred_lem tokens.now }
-{
-    match tokens {
-        [Token::Operator(BinOp::Times), rest @ ..] => Some(rest),
+    match (mark, tokens) {
+        (Mark::Close, [Token::Close, rest @ ..]) => Some(rest),
+        (Mark::Open, [Token::Open, rest @ ..]) => Some(rest),
+        (Mark::Comma, [Token::Comma, rest @ ..]) => Some(rest),
+        (Mark::Star, [Token::Operator(BinOp::Times), rest @ ..]) => Some(rest),
         _ => None,
     }
 }
@@ -246,9 +234,9 @@ fn address<'a>(alloc: Global, tokens: &'a [Token<'a>]) -> Reads<'a, Tree>
 
 // The tokens after a closing parenthesis, which must come first.
 fn after_close<'a>(tokens: &'a [Token<'a>]) -> Result<&'a [Token<'a>], ReadErr>
-    ensures { Gives (λ rest. rest.now) result (closed_lem tokens.now) }
+    ensures { Gives (λ rest. rest.now) result (closed tokens.now) }
 {
-    match closed(tokens) {
+    match after_mark(Mark::Close, tokens) {
         Some(rest) => Ok(rest),
         None => Err(ReadErr::NoTree),
     }
@@ -267,7 +255,7 @@ pub(crate) fn whole<'a>(alloc: Global, depth: u32, tokens: &'a [Token<'a>]) -> R
         let (right, rest) = whole(alloc, depth - 1, rest)?;
         return Ok((set_name(alloc, op, word, right)?, rest));
     }
-    match starred(tokens) {
+    match after_mark(Mark::Star, tokens) {
         Some(rest) => star(alloc, depth - 1, rest),
         None => operands(alloc, depth - 1, LEVELS, tokens),
     }
@@ -398,7 +386,7 @@ fn calls<'a>(alloc: Global, depth: u32, callee: Tree, tokens: &'a [Token<'a>]) -
     if depth == 0 {
         return Err(ReadErr::NoTree);
     }
-    match opened(tokens) {
+    match after_mark(Mark::Open, tokens) {
         Some(rest) => {
             let (arguments, rest) = args(alloc, depth - 1, rest)?;
             let callee = call(alloc, callee, arguments)?;
@@ -416,7 +404,7 @@ fn args<'a>(alloc: Global, depth: u32, tokens: &'a [Token<'a>]) -> Reads<'a, Vec
     if depth == 0 {
         return Err(ReadErr::NoTree);
     }
-    match closed(tokens) {
+    match after_mark(Mark::Close, tokens) {
         Some(rest) => Ok((Vec::new(alloc), rest)),
         None => {
             let (arguments, rest) = listed(alloc, depth - 1, ARGUMENTS, tokens)?;
@@ -440,7 +428,7 @@ pub(crate) fn listed<'a>(
         return Err(ReadErr::NoTree);
     }
     let (argument, rest) = whole(alloc, depth - 1, tokens)?;
-    match parted(rest) {
+    match after_mark(Mark::Comma, rest) {
         Some(after) => {
             let (arguments, after) = listed(alloc, depth - 1, most - 1, after)?;
             Ok((with_first(argument, arguments)?, after))

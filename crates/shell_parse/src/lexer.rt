@@ -58,6 +58,9 @@ fn word_token<'a>(first: u8, word: &'a [u8]) -> Token<'a>
     }
 }
 
+// A token, and how many bytes it has after its first.
+type Found<'a> = Result<(Token<'a>, usize), AllocError>;
+
 // In each of the functions below, `bytes` is the first byte and the rest.
 
 fn word<'a>(first: u8, rest: &[u8], bytes: &'a [u8]) -> (Token<'a>, usize)
@@ -84,12 +87,7 @@ fn file<'a>(first: u8, rest: &[u8], bytes: &'a [u8]) -> (Token<'a>, usize)
     (Token::File(file), len)
 }
 
-fn any<'a>(
-    alloc: Global,
-    first: u8,
-    rest: &[u8],
-    bytes: &'a [u8],
-) -> Result<(Token<'a>, usize), AllocError>
+fn any<'a>(alloc: Global, first: u8, rest: &[u8], bytes: &'a [u8]) -> Found<'a>
     requires bytes { bytes.now ≡ first ∷ rest.now }
     requires short { length bytes.now ≤ longest_line }
     ensures { IfOk result (λ x. x ≡ any_at first rest.now) }
@@ -117,13 +115,7 @@ fn redirected(token: Token) -> Token
 // The token at this spot that these bytes begin with, and how many bytes it has after its first.
 // The first byte isn't a blank.
 #[tactic(auto, unfolding(crate::specs::Tokens::token_at))]
-fn first_token<'a>(
-    alloc: Global,
-    spot: Spot,
-    first: u8,
-    rest: &[u8],
-    bytes: &'a [u8],
-) -> Result<(Token<'a>, usize), AllocError>
+fn first_token<'a>(alloc: Global, spot: Spot, first: u8, rest: &[u8], bytes: &'a [u8]) -> Found<'a>
     requires bytes { bytes.now ≡ first ∷ rest.now }
     requires short { length bytes.now ≤ longest_line }
     ensures { IfOk result (λ x. x ≡ token_at spot first rest.now) }

@@ -4,6 +4,8 @@ use Rattle.std.specs.List.{All}
 use Rattle.wind_base.specs.Limits.{most_symbols}
 use Rattle.symbol_table.specs.declared.symbol.Symbol.{Symbol}
 use Rattle.symbol_table.specs.declared.links.Links.{Links}
+use Rattle.symbol_table.specs.declared.links.Key.{Key}
+use Rattle.symbol_table.specs.declared.links.Key.TheVariants as keys
 use Rattle.symbol_table.specs.Newest.{is_named}
 use Rattle.symbol_table.specs.State.{TableState, IsNamed}
 
@@ -28,12 +30,21 @@ name_hash name = hash_from 5381 name
 unfoldable pub value_hash : ℕ → ℕ
 value_hash value = value * 2654435769 % 2 ^ 32 / most_hashes
 
--- the chain of an entry: its hash modulo n, with n chains by name, or n by value
+-- the hash of an entry, by its name or by its value
+abbrev pub hash_by : Key → Symbol → ℕ
+hash_by keys.Name s = name_hash s.name
+hash_by keys.Value s = value_hash s.value
+
+-- the chain of an entry: its hash modulo n, with n chains
+abbrev pub chain_by : Key → ℕ → Symbol → ℕ
+chain_by key n s = hash_by key s % n
+
+-- with n chains by name, or n by value
 abbrev pub chain_by_name : ℕ → Symbol → ℕ
-chain_by_name n s = name_hash s.name % n
+chain_by_name n s = chain_by keys.Name n s
 
 abbrev pub chain_by_value : ℕ → Symbol → ℕ
-chain_by_value n s = value_hash s.value % n
+chain_by_value n s = chain_by keys.Value n s
 
 -- the entry has this name, and is global if only global ones are sought
 abbrev pub is_sought : Bool → List ℕ → Symbol → Bool
@@ -60,12 +71,16 @@ pub record AreChained (chains : List ℕ) (s : LinksState) : Type 0 where
   pub each : (i : ℕ) → i < length chains → slice_index s.before i ≡ newest_link chains i (slice_index chains i)
   pub first : (h : ℕ) → h < length s.heads → slice_index s.heads h ≡ newest_link chains (length chains) h
 
--- these entries are linked into the chains of their names, and of their values
+-- these entries are linked into their chains
+abbrev pub AreLinked : Key → List Symbol → LinksState → Type 0
+AreLinked key list s = AreChained (map (chain_by key (length s.heads)) list) s
+
+-- by name, and by value
 abbrev pub AreNamed : List Symbol → LinksState → Type 0
-AreNamed list s = AreChained (map (chain_by_name (length s.heads)) list) s
+AreNamed list s = AreLinked keys.Name list s
 
 abbrev pub AreValued : List Symbol → LinksState → Type 0
-AreValued list s = AreChained (map (chain_by_value (length s.heads)) list) s
+AreValued list s = AreLinked keys.Value list s
 
 -- the links with one entry more: it links to the newest entry of its chain, and becomes the newest
 abbrev pub linked : ℕ → LinksState → LinksState

@@ -8,10 +8,8 @@ ghost use Rattle.symbol_table.specs.State.{TableState, IsTable, IsNamed, added, 
 ghost use Rattle.symbol_table.specs.Chains.{AreChains, is_sought, table_of};
 ghost use Rattle.symbol_table.specs.declared.symbol.SymErr.TheVariants as errors;
 
-use crate::links::{Links, hash_name, hash_value};
-use crate::search::{
-    link_by_name, link_by_value, newest_named, newest_valued, widen_by_name, widen_by_value,
-};
+use crate::links::{Key, Links, hash_name, hash_value};
+use crate::search::{link, newest_named, newest_valued, widen};
 use crate::symbol::{SymErr, Symbol};
 use std::alloc::Global;
 use std::marker::Model;
@@ -99,10 +97,10 @@ impl Chains {
             return Err(SymErr::NoMemory);
         };
         let all = self.list.len() as u32 + n;
-        let Ok(()) = widen_by_name(&self.list, &mut self.names, all) else {
+        let Ok(()) = widen(Key::Name, &self.list, &mut self.names, all) else {
             return Err(SymErr::NoMemory);
         };
-        let Ok(()) = widen_by_value(&self.list, &mut self.values, all) else {
+        let Ok(()) = widen(Key::Value, &self.list, &mut self.values, all) else {
             return Err(SymErr::NoMemory);
         };
         self.spare = n;
@@ -145,8 +143,8 @@ impl Chains {
     {
         let before = self.list.len();
         drop_group(&mut self.list, group);
-        link_by_name(&self.list, &mut self.names);
-        link_by_value(&self.list, &mut self.values);
+        link(Key::Name, &self.list, &mut self.names);
+        link(Key::Value, &self.list, &mut self.values);
         (before - self.list.len()) as u32
     }
 }

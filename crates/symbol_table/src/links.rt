@@ -25,6 +25,13 @@ pub(crate) struct Links {
     pub(crate) heads: Vec<u32>,
 }
 
+/// What decides an entry's chain.
+#[derive(Clone, Copy)]
+pub(crate) enum Key {
+    Name,
+    Value,
+}
+
 /// The hash of a name.
 #[tactic(auto, unfolding(crate::specs::Chains::name_hash))]
 pub(crate) fn hash_name(name: &[u8]) -> u32

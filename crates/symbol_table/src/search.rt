@@ -3,9 +3,9 @@
 ghost use Rattle.std.specs.Prelude.{◌≡◌, ◌≤◌, ◌<◌, length, option_copied, vec_capacity, OnOk};
 ghost use Rattle.wind_base.specs.Limits.{most_symbols};
 ghost use Rattle.symbol_table.specs.Newest.{newest, has_value};
-ghost use Rattle.symbol_table.specs.Chains.{most_hashes, AreNamed, AreValued, is_sought, state_of};
+ghost use Rattle.symbol_table.specs.Chains.{most_hashes, hash_by as hash_by_lem, AreLinked, AreNamed, AreValued, is_sought, state_of};
 
-use crate::links::{Links, hash_name, hash_value};
+use crate::links::{Key, Links, hash_name, hash_value};
 use crate::symbol::Symbol;
 use wind_base::NoMemory;
 
@@ -52,45 +52,40 @@ pub(crate) fn newest_valued<'a>(list: &'a [Symbol], links: &Links, value: u32) -
     None
 }
 
-/// Links the symbols into chains by name.
-pub(crate) fn link_by_name(list: &[Symbol], links: &mut Links)
+fn hash_by(key: Key, symbol: &Symbol) -> u32
+    ensures value { result ≡ hash_by_lem key symbol.now }
+    ensures below { result < most_hashes }
+{
+    match key {
+        Key::Name => hash_name(symbol.name.bytes()),
+        Key::Value => hash_value(symbol.value),
+    }
+}
+
+/// Links the symbols into chains by name, or by value.
+pub(crate) fn link(key: Key, list: &[Symbol], links: &mut Links)
     requires some { 0 < length links.old.heads.items }
     requires few { length list.now ≤ most_symbols }
     requires room { length list.now ≤ vec_capacity links.old.before }
-    ensures chained { AreNamed list.now (state_of links.new) }
+    ensures chained { AreLinked key list.now (state_of links.new) }
     ensures heads { length links.new.heads.items ≡ length links.old.heads.items }
     ensures capacity { vec_capacity links.new.before ≡ vec_capacity links.old.before }
 {
     links.clear();
     for symbol in list {
-        links.add(hash_name(symbol.name.bytes()));
+        links.add(hash_by(key, symbol));
     }
 }
 
-/// Links the symbols into chains by value.
-pub(crate) fn link_by_value(list: &[Symbol], links: &mut Links)
-    requires some { 0 < length links.old.heads.items }
-    requires few { length list.now ≤ most_symbols }
-    requires room { length list.now ≤ vec_capacity links.old.before }
-    ensures chained { AreValued list.now (state_of links.new) }
-    ensures heads { length links.new.heads.items ≡ length links.old.heads.items }
-    ensures capacity { vec_capacity links.new.before ≡ vec_capacity links.old.before }
-{
-    links.clear();
-    for symbol in list {
-        links.add(hash_value(symbol.value));
-    }
-}
-
-/// Makes at least `n` chains by name, with the symbols in them. If memory runs out, the chains stay
-/// as they were.
-pub(crate) fn widen_by_name(list: &[Symbol], links: &mut Links, n: u32) -> Result<(), NoMemory>
+/// Makes at least `n` chains by name, or by value, with the symbols in them. If memory runs out, the
+/// chains stay as they were.
+pub(crate) fn widen(key: Key, list: &[Symbol], links: &mut Links, n: u32) -> Result<(), NoMemory>
     requires wide { n ≤ most_hashes }
     requires some { 0 < length links.old.heads.items }
     requires few { length list.now ≤ most_symbols }
     requires room { length list.now ≤ vec_capacity links.old.before }
-    requires chained { AreNamed list.now (state_of links.old) }
-    ensures chained { AreNamed list.now (state_of links.new) }
+    requires chained { AreLinked key list.now (state_of links.old) }
+    ensures chained { AreLinked key list.now (state_of links.new) }
     ensures capacity { vec_capacity links.new.before ≡ vec_capacity links.old.before }
     ensures enough { OnOk result (n ≤ length links.new.heads.items) }
     ensures no_fewer { length links.old.heads.items ≤ length links.new.heads.items }
@@ -99,27 +94,6 @@ pub(crate) fn widen_by_name(list: &[Symbol], links: &mut Links, n: u32) -> Resul
         return Ok(());
     }
     links.widen(n)?;
-    link_by_name(list, links);
-    Ok(())
-}
-
-/// Makes at least `n` chains by value, with the symbols in them. If memory runs out, the chains
-/// stay as they were.
-pub(crate) fn widen_by_value(list: &[Symbol], links: &mut Links, n: u32) -> Result<(), NoMemory>
-    requires wide { n ≤ most_hashes }
-    requires some { 0 < length links.old.heads.items }
-    requires few { length list.now ≤ most_symbols }
-    requires room { length list.now ≤ vec_capacity links.old.before }
-    requires chained { AreValued list.now (state_of links.old) }
-    ensures chained { AreValued list.now (state_of links.new) }
-    ensures capacity { vec_capacity links.new.before ≡ vec_capacity links.old.before }
-    ensures enough { OnOk result (n ≤ length links.new.heads.items) }
-    ensures no_fewer { length links.old.heads.items ≤ length links.new.heads.items }
-{
-    if n as usize <= links.heads.len() {
-        return Ok(());
-    }
-    links.widen(n)?;
-    link_by_value(list, links);
+    link(key, list, links);
     Ok(())
 }

@@ -113,29 +113,31 @@ module _ (w : WorldState) (kept : IsWorld w) (n : ℕ) (within : Within n w) whe
       let t : TaskRecord = new_task w.kern.next_id w.kern.next_since task in
       let stacks : task_stacks (spawn w.kern task) ≡ task_stacks w.kern ++ record { addr = at; size = stack_bytes s.stack } ∷ [] = map-append stack_of w.kern.tasks (t ∷ []) in
       record {
-        kept = record {
-          kern = move_keeps w.kern (Spawn task) kept.kern room;
-          home = kept.home;
-          kind = kept.kind;
-          objects = objects-move w.kern w.objects kept.kern kept.objects (Spawn task) (room, tt, tt, tt);
-          pool = pool-alloc w.part (stack_bytes s.stack) 16 Kernel kept.pool;
-          stacks = subst (λ ss. AreStacks (after_alloc w.part (stack_bytes s.stack) 16 Kernel) (routine_stack ∷ ss)) (sym stacks)
-              (stacks-more w.part (stack_bytes s.stack) 16 at (routine_stack ∷ task_stacks w.kern) kept.pool.blocks ok kept.stacks);
-          modules = loaded_more w.kern w.part w.modules.rows kept.modules (spawn w.kern task) (stack_bytes s.stack) 16 at kept.pool.blocks ok (omega arith) stacks;
-          ram = framed_size (first_pointer at (stack_bytes s.stack)) s.words ∙ kept.ram;
-          symbols = kept.symbols;
-          watch = watch_on w.kern.next_id (w.kern.next_id + 1) w.watch (omega arith) kept.watch;
-          ids = ids_spawn w kept.ids (spawn w.kern task) (map-append task_id w.kern.tasks (t ∷ [])) refl;
+        steps = record {
+          kept = record {
+            kern = move_keeps w.kern (Spawn task) kept.kern room;
+            home = kept.home;
+            kind = kept.kind;
+            objects = objects-move w.kern w.objects kept.kern kept.objects (Spawn task) (room, tt, tt, tt);
+            pool = pool-alloc w.part (stack_bytes s.stack) 16 Kernel kept.pool;
+            stacks = subst (λ ss. AreStacks (after_alloc w.part (stack_bytes s.stack) 16 Kernel) (routine_stack ∷ ss)) (sym stacks)
+                (stacks-more w.part (stack_bytes s.stack) 16 at (routine_stack ∷ task_stacks w.kern) kept.pool.blocks ok kept.stacks);
+            modules = loaded_more w.kern w.part w.modules.rows kept.modules (spawn w.kern task) (stack_bytes s.stack) 16 at kept.pool.blocks ok (omega arith) stacks;
+            ram = framed_size (first_pointer at (stack_bytes s.stack)) s.words ∙ kept.ram;
+            symbols = kept.symbols;
+            watch = watch_on w.kern.next_id (w.kern.next_id + 1) w.watch (omega arith) kept.watch;
+            ids = ids_spawn w kept.ids (spawn w.kern task) (map-append task_id w.kern.tasks (t ∷ [])) refl;
+          };
+          within = (All-push (HasCounts (n + 1)) w.kern.tasks t (within_more w n (n + 1) (omega arith) within).0 (omega arith, omega arith), (within_more w n (n + 1) (omega arith) within).1);
+          last = refl;
+          reserves = λ who h. All-push (λ u. IsSome u.regs.reserve → who ≡ Some u.id) w.kern.tasks t h (λ some. absurd (cc));
+          sinces = omega arith;
+          count = refl;
+          names = names_few s.name;
+          starts = omega arith;
+          choice = refl;
         };
         lives = lives_more t;
-        within = (All-push (HasCounts (n + 1)) w.kern.tasks t (within_more w n (n + 1) (omega arith) within).0 (omega arith, omega arith), (within_more w n (n + 1) (omega arith) within).1);
-        last = refl;
-        reserves = λ who h. All-push (λ u. IsSome u.regs.reserve → who ≡ Some u.id) w.kern.tasks t h (λ some. absurd (cc));
-        sinces = omega arith;
-        count = refl;
-        names = names_few s.name;
-        starts = omega arith;
-        choice = refl;
       }
 
   at_advances : (s : Wanted) (r : Result ℕ PartErr) → spawn_refusal w.kern ≡ None → alloc_of w.part (stack_bytes s.stack) 16 ≡ r → Advances w (after_spawn w (spawned_at (spawn_state w) s r).after) (n + 1) call_sinces 1

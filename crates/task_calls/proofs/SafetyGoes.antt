@@ -19,7 +19,7 @@ use Rattle.task_safety.specs.declared.deleting.Deed.TheVariants.{Refuses, EndsIt
 use Rattle.task_calls.specs.Ending.{unguarded}
 use Rattle.kernel_world.specs.Kept.{stack_of, HasCounts, CountsWithin, ReservedBy, task_stacks}
 use Rattle.task_calls.specs.SafetyRows.{at_deletion, back_at_gate}
-use Rattle.kernel_world.proofs.Goes.{Goes, goes_on, more_counts, by_change, goes-move, goes-lessen, reserved_by}
+use Rattle.kernel_world.proofs.Goes.{Goes, goes_on, goes_further, by_change, goes-move, goes-lessen, reserved_by}
 
 -- ---- a deletion that takes no task out
 module _ (k : KernState) (n : ℕ) (is : IsKern k) (within : CountsWithin n k) where
@@ -55,20 +55,6 @@ pub record Leaves (k j : KernState) (who n d : ℕ) : Type 0 where
   pub sinces : j.next_since ≤ k.next_since + d
   pub next : k.next_id ≤ j.next_id
   pub count : j.tick ≡ k.tick
-
-pub leaves_further : (k j : KernState) (who m n d e : ℕ) → m ≤ n → d ≤ e → Leaves k j who m d → Leaves k j who n e
-leaves_further k j who m n d e more longer g = record {
-  kern = g.kern;
-  alone = g.alone;
-  stacks = g.stacks;
-  lent = g.lent;
-  last = g.last;
-  reserves = g.reserves;
-  counts = more_counts j m n more g.counts;
-  sinces = omega (arith, g.sinces, longer);
-  next = g.next;
-  count = g.count;
-}
 
 -- a field of the tasks that are left, if two lists have the same ids with the same values of it
 same_without : {A : Type 0} (field : Task → A) (ts us : List Task) (who : ℕ) → ids ts ≡ ids us → map field ts ≡ map field us → map field (without task_id ts who) ≡ map field (without task_id us who)
@@ -115,8 +101,9 @@ module _ (k : KernState) (n : ℕ) (is : IsKern k) (within : CountsWithin n k) w
       goes_leaves k j who n 256 (goes_on k (asked k who) j n n 0 256 one (goes-lessen (asked k who) n one.kern one.counts who count))
 
   -- a task that is not safe is removed
-  pub removed_leaves : (who id : ℕ) → Leaves k (after k who (Removes id)) id n 0
-  removed_leaves who id = goes_leaves k (asked k who) id n 0 (goes-move k n is within (SetAgain who false) tt)
+  pub removed_leaves : (who id : ℕ) → Leaves k (after k who (Removes id)) id n 256
+  removed_leaves who id =
+      goes_leaves k (asked k who) id n 256 (goes_further k (asked k who) n n 0 256 (omega arith) (omega arith) (goes-move k n is within (SetAgain who false) tt))
 
   -- a task ends, whoever ends it
   pub ended_leaves : (who : ℕ) → Leaves k (remove (unguarded k who) who) who n 256

@@ -71,19 +71,16 @@ stack-asked p k caller who = without_same p (asked k caller).tasks k.tasks who (
 abbrev handed : (Task → Deleted) → Task → Result Deleted Errno
 handed as_deleted t = Ok (as_deleted t)
 
+handed_same : (as_deleted : Task → Deleted) → ((a b : Task) → Some (handed as_deleted a) ≡ Some (handed as_deleted b) → Some a ≡ Some b)
+    → (o : Option Task) (t : Task) → option_map (handed as_deleted) o ≡ Some (handed as_deleted t) → o ≡ Some t
+handed_same as_deleted one None t e = absurd (cc)
+handed_same as_deleted one (Some u) t e = one u t e
+
 handed_removed : (o : Option Task) (t : Task) → option_map (handed Removed) o ≡ Some (handed Removed t) → o ≡ Some t
-handed_removed None t e = absurd (cc)
-handed_removed (Some u) t e = one u t e
-  where
-    one : (a b : Task) → Some (handed Removed a) ≡ Some (handed Removed b) → Some a ≡ Some b
-    one a b h = cc
+handed_removed = handed_same Removed (λ a b h. cc)
 
 handed_ended : (o : Option Task) (t : Task) → option_map (handed SelfEnded) o ≡ Some (handed SelfEnded t) → o ≡ Some t
-handed_ended None t e = absurd (cc)
-handed_ended (Some u) t e = one u t e
-  where
-    one : (a b : Task) → Some (handed SelfEnded a) ≡ Some (handed SelfEnded b) → Some a ≡ Some b
-    one a b h = cc
+handed_ended = handed_same SelfEnded (λ a b h. cc)
 
 -- an answer of one kind is none of the other
 never_removed : (o : Option Task) (t : Task) → option_map (handed SelfEnded) o ≡ Some (handed Removed t) → ⊥

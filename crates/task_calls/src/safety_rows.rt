@@ -77,8 +77,8 @@ fn stand_at_gate(kern: &mut Kern, who: Ident, board: BoardKind)
 }
 
 /// taskDelete, from a task: deletes the task with this id; 0 is the caller. While that task is
-/// safe, the caller waits at the board's gate of this call. Refused at interrupt level, if no such task lives, and for
-/// the shell's task.
+/// safe, the caller waits at the board's gate of this call. Refused at interrupt level, if no such
+/// task lives, and for the shell's task.
 pub fn delete(kern: &mut Kern, part: &mut Part, who: Actor, id: u32, board: BoardKind) -> Reply
     requires live { Acts kern.old who }
     requires since { kern.old.next_since < 2 ^ 63 }

@@ -1,12 +1,10 @@
 //! taskSpawn and sp.
 
 ghost use Rattle.std.specs.Prelude.{◌≡◌, ◌+◌, ◌-◌, ◌^◌, ◌<◌, ◌≤◌, false, [], length};
-ghost use Rattle.wind_base.specs.Limits.{longest_short_name};
-ghost use Rattle.wind_base.specs.OutBuf.{Added, KeepsSpace};
+ghost use Rattle.wind_base.specs.{Limits.longest_short_name, OutBuf.{Added, KeepsSpace}};
 ghost use Rattle.mem_partition.specs.Place.{rounded};
-ghost use Rattle.kernel_world.specs.Kept.{IsEarly};
-ghost use Rattle.kernel_world.specs.Seen.{world_seen, world_with};
-ghost use Rattle.task_calls.specs.Spawning.{spawn_parts, spawn_state, after_spawn, after_quick, spawned_if as spawned_if_lem, spawned as spawned_lem, started as started_lem, stack_bytes as stack_bytes_lem, first_pointer as first_pointer_lem, task_name as task_name_lem, names_after, name_at as name_at_lem, task_wanted as task_wanted_lem, quick_wanted as quick_wanted_lem, spawn_text, quick_text};
+ghost use Rattle.kernel_world.specs.{Kept.IsEarly, Seen.{world_seen, world_with}};
+ghost use Rattle.task_calls.specs.Spawning.{spawn_parts, spawn_state, after_spawn, after_quick, spawned_if, started as started_lem, stack_bytes as stack_bytes_lem, first_pointer as first_pointer_lem, task_name as task_name_lem, names_after, name_at as name_at_lem, task_wanted as task_wanted_lem, quick_wanted as quick_wanted_lem, spawn_text, quick_text};
 
 use arrayvec::ArrayVec;
 use board_mem::Ram;
@@ -183,27 +181,35 @@ fn started(wanted: Wanted, names: &mut u64, address: u32, pointer: u32, board: B
     }
 }
 
-// Makes the task. If that is refused, nothing changes.
+// Makes the task on a board of this kind, unless the request was refused. If it is refused,
+// nothing changes.
 fn spawn(
     kern: &mut Kern,
     part: &mut Part,
     ram: &mut Ram,
     names: &mut u64,
-    wanted: Wanted,
+    wanted: Result<Wanted, Errno>,
     board: BoardKind,
 ) -> Reply
     requires home { kern.old.lent ≡ false }
     requires since { kern.old.next_since + 1 < 2 ^ 64 }
     requires names { names.old + 1 < 2 ^ 64 }
     requires end { part.old.end < 2 ^ 32 }
-    ensures kern { kern.new ≡ (spawned_lem (spawn_parts board kern.old part.old ram.old.bytes names.old) wanted).after.kern }
-    ensures part { part.new ≡ (spawned_lem (spawn_parts board kern.old part.old ram.old.bytes names.old) wanted).after.part }
+    ensures kern { kern.new
+        ≡ (spawned_if (spawn_parts board kern.old part.old ram.old.bytes names.old) wanted).after.kern }
+    ensures part { part.new
+        ≡ (spawned_if (spawn_parts board kern.old part.old ram.old.bytes names.old) wanted).after.part }
     ensures ram { ram.new.bytes
-        ≡ (spawned_lem (spawn_parts board kern.old part.old ram.old.bytes names.old) wanted).after.ram }
+        ≡ (spawned_if (spawn_parts board kern.old part.old ram.old.bytes names.old) wanted).after.ram }
     ensures names { names.new
-        ≡ (spawned_lem (spawn_parts board kern.old part.old ram.old.bytes names.old) wanted).after.names }
-    ensures reply { result ≡ (spawned_lem (spawn_parts board kern.old part.old ram.old.bytes names.old) wanted).reply }
+        ≡ (spawned_if (spawn_parts board kern.old part.old ram.old.bytes names.old) wanted).after.names }
+    ensures reply { result
+        ≡ (spawned_if (spawn_parts board kern.old part.old ram.old.bytes names.old) wanted).reply }
 {
+    let wanted = match wanted {
+        Ok(wanted) => wanted,
+        Err(errno) => return Reply::Refusal(errno),
+    };
     if let Some(refusal) = kern.spawn_refusal() {
         return Reply::Refusal(refusal);
     }
@@ -217,35 +223,6 @@ fn spawn(
         unreachable!()
     };
     Reply::Answer(id.get())
-}
-
-// Makes the task on a board of this kind, unless the request was refused.
-fn spawn_if(
-    kern: &mut Kern,
-    part: &mut Part,
-    ram: &mut Ram,
-    names: &mut u64,
-    wanted: Result<Wanted, Errno>,
-    board: BoardKind,
-) -> Reply
-    requires home { kern.old.lent ≡ false }
-    requires since { kern.old.next_since + 1 < 2 ^ 64 }
-    requires names { names.old + 1 < 2 ^ 64 }
-    requires end { part.old.end < 2 ^ 32 }
-    ensures kern { kern.new
-        ≡ (spawned_if_lem (spawn_parts board kern.old part.old ram.old.bytes names.old) wanted).after.kern }
-    ensures part { part.new
-        ≡ (spawned_if_lem (spawn_parts board kern.old part.old ram.old.bytes names.old) wanted).after.part }
-    ensures ram { ram.new.bytes
-        ≡ (spawned_if_lem (spawn_parts board kern.old part.old ram.old.bytes names.old) wanted).after.ram }
-    ensures names { names.new
-        ≡ (spawned_if_lem (spawn_parts board kern.old part.old ram.old.bytes names.old) wanted).after.names }
-    ensures reply { result ≡ (spawned_if_lem (spawn_parts board kern.old part.old ram.old.bytes names.old) wanted).reply }
-{
-    match wanted {
-        Ok(wanted) => spawn(kern, part, ram, names, wanted, board),
-        Err(errno) => Reply::Refusal(errno),
-    }
 }
 
 // Adds the line that reports a spawn.
@@ -289,14 +266,14 @@ pub fn spawn_task(
     requires end { w.old.part.end < 2 ^ 32 }
     requires early { IsEarly (world_with [] w.old) }
     ensures world { world_seen ⟦<dyn Device as Device>⟧ w.new ≡ after_spawn (world_seen ⟦<dyn Device as Device>⟧ w.old)
-        (spawned_if_lem (spawn_state (world_seen ⟦<dyn Device as Device>⟧ w.old))
+        (spawned_if (spawn_state (world_seen ⟦<dyn Device as Device>⟧ w.old))
         (task_wanted_lem w.old.bus.ram.bytes name priority stack entry arguments)).after }
-    ensures reply { result ≡ (spawned_if_lem (spawn_state (world_seen ⟦<dyn Device as Device>⟧ w.old))
+    ensures reply { result ≡ (spawned_if (spawn_state (world_seen ⟦<dyn Device as Device>⟧ w.old))
         (task_wanted_lem w.old.bus.ram.bytes name priority stack entry arguments)).reply }
     ensures out { w.new.out ≡ w.old.out }
 {
     let wanted = task_wanted(&w.bus.ram, name, priority, stack, entry, arguments);
-    spawn_if(
+    spawn(
         &mut w.kern,
         &mut w.part,
         &mut w.bus.ram,
@@ -315,14 +292,14 @@ pub fn spawn_quickly(w: &mut World, entry: u32, arguments: Option<[u32; 10]>) ->
     requires early { IsEarly (world_with [] w.old) }
     requires room { 128 ≤ w.old.out.room }
     ensures world { world_seen ⟦<dyn Device as Device>⟧ w.new ≡ after_quick (world_seen ⟦<dyn Device as Device>⟧ w.old)
-        (spawned_if_lem (spawn_state (world_seen ⟦<dyn Device as Device>⟧ w.old)) (quick_wanted_lem entry arguments)) }
-    ensures reply { result ≡ (spawned_if_lem (spawn_state (world_seen ⟦<dyn Device as Device>⟧ w.old))
+        (spawned_if (spawn_state (world_seen ⟦<dyn Device as Device>⟧ w.old)) (quick_wanted_lem entry arguments)) }
+    ensures reply { result ≡ (spawned_if (spawn_state (world_seen ⟦<dyn Device as Device>⟧ w.old))
         (quick_wanted_lem entry arguments)).reply }
     ensures space { KeepsSpace w.old.out w.new.out }
 {
     let number = w.names;
     let wanted = quick_wanted(entry, arguments);
-    let reply = spawn_if(
+    let reply = spawn(
         &mut w.kern,
         &mut w.part,
         &mut w.bus.ram,

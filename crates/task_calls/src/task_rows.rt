@@ -2,8 +2,7 @@
 
 ghost use Rattle.std.specs.Prelude.{◌≡◌, ◌+◌, ◌^◌, ◌<◌};
 ghost use Rattle.std.specs.List.{All};
-ghost use Rattle.wind_core.specs.State.{KernState, task_of};
-ghost use Rattle.wind_core.specs.Moves.{live_id};
+ghost use Rattle.wind_core.specs.{State.{KernState, task_of}, Moves.live_id};
 ghost use Rattle.kernel_world.specs.Actors.{Acts, target as target_lem};
 ghost use Rattle.task_calls.specs.TaskRows.{task_at, priority_in, suspend_row, resume_row, delay_row, lock_row, unlock_row, self_row, verify_row, name_row, slice_row, tick_row, locks_of, mark_of, int_lock_row, int_unlock_row, int_context_row};
 ghost use Rattle.board_mem.specs.Memory.{string_at};

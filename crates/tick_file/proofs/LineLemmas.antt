@@ -6,56 +6,21 @@ use Rattle.std.proofs.lemmas.Bool.{cases_eq, cases_lt}
 use Rattle.std.proofs.lemmas.Bool.Decides.{nat_tests}
 use mathlib.Core.Logic.{⊎_elim}
 use Rattle.wind_base.specs.Lines.{line_length}
-use Rattle.wind_base.proofs.LineLength.{length_end, length_more}
+use Rattle.text_lines.specs.Lines.{pieces, after_line}
+use Rattle.text_lines.proofs.Cutting.{first_piece, one_piece, more_pieces}
 use Rattle.tick_file.specs.Grammar.{said}
 use Rattle.std.specs.declared.cmp.Reverse.{Reverse}
 use Rattle.tick_file.specs.declared.event.Said.{Said}
 use Rattle.tick_file.specs.declared.event.Said.TheVariants.{Nothing}
 use Rattle.tick_file.specs.declared.reading.TickErr.{TickErr}
 use Rattle.tick_file.specs.declared.pending.Pending.{Pending}
-use Rattle.tick_file.specs.Lines.{pieces, onto_first, without_return, lines_of, tick_lines, first_line, after_line, rule_at, rules_from, bad_or, bad_from, Tells}
+use Rattle.tick_file.specs.Lines.{without_return, lines_of, tick_lines, first_line, rule_at, rules_from, bad_or, bad_from, Tells}
 use Rattle.tick_file.specs.Inside.{waiting_of}
 
 -- a blank line says nothing
 said_none : said [] ≡ Nothing
 unfolding said
 said_none = refl
-
-pub pieces_end : (b : ℕ) (bs : List ℕ) → b ≡ 10 → pieces (b ∷ bs) ≡ [] ∷ pieces bs
-pieces_end b bs e = let t : (b == 10) ≡ true = grind (arith, nat_tests) in ap (λ x. cond x ([] ∷ pieces bs) (onto_first b (pieces bs))) t
-
-pub pieces_on : (b : ℕ) (bs : List ℕ) → b ≢ 10 → pieces (b ∷ bs) ≡ onto_first b (pieces bs)
-pieces_on b bs e = let t : (b == 10) ≡ false = grind (arith, nat_tests) in ap (λ x. cond x ([] ∷ pieces bs) (onto_first b (pieces bs))) t
-
--- there is always a first piece
-pub first_piece : (bs : List ℕ) → (p : List ℕ) × (ps : List (List ℕ)) × (pieces bs ≡ p ∷ ps)
-first_piece [] = ([], [], refl)
-first_piece (b ∷ bs) =
-    ⊎_elim
-    (λ e. ([], pieces bs, pieces_end b bs e))
-    (λ e. let k = first_piece bs in (b ∷ k.0, k.1, pieces_on b bs e ∙ ap (onto_first b) k.2))
-    (cases_eq b 10)
-
--- a text without an end of a line is one piece
-one_piece : (bs : List ℕ) → length bs ≤ line_length bs → pieces bs ≡ bs ∷ []
-one_piece [] h = refl
-one_piece (b ∷ bs) h =
-    ⊎_elim
-    (λ e. absurd (omega (arith, length_end b bs e)))
-    (λ e. pieces_on b bs e ∙ ap (onto_first b) (one_piece bs (omega (arith, length_more b bs e))))
-    (cases_eq b 10)
-
--- otherwise the first piece is before the first end
-more_pieces : (bs : List ℕ) → line_length bs < length bs → pieces bs ≡ take (line_length bs) bs ∷ pieces (drop (suc (line_length bs)) bs)
-more_pieces [] h = absurd (omega arith)
-more_pieces (b ∷ bs) h =
-    ⊎_elim
-    (λ e. pieces_end b bs e ∙ ap (λ n. take n (b ∷ bs) ∷ pieces (drop (suc n) (b ∷ bs))) (sym (length_end b bs e)))
-    (λ e.
-    pieces_on b bs e
-    ∙ ap (onto_first b) (more_pieces bs (omega (arith, length_more b bs e)))
-    ∙ ap (λ n. take n (b ∷ bs) ∷ pieces (drop (suc n) (b ∷ bs))) (sym (length_more b bs e)))
-    (cases_eq b 10)
 
 pub lines_more : (piece : List ℕ) (bs : List ℕ) → lines_of (piece ∷ pieces bs) ≡ without_return piece ∷ lines_of (pieces bs)
 lines_more piece bs =
@@ -66,11 +31,9 @@ line_and_others : (bs : List ℕ) → line_length bs < length bs → tick_lines 
 unfolding tick_lines
 line_and_others bs h =
     let t : nat_lt (line_length bs) (length bs) ≡ true = grind (arith, nat_tests) in
-    let e : suc (line_length bs) ≡ line_length bs + 1 = omega arith in
     ap lines_of (more_pieces bs h)
-    ∙ lines_more (take (line_length bs) bs) (drop (suc (line_length bs)) bs)
-    ∙ ap (λ b. cond b (without_return (take (line_length bs) bs)) bs ∷ lines_of (pieces (drop (suc (line_length bs)) bs))) (sym t)
-    ∙ ap (λ n. first_line bs ∷ lines_of (pieces (drop n bs))) e
+    ∙ lines_more (take (line_length bs) bs) (after_line bs)
+    ∙ ap (λ b. cond b (without_return (take (line_length bs) bs)) bs ∷ lines_of (pieces (after_line bs))) (sym t)
 
 -- otherwise it is the only line, and nothing comes after it
 last_line : (bs : List ℕ) → length bs ≤ line_length bs → (tick_lines bs ≡ first_line bs ∷ []) × (tick_lines (after_line bs) ≡ [] ∷ [])

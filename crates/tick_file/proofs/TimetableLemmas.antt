@@ -20,10 +20,11 @@ use Rattle.tick_file.specs.declared.event.Rule.TheVariants.{At, Every}
 use Rattle.tick_file.specs.declared.event.Said.{Said}
 use Rattle.tick_file.specs.declared.event.Said.TheVariants.{Nothing, Says, Outside}
 use Rattle.tick_file.specs.Grammar.{said}
-use Rattle.tick_file.specs.Lines.{pieces, onto_first, rule_at, rules_from, tick_lines, rules_of}
+use Rattle.tick_file.specs.Lines.{rule_at, rules_from, tick_lines, rules_of}
 use Rattle.tick_file.specs.Schedule.{Timed, events_from, events_at, events_of, place_of, before, timetable_of}
 use Rattle.tick_file.specs.Laws.{joined, HasNoEnd, PiecesLaw, AsksAt, TimetableLaw}
-use Rattle.tick_file.proofs.LineLemmas.{first_piece, pieces_end, pieces_on}
+use Rattle.text_lines.specs.Lines.{pieces, onto_first}
+use Rattle.text_lines.proofs.Cutting.{first_piece, pieces_end, pieces_on}
 use Rattle.tick_file.proofs.Events.{order, one_place}
 
 -- ---- the pieces of a text

@@ -17,12 +17,14 @@ use Rattle.tick_file.specs.declared.event.Event.TheVariants.{Tick, Rx, Irq}
 use Rattle.tick_file.specs.declared.event.Rule.TheVariants.{At}
 use Rattle.tick_file.specs.declared.event.Said.TheVariants.{Says}
 use Rattle.tick_file.specs.Grammar.{said}
-use Rattle.tick_file.specs.Forms.{IsNumber, IsLineOf}
-use Rattle.tick_file.specs.Lines.{pieces, onto_first, lines_of, tick_lines, Numbered, rule_at, rules_from, bad_or, bad_from, rules_of, first_bad_line}
+use Rattle.tick_file.specs.Forms.{IsNumber, HasTwo, IsLineOf}
+use Rattle.tick_file.specs.Lines.{lines_of, tick_lines, Numbered, rule_at, rules_from, bad_or, bad_from, rules_of, first_bad_line}
 use Rattle.tick_file.specs.Schedule.{Timed, Timetable, events_of, before, brings_bytes, event_of, in_order, timetable_of}
 use Rattle.tick_file.specs.Writing.{event_line, recorded, numbered, IsInRange, AreRecordable, bring_no_bytes, WritingLaw, MoreLaw, LongerLaw}
 use Rattle.tick_file.proofs.FormLemmas.{grammar}
-use Rattle.tick_file.proofs.LineLemmas.{pieces_on, lines_more, rules_done, bad_done}
+use Rattle.text_lines.specs.Lines.{pieces, onto_first}
+use Rattle.text_lines.proofs.Cutting.{pieces_on}
+use Rattle.tick_file.proofs.LineLemmas.{lines_more, rules_done, bad_done}
 use Rattle.tick_file.proofs.Merging.{all_both, sorted_head}
 
 -- ---- numbers
@@ -33,10 +35,10 @@ all_digits (d ∷ ds) = ap (λ b. is_ascii_digit d && b) (all_digits ds)
 own : IsNumeralModel (λ ds. all_ascii_digits ds ≡ true) (digits_value 10)
 own = numerals_by_value _ tells_all_ascii_digits
 
-decimal_digits : (n : ℕ) → n < 2 ^ 64 → list_all is_ascii_digit (decimal n) ≡ true
+pub decimal_digits : (n : ℕ) → n < 2 ^ 64 → list_all is_ascii_digit (decimal n) ≡ true
 decimal_digits n h = all_digits (decimal n) ∙ digits_decimal own n h
 
-number : (n : ℕ) → n ≤ greatest_word → IsNumber n (decimal n)
+pub number : (n : ℕ) → n ≤ greatest_word → IsNumber n (decimal n)
 number n h = record {
   some = decimal_nonempty n (omega (arith, h));
   few = omega (arith, length-decimal-le 10 n (omega arith) (omega (arith, h)) (omega (arith, h)));
@@ -46,37 +48,23 @@ number n h = record {
 }
 
 -- ---- one line
+two_numbers : (word : List ℕ) (n m : ℕ) → n ≤ greatest_word → m ≤ greatest_word → HasTwo word n m (word ++ (32 ∷ decimal n ++ 32 ∷ decimal m))
+two_numbers word n m h k = record {
+  gap = 32 ∷ [];
+  digits = decimal n;
+  apart = record { some = omega arith; blank = refl };
+  number = number n h;
+  next_gap = 32 ∷ [];
+  next_digits = decimal m;
+  next_apart = record { some = omega arith; blank = refl };
+  next_number = number m k;
+  is = refl;
+}
+
 is_line : (time : ℕ) (e : Event) → time ≤ greatest_word → IsInRange e → IsLineOf (At time e) (event_line time e)
 is_line time Tick h count = record { gap = 32 ∷ []; digits = decimal time; apart = record { some = omega arith; blank = refl }; number = number time h; is = refl }
-is_line time (Rx n) h count = (
-  record {
-    gap = 32 ∷ [];
-    digits = decimal time;
-    apart = record { some = omega arith; blank = refl };
-    number = number time h;
-    next_gap = 32 ∷ [];
-    next_digits = decimal n;
-    next_apart = record { some = omega arith; blank = refl };
-    next_number = number n (omega (arith, count.1));
-    is = refl;
-  },
-  count.0,
-  count.1,
-)
-is_line time (Irq slot) h inside = (
-  record {
-    gap = 32 ∷ [];
-    digits = decimal time;
-    apart = record { some = omega arith; blank = refl };
-    number = number time h;
-    next_gap = 32 ∷ [];
-    next_digits = decimal slot;
-    next_apart = record { some = omega arith; blank = refl };
-    next_number = number slot (omega (arith, inside));
-    is = refl;
-  },
-  inside,
-)
+is_line time (Rx n) h count = (two_numbers (codes "rx") time n h (omega (arith, count.1)), count.0, count.1)
+is_line time (Irq slot) h inside = (two_numbers (codes "irq") time slot h (omega (arith, inside)), inside)
 
 says : (time : ℕ) (e : Event) → time ≤ greatest_word → IsInRange e → said (event_line time e) ≡ Says (At time e)
 says time e h count = ((grammar (event_line time e)).0 (At time e)).1 (is_line time e h count)

@@ -1,22 +1,13 @@
 -- The lines of a tick file.
-use Rattle.std.specs.Prelude.{ℕ, ◌+◌, ◌-◌, ◌==◌, ◌≡◌, nat_lt, if◌then◌else◌, List, [], ◌∷◌, ◌++◌, length, take, drop, slice_index, Option, None, Some}
+use Rattle.std.specs.Prelude.{ℕ, ◌+◌, ◌-◌, ◌==◌, ◌≡◌, nat_lt, if◌then◌else◌, List, [], ◌∷◌, ◌++◌, length, take, slice_index, Option, None, Some}
 use Rattle.wind_base.specs.Lines.{line_length}
+use Rattle.text_lines.specs.Lines.{pieces}
 use Rattle.tick_file.specs.declared.event.Rule.{Rule}
 use Rattle.tick_file.specs.declared.event.Said.{Said}
 use Rattle.tick_file.specs.declared.event.Said.TheVariants.{Nothing, Says, Outside}
 use Rattle.tick_file.specs.declared.reading.TickErr.{TickErr}
 use Rattle.tick_file.specs.declared.reading.TickErr.TheVariants.{BadLine, NoMemory}
 use Rattle.tick_file.specs.Grammar.{said}
-
--- byte b put before the first piece
-abbrev pub onto_first : ℕ → List (List ℕ) → List (List ℕ)
-onto_first b [] = (b ∷ []) ∷ []
-onto_first b (piece ∷ pieces) = (b ∷ piece) ∷ pieces
-
--- a text in pieces: it is cut at each 0x0A, which belongs to no piece
-abbrev pub pieces : List ℕ → List (List ℕ)
-pieces [] = [] ∷ []
-pieces (b ∷ bs) = if b == 10 then [] ∷ pieces bs else onto_first b (pieces bs)
 
 -- a piece without an 0x0D at its end
 abbrev pub without_return : List ℕ → List ℕ
@@ -32,12 +23,9 @@ lines_of (piece ∷ next ∷ more) = without_return piece ∷ lines_of (next ∷
 unfoldable pub tick_lines : List ℕ → List (List ℕ)
 tick_lines text = lines_of (pieces text)
 
--- the first line of a text, and what comes after its end
+-- the first line of a text
 abbrev pub first_line : List ℕ → List ℕ
 first_line text = if nat_lt (line_length text) (length text) then without_return (take (line_length text) text) else text
-
-abbrev pub after_line : List ℕ → List ℕ
-after_line text = drop (line_length text + 1) text
 
 -- a rule, with the number of its line
 pub record Numbered : Type 0 where

@@ -1,9 +1,9 @@
 //! The lines of a tick file.
 
-ghost use Rattle.std.specs.Prelude.{◌≡◌, ◌<◌, length};
-ghost use Rattle.tick_file.specs.Lines.{without_return as without_return_lem, first_line as first_line_lem, after_line as after_line_lem};
+ghost use Rattle.std.specs.Prelude.{◌≡◌};
+ghost use Rattle.tick_file.specs.Lines.{without_return as without_return_lem, first_line as first_line_lem};
 
-use wind_base::{bytes_after, line_len};
+use wind_base::line_len;
 
 // A piece without an 0x0D at its end.
 fn without_return(piece: &[u8]) -> &[u8]
@@ -24,19 +24,5 @@ pub(crate) fn first_line(text: &[u8]) -> &[u8]
         without_return(&text[..n])
     } else {
         text
-    }
-}
-
-/// What comes after the first line and its end; empty, if no line comes after it.
-pub(crate) fn after_line(text: &[u8]) -> &[u8]
-    requires { 0 < length text.now }
-    ensures value { result.now ≡ after_line_lem text.now }
-    ensures shorter { length result.now < length text.now }
-{
-    let n = line_len(text);
-    if n < text.len() {
-        bytes_after(text, n + 1)
-    } else {
-        bytes_after(text, n)
     }
 }

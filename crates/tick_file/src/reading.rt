@@ -8,11 +8,12 @@ ghost use Rattle.tick_file.specs.Inside.{waiting_of};
 
 use crate::event::{Said, brings_bytes};
 use crate::line::said;
-use crate::lines::{after_line, first_line};
+use crate::lines::first_line;
 use crate::pending::{Pending, at_start};
 use crate::schedule::Schedule;
 use std::alloc::Global;
 use std::cmp::Reverse;
+use text_lines::after_line;
 use thiserror::Error;
 use wind_base::NoMemory;
 

@@ -2,5 +2,5 @@ mod Hex
 pub mod LineLength
 mod Numerals
 mod Tables
-mod Boarding
+pub mod Boarding
 pub mod Gating

@@ -1,7 +1,6 @@
 -- Moves of the kernel keep its invariant, whether the task that they name is live or not.
 use Rattle.std.proofs.Common.{◌≡◌, ℕ, ◌+◌, ◌<◌, ◌≤◌, Bool, true, false, cond, leb, List, [], ◌∷◌, length, Option, None, Some, IfSome, refl, sym, ◌∙◌, subst, arith, inl, inr}
 use Rattle.std.proofs.lemmas.Bool.{leb-false}
-use Rattle.std.proofs.lemmas.List.Elements.{All-weaker}
 use Rattle.std.proofs.lemmas.Option.{same_Some}
 use Rattle.wind_base.specs.declared.errno.Errno.{Errno}
 use Rattle.wind_base.specs.declared.errno.Errno.TheVariants as errors
@@ -13,22 +12,13 @@ use Rattle.wind_lists.proofs.Records.{replace-change}
 use Rattle.wind_lists.proofs.Places.{not_there}
 use Rattle.wind_core.specs.State.{KernState, IsKern, WakesAhead, task_id, task_of}
 use Rattle.wind_core.specs.Moves.{renewed, settled, change_task, renew_task, move_found, move_task, new_task, spawn, spawn_refusal, released, release, answered, end_wait, end_waits, resumed, resume, is_suspended, with_pri, has_pri, change_pri}
-use Rattle.wind_core.proofs.Writes.{MayFollow, IsKern-replace, settled_follows}
+use Rattle.wind_core.proofs.Writes.{MayFollow, IsKern-replace, counters_rise, settled_follows}
 use Rattle.wind_core.proofs.Comings.{push_keeps}
 
 -- ---- one task is changed
 -- the next order number can rise
 more_sinces : (s : KernState) (n : ℕ) → s.next_since ≤ n → IsKern s → IsKern (record s { next_since = n })
-more_sinces s n more is = record {
-  few = is.few;
-  rising = is.rising;
-  ids = is.ids;
-  first_id = is.first_id;
-  last_id = is.last_id;
-  distinct = is.distinct;
-  sinces = All-weaker (λ t. t.since < s.next_since) (λ t. t.since < n) (λ t below. omega arith) s.tasks is.sinces;
-  ahead = is.ahead;
-}
+more_sinces s n more is = counters_rise s s.next_id n s.tick s.slice s.lent s.last is (omega arith) is.last_id more is.ahead
 
 -- the task with an id is replaced by one that can follow it
 pub change_keeps : (s : KernState) (who n : ℕ) (f : Task → Task) → IsKern s → s.next_since ≤ n → ((x : Task) → task_of s.tasks who ≡ Some x → MayFollow s x (f x) n)
@@ -121,13 +111,4 @@ writes s who f is id since wake = change_task_keeps s who f is (plain s.tick f i
 -- counters and notes that say nothing about the tasks
 pub counters_keep : (k : KernState) (next slice : ℕ) (lent : Bool) (last : Option ℕ) → IsKern k → k.next_id ≤ next → next ≤ 1048577
     → IsKern (record k { next_id = next; slice = slice; lent = lent; last = last })
-counters_keep k next slice lent last is more most = record {
-  few = is.few;
-  rising = is.rising;
-  ids = All-weaker (λ (t : Task). t.id < k.next_id) (λ (t : Task). t.id < next) (λ t h. omega (arith, h, more)) k.tasks is.ids;
-  first_id = omega (arith, is.first_id, more);
-  last_id = most;
-  distinct = is.distinct;
-  sinces = is.sinces;
-  ahead = is.ahead;
-}
+counters_keep k next slice lent last is more most = counters_rise k next k.next_since k.tick slice lent last is more most (omega arith) is.ahead

@@ -9,7 +9,7 @@ use Rattle.wind_core.specs.Orders.{running, due}
 use Rattle.wind_core.specs.Moves.{move_found, answered}
 use Rattle.wind_core.specs.Tick.{slice_counted, count_found_slice, count_slice_of, count_slice, late_answer, late_errno, time_out, tick_counted, tick}
 use Rattle.wind_core.specs.Laws.{TickLaw, AheadLaw}
-use Rattle.wind_core.proofs.Writes.{MayFollow}
+use Rattle.wind_core.proofs.Writes.{MayFollow, counters_rise}
 use Rattle.wind_core.proofs.Waking.{due-end_wait}
 use Rattle.wind_core.proofs.Ticks.{running_found, at_tick, slice_follows, tick-count_slice, none_due}
 use Rattle.wind_core.proofs.Keeping.{change_keeps, end_wait_keeps}
@@ -65,16 +65,9 @@ past_ahead : (n now : ℕ) (s : KernState) → IsPast n now s → All (WakesAhea
 past_ahead n now s past = none_due s.tasks now (ap first past.none)
 
 past_kept : (n now : ℕ) (s : KernState) → IsPast n now s → IsKern s
-past_kept n now s past = record {
-  few = past.kept.few;
-  rising = past.kept.rising;
-  ids = past.kept.ids;
-  first_id = past.kept.first_id;
-  last_id = past.kept.last_id;
-  distinct = past.kept.distinct;
-  sinces = past.kept.sinces;
-  ahead = subst (λ k. All (WakesAhead k) s.tasks) (sym past.count) (past_ahead n now s past);
-}
+past_kept n now s past =
+    counters_rise (at_tick n s) s.next_id s.next_since s.tick s.slice s.lent s.last past.kept (omega arith) past.kept.last_id (omega arith)
+    (subst (λ k. All (WakesAhead k) s.tasks) (sym past.count) (past_ahead n now s past))
 
 -- ---- a tick
 ticked : (s : KernState) → IsKern s → IsPast s.tick (s.tick + 1) (tick s)

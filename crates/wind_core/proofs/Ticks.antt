@@ -25,7 +25,7 @@ use Rattle.wind_core.specs.declared.clock.Late.{Late}
 use Rattle.wind_core.specs.contracts.kern.Kern.{the_view}
 use Rattle.wind_core.proofs.Passes.{is_before-order, arrives_before-order}
 use Rattle.wind_core.proofs.Waking.{timed_out_first}
-use Rattle.wind_core.proofs.Writes.{MayFollow, Kept, written, written_is, found}
+use Rattle.wind_core.proofs.Writes.{MayFollow, Kept, counters_rise, written, written_is, found}
 use Rattle.wind_core.proofs.Queued.{first_ready}
 use Rattle.wind_core.proofs.Due.{due_first}
 
@@ -198,21 +198,9 @@ none_due ts n e =
     All-weaker (λ t. is_due n t ≡ false) (WakesAhead n) (λ t q. not_come n t.wake q) ts (none_passes task_id arrives_before arrives_before-order (is_due n) ts e)
 
 pub counted_keeps : (k : Inside) (n : ℕ) → Kept k → first_due (the_view k).tasks n ≡ None → Kept (record k { tick = n })
-counted_keeps k n kept e = (
-  kept.0,
-  kept.1,
-  record {
-    few = kept.2.few;
-    rising = kept.2.rising;
-    ids = kept.2.ids;
-    first_id = kept.2.first_id;
-    last_id = kept.2.last_id;
-    distinct = kept.2.distinct;
-    sinces = kept.2.sinces;
-    ahead = none_due (the_view k).tasks n e;
-  },
-  kept.3,
-)
+counted_keeps k n kept e =
+    let s = the_view k in
+    (kept.0, kept.1, counters_rise s s.next_id s.next_since n s.slice s.lent s.last kept.2 (omega arith) kept.2.last_id (omega arith) (none_due s.tasks n e), kept.3)
 
 -- counting a slice doesn't change the tick count
 tick-count_slice_of : (s : KernState) (o : Option Task) → (count_slice_of s o).tick ≡ s.tick

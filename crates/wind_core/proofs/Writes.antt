@@ -1,9 +1,10 @@
 -- One task is written in the kernel's table: the state after it, and that the invariant holds if the queues agree.
-use Rattle.std.proofs.Common.{◌≡◌, ℕ, ◌+◌, ◌<◌, true, false, ◌||◌, cond, eqb, List, None, Some, IsSome, IfSome, refl, sym, ap, ◌∙◌, subst, arith, ◌⊎◌, inl, inr, ⊎_elim}
+use Rattle.std.proofs.Common.{◌≡◌, ℕ, ◌+◌, ◌<◌, ◌≤◌, Bool, true, false, ◌||◌, cond, eqb, List, Option, None, Some, IsSome, IfSome, refl, sym, ap, ◌∙◌, subst, arith, ◌⊎◌, inl, inr, ⊎_elim}
+use Rattle.std.specs.List.{All}
 use Rattle.std.proofs.lemmas.Bool.{eqb-false}
 use Rattle.std.proofs.lemmas.List.{length-map}
 use Rattle.std.proofs.lemmas.List.Elements.{All-contains, All-weaker}
-use Rattle.wind_base.specs.Limits.{most_tasks, wait_forever}
+use Rattle.wind_base.specs.Limits.{greatest_id, most_tasks, wait_forever}
 use Rattle.id_table.specs.Rows.{object_of, objects, rewritten}
 use Rattle.id_table.proofs.Owning.{object-record, objects-replace, OwnIds-write}
 use Rattle.task_block.specs.declared.task.Task.{Task}
@@ -23,6 +24,21 @@ use Rattle.wind_core.specs.contracts.kern.Kern.{the_view}
 -- the invariant of the kernel's type
 abbrev pub Kept : Inside → Type 0
 Kept k = (k.tasks.room ≡ most_tasks) × SameIds k.tasks.rows × IsKern (the_view k) × AreQueued k.waits k.ready k.delays (objects k.tasks.rows)
+
+-- the counters can rise, and the notes change, as long as no task is delayed past its wake
+pub counters_rise : (s : KernState) (id since tick slice : ℕ) (lent : Bool) (last : Option ℕ) → IsKern s → s.next_id ≤ id → id ≤ greatest_id + 1
+    → s.next_since ≤ since → All (WakesAhead tick) s.tasks
+    → IsKern (record s { next_id = id; next_since = since; tick = tick; slice = slice; lent = lent; last = last })
+counters_rise s id since tick slice lent last is ids last_id sinces ahead = record {
+  few = is.few;
+  rising = is.rising;
+  ids = All-weaker (λ (t : Task). t.id < s.next_id) (λ (t : Task). t.id < id) (λ t below. omega (arith, below, ids)) s.tasks is.ids;
+  first_id = omega (arith, is.first_id, ids);
+  last_id = last_id;
+  distinct = is.distinct;
+  sinces = All-weaker (λ (t : Task). t.since < s.next_since) (λ (t : Task). t.since < since) (λ t below. omega (arith, below, sinces)) s.tasks is.sinces;
+  ahead = ahead;
+}
 
 -- the kernel with y as the object of an id, n as the next order number, and these queues
 abbrev pub requeued : Inside → ℕ → Task → ℕ → Line → urgent.Order → timed.Order → Inside

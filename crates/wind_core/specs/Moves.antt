@@ -1,12 +1,13 @@
 -- What the kernel's calls do to its tasks.
-use Rattle.std.specs.Prelude.{ℕ, ◌+◌, Bool, true, false, not, ◌&&◌, ◌||◌, ◌==◌, nat_le, nat_lt, if◌then◌else◌, List, [], ◌∷◌, ◌++◌, length, slice_set, Option, None, Some}
+use Rattle.std.specs.Prelude.{ℕ, ◌+◌, Bool, true, false, not, ◌&&◌, ◌||◌, ◌==◌, if◌then◌else◌, List, [], ◌∷◌, ◌++◌, length, slice_set, Option, None, Some}
 use Rattle.std.specs.List.{fold}
 use Rattle.std.specs.Option.{option_map}
 use Rattle.wind_base.specs.Errno.{errno_number}
-use Rattle.wind_base.specs.Limits.{most_tasks, greatest_id, error_word, wait_forever}
+use Rattle.wind_base.specs.Limits.{most_tasks, error_word, wait_forever}
 use Rattle.wind_base.specs.declared.errno.Errno.{Errno}
 use Rattle.wind_base.specs.declared.errno.Errno.TheVariants as errors
 use Rattle.wind_base.specs.declared.regs.Regs.{Regs}
+use Rattle.id_table.specs.Rows.{add_refusal}
 use Rattle.id_table.specs.Sides.{deletion_side, console_side}
 use Rattle.id_table.specs.declared.ident.Place.{Place}
 use Rattle.task_block.specs.declared.task.Task.{Task}
@@ -14,6 +15,8 @@ use Rattle.task_block.specs.declared.task.NewTask.{NewTask}
 use Rattle.task_block.specs.Standing.{is_ready}
 use Rattle.wind_lists.specs.Records.{change, without}
 use Rattle.wind_core.specs.State.{KernState, task_id, task_of}
+use Rattle.wind_core.specs.declared.changes.Change.{Change}
+use Rattle.wind_core.specs.declared.changes.Change.TheVariants as changes
 use Rattle.wind_core.specs.Orders.{waiters}
 
 -- ---- one task is changed
@@ -84,10 +87,7 @@ spawn s n = record s {
 
 -- why no task can be made: the limit of live tasks is reached, otherwise no id is left
 abbrev pub spawn_refusal : KernState → Option Errno
-spawn_refusal s =
-    if nat_le most_tasks (length s.tasks) then Some errors.TooMany
-    else if nat_lt greatest_id s.next_id then Some errors.IdsSpent
-    else None
+spawn_refusal s = add_refusal most_tasks (length s.tasks) s.next_id
 
 -- the task is removed
 abbrev pub remove : KernState → ℕ → KernState
@@ -264,6 +264,20 @@ with_refusal e t = record (with_answer error_word t) { errno = errno_number e }
 -- the task's call is refused
 abbrev pub refuse : KernState → ℕ → Errno → KernState
 refuse s who e = change_task s who (with_refusal e)
+
+-- the task after a change that leaves it where it is in every queue
+abbrev pub with_change : Change → Task → Task
+with_change (changes.Locks n) t = record t { locks = n }
+with_change (changes.Normal pri) t = record t { normal = pri }
+with_change (changes.Safe n) t = record t { safe = n }
+with_change (changes.Held n) t = record t { held = n }
+with_change (changes.Errno n) t = record t { errno = n }
+with_change (changes.IntLocked on) t = record t { int_locked = on }
+with_change (changes.Again on) t = record t { again = on }
+with_change (changes.Answer value) t = with_answer value t
+with_change (changes.Refusal e) t = with_refusal e t
+with_change changes.PastGate t = past_gate t
+with_change changes.Unreserved t = unreserved t
 
 -- the id with this number, if its task is live; no task has id 0
 abbrev pub live_id : List Task → ℕ → Option ℕ

@@ -1,8 +1,8 @@
-//! Suspension, priorities, and the fields of a task that are set one by one.
+//! Suspension and priorities.
 
 ghost use Rattle.std.specs.Prelude.{◌≡◌, ◌<◌, ◌+◌, ◌^◌};
 ghost use Rattle.wind_core.specs.State.{Lives, task_of};
-ghost use Rattle.wind_core.specs.Moves.{suspend, resume, reset, change_pri, set_locks, set_normal, set_safe, set_held, set_errno, set_int_locked, set_again, is_suspended as is_suspended_lem, has_pri as has_pri_lem};
+ghost use Rattle.wind_core.specs.Moves.{suspend, resume, reset, change_pri, is_suspended as is_suspended_lem, has_pri as has_pri_lem};
 
 use crate::kern::Kern;
 use crate::queues::{mend, mend_ready, mend_waits};
@@ -85,61 +85,5 @@ impl Kern {
         settle(task, &mut self.next_since);
         mend_waits(&mut self.waits, task);
         mend_ready(&mut self.ready, task);
-    }
-
-    /// Sets the number of the task's scheduler locks.
-    pub fn set_locks(&mut self, who: Ident, n: u64)
-        requires { Lives self.old who }
-        ensures { self.new ≡ set_locks self.old who n }
-    {
-        self.tasks.object_mut(who).locks = n;
-    }
-
-    /// Sets the task's normal priority, without inheritance.
-    pub fn set_normal(&mut self, who: Ident, pri: Pri)
-        requires { Lives self.old who }
-        ensures { self.new ≡ set_normal self.old who pri }
-    {
-        self.tasks.object_mut(who).normal = pri;
-    }
-
-    /// Sets the number of safe sections that the task is in.
-    pub fn set_safe(&mut self, who: Ident, n: u64)
-        requires { Lives self.old who }
-        ensures { self.new ≡ set_safe self.old who n }
-    {
-        self.tasks.object_mut(who).safe = n;
-    }
-
-    /// Sets the number of inversion-safe mutexes that the task owns.
-    pub fn set_held(&mut self, who: Ident, n: u64)
-        requires { Lives self.old who }
-        ensures { self.new ≡ set_held self.old who n }
-    {
-        self.tasks.object_mut(who).held = n;
-    }
-
-    /// Sets the task's last error number.
-    pub fn set_errno(&mut self, who: Ident, n: u32)
-        requires { Lives self.old who }
-        ensures { self.new ≡ set_errno self.old who n }
-    {
-        self.tasks.object_mut(who).errno = n;
-    }
-
-    /// Sets whether the task has locked out interrupts.
-    pub fn set_int_locked(&mut self, who: Ident, on: bool)
-        requires { Lives self.old who }
-        ensures { self.new ≡ set_int_locked self.old who on }
-    {
-        self.tasks.object_mut(who).int_locked = on;
-    }
-
-    /// Sets whether the task's next call is a repetition of a call that pended.
-    pub fn set_again(&mut self, who: Ident, on: bool)
-        requires { Lives self.old who }
-        ensures { self.new ≡ set_again self.old who on }
-    {
-        self.tasks.object_mut(who).again = on;
     }
 }

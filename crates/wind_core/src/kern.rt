@@ -4,9 +4,9 @@ ghost use Rattle.std.specs.Prelude.{◌≡◌, ◌<◌, ◌≤◌, ◌+◌, ◌^
 ghost use Rattle.std.specs.Borrow.{sem};
 ghost use Rattle.std.specs.Option.{option_map, option_copied_mut};
 ghost use Rattle.wind_base.specs.Limits.{greatest_id};
-ghost use Rattle.id_table.specs.Rows.{IdsBelow, added};
+ghost use Rattle.id_table.specs.Rows.{IdsBelow, add_refusal, added};
 ghost use Rattle.wind_core.specs.State.{Lives, IsKern, task_of, task_above};
-ghost use Rattle.wind_core.specs.Moves.{spawn, spawn_refusal, remove};
+ghost use Rattle.wind_core.specs.Moves.{spawn, spawn_refusal, remove, live_id};
 ghost use Rattle.wind_core.specs.Waiting.{task_waits};
 ghost use Rattle.wind_core.specs.Queues.{ready_tasks, delayed_tasks};
 
@@ -137,6 +137,20 @@ impl Kern {
         self.tasks.get(id)
     }
 
+    /// The id with this number, if its task is live.
+    pub fn find(&self, number: u32) -> Option<Ident>
+        ensures { result ≡ live_id self.now.tasks number }
+    {
+        let _ = &self.tasks;
+        let Some(id) = Ident::new(number) else {
+            return None;
+        };
+        match self.task(id) {
+            Some(task) => Some(task.id),
+            None => None,
+        }
+    }
+
     /// The task at this place; places count from 0 by rising id.
     pub fn task_at(&self, place: u32) -> &Task
         requires { place < length self.now.tasks }
@@ -178,12 +192,7 @@ impl Kern {
         ensures ok { IfOk result (λ id. (spawn_refusal self.old ≡ None) × (id ≡ self.old.next_id) × (self.new ≡ spawn self.old task)) }
         ensures err { IfErr result (λ e. (spawn_refusal self.old ≡ Some e) × (self.new ≡ self.old)) }
     {
-        if self.tasks.len() >= TASKS as usize {
-            return Err(Errno::TooMany);
-        }
-        let Some(id) = self.ids.peek() else {
-            return Err(Errno::IdsSpent);
-        };
+        let id = self.tasks.next_id(&self.ids)?;
         let pri = task.pri;
         let Ok(id) = self
             .tasks
@@ -217,6 +226,27 @@ impl Kern {
         ensures when { IsOk result ↔ (length table.old.rows < table.old.room) × (self.old.next_id ≤ greatest_id) }
     {
         table.add(&mut self.ids, value)
+    }
+
+    /// Makes an object of another kind: adds it to its table, under the next id.
+    ///
+    /// # Errors
+    ///
+    /// `TooMany` if the table is full; otherwise `IdsSpent` if no id is left. Then nothing changes.
+    pub fn create_in<T: Drop>(&mut self, table: &mut Table<T>, value: T) -> Result<Ident, Errno>
+        requires ids { self.old.lent ≡ false }
+        requires below { IdsBelow self.old.next_id table.old.rows }
+        ensures ok { IfOk result (λ id. (add_refusal table.old.room (length table.old.rows) self.old.next_id ≡ None)
+            × (id ≡ self.old.next_id) × (self.new ≡ record self.old { next_id = self.old.next_id + 1 })
+            × (table.new ≡ added table.old self.old.next_id value)) }
+        ensures err { IfErr result (λ e. (add_refusal table.old.room (length table.old.rows) self.old.next_id ≡ Some e)
+            × (self.new ≡ self.old) × (table.new ≡ table.old)) }
+    {
+        table.next_id(&self.ids)?;
+        match self.add_to(table, value) {
+            Ok(id) => Ok(id),
+            Err(_) => unreachable!(),
+        }
     }
 
     /// Lends the ids to the maker of other kinds of objects. Until they are put back, this kernel

@@ -1,7 +1,7 @@
 //! The kernel's tasks: which runs, which wait, and what calls and ticks do to them.
 #![tactic(auto)]
 
-mod calls;
+mod changes;
 mod clock;
 mod fields;
 mod kern;

@@ -10,7 +10,6 @@ use crate::kern::Kern;
 use id_table::{Ident, Table};
 use task_block::Task;
 use wind_base::Errno;
-use wind_base::limits::TASKS;
 
 // The task with this name that has the least id.
 fn first_named<'a>(tasks: &'a Table<Task>, name: &[u8]) -> Option<&'a Task>
@@ -31,13 +30,7 @@ impl Kern {
     pub fn spawn_refusal(&self) -> Option<Errno>
         ensures { result ≡ spawn_refusal_lem self.now }
     {
-        if self.tasks.len() >= TASKS as usize {
-            return Some(Errno::TooMany);
-        }
-        match self.ids.peek() {
-            Some(_) => None,
-            None => Some(Errno::IdsSpent),
-        }
+        self.tasks.next_id(&self.ids).err()
     }
 
     /// The id of the task that ran last.

@@ -2,13 +2,13 @@
 
 ghost use Rattle.std.specs.Prelude.{◌≡◌, ◌<◌, ◌+◌, ◌^◌, nat_le, if◌then◌else◌};
 ghost use Rattle.task_block.specs.Standing.{is_ready};
-ghost use Rattle.wind_core.specs.Moves.{new_task, renewed, pended, delayed, wake_at, is_endless as is_endless_lem, released, answered, settled, suspended, resumed, unmarked, with_pri, past_gate, with_answer, with_refusal, unreserved};
+ghost use Rattle.wind_core.specs.Moves.{new_task, renewed, pended, delayed, wake_at, is_endless as is_endless_lem, released, answered, settled, suspended, resumed, unmarked, with_pri};
 ghost use Rattle.wind_core.specs.Tick.{slice_counted};
 
 use id_table::sides::{CONSOLE, DELETION};
 use id_table::{Ident, Place};
 use task_block::{NewTask, Task};
-use wind_base::words::{ERROR, WAIT_FOREVER};
+use wind_base::words::WAIT_FOREVER;
 use wind_base::{Errno, Pri};
 
 // The record of a new task.
@@ -179,34 +179,4 @@ pub(crate) fn count_slice_tick(task: &mut Task, next_since: &mut u64, slice: u32
         task.turns += 1;
         false
     }
-}
-
-// Drops the task's reservation.
-pub(crate) fn drop_reservation(task: &mut Task)
-    ensures { task.new ≡ unreserved task.old }
-{
-    task.regs.reserve = None;
-}
-
-// Returns the task from its call.
-pub(crate) fn pass_gate(task: &mut Task)
-    ensures { task.new ≡ past_gate task.old }
-{
-    let link = task.regs.lr;
-    task.regs.pc = link;
-}
-
-// Sets the result of the task's call, in r3.
-pub(crate) fn put_answer(task: &mut Task, value: u32)
-    ensures { task.new ≡ with_answer value task.old }
-{
-    task.regs.gpr[3] = value;
-}
-
-// Refuses the task's call.
-pub(crate) fn put_refusal(task: &mut Task, errno: Errno)
-    ensures { task.new ≡ with_refusal errno task.old }
-{
-    put_answer(task, ERROR);
-    task.errno = errno.number();
 }

@@ -11,7 +11,7 @@ use Rattle.module_image.specs.Image.{Images}
 use Rattle.module_image.specs.Laws.{HasSizes}
 use Rattle.module_image.specs.Link.{Load}
 use Rattle.module_image.specs.Needs.{needs_of}
-use Rattle.wind_link.specs.Flat.{segments, lowest_from, highest_from, lowest, highest}
+use Rattle.wind_link.specs.Flat.{Segment, segments, lowest_from, highest_from, lowest, highest}
 use Rattle.wind_link.specs.Placing.{with_segment, with_text, with_data, with_module, taken_by}
 use Rattle.wind_link.specs.Steps.{low_after, high_after, IsInside, AreInside}
 use Rattle.wind_link.proofs.Flattening.{AllInside}
@@ -78,39 +78,40 @@ high_one high size at bytes e =
     elim (eqb size 0) as (λ b. high_after high (cond b [] (record { addr = at; size = size; class = Kernel } ∷ [])) ≡ cond b high (max high (at + size))) [ true ↦ refl | false ↦ refl ]
     ∙ ap (λ n. cond (eqb n 0) high (max high (at + n))) (sym e)
 
+-- a bound of blocks in order is that of their segments, if it is so for each segment alone
+module _ (over : ℕ → List Block → ℕ) (from : ℕ → List Segment → ℕ) (step : ℕ → Segment → ℕ) (none : (n : ℕ) → over n [] ≡ n)
+    (joined : (bs cs : List Block) (n : ℕ) → over n (bs ++ cs) ≡ over (over n bs) cs) (ended : (n : ℕ) → from n [] ≡ n)
+    (next : (n : ℕ) (s : Segment) (ss : List Segment) → from n (s ∷ ss) ≡ from (step n s) ss)
+    (one : (n size at : ℕ) (bytes : List ℕ) → length bytes ≡ size → over n (block_for size at) ≡ step n (at, bytes)) where
+  bounds : (ls : List Load) (is : List Images) (n : ℕ) → AreSized ls is → over n (new_blocks ls) ≡ from n (segments ls is)
+  bounds [] [] n h = none n ∙ sym (ended n)
+  bounds (l ∷ ls) (i ∷ is) n (sizes, rest) =
+      let z = needs_of l.body in
+      let t = block_for z.text.size l.at.text in
+      let d = block_for z.«data».size l.at.«data» in
+      let b = block_for z.bss.size l.at.bss in
+      let nt = step n (l.at.text, i.text) in
+      let nd = step nt (l.at.«data», i.«data») in
+      joined (blocks_for z l.at) (new_blocks ls) n
+      ∙ ap (λ x. over x (new_blocks ls))
+      (joined t (d ++ b) n ∙ joined d b (over n t)
+      ∙ ap (λ x. over (over x d) b) (one n z.text.size l.at.text i.text sizes.text)
+      ∙ ap (λ x. over x b) (one nt z.«data».size l.at.«data» i.«data» sizes.«data»)
+      ∙ one nd z.bss.size l.at.bss i.bss sizes.bss)
+      ∙ bounds ls is (step nd (l.at.bss, i.bss)) rest
+      ∙ sym (next n (l.at.text, i.text) ((l.at.«data», i.«data») ∷ (l.at.bss, i.bss) ∷ segments ls is)
+      ∙ next nt (l.at.«data», i.«data») ((l.at.bss, i.bss) ∷ segments ls is)
+      ∙ next nd (l.at.bss, i.bss) (segments ls is))
+  bounds [] (i ∷ is) n h = absurd h
+  bounds (l ∷ ls) [] n h = absurd h
+
 pub lows : (ls : List Load) (is : List Images) (low : ℕ) → AreSized ls is → low_after low (new_blocks ls) ≡ lowest_from low (segments ls is)
-lows [] [] low h = refl
-lows (l ∷ ls) (i ∷ is) low (one, rest) =
-    let z = needs_of l.body in
-    let t = block_for z.text.size l.at.text in
-    let d = block_for z.«data».size l.at.«data» in
-    let b = block_for z.bss.size l.at.bss in
-    low-append (blocks_for z l.at) (new_blocks ls) low
-    ∙ ap (λ x. low_after x (new_blocks ls))
-    (low-append t (d ++ b) low ∙ low-append d b (low_after low t)
-    ∙ ap (λ x. low_after (low_after x d) b) (low_one low z.text.size l.at.text i.text one.text)
-    ∙ ap (λ x. low_after x b) (low_one _ z.«data».size l.at.«data» i.«data» one.«data»)
-    ∙ low_one _ z.bss.size l.at.bss i.bss one.bss)
-    ∙ lows ls is _ rest
-lows [] (i ∷ is) low h = absurd h
-lows (l ∷ ls) [] low h = absurd h
+lows ls is low h =
+    bounds low_after lowest_from (λ n s. cond (eqb (length s.1) 0) n (min n s.0)) (λ n. refl) low-append (λ n. refl) (λ n s ss. refl) low_one ls is low h
 
 pub highs : (ls : List Load) (is : List Images) (high : ℕ) → AreSized ls is → high_after high (new_blocks ls) ≡ highest_from high (segments ls is)
-highs [] [] high h = refl
-highs (l ∷ ls) (i ∷ is) high (one, rest) =
-    let z = needs_of l.body in
-    let t = block_for z.text.size l.at.text in
-    let d = block_for z.«data».size l.at.«data» in
-    let b = block_for z.bss.size l.at.bss in
-    high-append (blocks_for z l.at) (new_blocks ls) high
-    ∙ ap (λ x. high_after x (new_blocks ls))
-    (high-append t (d ++ b) high ∙ high-append d b (high_after high t)
-    ∙ ap (λ x. high_after (high_after x d) b) (high_one high z.text.size l.at.text i.text one.text)
-    ∙ ap (λ x. high_after x b) (high_one _ z.«data».size l.at.«data» i.«data» one.«data»)
-    ∙ high_one _ z.bss.size l.at.bss i.bss one.bss)
-    ∙ highs ls is _ rest
-highs [] (i ∷ is) high h = absurd h
-highs (l ∷ ls) [] high h = absurd h
+highs ls is high h =
+    bounds high_after highest_from (λ n s. cond (eqb (length s.1) 0) n (max n (s.0 + length s.1))) (λ n. refl) high-append (λ n. refl) (λ n s ss. refl) high_one ls is high h
 
 -- ---- blocks lie between them
 abbrev pub AllBetween : ℕ → ℕ → List Block → Type 0

@@ -6,8 +6,9 @@ use Rattle.std.proofs.lemmas.Bool.Decides.{nat_tests}
 use mathlib.Core.Logic.{⊎_elim}
 use Rattle.wind_base.specs.Lines.{line_length}
 use Rattle.wind_base.proofs.LineLength.{length_end, length_more}
-use Rattle.wind_link.specs.Lists.{Row, onto_first, lines_of, row_of, most_lines, or_bad, rows_after}
-use Rattle.wind_link.specs.Rows.{first_line, after_line}
+use Rattle.text_lines.specs.Lines.{onto_first, after_line}
+use Rattle.wind_link.specs.Lists.{Row, lines_of, row_of, most_lines, or_bad, rows_after}
+use Rattle.wind_link.specs.Rows.{first_line}
 
 lines_end : (b : ℕ) (bs : List ℕ) → b ≡ 10 → lines_of (b ∷ bs) ≡ [] ∷ lines_of bs
 lines_end b bs e = let t : (b == 10) ≡ true = grind (arith, nat_tests) in ap (λ x. cond x ([] ∷ lines_of bs) (onto_first b (lines_of bs))) t

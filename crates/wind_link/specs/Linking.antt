@@ -50,7 +50,7 @@ abbrev pub placed_or : Option (ℕ × SegmentKind) → Result (List ℕ) LinkErr
 placed_or (Some wrong) outcome = Err (refusal.BadPlace wrong.0 wrong.1)
 placed_or None outcome = outcome
 
--- the images of modules of which each binds to those before it and to the opening symbols
+-- the images of modules; each module binds to those before it and to the opening symbols
 abbrev pub images : List Load → List Images
 images ls = link opening_symbols ls
 

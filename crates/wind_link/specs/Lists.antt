@@ -4,15 +4,11 @@ use Rattle.std.specs.List.{list_all, position_or_len, prefix_len}
 use Rattle.std.specs.Str.Lossy.{utf8_valid_len}
 use Rattle.std.specs.Str.Parse.{digits_value}
 use Prim.Native.Char.{code}
+use Rattle.text_lines.specs.Lines.{onto_first}
 use Rattle.module_image.specs.declared.segments.Places.{Places}
 use Rattle.module_image.specs.Exports.{no_symbols}
 
 -- ---- lines
--- a byte put before the first line
-abbrev pub onto_first : ℕ → List (List ℕ) → List (List ℕ)
-onto_first b [] = (b ∷ []) ∷ []
-onto_first b (line ∷ lines) = (b ∷ line) ∷ lines
-
 -- the lines of a text: each 0x0A ends one, and the last may lack it
 abbrev pub lines_of : List ℕ → List (List ℕ)
 lines_of [] = []

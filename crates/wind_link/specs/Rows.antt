@@ -1,5 +1,5 @@
 -- The steps of reading a list.
-use Rattle.std.specs.Prelude.{◌≡◌, ℕ, ◌+◌, if◌then◌else◌, List, take, drop, Option, Some, None, Result, Err}
+use Rattle.std.specs.Prelude.{◌≡◌, ℕ, if◌then◌else◌, List, take, Option, Some, None, Result, Err}
 use Rattle.wind_base.specs.Lines.{line_length}
 use Rattle.wind_link.specs.declared.list.Row.{Row as CodeRow}
 use Rattle.wind_link.specs.declared.list.ListErr.{ListErr}
@@ -14,12 +14,9 @@ row r = record { name = r.name.now; mode = r.mode; at = r.at }
 abbrev pub name_of : List ℕ → Option (List ℕ)
 name_of word = if is_name word then Some word else None
 
--- the first line of a text, and what comes after its end
+-- the first line of a text
 abbrev pub first_line : List ℕ → List ℕ
 first_line text = take (line_length text) text
-
-abbrev pub after_line : List ℕ → List ℕ
-after_line text = drop (line_length text + 1) text
 
 -- an error is this bad line, or says that memory ran out
 abbrev pub TellsLine : Result (List Row) ℕ → ListErr → Type 0

@@ -15,5 +15,4 @@ mod values;
 pub use command::windlink;
 pub use laws::{board_law, linked_law};
 pub use linking::{LinkErr, Placed, link_all};
-pub use report::tell_no_memory;
 pub use status::LinkStatus;

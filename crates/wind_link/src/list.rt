@@ -4,12 +4,13 @@ ghost use Rattle.std.specs.Prelude.{◌≡◌, ◌<◌, ◌≤◌, ◌^◌, leng
 ghost use Rattle.std.specs.List.{list_all, position_or_len, prefix_len};
 ghost use Rattle.std.specs.Char.{digit_value};
 ghost use Rattle.std.specs.Str.Parse.{digits_value};
-ghost use Rattle.wind_link.specs.Lists.{lines_of, is_blank as is_blank_lem, first_word as first_word_lem, after_word as after_word_lem, is_name, mode_of, is_hex as is_hex_lem, address_of, places_said, most_lines, row_of, rows_of};
-ghost use Rattle.wind_link.specs.Rows.{row as row_lem, name_of, first_line as first_line_lem, after_line as after_line_lem, TellsLine};
+ghost use Rattle.wind_link.specs.Lists.{is_blank as is_blank_lem, first_word as first_word_lem, after_word as after_word_lem, is_name, mode_of, is_hex as is_hex_lem, address_of, places_said, most_lines, row_of, rows_of};
+ghost use Rattle.wind_link.specs.Rows.{row as row_lem, name_of, first_line as first_line_lem, TellsLine};
 
 use module_image::Places;
 use std::alloc::Global;
 use std::str;
+use text_lines::after_line;
 use wind_base::{bytes_after, line_len};
 
 /// The most lines of a list.
@@ -182,20 +183,6 @@ fn first_line(text: &[u8]) -> &[u8]
     ensures { result.now ≡ first_line_lem text.now }
 {
     &text[..line_len(text)]
-}
-
-// What comes after the first line and its end.
-fn after_line(text: &[u8]) -> &[u8]
-    requires { 0 < length text.now }
-    ensures value { result.now ≡ after_line_lem text.now }
-    ensures shorter { length result.now < length text.now }
-{
-    let n = line_len(text);
-    if n < text.len() {
-        bytes_after(text, n + 1)
-    } else {
-        bytes_after(text, n)
-    }
 }
 
 /// The rows of a list, or its first bad line.

@@ -1,13 +1,15 @@
 //! The messages that say how a call ended.
 
 use crate::status::LinkStatus;
-use elf_read::ElfErr;
-use itoa::Buffer;
 use module_image::SegmentKind;
+use program_main::Message;
 use reloc_link::RelocErr;
-use wind_outside::{Put, Sink};
+use std::fmt;
+use std::fmt::Write;
+use wind_base::NoMemory;
+use wind_outside::Sink;
 
-const USAGE: &[u8; 25] = b"usage: windlink LIST DIR\n";
+const USAGE: &str = "usage: windlink LIST DIR";
 
 /// The files that a message can name.
 #[derive(Clone, Copy, Debug, Drop)]
@@ -18,123 +20,67 @@ pub(crate) struct Paths<'a> {
     pub module: &'a str,
 }
 
-// Writes a piece of a message, and answers whether all of it is in the sink. A message ends at its
-// first fault, which changes nothing else.
-fn put<E: Sink>(err: &mut E, piece: &[u8]) -> bool {
-    match err.put(piece) {
-        Put::Done => true,
-        Put::Failed => false,
-    }
-}
-
-fn put_number<E: Sink>(err: &mut E, number: u64) -> bool {
-    let mut digits = Buffer::new();
-    put(err, digits.format(number).as_bytes())
-}
-
-// `windlink: `, the file and a colon.
-fn put_file<E: Sink>(err: &mut E, file: &str) -> bool {
-    put(err, b"windlink: ") && put(err, file.as_bytes()) && put(err, b": ")
-}
-
-// The same with the number of a line.
-fn put_line<E: Sink>(err: &mut E, list: &str, line: u64) -> bool {
-    put_file(err, list) && put(err, b"line ") && put_number(err, line)
-}
-
-fn tell_file<E: Sink>(err: &mut E, paths: Paths, line: u64, reason: &[u8]) -> bool {
+// What is wrong with the list, for line 0, or with the module of a line.
+fn tell_file<W: Write>(to: &mut W, paths: Paths, line: u64, reason: &str) -> fmt::Result {
     let file = if line == 0 { paths.list } else { paths.module };
-    put_file(err, file) && put(err, reason)
+    write!(to, "windlink: {file}: {reason}\n")
 }
 
-fn tell_object<E: Sink>(err: &mut E, list: &str, line: u64, error: ElfErr) -> bool {
-    let (reason, at) = object_reason(error);
-    put_line(err, list, line)
-        && put(err, b": ")
-        && put(err, reason)
-        && put(err, b" at ")
-        && put_number(err, at)
-        && put(err, b"\n")
-}
-
-fn tell_relocation<E: Sink>(
-    err: &mut E,
-    list: &str,
-    line: u64,
-    number: u32,
-    error: RelocErr,
-) -> bool {
-    put_line(err, list, line)
-        && put(err, b": relocation ")
-        && put_number(err, u64::from(number))
-        && put(err, relocation_reason(error))
-        && put(err, b"\n")
-}
-
-fn tell_place<E: Sink>(err: &mut E, list: &str, line: u64, segment: SegmentKind) -> bool {
-    put_line(err, list, line)
-        && put(err, b": bad place of ")
-        && put(err, segment_name(segment))
-        && put(err, b"\n")
-}
-
-fn object_reason(error: ElfErr) -> (&'static [u8], u64) {
+fn relocation_reason(error: RelocErr) -> &'static str {
     match error {
-        ElfErr::Short(at) => (b"short file", at),
-        ElfErr::NotElf(at) => (b"not ELF", at),
-        ElfErr::NotPpc(at) => (b"not PowerPC", at),
-        ElfErr::NotRel(at) => (b"not relocatable", at),
-        ElfErr::BadSection(at) => (b"bad section", at),
-        ElfErr::BadSymbol(at) => (b"bad symbol", at),
-        ElfErr::BadReloc(at) => (b"bad relocation", at),
-        ElfErr::TooMany(at) => (b"too many entries", at),
-        ElfErr::NoMemory => (b"out of memory", 0),
+        RelocErr::Range(_) => "out of range",
+        RelocErr::Unaligned(_) => "unaligned",
+        RelocErr::Unsupported(_) => "unsupported",
     }
 }
 
-fn relocation_reason(error: RelocErr) -> &'static [u8] {
-    match error {
-        RelocErr::Range(_) => b" out of range",
-        RelocErr::Unaligned(_) => b" unaligned",
-        RelocErr::Unsupported(_) => b" unsupported",
-    }
-}
-
-fn segment_name(segment: SegmentKind) -> &'static [u8] {
+fn segment_name(segment: SegmentKind) -> &'static str {
     match segment {
-        SegmentKind::Text => b"text",
-        SegmentKind::Data => b"data",
-        SegmentKind::Bss => b"bss",
+        SegmentKind::Text => "text",
+        SegmentKind::Data => "data",
+        SegmentKind::Bss => "bss",
     }
 }
 
-/// Writes the message that host memory ran out.
-pub fn tell_no_memory<E: Sink>(err: &mut E) {
-    put(err, b"windlink: out of memory\n");
+// What is wrong with a line of the list, or with its module.
+fn tell_line<W: Write>(to: &mut W, list: &str, status: LinkStatus) -> fmt::Result {
+    match status {
+        LinkStatus::BadList(line) => {
+            write!(to, "windlink: {list}: line {line} is not understood\n")
+        }
+        LinkStatus::BadObject(line, error) => {
+            write!(to, "windlink: {list}: line {line}: {error}\n")
+        }
+        LinkStatus::BadReloc(line, number, error) => {
+            let reason = relocation_reason(error);
+            write!(
+                to,
+                "windlink: {list}: line {line}: relocation {number} {reason}\n"
+            )
+        }
+        LinkStatus::BadPlace(line, segment) => {
+            let name = segment_name(segment);
+            write!(to, "windlink: {list}: line {line}: bad place of {name}\n")
+        }
+        _ => Ok(()),
+    }
 }
 
 /// Writes the message that says which arguments there are.
 pub(crate) fn tell_usage<E: Sink>(err: &mut E) {
-    put(err, USAGE);
+    let _ = write!(Message::new(err), "{USAGE}\n");
 }
 
 /// Writes the message that says how a call ended. `Done` has no message.
 pub(crate) fn tell<E: Sink>(err: &mut E, paths: Paths, status: LinkStatus) {
-    match status {
-        LinkStatus::Done => true,
-        LinkStatus::Usage => put(err, USAGE),
-        LinkStatus::Absent(line) => tell_file(err, paths, line, b"not found\n"),
-        LinkStatus::ReadFault => put(err, b"windlink: reading failed\n"),
-        LinkStatus::WriteFault => put(err, b"windlink: writing failed\n"),
-        LinkStatus::NoMemory => put(err, b"windlink: out of memory\n"),
-        LinkStatus::BadList(line) => {
-            put_line(err, paths.list, line) && put(err, b" is not understood\n")
-        }
-        LinkStatus::TooLong(line) => tell_file(err, paths, line, b"too long\n"),
-        LinkStatus::BadObject(line, error) => tell_object(err, paths.list, line, error),
-        LinkStatus::BadReloc(line, number, error) => {
-            tell_relocation(err, paths.list, line, number, error)
-        }
-        LinkStatus::BadPlace(line, segment) => tell_place(err, paths.list, line, segment),
+    let mut to = Message::new(err);
+    let _ = match status {
+        LinkStatus::Usage => write!(to, "{USAGE}\n"),
+        LinkStatus::Absent(line) => tell_file(&mut to, paths, line, "not found"),
+        LinkStatus::ReadFault => write!(to, "windlink: reading failed\n"),
+        LinkStatus::WriteFault => write!(to, "windlink: writing failed\n"),
+        LinkStatus::NoMemory => write!(to, "windlink: {NoMemory}\n"),
+        LinkStatus::TooLong(line) => tell_file(&mut to, paths, line, "too long"),
+        status => tell_line(&mut to, paths.list, status),
     };
 }

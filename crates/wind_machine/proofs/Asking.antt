@@ -58,8 +58,8 @@ at_place : (o : Option Gate) (w : WorldState) (name : List ℕ) → file_at o w 
 at_place None w name e = absurd (cc)
 at_place (Some g) w name e = at_gate g w name e
 
-pub at_load : (p : Phase) (w : WorldState) (name : List ℕ) → file_in p w ≡ Some name → IsAtLoad p (gate_under w shell_id) w name
-at_load phases.Call w name e = at_place (gate_under w shell_id) w name e
+pub at_load : (p : Phase) (w : WorldState) (name : List ℕ) → file_in p w ≡ Some name → IsAtLoad p (gate_under w shell) w name
+at_load phases.Call w name e = at_place (gate_under w shell) w name e
 at_load phases.Prompt w name e = absurd (cc)
 at_load phases.Read w name e = absurd (cc)
 at_load phases.Eval w name e = absurd (cc)
@@ -78,7 +78,7 @@ shell_ready s g = by_next s (λ n. actor_of n ≡ Some shell → IsReady s.world
 })
 
 -- ---- its gate, seen in the world at its step
-pub same_gate : (s : State) → gate_under (shell_world s) shell_id ≡ gate_under s.world shell_id
+pub same_gate : (s : State) → gate_under (shell_world s) shell ≡ gate_under s.world shell
 same_gate s = ap (λ o. gate_at (board_rules s.world.board).gates_start (unwrap_or (option_map (λ t. t.regs) o) no_regs).pc) (own_found s.world.kern.tasks shell_id)
 
 -- ---- a step that needs a file may run out of memory

@@ -1,5 +1,5 @@
 -- Every state of every run keeps the invariant.
-use Rattle.std.proofs.Common.{◌≡◌, ℕ, zero, suc, true, false, cond, eqb, List, [], ◌∷◌, Option, None, Some, IfSome, add-one, refl, sym, ◌∙◌, subst}
+use Rattle.std.proofs.Common.{◌≡◌, ℕ, zero, suc, List, [], ◌∷◌, Option, None, Some, IfSome, add-one, refl, sym, ◌∙◌, subst}
 use Rattle.std.specs.Prelude.{unwrap_or}
 use Rattle.std.specs.List.{All}
 use Rattle.std.proofs.lemmas.List.Elements.{All-head, All-drop}
@@ -7,27 +7,17 @@ use Rattle.wind_base.specs.declared.board_kind.BoardKind.{BoardKind}
 use Rattle.wind_outside.specs.Devices.{DeviceState}
 use Rattle.wind_lists.specs.Sorting.{first}
 use Rattle.tick_file.specs.Schedule.{Timed, Timetable, timetable_of}
-use Rattle.tick_file.specs.declared.event.Event.{Event}
-use Rattle.tick_file.specs.declared.event.Event.TheVariants.{Tick, Rx, Irq}
 use Rattle.kernel_world.specs.State.{Choice, choice_of}
-use Rattle.kernel_world.specs.Actors.{shell_id}
 use Rattle.live_loading.specs.Said.{FileSaid}
 use Rattle.wind_machine.specs.State.{State}
 use Rattle.wind_machine.specs.Good.{Good}
 use Rattle.tick_file.specs.Laws.{IsEarly, EarlyLaw}
 use Rattle.wind_machine.specs.Laws.{ChoiceLaw, StartLaw, StepLaw, InstantLaw, SafetyLaw, OnlyUnsafeGo, RunLaw}
 use Rattle.wind_machine.specs.Run.{Answers, after}
-use Rattle.wind_machine.specs.Events.{event_comes, unreserved_world, without_next}
-use Rattle.wind_machine.specs.ActorSteps.{shell_step, task_step, step_of}
-use Rattle.wind_machine.specs.Next.{next}
 use Rattle.wind_base.specs.declared.profile.Profile.{Profile}
-use Rattle.wind_machine.specs.Machine.{opening, machine_step, state_after}
+use Rattle.wind_machine.specs.Machine.{opening, machine_step}
 use Rattle.kernel_world.specs.Opening.{opening_world}
-use Rattle.wind_machine.proofs.Steps.{if_settled}
-use Rattle.wind_machine.specs.declared.next.Next.{Next}
-use Rattle.wind_machine.specs.declared.next.Next.TheVariants.{Deliver, Come, Arrive, Routine, Act, Load, Jump, Over}
-use Rattle.wind_machine.specs.declared.phase.Phase.{Phase}
-use Rattle.wind_machine.specs.declared.phase.Phase.TheVariants as phases
+use Rattle.wind_machine.proofs.Timetables.{step_left}
 
 next_early : (es : List Timed) → All IsEarly es → IfSome (first es) IsEarly
 next_early [] h = tt
@@ -37,33 +27,8 @@ next_early (e ∷ es) h = All-head IsEarly e es h
 abbrev pub IsOnTime : State → Type 0
 IsOnTime s = All IsEarly s.schedule.events
 
-shell_early : (p : Phase) (s : State) → IsOnTime s → IsOnTime (shell_step p s)
-shell_early phases.Prompt s h = h
-shell_early phases.Read s h = h
-shell_early phases.Eval s h = h
-shell_early phases.Call s h = h
-
-whoever_early : (s : State) (who : ℕ) → IsOnTime s → IsOnTime (step_of s who)
-whoever_early s who h = elim (eqb who shell_id) as (λ b. IsOnTime (cond b (shell_step s.shell.phase s) (task_step s who))) [ true ↦ shell_early s.shell.phase s h | false ↦ h ]
-
-event_early : (s : State) (e : Event) → IsOnTime s → IsOnTime (event_comes s e)
-event_early s Tick h = h
-event_early s (Rx n) h = h
-event_early s (Irq i) h = h
-
-after_early : (said : FileSaid) (s : State) (n : Next) → IsOnTime s → IfSome (state_after said s n) IsOnTime
-after_early said s (Deliver i) h = h
-after_early said s (Come e) h = event_early (record s { schedule = without_next s.schedule; world = unreserved_world s.world }) e (All-drop IsEarly 1 s.schedule.events h)
-after_early said s Arrive h = h
-after_early said s Routine h = h
-after_early said s (Act who) h = whoever_early s who h
-after_early said s (Load name) h = h
-after_early said s (Jump e) h = h
-after_early said s Over h = tt
-
 step_early : (said : FileSaid) (s t : State) → IsOnTime s → machine_step said s ≡ Some t → IsOnTime t
-unfolding machine_step
-step_early said s t h e = subst (λ o. IfSome o IsOnTime) e (if_settled IsOnTime (state_after said s (next s)) (after_early said s (next s) h))
+step_early said s t h e = step_left (λ t. All IsEarly t.events) (λ t k. All-drop IsEarly 1 t.events k) said s t h e
 
 starts_early : (console : List ℕ) (schedule : Timetable) (slots : List (Option DeviceState)) (profile : Profile) (board : BoardKind) → All IsEarly schedule.events → IsOnTime (opening console schedule slots profile board)
 unfolding opening

@@ -50,28 +50,30 @@ module _ (f : Task → Task) (drops : Drops f) where
 
   pub drop_advances : (w : WorldState) (n : ℕ) → IsWorld w → Within n w → KeepsObjects w.board (mapped f w.kern) w.objects → Advances w (with_kern w (mapped f w.kern)) n 0 0
   drop_advances w n kept within objects = record {
-    kept = record {
-      kern = kern-map f spares w.kern kept.kern;
-      home = kept.home;
-      kind = kept.kind;
-      objects = objects;
-      pool = kept.pool;
-      stacks = subst (λ s. AreStacks w.part (routine_stack ∷ s)) (sym (same_field stack_of f w.kern.tasks drops.stack)) kept.stacks;
-      modules = loaded_on w.kern w.part w.modules.rows kept.modules (mapped f w.kern) (omega arith) (same_field stack_of f w.kern.tasks drops.stack);
-      ram = kept.ram;
-      symbols = kept.symbols;
-      watch = kept.watch;
-      ids = ids_kern w kept.ids (mapped f w.kern) (same_field task_id f w.kern.tasks drops.id) (omega arith);
+    steps = record {
+      kept = record {
+        kern = kern-map f spares w.kern kept.kern;
+        home = kept.home;
+        kind = kept.kind;
+        objects = objects;
+        pool = kept.pool;
+        stacks = subst (λ s. AreStacks w.part (routine_stack ∷ s)) (sym (same_field stack_of f w.kern.tasks drops.stack)) kept.stacks;
+        modules = loaded_on w.kern w.part w.modules.rows kept.modules (mapped f w.kern) (omega arith) (same_field stack_of f w.kern.tasks drops.stack);
+        ram = kept.ram;
+        symbols = kept.symbols;
+        watch = kept.watch;
+        ids = ids_kern w kept.ids (mapped f w.kern) (same_field task_id f w.kern.tasks drops.id) (omega arith);
+      };
+      within = (all_map (HasCounts n) f w.kern.tasks (λ t h. (omega (arith, h.0, drops.locks t), omega (arith, h.1, drops.safe t))) within.0, within.1);
+      last = refl;
+      reserves = λ who h. mapped_reserves w.kern who h;
+      sinces = omega arith;
+      count = refl;
+      names = omega arith;
+      starts = omega arith;
+      choice = refl;
     };
     lives = λ who h. lives_by (map f w.kern.tasks) w.kern.tasks who (same_field task_id f w.kern.tasks drops.id) h;
-    within = (all_map (HasCounts n) f w.kern.tasks (λ t h. (omega (arith, h.0, drops.locks t), omega (arith, h.1, drops.safe t))) within.0, within.1);
-    last = refl;
-    reserves = λ who h. mapped_reserves w.kern who h;
-    sinces = omega arith;
-    count = refl;
-    names = omega arith;
-    starts = omega arith;
-    choice = refl;
   }
 
 -- ---- that of one task, of all, of all others

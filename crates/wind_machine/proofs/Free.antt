@@ -1,9 +1,9 @@
 -- Whoever runs is ready, and so waits for nothing.
-use Rattle.std.proofs.Common.{◌≡◌, ℕ, true, false, cond, eqb, List, [], ◌∷◌, map, Option, Some, IfSome, IsSome, refl, sym, ap, ◌∙◌, subst}
+use Rattle.std.proofs.Common.{◌≡◌, ℕ, true, false, cond, eqb, List, [], ◌∷◌, map, Option, Some, IfSome, refl, sym, ap, ◌∙◌, subst}
 use Rattle.task_block.specs.declared.task.Task.{Task}
 use Rattle.task_block.specs.Standing.{is_ready}
 use Rattle.wind_lists.proofs.Records.{found_in}
-use Rattle.wind_core.specs.State.{KernState, IsKern, Lives, task_id, task_of}
+use Rattle.wind_core.specs.State.{KernState, IsKern, task_id, task_of}
 use Rattle.wind_core.specs.Orders.{running}
 use Rattle.wind_core.specs.Moves.{unreserved}
 use Rattle.wind_core.proofs.Lawful.{runner_may}
@@ -17,10 +17,6 @@ pub runner_ready : (k : KernState) → IsKern k → (x : Task) → running k ≡
 runner_ready k is x e =
     let may = runner_may k is x e in
     subst ReadyIf (sym (found_in task_id k.tasks x is.rising may.lives)) may.ready
-
--- and lives
-pub runner_there : (k : KernState) → IsKern k → (x : Task) → running k ≡ Some x → Lives k x.id
-runner_there k is x e = subst (λ o. IsSome o) (sym (found_in task_id k.tasks x is.rising (runner_may k is x e).lives)) refl
 
 -- the task that makes the step stays as it is
 pub own_found : (ts : List Task) (who : ℕ) → task_of (map (unless_own who) ts) who ≡ task_of ts who

@@ -1,5 +1,5 @@
 -- No task that is safe from deletion ends in a step, unless the step is its own.
-use Rattle.std.proofs.Common.{◌≡◌, ℕ, ◌+◌, true, false, cond, eqb, List, [], ◌∷◌, map, Option, None, Some, IfSome, refl, sym, ap, ◌∙◌, subst, ◌⊎◌, ⊎_elim, inl, inr}
+use Rattle.std.proofs.Common.{◌≡◌, ℕ, ◌+◌, true, false, cond, eqb, List, [], ◌∷◌, map, Option, None, Some, IfSome, refl, sym, ap, ◌∙◌, subst, ◌⊎◌, inl, inr}
 use Rattle.std.specs.Prelude.{take, drop}
 use Rattle.std.proofs.lemmas.Bool.{eqb-true}
 use Rattle.task_block.specs.declared.task.Task.{Task}
@@ -26,7 +26,7 @@ use Rattle.wind_machine.specs.Feed.{chunk, after_chunk, brought}
 use Rattle.wind_machine.specs.Part.{Part, part_of}
 use Rattle.wind_machine.specs.Reserving.{unless_own, drop_all}
 use Rattle.wind_machine.specs.Shell.{prompt_part, read_part, eval_part}
-use Rattle.wind_machine.specs.Processor.{without_own, task_part}
+use Rattle.wind_machine.specs.Processor.{without_own, actor_part}
 use Rattle.wind_machine.proofs.Steps.{if_settled}
 use Rattle.wind_machine.specs.Laws.{ChoiceLaw, OnlyUnsafeGo, SafetyLaw}
 use Rattle.wind_machine.specs.Events.{Heard, heard_by, arrived, event_comes, event_step, unreserved_world, without_next}
@@ -39,11 +39,11 @@ use Rattle.wind_machine.specs.Machine.{machine_step, settled_state, state_after,
 use Rattle.wind_machine.specs.declared.phase.Phase.{Phase}
 use Rattle.wind_machine.specs.declared.phase.Phase.TheVariants as phases
 use Rattle.wind_machine.proofs.Order.{by_next}
-use Rattle.wind_machine.proofs.Free.{runner_ready, runner_there}
+use Rattle.wind_machine.proofs.Free.{runner_ready}
 use Rattle.wind_machine.proofs.Hearing.{heard_keeps}
 use Rattle.wind_machine.proofs.Dropping.{all_advance}
 use Rattle.wind_machine.proofs.Parts.{PartKeeps}
-use Rattle.wind_machine.proofs.Steps.{step_start_advances, routine_keeps_world, prompts, reads, evaluates, loads, acts, unreserved_keeps}
+use Rattle.wind_machine.proofs.Steps.{step_start_advances, routine_acts, prompts, reads, evaluates, loads, acts, unreserved_keeps}
 
 -- a task is as safe at the beginning of a step as before it
 same_safe : (ts : List Task) (who id : ℕ) → safe_of (task_of (map (unless_own who) ts) id) ≡ safe_of (task_of ts id)
@@ -64,36 +64,36 @@ abbrev GoBy : State → Option Actor → KernState → Type 0
 GoBy s o k = (id : ℕ) → Lives s.world.kern id → (Lives k id → ⊥) → (safe_of (task_of s.world.kern.tasks id) ≡ 0) ⊎ (o ≡ Some (by_task id))
 
 module _ (s : State) (g : Keeps 0 (bare s)) where
-  own_step : (who id : ℕ) → (safe_of (task_of s.world.kern.tasks id) ≡ 0) ⊎ (who ≡ id) → (safe_of (task_of s.world.kern.tasks id) ≡ 0) ⊎ (Some (by_task who) ≡ Some (by_task id))
-  own_step who id (inl safe) = inl safe
-  own_step who id (inr own) = inr (ap (λ n. Some (by_task n)) own)
+  own_step : (who : Actor) (id safe : ℕ) → (safe ≡ 0) ⊎ (who ≡ by_task id) → safe ≡ safe_of (task_of s.world.kern.tasks id) → (safe_of (task_of s.world.kern.tasks id) ≡ 0) ⊎ (Some who ≡ Some (by_task id))
+  own_step who id safe (inl unsafe) same = inl (sym same ∙ unsafe)
+  own_step who id safe (inr own) same = inr (ap Some own)
 
-  of_part : (who n : ℕ) (finished : List ℕ) (p : Part) → PartKeeps (at_step_start s.world who) p who n finished → GoBy s (Some (by_task who)) p.world.kern
+  of_part : (who n : ℕ) (finished : List ℕ) (p : Part) → PartKeeps (at_step_start s.world who) p (by_task who) n finished → GoBy s (Some (by_task who)) p.world.kern
   of_part who n finished p part id live dead =
-      own_step who id (subst (λ m. (m ≡ 0) ⊎ (who ≡ id)) (same_safe s.world.kern.tasks who id) (part.keeps_world.gone id ((step_start_advances s g who).lives id live) dead))
+      own_step (by_task who) id (safe_of (task_of (at_step_start s.world who).kern.tasks id)) (part.keeps_world.gone id ((step_start_advances s g who).lives id live) dead) (same_safe s.world.kern.tasks who id)
 
-  task_goes : (who : ℕ) → Lives s.world.kern who → IsReady s.world.kern who → GoBy s (Some (by_task who)) (task_step s who).world.kern
-  task_goes who live ready = of_part who (s.steps + 1) s.console.finished (task_part s.shell (at_step_start s.world who) who) (acts s g who live ready)
+  task_goes : (who : ℕ) → IsReady s.world.kern who → GoBy s (Some (by_task who)) (task_step s who).world.kern
+  task_goes who ready = of_part who (s.steps + 1) s.console.finished (actor_part s.shell (at_step_start s.world who) (by_task who)) (acts s g who ready)
 
   shell_goes : (p : Phase) → IsReady s.world.kern shell_id → GoBy s (Some shell) (shell_step p s).world.kern
   shell_goes phases.Prompt ready = of_part shell_id (s.steps + 1) s.console.finished (prompt_part (has_line s.console) s.shell (shell_world s)) (prompts s g)
   shell_goes phases.Read ready = of_part shell_id (s.steps + 1) (line_dropped s.console).finished (read_part (read_line (first_line s.console)) (shell_world s)) (reads s g)
   shell_goes phases.Eval ready = of_part shell_id (s.steps + 1) s.console.finished (eval_part s.shell.trees (shell_world s)) (evaluates s g ready)
-  shell_goes phases.Call ready = task_goes shell_id g.shell ready
+  shell_goes phases.Call ready = task_goes shell_id ready
 
-  whoever_goes : (who : ℕ) → Lives s.world.kern who → IsReady s.world.kern who → GoBy s (Some (by_task who)) (step_of s who).world.kern
-  whoever_goes who live ready =
+  whoever_goes : (who : ℕ) → IsReady s.world.kern who → GoBy s (Some (by_task who)) (step_of s who).world.kern
+  whoever_goes who ready =
       elim (eqb who shell_id) as (λ b. eqb who shell_id ≡ b → GoBy s (Some (by_task who)) (cond b (shell_step s.shell.phase s) (task_step s who)).world.kern) [
         | true ↦ λ e.
             let own = shell_goes s.shell.phase (subst (IsReady s.world.kern) (eqb-true who shell_id e) ready) in
             subst (λ n. GoBy s (Some (by_task n)) (shell_step s.shell.phase s).world.kern) (sym (eqb-true who shell_id e)) own
-        | false ↦ λ e. task_goes who live ready
+        | false ↦ λ e. task_goes who ready
       ] refl
 
   -- the step of a load is the shell's own
   load_goes : LoadLaw → IsReady s.world.kern shell_id → (name : List ℕ) (said : FileSaid) → GoBy s (Some shell) (load_step said s name).world.kern
   load_goes law ready name said =
-      let part = part_of s.shell (without_own (load_call (shell_world s) name said) shell_id) in
+      let part = part_of s.shell (without_own (load_call (shell_world s) name said) shell) in
       of_part shell_id (s.steps + 1) s.console.finished part (loads s g law ready name said)
 
   -- ---- all tasks live on when bytes arrive
@@ -111,10 +111,7 @@ module _ (s : State) (g : Keeps 0 (bare s)) where
   -- no safe task ends in a step of an interrupt routine
   routine_goes : is_active s.world ≡ true → GoBy s (Some Interrupt) (routine_step s).world.kern
   routine_goes active id live dead =
-      ⊎_elim
-      (λ (safe : safe_of (task_of (drop_all s.world.kern).tasks id) ≡ 0). inl (sym (all_safe s.world.kern.tasks id) ∙ safe))
-      (λ (itself : Interrupt ≡ by_task id). absurd (cc))
-      ((routine_keeps_world s g active).gone id ((all_advance s.world s.steps g.world g.within).lives id live) dead)
+      own_step Interrupt id (safe_of (task_of (drop_all s.world.kern).tasks id)) ((routine_acts s g active).keeps_world.gone id ((all_advance s.world s.steps g.world g.within).lives id live) dead) (all_safe s.world.kern.tasks id)
 
 event_goes : (s : State) (e : Event) → Keeps 0 (bare s) → GoBy s None (event_step s e).world.kern
 event_goes s e g id live dead =
@@ -129,7 +126,7 @@ next_goes law said s g = by_next s (λ n. IfSome (state_after said s n) (λ t. G
   come = λ held e due. event_goes s e.event g;
   arrive = λ held quiet due id live dead. absurd (dead (arrived_stay s g (after_chunk s.left) (chunk s.left) (heard_by s (chunk s.left)) refl id live));
   routine = λ nothing active. routine_goes s g active;
-  act = λ left t runs none. whoever_goes s g t.id (runner_there s.world.kern g.world.kern t runs) (runner_ready s.world.kern g.world.kern t runs);
+  act = λ left t runs none. whoever_goes s g t.id (runner_ready s.world.kern g.world.kern t runs);
   load = λ left t runs own name found. load_goes s g law (subst (IsReady s.world.kern) own (runner_ready s.world.kern g.world.kern t runs)) name said;
   jump = λ left nobody e there id live dead. absurd (dead live);
   over = λ left nobody none. tt;
@@ -155,28 +152,28 @@ abbrev SameChoice : State → State → Type 0
 SameChoice s t = choice_of t.world ≡ choice_of s.world
 
 module _ (s : State) (g : Keeps 0 (bare s)) where
-  part_choice : (who n : ℕ) (finished : List ℕ) (p : Part) → PartKeeps (at_step_start s.world who) p who n finished → choice_of p.world ≡ choice_of s.world
+  part_choice : (who n : ℕ) (finished : List ℕ) (p : Part) → PartKeeps (at_step_start s.world who) p (by_task who) n finished → choice_of p.world ≡ choice_of s.world
   part_choice who n finished p part = part.keeps_world.choice ∙ (step_start_advances s g who).choice
 
-  task_choice : (who : ℕ) → Lives s.world.kern who → IsReady s.world.kern who → SameChoice s (task_step s who)
-  task_choice who live ready = part_choice who (s.steps + 1) s.console.finished (task_part s.shell (at_step_start s.world who) who) (acts s g who live ready)
+  task_choice : (who : ℕ) → IsReady s.world.kern who → SameChoice s (task_step s who)
+  task_choice who ready = part_choice who (s.steps + 1) s.console.finished (actor_part s.shell (at_step_start s.world who) (by_task who)) (acts s g who ready)
 
   shell_choice : (p : Phase) → IsReady s.world.kern shell_id → SameChoice s (shell_step p s)
   shell_choice phases.Prompt ready = part_choice shell_id (s.steps + 1) s.console.finished (prompt_part (has_line s.console) s.shell (shell_world s)) (prompts s g)
   shell_choice phases.Read ready = part_choice shell_id (s.steps + 1) (line_dropped s.console).finished (read_part (read_line (first_line s.console)) (shell_world s)) (reads s g)
   shell_choice phases.Eval ready = part_choice shell_id (s.steps + 1) s.console.finished (eval_part s.shell.trees (shell_world s)) (evaluates s g ready)
-  shell_choice phases.Call ready = task_choice shell_id g.shell ready
+  shell_choice phases.Call ready = task_choice shell_id ready
 
-  whoever_choice : (who : ℕ) → Lives s.world.kern who → IsReady s.world.kern who → SameChoice s (step_of s who)
-  whoever_choice who live ready =
+  whoever_choice : (who : ℕ) → IsReady s.world.kern who → SameChoice s (step_of s who)
+  whoever_choice who ready =
       elim (eqb who shell_id) as (λ b. eqb who shell_id ≡ b → SameChoice s (cond b (shell_step s.shell.phase s) (task_step s who))) [
         | true ↦ λ e. shell_choice s.shell.phase (subst (IsReady s.world.kern) (eqb-true who shell_id e) ready)
-        | false ↦ λ e. task_choice who live ready
+        | false ↦ λ e. task_choice who ready
       ] refl
 
   load_choice : LoadLaw → IsReady s.world.kern shell_id → (name : List ℕ) (said : FileSaid) → SameChoice s (load_step said s name)
   load_choice law ready name said =
-      let part = part_of s.shell (without_own (load_call (shell_world s) name said) shell_id) in
+      let part = part_of s.shell (without_own (load_call (shell_world s) name said) shell) in
       part_choice shell_id (s.steps + 1) s.console.finished part (loads s g law ready name said)
 
 event_choice : (s : State) (e : Event) → SameChoice s (event_comes s e)
@@ -189,8 +186,8 @@ next_choice law said s g = by_next s (λ n. IfSome (state_after said s n) (SameC
   deliver = λ i due. refl;
   come = λ held e due. event_choice (record s { schedule = without_next s.schedule; world = unreserved_world s.world }) e.event;
   arrive = λ held quiet due. refl;
-  routine = λ nothing active. (routine_keeps_world s g active).choice;
-  act = λ left t runs none. whoever_choice s g t.id (runner_there s.world.kern g.world.kern t runs) (runner_ready s.world.kern g.world.kern t runs);
+  routine = λ nothing active. (routine_acts s g active).keeps_world.choice;
+  act = λ left t runs none. whoever_choice s g t.id (runner_ready s.world.kern g.world.kern t runs);
   load = λ left t runs own name found. load_choice s g law (subst (IsReady s.world.kern) own (runner_ready s.world.kern g.world.kern t runs)) name said;
   jump = λ left nobody e there. refl;
   over = λ left nobody none. tt;

@@ -15,6 +15,7 @@ pub mod Asking
 pub mod Steps
 pub mod Going
 pub mod Beginning
+pub mod Timetables
 pub mod Courses
 pub mod Counting
 pub mod Silence

@@ -1,5 +1,5 @@
--- What a step of a task keeps of the world.
-use Rattle.std.proofs.Common.{◌≡◌, ℕ, suc, ◌+◌, ◌≤◌, Bool, true, false, cond, eqb, List, [], ◌∷◌, length, replicate, Option, Some, IsSome, refl, sym, ap, ◌∙◌, subst, arith, ◌⊎◌, inl, inr}
+-- What a step of an actor keeps of the world.
+use Rattle.std.proofs.Common.{◌≡◌, ℕ, suc, ◌+◌, ◌≤◌, Bool, true, false, cond, eqb, List, [], ◌∷◌, length, replicate, Option, Some, IsSome, refl, sym, ap, ◌∙◌, subst, arith, ◌⊎◌, inr}
 use Rattle.std.specs.Prelude.{slice_index}
 use Rattle.std.specs.List.{Contains, find}
 use Rattle.std.proofs.lemmas.Bool.{eqb-true, eq-eqb}
@@ -27,78 +27,71 @@ use Rattle.kernel_world.specs.Actors.{shell_id}
 use Rattle.kernel_world.specs.Starting.{cleared, framed}
 use Rattle.task_calls.specs.Ending.{ended}
 use Rattle.kernel_world.specs.Kept.{stack_of, routine_stack, IsStack, AreStacks, task_stacks, IsWorld, HasCounts, Within, ReservedBy, call_sinces}
-use Rattle.kernel_calls.specs.Laws.{Passes}
+use Rattle.kernel_calls.specs.Laws.{OnlyUnsafeGo, Passes}
 use Rattle.kernel_world.specs.Objects.{IsFree}
-use Rattle.kernel_world.specs.declared.actor.Actor.TheVariants.{Task as by_task}
+use Rattle.kernel_world.specs.declared.actor.Actor.{Actor}
+use Rattle.kernel_world.specs.declared.actor.Actor.TheVariants.{Task as by_task, Interrupt}
 use Rattle.kernel_world.proofs.WorldIds.{ids_kern}
 use Rattle.kernel_world.proofs.Holding.{loaded_on, loaded_with}
 use Rattle.kernel_world.proofs.Stacks.{is_there}
 use Rattle.kernel_world.proofs.Boards.{pool_in_ram}
-use Rattle.kernel_world.proofs.Advancing.{Advances, within_more}
+use Rattle.kernel_world.proofs.Advancing.{Advances, within_more, stays}
 use Rattle.kernel_world.proofs.ObjectMoves.{objects-move}
 use Rattle.kernel_calls.proofs.Departing.{ends}
+use Rattle.kernel_calls.proofs.Serves.{passes_by}
 use Rattle.shell_eval.specs.State.{State as EvalState}
 use Rattle.shell_eval.specs.Kept.{IsPoolInRam, Keeps}
-use Rattle.wind_machine.specs.Part.{with_kern}
 use Rattle.wind_machine.specs.Shell.{eval_state, with_eval}
+use Rattle.wind_machine.specs.Processor.{with_regs}
 
--- from a world to another within a step of a task: the invariant holds, the shell's task lives on, no safe task
--- except the task itself ends, and counts stay within n;
+-- only the task that makes the step may have a reservation; at the step of a routine any task may
+abbrev pub MayReserve : Actor → Option ℕ → Type 0
+MayReserve (by_task who) o = o ≡ Some who
+MayReserve Interrupt o = Unit {0}
+
+-- from a world to another within a step of an actor: the invariant holds, the shell's task lives on, no safe task
+-- except the actor itself ends, and counts stay within n;
 -- no other task has a reservation that had none; few numbers, and at most one for a watchdog's start, were handed
 -- out; the tick count and the rule of inheritance are the same
-pub record KeepsWorld (w v : WorldState) (who n : ℕ) : Type 0 where
+pub record KeepsWorld (w v : WorldState) (who : Actor) (n : ℕ) : Type 0 where
   pub kept : IsWorld v
   pub shell : Lives w.kern shell_id → Lives v.kern shell_id
-  pub gone : (id : ℕ) → Lives w.kern id → (Lives v.kern id → ⊥) → (safe_of (task_of w.kern.tasks id) ≡ 0) ⊎ (who ≡ id)
+  pub gone : OnlyUnsafeGo w who v
   pub within : Within n v
-  pub reserves : ReservedBy (Some who) w.kern → ReservedBy (Some who) v.kern
+  pub reserves : (o : Option ℕ) → MayReserve who o → ReservedBy o w.kern → ReservedBy o v.kern
   pub sinces : v.kern.next_since ≤ w.kern.next_since + call_sinces
   pub count : v.kern.tick ≡ w.kern.tick
   pub names : v.names ≤ w.names + 1
   pub starts : v.watch.next_start ≤ w.watch.next_start + 1
   pub choice : choice_of v ≡ choice_of w
 
-pub keeps_by : (w v : WorldState) (who n d m : ℕ) → d ≤ call_sinces → m ≤ 1 → Advances w v n d m → KeepsWorld w v who n
-keeps_by w v who n d m few one a = record {
-  kept = a.kept;
-  shell = a.lives shell_id;
-  gone = λ id live dead. absurd (dead (a.lives id live));
-  within = a.within;
-  reserves = a.reserves (Some who);
-  sinces = omega (arith, a.sinces, few);
-  count = a.count;
-  names = omega (arith, a.names, one);
-  starts = omega (arith, a.starts, one);
-  choice = a.choice;
-}
-
--- by a call of a task
-pub keeps_passed : (w v : WorldState) (who n d m : ℕ) → d ≤ call_sinces → m ≤ 1 → Passes w v (by_task who) n d m → KeepsWorld w v who n
+-- by a call
+pub keeps_passed : (w v : WorldState) (who : Actor) (n d m : ℕ) → d ≤ call_sinces → m ≤ 1 → Passes w v who n d m → KeepsWorld w v who n
 keeps_passed w v who n d m few one p = record {
   kept = p.kept;
   shell = p.shell;
-  gone = λ id live dead. by_itself id (p.gone id live dead);
+  gone = p.gone;
   within = p.within;
-  reserves = p.reserves (Some who);
+  reserves = λ o may. p.reserves o;
   sinces = omega (arith, p.sinces, few);
   count = p.count;
   names = omega (arith, p.names, one);
   starts = omega (arith, p.starts, one);
   choice = p.choice;
 }
-  where
-    by_itself : (id : ℕ) → (safe_of (task_of w.kern.tasks id) ≡ 0) ⊎ (by_task who ≡ by_task id) → (safe_of (task_of w.kern.tasks id) ≡ 0) ⊎ (who ≡ id)
-    by_itself id (inl safe) = inl safe
-    by_itself id (inr same) = inr (let one : who ≡ id = cc in one)
+
+-- all tasks live on
+pub keeps_by : (w v : WorldState) (who : Actor) (n d m : ℕ) → d ≤ call_sinces → m ≤ 1 → Advances w v n d m → KeepsWorld w v who n
+keeps_by w v who n d m few one a = keeps_passed w v who n d m few one (passes_by w v who n d m a)
 
 -- and then a move that hands out no numbers
-pub keeps_then : (w v u : WorldState) (who n : ℕ) → KeepsWorld w v who n → Advances v u n 0 0 → KeepsWorld w u who n
+pub keeps_then : (w v u : WorldState) (who : Actor) (n : ℕ) → KeepsWorld w v who n → Advances v u n 0 0 → KeepsWorld w u who n
 keeps_then w v u who n t a = record {
   kept = a.kept;
   shell = λ h. a.lives shell_id (t.shell h);
   gone = λ id live dead. t.gone id live (λ h. dead (a.lives id h));
   within = a.within;
-  reserves = λ h. a.reserves (Some who) (t.reserves h);
+  reserves = λ o may h. a.reserves o (t.reserves o may h);
   sinces = omega (arith, a.sinces, t.sinces);
   count = a.count ∙ t.count;
   names = omega (arith, a.names, t.names);
@@ -106,10 +99,10 @@ keeps_then w v u who n t a = record {
   choice = a.choice ∙ t.choice;
 }
 
-pub nowhere : (w : WorldState) (who n : ℕ) → IsWorld w → Within n w → KeepsWorld w w who n
-nowhere w who n kept within = record { kept = kept; shell = λ h. h; gone = λ id live dead. absurd (dead live); within = within; reserves = λ h. h; sinces = omega arith; count = refl; names = omega arith; starts = omega arith; choice = refl }
+pub nowhere : (w : WorldState) (who : Actor) (n : ℕ) → IsWorld w → Within n w → KeepsWorld w w who n
+nowhere w who n kept within = keeps_by w w who n 0 0 (omega arith) (omega arith) (stays w kept n within)
 
-pub more_counts : (w v : WorldState) (who n : ℕ) → KeepsWorld w v who n → KeepsWorld w v who (n + 1)
+pub more_counts : (w v : WorldState) (who : Actor) (n : ℕ) → KeepsWorld w v who n → KeepsWorld w v who (n + 1)
 more_counts w v who n t = record {
   kept = t.kept;
   shell = t.shell;
@@ -123,9 +116,9 @@ more_counts w v who n t = record {
   choice = t.choice;
 }
 
-module _ (w v : WorldState) (who n : ℕ) (t : KeepsWorld w v who n) where
+module _ (w v : WorldState) (a : Actor) (n : ℕ) (t : KeepsWorld w v a n) where
   -- RAM, devices and the output change, and RAM keeps its size
-  pub touched : (ram : List ℕ) (slots : List (Option DeviceState)) (output : List ℕ) → length ram ≡ length v.ram → KeepsWorld w (record v { ram = ram; slots = slots; output = output }) who n
+  pub touched : (ram : List ℕ) (slots : List (Option DeviceState)) (output : List ℕ) → length ram ≡ length v.ram → KeepsWorld w (record v { ram = ram; slots = slots; output = output }) a n
   touched ram slots output same = record {
     kept = record { kern = t.kept.kern; home = t.kept.home; kind = t.kept.kind; objects = t.kept.objects; pool = t.kept.pool; stacks = t.kept.stacks; modules = t.kept.modules; ram = same ∙ t.kept.ram; symbols = t.kept.symbols; watch = t.kept.watch; ids = t.kept.ids };
     shell = t.shell;
@@ -139,10 +132,11 @@ module _ (w v : WorldState) (who n : ℕ) (t : KeepsWorld w v who n) where
     choice = t.choice;
   }
 
-  pub wrote : (output : List ℕ) → KeepsWorld w (record v { output = output }) who n
+  pub wrote : (output : List ℕ) → KeepsWorld w (record v { output = output }) a n
   wrote output = touched v.ram v.slots output refl
 
-  -- the task's registers, with whatever reservation
+-- ---- the actor has other registers, with whatever reservation
+module _ (w v : WorldState) (who n : ℕ) (t : KeepsWorld w v (by_task who) n) where
   own_reserved : (regs : Regs) → ReservedBy (Some who) v.kern → ReservedBy (Some who) (set_regs v.kern who regs)
   own_reserved regs h =
       let P : Task → Type 0 = λ u. IsSome u.regs.reserve → Some who ≡ Some u.id in
@@ -156,7 +150,7 @@ module _ (w v : WorldState) (who n : ℕ) (t : KeepsWorld w v who n) where
             | false ↦ λ e. own
           ] refl
 
-  pub gave_regs : (regs : Regs) → IsFree v.kern who → KeepsWorld w (with_kern v (set_regs v.kern who regs)) who n
+  pub gave_regs : (regs : Regs) → IsFree v.kern who → KeepsWorld w (with_regs v (by_task who) regs) (by_task who) n
   gave_regs regs free =
       let f : Task → Task = λ u. record u { regs = regs } in
       let lives_on : (id : ℕ) → Lives v.kern id → Lives (set_regs v.kern who regs) id = λ id h. lives_by (set_regs v.kern who regs).tasks v.kern.tasks id (ids-change v.kern.tasks who f (λ u. refl)) h in
@@ -177,7 +171,7 @@ module _ (w v : WorldState) (who n : ℕ) (t : KeepsWorld w v who n) where
         shell = λ h. lives_on shell_id (t.shell h);
         gone = λ id live dead. t.gone id live (λ h. dead (lives_on id h));
         within = (All-change (HasCounts n) v.kern.tasks who f (λ u h. h) t.within.0, t.within.1);
-        reserves = λ h. own_reserved regs (t.reserves h);
+        reserves = λ o may h. subst (λ q. ReservedBy q (set_regs v.kern who regs)) (sym may) (own_reserved regs (t.reserves (Some who) refl (subst (λ q. ReservedBy q w.kern) may h)));
         sinces = t.sinces;
         count = t.count;
         names = t.names;
@@ -186,7 +180,7 @@ module _ (w v : WorldState) (who n : ℕ) (t : KeepsWorld w v who n) where
       }
 
 -- ---- another task than the shell's ends
-pub ended_keeps_world : (w : WorldState) (who n : ℕ) → eqb who shell_id ≡ false → IsWorld w → Within n w → KeepsWorld w (ended w who) who n
+pub ended_keeps_world : (w : WorldState) (who n : ℕ) → eqb who shell_id ≡ false → IsWorld w → Within n w → KeepsWorld w (ended w who) (by_task who) n
 ended_keeps_world w who n other kept within =
     let e = ends w who n kept within in
     record {
@@ -194,7 +188,7 @@ ended_keeps_world w who n other kept within =
       shell = e.lives shell_id differ;
       gone = λ id live dead. by_test id live dead;
       within = e.within;
-      reserves = e.reserves (Some who);
+      reserves = λ o may. e.reserves o;
       sinces = omega (arith, e.sinces);
       count = e.count;
       names = omega (arith, e.names);
@@ -205,10 +199,10 @@ ended_keeps_world w who n other kept within =
     differ : shell_id ≡ who → ⊥
     differ same = let clash : true ≡ false = ap (λ n. eqb n shell_id) same ∙ other in cc
 
-    by_test : (id : ℕ) → Lives w.kern id → (Lives (ended w who).kern id → ⊥) → (safe_of (task_of w.kern.tasks id) ≡ 0) ⊎ (who ≡ id)
+    by_test : OnlyUnsafeGo w (by_task who) (ended w who)
     by_test id live dead =
-        elim (eqb id who) as (λ b. eqb id who ≡ b → (safe_of (task_of w.kern.tasks id) ≡ 0) ⊎ (who ≡ id)) [
-          | true ↦ λ e. inr (sym (eqb-true id who e))
+        elim (eqb id who) as (λ b. eqb id who ≡ b → (safe_of (task_of w.kern.tasks id) ≡ 0) ⊎ (by_task who ≡ by_task id)) [
+          | true ↦ λ e. inr (ap by_task (sym (eqb-true id who e)))
           | false ↦ λ e. absurd (dead ((ends w who n kept within).lives id (λ same. let clash : true ≡ false = sym (eq-eqb id who same) ∙ e in cc) live))
         ] refl
 
@@ -242,7 +236,7 @@ kernels_stay p q old new stays at there =
     only_block q.start q.end q.blocks one.0 at Kernel new.laid (stays one.0 one.1) one.2
     ∙ sym (only_block p.start p.end p.blocks one.0 at Kernel old.laid one.1 one.2)
 
-pub evaluated_keeps_world : (w : WorldState) (who n : ℕ) (e : EvalState) → IsWorld w → Within n w → (IsPoolInRam (eval_state w) → Keeps (eval_state w) e) → KeepsWorld w (with_eval w e) who n
+pub evaluated_keeps_world : (w : WorldState) (who : Actor) (n : ℕ) (e : EvalState) → IsWorld w → Within n w → (IsPoolInRam (eval_state w) → Keeps (eval_state w) e) → KeepsWorld w (with_eval w e) who n
 evaluated_keeps_world w who n e kept within keeps =
     let k = keeps (pool_in_ram w kept) in
     let stay = kernels_stay w.part e.pool kept.pool.blocks (k.sound kept.pool.blocks) k.stays in
@@ -266,7 +260,7 @@ evaluated_keeps_world w who n e kept within keeps =
       shell = λ h. h;
       gone = λ id live dead. absurd (dead live);
       within = within;
-      reserves = λ h. h;
+      reserves = λ o may h. h;
       sinces = omega arith;
       count = refl;
       names = omega arith;

@@ -46,7 +46,7 @@ use Rattle.wind_machine.proofs.SlotSteps.{step_passes, routine_step_passes, load
 pub record Does (s u : State) (n : Next) (i : ℕ) : Type 0 where
   pub counts : pending u i + delivered_by i n ≡ cond (is_removed s u i) 0 (pending s i + raised_by s i n)
   pub gone : is_occupied s.world.slots i ≡ false → is_occupied u.world.slots i ≡ false
-  pub removed : is_removed s u i ≡ true → (who : ℕ) × (actor_of n ≡ Some (by_task who)) × (gate_under s.world who ≡ Some gates.DevRemove) × (slice_index (caller_words s.world (by_task who)) 3 ≡ i)
+  pub removed : is_removed s u i ≡ true → (who : ℕ) × (actor_of n ≡ Some (by_task who)) × (gate_under s.world (by_task who) ≡ Some gates.DevRemove) × (slice_index (caller_words s.world (by_task who)) 3 ≡ i)
 
 -- and the controller is valid after it
 pub record DoesAll (s u : State) (n : Next) : Type 0 where

@@ -4,9 +4,9 @@ use Rattle.std.specs.Prelude.{Result, slice_index, unwrap_or}
 use Rattle.std.specs.Option.{option_map}
 use Rattle.std.proofs.lemmas.Bool.{eqb-true}
 use Rattle.wind_base.specs.Boards.{board_rules}
-use Rattle.wind_base.specs.Gates.{gate_at, gate_number}
+use Rattle.wind_base.specs.Gates.{gate_at}
 use Rattle.wind_base.specs.declared.gate.Gate.{Gate}
-use Rattle.wind_base.specs.declared.gate.Gate.TheVariants as gates
+use Rattle.wind_base.specs.declared.regs.Regs.{Regs}
 use Rattle.ppc_core.specs.Instructions.{exec_of}
 use Rattle.ppc_core.specs.Outcomes.{Outcome, Done, Trapped}
 use Rattle.ppc_core.specs.declared.trap.Trap.{Trap}
@@ -20,7 +20,7 @@ use Rattle.board_bus.specs.BusState.{BusState}
 use Rattle.board_bus.specs.Access.{board_meaning, fetched}
 use Rattle.wind_core.specs.State.{task_of}
 use Rattle.wind_core.specs.Moves.{suspend}
-use Rattle.dev_irq.specs.State.{IsIrqs}
+use Rattle.dev_irq.specs.State.{pending_of, IsIrqs}
 use Rattle.shell_eval.specs.Pending.{Pending}
 use Rattle.shell_eval.specs.Evaluate.{Ending, Value, Call, Fault, Waiting, evaluate}
 use Rattle.kernel_world.specs.State.{WorldState}
@@ -28,7 +28,9 @@ use Rattle.kernel_world.specs.Starting.{no_regs}
 use Rattle.kernel_world.specs.Actors.{shell_id, caller_words}
 use Rattle.kernel_world.specs.Allowed.{is_call}
 use Rattle.kernel_world.specs.Replies.{left_gate}
+use Rattle.kernel_world.specs.declared.actor.Actor.{Actor}
 use Rattle.kernel_world.specs.declared.actor.Actor.TheVariants.{Task as by_task, Interrupt}
+use Rattle.kernel_calls.specs.Calls.{call}
 use Rattle.task_calls.specs.Ending.{ended}
 use Rattle.live_loading.specs.Said.{FileSaid, Held, Missing, TooLong}
 use Rattle.live_loading.specs.Loading.{shell, loader_state, by_verdict, effect, load_call}
@@ -36,8 +38,7 @@ use Rattle.wind_machine.specs.State.{ShellState, State}
 use Rattle.wind_machine.specs.Part.{part_of, with_kern, writing}
 use Rattle.wind_machine.specs.Task.{aborted}
 use Rattle.wind_machine.specs.Shell.{at_prompt, returned, eval_state, with_eval, came_to, eval_part}
-use Rattle.wind_machine.specs.Processor.{bus_of, regs_of, trap_text, trapped, is_return, without_own, return_part, call_part, gate_part, executed, word_part, part_at, gate_under, task_part}
-use Rattle.wind_machine.specs.Routine.{routine_regs, next_routine, given_up, routine_call, routine_gate, routine_executed, routine_word, routine_at, routine_under, routine_part}
+use Rattle.wind_machine.specs.Processor.{bus_of, regs_of, with_regs, trap_text, trapped, is_return, without_own, return_part, called, gate_part, executed, word_part, part_at, gate_under, actor_part}
 use Rattle.wind_machine.specs.Events.{cleared, unreserved_world}
 use Rattle.wind_machine.specs.ActorSteps.{at_step_start, shell_step, task_step, step_of, routine_step, load_step}
 use Rattle.wind_machine.specs.declared.phase.Phase.{Phase}
@@ -47,46 +48,58 @@ use Rattle.wind_machine.proofs.Evaluating.{evaluating_lasts}
 use Rattle.wind_machine.proofs.Free.{own_found}
 use Rattle.wind_machine.proofs.Slotted.{slotted, Leaves, left, Passes, passes_by, call_passes, HasPlaces, places_last}
 
+-- dropping an actor's reservation touches no slot
+own_slotted : (w : WorldState) (who : Actor) → slotted (without_own w who) ≡ slotted w
+own_slotted w (by_task who) = refl
+own_slotted w Interrupt = refl
+
 module _ (w : WorldState) (is : IsIrqs w.irqs) where
   here : Leaves (slotted w) (slotted w)
   here = left (slotted w) is
 
-  -- ---- a step of any task
-  module _ (shell : ShellState) (who : ℕ) where
+  -- nor do an exception, a return, and other registers
+  traps_leave : (shell : ShellState) (who : Actor) (trap : Trap) → Leaves (slotted w) (slotted (trapped trap shell w who).world)
+  traps_leave shell (by_task who) trap =
+      let text = trap_text trap (task_of w.kern.tasks who) in
+      elim (eqb who shell_id) as (λ b. Leaves (slotted w) (slotted (cond b (part_of at_prompt (writing (with_kern w (aborted w.kern)) text)) (part_of shell (writing (with_kern w (suspend w.kern who)) text))).world)) [ true ↦ here | false ↦ here ]
+  traps_leave shell Interrupt trap = here
+
+  return_leaves : (shell : ShellState) (who : Actor) → Leaves (slotted w) (slotted (return_part shell w who).world)
+  return_leaves shell (by_task who) =
+      let back = returned (slice_index (regs_of w (by_task who)).gpr 3) shell in
+      elim (eqb who shell_id) as (λ b. Leaves (slotted w) (slotted (cond b (part_of back (without_own w (by_task who))) (part_of shell (ended w who))).world)) [ true ↦ here | false ↦ here ]
+  return_leaves shell Interrupt = here
+
+  regs_irqs : (who : Actor) (regs : Regs) → (with_regs w who regs).irqs ≡ w.irqs
+  regs_irqs (by_task who) regs = refl
+  regs_irqs Interrupt regs = refl
+
+  -- ---- a step of any actor
+  module _ (shell : ShellState) (who : Actor) where
     -- what its step does at a gate, or at none
     abbrev AtGate : Option Gate → WorldState → Type 0
-    AtGate o v = Passes o (by_task who) (caller_words w (by_task who)) (slotted w) (slotted v)
+    AtGate o v = Passes o who (caller_words w who) (slotted w) (slotted v)
 
     leaving : (o : Option Gate) (v : WorldState) → Leaves (slotted w) (slotted v) → AtGate o v
-    leaving o v = passes_by o (by_task who) (caller_words w (by_task who)) (slotted w) (slotted v)
-
-    traps_leave : (trap : Trap) → Leaves (slotted w) (slotted (trapped trap shell w who).world)
-    traps_leave trap =
-        let text = trap_text trap (task_of w.kern.tasks who) in
-        elim (eqb who shell_id) as (λ b. Leaves (slotted w) (slotted (cond b (part_of at_prompt (writing (with_kern w (aborted w.kern)) text)) (part_of shell (writing (with_kern w (suspend w.kern who)) text))).world)) [ true ↦ here | false ↦ here ]
-
-    return_leaves : Leaves (slotted w) (slotted (return_part shell w who).world)
-    return_leaves =
-        let back = returned (slice_index (regs_of w who).gpr 3) shell in
-        elim (eqb who shell_id) as (λ b. Leaves (slotted w) (slotted (cond b (part_of back (without_own w who)) (part_of shell (ended w who))).world)) [ true ↦ here | false ↦ here ]
+    leaving o v = passes_by o who (caller_words w who) (slotted w) (slotted v)
 
     gate_passes : (g : Gate) → AtGate (Some g) (gate_part g shell w who).world
     gate_passes g =
-        elim (is_return g who) as (λ b. AtGate (Some g) (cond b (return_part shell w who) (cond (is_call g) (call_part g shell w who) (trapped traps.Access shell w who))).world) [
-          | true ↦ leaving (Some g) (return_part shell w who).world return_leaves
+        elim (is_return g who) as (λ b. AtGate (Some g) (cond b (return_part shell w who) (cond (is_call g) (part_of shell (called g w who)) (trapped traps.Access shell w who))).world) [
+          | true ↦ leaving (Some g) (return_part shell w who).world (return_leaves shell who)
           | false ↦
-              elim (is_call g) as (λ b. AtGate (Some g) (cond b (call_part g shell w who) (trapped traps.Access shell w who)).world) [
-                | true ↦ call_passes g w (by_task who) is
-                | false ↦ leaving (Some g) (trapped traps.Access shell w who).world (traps_leave traps.Access)
+              elim (is_call g) as (λ b. AtGate (Some g) (cond b (part_of shell (called g w who)) (trapped traps.Access shell w who)).world) [
+                | true ↦ subst (λ p. Passes (Some g) who (caller_words w who) (slotted w) p) (sym (own_slotted (call g w who) who)) (call_passes g w who is)
+                | false ↦ leaving (Some g) (trapped traps.Access shell w who).world (traps_leave shell who traps.Access)
               ]
         ]
 
     executed_leaves : (o : Outcome BusState) → IfDone (HasPlaces w.slots) o → Leaves (slotted w) (slotted (executed o shell w who).world)
-    executed_leaves (Done regs bus) same = record { places = same; counts = λ i. refl; lines = is }
-    executed_leaves (Trapped trap) same = traps_leave trap
+    executed_leaves (Done regs bus) same = record { places = same; counts = λ i. ap (λ irqs. pending_of irqs i) (regs_irqs who regs); lines = subst IsIrqs (sym (regs_irqs who regs)) is }
+    executed_leaves (Trapped trap) same = traps_leave shell who trap
 
     word_leaves : (o : Option ℕ) → Leaves (slotted w) (slotted (word_part o shell w who).world)
-    word_leaves None = traps_leave traps.Access
+    word_leaves None = traps_leave shell who traps.Access
     word_leaves (Some word) =
         executed_leaves (exec_of board_meaning (regs_of w who) word (bus_of w)) (executing_lasts board_meaning (HasPlaces w.slots) (places_last w.slots) (regs_of w who) word (bus_of w) (λ i. refl))
 
@@ -94,9 +107,9 @@ module _ (w : WorldState) (is : IsIrqs w.irqs) where
     at_passes (Some g) = gate_passes g
     at_passes None = let word = fetched (bus_of w) (regs_of w who).pc in leaving None (word_part word shell w who).world (word_leaves word)
 
-    pub task_passes : AtGate (gate_under w who) (task_part shell w who).world
-    unfolding task_part
-    task_passes = at_passes (gate_under w who)
+    actor_passes : AtGate (gate_under w who) (actor_part shell w who).world
+    unfolding actor_part
+    actor_passes = at_passes (gate_under w who)
 
   -- ---- evaluation
   comes_leave : (e : Ending) (later : List (Option Pending)) (v : WorldState) → Leaves (slotted w) (slotted v) → Leaves (slotted w) (slotted (came_to e later v).world)
@@ -127,44 +140,8 @@ module _ (w : WorldState) (is : IsIrqs w.irqs) where
   unfolding load_call
   load_leaves name said = effect_leaves (left_gate w shell) name (slice_index (caller_words w shell) 3) said refl
 
-  -- ---- a step of the active interrupt routine
-  -- what its step does
-  abbrev ByRoutine : WorldState → Type 0
-  ByRoutine v = Passes (routine_under w) Interrupt (caller_words w Interrupt) (slotted w) (slotted v)
-
-  still : (v : WorldState) → Leaves (slotted w) (slotted v) → ByRoutine v
-  still v = passes_by (routine_under w) Interrupt (caller_words w Interrupt) (slotted w) (slotted v)
-
-  routine_gate_passes : (g : Gate) → routine_under w ≡ Some g → ByRoutine (routine_gate g w)
-  routine_gate_passes g e =
-      elim (eqb (gate_number g) (gate_number gates.InterruptReturn)) as (λ b. ByRoutine (cond b (next_routine w) (cond (is_call g) (routine_call g w) (given_up traps.Access w)))) [
-        | true ↦ still (next_routine w) here
-        | false ↦
-            elim (is_call g) as (λ b. ByRoutine (cond b (routine_call g w) (given_up traps.Access w))) [
-              | true ↦ subst (λ o. Passes o Interrupt (caller_words w Interrupt) (slotted w) (slotted (routine_call g w))) (sym e) (call_passes g w Interrupt is)
-              | false ↦ still (given_up traps.Access w) here
-            ]
-      ]
-
-  routine_executed_leaves : (o : Outcome BusState) → IfDone (HasPlaces w.slots) o → Leaves (slotted w) (slotted (routine_executed o w))
-  routine_executed_leaves (Done regs bus) same = record { places = same; counts = λ i. refl; lines = is }
-  routine_executed_leaves (Trapped trap) same = here
-
-  routine_word_leaves : (o : Option ℕ) → Leaves (slotted w) (slotted (routine_word o w))
-  routine_word_leaves None = here
-  routine_word_leaves (Some word) =
-      routine_executed_leaves (exec_of board_meaning (routine_regs w) word (bus_of w)) (executing_lasts board_meaning (HasPlaces w.slots) (places_last w.slots) (routine_regs w) word (bus_of w) (λ i. refl))
-
-  routine_at_passes : (o : Option Gate) → routine_under w ≡ o → ByRoutine (routine_at o w)
-  routine_at_passes (Some g) e = routine_gate_passes g e
-  routine_at_passes None e = let word = fetched (bus_of w) (routine_regs w).pc in still (routine_word word w) (routine_word_leaves word)
-
-  routine_part_passes : ByRoutine (routine_part w)
-  unfolding routine_part
-  routine_part_passes = routine_at_passes (routine_under w) refl
-
 -- ---- the gate and the words of the task that makes the step are the same at the step's beginning
-own_gate : (w : WorldState) (who : ℕ) → gate_under (at_step_start w who) who ≡ gate_under w who
+own_gate : (w : WorldState) (who : ℕ) → gate_under (at_step_start w who) (by_task who) ≡ gate_under w (by_task who)
 own_gate w who = ap (λ o. gate_at (board_rules w.board).gates_start (unwrap_or (option_map (λ t. t.regs) o) no_regs).pc) (own_found w.kern.tasks who)
 
 own_words : (w : WorldState) (who : ℕ) → caller_words (at_step_start w who) (by_task who) ≡ caller_words w (by_task who)
@@ -174,17 +151,17 @@ own_words w who = ap (λ o. (unwrap_or (option_map (λ t. t.regs) o) no_regs).gp
 module _ (s : State) (is : IsIrqs s.world.irqs) where
   -- what the step of this task does
   abbrev PassesBy : ℕ → State → Type 0
-  PassesBy who u = Passes (gate_under s.world who) (by_task who) (caller_words s.world (by_task who)) (slotted s.world) (slotted u.world)
+  PassesBy who u = Passes (gate_under s.world (by_task who)) (by_task who) (caller_words s.world (by_task who)) (slotted s.world) (slotted u.world)
 
   task_step_passes : (who : ℕ) → PassesBy who (task_step s who)
   task_step_passes who =
       let w = at_step_start s.world who in
       subst (λ o. Passes o (by_task who) (caller_words s.world (by_task who)) (slotted s.world) (slotted (task_step s who).world)) (own_gate s.world who)
-      (subst (λ r. Passes (gate_under w who) (by_task who) r (slotted s.world) (slotted (task_step s who).world)) (own_words s.world who)
-      (task_passes w is s.shell who))
+      (subst (λ r. Passes (gate_under w (by_task who)) (by_task who) r (slotted s.world) (slotted (task_step s who).world)) (own_words s.world who)
+      (actor_passes w is s.shell (by_task who)))
 
   leaves : (u : State) → Leaves (slotted s.world) (slotted u.world) → PassesBy shell_id u
-  leaves u = passes_by (gate_under s.world shell_id) (by_task shell_id) (caller_words s.world (by_task shell_id)) (slotted s.world) (slotted u.world)
+  leaves u = passes_by (gate_under s.world shell) shell (caller_words s.world shell) (slotted s.world) (slotted u.world)
 
   shell_step_passes : (p : Phase) → PassesBy shell_id (shell_step p s)
   shell_step_passes phases.Prompt = leaves (shell_step phases.Prompt s) (left (slotted s.world) is)
@@ -202,8 +179,8 @@ module _ (s : State) (is : IsIrqs s.world.irqs) where
   abbrev routine_world : WorldState
   routine_world = cleared (unreserved_world s.world)
 
-  pub routine_step_passes : Passes (routine_under routine_world) Interrupt (caller_words routine_world Interrupt) (slotted s.world) (slotted (routine_step s).world)
-  routine_step_passes = routine_part_passes routine_world is
+  pub routine_step_passes : Passes (gate_under routine_world Interrupt) Interrupt (caller_words routine_world Interrupt) (slotted s.world) (slotted (routine_step s).world)
+  routine_step_passes = actor_passes routine_world is s.shell Interrupt
 
   pub load_step_leaves : (said : FileSaid) (name : List ℕ) → Leaves (slotted s.world) (slotted (load_step said s name).world)
   load_step_leaves said name = load_leaves (at_step_start s.world shell_id) is name said

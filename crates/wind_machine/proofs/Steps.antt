@@ -1,12 +1,11 @@
 -- Every step keeps the invariant.
-use Rattle.std.proofs.Common.{◌≡◌, ℕ, ◌+◌, ◌≤◌, true, false, cond, eqb, List, [], ◌∷◌, length, map, take, drop, Option, None, Some, IfSome, inl, inr, refl, sym, ap, ◌∙◌, subst, arith}
+use Rattle.std.proofs.Common.{◌≡◌, ℕ, ◌+◌, ◌≤◌, ◌^◌, true, false, cond, eqb, List, [], ◌∷◌, length, map, take, drop, Option, None, Some, IfSome, inl, inr, refl, sym, ap, ◌∙◌, subst, arith}
 use Rattle.std.proofs.lemmas.Bool.{eqb-true}
 use Rattle.std.proofs.lemmas.List.{length-take}
 use Rattle.tick_file.specs.Schedule.{Timed, Timetable}
 use Rattle.tick_file.specs.Laws.{IsEarly}
 use Rattle.tick_file.specs.declared.event.Event.{Event}
 use Rattle.tick_file.specs.declared.event.Event.TheVariants.{Tick, Rx, Irq}
-use Rattle.wind_core.specs.State.{Lives}
 use Rattle.wind_core.specs.Tick.{tick}
 use Rattle.wind_core.specs.Move.{Tick, SetLast}
 use Rattle.wind_core.proofs.Ids.{ids-tick, since-tick, lives_by}
@@ -17,30 +16,34 @@ use Rattle.con_line.specs.State.{ConsoleState}
 use Rattle.con_line.specs.Lines.{KeepsLines, has_line, first_line, line_dropped}
 use Rattle.con_line.proofs.Kept.{drop_keeps}
 use Rattle.kernel_world.specs.Actors.{shell_id}
+use Rattle.kernel_world.specs.declared.actor.Actor.TheVariants.{Task as by_task, Interrupt}
 use Rattle.isr_watch.specs.declared.watchdog.Watchdog.{Watchdog}
 use Rattle.isr_watch.specs.State.{watchdog_id, is_due}
 use Rattle.isr_watch.specs.declared.watchdog.Routine.{Routine}
 use Rattle.isr_watch.specs.Calls.{stopped, due, begun}
 use Rattle.dev_irq.specs.declared.line.Line.{Line}
 use Rattle.dev_irq.specs.State.{routines_of}
+use Rattle.dev_irq.specs.Calls.{delivered}
 use Rattle.isr_watch.proofs.Ids.{ids_stay}
 use Rattle.isr_watch.proofs.Keeping.{watch_stays}
 use Rattle.kernel_world.specs.Kept.{routine_stack, AreStacks, KeepsWatch, IsWorld, ReservedBy, Within}
 use Rattle.kernel_world.specs.Objects.{IsReady}
+use Rattle.kernel_world.specs.State.{WorldState}
+use Rattle.kernel_world.proofs.Goes.{goes_nowhere}
 use Rattle.kernel_world.proofs.ObjectMoves.{objects-move}
 use Rattle.kernel_world.proofs.Holding.{loaded_on}
-use Rattle.kernel_world.proofs.LiveIds.{Nothing, fewer_same, ids_map}
+use Rattle.kernel_world.proofs.LiveIds.{Nothing, fewer_same, given_none, ids_map}
 use Rattle.kernel_world.proofs.WorldIds.{ids_watch}
-use Rattle.kernel_world.proofs.Advancing.{Advances, level_is, watch_on, by_kern, within_more}
+use Rattle.kernel_world.proofs.Advancing.{Advances, advances_on, level_is, watch_on, by_kern, of_watches, of_devices, stays, within_more}
 use Rattle.live_loading.specs.Said.{FileSaid}
-use Rattle.live_loading.specs.Loading.{load_call}
+use Rattle.live_loading.specs.Loading.{shell as by_shell, load_call}
 use Rattle.live_loading.specs.Laws.{LoadLaw}
 use Rattle.wind_machine.specs.State.{State}
 use Rattle.wind_machine.specs.Good.{Keeps, bare, settle_sinces, KeepsEffect, Good}
 use Rattle.wind_machine.specs.Feed.{chunk, after_chunk, brought}
 use Rattle.wind_machine.specs.Part.{Part, part_of}
 use Rattle.wind_machine.specs.Shell.{prompt_part, read_part, shell_read, eval_part}
-use Rattle.wind_machine.specs.Processor.{without_own, task_part}
+use Rattle.wind_machine.specs.Processor.{without_own, actor_part}
 use Rattle.wind_machine.specs.Routine.{interrupt_top, routine_return, with_return}
 use Rattle.wind_machine.specs.Events.{Heard, heard_by, arrived, arrival, ticked, received, lines_raised, event_comes, event_step, delivered_world, delivery_step, unreserved_world, without_next, jump, cleared, next_event}
 use Rattle.wind_machine.specs.ActorSteps.{at_step_start, shell_world, stepped, prompt_step, read_step, eval_step, task_step, shell_step, step_of, routine_step}
@@ -57,11 +60,10 @@ use Rattle.wind_machine.specs.declared.phase.Phase.TheVariants as phases
 use Rattle.wind_machine.proofs.Kept.{needs_none, prompt_has_line, read_phase}
 use Rattle.wind_machine.proofs.Dropping.{others_advance, all_advance, others_reserved, all_reserved}
 use Rattle.wind_machine.proofs.Moves.{lent-tick, next-tick, last-tick, stacks-tick, reserved-tick, counts-tick}
-use Rattle.wind_machine.proofs.Free.{runner_ready, runner_there, step_start_ready}
+use Rattle.wind_machine.proofs.Free.{runner_ready, step_start_ready}
 use Rattle.wind_machine.proofs.Hearing.{heard_keeps, chunk_short}
-use Rattle.wind_machine.proofs.Routines.{RoutinePasses, routine_passes}
 use Rattle.wind_machine.proofs.Order.{by_next}
-use Rattle.wind_machine.proofs.Parts.{PartKeeps, prompt_keeps_world, read_keeps_world, eval_keeps, load_keeps, task_keeps}
+use Rattle.wind_machine.proofs.Parts.{PartKeeps, prompt_keeps_world, read_keeps_world, eval_keeps, load_keeps, actor_keeps}
 
 -- from a good state
 module _ (s : State) (g : Keeps 0 (bare s)) where
@@ -74,19 +76,21 @@ module _ (s : State) (g : Keeps 0 (bare s)) where
   step_start_advances who =
       let a = others_advance s.world s.steps g.world g.within who in
       record {
-        kept = record { kern = a.kept.kern; home = a.kept.home; kind = a.kept.kind; objects = a.kept.objects; pool = a.kept.pool; stacks = a.kept.stacks; modules = a.kept.modules; ram = a.kept.ram; symbols = a.kept.symbols; watch = a.kept.watch; ids = a.kept.ids };
+        steps = record {
+          kept = record { kern = a.kept.kern; home = a.kept.home; kind = a.kept.kind; objects = a.kept.objects; pool = a.kept.pool; stacks = a.kept.stacks; modules = a.kept.modules; ram = a.kept.ram; symbols = a.kept.symbols; watch = a.kept.watch; ids = a.kept.ids };
+          within = a.within;
+          last = a.last;
+          reserves = a.reserves;
+          sinces = a.sinces;
+          count = a.count;
+          names = a.names;
+          starts = a.starts;
+          choice = a.choice;
+        };
         lives = a.lives;
-        within = a.within;
-        last = a.last;
-        reserves = a.reserves;
-        sinces = a.sinces;
-        count = a.count;
-        names = a.names;
-        starts = a.starts;
-        choice = a.choice;
       }
 
-  stepped_keeps : (console : ConsoleState) (who : ℕ) (p : Part) → KeepsLines console.edited console.finished → PartKeeps (at_step_start s.world who) p who (s.steps + 1) console.finished
+  stepped_keeps : (console : ConsoleState) (who : ℕ) (p : Part) → KeepsLines console.edited console.finished → PartKeeps (at_step_start s.world who) p (by_task who) (s.steps + 1) console.finished
       → KeepsEffect (stepped (record s { console = console }) who p)
   stepped_keeps console who p lines part =
       let keeps_world = part.keeps_world in
@@ -96,7 +100,7 @@ module _ (s : State) (g : Keeps 0 (bare s)) where
         read = part.read;
         world = record { kern = move_keeps p.world.kern (SetLast (Some who)) kept.kern tt; home = kept.home; kind = kept.kind; objects = objects-move p.world.kern p.world.objects kept.kern kept.objects (SetLast (Some who)) (tt, tt, tt, tt); pool = kept.pool; stacks = kept.stacks; modules = kept.modules; ram = kept.ram; symbols = kept.symbols; watch = kept.watch; ids = kept.ids };
         shell = keeps_world.shell ((step_start_advances who).lives shell_id g.shell);
-        reserved = keeps_world.reserves (others_reserved s.world.kern who);
+        reserved = keeps_world.reserves (Some who) refl (others_reserved s.world.kern who);
         sinces = omega (arith, keeps_world.sinces, g.sinces);
         ticks = omega (arith, keeps_world.count, g.ticks);
         within = keeps_world.within;
@@ -106,29 +110,29 @@ module _ (s : State) (g : Keeps 0 (bare s)) where
       }
 
   -- what each of them does
-  pub prompts : PartKeeps (shell_world s) (prompt_part (has_line s.console) s.shell (shell_world s)) shell_id (s.steps + 1) s.console.finished
+  pub prompts : PartKeeps (shell_world s) (prompt_part (has_line s.console) s.shell (shell_world s)) by_shell (s.steps + 1) s.console.finished
   prompts =
       let a = step_start_advances shell_id in
       record { keeps_world = prompt_keeps_world (shell_world s) s.steps a.kept a.within (a.lives shell_id g.shell) (has_line s.console) s.shell; read = prompt_has_line s.console.finished s.shell g.read }
 
-  pub reads : PartKeeps (shell_world s) (read_part (read_line (first_line s.console)) (shell_world s)) shell_id (s.steps + 1) (line_dropped s.console).finished
+  pub reads : PartKeeps (shell_world s) (read_part (read_line (first_line s.console)) (shell_world s)) by_shell (s.steps + 1) (line_dropped s.console).finished
   reads =
       let a = step_start_advances shell_id in
       let reading = read_line (first_line s.console) in
       record { keeps_world = read_keeps_world (shell_world s) s.steps a.kept a.within reading; read = needs_none (shell_read reading).phase (line_dropped s.console).finished (read_phase reading) }
 
-  pub evaluates : IsReady s.world.kern shell_id → PartKeeps (shell_world s) (eval_part s.shell.trees (shell_world s)) shell_id (s.steps + 1) s.console.finished
+  pub evaluates : IsReady s.world.kern shell_id → PartKeeps (shell_world s) (eval_part s.shell.trees (shell_world s)) by_shell (s.steps + 1) s.console.finished
   evaluates ready =
       let a = step_start_advances shell_id in
       eval_keeps (shell_world s) s.steps a.kept a.within s.console.finished s.shell.trees (step_start_ready s.world.kern shell_id ready)
 
-  pub acts : (who : ℕ) → Lives s.world.kern who → IsReady s.world.kern who → PartKeeps (at_step_start s.world who) (task_part s.shell (at_step_start s.world who) who) who (s.steps + 1) s.console.finished
-  acts who live ready =
+  pub acts : (who : ℕ) → IsReady s.world.kern who → PartKeeps (at_step_start s.world who) (actor_part s.shell (at_step_start s.world who) (by_task who)) (by_task who) (s.steps + 1) s.console.finished
+  acts who ready =
       let a = step_start_advances who in
-      task_keeps (at_step_start s.world who) s.steps a.kept a.within s.console.finished s.shell g.read who (a.lives who live) (step_start_ready s.world.kern who ready)
+      actor_keeps (at_step_start s.world who) s.steps a.kept a.within s.console.finished s.shell g.read (by_task who) (step_start_ready s.world.kern who ready)
 
   pub loads : LoadLaw → IsReady s.world.kern shell_id → (name : List ℕ) (said : FileSaid)
-      → PartKeeps (shell_world s) (part_of s.shell (without_own (load_call (shell_world s) name said) shell_id)) shell_id (s.steps + 1) s.console.finished
+      → PartKeeps (shell_world s) (part_of s.shell (without_own (load_call (shell_world s) name said) by_shell)) by_shell (s.steps + 1) s.console.finished
   loads law ready name said =
       let a = step_start_advances shell_id in
       load_keeps (shell_world s) s.steps a.kept a.within s.console.finished law s.shell g.read (step_start_ready s.world.kern shell_id ready) name said
@@ -142,41 +146,42 @@ module _ (s : State) (g : Keeps 0 (bare s)) where
   evals_keep : IsReady s.world.kern shell_id → KeepsEffect (eval_step s)
   evals_keep ready = stepped_keeps s.console shell_id (eval_part s.shell.trees (shell_world s)) g.console (evaluates ready)
 
-  tasks_keep : (who : ℕ) → Lives s.world.kern who → IsReady s.world.kern who → KeepsEffect (task_step s who)
-  tasks_keep who live ready = stepped_keeps s.console who (task_part s.shell (at_step_start s.world who) who) g.console (acts who live ready)
+  tasks_keep : (who : ℕ) → IsReady s.world.kern who → KeepsEffect (task_step s who)
+  tasks_keep who ready = stepped_keeps s.console who (actor_part s.shell (at_step_start s.world who) (by_task who)) g.console (acts who ready)
 
   shell_keeps : (p : Phase) → IsReady s.world.kern shell_id → KeepsEffect (shell_step p s)
   shell_keeps phases.Prompt ready = prompt_keeps
   shell_keeps phases.Read ready = read_keeps
   shell_keeps phases.Eval ready = evals_keep ready
-  shell_keeps phases.Call ready = tasks_keep shell_id g.shell ready
+  shell_keeps phases.Call ready = tasks_keep shell_id ready
 
-  whoever_keeps : (who : ℕ) → Lives s.world.kern who → IsReady s.world.kern who → KeepsEffect (step_of s who)
-  whoever_keeps who live ready =
+  whoever_keeps : (who : ℕ) → IsReady s.world.kern who → KeepsEffect (step_of s who)
+  whoever_keeps who ready =
       elim (eqb who shell_id) as (λ b. eqb who shell_id ≡ b → KeepsEffect (cond b (shell_step s.shell.phase s) (task_step s who))) [
         | true ↦ λ e. shell_keeps s.shell.phase (subst (IsReady s.world.kern) (eqb-true who shell_id e) ready)
-        | false ↦ λ e. tasks_keep who live ready
+        | false ↦ λ e. tasks_keep who ready
       ] refl
 
   -- ---- an interrupt routine makes a step
-  pub routine_keeps_world : is_active s.world ≡ true → RoutinePasses (cleared (unreserved_world s.world)) (routine_step s).world s.steps
-  routine_keeps_world active =
+  pub routine_acts : is_active s.world ≡ true → PartKeeps (cleared (unreserved_world s.world)) (actor_part s.shell (cleared (unreserved_world s.world)) Interrupt) Interrupt (s.steps + 1) s.console.finished
+  routine_acts active =
       let a = all_advance s.world s.steps g.world g.within in
       let w = cleared (unreserved_world s.world) in
       let kept : IsWorld w = record { kern = a.kept.kern; home = a.kept.home; kind = a.kept.kind; objects = a.kept.objects; pool = a.kept.pool; stacks = a.kept.stacks; modules = a.kept.modules; ram = a.kept.ram; symbols = a.kept.symbols; watch = a.kept.watch; ids = a.kept.ids } in
-      routine_passes w s.steps kept a.within active
+      actor_keeps w s.steps kept a.within s.console.finished s.shell g.read Interrupt active
 
   routine_keeps : is_active s.world ≡ true → KeepsEffect (routine_step s)
   routine_keeps active =
       let a = all_advance s.world s.steps g.world g.within in
-      let goes = routine_keeps_world active in
+      let part = routine_acts active in
+      let goes = part.keeps_world in
       let last = (routine_step s).world.kern.last in
       record {
         console = g.console;
-        read = g.read;
+        read = part.read;
         world = goes.kept;
         shell = goes.shell (a.lives shell_id g.shell);
-        reserved = goes.reserves last (all_reserved s.world.kern last);
+        reserved = goes.reserves last tt (all_reserved s.world.kern last);
         sinces = omega (arith, goes.sinces, g.sinces);
         ticks = omega (arith, goes.count, g.ticks);
         within = goes.within;
@@ -254,21 +259,29 @@ module _ (s : State) (g : Keeps 0 (bare s)) where
         time = omega (arith, g.time);
       }
 
-  -- ---- a device interrupts, which the invariant doesn't mention
-  raised_keeps : (irqs : List Line) → KeepsEffect (record s { world = cleared (record s.world { irqs = irqs }); steps = s.steps + 1 })
-  raised_keeps irqs = record {
+  -- ---- all tasks live on, and no number is handed out
+  calm_keeps : (w : WorldState) (time : ℕ) → Advances s.world w s.steps 0 0 → ReservedBy w.kern.last w.kern → time ≤ 2 ^ 64 + (s.steps + 1) → KeepsEffect (record s { world = cleared w; time = time; steps = s.steps + 1 })
+  calm_keeps w time a reserved early = record {
     console = g.console;
     read = g.read;
-    world = record { kern = g.world.kern; home = g.world.home; kind = g.world.kind; objects = g.world.objects; pool = g.world.pool; stacks = g.world.stacks; modules = g.world.modules; ram = g.world.ram; symbols = g.world.symbols; watch = g.world.watch; ids = g.world.ids };
-    shell = g.shell;
-    reserved = g.reserved;
-    sinces = omega (arith, g.sinces);
-    ticks = omega (arith, g.ticks);
-    within = more_counts;
-    names = omega (arith, g.names);
-    starts = omega (arith, g.starts);
-    time = omega (arith, g.time);
+    world = record { kern = a.kept.kern; home = a.kept.home; kind = a.kept.kind; objects = a.kept.objects; pool = a.kept.pool; stacks = a.kept.stacks; modules = a.kept.modules; ram = a.kept.ram; symbols = a.kept.symbols; watch = a.kept.watch; ids = a.kept.ids };
+    shell = a.lives shell_id g.shell;
+    reserved = reserved;
+    sinces = omega (arith, a.sinces, g.sinces);
+    ticks = omega (arith, a.count, g.ticks);
+    within = within_more w s.steps (s.steps + 1) (omega arith) a.within;
+    names = omega (arith, a.names, g.names);
+    starts = omega (arith, a.starts, g.starts);
+    time = early;
   }
+
+  -- a device interrupts
+  raised_keeps : (irqs : List Line) → KeepsEffect (record s { world = cleared (record s.world { irqs = irqs }); steps = s.steps + 1 })
+  raised_keeps irqs = calm_keeps (record s.world { irqs = irqs }) s.time (of_devices s.world g.world s.steps g.within irqs s.world.slots) g.reserved (omega (arith, g.time))
+
+  -- board time jumps
+  jump_keeps : (e : Timed) → IsEarly e → KeepsEffect (jump s e.time)
+  jump_keeps e early = calm_keeps s.world e.time (stays s.world g.world s.steps g.within) g.reserved (omega (arith, early))
 
   -- ---- an interrupt is delivered: its routines begin
   begins_watch : (routines : List Routine) → KeepsWatch s.world.kern.next_id (with_return s.world.board (begun s.world.watch routines interrupt_top))
@@ -280,19 +293,13 @@ module _ (s : State) (g : Keeps 0 (bare s)) where
       }
 
   delivered_keeps : (i : ℕ) → KeepsEffect (record s { world = cleared (delivered_world s.world i); steps = s.steps + 1 })
-  delivered_keeps i = record {
-    console = g.console;
-    read = g.read;
-    world = record { kern = g.world.kern; home = g.world.home; kind = g.world.kind; objects = g.world.objects; pool = g.world.pool; stacks = g.world.stacks; modules = g.world.modules; ram = g.world.ram; symbols = g.world.symbols; watch = begins_watch (routines_of s.world.irqs i); ids = g.world.ids };
-    shell = g.shell;
-    reserved = g.reserved;
-    sinces = omega (arith, g.sinces);
-    ticks = omega (arith, g.ticks);
-    within = more_counts;
-    names = omega (arith, g.names);
-    starts = omega (arith, g.starts);
-    time = omega (arith, g.time);
-  }
+  delivered_keeps i =
+      let w = s.world in
+      let watch = with_return w.board (begun w.watch (routines_of w.irqs i) interrupt_top) in
+      let v = record w { watch = watch } in
+      let u = record v { irqs = delivered w.irqs i } in
+      let begin = of_watches w g.world s.steps g.within w.kern watch 0 (goes_nowhere w.kern s.steps g.world.kern g.within.0) g.world.objects (begins_watch (routines_of w.irqs i)) (omega arith) (given_none w.kern.next_id w.kern.next_id (map watchdog_id w.watch.watchdogs) (omega arith)) in
+      calm_keeps u s.time (advances_on w v u s.steps s.steps 0 0 0 0 begin (of_devices v begin.kept s.steps begin.within (delivered w.irqs i) w.slots)) g.reserved (omega (arith, g.time))
 
   comes_keeps : (e : Event) → KeepsEffect (event_comes s e)
   comes_keeps Tick = ticked_keeps
@@ -317,22 +324,6 @@ module _ (s : State) (g : Keeps 0 (bare s)) where
         time = g.time;
       }
 
-  -- ---- board time jumps
-  jump_keeps : (e : Timed) → IsEarly e → KeepsEffect (jump s e.time)
-  jump_keeps e early = record {
-    console = g.console;
-    read = g.read;
-    world = record { kern = g.world.kern; home = g.world.home; kind = g.world.kind; objects = g.world.objects; pool = g.world.pool; stacks = g.world.stacks; modules = g.world.modules; ram = g.world.ram; symbols = g.world.symbols; watch = g.world.watch; ids = g.world.ids };
-    shell = g.shell;
-    reserved = g.reserved;
-    sinces = omega (arith, g.sinces);
-    ticks = omega (arith, g.ticks);
-    within = more_counts;
-    names = omega (arith, g.names);
-    starts = omega (arith, g.starts);
-    time = omega (arith, early);
-  }
-
 event_keeps : (s : State) (e : Event) → Keeps 0 (bare s) → KeepsEffect (event_step s e)
 event_keeps s e g =
     let t = without_next s.schedule in
@@ -348,9 +339,9 @@ next_keeps law said s early g = by_next s (λ n. IfSome (state_after said s n) K
   come = λ held e due. event_keeps s e.event g;
   arrive = λ held quiet due. arrival_keeps s g;
   routine = λ nothing active. routine_keeps s g active;
-  act = λ left t runs none. whoever_keeps s g t.id (runner_there s.world.kern g.world.kern t runs) (runner_ready s.world.kern g.world.kern t runs);
+  act = λ left t runs none. whoever_keeps s g t.id (runner_ready s.world.kern g.world.kern t runs);
   load = λ left t runs own name found.
-      let part = part_of s.shell (without_own (load_call (shell_world s) name said) shell_id) in
+      let part = part_of s.shell (without_own (load_call (shell_world s) name said) by_shell) in
       stepped_keeps s g s.console shell_id part g.console (loads s g law (subst (IsReady s.world.kern) own (runner_ready s.world.kern g.world.kern t runs)) name said);
   jump = λ left nobody e there. jump_keeps s g e (subst (λ o. IfSome o IsEarly) there early);
   over = λ left nobody none. tt;

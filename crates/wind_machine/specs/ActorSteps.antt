@@ -5,6 +5,7 @@ use Rattle.shell_parse.specs.Reading.{read_line}
 use Rattle.con_line.specs.Lines.{has_line, first_line, line_dropped}
 use Rattle.kernel_world.specs.State.{WorldState}
 use Rattle.kernel_world.specs.Actors.{shell_id}
+use Rattle.kernel_world.specs.declared.actor.Actor.TheVariants.{Task as by_task, Interrupt}
 use Rattle.kernel_calls.specs.Calls.{file_wanted}
 use Rattle.live_loading.specs.Said.{FileSaid}
 use Rattle.live_loading.specs.Loading.{shell, load_call}
@@ -12,11 +13,14 @@ use Rattle.wind_machine.specs.State.{State}
 use Rattle.wind_machine.specs.Reserving.{drop_others}
 use Rattle.wind_machine.specs.Part.{Part, part_of, with_kern}
 use Rattle.wind_machine.specs.Shell.{prompt_part, read_part, eval_part}
-use Rattle.wind_machine.specs.Processor.{gate_under, without_own, task_part}
-use Rattle.wind_machine.specs.Routine.{routine_part}
+use Rattle.wind_machine.specs.Processor.{gate_under, without_own, actor_part}
 use Rattle.wind_machine.specs.Events.{cleared, unreserved_world}
 use Rattle.wind_machine.specs.declared.phase.Phase.{Phase}
 use Rattle.wind_machine.specs.declared.phase.Phase.TheVariants as phases
+
+-- the state after a step that leaves this part
+abbrev pub after_part : State → Part → State
+after_part s p = record s { shell = p.shell; world = p.world; time = s.time + 1; steps = s.steps + 1 }
 
 -- ---- a task makes a step
 -- the world at the beginning of the step: the output is empty, and no other task has a reservation
@@ -27,9 +31,9 @@ at_step_start w who = cleared (with_kern w (drop_others w.kern who))
 abbrev pub noted : WorldState → ℕ → WorldState
 noted w who = with_kern w (record w.kern { last = Some who })
 
--- the step takes one unit of board time, and the task is noted as the one that ran last
+-- the state after its step: the task is noted as the one that ran last
 abbrev pub stepped : State → ℕ → Part → State
-stepped s who p = record s { shell = p.shell; world = noted p.world who; time = s.time + 1; steps = s.steps + 1 }
+stepped s who p = after_part s (part_of p.shell (noted p.world who))
 
 abbrev pub shell_world : State → WorldState
 shell_world s = at_step_start s.world shell_id
@@ -46,7 +50,7 @@ eval_step s = stepped s shell_id (eval_part s.shell.trees (shell_world s))
 
 -- what the task does at a gate, or an instruction
 abbrev pub task_step : State → ℕ → State
-task_step s who = stepped s who (task_part s.shell (at_step_start s.world who) who)
+task_step s who = stepped s who (actor_part s.shell (at_step_start s.world who) (by_task who))
 
 -- the step of the shell's task, by the shell's phase
 abbrev pub shell_step : Phase → State → State
@@ -67,7 +71,7 @@ file_at (Some g) w = file_wanted g w shell
 
 -- the shell's task needs a file only during a call
 abbrev pub file_in : Phase → WorldState → Option (List ℕ)
-file_in phases.Call w = file_at (gate_under w shell_id) w
+file_in phases.Call w = file_at (gate_under w shell) w
 file_in phase w = None
 
 -- the file that the step of the task with this id needs; only the shell's task ever needs one
@@ -76,9 +80,9 @@ file_for s who = if who == shell_id then file_in s.shell.phase s.world else None
 
 -- the load, given what is said of its file
 abbrev pub load_step : FileSaid → State → List ℕ → State
-load_step said s name = stepped s shell_id (part_of s.shell (without_own (load_call (shell_world s) name said) shell_id))
+load_step said s name = stepped s shell_id (part_of s.shell (without_own (load_call (shell_world s) name said) shell))
 
 -- ---- an interrupt routine makes a step
 -- all tasks' reservations are dropped
 abbrev pub routine_step : State → State
-routine_step s = record s { world = routine_part (cleared (unreserved_world s.world)); time = s.time + 1; steps = s.steps + 1 }
+routine_step s = after_part s (actor_part s.shell (cleared (unreserved_world s.world)) Interrupt)

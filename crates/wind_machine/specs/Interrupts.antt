@@ -56,7 +56,7 @@ pub record StepsSlot (s t : State) (i : ℕ) : Type 0 where
   -- an empty slot stays empty
   pub gone : is_occupied s.world.slots i ≡ false → is_occupied t.world.slots i ≡ false
   -- only devRemove removes a device: a task at its gate, with the slot in r3
-  pub removed : is_removed s t i ≡ true → (who : ℕ) × (stepping s ≡ Some (by_task who)) × (gate_under s.world who ≡ Some gates.DevRemove) × (slice_index (caller_words s.world (by_task who)) 3 ≡ i)
+  pub removed : is_removed s t i ≡ true → (who : ℕ) × (stepping s ≡ Some (by_task who)) × (gate_under s.world (by_task who) ≡ Some gates.DevRemove) × (slice_index (caller_words s.world (by_task who)) 3 ≡ i)
 
 -- this holds for every step from a state with a valid controller, whatever is said of a file
 abbrev pub SlotLaw : Type 0

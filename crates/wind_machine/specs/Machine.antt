@@ -100,7 +100,7 @@ gate_may (Some g) = call_may_exhaust_memory g
 
 -- whether the step of the task with this id may
 abbrev pub who_may : State → ℕ → Bool
-who_may s who = if who == shell_id then phase_may s.shell.phase (gate_may (gate_under s.world who)) else gate_may (gate_under s.world who)
+who_may s who = if who == shell_id then phase_may s.shell.phase (gate_may (gate_under s.world (by_task who))) else gate_may (gate_under s.world (by_task who))
 
 -- the step of a task may, by where the task is, and so may a load; no other step may
 abbrev pub next_may : State → Next → Bool

@@ -2,6 +2,5 @@ pub mod NextIds
 pub mod Rows
 pub mod Calls
 pub mod Parts
-pub mod Routines
 pub mod Steps
 pub mod Conserved

@@ -1,4 +1,4 @@
--- What a step of a task does to the world agrees with what the queues hold.
+-- What a step of an actor does to the world agrees with what the queues hold.
 use Rattle.std.proofs.Common.{◌≡◌, ℕ, Bool, true, false, cond, eqb, List, [], ◌∷◌, Option, None, Some, refl, sym, subst, arith}
 use Rattle.std.specs.Prelude.{slice_index}
 use Rattle.wind_base.specs.declared.gate.Gate.{Gate}
@@ -21,13 +21,15 @@ use Rattle.kernel_calls.specs.Calls.{scene_of}
 use Rattle.kernel_world.specs.Allowed.{is_call}
 use Rattle.kernel_world.specs.Replies.{left_gate}
 use Rattle.task_calls.specs.Ending.{ended}
-use Rattle.kernel_world.specs.declared.actor.Actor.TheVariants.{Task as by_task}
+use Rattle.kernel_world.specs.declared.actor.Actor.{Actor}
+use Rattle.kernel_world.specs.declared.actor.Actor.TheVariants.{Task as by_task, Interrupt}
 use Rattle.wind_machine.specs.State.{ShellState}
 use Rattle.wind_machine.specs.Part.{part_of, with_kern, writing}
 use Rattle.wind_machine.specs.Task.{shell_task, is_held, listening, aborted}
 use Rattle.wind_machine.specs.Text.{prompt_text}
 use Rattle.wind_machine.specs.Shell.{at_prompt, returned, prompted, prompt_part, eval_state, with_eval, came_to, eval_part}
-use Rattle.wind_machine.specs.Processor.{bus_of, regs_of, trap_text, trapped, is_return, without_own, return_part, call_part, gate_part, executed, word_part, part_at, gate_under, task_part}
+use Rattle.wind_machine.specs.Routine.{next_routine}
+use Rattle.wind_machine.specs.Processor.{bus_of, regs_of, trap_text, trapped, is_return, without_own, return_part, called, gate_part, executed, word_part, part_at, gate_under, actor_part}
 use Rattle.wind_messages.specs.Messages.{call_at, call_under}
 use Rattle.wind_messages.proofs.NextIds.{NextSame, next-if, next-release, next-lessen}
 use Rattle.wind_messages.proofs.Rows.{Balances, leaves}
@@ -61,54 +63,57 @@ module _ (w : WorldState) (s : Scene) where
   evaluates (None ∷ later) = left_alone w refl refl
   evaluates (Some p ∷ later) = let e = evaluate (eval_state w) p in comes_to e.ending later (with_eval w e.state) refl refl
 
-  -- ---- a step of any task
-  module _ (shell : ShellState) (who : ℕ) where
-    traps_balance : (trap : Trap) → Balances w (trapped trap shell w who).world s None
-    traps_balance trap =
+  -- ---- a step of any actor
+  module _ (shell : ShellState) where
+    traps_balance : (a : Actor) (trap : Trap) → Balances w (trapped trap shell w a).world s None
+    traps_balance (by_task who) trap =
         let text = trap_text trap (task_of w.kern.tasks who) in
         elim (eqb who shell_id) as (λ b. Balances w (cond b (part_of at_prompt (writing (with_kern w (aborted w.kern)) text)) (part_of shell (writing (with_kern w (suspend w.kern who)) text))).world s None) [
           | true ↦ left_alone (writing (with_kern w (aborted w.kern)) text) refl (next-aborted w.kern)
           | false ↦ left_alone (writing (with_kern w (suspend w.kern who)) text) refl refl
         ]
+    traps_balance Interrupt trap = left_alone (trapped trap shell w Interrupt).world refl refl
 
-    returns_balance : Balances w (return_part shell w who).world s None
-    returns_balance =
-        elim (eqb who shell_id) as (λ b. Balances w (cond b (part_of (returned (slice_index (regs_of w who).gpr 3) shell) (without_own w who)) (part_of shell (ended w who))).world s None) [
-          | true ↦ left_alone (without_own w who) refl refl
+    returns_balance : (a : Actor) → Balances w (return_part shell w a).world s None
+    returns_balance (by_task who) =
+        elim (eqb who shell_id) as (λ b. Balances w (cond b (part_of (returned (slice_index (regs_of w (by_task who)).gpr 3) shell) (without_own w (by_task who))) (part_of shell (ended w who))).world s None) [
+          | true ↦ left_alone (without_own w (by_task who)) refl refl
           | false ↦ left_alone (ended w who) refl (next-lessen w.kern who (safe_of (task_of w.kern.tasks who)))
         ]
+    returns_balance Interrupt = left_alone (next_routine w) refl refl
 
-    executes : (o : Outcome BusState) → Balances w (executed o shell w who).world s None
-    executes (Done regs bus) = left_alone (executed (Done regs bus) shell w who).world refl refl
-    executes (Trapped trap) = traps_balance trap
+    executes : (a : Actor) (o : Outcome BusState) → Balances w (executed o shell w a).world s None
+    executes (by_task who) (Done regs bus) = left_alone (executed (Done regs bus) shell w (by_task who)).world refl refl
+    executes Interrupt (Done regs bus) = left_alone (executed (Done regs bus) shell w Interrupt).world refl refl
+    executes a (Trapped trap) = traps_balance a trap
 
-    words_balance : (o : Option ℕ) → Balances w (word_part o shell w who).world s None
-    words_balance None = traps_balance traps.Access
-    words_balance (Some word) = executes (exec_of board_meaning (regs_of w who) word (bus_of w))
+    words_balance : (a : Actor) (o : Option ℕ) → Balances w (word_part o shell w a).world s None
+    words_balance a None = traps_balance a traps.Access
+    words_balance a (Some word) = executes a (exec_of board_meaning (regs_of w a) word (bus_of w))
 
--- ---- a step of a task, with the queue call that it is, if it is one
-module _ (w : WorldState) (shell : ShellState) (who : ℕ) (kept : IsKept (scene_of (left_gate w (by_task who)))) where
+-- ---- a step of an actor, with the queue call that it is, if it is one
+module _ (w : WorldState) (shell : ShellState) (a : Actor) (kept : IsKept (scene_of (left_gate w a))) where
   abbrev here : Scene
-  here = scene_of (left_gate w (by_task who))
+  here = scene_of (left_gate w a)
 
   abbrev words : List ℕ
-  words = caller_words w (by_task who)
+  words = caller_words w a
 
-  gates_balance : (g : Gate) → Balances w (gate_part g shell w who).world here (call_at g w who)
+  gates_balance : (g : Gate) → Balances w (gate_part g shell w a).world here (call_at g w a)
   gates_balance g =
-      elim (is_return g who) as (λ b. is_return g who ≡ b → Balances w (cond b (return_part shell w who) (cond (is_call g) (call_part g shell w who) (trapped traps.Access shell w who))).world here (call_at g w who)) [
-        | true ↦ λ e. subst (Balances w (return_part shell w who).world here) (sym (none_return who w.ram words g e)) (returns_balance w here shell who)
+      elim (is_return g a) as (λ b. is_return g a ≡ b → Balances w (cond b (return_part shell w a) (cond (is_call g) (part_of shell (called g w a)) (trapped traps.Access shell w a))).world here (call_at g w a)) [
+        | true ↦ λ e. subst (Balances w (return_part shell w a).world here) (sym (none_return w.ram words a g e)) (returns_balance w here shell a)
         | false ↦ λ e.
-            elim (is_call g) as (λ b. is_call g ≡ b → Balances w (cond b (call_part g shell w who) (trapped traps.Access shell w who)).world here (call_at g w who)) [
-              | true ↦ λ built. call_balances w who kept g
-              | false ↦ λ built. subst (Balances w (trapped traps.Access shell w who).world here) (sym (none_missing who w.ram words g built)) (traps_balance w here shell who traps.Access)
+            elim (is_call g) as (λ b. is_call g ≡ b → Balances w (cond b (part_of shell (called g w a)) (trapped traps.Access shell w a)).world here (call_at g w a)) [
+              | true ↦ λ built. call_balances w a kept g
+              | false ↦ λ built. subst (Balances w (trapped traps.Access shell w a).world here) (sym (none_missing w.ram words a g built)) (traps_balance w here shell a traps.Access)
             ] refl
       ] refl
 
-  at_balances : (o : Option Gate) → Balances w (part_at o shell w who).world here (call_under o w who)
-  at_balances None = words_balance w here shell who (fetched (bus_of w) (regs_of w who).pc)
+  at_balances : (o : Option Gate) → Balances w (part_at o shell w a).world here (call_under o w a)
+  at_balances None = words_balance w here shell a (fetched (bus_of w) (regs_of w a).pc)
   at_balances (Some g) = gates_balance g
 
-  pub task_balances : Balances w (task_part shell w who).world here (call_under (gate_under w who) w who)
-  unfolding task_part
-  task_balances = at_balances (gate_under w who)
+  pub actor_balances : Balances w (actor_part shell w a).world here (call_under (gate_under w a) w a)
+  unfolding actor_part
+  actor_balances = at_balances (gate_under w a)

@@ -43,7 +43,8 @@ use Rattle.object_calls.specs.WatchRows as watch
 use Rattle.task_calls.specs.Spawning.{SpawnState, SpawnRow, spawned_at, spawned_unless, spawned_if, stack_bytes, task_wanted, quick_wanted, spawn_state}
 use Rattle.kernel_calls.specs.Calls.{of_objects, of_queues, of_watch, of_ram, scene_of, row_of}
 use Rattle.kernel_world.specs.CallWords.{ten_arguments, quick_arguments, call_of}
-use Rattle.kernel_world.specs.declared.actor.Actor.TheVariants.{Task as by_task}
+use Rattle.kernel_world.specs.declared.actor.Actor.{Actor}
+use Rattle.kernel_world.specs.declared.actor.Actor.TheVariants.{Task as by_task, Interrupt}
 use Rattle.wind_messages.specs.Messages.{event_in}
 use Rattle.wind_messages.proofs.NextIds.{NextSame, next-resume, next-lessen, next-sem_take, next-sem_give, next-sem_flush, next-sem_delete, next-mutex_take, next-mutex_give, next-mutex_delete, next-priority_set}
 
@@ -60,15 +61,15 @@ pub leaves : (w v : WorldState) (s : Scene) → v.objects.queues.queues ≡ w.ob
 leaves w v s same ids = balanced_still (stock_in w) (stock_in v) (λ q. []) (λ q. []) (λ q. refl) (λ q. refl) same ids
 
 -- ---- rows that touch only tasks
-pub suspends : (k : KernState) (o : Option ℕ) → NextSame k (suspend_row k o).kern
+suspends : (k : KernState) (o : Option ℕ) → NextSame k (suspend_row k o).kern
 suspends k None = refl
 suspends k (Some id) = refl
 
-pub resumes : (k : KernState) (o : Option ℕ) → NextSame k (resume_row k o).kern
+resumes : (k : KernState) (o : Option ℕ) → NextSame k (resume_row k o).kern
 resumes k None = refl
 resumes k (Some id) = next-resume k id
 
-pub verifies : (k : KernState) (o : Option ℕ) → NextSame k (verify_row k o).kern
+verifies : (k : KernState) (o : Option ℕ) → NextSame k (verify_row k o).kern
 verifies k None = refl
 verifies k (Some id) = refl
 
@@ -107,12 +108,12 @@ spawns s (Err e) = omega arith
 spawns s (Ok x) = spawns_unless s x (spawn_refusal s.kern)
 
 -- ---- rows of semaphores and mutexes
-pub record LeavesQueues (k : KernState) (o : Objects) (r : sem.ObjectRow) : Type 0 where
+record LeavesQueues (k : KernState) (o : Objects) (r : sem.ObjectRow) : Type 0 where
   pub queues : r.objects.queues.queues ≡ o.queues.queues
   pub ids : k.next_id ≤ r.kern.next_id
 
 module _ (k : KernState) (o : Objects) where
-  pub unchanged : (e : Errno) → LeavesQueues k o (sem.refused k o e)
+  unchanged : (e : Errno) → LeavesQueues k o (sem.refused k o e)
   unchanged e = record { queues = refl; ids = omega arith }
 
   making_one : (v : Semaphore) (r : Option Errno) → LeavesQueues k o (sem.made_unless r k o v)
@@ -145,14 +146,15 @@ module _ (k : KernState) (o : Objects) where
   mutex_takes who id n None = record { queues = refl; ids = omega (arith, next-mutex_take (sem.mutexes k o) who id n) }
   mutex_takes who id n (Some e) = unchanged e
 
-  takes : (who id n : ℕ) → LeavesQueues k o (sem.take_row k o (by_task who) id n)
-  takes who id n =
+  takes : (a : Actor) (id n : ℕ) → LeavesQueues k o (sem.take_row k o a id n)
+  takes Interrupt id n = unchanged errors.NotIsrCallable
+  takes (by_task who) id n =
       elim (sem.is_mutex o id) as (λ b. LeavesQueues k o (cond b (sem.mutex_take k o who id n) (sem.plain_take k o who id n))) [
         | true ↦ mutex_takes who id n (mutex.take_refusal who n (object_of o.mutexes.rows id))
         | false ↦ plain_takes who id n (plain.take_refusal (sem.sems k o) id n)
       ]
 
-  pub plain_gives : (id : ℕ) (r : Option Errno) → LeavesQueues k o (sem.plain_give_unless r k o id)
+  plain_gives : (id : ℕ) (r : Option Errno) → LeavesQueues k o (sem.plain_give_unless r k o id)
   plain_gives id None = record { queues = refl; ids = omega (arith, next-sem_give (sem.sems k o) id (object_of o.semaphores id)) }
   plain_gives id (Some e) = unchanged e
 
@@ -160,8 +162,13 @@ module _ (k : KernState) (o : Objects) where
   mutex_gives who id None = record { queues = refl; ids = omega (arith, next-mutex_give (sem.mutexes k o) who id) }
   mutex_gives who id (Some e) = unchanged e
 
-  gives : (who id : ℕ) → LeavesQueues k o (sem.give_row k o (by_task who) id)
-  gives who id =
+  gives : (a : Actor) (id : ℕ) → LeavesQueues k o (sem.give_row k o a id)
+  gives Interrupt id =
+      elim (sem.is_mutex o id) as (λ b. LeavesQueues k o (cond b (sem.refused k o errors.NotIsrCallable) (sem.plain_give k o id))) [
+        | true ↦ unchanged errors.NotIsrCallable
+        | false ↦ plain_gives id (plain.give_refusal (sem.sems k o) id)
+      ]
+  gives (by_task who) id =
       elim (sem.is_mutex o id) as (λ b. LeavesQueues k o (cond b (sem.mutex_give k o who id) (sem.plain_give k o id))) [
         | true ↦ mutex_gives who id (mutex.give_refusal who (object_of o.mutexes.rows id))
         | false ↦ plain_gives id (plain.give_refusal (sem.sems k o) id)
@@ -171,7 +178,7 @@ module _ (k : KernState) (o : Objects) where
   plain_flushes id None = record { queues = refl; ids = omega (arith, next-sem_flush (sem.sems k o) id) }
   plain_flushes id (Some e) = unchanged e
 
-  pub flushes : (id : ℕ) → LeavesQueues k o (sem.flush_row k o id)
+  flushes : (id : ℕ) → LeavesQueues k o (sem.flush_row k o id)
   flushes id =
       elim (sem.is_mutex o id) as (λ b. LeavesQueues k o (cond b (sem.refused k o errors.InvalidOperation) (sem.flush_unless (plain.flush_refusal (sem.sems k o) id) k o id))) [
         | true ↦ unchanged errors.InvalidOperation
@@ -189,7 +196,7 @@ module _ (k : KernState) (o : Objects) where
         | false ↦ plain_deletes id (plain.delete_refusal (sem.sems k o) id)
       ]
 
-  pub priorities : (pri : ℕ) (who : Option ℕ) → LeavesQueues k o (sem.priority_row k o pri who)
+  priorities : (pri : ℕ) (who : Option ℕ) → LeavesQueues k o (sem.priority_row k o pri who)
   priorities pri None = unchanged errors.ObjIdError
   priorities pri (Some id) =
       elim (leb pri 255) as (λ b. LeavesQueues k o (cond b (sem.by_mutexes o (mutex.priority_set (sem.mutexes k o) id pri) (done k).reply) (sem.refused k o errors.IllegalPriority))) [
@@ -197,21 +204,21 @@ module _ (k : KernState) (o : Objects) where
         | false ↦ unchanged errors.IllegalPriority
       ]
 
--- ---- the row of each gate, by a task
-module _ (w : WorldState) (kept : IsKept (scene_of w)) (who : ℕ) (ram r : List ℕ) where
+-- ---- the row of each gate
+module _ (w : WorldState) (kept : IsKept (scene_of w)) (ram r : List ℕ) where
   none : (v : WorldState) → v.objects.queues.queues ≡ w.objects.queues.queues → w.kern.next_id ≤ v.kern.next_id → Balances w v (scene_of w) None
   none v same ids = leaves w v (scene_of w) same ids
 
-  abbrev later : Gate → WorldState
-  later g = (row_of (call_of g ram r) w (by_task who)).world
+  abbrev later : Actor → Gate → WorldState
+  later a g = (row_of (call_of g ram r) w a).world
 
-  by_tasks : (g : Gate) → (later g).objects.queues.queues ≡ w.objects.queues.queues → NextSame w.kern (later g).kern → Balances w (later g) (scene_of w) None
-  by_tasks g queues same = none (later g) queues (omega (arith, same))
+  by_tasks : (a : Actor) (g : Gate) → (later a g).objects.queues.queues ≡ w.objects.queues.queues → NextSame w.kern (later a g).kern → Balances w (later a g) (scene_of w) None
+  by_tasks a g queues same = none (later a g) queues (omega (arith, same))
 
   by_objects : (x : sem.ObjectRow) → LeavesQueues w.kern w.objects x → Balances w (of_objects w x).world (scene_of w) None
   by_objects x p = none (of_objects w x).world p.queues p.ids
 
-  pub tells : (at : ℕ) (o : Option TaskRecord) → Balances w (of_ram w (priority_in w.ram at o)).world (scene_of w) None
+  tells : (at : ℕ) (o : Option TaskRecord) → Balances w (of_ram w (priority_in w.ram at o)).world (scene_of w) None
   tells at None = none w refl (omega arith)
   tells at (Some t) =
       elim (has w.ram at 4) as (λ b. Balances w (of_ram w (cond b (ram_row (with_word w.ram at t.pri) (done w.kern).reply) (ram_row w.ram (refused w.kern errors.BadAddress).reply))).world (scene_of w) None) [ true ↦ none (record w { ram = with_word w.ram at t.pri }) refl (omega arith) | false ↦ none w refl (omega arith) ]
@@ -231,45 +238,39 @@ module _ (w : WorldState) (kept : IsKept (scene_of w)) (who : ℕ) (ram r : List
         | Some e ↦ none w refl (omega arith)
       ]
 
-  pub row_balances : (g : Gate) → Balances w (row_of (call_of g ram r) w (by_task who)).world (scene_of w) (event_in who (call_of g ram r))
-  row_balances gates.TaskSpawn = none (later gates.TaskSpawn) refl (spawns (spawn_state w) (task_wanted w.ram (slice_index r 3) (slice_index r 4) (slice_index r 6) (slice_index r 7) (ten_arguments ram r)))
-  row_balances gates.Sp = none (later gates.Sp) refl (spawns (spawn_state w) (quick_wanted (slice_index r 3) (quick_arguments ram r)))
-  row_balances gates.TaskDelete =
-      by_tasks gates.TaskDelete refl (deletions w.board w.kern w.part who (deed_of w.kern.tasks who (meant who (slice_index r 3))))
-  row_balances gates.TaskSuspend = by_tasks gates.TaskSuspend refl (suspends w.kern (target w.kern (by_task who) (slice_index r 3)))
-  row_balances gates.TaskResume = by_tasks gates.TaskResume refl (resumes w.kern (target w.kern (by_task who) (slice_index r 3)))
-  row_balances gates.TaskPrioritySet = by_objects _ (priorities w.kern w.objects (slice_index r 4) (target w.kern (by_task who) (slice_index r 3)))
-  row_balances gates.TaskPriorityGet = tells (slice_index r 4) (task_at w.kern (target w.kern (by_task who) (slice_index r 3)))
-  row_balances gates.TaskDelay = by_tasks gates.TaskDelay refl refl
-  row_balances gates.TaskLock = by_tasks gates.TaskLock refl refl
-  row_balances gates.TaskUnlock = by_tasks gates.TaskUnlock refl refl
-  row_balances gates.TaskSafe = by_tasks gates.TaskSafe refl refl
-  row_balances gates.TaskUnsafe = by_tasks gates.TaskUnsafe refl (unsafes w.kern who (unsafe_refusal (task_of w.kern.tasks who)))
-  row_balances gates.TaskIdSelf = by_tasks gates.TaskIdSelf refl refl
-  row_balances gates.TaskIdVerify = by_tasks gates.TaskIdVerify refl (verifies w.kern (live_id w.kern.tasks (slice_index r 3)))
-  row_balances gates.TaskNameToId = by_tasks gates.TaskNameToId refl (names w.kern (string_at w.ram (slice_index r 3)))
-  row_balances gates.KernelTimeSlice = by_tasks gates.KernelTimeSlice refl refl
-  row_balances gates.TickGet = by_tasks gates.TickGet refl refl
-  row_balances gates.SemBCreate = by_objects _ (binaries w.kern w.objects (slice_index r 4) (read_options (slice_index r 3) kinds.Binary))
-  row_balances gates.SemCCreate = by_objects _ (countings w.kern w.objects (slice_index r 4) (read_options (slice_index r 3) kinds.Counting))
-  row_balances gates.SemMCreate = by_objects _ (mutexes w.kern w.objects (read_options (slice_index r 3) kinds.Mutex))
-  row_balances gates.SemTake = by_objects _ (takes w.kern w.objects who (slice_index r 3) (slice_index r 4))
-  row_balances gates.SemGive = by_objects _ (gives w.kern w.objects who (slice_index r 3))
-  row_balances gates.SemFlush = by_objects _ (flushes w.kern w.objects (slice_index r 3))
-  row_balances gates.SemDelete = by_objects _ (sem_deletes w.kern w.objects (slice_index r 3))
-  row_balances gates.MsgQCreate = creates (slice_index r 3) (slice_index r 4) (slice_index r 5)
-  row_balances gates.MsgQSend = balanced_send (scene_of w) (slice_index r 3) (queue.sending (by_task who) (slice_index r 4) (slice_index r 5) (slice_index r 6) (slice_index r 7)) kept
-  row_balances gates.MsgQReceive =
+  pub row_balances : (a : Actor) (g : Gate) → Balances w (later a g) (scene_of w) (event_in a (call_of g ram r))
+  row_balances a gates.TaskSpawn = none (later a gates.TaskSpawn) refl (spawns (spawn_state w) (task_wanted w.ram (slice_index r 3) (slice_index r 4) (slice_index r 6) (slice_index r 7) (ten_arguments ram r)))
+  row_balances a gates.Sp = none (later a gates.Sp) refl (spawns (spawn_state w) (quick_wanted (slice_index r 3) (quick_arguments ram r)))
+  row_balances (by_task who) gates.TaskDelete =
+      by_tasks (by_task who) gates.TaskDelete refl (deletions w.board w.kern w.part who (deed_of w.kern.tasks who (meant who (slice_index r 3))))
+  row_balances a gates.TaskSuspend = by_tasks a gates.TaskSuspend refl (suspends w.kern (target w.kern a (slice_index r 3)))
+  row_balances a gates.TaskResume = by_tasks a gates.TaskResume refl (resumes w.kern (target w.kern a (slice_index r 3)))
+  row_balances a gates.TaskPrioritySet = by_objects _ (priorities w.kern w.objects (slice_index r 4) (target w.kern a (slice_index r 3)))
+  row_balances a gates.TaskPriorityGet = tells (slice_index r 4) (task_at w.kern (target w.kern a (slice_index r 3)))
+  row_balances (by_task who) gates.TaskUnsafe = by_tasks (by_task who) gates.TaskUnsafe refl (unsafes w.kern who (unsafe_refusal (task_of w.kern.tasks who)))
+  row_balances a gates.TaskIdVerify = by_tasks a gates.TaskIdVerify refl (verifies w.kern (live_id w.kern.tasks (slice_index r 3)))
+  row_balances a gates.TaskNameToId = by_tasks a gates.TaskNameToId refl (names w.kern (string_at w.ram (slice_index r 3)))
+  row_balances a gates.SemBCreate = by_objects _ (binaries w.kern w.objects (slice_index r 4) (read_options (slice_index r 3) kinds.Binary))
+  row_balances a gates.SemCCreate = by_objects _ (countings w.kern w.objects (slice_index r 4) (read_options (slice_index r 3) kinds.Counting))
+  row_balances a gates.SemMCreate = by_objects _ (mutexes w.kern w.objects (read_options (slice_index r 3) kinds.Mutex))
+  row_balances a gates.SemTake = by_objects _ (takes w.kern w.objects a (slice_index r 3) (slice_index r 4))
+  row_balances a gates.SemGive = by_objects _ (gives w.kern w.objects a (slice_index r 3))
+  row_balances a gates.SemFlush = by_objects _ (flushes w.kern w.objects (slice_index r 3))
+  row_balances a gates.SemDelete = by_objects _ (sem_deletes w.kern w.objects (slice_index r 3))
+  row_balances a gates.MsgQCreate = creates (slice_index r 3) (slice_index r 4) (slice_index r 5)
+  row_balances a gates.MsgQSend = balanced_send (scene_of w) (slice_index r 3) (queue.sending a (slice_index r 4) (slice_index r 5) (slice_index r 6) (slice_index r 7)) kept
+  row_balances (by_task who) gates.MsgQReceive =
       balanced_receive (scene_of w) (slice_index r 3) (record { caller = who; buffer = slice_index r 4; room = slice_index r 5; timeout = slice_index r 6 }) kept
-  row_balances gates.MsgQDelete = balanced_gone (scene_of w) (slice_index r 3) (queue_of (scene_of w) (slice_index r 3))
-  row_balances gates.WdCreate = watch_creates
-  row_balances gates.WdStart = none (later gates.WdStart) refl (omega arith)
-  row_balances gates.WdCancel = none (later gates.WdCancel) refl (omega arith)
-  row_balances gates.WdDelete = none (later gates.WdDelete) refl (omega arith)
-  row_balances gates.IntConnect = none (later gates.IntConnect) refl (omega arith)
-  row_balances gates.IntDisconnect = none (later gates.IntDisconnect) refl (omega arith)
-  row_balances gates.IntEnable = none (later gates.IntEnable) refl (omega arith)
-  row_balances gates.IntDisable = none (later gates.IntDisable) refl (omega arith)
-  row_balances gates.IntPending = none (later gates.IntPending) refl (omega arith)
-  row_balances gates.DevRemove = none (later gates.DevRemove) refl (omega arith)
-  row_balances g = none w refl (omega arith)
+  row_balances a gates.MsgQDelete = balanced_gone (scene_of w) (slice_index r 3) (queue_of (scene_of w) (slice_index r 3))
+  row_balances a gates.WdCreate = watch_creates
+  row_balances a gates.WdStart = none (later a gates.WdStart) refl (omega arith)
+  row_balances a gates.WdCancel = none (later a gates.WdCancel) refl (omega arith)
+  row_balances a gates.WdDelete = none (later a gates.WdDelete) refl (omega arith)
+  row_balances a gates.IntConnect = none (later a gates.IntConnect) refl (omega arith)
+  row_balances a gates.IntDisconnect = none (later a gates.IntDisconnect) refl (omega arith)
+  row_balances a gates.IntEnable = none (later a gates.IntEnable) refl (omega arith)
+  row_balances a gates.IntDisable = none (later a gates.IntDisable) refl (omega arith)
+  row_balances a gates.IntPending = none (later a gates.IntPending) refl (omega arith)
+  row_balances a gates.DevRemove = none (later a gates.DevRemove) refl (omega arith)
+  row_balances (by_task who) g = none w refl (omega arith)
+  row_balances Interrupt g = none w refl (omega arith)

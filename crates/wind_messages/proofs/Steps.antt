@@ -48,11 +48,10 @@ use Rattle.wind_machine.proofs.Order.{by_next}
 use Rattle.wind_machine.proofs.Asking.{at_load, same_gate}
 use Rattle.wind_machine.proofs.Free.{runner_ready, step_start_ready}
 use Rattle.wind_machine.proofs.Steps.{step_start_advances}
-use Rattle.wind_messages.specs.Messages.{is_call, is_at_work, step_start_world, task_call, task_scene, call_under, call_of, scene_by, routine_world, routine_scene}
+use Rattle.wind_messages.specs.Messages.{is_call, is_at_work, step_start_world, actor_call, actor_scene, call_under, call_of, scene_by}
 use Rattle.wind_messages.proofs.NextIds.{NextSame, next-if, next-release, next-raised}
 use Rattle.wind_messages.proofs.Rows.{Balances, stock_in, leaves}
-use Rattle.wind_messages.proofs.Parts.{next-aborted, prompts, evaluates, task_balances}
-use Rattle.wind_messages.proofs.Routines.{routine_balances}
+use Rattle.wind_messages.proofs.Parts.{next-aborted, prompts, evaluates, actor_balances}
 
 -- ---- bytes arrive
 next-byte : (d : ByteDone) (waits : Bool) (k : KernState) → NextSame k (kern_after d waits k)
@@ -90,56 +89,56 @@ due_events s e = events (record s { schedule = without_next s.schedule; world = 
 -- ---- a task makes a step
 module _ (s : State) (g : Good s) where
   -- what its call sees keeps the queues' invariant
-  scene_kept : (who : ℕ) → IsKept (task_scene s who)
+  scene_kept : (who : ℕ) → IsKept (actor_scene s (by_task who))
   scene_kept who =
-      let w : WorldState = step_start_world s who in
+      let w : WorldState = step_start_world s (by_task who) in
       let kept = (step_start_advances s g.kept who).kept in
       let calm = calms w.objects.queues.queues w.kern (LeaveGate who) kept.kern tt tt in
       queues-calm w.board w.kern (left_gate w (by_task who)).kern w.objects calm kept.objects.queues w.ram kept.ram
 
   -- the call at its gate
-  abbrev gate_call : ℕ → Option Call
-  gate_call who = call_under (gate_under (step_start_world s who) who) (step_start_world s who) who
+  abbrev gate_call : Actor → Option Call
+  gate_call a = call_under (gate_under (step_start_world s a) a) (step_start_world s a) a
 
-  tasks_go : (who : ℕ) → Balances s.world (task_step s who).world (task_scene s who) (gate_call who)
-  tasks_go who = task_balances (step_start_world s who) s.shell who (scene_kept who)
+  tasks_go : (who : ℕ) → Balances s.world (task_step s who).world (actor_scene s (by_task who)) (gate_call (by_task who))
+  tasks_go who = actor_balances (step_start_world s (by_task who)) s.shell (by_task who) (scene_kept who)
 
-  shell_goes : (p : Phase) → Balances s.world (shell_step p s).world (task_scene s shell_id) (cond (is_call p) (gate_call shell_id) None)
-  shell_goes phases.Prompt = prompts (shell_world s) (task_scene s shell_id) (has_line s.console) s.shell
-  shell_goes phases.Read = leaves (shell_world s) (read_part (read_line (first_line s.console)) (shell_world s)).world (task_scene s shell_id) refl (omega arith)
-  shell_goes phases.Eval = evaluates (shell_world s) (task_scene s shell_id) s.shell.trees
+  shell_goes : (p : Phase) → Balances s.world (shell_step p s).world (actor_scene s shell) (cond (is_call p) (gate_call shell) None)
+  shell_goes phases.Prompt = prompts (shell_world s) (actor_scene s shell) (has_line s.console) s.shell
+  shell_goes phases.Read = leaves (shell_world s) (read_part (read_line (first_line s.console)) (shell_world s)).world (actor_scene s shell) refl (omega arith)
+  shell_goes phases.Eval = evaluates (shell_world s) (actor_scene s shell) s.shell.trees
   shell_goes phases.Call = tasks_go shell_id
 
-  whoever_goes : (who : ℕ) → Balances s.world (step_of s who).world (task_scene s who) (task_call s who)
+  whoever_goes : (who : ℕ) → Goes s (step_of s who) (Some (by_task who))
   whoever_goes who =
       let p : Phase = s.shell.phase in
-      elim (eqb who shell_id) as (λ b. eqb who shell_id ≡ b → Balances s.world (cond b (shell_step p s) (task_step s who)).world (task_scene s who) (cond (cond b (is_call p) true) (gate_call who) None)) [
-        | true ↦ λ e. subst (λ n. Balances s.world (shell_step p s).world (task_scene s n) (cond (is_call p) (gate_call n) None)) (sym (eqb-true who shell_id e)) (shell_goes p)
+      elim (eqb who shell_id) as (λ b. eqb who shell_id ≡ b → Balances s.world (cond b (shell_step p s) (task_step s who)).world (actor_scene s (by_task who)) (cond (cond b (is_call p) true) (gate_call (by_task who)) None)) [
+        | true ↦ λ e. subst (λ n. Balances s.world (shell_step p s).world (actor_scene s (by_task n)) (cond (is_call p) (gate_call (by_task n)) None)) (sym (eqb-true who shell_id e)) (shell_goes p)
         | false ↦ λ e. tasks_go who
       ] refl
 
   -- what a call of an interrupt routine sees keeps the queues' invariant
-  routine_kept : IsKept (routine_scene s)
+  routine_kept : IsKept (actor_scene s Interrupt)
   routine_kept =
       let kept = (all_advance s.world s.steps g.kept.world g.kept.within).kept in
       kept.objects.queues s.world.ram kept.ram
 
   routines_go : Goes s (routine_step s) (Some Interrupt)
-  routines_go = routine_balances (routine_world s) routine_kept
+  routines_go = actor_balances (step_start_world s Interrupt) s.shell Interrupt routine_kept
 
   -- ---- the load of a file moves no message
-  no_call : (name : List ℕ) → file_in s.shell.phase s.world ≡ Some name → task_call s shell_id ≡ None
+  no_call : (name : List ℕ) → file_in s.shell.phase s.world ≡ Some name → actor_call s shell ≡ None
   no_call name found =
       let at = at_load s.shell.phase s.world name found in
-      elim (is_at_work s shell_id) as (λ b. cond b (call_under (gate_under (shell_world s) shell_id) (shell_world s) shell_id) None ≡ None) [ true ↦ ap (λ o. call_under o (shell_world s) shell_id) (same_gate s ∙ at.gate) | false ↦ refl ]
+      elim (is_at_work s shell) as (λ b. cond b (call_under (gate_under (shell_world s) shell) (shell_world s) shell) None ≡ None) [ true ↦ ap (λ o. call_under o (shell_world s) shell) (same_gate s ∙ at.gate) | false ↦ refl ]
 
   load_goes : AloneLaw → IsReady s.world.kern shell_id → (said : FileSaid) (name : List ℕ) → file_in s.shell.phase s.world ≡ Some name → Goes s (load_step said s name) (Some shell)
   load_goes law ready said name found =
       let w : WorldState = shell_world s in
       let alone = law w name said (step_start_advances s g.kept shell_id).kept (step_start_ready s.world.kern shell_id ready) in
-      let here : Balances s.world (load_step said s name).world (task_scene s shell_id) None
-      = leaves w (load_step said s name).world (task_scene s shell_id) (ap (λ o. o.queues.queues) alone.objects) alone.ids in
-      subst (Balances s.world (load_step said s name).world (task_scene s shell_id)) (sym (no_call name found)) here
+      let here : Balances s.world (load_step said s name).world (actor_scene s shell) None
+      = leaves w (load_step said s name).world (actor_scene s shell) (ap (λ o. o.queues.queues) alone.objects) alone.ids in
+      subst (Balances s.world (load_step said s name).world (actor_scene s shell)) (sym (no_call name found)) here
 
   -- ---- by the order of the next step
   pub effect_goes : AloneLaw → (said : FileSaid) → Goes s (unwrap_or (state_after said s (next s)) s) (stepping s)

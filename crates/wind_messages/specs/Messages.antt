@@ -1,11 +1,11 @@
 -- Which messages each step of the wind machine puts into a queue and takes out of it.
-use Rattle.std.specs.Prelude.{ℕ, ◌==◌, Bool, true, false, if◌then◌else◌, List, Option, None, Some}
+use Rattle.std.specs.Prelude.{ℕ, Bool, true, false, if◌then◌else◌, List, Option, None, Some}
 use Rattle.wind_base.specs.declared.gate.Gate.{Gate}
 use Rattle.msg_queue.specs.State.{Scene}
 use Rattle.msg_queue.specs.Machine.{Event, sends, receives, Parcel, accepted_next, taken_next}
 use Rattle.msg_queue.specs.Laws.{gathered}
 use Rattle.kernel_world.specs.State.{WorldState}
-use Rattle.kernel_world.specs.Actors.{shell_id}
+use Rattle.kernel_world.specs.Actors.{is_shell}
 use Rattle.kernel_world.specs.CallWords.{call_by}
 use Rattle.kernel_world.specs.declared.call.Call.{Call}
 use Rattle.kernel_world.specs.declared.call.Call.TheVariants as calls
@@ -20,86 +20,61 @@ use Rattle.wind_machine.specs.Events.{cleared, unreserved_world}
 use Rattle.wind_machine.specs.ActorSteps.{at_step_start}
 use Rattle.wind_machine.specs.Machine.{stepping}
 use Rattle.wind_machine.specs.Processor.{gate_under}
-use Rattle.wind_machine.specs.Routine.{routine_under}
 use Rattle.wind_machine.specs.declared.phase.Phase.{Phase}
 use Rattle.wind_machine.specs.declared.phase.Phase.TheVariants as phases
 
--- what a task's call does with the queues, if it is a send or a receive
-abbrev pub event_of : ℕ → Call → Option Event
-event_of who (calls.MsgQSend id buffer count timeout priority) = Some (sends id (sending (by_task who) buffer count timeout priority))
-event_of who (calls.MsgQReceive id buffer count timeout) = Some (receives id (record { caller = who; buffer = buffer; room = count; timeout = timeout }))
-event_of who c = None
+-- a receive, which only a task can make
+abbrev pub received_by : Actor → ℕ → ℕ → ℕ → ℕ → Option Event
+received_by (by_task who) id buffer count timeout = Some (receives id (record { caller = who; buffer = buffer; room = count; timeout = timeout }))
+received_by Interrupt id buffer count timeout = None
 
-abbrev pub event_in : ℕ → Option Call → Option Event
-event_in who None = None
-event_in who (Some c) = event_of who c
+-- what an actor's call does with the queues, if it is a send or a receive
+abbrev pub event_of : Actor → Call → Option Event
+event_of a (calls.MsgQSend id buffer count timeout priority) = Some (sends id (sending a buffer count timeout priority))
+event_of a (calls.MsgQReceive id buffer count timeout) = received_by a id buffer count timeout
+event_of a c = None
 
--- what the call that a task makes at a gate does with the queues
-abbrev pub call_at : Gate → WorldState → ℕ → Option Event
-call_at g w who = event_in who (call_by g w (by_task who))
+abbrev pub event_in : Actor → Option Call → Option Event
+event_in a None = None
+event_in a (Some c) = event_of a c
 
-abbrev pub call_under : Option Gate → WorldState → ℕ → Option Event
-call_under None w who = None
-call_under (Some g) w who = call_at g w who
+-- what the call that an actor makes at a gate does with the queues
+abbrev pub call_at : Gate → WorldState → Actor → Option Event
+call_at g w a = event_in a (call_by g w a)
 
--- the shell's task is at a gate only during a call; every other task may be at one
+abbrev pub call_under : Option Gate → WorldState → Actor → Option Event
+call_under None w a = None
+call_under (Some g) w a = call_at g w a
+
+-- the shell's task is at a gate only during a call; every other actor may be at one
 abbrev pub is_call : Phase → Bool
 is_call phases.Call = true
 is_call p = false
 
-abbrev pub is_at_work : State → ℕ → Bool
-is_at_work s who = if who == shell_id then is_call s.shell.phase else true
+abbrev pub is_at_work : State → Actor → Bool
+is_at_work s a = if is_shell a then is_call s.shell.phase else true
 
--- the world at the beginning of a task's step
-abbrev pub step_start_world : State → ℕ → WorldState
-step_start_world s who = at_step_start s.world who
+-- the world at the beginning of an actor's step
+abbrev pub step_start_world : State → Actor → WorldState
+step_start_world s (by_task who) = at_step_start s.world who
+step_start_world s Interrupt = cleared (unreserved_world s.world)
 
--- the queue call that the task's step is, if it is one
-abbrev pub task_call : State → ℕ → Option Event
-task_call s who =
-    if is_at_work s who then call_under (gate_under (step_start_world s who) who) (step_start_world s who) who else None
+-- the queue call that the actor's step is, if it is one
+abbrev pub actor_call : State → Actor → Option Event
+actor_call s a = if is_at_work s a then call_under (gate_under (step_start_world s a) a) (step_start_world s a) a else None
 
 -- what such a call sees: the caller has left its gate
-abbrev pub task_scene : State → ℕ → Scene
-task_scene s who = scene_of (left_gate (step_start_world s who) (by_task who))
-
--- ---- an interrupt routine, which may send but never receives
-abbrev pub sent_of : Call → Option Event
-sent_of (calls.MsgQSend id buffer count timeout priority) = Some (sends id (sending Interrupt buffer count timeout priority))
-sent_of c = None
-
-abbrev pub sent_in : Option Call → Option Event
-sent_in None = None
-sent_in (Some c) = sent_of c
-
-abbrev pub sent_at : Gate → WorldState → Option Event
-sent_at g w = sent_in (call_by g w Interrupt)
-
-abbrev pub sent_under : Option Gate → WorldState → Option Event
-sent_under None w = None
-sent_under (Some g) w = sent_at g w
-
--- the world at the beginning of the routine's step
-abbrev pub routine_world : State → WorldState
-routine_world s = cleared (unreserved_world s.world)
-
--- the send that the routine's step is, if it is one, and what that call sees
-abbrev pub routine_send : State → Option Event
-routine_send s = sent_under (routine_under (routine_world s)) (routine_world s)
-
-abbrev pub routine_scene : State → Scene
-routine_scene s = scene_of (left_gate (routine_world s) Interrupt)
+abbrev pub actor_scene : State → Actor → Scene
+actor_scene s a = scene_of (left_gate (step_start_world s a) a)
 
 -- ---- the next step
 abbrev pub call_of : State → Option Actor → Option Event
 call_of s None = None
-call_of s (Some (by_task who)) = task_call s who
-call_of s (Some Interrupt) = routine_send s
+call_of s (Some a) = actor_call s a
 
 abbrev pub scene_by : State → Option Actor → Scene
 scene_by s None = scene_of s.world
-scene_by s (Some (by_task who)) = task_scene s who
-scene_by s (Some Interrupt) = routine_scene s
+scene_by s (Some a) = actor_scene s a
 
 -- what the next step adds to the queue q or hands to a receiver, and what it hands to a receiver or takes from the
 -- head of q

@@ -15,8 +15,11 @@ use Rattle.wind_session.specs.Fetches.{Stops, requests_of}
 use Rattle.wind_session.specs.Outside.{Outside, outside}
 use Rattle.wind_session.specs.Pieces.{output_piece, pieces_of}
 use Rattle.wind_session.specs.Runs.{IsPut, Ran}
-use Rattle.wind_session.proofs.RunLemmas.{After, Makes, nothing_said, said_on, further, text_on, pieces_on, cut_off, quiet, exhausted, unread, at_limit}
+use Rattle.wind_session.proofs.RunLemmas.{After, Makes, begun, nothing_said, said_on, further, text_on, pieces_on, cut_off, quiet, exhausted, unread, at_limit}
+use Rattle.wind_session.proofs.AppendingLemmas.{appended_none}
 use Rattle.wind_session.proofs.Bursts.{runs_on, as_written, as_put}
+use Rattle.wind_session.proofs.FetchLemmas.{grows_none}
+use Rattle.wind_session.specs.declared.run.RunEnd.{RunEnd}
 use Rattle.wind_session.specs.declared.run.RunEnd.TheVariants as ends
 
 -- after i steps of a run of at most n, this is the board, and all that they wrote was put
@@ -57,7 +60,7 @@ burst_counted law u t k steps = (law nothing_said u u t 0 k refl steps).counted
 pub burst_room : SilentLaw → (time line : ℕ) (u t : State) (k : ℕ) → SilentSteps k u t → IsRoom time line u → IsRoom time line t
 burst_room law time line u t k steps room = subst (λ es. IsRoom time line (record u { schedule = es })) (sym (law nothing_said u u t 0 k refl steps).uneventful) room
 
--- ---- a run of at most `most` steps from a state with b steps, of which i are made
+-- ---- a run of at most `most` steps from a state with b steps; i of them are made
 module _ (shelf : Shelf) (start : State) (b most i : ℕ) (u : State) (old mid : Outside) (on : Underway shelf start (b + most) (b + i) u old mid) where
   burst_at : SilentLaw → (k : ℕ) → i + k ≤ most → (t : State) → SilentSteps k u t → Underway shelf start (b + most) (b + i + k) t old mid
   burst_at law k h t steps = record {
@@ -130,3 +133,28 @@ module _ (shelf : Shelf) (start : State) (b most i : ℕ) (u : State) (old mid :
     made = at_limit shelf on.said start u (b + most) (b + i) old.requests mid.requests on.run (ap (λ j. b + j) e);
     written = record { gained = on.written; pieces = on.pieces };
   }
+
+-- ---- before the first step
+-- a board without a step has reached the limit of no step
+pub at_start : (shelf : Shelf) (s : State) (old : Outside) → s.steps ≡ 0 → Ran ends.Limit shelf s s.steps s old old
+at_start shelf s old fresh =
+    let none : After shelf nothing_said s s.steps 0 s old.requests old.requests = begun shelf s s.steps old.requests fresh in
+    record {
+      said = nothing_said;
+      k = 0;
+      made = record {
+        counted = none.counted;
+        answers = none.answers;
+        part = none.part;
+        state = none.state;
+        ended = sym fresh;
+        fetches = record { last = []; last_is = refl; requests = none.requests };
+      };
+      written = record { gained = appended_none old.bytes; pieces = grows_none old.pieces };
+    }
+
+-- so what a run leaves that goes on from there is what a run from there leaves
+pub from_start : (end : RunEnd) (shelf : Shelf) (s t : State) (most : ℕ) (old new : Outside) → s.steps ≡ 0 → ((start : State) (first : Outside) → Ran ends.Limit shelf start s.steps s first old → Ran end shelf start (s.steps + most) t first new) → Ran end shelf s most t old new
+from_start end shelf s t most old new fresh on =
+    let same : s.steps + most ≡ most = omega (arith, fresh) in
+    subst (λ n. Ran end shelf s n t old new) same (on s old (at_start shelf s old fresh))

@@ -13,6 +13,7 @@ ghost use Rattle.wind_session.specs.Runs.{Ran, Counted};
 ghost use Rattle.wind_session.specs.declared.run.RunEnd.TheVariants as ends;
 
 use crate::modules::{Move, step};
+use crate::resuming::resume_board;
 use board_player::Board;
 use std::alloc::Global;
 use wind_machine::silent_law;
@@ -50,7 +51,6 @@ pub(crate) fn put_some<O: Sink>(out: &mut O, bytes: &[u8]) -> Put
 
 /// Makes steps, at most `limit`, and puts what each of them writes. The modules that the steps need
 /// are fetched from the folder.
-#[tactic(auto, using(crate::proofs::RunLemmas::quiet, crate::proofs::RunLemmas::at_limit))]
 pub fn run_board<F: Folder, O: Sink>(
     alloc: Global,
     board: &mut Board,
@@ -71,25 +71,7 @@ pub fn run_board<F: Folder, O: Sink>(
     ensures folder_faults { F.faults folder.old ≤ F.faults folder.new }
     ensures faults { O.faults out.old ≤ O.faults out.new }
 {
-    silent_law();
-    let mut made = 0;
-    while made < limit {
-        made += board.burst(limit - made);
-        if made == limit {
-            return RunEnd::Limit;
-        }
-        match step(alloc, board, folder, modules) {
-            Move::Made => made += 1,
-            Move::Quiet => return RunEnd::Quiet,
-            Move::ReadFault => return RunEnd::ReadFault,
-            Move::NoMemory => return RunEnd::NoMemory,
-        }
-        match put_some(out, board.output()) {
-            Put::Done => {}
-            Put::Failed => return RunEnd::WriteFault,
-        }
-    }
-    RunEnd::Limit
+    resume_board(alloc, board, folder, modules, out, limit)
 }
 
 /// A run whose output was counted instead of put.

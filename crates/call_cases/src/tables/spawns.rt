@@ -1,24 +1,28 @@
 //! taskSpawn and sp, called by the shell's task.
 
-use super::{BAD_ADDRESS, FIRST, ILLEGAL_PRIORITY, NOT_ENOUGH_MEMORY, RAM_END, TOO_MANY};
+use super::{
+    BAD_ADDRESS, ENDLESS, FIRST, FORTY, ILLEGAL_PRIORITY, NO_NAME, NOT_ENOUGH_MEMORY, PUMP,
+    RAM_END, TOO_MANY,
+};
 use crate::bench::{FRAME, SHELL};
 use crate::looks::{Look, TaskLook};
 use crate::steps::{Step, Table};
-use wind_base::Gate;
 use wind_base::words::{ERROR, OK};
-
-// Where the names are: one of four bytes, an empty one, one of 40 bytes, and 1,024 bytes without an
-// end.
-const PUMP: u32 = 0x1000;
-
-const NO_NAME: u32 = 0x1020;
-
-const FORTY: u32 = 0x1100;
-
-const ENDLESS: u32 = 0x2000;
 
 // The frame of a caller whose seven words above r1 end at the end of RAM.
 const LAST_FRAME: u32 = 0x00ff_ffdc;
+
+// A task begins at its entry, with a return to gate 0 and the words 1 to 8 in r3 to r10; the words
+// after them are in its frame.
+const EIGHT_WORDS: TaskLook = TaskLook::Begins(
+    0x4000,
+    0x0100_0000,
+    [0, 0, 1, 2, 3, 4, 5, 6, 7, 8, 0],
+);
+
+const TWO_MORE: [u32; 16] = [0, 0, 9, 10, 0, 0, 0, 0, 0, 0, 0, 0, 0, 0, 0, 0];
+
+const ONE_MORE: [u32; 16] = [0, 0, 9, 0, 0, 0, 0, 0, 0, 0, 0, 0, 0, 0, 0, 0];
 
 // The words 4 to 10 are above r1. The new frame is cleared.
 const TEN_WORDS: [Step; 8] = [
@@ -30,14 +34,8 @@ const TEN_WORDS: [Step; 8] = [
     Step::Fill(FIRST + 448, 64, 0xff),
     Step::Spawn(LAST_FRAME, [PUMP, 255, 511], 2, 0),
     Step::See(Look::Task(2, TaskLook::Made(b"pump", FIRST, FIRST + 448, 255))),
-    Step::See(Look::Task(
-        2,
-        TaskLook::Begins(0x4000, 0x0100_0000, [0, 0, 1, 2, 3, 4, 5, 6, 7, 8, 0]),
-    )),
-    Step::See(Look::Frame(
-        FIRST + 448,
-        [0, 0, 9, 10, 0, 0, 0, 0, 0, 0, 0, 0, 0, 0, 0, 0],
-    )),
+    Step::See(Look::Task(2, EIGHT_WORDS)),
+    Step::See(Look::Frame(FIRST + 448, TWO_MORE)),
     Step::See(Look::Output(b"")),
 ];
 
@@ -89,14 +87,8 @@ const QUICK: [Step; 8] = [
     Step::See(Look::Output(b"")),
     Step::Quick(RAM_END - 16, 2, BAD_ADDRESS),
     Step::See(Look::Task(2, TaskLook::Made(b"t1", FIRST, FIRST + 19_936, 100))),
-    Step::See(Look::Task(
-        2,
-        TaskLook::Begins(0x4000, 0x0100_0000, [0, 0, 1, 2, 3, 4, 5, 6, 7, 8, 0]),
-    )),
-    Step::See(Look::Frame(
-        FIRST + 19_936,
-        [0, 0, 9, 0, 0, 0, 0, 0, 0, 0, 0, 0, 0, 0, 0, 0],
-    )),
+    Step::See(Look::Task(2, EIGHT_WORDS)),
+    Step::See(Look::Frame(FIRST + 19_936, ONE_MORE)),
     Step::See(Look::Output(b"task spawned: id = 0x2, name = t1\n")),
 ];
 
@@ -120,23 +112,11 @@ const TASKS_FULL: [Step; 10] = [
 
 // All but 496 bytes are in a block.
 const PARTITION_FULL: [Step; 6] = [
-    Step::Call(
-        SHELL,
-        Gate::Malloc,
-        [RAM_END - FIRST - 496, 0, 0, 0],
-        FIRST,
-        0,
-    ),
+    call!(SHELL, Malloc(RAM_END - FIRST - 496) => FIRST, 0),
     Step::Spawn(FRAME, [0, 100, 0], ERROR, NOT_ENOUGH_MEMORY),
     Step::Quick(FRAME, ERROR, NOT_ENOUGH_MEMORY),
-    Step::Call(
-        SHELL,
-        Gate::Malloc,
-        [496, 0, 0, 0],
-        RAM_END - 496,
-        NOT_ENOUGH_MEMORY,
-    ),
-    Step::Call(SHELL, Gate::Free, [FIRST, 0, 0, 0], OK, NOT_ENOUGH_MEMORY),
+    call!(SHELL, Malloc(496) => RAM_END - 496, NOT_ENOUGH_MEMORY),
+    call!(SHELL, Free(FIRST) => OK, NOT_ENOUGH_MEMORY),
     Step::Spawn(FRAME, [0, 100, 0], 2, NOT_ENOUGH_MEMORY),
 ];
 
@@ -145,11 +125,11 @@ const NAMESAKES: [Step; 8] = [
     Step::Write(PUMP, b"pump\0"),
     Step::Spawn(FRAME, [PUMP, 100, 0], 2, 0),
     Step::Spawn(FRAME, [PUMP, 5, 0], 3, 0),
-    Step::Call(SHELL, Gate::TaskNameToId, [PUMP, 0, 0, 0], 2, 0),
-    Step::Call(3, Gate::TaskNameToId, [PUMP, 0, 0, 0], 2, 0),
-    Step::Call(3, Gate::TaskIdSelf, [0; 4], 3, 0),
+    call!(SHELL, TaskNameToId(PUMP) => 2, 0),
+    call!(3, TaskNameToId(PUMP) => 2, 0),
+    call!(3, TaskIdSelf() => 3, 0),
     Step::End(2),
-    Step::Call(SHELL, Gate::TaskNameToId, [PUMP, 0, 0, 0], 3, 0),
+    call!(SHELL, TaskNameToId(PUMP) => 3, 0),
 ];
 
 pub(super) const TABLES: [Table; 7] = [

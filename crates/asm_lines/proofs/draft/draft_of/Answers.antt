@@ -1,8 +1,8 @@
 use Rattle.std.proofs.Common.{◌≡◌, ℕ, ◌+◌, [], ◌∷◌, map, drop, sym, ap, ◌∙◌, refl, subst, arith}
 use Rattle.ppc_text.specs.Lines.{line_of}
-use Rattle.asm_lines.specs.Items.{lines_of}
 use Rattle.asm_lines.specs.Causes.{judged, items, Tells}
-use Rattle.asm_lines.proofs.Cutting.{cut_at, last_at}
+use Rattle.text_lines.specs.Lines.{pieces}
+use Rattle.text_lines.proofs.Cutting.{cut_at, last_at}
 use Rattle.asm_lines.proofs.draft.draft_of.Goals as goal
 
 pub loop-len-init : goal.loop-len-init
@@ -15,7 +15,7 @@ returns-in-Err-clause-bad c =
     let g = k.invariant.good in
     subst (λ r. Tells r c.in-Err.error)
     (ap (λ ls. judged g.0 k.number (map line_of ls)) (sym (cut_at k.len k.left.now k.invariant.len c.loop-len-test.true)) ∙ g.2)
-    (c.in-Err.ensures.bad g.0 g.1 (map line_of (lines_of (drop (k.len + 1) k.left.now))))
+    (c.in-Err.ensures.bad g.0 g.1 (map line_of (pieces (drop (k.len + 1) k.left.now))))
 
 pub loop-len-preserved : goal.loop-len-preserved
 loop-len-preserved c =
@@ -29,8 +29,8 @@ loop-len-preserved c =
       good = (
         x.0,
         x.1,
-        ap (λ bs. judged x.0 (k.number + 1) (map line_of (lines_of bs))) c.bytes_after-left.ensures.value
-            ∙ sym (x.2 (map line_of (lines_of (drop (k.len + 1) k.left.now))))
+        ap (λ bs. judged x.0 (k.number + 1) (map line_of (pieces bs))) c.bytes_after-left.ensures.value
+            ∙ sym (x.2 (map line_of (pieces (drop (k.len + 1) k.left.now))))
             ∙ ap (λ ls. judged g.0 k.number (map line_of ls)) (sym (cut_at k.len k.left.now k.invariant.len c.loop-len-test.true)) ∙ g.2,
       );
     }

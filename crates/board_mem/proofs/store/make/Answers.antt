@@ -1,4 +1,4 @@
-use Rattle.std.proofs.Common.{◌≡◌, ◌+◌, ◌/◌, ◌-◌, ◌<◌, ◌++◌, length, refl, ap₂, ◌∙◌, arith}
+use Rattle.std.proofs.Common.{◌≡◌, ◌+◌, ◌/◌, ◌-◌, ◌<◌, ◌++◌, length, refl, ap₂, ◌∙◌, arith, get_or-set_same}
 use Rattle.std.specs.Prelude.{vec_len, vec_capacity}
 use Rattle.std.proofs.lemmas.Bool.{false≢true}
 use Rattle.std.proofs.lemmas.List.{take_all}
@@ -29,13 +29,13 @@ overflow_cast-index c =
     let room = room_for_page c.args.index.now c.args.store.now.items (vec_capacity c.args.store.now) c.args.page c.requires.stored c.requires.there c.requires.unmade in
     record { fits = omega arith }
 
-pub returns-clause-stored : goal.returns-clause-stored
-returns-clause-stored c = AreStored-making (making c) (vec_capacity c.resize.new.self) c.resize.ensures.capacity
-
 pub returns-clause-made : goal.returns-clause-made
 returns-clause-made c =
     let some : 0 < c.len-len.result / 4096 = omega (arith, c.requires.stored.exact) in
-    made_of-set c.args.index.now c.args.page (c.len-len.result / 4096) some
-
-pub returns-clause-bytes : goal.returns-clause-bytes
-returns-clause-bytes c = bytes_of-making (making c)
+    let there : c.args.page < length c.args.index.now = c.requires.there in
+    record {
+      stored = AreStored-making (making c) (vec_capacity c.resize.new.self) c.resize.ensures.capacity;
+      numbered = rw get_or-set_same some;
+      made = made_of-set c.args.index.now c.args.page (c.len-len.result / 4096) some;
+      bytes = bytes_of-making (making c);
+    }

@@ -1,4 +1,4 @@
-use Rattle.std.proofs.Common.{sym, ap, ◌∙◌}
+use Rattle.std.proofs.Common.{◌≡◌, sym, ap, ◌∙◌}
 use Rattle.wind_base.specs.declared.regs.Regs.{Regs}
 use Rattle.board_player.specs.Inside.{parts_by}
 use Rattle.board_player.proofs.Asked.{unasked_call}
@@ -15,3 +15,6 @@ returns-in-Ok-clause-ok g c =
     c.end.ensures.step
     ∙ gate_stepped (parts_by (λ d. (goal.Device-dyn g (d.vtable, d.value)).kind_of d.value) (λ d. (goal.Device-dyn g (d.vtable, d.value)).words_of d.value) c.args.parts.now)
     c.args.who c.args.at c.args.gate _ _ _ c.start_revocable_step-kept.ensures.world c.in-Ok.ensures.ok (c.requires.counter ∙ ap (λ (r : Regs). r.pc) (sym c.start_revocable_step-kept.ensures.ready.regs)) c.requires.gate
+
+pub at_gate-requires-clause-phase : goal.at_gate-requires-clause-phase
+at_gate-requires-clause-phase g c = λ same. c.requires.phase (let one : c.args.who ≡ 1 = cc in one)

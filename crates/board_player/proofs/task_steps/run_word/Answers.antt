@@ -19,4 +19,8 @@ returns-clause-only g c done =
 
 pub returns-clause-objects : goal.returns-clause-objects
 returns-clause-objects g c done =
-    ap (λ (s : State). s.world.objects) c.end.ensures.step ∙ c.execute-kind.ensures.objects done ∙ ap (λ (w : WorldState). w.objects) c.start_step.ensures.world
+    ap (λ (s : State). s.world.objects) c.end.ensures.step ∙ ap (λ (w : WorldState). w.objects) (c.execute-kind.ensures.registers done).world ∙ ap (λ (w : WorldState). w.objects) c.start_step.ensures.world
+
+pub returns-clause-watch : goal.returns-clause-watch
+returns-clause-watch g c done =
+    ap (λ (s : State). s.world.watch) c.end.ensures.step ∙ ap (λ (w : WorldState). w.watch) (c.execute-kind.ensures.registers done).world ∙ ap (λ (w : WorldState). w.watch) c.start_step.ensures.world

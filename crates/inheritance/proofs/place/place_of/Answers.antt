@@ -1,19 +1,21 @@
-use Rattle.std.proofs.Common.{◌≡◌, ℕ, ◌+◌, ◌-◌, ◌/◌, subst, arith}
+use Rattle.std.proofs.Common.{◌≡◌, ℕ, ◌+◌, ◌-◌, ◌/◌, ◌<◌, subst, arith}
 use Rattle.std.proofs.Math.Nat.{mul-div-le}
 use Rattle.inheritance.proofs.Places.{Below, Above, below_more, above_more, found_place_of}
 use Rattle.inheritance.proofs.place.place_of.Goals as goal
 
+-- the middle is below the end
+half_below : (low high : ℕ) → low < high → low + (high - low) / 2 < high
+half_below low high below = let half = mul-div-le (high - low) 2 in omega arith
+
 pub loop-low-preserved-then-get-number : goal.loop-low-preserved-then-get-number
 loop-low-preserved-then-get-number c =
     let low = c.loop-low.low in
-    let high = c.loop-low.high in
-    let half = mul-div-le (high - low) 2 in
+    let half = half_below low c.loop-low.high c.loop-low-test.true in
     let within = c.loop-low.invariant.within in
-    let test = c.loop-low-test.true in
     record {
       ordered = omega arith;
       within = within;
-      below = below_more c.args.k.now.tasks c.get-number.result (low + (high - low) / 2) c.task_at.result.now c.facts.ensures.rising (omega arith) c.task_at.ensures
+      below = below_more c.args.k.now.tasks c.get-number.result (low + (c.loop-low.high - low) / 2) c.task_at.result.now c.facts.ensures.rising (omega arith) c.task_at.ensures
           (omega (arith, c.if-get-number.true, c.get.ensures.same));
       above = c.loop-low.invariant.above;
     }
@@ -21,15 +23,13 @@ loop-low-preserved-then-get-number c =
 pub loop-low-preserved : goal.loop-low-preserved
 loop-low-preserved c =
     let low = c.loop-low.low in
-    let high = c.loop-low.high in
-    let half = mul-div-le (high - low) 2 in
+    let half = half_below low c.loop-low.high c.loop-low-test.true in
     let within = c.loop-low.invariant.within in
-    let test = c.loop-low-test.true in
     record {
       ordered = omega arith;
       within = omega arith;
       below = c.loop-low.invariant.below;
-      above = above_more c.args.k.now.tasks c.get-number.result (low + (high - low) / 2) c.task_at.result.now c.facts.ensures.rising (omega arith) c.task_at.ensures
+      above = above_more c.args.k.now.tasks c.get-number.result (low + (c.loop-low.high - low) / 2) c.task_at.result.now c.facts.ensures.rising (omega arith) c.task_at.ensures
           (omega (arith, c.if-get-number.false, c.get.ensures.same));
     }
 

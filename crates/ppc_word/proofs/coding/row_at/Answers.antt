@@ -7,21 +7,15 @@ use Rattle.ppc_word.proofs.coding.row_at.Goals as goal
 
 pub returns-then-fits : goal.returns-then-fits
 returns-then-fits c =
-    let k = c.args.place in
-    let lt : c.args.word < 2 ^ 32 = omega arith in
-    let t : (nat_eq (bit_and c.args.word c.pattern-pattern.result.now.mask) c.pattern-pattern.result.now.held && allowed c.pattern-pattern.result.now.rule c.args.word) ≡ true = sym c.fits.ensures ∙ c.if-fits.true in
-    let t' = rw c.pattern-pattern.ensures at t in
-    let w : is_word_of (form_at k) c.args.word ≡ true = sym (fits-word k c.args.word c.requires.within lt) ∙ t' in
-    ap (λ f. Some f.row) c.pattern-pattern.ensures ∙ sym (row_of-at k c.args.word c.requires.within w)
+    let t = rw c.pattern-pattern.ensures at (sym c.fits.ensures ∙ c.if-fits.true) in
+    let w : is_word_of (form_at c.args.place) c.args.word ≡ true = sym (fits-word c.args.place c.args.word c.requires.within (omega arith)) ∙ t in
+    ap (λ f. Some f.row) c.pattern-pattern.ensures ∙ sym (row_of-at c.args.place c.args.word c.requires.within w)
 
 pub returns-else-fits : goal.returns-else-fits
 returns-else-fits c =
-    let k = c.args.place in
-    let lt : c.args.word < 2 ^ 32 = omega arith in
-    let t : (nat_eq (bit_and c.args.word c.pattern-pattern.result.now.mask) c.pattern-pattern.result.now.held && allowed c.pattern-pattern.result.now.rule c.args.word) ≡ false = sym c.fits.ensures ∙ c.if-fits.false in
-    let t' = rw c.pattern-pattern.ensures at t in
-    let w : is_word_of (form_at k) c.args.word ≡ false = sym (fits-word k c.args.word c.requires.within lt) ∙ t' in
+    let t = rw c.pattern-pattern.ensures at (sym c.fits.ensures ∙ c.if-fits.false) in
+    let w : is_word_of (form_at c.args.place) c.args.word ≡ false = sym (fits-word c.args.place c.args.word c.requires.within (omega arith)) ∙ t in
     sym (row_of-none c.args.word (λ j h q.
-    let same : k ≡ j = c.requires.only j h (word-meets (form_at j) c.args.word q).0 in
+    let same : c.args.place ≡ j = c.requires.only j h (word-meets (form_at j) c.args.word q).0 in
     let w' = rw same at w in
     let u = sym q ∙ w' in cc))

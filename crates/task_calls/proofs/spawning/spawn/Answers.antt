@@ -1,7 +1,9 @@
-use Rattle.std.proofs.Common.{◌+◌, ◌<◌, ◌^◌, sym, ap, ◌∙◌, arith}
+use Rattle.std.proofs.Common.{◌+◌, ◌<◌, ◌^◌, Result, sym, ap, ◌∙◌, arith}
+use Rattle.wind_base.specs.declared.errno.Errno.{Errno}
 use Rattle.mem_partition.specs.Place.{rounded}
 use Rattle.wind_core.specs.Moves.{spawn}
-use Rattle.task_calls.specs.Spawning.{spawn_parts}
+use Rattle.task_calls.specs.declared.spawning.Wanted.{Wanted}
+use Rattle.task_calls.specs.Spawning.{spawn_parts, spawned_if}
 use Rattle.task_calls.proofs.Spawned.{refused_part, block_within, spawned_is, spawned_none}
 use Rattle.task_calls.proofs.spawning.spawn.Goals as goal
 
@@ -9,18 +11,20 @@ pub returns-in_default-alloc-clause-part : goal.returns-in_default-alloc-clause-
 returns-in_default-alloc-clause-part c =
     let w = spawn_parts c.args.board c.args.kern.now c.args.part.now c.args.ram.now.bytes c.args.names.now in
     c.alloc.ensures.after ∙ refused_part c.args.part.now c.stack_bytes-bytes.result 16 _ c.in_default-alloc.field-0 c.in_default-alloc.ensures.answer
-    ∙ ap (λ r. r.after.part) (sym (spawned_none w c.args.wanted c.in_default.ensures c.in_default-alloc.field-0 (rw (sym c.stack_bytes-bytes.ensures) c.in_default-alloc.ensures.answer)))
+    ∙ ap (λ r. r.after.part) (sym (spawned_none w c.in-Ok.wanted c.in_default.ensures c.in_default-alloc.field-0 (rw (sym c.stack_bytes-bytes.ensures) c.in_default-alloc.ensures.answer)))
+    ∙ ap (λ (r : Result Wanted Errno). (spawned_if w r).after.part) (sym c.in-Ok.is)
 
 pub first_pointer-pointer-requires-clause-within : goal.first_pointer-pointer-requires-clause-within
-first_pointer-pointer-requires-clause-within c = block_within c.args.part.now c.stack_bytes-bytes.result 16 c.in-Ok.address c.requires.end c.in-Ok.ensures.answer
+first_pointer-pointer-requires-clause-within c = block_within c.args.part.now c.stack_bytes-bytes.result 16 c.in-Ok-alloc.address c.requires.end c.in-Ok-alloc.ensures.answer
 
 pub put_frame-requires : goal.put_frame-requires
 put_frame-requires c =
-    let within : c.in-Ok.address + rounded c.stack_bytes-bytes.result < 2 ^ 32 = block_within c.args.part.now c.stack_bytes-bytes.result 16 c.in-Ok.address c.requires.end c.in-Ok.ensures.answer in
+    let within : c.in-Ok-alloc.address + rounded c.stack_bytes-bytes.result < 2 ^ 32 = block_within c.args.part.now c.stack_bytes-bytes.result 16 c.in-Ok-alloc.address c.requires.end c.in-Ok-alloc.ensures.answer in
     omega (arith, within, c.first_pointer-pointer.ensures)
 
 pub returns-clause-kern : goal.returns-clause-kern
 returns-clause-kern c =
     let w = spawn_parts c.args.board c.args.kern.now c.args.part.now c.args.ram.now.bytes c.args.names.now in
     c.in-Ok-spawn_record.ensures.ok.2 ∙ ap (spawn c.args.kern.now) c.started.ensures.task
-    ∙ ap (λ r. r.after.kern) (sym (spawned_is w c.args.wanted c.in_default.ensures c.in-Ok.address (rw (sym c.stack_bytes-bytes.ensures) c.in-Ok.ensures.answer)))
+    ∙ ap (λ r. r.after.kern) (sym (spawned_is w c.in-Ok.wanted c.in_default.ensures c.in-Ok-alloc.address (rw (sym c.stack_bytes-bytes.ensures) c.in-Ok-alloc.ensures.answer)))
+    ∙ ap (λ (r : Result Wanted Errno). (spawned_if w r).after.kern) (sym c.in-Ok.is)

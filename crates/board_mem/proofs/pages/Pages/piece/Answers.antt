@@ -4,7 +4,7 @@ use Rattle.board_mem.specs.Memory.{bytes_at}
 use Rattle.board_mem.specs.Pages.{PagesState}
 use Rattle.board_mem.specs.Store.{place_of}
 use Rattle.board_mem.proofs.Stores.{length-bytes_of}
-use Rattle.board_mem.proofs.Windows.{IsWindow, bytes_at-window}
+use Rattle.board_mem.proofs.Windows.{IsWindow, window_in, bytes_at-window}
 use Rattle.board_mem.proofs.pages.Pages.piece.Goals as goal
 
 pub place-start-requires : goal.place-start-requires
@@ -14,14 +14,7 @@ place-start-requires c =
 
 -- the range in the store
 window : (c : goal.After-result-1) → IsWindow c.self.inside.size c.self.inside.index.items c.self.inside.store.items (vec_capacity c.self.inside.store) c.args.at c.args.n
-window c =
-    let size = ap (λ (s : PagesState). length s.bytes) c.self.view_is in
-    record {
-      kept = c.self.invariant;
-      some = c.requires.some;
-      page = c.requires.page;
-      there = omega (arith, size, length-bytes_of c.self.inside.size c.self.inside.index.items c.self.inside.store.items);
-    }
+window c = window_in c.args.self.now c.self.invariant c.self.view_is c.requires.some c.requires.page c.requires.there
 
 pub returns : goal.returns
 returns c =

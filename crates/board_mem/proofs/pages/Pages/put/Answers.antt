@@ -1,12 +1,12 @@
-use Rattle.std.proofs.Common.{ℕ, List, Bool, length, refl, sym, ap, ap₂, ◌∙◌, arith}
+use Rattle.std.proofs.Common.{ℕ, List, length, refl, ap, ap₂, ◌∙◌, arith}
 use Rattle.std.specs.Prelude.{vec_capacity}
 use Rattle.std.specs.Vec.{with_items}
 use Rattle.std.proofs.lemmas.List.{with_items_is}
 use Rattle.board_mem.specs.Memory.{with_bytes}
 use Rattle.board_mem.specs.Pages.{PagesState}
-use Rattle.board_mem.proofs.Puts.{IsPut, IsStore-after, pages_after, made_after}
+use Rattle.board_mem.proofs.Puts.{IsPut, IsStore-after, put_pages}
 use Rattle.board_mem.proofs.Stores.{length-bytes_of}
-use Rattle.board_mem.proofs.Windows.{IsWindow}
+use Rattle.board_mem.proofs.Windows.{IsWindow, window_in}
 use Rattle.board_mem.proofs.pages.Pages.put.Goals as goal
 
 pub place_made-start-requires-clause-there : goal.place_made-start-requires-clause-there
@@ -16,14 +16,7 @@ place_made-start-requires-clause-there c =
 
 -- the range in the store
 window : (c : goal.After-self-2-1) → IsWindow c.self.inside.size c.self.inside.index.items c.self.inside.store.items (vec_capacity c.self.inside.store) c.args.at (length c.args.src.now)
-window c =
-    let size = ap (λ (s : PagesState). length s.bytes) c.self.view_is in
-    record {
-      kept = c.self.invariant;
-      some = c.requires.some;
-      page = c.requires.page;
-      there = omega (arith, size, length-bytes_of c.self.inside.size c.self.inside.index.items c.self.inside.store.items);
-    }
+window c = window_in c.args.self.now c.self.invariant c.self.view_is c.requires.some c.requires.page c.requires.there
 
 -- the written bytes and their place
 put_is : (c : goal.After-self-2-1) → IsPut c.self.inside.size c.self.inside.index.items c.self.inside.store.items c.place_made-start.new.index c.place_made-start.new.store.items (with_items c.self.inside.index c.place_made-start.new.index).items (with_items c.place_made-start.new.store c.put_in.new.store).items (vec_capacity c.self.inside.store) (vec_capacity c.place_made-start.new.store) c.args.at c.args.src.now
@@ -40,9 +33,4 @@ pub invariant_of-self : goal.invariant_of-self
 invariant_of-self c = IsStore-after (put_is c) _ refl
 
 pub returns : goal.returns
-returns c =
-    let old = c.self.view_is in
-    let s = c.args.self.now in
-    let b = pages_after (put_is c) s (ap (λ (p : PagesState). p.bytes) (sym old)) (ap (λ (p : PagesState). p.made) (sym old)) in
-    let m = made_after (put_is c) s (ap (λ (p : PagesState). p.bytes) (sym old)) (ap (λ (p : PagesState). p.made) (sym old)) in
-    ap₂ (λ (bytes : List ℕ) (made : List Bool). let r : PagesState = record { bytes = bytes; made = made } in r) b m
+returns c = put_pages (put_is c) c.args.self.now c.self.view_is

@@ -10,30 +10,22 @@ use Rattle.delay_queue.proofs.delays.Delays.take.Goals as goal
 
 pub invariant_of-self : goal.invariant_of-self
 invariant_of-self c =
-    let t = c.self.inside.tasks in
-    let one = c.self.invariant.one in
-    let none = sym c.in_default.ensures.value in
-    let wake = no_wake 0 c.args.who (chain_at t.chains 0) (ap (λ zs. value_in zs c.args.who) (sym (one_cells t.chains one)) ∙ none) in
-    subst (λ u. IsTimed u.chains) (sym (c.in_default.ensures.chains ∙ none_goes t c.args.who one none)) c.self.invariant
+    subst (λ u. IsTimed u.chains) (sym (c.in_default.ensures.chains ∙ none_goes c.self.inside.tasks c.args.who c.self.invariant.one (sym c.in_default.ensures.value)))
+    c.self.invariant
 
-pub returns-in_default-clause-value : goal.returns-in_default-clause-value
-returns-in_default-clause-value c =
+pub returns-in_default : goal.returns-in_default
+returns-in_default c =
     let t = c.self.inside.tasks in
     let one = c.self.invariant.one in
     let none = sym c.in_default.ensures.value in
-    let wake = no_wake 0 c.args.who (chain_at t.chains 0) (ap (λ zs. value_in zs c.args.who) (sym (one_cells t.chains one)) ∙ none) in
-    sym (ap is_some wake) ∙ ap (λ o. is_some (wake_of o.tasks c.args.who)) c.self.view_is
-
-pub returns-in_default-clause-tasks : goal.returns-in_default-clause-tasks
-returns-in_default-clause-tasks c =
-    let t = c.self.inside.tasks in
-    let one = c.self.invariant.one in
-    let none = sym c.in_default.ensures.value in
-    let wake = no_wake 0 c.args.who (chain_at t.chains 0) (ap (λ zs. value_in zs c.args.who) (sym (one_cells t.chains one)) ∙ none) in
     let ts = wakes_from 0 (chain_at t.chains 0) in
-    ap (λ u. record { tasks = wakes_from 0 (chain_at u.chains 0); room = u.room }) (c.in_default.ensures.chains ∙ none_goes t c.args.who one none)
-    ∙ order_alike ts (taken_out ts c.args.who) t.room (none_taken ts c.args.who wake)
-    ∙ ap (λ o. without_task o c.args.who) c.self.view_is
+    let wake = no_wake 0 c.args.who (chain_at t.chains 0) (ap (λ zs. value_in zs c.args.who) (sym (one_cells t.chains one)) ∙ none) in
+    record {
+      value = sym (ap is_some wake) ∙ ap (λ o. is_some (wake_of o.tasks c.args.who)) c.self.view_is;
+      tasks = ap (λ u. record { tasks = wakes_from 0 (chain_at u.chains 0); room = u.room }) (c.in_default.ensures.chains ∙ none_goes t c.args.who one none)
+          ∙ order_alike ts (taken_out ts c.args.who) t.room (none_taken ts c.args.who wake)
+          ∙ ap (λ o. without_task o c.args.who) c.self.view_is;
+    }
 
 pub lengthen-requires : goal.lengthen-requires
 lengthen-requires c x e =

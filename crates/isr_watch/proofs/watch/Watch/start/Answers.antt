@@ -1,26 +1,18 @@
-use Rattle.std.proofs.Common.{ap, ◌∙◌, sym, subst, refl, IsSome}
+use Rattle.std.proofs.Common.{ap, ◌∙◌}
 use Rattle.isr_watch.specs.declared.watchdog.Watchdog.{Watchdog}
-use Rattle.isr_watch.specs.State.{WatchState, watchdog_of}
+use Rattle.isr_watch.specs.State.{WatchState}
 use Rattle.isr_watch.specs.Calls.{start}
-use Rattle.isr_watch.proofs.Writes.{lives_in, write_own, started_is}
+use Rattle.isr_watch.proofs.Writes.{live_object, write_level, started_is}
 use Rattle.isr_watch.proofs.watch.Watch.start.Goals as goal
 
 pub object_mut-requires : goal.object_mut-requires
 object_mut-requires c =
-    let v = lives_in c.self.inside.watchdogs.rows c.in-Some.at c.self.invariant.0.own (subst (λ (s : WatchState). IsSome (watchdog_of s.watchdogs c.in-Some.at)) (sym c.self.view_is) c.in-Some.ensures.1) in
-    subst (λ o. IsSome o) (sym v.1) refl
+    live_object c.self.inside.watchdogs.rows c.args.self.now.watchdogs c.in-Some.at c.self.invariant.0.own (ap (λ (s : WatchState). s.watchdogs) c.self.view_is) c.in-Some.ensures.1
 
 pub invariant_of-self : goal.invariant_of-self
 invariant_of-self c =
-    let is = c.self.invariant.0 in
-    let y = c.begin.new.watchdog in (
-      record {
-        own = write_own c.self.inside.watchdogs.rows c.in-Some.at c.object_mut.result.now y is.own c.object_mut.ensures.value (ap (λ (w : Watchdog). w.id) c.begin.ensures);
-        room = is.room;
-        idle = is.idle;
-      },
-      c.self.invariant.1,
-    )
+    let k = c.self.inside in
+    (write_level k.watchdogs k.level k.listed.items c.in-Some.at c.object_mut.result.now c.begin.new.watchdog c.self.invariant.0 c.object_mut.ensures.value (ap (λ (w : Watchdog). w.id) c.begin.ensures), c.self.invariant.1)
 
 pub returns-clause-state : goal.returns-clause-state
 returns-clause-state c =

@@ -1,11 +1,7 @@
-use Rattle.id_table.proofs.Lookups.{no_object_of}
-use Rattle.msg_queue.specs.State.{QueuesState}
-use Rattle.std.proofs.Common.{◌≡◌, None, ap, ◌∙◌, sym}
+use Rattle.std.proofs.Common.{◌≡◌, subst, None, IsSome, MatchOption}
 use Rattle.id_table.specs.Rows.{object_of}
+use Rattle.msg_queue.specs.State.{QueuesState}
 use Rattle.msg_queue.proofs.queues.Queues.find.Goals as goal
 
-pub returns-in_err-id : goal.returns-in_err-id
-returns-in_err-id c =
-    let none : object_of c.args.self.now.queues c.args.number ≡ None =
-    sym (ap (λ (s : QueuesState). object_of s.queues c.args.number) c.self.view_is) ∙ no_object_of c.self.inside.queues c.args.number c.facts.ensures c.in_err-id.ensures in
-    rw c.from_residual.ensures none
+pub returns : goal.returns
+returns c = subst (λ (s : QueuesState). MatchOption c.find.result (object_of s.queues c.args.number ≡ None) (λ id. (id ≡ c.args.number) × IsSome (object_of s.queues id))) c.self.view_is c.find.ensures

@@ -15,25 +15,15 @@ hand_over-requires-clause-place c =
     let s = scene c.args.kern.now c.args.self.now c.args.ram.now.bytes in
     passed_place s c.args.id c.args.words c.in-PassedOn.ask c.in-PassedOn.ensures c.requires.kept
 
-pub put_message-requires-clause-live : goal.put_message-requires-clause-live
-put_message-requires-clause-live c =
+pub put_message-requires : goal.put_message-requires
+put_message-requires c =
     let s = scene c.args.kern.now c.args.self.now c.args.ram.now.bytes in
-    queued_live s c.args.id c.args.words c.in-Queued.at c.in-Queued.ensures
-
-pub put_message-requires-clause-there : goal.put_message-requires-clause-there
-put_message-requires-clause-there c =
-    let s = scene c.args.kern.now c.args.self.now c.args.ram.now.bytes in
-    queued_there s c.args.id c.args.words c.in-Queued.at c.in-Queued.ensures
-
-pub put_message-requires-clause-room : goal.put_message-requires-clause-room
-put_message-requires-clause-room c =
-    let s = scene c.args.kern.now c.args.self.now c.args.ram.now.bytes in
-    queued_room s c.args.id c.args.words c.in-Queued.at c.in-Queued.ensures
-
-pub put_message-requires-clause-short : goal.put_message-requires-clause-short
-put_message-requires-clause-short c =
-    let s = scene c.args.kern.now c.args.self.now c.args.ram.now.bytes in
-    queued_short s c.args.id c.args.words c.in-Queued.at c.in-Queued.ensures
+    record {
+      live = queued_live s c.args.id c.args.words c.in-Queued.at c.in-Queued.ensures;
+      there = queued_there s c.args.id c.args.words c.in-Queued.at c.in-Queued.ensures;
+      room = queued_room s c.args.id c.args.words c.in-Queued.at c.in-Queued.ensures;
+      short = queued_short s c.args.id c.args.words c.in-Queued.at c.in-Queued.ensures;
+    }
 
 pub wait_for-requires-clause-live : goal.wait_for-requires-clause-live
 wait_for-requires-clause-live c =
@@ -70,32 +60,22 @@ returns-in-PassedOn-clause-kept c =
     let s = scene c.args.kern.now c.args.self.now c.args.ram.now.bytes in
     subst IsKept (sym (sent_passed s c.args.id c.args.words c.in-PassedOn.ask c.in-PassedOn.ensures c.hand_over.new.kern c.hand_over.new.ram.bytes c.hand_over.ensures.kern c.hand_over.ensures.ram)) (send_keeps s c.args.id c.args.words c.requires.kept c.requires.caller)
 
-pub returns-in-Queued-clause-scene : goal.returns-in-Queued-clause-scene
-returns-in-Queued-clause-scene c =
+pub returns-in-Queued : goal.returns-in-Queued
+returns-in-Queued c =
     let s = scene c.args.kern.now c.args.self.now c.args.ram.now.bytes in
-    sent_queued s c.args.id c.args.words c.in-Queued.at c.in-Queued.ensures c.put_message.new.self c.put_message.ensures
+    let sent = sent_queued s c.args.id c.args.words c.in-Queued.at c.in-Queued.ensures c.put_message.new.self c.put_message.ensures in
+    record {
+      scene = sent;
+      answer = answer_queued s c.args.id c.args.words c.in-Queued.at c.in-Queued.ensures;
+      kept = subst IsKept (sym sent) (send_keeps s c.args.id c.args.words c.requires.kept c.requires.caller);
+    }
 
-pub returns-in-Queued-clause-answer : goal.returns-in-Queued-clause-answer
-returns-in-Queued-clause-answer c =
+pub returns-in-Blocked : goal.returns-in-Blocked
+returns-in-Blocked c =
     let s = scene c.args.kern.now c.args.self.now c.args.ram.now.bytes in
-    answer_queued s c.args.id c.args.words c.in-Queued.at c.in-Queued.ensures
-
-pub returns-in-Queued-clause-kept : goal.returns-in-Queued-clause-kept
-returns-in-Queued-clause-kept c =
-    let s = scene c.args.kern.now c.args.self.now c.args.ram.now.bytes in
-    subst IsKept (sym (sent_queued s c.args.id c.args.words c.in-Queued.at c.in-Queued.ensures c.put_message.new.self c.put_message.ensures)) (send_keeps s c.args.id c.args.words c.requires.kept c.requires.caller)
-
-pub returns-in-Blocked-clause-scene : goal.returns-in-Blocked-clause-scene
-returns-in-Blocked-clause-scene c =
-    let s = scene c.args.kern.now c.args.self.now c.args.ram.now.bytes in
-    sent_blocked s c.args.id c.args.words c.in-Blocked.ask c.in-Blocked.fifo c.in-Blocked.ensures c.wait_for.new.kern c.wait_for.new.self c.wait_for.ensures.asks c.wait_for.ensures.kern
-
-pub returns-in-Blocked-clause-answer : goal.returns-in-Blocked-clause-answer
-returns-in-Blocked-clause-answer c =
-    let s = scene c.args.kern.now c.args.self.now c.args.ram.now.bytes in
-    answer_blocked s c.args.id c.args.words c.in-Blocked.ask c.in-Blocked.fifo c.in-Blocked.ensures
-
-pub returns-in-Blocked-clause-kept : goal.returns-in-Blocked-clause-kept
-returns-in-Blocked-clause-kept c =
-    let s = scene c.args.kern.now c.args.self.now c.args.ram.now.bytes in
-    subst IsKept (sym (sent_blocked s c.args.id c.args.words c.in-Blocked.ask c.in-Blocked.fifo c.in-Blocked.ensures c.wait_for.new.kern c.wait_for.new.self c.wait_for.ensures.asks c.wait_for.ensures.kern)) (send_keeps s c.args.id c.args.words c.requires.kept c.requires.caller)
+    let sent = sent_blocked s c.args.id c.args.words c.in-Blocked.ask c.in-Blocked.fifo c.in-Blocked.ensures c.wait_for.new.kern c.wait_for.new.self c.wait_for.ensures.asks c.wait_for.ensures.kern in
+    record {
+      scene = sent;
+      answer = answer_blocked s c.args.id c.args.words c.in-Blocked.ask c.in-Blocked.fifo c.in-Blocked.ensures;
+      kept = subst IsKept (sym sent) (send_keeps s c.args.id c.args.words c.requires.kept c.requires.caller);
+    }

@@ -4,7 +4,7 @@ use Rattle.wind_lists.specs.Records.{without}
 use Rattle.std.proofs.lemmas.List.{length-map}
 use Rattle.ready_queue.specs.Order.{pri_of, put_in, taken_out, rotated, moved_back}
 use Rattle.ready_queue.specs.Inside.{tasks_from, IsMapped}
-use Rattle.ready_queue.proofs.Rotation.{no_pri, order_alike, pri_found, mapped_rotated, tasks_without, tasks_put, value_gone, fewer_cells}
+use Rattle.ready_queue.proofs.Rotation.{no_pri, order_alike, found_told, pri_found, mapped_rotated, tasks_without, tasks_put, value_gone, fewer_cells}
 use Rattle.ready_queue.proofs.ready.Ready.rotate.Goals as goal
 
 pub returns-in_default-clause-value : goal.returns-in_default-clause-value
@@ -30,8 +30,7 @@ invariant_of-self c =
     (mapped_rotated cs c.self.inside.map.words c.in-Some.list c.args.who (c.args.who, tt) c.self.invariant c.in-Some.ensures)
 
 pub returns-clause-value : goal.returns-clause-value
-returns-clause-value c =
-    sym (ap is_some (pri_found c.self.inside.tasks.chains c.args.who c.in-Some.list c.in-Some.ensures)) ∙ ap (λ o. is_some (pri_of o.tasks c.args.who)) c.self.view_is
+returns-clause-value c = found_told c.self.inside.tasks.chains c.args.who c.in-Some.list c.self.inside.tasks.room c.args.self.now c.in-Some.ensures c.self.view_is
 
 pub returns-clause-tasks : goal.returns-clause-tasks
 returns-clause-tasks c =

@@ -3,7 +3,7 @@ use Rattle.linked_lists.specs.Chains.{cell_key, chain_at}
 use Rattle.wind_lists.specs.Records.{without}
 use Rattle.ready_queue.specs.Order.{pri_of, taken_out, without_task}
 use Rattle.ready_queue.specs.Inside.{tasks_from, filled, IsMapped}
-use Rattle.ready_queue.proofs.Rotation.{no_pri, none_taken, order_alike, pri_found, mapped_without, filled_first, tasks_without}
+use Rattle.ready_queue.proofs.Rotation.{no_pri, none_taken, order_alike, found_told, mapped_without, filled_first, tasks_without}
 use Rattle.ready_queue.proofs.ready.Ready.take.Goals as goal
 
 pub returns-in_default-clause-value : goal.returns-in_default-clause-value
@@ -27,8 +27,7 @@ invariant_of-self c =
     (on ∙ ap (λ t. filled (chain_at t.chains c.in-Some.list)) c.remove.ensures.chains))
 
 pub returns-clause-value : goal.returns-clause-value
-returns-clause-value c =
-    sym (ap is_some (pri_found c.self.inside.tasks.chains c.args.who c.in-Some.list c.in-Some.ensures)) ∙ ap (λ o. is_some (pri_of o.tasks c.args.who)) c.self.view_is
+returns-clause-value c = found_told c.self.inside.tasks.chains c.args.who c.in-Some.list c.self.inside.tasks.room c.args.self.now c.in-Some.ensures c.self.view_is
 
 pub returns-clause-tasks : goal.returns-clause-tasks
 returns-clause-tasks c =

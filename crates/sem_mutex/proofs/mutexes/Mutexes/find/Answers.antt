@@ -1,6 +1,8 @@
-use Rattle.std.proofs.Common.{◌∙◌}
-use Rattle.sem_mutex.proofs.Answering.{no_mutex}
+use Rattle.std.proofs.Common.{ap, ◌∙◌}
+use Rattle.inheritance.specs.Mutexes.{LiveMutexes}
+use Rattle.sem_mutex.specs.Calls.{live_mutex}
+use Rattle.sem_mutex.proofs.Answering.{found_live}
 use Rattle.sem_mutex.proofs.mutexes.Mutexes.find.Goals as goal
 
-pub returns-in_err-id : goal.returns-in_err-id
-returns-in_err-id c = c.from_residual.ensures ∙ no_mutex c.args.self.now.rows c.args.id c.facts.ensures c.in_err-id.ensures
+pub returns : goal.returns
+returns c = found_live c.self.inside.table.rows c.args.id c.find.result c.find.ensures ∙ ap (λ (live : LiveMutexes). live_mutex live.rows c.args.id) c.self.view_is

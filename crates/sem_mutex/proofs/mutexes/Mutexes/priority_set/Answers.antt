@@ -16,27 +16,13 @@ repriced : (s : MutexState) (k r : KernState) (who p q : ℕ) → k ≡ set_norm
 repriced s k r who p q sets changes after =
     ap (λ n. record s { kern = n }) (changes ∙ ap (λ n. followed s.profile n who q) sets ∙ ap (followed s.profile (set_normal s.kern who p) who) after)
 
-pub inherit_at_once-requires-clause-live : goal.inherit_at_once-requires-clause-live
-inherit_at_once-requires-clause-live c =
-    let s = both c.args.k.now c.args.self.now in
-    (reprices s (both c.follow.new.k c.args.self.now) c.args.who c.args.pri c.facts.ensures c.requires.live c.requires.kept
-    (repriced s c.set_normal.new.self c.follow.new.k c.args.who c.args.pri c.pri_after-changed.result c.set_normal.ensures
-    (c.follow.ensures ∙ ap (λ p. followed p c.set_normal.new.self c.args.who c.pri_after-changed.result) (ap (λ (live : LiveMutexes). live.profile) c.self.view_is)) c.pri_after-changed.ensures)).lives
-
-pub inherit_at_once-requires-clause-urgent : goal.inherit_at_once-requires-clause-urgent
-inherit_at_once-requires-clause-urgent c =
-    let s = both c.args.k.now c.args.self.now in
-    (reprices s (both c.follow.new.k c.args.self.now) c.args.who c.args.pri c.facts.ensures c.requires.live c.requires.kept
-    (repriced s c.set_normal.new.self c.follow.new.k c.args.who c.args.pri c.pri_after-changed.result c.set_normal.ensures
-    (c.follow.ensures ∙ ap (λ p. followed p c.set_normal.new.self c.args.who c.pri_after-changed.result) (ap (λ (live : LiveMutexes). live.profile) c.self.view_is)) c.pri_after-changed.ensures)).urgent
-
-pub inherit_at_once-requires-clause-since : goal.inherit_at_once-requires-clause-since
-inherit_at_once-requires-clause-since c =
+pub inherit_at_once-requires : goal.inherit_at_once-requires
+inherit_at_once-requires c =
     let s = both c.args.k.now c.args.self.now in
     let may = reprices s (both c.follow.new.k c.args.self.now) c.args.who c.args.pri c.facts.ensures c.requires.live c.requires.kept
     (repriced s c.set_normal.new.self c.follow.new.k c.args.who c.args.pri c.pri_after-changed.result c.set_normal.ensures
     (c.follow.ensures ∙ ap (λ p. followed p c.set_normal.new.self c.args.who c.pri_after-changed.result) (ap (λ (live : LiveMutexes). live.profile) c.self.view_is)) c.pri_after-changed.ensures) in
-    omega (arith, c.requires.since, may.sinces)
+    record { live = may.lives; urgent = may.urgent; since = omega (arith, c.requires.since, may.sinces) }
 
 pub returns : goal.returns
 returns c =

@@ -1,4 +1,4 @@
-use Rattle.std.proofs.Common.{arith}
+use Rattle.std.proofs.Common.{refl, arith}
 use Rattle.wind_core.proofs.Comings.{ids_below, spawned_keeps, new_ready, ready_room}
 use Rattle.wind_core.proofs.kern.Kern.spawn_record.Goals as goal
 
@@ -8,12 +8,13 @@ add-requires-clause-below c = ids_below c.self.inside c.self.invariant
 pub put-requires : goal.put-requires
 put-requires c = record {
   absent = new_ready c.self.inside c.in-Ok.id c.self.invariant c.in-Ok.ensures.id.0;
-  room = ready_room c.self.inside c.self.invariant (omega (arith, c.if-len.false, c.len.ensures));
+  room = ready_room c.self.inside c.self.invariant (let left = c.in_ok-id.ensures.when.0 refl in omega (arith, left.0, c.self.invariant.0));
 }
 
 pub invariant_of-self : goal.invariant_of-self
 invariant_of-self c =
-    let here = c.in-Some.ensures in
+    let here = c.in_ok-id.ensures.ok in
+    let left = c.in_ok-id.ensures.when.0 refl in
     let added = c.in-Ok.ensures in
-    spawned_keeps c.self.inside c.args.task c.made.result c.in-Some.id c.in-Ok.id c.add.new.ids c.add.new.self c.put.new.self c.self.invariant
-    (omega (arith, c.if-len.false, c.len.ensures)) here.0 c.made.ensures here.1 added.rows added.id.0 added.id.1 c.put.ensures
+    spawned_keeps c.self.inside c.args.task c.made.result c.in_ok-id.id c.in-Ok.id c.add.new.ids c.add.new.self c.put.new.self c.self.invariant
+    (omega (arith, left.0, c.self.invariant.0)) left.1 c.made.ensures here.1 added.rows added.id.0 added.id.1 c.put.ensures

@@ -1,7 +1,0 @@
-use Rattle.kernel_world.specs.Seen.{world_seen}
-use Rattle.kernel_calls.proofs.Reading.{routine_asks_none}
-use Rattle.board_actors.proofs.routine.call.Goals as goal
-
-pub make_call-requires-clause-unasked : goal.make_call-requires-clause-unasked
-make_call-requires-clause-unasked g c =
-    routine_asks_none c.args.gate (world_seen {I = g.dyn-1.0.I} {X = λ x. (g.dyn-1.0.entry x).0.Denot} (λ vtable. (g.dyn-1.0.entry vtable).1) c.args.world.now)

@@ -1,0 +1,11 @@
+pub mod Closings
+pub mod CommandLemmas
+pub mod Flow
+pub mod OtherFiles
+pub mod Outcomes
+pub mod Recording
+pub mod Replays
+pub mod Sending
+pub mod Starting
+pub mod Typing
+pub mod Whole

@@ -1,0 +1,80 @@
+-- A session that was played, from its parts.
+use Rattle.std.proofs.Common.{◌≡◌, ◌≢◌, ℕ, List, [], Option, Some, sym, subst}
+use Rattle.wind_outside.specs.Devices.{DeviceState}
+use Rattle.wind_outside.specs.Files.{Files}
+use Rattle.tick_file.specs.Writing.{WritingLaw}
+use Rattle.wind_machine.specs.State.{State}
+use Rattle.wind_machine.specs.Machine.{IsOver}
+use Rattle.wind_machine.specs.Extending.{Setup}
+use Rattle.wind_session.specs.Modules.{Shelf}
+use Rattle.wind_session.specs.Outside.{Outside}
+use Rattle.wind_session.specs.declared.run.RunEnd.{RunEnd}
+use Rattle.wind_session.specs.declared.run.RunEnd.TheVariants as ends
+use Rattle.live_session.specs.Command.{CommandState}
+use Rattle.live_session.specs.Ending.{IsAfterRun, IsGoing, is_quiet}
+use Rattle.live_session.specs.Saving.{IsSaved, WritesOnly, replay_limit}
+use Rattle.live_session.specs.Seen.{LiveState, IsLiveAt, IsSound, GoesOn}
+use Rattle.live_session.specs.Session.{IsPermitted, IsRecorded, IsStatusOf, IsTyped, Played, setup_of, shelf_of}
+use Rattle.live_session.specs.declared.status.Status.{Status}
+use Rattle.live_session.specs.declared.status.Status.TheVariants as status
+use Rattle.live_session.proofs.Replays.{replayed}
+use Rattle.live_session.proofs.Starting.{planned}
+
+-- ---- the record that was written
+is_recorded : (end : RunEnd) (c : CommandState) (shelf : Shelf) (setup : Setup) (console ticks : List ℕ) (board : State) (old now : Outside) (files new : Option Files)
+    → IsGoing end → IsAfterRun end shelf setup console ticks board old now → (end ≡ ends.Quiet → IsOver board)
+    → IsSaved c console ticks (replay_limit board.steps (is_quiet end)) files new → IsRecorded end c shelf setup console ticks board old now new
+is_recorded end c shelf setup console ticks board old now files new going run over saved =
+    let replay = replayed end shelf setup console ticks board old now going run over in
+    record { replay_end = replay.0; going = replay.1; replay = replay.2; before = files; saved = saved }
+
+-- how the conversation ended, and what became of the record
+pub record Closed (s : Status) (c : CommandState) (end : RunEnd) (l m : LiveState) (modules : Option Files) (old now : Outside) (left_old left_new : Option (List ℕ)) (files mid new : Option Files) (rose : Type 0) : Type 0 where
+  pub sound : IsSound m
+  pub run : GoesOn end (shelf_of modules c) l old m now
+  pub quiet : end ≡ ends.Quiet → IsOver m.board
+  pub status_is : IsStatusOf end s
+  pub typed : IsTyped s left_old left_new m.console.bytes
+  pub writes : WritesOnly c.record_folder files new
+  pub saved : s ≡ status.Ended → c.record_folder ≢ [] → IsGoing end × IsSaved c m.console.bytes m.ticks.bytes (replay_limit m.board.steps (is_quiet end)) mid new
+  pub unrecorded : s ≡ status.Unrecorded → (c.record_folder ≢ []) × rose
+
+pub plays : WritingLaw → (s : Status) (c : CommandState) (end : RunEnd) (l m : LiveState) (modules : Option Files) (old now : Outside) (left_old left_new : Option (List ℕ)) (files mid new : Option Files) (rose : Type 0)
+    → Closed s c end l m modules old now left_old left_new files mid new rose
+    → (devices : List (Option DeviceState)) → IsPermitted c files → IsLiveAt (shelf_of modules c) (setup_of c devices) l old old
+    → Played s c modules devices old now left_old left_new files new rose
+plays law s c end l m modules old now left_old left_new files mid new rose h devices permitted live =
+    let run : IsAfterRun end (shelf_of modules c) (setup_of c devices) m.console.bytes m.ticks.bytes m.board old now = h.run.goes (setup_of c devices) old live in
+    record {
+      console = m.console.bytes;
+      ticks = m.ticks.bytes;
+      board = m.board;
+      end = end;
+      planned = planned law m.console m.ticks m.lines m.last h.sound.console h.sound.kept;
+      run = run;
+      status_is = h.status_is;
+      typed = h.typed;
+      permitted = permitted;
+      writes = h.writes;
+      recorded = λ e named.
+          is_recorded end c (shelf_of modules c) (setup_of c devices) m.console.bytes m.ticks.bytes m.board old now mid new (h.saved e named).0 run h.quiet (h.saved e named).1;
+      unrecorded = h.unrecorded;
+    }
+
+-- ---- asking for a record changes no file
+pub played_after : (s : Status) (c : CommandState) (modules : Option Files) (devices : List (Option DeviceState)) (old now : Outside) (left_old left_new : Option (List ℕ)) (files asked new : Option Files) (rose later : Type 0)
+    → asked ≡ files → (rose → later) → Played s c modules devices old now left_old left_new asked new rose → Played s c modules devices old now left_old left_new files new later
+played_after s c modules devices old now left_old left_new files asked new rose later same up p = record {
+  console = p.console;
+  ticks = p.ticks;
+  board = p.board;
+  end = p.end;
+  planned = p.planned;
+  run = p.run;
+  status_is = p.status_is;
+  typed = p.typed;
+  permitted = subst (λ (f : Option Files). IsPermitted c f) same p.permitted;
+  writes = subst (λ (f : Option Files). WritesOnly c.record_folder f new) same p.writes;
+  recorded = p.recorded;
+  unrecorded = λ e. ((p.unrecorded e).0, up (p.unrecorded e).1);
+}

@@ -1,0 +1,13 @@
+pub mod Command
+pub mod DotLines
+pub mod Ending
+pub mod Folder
+pub mod Input
+pub mod MemFolder
+pub mod Places
+pub mod Record
+pub mod Saving
+pub mod Seen
+pub mod Session
+pub mod Status
+pub mod Words

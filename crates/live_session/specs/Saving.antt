@@ -1,0 +1,92 @@
+-- The files of a record.
+use Rattle.std.specs.Prelude.{◌≡◌, ◌≢◌, ◌⊎◌, ℕ, ◌+◌, Bool, ◌&&◌, nat_lt, if◌then◌else◌, List, [], ◌∷◌, ◌++◌, Option, Some, None, IsSome, IfSome, IsSomeAnd, codes}
+use Rattle.std.specs.Fmt.{decimal}
+use Rattle.wind_base.specs.Limits.{most_steps}
+use Rattle.wind_base.specs.declared.board_kind.BoardKind.{BoardKind}
+use Rattle.wind_base.specs.declared.board_kind.BoardKind.TheVariants as boards
+use Rattle.wind_base.specs.declared.profile.Profile.{Profile}
+use Rattle.wind_base.specs.declared.profile.Profile.TheVariants as profiles
+use Rattle.wind_outside.specs.Files.{Files}
+use Rattle.live_session.specs.Command.{CommandState}
+use Rattle.live_session.specs.Folder.{Replaced}
+
+-- the path of a file in a folder
+abbrev pub path_of : List ℕ → List ℕ → List ℕ
+path_of folder file = folder ++ 47 ∷ file
+
+-- the paths of the three files of a record in a folder
+abbrev pub console_path : List ℕ → List ℕ
+console_path folder = path_of folder (codes "console.txt")
+
+abbrev pub ticks_path : List ℕ → List ℕ
+ticks_path folder = path_of folder (codes "ticks.txt")
+
+abbrev pub command_path : List ℕ → List ℕ
+command_path folder = path_of folder (codes "command.txt")
+
+pub record ArePaths (folder console ticks command : List ℕ) : Type 0 where
+  pub console_is : console ≡ console_path folder
+  pub ticks_is : ticks ≡ ticks_path folder
+  pub command_is : command ≡ command_path folder
+
+-- none of the three files is in the folder, or one of them is; a folder of files that are untold leaves this open
+pub record AreAbsent (folder : List ℕ) (held : Files) : Type 0 where
+  pub no_console : held (console_path folder) ≡ None
+  pub no_ticks : held (ticks_path folder) ≡ None
+  pub no_command : held (command_path folder) ≡ None
+
+abbrev pub IsFree : List ℕ → Option Files → Type 0
+IsFree folder files = IfSome files (AreAbsent folder)
+
+abbrev pub IsTaken : List ℕ → Option Files → Type 0
+IsTaken folder files = IfSome files (λ held. IsSome (held (console_path folder)) ⊎ (IsSome (held (ticks_path folder)) ⊎ IsSome (held (command_path folder))))
+
+-- a file is none of the three
+pub record IsOther (folder name : List ℕ) : Type 0 where
+  pub no_console : name ≢ console_path folder
+  pub no_ticks : name ≢ ticks_path folder
+  pub no_command : name ≢ command_path folder
+
+-- no other file has changed; what is untold stays untold
+abbrev pub KeepsOthers : List ℕ → Option Files → Option Files → Type 0
+KeepsOthers folder None new = new ≡ None
+KeepsOthers folder (Some old) new = IsSomeAnd new (λ held. (name : List ℕ) → IsOther folder name → held name ≡ old name)
+
+-- only a record in this folder may have been written, and nothing if the folder's name is empty
+pub record WritesOnly (folder : List ℕ) (old new : Option Files) : Type 0 where
+  pub nothing : folder ≡ [] → new ≡ old
+  pub others : KeepsOthers folder old new
+
+-- the limit with which a replay ends as a session of these steps did: one step more if its run is over
+abbrev pub replay_limit : ℕ → Bool → ℕ
+replay_limit steps is_over = if is_over && nat_lt steps most_steps then steps + 1 else steps
+
+abbrev pub profile_digit : Profile → List ℕ
+profile_digit profiles.One = codes "1"
+profile_digit profiles.Two = codes "2"
+
+abbrev pub board_digit : BoardKind → List ℕ
+board_digit boards.One = codes "1"
+board_digit boards.Two = codes "2"
+
+-- a word, with the end of its line
+abbrev pub word_line : List ℕ → List ℕ → List ℕ
+word_line option value = option ++ (value ++ 10 ∷ [])
+
+-- the words with which windplay replays the record of a command, one in each line
+abbrev pub command_text : CommandState → ℕ → List ℕ
+command_text c limit =
+    word_line (codes "--console=") (console_path c.record_folder)
+    ++ (word_line (codes "--ticks=") (ticks_path c.record_folder)
+    ++ (word_line (codes "--modules=") c.modules
+    ++ (word_line (codes "--profile=") (profile_digit c.profile)
+    ++ (word_line (codes "--board=") (board_digit c.board)
+    ++ word_line (codes "--limit=") (decimal limit)))))
+
+-- the three files of a command's record were written, the words last, and no other
+pub record IsSaved (c : CommandState) (console ticks : List ℕ) (limit : ℕ) (old new : Option Files) : Type 0 where
+  pub with_console : Option Files
+  pub with_ticks : Option Files
+  pub first : Replaced old with_console (console_path c.record_folder) console
+  pub second : Replaced with_console with_ticks (ticks_path c.record_folder) ticks
+  pub last : Replaced with_ticks new (command_path c.record_folder) (command_text c limit)

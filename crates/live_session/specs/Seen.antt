@@ -1,0 +1,69 @@
+-- A live session as plain data.
+use Rattle.std.specs.Prelude.{◌≡◌, ◌⊎◌, ℕ, ◌+◌, ◌≤◌, List, ◌++◌}
+use Rattle.std.specs.declared.dyn_box.DynBox.{DynBox}
+use Rattle.std.specs.declared.alloc.Global.{Global}
+use Rattle.wind_base.specs.Limits.{most_steps}
+use Rattle.wind_base.specs.OutBuf.{Output}
+use Rattle.wind_outside.specs.declared.device.Device.{Ghosts}
+use Rattle.wind_outside.specs.declared.device.DeviceKind.{DeviceKind}
+use Rattle.board_player.specs.Seen.{board_by, seen}
+use Rattle.wind_machine.specs.State.{State}
+use Rattle.wind_machine.specs.Extending.{Setup, IsRoom}
+use Rattle.wind_session.specs.Live.{IsLive}
+use Rattle.wind_session.specs.Modules.{Shelf}
+use Rattle.wind_session.specs.Outside.{Outside}
+use Rattle.wind_session.specs.declared.run.RunEnd.{RunEnd}
+use Rattle.live_session.specs.Ending.{IsAfterRun}
+use Rattle.live_session.specs.Record.{IsRecord, IsWithinFile}
+use Rattle.live_session.specs.declared.live.Live.{Live}
+
+-- the two texts of the record with the room that they have, the number of lines of the tick file, the time in its last
+-- line, and the board
+pub record LiveState : Type 0 where
+  pub console : Output
+  pub ticks : Output
+  pub lines : ℕ
+  pub last : ℕ
+  pub board : State
+
+abbrev pub live_by : {I : Type 0} {X : I → Type 0} → (DynBox I Global X → DeviceKind) → (DynBox I Global X → List ℕ) → Live I X → LiveState
+live_by kind_of words_of l = record {
+  console = l.record.console;
+  ticks = l.record.ticks;
+  lines = l.record.lines;
+  last = l.record.last;
+  board = board_by kind_of words_of l.board;
+}
+
+abbrev pub live_seen : {I : Type 0} {X : I → Type 0} → ((i : I) → Ghosts (X i)) → Live I X → LiveState
+live_seen devices l = record {
+  console = l.record.console;
+  ticks = l.record.ticks;
+  lines = l.record.lines;
+  last = l.record.last;
+  board = seen devices l.board;
+}
+
+-- what every call keeps: the tick file is that of some events, and both texts have room up to the longest file; one more
+-- event may be sent to the board; and the board has not made more steps than a run may
+pub record IsSound (l : LiveState) : Type 0 where
+  pub kept : IsRecord l.ticks l.lines l.last
+  pub console : IsWithinFile l.console
+  pub room : IsRoom l.last (l.lines + 1) l.board
+  pub few : l.board.steps ≤ most_steps
+
+-- the board is that of the record so far, and what its steps wrote was put
+abbrev pub IsLiveAt : Shelf → Setup → LiveState → Outside → Outside → Type 0
+IsLiveAt shelf setup l old now = IsLive shelf setup l.console.bytes l.ticks.bytes l.board old now
+
+-- these bytes were sent, or refused; if they were refused, nothing has changed
+abbrev pub Sends : List ℕ → LiveState → LiveState → Type 0
+Sends bytes l m = (m.console.bytes ≡ l.console.bytes ++ bytes) ⊎ (m ≡ l)
+
+-- the board has run, which ended like this
+abbrev pub IsRun : RunEnd → Shelf → Setup → LiveState → Outside → Outside → Type 0
+IsRun end shelf setup l old now = IsAfterRun end shelf setup l.console.bytes l.ticks.bytes l.board old now
+
+-- a session that is live goes on to another state, after a run that ended like this
+pub record GoesOn (end : RunEnd) (shelf : Shelf) (l : LiveState) (now : Outside) (m : LiveState) (later : Outside) : Type 0 where
+  pub goes : (setup : Setup) (old : Outside) → IsLiveAt shelf setup l old now → IsRun end shelf setup m old later

@@ -1,0 +1,170 @@
+-- What a live session leaves.
+use Rattle.std.specs.Prelude.{◌≡◌, ◌≢◌, ◌⊎◌, ◌↔◌, ℕ, ◌-◌, ◌^◌, Bool, false, List, [], ◌∷◌, ◌++◌, Option, Some, None, IfSome, if◌then◌else◌, length}
+use Rattle.std.specs.Option.{option_map}
+use Rattle.wind_outside.specs.Devices.{DeviceState}
+use Rattle.wind_outside.specs.Files.{Files}
+use Rattle.wind_machine.specs.State.{State}
+use Rattle.wind_machine.specs.Extending.{Setup, booted}
+use Rattle.tick_file.specs.Schedule.{timetable_of}
+use Rattle.wind_session.specs.Modules.{Shelf}
+use Rattle.wind_session.specs.Outside.{Outside}
+use Rattle.wind_session.specs.Plan.{Start, plan_of}
+use Rattle.wind_session.specs.Runs.{Ran}
+use Rattle.wind_session.specs.declared.run.RunEnd.{RunEnd}
+use Rattle.wind_session.specs.declared.run.RunEnd.TheVariants as ends
+use Rattle.live_session.specs.Command.{CommandState}
+use Rattle.live_session.specs.Ending.{IsAfterRun, IsGoing, is_quiet}
+use Rattle.live_session.specs.Input.{IsLongest, IsPart, Takes}
+use Rattle.live_session.specs.Places.{place_after, sent_of, asked_by}
+use Rattle.live_session.specs.Saving.{IsFree, IsSaved, IsTaken, WritesOnly, replay_limit}
+use Rattle.live_session.specs.declared.dot_line.DotLine.TheVariants as lines
+use Rattle.live_session.specs.declared.saving.Unsaved.{Unsaved}
+use Rattle.live_session.specs.declared.saving.Unsaved.TheVariants as unsaved
+use Rattle.live_session.specs.declared.serving.Place.{Place}
+use Rattle.live_session.specs.declared.serving.Place.TheVariants.{Start as LineStart}
+use Rattle.live_session.specs.declared.status.Status.{Status}
+use Rattle.live_session.specs.declared.status.Status.TheVariants as status
+
+-- ---- what was typed
+-- the parts of the input that were taken, each with whether what it sends was sent, and not refused
+abbrev pub Parts : Type 0
+Parts = List (List ℕ × Bool)
+
+abbrev pub joined : Parts → List ℕ
+joined [] = []
+joined (x ∷ xs) = x.0 ++ joined xs
+
+-- each is a part of the input, with what comes after it
+abbrev pub AreParts : Parts → Option (List ℕ) → Type 0
+AreParts [] left = Unit {0}
+AreParts (x ∷ xs) left = IsPart x.0 × IsLongest x.0 (option_map (λ rest. joined xs ++ rest) left) × AreParts xs left
+
+-- where the input is after them
+abbrev pub place_of : Place → Parts → Place
+place_of place [] = place
+place_of place (x ∷ xs) = place_of (place_after place x.0) xs
+
+-- what they sent to the console
+abbrev pub sent_by : Place → Parts → List ℕ
+sent_by place [] = []
+sent_by place (x ∷ xs) = (if x.1 then sent_of place x.0 else []) ++ sent_by (place_after place x.0) xs
+
+-- the last of them is the line `.quit`
+pub record EndsByQuit (parts : Parts) : Type 0 where
+  pub before : Parts
+  pub last : List ℕ × Bool
+  pub parts_are : parts ≡ before ++ last ∷ []
+  pub quits : asked_by (place_of LineStart before) last.0 ≡ Some lines.Quit
+
+-- the most parts that a session takes: no computer reaches it
+abbrev pub most_parts : ℕ
+most_parts = 2 ^ 64 - 1
+
+-- no byte of the input is left, or the end was asked for, or there were as many parts as a session takes
+abbrev pub IsWhole : Option (List ℕ) → Parts → Type 0
+IsWhole left parts = IfSome left (λ bytes. bytes ≡ []) ⊎ (EndsByQuit parts ⊎ (length parts ≡ most_parts))
+
+-- only after the whole input does a session end by itself
+abbrev pub IsStop : Status → Option (List ℕ) → Parts → Type 0
+IsStop status.Ended left parts = IsWhole left parts
+IsStop status.Unrecorded left parts = IsWhole left parts
+IsStop s left parts = Unit {0}
+
+-- these bytes were sent, and they are those of the parts that were taken from the input
+pub record IsTyped (s : Status) (old new : Option (List ℕ)) (console : List ℕ) : Type 0 where
+  pub parts : Parts
+  pub taken : Takes old new (joined parts)
+  pub parts_are : AreParts parts new
+  pub sent : console ≡ sent_by LineStart parts
+  pub stop : IsStop s new parts
+
+-- ---- how it ended
+-- the status, given how the board's last run ended: reading may also fail, and memory may also run out, outside the board
+abbrev pub IsStatusOf : RunEnd → Status → Type 0
+IsStatusOf end status.Ended = IsGoing end
+IsStatusOf end status.Unrecorded = IsGoing end
+IsStatusOf end status.ReadFault = (end ≡ ends.ReadFault) ⊎ IsGoing end
+IsStatusOf end status.WriteFault = end ≡ ends.WriteFault
+IsStatusOf end status.NoMemory = (end ≡ ends.NoMemory) ⊎ IsGoing end
+IsStatusOf end status.Usage = ⊥
+
+-- the status if nothing but the board's last run decides it
+abbrev pub status_of : RunEnd → Status
+status_of ends.Quiet = status.Ended
+status_of ends.Limit = status.Ended
+status_of ends.ReadFault = status.ReadFault
+status_of ends.WriteFault = status.WriteFault
+status_of ends.NoMemory = status.NoMemory
+
+-- the status if the record of a session that ended was not written
+abbrev pub status_unless : Unsaved → Status → Status
+status_unless unsaved.Failed status.Ended = status.Unrecorded
+status_unless unsaved.NoMemory status.Ended = status.NoMemory
+status_unless failure s = s
+
+-- what the board has besides its inputs
+abbrev pub setup_of : CommandState → List (Option DeviceState) → Setup
+setup_of c devices = record { slots = devices; profile = c.profile; board = c.board }
+
+-- the folder of its modules
+abbrev pub shelf_of : Option Files → CommandState → Shelf
+shelf_of modules c = record { files = modules; name = c.modules }
+
+-- the record was written, with this limit: a run of it by windplay, up to this limit, leaves what the session left. One
+-- step more is allowed if the session's last run ended because no step was left
+pub record IsRecorded (end : RunEnd) (c : CommandState) (shelf : Shelf) (setup : Setup) (console ticks : List ℕ) (board : State) (old now : Outside) (new : Option Files) : Type 0 where
+  pub replay_end : RunEnd
+  pub going : IsGoing replay_end
+  pub replay : Ran replay_end shelf (booted setup console (timetable_of ticks)) (replay_limit board.steps (is_quiet end)) board old now
+  pub before : Option Files
+  pub saved : IsSaved c console ticks (replay_limit board.steps (is_quiet end)) before new
+
+-- ---- a session that was played
+-- a record that is there may be replaced, or there is none, or none is asked for
+abbrev pub IsPermitted : CommandState → Option Files → Type 0
+IsPermitted c files = c.record_folder ≢ [] → c.force ≡ false → IsFree c.record_folder files
+
+-- a session was played with these arguments: its console file and its tick file, for which windplay starts a run; the
+-- board of the first steps of that run; and what was shown is the text of these steps
+pub record Played (s : Status) (c : CommandState) (modules : Option Files) (devices : List (Option DeviceState)) (old now : Outside) (left_old left_new : Option (List ℕ)) (files new : Option Files) (rose : Type 0) : Type 0 where
+  pub console : List ℕ
+  pub ticks : List ℕ
+  pub board : State
+  pub end : RunEnd
+  pub planned : plan_of (Some console) (Some ticks) ≡ Start console (timetable_of ticks)
+  pub run : IsAfterRun end (shelf_of modules c) (setup_of c devices) console ticks board old now
+  pub status_is : IsStatusOf end s
+  pub typed : IsTyped s left_old left_new console
+  pub permitted : IsPermitted c files
+  pub writes : WritesOnly c.record_folder files new
+  pub recorded : s ≡ status.Ended → c.record_folder ≢ [] → IsRecorded end c (shelf_of modules c) (setup_of c devices) console ticks board old now new
+  pub unrecorded : s ≡ status.Unrecorded → (c.record_folder ≢ []) × rose
+
+-- ---- a session that was not played
+-- its status: memory may run out at any time; otherwise there is a record that is not to be replaced, or asking for it
+-- failed
+abbrev pub IsRefusal : Status → CommandState → Option Files → Type 0 → Type 0
+IsRefusal status.NoMemory c files rose = Unit {0}
+IsRefusal status.Unrecorded c files rose = (c.record_folder ≢ []) × (c.force ≡ false) × (IsTaken c.record_folder files ⊎ rose)
+IsRefusal s c files rose = ⊥
+
+-- nothing was read, fetched, shown or written
+pub record IsUntouched (old now : Outside) (left_old left_new : Option (List ℕ)) (files new : Option Files) : Type 0 where
+  pub outside : now ≡ old
+  pub input : left_new ≡ left_old
+  pub record_files : new ≡ files
+
+-- what these arguments leave; `rose` says that the count of faults of the record's folder rose
+abbrev pub Leaves : Status → Option CommandState → Option Files → List (Option DeviceState) → Outside → Outside → Option (List ℕ) → Option (List ℕ) → Option Files → Option Files → Type 0 → Type 0
+Leaves s None modules devices old now left_old left_new files new rose = ((s ≡ status.Usage) ⊎ (s ≡ status.NoMemory)) × IsUntouched old now left_old left_new files new
+Leaves s (Some c) modules devices old now left_old left_new files new rose =
+    (IsRefusal s c files rose × IsUntouched old now left_old left_new files new) ⊎ Played s c modules devices old now left_old left_new files new rose
+
+-- ---- the program
+-- a session of these arguments: reading failed only if the count of faults of the input or of the folder rose, and
+-- writing only if that of the output did
+pub record IsSession (s : Status) (command : Option CommandState) (modules : Option Files) (devices : List (Option DeviceState)) (old now : Outside) (left_old left_new : Option (List ℕ)) (files new : Option Files) (read_rose write_rose record_rose : Type 0) : Type 0 where
+  pub leaves : Leaves s command modules devices old now left_old left_new files new record_rose
+  pub usage : s ≢ status.NoMemory → ((s ≡ status.Usage) ↔ (command ≡ None))
+  pub read_fault : s ≡ status.ReadFault → read_rose
+  pub write_fault : s ≡ status.WriteFault → write_rose

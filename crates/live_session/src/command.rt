@@ -1,0 +1,115 @@
+//! The arguments of the command line.
+
+ghost use Rattle.std.specs.Prelude.{◌≡◌, ◌≢◌, ◌≤◌, false, IfOk, IfErr, Some, None, map, codes};
+ghost use Rattle.std.specs.Str.{bytes_eq};
+ghost use Rattle.clap.specs.Words.{app_of, found_of, rows_of, rule_of};
+ghost use Rattle.wind_base.specs.Limits.{most_steps};
+ghost use Rattle.live_session.specs.Command.{app as app_lem, command_of as command_of_lem, flag_rule};
+ghost use Rattle.live_session.specs.Words.{command_state};
+ghost use Rattle.wind_session.specs.Command.{value_of as value_of_lem};
+ghost use Rattle.wind_session.specs.declared.command.CommandErr.TheVariants as errors;
+
+use clap::error::ErrorKind;
+use clap::{Arg, ArgAction, ArgMatches};
+use std::alloc::{AllocError, Global};
+use wind_base::limits::STEPS;
+use wind_base::{BoardKind, Profile};
+use wind_session::{
+    BAD_BOARD, BAD_PROFILE, CommandErr, bad_value, board, number, option, profile, usage, value_of,
+};
+
+/// What the arguments ask for.
+#[derive(Clone, Copy)]
+pub struct Command<'a> {
+    /// The name of the folder of modules.
+    pub modules: &'a str,
+    /// The name of the folder for the record; empty if none is asked for.
+    pub record: &'a str,
+    /// Whether a record that is there may be replaced.
+    pub force: bool,
+    /// The most steps between two lines.
+    pub quiet_after: u64,
+    /// The rule of inheritance.
+    pub profile: Profile,
+    /// The kind of board.
+    pub board: BoardKind,
+}
+
+// The message for an invalid number of steps.
+const BAD_STEPS: &str = "'--quiet-after <N>' takes 1 to 13 digits, and at most 1000000000000";
+
+// An option without a value.
+fn flag<'a>(alloc: Global, name: &'a str, help: &'a str) -> Arg<'a>
+    ensures rule { rule_of result ≡ flag_rule name.now }
+    ensures local { result.global ≡ false }
+{
+    Arg::new(alloc, name)
+        .long(name)
+        .action(ArgAction::SetTrue)
+        .help(help)
+}
+
+// The command line, as clap reads it.
+#[tactic(auto, unfolding(crate::specs::Command::app))]
+fn app<'a>(alloc: Global) -> Result<clap::Command<'a>, AllocError>
+    ensures { IfOk result (λ c. app_of c ≡ app_lem) }
+{
+    clap::Command::new(alloc, "windlive")
+        .about("Plays a session of a wind kernel's shell while it is typed")
+        .arg(option(alloc, "modules", "DIR", ".", "The folder of modules"))?
+        .arg(option(alloc, "record", "DIR", "", "The folder for the record"))?
+        .arg(flag(alloc, "force", "Replaces a record that is there"))?
+        .arg(option(
+            alloc,
+            "quiet-after",
+            "N",
+            "1000000",
+            "The most steps between two lines, up to 1000000000000",
+        ))?
+        .arg(option(
+            alloc,
+            "profile",
+            "N",
+            "1",
+            "The rule by which owners of mutexes inherit priorities, 1 or 2",
+        ))?
+        .arg(option(alloc, "board", "N", "1", "The kind of board, 1 or 2"))
+}
+
+// Whether an option without a value was given.
+fn is_given(matches: &ArgMatches, name: &str) -> bool
+    ensures { result ≡ bytes_eq (value_of_lem name.now (rows_of (found_of matches.now))) (codes "true") }
+{
+    value_of(matches, name) == "true"
+}
+
+/// The command of these words; the first word is the program's name.
+pub fn command_of<'a>(alloc: Global, words: &'a [&'a str]) -> Result<Command<'a>, CommandErr>
+    ensures value { IfOk result (λ c. command_of_lem (map (λ w. w.now) words.now) ≡ Some (command_state c)) }
+    ensures usage { IfErr result (λ e. e ≢ errors.NoMemory → command_of_lem (map (λ w. w.now) words.now) ≡ None) }
+    ensures within { IfOk result (λ c. c.quiet_after ≤ most_steps) }
+{
+    let mut app = app(alloc)?;
+    let matches = match app.try_get_matches_from_mut(words) {
+        Ok(matches) => matches,
+        Err(error) if error.kind() == ErrorKind::OutOfMemory => return Err(CommandErr::NoMemory),
+        Err(error) => return Err(usage(alloc, &error)),
+    };
+    let Some(quiet_after) = number(value_of(&matches, "quiet-after"), STEPS) else {
+        return Err(bad_value(alloc, &mut app, BAD_STEPS));
+    };
+    let Some(profile) = profile(value_of(&matches, "profile")) else {
+        return Err(bad_value(alloc, &mut app, BAD_PROFILE));
+    };
+    let Some(board) = board(value_of(&matches, "board")) else {
+        return Err(bad_value(alloc, &mut app, BAD_BOARD));
+    };
+    Ok(Command {
+        modules: value_of(&matches, "modules"),
+        record: value_of(&matches, "record"),
+        force: is_given(&matches, "force"),
+        quiet_after,
+        profile,
+        board,
+    })
+}

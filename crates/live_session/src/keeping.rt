@@ -1,0 +1,107 @@
+//! Whether the record may be written, and the writing of it.
+
+ghost use Rattle.std.specs.Prelude.{◌≡◌, ◌≢◌, ◌≤◌, IsTrue, false, Err, OnOk};
+ghost use Rattle.wind_base.specs.Limits.{most_steps};
+ghost use Rattle.wind_outside.specs.Counts.{Rose};
+ghost use Rattle.live_session.specs.Ending.{is_quiet};
+ghost use Rattle.live_session.specs.Saving.{IsSaved, KeepsOthers, WritesOnly, replay_limit as replay_limit_lem};
+ghost use Rattle.live_session.specs.Seen.{live_seen};
+ghost use Rattle.live_session.specs.Session.{IsPermitted, IsRefusal};
+ghost use Rattle.live_session.specs.Words.{command_state, IsTarget};
+ghost use Rattle.live_session.specs.declared.saving.Unsaved.TheVariants as unsaved;
+ghost use Rattle.live_session.specs.declared.status.Status.TheVariants as status;
+
+use crate::live::Live;
+use crate::messages::{tell, tell_no_memory, tell_of};
+use crate::record_folder::RecordFolder;
+use crate::saving::{Claim, Target, Unsaved, find_claim, replay_limit, save};
+use std::alloc::Global;
+use wind_outside::{Device, Sink};
+use wind_session::RunEnd;
+
+/// Whether the record may be written; says why not.
+pub(crate) fn may_record<E: Sink, D: RecordFolder>(
+    err: &mut E,
+    records: &mut D,
+    target: Target,
+) -> bool
+    requires { IsTarget target }
+    ensures permitted { IsTrue result → IsPermitted (command_state target.entry.command.now) (D.files records.old) }
+    ensures refused { result ≡ false → IsRefusal status.Unrecorded (command_state target.entry.command.now)
+        (D.files records.old) (Rose (D.faults records.old) (D.faults records.new)) }
+    ensures files { D.files records.new ≡ D.files records.old }
+    ensures never_falls { D.faults records.old ≤ D.faults records.new }
+{
+    if target.command.record.is_empty() || target.command.force {
+        return true;
+    }
+    let name = target.command.record.as_bytes();
+    match find_claim(records, target) {
+        Claim::Free => true,
+        Claim::Taken => {
+            tell_of(err, name, b": a record is there; --force replaces it\n");
+            false
+        }
+        Claim::Failed => {
+            tell_of(err, name, b": can't be read\n");
+            false
+        }
+    }
+}
+
+/// Writes the record of a session whose board's last run ended like this, or says why not.
+pub(crate) fn write_record<E: Sink, D: RecordFolder>(
+    alloc: Global,
+    target: Target,
+    live: &Live,
+    err: &mut E,
+    records: &mut D,
+    end: RunEnd,
+) -> Result<(), Unsaved>
+    requires target { IsTarget target }
+    requires few { (live_seen ⟦<dyn Device as Device>⟧ live.now).board.steps ≤ most_steps }
+    ensures ok { OnOk result (IsSaved (command_state target.entry.command.now)
+        (live_seen ⟦<dyn Device as Device>⟧ live.now).console.bytes
+        (live_seen ⟦<dyn Device as Device>⟧ live.now).ticks.bytes
+        (replay_limit_lem (live_seen ⟦<dyn Device as Device>⟧ live.now).board.steps (is_quiet end))
+        (D.files records.old) (D.files records.new)) }
+    ensures others { KeepsOthers target.entry.command.now.record.now (D.files records.old) (D.files records.new) }
+    ensures failed { result ≡ Err unsaved.Failed → Rose (D.faults records.old) (D.faults records.new) }
+    ensures never_falls { D.faults records.old ≤ D.faults records.new }
+{
+    let limit = replay_limit(live.board.steps(), end == RunEnd::Quiet);
+    let saved = save(alloc, records, target, &live.record, limit);
+    match saved {
+        Ok(()) => {}
+        Err(Unsaved::Failed) => {
+            let name = target.command.record.as_bytes();
+            tell_of(err, name, b": the record was not written\n");
+        }
+        Err(Unsaved::NoMemory) => tell_no_memory(err),
+    }
+    saved
+}
+
+/// Writes the record because a line asks for it, and says so.
+pub(crate) fn save_now<E: Sink, D: RecordFolder>(
+    alloc: Global,
+    target: Target,
+    live: &Live,
+    err: &mut E,
+    records: &mut D,
+    end: RunEnd,
+)
+    requires target { IsTarget target }
+    requires few { (live_seen ⟦<dyn Device as Device>⟧ live.now).board.steps ≤ most_steps }
+    ensures writes { WritesOnly target.entry.command.now.record.now (D.files records.old) (D.files records.new) }
+    ensures never_falls { D.faults records.old ≤ D.faults records.new }
+{
+    if target.command.record.is_empty() {
+        tell(err, b"nothing is saved without --record");
+        return;
+    }
+    if write_record(alloc, target, live, err, records, end).is_ok() {
+        let name = target.command.record.as_bytes();
+        tell_of(err, name, b": the record was written\n");
+    }
+}

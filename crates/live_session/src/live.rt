@@ -1,0 +1,109 @@
+//! The board of a live session, and the record of what was sent to it.
+
+ghost use Rattle.std.specs.Prelude.{◌≡◌, ◌≢◌, ℕ, ◌+◌, ◌<◌, ◌≤◌, ◌++◌, Err, length, max, OnOk, OnErr};
+ghost use Rattle.wind_base.specs.Limits.{greatest_word};
+ghost use Rattle.wind_outside.specs.Counts.{Rose};
+ghost use Rattle.tick_file.specs.Writing.{event_line, IsInRange};
+ghost use Rattle.wind_machine.specs.Machine.{IsOver};
+ghost use Rattle.wind_machine.specs.Extending.{Setup, bytes_asked};
+ghost use Rattle.wind_session.specs.Modules.{Shelf};
+ghost use Rattle.wind_session.specs.Outside.{Outside, outside};
+ghost use Rattle.wind_session.specs.declared.run.RunEnd.TheVariants as ends;
+ghost use Rattle.live_session.specs.Seen.{live_seen, IsSound, IsLiveAt, GoesOn};
+ghost use Rattle.live_session.specs.declared.record.Refusal.TheVariants as refusals;
+
+use crate::record::{Record, Refusal, add_event, line_of, next_time};
+use board_player::Board;
+use std::alloc::Global;
+use tick_file::{Event, writing_law};
+use wind_base::NoMemory;
+use wind_base::limits::STEPS;
+use wind_outside::{Device, Folder, Sink};
+use wind_session::{RunEnd, growing_law, resume_board};
+
+/// The board of a live session, and the record of what was sent to it.
+#[derive(Drop)]
+pub struct Live {
+    /// The board.
+    pub board: Board,
+    /// The record.
+    pub record: Record,
+}
+
+/// Sends an event with its bytes to the board, and records both. The event comes later than board
+/// time. An event that can't be recorded, or not sent, is refused; then nothing changes.
+pub(crate) fn send(
+    alloc: Global,
+    live: &mut Live,
+    event: Event,
+    bytes: &[u8],
+) -> Result<(), Refusal>
+    requires sound { IsSound (live_seen ⟦<dyn Device as Device>⟧ live.old) }
+    requires asked { bytes_asked event ≡ length bytes.now }
+    requires range { IsInRange event }
+    ensures sound { IsSound (live_seen ⟦<dyn Device as Device>⟧ live.new) }
+    ensures live { (shelf : Shelf) (setup : Setup) (old now : Outside)
+        → IsLiveAt shelf setup (live_seen ⟦<dyn Device as Device>⟧ live.old) old now
+        → IsLiveAt shelf setup (live_seen ⟦<dyn Device as Device>⟧ live.new) old now }
+    ensures ok { OnOk result ((live_seen ⟦<dyn Device as Device>⟧ live.new).console.bytes
+        ≡ (live_seen ⟦<dyn Device as Device>⟧ live.old).console.bytes ++ bytes.now) }
+    ensures err { OnErr result (live_seen ⟦<dyn Device as Device>⟧ live.new
+        ≡ live_seen ⟦<dyn Device as Device>⟧ live.old) }
+    ensures time { result ≡ Err refusals.Time
+        → greatest_word < max ((live_seen ⟦<dyn Device as Device>⟧ live.old).board.time + 1)
+        (live_seen ⟦<dyn Device as Device>⟧ live.old).last }
+    ensures console { result ≡ Err refusals.Console
+        → (live_seen ⟦<dyn Device as Device>⟧ live.old).console.room < length bytes.now }
+    ensures ticks { result ≡ Err refusals.Ticks
+        → (live_seen ⟦<dyn Device as Device>⟧ live.old).ticks.room < length (event_line
+        (max ((live_seen ⟦<dyn Device as Device>⟧ live.old).board.time + 1)
+        (live_seen ⟦<dyn Device as Device>⟧ live.old).last) event) + 1 }
+{
+    growing_law();
+    writing_law();
+    let Some(time) = next_time(live.board.time(), live.record.last) else {
+        return Err(Refusal::Time);
+    };
+    if live.record.console.room() < bytes.len() {
+        return Err(Refusal::Console);
+    }
+    let line = line_of(alloc, time, event)?;
+    if live.record.ticks.room() < line.len() {
+        return Err(Refusal::Ticks);
+    }
+    match live.board.extend(live.record.lines + 1, time, event, bytes) {
+        Ok(()) => {}
+        Err(NoMemory) => return Err(Refusal::NoMemory),
+    }
+    add_event(&mut live.record, time, &line, bytes);
+    Ok(())
+}
+
+/// Makes at most `most` further steps, and puts what each of them writes.
+pub(crate) fn go<F: Folder, O: Sink>(
+    alloc: Global,
+    live: &mut Live,
+    folder: &mut F,
+    modules: &str,
+    out: &mut O,
+    most: u64,
+) -> RunEnd
+    requires { IsSound (live_seen ⟦<dyn Device as Device>⟧ live.old) }
+    ensures sound { IsSound (live_seen ⟦<dyn Device as Device>⟧ live.new) }
+    ensures run { GoesOn result (record { files = F.files folder.old; name = modules.now })
+        (live_seen ⟦<dyn Device as Device>⟧ live.old)
+        (outside (F.requests folder.old) (O.bytes out.old) (O.pieces out.old))
+        (live_seen ⟦<dyn Device as Device>⟧ live.new)
+        (outside (F.requests folder.new) (O.bytes out.new) (O.pieces out.new)) }
+    ensures quiet { result ≡ ends.Quiet → IsOver (live_seen ⟦<dyn Device as Device>⟧ live.new).board }
+    ensures console { (live_seen ⟦<dyn Device as Device>⟧ live.new).console
+        ≡ (live_seen ⟦<dyn Device as Device>⟧ live.old).console }
+    ensures read_fault { result ≡ ends.ReadFault → Rose (F.faults folder.old) (F.faults folder.new) }
+    ensures fault { result ≡ ends.WriteFault → Rose (O.faults out.old) (O.faults out.new) }
+    ensures files { F.files folder.new ≡ F.files folder.old }
+    ensures folder_faults { F.faults folder.old ≤ F.faults folder.new }
+    ensures faults { O.faults out.old ≤ O.faults out.new }
+{
+    let left = STEPS - live.board.steps();
+    resume_board(alloc, &mut live.board, folder, modules, out, most.min(left))
+}

@@ -1,0 +1,194 @@
+//! An input and a folder in memory.
+
+ghost use Rattle.std.specs.Prelude.{◌≡◌, ◌≢◌, ◌≤◌, ◌<◌, ◌-◌, ℕ, List, IsTrue, OnOk, OnErr, length, take, slice_index};
+ghost use Rattle.std.specs.List.{All};
+ghost use Rattle.wind_base.specs.Limits.{longest_chunk};
+ghost use Rattle.wind_outside.specs.Counts.{Rose};
+ghost use Rattle.wind_outside.specs.Files.{with_file};
+ghost use Rattle.wind_outside.specs.declared.sink.Put.TheVariants as puts;
+ghost use Rattle.live_session.specs.Input.{Gives};
+ghost use Rattle.live_session.specs.Folder.{IsPresence, Replaced};
+ghost use Rattle.live_session.specs.declared.input.InputPart.TheVariants as parts;
+ghost use Rattle.live_session.specs.declared.record_folder.Presence.TheVariants as presence;
+
+use crate::input::{Input, InputPart};
+use crate::record_folder::{Presence, RecordFolder};
+use std::alloc::{AllocError, Global};
+use std::collections::BTreeMap;
+use wind_base::limits::CHUNK_BYTES;
+use wind_outside::Put;
+
+/// The numbers, from 1 on, of the calls that fail; the number of calls made; and the number of
+/// failed ones.
+#[derive(Drop)]
+pub struct Calls {
+    failing: Vec<u64>,
+    made: u64,
+    faults: u64,
+}
+
+impl Calls {
+    // No call yet.
+    fn new(failing: Vec<u64>) -> Calls
+        ensures { result.faults ≡ 0 }
+    {
+        Calls {
+            failing,
+            made: 0,
+            faults: 0,
+        }
+    }
+
+    // Counts a call, and returns whether it fails.
+    fn count(&mut self) -> bool
+        ensures rose { IsTrue result → Rose self.old.faults self.new.faults }
+        ensures never_falls { self.old.faults ≤ self.new.faults }
+    {
+        self.made = self.made.saturating_add(1);
+        let fails = self.failing.contains(&self.made);
+        if fails {
+            self.note_fault();
+        }
+        fails
+    }
+
+    // Counts a fault.
+    fn note_fault(&mut self)
+        ensures rose { Rose self.old.faults self.new.faults }
+        ensures never_falls { self.old.faults ≤ self.new.faults }
+    {
+        self.faults = self.faults.saturating_add(1);
+    }
+}
+
+/// An input in memory, which tells its bytes. The calls with the listed numbers fail.
+#[derive(Drop)]
+pub struct MemInput {
+    left: Vec<u8>,
+    calls: Calls,
+}
+
+impl MemInput {
+    /// An input of these bytes. `failing` lists the numbers, from 1 on, of the calls that fail.
+    pub fn new(bytes: Vec<u8>, failing: Vec<u64>) -> MemInput
+        ensures { result.left.items ≡ bytes.items }
+    {
+        MemInput {
+            left: bytes,
+            calls: Calls::new(failing),
+        }
+    }
+}
+
+// The length of the next part of these bytes.
+fn part_len(bytes: &[u8]) -> usize
+    ensures inside { result ≤ length bytes.now }
+    ensures few { result ≤ longest_chunk }
+    ensures some { (result ≡ 0) → length bytes.now ≡ 0 }
+    ensures one_line { All (λ byte. byte ≢ 10) (take (result - 1) bytes.now) }
+    ensures full { result < longest_chunk → slice_index bytes.now (result - 1) ≢ 10 → result ≡ length bytes.now }
+{
+    match bytes
+        .iter()
+        .take(CHUNK_BYTES)
+        .position(|byte| *byte == b'\n')
+    {
+        Some(end) => end + 1,
+        None => bytes.len().min(CHUNK_BYTES),
+    }
+}
+
+impl Input for MemInput {
+    ghost use Rattle.std.specs.Prelude.{Some};
+
+    ghost left = { λ i. Some i.left.items };
+
+    ghost faults = { λ i. i.calls.faults };
+
+    fn next_part(&mut self, alloc: Global) -> InputPart {
+        if self.calls.count() {
+            return InputPart::Failed;
+        }
+        let len = part_len(&self.left);
+        if len == 0 {
+            return InputPart::End;
+        }
+        let Ok(part) = Vec::from_slice(alloc, &self.left[..len]) else {
+            return InputPart::NoMemory;
+        };
+        let Ok(rest) = Vec::from_slice(alloc, &self.left[len..]) else {
+            return InputPart::NoMemory;
+        };
+        self.left = rest;
+        InputPart::Bytes(part)
+    }
+}
+
+/// A folder in memory, which tells its files. The calls with the listed numbers fail.
+#[derive(Drop)]
+pub struct MemRecordFolder {
+    files: BTreeMap<String, Vec<u8>>,
+    calls: Calls,
+}
+
+impl MemRecordFolder {
+    ghost use Rattle.live_session.specs.MemFolder.{files_of};
+
+    /// A folder without files. `failing` lists the numbers, from 1 on, of the calls that fail.
+    pub fn new(alloc: Global, failing: Vec<u64>) -> MemRecordFolder {
+        MemRecordFolder {
+            files: BTreeMap::new(alloc),
+            calls: Calls::new(failing),
+        }
+    }
+
+    // Puts a file among the others, instead of one with that name.
+    fn put_file(&mut self, alloc: Global, name: &str, bytes: &[u8]) -> Result<(), AllocError>
+        ensures ok { OnOk result ((other : List ℕ) → files_of self.new other
+            ≡ with_file (files_of self.old) name.now bytes.now other) }
+        ensures err { OnErr result (files_of self.new ≡ files_of self.old) }
+        ensures calls { self.new.calls ≡ self.old.calls }
+    {
+        let name = name.to_string(alloc)?;
+        let bytes = Vec::from_slice(alloc, bytes)?;
+        self.files.insert(name, bytes)?;
+        Ok(())
+    }
+
+    /// The bytes of the file with this name.
+    pub fn file(&self, name: &str) -> Option<&[u8]> {
+        self.files.get(name).map(|bytes| bytes.as_slice())
+    }
+}
+
+impl RecordFolder for MemRecordFolder {
+    ghost use Rattle.live_session.specs.MemFolder.{files_of};
+    ghost use Rattle.std.specs.Prelude.{Some};
+
+    ghost files = { λ f. Some (files_of f) };
+
+    ghost faults = { λ f. f.calls.faults };
+
+    fn has(&mut self, name: &str) -> Presence {
+        if self.calls.count() {
+            return Presence::Failed;
+        }
+        match self.files.get(name) {
+            Some(_) => Presence::There,
+            None => Presence::Absent,
+        }
+    }
+
+    fn replace(&mut self, alloc: Global, name: &str, bytes: &[u8]) -> Put {
+        if self.calls.count() {
+            return Put::Failed;
+        }
+        match self.put_file(alloc, name, bytes) {
+            Ok(()) => Put::Done,
+            Err(AllocError) => {
+                self.calls.note_fault();
+                Put::Failed
+            }
+        }
+    }
+}

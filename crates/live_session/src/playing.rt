@@ -1,0 +1,211 @@
+//! Plays a live session.
+
+ghost use Rattle.std.specs.Prelude.{◌≡◌, ◌≢◌, ◌⊎◌, ◌≤◌, List, [], Option, Some, IfOk, IfErr, OnOk, length, map};
+ghost use Rattle.wind_outside.specs.Counts.{Rose};
+ghost use Rattle.wind_outside.specs.Devices.{DeviceState, slots_of};
+ghost use Rattle.wind_session.specs.Modules.{Shelf};
+ghost use Rattle.wind_session.specs.Outside.{Outside, outside};
+ghost use Rattle.live_session.specs.Command.{command_of as command_of_lem};
+ghost use Rattle.live_session.specs.Seen.{live_seen, IsLiveAt, IsSound};
+ghost use Rattle.live_session.specs.Session.{IsPermitted, IsSession, Leaves, Played, setup_of, shelf_of, status_unless};
+ghost use Rattle.live_session.specs.Words.{command_state, IsTarget};
+ghost use Rattle.live_session.specs.declared.status.Status.TheVariants as status;
+
+use crate::command::{Command, command_of};
+use crate::conversation::converse;
+use crate::input::Input;
+use crate::keeping::{may_record, write_record};
+use crate::live::Live;
+use crate::messages::{tell, tell_no_memory};
+use crate::record::Record;
+use crate::record_folder::RecordFolder;
+use crate::saving::{Target, Unsaved, paths_of};
+use crate::status::Status;
+use board_player::Board;
+use std::alloc::Global;
+use tick_file::{read_ticks, writing_law};
+use wind_base::NoMemory;
+use wind_outside::{Device, Folder, Sink, Slots};
+use wind_session::{CommandErr, tell_usage};
+
+// Says why a session ended.
+fn tell_status<E: Sink>(err: &mut E, status: Status) {
+    match status {
+        Status::Ended | Status::Usage | Status::Unrecorded => {}
+        Status::ReadFault => tell(err, b"reading failed"),
+        Status::WriteFault => tell(err, b"writing failed"),
+        Status::NoMemory => tell_no_memory(err),
+    }
+}
+
+// The status of a session after its record was written, or not.
+fn status_after(status: Status, written: Result<(), Unsaved>) -> Status
+    ensures ok { OnOk written (result ≡ status) }
+    ensures err { IfErr written (λ failure. result ≡ status_unless failure status) }
+{
+    match (status, written) {
+        (Status::Ended, Err(Unsaved::Failed)) => Status::Unrecorded,
+        (Status::Ended, Err(Unsaved::NoMemory)) => Status::NoMemory,
+        _ => status,
+    }
+}
+
+// Plays a session on a board, and writes its record at its end.
+fn played<I: Input, F: Folder, O: Sink, E: Sink, D: RecordFolder>(
+    alloc: Global,
+    target: Target,
+    live: &mut Live,
+    input: &mut I,
+    folder: &mut F,
+    out: &mut O,
+    err: &mut E,
+    records: &mut D,
+) -> Status
+    requires target { IsTarget target }
+    requires empty { (live_seen ⟦<dyn Device as Device>⟧ live.old).console.bytes ≡ [] }
+    requires sound { IsSound (live_seen ⟦<dyn Device as Device>⟧ live.old) }
+    ensures played { (devices : List (Option DeviceState))
+        → IsPermitted (command_state target.entry.command.now) (D.files records.old)
+        → IsLiveAt (shelf_of (F.files folder.old) (command_state target.entry.command.now))
+        (setup_of (command_state target.entry.command.now) devices) (live_seen ⟦<dyn Device as Device>⟧ live.old)
+        (outside (F.requests folder.old) (O.bytes out.old) (O.pieces out.old))
+        (outside (F.requests folder.old) (O.bytes out.old) (O.pieces out.old))
+        → Played result (command_state target.entry.command.now) (F.files folder.old) devices
+        (outside (F.requests folder.old) (O.bytes out.old) (O.pieces out.old))
+        (outside (F.requests folder.new) (O.bytes out.new) (O.pieces out.new))
+        (I.left input.old) (I.left input.new) (D.files records.old) (D.files records.new)
+        (Rose (D.faults records.old) (D.faults records.new)) }
+    ensures read_fault { result ≡ status.ReadFault
+        → Rose (I.faults input.old) (I.faults input.new) ⊎ Rose (F.faults folder.old) (F.faults folder.new) }
+    ensures fault { result ≡ status.WriteFault → Rose (O.faults out.old) (O.faults out.new) }
+    ensures files { F.files folder.new ≡ F.files folder.old }
+    ensures input_faults { I.faults input.old ≤ I.faults input.new }
+    ensures folder_faults { F.faults folder.old ≤ F.faults folder.new }
+    ensures faults { O.faults out.old ≤ O.faults out.new }
+    ensures record_faults { D.faults records.old ≤ D.faults records.new }
+{
+    writing_law();
+    let closing = converse(alloc, target, live, input, folder, out, err, records);
+    tell_status(err, closing.status);
+    if target.command.record.is_empty() {
+        return closing.status;
+    }
+    let written = write_record(alloc, target, live, err, records, closing.end);
+    status_after(closing.status, written)
+}
+
+// A board with an empty record.
+fn boot(alloc: Global, command: &Command, devices: Slots) -> Result<Live, NoMemory>
+    requires { length devices.items ≤ 16 }
+    ensures live { IfOk result (λ live. (shelf : Shelf) (old : Outside) → IsLiveAt shelf
+        (setup_of (command_state command.now) (slots_of kind_of words_of devices.items))
+        (live_seen ⟦<dyn Device as Device>⟧ live) old old) }
+    ensures empty { IfOk result (λ live. (live_seen ⟦<dyn Device as Device>⟧ live).console.bytes ≡ []) }
+    ensures sound { IfOk result (λ live. IsSound (live_seen ⟦<dyn Device as Device>⟧ live)) }
+{
+    writing_law();
+    let record = Record::new(alloc)?;
+    let Ok(schedule) = read_ticks(alloc, b"") else {
+        return Err(NoMemory);
+    };
+    let console = Vec::new(alloc);
+    match Board::boot(
+        alloc,
+        devices,
+        console,
+        schedule,
+        command.profile,
+        command.board,
+    ) {
+        Ok(board) => Ok(Live { board, record }),
+        Err(_) => Err(NoMemory),
+    }
+}
+
+// Plays the session of a command.
+fn session<I: Input, F: Folder, O: Sink, E: Sink, D: RecordFolder>(
+    alloc: Global,
+    target: Target,
+    input: &mut I,
+    folder: &mut F,
+    out: &mut O,
+    err: &mut E,
+    records: &mut D,
+    devices: Slots,
+) -> Status
+    requires devices { length devices.items ≤ 16 }
+    requires target { IsTarget target }
+    ensures leaves { Leaves result (Some (command_state target.entry.command.now)) (F.files folder.old)
+        (slots_of kind_of words_of devices.items)
+        (outside (F.requests folder.old) (O.bytes out.old) (O.pieces out.old))
+        (outside (F.requests folder.new) (O.bytes out.new) (O.pieces out.new))
+        (I.left input.old) (I.left input.new) (D.files records.old) (D.files records.new)
+        (Rose (D.faults records.old) (D.faults records.new)) }
+    ensures read_fault { result ≡ status.ReadFault
+        → Rose (I.faults input.old) (I.faults input.new) ⊎ Rose (F.faults folder.old) (F.faults folder.new) }
+    ensures fault { result ≡ status.WriteFault → Rose (O.faults out.old) (O.faults out.new) }
+    ensures known { result ≢ status.Usage }
+    ensures files { F.files folder.new ≡ F.files folder.old }
+    ensures input_faults { I.faults input.old ≤ I.faults input.new }
+    ensures folder_faults { F.faults folder.old ≤ F.faults folder.new }
+    ensures faults { O.faults out.old ≤ O.faults out.new }
+    ensures record_faults { D.faults records.old ≤ D.faults records.new }
+{
+    if !may_record(err, records, target) {
+        return Status::Unrecorded;
+    }
+    let Ok(mut live) = boot(alloc, target.command, devices) else {
+        tell_no_memory(err);
+        return Status::NoMemory;
+    };
+    played(alloc, target, &mut live, input, folder, out, err, records)
+}
+
+/// Plays the session that the arguments ask for, with the lines of the input, on a board with these
+/// devices. If a record is asked for, one that is there stays unless the arguments say that it is
+/// replaced; then nothing is played. The record is written at the end.
+pub fn play_live<'a, I: Input, F: Folder, O: Sink, E: Sink, D: RecordFolder>(
+    alloc: Global,
+    words: &'a [&'a str],
+    input: &mut I,
+    folder: &mut F,
+    out: &mut O,
+    err: &mut E,
+    records: &mut D,
+    devices: Slots,
+) -> Status
+    requires { length devices.items ≤ 16 }
+    ensures session { IsSession result (command_of_lem (map (λ w. w.now) words.now)) (F.files folder.old)
+        (slots_of kind_of words_of devices.items)
+        (outside (F.requests folder.old) (O.bytes out.old) (O.pieces out.old))
+        (outside (F.requests folder.new) (O.bytes out.new) (O.pieces out.new))
+        (I.left input.old) (I.left input.new) (D.files records.old) (D.files records.new)
+        (Rose (I.faults input.old) (I.faults input.new) ⊎ Rose (F.faults folder.old) (F.faults folder.new))
+        (Rose (O.faults out.old) (O.faults out.new)) (Rose (D.faults records.old) (D.faults records.new)) }
+    ensures files { F.files folder.new ≡ F.files folder.old }
+    ensures input_faults { I.faults input.old ≤ I.faults input.new }
+    ensures folder_faults { F.faults folder.old ≤ F.faults folder.new }
+    ensures faults { O.faults out.old ≤ O.faults out.new }
+    ensures record_faults { D.faults records.old ≤ D.faults records.new }
+{
+    let command = match command_of(alloc, words) {
+        Ok(command) => command,
+        Err(CommandErr::Usage(text)) => {
+            tell_usage(err, &text);
+            return Status::Usage;
+        }
+        Err(CommandErr::NoMemory) => {
+            tell_no_memory(err);
+            return Status::NoMemory;
+        }
+    };
+    let Ok(paths) = paths_of(alloc, command.record) else {
+        tell_no_memory(err);
+        return Status::NoMemory;
+    };
+    let target = Target {
+        command: &command,
+        paths: &paths,
+    };
+    session(alloc, target, input, folder, out, err, records, devices)
+}

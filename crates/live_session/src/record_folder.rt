@@ -1,0 +1,47 @@
+//! The folder into which a record is written.
+
+ghost use Rattle.std.specs.Prelude.{◌≡◌, ℕ, ◌≤◌, Option, IfSome};
+ghost use Rattle.wind_outside.specs.Counts.{Rose};
+ghost use Rattle.wind_outside.specs.Files.{Files};
+ghost use Rattle.wind_outside.specs.declared.sink.Put.TheVariants as puts;
+ghost use Rattle.live_session.specs.Folder.{IsPresence, Replaced};
+ghost use Rattle.live_session.specs.declared.record_folder.Presence.TheVariants as presence;
+
+use std::alloc::Global;
+use wind_outside::Put;
+
+/// Whether there is a file.
+#[derive(Clone, Copy, Debug, PartialEq, Eq)]
+pub enum Presence {
+    /// There is.
+    There,
+    /// There is none.
+    Absent,
+    /// Asking failed, and counts as a fault.
+    Failed,
+}
+
+/// A folder in which files are written.
+///
+/// A contract can see its files and its count of faults. A folder can leave the files untold. The
+/// count never falls, and stops at 2^64 - 1.
+pub trait RecordFolder {
+    ghost files: { Self → Option Files };
+
+    ghost faults: { Self → ℕ };
+
+    /// Returns whether there is a file with this name.
+    fn has(&mut self, name: &str) -> Presence
+        ensures kept { files self.new ≡ files self.old }
+        ensures answers { IfSome (files self.old) (λ held. IsPresence (held name.now) result) }
+        ensures failed { result ≡ presence.Failed → Rose (faults self.old) (faults self.new) }
+        ensures never_falls { faults self.old ≤ faults self.new };
+
+    /// Writes the file with this name beside its place, and then puts it there, instead of a file
+    /// that may be there. Writing can fail, and counts as a fault; then all files are as before.
+    fn replace(&mut self, alloc: Global, name: &str, bytes: &[u8]) -> Put
+        ensures done { result ≡ puts.Done → Replaced (files self.old) (files self.new) name.now bytes.now }
+        ensures kept { result ≡ puts.Failed → files self.new ≡ files self.old }
+        ensures failed { result ≡ puts.Failed → Rose (faults self.old) (faults self.new) }
+        ensures never_falls { faults self.old ≤ faults self.new };
+}

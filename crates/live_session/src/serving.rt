@@ -1,0 +1,164 @@
+//! What the program does with a part of the input.
+
+ghost use Rattle.std.specs.Prelude.{◌≡◌, ◌≢◌, Some};
+ghost use Rattle.wind_machine.specs.Extending.{Setup};
+ghost use Rattle.wind_session.specs.Modules.{Shelf};
+ghost use Rattle.wind_session.specs.Outside.{Outside};
+ghost use Rattle.live_session.specs.Input.{IsPart};
+ghost use Rattle.live_session.specs.Places.{ends_line as ends_line_lem, place_after as place_after_lem, dot_sent, sent_of, asked_by, IsIdle};
+ghost use Rattle.live_session.specs.DotLines.{dot_line_of};
+ghost use Rattle.live_session.specs.Seen.{live_seen, IsSound, IsLiveAt, Sends};
+ghost use Rattle.live_session.specs.declared.dot_line.DotLine.TheVariants as lines;
+ghost use Rattle.live_session.specs.declared.serving.Then.TheVariants as thens;
+
+use crate::dot_line::{DotLine, dot_line, is_dotted};
+use crate::live::{Live, send};
+use crate::messages::{tell, tell_help, tell_refusal};
+use std::alloc::Global;
+use tick_file::Event;
+use wind_outside::{Device, Sink};
+
+/// Where the input is, before its next part.
+#[derive(Clone, Copy, Debug, PartialEq, Eq)]
+pub enum Place {
+    /// At the start of a line.
+    Start,
+    /// In a line for the board.
+    Text,
+    /// In a line for the program.
+    Command,
+}
+
+/// What follows a part of the input.
+#[derive(Clone, Copy, Debug, PartialEq, Eq)]
+pub(crate) enum Then {
+    /// The next part.
+    Nothing,
+    /// The next part; bytes were sent.
+    Sent,
+    /// The board runs, for at most this many steps.
+    Run(u64),
+    /// This many ticks come.
+    Ticks(u64),
+    /// The state is shown.
+    State,
+    /// The record is written.
+    Save,
+    /// The session ends.
+    Quit,
+}
+
+// Whether the part ends a line.
+fn ends_line(part: &[u8]) -> bool
+    ensures { result ≡ ends_line_lem part.now }
+{
+    match part {
+        [.., last] => *last == b'\n',
+        [] => false,
+    }
+}
+
+/// Where the input is after a part.
+pub(crate) fn place_after(place: Place, part: &[u8]) -> Place
+    ensures { result ≡ place_after_lem place part.now }
+{
+    if ends_line(part) {
+        return Place::Start;
+    }
+    match place {
+        Place::Start if is_dotted(part) => Place::Command,
+        Place::Start | Place::Text => Place::Text,
+        Place::Command => Place::Command,
+    }
+}
+
+// Sends bytes, or says why they are not sent. After it comes `then`.
+fn send_bytes<E: Sink>(
+    alloc: Global,
+    live: &mut Live,
+    err: &mut E,
+    bytes: &[u8],
+    then: Then,
+) -> Then
+    requires sound { IsSound (live_seen ⟦<dyn Device as Device>⟧ live.old) }
+    requires part { IsPart bytes.now }
+    ensures sound { IsSound (live_seen ⟦<dyn Device as Device>⟧ live.new) }
+    ensures live { (shelf : Shelf) (setup : Setup) (old now : Outside)
+        → IsLiveAt shelf setup (live_seen ⟦<dyn Device as Device>⟧ live.old) old now
+        → IsLiveAt shelf setup (live_seen ⟦<dyn Device as Device>⟧ live.new) old now }
+    ensures sent { Sends bytes.now (live_seen ⟦<dyn Device as Device>⟧ live.old)
+        (live_seen ⟦<dyn Device as Device>⟧ live.new) }
+    ensures refused { result ≢ then → (result ≡ thens.Nothing)
+        × (live_seen ⟦<dyn Device as Device>⟧ live.new ≡ live_seen ⟦<dyn Device as Device>⟧ live.old) }
+{
+    match send(alloc, live, Event::Rx(bytes.len() as u32), bytes) {
+        Ok(()) => then,
+        Err(refusal) => {
+            tell_refusal(err, refusal);
+            Then::Nothing
+        }
+    }
+}
+
+// Does what a line for the program asks for, or says what follows.
+fn obey<E: Sink>(alloc: Global, live: &mut Live, err: &mut E, line: &[u8], quiet_after: u64) -> Then
+    requires sound { IsSound (live_seen ⟦<dyn Device as Device>⟧ live.old) }
+    ensures sound { IsSound (live_seen ⟦<dyn Device as Device>⟧ live.new) }
+    ensures live { (shelf : Shelf) (setup : Setup) (old now : Outside)
+        → IsLiveAt shelf setup (live_seen ⟦<dyn Device as Device>⟧ live.old) old now
+        → IsLiveAt shelf setup (live_seen ⟦<dyn Device as Device>⟧ live.new) old now }
+    ensures sent { Sends (dot_sent (dot_line_of line.now)) (live_seen ⟦<dyn Device as Device>⟧ live.old)
+        (live_seen ⟦<dyn Device as Device>⟧ live.new) }
+    ensures idle { IsIdle result → live_seen ⟦<dyn Device as Device>⟧ live.new
+        ≡ live_seen ⟦<dyn Device as Device>⟧ live.old }
+    ensures quits { result ≡ thens.Quit → dot_line_of line.now ≡ lines.Quit }
+{
+    match dot_line(line) {
+        DotLine::Ticks(ticks) => Then::Ticks(ticks),
+        DotLine::Run(steps) => Then::Run(steps),
+        DotLine::Break => send_bytes(alloc, live, err, b"\x03", Then::Run(quiet_after)),
+        DotLine::State => Then::State,
+        DotLine::Save => Then::Save,
+        DotLine::Quit => Then::Quit,
+        DotLine::Help => {
+            tell_help(err);
+            Then::Nothing
+        }
+        DotLine::Unknown => {
+            tell(err, b"unknown; .help lists the lines that begin with `.`");
+            Then::Nothing
+        }
+    }
+}
+
+/// Takes a part of the input. A line that begins with `.` is for the program; what a part of
+/// another line has is sent to the board. If that is refused, nothing is sent.
+pub(crate) fn take_part<E: Sink>(
+    alloc: Global,
+    live: &mut Live,
+    err: &mut E,
+    place: Place,
+    part: &[u8],
+    quiet_after: u64,
+) -> Then
+    requires sound { IsSound (live_seen ⟦<dyn Device as Device>⟧ live.old) }
+    requires part { IsPart part.now }
+    ensures sound { IsSound (live_seen ⟦<dyn Device as Device>⟧ live.new) }
+    ensures live { (shelf : Shelf) (setup : Setup) (old now : Outside)
+        → IsLiveAt shelf setup (live_seen ⟦<dyn Device as Device>⟧ live.old) old now
+        → IsLiveAt shelf setup (live_seen ⟦<dyn Device as Device>⟧ live.new) old now }
+    ensures sent { Sends (sent_of place part.now) (live_seen ⟦<dyn Device as Device>⟧ live.old)
+        (live_seen ⟦<dyn Device as Device>⟧ live.new) }
+    ensures idle { IsIdle result → live_seen ⟦<dyn Device as Device>⟧ live.new
+        ≡ live_seen ⟦<dyn Device as Device>⟧ live.old }
+    ensures quits { result ≡ thens.Quit → asked_by place part.now ≡ Some lines.Quit }
+{
+    match place {
+        Place::Start if is_dotted(part) => obey(alloc, live, err, part, quiet_after),
+        Place::Command => Then::Nothing,
+        Place::Start | Place::Text if ends_line(part) => {
+            send_bytes(alloc, live, err, part, Then::Run(quiet_after))
+        }
+        Place::Start | Place::Text => send_bytes(alloc, live, err, part, Then::Sent),
+    }
+}

@@ -1,0 +1,21 @@
+//! The lines of a text, which line feeds end.
+#![tactic(auto)]
+
+ghost use Rattle.std.specs.Prelude.{◌≡◌, ◌<◌, length};
+ghost use Rattle.text_lines.specs.Lines.{after_line as after_line_lem};
+
+use wind_base::{bytes_after, line_len};
+
+/// What comes after the first line and its end; empty, if no line comes after it.
+pub fn after_line(text: &[u8]) -> &[u8]
+    requires { 0 < length text.now }
+    ensures value { result.now ≡ after_line_lem text.now }
+    ensures shorter { length result.now < length text.now }
+{
+    let n = line_len(text);
+    if n < text.len() {
+        bytes_after(text, n + 1)
+    } else {
+        bytes_after(text, n)
+    }
+}

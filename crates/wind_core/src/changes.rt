@@ -1,0 +1,178 @@
+//! Changes of one task that leave it where it is in every queue.
+
+ghost use Rattle.std.specs.Prelude.{◌≡◌};
+ghost use Rattle.wind_core.specs.State.{Lives};
+ghost use Rattle.wind_core.specs.Moves.{change_task, past_gate, with_answer, with_refusal, with_change, leave_gate, answer, refuse, unreserve, set_regs, set_locks, set_normal, set_safe, set_held, set_errno, set_int_locked, set_again};
+
+use crate::kern::Kern;
+use id_table::Ident;
+use task_block::Task;
+use wind_base::words::ERROR;
+use wind_base::{Errno, Pri, Regs};
+
+/// A change of one task that leaves it where it is in every queue.
+pub(crate) enum Change {
+    Locks(u64),
+    Normal(Pri),
+    Safe(u64),
+    Held(u64),
+    Errno(u32),
+    IntLocked(bool),
+    Again(bool),
+    /// The result of the task's call, in r3.
+    Answer(u32),
+    /// The task's call is refused.
+    Refusal(Errno),
+    /// The task returns from its call.
+    PastGate,
+    /// The task loses its reservation.
+    Unreserved,
+}
+
+// Returns the task from its call.
+fn pass_gate(task: &mut Task)
+    ensures { task.new ≡ past_gate task.old }
+{
+    let link = task.regs.lr;
+    task.regs.pc = link;
+}
+
+// Sets the result of the task's call, in r3.
+fn put_answer(task: &mut Task, value: u32)
+    ensures { task.new ≡ with_answer value task.old }
+{
+    task.regs.gpr[3] = value;
+}
+
+// Refuses the task's call.
+fn put_refusal(task: &mut Task, errno: Errno)
+    ensures { task.new ≡ with_refusal errno task.old }
+{
+    put_answer(task, ERROR);
+    task.errno = errno.number();
+}
+
+// Makes a change of the task.
+fn put_change(task: &mut Task, change: Change)
+    ensures { task.new ≡ with_change change task.old }
+{
+    match change {
+        Change::Locks(n) => task.locks = n,
+        Change::Normal(pri) => task.normal = pri,
+        Change::Safe(n) => task.safe = n,
+        Change::Held(n) => task.held = n,
+        Change::Errno(n) => task.errno = n,
+        Change::IntLocked(on) => task.int_locked = on,
+        Change::Again(on) => task.again = on,
+        Change::Answer(value) => put_answer(task, value),
+        Change::Refusal(errno) => put_refusal(task, errno),
+        Change::PastGate => pass_gate(task),
+        Change::Unreserved => task.regs.reserve = None,
+    }
+}
+
+impl Kern {
+    // Makes a change of the task that leaves it where it is in every queue.
+    fn put(&mut self, who: Ident, change: Change)
+        requires { Lives self.old who }
+        ensures { self.new ≡ change_task self.old who (with_change change) }
+    {
+        put_change(self.tasks.object_mut(who), change);
+    }
+
+    /// Returns the task from its call: the program counter becomes the link register.
+    pub fn leave_gate(&mut self, who: Ident)
+        requires { Lives self.old who }
+        ensures { self.new ≡ leave_gate self.old who }
+    {
+        self.put(who, Change::PastGate);
+    }
+
+    /// Sets the result of the task's call, in r3.
+    pub fn answer(&mut self, who: Ident, value: u32)
+        requires { Lives self.old who }
+        ensures { self.new ≡ answer self.old who value }
+    {
+        self.put(who, Change::Answer(value));
+    }
+
+    /// Refuses the task's call: its result is ERROR, and the task's error number is set.
+    pub fn refuse(&mut self, who: Ident, errno: Errno)
+        requires { Lives self.old who }
+        ensures { self.new ≡ refuse self.old who errno }
+    {
+        self.put(who, Change::Refusal(errno));
+    }
+
+    /// Drops the task's reservation.
+    pub fn unreserve(&mut self, who: Ident)
+        requires { Lives self.old who }
+        ensures { self.new ≡ unreserve self.old who }
+    {
+        self.put(who, Change::Unreserved);
+    }
+
+    /// Sets the task's registers.
+    pub fn set_regs(&mut self, who: Ident, regs: Regs)
+        requires { Lives self.old who }
+        ensures { self.new ≡ set_regs self.old who regs }
+    {
+        self.tasks.object_mut(who).regs = regs;
+    }
+
+    /// Sets the number of the task's scheduler locks.
+    pub fn set_locks(&mut self, who: Ident, n: u64)
+        requires { Lives self.old who }
+        ensures { self.new ≡ set_locks self.old who n }
+    {
+        self.put(who, Change::Locks(n));
+    }
+
+    /// Sets the task's normal priority, without inheritance.
+    pub fn set_normal(&mut self, who: Ident, pri: Pri)
+        requires { Lives self.old who }
+        ensures { self.new ≡ set_normal self.old who pri }
+    {
+        self.put(who, Change::Normal(pri));
+    }
+
+    /// Sets the number of safe sections that the task is in.
+    pub fn set_safe(&mut self, who: Ident, n: u64)
+        requires { Lives self.old who }
+        ensures { self.new ≡ set_safe self.old who n }
+    {
+        self.put(who, Change::Safe(n));
+    }
+
+    /// Sets the number of inversion-safe mutexes that the task owns.
+    pub fn set_held(&mut self, who: Ident, n: u64)
+        requires { Lives self.old who }
+        ensures { self.new ≡ set_held self.old who n }
+    {
+        self.put(who, Change::Held(n));
+    }
+
+    /// Sets the task's last error number.
+    pub fn set_errno(&mut self, who: Ident, n: u32)
+        requires { Lives self.old who }
+        ensures { self.new ≡ set_errno self.old who n }
+    {
+        self.put(who, Change::Errno(n));
+    }
+
+    /// Sets whether the task has locked out interrupts.
+    pub fn set_int_locked(&mut self, who: Ident, on: bool)
+        requires { Lives self.old who }
+        ensures { self.new ≡ set_int_locked self.old who on }
+    {
+        self.put(who, Change::IntLocked(on));
+    }
+
+    /// Sets whether the task's next call is a repetition of a call that pended.
+    pub fn set_again(&mut self, who: Ident, on: bool)
+        requires { Lives self.old who }
+        ensures { self.new ≡ set_again self.old who on }
+    {
+        self.put(who, Change::Again(on));
+    }
+}
